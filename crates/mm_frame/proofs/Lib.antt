@@ -1,0 +1,10 @@
+pub mod Members
+pub mod Scopes
+pub mod Facts
+pub mod Judged
+pub mod Stack
+pub mod Rows
+pub mod Heights
+pub mod Activity
+pub mod Frames
+pub mod Outermost

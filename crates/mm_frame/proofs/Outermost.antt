@@ -1,0 +1,306 @@
+-- Sound lists keep their items, labels keep their meaning, and what is so in a list with no blocks, no `$e` and no `$d`.
+use Rattle.std.proofs.Common.{◌≡◌, ℕ, zero, suc, Bool, true, false, cond, ◌&&◌, ◌||◌, ltb, Some, None, List, [], ◌∷◌, ◌++◌, map, filter, flat_map, take, drop, count_by, slice_get, slice_index_or, refl, sym, ◌∙◌, ap, subst, append_assoc, append-nil, arith, inl, inr, ◌⊎◌}
+use Rattle.std.specs.List.{list_any}
+use Rattle.std.proofs.lemmas.Bool.{false≢true, or_left, or_right, false_from_ne_true}
+use Rattle.std.proofs.lemmas.List.{take-append-drop}
+use Rattle.std.proofs.lemmas.List.Sums.{sum_by-cons}
+use Rattle.mm_frame.specs.Language.{Hypothesis, Assertion, Inactive, Unknown}
+use Rattle.mm_frame.specs.Item.{Kind, Constants, Variables, Disjoint, Floating, Essential, Axiom, Theorem, Passed, Item, passed, is_disjoint, is_floating, is_essential, is_expression, is_labelled, is_assertion, has, labels_of, variable_of}
+use Rattle.mm_frame.specs.Scope.{Neither, mark_of, closed_at, closed, is_zero, stays, active, opens, closes, is_start, is_end, is_inside, symbols_by, constants, variables, labels, active_variables, floats, typed}
+use Rattle.mm_frame.specs.declared.FrameNumber.TheVariants.{F06}
+use Rattle.mm_frame.specs.Sound.{is_label, IsSound, AreSound, fault, judged, kept_after, kept}
+use Rattle.mm_frame.specs.Framing.{symbol, expression, mandatory_variables, is_mandatory, hypothesis, mandatory_hypotheses, pairs_of, active_pairs, is_mandatory_pair, frame, meaning, resolve_from, resolve, place, place_of, statement_of}
+use Rattle.mm_frame.specs.Outermost.{is_outermost, IsOutermost}
+use Rattle.mm_frame.proofs.Members.{In, in_flat, in_get, has_in, in_has}
+use Rattle.mm_frame.proofs.Facts.{AreKept, sound_at, kept_front, not_constant, first_constant, known, float_variable, float_two}
+use Rattle.mm_frame.proofs.Judged.{no_fault_sound, sound_found, kept_more}
+use Rattle.mm_frame.proofs.Frames.{constants_later, variables_later}
+
+-- an item by its number
+pub split_at : {X : Type 0} (xs : List X) (i : ℕ) (x : X) → slice_get xs i ≡ Some x → xs ≡ take i xs ++ x ∷ drop (suc i) xs
+split_at [] i x e = cc
+split_at (y ∷ xs) zero x e = let q : y ≡ x = cc in ap (λ w. w ∷ xs) q
+split_at (y ∷ xs) (suc i) x e = ap (λ w. y ∷ w) (split_at xs i x e)
+
+pub map_same : {X Y : Type 0} (f g : X → Y) (xs : List X) → ((x : X) → In x xs → f x ≡ g x) → map f xs ≡ map g xs
+map_same f g [] h = refl
+map_same f g (x ∷ xs) h = let a = h x (inl refl) in let b = map_same f g xs (λ y k. h y (inr k)) in cc
+
+pub filter_same : {X : Type 0} (p q : X → Bool) (xs : List X) → ((x : X) → In x xs → p x ≡ q x) → filter p xs ≡ filter q xs
+filter_same p q [] h = refl
+filter_same p q (x ∷ xs) h = let a = h x (inl refl) in let b = filter_same p q xs (λ y k. h y (inr k)) in λ i. cond (a i) (x ∷ b i) (b i)
+
+-- each item is sound against those before it: by splits of the list, and by recursion
+kept_from_splits : (before items : List Item) → ((front : List Item) (item : Item) (back : List Item) → items ≡ front ++ item ∷ back → IsSound (before ++ front) item) → AreKept before items
+kept_from_splits before [] h = tt
+kept_from_splits before (x ∷ xs) h = (subst (λ w. IsSound w x) (append-nil before) (h [] x xs refl), kept_from_splits (before ++ x ∷ []) xs (λ front item back e. subst (λ w. IsSound w item) (sym (append_assoc before (x ∷ []) front)) (h (x ∷ front) item back (ap (λ w. x ∷ w) e))))
+
+pub sound_kept : (items : List Item) → AreSound items → AreKept [] items
+sound_kept items h = kept_from_splits [] items h
+
+pub kept_sound : (items : List Item) → AreKept [] items → AreSound items
+kept_sound items k front item back e = sound_at [] front item back (subst (AreKept []) e k)
+
+pub sound_front : (front back : List Item) → AreSound (front ++ back) → AreSound front
+sound_front front back h = kept_sound front (kept_front [] front back (sound_kept (front ++ back) h))
+
+pub sound_take : (items : List Item) (j : ℕ) → AreSound items → AreSound (take j items)
+sound_take items j h = sound_front (take j items) (drop j items) (subst AreSound (sym (take-append-drop j items)) h)
+
+pub sound_none : AreSound []
+sound_none = kept_sound [] tt
+
+pub sound_more : (items : List Item) (item : Item) → AreSound items → IsSound items item → AreSound (items ++ item ∷ [])
+sound_more items item h s = kept_sound (items ++ item ∷ []) (kept_more [] items item (sound_kept items h) s)
+
+-- what is kept of sound items is all
+kept_after_all : (before items : List Item) → AreKept before items → kept_after before items ≡ before ++ items
+kept_after_all before [] k = sym (append-nil before)
+kept_after_all before (x ∷ xs) k = ap (λ o. kept_after (before ++ judged x o ∷ []) xs) (sound_found before x k.0) ∙ kept_after_all (before ++ x ∷ []) xs k.1 ∙ append_assoc before (x ∷ []) xs
+
+pub kept_all : (items : List Item) → AreSound items → kept items ≡ items
+kept_all items h = kept_after_all [] items (sound_kept items h)
+
+pub kept_take : (items : List Item) (j : ℕ) → AreSound items → kept (take j items) ≡ take j items
+kept_take items j h = kept_all (take j items) (sound_take items j h)
+
+-- items are sound exactly where none has a fault behind those kept before it
+no_faults_after : (before items : List Item) → ((j : ℕ) (item : Item) → slice_get items j ≡ Some item → fault (kept_after before (take j items)) item ≡ None) → AreKept before items
+no_faults_after before [] h = tt
+no_faults_after before (x ∷ xs) h =
+    let e : fault before x ≡ None = h 0 x refl in
+    (no_fault_sound before x e, no_faults_after (before ++ x ∷ []) xs (λ j item g. subst (λ o. fault (kept_after (before ++ judged x o ∷ []) (take j xs)) item ≡ None) e (h (suc j) item g)))
+
+pub no_faults_sound : (items : List Item) → ((j : ℕ) (item : Item) → slice_get items j ≡ Some item → fault (kept (take j items)) item ≡ None) → AreSound items
+no_faults_sound items h = kept_sound items (no_faults_after [] items h)
+
+pub sound_at_number : (items : List Item) (j : ℕ) (item : Item) → AreSound items → slice_get items j ≡ Some item → IsSound (take j items) item
+sound_at_number items j item h g = h (take j items) item (drop (suc j) items) (split_at items j item g)
+
+pub sound_no_faults : (items : List Item) → AreSound items → (j : ℕ) (item : Item) → slice_get items j ≡ Some item → fault (kept (take j items)) item ≡ None
+sound_no_faults items h j item g = ap (λ w. fault w item) (kept_take items j h) ∙ sound_found (take j items) item (sound_at_number items j item h g)
+
+-- the place and the statement of an item of a sound list
+pub place_of_is : (items : List Item) (j : ℕ) → AreSound items → place_of items j ≡ place (take j items)
+place_of_is items j h = ap place (kept_take items j h)
+
+pub statement_of_is : (items : List Item) (j : ℕ) → AreSound items → statement_of items j ≡ expression (take j items) (slice_index_or items j passed)
+statement_of_is items j h = ap (λ w. expression w (slice_index_or items j passed)) (kept_take items j h)
+
+-- a labelled statement stands in no other block than before it
+pub labelled_neither : (k : Kind) → is_labelled k ≡ true → mark_of k ≡ Neither
+labelled_neither Floating e = refl
+labelled_neither Essential e = refl
+labelled_neither Axiom e = refl
+labelled_neither Theorem e = refl
+labelled_neither _ e = absurd (false≢true e)
+
+labelled_cases : (k : Kind) → is_labelled k ≡ true → (is_floating k ≡ true) ⊎ (is_expression k ≡ true)
+labelled_cases Floating e = inl refl
+labelled_cases Essential e = inr refl
+labelled_cases Axiom e = inr refl
+labelled_cases Theorem e = inr refl
+labelled_cases _ e = absurd (false≢true e)
+
+-- each symbol of a sound labelled statement is a constant or an active variable
+float_symbol : (before : List Item) (item : Item) (k : ℕ) (name : List ℕ) → IsSound before item → is_floating item.kind ≡ true → slice_get item.symbols (suc k) ≡ Some name → In name (active_variables before)
+float_symbol before item zero name s t g = float_variable before item name s t g
+float_symbol before item (suc k) name s t g = let two = float_two before item s t in let n = ap (λ w. slice_get w (suc (suc k))) two.2 in cc
+
+pub named : (before : List Item) (item : Item) (name : List ℕ) → IsSound before item → is_labelled item.kind ≡ true → In name item.symbols → In name (constants before) ⊎ In name (active_variables before)
+named before item name s t h = by_place (in_get name item.symbols h)
+  where
+    by_place : (p : (k : ℕ) × (slice_get item.symbols k ≡ Some name)) → In name (constants before) ⊎ In name (active_variables before)
+    by_place (zero, g) = inl (first_constant before item name s t g)
+    by_place (suc k, g) = elim (labelled_cases item.kind t) [
+      | inl f ↦ inr (float_symbol before item k name s f g)
+      | inr e ↦ known before item k name s e g
+    ]
+
+has_not : (names : List (List ℕ)) (name : List ℕ) → (In name names → ⊥) → has names name ≡ false
+has_not names name n = false_from_ne_true (has names name) (λ e. n (has_in names name e))
+
+-- a symbol of an active statement means what it meant there
+pub variable_kept : (front : List Item) (item : Item) (back : List Item) (name : List ℕ) → AreKept [] (front ++ item ∷ back) → is_labelled item.kind ≡ true → stays back ≡ true → In name item.symbols → has (active_variables (front ++ item ∷ back)) name ≡ has (active_variables front) name
+variable_kept front item back name k t s h =
+    let whole = front ++ item ∷ back in
+    elim (named front item name (sound_at [] front item back k) t h) [
+      | inl c ↦ has_not (active_variables whole) name (λ v. not_constant whole k name (constants_later front item back name c) v) ∙ sym (has_not (active_variables front) name (λ v. not_constant front (kept_front [] front (item ∷ back) k) name c v))
+      | inr v ↦ in_has (active_variables whole) name (variables_later front item back name (labelled_neither item.kind t) s v) ∙ sym (in_has (active_variables front) name v)
+    ]
+
+symbol_kept_at : (front : List Item) (item : Item) (back : List Item) (name : List ℕ) → AreKept [] (front ++ item ∷ back) → is_labelled item.kind ≡ true → stays back ≡ true → In name item.symbols → symbol (front ++ item ∷ back) name ≡ symbol front name
+symbol_kept_at front item back name k t s h = let e = variable_kept front item back name k t s h in λ i. record { name = name; variable = e i }
+
+pub symbol_stays : (items front : List Item) (item : Item) (back : List Item) (name : List ℕ) → AreSound items → items ≡ front ++ item ∷ back → is_labelled item.kind ≡ true → stays back ≡ true → In name item.symbols → symbol items name ≡ symbol front name
+symbol_stays items front item back name h e t s n = ap (λ w. symbol w name) e ∙ symbol_kept_at front item back name (subst (AreKept []) e (sound_kept items h)) t s n
+
+pub expression_stays : (items front : List Item) (item : Item) (back : List Item) → AreSound items → items ≡ front ++ item ∷ back → is_labelled item.kind ≡ true → stays back ≡ true → expression items item ≡ expression front item
+expression_stays items front item back h e t s = map_same (symbol items) (symbol front) item.symbols (λ name n. symbol_stays items front item back name h e t s n)
+
+-- labels
+any_of : (p : List ℕ → Bool) (x : List ℕ) (xs : List (List ℕ)) → In x xs → p x ≡ true → list_any p xs ≡ true
+any_of p x [] h t = absurd h
+any_of p x (y ∷ xs) (inl e) t = or_left (p y) (list_any p xs) (ap p e ∙ t)
+any_of p x (y ∷ xs) (inr h) t = or_right (p y) (list_any p xs) (any_of p x xs h t)
+
+-- a label is no label before its statement
+pub label_new : (before : List Item) (item : Item) (label : List ℕ) → IsSound before item → has (labels_of item) label ≡ true → has (labels before) label ≡ false
+label_new before item label s h = false_from_ne_true (has (labels before) label) (λ t. false≢true (sym (s 0 F06) ∙ any_of (is_label before) label (labels_of item) (has_in (labels_of item) label h) t))
+
+no_label : (items : List Item) (label : List ℕ) → has (labels items) label ≡ false → (x : Item) → In x items → has (labels_of x) label ≡ false
+no_label items label h x i = has_not (labels_of x) label (λ k. false≢true (sym h ∙ in_has (labels items) label (in_flat labels_of x label items i k)))
+
+resolve_skip : (whole before front rest : List Item) (label : List ℕ) → ((x : Item) → In x front → has (labels_of x) label ≡ false) → resolve_from whole before (front ++ rest) label ≡ resolve_from whole (before ++ front) rest label
+resolve_skip whole before [] rest label h = ap (λ w. resolve_from whole w rest label) (sym (append-nil before))
+resolve_skip whole before (x ∷ front) rest label h =
+    ap (λ b. cond b (meaning whole before x (front ++ rest)) (resolve_from whole (before ++ x ∷ []) (front ++ rest) label)) (h x (inl refl))
+    ∙ resolve_skip whole (before ++ x ∷ []) front rest label (λ y k. h y (inr k))
+    ∙ ap (λ w. resolve_from whole w rest label) (append_assoc before (x ∷ []) front)
+
+-- a label that no item has is unknown
+pub resolve_unknown : (items : List Item) (label : List ℕ) → has (labels items) label ≡ false → resolve items label ≡ Unknown
+resolve_unknown items label h = ap (λ w. resolve_from items [] w label) (sym (append-nil items)) ∙ resolve_skip items [] items [] label (no_label items label h)
+
+pub no_item_unknown : (items : List Item) (label : List ℕ) → ((item : Item) → In item items → has (labels_of item) label ≡ false) → resolve items label ≡ Unknown
+no_item_unknown items label h = ap (λ w. resolve_from items [] w label) (sym (append-nil items)) ∙ resolve_skip items [] items [] label h
+
+-- a label that an item has is that item's
+pub resolve_meaning : (items front : List Item) (item : Item) (back : List Item) (label : List ℕ) → AreSound items → items ≡ front ++ item ∷ back → has (labels_of item) label ≡ true → resolve items label ≡ meaning items front item back
+resolve_meaning items front item back label h e t =
+    ap (λ w. resolve_from items [] w label) e
+    ∙ resolve_skip items [] front (item ∷ back) label (no_label front label (label_new front item label (h front item back e) t))
+    ∙ ap (λ b. cond b (meaning items front item back) (resolve_from items (front ++ item ∷ []) back label)) t
+
+labelled_at : (b : Bool) (names : List (List ℕ)) (label : List ℕ) → has (cond b names []) label ≡ true → b ≡ true
+labelled_at true names label h = refl
+labelled_at false names label h = h
+
+pub labelled_of : (item : Item) (label : List ℕ) → has (labels_of item) label ≡ true → is_labelled item.kind ≡ true
+labelled_of item label h = labelled_at (is_labelled item.kind) _ label h
+
+-- the label of a statement that is active, or an assertion
+pub resolve_stays : (items front : List Item) (item : Item) (back : List Item) (label : List ℕ) → AreSound items → items ≡ front ++ item ∷ back → stays back ≡ true → has (labels_of item) label ≡ true → resolve items label ≡ cond (is_assertion item.kind) (Assertion (frame front item)) (Hypothesis (expression front item))
+resolve_stays items front item back label h e s t =
+    resolve_meaning items front item back label h e t
+    ∙ ap (λ b. cond (is_assertion item.kind) (Assertion (frame front item)) (cond b (Hypothesis (expression items item)) Inactive)) s
+    ∙ ap (λ w. cond (is_assertion item.kind) (Assertion (frame front item)) (Hypothesis w)) (expression_stays items front item back h e (labelled_of item label t) s)
+
+-- kinds with no block, no `$e` and no `$d`
+outermost_neither : (k : Kind) → is_outermost k ≡ true → mark_of k ≡ Neither
+outermost_neither Constants e = refl
+outermost_neither Variables e = refl
+outermost_neither Floating e = refl
+outermost_neither Axiom e = refl
+outermost_neither Theorem e = refl
+outermost_neither Passed e = refl
+outermost_neither _ e = absurd (false≢true e)
+
+not_essential : (k : Kind) → is_outermost k ≡ true → is_essential k ≡ false
+not_essential Essential e = absurd (false≢true e)
+not_essential _ e = refl
+
+not_disjoint : (k : Kind) → is_outermost k ≡ true → is_disjoint k ≡ false
+not_disjoint Disjoint e = absurd (false≢true e)
+not_disjoint _ e = refl
+
+pub outermost_front : (front back : List Item) → IsOutermost (front ++ back) → IsOutermost front
+outermost_front [] back h = tt
+outermost_front (x ∷ front) back h = (h.0, outermost_front front back h.1)
+
+pub outermost_back : (front back : List Item) → IsOutermost (front ++ back) → IsOutermost back
+outermost_back [] back h = h
+outermost_back (x ∷ front) back h = outermost_back front back h.1
+
+pub outermost_more : (items : List Item) (item : Item) → IsOutermost items → is_outermost item.kind ≡ true → IsOutermost (items ++ item ∷ [])
+outermost_more [] item h e = (e, tt)
+outermost_more (x ∷ items) item h e = (h.0, outermost_more items item h.1 e)
+
+pub outermost_take : (items : List Item) (j : ℕ) → IsOutermost items → IsOutermost (take j items)
+outermost_take items j h = outermost_front (take j items) (drop j items) (subst IsOutermost (sym (take-append-drop j items)) h)
+
+pub outermost_in : (items : List Item) (item : Item) → IsOutermost items → In item items → is_outermost item.kind ≡ true
+outermost_in [] item h i = absurd i
+outermost_in (x ∷ items) item h (inl e) = subst (λ (w : Item). is_outermost w.kind ≡ true) e h.0
+outermost_in (x ∷ items) item h (inr i) = outermost_in items item h.1 i
+
+-- nothing is ended, all is active
+pub outermost_closed : (items : List Item) → IsOutermost items → closed items ≡ 0
+outermost_closed [] h = refl
+outermost_closed (x ∷ xs) h = ap (λ m. closed_at m (closed xs)) (outermost_neither x.kind h.0) ∙ outermost_closed xs h.1
+
+pub outermost_stays : (items : List Item) → IsOutermost items → stays items ≡ true
+outermost_stays items h = ap is_zero (outermost_closed items h)
+
+pub outermost_active : (items : List Item) → IsOutermost items → active items ≡ items
+outermost_active [] h = refl
+outermost_active (x ∷ xs) h = ap (λ b. cond b (x ∷ active xs) (active xs)) (outermost_stays xs h.1) ∙ ap (λ w. x ∷ w) (outermost_active xs h.1)
+
+pub outermost_variables : (items : List Item) → IsOutermost items → active_variables items ≡ variables items
+outermost_variables items h = ap variables (outermost_active items h)
+
+pub outermost_typed : (items : List Item) → IsOutermost items → typed items ≡ map variable_of (floats items)
+outermost_typed items h = ap (λ w. map variable_of (floats w)) (outermost_active items h)
+
+abbrev unit : Bool → ℕ
+unit b = cond b 1 0
+
+outermost_starts : (items : List Item) → IsOutermost items → count_by is_start items ≡ 0
+outermost_starts [] h = refl
+outermost_starts (x ∷ xs) h = let a = sum_by-cons (λ i. cond (is_start i) 1 0) x xs in let b = outermost_starts xs h.1 in let c : unit (is_start x) ≡ 0 = ap (λ m. unit (opens m)) (outermost_neither x.kind h.0) in omega arith
+
+outermost_ends : (items : List Item) → IsOutermost items → count_by is_end items ≡ 0
+outermost_ends [] h = refl
+outermost_ends (x ∷ xs) h = let a = sum_by-cons (λ i. cond (is_end i) 1 0) x xs in let b = outermost_ends xs h.1 in let c : unit (is_end x) ≡ 0 = ap (λ m. unit (closes m)) (outermost_neither x.kind h.0) in omega arith
+
+pub outermost_outside : (items : List Item) → IsOutermost items → is_inside items ≡ false
+outermost_outside items h = let a = outermost_ends items h in let b = outermost_starts items h in λ i. ltb (a i) (b i)
+
+-- no pairs, and only `$f` as hypotheses
+no_pairs_among : (before items : List Item) → IsOutermost items → flat_map (λ (item : Item). cond (is_disjoint item.kind) (pairs_of (expression before item)) []) items ≡ []
+no_pairs_among before [] h = refl
+no_pairs_among before (x ∷ xs) h = ap (λ b. cond b (pairs_of (expression before x)) [] ++ flat_map (λ (item : Item). cond (is_disjoint item.kind) (pairs_of (expression before item)) []) xs) (not_disjoint x.kind h.0) ∙ no_pairs_among before xs h.1
+
+pub outermost_pairs : (items : List Item) → IsOutermost items → active_pairs items ≡ []
+outermost_pairs items h = ap (λ w. flat_map (λ (item : Item). cond (is_disjoint item.kind) (pairs_of (expression items item)) []) w) (outermost_active items h) ∙ no_pairs_among items items h
+
+no_essential : (items : List Item) → IsOutermost items → symbols_by is_essential items ≡ []
+no_essential [] h = refl
+no_essential (x ∷ xs) h = ap (λ b. cond b x.symbols [] ++ symbols_by is_essential xs) (not_essential x.kind h.0) ∙ no_essential xs h.1
+
+pub outermost_mandatory : (before : List Item) (item : Item) → IsOutermost before → mandatory_variables before item ≡ filter (has (variables before)) item.symbols
+outermost_mandatory before item h =
+    ap (λ w. filter (has (variables w)) (item.symbols ++ symbols_by is_essential w)) (outermost_active before h)
+    ∙ ap (λ w. filter (has (variables before)) (item.symbols ++ w)) (no_essential before h)
+    ∙ ap (filter (has (variables before))) (append-nil item.symbols)
+
+pub outermost_hypotheses : (before : List Item) (item : Item) → IsOutermost before → mandatory_hypotheses before item ≡ map (hypothesis before) (filter (λ (i : Item). is_floating i.kind && has (mandatory_variables before item) (variable_of i)) before)
+outermost_hypotheses before item h =
+    ap (λ w. map (hypothesis before) (filter (is_mandatory (mandatory_variables before item)) w)) (outermost_active before h)
+    ∙ ap (map (hypothesis before)) (filter_same (is_mandatory (mandatory_variables before item)) (λ (i : Item). is_floating i.kind && has (mandatory_variables before item) (variable_of i)) before (λ x k. ap (λ b. b || (is_floating x.kind && has (mandatory_variables before item) (variable_of x))) (not_essential x.kind (outermost_in before x h k))))
+
+pub outermost_frame : (before : List Item) (item : Item) → IsOutermost before → frame before item ≡ record { expression = expression before item; hypotheses = map (hypothesis before) (filter (λ (i : Item). is_floating i.kind && has (mandatory_variables before item) (variable_of i)) before); pairs = [] }
+outermost_frame before item h =
+    let a = outermost_hypotheses before item h in
+    let b : filter (is_mandatory_pair (mandatory_variables before item)) (active_pairs before) ≡ [] = ap (filter (is_mandatory_pair (mandatory_variables before item))) (outermost_pairs before h) in
+    λ i. record { expression = expression before item; hypotheses = a i; pairs = b i }
+
+-- a symbol keeps its meaning, and a label has that of its item
+stays_behind : (items front : List Item) (item : Item) (back : List Item) → IsOutermost items → items ≡ front ++ item ∷ back → stays back ≡ true
+stays_behind items front item back o e = outermost_stays back (outermost_back front (item ∷ back) (subst IsOutermost e o)).1
+
+pub outermost_symbol : (items front : List Item) (item : Item) (back : List Item) (name : List ℕ) → IsOutermost items → AreSound items → items ≡ front ++ item ∷ back → is_labelled item.kind ≡ true → In name item.symbols → symbol items name ≡ symbol front name
+outermost_symbol items front item back name o h e t n = symbol_stays items front item back name h e t (stays_behind items front item back o e) n
+
+pub outermost_expression : (items front : List Item) (item : Item) (back : List Item) → IsOutermost items → AreSound items → items ≡ front ++ item ∷ back → is_labelled item.kind ≡ true → expression items item ≡ expression front item
+outermost_expression items front item back o h e t = expression_stays items front item back h e t (stays_behind items front item back o e)
+
+pub outermost_resolve : (items front : List Item) (item : Item) (back : List Item) (label : List ℕ) → IsOutermost items → AreSound items → items ≡ front ++ item ∷ back → has (labels_of item) label ≡ true → resolve items label ≡ cond (is_assertion item.kind) (Assertion (frame front item)) (Hypothesis (expression front item))
+outermost_resolve items front item back label o h e t = resolve_stays items front item back label h e (stays_behind items front item back o e) t
+
+-- the same by the number of the item
+pub resolve_at : (items : List Item) (i : ℕ) (item : Item) (label : List ℕ) → IsOutermost items → AreSound items → slice_get items i ≡ Some item → has (labels_of item) label ≡ true → resolve items label ≡ cond (is_assertion item.kind) (Assertion (frame (take i items) item)) (Hypothesis (expression (take i items) item))
+resolve_at items i item label o h g t = outermost_resolve items (take i items) item (drop (suc i) items) label o h (split_at items i item g) t
+
+pub expression_at : (items : List Item) (i : ℕ) (item : Item) → IsOutermost items → AreSound items → slice_get items i ≡ Some item → is_labelled item.kind ≡ true → expression items item ≡ expression (take i items) item
+expression_at items i item o h g t = outermost_expression items (take i items) item (drop (suc i) items) o h (split_at items i item g) t

@@ -1,0 +1,107 @@
+-- The first five lines of the base, by computing.
+use Rattle.std.proofs.Common.{◌≡◌, ℕ, true, false, Some, None, List, [], ◌∷◌, ◌++◌, refl, codes}
+use Rattle.mm_frame.specs.Language.{Symbol, Hypothesis, Assertion, Unknown, Inactive}
+use Rattle.mm_frame.specs.Item.{Kind, Constants, Variables, Disjoint, Floating, Essential, Axiom, Theorem, BlockStart, BlockEnd, Item}
+use Rattle.mm_frame.specs.declared.FrameNumber.TheVariants.{F06, F08, F12}
+use Rattle.mm_frame.specs.Sound.{fault, kept}
+use Rattle.mm_frame.specs.Framing.{resolve, active_pairs, place_of, statement_of}
+
+abbrev plain : Kind → List (List ℕ) → Item
+plain kind symbols = record { kind = kind; label = None; symbols = symbols; proof = [] }
+
+abbrev labelled : List ℕ → Kind → List (List ℕ) → Item
+labelled label kind symbols = record { kind = kind; label = Some label; symbols = symbols; proof = [] }
+
+abbrev wff : List ℕ
+wff = codes "wff"
+
+abbrev turnstile : List ℕ
+turnstile = codes "|-"
+
+abbrev arrow : List ℕ
+arrow = codes "->"
+
+abbrev left : List ℕ
+left = codes "("
+
+abbrev right : List ℕ
+right = codes ")"
+
+abbrev p : List ℕ
+p = codes "p"
+
+abbrev q : List ℕ
+q = codes "q"
+
+abbrev five : List Item
+five = plain Constants (wff ∷ turnstile ∷ arrow ∷ left ∷ right ∷ []) ∷ plain Variables (p ∷ q ∷ []) ∷ labelled (codes "wp") Floating (wff ∷ p ∷ []) ∷ labelled (codes "wq") Floating (wff ∷ q ∷ []) ∷ labelled (codes "wi") Axiom (wff ∷ left ∷ p ∷ arrow ∷ q ∷ right ∷ []) ∷ []
+
+abbrev constant : List ℕ → Symbol
+constant name = record { name = name; variable = false }
+
+abbrev variable : List ℕ → Symbol
+variable name = record { name = name; variable = true }
+
+-- all five are sound
+all_sound : kept five ≡ five
+all_sound = refl
+
+-- what the labels mean behind them
+wp_is : resolve five (codes "wp") ≡ Hypothesis (constant wff ∷ variable p ∷ [])
+wp_is = refl
+
+wi_is : resolve five (codes "wi") ≡ Assertion (record {
+  expression = constant wff ∷ constant left ∷ variable p ∷ constant arrow ∷ variable q ∷ constant right ∷ [];
+  hypotheses = record { floating = true; expression = constant wff ∷ variable p ∷ [] } ∷ record { floating = true; expression = constant wff ∷ variable q ∷ [] } ∷ [];
+  pairs = [];
+})
+wi_is = refl
+
+unknown_is : resolve five (codes "wz") ≡ Unknown
+unknown_is = refl
+
+-- `wx $f x $.` has F08 at its first symbol
+short_float : fault five (labelled (codes "wx") Floating (codes "x" ∷ [])) ≡ Some (2, F08)
+short_float = refl
+
+-- a second `$f` of a variable
+typed_twice : fault five (labelled (codes "wx") Floating (wff ∷ p ∷ [])) ≡ Some (3, F12)
+typed_twice = refl
+
+-- the block of the sixth line
+abbrev block : List Item
+block = plain BlockStart [] ∷ labelled (codes "mi") Essential (turnstile ∷ p ∷ []) ∷ labelled (codes "ma") Essential (turnstile ∷ left ∷ p ∷ arrow ∷ q ∷ right ∷ []) ∷ labelled (codes "mp") Axiom (turnstile ∷ q ∷ []) ∷ plain BlockEnd [] ∷ []
+
+block_sound : kept (five ++ block) ≡ five ++ block
+block_sound = refl
+
+mi_is : resolve (five ++ block) (codes "mi") ≡ Inactive
+mi_is = refl
+
+-- the mandatory hypotheses of `mp`, in order: wp wq mi ma
+mp_is : resolve (five ++ block) (codes "mp") ≡ Assertion (record {
+  expression = constant turnstile ∷ variable q ∷ [];
+  hypotheses = record { floating = true; expression = constant wff ∷ variable p ∷ [] } ∷ record { floating = true; expression = constant wff ∷ variable q ∷ [] } ∷ record { floating = false; expression = constant turnstile ∷ variable p ∷ [] } ∷ record { floating = false; expression = constant turnstile ∷ constant left ∷ variable p ∷ constant arrow ∷ variable q ∷ constant right ∷ [] } ∷ [];
+  pairs = [];
+})
+mp_is = refl
+
+-- `w2 $p wff ( p -> ( p -> q ) )` behind the five: its place and statement
+abbrev with_w2 : List Item
+with_w2 = five ++ labelled (codes "w2") Theorem (wff ∷ left ∷ p ∷ arrow ∷ left ∷ p ∷ arrow ∷ q ∷ right ∷ right ∷ []) ∷ []
+
+w2_wi : (place_of with_w2 5).resolve (codes "wi") ≡ resolve five (codes "wi")
+w2_wi = refl
+
+w2_states : statement_of with_w2 5 ≡ constant wff ∷ constant left ∷ variable p ∷ constant arrow ∷ constant left ∷ variable p ∷ constant arrow ∷ variable q ∷ constant right ∷ constant right ∷ []
+w2_states = refl
+
+-- a `$d`, its pair, and a statement at fault that is passed over
+pairs_are : active_pairs (five ++ plain Disjoint (p ∷ q ∷ []) ∷ []) ≡ (variable p, variable q) ∷ []
+pairs_are = refl
+
+passed_over : resolve (kept (five ++ labelled (codes "bad") Axiom (wff ∷ codes "r" ∷ []) ∷ [])) (codes "bad") ≡ Unknown
+passed_over = refl
+
+label_taken : fault five (labelled (codes "wi") Axiom (wff ∷ p ∷ [])) ≡ Some (0, F06)
+label_taken = refl

@@ -1,0 +1,5 @@
+use Rattle.mm_frame.proofs.Judged.{kept_next}
+use Rattle.mm_frame.proofs.kept_next.Goals as goal
+
+pub returns : goal.returns
+returns c = kept_next

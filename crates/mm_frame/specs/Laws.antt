@@ -1,0 +1,50 @@
+-- What is proved of scopes, soundness and frames: each is the contract of a function.
+use Rattle.std.specs.Prelude.{◌≡◌, ℕ, ◌<◌, ◌≤◌, ◌↔◌, ◌⊎◌, true, Some, None, List, [], ◌∷◌, ◌++◌, take, count_by, slice_get}
+use Rattle.mm_frame.specs.Typing.{HasFrames}
+use Rattle.mm_frame.specs.Item.{Item}
+use Rattle.mm_frame.specs.Numbered.{IsActive, between}
+use Rattle.mm_frame.specs.Scope.{Neither, mark_of, closed, stays, active, is_start, is_end}
+use Rattle.mm_frame.specs.declared.FrameNumber.{FrameNumber}
+use Rattle.mm_frame.specs.Sound.{IsSound, IsFault, fault, judged, kept}
+use Rattle.mm_frame.specs.Framing.{place_of}
+use Rattle.mm_frame.specs.ScopeStack.{read, all_of, statements}
+
+-- At every item of every list, what the theory of proofs needs is known of each label that resolves to an assertion.
+abbrev pub PlacesHaveFrames : Type 0
+PlacesHaveFrames = (items : List Item) (j : ℕ) → HasFrames (place_of items j)
+
+-- A statement has one fault at most.
+abbrev pub HasOneFault : Type 0
+HasOneFault = (before : List Item) (item : Item) (w v : ℕ) (n m : FrameNumber) → IsFault before item w n → IsFault before item v m → (w ≡ v) × (n ≡ m)
+
+-- It has a fault, or is sound.
+abbrev pub HasFaultOrIsSound : Type 0
+HasFaultOrIsSound = (before : List Item) (item : Item) → ((w : ℕ) × (n : FrameNumber) × IsFault before item w n) ⊎ IsSound before item
+
+-- It is never both.
+abbrev pub NeverBoth : Type 0
+NeverBoth = (before : List Item) (item : Item) (w : ℕ) (n : FrameNumber) → IsFault before item w n → IsSound before item → ⊥
+
+-- The fault that is computed is the fault.
+abbrev pub FaultIsFound : Type 0
+FaultIsFound = (before : List Item) (item : Item) (w : ℕ) (n : FrameNumber) → (fault before item ≡ Some (w, n)) ↔ IsFault before item w n
+
+-- None is computed exactly for sound statements.
+abbrev pub SoundHasNone : Type 0
+SoundHasNone = (before : List Item) (item : Item) → (fault before item ≡ None) ↔ IsSound before item
+
+-- One more item is judged against the sound ones before it.
+abbrev pub KeptNext : Type 0
+KeptNext = (items : List Item) (item : Item) → kept (items ++ item ∷ []) ≡ kept items ++ judged item (fault (kept items) item) ∷ []
+
+-- Items close no block that was open before them exactly where no beginning of them has more `$}` than `${`.
+abbrev pub StaysByCounts : Type 0
+StaysByCounts = (items : List Item) → (stays items ≡ true) ↔ ((k : ℕ) → count_by is_end (take k items) ≤ count_by is_start (take k items))
+
+-- The statements in the scopes of the stack are those that are active.
+abbrev pub ReaderIsActive : Type 0
+ReaderIsActive = (items : List Item) → closed items ≡ 0 → all_of (read ([] ∷ []) items) ≡ statements (active items)
+
+-- A statement is active at a later one exactly where the items between them close no block that was open before them.
+abbrev pub ActiveByBlocks : Type 0
+ActiveByBlocks = (items : List Item) (i j : ℕ) (x y : Item) → stays items ≡ true → slice_get items i ≡ Some x → slice_get items j ≡ Some y → mark_of x.kind ≡ Neither → mark_of y.kind ≡ Neither → i < j → (stays (between items i j) ≡ true) ↔ IsActive items i j

@@ -1,0 +1,10 @@
+pub mod Language
+pub mod Typing
+pub mod Item
+pub mod Scope
+pub mod Sound
+pub mod Framing
+pub mod Outermost
+pub mod Numbered
+pub mod ScopeStack
+pub mod Laws

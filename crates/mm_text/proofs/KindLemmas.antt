@@ -1,0 +1,156 @@
+-- Kinds of words, and marks, against how they are spelled.
+use Rattle.std.proofs.Common.{◌≡◌, ℕ, suc, zero, ◌<◌, true, false, cond, eqb, ◌||◌, List, [], ◌∷◌, length, get_or, Option, Some, None, Contains, refl, sym, ap, ◌∙◌, subst, arith, inl, inr, ◌⊎◌, eq-eqb}
+use Rattle.std.specs.List.{list_any}
+use Rattle.std.specs.Prelude.{option_map, ◌==◌}
+use Rattle.std.proofs.lemmas.Bool.{cases_Bool, cond-false, eqb-true, ne_eqb, false≢true, or_left, or_right, or_cases, and_parts, false_from_ne_true}
+use Rattle.mm_text.specs.declared.word.Keyword.{Keyword}
+use Rattle.mm_text.specs.declared.word.Keyword.TheVariants.{BlockStart, BlockEnd, Constants, Variables, Floating, Essential, Disjoint, Axiom, Theorem, StatementEnd, ProofStart, InclusionStart, InclusionEnd}
+use Rattle.mm_text.specs.declared.word.WordKind.{WordKind}
+use Rattle.mm_text.specs.declared.word.WordKind.TheVariants as kinds
+use Rattle.mm_text.specs.Spelling.{spelling, IsSpelled, HoldsMark, StandsAt, opening, closing}
+use Rattle.mm_text.specs.LeftToRight.{keyword_at, plain_unless, kind_of, is_mark, holds_mark}
+
+-- ---- a `$` somewhere
+
+any_contains : (bytes : List ℕ) → list_any (λ c. c == 36) bytes ≡ true → Contains bytes 36
+any_contains [] e = absurd cc
+any_contains (c ∷ bytes) e =
+    elim (or_cases (eqb c 36) (list_any (λ c. c == 36) bytes) e) [
+      | inl here ↦ (0, omega arith, eqb-true c 36 here)
+      | inr later ↦ let w = any_contains bytes later in (suc w.0, omega (arith, w.1), w.2)
+    ]
+
+contains_at : (bytes : List ℕ) (k : ℕ) → k < length bytes → get_or bytes k 36 ≡ 36 → list_any (λ c. c == 36) bytes ≡ true
+contains_at [] k lt e = absurd (omega arith)
+contains_at (c ∷ bytes) zero lt e = or_left (eqb c 36) (list_any (λ c. c == 36) bytes) (eq-eqb c 36 e)
+contains_at (c ∷ bytes) (suc k) lt e = or_right (eqb c 36) (list_any (λ c. c == 36) bytes) (contains_at bytes k (omega arith) e)
+
+contains_any : (bytes : List ℕ) → Contains bytes 36 → list_any (λ c. c == 36) bytes ≡ true
+contains_any bytes h = contains_at bytes h.0 h.1 h.2
+
+none_any : (bytes : List ℕ) → ¬ Contains bytes 36 → list_any (λ c. c == 36) bytes ≡ false
+none_any bytes none = false_from_ne_true (list_any (λ c. c == 36) bytes) (λ e. none (any_contains bytes e))
+
+-- ---- keywords
+
+pick : (b n : ℕ) (first k : Keyword) (rest : Option Keyword) → 36 ∷ n ∷ [] ≡ spelling first → (rest ≡ Some k → 36 ∷ b ∷ [] ≡ spelling k) → cond (eqb b n) (Some first) rest ≡ Some k → 36 ∷ b ∷ [] ≡ spelling k
+pick b n first k rest spelled else' e =
+    elim (cases_Bool (eqb b n)) [
+      | inl same ↦ rw (eqb-true b n same) (spelled ∙ ap spelling (let e' : Some first ≡ Some k = rw same at e in cc))
+      | inr other ↦ else' (rw other at e)
+    ]
+
+keyword_is : (b : ℕ) (k : Keyword) → keyword_at b ≡ Some k → 36 ∷ b ∷ [] ≡ spelling k
+keyword_is b k =
+    pick b 123 BlockStart k _ refl (pick b 125 BlockEnd k _ refl (pick b 99 Constants k _ refl (pick b 118 Variables k _ refl (pick b 102 Floating k _ refl
+    (pick b 101 Essential k _ refl (pick b 100 Disjoint k _ refl (pick b 97 Axiom k _ refl (pick b 112 Theorem k _ refl (pick b 46 StatementEnd k _ refl
+    (pick b 61 ProofStart k _ refl (pick b 91 InclusionStart k _ refl (pick b 93 InclusionEnd k None refl (λ e. absurd cc)))))))))))))
+
+kind_of-keyword : (k : Keyword) → kind_of (spelling k) ≡ Some (kinds.Keyword k)
+kind_of-keyword BlockStart = refl
+kind_of-keyword BlockEnd = refl
+kind_of-keyword Constants = refl
+kind_of-keyword Variables = refl
+kind_of-keyword Floating = refl
+kind_of-keyword Essential = refl
+kind_of-keyword Disjoint = refl
+kind_of-keyword Axiom = refl
+kind_of-keyword Theorem = refl
+kind_of-keyword StatementEnd = refl
+kind_of-keyword ProofStart = refl
+kind_of-keyword InclusionStart = refl
+kind_of-keyword InclusionEnd = refl
+
+-- a run with no `$`, or one with a `$` that is no keyword
+plain_is : (bytes : List ℕ) (kind : WordKind) → plain_unless (list_any (λ c. c == 36) bytes) ≡ Some kind → IsSpelled kind bytes
+plain_is bytes kind e =
+    elim (cases_Bool (list_any (λ c. c == 36) bytes)) [
+      | inl some ↦ absurd (let e' : plain_unless true ≡ Some kind = rw some at e in cc)
+      | inr none ↦
+          let e' : plain_unless false ≡ Some kind = rw none at e in
+          let is : kinds.Plain ≡ kind = cc in
+          subst (λ (k : WordKind). IsSpelled k bytes) is (λ h. false≢true (sym none ∙ contains_any bytes h))
+    ]
+
+pair_other : (a b : ℕ) → eqb a 36 ≡ false → kind_of (a ∷ b ∷ []) ≡ plain_unless (list_any (λ c. c == 36) (a ∷ b ∷ []))
+pair_other a b other = cond-false (eqb a 36) (option_map kinds.Keyword (keyword_at b)) (plain_unless (list_any (λ c. c == 36) (a ∷ b ∷ []))) other
+
+keyword_spelled : (b : ℕ) (found : Option Keyword) (kind : WordKind) → keyword_at b ≡ found → option_map kinds.Keyword found ≡ Some kind → IsSpelled kind (36 ∷ b ∷ [])
+keyword_spelled b None kind is e = absurd cc
+keyword_spelled b (Some k) kind is e =
+    let same : kinds.Keyword k ≡ kind = cc in
+    subst (λ (v : WordKind). IsSpelled v (36 ∷ b ∷ [])) same (keyword_is b k is)
+
+-- a kind is found exactly where the bytes spell it
+pub kind_spelled : (bytes : List ℕ) (kind : WordKind) → kind_of bytes ≡ Some kind → IsSpelled kind bytes
+kind_spelled [] kind e = plain_is [] kind e
+kind_spelled (a ∷ []) kind e = plain_is (a ∷ []) kind e
+kind_spelled (a ∷ b ∷ []) kind e =
+    elim (cases_Bool (eqb a 36)) [
+      | inl same ↦ rw (eqb-true a 36 same) (keyword_spelled b (keyword_at b) kind refl (rw same at e))
+      | inr other ↦ plain_is (a ∷ b ∷ []) kind (sym (pair_other a b other) ∙ e)
+    ]
+kind_spelled (a ∷ b ∷ c ∷ bytes) kind e = plain_is (a ∷ b ∷ c ∷ bytes) kind e
+
+plain_kind : (bytes : List ℕ) → ¬ Contains bytes 36 → plain_unless (list_any (λ c. c == 36) bytes) ≡ Some kinds.Plain
+plain_kind bytes none = ap plain_unless (none_any bytes none)
+
+pub spelled_kind : (kind : WordKind) (bytes : List ℕ) → IsSpelled kind bytes → kind_of bytes ≡ Some kind
+spelled_kind (kinds.Keyword k) bytes e = ap kind_of e ∙ kind_of-keyword k
+spelled_kind kinds.Plain [] none = plain_kind [] none
+spelled_kind kinds.Plain (a ∷ []) none = plain_kind (a ∷ []) none
+spelled_kind kinds.Plain (a ∷ b ∷ []) none =
+    let other : eqb a 36 ≡ false = ne_eqb a 36 (λ e. none (0, omega arith, e)) in
+    pair_other a b other ∙ plain_kind (a ∷ b ∷ []) none
+spelled_kind kinds.Plain (a ∷ b ∷ c ∷ bytes) none = plain_kind (a ∷ b ∷ c ∷ bytes) none
+
+plain_none : (bytes : List ℕ) → plain_unless (list_any (λ c. c == 36) bytes) ≡ None → Contains bytes 36
+plain_none bytes e =
+    elim (cases_Bool (list_any (λ c. c == 36) bytes)) [
+      | inl some ↦ any_contains bytes some
+      | inr none ↦ absurd (let e' : plain_unless false ≡ None = rw none at e in cc)
+    ]
+
+pub no_kind : (bytes : List ℕ) → kind_of bytes ≡ None → Contains bytes 36
+no_kind [] e = plain_none [] e
+no_kind (a ∷ []) e = plain_none (a ∷ []) e
+no_kind (a ∷ b ∷ []) e =
+    elim (cases_Bool (eqb a 36)) [
+      | inl same ↦ (0, omega arith, eqb-true a 36 same)
+      | inr other ↦ plain_none (a ∷ b ∷ []) (sym (pair_other a b other) ∙ e)
+    ]
+no_kind (a ∷ b ∷ c ∷ bytes) e = plain_none (a ∷ b ∷ c ∷ bytes) e
+
+-- ---- marks
+
+mark_is : (a b : ℕ) (bytes : List ℕ) → is_mark a b ≡ true → StandsAt (a ∷ b ∷ bytes) opening 0 ⊎ StandsAt (a ∷ b ∷ bytes) closing 0
+mark_is a b bytes e =
+    let parts = and_parts (eqb a 36) (eqb b 40 || eqb b 41) e in
+    elim (or_cases (eqb b 40) (eqb b 41) parts.1) [
+      | inl opens ↦ inl (rw (eqb-true a 36 parts.0, eqb-true b 40 opens) refl)
+      | inr closes ↦ inr (rw (eqb-true a 36 parts.0, eqb-true b 41 closes) refl)
+    ]
+
+pub mark_stands : (bytes : List ℕ) → holds_mark bytes ≡ true → HoldsMark bytes
+mark_stands [] e = absurd cc
+mark_stands (a ∷ []) e = absurd cc
+mark_stands (a ∷ b ∷ bytes) e =
+    elim (or_cases (is_mark a b) (holds_mark (b ∷ bytes)) e) [
+      | inl here ↦ (0, mark_is a b bytes here)
+      | inr later ↦ let w = mark_stands (b ∷ bytes) later in (suc w.0, w.1)
+    ]
+
+stands_at : (bytes : List ℕ) (k : ℕ) → StandsAt bytes opening k ⊎ StandsAt bytes closing k → holds_mark bytes ≡ true
+stands_at [] zero (inl e) = absurd cc
+stands_at [] zero (inr e) = absurd cc
+stands_at [] (suc k) (inl e) = absurd cc
+stands_at [] (suc k) (inr e) = absurd cc
+stands_at (a ∷ []) zero (inl e) = absurd cc
+stands_at (a ∷ []) zero (inr e) = absurd cc
+stands_at (a ∷ []) (suc k) h = absurd (false≢true (stands_at [] k h))
+stands_at (a ∷ b ∷ bytes) zero (inl e) = let a-is : a ≡ 36 = cc in let b-is : b ≡ 40 = cc in rw (a-is, b-is) refl
+stands_at (a ∷ b ∷ bytes) zero (inr e) = let a-is : a ≡ 36 = cc in let b-is : b ≡ 41 = cc in rw (a-is, b-is) refl
+stands_at (a ∷ b ∷ bytes) (suc k) h = or_right (is_mark a b) (holds_mark (b ∷ bytes)) (stands_at (b ∷ bytes) k h)
+
+pub stands_mark : (bytes : List ℕ) → HoldsMark bytes → holds_mark bytes ≡ true
+stands_mark bytes h = stands_at bytes h.0 h.1

@@ -1,0 +1,13 @@
+pub mod RunLemmas
+pub mod ReadLemmas
+pub mod MarkLemmas
+pub mod KindLemmas
+pub mod ReadingLemmas
+pub mod NthLemmas
+pub mod LineLemmas
+pub mod UnitReadingLemmas
+pub mod UnitFaultLemmas
+pub mod UnitScanLemmas
+pub mod UnitDivisionLemmas
+pub mod LayoutLemmas
+pub mod PositionLemmas

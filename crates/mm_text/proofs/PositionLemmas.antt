@@ -1,0 +1,200 @@
+-- Where the words of a text lie, and which bytes a text has.
+use Rattle.std.proofs.Common.{◌≡◌, ℕ, ◌+◌, ◌-◌, ◌<◌, ◌≤◌, Bool, true, false, not, ◌||◌, ◌&&◌, eqb, List, [], ◌∷◌, ◌++◌, append_assoc, length, take, drop, get_or, Option, Some, None, IfSome, All, AllPairs, refl, sym, ap, ◌∙◌, subst, arith, inl, inr}
+use Rattle.std.specs.Prelude.{nat_le, nat_lt, slice_range, slice_get}
+use Rattle.std.specs.List.{flat_map, AllByRecursion, position_or_len}
+use Rattle.std.proofs.lemmas.Bool.{cases_Bool, false≢true, or_cases, and_parts, eqb-true, leb-true, ltb-false}
+use Rattle.std.proofs.lemmas.List.{length-append}
+use Rattle.std.proofs.lemmas.Option.{slice_get_within, get_or_from_slice_get}
+use Rattle.std.proofs.lemmas.List.Elements.{All-nil, All-cons}
+use Rattle.std.proofs.lemmas.List.Kept.{AllPairs-cons}
+use Rattle.std.proofs.lemmas.List.Quantifiers.{position-Some}
+use Rattle.std.proofs.lemmas.List.Sums.{fails_before_first}
+use Rattle.std.proofs.Math.Seq.{take-append_seam, drop-append_seam}
+use Rattle.mm_text.specs.declared.word.Word.{Word}
+use Rattle.mm_text.specs.declared.fault.TextFault.{TextFault}
+use Rattle.mm_text.specs.declared.fault.TextNumber.{TextNumber}
+use Rattle.mm_text.specs.declared.fault.TextNumber.TheVariants.{T01, T02}
+use Rattle.mm_text.specs.Run.{Run, is_white, ends_run, runs}
+use Rattle.mm_text.specs.Layout.{IsLaidOut}
+use Rattle.mm_text.specs.Spelling.{IsSpelled, IsWord}
+use Rattle.mm_text.specs.Reading.{is_allowed, first_bad, Part, Single, Comment, part_runs, part_words, IsPart, HasWords, LiesIn, AreWithin, StopsAt, IsFaultAt, IsFault}
+use Rattle.mm_text.proofs.LayoutLemmas.{laid_out}
+
+-- ---- runs
+
+-- a run stands in the text, at a place or behind it
+record Stands (text : List ℕ) (at : ℕ) (run : Run) : Type 0 where
+  behind : at ≤ run.start
+  some : 0 < length run.bytes
+  within : run.start + length run.bytes ≤ length text
+  bytes_are : slice_range text run.start (run.start + length run.bytes) ≡ run.bytes
+
+-- the runs stand in the text one behind the other, with a gap between them
+abbrev Standing : List ℕ → ℕ → List Run → Type 0
+Standing text at [] = Unit {0}
+Standing text at (run ∷ runs) = Stands text at run × Standing text (run.start + length run.bytes + 1) runs
+
+at_or_before : (text : List ℕ) (low at : ℕ) (runs : List Run) → (Standing text at runs → low ≤ at) → Standing text at runs → Standing text low runs
+at_or_before text low at [] le h = tt
+at_or_before text low at (run ∷ runs) le h =
+    let lower : low ≤ at = le h in
+    (record { behind = omega (arith, h.0.behind, lower); some = h.0.some; within = h.0.within; bytes_are = h.0.bytes_are }, h.1)
+
+-- runs in front are left out
+skip : (text : List ℕ) (at : ℕ) (front later : List Run) → Standing text at (front ++ later) → Standing text at later
+skip text at [] later h = h
+skip text at (run ∷ front) later h =
+    at_or_before text at (run.start + length run.bytes + 1) later (λ x. omega (arith, h.0.behind)) (skip text (run.start + length run.bytes + 1) front later h.1)
+
+-- behind a run there is a gap
+gap_behind : (text : List ℕ) (at : ℕ) (later : List ℕ) (runs : List Run) → ends_run later ≡ true → IsLaidOut at later runs → Standing text at runs → Standing text (at + 1) runs
+gap_behind text at later [] ends laid h = tt
+gap_behind text at later (run ∷ runs) ends laid h = by_gap laid.gap run.bytes laid.joined laid.place laid.solid laid.some where
+  by_gap : (gap bytes : List ℕ) → later ≡ gap ++ (bytes ++ laid.later) → run.start ≡ at + length gap → AllByRecursion (λ b. is_white b ≡ false) bytes → 0 < length bytes → Standing text (at + 1) (run ∷ runs)
+  by_gap (g ∷ gap) bytes joined place solid some =
+      let behind : at + 1 ≤ run.start = omega arith in
+      (record { behind = behind; some = h.0.some; within = h.0.within; bytes_are = h.0.bytes_are }, h.1)
+  by_gap [] (b ∷ bytes) joined place solid some = absurd (false≢true (sym solid.0 ∙ (sym (ap ends_run joined) ∙ ends)))
+  by_gap [] [] joined place solid some = absurd (omega arith)
+
+part_of : (front bytes later : List ℕ) (from to : ℕ) → from ≡ length front → to ≡ from + length bytes → slice_range (front ++ (bytes ++ later)) from to ≡ bytes
+part_of front bytes later from to from_is to_is =
+    let len : to - from ≡ length bytes = omega arith in
+    ap (λ (k : ℕ). take k (drop from (front ++ (bytes ++ later)))) len ∙ ap (λ (k : ℕ). take (length bytes) (drop k (front ++ (bytes ++ later)))) from_is
+    ∙ ap (take (length bytes)) (drop-append_seam front (bytes ++ later)) ∙ take-append_seam bytes later
+
+runs_stand : (text front bytes : List ℕ) (at : ℕ) (runs : List Run) → text ≡ front ++ bytes → at ≡ length front → IsLaidOut at bytes runs → Standing text at runs
+runs_stand text front bytes at [] joined place h = tt
+runs_stand text front bytes at (run ∷ runs) joined place h =
+    let before = front ++ h.gap in
+    let all : text ≡ before ++ (run.bytes ++ h.later) = joined ∙ ap (λ (bs : List ℕ). front ++ bs) h.joined ∙ sym (append_assoc front h.gap (run.bytes ++ h.later)) in
+    let on : text ≡ (before ++ run.bytes) ++ h.later = all ∙ sym (append_assoc before run.bytes h.later) in
+    let start : run.start ≡ length before = omega (arith, h.place, place, length-append front h.gap) in
+    let end : run.start + length run.bytes ≡ length (before ++ run.bytes) = omega (arith, start, length-append before run.bytes) in
+    let size : length text ≡ length (before ++ run.bytes) + length h.later = ap length on ∙ length-append (before ++ run.bytes) h.later in (
+      record {
+        behind = omega (arith, h.place);
+        some = h.some;
+        within = omega (arith, end, size);
+        bytes_are = ap (λ (bs : List ℕ). slice_range bs run.start (run.start + length run.bytes)) all ∙ part_of before run.bytes h.later run.start (run.start + length run.bytes) start refl;
+      },
+      gap_behind text (run.start + length run.bytes) h.later runs h.ends h.goes_on (runs_stand text (before ++ run.bytes) h.later (run.start + length run.bytes) runs on end h.goes_on),
+    )
+
+-- ---- words
+
+-- the words lie in the text one behind the other, from a place on
+abbrev Lying : List ℕ → ℕ → List Word → Type 0
+Lying text at [] = Unit {0}
+Lying text at (word ∷ words) = (at ≤ word.start) × LiesIn text word × Lying text (word.end + 1) words
+
+word_lies : (text : List ℕ) (at : ℕ) (run : Run) (word : Word) → IsWord run word → Stands text at run → LiesIn text word
+word_lies text at run word is h =
+    let from : slice_range text word.start word.end ≡ slice_range text run.start (run.start + length run.bytes) = ap (λ (k : ℕ). slice_range text k word.end) is.start ∙ ap (λ (k : ℕ). slice_range text run.start k) is.end in
+    record {
+      some = omega (arith, is.start, is.end, h.some);
+      within = omega (arith, is.end, h.within);
+      spelled = subst (IsSpelled word.kind) (sym (from ∙ h.bytes_are)) is.kind;
+    }
+
+parts_lie : (text : List ℕ) (at : ℕ) (parts : List Part) → AllByRecursion IsPart parts → Standing text at (flat_map part_runs parts) → Lying text at (flat_map part_words parts)
+parts_lie text at [] each h = tt
+parts_lie text at (Single run word ∷ parts) each h = (
+  omega (arith, each.0.start, h.0.behind),
+  word_lies text at run word each.0 h.0,
+  parts_lie text (word.end + 1) parts each.1 (at_or_before text (word.end + 1) (run.start + length run.bytes + 1) (flat_map part_runs parts) (λ x. omega (arith, each.0.end)) h.1),
+)
+parts_lie text at (Comment first inside last ∷ parts) each h = parts_lie text at parts each.1 (skip text at (first ∷ (inside ++ last ∷ [])) (flat_map part_runs parts) h)
+
+each_lies : (text : List ℕ) (at : ℕ) (words : List Word) → Lying text at words → All (LiesIn text) words
+each_lies text at [] h = All-nil (LiesIn text)
+each_lies text at (word ∷ words) h = All-cons (LiesIn text) word words h.1 (each_lies text (word.end + 1) words h.2)
+
+all_behind : (text : List ℕ) (place at : ℕ) (words : List Word) → place < at → Lying text at words → All (λ word. place < word.start) words
+all_behind text place at [] lt h = All-nil (λ word. place < word.start)
+all_behind text place at (word ∷ words) lt h =
+    All-cons (λ word. place < word.start) word words (omega (arith, lt, h.0)) (all_behind text place (word.end + 1) words (omega (arith, lt, h.0, h.1.some)) h.2)
+
+all_rise : (text : List ℕ) (at : ℕ) (words : List Word) → Lying text at words → AllPairs (λ earlier later. earlier.end < later.start) words
+all_rise text at [] h = λ i j d lt within. absurd (omega (arith, within))
+all_rise text at (word ∷ words) h =
+    AllPairs-cons (λ (earlier later : Word). earlier.end < later.start) word words (all_behind text word.end (word.end + 1) words (omega arith) h.2) (all_rise text (word.end + 1) words h.2)
+
+words_lie : (text : List ℕ) (words : List Word) → HasWords text words → Lying text 0 words
+words_lie text words h =
+    let standing : Standing text 0 (runs text) = runs_stand text [] text 0 (runs text) refl refl (laid_out 0 text) in
+    subst (Lying text 0) h.words_are.singles (parts_lie text 0 h.words_are.parts h.words_are.reading.each (subst (Standing text 0) (sym h.words_are.reading.joined) standing))
+
+-- the words of a text lie in it, in order
+pub are_within : (text : List ℕ) (words : List Word) → HasWords text words → AreWithin text words
+are_within text words h =
+    let lying = words_lie text words h in
+    record { each = each_lies text 0 words lying; rising = all_rise text 0 words lying }
+
+-- ---- bytes
+
+white_below : (b : ℕ) → is_white b ≡ true → b < 127
+unfolding is_white
+white_below b e =
+    elim (or_cases (eqb b 32 || eqb b 9 || eqb b 13 || eqb b 10) (eqb b 12) e) [
+      | inl e ↦ elim (or_cases (eqb b 32 || eqb b 9 || eqb b 13) (eqb b 10) e) [
+        | inl e ↦ elim (or_cases (eqb b 32 || eqb b 9) (eqb b 13) e) [
+          | inl e ↦ elim (or_cases (eqb b 32) (eqb b 9) e) [ inl is ↦ let same = eqb-true b 32 is in omega (arith, same) | inr is ↦ let same = eqb-true b 9 is in omega (arith, same) ]
+          | inr is ↦ let same = eqb-true b 13 is in omega (arith, same)
+        ]
+        | inr is ↦ let same = eqb-true b 10 is in omega (arith, same)
+      ]
+      | inr is ↦ let same = eqb-true b 12 is in omega (arith, same)
+    ]
+
+allowed_below : (b : ℕ) → is_allowed b ≡ true → b < 127
+unfolding is_allowed
+allowed_below b e =
+    elim (or_cases (is_white b) (nat_le 33 b && nat_le b 126) e) [
+      | inl white ↦ white_below b white
+      | inr printable ↦ let le : b ≤ 126 = leb-true b 126 (and_parts (nat_le 33 b) (nat_le b 126) printable).1 in omega (arith, le)
+    ]
+
+none_bad : (text : List ℕ) → first_bad text ≡ None → length text ≤ position_or_len (λ b. not (is_allowed b)) text
+none_bad text e =
+    elim (cases_Bool (nat_lt (position_or_len (λ b. not (is_allowed b)) text) (length text))) [
+      | inl found ↦ absurd (let some = rw found at e in cc)
+      | inr none ↦ ltb-false (position_or_len (λ b. not (is_allowed b)) text) (length text) none
+    ]
+
+passes : (b : Bool) → not b ≡ false → b ≡ true
+passes true e = refl
+passes false e = absurd cc
+
+-- a text without a bad byte has only bytes below 127
+pub all_below : (text : List ℕ) → first_bad text ≡ None → All (λ b. b < 127) text
+all_below text e k d lt =
+    let before : k < position_or_len (λ b. not (is_allowed b)) text = omega (arith, lt, none_bad text e) in
+    allowed_below (get_or text k d) (passes (is_allowed (get_or text k d)) (fails_before_first (λ b. not (is_allowed b)) text k d before))
+
+-- the n-th word of a text lies in it
+pub nth_lies : (text : List ℕ) (words : List Word) (n : ℕ) (found : Option Word) → HasWords text words → found ≡ slice_get words n → IfSome found (LiesIn text)
+nth_lies text words n None h is = tt
+nth_lies text words n (Some word) h is =
+    subst (LiesIn text) (get_or_from_slice_get words n word word (sym is)) ((are_within text words h).each n word (slice_get_within words n word (sym is)))
+
+-- ---- faults
+
+-- a run among those of a text begins in it
+run_begins : (text : List ℕ) (front rest : List Run) (run : Run) → runs text ≡ front ++ run ∷ rest → run.start < length text
+run_begins text front rest run joined =
+    let standing : Standing text 0 (runs text) = runs_stand text [] text 0 (runs text) refl refl (laid_out 0 text) in
+    let here = skip text 0 front (run ∷ rest) (subst (Standing text 0) joined standing) in
+    omega (arith, here.0.some, here.0.within)
+
+stop_lies : (text : List ℕ) (number : TextNumber) (at : ℕ) → StopsAt (runs text) number at → at < length text
+stop_lies text number at h = let begins = run_begins text h.front h.rest h.run h.joined in omega (arith, h.place)
+
+fault_at_lies : (text : List ℕ) (number : TextNumber) (at : ℕ) → IsFaultAt text number at → at < length text
+fault_at_lies text T01 at h = (position-Some (λ b. not (is_allowed b)) text at 0 h).0
+fault_at_lies text T02 at h = let begins = run_begins text h.1.open_comment.front h.1.open_comment.inside h.1.first h.1.open_comment.joined in omega (arith, h.1.place)
+fault_at_lies text number at h = stop_lies text number at h.1
+
+-- the fault of a text is at one of its bytes
+pub fault_lies : (text : List ℕ) (fault : TextFault) → IsFault text fault → fault.at < length text
+fault_lies text fault h = fault_at_lies text fault.number fault.at h

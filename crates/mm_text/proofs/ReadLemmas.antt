@@ -1,0 +1,41 @@
+-- What one run does to a reading.
+use Rattle.std.proofs.Common.{◌≡◌, ◌≢◌, ℕ, true, false, List, [], ◌∷◌, ◌++◌, append_assoc, Some, None, Ok, Err, refl, ap}
+use Rattle.std.proofs.lemmas.Bool.{false_from_ne_true}
+use Rattle.std.proofs.lemmas.Slice.Eq.{bytes_eq-Decides}
+use Rattle.std.specs.Str.{bytes_eq}
+use Rattle.mm_text.specs.declared.fault.TextNumber.TheVariants.{T03, T04}
+use Rattle.mm_text.specs.Run.{Run}
+use Rattle.mm_text.specs.Spelling.{opening, closing}
+use Rattle.mm_text.specs.declared.word.Word.{Word}
+use Rattle.mm_text.specs.LeftToRight.{read, Read, with_words, cons_word, holds_mark, fault_at, kind_of, alone}
+
+pub same_bytes : (bytes part : List ℕ) → bytes ≡ part → bytes_eq bytes part ≡ true
+same_bytes bytes part e = (bytes_eq-Decides bytes part).1 e
+
+pub other_bytes : (bytes part : List ℕ) → bytes ≢ part → bytes_eq bytes part ≡ false
+other_bytes bytes part ne = false_from_ne_true (bytes_eq bytes part) (λ e. ne ((bytes_eq-Decides bytes part).0 e))
+
+-- inside a comment
+pub inside_end : (start : ℕ) (run : Run) (runs : List Run) → run.bytes ≡ closing → read (Some start) (run ∷ runs) ≡ read None runs
+inside_end start run runs e = rw (same_bytes run.bytes closing e) refl
+
+pub inside_mark : (start : ℕ) (run : Run) (runs : List Run) → run.bytes ≢ closing → holds_mark run.bytes ≡ true → read (Some start) (run ∷ runs) ≡ Err (fault_at T03 run.start)
+inside_mark start run runs ne mark = rw (other_bytes run.bytes closing ne, mark) refl
+
+pub inside_more : (start : ℕ) (run : Run) (runs : List Run) → run.bytes ≢ closing → holds_mark run.bytes ≡ false → read (Some start) (run ∷ runs) ≡ read (Some start) runs
+inside_more start run runs ne no_mark = rw (other_bytes run.bytes closing ne, no_mark) refl
+
+-- outside comments
+pub outside_open : (run : Run) (runs : List Run) → run.bytes ≡ opening → read None (run ∷ runs) ≡ read (Some run.start) runs
+outside_open run runs e = rw (same_bytes run.bytes opening e) refl
+
+pub outside_close : (run : Run) (runs : List Run) → run.bytes ≡ closing → read None (run ∷ runs) ≡ Err (fault_at T04 run.start)
+outside_close run runs e = rw (e) refl
+
+pub outside_word : (run : Run) (runs : List Run) → run.bytes ≢ opening → run.bytes ≢ closing → read None (run ∷ runs) ≡ alone run (kind_of run.bytes) (read None runs)
+outside_word run runs no_open no_close = rw (other_bytes run.bytes opening no_open, other_bytes run.bytes closing no_close) refl
+
+-- one more word is read
+pub words_more : (words : List Word) (word : Word) (old new : Read) → old ≡ cons_word word new → with_words (words ++ word ∷ []) new ≡ with_words words old
+words_more words word old (Ok more) e = rw e (ap Ok (simp append_assoc))
+words_more words word old (Err fault) e = rw e refl

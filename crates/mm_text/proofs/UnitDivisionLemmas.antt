@@ -1,0 +1,206 @@
+-- A list of words has one division into units.
+use Rattle.std.proofs.Common.{◌≡◌, ◌⊎◌, ℕ, Bool, true, false, List, [], ◌∷◌, ◌++◌, append_assoc, refl, sym, ap, ◌∙◌, subst, inl, inr, arith}
+use Rattle.std.specs.List.{AllByRecursion, flat_map}
+use Rattle.std.proofs.lemmas.List.{append-nil}
+use Rattle.mm_text.specs.declared.word.Keyword.{Keyword}
+use Rattle.mm_text.specs.declared.word.Keyword.TheVariants.{BlockStart, BlockEnd, Constants, Variables, Floating, Essential, Disjoint, Axiom, Theorem, StatementEnd, ProofStart, InclusionStart}
+use Rattle.mm_text.specs.declared.word.WordKind.TheVariants as kinds
+use Rattle.mm_text.specs.Unit.{Token, IsKeyword, IsPlain, Shape, Declaration, Labelled, Provable, Inclusion, shape_tokens, IsShape, Units, Nothing, Simple, Block, unit_tokens, AreUnits}
+use Rattle.mm_text.specs.UnitReading as m
+use Rattle.mm_text.specs.BlockCounts.{is_start, is_end}
+use Rattle.mm_text.proofs.UnitReadingLemmas.{through_symbols, through_expression, through_shape}
+use Rattle.mm_text.proofs.UnitFaultLemmas.{IsInner, inner_shape, start_counts, end_counts}
+
+-- ---- the machine over shapes and plain words
+
+pub run_symbols : (depth : ℕ) (symbols tail : List Token) → AllByRecursion IsPlain symbols → m.run m.Symbols depth (symbols ++ tail) ≡ m.run m.Symbols depth tail
+run_symbols depth symbols tail plain = through_symbols depth symbols tail plain
+
+pub run_expression : (depth : ℕ) (symbols tail : List Token) → AllByRecursion IsPlain symbols → m.run m.Expression depth (symbols ++ tail) ≡ m.run m.Expression depth tail
+run_expression depth symbols tail plain = through_expression depth symbols tail plain
+
+pub run_shape : (shape : Shape) (tail : List Token) → IsShape true shape → m.run m.Begin 0 (shape_tokens shape ++ tail) ≡ m.run m.Begin 0 tail
+run_shape shape tail is = through_shape 0 shape tail is
+
+pub run_shapes : (shapes : List Shape) (tail : List Token) → AllByRecursion (IsShape true) shapes → m.run m.Begin 0 (flat_map shape_tokens shapes ++ tail) ≡ m.run m.Begin 0 tail
+run_shapes [] tail h = refl
+run_shapes (shape ∷ shapes) tail h =
+    ap (m.run m.Begin 0) (append_assoc (shape_tokens shape) (flat_map shape_tokens shapes) tail) ∙ run_shape shape (flat_map shape_tokens shapes ++ tail) h.0 ∙ run_shapes shapes tail h.1
+
+-- a list of shapes is a sequence of units with no blocks
+abbrev pub simple_units : List Shape → Units
+simple_units [] = Nothing
+simple_units (shape ∷ shapes) = Simple shape (simple_units shapes)
+
+pub unit_tokens-simple : (shapes : List Shape) → unit_tokens (simple_units shapes) ≡ flat_map shape_tokens shapes
+unit_tokens-simple [] = refl
+unit_tokens-simple (shape ∷ shapes) = ap (λ (ts : List Token). shape_tokens shape ++ ts) (unit_tokens-simple shapes)
+
+pub are_simple : (outside : Bool) (shapes : List Shape) → AllByRecursion (IsShape outside) shapes → AreUnits outside (simple_units shapes)
+are_simple outside [] h = tt
+are_simple outside (shape ∷ shapes) h = (h.0, are_simple outside shapes h.1)
+
+-- ---- one shape
+
+plain_split : (xs ys : List Token) (p q : Token) (s t : List Token) → AllByRecursion IsPlain xs → AllByRecursion IsPlain ys → ¬ IsPlain p → ¬ IsPlain q → xs ++ p ∷ s ≡ ys ++ q ∷ t → (xs ≡ ys) × (p ≡ q) × (s ≡ t)
+plain_split [] [] p q s t f g no_p no_q e = (refl, cc, cc)
+plain_split [] (y ∷ ys) p q s t f g no_p no_q e = let same : y ≡ p = cc in absurd (no_p (subst (λ (t : Token). IsPlain t) same g.0))
+plain_split (x ∷ xs) [] p q s t f g no_p no_q e = let same : x ≡ q = cc in absurd (no_q (subst (λ (t : Token). IsPlain t) same f.0))
+plain_split (x ∷ xs) (y ∷ ys) p q s t f g no_p no_q e =
+    let first : x ≡ y = cc in
+    let rest : xs ++ p ∷ s ≡ ys ++ q ∷ t = cc in
+    let more = plain_split xs ys p q s t f.1 g.1 no_p no_q rest in
+    let joined : xs ≡ ys = more.0 in
+    (cc, more.1, more.2)
+
+not_plain : (token : Token) (k : Keyword) → IsKeyword k token → ¬ IsPlain token
+not_plain token k is plain = cc
+
+rest_split : (xs ys : List Token) (p q : Token) (s t : List Token) → AllByRecursion IsPlain xs → AllByRecursion IsPlain ys → IsKeyword StatementEnd p → IsKeyword StatementEnd q → (xs ++ p ∷ []) ++ s ≡ (ys ++ q ∷ []) ++ t → (xs ≡ ys) × (p ≡ q) × (s ≡ t)
+rest_split xs ys p q s t f g is_p is_q e =
+    plain_split xs ys p q s t f g (not_plain p StatementEnd is_p) (not_plain q StatementEnd is_q) (sym (append_assoc xs (p ∷ []) s) ∙ e ∙ append_assoc ys (q ∷ []) t)
+
+proof_split : (xs ys : List Token) (p q : Token) (xs' ys' : List Token) (p' q' : Token) (s t : List Token) → AllByRecursion IsPlain xs → AllByRecursion IsPlain ys → IsKeyword ProofStart p → IsKeyword ProofStart q
+    → AllByRecursion IsPlain xs' → AllByRecursion IsPlain ys' → IsKeyword StatementEnd p' → IsKeyword StatementEnd q' → (xs ++ p ∷ (xs' ++ p' ∷ [])) ++ s ≡ (ys ++ q ∷ (ys' ++ q' ∷ [])) ++ t → ((xs ≡ ys) × (p ≡ q)) × ((xs' ≡ ys') × (p' ≡ q') × (s ≡ t))
+proof_split xs ys p q xs' ys' p' q' s t f g is_p is_q f' g' is_p' is_q' e =
+    let first : (xs ≡ ys) × (p ≡ q) × ((xs' ++ p' ∷ []) ++ s ≡ (ys' ++ q' ∷ []) ++ t) = plain_split xs ys p q ((xs' ++ p' ∷ []) ++ s) ((ys' ++ q' ∷ []) ++ t) f g (not_plain p ProofStart is_p) (not_plain q ProofStart is_q)
+    (sym (append_assoc xs (p ∷ (xs' ++ p' ∷ [])) s) ∙ e ∙ append_assoc ys (q ∷ (ys' ++ q' ∷ [])) t) in
+    ((first.0, first.1), rest_split xs' ys' p' q' s t f' g' is_p' is_q' first.2)
+
+abbrev Declares : Token → Type 0
+Declares token = IsKeyword Constants token ⊎ (IsKeyword Variables token ⊎ IsKeyword Disjoint token)
+
+abbrev Labels : Token → Type 0
+Labels token = IsKeyword Floating token ⊎ (IsKeyword Essential token ⊎ IsKeyword Axiom token)
+
+declares_not : (token : Token) → Declares token → IsPlain token ⊎ IsKeyword InclusionStart token → ⊥
+declares_not token (inl is) (inl other) = cc
+declares_not token (inl is) (inr other) = let e : kinds.Keyword Constants ≡ kinds.Keyword InclusionStart = cc in cc
+declares_not token (inr (inl is)) (inl other) = cc
+declares_not token (inr (inl is)) (inr other) = let e : kinds.Keyword Variables ≡ kinds.Keyword InclusionStart = cc in cc
+declares_not token (inr (inr is)) (inl other) = cc
+declares_not token (inr (inr is)) (inr other) = let e : kinds.Keyword Disjoint ≡ kinds.Keyword InclusionStart = cc in cc
+
+labels_not : (token : Token) → Labels token → IsKeyword Theorem token → ⊥
+labels_not token (inl is) other = let e : kinds.Keyword Floating ≡ kinds.Keyword Theorem = cc in cc
+labels_not token (inr (inl is)) other = let e : kinds.Keyword Essential ≡ kinds.Keyword Theorem = cc in cc
+labels_not token (inr (inr is)) other = let e : kinds.Keyword Axiom ≡ kinds.Keyword Theorem = cc in cc
+
+pub one_shape : (o : Bool) (a b : Shape) (s t : List Token) → IsShape o a → IsShape o b → shape_tokens a ++ s ≡ shape_tokens b ++ t → (a ≡ b) × (s ≡ t)
+one_shape o (Declaration k xs p) (Declaration l ys q) s t f g e =
+    let first : k ≡ l = cc in
+    let rest : (xs ++ p ∷ []) ++ s ≡ (ys ++ q ∷ []) ++ t = cc in
+    let split : (xs ≡ ys) × (p ≡ q) × (s ≡ t) = rest_split xs ys p q s t f.1 g.1 f.2 g.2 rest in
+    (cc, split.2)
+one_shape o (Declaration k xs p) (Labelled m l ys q) s t f g e = let first : m ≡ k = cc in absurd (declares_not k f.0 (inl (subst (λ (t : Token). IsPlain t) first g.0.0)))
+one_shape o (Declaration k xs p) (Provable m l ys q zs r) s t f g e = let first : m ≡ k = cc in absurd (declares_not k f.0 (inl (subst (λ (t : Token). IsPlain t) first g.0.0)))
+one_shape o (Declaration k xs p) (Inclusion b n d) s t f g e = let first : b ≡ k = cc in absurd (declares_not k f.0 (inr (subst (λ (t : Token). IsKeyword InclusionStart t) first g.1)))
+one_shape o (Labelled m k xs p) (Declaration l ys q) s t f g e = let first : m ≡ l = cc in absurd (declares_not l g.0 (inl (subst (λ (t : Token). IsPlain t) first f.0.0)))
+one_shape o (Labelled m k xs p) (Labelled n l ys q) s t f g e =
+    let first : m ≡ n = cc in
+    let second : k ≡ l = cc in
+    let rest : (xs ++ p ∷ []) ++ s ≡ (ys ++ q ∷ []) ++ t = cc in
+    let split : (xs ≡ ys) × (p ≡ q) × (s ≡ t) = rest_split xs ys p q s t f.2 g.2 f.3 g.3 rest in
+    (cc, split.2)
+one_shape o (Labelled m k xs p) (Provable n l ys q zs r) s t f g e = let second : l ≡ k = cc in absurd (labels_not k f.1 (subst (λ (t : Token). IsKeyword Theorem t) second g.1))
+one_shape o (Labelled m k xs p) (Inclusion b n d) s t f g e = let first : m ≡ b = cc in absurd (not_plain b InclusionStart g.1 (subst (λ (t : Token). IsPlain t) first f.0.0))
+one_shape o (Provable m k xs p zs r) (Declaration l ys q) s t f g e = let first : m ≡ l = cc in absurd (declares_not l g.0 (inl (subst (λ (t : Token). IsPlain t) first f.0.0)))
+one_shape o (Provable m k xs p zs r) (Labelled n l ys q) s t f g e = let second : k ≡ l = cc in absurd (labels_not l g.1 (subst (λ (t : Token). IsKeyword Theorem t) second f.1))
+one_shape o (Provable m k xs p zs r) (Provable n l ys q ws u) s t f g e =
+    let first : m ≡ n = cc in
+    let second : k ≡ l = cc in
+    let rest : (xs ++ p ∷ (zs ++ r ∷ [])) ++ s ≡ (ys ++ q ∷ (ws ++ u ∷ [])) ++ t = cc in
+    let split : ((xs ≡ ys) × (p ≡ q)) × ((zs ≡ ws) × (r ≡ u) × (s ≡ t)) = proof_split xs ys p q zs ws r u s t f.2 g.2 f.3 g.3 f.4 g.4 f.5 g.5 rest in
+    let shown : (xs ≡ ys) × (p ≡ q) = split.0 in
+    let proved : (zs ≡ ws) × (r ≡ u) × (s ≡ t) = split.1 in
+    (cc, proved.2)
+one_shape o (Provable m k xs p zs r) (Inclusion b n d) s t f g e = let first : m ≡ b = cc in absurd (not_plain b InclusionStart g.1 (subst (λ (t : Token). IsPlain t) first f.0.0))
+one_shape o (Inclusion b n d) (Declaration l ys q) s t f g e = let first : b ≡ l = cc in absurd (declares_not l g.0 (inr (subst (λ (t : Token). IsKeyword InclusionStart t) first f.1)))
+one_shape o (Inclusion b n d) (Labelled m l ys q) s t f g e = let first : m ≡ b = cc in absurd (not_plain b InclusionStart f.1 (subst (λ (t : Token). IsPlain t) first g.0.0))
+one_shape o (Inclusion b n d) (Provable m l ys q zs r) s t f g e = let first : m ≡ b = cc in absurd (not_plain b InclusionStart f.1 (subst (λ (t : Token). IsPlain t) first g.0.0))
+one_shape o (Inclusion b n d) (Inclusion b' n' d') s t f g e = (cc, cc)
+
+shape_head : (o : Bool) (shape : Shape) → IsShape o shape → (first : Token) × (rest : List Token) × (shape_tokens shape ≡ first ∷ rest) × IsInner first
+shape_head o (Declaration k xs p) h = (k, xs ++ p ∷ [], refl, (inner_shape o (Declaration k xs p) h).0)
+shape_head o (Labelled m k xs p) h = (m, k ∷ (xs ++ p ∷ []), refl, (inner_shape o (Labelled m k xs p) h).0)
+shape_head o (Provable m k xs p zs r) h = (m, k ∷ (xs ++ p ∷ (zs ++ r ∷ [])), refl, (inner_shape o (Provable m k xs p zs r) h).0)
+shape_head o (Inclusion b n d) h = (b, n ∷ d ∷ [], refl, (inner_shape o (Inclusion b n d) h).0)
+
+-- ---- one list of shapes
+
+pub one_shapes : (a b : List Shape) → AllByRecursion (IsShape true) a → AllByRecursion (IsShape true) b → flat_map shape_tokens a ≡ flat_map shape_tokens b → a ≡ b
+one_shapes [] [] f g e = refl
+one_shapes [] (y ∷ b) f g e =
+    let head = shape_head true y g.0 in
+    let first : shape_tokens y ++ flat_map shape_tokens b ≡ head.0 ∷ (head.1 ++ flat_map shape_tokens b) = ap (λ (ts : List Token). ts ++ flat_map shape_tokens b) head.2 in
+    let none : [] ≡ head.0 ∷ (head.1 ++ flat_map shape_tokens b) = e ∙ first in
+    absurd cc
+one_shapes (x ∷ a) [] f g e =
+    let head = shape_head true x f.0 in
+    let first : shape_tokens x ++ flat_map shape_tokens a ≡ head.0 ∷ (head.1 ++ flat_map shape_tokens a) = ap (λ (ts : List Token). ts ++ flat_map shape_tokens a) head.2 in
+    let none : [] ≡ head.0 ∷ (head.1 ++ flat_map shape_tokens a) = sym e ∙ first in
+    absurd cc
+one_shapes (x ∷ a) (y ∷ b) f g e =
+    let first : (x ≡ y) × (flat_map shape_tokens a ≡ flat_map shape_tokens b) = one_shape true x y (flat_map shape_tokens a) (flat_map shape_tokens b) f.0 g.0 e in
+    let more : a ≡ b = one_shapes a b f.1 g.1 first.1 in
+    cc
+
+-- ---- one sequence of units
+
+-- no unit begins here
+abbrev Stops : List Token → Type 0
+Stops [] = Unit {0}
+Stops (token ∷ tokens) = IsKeyword BlockEnd token
+
+no_shape_there : (o : Bool) (shape : Shape) (tail s : List Token) → IsShape o shape → Stops s → s ≡ shape_tokens shape ++ tail → ⊥
+no_shape_there o shape tail s is stops e =
+    let head = shape_head o shape is in
+    let same : s ≡ head.0 ∷ (head.1 ++ tail) = e ∙ ap (λ (ts : List Token). ts ++ tail) head.2 in
+    let end : IsKeyword BlockEnd head.0 = subst (λ (ts : List Token). Stops ts) same stops in
+    let one : (is_start head.0.kind ≡ 0) × (is_end head.0.kind ≡ 1) = end_counts head.0 end in
+    let none : is_end head.0.kind ≡ 0 = head.3.1 in
+    omega arith
+
+no_block_there : (begin : Token) (tail s : List Token) → IsKeyword BlockStart begin → Stops s → s ≡ begin ∷ tail → ⊥
+no_block_there begin tail s is stops e =
+    let end : IsKeyword BlockEnd begin = subst (λ (ts : List Token). Stops ts) e stops in
+    let same : kinds.Keyword BlockStart ≡ kinds.Keyword BlockEnd = sym is ∙ end in
+    cc
+
+not_both : (o : Bool) (shape : Shape) (begin : Token) (s t : List Token) → IsShape o shape → IsKeyword BlockStart begin → shape_tokens shape ++ s ≡ begin ∷ t → ⊥
+not_both o shape begin s t is starts e =
+    let head = shape_head o shape is in
+    let both : head.0 ∷ (head.1 ++ s) ≡ begin ∷ t = sym (ap (λ (ts : List Token). ts ++ s) head.2) ∙ e in
+    let same : head.0 ≡ begin = cc in
+    let one : is_start begin.kind ≡ 1 = (start_counts begin starts).0 in
+    let none : is_start head.0.kind ≡ 0 = head.3.0 in
+    let here : is_start head.0.kind ≡ is_start begin.kind = ap (λ (t : Token). is_start t.kind) same in
+    omega arith
+
+one_units : (o : Bool) (a b : Units) (s t : List Token) → AreUnits o a → AreUnits o b → Stops s → Stops t → unit_tokens a ++ s ≡ unit_tokens b ++ t → (a ≡ b) × (s ≡ t)
+one_units o Nothing Nothing s t f g p q e = (refl, e)
+one_units o Nothing (Simple y later) s t f g p q e = absurd (no_shape_there o y (unit_tokens later ++ t) s g.0 p (e ∙ append_assoc (shape_tokens y) (unit_tokens later) t))
+one_units o Nothing (Block begin inner end later) s t f g p q e = absurd (no_block_there begin ((unit_tokens inner ++ end ∷ unit_tokens later) ++ t) s g.0 p e)
+one_units o (Simple x later) Nothing s t f g p q e = absurd (no_shape_there o x (unit_tokens later ++ s) t f.0 q (sym e ∙ append_assoc (shape_tokens x) (unit_tokens later) s))
+one_units o (Block begin inner end later) Nothing s t f g p q e = absurd (no_block_there begin ((unit_tokens inner ++ end ∷ unit_tokens later) ++ s) t f.0 q (sym e))
+one_units o (Simple x u) (Simple y v) s t f g p q e =
+    let first : (x ≡ y) × (unit_tokens u ++ s ≡ unit_tokens v ++ t) = one_shape o x y (unit_tokens u ++ s) (unit_tokens v ++ t) f.0 g.0 (sym (append_assoc (shape_tokens x) (unit_tokens u) s) ∙ e ∙ append_assoc (shape_tokens y) (unit_tokens v) t) in
+    let more : (u ≡ v) × (s ≡ t) = one_units o u v s t f.1 g.1 p q first.1 in
+    (cc, more.1)
+one_units o (Simple x u) (Block begin inner end later) s t f g p q e =
+    absurd (not_both o x begin (unit_tokens u ++ s) ((unit_tokens inner ++ end ∷ unit_tokens later) ++ t) f.0 g.0 (sym (append_assoc (shape_tokens x) (unit_tokens u) s) ∙ e))
+one_units o (Block begin inner end later) (Simple y v) s t f g p q e =
+    absurd (not_both o y begin (unit_tokens v ++ t) ((unit_tokens inner ++ end ∷ unit_tokens later) ++ s) g.0 f.0 (sym (append_assoc (shape_tokens y) (unit_tokens v) t) ∙ sym e))
+one_units o (Block begin inner end u) (Block begin' inner' end' v) s t f g p q e =
+    let first : begin ≡ begin' = cc in
+    let rest : (unit_tokens inner ++ end ∷ unit_tokens u) ++ s ≡ (unit_tokens inner' ++ end' ∷ unit_tokens v) ++ t = cc in
+    let inside : (inner ≡ inner') × (end ∷ (unit_tokens u ++ s) ≡ end' ∷ (unit_tokens v ++ t)) = one_units false inner inner' (end ∷ (unit_tokens u ++ s)) (end' ∷ (unit_tokens v ++ t)) f.1 g.1 f.2 g.2
+    (sym (append_assoc (unit_tokens inner) (end ∷ unit_tokens u) s) ∙ rest ∙ append_assoc (unit_tokens inner') (end' ∷ unit_tokens v) t) in
+    let both : end ∷ (unit_tokens u ++ s) ≡ end' ∷ (unit_tokens v ++ t) = inside.1 in
+    let behind : unit_tokens u ++ s ≡ unit_tokens v ++ t = cc in
+    let last : end ≡ end' = cc in
+    let more : (u ≡ v) × (s ≡ t) = one_units o u v s t f.3 g.3 p q behind in
+    (cc, more.1)
+
+pub one_division : (a b : Units) → AreUnits true a → AreUnits true b → unit_tokens a ≡ unit_tokens b → a ≡ b
+one_division a b f g e = (one_units true a b [] [] f g tt tt (append-nil (unit_tokens a) ∙ e ∙ sym (append-nil (unit_tokens b)))).0

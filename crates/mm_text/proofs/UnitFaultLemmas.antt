@@ -1,0 +1,613 @@
+-- The faults of units: the machine finds them, and a list has one at most.
+use Rattle.std.proofs.Common.{◌≡◌, ◌≢◌, ◌⊎◌, ◌↔◌, ℕ, zero, suc, ◌+◌, ◌<◌, ◌≤◌, Bool, true, false, List, [], ◌∷◌, ◌++◌, append_assoc, length, take, drop, slice_get, take-append-drop, take-take, Some, Ok, Err, refl, sym, ap, ◌∙◌, subst, inl, inr, le_of_lt, le_of_eq, ◌-◌, arith}
+use Rattle.std.specs.List.{AllByRecursion}
+use Rattle.std.proofs.lemmas.List.{append-nil, drop-drop, take_all}
+use Rattle.mm_text.specs.declared.word.Keyword.{Keyword}
+use Rattle.mm_text.specs.declared.word.Keyword.TheVariants.{BlockStart, BlockEnd, Constants, Variables, Floating, Essential, Disjoint, Axiom, Theorem, StatementEnd, ProofStart, InclusionStart, InclusionEnd}
+use Rattle.mm_text.specs.declared.word.WordKind.{WordKind}
+use Rattle.mm_text.specs.declared.word.WordKind.TheVariants as kinds
+use Rattle.mm_text.specs.declared.fault.TextNumber.{TextNumber}
+use Rattle.mm_text.specs.declared.fault.TextNumber.TheVariants.{T06, T07, T08, T09, T10, T11, T12}
+use Rattle.mm_text.specs.Unit.{Token, IsKeyword, IsPlain, Shape, Declaration, Labelled, Provable, Inclusion, shape_tokens, IsShape, Units, Nothing, Simple, Block, unit_tokens, AreUnits, IsWhole, IsViable, a_block, MayBegin, EndsInInclusion, IsNumber, StopsAt, EndsInUnit, EndsInBlock, IsUnitFault}
+use Rattle.mm_text.specs.UnitReading as m
+use Rattle.mm_text.specs.BlockCounts.{is_start, is_end, starts, ends}
+use Rattle.mm_text.proofs.UnitReadingLemmas.{run-append, run-IsViable, run-not_viable, IsWhole-run, through_units, blocks, blocks_run, key, key-kind, whole_run, Completes, Closes}
+
+-- ---- a prefix of a viable list is viable
+
+pub viable_front : (front more : List Token) → IsViable (front ++ more) → IsViable front
+viable_front front more h = (more ++ h.0, subst (λ (ts : List Token). IsWhole ts) (append_assoc front more h.0) h.1)
+
+pub viable_take : (tokens : List Token) (k : ℕ) → IsViable tokens → IsViable (take k tokens)
+viable_take tokens k h = viable_front (take k tokens) (drop k tokens) (subst (λ (ts : List Token). IsViable ts) (sym (take-append-drop k tokens)) h)
+
+pub viable_before : (tokens : List Token) (number : TextNumber) (word k : ℕ) → StopsAt tokens number word → k ≤ word → IsViable (take k tokens)
+viable_before tokens number word k h l = subst (λ (ts : List Token). IsViable ts) (take-take k word tokens l) (viable_take (take word tokens) k h.goes_on)
+
+pub viable_run : (tokens : List Token) → IsViable tokens → (s : m.Phase × ℕ) × (m.run m.Begin 0 tokens ≡ Ok s)
+viable_run tokens h = by_step (m.run m.Begin 0 tokens) refl where
+  by_step : (step : m.Step) → m.run m.Begin 0 tokens ≡ step → (s : m.Phase × ℕ) × (m.run m.Begin 0 tokens ≡ Ok s)
+  by_step (Ok s) e = (s, e)
+  by_step (Err number) e = absurd (run-not_viable tokens number e h)
+
+-- ---- one more word
+
+alone : (step : m.Step) → m.after step (λ p d. m.run p d []) ≡ step
+alone (Ok s) = refl
+alone (Err number) = refl
+
+pub run_push : (front : List Token) (token : Token) (phase : m.Phase) (depth : ℕ) → m.run m.Begin 0 front ≡ Ok (m.state_of phase depth) → m.run m.Begin 0 (front ++ token ∷ []) ≡ m.next phase depth token.kind (m.could_label token)
+run_push front token phase depth e = run-append front (token ∷ []) m.Begin 0 (phase, depth) e ∙ alone (m.next phase depth token.kind (m.could_label token))
+
+take_push : (tokens : List Token) (word : ℕ) (token : Token) → slice_get tokens word ≡ Some token → take (suc word) tokens ≡ take word tokens ++ token ∷ []
+take_push [] word token e = absurd cc
+take_push (first ∷ tokens) zero token e = let same : first ≡ token = cc in ap (λ (t : Token). t ∷ []) same
+take_push (first ∷ tokens) (suc word) token e = ap (λ (ts : List Token). first ∷ ts) (take_push tokens word token e)
+
+pub take_next : (tokens : List Token) (word : ℕ) (token : Token) → slice_get tokens word ≡ Some token → take (word + 1) tokens ≡ take word tokens ++ token ∷ []
+take_next tokens word token e = let one : word + 1 ≡ suc word = omega arith in ap (λ (n : ℕ). take n tokens) one ∙ take_push tokens word token e
+
+pub run_next : (tokens : List Token) (word : ℕ) (token : Token) (phase : m.Phase) (depth : ℕ) → slice_get tokens word ≡ Some token → m.run m.Begin 0 (take word tokens) ≡ Ok (m.state_of phase depth)
+    → m.run m.Begin 0 (take (word + 1) tokens) ≡ m.next phase depth token.kind (m.could_label token)
+run_next tokens word token phase depth there e = ap (m.run m.Begin 0) (take_next tokens word token there) ∙ run_push (take word tokens) token phase depth e
+
+-- ---- where a unit may begin
+
+pub begins_only : (phase : m.Phase) (depth : ℕ) (b : Bool) (s : m.Phase × ℕ) → m.next phase depth (kinds.Keyword BlockStart) b ≡ Ok s → phase ≡ m.Begin
+begins_only m.Begin depth b s e = refl
+begins_only m.Labelled depth b s e = absurd cc
+begins_only m.Symbols depth b s e = absurd cc
+begins_only m.Expression depth b s e = absurd cc
+begins_only m.Including depth b s e = absurd cc
+begins_only m.Named depth b s e = absurd cc
+
+pub may_begin_from : (front : List Token) (depth : ℕ) → m.run m.Begin 0 front ≡ Ok (m.state_of m.Begin depth) → MayBegin front
+may_begin_from front depth e = run-IsViable (front ++ a_block ∷ []) (m.Begin, suc depth) (run_push front a_block m.Begin depth e)
+
+pub may_begin_phase : (front : List Token) (phase : m.Phase) (depth : ℕ) → m.run m.Begin 0 front ≡ Ok (m.state_of phase depth) → MayBegin front → phase ≡ m.Begin
+may_begin_phase front phase depth e h =
+    let all = viable_run (front ++ a_block ∷ []) h in
+    begins_only phase depth (m.could_label a_block) all.0 (sym (run_push front a_block phase depth e) ∙ all.1)
+
+pub may_begin : (front : List Token) → MayBegin front ↔ ((depth : ℕ) × (m.run m.Begin 0 front ≡ Ok (m.Begin, depth)))
+may_begin front = (to, λ h. may_begin_from front h.0 h.1) where
+  to : MayBegin front → (depth : ℕ) × (m.run m.Begin 0 front ≡ Ok (m.Begin, depth))
+  to h =
+      let before = viable_run front (viable_front front (a_block ∷ []) h) in
+      let is : before.0.0 ≡ m.Begin = may_begin_phase front before.0.0 before.0.1 before.1 h in
+      (before.0.1, before.1 ∙ ap (λ (p : m.Phase). Ok (p, before.0.1)) is)
+
+-- ---- where an inclusion has begun
+
+including_only : (phase : m.Phase) (depth : ℕ) (b : Bool) (s : m.Phase × ℕ) → m.next phase depth (kinds.Keyword InclusionStart) b ≡ Ok s → s.0 ≡ m.Including
+including_only m.Begin zero b s e = let same : m.state_of m.Including 0 ≡ s = cc in sym (ap (λ (s : m.Phase × ℕ). s.0) same)
+including_only m.Begin (suc depth) b s e = absurd cc
+including_only m.Labelled depth b s e = absurd cc
+including_only m.Symbols depth b s e = absurd cc
+including_only m.Expression depth b s e = absurd cc
+including_only m.Including depth b s e = absurd cc
+including_only m.Named depth b s e = absurd cc
+
+pub inclusion_phase : (front : List Token) (phase : m.Phase) (depth : ℕ) → m.run m.Begin 0 front ≡ Ok (m.state_of phase depth) → EndsInInclusion front → phase ≡ m.Including
+inclusion_phase front phase depth e (before, begin, joined, is) =
+    let all : m.run m.Begin 0 (before ++ begin ∷ []) ≡ Ok (m.state_of phase depth) = ap (m.run m.Begin 0) (sym joined) ∙ e in
+    let first = viable_run before (viable_front before (begin ∷ []) (run-IsViable (before ++ begin ∷ []) (phase, depth) all)) in
+    let step : m.next first.0.0 first.0.1 begin.kind (m.could_label begin) ≡ Ok (phase, depth) = sym (run_push before begin first.0.0 first.0.1 first.1) ∙ all in
+    including_only first.0.0 first.0.1 (m.could_label begin) (phase, depth) (ap (λ (k : WordKind). m.next first.0.0 first.0.1 k (m.could_label begin)) (sym is) ∙ step)
+
+abbrev pub reached : m.Step → m.Phase
+reached (Ok s) = s.0
+reached (Err number) = m.Begin
+
+pub to_including : (phase : m.Phase) (depth : ℕ) (kind : WordKind) (b : Bool) → reached (m.next phase depth kind b) ≡ m.Including → kind ≡ kinds.Keyword InclusionStart
+to_including m.Begin depth kinds.Plain true e = absurd cc
+to_including m.Begin depth kinds.Plain false e = absurd cc
+to_including m.Begin zero (kinds.Keyword InclusionStart) b e = refl
+to_including m.Begin (suc depth) (kinds.Keyword InclusionStart) b e = refl
+to_including m.Begin zero (kinds.Keyword BlockEnd) b e = absurd cc
+to_including m.Begin (suc depth) (kinds.Keyword BlockEnd) b e = absurd cc
+to_including m.Begin depth (kinds.Keyword _) b e = absurd cc
+to_including m.Labelled depth kinds.Plain b e = absurd cc
+to_including m.Labelled depth (kinds.Keyword InclusionStart) b e = refl
+to_including m.Labelled depth (kinds.Keyword _) b e = absurd cc
+to_including m.Symbols depth kinds.Plain b e = absurd cc
+to_including m.Symbols depth (kinds.Keyword InclusionStart) b e = refl
+to_including m.Symbols depth (kinds.Keyword _) b e = absurd cc
+to_including m.Expression depth kinds.Plain b e = absurd cc
+to_including m.Expression depth (kinds.Keyword InclusionStart) b e = refl
+to_including m.Expression depth (kinds.Keyword _) b e = absurd cc
+to_including m.Including depth kinds.Plain b e = absurd cc
+to_including m.Including depth (kinds.Keyword InclusionStart) b e = refl
+to_including m.Including depth (kinds.Keyword _) b e = absurd cc
+to_including m.Named depth kinds.Plain b e = absurd cc
+to_including m.Named depth (kinds.Keyword InclusionStart) b e = refl
+to_including m.Named depth (kinds.Keyword _) b e = absurd cc
+
+ends_at : (front : List Token) (phase : m.Phase) (depth d : ℕ) → m.run phase depth front ≡ Ok (m.state_of m.Including d) → ((front ≡ []) × (phase ≡ m.Including)) ⊎ EndsInInclusion front
+ends_at [] phase depth d e = inl (refl, ap reached e)
+ends_at (token ∷ front) phase depth d e = inr (by_step (λ p q h. ends_at front p q d h) (m.next phase depth token.kind (m.could_label token)) refl e) where
+  onto : (s : m.Phase × ℕ) → m.next phase depth token.kind (m.could_label token) ≡ Ok s → ((front ≡ []) × (s.0 ≡ m.Including)) ⊎ EndsInInclusion front → EndsInInclusion (token ∷ front)
+  onto s is (inl (none, including)) = ([], token, ap (λ (ts : List Token). token ∷ ts) none, to_including phase depth token.kind (m.could_label token) (ap reached is ∙ including))
+  onto s is (inr (before, begin, joined, begins)) = (token ∷ before, begin, ap (λ (ts : List Token). token ∷ ts) joined, begins)
+
+  by_step : ((p : m.Phase) (q : ℕ) → m.run p q front ≡ Ok (m.state_of m.Including d) → ((front ≡ []) × (p ≡ m.Including)) ⊎ EndsInInclusion front)
+      → (step : m.Step) → m.next phase depth token.kind (m.could_label token) ≡ step → m.after step (λ p d. m.run p d front) ≡ Ok (m.state_of m.Including d) → EndsInInclusion (token ∷ front)
+  by_step more (Ok s) is e = onto s is (more s.0 s.1 e)
+  by_step more (Err number) is e = absurd cc
+
+pub inclusion_from : (front : List Token) (depth : ℕ) → m.run m.Begin 0 front ≡ Ok (m.state_of m.Including depth) → EndsInInclusion front
+inclusion_from front depth e = got (ends_at front m.Begin 0 depth e) where
+  got : ((front ≡ []) × (m.Begin ≡ m.Including)) ⊎ EndsInInclusion front → EndsInInclusion front
+  got (inl (none, is)) = absurd cc
+  got (inr h) = h
+
+pub ends_in_inclusion : (front : List Token) (phase : m.Phase) (depth : ℕ) → m.run m.Begin 0 front ≡ Ok (m.state_of phase depth) → EndsInInclusion front ↔ (phase ≡ m.Including)
+ends_in_inclusion front phase depth e = (inclusion_phase front phase depth e, λ is. inclusion_from front depth (e ∙ ap (λ (p : m.Phase). Ok (p, depth)) is))
+
+-- ---- the number of the word that stops
+
+abbrev refused : TextNumber → m.Step
+refused number = Err number
+
+six : (front : List Token) (token : Token) (phase : m.Phase) (depth : ℕ) → m.run m.Begin 0 front ≡ Ok (m.state_of phase depth) → ¬ ((phase ≡ m.Including) × ¬ IsPlain token) → ¬ IsKeyword InclusionStart token → ¬ ((phase ≡ m.Begin) × (IsKeyword BlockEnd token ⊎ IsPlain token)) → IsNumber T06 front token
+six front token phase depth e f g h = (λ x. f (inclusion_phase front phase depth e x.0, x.1), g, λ x. h (may_begin_phase front phase depth e x.0, x.1))
+
+ten : (front : List Token) (token : Token) (phase : m.Phase) (depth : ℕ) → m.run m.Begin 0 front ≡ Ok (m.state_of phase depth) → phase ≢ m.Including → IsKeyword InclusionStart token → IsNumber T10 front token
+ten front token phase depth e f is = (λ x. f (inclusion_phase front phase depth e x), is)
+
+neither : (token : Token) (k : Keyword) → IsKeyword k token → k ≢ BlockEnd → ¬ (IsKeyword BlockEnd token ⊎ IsPlain token)
+neither token k is other (inl end) = other (let same : kinds.Keyword k ≡ kinds.Keyword BlockEnd = cc in cc)
+neither token k is other (inr plain) = cc
+
+inside : (front : List Token) (token : Token) (phase : m.Phase) (depth : ℕ) → m.run m.Begin 0 front ≡ Ok (m.state_of phase depth) → phase ≢ m.Including → phase ≢ m.Begin → ¬ IsKeyword InclusionStart token → IsNumber T06 front token
+inside front token phase depth e f g h = six front token phase depth e (λ x. f x.0) h (λ x. g x.0)
+
+numbered : (a number : TextNumber) (front : List Token) (token : Token) → refused a ≡ refused number → IsNumber a front token → IsNumber number front token
+numbered a number front token e h = let same : a ≡ number = cc in subst (λ (n : TextNumber). IsNumber n front token) same h
+
+pub number_of : (phase : m.Phase) (depth : ℕ) (kind : WordKind) (b : Bool) (front : List Token) (token : Token) (number : TextNumber) → m.run m.Begin 0 front ≡ Ok (m.state_of phase depth) → token.kind ≡ kind → m.next phase depth kind b ≡ Err number → IsNumber number front token
+number_of m.Begin depth kinds.Plain true front token number e is stops = absurd cc
+number_of m.Begin depth kinds.Plain false front token number e is stops = numbered T11 number front token stops (may_begin_from front depth e, is)
+number_of m.Begin zero (kinds.Keyword BlockEnd) b front token number e is stops = numbered T09 number front token stops (may_begin_from front 0 e, is)
+number_of m.Begin (suc depth) (kinds.Keyword BlockEnd) b front token number e is stops = absurd cc
+number_of m.Begin zero (kinds.Keyword InclusionStart) b front token number e is stops = absurd cc
+number_of m.Begin (suc depth) (kinds.Keyword InclusionStart) b front token number e is stops = numbered T10 number front token stops (ten front token m.Begin (suc depth) e (λ x. cc) is)
+number_of m.Begin depth (kinds.Keyword BlockStart) b front token number e is stops = absurd cc
+number_of m.Begin depth (kinds.Keyword Constants) b front token number e is stops = absurd cc
+number_of m.Begin depth (kinds.Keyword Variables) b front token number e is stops = absurd cc
+number_of m.Begin depth (kinds.Keyword Disjoint) b front token number e is stops = absurd cc
+number_of m.Begin depth (kinds.Keyword k) b front token number e is stops = numbered T06 number front token stops (six front token m.Begin depth e (λ x. let no : m.Begin ≡ m.Including = x.0 in cc) (λ x. cc) (λ x. neither token _ is (λ y. cc) x.1))
+number_of m.Labelled depth kinds.Plain b front token number e is stops = numbered T06 number front token stops (inside front token m.Labelled depth e (λ x. cc) (λ x. cc) (λ x. cc))
+number_of m.Labelled depth (kinds.Keyword InclusionStart) b front token number e is stops = numbered T10 number front token stops (ten front token m.Labelled depth e (λ x. cc) is)
+number_of m.Labelled depth (kinds.Keyword Floating) b front token number e is stops = absurd cc
+number_of m.Labelled depth (kinds.Keyword Essential) b front token number e is stops = absurd cc
+number_of m.Labelled depth (kinds.Keyword Axiom) b front token number e is stops = absurd cc
+number_of m.Labelled depth (kinds.Keyword Theorem) b front token number e is stops = absurd cc
+number_of m.Labelled depth (kinds.Keyword k) b front token number e is stops = numbered T06 number front token stops (inside front token m.Labelled depth e (λ x. cc) (λ x. cc) (λ x. cc))
+number_of m.Symbols depth kinds.Plain b front token number e is stops = absurd cc
+number_of m.Symbols depth (kinds.Keyword InclusionStart) b front token number e is stops = numbered T10 number front token stops (ten front token m.Symbols depth e (λ x. cc) is)
+number_of m.Symbols depth (kinds.Keyword StatementEnd) b front token number e is stops = absurd cc
+number_of m.Symbols depth (kinds.Keyword k) b front token number e is stops = numbered T06 number front token stops (inside front token m.Symbols depth e (λ x. cc) (λ x. cc) (λ x. cc))
+number_of m.Expression depth kinds.Plain b front token number e is stops = absurd cc
+number_of m.Expression depth (kinds.Keyword InclusionStart) b front token number e is stops = numbered T10 number front token stops (ten front token m.Expression depth e (λ x. cc) is)
+number_of m.Expression depth (kinds.Keyword ProofStart) b front token number e is stops = absurd cc
+number_of m.Expression depth (kinds.Keyword k) b front token number e is stops = numbered T06 number front token stops (inside front token m.Expression depth e (λ x. cc) (λ x. cc) (λ x. cc))
+number_of m.Including depth kinds.Plain b front token number e is stops = absurd cc
+number_of m.Including depth (kinds.Keyword k) b front token number e is stops = numbered T12 number front token stops (inclusion_from front depth e, λ x. cc)
+number_of m.Named depth kinds.Plain b front token number e is stops = numbered T06 number front token stops (inside front token m.Named depth e (λ x. cc) (λ x. cc) (λ x. cc))
+number_of m.Named depth (kinds.Keyword InclusionStart) b front token number e is stops = numbered T10 number front token stops (ten front token m.Named depth e (λ x. cc) is)
+number_of m.Named depth (kinds.Keyword InclusionEnd) b front token number e is stops = absurd cc
+number_of m.Named depth (kinds.Keyword k) b front token number e is stops = numbered T06 number front token stops (inside front token m.Named depth e (λ x. cc) (λ x. cc) (λ x. cc))
+
+-- a word that stops, with any number that it may have
+pub stops_fault : (tokens : List Token) (number : TextNumber) (word : ℕ) → StopsAt tokens number word → IsUnitFault tokens number word
+stops_fault tokens T07 word h = absurd h.is_number
+stops_fault tokens T08 word h = absurd h.is_number
+stops_fault tokens _ word h = h
+
+pub stops_at : (tokens : List Token) (word : ℕ) (token : Token) (phase : m.Phase) (depth : ℕ) (number : TextNumber) → slice_get tokens word ≡ Some token → m.run m.Begin 0 (take word tokens) ≡ Ok (m.state_of phase depth)
+    → m.next phase depth token.kind (m.could_label token) ≡ Err number → IsUnitFault tokens number word
+stops_at tokens word token phase depth number there e stops = stops_fault tokens number word (record {
+  token = token;
+  there = there;
+  goes_on = run-IsViable (take word tokens) (phase, depth) e;
+  stops = run-not_viable (take (word + 1) tokens) number (run_next tokens word token phase depth there e ∙ stops);
+  is_number = number_of phase depth token.kind (m.could_label token) (take word tokens) token number e refl stops;
+})
+
+-- ---- a unit that is not finished
+
+pub ends_in_unit : (tokens : List Token) (word depth : ℕ) → word < length tokens → m.run m.Begin 0 (take word tokens) ≡ Ok (m.state_of m.Begin depth)
+    → ((n : ℕ) → word < n → n ≤ length tokens → (phase : m.Phase) × (d : ℕ) × (m.run m.Begin 0 (take n tokens) ≡ Ok (m.state_of phase d)) × (phase ≢ m.Begin)) → IsUnitFault tokens T07 word
+ends_in_unit tokens word depth within e later = record {
+  within = within;
+  viable = let last = later (length tokens) within (omega arith) in subst (λ (ts : List Token). IsViable ts) (take_all (length tokens) tokens (omega arith)) (run-IsViable (take (length tokens) tokens) (last.0, last.1) last.2);
+  begins = may_begin_from (take word tokens) depth e;
+  unfinished = λ n l k h. let there = later n l k in there.3 (may_begin_phase (take n tokens) there.0 there.1 there.2 h);
+}
+
+-- ---- one fault at most
+
+-- behind the same words, the same word has one number
+pub same_number : (front : List Token) (token : Token) (a b : TextNumber) → ¬ (MayBegin front × EndsInInclusion front) → IsNumber a front token → IsNumber b front token → a ≡ b
+same_number front token T12 T12 apart f g = refl
+same_number front token T12 T10 apart f g = absurd (g.0 f.0)
+same_number front token T12 T09 apart f g = absurd (apart (g.0, f.0))
+same_number front token T12 T11 apart f g = absurd (f.1 g.1)
+same_number front token T12 T06 apart f g = absurd (g.0 f)
+same_number front token T12 _ apart f g = absurd g
+same_number front token T10 T12 apart f g = absurd (f.0 g.0)
+same_number front token T10 T10 apart f g = refl
+same_number front token T10 T09 apart f g = absurd (let x : kinds.Keyword InclusionStart ≡ kinds.Keyword BlockEnd = sym f.1 ∙ g.1 in cc)
+same_number front token T10 T11 apart f g = absurd (let x : kinds.Keyword InclusionStart ≡ kinds.Plain = sym f.1 ∙ g.1 in cc)
+same_number front token T10 T06 apart f g = absurd (g.1 f.1)
+same_number front token T10 _ apart f g = absurd g
+same_number front token T09 T12 apart f g = absurd (apart (f.0, g.0))
+same_number front token T09 T10 apart f g = absurd (let x : kinds.Keyword BlockEnd ≡ kinds.Keyword InclusionStart = sym f.1 ∙ g.1 in cc)
+same_number front token T09 T09 apart f g = refl
+same_number front token T09 T11 apart f g = absurd (let x : kinds.Keyword BlockEnd ≡ kinds.Plain = sym f.1 ∙ g.1 in cc)
+same_number front token T09 T06 apart f g = absurd (g.2 (f.0, inl f.1))
+same_number front token T09 _ apart f g = absurd g
+same_number front token T11 T12 apart f g = absurd (g.1 f.1)
+same_number front token T11 T10 apart f g = absurd (let x : kinds.Keyword InclusionStart ≡ kinds.Plain = sym g.1 ∙ f.1 in cc)
+same_number front token T11 T09 apart f g = absurd (let x : kinds.Keyword BlockEnd ≡ kinds.Plain = sym g.1 ∙ f.1 in cc)
+same_number front token T11 T11 apart f g = refl
+same_number front token T11 T06 apart f g = absurd (g.2 (f.0, inr f.1))
+same_number front token T11 _ apart f g = absurd g
+same_number front token T06 T12 apart f g = absurd (f.0 g)
+same_number front token T06 T10 apart f g = absurd (f.1 g.1)
+same_number front token T06 T09 apart f g = absurd (f.2 (g.0, inl g.1))
+same_number front token T06 T11 apart f g = absurd (f.2 (g.0, inr g.1))
+same_number front token T06 T06 apart f g = refl
+same_number front token T06 _ apart f g = absurd g
+same_number front token _ b apart f g = absurd f
+
+apart_at : (front : List Token) → IsViable front → ¬ (MayBegin front × EndsInInclusion front)
+apart_at front h (begins, ends) =
+    let s = viable_run front h in
+    let x : s.0.0 ≡ m.Begin = may_begin_phase front s.0.0 s.0.1 s.1 begins in
+    let y : s.0.0 ≡ m.Including = inclusion_phase front s.0.0 s.0.1 s.1 ends in
+    let z : m.Begin ≡ m.Including = sym x ∙ y in
+    cc
+
+not_viable_later : (tokens : List Token) (number : TextNumber) (word n : ℕ) → StopsAt tokens number word → word < n → ¬ IsViable (take n tokens)
+not_viable_later tokens number word n h l viable = h.stops (subst (λ (ts : List Token). IsViable ts) (take-take (word + 1) n tokens (omega arith)) (viable_take (take n tokens) (word + 1) viable))
+
+not_viable_all : (tokens : List Token) (number : TextNumber) (word : ℕ) → StopsAt tokens number word → ¬ IsViable tokens
+not_viable_all tokens number word h viable = h.stops (viable_take tokens (word + 1) viable)
+
+by_order : (v w : ℕ) → ¬ (v < w) → ¬ (w < v) → v ≡ w
+by_order v w f g = omega arith
+
+one_stop : (tokens : List Token) (a b : TextNumber) (v w : ℕ) → StopsAt tokens a v → StopsAt tokens b w → (a ≡ b) × (v ≡ w)
+one_stop tokens a b v w f g =
+    let place : v ≡ w = by_order v w (λ l. not_viable_later tokens a v w f l g.goes_on) (λ l. not_viable_later tokens b w v g l f.goes_on) in
+    let h : StopsAt tokens b v = subst (λ (n : ℕ). StopsAt tokens b n) (sym place) g in
+    let x : slice_get tokens v ≡ Some f.token = f.there in
+    let y : slice_get tokens v ≡ Some h.token = h.there in
+    let token : h.token ≡ f.token = cc in
+    (same_number (take v tokens) f.token a b (apart_at (take v tokens) f.goes_on) f.is_number (subst (λ (t : Token). IsNumber b (take v tokens) t) token h.is_number), place)
+
+not_all : (tokens : List Token) (word : ℕ) → EndsInUnit tokens word → ¬ MayBegin tokens
+not_all tokens word h begins = h.unfinished (length tokens) h.within (omega arith) (subst (λ (ts : List Token). MayBegin ts) (sym (take_all (length tokens) tokens (omega arith))) begins)
+
+one_unfinished : (tokens : List Token) (v w : ℕ) → EndsInUnit tokens v → EndsInUnit tokens w → v ≡ w
+one_unfinished tokens v w f g = by_order v w (λ l. f.unfinished w l (le_of_lt g.within) g.begins) (λ l. g.unfinished v l (le_of_lt f.within) f.begins)
+
+-- ---- the counts of `${` and `$}`
+
+pub starts-append : (xs ys : List Token) → starts (xs ++ ys) ≡ starts xs + starts ys
+starts-append [] ys = omega arith
+starts-append (x ∷ xs) ys = let more : starts (xs ++ ys) ≡ starts xs + starts ys = starts-append xs ys in omega arith
+
+pub ends-append : (xs ys : List Token) → ends (xs ++ ys) ≡ ends xs + ends ys
+ends-append [] ys = omega arith
+ends-append (x ∷ xs) ys = let more : ends (xs ++ ys) ≡ ends xs + ends ys = ends-append xs ys in omega arith
+
+-- neither `${` nor `$}`
+abbrev pub IsInner : Token → Type 0
+IsInner token = (is_start token.kind ≡ 0) × (is_end token.kind ≡ 0)
+
+pub inner_kind : (token : Token) (kind : WordKind) → token.kind ≡ kind → is_start kind ≡ 0 → is_end kind ≡ 0 → IsInner token
+inner_kind token kind is f g = (ap is_start is ∙ f, ap is_end is ∙ g)
+
+pub inner_symbols : (symbols tail : List Token) → AllByRecursion IsPlain symbols → AllByRecursion IsInner tail → AllByRecursion IsInner (symbols ++ tail)
+inner_symbols [] tail f g = g
+inner_symbols (token ∷ symbols) tail f g = (inner_kind token kinds.Plain f.0 refl refl, inner_symbols symbols tail f.1 g)
+
+pub inner_shape : (outside : Bool) (shape : Shape) → IsShape outside shape → AllByRecursion IsInner (shape_tokens shape)
+inner_shape outside (Declaration keyword symbols end) (is, plain, ended) = (first is, inner_symbols symbols (end ∷ []) plain (inner_kind end (kinds.Keyword StatementEnd) ended refl refl, tt)) where
+  first : (IsKeyword Constants keyword ⊎ (IsKeyword Variables keyword ⊎ IsKeyword Disjoint keyword)) → IsInner keyword
+  first (inl is) = inner_kind keyword (kinds.Keyword Constants) is refl refl
+  first (inr (inl is)) = inner_kind keyword (kinds.Keyword Variables) is refl refl
+  first (inr (inr is)) = inner_kind keyword (kinds.Keyword Disjoint) is refl refl
+inner_shape outside (Labelled label keyword symbols end) (labels, is, plain, ended) =
+    (inner_kind label kinds.Plain labels.0 refl refl, (second is, inner_symbols symbols (end ∷ []) plain (inner_kind end (kinds.Keyword StatementEnd) ended refl refl, tt))) where
+      second : (IsKeyword Floating keyword ⊎ (IsKeyword Essential keyword ⊎ IsKeyword Axiom keyword)) → IsInner keyword
+      second (inl is) = inner_kind keyword (kinds.Keyword Floating) is refl refl
+      second (inr (inl is)) = inner_kind keyword (kinds.Keyword Essential) is refl refl
+      second (inr (inr is)) = inner_kind keyword (kinds.Keyword Axiom) is refl refl
+inner_shape outside (Provable label keyword symbols proof steps end) (labels, theorem, plain, proves, more, ended) = (
+  inner_kind label kinds.Plain labels.0 refl refl,
+  (
+    inner_kind keyword (kinds.Keyword Theorem) theorem refl refl,
+    inner_symbols symbols (proof ∷ (steps ++ end ∷ [])) plain (inner_kind proof (kinds.Keyword ProofStart) proves refl refl, inner_symbols steps (end ∷ []) more (inner_kind end (kinds.Keyword StatementEnd) ended refl refl, tt)),
+  ),
+)
+inner_shape outside (Inclusion begin name end) h =
+    (inner_kind begin (kinds.Keyword InclusionStart) h.1 refl refl, (inner_kind name kinds.Plain h.2 refl refl, (inner_kind end (kinds.Keyword InclusionEnd) h.3 refl refl, tt)))
+
+-- no end of the list has more `${` than `$}`
+abbrev pub Covered : List Token → Type 0
+Covered [] = Unit {0}
+Covered (token ∷ tokens) = (starts (token ∷ tokens) ≤ ends (token ∷ tokens)) × Covered tokens
+
+covered_all : (tokens : List Token) → Covered tokens → starts tokens ≤ ends tokens
+covered_all [] h = omega arith
+covered_all (token ∷ tokens) h = h.0
+
+pub covered_drop : (tokens : List Token) (n : ℕ) → Covered tokens → starts (drop n tokens) ≤ ends (drop n tokens)
+covered_drop tokens zero h = covered_all tokens h
+covered_drop [] (suc n) h = omega arith
+covered_drop (token ∷ tokens) (suc n) h = covered_drop tokens n h.1
+
+pub covered_from : (tokens : List Token) → ((n : ℕ) → starts (drop n tokens) ≤ ends (drop n tokens)) → Covered tokens
+covered_from [] h = tt
+covered_from (token ∷ tokens) h = (h 0, covered_from tokens (λ n. h (suc n)))
+
+covered_inner : (xs ys : List Token) → AllByRecursion IsInner xs → Covered ys → Covered (xs ++ ys)
+covered_inner [] ys f g = g
+covered_inner (x ∷ xs) ys f g =
+    let more : Covered (xs ++ ys) = covered_inner xs ys f.1 g in
+    let rest : starts (xs ++ ys) ≤ ends (xs ++ ys) = covered_all (xs ++ ys) more in
+    let none : is_start x.kind ≡ 0 = f.0.0 in
+    (omega arith, more)
+
+covered-append : (xs ys : List Token) → Covered xs → Covered ys → Covered (xs ++ ys)
+covered-append [] ys f g = g
+covered-append (x ∷ xs) ys f g =
+    let more : Covered (xs ++ ys) = covered-append xs ys f.1 g in
+    let first : is_start x.kind + starts xs ≤ is_end x.kind + ends xs = f.0 in
+    let rest : starts ys ≤ ends ys = covered_all ys g in
+    let all : starts (xs ++ ys) ≡ starts xs + starts ys = starts-append xs ys in
+    let same : ends (xs ++ ys) ≡ ends xs + ends ys = ends-append xs ys in
+    (omega arith, more)
+
+inner_counts : (xs : List Token) → AllByRecursion IsInner xs → (starts xs ≡ 0) × (ends xs ≡ 0)
+inner_counts [] h = (refl, refl)
+inner_counts (x ∷ xs) h =
+    let more : (starts xs ≡ 0) × (ends xs ≡ 0) = inner_counts xs h.1 in
+    let start : is_start x.kind ≡ 0 = h.0.0 in
+    let end : is_end x.kind ≡ 0 = h.0.1 in
+    (omega arith, omega arith)
+
+balanced_shape : (outside : Bool) (shape : Shape) (tail : List Token) → IsShape outside shape → starts tail ≡ ends tail → starts (shape_tokens shape ++ tail) ≡ ends (shape_tokens shape ++ tail)
+balanced_shape outside shape tail is more =
+    let none : (starts (shape_tokens shape) ≡ 0) × (ends (shape_tokens shape) ≡ 0) = inner_counts (shape_tokens shape) (inner_shape outside shape is) in
+    let start : starts (shape_tokens shape ++ tail) ≡ starts (shape_tokens shape) + starts tail = starts-append (shape_tokens shape) tail in
+    let end : ends (shape_tokens shape ++ tail) ≡ ends (shape_tokens shape) + ends tail = ends-append (shape_tokens shape) tail in
+    omega arith
+
+pub start_counts : (token : Token) → IsKeyword BlockStart token → (is_start token.kind ≡ 1) × (is_end token.kind ≡ 0)
+start_counts token is = (ap is_start is, ap is_end is)
+
+pub end_counts : (token : Token) → IsKeyword BlockEnd token → (is_start token.kind ≡ 0) × (is_end token.kind ≡ 1)
+end_counts token is = (ap is_start is, ap is_end is)
+
+pub balanced : (outside : Bool) (units : Units) → AreUnits outside units → starts (unit_tokens units) ≡ ends (unit_tokens units)
+balanced outside Nothing h = refl
+balanced outside (Simple shape later) h = balanced_shape outside shape (unit_tokens later) h.0 (balanced outside later h.1)
+balanced outside (Block begin inner end later) h =
+    let x : starts (unit_tokens inner) ≡ ends (unit_tokens inner) = balanced false inner h.1 in
+    let y : starts (unit_tokens later) ≡ ends (unit_tokens later) = balanced outside later h.3 in
+    let first : (is_start begin.kind ≡ 1) × (is_end begin.kind ≡ 0) = start_counts begin h.0 in
+    let last : (is_start end.kind ≡ 0) × (is_end end.kind ≡ 1) = end_counts end h.2 in
+    let start : starts (unit_tokens inner ++ end ∷ unit_tokens later) ≡ starts (unit_tokens inner) + starts (end ∷ unit_tokens later) = starts-append (unit_tokens inner) (end ∷ unit_tokens later) in
+    let ended : ends (unit_tokens inner ++ end ∷ unit_tokens later) ≡ ends (unit_tokens inner) + ends (end ∷ unit_tokens later) = ends-append (unit_tokens inner) (end ∷ unit_tokens later) in
+    omega arith
+
+pub covered : (outside : Bool) (units : Units) → AreUnits outside units → Covered (unit_tokens units)
+covered outside Nothing h = tt
+covered outside (Simple shape later) h = covered_inner (shape_tokens shape) (unit_tokens later) (inner_shape outside shape h.0) (covered outside later h.1)
+covered outside (Block begin inner end later) h = (
+  le_of_eq (balanced outside (Block begin inner end later) h),
+  covered-append (unit_tokens inner) (end ∷ unit_tokens later) (covered false inner h.1) (last, covered outside later h.3),
+) where
+  last : starts (end ∷ unit_tokens later) ≤ ends (end ∷ unit_tokens later)
+  last =
+      let y : starts (unit_tokens later) ≡ ends (unit_tokens later) = balanced outside later h.3 in
+      let none : (is_start end.kind ≡ 0) × (is_end end.kind ≡ 1) = end_counts end h.2 in
+      omega arith
+
+-- ---- a block that is not closed
+
+drop_push : (tokens : List Token) (word : ℕ) (token : Token) → slice_get tokens word ≡ Some token → drop word tokens ≡ token ∷ drop (suc word) tokens
+drop_push [] word token e = absurd cc
+drop_push (first ∷ tokens) zero token e = let same : first ≡ token = cc in ap (λ (t : Token). t ∷ tokens) same
+drop_push (first ∷ tokens) (suc word) token e = drop_push tokens word token e
+
+pub drop_next : (tokens : List Token) (word : ℕ) (token : Token) → slice_get tokens word ≡ Some token → drop word tokens ≡ token ∷ drop (word + 1) tokens
+drop_next tokens word token e = let one : suc word ≡ word + 1 = omega arith in drop_push tokens word token e ∙ ap (λ (n : ℕ). token ∷ drop n tokens) one
+
+-- the counts at one word more, for a scan from the end
+pub counts_next : (tokens : List Token) (word : ℕ) (token : Token) → slice_get tokens word ≡ Some token → (starts (drop word tokens) ≡ is_start token.kind + starts (drop (word + 1) tokens)) × (ends (drop word tokens) ≡ is_end token.kind + ends (drop (word + 1) tokens))
+counts_next tokens word token e = (ap starts (drop_next tokens word token e), ap ends (drop_next tokens word token e))
+
+one_open : (tokens : List Token) (v w : ℕ) → EndsInBlock tokens v → EndsInBlock tokens w → ¬ (v < w)
+one_open tokens v w f g l =
+    let place : v + 1 + (w - (v + 1)) ≡ w = omega arith in
+    let there : drop (w - (v + 1)) (unit_tokens f.inner) ≡ drop w tokens = ap (drop (w - (v + 1))) (sym f.behind) ∙ drop-drop (w - (v + 1)) (v + 1) tokens ∙ ap (λ (n : ℕ). drop n tokens) place in
+    let inside : starts (drop w tokens) ≤ ends (drop w tokens) = subst (λ (ts : List Token). starts ts ≤ ends ts) there (covered_drop (unit_tokens f.inner) (w - (v + 1)) (covered false f.inner f.inside)) in
+    let more : (starts (drop w tokens) ≡ is_start g.begin.kind + starts (drop (w + 1) tokens)) × (ends (drop w tokens) ≡ is_end g.begin.kind + ends (drop (w + 1) tokens)) = counts_next tokens w g.begin g.there in
+    let first : (is_start g.begin.kind ≡ 1) × (is_end g.begin.kind ≡ 0) = start_counts g.begin g.opens in
+    let even : starts (drop (w + 1) tokens) ≡ ends (drop (w + 1) tokens) = subst (λ (ts : List Token). starts ts ≡ ends ts) (sym g.behind) (balanced false g.inner g.inside) in
+    omega arith
+
+-- the machine has a block open at the end
+pub block_run : (tokens : List Token) (word : ℕ) → EndsInBlock tokens word → (depth : ℕ) × (m.run m.Begin 0 tokens ≡ Ok (m.state_of m.Begin (suc depth)))
+block_run tokens word h =
+    let front = (may_begin (take word tokens)).0 h.begins in
+    let begins : m.run m.Begin 0 (take (word + 1) tokens) ≡ Ok (m.state_of m.Begin (suc front.0)) =
+    run_next tokens word h.begin m.Begin front.0 h.there front.1 ∙ ap (λ (k : WordKind). m.next m.Begin front.0 k (m.could_label h.begin)) h.opens in (
+      front.0,
+      ap (m.run m.Begin 0) (sym (take-append-drop (word + 1) tokens))
+          ∙ run-append (take (word + 1) tokens) (drop (word + 1) tokens) m.Begin 0 (m.Begin, suc front.0) begins
+          ∙ ap (m.run m.Begin (suc front.0)) (h.behind ∙ sym (append-nil (unit_tokens h.inner)))
+          ∙ through_units (suc front.0) h.inner [] h.inside,
+    )
+
+block_begins : (tokens : List Token) (word : ℕ) → EndsInBlock tokens word → MayBegin tokens
+block_begins tokens word h = let last = block_run tokens word h in may_begin_from tokens (suc last.0) last.1
+
+block_viable : (tokens : List Token) (word : ℕ) → EndsInBlock tokens word → IsViable tokens
+block_viable tokens word h = viable_front tokens (a_block ∷ []) (block_begins tokens word h)
+
+-- ---- one fault, and none of a whole list
+
+abbrev Same : TextNumber → TextNumber → ℕ → ℕ → Type 0
+Same a b v w = (a ≡ b) × (v ≡ w)
+
+-- a fault is of one of three kinds
+abbrev Sorted : List Token → TextNumber → ℕ → Type 0
+Sorted tokens number word = (StopsAt tokens number word) ⊎ (((number ≡ T07) × EndsInUnit tokens word) ⊎ ((number ≡ T08) × EndsInBlock tokens word))
+
+sorted : (tokens : List Token) (number : TextNumber) (word : ℕ) → IsUnitFault tokens number word → Sorted tokens number word
+sorted tokens T07 word h = inr (inl (refl, h))
+sorted tokens T08 word h = inr (inr (refl, h))
+sorted tokens _ word h = inl h
+
+same_fault : (tokens : List Token) (a b : TextNumber) (v w : ℕ) → Sorted tokens a v → Sorted tokens b w → (a ≡ b) × (v ≡ w)
+same_fault tokens a b v w (inl f) (inl g) = one_stop tokens a b v w f g
+same_fault tokens a b v w (inl f) (inr (inl g)) = absurd (not_viable_all tokens a v f g.1.viable)
+same_fault tokens a b v w (inl f) (inr (inr g)) = absurd (not_viable_all tokens a v f (block_viable tokens w g.1))
+same_fault tokens a b v w (inr (inl f)) (inl g) = absurd (not_viable_all tokens b w g f.1.viable)
+same_fault tokens a b v w (inr (inl f)) (inr (inl g)) = (f.0 ∙ sym g.0, one_unfinished tokens v w f.1 g.1)
+same_fault tokens a b v w (inr (inl f)) (inr (inr g)) = absurd (not_all tokens v f.1 (block_begins tokens w g.1))
+same_fault tokens a b v w (inr (inr f)) (inl g) = absurd (not_viable_all tokens b w g (block_viable tokens v f.1))
+same_fault tokens a b v w (inr (inr f)) (inr (inl g)) = absurd (not_all tokens w g.1 (block_begins tokens v f.1))
+same_fault tokens a b v w (inr (inr f)) (inr (inr g)) = (f.0 ∙ sym g.0, by_order v w (one_open tokens v w f.1 g.1) (one_open tokens w v g.1 f.1))
+
+pub one_unit_fault : (tokens : List Token) (a b : TextNumber) (v w : ℕ) → IsUnitFault tokens a v → IsUnitFault tokens b w → (a ≡ b) × (v ≡ w)
+one_unit_fault tokens a b v w f g = same_fault tokens a b v w (sorted tokens a v f) (sorted tokens b w g)
+
+pub whole_has_no_fault : (tokens : List Token) (number : TextNumber) (word : ℕ) → IsWhole tokens → IsUnitFault tokens number word → ⊥
+whole_has_no_fault tokens number word whole h = none (sorted tokens number word h) where
+  none : Sorted tokens number word → ⊥
+  none (inl f) = not_viable_all tokens number word f (run-IsViable tokens (m.Begin, 0) (IsWhole-run tokens whole))
+  none (inr (inl f)) = not_all tokens word f.1 (may_begin_from tokens 0 (IsWhole-run tokens whole))
+  none (inr (inr f)) =
+      let last = block_run tokens word f.1 in
+      let same : m.state_of m.Begin (suc last.0) ≡ m.state_of m.Begin 0 = let x : m.run m.Begin 0 tokens ≡ Ok (m.state_of m.Begin 0) = IsWhole-run tokens whole in let y : m.run m.Begin 0 tokens ≡ Ok (m.state_of m.Begin (suc last.0)) = last.1 in cc in
+      let depth : suc last.0 ≡ 0 = ap (λ (s : m.Phase × ℕ). s.1) same in
+      omega arith
+
+-- ---- the innermost open block, by counts from the end
+
+-- two ways to cut one list
+cut_twice : (xs ys us vs : List Token) → xs ++ ys ≡ us ++ vs → ((zs : List Token) × (xs ≡ us ++ zs) × (zs ++ ys ≡ vs)) ⊎ ((zs : List Token) × (us ≡ xs ++ zs) × (ys ≡ zs ++ vs))
+cut_twice xs ys [] vs e = inl (xs, refl, e)
+cut_twice [] ys (u ∷ us) vs e = inr (u ∷ us, refl, e)
+cut_twice (x ∷ xs) ys (u ∷ us) vs e = more (cut_twice xs ys us vs (let rest : xs ++ ys ≡ us ++ vs = cc in rest)) where
+  first : x ≡ u
+  first = cc
+
+  more : ((zs : List Token) × (xs ≡ us ++ zs) × (zs ++ ys ≡ vs)) ⊎ ((zs : List Token) × (us ≡ xs ++ zs) × (ys ≡ zs ++ vs)) → ((zs : List Token) × (x ∷ xs ≡ (u ∷ us) ++ zs) × (zs ++ ys ≡ vs)) ⊎ ((zs : List Token) × (u ∷ us ≡ (x ∷ xs) ++ zs) × (ys ≡ zs ++ vs))
+  more (inl h) = inl (h.0, let joined : xs ≡ us ++ h.0 = h.1 in let is : x ≡ u = first in cc, h.2)
+  more (inr h) = inr (h.0, let joined : us ≡ xs ++ h.0 = h.1 in let is : x ≡ u = first in cc, h.2)
+
+starts-blocks : (depth : ℕ) → starts (blocks depth) ≡ 0
+unfolding blocks
+starts-blocks zero = refl
+starts-blocks (suc depth) = let more : starts (blocks depth) ≡ 0 = starts-blocks depth in let end : is_start (key BlockEnd).kind ≡ 0 = ap is_start (key-kind BlockEnd) in omega arith
+
+-- `$}` for as many blocks, and then no words, or a first one that is `$}`
+first_end : (depth : ℕ) (z : Token) (zs later : List Token) → (z ∷ zs) ++ later ≡ blocks depth → IsKeyword BlockEnd z
+unfolding blocks
+first_end zero z zs later e = absurd cc
+first_end (suc depth) z zs later e = let same : z ≡ key BlockEnd = cc in ap (λ (t : Token). t.kind) same ∙ key-kind BlockEnd
+
+parted : (us zs : List Token) (z : Token) → IsKeyword BlockEnd z → (starts (us ++ z ∷ zs) ≡ starts us + starts zs) × (ends (us ++ z ∷ zs) ≡ ends us + 1 + ends zs)
+parted us zs z is =
+    let start : starts (us ++ z ∷ zs) ≡ starts us + starts (z ∷ zs) = starts-append us (z ∷ zs) in
+    let end : ends (us ++ z ∷ zs) ≡ ends us + ends (z ∷ zs) = ends-append us (z ∷ zs) in
+    let one : (is_start z.kind ≡ 0) × (is_end z.kind ≡ 1) = end_counts z is in
+    (omega arith, omega arith)
+
+covered_behind : (us ys : List Token) → Covered (us ++ ys) → Covered ys
+covered_behind [] ys h = h
+covered_behind (u ∷ us) ys h = covered_behind us ys h.1
+
+longer : (xs us zs : List Token) (z : Token) → xs ≡ us ++ z ∷ zs → IsKeyword BlockEnd z → starts xs ≡ ends xs → starts us ≡ ends us → Covered xs → ⊥
+longer xs us zs z joined is even inside h =
+    let rest : Covered (z ∷ zs) = covered_behind us (z ∷ zs) (subst (λ (ts : List Token). Covered ts) joined h) in
+    let fewer : starts zs ≤ ends zs = covered_all zs rest.1 in
+    let parts : (starts (us ++ z ∷ zs) ≡ starts us + starts zs) × (ends (us ++ z ∷ zs) ≡ ends us + 1 + ends zs) = parted us zs z is in
+    let start : starts xs ≡ starts (us ++ z ∷ zs) = ap starts joined in
+    let end : ends xs ≡ ends (us ++ z ∷ zs) = ap ends joined in
+    omega arith
+
+shorter : (xs us zs later : List Token) (z : Token) (d : ℕ) → us ≡ xs ++ z ∷ zs → (z ∷ zs) ++ later ≡ blocks d → starts xs ≡ ends xs → starts us ≡ ends us → ⊥
+shorter xs us zs later z d joined rest even inside =
+    let is : IsKeyword BlockEnd z = first_end d z zs later rest in
+    let parts : (starts (xs ++ z ∷ zs) ≡ starts xs + starts zs) × (ends (xs ++ z ∷ zs) ≡ ends xs + 1 + ends zs) = parted xs zs z is in
+    let start : starts us ≡ starts (xs ++ z ∷ zs) = ap starts joined in
+    let end : ends us ≡ ends (xs ++ z ∷ zs) = ap ends joined in
+    let none : starts ((z ∷ zs) ++ later) ≡ 0 = ap starts rest ∙ starts-blocks d in
+    let all : starts ((z ∷ zs) ++ later) ≡ starts (z ∷ zs) + starts later = starts-append (z ∷ zs) later in
+    let z_start : is_start z.kind ≡ 0 = (end_counts z is).0 in
+    omega arith
+
+pub closed_units : (xs : List Token) (depth d : ℕ) → m.run m.Begin (suc depth) xs ≡ Ok (m.state_of m.Begin d) → starts xs ≡ ends xs → Covered xs → (inner : Units) × AreUnits false inner × (xs ≡ unit_tokens inner)
+closed_units xs depth d e even h = both (cut_twice xs (blocks d) (unit_tokens closes.inner) (closes.end ∷ closes.later) closes.joined) where
+  closes : Closes (Completes depth) (xs ++ blocks d)
+  closes = whole_run (xs ++ blocks d) m.Begin (suc depth) (run-append xs (blocks d) m.Begin (suc depth) (m.Begin, d) e ∙ blocks_run d)
+
+  inside : starts (unit_tokens closes.inner) ≡ ends (unit_tokens closes.inner)
+  inside = balanced false closes.inner closes.inside
+
+  both : ((zs : List Token) × (xs ≡ unit_tokens closes.inner ++ zs) × (zs ++ blocks d ≡ closes.end ∷ closes.later)) ⊎ ((zs : List Token) × (unit_tokens closes.inner ≡ xs ++ zs) × (blocks d ≡ zs ++ closes.end ∷ closes.later)) → (inner : Units) × AreUnits false inner × (xs ≡ unit_tokens inner)
+  both (inl ([], joined, rest)) = (closes.inner, closes.inside, joined ∙ append-nil (unit_tokens closes.inner))
+  both (inl (z ∷ zs, joined, rest)) = absurd (longer xs (unit_tokens closes.inner) zs z joined (let same : z ≡ closes.end = cc in ap (λ (t : Token). t.kind) same ∙ closes.is_end) even inside h)
+  both (inr ([], joined, rest)) = (closes.inner, closes.inside, sym (joined ∙ append-nil xs))
+  both (inr (z ∷ zs, joined, rest)) = absurd (shorter xs (unit_tokens closes.inner) zs (closes.end ∷ closes.later) z d joined (sym rest) even inside)
+
+pub ends_in_block : (tokens : List Token) (word d : ℕ) (token : Token) → m.run m.Begin 0 tokens ≡ Ok (m.state_of m.Begin d) → slice_get tokens word ≡ Some token → IsKeyword BlockStart token
+    → starts (drop (word + 1) tokens) ≡ ends (drop (word + 1) tokens) → ((n : ℕ) → word < n → starts (drop n tokens) ≤ ends (drop n tokens)) → IsUnitFault tokens T08 word
+ends_in_block tokens word d token e there opens even fewer = record {
+  begin = token;
+  inner = units.0;
+  there = there;
+  opens = opens;
+  begins = may_begin_from (take word tokens) front.0.1 front_begins;
+  inside = units.1;
+  behind = units.2;
+} where
+  viable : IsViable tokens
+  viable = run-IsViable tokens (m.Begin, d) e
+
+  front : (s : m.Phase × ℕ) × (m.run m.Begin 0 (take word tokens) ≡ Ok s)
+  front = viable_run (take word tokens) (viable_take tokens word viable)
+
+  more : (s : m.Phase × ℕ) × (m.run m.Begin 0 (take (word + 1) tokens) ≡ Ok s)
+  more = viable_run (take (word + 1) tokens) (viable_take tokens (word + 1) viable)
+
+  step : m.next front.0.0 front.0.1 (kinds.Keyword BlockStart) (m.could_label token) ≡ Ok more.0
+  step = ap (λ (k : WordKind). m.next front.0.0 front.0.1 k (m.could_label token)) (sym opens) ∙ sym (run_next tokens word token front.0.0 front.0.1 there front.1) ∙ more.1
+
+  is_begin : front.0.0 ≡ m.Begin
+  is_begin = begins_only front.0.0 front.0.1 (m.could_label token) more.0 step
+
+  front_begins : m.run m.Begin 0 (take word tokens) ≡ Ok (m.state_of m.Begin front.0.1)
+  front_begins = front.1 ∙ ap (λ (p : m.Phase). Ok (p, front.0.1)) is_begin
+
+  more_begins : m.run m.Begin 0 (take (word + 1) tokens) ≡ Ok (m.state_of m.Begin (suc front.0.1))
+  more_begins = run_next tokens word token m.Begin front.0.1 there front_begins ∙ ap (λ (k : WordKind). m.next m.Begin front.0.1 k (m.could_label token)) opens
+
+  rest : m.run m.Begin (suc front.0.1) (drop (word + 1) tokens) ≡ Ok (m.state_of m.Begin d)
+  rest = sym (run-append (take (word + 1) tokens) (drop (word + 1) tokens) m.Begin 0 (m.Begin, suc front.0.1) more_begins) ∙ ap (m.run m.Begin 0) (take-append-drop (word + 1) tokens) ∙ e
+
+  fewer_behind : (n : ℕ) → starts (drop n (drop (word + 1) tokens)) ≤ ends (drop n (drop (word + 1) tokens))
+  fewer_behind n = subst (λ (ts : List Token). starts ts ≤ ends ts) (sym (drop-drop n (word + 1) tokens)) (fewer (word + 1 + n) (omega arith))
+
+  units : (inner : Units) × AreUnits false inner × (drop (word + 1) tokens ≡ unit_tokens inner)
+  units = closed_units (drop (word + 1) tokens) front.0.1 d rest even (covered_from (drop (word + 1) tokens) fewer_behind)

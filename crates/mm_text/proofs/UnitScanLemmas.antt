@@ -1,0 +1,262 @@
+-- Every list of words is whole or has a fault, and what loops that look for the fault keep.
+use Rattle.std.proofs.Common.{◌≡◌, ◌≢◌, ◌⊎◌, ℕ, zero, suc, ◌+◌, ◌<◌, ◌≤◌, Bool, true, false, List, [], ◌∷◌, ◌++◌, append_assoc, length, take, drop, slice_get, drop_of_length-le, Some, Ok, Err, refl, sym, ap, ◌∙◌, subst, inl, inr, ⊎_elim, ◌-◌, arith}
+use Rattle.std.proofs.lemmas.Bool.{cases_lt}
+use Rattle.std.proofs.lemmas.List.{take_all, take_at}
+use Rattle.mm_text.specs.declared.word.Keyword.TheVariants.{BlockStart, BlockEnd, Constants, Variables, Floating, Essential, Disjoint, Axiom, Theorem, StatementEnd, ProofStart, InclusionStart, InclusionEnd}
+use Rattle.mm_text.specs.declared.word.WordKind.{WordKind}
+use Rattle.mm_text.specs.declared.word.WordKind.TheVariants as kinds
+use Rattle.mm_text.specs.declared.fault.TextNumber.{TextNumber}
+use Rattle.mm_text.specs.declared.fault.TextNumber.TheVariants.{T07, T08}
+use Rattle.mm_text.specs.Unit.{Token, IsKeyword, IsWhole, IsViable, IsUnitFault}
+use Rattle.mm_text.specs.UnitReading as m
+use Rattle.mm_text.specs.BlockCounts.{is_start, is_end, starts, ends}
+use Rattle.mm_text.proofs.UnitReadingLemmas.{run-IsViable, run-IsWhole}
+use Rattle.mm_text.proofs.UnitFaultLemmas.{viable_take, viable_run, run_push, may_begin_from, may_begin_phase, stops_at, ends_in_unit, start_counts, end_counts, counts_next, ends_in_block}
+
+-- ---- every list is whole or has a fault
+
+-- the machine counts the open blocks
+abbrev Counts : ℕ → WordKind → m.Step → Type 0
+Counts depth kind (Ok s) = depth + is_start kind ≡ s.1 + is_end kind
+Counts depth kind (Err number) = Unit {0}
+
+step_counts : (phase : m.Phase) (depth : ℕ) (kind : WordKind) (b : Bool) → Counts depth kind (m.next phase depth kind b)
+step_counts m.Begin depth kinds.Plain true = refl
+step_counts m.Begin depth kinds.Plain false = tt
+step_counts m.Begin depth (kinds.Keyword BlockStart) b = omega arith
+step_counts m.Begin zero (kinds.Keyword BlockEnd) b = tt
+step_counts m.Begin (suc depth) (kinds.Keyword BlockEnd) b = omega arith
+step_counts m.Begin depth (kinds.Keyword Constants) b = refl
+step_counts m.Begin depth (kinds.Keyword Variables) b = refl
+step_counts m.Begin depth (kinds.Keyword Disjoint) b = refl
+step_counts m.Begin zero (kinds.Keyword InclusionStart) b = refl
+step_counts m.Begin (suc depth) (kinds.Keyword InclusionStart) b = tt
+step_counts m.Begin depth (kinds.Keyword _) b = tt
+step_counts m.Labelled depth kinds.Plain b = tt
+step_counts m.Labelled depth (kinds.Keyword Floating) b = refl
+step_counts m.Labelled depth (kinds.Keyword Essential) b = refl
+step_counts m.Labelled depth (kinds.Keyword Axiom) b = refl
+step_counts m.Labelled depth (kinds.Keyword Theorem) b = refl
+step_counts m.Labelled depth (kinds.Keyword _) b = tt
+step_counts m.Symbols depth kinds.Plain b = refl
+step_counts m.Symbols depth (kinds.Keyword StatementEnd) b = refl
+step_counts m.Symbols depth (kinds.Keyword _) b = tt
+step_counts m.Expression depth kinds.Plain b = refl
+step_counts m.Expression depth (kinds.Keyword ProofStart) b = refl
+step_counts m.Expression depth (kinds.Keyword _) b = tt
+step_counts m.Including depth kinds.Plain b = refl
+step_counts m.Including depth (kinds.Keyword _) b = tt
+step_counts m.Named depth kinds.Plain b = tt
+step_counts m.Named depth (kinds.Keyword InclusionEnd) b = refl
+step_counts m.Named depth (kinds.Keyword _) b = tt
+
+pub run_counts : (tokens : List Token) (phase : m.Phase) (depth : ℕ) (s : m.Phase × ℕ) → m.run phase depth tokens ≡ Ok s → depth + starts tokens ≡ s.1 + ends tokens
+run_counts [] phase depth s e =
+    let same : m.state_of phase depth ≡ s = cc in
+    let last : depth ≡ s.1 = ap (λ (s : m.Phase × ℕ). s.1) same in
+    omega arith
+run_counts (token ∷ tokens) phase depth s e = by_step (λ p d h. run_counts tokens p d s h) (m.next phase depth token.kind (m.could_label token)) (step_counts phase depth token.kind (m.could_label token)) e where
+  by_step : ((p : m.Phase) (d : ℕ) → m.run p d tokens ≡ Ok s → d + starts tokens ≡ s.1 + ends tokens) → (step : m.Step) → Counts depth token.kind step → m.after step (λ p d. m.run p d tokens) ≡ Ok s → depth + starts (token ∷ tokens) ≡ s.1 + ends (token ∷ tokens)
+  by_step more (Ok t) first e = let rest : t.1 + starts tokens ≡ s.1 + ends tokens = more t.0 t.1 e in let here : depth + is_start token.kind ≡ t.1 + is_end token.kind = first in omega arith
+  by_step more (Err number) first e = absurd cc
+
+start_most : (kind : WordKind) → is_start kind ≤ 1
+start_most (kinds.Keyword BlockStart) = omega arith
+start_most _ = omega arith
+
+starts-le-length : (tokens : List Token) → starts tokens ≤ length tokens
+starts-le-length [] = omega arith
+starts-le-length (token ∷ tokens) = let more : starts tokens ≤ length tokens = starts-le-length tokens in let most : is_start token.kind ≤ 1 = start_most token.kind in omega arith
+
+-- no more blocks are open than there are words
+pub run_depth : (tokens : List Token) (phase : m.Phase) (depth : ℕ) → m.run m.Begin 0 tokens ≡ Ok (m.state_of phase depth) → depth ≤ length tokens
+run_depth tokens phase depth e =
+    let count : 0 + starts tokens ≡ depth + ends tokens = run_counts tokens m.Begin 0 (phase, depth) e in
+    let most : starts tokens ≤ length tokens = starts-le-length tokens in
+    omega arith
+
+-- from word number `from` on stand `level` more `$}` than `${`, and from no later word on more `${` than `$}`
+pub record Scan (tokens : List Token) (from level : ℕ) : Type 0 where
+  pub even : level + starts (drop from tokens) ≡ ends (drop from tokens)
+  pub fewer : (n : ℕ) → from ≤ n → starts (drop n tokens) ≤ ends (drop n tokens)
+
+pub scan_none : (tokens : List Token) → Scan tokens (length tokens) 0
+scan_none tokens = record { even = even; fewer = fewer } where
+  past : (n : ℕ) → length tokens ≤ n → drop n tokens ≡ []
+  past n l = drop_of_length-le tokens l
+
+  even : 0 + starts (drop (length tokens) tokens) ≡ ends (drop (length tokens) tokens)
+  even = let none : drop (length tokens) tokens ≡ [] = past (length tokens) (omega arith) in rw none (omega arith)
+
+  fewer : (n : ℕ) → length tokens ≤ n → starts (drop n tokens) ≤ ends (drop n tokens)
+  fewer n l = let none : drop n tokens ≡ [] = past n l in rw none (omega arith)
+
+-- one word more at the front
+scan_more : (tokens : List Token) (word level next : ℕ) (token : Token) → slice_get tokens word ≡ Some token → next + is_start token.kind ≡ level + is_end token.kind → Scan tokens (word + 1) level → Scan tokens word next
+scan_more tokens word level next token there step h = record { even = even; fewer = fewer } where
+  more : (starts (drop word tokens) ≡ is_start token.kind + starts (drop (word + 1) tokens)) × (ends (drop word tokens) ≡ is_end token.kind + ends (drop (word + 1) tokens))
+  more = counts_next tokens word token there
+
+  behind : level + starts (drop (word + 1) tokens) ≡ ends (drop (word + 1) tokens)
+  behind = h.even
+
+  even : next + starts (drop word tokens) ≡ ends (drop word tokens)
+  even = omega (arith, more.0, more.1, behind, step)
+
+  here : (n : ℕ) → word ≡ n → starts (drop n tokens) ≤ ends (drop n tokens)
+  here n same = subst (λ (k : ℕ). starts (drop k tokens) ≤ ends (drop k tokens)) same (omega (arith, even))
+
+  fewer : (n : ℕ) → word ≤ n → starts (drop n tokens) ≤ ends (drop n tokens)
+  fewer n l = ⊎_elim (λ less. h.fewer n (omega arith)) (λ most. here n (omega arith)) (cases_lt word n)
+
+pub scan_end : (tokens : List Token) (word level : ℕ) (token : Token) → slice_get tokens word ≡ Some token → IsKeyword BlockEnd token → Scan tokens (word + 1) level → Scan tokens word (level + 1)
+scan_end tokens word level token there is h = let counts : (is_start token.kind ≡ 0) × (is_end token.kind ≡ 1) = end_counts token is in scan_more tokens word level (level + 1) token there (omega arith) h
+
+pub scan_start : (tokens : List Token) (word level : ℕ) (token : Token) → slice_get tokens word ≡ Some token → IsKeyword BlockStart token → 0 < level → Scan tokens (word + 1) level → Scan tokens word (level - 1)
+scan_start tokens word level token there is some h = let counts : (is_start token.kind ≡ 1) × (is_end token.kind ≡ 0) = start_counts token is in scan_more tokens word level (level - 1) token there (omega arith) h
+
+other_counts : (token : Token) (kind : WordKind) → token.kind ≡ kind → ¬ IsKeyword BlockStart token → ¬ IsKeyword BlockEnd token → (is_start kind ≡ 0) × (is_end kind ≡ 0)
+other_counts token (kinds.Keyword BlockStart) is f g = absurd (f is)
+other_counts token (kinds.Keyword BlockEnd) is f g = absurd (g is)
+other_counts token _ is f g = (refl, refl)
+
+pub scan_other : (tokens : List Token) (word level : ℕ) (token : Token) → slice_get tokens word ≡ Some token → ¬ IsKeyword BlockStart token → ¬ IsKeyword BlockEnd token → Scan tokens (word + 1) level → Scan tokens word level
+scan_other tokens word level token there f g h = let counts : (is_start token.kind ≡ 0) × (is_end token.kind ≡ 0) = other_counts token token.kind refl f g in scan_more tokens word level level token there (omega arith) h
+
+-- the scan stops at a `${` that nothing behind it closes
+pub scan_found : (tokens : List Token) (word d : ℕ) (token : Token) → m.run m.Begin 0 tokens ≡ Ok (m.state_of m.Begin d) → slice_get tokens word ≡ Some token → IsKeyword BlockStart token → Scan tokens (word + 1) 0 → IsUnitFault tokens T08 word
+scan_found tokens word d token e there is h =
+    let same : 0 + starts (drop (word + 1) tokens) ≡ ends (drop (word + 1) tokens) = h.even in
+    ends_in_block tokens word d token e there is (omega arith) (λ n l. h.fewer n (omega arith))
+
+-- the scan does not come to the first word where a block is open
+pub scan_all : (tokens : List Token) (level d : ℕ) → m.run m.Begin 0 tokens ≡ Ok (m.state_of m.Begin (suc d)) → Scan tokens 0 level → ⊥
+scan_all tokens level d e h =
+    let same : level + starts tokens ≡ ends tokens = h.even in
+    let count : 0 + starts tokens ≡ suc d + ends tokens = run_counts tokens m.Begin 0 (m.Begin, suc d) e in
+    omega arith
+
+place_here : (tokens : List Token) (word : ℕ) → word < length tokens → (token : Token) × (slice_get tokens word ≡ Some token)
+place_here [] word l = absurd (omega arith)
+place_here (token ∷ tokens) zero l = (token, refl)
+place_here (token ∷ tokens) (suc word) l = place_here tokens word (omega arith)
+
+scan_on : (tokens : List Token) (d : ℕ) → m.run m.Begin 0 tokens ≡ Ok (m.state_of m.Begin (suc d)) → (from level : ℕ) → from ≤ length tokens → Scan tokens from level → (word : ℕ) × IsUnitFault tokens T08 word
+scan_on tokens d e zero level l h = absurd (scan_all tokens level d e h)
+scan_on tokens d e (suc from) level l h = by_kind there.0.kind refl (λ next g. scan_on tokens d e from next (omega arith) g) where
+  there : (token : Token) × (slice_get tokens from ≡ Some token)
+  there = place_here tokens from (omega arith)
+
+  one : suc from ≡ from + 1
+  one = omega arith
+
+  scan : Scan tokens (from + 1) level
+  scan = subst (λ (n : ℕ). Scan tokens n level) one h
+
+  start : (level : ℕ) → IsKeyword BlockStart there.0 → Scan tokens (from + 1) level → ((next : ℕ) → Scan tokens from next → (word : ℕ) × IsUnitFault tokens T08 word) → (word : ℕ) × IsUnitFault tokens T08 word
+  start zero is h more = (from, scan_found tokens from (suc d) there.0 e there.1 is h)
+  start (suc level) is h more = more (suc level - 1) (scan_start tokens from (suc level) there.0 there.1 is (omega arith) h)
+
+  by_kind : (kind : WordKind) → there.0.kind ≡ kind → ((next : ℕ) → Scan tokens from next → (word : ℕ) × IsUnitFault tokens T08 word) → (word : ℕ) × IsUnitFault tokens T08 word
+  by_kind (kinds.Keyword BlockStart) is more = start level is scan more
+  by_kind (kinds.Keyword BlockEnd) is more = more (level + 1) (scan_end tokens from level there.0 there.1 is scan)
+  by_kind kinds.Plain is more = more level (scan_other tokens from level there.0 there.1 (λ x. cc) (λ x. cc) scan)
+  by_kind (kinds.Keyword _) is more = more level (scan_other tokens from level there.0 there.1 (λ x. cc) (λ x. cc) scan)
+
+pub open_block : (tokens : List Token) (d : ℕ) → m.run m.Begin 0 tokens ≡ Ok (m.state_of m.Begin (suc d)) → (word : ℕ) × IsUnitFault tokens T08 word
+open_block tokens d e = scan_on tokens d e (length tokens) 0 (omega arith) (scan_none tokens)
+
+-- the first word that stops
+slice_get_at : (front rest : List Token) (token : Token) → slice_get (front ++ token ∷ rest) (length front) ≡ Some token
+slice_get_at [] rest token = refl
+slice_get_at (first ∷ front) rest token = slice_get_at front rest token
+
+abbrev HasFault : List Token → TextNumber → Type 0
+HasFault tokens number = (word : ℕ) × IsUnitFault tokens number word
+
+pub stop_from : (rest front : List Token) (phase : m.Phase) (depth : ℕ) (number : TextNumber) → m.run m.Begin 0 front ≡ Ok (m.state_of phase depth) → m.run phase depth rest ≡ Err number → (word : ℕ) × IsUnitFault (front ++ rest) number word
+stop_from [] front phase depth number e f = absurd cc
+stop_from (token ∷ rest) front phase depth number e f =
+    by_step (λ s is h. stop_from rest (front ++ token ∷ []) s.0 s.1 number (run_push front token phase depth e ∙ is) h) (m.next phase depth token.kind (m.could_label token)) refl f where
+      by_step : ((s : m.Phase × ℕ) → m.next phase depth token.kind (m.could_label token) ≡ Ok s → m.run s.0 s.1 rest ≡ Err number → (word : ℕ) × IsUnitFault ((front ++ token ∷ []) ++ rest) number word)
+          → (step : m.Step) → m.next phase depth token.kind (m.could_label token) ≡ step → m.after step (λ p d. m.run p d rest) ≡ Err number → (word : ℕ) × IsUnitFault (front ++ token ∷ rest) number word
+      by_step more (Ok s) is h = subst (λ (ts : List Token). HasFault ts number) (append_assoc front (token ∷ []) rest) (more s is h)
+      by_step more (Err other) is h = (
+        length front,
+        stops_at (front ++ token ∷ rest) (length front) token phase depth number (slice_get_at front rest token)
+            (ap (m.run m.Begin 0) (take_at front (token ∷ rest) (length front) refl) ∙ e) (is ∙ h),
+      )
+
+-- the last place where a unit may begin
+pub record LastBegin (tokens : List Token) (n : ℕ) : Type 0 where
+  pub word : ℕ
+  pub depth : ℕ
+  pub within : word ≤ n
+  pub begins : m.run m.Begin 0 (take word tokens) ≡ Ok (m.state_of m.Begin depth)
+  pub later : (k : ℕ) → word < k → k ≤ n → (phase : m.Phase) × (d : ℕ) × (m.run m.Begin 0 (take k tokens) ≡ Ok (m.state_of phase d)) × (phase ≢ m.Begin)
+
+pub last_here : (tokens : List Token) (n depth : ℕ) → m.run m.Begin 0 (take n tokens) ≡ Ok (m.state_of m.Begin depth) → LastBegin tokens n
+last_here tokens n depth e = record { word = n; depth = depth; within = omega arith; begins = e; later = λ k l g. absurd (omega arith) }
+
+pub last_more : (tokens : List Token) (n : ℕ) (phase : m.Phase) (depth : ℕ) → m.run m.Begin 0 (take (n + 1) tokens) ≡ Ok (m.state_of phase depth) → phase ≢ m.Begin → LastBegin tokens n → LastBegin tokens (n + 1)
+last_more tokens n phase depth e other h = record { word = h.word; depth = h.depth; within = omega (arith, h.within); begins = h.begins; later = later } where
+  here : (k : ℕ) → k ≡ n + 1 → (phase : m.Phase) × (d : ℕ) × (m.run m.Begin 0 (take k tokens) ≡ Ok (m.state_of phase d)) × (phase ≢ m.Begin)
+  here k same = (phase, depth, ap (λ (i : ℕ). m.run m.Begin 0 (take i tokens)) same ∙ e, other)
+
+  later : (k : ℕ) → h.word < k → k ≤ n + 1 → (phase : m.Phase) × (d : ℕ) × (m.run m.Begin 0 (take k tokens) ≡ Ok (m.state_of phase d)) × (phase ≢ m.Begin)
+  later k l g = ⊎_elim (λ above. here k (omega arith)) (λ below. h.later k l below) (cases_lt n k)
+
+is_begin : (phase : m.Phase) → (phase ≡ m.Begin) ⊎ (phase ≢ m.Begin)
+is_begin m.Begin = inl refl
+is_begin m.Labelled = inr (λ e. cc)
+is_begin m.Symbols = inr (λ e. cc)
+is_begin m.Expression = inr (λ e. cc)
+is_begin m.Including = inr (λ e. cc)
+is_begin m.Named = inr (λ e. cc)
+
+last_begin : (tokens : List Token) (n : ℕ) → IsViable tokens → LastBegin tokens n
+last_begin tokens zero viable = last_here tokens 0 0 refl
+last_begin tokens (suc n) viable = by_phase state.0.0 state.0.1 state.1 (is_begin state.0.0) (last_begin tokens n viable) where
+  state : (s : m.Phase × ℕ) × (m.run m.Begin 0 (take (suc n) tokens) ≡ Ok s)
+  state = viable_run (take (suc n) tokens) (viable_take tokens (suc n) viable)
+
+  one : n + 1 ≡ suc n
+  one = omega arith
+
+  by_phase : (phase : m.Phase) (depth : ℕ) → m.run m.Begin 0 (take (suc n) tokens) ≡ Ok (m.state_of phase depth) → (phase ≡ m.Begin) ⊎ (phase ≢ m.Begin) → LastBegin tokens n → LastBegin tokens (suc n)
+  by_phase phase depth e (inl is) h = last_here tokens (suc n) depth (e ∙ ap (λ (p : m.Phase). Ok (p, depth)) is)
+  by_phase phase depth e (inr other) h = subst (λ (k : ℕ). LastBegin tokens k) one (last_more tokens n phase depth (ap (λ (k : ℕ). m.run m.Begin 0 (take k tokens)) one ∙ e) other h)
+
+below : (v w : ℕ) → v ≤ w → v ≢ w → v < w
+below v w l other = omega arith
+
+-- the unit that is not finished begins at the last place where one may
+pub last_fault : (tokens : List Token) (phase : m.Phase) (depth : ℕ) → m.run m.Begin 0 tokens ≡ Ok (m.state_of phase depth) → phase ≢ m.Begin → (last : LastBegin tokens (length tokens)) → IsUnitFault tokens T07 last.word
+last_fault tokens phase depth e other last = ends_in_unit tokens last.word last.depth (below last.word (length tokens) last.within apart) last.begins last.later where
+  apart : last.word ≢ length tokens
+  apart is =
+      let all : take last.word tokens ≡ tokens = ap (λ (n : ℕ). take n tokens) is ∙ take_all (length tokens) tokens (omega arith) in
+      other (may_begin_phase tokens phase depth e (may_begin_from tokens last.depth (ap (m.run m.Begin 0) (sym all) ∙ last.begins)))
+
+pub open_unit : (tokens : List Token) (phase : m.Phase) (depth : ℕ) → m.run m.Begin 0 tokens ≡ Ok (m.state_of phase depth) → phase ≢ m.Begin → (word : ℕ) × IsUnitFault tokens T07 word
+open_unit tokens phase depth e other =
+    let last : LastBegin tokens (length tokens) = last_begin tokens (length tokens) (run-IsViable tokens (phase, depth) e) in
+    (last.word, last_fault tokens phase depth e other last)
+
+pub whole_or_fault : (tokens : List Token) → IsWhole tokens ⊎ ((number : TextNumber) × (word : ℕ) × IsUnitFault tokens number word)
+whole_or_fault tokens = by_run (m.run m.Begin 0 tokens) refl where
+  open_at : (phase : m.Phase) (depth : ℕ) → m.run m.Begin 0 tokens ≡ Ok (m.state_of phase depth) → (phase ≢ m.Begin) → IsWhole tokens ⊎ ((number : TextNumber) × (word : ℕ) × IsUnitFault tokens number word)
+  open_at phase depth e other = let fault : (word : ℕ) × IsUnitFault tokens T07 word = open_unit tokens phase depth e other in inr (T07, fault.0, fault.1)
+
+  by_state : (phase : m.Phase) (depth : ℕ) → m.run m.Begin 0 tokens ≡ Ok (m.state_of phase depth) → IsWhole tokens ⊎ ((number : TextNumber) × (word : ℕ) × IsUnitFault tokens number word)
+  by_state m.Begin zero e = inl (run-IsWhole tokens e)
+  by_state m.Begin (suc depth) e = let fault : (word : ℕ) × IsUnitFault tokens T08 word = open_block tokens depth e in inr (T08, fault.0, fault.1)
+  by_state m.Labelled depth e = open_at m.Labelled depth e (λ e. cc)
+  by_state m.Symbols depth e = open_at m.Symbols depth e (λ e. cc)
+  by_state m.Expression depth e = open_at m.Expression depth e (λ e. cc)
+  by_state m.Including depth e = open_at m.Including depth e (λ e. cc)
+  by_state m.Named depth e = open_at m.Named depth e (λ e. cc)
+
+  by_run : (step : m.Step) → m.run m.Begin 0 tokens ≡ step → IsWhole tokens ⊎ ((number : TextNumber) × (word : ℕ) × IsUnitFault tokens number word)
+  by_run (Ok s) e = by_state s.0 s.1 e
+  by_run (Err number) e = let fault : (word : ℕ) × IsUnitFault tokens number word = stop_from tokens [] m.Begin 0 number refl e in inr (number, fault.0, fault.1)

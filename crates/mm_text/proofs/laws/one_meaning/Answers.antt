@@ -1,0 +1,32 @@
+use Rattle.std.proofs.Common.{◌≡◌, ℕ, List, ◌⊎◌, inl, inr, Ok, Err, refl}
+use Rattle.mm_text.specs.declared.word.Word.{Word}
+use Rattle.mm_text.specs.declared.fault.TextFault.{TextFault}
+use Rattle.mm_text.specs.Reading.{HasWords, IsFault}
+use Rattle.mm_text.specs.LeftToRight.{Read, read_text}
+use Rattle.mm_text.proofs.ReadingLemmas.{text_words, text_fault, words_of_text, fault_of_text}
+use Rattle.mm_text.proofs.laws.one_meaning.Goals as goal
+
+read_as : (text : List ℕ) (r : Read) → read_text text ≡ r → ((words : List Word) × HasWords text words) ⊎ ((fault : TextFault) × IsFault text fault)
+read_as text (Ok words) is = inl (words, words_of_text text words is)
+read_as text (Err fault) is = inr (fault, fault_of_text text fault is)
+
+pub returns-clause-some : goal.returns-clause-some
+returns-clause-some c text = read_as text (read_text text) refl
+
+pub returns-clause-words : goal.returns-clause-words
+returns-clause-words c text a b f g =
+    let x : read_text text ≡ Ok a = text_words text a f in
+    let y : read_text text ≡ Ok b = text_words text b g in
+    cc
+
+pub returns-clause-fault : goal.returns-clause-fault
+returns-clause-fault c text a b f g =
+    let x : read_text text ≡ Err a = text_fault text a.number a.at f in
+    let y : read_text text ≡ Err b = text_fault text b.number b.at g in
+    cc
+
+pub returns-clause-not_both : goal.returns-clause-not_both
+returns-clause-not_both c text words fault f g =
+    let x : read_text text ≡ Ok words = text_words text words f in
+    let y : read_text text ≡ Err fault = text_fault text fault.number fault.at g in
+    cc

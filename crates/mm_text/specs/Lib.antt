@@ -1,0 +1,10 @@
+pub mod Run
+pub mod Layout
+pub mod Spelling
+pub mod Reading
+pub mod LeftToRight
+pub mod Reader
+pub mod Place
+pub mod Unit
+pub mod UnitReading
+pub mod BlockCounts

@@ -1,0 +1,46 @@
+//! What holds of every text. Each function does nothing; what it promises is the law.
+
+ghost use Rattle.std.specs.Prelude.{◌≡◌, ◌⊎◌, ℕ, true, List};
+ghost use Rattle.std.specs.List.{AllByRecursion, flat_map};
+ghost use Rattle.mm_text.specs.declared.word.Word.{Word};
+ghost use Rattle.mm_text.specs.declared.fault.TextFault.{TextFault};
+ghost use Rattle.mm_text.specs.Run.{Run, runs};
+ghost use Rattle.mm_text.specs.Layout.{IsLaidOut};
+ghost use Rattle.mm_text.specs.Reading.{HasWords, IsFault};
+ghost use Rattle.mm_text.specs.declared.fault.TextNumber.{TextNumber};
+ghost use Rattle.mm_text.specs.Unit.{Token, Shape, shape_tokens, IsShape, Units, unit_tokens, AreUnits, IsWhole, IsUnitFault};
+
+/// Each text has its words or its fault: one list of words or one fault, and never both.
+///
+/// So `words` finds the words of each text that has them, and tells the fault only of a text that has none,
+/// unless memory runs out.
+pub fn one_meaning()
+    ensures some { (text : List ℕ) → ((words : List Word) × HasWords text words) ⊎ ((fault : TextFault) × IsFault text fault) }
+    ensures words { (text : List ℕ) (a b : List Word) → HasWords text a → HasWords text b → a ≡ b }
+    ensures fault { (text : List ℕ) (a b : TextFault) → IsFault text a → IsFault text b → a ≡ b }
+    ensures not_both { (text : List ℕ) (words : List Word) (fault : TextFault) → HasWords text words → ¬ IsFault text fault }
+{}
+
+/// A text is laid out in one way: white space, a longest sequence of bytes without white space, white space,
+/// and so on.
+///
+/// These sequences, in which words and the marks of comments are read, are what `words` goes by.
+pub fn one_layout()
+    ensures laid_out { (text : List ℕ) → IsLaidOut 0 text (runs text) }
+    ensures only { (text : List ℕ) (others : List Run) → IsLaidOut 0 text others → runs text ≡ others }
+{}
+
+/// A list of words is a sequence of units, or it has one fault of units, at one word; and never both.
+///
+/// A unit is a statement, an inclusion, or a block of units that are no inclusions.
+pub fn one_unit_fault()
+    ensures some { (tokens : List Token) → IsWhole tokens ⊎ ((number : TextNumber) × (word : ℕ) × IsUnitFault tokens number word) }
+    ensures fault { (tokens : List Token) (a b : TextNumber) (v w : ℕ) → IsUnitFault tokens a v → IsUnitFault tokens b w → (a ≡ b) × (v ≡ w) }
+    ensures not_both { (tokens : List Token) (number : TextNumber) (word : ℕ) → IsWhole tokens → ¬ IsUnitFault tokens number word }
+{}
+
+/// A list of words is divided into units in one way at most.
+pub fn one_division()
+    ensures units { (a b : Units) → AreUnits true a → AreUnits true b → unit_tokens a ≡ unit_tokens b → a ≡ b }
+    ensures shapes { (a b : List Shape) → AllByRecursion (IsShape true) a → AllByRecursion (IsShape true) b → flat_map shape_tokens a ≡ flat_map shape_tokens b → a ≡ b }
+{}

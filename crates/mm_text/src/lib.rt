@@ -1,0 +1,28 @@
+//! The text of a Metamath database: its words, and the lines and columns of its bytes.
+//!
+//! A text holds printable characters (the bytes 0x21 to 0x7E) and white space: space, tab, carriage return,
+//! line feed and form feed. White space separates words. The word `$(` begins a comment and the word `$)` ends
+//! it; a comment counts as white space, may stand anywhere, does not nest, and holds neither mark in any of its
+//! other words. A word outside comments is one of the keywords, or holds no `$` (the Metamath book, section
+//! 4.1). A text that keeps these rules has one list of words, which `words` finds; any other has one first
+//! fault, which it tells.
+#![tactic(auto)]
+
+mod fault;
+mod laws;
+mod lines;
+mod location;
+mod reader;
+mod reading;
+mod spelling;
+mod word;
+
+pub use fault::{TextError, TextFault, TextNumber};
+pub use laws::{one_division, one_layout, one_meaning, one_unit_fault};
+pub use lines::place;
+pub use location::Place;
+pub use reading::{nth_word, words};
+pub use word::{Keyword, Word, WordKind};
+
+#[cfg(test)]
+mod tests;

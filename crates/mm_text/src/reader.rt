@@ -1,0 +1,110 @@
+//! A text read from its beginning, run by run and word by word.
+
+ghost use Rattle.std.specs.Prelude.{◌≤◌, length};
+
+use crate::fault::{TextFault, TextNumber};
+use crate::spelling::{has_mark, is_closing, is_opening, kind, run_len, white_len};
+use crate::word::Word;
+
+/// The bytes of a text from `start` to `end`, without white space.
+#[derive(Clone, Copy)]
+pub struct Span {
+    pub start: usize,
+    pub end: usize,
+}
+
+/// A text that was read up to the byte `from`.
+#[derive(Drop)]
+pub struct Reader<'a> {
+    text: &'a [u8],
+    from: usize,
+    ghost in_text: { from ≤ length text.now },
+}
+
+impl<'a> Reader<'a> {
+    ghost use Rattle.std.specs.Prelude.{◌≡◌, MatchOption};
+    ghost use Rattle.mm_text.specs.Run.{runs};
+    ghost use Rattle.mm_text.specs.LeftToRight.{read};
+    ghost use Rattle.mm_text.specs.Reader.{runs_left, TakesRun, GivesWord, EndsComment};
+
+    /// A reader at the beginning of a text.
+    pub fn new(text: &'a [u8]) -> Self
+        ensures { runs_left result ≡ runs text.now }
+    {
+        Reader { text, from: 0 }
+    }
+
+    /// The next longest sequence of bytes without white space, or `None` at the end of the text.
+    fn next_run(&mut self) -> Option<Span>
+        ensures text { self.new.text.now ≡ self.old.text.now }
+        ensures forward { self.old.from ≤ self.new.from }
+        ensures run { TakesRun self.old result self.new }
+    {
+        let start = self.from + white_len(&self.text[self.from..]);
+        let len = run_len(&self.text[start..]);
+        if len == 0 {
+            return None;
+        }
+        self.from = start + len;
+        Some(Span {
+            start,
+            end: start + len,
+        })
+    }
+
+    /// Reads on to the end of the comment that began at `start`.
+    fn skip_comment(&mut self, start: usize) -> Result<(), TextFault>
+        ensures text { self.new.text.now ≡ self.old.text.now }
+        ensures forward { self.old.from ≤ self.new.from }
+        ensures end { EndsComment self.old start result self.new }
+    {
+        while let Some(span) = self.next_run() {
+            let bytes = &self.text[span.start..span.end];
+            if is_closing(bytes) {
+                return Ok(());
+            }
+            if has_mark(bytes) {
+                return Err(TextFault {
+                    number: TextNumber::T03,
+                    at: span.start,
+                });
+            }
+        }
+        Err(TextFault {
+            number: TextNumber::T02,
+            at: start,
+        })
+    }
+
+    /// The next word outside comments, or `None` where there is none before the end of the text.
+    pub fn next_word(&mut self) -> Result<Option<Word>, TextFault>
+        ensures text { self.new.text.now ≡ self.old.text.now }
+        ensures word { GivesWord self.old result self.new }
+    {
+        while let Some(span) = self.next_run() {
+            let bytes = &self.text[span.start..span.end];
+            if is_opening(bytes) {
+                self.skip_comment(span.start)?;
+                continue;
+            }
+            if is_closing(bytes) {
+                return Err(TextFault {
+                    number: TextNumber::T04,
+                    at: span.start,
+                });
+            }
+            return match kind(bytes) {
+                Some(kind) => Ok(Some(Word {
+                    kind,
+                    start: span.start,
+                    end: span.end,
+                })),
+                None => Err(TextFault {
+                    number: TextNumber::T05,
+                    at: span.start,
+                }),
+            };
+        }
+        Ok(None)
+    }
+}

@@ -1,0 +1,81 @@
+//! The words of a whole text.
+
+ghost use Rattle.std.specs.Prelude.{◌≡◌, ◌<◌, List, None, IfOk, IfErr, IfSome, OnOk, All, slice_get};
+ghost use Rattle.mm_text.specs.declared.word.Word.{Word};
+ghost use Rattle.mm_text.specs.Run.{runs};
+ghost use Rattle.mm_text.specs.LeftToRight.{read, read_text, Gives};
+ghost use Rattle.mm_text.specs.Reading.{first_bad, HasWords, IsErrorOf, IsErrorIn, LiesIn, AreWithin};
+
+use crate::fault::{TextError, TextFault, TextNumber};
+use crate::reader::Reader;
+use crate::spelling::is_text_byte;
+use crate::word::Word;
+use std::alloc::Global;
+
+fn first_bad_byte(text: &[u8]) -> Option<usize>
+    ensures { result ≡ first_bad text.now }
+{
+    text.iter().position(|byte| !is_text_byte(*byte))
+}
+
+fn read_words(alloc: Global, text: &[u8]) -> Result<Vec<Word>, TextError>
+    ensures { Gives result (read None (runs text.now)) }
+{
+    let mut words = Vec::new(alloc);
+    let mut reader = Reader::new(text);
+    while let Some(word) = reader.next_word()? {
+        words.push(word)?;
+    }
+    Ok(words)
+}
+
+fn read_all(alloc: Global, text: &[u8]) -> Result<Vec<Word>, TextError>
+    ensures { Gives result (read_text text.now) }
+{
+    if let Some(at) = first_bad_byte(text) {
+        return Err(TextError::Fault(TextFault {
+            number: TextNumber::T01,
+            at,
+        }));
+    }
+    read_words(alloc, text)
+}
+
+/// The words of a text outside comments, in order, each with its kind and the bytes that spell it.
+///
+/// An error is the first fault of the text, `T01` to `T05`, with the byte that it is told at; or `Memory`, where
+/// there was no room for the words. Every text without a fault is read, the empty one too. The text is gone
+/// through twice: once for bytes that no text may hold, since that fault goes before all others, and once for
+/// its words.
+pub fn words(alloc: Global, text: &[u8]) -> Result<Vec<Word>, TextError>
+    ensures words { IfOk result (λ found. HasWords text.now found.items) }
+    ensures fault { IfErr result (IsErrorOf text.now) }
+
+    // These follow: where the fault and the words lie, and that every byte is ASCII.
+    ensures fault_within { IfErr result (IsErrorIn text.now) }
+    ensures within { IfOk result (λ found. AreWithin text.now found.items) }
+    ensures ascii { OnOk result (All (λ byte. byte < 127) text.now) }
+{
+    read_all(alloc, text)
+}
+
+/// The word with the number `n` outside comments, counted from 0, of a text that has no fault; `None` where the
+/// text has no more than `n` words.
+///
+/// It takes no memory: the text is read from its beginning up to this word.
+pub fn nth_word(text: &[u8], n: usize) -> Option<Word>
+    requires { (words : List Word) × HasWords text.now words }
+    ensures nth { (words : List Word) → HasWords text.now words → result ≡ slice_get words n }
+    ensures within { IfSome result (LiesIn text.now) }
+{
+    let mut reader = Reader::new(text);
+    let mut left = n;
+    loop {
+        match reader.next_word() {
+            Ok(Some(word)) if left == 0 => return Some(word),
+            Ok(Some(_)) => left -= 1,
+            Ok(None) => return None,
+            Err(_) => return None,
+        }
+    }
+}

@@ -1,0 +1,119 @@
+//! How words are spelled.
+
+ghost use Rattle.std.specs.Prelude.{◌≡◌, ◌≤◌, ◌↔◌, IsTrue, length};
+ghost use Rattle.std.specs.List.{prefix_len};
+ghost use Rattle.mm_text.specs.Run.{is_white, is_solid};
+ghost use Rattle.mm_text.specs.Reading.{is_allowed};
+ghost use Rattle.mm_text.specs.Spelling.{opening, closing};
+ghost use Rattle.mm_text.specs.LeftToRight.{keyword_at, kind_of, is_mark, holds_mark};
+
+use crate::word::{Keyword, WordKind};
+
+/// Whether a byte is a space, a tab, a carriage return, a line feed or a form feed.
+#[tactic(auto, unfolding(crate::specs::Run::is_white))]
+fn is_white_space(byte: u8) -> bool
+    ensures { result ≡ is_white byte }
+{
+    matches!(byte, b' ' | b'\t' | b'\r' | b'\n' | 0x0c)
+}
+
+/// Whether a text may hold this byte.
+#[tactic(auto, unfolding(crate::specs::Reading::is_allowed))]
+pub fn is_text_byte(byte: u8) -> bool
+    ensures { result ≡ is_allowed byte }
+{
+    is_white_space(byte) || matches!(byte, 0x21..=0x7e)
+}
+
+/// How much white space these bytes begin with.
+pub fn white_len(bytes: &[u8]) -> usize
+    ensures within { result ≤ length bytes.now }
+    ensures value { result ≡ prefix_len is_white bytes.now }
+{
+    bytes
+        .iter()
+        .take_while(|byte| is_white_space(**byte))
+        .count()
+}
+
+/// How many bytes stand before the first white space, or before the end.
+pub fn run_len(bytes: &[u8]) -> usize
+    ensures within { result ≤ length bytes.now }
+    ensures value { result ≡ prefix_len is_solid bytes.now }
+{
+    bytes
+        .iter()
+        .take_while(|byte| !is_white_space(**byte))
+        .count()
+}
+
+/// The keyword that has this byte behind its `$`, if there is one.
+fn keyword_of(byte: u8) -> Option<Keyword>
+    ensures { result ≡ keyword_at byte }
+{
+    match byte {
+        b'{' => Some(Keyword::BlockStart),
+        b'}' => Some(Keyword::BlockEnd),
+        b'c' => Some(Keyword::Constants),
+        b'v' => Some(Keyword::Variables),
+        b'f' => Some(Keyword::Floating),
+        b'e' => Some(Keyword::Essential),
+        b'd' => Some(Keyword::Disjoint),
+        b'a' => Some(Keyword::Axiom),
+        b'p' => Some(Keyword::Theorem),
+        b'.' => Some(Keyword::StatementEnd),
+        b'=' => Some(Keyword::ProofStart),
+        b'[' => Some(Keyword::InclusionStart),
+        b']' => Some(Keyword::InclusionEnd),
+        _ => None,
+    }
+}
+
+/// What kind of word a run outside comments is: `None` where it has a `$` and is no keyword.
+pub fn kind(run: &[u8]) -> Option<WordKind>
+    ensures { result ≡ kind_of run.now }
+{
+    match run {
+        [b'$', byte] => keyword_of(*byte).map(WordKind::Keyword),
+        _ => {
+            if run.contains(&b'$') {
+                None
+            } else {
+                Some(WordKind::Plain)
+            }
+        }
+    }
+}
+
+/// Whether a run is the word `$(`, which begins a comment.
+pub fn is_opening(run: &[u8]) -> bool
+    ensures { IsTrue result ↔ (run.now ≡ opening) }
+{
+    matches!(run, b"$(")
+}
+
+/// Whether a run is the word `$)`, which ends a comment.
+pub fn is_closing(run: &[u8]) -> bool
+    ensures { IsTrue result ↔ (run.now ≡ closing) }
+{
+    matches!(run, b"$)")
+}
+
+/// Whether these bytes are `$(` or `$)`.
+fn is_comment_mark(first: u8, second: u8) -> bool
+    ensures { result ≡ is_mark first second }
+{
+    first == b'$' && (second == b'(' || second == b')')
+}
+
+/// Whether `$(` or `$)` stands somewhere in a run.
+pub fn has_mark(run: &[u8]) -> bool
+    ensures { result ≡ holds_mark run.now }
+{
+    for i in 1..run.len() {
+        if is_comment_mark(run[i - 1], run[i]) {
+            return true;
+        }
+    }
+    false
+}
