@@ -8,3 +8,4 @@ pub mod Outermost
 pub mod Numbered
 pub mod ScopeStack
 pub mod Laws
+pub mod Statement

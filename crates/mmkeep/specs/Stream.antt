@@ -1,0 +1,10 @@
+-- What a writer that remembers its failure has written.
+use Rattle.std.specs.Prelude.{ℕ, Bool, Option, List}
+use Rattle.mmkeep.specs.declared.stream.Writing.{Writing}
+
+-- the bytes of the writer within, where it tells them
+abbrev pub written : {W : Type 0} → (W → Option (List ℕ)) → Writing W → Option (List ℕ)
+written contents writing = contents writing.inner
+
+abbrev pub has_failed : {W : Type 0} → Writing W → Bool
+has_failed writing = writing.failed

@@ -1,0 +1,43 @@
+//! A verifier for Metamath databases.
+#![tactic(auto)]
+
+mod arguments;
+mod asking;
+mod base;
+mod building;
+mod compare;
+mod declare;
+mod entry;
+mod fault;
+mod finding;
+mod frame;
+mod judge;
+mod judgement;
+mod known;
+mod laws;
+mod machine;
+mod outcome;
+mod plain;
+mod program;
+mod report;
+mod source;
+mod statement;
+mod stream;
+mod symbol;
+mod verify;
+
+pub use arguments::Command;
+pub use asking::command;
+pub use fault::FirstError;
+pub use laws::one_answer;
+pub use outcome::{Outcome, status};
+use std::process::ExitCode;
+pub use stream::Writing;
+pub use verify::verify_one;
+
+#[cfg(test)]
+mod tests;
+
+fn main(rt: HostRuntime) -> ExitCode {
+    ExitCode::from(status(&program::run(&rt)))
+}

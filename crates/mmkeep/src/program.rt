@@ -1,0 +1,110 @@
+//! The program: the words of the command line, the file, the report and the standard error lines.
+
+ghost use Rattle.mmkeep.specs.Verified.{IsErrorIn};
+
+use crate::arguments::Command;
+use crate::asking::command;
+use crate::fault::FirstError;
+use crate::outcome::Outcome;
+use crate::stream::Writing;
+use crate::verify::verify_one;
+use mm_text::{TextNumber, place};
+use std::alloc::{AllocError, Global};
+use std::io::{BufWriter, ErrorKind, Write};
+use std::rt::{Env, Files};
+use std::{env, fs, io};
+
+/// Does what the command line asks for.
+pub fn run(rt: &(impl Env + Files + Print + Eprint + AllocGlobal)) -> Outcome {
+    let Ok(arguments) = env::args(rt) else {
+        return refuse_arguments(rt);
+    };
+    let mut words = Vec::new(rt.alloc());
+    for argument in arguments {
+        if words.push(argument).is_err() {
+            return lack_memory(rt);
+        }
+    }
+    match chosen(rt.alloc(), &words) {
+        Err(_) => lack_memory(rt),
+        Ok(None) => refuse_arguments(rt),
+        Ok(Some(Command::Verify(file))) => verify(rt, file),
+    }
+}
+
+/// The command that the words behind the program's name are.
+fn chosen(alloc: Global, arguments: &[String]) -> Result<Option<Command<'_>>, AllocError> {
+    let mut words = Vec::new(alloc);
+    for argument in arguments {
+        words.push(argument.as_str())?;
+    }
+    match words.as_slice() {
+        [_, behind @ ..] => Ok(command(behind)),
+        [] => Ok(None),
+    }
+}
+
+/// Verifies a file, and writes its report to standard output.
+fn verify(rt: &(impl Files + Print + Eprint + AllocGlobal), file: &str) -> Outcome {
+    match fs::read(rt, file) {
+        Ok(text) => verify_text(rt, file, &text),
+        Err(error) if error.kind() == ErrorKind::OutOfMemory => lack_memory(rt),
+        Err(_) => {
+            let _ = eprintln!(rt; "mmkeep: {file}: cannot be read");
+            Outcome::Input
+        }
+    }
+}
+
+fn verify_text(rt: &(impl Print + Eprint + AllocGlobal), file: &str, text: &[u8]) -> Outcome {
+    let Ok(out) = BufWriter::new(rt.alloc(), io::writer(rt)) else {
+        return lack_memory(rt);
+    };
+    let mut writing = Writing::new(out);
+    let verified = verify_one(rt.alloc(), file.as_bytes(), text, &mut writing);
+    let flushed = writing.into_inner().flush();
+    match verified {
+        Ok(_) if flushed.is_err() => fail_to_write(rt),
+        Ok(true) => Outcome::Clean,
+        Ok(false) => Outcome::Findings,
+        Err(error) => told(rt, file, text, error),
+    }
+}
+
+/// Tells why a file was not verified.
+fn told(rt: &impl Eprint, file: &str, text: &[u8], error: FirstError) -> Outcome
+    requires { IsErrorIn text.now error }
+{
+    match error {
+        FirstError::Text(fault) => {
+            let at = place(text, fault.at);
+            let (line, column) = (at.line, at.column);
+            let number = fault.number;
+            let _ = eprintln!(rt; "mmkeep: {file}:{line}:{column} {number:?}");
+            Outcome::Input
+        }
+        FirstError::Later { at } => {
+            let at = place(text, at);
+            let (line, column) = (at.line, at.column);
+            let _ = eprintln!(rt; "mmkeep: {file}:{line}:{column} not yet");
+            Outcome::Input
+        }
+        FirstError::Memory => lack_memory(rt),
+        FirstError::Write => fail_to_write(rt),
+    }
+}
+
+fn refuse_arguments(rt: &impl Eprint) -> Outcome {
+    let _ = eprintln!(rt; "mmkeep: arguments");
+    Outcome::Words
+}
+
+fn lack_memory(rt: &impl Eprint) -> Outcome {
+    let _ = eprintln!(rt; "mmkeep: out of memory");
+    Outcome::Memory
+}
+
+fn fail_to_write(rt: &impl Eprint) -> Outcome {
+    let _ = eprintln!(rt; "mmkeep: C04");
+    Outcome::Stream
+}
