@@ -110,7 +110,7 @@ fn reports_in_order(rt: HostRuntime) -> Result<(), Fail> {
 /// What is not read yet: the place of the word, or of the first word of a statement that is not sound.
 #[test]
 fn tells_what_is_not_read(rt: HostRuntime) -> Result<(), Fail> {
-    let rows: [(&[u8], u64); 30] = [
+    let rows: [(&[u8], u16); 30] = [
         (b"${ $}\n", 1),
         (b"$} $a\n", 1),
         (b"e $e wff p $.\n", 3),
@@ -144,9 +144,13 @@ fn tells_what_is_not_read(rt: HostRuntime) -> Result<(), Fail> {
     ];
     for (line, column) in rows {
         let text = with_line(&rt, line)?;
-        let at = FIVE.len() + column as usize - 1;
+        let at = FIVE.len() + usize::from(column) - 1;
         assert!(rt; at <= text.len());
-        assert_eq!(rt; place(&text, at), Place { line: 6, column });
+        let wanted = Place {
+            line: 6,
+            column: u64::from(column),
+        };
+        assert_eq!(rt; place(&text, at), wanted);
         refuses(&rt, &text, FirstError::Later { at })?;
     }
     Ok(())
