@@ -1,9 +1,9 @@
 -- What is found of the statements, one more at a time.
-use Rattle.std.proofs.Common.{◌≡◌, ℕ, zero, suc, ◌+◌, ◌<◌, Option, Some, List, [], ◌∷◌, ◌++◌, length, map, get_or, refl, sym, ◌∙◌, ap, subst, arith}
+use Rattle.std.proofs.Common.{◌≡◌, ℕ, zero, suc, ◌<◌, Some, List, [], ◌∷◌, ◌++◌, length, map, get_or, sym, ◌∙◌, ap, subst}
 use Rattle.std.specs.Prelude.{slice_get}
 use Rattle.std.proofs.lemmas.List.{get_or-map, length-map}
-use Rattle.std.proofs.lemmas.Option.{slice_get_within, slice_get-get_or, get_or_from_slice_get}
-use Rattle.mm_frame.specs.Item.{Item, passed, Theorem}
+use Rattle.std.proofs.lemmas.Option.{slice_get-get_or, get_or_from_slice_get}
+use Rattle.mm_frame.specs.Item.{Item, passed}
 use Rattle.mmkeep.specs.declared.finding.Finding.{Finding}
 use Rattle.mmkeep.specs.declared.source.Source.{Source}
 use Rattle.mmkeep.specs.declared.statement.Statement.{Statement}

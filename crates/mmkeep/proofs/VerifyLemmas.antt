@@ -1,6 +1,6 @@
 -- From what the parts of a verification answer to what it answers.
-use Rattle.std.proofs.Common.{◌≡◌, ◌≢◌, ℕ, ◌+◌, ◌<◌, ◌≤◌, List, [], ◌∷◌, ◌++◌, length, map, take, drop, get_or, All, refl, sym, ◌∙◌, ap, subst, arith, inl, inr, Some}
-use Rattle.std.specs.Prelude.{slice_get, slice_index_or, count_by, ◌==◌}
+use Rattle.std.proofs.Common.{◌≡◌, ℕ, ◌<◌, List, [], ◌∷◌, ◌++◌, length, map, get_or, refl, sym, ◌∙◌, ap, subst, arith, inl, inr, Some}
+use Rattle.std.specs.Prelude.{slice_get, count_by, ◌==◌}
 use Rattle.std.specs.List.{AllByRecursion}
 use Rattle.std.proofs.Common.{eq-eqb}
 use Rattle.std.proofs.lemmas.Bool.{eqb-true}
@@ -18,15 +18,15 @@ use Rattle.mmkeep.specs.declared.source.Source.{Source}
 use Rattle.mmkeep.specs.declared.statement.Statement.{Statement}
 use Rattle.mmkeep.specs.Inside.{AreInside}
 use Rattle.mmkeep.specs.Source.{tokens, token_at, no_token}
-use Rattle.mmkeep.specs.Statements.{AreStatements, first_token, HasUnitFault, HasUnreadWord}
+use Rattle.mmkeep.specs.Statements.{AreStatements, first_token}
 use Rattle.mm_frame.specs.Statement.{item_of, names}
 use Rattle.mmkeep.specs.Progress.{StopsReading, ReadsStatements, item_at, IsInOrder}
 use Rattle.mmkeep.specs.Meaning.{items_in}
 use Rattle.mmkeep.specs.Base.{StopsBuilding, HasUnsound, IsBase, items_of}
 use Rattle.mmkeep.specs.declared.base.Base.{Base}
-use Rattle.mmkeep.specs.Verified.{HasStatements, items_of_shapes, IsReport, IsErrorOf, IsErrorIn, IsUnsoundIn}
+use Rattle.mmkeep.specs.Verified.{items_of_shapes, IsReport, IsErrorOf, IsErrorIn, IsUnsoundIn}
 use Rattle.mmkeep.specs.declared.finding.Finding.{Finding}
-use Rattle.mmkeep.specs.Report.{AreFindings, is_wrong, lines, report}
+use Rattle.mmkeep.specs.Report.{AreFindings, is_wrong, report}
 use Rattle.mmkeep.proofs.ProgressLemmas.{there}
 use Rattle.mmkeep.proofs.ReportLemmas.{no_lines, some_line}
 

@@ -1,6 +1,6 @@
 -- What is kept of a sound statement.
-use Rattle.std.specs.Prelude.{◌≡◌, ℕ, ◌<◌, Bool, true, Option, Some, List, map, length, slice_index_or, slice_get, All}
-use Rattle.mm_frame.specs.Language.{Symbol, Mandatory, Frame}
+use Rattle.std.specs.Prelude.{◌≡◌, ℕ, ◌<◌, true, Some, List, map, length, slice_index_or, slice_get, All}
+use Rattle.mm_frame.specs.Language.{Symbol}
 use Rattle.mm_frame.specs.Item.{Item, passed, is_assertion, is_floating, is_labelled, variable_of}
 use Rattle.mm_frame.specs.Framing.{expression, hypothesis, mandatory_hypotheses}
 use Rattle.mmkeep.specs.declared.entry.Entry.{Entry}

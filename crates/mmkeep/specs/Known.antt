@@ -1,5 +1,5 @@
 -- What the statements so far declare, as the code keeps it.
-use Rattle.std.specs.Prelude.{◌≡◌, ◌&&◌, ℕ, Bool, if◌then◌else◌, Option, Some, None, List, bytes_eq, position}
+use Rattle.std.specs.Prelude.{◌≡◌, ◌&&◌, ℕ, if◌then◌else◌, Option, Some, None, List, bytes_eq, position}
 use Rattle.std.specs.HashMap.{get_by}
 use Rattle.mm_frame.specs.Item.{Item, has, labels_of, variable_of, is_floating}
 use Rattle.mm_frame.specs.Scope.{constants, variables}

@@ -1,9 +1,8 @@
 -- What the code's symbols, entries and stacks mean.
-use Rattle.std.specs.Prelude.{ℕ, Vec, Bool, true, false, List, [], map, slice_index_or}
-use Rattle.mm_frame.specs.Language.{Symbol, Mandatory, Frame}
+use Rattle.std.specs.Prelude.{List, map}
+use Rattle.mm_frame.specs.Language.{Symbol}
 use Rattle.mm_frame.specs.Item.{Item}
 use Rattle.mmkeep.specs.declared.symbol.Symbol as code
-use Rattle.mmkeep.specs.declared.entry.Entry.{Entry}
 use Rattle.mmkeep.specs.declared.statement.Statement.{Statement}
 use Rattle.mmkeep.specs.declared.source.Source.{Source}
 use Rattle.mmkeep.specs.Source.{tokens}

@@ -1,7 +1,7 @@
 -- How far the words have been read, and what a statement is read as.
 use Rattle.std.specs.Prelude.{◌≡◌, ◌≢◌, ℕ, ◌+◌, ◌<◌, ◌≤◌, true, if◌then◌else◌, Ok, Option, Some, None, List, ◌++◌, length, map, take, drop, slice_get}
 use Rattle.std.specs.List.{AllByRecursion, slice_range}
-use Rattle.mm_text.specs.declared.fault.TextNumber.TheVariants.{T06, T07, T11}
+use Rattle.mm_text.specs.declared.fault.TextNumber.TheVariants.{T06, T07}
 use Rattle.mm_text.specs.declared.word.Keyword.{Keyword}
 use Rattle.mm_text.specs.declared.word.Keyword.TheVariants.{StatementEnd, ProofStart}
 use Rattle.mm_text.specs.declared.word.Keyword.TheVariants as keywords

@@ -1,7 +1,6 @@
 -- The report of a file: a line for each theorem whose proof is wrong, and a line of counts.
-use Rattle.std.specs.Prelude.{◌≡◌, ◌↔◌, ◌+◌, ℕ, Bool, true, false, IsTrue, Option, Some, None, unwrap_or, List, [], ◌∷◌, ◌++◌, length, map, slice_get, count_by, codes, decimal}
+use Rattle.std.specs.Prelude.{◌≡◌, ◌+◌, ℕ, Bool, true, false, Some, unwrap_or, List, [], ◌∷◌, ◌++◌, length, slice_get, count_by, codes, decimal}
 use Rattle.mm_frame.specs.Item.{Kind, Axiom, Theorem, Item}
-use Rattle.mm_frame.specs.Sound.{AreSound}
 use Rattle.mmkeep.specs.declared.finding.Finding.{Finding}
 use Rattle.mmkeep.specs.declared.finding.Finding.TheVariants as findings
 use Rattle.mmkeep.specs.Proof.{IsProved}

@@ -1,6 +1,5 @@
 -- What a text and its words are to the reading of statements.
-use Rattle.std.specs.Prelude.{ℕ, Bool, true, false, List, [], slice_index_or}
-use Rattle.mm_text.specs.declared.word.WordKind.{WordKind}
+use Rattle.std.specs.Prelude.{ℕ, List, [], slice_index_or}
 use Rattle.mm_text.specs.declared.word.WordKind.TheVariants as kinds
 use Rattle.mm_text.specs.Unit.{Token, tokens_of}
 use Rattle.mmkeep.specs.declared.source.Source.{Source}

@@ -1,10 +1,7 @@
 -- The statements of a list of words, or the first word that keeps them from being read.
-use Rattle.std.specs.Prelude.{◌≡◌, ℕ, ◌<◌, true, Option, Some, None, List, [], ◌∷◌, take, map, slice_get}
+use Rattle.std.specs.Prelude.{◌≡◌, ℕ, ◌<◌, true, Some, List, take, slice_get}
 use Rattle.std.specs.List.{AllByRecursion, flat_map}
 use Rattle.mm_text.specs.declared.fault.TextFault.{TextFault}
-use Rattle.mm_text.specs.declared.word.Keyword.{Keyword}
-use Rattle.mm_text.specs.declared.word.Keyword.TheVariants.{Constants, Variables, Disjoint, Floating, Essential, Axiom}
-use Rattle.mm_text.specs.declared.word.WordKind.TheVariants as kinds
 use Rattle.mm_text.specs.Unit.{Token, Shape, Declaration, Labelled, Provable, Inclusion, IsShape, shape_tokens, IsViable, IsUnitFault}
 use Rattle.mmkeep.specs.Unread.{IsUnreadAt}
 

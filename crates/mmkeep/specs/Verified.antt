@@ -1,5 +1,5 @@
 -- What the verification of one file answers.
-use Rattle.std.specs.Prelude.{◌≡◌, ◌≢◌, ◌↔◌, ◌⊎◌, ℕ, ◌<◌, Bool, IsTrue, Result, Ok, Err, List, [], ◌∷◌, ◌++◌, length, map}
+use Rattle.std.specs.Prelude.{◌≡◌, ◌↔◌, ◌⊎◌, ℕ, ◌<◌, Bool, IsTrue, List, [], ◌∷◌, ◌++◌, length, map}
 use Rattle.mm_text.specs.declared.word.Word.{Word}
 use Rattle.mm_text.specs.declared.fault.TextFault.{TextFault}
 use Rattle.mm_text.specs.Reading.{HasWords, IsFault}
@@ -32,7 +32,7 @@ pub record IsReport (text : List ℕ) (clean : Bool) (bytes : List ℕ) : Type 0
   pub bytes_are : bytes ≡ report (items_of_shapes shapes) found
   pub clean_is : IsTrue clean ↔ (lines (items_of_shapes shapes) found ≡ [])
 
--- a fault of the text's words, or else of its units before any word that is not read yet
+-- a fault of the text's units, before which every word is read
 pub record IsFaultOfUnits (text : List ℕ) (fault : TextFault) : Type 0 where
   pub words : List Word
   pub has_words : HasWords text words

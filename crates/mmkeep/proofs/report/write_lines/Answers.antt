@@ -1,9 +1,6 @@
-use Rattle.std.proofs.Common.{◌≡◌, ◌<◌, length, get_or, List, ◌++◌, sym, arith, subst}
 use Rattle.std.proofs.KnownBytes.{Appends-trans}
-use Rattle.std.specs.Io.KnownBytes.{Appends}
 use Rattle.mm_frame.specs.Item.{passed}
 use Rattle.mmkeep.specs.Base.{items_of}
-use Rattle.mmkeep.specs.Stream.{written}
 use Rattle.mmkeep.specs.declared.finding.Finding.TheVariants.{Quiet}
 use Rattle.mmkeep.proofs.ReportLemmas.{lines_more}
 use Rattle.mmkeep.proofs.report.write_lines.Goals as goal

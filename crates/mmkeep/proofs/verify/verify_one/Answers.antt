@@ -1,13 +1,10 @@
-use Rattle.std.proofs.Common.{rules, ◌≡◌, List, length, ap, subst, sym, ◌∙◌}
+use Rattle.std.proofs.Common.{rules, List, ap, subst, ◌∙◌}
 use Rattle.std.specs.Prelude.{count_by}
 use Rattle.std.specs.Io.KnownBytes.{Appends}
 use Rattle.mmkeep.specs.declared.finding.Finding.{Finding}
 use Rattle.mmkeep.specs.Source.{tokens}
 use Rattle.mmkeep.specs.Report.{report, is_wrong}
 use Rattle.mmkeep.specs.Base.{items_of}
-use Rattle.mmkeep.specs.Meaning.{items_in}
-use Rattle.mmkeep.specs.Progress.{StopsReading}
-use Rattle.mmkeep.specs.Verified.{IsReport, IsErrorOf, IsErrorIn}
 use Rattle.mmkeep.proofs.VerifyLemmas.{source_tokens, stop_lies, build_stop_is, build_stop_lies, base_is, reads_in, is_report}
 use Rattle.mmkeep.proofs.verify.verify_one.Goals as goal
 
