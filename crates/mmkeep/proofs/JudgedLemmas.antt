@@ -34,10 +34,10 @@ label_there names s label kinds.Floating t g = g
 label_there names s label kinds.Axiom t g = g
 label_there names s label kinds.Theorem t g = g
 
-pub labelled_item : (names : List (List ℕ)) (s : Statement) (label : List ℕ) → is_labelled (kind_of s.kind) ≡ true → slice_get names s.first ≡ Some label → labelled (kind_of s.kind) label (slice_range names s.symbols s.close) (slice_range names (s.close + 1) s.end) ≡ item_at names s
+pub labelled_item : (names : List (List ℕ)) (s : Statement) (label : List ℕ) → is_labelled (kind_of s.kind) ≡ true → slice_get names s.first ≡ Some label → labelled (kind_of s.kind) label (slice_range names s.symbols s.close) (slice_range names s.proof s.end) ≡ item_at names s
 labelled_item names s label t g =
     let e = label_there names s label s.kind t g in
-    λ i. record { kind = kind_of s.kind; label = sym e i; symbols = slice_range names s.symbols s.close; proof = slice_range names (s.close + 1) s.end }
+    λ i. record { kind = kind_of s.kind; label = sym e i; symbols = slice_range names s.symbols s.close; proof = slice_range names s.proof s.end }
 
 no_label_there : (names : List (List ℕ)) (s : Statement) (k : StatementKind) → is_declaring (kind_of k) ≡ true → label_at names s k ≡ None
 no_label_there names s kinds.Constants t = refl
@@ -46,10 +46,10 @@ no_label_there names s kinds.Floating t = absurd (false≢true t)
 no_label_there names s kinds.Axiom t = absurd (false≢true t)
 no_label_there names s kinds.Theorem t = absurd (false≢true t)
 
-pub declaring_item : (names : List (List ℕ)) (s : Statement) → is_declaring (kind_of s.kind) ≡ true → declaring (kind_of s.kind) (slice_range names s.symbols s.close) (slice_range names (s.close + 1) s.end) ≡ item_at names s
+pub declaring_item : (names : List (List ℕ)) (s : Statement) → is_declaring (kind_of s.kind) ≡ true → declaring (kind_of s.kind) (slice_range names s.symbols s.close) (slice_range names s.proof s.end) ≡ item_at names s
 declaring_item names s t =
     let e = no_label_there names s s.kind t in
-    λ i. record { kind = kind_of s.kind; label = sym e i; symbols = slice_range names s.symbols s.close; proof = slice_range names (s.close + 1) s.end }
+    λ i. record { kind = kind_of s.kind; label = sym e i; symbols = slice_range names s.symbols s.close; proof = slice_range names s.proof s.end }
 
 -- what is known behind an assertion
 not_constants : (k : Kind) → is_assertion k ≡ true → is_constants k ≡ false

@@ -79,26 +79,26 @@ derives_reaches place labels statement =
     some_same e = cc
 
 -- the labels of a statement are its words
-pub proof_at : (words : List Token) (items : List Item) (statements : List Statement) (n w k : ℕ) (s : Statement) → items ≡ map (item_at (names words)) statements → slice_get statements n ≡ Some s → w ≡ (s.close + 1) + k → w < s.end → s.end < length words → slice_get (map Named (get_or items n passed).proof) k ≡ Some (Named (token_at words w).bytes)
+pub proof_at : (words : List Token) (items : List Item) (statements : List Statement) (n w k : ℕ) (s : Statement) → items ≡ map (item_at (names words)) statements → slice_get statements n ≡ Some s → w ≡ s.proof + k → w < s.end → s.end < length words → slice_get (map Named (get_or items n passed).proof) k ≡ Some (Named (token_at words w).bytes)
 proof_at words items statements n w k s is e low high within =
     let item : get_or items n passed ≡ item_at (names words) s = get_or_from_slice_get items n (item_at (names words) s) passed (ap (λ i. slice_get i n) is ∙ slice_get-map (item_at (names words)) statements n ∙ ap (option_map (item_at (names words))) e) in
-    let proof = slice_range (names words) (s.close + 1) s.end in
+    let proof = slice_range (names words) s.proof s.end in
     let long : length (names words) ≡ length words = length-map words (λ (t : Token). t.bytes) in
     let word : get_or proof k [] ≡ (token_at words w).bytes =
-    get_or-take (s.end - (s.close + 1)) (drop (s.close + 1) (names words)) k [] (omega arith)
-    ∙ get_or-drop (s.close + 1) (names words) k []
+    get_or-take (s.end - s.proof) (drop s.proof (names words)) k [] (omega arith)
+    ∙ get_or-drop s.proof (names words) k []
     ∙ ap (λ i. get_or (names words) i []) (sym low)
     ∙ get_or-map (λ (t : Token). t.bytes) words w no_token [] (omega arith) in
     slice_get-map Named (get_or items n passed).proof k
     ∙ ap (λ (i : Item). option_map Named (slice_get i.proof k)) item
-    ∙ ap (option_map Named) (slice_get-get_or proof k [] (omega (arith, length-take (s.end - (s.close + 1)) (drop (s.close + 1) (names words)), length-drop (s.close + 1) (names words))) ∙ ap Some word)
+    ∙ ap (option_map Named) (slice_get-get_or proof k [] (omega (arith, length-take (s.end - s.proof) (drop s.proof (names words)), length-drop s.proof (names words))) ∙ ap Some word)
 
-pub proof_length : (words : List Token) (items : List Item) (statements : List Statement) (n : ℕ) (s : Statement) → items ≡ map (item_at (names words)) statements → slice_get statements n ≡ Some s → length (map Named (get_or items n passed).proof) ≤ s.end - (s.close + 1)
+pub proof_length : (words : List Token) (items : List Item) (statements : List Statement) (n : ℕ) (s : Statement) → items ≡ map (item_at (names words)) statements → slice_get statements n ≡ Some s → length (map Named (get_or items n passed).proof) ≤ s.end - s.proof
 proof_length words items statements n s is e =
     let item : get_or items n passed ≡ item_at (names words) s = get_or_from_slice_get items n (item_at (names words) s) passed (ap (λ i. slice_get i n) is ∙ slice_get-map (item_at (names words)) statements n ∙ ap (option_map (item_at (names words))) e) in
-    let proof = slice_range (names words) (s.close + 1) s.end in
+    let proof = slice_range (names words) s.proof s.end in
     let l : length (get_or items n passed).proof ≡ length proof = ap (λ (i : Item). length i.proof) item in
-    omega (arith, length-map (get_or items n passed).proof Named, length-take (s.end - (s.close + 1)) (drop (s.close + 1) (names words)))
+    omega (arith, length-map (get_or items n passed).proof Named, length-take (s.end - s.proof) (drop s.proof (names words)))
 
 -- a statement by its number
 pub statement_at : (source : Source) (statements : List Statement) (n : ℕ) (d : Statement) → AllByRecursion (IsInOrder (tokens source)) statements → IsTheorem (items_in source statements) n → d ≡ get_or statements n d → (n < length statements) × (slice_get statements n ≡ Some d) × IsInOrder (tokens source) d
@@ -108,17 +108,17 @@ statement_at source statements n d order t is =
     (l, slice_get_read statements (length statements) n d refl l is, subst (IsInOrder (tokens source)) (sym is) (All-from_recursion (IsInOrder (tokens source)) statements order n d l))
 
 -- the step that a word of a proof is
-pub step_at : (source : Source) (statements : List Statement) (n : ℕ) (d : Statement) (before : ℕ) (label : List ℕ) → AllByRecursion (IsInOrder (tokens source)) statements → IsTheorem (items_in source statements) n → d ≡ get_or statements n d → d.close ≤ before → before < d.end - 1 → label ≡ (token_at (tokens source) (before + 1)).bytes → slice_get (steps_of (items_in source statements) n) (before - d.close) ≡ Some (Named label)
-step_at source statements n d before label order t is low high e =
+pub step_at : (source : Source) (statements : List Statement) (n : ℕ) (d : Statement) (word : ℕ) (label : List ℕ) → AllByRecursion (IsInOrder (tokens source)) statements → IsTheorem (items_in source statements) n → d ≡ get_or statements n d → d.proof ≤ word → word < d.end → label ≡ (token_at (tokens source) word).bytes → slice_get (steps_of (items_in source statements) n) (word - d.proof) ≡ Some (Named label)
+step_at source statements n d word label order t is low high e =
     let s = statement_at source statements n d order t is in
-    proof_at (tokens source) (items_in source statements) statements n (before + 1) (before - d.close) d refl s.1 (omega arith) (omega arith) s.2.end ∙ ap (λ w. Some (Named w)) (sym e)
+    proof_at (tokens source) (items_in source statements) statements n word (word - d.proof) d refl s.1 (omega arith) high s.2.end ∙ ap (λ w. Some (Named w)) (sym e)
 
 -- all steps, once the words are passed
-pub all_steps : (source : Source) (statements : List Statement) (n : ℕ) (d : Statement) (before : ℕ) → AllByRecursion (IsInOrder (tokens source)) statements → IsTheorem (items_in source statements) n → d ≡ get_or statements n d → d.end - 1 ≤ before → take (before - d.close) (steps_of (items_in source statements) n) ≡ steps_of (items_in source statements) n
-all_steps source statements n d before order t is high =
+pub all_steps : (source : Source) (statements : List Statement) (n : ℕ) (d : Statement) (word : ℕ) → AllByRecursion (IsInOrder (tokens source)) statements → IsTheorem (items_in source statements) n → d ≡ get_or statements n d → d.end ≤ word → take (word - d.proof) (steps_of (items_in source statements) n) ≡ steps_of (items_in source statements) n
+all_steps source statements n d word order t is high =
     let s = statement_at source statements n d order t is in
     let l = proof_length (tokens source) (items_in source statements) statements n d refl s.1 in
-    take_all (before - d.close) (steps_of (items_in source statements) n) (omega arith)
+    take_all (word - d.proof) (steps_of (items_in source statements) n) (omega arith)
 
 -- a theorem's statement, as it is kept
 pub statement_kept : (items : List Item) (base : Base) (n : ℕ) (d : Entry) → IsBase items base → IsTheorem items n → d ≡ get_or base.entries.items n d → symbols_of d.expression.items ≡ statement_of items n

@@ -27,8 +27,8 @@ use Rattle.mmkeep.proofs.ProgressLemmas.{there, reaches_keyword, reaches_plain, 
 pub names_range : (tokens : List Token) (from end : ℕ) → names (slice_range tokens from end) ≡ slice_range (names tokens) from end
 names_range tokens from end = sym (ap (take (end - from)) (drop-map (λ (t : Token). t.bytes) from tokens) ∙ take-map (λ (t : Token). t.bytes) (end - from) (drop from tokens))
 
-pub no_range : (xs : List (List ℕ)) (n : ℕ) → [] ≡ slice_range xs (n + 1) n
-no_range xs n = let none : 0 ≡ n - (n + 1) = omega arith in ap (λ (k : ℕ). take k (drop (n + 1) xs)) none
+pub no_range : (xs : List (List ℕ)) (n : ℕ) → [] ≡ slice_range xs n n
+no_range xs n = let none : 0 ≡ n - n = omega arith in ap (λ (k : ℕ). take k (drop n xs)) none
 
 pub name_at : (tokens : List Token) (word : ℕ) → word < length tokens → Some (token_at tokens word).bytes ≡ slice_get (names tokens) word
 name_at tokens word l = sym (slice_get-map (λ (t : Token). t.bytes) tokens word ∙ ap (option_map (λ (t : Token). t.bytes)) (there tokens word l))
@@ -187,7 +187,7 @@ declares (kinds.Keyword keywords.Variables) kind texts s e = record { is = inr (
 declares _ kind texts s e = absurd e
 
 pub declaration_begins : (tokens : List Token) (first : ℕ) (kind : StatementKind) (close : ℕ) → first < length tokens → IsDeclarationOf (token_at tokens first).kind kind → ClosesSymbols tokens keywords.StatementEnd first (first + 1) close
-    → BeginsWithStatement tokens first (record { kind = kind; first = first; symbols = first + 1; close = close; end = close })
+    → BeginsWithStatement tokens first (record { kind = kind; first = first; symbols = first + 1; close = close; proof = close; end = close })
 declaration_begins tokens first kind close l is h = record {
   shape = Declaration (token_at tokens first) (slice_range tokens (first + 1) close) (token_at tokens close);
   is_shape = (d.is, h.plain, h.keyword);
@@ -195,11 +195,11 @@ declaration_begins tokens first kind close l is h = record {
   says = λ i. record { kind = d.same i; label = d.label i; symbols = names_range tokens (first + 1) close i; proof = no_range (names tokens) close i };
   begins = refl;
   from = refl;
-  order = record { behind_first = omega arith; symbols = h.order; close = omega arith; end = h.within };
+  order = record { behind_first = omega arith; symbols = h.order; close = omega arith; proof = omega arith; end = h.within };
   next = may_begin_behind tokens first (first + 1) close h;
 } where
-  d : Declares (token_at tokens first).kind kind (names tokens) (record { kind = kind; first = first; symbols = first + 1; close = close; end = close })
-  d = declares (token_at tokens first).kind kind (names tokens) (record { kind = kind; first = first; symbols = first + 1; close = close; end = close }) is
+  d : Declares (token_at tokens first).kind kind (names tokens) (record { kind = kind; first = first; symbols = first + 1; close = close; proof = close; end = close })
+  d = declares (token_at tokens first).kind kind (names tokens) (record { kind = kind; first = first; symbols = first + 1; close = close; proof = close; end = close }) is
 
 record Labels (word : WordKind) (kind : StatementKind) (texts : List (List ℕ)) (s : Statement) : Type 0 where
   pub is : (word ≡ kinds.Keyword keywords.Floating) ⊎ ((word ≡ kinds.Keyword keywords.Essential) ⊎ (word ≡ kinds.Keyword keywords.Axiom))
@@ -218,7 +218,7 @@ drop_labelled tokens first l =
     drop_token tokens first (omega arith) ∙ ap (λ (ts : List Token). token_at tokens first ∷ ts) (drop_token tokens (first + 1) l ∙ ap (λ (n : ℕ). token_at tokens (first + 1) ∷ drop n tokens) two)
 
 pub labelled_begins : (tokens : List Token) (first : ℕ) (kind : StatementKind) (close : ℕ) → HasLabel tokens first → first + 1 < length tokens → IsLabelledOf (token_at tokens (first + 1)).kind kind → ClosesSymbols tokens keywords.StatementEnd first (first + 2) close
-    → BeginsWithStatement tokens first (record { kind = kind; first = first; symbols = first + 2; close = close; end = close })
+    → BeginsWithStatement tokens first (record { kind = kind; first = first; symbols = first + 2; close = close; proof = close; end = close })
 labelled_begins tokens first kind close label l is h = record {
   shape = Labelled (token_at tokens first) (token_at tokens (first + 1)) (slice_range tokens (first + 2) close) (token_at tokens close);
   is_shape = (label.label, d.is, h.plain, h.keyword);
@@ -226,14 +226,14 @@ labelled_begins tokens first kind close label l is h = record {
   says = λ i. record { kind = d.same i; label = (name_at tokens first (omega arith) ∙ d.label) i; symbols = names_range tokens (first + 2) close i; proof = no_range (names tokens) close i };
   begins = refl;
   from = refl;
-  order = record { behind_first = omega arith; symbols = h.order; close = omega arith; end = h.within };
+  order = record { behind_first = omega arith; symbols = h.order; close = omega arith; proof = omega arith; end = h.within };
   next = may_begin_behind tokens first (first + 2) close h;
 } where
-  d : Labels (token_at tokens (first + 1)).kind kind (names tokens) (record { kind = kind; first = first; symbols = first + 2; close = close; end = close })
-  d = labels (token_at tokens (first + 1)).kind kind (names tokens) (record { kind = kind; first = first; symbols = first + 2; close = close; end = close }) is
+  d : Labels (token_at tokens (first + 1)).kind kind (names tokens) (record { kind = kind; first = first; symbols = first + 2; close = close; proof = close; end = close })
+  d = labels (token_at tokens (first + 1)).kind kind (names tokens) (record { kind = kind; first = first; symbols = first + 2; close = close; proof = close; end = close }) is
 
 pub theorem_begins : (tokens : List Token) (first close end : ℕ) → HasLabel tokens first → first + 1 < length tokens → (token_at tokens (first + 1)).kind ≡ kinds.Keyword keywords.Theorem → ClosesSymbols tokens keywords.ProofStart first (first + 2) close
-    → ClosesProof tokens (close + 1) end → BeginsWithStatement tokens first (record { kind = Theorem; first = first; symbols = first + 2; close = close; end = end })
+    → ClosesProof tokens (close + 1) end → BeginsWithStatement tokens first (record { kind = Theorem; first = first; symbols = first + 2; close = close; proof = close + 1; end = end })
 theorem_begins tokens first close end label l is h p = record {
   shape = Provable (token_at tokens first) (token_at tokens (first + 1)) (slice_range tokens (first + 2) close) (token_at tokens close) (slice_range tokens (close + 1) end) (token_at tokens end);
   is_shape = (label.label, is, h.plain, h.keyword, p.plain, p.keyword);
@@ -243,6 +243,6 @@ theorem_begins tokens first close end label l is h p = record {
   says = λ i. record { kind = ap kind_of_word is i; label = name_at tokens first (omega arith) i; symbols = names_range tokens (first + 2) close i; proof = names_range tokens (close + 1) end i };
   begins = refl;
   from = refl;
-  order = record { behind_first = omega arith; symbols = h.order; close = let order : close + 1 ≤ end = p.order in omega arith; end = p.within };
+  order = record { behind_first = omega arith; symbols = h.order; close = omega arith; proof = p.order; end = p.within };
   next = p.begins;
 }

@@ -121,7 +121,7 @@ pub build_stop_lies : (text : List ℕ) (words : List Word) (source : Source) �
 build_stop_lies text words source h e statements (Text fault) reads s = absurd s
 build_stop_lies text words source h e statements (Later at) reads s =
     let order = in_order (tokens source) s.front s.statement s.back (subst (AllByRecursion (IsInOrder (tokens source))) s.joined reads.order) in
-    let l : s.statement.first < length (tokens source) = omega (arith, order.behind_first, order.symbols, order.close, order.end) in
+    let l : s.statement.first < length (tokens source) = omega (arith, order.behind_first, order.symbols, order.close, order.proof, order.end) in
     let place = token_lies text words h s.statement.first (token_at (tokens source) s.statement.first) (subst (λ (ts : List Token). slice_get ts s.statement.first ≡ Some (token_at (tokens source) s.statement.first)) e (there (tokens source) s.statement.first l)) in
     subst (λ (n : ℕ). n < length text) (sym s.place) place
 build_stop_lies text words source h e statements Memory reads s = tt

@@ -105,14 +105,15 @@ item_at names s = record {
   kind = kind_of s.kind;
   label = label_at names s s.kind;
   symbols = slice_range names s.symbols s.close;
-  proof = slice_range names (s.close + 1) s.end;
+  proof = slice_range names s.proof s.end;
 }
 
 -- the numbers of a statement's words are in order, and in the text
 pub record IsInOrder (tokens : List Token) (s : Statement) : Type 0 where
   pub behind_first : s.first < s.symbols
   pub symbols : s.symbols ≤ s.close
-  pub close : s.close ≤ s.end
+  pub close : s.close ≤ s.proof
+  pub proof : s.proof ≤ s.end
   pub end : s.end < length tokens
 
 -- the words from a place on begin with this statement

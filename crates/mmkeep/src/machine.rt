@@ -166,10 +166,8 @@ fn run<'a>(
 {
     let statement = base.statements[number];
     let mut stack = Vec::new(alloc);
-    // The labels stand behind the `$=` and before the `$.`.
-    for before in statement.close..statement.end - 1 {
-        let label = base.source.bytes(before + 1);
-        if !step(alloc, base, number, label, &mut stack)? {
+    for word in statement.proof..statement.end {
+        if !step(alloc, base, number, base.source.bytes(word), &mut stack)? {
             return Ok(None);
         }
     }

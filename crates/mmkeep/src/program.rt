@@ -16,16 +16,22 @@ use std::{env, fs, io};
 
 /// Does what the command line asks for.
 pub fn run(rt: &(impl Env + Files + Print + Eprint + AllocGlobal)) -> Outcome {
-    let Ok(arguments) = env::args(rt) else {
-        return refuse_arguments(rt);
-    };
-    let mut words = Vec::new(rt.alloc());
-    for argument in arguments {
-        if words.push(argument).is_err() {
-            return lack_memory(rt);
-        }
+    match given(rt) {
+        Ok(arguments) => asked(rt, &arguments),
+        Err(error) if error.kind() == ErrorKind::OutOfMemory => lack_memory(rt),
+        // Some word is no text.
+        Err(_) => refuse_arguments(rt),
     }
-    match chosen(rt.alloc(), &words) {
+}
+
+/// The words of the command line, of which the first is the program's name.
+fn given(rt: &(impl Env + AllocGlobal)) -> io::Result<Vec<String>> {
+    Ok(env::args(rt)?.collect(rt.alloc())?)
+}
+
+/// Does what these words ask for.
+fn asked(rt: &(impl Files + Print + Eprint + AllocGlobal), arguments: &[String]) -> Outcome {
+    match chosen(rt.alloc(), arguments) {
         Err(_) => lack_memory(rt),
         Ok(None) => refuse_arguments(rt),
         Ok(Some(Command::Verify(file))) => verify(rt, file),

@@ -33,6 +33,8 @@ pub struct Statement {
     pub symbols: usize,
     /// What closes its symbols: `$=` of a theorem, else `$.`.
     pub close: usize,
+    /// The first label of its proof, or its `$.` where there is none.
+    pub proof: usize,
     /// Its `$.`.
     pub end: usize,
 }
@@ -148,6 +150,7 @@ fn declaration(source: &Source, first: usize, kind: StatementKind) -> Result<Sta
         first,
         symbols: first + 1,
         close,
+        proof: close,
         end: close,
     })
 }
@@ -166,6 +169,7 @@ fn labelled(source: &Source, first: usize, kind: StatementKind) -> Result<Statem
         first,
         symbols: first + 2,
         close,
+        proof: close,
         end: close,
     })
 }
@@ -185,6 +189,7 @@ fn theorem(source: &Source, first: usize) -> Result<Statement, FirstError>
         first,
         symbols: first + 2,
         close,
+        proof: close + 1,
         end,
     })
 }

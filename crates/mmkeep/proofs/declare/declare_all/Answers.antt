@@ -16,7 +16,7 @@ returns-then-statement c =
     let same = declaring_item ns s (is_declaring_kind s.kind c.args.declared c.requires.kind) in
     let count : length (slice_range ns s.symbols s.close) ≡ s.close - s.symbols = symbol_count (tokens c.args.source.now) s.symbols s.close c.requires.order.symbols (omega arith) in
     subst (λ (w : Item). JudgesSound c.args.known.now w false c.args.known.now) same
-    (judged_empty s.kind c.args.declared c.args.known.now c.args.known.now (slice_range ns s.symbols s.close) (slice_range ns (s.close + 1) s.end) c.requires.kind (omega arith))
+    (judged_empty s.kind c.args.declared c.args.known.now c.args.known.now (slice_range ns s.symbols s.close) (slice_range ns s.proof s.end) c.requires.kind (omega arith))
 
 pub returns-then-not-is_free : goal.returns-then-not-is_free
 returns-then-not-is_free c =
@@ -25,7 +25,7 @@ returns-then-not-is_free c =
     let same = declaring_item ns s (is_declaring_kind s.kind c.args.declared c.requires.kind) in
     let n = c.loop-word.word - s.symbols in
     subst (λ (w : Item). JudgesSound c.args.known.now w false c.loop-word.known) same
-    (judged_taken s.kind c.args.declared c.args.known.now c.loop-word.known c.loop-word.known (slice_range ns s.symbols s.close) (slice_range ns (s.close + 1) s.end) n c.bytes-name.result.now c.requires.kind c.loop-word.invariant
+    (judged_taken s.kind c.args.declared c.args.known.now c.loop-word.known c.loop-word.known (slice_range ns s.symbols s.close) (slice_range ns s.proof s.end) n c.bytes-name.result.now c.requires.kind c.loop-word.invariant
     (symbol_there (tokens c.args.source.now) s.symbols s.close n c.loop-word.word (omega arith) (omega arith) (omega arith) ∙ ap Some (sym c.bytes-name.ensures))
     (λ free. false≢true (c.if-not-is_free.ensures.1 free)))
 
@@ -45,4 +45,4 @@ returns c =
     let same = declaring_item ns s (is_declaring_kind s.kind c.args.declared c.requires.kind) in
     let count : length (slice_range ns s.symbols s.close) ≡ s.close - s.symbols = symbol_count (tokens c.args.source.now) s.symbols s.close c.requires.order.symbols (omega arith) in
     subst (λ (w : Item). JudgesSound c.args.known.now w true c.loop-word.known) same
-    (judged_new s.kind c.args.declared c.args.known.now c.loop-word.known (slice_range ns s.symbols s.close) (slice_range ns (s.close + 1) s.end) (c.loop-word.word - s.symbols) c.requires.kind c.loop-word.invariant (omega arith) (ne_eqb (length (slice_range ns s.symbols s.close)) 0 (λ e. c.if-statement.false (omega arith))))
+    (judged_new s.kind c.args.declared c.args.known.now c.loop-word.known (slice_range ns s.symbols s.close) (slice_range ns s.proof s.end) (c.loop-word.word - s.symbols) c.requires.kind c.loop-word.invariant (omega arith) (ne_eqb (length (slice_range ns s.symbols s.close)) 0 (λ e. c.if-statement.false (omega arith))))

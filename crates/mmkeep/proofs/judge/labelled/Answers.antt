@@ -14,7 +14,7 @@ returns-then-not-is_free c =
     let ns = names (tokens c.args.source.now) in
     let same = labelled_item ns s c.bytes-label.result.now c.requires.kind (name_there (tokens c.args.source.now) s.first (omega arith) ∙ ap Some (sym c.bytes-label.ensures)) in
     subst (λ (w : Item). JudgesEntry c.args.known.now w c.args.number None c.args.known.now) same
-    (judged_label s.kind c.args.known.now c.args.known.now c.bytes-label.result.now (slice_range ns s.symbols s.close) (slice_range ns (s.close + 1) s.end) c.args.number c.requires.kind (λ n. false≢true (c.if-not-is_free.ensures.1 n)))
+    (judged_label s.kind c.args.known.now c.args.known.now c.bytes-label.result.now (slice_range ns s.symbols s.close) (slice_range ns s.proof s.end) c.args.number c.requires.kind (λ n. false≢true (c.if-not-is_free.ensures.1 n)))
 
 pub returns : goal.returns
 returns c =
@@ -23,4 +23,4 @@ returns c =
     let same = labelled_item ns s c.bytes-label.result.now c.requires.kind (name_there (tokens c.args.source.now) s.first (omega arith) ∙ ap Some (sym c.bytes-label.ensures)) in
     let free = c.if-not-is_free.ensures.0 refl in
     subst (λ (w : Item). JudgesEntry c.args.known.now w c.args.number c.in_ok-entry.entry c.carry.new.self) same
-    (judged_labelled s.kind c.args.known.now c.body.new.known c.carry.new.self c.bytes-label.result.now (slice_range ns s.symbols s.close) (slice_range ns (s.close + 1) s.end) c.args.number c.in_ok-entry.entry c.requires.kind free.0 free.1 c.in_ok-entry.ensures c.in_ok-carry.ensures)
+    (judged_labelled s.kind c.args.known.now c.body.new.known c.carry.new.self c.bytes-label.result.now (slice_range ns s.symbols s.close) (slice_range ns s.proof s.end) c.args.number c.in_ok-entry.entry c.requires.kind free.0 free.1 c.in_ok-entry.ensures c.in_ok-carry.ensures)

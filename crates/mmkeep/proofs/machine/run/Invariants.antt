@@ -6,5 +6,5 @@ use Rattle.mmkeep.specs.Stack.{stack_of}
 use Rattle.mmkeep.specs.Proof.{steps_of}
 use Rattle.mmkeep.proofs.machine.run.Given as goal
 
-abbrev pub invariant-loop-before : goal.invariant-loop-before
-invariant-loop-before l = Follows (place_of (items_of l.base) l.number) (take (l.before - l.initial.before) (steps_of (items_of l.base) l.number)) (record { stack = stack_of l.stack.items; saved = [] })
+abbrev pub invariant-loop-word : goal.invariant-loop-word
+invariant-loop-word l = Follows (place_of (items_of l.base) l.number) (take (l.word - l.initial.word) (steps_of (items_of l.base) l.number)) (record { stack = stack_of l.stack.items; saved = [] })
