@@ -69,7 +69,7 @@ gap_skip at (b ∷ gap) rest h =
 made : ℕ → List ℕ → Run
 made at bytes = record { start = at; bytes = bytes }
 
-front_step : (at b : ℕ) (bytes : List ℕ) → is_white b ≡ false → ends_run bytes ≡ false → runs_from at (b ∷ bytes) ≡ with_front at b (runs_from (at + 1) bytes)
+pub front_step : (at b : ℕ) (bytes : List ℕ) → is_white b ≡ false → ends_run bytes ≡ false → runs_from at (b ∷ bytes) ≡ with_front at b (runs_from (at + 1) bytes)
 front_step at b bytes solid on = rw (solid, on) refl
 
 run_take : (at b : ℕ) (bytes later : List ℕ) → is_white b ≡ false → AllByRecursion (λ b. is_white b ≡ false) bytes → ends_run later ≡ true → runs_from at (b ∷ (bytes ++ later)) ≡ made at (b ∷ bytes) ∷ runs_from (at + length (b ∷ bytes)) later

@@ -11,3 +11,12 @@ pub mod UnitScanLemmas
 pub mod UnitDivisionLemmas
 pub mod LayoutLemmas
 pub mod PositionLemmas
+pub mod ReaderLemmas
+pub mod PieceLemmas
+pub mod GrammarLemmas
+pub mod PieceUnitLemmas
+pub mod CutLemmas
+pub mod CutStepLemmas
+pub mod CutLawLemmas
+pub mod CutWalkLemmas
+pub mod PartLemmas

@@ -12,7 +12,7 @@ use Rattle.mm_text.proofs.ReadingLemmas.{read_words}
 abbrev pub Left : List ℕ → ℕ → ℕ → Read → Type 0
 Left text left n r = (words : List Word) → HasWords text words → (rest : List Word) × (r ≡ Ok rest) × (slice_get rest left ≡ slice_get words n)
 
-first_word : (old new : Read) (word : Word) (rest : List Word) → old ≡ cons_word word new → old ≡ Ok rest → (more : List Word) × (rest ≡ word ∷ more) × (new ≡ Ok more)
+pub first_word : (old new : Read) (word : Word) (rest : List Word) → old ≡ cons_word word new → old ≡ Ok rest → (more : List Word) × (rest ≡ word ∷ more) × (new ≡ Ok more)
 first_word old (Ok more) word rest e is = (more, cc, refl)
 first_word old (Err fault) word rest e is = absurd cc
 

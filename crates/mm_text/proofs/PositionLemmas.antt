@@ -23,14 +23,14 @@ use Rattle.mm_text.proofs.LayoutLemmas.{laid_out}
 -- ---- runs
 
 -- a run stands in the text, at a place or behind it
-record Stands (text : List ℕ) (at : ℕ) (run : Run) : Type 0 where
-  behind : at ≤ run.start
-  some : 0 < length run.bytes
-  within : run.start + length run.bytes ≤ length text
-  bytes_are : slice_range text run.start (run.start + length run.bytes) ≡ run.bytes
+pub record Stands (text : List ℕ) (at : ℕ) (run : Run) : Type 0 where
+  pub behind : at ≤ run.start
+  pub some : 0 < length run.bytes
+  pub within : run.start + length run.bytes ≤ length text
+  pub bytes_are : slice_range text run.start (run.start + length run.bytes) ≡ run.bytes
 
 -- the runs stand in the text one behind the other, with a gap between them
-abbrev Standing : List ℕ → ℕ → List Run → Type 0
+abbrev pub Standing : List ℕ → ℕ → List Run → Type 0
 Standing text at [] = Unit {0}
 Standing text at (run ∷ runs) = Stands text at run × Standing text (run.start + length run.bytes + 1) runs
 
@@ -41,7 +41,7 @@ at_or_before text low at (run ∷ runs) le h =
     (record { behind = omega (arith, h.0.behind, lower); some = h.0.some; within = h.0.within; bytes_are = h.0.bytes_are }, h.1)
 
 -- runs in front are left out
-skip : (text : List ℕ) (at : ℕ) (front later : List Run) → Standing text at (front ++ later) → Standing text at later
+pub skip : (text : List ℕ) (at : ℕ) (front later : List Run) → Standing text at (front ++ later) → Standing text at later
 skip text at [] later h = h
 skip text at (run ∷ front) later h =
     at_or_before text at (run.start + length run.bytes + 1) later (λ x. omega (arith, h.0.behind)) (skip text (run.start + length run.bytes + 1) front later h.1)
@@ -63,7 +63,7 @@ part_of front bytes later from to from_is to_is =
     ap (λ (k : ℕ). take k (drop from (front ++ (bytes ++ later)))) len ∙ ap (λ (k : ℕ). take (length bytes) (drop k (front ++ (bytes ++ later)))) from_is
     ∙ ap (take (length bytes)) (drop-append_seam front (bytes ++ later)) ∙ take-append_seam bytes later
 
-runs_stand : (text front bytes : List ℕ) (at : ℕ) (runs : List Run) → text ≡ front ++ bytes → at ≡ length front → IsLaidOut at bytes runs → Standing text at runs
+pub runs_stand : (text front bytes : List ℕ) (at : ℕ) (runs : List Run) → text ≡ front ++ bytes → at ≡ length front → IsLaidOut at bytes runs → Standing text at runs
 runs_stand text front bytes at [] joined place h = tt
 runs_stand text front bytes at (run ∷ runs) joined place h =
     let before = front ++ h.gap in
@@ -84,7 +84,7 @@ runs_stand text front bytes at (run ∷ runs) joined place h =
 -- ---- words
 
 -- the words lie in the text one behind the other, from a place on
-abbrev Lying : List ℕ → ℕ → List Word → Type 0
+abbrev pub Lying : List ℕ → ℕ → List Word → Type 0
 Lying text at [] = Unit {0}
 Lying text at (word ∷ words) = (at ≤ word.start) × LiesIn text word × Lying text (word.end + 1) words
 
@@ -97,7 +97,7 @@ word_lies text at run word is h =
       spelled = subst (IsSpelled word.kind) (sym (from ∙ h.bytes_are)) is.kind;
     }
 
-parts_lie : (text : List ℕ) (at : ℕ) (parts : List Part) → AllByRecursion IsPart parts → Standing text at (flat_map part_runs parts) → Lying text at (flat_map part_words parts)
+pub parts_lie : (text : List ℕ) (at : ℕ) (parts : List Part) → AllByRecursion IsPart parts → Standing text at (flat_map part_runs parts) → Lying text at (flat_map part_words parts)
 parts_lie text at [] each h = tt
 parts_lie text at (Single run word ∷ parts) each h = (
   omega (arith, each.0.start, h.0.behind),
@@ -120,7 +120,7 @@ all_rise text at [] h = λ i j d lt within. absurd (omega (arith, within))
 all_rise text at (word ∷ words) h =
     AllPairs-cons (λ (earlier later : Word). earlier.end < later.start) word words (all_behind text word.end (word.end + 1) words (omega arith) h.2) (all_rise text (word.end + 1) words h.2)
 
-words_lie : (text : List ℕ) (words : List Word) → HasWords text words → Lying text 0 words
+pub words_lie : (text : List ℕ) (words : List Word) → HasWords text words → Lying text 0 words
 words_lie text words h =
     let standing : Standing text 0 (runs text) = runs_stand text [] text 0 (runs text) refl refl (laid_out 0 text) in
     subst (Lying text 0) h.words_are.singles (parts_lie text 0 h.words_are.parts h.words_are.reading.each (subst (Standing text 0) (sym h.words_are.reading.joined) standing))
@@ -155,14 +155,14 @@ allowed_below b e =
       | inr printable ↦ let le : b ≤ 126 = leb-true b 126 (and_parts (nat_le 33 b) (nat_le b 126) printable).1 in omega (arith, le)
     ]
 
-none_bad : (text : List ℕ) → first_bad text ≡ None → length text ≤ position_or_len (λ b. not (is_allowed b)) text
+pub none_bad : (text : List ℕ) → first_bad text ≡ None → length text ≤ position_or_len (λ b. not (is_allowed b)) text
 none_bad text e =
     elim (cases_Bool (nat_lt (position_or_len (λ b. not (is_allowed b)) text) (length text))) [
       | inl found ↦ absurd (let some = rw found at e in cc)
       | inr none ↦ ltb-false (position_or_len (λ b. not (is_allowed b)) text) (length text) none
     ]
 
-passes : (b : Bool) → not b ≡ false → b ≡ true
+pub passes : (b : Bool) → not b ≡ false → b ≡ true
 passes true e = refl
 passes false e = absurd cc
 

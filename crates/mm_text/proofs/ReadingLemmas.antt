@@ -18,28 +18,28 @@ use Rattle.mm_text.specs.LeftToRight.{Read, read, kind_of, alone, word_at, fault
 use Rattle.mm_text.proofs.KindLemmas.{kind_spelled, spelled_kind, no_kind, mark_stands, stands_mark}
 use Rattle.mm_text.proofs.ReadLemmas.{inside_end, inside_mark, inside_more, outside_open, outside_close, outside_word}
 
-all_append : {X : Type 0} (P : X → Type 0) (xs ys : List X) → AllByRecursion P xs → AllByRecursion P ys → AllByRecursion P (xs ++ ys)
+pub all_append : {X : Type 0} (P : X → Type 0) (xs ys : List X) → AllByRecursion P xs → AllByRecursion P ys → AllByRecursion P (xs ++ ys)
 all_append P [] ys f g = g
 all_append P (x ∷ xs) ys f g = (f.0, all_append P xs ys f.1 g)
 
 -- ---- what was read so far
 
 -- the runs so far end inside a comment that begins at start
-record InComment (start : ℕ) (seen : List Run) (words : List Word) : Type 0 where
-  front : List Run
-  first : Run
-  inside : List Run
-  joined : seen ≡ front ++ first ∷ inside
-  before : AreWords front words
-  begins : first.start ≡ start
-  opened : first.bytes ≡ opening
-  no_marks : IsInside inside
+pub record InComment (start : ℕ) (seen : List Run) (words : List Word) : Type 0 where
+  pub front : List Run
+  pub first : Run
+  pub inside : List Run
+  pub joined : seen ≡ front ++ first ∷ inside
+  pub before : AreWords front words
+  pub begins : first.start ≡ start
+  pub opened : first.bytes ≡ opening
+  pub no_marks : IsInside inside
 
-abbrev Behind : Option ℕ → List Run → List Word → Type 0
+abbrev pub Behind : Option ℕ → List Run → List Word → Type 0
 Behind None seen words = AreWords seen words
 Behind (Some start) seen words = InComment start seen words
 
-with_part : (seen : List Run) (words : List Word) (part : Part) → AreWords seen words → IsPart part → AreWords (seen ++ part_runs part) (words ++ part_words part)
+pub with_part : (seen : List Run) (words : List Word) (part : Part) → AreWords seen words → IsPart part → AreWords (seen ++ part_runs part) (words ++ part_words part)
 with_part seen words part h is = record {
   parts = h.parts ++ part ∷ [];
   reading = record {
@@ -49,13 +49,13 @@ with_part seen words part h is = record {
   singles = flat_map-append part_words h.parts (part ∷ []) ∙ ap (λ (ws : List Word). ws ++ (part_words part ++ [])) h.singles ∙ ap (λ (ws : List Word). words ++ ws) (append-nil (part_words part));
 }
 
-word_step : (seen : List Run) (words : List Word) (run : Run) (word : Word) → AreWords seen words → IsWord run word → AreWords (seen ++ run ∷ []) (words ++ word ∷ [])
+pub word_step : (seen : List Run) (words : List Word) (run : Run) (word : Word) → AreWords seen words → IsWord run word → AreWords (seen ++ run ∷ []) (words ++ word ∷ [])
 word_step seen words run word h is = with_part seen words (Single run word) h is
 
-open_step : (seen : List Run) (words : List Word) (run : Run) → AreWords seen words → run.bytes ≡ opening → InComment run.start (seen ++ run ∷ []) words
+pub open_step : (seen : List Run) (words : List Word) (run : Run) → AreWords seen words → run.bytes ≡ opening → InComment run.start (seen ++ run ∷ []) words
 open_step seen words run h opens = record { front = seen; first = run; inside = []; joined = refl; before = h; begins = refl; opened = opens; no_marks = tt }
 
-more_step : (start : ℕ) (seen : List Run) (words : List Word) (run : Run) → InComment start seen words → ¬ HoldsMark run.bytes → InComment start (seen ++ run ∷ []) words
+pub more_step : (start : ℕ) (seen : List Run) (words : List Word) (run : Run) → InComment start seen words → ¬ HoldsMark run.bytes → InComment start (seen ++ run ∷ []) words
 more_step start seen words run h no_mark = record {
   front = h.front;
   first = h.first;
@@ -67,7 +67,7 @@ more_step start seen words run h no_mark = record {
   no_marks = all_append (λ run. ¬ HoldsMark run.bytes) h.inside (run ∷ []) h.no_marks (no_mark, tt);
 }
 
-close_step : (start : ℕ) (seen : List Run) (words : List Word) (run : Run) → InComment start seen words → run.bytes ≡ closing → AreWords (seen ++ run ∷ []) words
+pub close_step : (start : ℕ) (seen : List Run) (words : List Word) (run : Run) → InComment start seen words → run.bytes ≡ closing → AreWords (seen ++ run ∷ []) words
 close_step start seen words run h closes =
     let all : AreWords (h.front ++ h.first ∷ (h.inside ++ run ∷ [])) (words ++ []) = with_part h.front words (Comment h.first h.inside run) h.before (record { opened = h.opened; no_marks = h.no_marks; closed = closes }) in
     let same : h.front ++ h.first ∷ (h.inside ++ run ∷ []) ≡ seen ++ run ∷ [] = sym (ap (λ (rs : List Run). rs ++ run ∷ []) h.joined ∙ append_assoc h.front (h.first ∷ h.inside) (run ∷ [])) in
@@ -125,7 +125,7 @@ read_parts (Comment first inside last ∷ parts) each tail =
     ∙ inside_end first.start last (flat_map part_runs parts ++ tail) each.0.closed
     ∙ read_parts parts each.1 tail
 
-read_whole : (seen : List Run) (words : List Word) → AreWords seen words → (tail : List Run) → read None (seen ++ tail) ≡ with_words words (read None tail)
+pub read_whole : (seen : List Run) (words : List Word) → AreWords seen words → (tail : List Run) → read None (seen ++ tail) ≡ with_words words (read None tail)
 read_whole seen words h tail =
     ap (λ (rs : List Run). read None (rs ++ tail)) (sym h.reading.joined) ∙ read_parts h.parts h.reading.each tail ∙ ap (λ (ws : List Word). with_words ws (read None tail)) h.singles
 
@@ -146,36 +146,36 @@ same_words runs a b f g = let e : read None runs ≡ Ok a = read_words runs a f 
 
 -- ---- where no reading goes on
 
-whole_words : (runs : List Run) (parts : List Part) → IsReading runs parts → AreWords runs (flat_map part_words parts)
+pub whole_words : (runs : List Run) (parts : List Part) → IsReading runs parts → AreWords runs (flat_map part_words parts)
 whole_words runs parts h = record { parts = parts; reading = h; singles = refl }
 
 err_with : (words : List Word) (fault : TextFault) (r : Read) → r ≡ Err fault → with_words words r ≡ Err fault
 err_with words fault r e = ap (with_words words) e
 
-stops : (state : Option ℕ) (seen : List Run) (words : List Word) (run : Run) (fault : TextFault) → Behind state seen words → ((tail : List Run) → read state (run ∷ tail) ≡ Err fault) → ¬ CanGoOn (seen ++ run ∷ [])
+pub stops : (state : Option ℕ) (seen : List Run) (words : List Word) (run : Run) (fault : TextFault) → Behind state seen words → ((tail : List Run) → read state (run ∷ tail) ≡ Err fault) → ¬ CanGoOn (seen ++ run ∷ [])
 stops state seen words run fault h fails goes =
     let all : read None ((seen ++ run ∷ []) ++ goes.0) ≡ Ok (flat_map part_words goes.1.0) = read_words ((seen ++ run ∷ []) ++ goes.0) (flat_map part_words goes.1.0) (whole_words ((seen ++ run ∷ []) ++ goes.0) goes.1.0 goes.1.1) in
     let none : read None ((seen ++ run ∷ []) ++ goes.0) ≡ Err fault = ap (read None) (append_assoc seen (run ∷ []) goes.0) ∙ read_behind state seen words h (run ∷ goes.0) ∙ err_with words fault (read state (run ∷ goes.0)) (fails goes.0) in
     cc
 
-is_whole : (seen : List Run) (words : List Word) → AreWords seen words → IsWhole seen
+pub is_whole : (seen : List Run) (words : List Word) → AreWords seen words → IsWhole seen
 is_whole seen words h = (h.parts, h.reading)
 
-closer : Run
+pub closer : Run
 closer = record { start = 0; bytes = closing }
 
-closer_closes : closer.bytes ≡ closing
+pub closer_closes : closer.bytes ≡ closing
 unfolding closer
 closer_closes = refl
 
-goes_on : (state : Option ℕ) (seen : List Run) (words : List Word) → Behind state seen words → CanGoOn seen
+pub goes_on : (state : Option ℕ) (seen : List Run) (words : List Word) → Behind state seen words → CanGoOn seen
 goes_on None seen words h = ([], subst IsWhole (sym (append-nil seen)) (is_whole seen words h))
 goes_on (Some start) seen words h = (closer ∷ [], is_whole (seen ++ closer ∷ []) words (close_step start seen words closer h closer_closes))
 
-is_open : (start : ℕ) (seen : List Run) (words : List Word) (h : InComment start seen words) → IsOpen seen h.first
+pub is_open : (start : ℕ) (seen : List Run) (words : List Word) (h : InComment start seen words) → IsOpen seen h.first
 is_open start seen words h = record { front = h.front; inside = h.inside; joined = h.joined; before = is_whole h.front words h.before; opened = h.opened; no_marks = h.no_marks }
 
-not_whole : (start : ℕ) (seen : List Run) (words : List Word) → InComment start seen words → ¬ IsWhole seen
+pub not_whole : (start : ℕ) (seen : List Run) (words : List Word) → InComment start seen words → ¬ IsWhole seen
 not_whole start seen words h whole =
     let all : read None seen ≡ Ok (flat_map part_words whole.0) = read_words seen (flat_map part_words whole.0) (whole_words seen whole.0 whole.1) in
     let none : read None seen ≡ Err (fault_at T02 start) = ap (read None) (sym (append-nil seen)) ∙ read_behind (Some start) seen words h [] in
@@ -217,10 +217,10 @@ alone_is seen words run runs None h no_open no_close is later =
       is_number = (is_whole seen words h, no_kind run.bytes is, no_close, λ kind spelled. (let found : kind_of run.bytes ≡ Some kind = spelled_kind kind run.bytes spelled in cc));
     })
 
-not_from : (bytes part : List ℕ) → bytes_eq bytes part ≡ false → bytes ≢ part
+pub not_from : (bytes part : List ℕ) → bytes_eq bytes part ≡ false → bytes ≢ part
 not_from bytes part e is = false≢true (sym e ∙ (bytes_eq-Decides bytes part).1 is)
 
-is_from : (bytes part : List ℕ) → bytes_eq bytes part ≡ true → bytes ≡ part
+pub is_from : (bytes part : List ℕ) → bytes_eq bytes part ≡ true → bytes ≡ part
 is_from bytes part e = (bytes_eq-Decides bytes part).0 e
 
 outcome : (state : Option ℕ) (runs : List Run) (seen : List Run) (words : List Word) → Behind state seen words → Outcome (seen ++ runs) words (read state runs)
@@ -279,7 +279,7 @@ outcome (Some start) (run ∷ runs) seen words h =
       ]
     ]
 
-none_read : AreWords [] []
+pub none_read : AreWords [] []
 none_read = record { parts = []; reading = record { each = tt; joined = refl }; singles = refl }
 
 -- what is read from all the runs
@@ -313,7 +313,7 @@ split_read runs front run rest state words fault joined h e =
 placed : (number : TextNumber) (runs : List Run) (start at : ℕ) → at ≡ start → read None runs ≡ Err (fault_at number start) → read None runs ≡ Err (fault_at number at)
 placed number runs start at e h = h ∙ ap (λ (k : ℕ). Err (fault_at number k)) (sym e)
 
-open_fault : (runs : List Run) (at : ℕ) → EndsOpen runs at → read None runs ≡ Err (fault_at T02 at)
+pub open_fault : (runs : List Run) (at : ℕ) → EndsOpen runs at → read None runs ≡ Err (fault_at T02 at)
 open_fault runs at h =
     let inside = open_read runs h.first h.open_comment in
     placed T02 runs h.first.start at h.place (ap (read None) (sym (append-nil runs)) ∙ read_behind (Some h.first.start) runs inside.0 inside.1 [])
@@ -322,7 +322,7 @@ no_kind_found : (run : Run) (found : Option WordKind) → kind_of run.bytes ≡ 
 no_kind_found run None e none = refl
 no_kind_found run (Some kind) e none = absurd (none kind (kind_spelled run.bytes kind e))
 
-stop_fault : (number : TextNumber) (runs : List Run) (at : ℕ) → StopsAt runs number at → read None runs ≡ Err (fault_at number at)
+pub stop_fault : (number : TextNumber) (runs : List Run) (at : ℕ) → StopsAt runs number at → read None runs ≡ Err (fault_at number at)
 stop_fault T03 runs at h =
     let inside = open_read h.front h.is_number.0 h.is_number.1 in
     placed T03 runs h.run.start at h.place (split_read runs h.front h.run h.rest (Some h.is_number.0.start) inside.0 (fault_at T03 h.run.start) h.joined inside.1

@@ -205,15 +205,19 @@ stops_fault tokens T07 word h = absurd h.is_number
 stops_fault tokens T08 word h = absurd h.is_number
 stops_fault tokens _ word h = h
 
-pub stops_at : (tokens : List Token) (word : ℕ) (token : Token) (phase : m.Phase) (depth : ℕ) (number : TextNumber) → slice_get tokens word ≡ Some token → m.run m.Begin 0 (take word tokens) ≡ Ok (m.state_of phase depth)
-    → m.next phase depth token.kind (m.could_label token) ≡ Err number → IsUnitFault tokens number word
-stops_at tokens word token phase depth number there e stops = stops_fault tokens number word (record {
+abbrev pub stop_at : (tokens : List Token) (word : ℕ) (token : Token) (phase : m.Phase) (depth : ℕ) (number : TextNumber) → slice_get tokens word ≡ Some token → m.run m.Begin 0 (take word tokens) ≡ Ok (m.state_of phase depth)
+    → m.next phase depth token.kind (m.could_label token) ≡ Err number → StopsAt tokens number word
+stop_at tokens word token phase depth number there e stops = record {
   token = token;
   there = there;
   goes_on = run-IsViable (take word tokens) (phase, depth) e;
   stops = run-not_viable (take (word + 1) tokens) number (run_next tokens word token phase depth there e ∙ stops);
   is_number = number_of phase depth token.kind (m.could_label token) (take word tokens) token number e refl stops;
-})
+}
+
+pub stops_at : (tokens : List Token) (word : ℕ) (token : Token) (phase : m.Phase) (depth : ℕ) (number : TextNumber) → slice_get tokens word ≡ Some token → m.run m.Begin 0 (take word tokens) ≡ Ok (m.state_of phase depth)
+    → m.next phase depth token.kind (m.could_label token) ≡ Err number → IsUnitFault tokens number word
+stops_at tokens word token phase depth number there e stops = stops_fault tokens number word (stop_at tokens word token phase depth number there e stops)
 
 -- ---- a unit that is not finished
 
@@ -273,13 +277,13 @@ apart_at front h (begins, ends) =
 not_viable_later : (tokens : List Token) (number : TextNumber) (word n : ℕ) → StopsAt tokens number word → word < n → ¬ IsViable (take n tokens)
 not_viable_later tokens number word n h l viable = h.stops (subst (λ (ts : List Token). IsViable ts) (take-take (word + 1) n tokens (omega arith)) (viable_take (take n tokens) (word + 1) viable))
 
-not_viable_all : (tokens : List Token) (number : TextNumber) (word : ℕ) → StopsAt tokens number word → ¬ IsViable tokens
+pub not_viable_all : (tokens : List Token) (number : TextNumber) (word : ℕ) → StopsAt tokens number word → ¬ IsViable tokens
 not_viable_all tokens number word h viable = h.stops (viable_take tokens (word + 1) viable)
 
 by_order : (v w : ℕ) → ¬ (v < w) → ¬ (w < v) → v ≡ w
 by_order v w f g = omega arith
 
-one_stop : (tokens : List Token) (a b : TextNumber) (v w : ℕ) → StopsAt tokens a v → StopsAt tokens b w → (a ≡ b) × (v ≡ w)
+pub one_stop : (tokens : List Token) (a b : TextNumber) (v w : ℕ) → StopsAt tokens a v → StopsAt tokens b w → (a ≡ b) × (v ≡ w)
 one_stop tokens a b v w f g =
     let place : v ≡ w = by_order v w (λ l. not_viable_later tokens a v w f l g.goes_on) (λ l. not_viable_later tokens b w v g l f.goes_on) in
     let h : StopsAt tokens b v = subst (λ (n : ℕ). StopsAt tokens b n) (sym place) g in
@@ -363,7 +367,7 @@ covered_inner (x ∷ xs) ys f g =
     let none : is_start x.kind ≡ 0 = f.0.0 in
     (omega arith, more)
 
-covered-append : (xs ys : List Token) → Covered xs → Covered ys → Covered (xs ++ ys)
+pub covered-append : (xs ys : List Token) → Covered xs → Covered ys → Covered (xs ++ ys)
 covered-append [] ys f g = g
 covered-append (x ∷ xs) ys f g =
     let more : Covered (xs ++ ys) = covered-append xs ys f.1 g in
@@ -459,7 +463,7 @@ block_run tokens word h =
 block_begins : (tokens : List Token) (word : ℕ) → EndsInBlock tokens word → MayBegin tokens
 block_begins tokens word h = let last = block_run tokens word h in may_begin_from tokens (suc last.0) last.1
 
-block_viable : (tokens : List Token) (word : ℕ) → EndsInBlock tokens word → IsViable tokens
+pub block_viable : (tokens : List Token) (word : ℕ) → EndsInBlock tokens word → IsViable tokens
 block_viable tokens word h = viable_front tokens (a_block ∷ []) (block_begins tokens word h)
 
 -- ---- one fault, and none of a whole list
@@ -504,14 +508,17 @@ whole_has_no_fault tokens number word whole h = none (sorted tokens number word 
 -- ---- the innermost open block, by counts from the end
 
 -- two ways to cut one list
-cut_twice : (xs ys us vs : List Token) → xs ++ ys ≡ us ++ vs → ((zs : List Token) × (xs ≡ us ++ zs) × (zs ++ ys ≡ vs)) ⊎ ((zs : List Token) × (us ≡ xs ++ zs) × (ys ≡ zs ++ vs))
+abbrev CutTwice : {X : Type 0} → List X → List X → List X → List X → Type 0
+CutTwice {X = X} xs ys us vs = ((zs : List X) × (xs ≡ us ++ zs) × (zs ++ ys ≡ vs)) ⊎ ((zs : List X) × (us ≡ xs ++ zs) × (ys ≡ zs ++ vs))
+
+pub cut_twice : {X : Type 0} (xs ys us vs : List X) → xs ++ ys ≡ us ++ vs → ((zs : List X) × (xs ≡ us ++ zs) × (zs ++ ys ≡ vs)) ⊎ ((zs : List X) × (us ≡ xs ++ zs) × (ys ≡ zs ++ vs))
 cut_twice xs ys [] vs e = inl (xs, refl, e)
 cut_twice [] ys (u ∷ us) vs e = inr (u ∷ us, refl, e)
-cut_twice (x ∷ xs) ys (u ∷ us) vs e = more (cut_twice xs ys us vs (let rest : xs ++ ys ≡ us ++ vs = cc in rest)) where
+cut_twice {X = X} (x ∷ xs) ys (u ∷ us) vs e = more (cut_twice xs ys us vs (let rest : xs ++ ys ≡ us ++ vs = cc in rest)) where
   first : x ≡ u
   first = cc
 
-  more : ((zs : List Token) × (xs ≡ us ++ zs) × (zs ++ ys ≡ vs)) ⊎ ((zs : List Token) × (us ≡ xs ++ zs) × (ys ≡ zs ++ vs)) → ((zs : List Token) × (x ∷ xs ≡ (u ∷ us) ++ zs) × (zs ++ ys ≡ vs)) ⊎ ((zs : List Token) × (u ∷ us ≡ (x ∷ xs) ++ zs) × (ys ≡ zs ++ vs))
+  more : CutTwice xs ys us vs → CutTwice (x ∷ xs) ys (u ∷ us) vs
   more (inl h) = inl (h.0, let joined : xs ≡ us ++ h.0 = h.1 in let is : x ≡ u = first in cc, h.2)
   more (inr h) = inr (h.0, let joined : us ≡ xs ++ h.0 = h.1 in let is : x ≡ u = first in cc, h.2)
 

@@ -16,11 +16,11 @@ use Rattle.mm_text.proofs.UnitFaultLemmas.{viable_take, viable_run, run_push, ma
 -- ---- every list is whole or has a fault
 
 -- the machine counts the open blocks
-abbrev Counts : ℕ → WordKind → m.Step → Type 0
+abbrev pub Counts : ℕ → WordKind → m.Step → Type 0
 Counts depth kind (Ok s) = depth + is_start kind ≡ s.1 + is_end kind
 Counts depth kind (Err number) = Unit {0}
 
-step_counts : (phase : m.Phase) (depth : ℕ) (kind : WordKind) (b : Bool) → Counts depth kind (m.next phase depth kind b)
+pub step_counts : (phase : m.Phase) (depth : ℕ) (kind : WordKind) (b : Bool) → Counts depth kind (m.next phase depth kind b)
 step_counts m.Begin depth kinds.Plain true = refl
 step_counts m.Begin depth kinds.Plain false = tt
 step_counts m.Begin depth (kinds.Keyword BlockStart) b = omega arith
@@ -167,7 +167,7 @@ pub open_block : (tokens : List Token) (d : ℕ) → m.run m.Begin 0 tokens ≡ 
 open_block tokens d e = scan_on tokens d e (length tokens) 0 (omega arith) (scan_none tokens)
 
 -- the first word that stops
-slice_get_at : (front rest : List Token) (token : Token) → slice_get (front ++ token ∷ rest) (length front) ≡ Some token
+pub slice_get_at : (front rest : List Token) (token : Token) → slice_get (front ++ token ∷ rest) (length front) ≡ Some token
 slice_get_at [] rest token = refl
 slice_get_at (first ∷ front) rest token = slice_get_at front rest token
 
@@ -206,7 +206,7 @@ last_more tokens n phase depth e other h = record { word = h.word; depth = h.dep
   later : (k : ℕ) → h.word < k → k ≤ n + 1 → (phase : m.Phase) × (d : ℕ) × (m.run m.Begin 0 (take k tokens) ≡ Ok (m.state_of phase d)) × (phase ≢ m.Begin)
   later k l g = ⊎_elim (λ above. here k (omega arith)) (λ below. h.later k l below) (cases_lt n k)
 
-is_begin : (phase : m.Phase) → (phase ≡ m.Begin) ⊎ (phase ≢ m.Begin)
+pub is_begin : (phase : m.Phase) → (phase ≡ m.Begin) ⊎ (phase ≢ m.Begin)
 is_begin m.Begin = inl refl
 is_begin m.Labelled = inr (λ e. cc)
 is_begin m.Symbols = inr (λ e. cc)

@@ -8,3 +8,7 @@ pub mod Place
 pub mod Unit
 pub mod UnitReading
 pub mod BlockCounts
+pub mod Cut
+pub mod Grammar
+pub mod Part
+pub mod PartReading

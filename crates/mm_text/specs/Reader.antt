@@ -1,38 +1,93 @@
 -- A reader, and what its steps do.
-use Rattle.std.specs.Prelude.{◌≡◌, ℕ, ◌<◌, ◌≤◌, List, [], ◌∷◌, drop, slice_range, Option, Some, None, Result, Ok, Err, MatchOption, MatchResult}
-use Rattle.mm_text.specs.declared.reader.Reader.{Reader}
+use Rattle.std.specs.Prelude.{◌≡◌, ◌≢◌, ℕ, ◌<◌, ◌≤◌, true, List, [], ◌∷◌, ◌++◌, drop, slice_range, Option, None, Result, MatchOption, MatchResult}
 use Rattle.mm_text.specs.declared.reader.Span.{Span}
 use Rattle.mm_text.specs.declared.word.Word.{Word}
 use Rattle.mm_text.specs.declared.fault.TextFault.{TextFault}
-use Rattle.mm_text.specs.Run.{Run, runs_from}
-use Rattle.mm_text.specs.LeftToRight.{read, cons_word}
+use Rattle.mm_text.specs.declared.fault.TextNumber.{TextNumber}
+use Rattle.mm_text.specs.declared.fault.TextNumber.TheVariants.{T02, T03, T04, T05}
+use Rattle.mm_text.specs.Run.{Run, runs_from, ends_run}
+use Rattle.mm_text.specs.Spelling.{HoldsMark, opening, closing}
+use Rattle.mm_text.specs.Reading.{AreWords, IsInside}
+use Rattle.mm_text.specs.Cut.{EndsInComment}
+use Rattle.mm_text.specs.LeftToRight.{kind_of}
 
--- the runs that are still to come
-abbrev pub runs_left : Reader → List Run
-runs_left r = runs_from r.from (drop r.from r.text.now)
+-- the runs of a text from a byte on
+abbrev pub runs_at : List ℕ → ℕ → List Run
+runs_at text from = runs_from from (drop from text)
 
 -- the run of a text that is found at these bytes
 abbrev pub run_of : List ℕ → Span → Run
 run_of text span = record { start = span.start; bytes = slice_range text span.start span.end }
 
 -- the next run is taken
-pub record TakesSpan (old : Reader) (span : Span) (new : Reader) : Type 0 where
-  pub begins : old.from ≤ span.start
+pub record TakesSpan (text : List ℕ) (from : ℕ) (span : Span) (to : ℕ) : Type 0 where
+  pub begins : from ≤ span.start
   pub some : span.start < span.end
-  pub to : new.from ≡ span.end
-  pub run : runs_left old ≡ run_of new.text.now span ∷ runs_left new
+  pub next : to ≡ span.end
+  pub run : runs_at text from ≡ run_of text span ∷ runs_at text to
+  pub ends : ends_run (drop to text) ≡ true
 
-abbrev pub TakesRun : Reader → Option Span → Reader → Type 0
-TakesRun old result new = MatchOption result (runs_left old ≡ []) (λ span. TakesSpan old span new)
+abbrev pub TakesRun : List ℕ → ℕ → Option Span → ℕ → Type 0
+TakesRun text from result to = MatchOption result (runs_at text from ≡ []) (λ span. TakesSpan text from span to)
 
--- what is read behind the beginning of a comment is read behind its end
-abbrev pub EndsComment : Reader → ℕ → Result (Unit {0}) TextFault → Reader → Type 0
-EndsComment old start result new = MatchResult result (λ _. read (Some start) (runs_left old) ≡ read None (runs_left new)) (λ fault. read (Some start) (runs_left old) ≡ Err fault)
+-- the rest of a comment is skipped
+pub record SkipsComment (text : List ℕ) (from to : ℕ) : Type 0 where
+  pub inside : List Run
+  pub last : Run
+  pub joined : runs_at text from ≡ inside ++ last ∷ runs_at text to
+  pub no_marks : IsInside inside
+  pub closed : last.bytes ≡ closing
 
--- a word is read, and then what is left; or nothing; or a fault is met
-pub record TakesWord (old : Reader) (word : Word) (new : Reader) : Type 0 where
-  pub forward : old.from < new.from
-  pub gives : read None (runs_left old) ≡ cons_word word (read None (runs_left new))
+-- a run at which the rest of a comment cannot go on
+pub record MeetsMark (runs : List Run) (at : ℕ) : Type 0 where
+  pub inside : List Run
+  pub run : Run
+  pub rest : List Run
+  pub joined : runs ≡ inside ++ run ∷ rest
+  pub no_marks : IsInside inside
+  pub holds : HoldsMark run.bytes
+  pub differs : run.bytes ≢ closing
+  pub place : at ≡ run.start
 
-abbrev pub GivesWord : Reader → Result (Option Word) TextFault → Reader → Type 0
-GivesWord old result new = MatchResult result (λ o. MatchOption o (read None (runs_left old) ≡ Ok []) (λ word. TakesWord old word new)) (λ fault. read None (runs_left old) ≡ Err fault)
+-- the rest of a comment that begins at a byte has this fault
+abbrev pub FailsInside : List Run → ℕ → TextNumber → ℕ → Type 0
+FailsInside runs start T02 at = IsInside runs × (at ≡ start)
+FailsInside runs start T03 at = MeetsMark runs at
+FailsInside runs start _ at = ⊥
+
+abbrev pub EndsComment : List ℕ → ℕ → ℕ → Result (Unit {0}) TextFault → ℕ → Type 0
+EndsComment text from start result to = MatchResult result (λ _. SkipsComment text from to) (λ fault. FailsInside (runs_at text from) start fault.number fault.at)
+
+-- comments are read, and then a word
+pub record TakesWord (text : List ℕ) (from : ℕ) (word : Word) (to : ℕ) : Type 0 where
+  pub taken : List Run
+  pub joined : runs_at text from ≡ taken ++ runs_at text to
+  pub reads : AreWords taken (word ∷ [])
+  pub begins : from ≤ word.start
+  pub some : word.start < word.end
+  pub next : to ≡ word.end
+  pub ends : ends_run (drop to text) ≡ true
+
+-- a run at which the runs behind these words cannot go on
+abbrev pub IsRefused : TextNumber → List Run → List Word → Run → Type 0
+IsRefused T03 front found run = EndsInComment front found × HoldsMark run.bytes × (run.bytes ≢ closing)
+IsRefused T04 front found run = AreWords front found × (run.bytes ≡ closing)
+IsRefused T05 front found run = AreWords front found × (run.bytes ≢ opening) × (run.bytes ≢ closing) × (kind_of run.bytes ≡ None)
+IsRefused _ front found run = ⊥
+
+pub record MeetsRun (runs : List Run) (found : List Word) (number : TextNumber) (at : ℕ) : Type 0 where
+  pub front : List Run
+  pub run : Run
+  pub rest : List Run
+  pub joined : runs ≡ front ++ run ∷ rest
+  pub place : at ≡ run.start
+  pub refused : IsRefused number front found run
+
+-- behind these words a fault is met
+abbrev pub FailsBehind : List Run → List Word → TextNumber → ℕ → Type 0
+FailsBehind runs found T02 at = (h : EndsInComment runs found) × (at ≡ h.first.start)
+FailsBehind runs found number at = MeetsRun runs found number at
+
+-- a word is read; or only comments are left; or a fault is met
+abbrev pub GivesWord : List ℕ → ℕ → Result (Option Word) TextFault → ℕ → Type 0
+GivesWord text from result to = MatchResult result (λ o. MatchOption o (AreWords (runs_at text from) []) (λ word. TakesWord text from word to)) (λ fault. FailsBehind (runs_at text from) [] fault.number fault.at)

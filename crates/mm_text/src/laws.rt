@@ -8,6 +8,7 @@ ghost use Rattle.mm_text.specs.Run.{Run, runs};
 ghost use Rattle.mm_text.specs.Layout.{IsLaidOut};
 ghost use Rattle.mm_text.specs.Reading.{HasWords, IsFault};
 ghost use Rattle.mm_text.specs.declared.fault.TextNumber.{TextNumber};
+ghost use Rattle.mm_text.specs.Cut.{IsCut, IsFirstFault};
 ghost use Rattle.mm_text.specs.Unit.{Token, Shape, shape_tokens, IsShape, Units, unit_tokens, AreUnits, IsWhole, IsUnitFault};
 
 /// Each text has its words or its fault: one list of words or one fault, and never both.
@@ -43,4 +44,15 @@ pub fn one_unit_fault()
 pub fn one_division()
     ensures units { (a b : Units) → AreUnits true a → AreUnits true b → unit_tokens a ≡ unit_tokens b → a ≡ b }
     ensures shapes { (a b : List Shape) → AllByRecursion (IsShape true) a → AllByRecursion (IsShape true) b → flat_map shape_tokens a ≡ flat_map shape_tokens b → a ≡ b }
+{}
+
+/// A text has one cut or one first fault, and never both.
+///
+/// So `cut` cuts each text that can be cut, and tells the fault only of a text that cannot, unless memory runs
+/// out.
+pub fn one_cut()
+    ensures some { (text : List ℕ) → ((pieces : List (List ℕ)) × (tail : List ℕ) × IsCut text pieces tail) ⊎ ((fault : TextFault) × IsFirstFault text fault) }
+    ensures cut { (text : List ℕ) (a b : List (List ℕ)) (s t : List ℕ) → IsCut text a s → IsCut text b t → (a ≡ b) × (s ≡ t) }
+    ensures fault { (text : List ℕ) (a b : TextFault) → IsFirstFault text a → IsFirstFault text b → a ≡ b }
+    ensures not_both { (text : List ℕ) (pieces : List (List ℕ)) (tail : List ℕ) (fault : TextFault) → IsCut text pieces tail → ¬ IsFirstFault text fault }
 {}

@@ -6,22 +6,36 @@
 //! other words. A word outside comments is one of the keywords, or holds no `$` (the Metamath book, section
 //! 4.1). A text that keeps these rules has one list of words, which `words` finds; any other has one first
 //! fault, which it tells.
+//!
+//! The words of a database make units: statements, inclusions, and blocks with units inside. `cut` cuts a text
+//! into pieces with one unit each, or tells the first fault of its words or units, and `parts` divides a piece
+//! into its statements.
 #![tactic(auto)]
 
+mod cutting;
+mod division;
 mod fault;
+mod grammar;
 mod laws;
 mod lines;
 mod location;
+mod part;
+mod pieces;
 mod reader;
 mod reading;
 mod spelling;
 mod word;
 
+pub use cutting::cut;
+pub use division::parts;
 pub use fault::{TextError, TextFault, TextNumber};
-pub use laws::{one_division, one_layout, one_meaning, one_unit_fault};
+pub use laws::{one_cut, one_division, one_layout, one_meaning, one_unit_fault};
 pub use lines::place;
 pub use location::Place;
+pub use part::{Part, PartKind};
+pub use pieces::Cut;
 pub use reading::{nth_word, words};
+pub use spelling::could_label;
 pub use word::{Keyword, Word, WordKind};
 
 #[cfg(test)]

@@ -23,13 +23,12 @@ pub struct Reader<'a> {
 
 impl<'a> Reader<'a> {
     ghost use Rattle.std.specs.Prelude.{◌≡◌, MatchOption};
-    ghost use Rattle.mm_text.specs.Run.{runs};
-    ghost use Rattle.mm_text.specs.LeftToRight.{read};
-    ghost use Rattle.mm_text.specs.Reader.{runs_left, TakesRun, GivesWord, EndsComment};
+    ghost use Rattle.mm_text.specs.Reader.{TakesRun, EndsComment, GivesWord};
 
     /// A reader at the beginning of a text.
     pub fn new(text: &'a [u8]) -> Self
-        ensures { runs_left result ≡ runs text.now }
+        ensures text { result.text.now ≡ text.now }
+        ensures from { result.from ≡ 0 }
     {
         Reader { text, from: 0 }
     }
@@ -38,7 +37,7 @@ impl<'a> Reader<'a> {
     fn next_run(&mut self) -> Option<Span>
         ensures text { self.new.text.now ≡ self.old.text.now }
         ensures forward { self.old.from ≤ self.new.from }
-        ensures run { TakesRun self.old result self.new }
+        ensures run { TakesRun self.old.text.now self.old.from result self.new.from }
     {
         let start = self.from + white_len(&self.text[self.from..]);
         let len = run_len(&self.text[start..]);
@@ -56,7 +55,7 @@ impl<'a> Reader<'a> {
     fn skip_comment(&mut self, start: usize) -> Result<(), TextFault>
         ensures text { self.new.text.now ≡ self.old.text.now }
         ensures forward { self.old.from ≤ self.new.from }
-        ensures end { EndsComment self.old start result self.new }
+        ensures end { EndsComment self.old.text.now self.old.from start result self.new.from }
     {
         while let Some(span) = self.next_run() {
             let bytes = &self.text[span.start..span.end];
@@ -79,7 +78,7 @@ impl<'a> Reader<'a> {
     /// The next word outside comments, or `None` where there is none before the end of the text.
     pub fn next_word(&mut self) -> Result<Option<Word>, TextFault>
         ensures text { self.new.text.now ≡ self.old.text.now }
-        ensures word { GivesWord self.old result self.new }
+        ensures word { GivesWord self.old.text.now self.old.from result self.new.from }
     {
         while let Some(span) = self.next_run() {
             let bytes = &self.text[span.start..span.end];

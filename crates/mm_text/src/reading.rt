@@ -12,7 +12,7 @@ use crate::spelling::is_text_byte;
 use crate::word::Word;
 use std::alloc::Global;
 
-fn first_bad_byte(text: &[u8]) -> Option<usize>
+pub fn first_bad_byte(text: &[u8]) -> Option<usize>
     ensures { result ≡ first_bad text.now }
 {
     text.iter().position(|byte| !is_text_byte(*byte))

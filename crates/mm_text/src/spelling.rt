@@ -1,7 +1,8 @@
 //! How words are spelled.
 
 ghost use Rattle.std.specs.Prelude.{◌≡◌, ◌≤◌, ◌↔◌, IsTrue, length};
-ghost use Rattle.std.specs.List.{prefix_len};
+ghost use Rattle.std.specs.List.{list_all, prefix_len};
+ghost use Rattle.mm_text.specs.Unit as labels;
 ghost use Rattle.mm_text.specs.Run.{is_white, is_solid};
 ghost use Rattle.mm_text.specs.Reading.{is_allowed};
 ghost use Rattle.mm_text.specs.Spelling.{opening, closing};
@@ -11,7 +12,7 @@ use crate::word::{Keyword, WordKind};
 
 /// Whether a byte is a space, a tab, a carriage return, a line feed or a form feed.
 #[tactic(auto, unfolding(crate::specs::Run::is_white))]
-fn is_white_space(byte: u8) -> bool
+pub fn is_white_space(byte: u8) -> bool
     ensures { result ≡ is_white byte }
 {
     matches!(byte, b' ' | b'\t' | b'\r' | b'\n' | 0x0c)
@@ -116,4 +117,19 @@ pub fn has_mark(run: &[u8]) -> bool
         }
     }
     false
+}
+
+/// Whether a label may have this byte: a letter, a digit, `-`, `_` or `.`.
+#[tactic(auto, unfolding(crate::specs::Unit::is_label_byte))]
+fn is_label_byte(byte: u8) -> bool
+    ensures { result ≡ labels.is_label_byte byte }
+{
+    matches!(byte, b'0'..=b'9' | b'A'..=b'Z' | b'a'..=b'z' | b'-' | b'_' | b'.')
+}
+
+/// Whether a plain word could be a label: letters, digits, `-`, `_` and `.` alone.
+pub fn could_label(word: &[u8]) -> bool
+    ensures { result ≡ list_all labels.is_label_byte word.now }
+{
+    word.iter().all(|byte| is_label_byte(*byte))
 }

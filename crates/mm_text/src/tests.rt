@@ -1,5 +1,6 @@
 use crate::{
-    Keyword, Place, TextError, TextFault, TextNumber, Word, WordKind, nth_word, place, words,
+    Keyword, Part, PartKind, Place, TextError, TextFault, TextNumber, Word, WordKind, cut,
+    nth_word, parts, place, words,
 };
 use std::test::Fail;
 
@@ -157,6 +158,177 @@ fn prints_errors(rt: HostRuntime) -> Result<(), Fail> {
     ];
     for (error, wanted) in rows {
         assert_eq!(rt; format!(in rt.alloc(); "{error}")?.as_str(), wanted);
+    }
+    Ok(())
+}
+
+#[test]
+fn tells_the_first_fault_of_words_or_units(rt: HostRuntime) -> Result<(), Fail> {
+    let rows: [(&[u8], TextNumber, usize); 23] = [
+        (b"$( a\n", TextNumber::T02, 0),
+        (b"$( a $( b $)\n", TextNumber::T03, 5),
+        (b"$( a$) $)\n", TextNumber::T03, 3),
+        (b"a $)\n", TextNumber::T04, 2),
+        (b"$c a$b $.\n", TextNumber::T05, 3),
+        (b"$c a $c $.\n", TextNumber::T06, 5),
+        (b"$f wff p $.\n", TextNumber::T06, 0),
+        (b"t $p wff p $.\n", TextNumber::T06, 11),
+        (b"x $a wff p\n", TextNumber::T07, 0),
+        (b"${ $c a $.\n", TextNumber::T08, 0),
+        (b"$}\n", TextNumber::T09, 0),
+        (b"${ $[ b $] $}\n", TextNumber::T10, 3),
+        (b"a* $a wff $.\n", TextNumber::T11, 0),
+        (b"$[ $]\n", TextNumber::T12, 3),
+        (b"$}\x80\n", TextNumber::T01, 2),
+        (b"$. a$b\n", TextNumber::T06, 0),
+        (b"$c a $. $} $( a$(\n", TextNumber::T09, 8),
+        // the innermost of the blocks that are open
+        (b"${ ${ $} ${ $c a $.\n", TextNumber::T08, 9),
+        // a unit that is not finished goes before a block that is not closed
+        (b"${ $c a $. b $p c $= d", TextNumber::T07, 11),
+        // at the label, and in the last unit
+        (b"$[ a $] $( x $) b $a", TextNumber::T07, 16),
+        (b"$c $[ a $]\n", TextNumber::T10, 3),
+        (b"$[ a b $]\n", TextNumber::T06, 5),
+        (b"$c a $. $( b", TextNumber::T02, 8),
+    ];
+    for (text, number, at) in rows {
+        match cut(rt.alloc(), text) {
+            Err(TextError::Fault(fault)) => assert_eq!(rt; fault, TextFault { number, at }),
+            _ => assert!(rt; false, "no fault of {text:?}"),
+        }
+    }
+    Ok(())
+}
+
+#[test]
+fn cuts_texts(rt: HostRuntime) -> Result<(), Fail> {
+    // a text, and its pieces with a bar behind each, and its tail
+    let rows: [(&[u8], &[u8]); 9] = [
+        (b"", b""),
+        (b" \n", b" \n"),
+        (b"$( x $)", b"$( x $)\n"),
+        (b"$c a $.", b"$c a $.\n|"),
+        (b"$c a $. $( x $)", b"$c a $. |$( x $)\n"),
+        (
+            b"${ $v x $. ${ $} xt $f a x $. $}\n",
+            b"${ $v x $. ${ $} xt $f a x $. $}\n|",
+        ),
+        (
+            b"$[ b.mm $]\n${ $} $d x y $.",
+            b"$[ b.mm $]\n|${ $} |$d x y $.\n|",
+        ),
+        (
+            b"\t$c a $.\r\n$( x $) $( $c y $)\n\nax $a a $. $( z $)\n",
+            b"\t$c a $.\r\n|$( x $) $( $c y $)\n\nax $a a $. |$( z $)\n",
+        ),
+        (
+            b"t $p a $( x $) b $= ( ax ) AB $. $( y $) h.1 $e c $.\n",
+            b"t $p a $( x $) b $= ( ax ) AB $. |$( y $) h.1 $e c $.\n|",
+        ),
+    ];
+    for (text, wanted) in rows {
+        let found = cut(rt.alloc(), text)?;
+        let mut barred = Vec::new(rt.alloc());
+        for piece in found.pieces.iter() {
+            barred.extend_from_slice(piece.as_slice())?;
+            barred.push(b'|')?;
+        }
+        barred.extend_from_slice(found.tail.as_slice())?;
+        assert_eq!(rt; barred.as_slice(), wanted, "of {text:?}");
+    }
+    Ok(())
+}
+
+#[test]
+fn divides_pieces(rt: HostRuntime) -> Result<(), Fail> {
+    let text =
+        b"$( x $) $c a $. ${ l $f a x $. l $e b $.\n$d x y $. $} t.1 $p a $= l $. $v y $. b $a c $. $( x $) $[ b.mm $]\n";
+    let wanted = [
+        (PartKind::Constants, 8, 15),
+        (PartKind::BlockStart, 0, 2),
+        (PartKind::Floating, 3, 14),
+        (PartKind::Essential, 15, 24),
+        (PartKind::Disjoint, 25, 34),
+        (PartKind::BlockEnd, 35, 37),
+        (PartKind::Theorem, 0, 16),
+        (PartKind::Variables, 0, 7),
+        (PartKind::Axiom, 0, 9),
+        (PartKind::Inclusion, 8, 18),
+    ];
+    let found = cut(rt.alloc(), text)?;
+    let mut all = Vec::new(rt.alloc());
+    for piece in found.pieces.iter() {
+        let found = parts(rt.alloc(), piece.as_slice())?;
+        all.extend_from_slice(found.as_slice())?;
+    }
+    assert_eq!(rt; all.len(), wanted.len());
+    for (part, (kind, start, end)) in all.iter().zip(wanted) {
+        assert_eq!(rt; *part, Part { kind, start, end });
+    }
+    Ok(())
+}
+
+/// The statements of the book's demonstration database.
+const DEMO: &[u8] =
+    b"$c 0 + = -> ( ) term wff |- $.\n$v t r s P Q $.\ntt $f term t $.\ntr $f term r $.\nts $f term s $.\nwp $f wff P $.\nwq $f wff Q $.\ntze $a term 0 $.\ntpl $a term ( t + r ) $.\nweq $a wff t = r $.\nwim $a wff ( P -> Q ) $.\na1 $a |- ( t = r -> ( t = s -> r = s ) ) $.\na2 $a |- ( t + 0 ) = t $.\n${\nmin $e |- P $.\nmaj $e |- ( P -> Q ) $.\nmp $a |- Q $.\n$}\nth1 $p |- t = t $=\ntt tze tpl tt weq tt tt weq tt a2 tt tze tpl\ntt weq tt tze tpl tt weq tt tt weq wim tt a2\ntt tze tpl tt tt a1 mp mp\n$.\n";
+
+/// Each beginning of a database: accepted where a unit may begin outside, else at fault in a word that is cut, a
+/// unit or a block.
+#[test]
+fn cuts_each_beginning(rt: HostRuntime) -> Result<(), Fail> {
+    let (mut accepted, mut words, mut units, mut blocks) = (0u32, 0u32, 0u32, 0u32);
+    for len in 0..DEMO.len() + 1 {
+        match cut(rt.alloc(), &DEMO[..len]) {
+            Ok(_) => accepted = accepted.wrapping_add(1),
+            Err(TextError::Fault(fault)) => match fault.number {
+                TextNumber::T05 => {
+                    assert_eq!(rt; fault.at.wrapping_add(1), len);
+                    words = words.wrapping_add(1);
+                }
+                TextNumber::T08 => {
+                    assert!(rt;
+                        DEMO[..len]
+                            .get(fault.at..)
+                            .is_some_and(|rest| rest.starts_with(b"${"))
+                    );
+                    blocks = blocks.wrapping_add(1);
+                }
+                number => {
+                    assert_eq!(rt; number, TextNumber::T07);
+                    units = units.wrapping_add(1);
+                }
+            },
+            Err(TextError::Memory) => assert!(rt; false),
+        }
+    }
+    assert_eq!(rt; (accepted, words, blocks, units), (31, 37, 8, 404));
+    Ok(())
+}
+
+/// Ten thousand blocks within one another, closed and with one left open.
+#[test]
+fn cuts_deep_blocks(rt: HostRuntime) -> Result<(), Fail> {
+    let mut text = Vec::new(rt.alloc());
+    for _ in 0..10_000 {
+        text.extend_from_slice(b"${ ")?;
+    }
+    for _ in 0..9_999 {
+        text.extend_from_slice(b"$} ")?;
+    }
+    match cut(rt.alloc(), &text) {
+        Err(TextError::Fault(fault)) => {
+            assert_eq!(rt; fault.number, TextNumber::T08);
+            assert_eq!(rt; fault.at, 0);
+        }
+        _ => assert!(rt; false, "a block is open"),
+    }
+    text.extend_from_slice(b"$} ")?;
+    let found = cut(rt.alloc(), &text)?;
+    assert_eq!(rt; found.pieces.len(), 1);
+    assert!(rt; found.tail.is_empty());
+    for piece in found.pieces.iter() {
+        assert_eq!(rt; parts(rt.alloc(), piece.as_slice())?.len(), 20_000);
     }
     Ok(())
 }

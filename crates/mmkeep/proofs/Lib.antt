@@ -18,6 +18,7 @@ pub mod SourceLemmas
 pub mod StackLemmas
 pub mod StatementLemmas
 pub mod StatementsLemmas
+pub mod StreamLemmas
 pub mod SymbolLemmas
 pub mod SymbolsLemmas
 pub mod TableLemmas

@@ -10,6 +10,8 @@ use Rattle.mm_text.specs.declared.word.Keyword.TheVariants.{ProofStart}
 use Rattle.mm_text.specs.declared.word.WordKind.{WordKind}
 use Rattle.mm_text.specs.declared.word.WordKind.TheVariants as kinds
 use Rattle.mm_text.specs.Unit.{Token, IsPlain, IsViable}
+use Rattle.mm_text.specs.declared.grammar.Phase.{Phase}
+use Rattle.mm_text.specs.declared.grammar.Phase.TheVariants as phases
 use Rattle.mm_text.specs.UnitReading as reading
 use Rattle.mm_text.proofs.UnitFaultLemmas.{run_push, take_next, viable_take, stops_at, ends_in_unit}
 use Rattle.mm_text.proofs.UnitReadingLemmas.{run-IsViable, run-not_viable}
@@ -54,12 +56,12 @@ no_step_keyword front token other h = other h.plain
 
 -- ---- one word more
 
-pub reaches_more : (tokens : List Token) (phase p : reading.Phase) (last new : Option Keyword) (word : ℕ) → Reaches tokens phase last word → word < length tokens
+pub reaches_more : (tokens : List Token) (phase p : Phase) (last new : Option Keyword) (word : ℕ) → Reaches tokens phase last word → word < length tokens
     → reading.next phase 0 (token_at tokens word).kind (reading.could_label (token_at tokens word)) ≡ Ok (reading.state_of p 0)
     → ¬ IsUnreadAt tokens word → last_keyword (take word tokens ++ token_at tokens word ∷ []) ≡ new → Reaches tokens p new (word + 1)
 reaches_more tokens phase p last new word h l step read keyword = record {
   within = omega arith;
-  state = ap (reading.run reading.Begin 0) (take_one_more tokens word l) ∙ run_push (take word tokens) (token_at tokens word) phase 0 h.state ∙ step;
+  state = ap (reading.run phases.Begin 0) (take_one_more tokens word l) ∙ run_push (take word tokens) (token_at tokens word) phase 0 h.state ∙ step;
   keyword = ap last_keyword (take_one_more tokens word l) ∙ keyword;
   read = λ other k. by other (cases_lt other word) k;
 } where
@@ -67,7 +69,7 @@ reaches_more tokens phase p last new word h l step read keyword = record {
   by other (inl before) k = h.read other before
   by other (inr behind) k = let same : word ≡ other = omega arith in subst (λ (n : ℕ). ¬ IsUnreadAt tokens n) same read
 
-pub reaches_keyword : (tokens : List Token) (phase p : reading.Phase) (last : Option Keyword) (word : ℕ) (keyword : Keyword) → Reaches tokens phase last word → word < length tokens
+pub reaches_keyword : (tokens : List Token) (phase p : Phase) (last : Option Keyword) (word : ℕ) (keyword : Keyword) → Reaches tokens phase last word → word < length tokens
     → (token_at tokens word).kind ≡ kinds.Keyword keyword → is_unread_keyword keyword ≡ false → ((b : Bool) → reading.next phase 0 (kinds.Keyword keyword) b ≡ Ok (reading.state_of p 0)) → Reaches tokens p (Some keyword) (word + 1)
 reaches_keyword tokens phase p last word keyword h l is known step =
     reaches_more tokens phase p last (Some keyword) word h l
@@ -75,7 +77,7 @@ reaches_keyword tokens phase p last word keyword h l is known step =
     (is_read tokens word (ap is_unread_kind is ∙ known) (no_step_keyword (take word tokens) (token_at tokens word) (λ plain. let same : kinds.Keyword keyword ≡ kinds.Plain = sym is ∙ plain in cc)))
     (last_key (take word tokens) (token_at tokens word) keyword is)
 
-pub reaches_plain : (tokens : List Token) (phase p : reading.Phase) (last : Option Keyword) (word : ℕ) → Reaches tokens phase last word → word < length tokens
+pub reaches_plain : (tokens : List Token) (phase p : Phase) (last : Option Keyword) (word : ℕ) → Reaches tokens phase last word → word < length tokens
     → IsPlain (token_at tokens word) → ¬ IsUnreadStep (take word tokens) (token_at tokens word) → reading.next phase 0 kinds.Plain (reading.could_label (token_at tokens word)) ≡ Ok (reading.state_of p 0) → Reaches tokens p last (word + 1)
 reaches_plain tokens phase p last word h l plain read step =
     reaches_more tokens phase p last last word h l
@@ -85,7 +87,7 @@ reaches_plain tokens phase p last word h l plain read step =
 
 -- ---- what stops
 
-pub unread_stops : (tokens : List Token) (phase : reading.Phase) (last : Option Keyword) (word : ℕ) → Reaches tokens phase last word → word < length tokens
+pub unread_stops : (tokens : List Token) (phase : Phase) (last : Option Keyword) (word : ℕ) → Reaches tokens phase last word → word < length tokens
     → IsUnread (take word tokens) (token_at tokens word) → HasUnreadWord tokens (token_at tokens word).start
 unread_stops tokens phase last word h l unread = record {
   word = word;
@@ -97,7 +99,7 @@ unread_stops tokens phase last word h l unread = record {
   goes_on = run-IsViable (take word tokens) (reading.state_of phase 0) h.state;
 }
 
-pub fault_stops : (tokens : List Token) (phase : reading.Phase) (last : Option Keyword) (word : ℕ) (number : TextNumber) → Reaches tokens phase last word → word < length tokens
+pub fault_stops : (tokens : List Token) (phase : Phase) (last : Option Keyword) (word : ℕ) (number : TextNumber) → Reaches tokens phase last word → word < length tokens
     → reading.next phase 0 (token_at tokens word).kind (reading.could_label (token_at tokens word)) ≡ Err number → ¬ IsUnreadAt tokens word → HasUnitFault tokens (record { number = number; at = (token_at tokens word).start })
 fault_stops tokens phase last word number h l stops read = record {
   word = word;
@@ -108,7 +110,7 @@ fault_stops tokens phase last word number h l stops read = record {
   unread_behind = λ other unread viable. by other (cases_order other word) unread viable;
 } where
   not_viable : ¬ IsViable (take (word + 1) tokens)
-  not_viable = run-not_viable (take (word + 1) tokens) number (ap (reading.run reading.Begin 0) (take_one_more tokens word l) ∙ run_push (take word tokens) (token_at tokens word) phase 0 h.state ∙ stops)
+  not_viable = run-not_viable (take (word + 1) tokens) number (ap (reading.run phases.Begin 0) (take_one_more tokens word l) ∙ run_push (take word tokens) (token_at tokens word) phase 0 h.state ∙ stops)
 
   by : (other : ℕ) → (other ≡ word) ⊎ ((other < word) ⊎ (word < other)) → IsUnreadAt tokens other → ¬ IsViable (take other tokens)
   by other (inl same) unread viable = read (subst (λ (n : ℕ). IsUnreadAt tokens n) same unread)
@@ -116,7 +118,7 @@ fault_stops tokens phase last word number h l stops read = record {
   by other (inr (inr behind)) unread viable = not_viable (subst (λ (ts : List Token). IsViable ts) (take-take (word + 1) other tokens (omega arith)) (viable_take (take other tokens) (word + 1) viable))
 
 -- a word that no unit has at this place
-pub refused_stops : (tokens : List Token) (phase : reading.Phase) (last : Option Keyword) (word : ℕ) → Reaches tokens phase last word → word < length tokens
+pub refused_stops : (tokens : List Token) (phase : Phase) (last : Option Keyword) (word : ℕ) → Reaches tokens phase last word → word < length tokens
     → (is_unread_kind (token_at tokens word).kind ≡ false → reading.next phase 0 (token_at tokens word).kind (reading.could_label (token_at tokens word)) ≡ Err T06)
     → ¬ IsUnreadStep (take word tokens) (token_at tokens word) → StopsReading tokens (refusal (token_at tokens word))
 refused_stops tokens phase last word h l stops step = by (is_unread_kind (token_at tokens word).kind) refl where
@@ -126,26 +128,26 @@ refused_stops tokens phase last word h l stops step = by (is_unread_kind (token_
 
 -- ---- inside a statement
 
-pub stands_first : (tokens : List Token) (p : reading.Phase) (new : Option Keyword) (first : ℕ) → MayBeginAt tokens first → Reaches tokens p new (first + 1) → p ≢ reading.Begin → Stands tokens p new first (first + 1)
+pub stands_first : (tokens : List Token) (p : Phase) (new : Option Keyword) (first : ℕ) → MayBeginAt tokens first → Reaches tokens p new (first + 1) → p ≢ phases.Begin → Stands tokens p new first (first + 1)
 stands_first tokens p new first begins h inside = record {
   begins = begins;
   behind = omega arith;
   reaches = h;
-  unfinished = λ n l k. (p, let same : n ≡ first + 1 = omega arith in ap (λ (n : ℕ). reading.run reading.Begin 0 (take n tokens)) same ∙ h.state, inside);
+  unfinished = λ n l k. (p, let same : n ≡ first + 1 = omega arith in ap (λ (n : ℕ). reading.run phases.Begin 0 (take n tokens)) same ∙ h.state, inside);
 }
 
-pub stands_more : (tokens : List Token) (phase p : reading.Phase) (last new : Option Keyword) (first word : ℕ) → Stands tokens phase last first word → Reaches tokens p new (word + 1) → p ≢ reading.Begin → Stands tokens p new first (word + 1)
+pub stands_more : (tokens : List Token) (phase p : Phase) (last new : Option Keyword) (first word : ℕ) → Stands tokens phase last first word → Reaches tokens p new (word + 1) → p ≢ phases.Begin → Stands tokens p new first (word + 1)
 stands_more tokens phase p last new first word s h inside = record {
   begins = s.begins;
   behind = let before : first < word = s.behind in omega arith;
   reaches = h;
   unfinished = λ n l k. by n (cases_lt word n) l k;
 } where
-  by : (n : ℕ) → (word < n) ⊎ (n ≤ word) → first < n → n ≤ word + 1 → (p : reading.Phase) × (reading.run reading.Begin 0 (take n tokens) ≡ Ok (reading.state_of p 0)) × (p ≢ reading.Begin)
-  by n (inl behind) l k = (p, let same : n ≡ word + 1 = omega arith in ap (λ (n : ℕ). reading.run reading.Begin 0 (take n tokens)) same ∙ h.state, inside)
+  by : (n : ℕ) → (word < n) ⊎ (n ≤ word) → first < n → n ≤ word + 1 → (p : Phase) × (reading.run phases.Begin 0 (take n tokens) ≡ Ok (reading.state_of p 0)) × (p ≢ phases.Begin)
+  by n (inl behind) l k = (p, let same : n ≡ word + 1 = omega arith in ap (λ (n : ℕ). reading.run phases.Begin 0 (take n tokens)) same ∙ h.state, inside)
   by n (inr before) l k = s.unfinished n l before
 
-pub unfinished_stops : (tokens : List Token) (phase : reading.Phase) (last : Option Keyword) (first word : ℕ) → Stands tokens phase last first word → word ≡ length tokens → StopsReading tokens (unfinished (token_at tokens first))
+pub unfinished_stops : (tokens : List Token) (phase : Phase) (last : Option Keyword) (first word : ℕ) → Stands tokens phase last first word → word ≡ length tokens → StopsReading tokens (unfinished (token_at tokens first))
 unfinished_stops tokens phase last first word s all = record {
   word = first;
   token = token_at tokens first;

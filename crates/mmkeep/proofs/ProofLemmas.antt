@@ -6,6 +6,7 @@ use Rattle.mm_text.specs.declared.word.Keyword.TheVariants.{StatementEnd, ProofS
 use Rattle.mm_text.specs.declared.word.WordKind.{WordKind}
 use Rattle.mm_text.specs.declared.word.WordKind.TheVariants as kinds
 use Rattle.mm_text.specs.Unit.{Token, IsPlain}
+use Rattle.mm_text.specs.declared.grammar.Phase.TheVariants as phases
 use Rattle.mm_text.specs.UnitReading as reading
 use Rattle.mmkeep.specs.Source.{token_at}
 use Rattle.mmkeep.specs.Unread.{EndsInKeyword}
@@ -37,7 +38,7 @@ ends_in tokens word keyword l is = record { front = take word tokens; last = tok
 
 -- the words from `from` on are steps of a proof
 pub record ReadsProof (tokens : List Token) (first from word : ℕ) : Type 0 where
-  pub stands : Stands tokens reading.Symbols (Some ProofStart) first word
+  pub stands : Stands tokens phases.Symbols (Some ProofStart) first word
   pub order : from ≤ word
   pub plain : (k : ℕ) → from ≤ k → k < word → IsPlain (token_at tokens k)
   pub begins : EndsInKeyword ProofStart (take word tokens) → word ≡ from
@@ -45,8 +46,8 @@ pub record ReadsProof (tokens : List Token) (first from word : ℕ) : Type 0 whe
 pub proof_more : (tokens : List Token) (first from word : ℕ) → ReadsProof tokens first from word → word < length tokens → IsPlain (token_at tokens word)
     → ¬ (((token_at tokens word).bytes ≡ codes "?") ⊎ ((word ≡ from) × ((token_at tokens word).bytes ≡ codes "("))) → ReadsProof tokens first from (word + 1)
 proof_more tokens first from word h l plain known = record {
-  stands = stands_more tokens reading.Symbols reading.Symbols (Some ProofStart) (Some ProofStart) first word h.stands
-      (reaches_plain tokens reading.Symbols reading.Symbols (Some ProofStart) word h.stands.reaches l plain (λ step. known (spelled step.spelled)) refl) symbols_open.inside;
+  stands = stands_more tokens phases.Symbols phases.Symbols (Some ProofStart) (Some ProofStart) first word h.stands
+      (reaches_plain tokens phases.Symbols phases.Symbols (Some ProofStart) word h.stands.reaches l plain (λ step. known (spelled step.spelled)) refl) symbols_open.inside;
   order = let before : from ≤ word = h.order in omega arith;
   plain = λ k a b. by k (cases_lt k word) a b;
   begins = λ ends. absurd (ends_plain (take word tokens) (token_at tokens word) ProofStart plain (subst (λ (ts : List Token). EndsInKeyword ProofStart ts) (take_one_more tokens word l) ends));
@@ -68,20 +69,20 @@ proof_closed tokens first from word h l is = record {
   begins = record {
     last = Some StatementEnd;
     outside = λ same. let keyword : StatementEnd ≡ ProofStart = cc in cc;
-    reaches = reaches_keyword tokens reading.Symbols reading.Begin (Some ProofStart) word StatementEnd h.stands.reaches l is refl (λ b. refl);
+    reaches = reaches_keyword tokens phases.Symbols phases.Begin (Some ProofStart) word StatementEnd h.stands.reaches l is refl (λ b. refl);
   };
 }
 
 pub proof_refused : (tokens : List Token) (first from word : ℕ) → ReadsProof tokens first from word → word < length tokens → ¬ IsPlain (token_at tokens word) → (token_at tokens word).kind ≢ kinds.Keyword StatementEnd
     → StopsReading tokens (refusal (token_at tokens word))
 proof_refused tokens first from word h l plain other =
-    refused_stops tokens reading.Symbols (Some ProofStart) word h.stands.reaches l (λ read. symbols_refuse (token_at tokens word).kind (reading.could_label (token_at tokens word)) plain other read)
+    refused_stops tokens phases.Symbols (Some ProofStart) word h.stands.reaches l (λ read. symbols_refuse (token_at tokens word).kind (reading.could_label (token_at tokens word)) plain other read)
     (no_step_keyword (take word tokens) (token_at tokens word) plain)
 
 pub proof_unread : (tokens : List Token) (first from word : ℕ) → ReadsProof tokens first from word → EndsInKeyword ProofStart (take from tokens) → word < length tokens → IsPlain (token_at tokens word)
     → ((token_at tokens word).bytes ≡ codes "?") ⊎ ((word ≡ from) × ((token_at tokens word).bytes ≡ codes "(")) → HasUnreadWord tokens (token_at tokens word).start
 proof_unread tokens first from word h ends l plain known =
-    unread_stops tokens reading.Symbols (Some ProofStart) word h.stands.reaches l (inr (record { plain = plain; in_proof = h.stands.reaches.keyword; spelled = spelled known })) where
+    unread_stops tokens phases.Symbols (Some ProofStart) word h.stands.reaches l (inr (record { plain = plain; in_proof = h.stands.reaches.keyword; spelled = spelled known })) where
       spelled : (((token_at tokens word).bytes ≡ codes "?") ⊎ ((word ≡ from) × ((token_at tokens word).bytes ≡ codes "("))) → (((token_at tokens word).bytes ≡ codes "?") ⊎ (((token_at tokens word).bytes ≡ codes "(") × EndsInKeyword ProofStart (take word tokens)))
       spelled (inl is) = inl is
       spelled (inr is) = inr (is.1, subst (λ (n : ℕ). EndsInKeyword ProofStart (take n tokens)) (sym is.0) ends)
@@ -99,4 +100,4 @@ not_spelled_from bytes others word from b h e is (inl same) = let t : IsTrue b =
 not_spelled_from bytes others word from b h e is (inr same) = let t : IsTrue b = h.1 (inr (eq-eqb word from same.0, e ∙ same.1)) in cc
 
 pub proof_cut : (tokens : List Token) (first from word : ℕ) → ReadsProof tokens first from word → word ≡ length tokens → StopsReading tokens (unfinished (token_at tokens first))
-proof_cut tokens first from word h all = unfinished_stops tokens reading.Symbols (Some ProofStart) first word h.stands all
+proof_cut tokens first from word h all = unfinished_stops tokens phases.Symbols (Some ProofStart) first word h.stands all

@@ -10,6 +10,8 @@ use Rattle.mm_text.specs.declared.word.Keyword.TheVariants as keywords
 use Rattle.mm_text.specs.declared.word.WordKind.{WordKind}
 use Rattle.mm_text.specs.declared.word.WordKind.TheVariants as kinds
 use Rattle.mm_text.specs.Unit.{Token, Declaration, Labelled, Provable, IsPlain, is_label_byte}
+use Rattle.mm_text.specs.declared.grammar.Phase.{Phase}
+use Rattle.mm_text.specs.declared.grammar.Phase.TheVariants as phases
 use Rattle.mm_text.specs.UnitReading as reading
 use Rattle.mm_text.proofs.UnitFaultLemmas.{drop_next}
 use Rattle.mmkeep.specs.declared.statement.Statement.{Statement}
@@ -46,13 +48,13 @@ drop_closed tokens from end order l = drop_range tokens from end order l ∙ sym
 -- ---- where a keyword begins the symbols
 
 opens : (tokens : List Token) (first : ℕ) (keyword : Keyword) → MayBeginAt tokens first → first < length tokens → (token_at tokens first).kind ≡ kinds.Keyword keyword → is_unread_keyword keyword ≡ false
-    → ((b : Bool) → reading.next reading.Begin 0 (kinds.Keyword keyword) b ≡ Ok (reading.state_of reading.Symbols 0)) → keyword ≢ keywords.ProofStart → AwaitsSymbols tokens keywords.StatementEnd first (first + 1)
+    → ((b : Bool) → reading.next phases.Begin 0 (kinds.Keyword keyword) b ≡ Ok (reading.state_of phases.Symbols 0)) → keyword ≢ keywords.ProofStart → AwaitsSymbols tokens keywords.StatementEnd first (first + 1)
 opens tokens first keyword h l is known step other = record {
-  phase = reading.Symbols;
+  phase = phases.Symbols;
   last = Some keyword;
   closes = refl;
   outside = λ same. other (let e : Some keyword ≡ Some keywords.ProofStart = same in cc);
-  stands = stands_first tokens reading.Symbols (Some keyword) first h (reaches_keyword tokens reading.Begin reading.Symbols h.last first keyword h.reaches l is known step) (λ x. cc);
+  stands = stands_first tokens phases.Symbols (Some keyword) first h (reaches_keyword tokens phases.Begin phases.Symbols h.last first keyword h.reaches l is known step) (λ x. cc);
 }
 
 pub declaration_opens : (tokens : List Token) (first : ℕ) (kind : StatementKind) → MayBeginAt tokens first → first < length tokens → IsDeclarationOf (token_at tokens first).kind kind → AwaitsSymbols tokens keywords.StatementEnd first (first + 1)
@@ -62,47 +64,47 @@ declaration_opens tokens first kind h l = by (token_at tokens first).kind refl w
   by (kinds.Keyword keywords.Variables) is d = opens tokens first keywords.Variables h l is refl (λ b. refl) (λ x. cc)
   by _ is d = absurd d
 
-stands_labelled : (tokens : List Token) (first : ℕ) (keyword : Keyword) (p : reading.Phase) → HasLabel tokens first → first + 1 < length tokens → (token_at tokens (first + 1)).kind ≡ kinds.Keyword keyword → is_unread_keyword keyword ≡ false
-    → ((b : Bool) → reading.next reading.Labelled 0 (kinds.Keyword keyword) b ≡ Ok (reading.state_of p 0)) → p ≢ reading.Begin → Stands tokens p (Some keyword) first (first + 2)
+stands_labelled : (tokens : List Token) (first : ℕ) (keyword : Keyword) (p : Phase) → HasLabel tokens first → first + 1 < length tokens → (token_at tokens (first + 1)).kind ≡ kinds.Keyword keyword → is_unread_keyword keyword ≡ false
+    → ((b : Bool) → reading.next phases.Labelled 0 (kinds.Keyword keyword) b ≡ Ok (reading.state_of p 0)) → p ≢ phases.Begin → Stands tokens p (Some keyword) first (first + 2)
 stands_labelled tokens first keyword p h l is known step inside =
     let same : first + 1 + 1 ≡ first + 2 = omega arith in
     subst (λ (n : ℕ). Stands tokens p (Some keyword) first n) same
-    (stands_more tokens reading.Labelled p h.last (Some keyword) first (first + 1) h.stands (reaches_keyword tokens reading.Labelled p h.last (first + 1) keyword h.stands.reaches l is known step) inside)
+    (stands_more tokens phases.Labelled p h.last (Some keyword) first (first + 1) h.stands (reaches_keyword tokens phases.Labelled p h.last (first + 1) keyword h.stands.reaches l is known step) inside)
 
 pub labelled_opens : (tokens : List Token) (first : ℕ) (kind : StatementKind) → HasLabel tokens first → first + 1 < length tokens → IsLabelledOf (token_at tokens (first + 1)).kind kind → AwaitsSymbols tokens keywords.StatementEnd first (first + 2)
 labelled_opens tokens first kind h l = by (token_at tokens (first + 1)).kind refl where
   by : (word : WordKind) → (token_at tokens (first + 1)).kind ≡ word → IsLabelledOf word kind → AwaitsSymbols tokens keywords.StatementEnd first (first + 2)
   by (kinds.Keyword keywords.Floating) is d = record {
-    phase = reading.Symbols;
+    phase = phases.Symbols;
     last = Some keywords.Floating;
     closes = refl;
     outside = λ same. let e : keywords.Floating ≡ keywords.ProofStart = cc in cc;
-    stands = stands_labelled tokens first keywords.Floating reading.Symbols h l is refl (λ b. refl) (λ x. cc);
+    stands = stands_labelled tokens first keywords.Floating phases.Symbols h l is refl (λ b. refl) (λ x. cc);
   }
   by (kinds.Keyword keywords.Axiom) is d = record {
-    phase = reading.Symbols;
+    phase = phases.Symbols;
     last = Some keywords.Axiom;
     closes = refl;
     outside = λ same. let e : keywords.Axiom ≡ keywords.ProofStart = cc in cc;
-    stands = stands_labelled tokens first keywords.Axiom reading.Symbols h l is refl (λ b. refl) (λ x. cc);
+    stands = stands_labelled tokens first keywords.Axiom phases.Symbols h l is refl (λ b. refl) (λ x. cc);
   }
   by _ is d = absurd d
 
 pub theorem_opens : (tokens : List Token) (first : ℕ) → HasLabel tokens first → first + 1 < length tokens → (token_at tokens (first + 1)).kind ≡ kinds.Keyword keywords.Theorem → AwaitsSymbols tokens keywords.ProofStart first (first + 2)
 theorem_opens tokens first h l is = record {
-  phase = reading.Expression;
+  phase = phases.Expression;
   last = Some keywords.Theorem;
   closes = refl;
   outside = λ same. let e : keywords.Theorem ≡ keywords.ProofStart = cc in cc;
-  stands = stands_labelled tokens first keywords.Theorem reading.Expression h l is refl (λ b. refl) (λ x. cc);
+  stands = stands_labelled tokens first keywords.Theorem phases.Expression h l is refl (λ b. refl) (λ x. cc);
 }
 
-pub proof_opens : (tokens : List Token) (first from close : ℕ) → ClosesSymbols tokens keywords.ProofStart first from close → Stands tokens reading.Symbols (Some keywords.ProofStart) first (close + 1)
+pub proof_opens : (tokens : List Token) (first from close : ℕ) → ClosesSymbols tokens keywords.ProofStart first from close → Stands tokens phases.Symbols (Some keywords.ProofStart) first (close + 1)
 proof_opens tokens first from close h =
     let a = h.awaits in
-    let s : Stands tokens reading.Expression a.last first close = subst (λ (p : reading.Phase). Stands tokens p a.last first close) a.closes a.stands in
-    stands_more tokens reading.Expression reading.Symbols a.last (Some keywords.ProofStart) first close s
-    (reaches_keyword tokens reading.Expression reading.Symbols a.last close keywords.ProofStart s.reaches h.within h.keyword refl (λ b. refl)) (λ x. cc)
+    let s : Stands tokens phases.Expression a.last first close = subst (λ (p : Phase). Stands tokens p a.last first close) a.closes a.stands in
+    stands_more tokens phases.Expression phases.Symbols a.last (Some keywords.ProofStart) first close s
+    (reaches_keyword tokens phases.Expression phases.Symbols a.last close keywords.ProofStart s.reaches h.within h.keyword refl (λ b. refl)) (λ x. cc)
 
 -- ---- behind a label
 
@@ -111,9 +113,9 @@ has_label tokens first h l plain is = record {
   last = h.last;
   outside = h.outside;
   label = (plain, is);
-  stands = stands_first tokens reading.Labelled h.last first h
-      (reaches_plain tokens reading.Begin reading.Labelled h.last first h.reaches l plain (no_step_outside (take first tokens) (token_at tokens first) h.last h.reaches.keyword h.outside)
-      (ap (λ (b : Bool). reading.next reading.Begin 0 kinds.Plain b) is)) (λ x. cc);
+  stands = stands_first tokens phases.Labelled h.last first h
+      (reaches_plain tokens phases.Begin phases.Labelled h.last first h.reaches l plain (no_step_outside (take first tokens) (token_at tokens first) h.last h.reaches.keyword h.outside)
+      (ap (λ (b : Bool). reading.next phases.Begin 0 kinds.Plain b) is)) (λ x. cc);
 }
 
 pub tested_label : (tokens : List Token) (first : ℕ) (bytes : List ℕ) (b : Bool) → MayBeginAt tokens first → first < length tokens → IsPlain (token_at tokens first) → bytes ≡ (token_at tokens first).bytes → b ≡ list_all is_label_byte bytes → b ≡ true → HasLabel tokens first
@@ -122,14 +124,14 @@ tested_label tokens first bytes b h l plain same test is = has_label tokens firs
 pub no_label_stops : (tokens : List Token) (first : ℕ) → MayBeginAt tokens first → first < length tokens → IsPlain (token_at tokens first) → reading.could_label (token_at tokens first) ≡ false
     → HasUnitFault tokens (record { number = T11; at = (token_at tokens first).start })
 no_label_stops tokens first h l plain is =
-    fault_stops tokens reading.Begin h.last first T11 h.reaches l
-    (ap (λ (k : WordKind). reading.next reading.Begin 0 k (reading.could_label (token_at tokens first))) plain ∙ ap (λ (b : Bool). reading.next reading.Begin 0 kinds.Plain b) is)
+    fault_stops tokens phases.Begin h.last first T11 h.reaches l
+    (ap (λ (k : WordKind). reading.next phases.Begin 0 k (reading.could_label (token_at tokens first))) plain ∙ ap (λ (b : Bool). reading.next phases.Begin 0 kinds.Plain b) is)
     (is_read tokens first (ap is_unread_kind plain) (no_step_outside (take first tokens) (token_at tokens first) h.last h.reaches.keyword h.outside))
 
 pub label_cut : (tokens : List Token) (first : ℕ) → HasLabel tokens first → first + 1 ≡ length tokens → StopsReading tokens (unfinished (token_at tokens first))
-label_cut tokens first h all = unfinished_stops tokens reading.Labelled h.last first (first + 1) h.stands all
+label_cut tokens first h all = unfinished_stops tokens phases.Labelled h.last first (first + 1) h.stands all
 
-labelled_refuse : (kind : WordKind) (b : Bool) → kind ≢ kinds.Keyword keywords.Floating → kind ≢ kinds.Keyword keywords.Axiom → kind ≢ kinds.Keyword keywords.Theorem → is_unread_kind kind ≡ false → reading.next reading.Labelled 0 kind b ≡ Err T06
+labelled_refuse : (kind : WordKind) (b : Bool) → kind ≢ kinds.Keyword keywords.Floating → kind ≢ kinds.Keyword keywords.Axiom → kind ≢ kinds.Keyword keywords.Theorem → is_unread_kind kind ≡ false → reading.next phases.Labelled 0 kind b ≡ Err T06
 labelled_refuse kinds.Plain b f g h e = refl
 labelled_refuse (kinds.Keyword keywords.Floating) b f g h e = absurd (f refl)
 labelled_refuse (kinds.Keyword keywords.Axiom) b f g h e = absurd (g refl)
@@ -141,13 +143,13 @@ labelled_refuse (kinds.Keyword _) b f g h e = refl
 pub label_refused : (tokens : List Token) (first : ℕ) → HasLabel tokens first → first + 1 < length tokens → (token_at tokens (first + 1)).kind ≢ kinds.Keyword keywords.Floating → (token_at tokens (first + 1)).kind ≢ kinds.Keyword keywords.Axiom
     → (token_at tokens (first + 1)).kind ≢ kinds.Keyword keywords.Theorem → StopsReading tokens (refusal (token_at tokens (first + 1)))
 label_refused tokens first h l not_floating not_axiom not_theorem =
-    refused_stops tokens reading.Labelled h.last (first + 1) h.stands.reaches l
+    refused_stops tokens phases.Labelled h.last (first + 1) h.stands.reaches l
     (λ read. labelled_refuse (token_at tokens (first + 1)).kind (reading.could_label (token_at tokens (first + 1))) not_floating not_axiom not_theorem read)
     (no_step_outside (take (first + 1) tokens) (token_at tokens (first + 1)) h.last h.stands.reaches.keyword h.outside)
 
 -- ---- what no statement begins with
 
-begin_refuse : (kind : WordKind) (b : Bool) → kind ≢ kinds.Plain → kind ≢ kinds.Keyword keywords.Constants → kind ≢ kinds.Keyword keywords.Variables → is_unread_kind kind ≡ false → reading.next reading.Begin 0 kind b ≡ Err T06
+begin_refuse : (kind : WordKind) (b : Bool) → kind ≢ kinds.Plain → kind ≢ kinds.Keyword keywords.Constants → kind ≢ kinds.Keyword keywords.Variables → is_unread_kind kind ≡ false → reading.next phases.Begin 0 kind b ≡ Err T06
 begin_refuse kinds.Plain b f g h e = absurd (f refl)
 begin_refuse (kinds.Keyword keywords.Constants) b f g h e = absurd (g refl)
 begin_refuse (kinds.Keyword keywords.Variables) b f g h e = absurd (h refl)
@@ -160,7 +162,7 @@ begin_refuse (kinds.Keyword _) b f g h e = refl
 pub begin_refused : (tokens : List Token) (first : ℕ) → MayBeginAt tokens first → first < length tokens → ¬ IsPlain (token_at tokens first) → (token_at tokens first).kind ≢ kinds.Keyword keywords.Constants
     → (token_at tokens first).kind ≢ kinds.Keyword keywords.Variables → StopsReading tokens (refusal (token_at tokens first))
 begin_refused tokens first h l plain constants variables =
-    refused_stops tokens reading.Begin h.last first h.reaches l
+    refused_stops tokens phases.Begin h.last first h.reaches l
     (λ read. begin_refuse (token_at tokens first).kind (reading.could_label (token_at tokens first)) plain constants variables read)
     (no_step_outside (take first tokens) (token_at tokens first) h.last h.reaches.keyword h.outside)
 
@@ -169,11 +171,11 @@ begin_refused tokens first h l plain constants variables =
 may_begin_behind : (tokens : List Token) (first from end : ℕ) → ClosesSymbols tokens keywords.StatementEnd first from end → MayBeginAt tokens (end + 1)
 may_begin_behind tokens first from end h =
     let a = h.awaits in
-    let r : Reaches tokens reading.Symbols a.last end = subst (λ (p : reading.Phase). Reaches tokens p a.last end) a.closes a.stands.reaches in
+    let r : Reaches tokens phases.Symbols a.last end = subst (λ (p : Phase). Reaches tokens p a.last end) a.closes a.stands.reaches in
     record {
       last = Some keywords.StatementEnd;
       outside = λ same. let e : keywords.StatementEnd ≡ keywords.ProofStart = cc in cc;
-      reaches = reaches_keyword tokens reading.Symbols reading.Begin a.last end keywords.StatementEnd r h.within h.keyword refl (λ b. refl);
+      reaches = reaches_keyword tokens phases.Symbols phases.Begin a.last end keywords.StatementEnd r h.within h.keyword refl (λ b. refl);
     }
 
 record Declares (word : WordKind) (kind : StatementKind) (texts : List (List ℕ)) (s : Statement) : Type 0 where

@@ -9,6 +9,8 @@ use Rattle.mm_text.specs.declared.word.Keyword.TheVariants.{StatementEnd, ProofS
 use Rattle.mm_text.specs.declared.word.WordKind.{WordKind}
 use Rattle.mm_text.specs.declared.word.WordKind.TheVariants as kinds
 use Rattle.mm_text.specs.Unit.{Token, IsPlain}
+use Rattle.mm_text.specs.declared.grammar.Phase.{Phase}
+use Rattle.mm_text.specs.declared.grammar.Phase.TheVariants as phases
 use Rattle.mm_text.specs.UnitReading as reading
 use Rattle.mmkeep.specs.Plain.{is_plain, is_plain_kind}
 use Rattle.mmkeep.specs.Source.{token_at, no_token}
@@ -49,22 +51,22 @@ plain_range tokens from end l within h =
 
 -- ---- phases that plain words keep
 
-pub record IsOpen (phase : reading.Phase) : Type 0 where
+pub record IsOpen (phase : Phase) : Type 0 where
   pub keeps : (b : Bool) → reading.next phase 0 kinds.Plain b ≡ Ok (reading.state_of phase 0)
-  pub inside : phase ≢ reading.Begin
+  pub inside : phase ≢ phases.Begin
 
-pub symbols_open : IsOpen reading.Symbols
+pub symbols_open : IsOpen phases.Symbols
 symbols_open = record { keeps = λ b. refl; inside = λ x. cc }
 
-pub expression_open : IsOpen reading.Expression
+pub expression_open : IsOpen phases.Expression
 expression_open = record { keeps = λ b. refl; inside = λ x. cc }
 
-closes_open : (close : Keyword) (phase : reading.Phase) → Closes close phase → IsOpen phase
-closes_open StatementEnd phase e = subst (λ (p : reading.Phase). IsOpen p) (sym e) symbols_open
-closes_open ProofStart phase e = subst (λ (p : reading.Phase). IsOpen p) (sym e) expression_open
+closes_open : (close : Keyword) (phase : Phase) → Closes close phase → IsOpen phase
+closes_open StatementEnd phase e = subst (λ (p : Phase). IsOpen p) (sym e) symbols_open
+closes_open ProofStart phase e = subst (λ (p : Phase). IsOpen p) (sym e) expression_open
 closes_open _ phase e = absurd e
 
-pub stands_plain : (n : ℕ) (tokens : List Token) (phase : reading.Phase) (last : Option Keyword) (first from : ℕ) → IsOpen phase → last ≢ Some ProofStart → Stands tokens phase last first from
+pub stands_plain : (n : ℕ) (tokens : List Token) (phase : Phase) (last : Option Keyword) (first from : ℕ) → IsOpen phase → last ≢ Some ProofStart → Stands tokens phase last first from
     → from + n ≤ length tokens → ((k : ℕ) → from ≤ k → k < from + n → IsPlain (token_at tokens k)) → Stands tokens phase last first (from + n)
 stands_plain zero tokens phase last first from keeper outside s within plain = let same : from ≡ from + 0 = omega arith in subst (λ (n : ℕ). Stands tokens phase last first n) same s
 stands_plain (suc n) tokens phase last first from keeper outside s within plain =
@@ -101,21 +103,21 @@ symbols_closed tokens close first from end a within e is = record {
   keyword = is;
 }
 
-pub symbols_refuse : (kind : WordKind) (b : Bool) → kind ≢ kinds.Plain → kind ≢ kinds.Keyword StatementEnd → is_unread_kind kind ≡ false → reading.next reading.Symbols 0 kind b ≡ Err T06
+pub symbols_refuse : (kind : WordKind) (b : Bool) → kind ≢ kinds.Plain → kind ≢ kinds.Keyword StatementEnd → is_unread_kind kind ≡ false → reading.next phases.Symbols 0 kind b ≡ Err T06
 symbols_refuse kinds.Plain b f g e = absurd (f refl)
 symbols_refuse (kinds.Keyword StatementEnd) b f g e = absurd (g refl)
 symbols_refuse (kinds.Keyword InclusionStart) b f g e = absurd cc
 symbols_refuse (kinds.Keyword _) b f g e = refl
 
-expression_refuse : (kind : WordKind) (b : Bool) → kind ≢ kinds.Plain → kind ≢ kinds.Keyword ProofStart → is_unread_kind kind ≡ false → reading.next reading.Expression 0 kind b ≡ Err T06
+expression_refuse : (kind : WordKind) (b : Bool) → kind ≢ kinds.Plain → kind ≢ kinds.Keyword ProofStart → is_unread_kind kind ≡ false → reading.next phases.Expression 0 kind b ≡ Err T06
 expression_refuse kinds.Plain b f g e = absurd (f refl)
 expression_refuse (kinds.Keyword ProofStart) b f g e = absurd (g refl)
 expression_refuse (kinds.Keyword InclusionStart) b f g e = absurd cc
 expression_refuse (kinds.Keyword _) b f g e = refl
 
-close_refuse : (close : Keyword) (phase : reading.Phase) → Closes close phase → (kind : WordKind) (b : Bool) → kind ≢ kinds.Plain → kind ≢ kinds.Keyword close → is_unread_kind kind ≡ false → reading.next phase 0 kind b ≡ Err T06
-close_refuse StatementEnd phase is kind b f g e = ap (λ (p : reading.Phase). reading.next p 0 kind b) is ∙ symbols_refuse kind b f g e
-close_refuse ProofStart phase is kind b f g e = ap (λ (p : reading.Phase). reading.next p 0 kind b) is ∙ expression_refuse kind b f g e
+close_refuse : (close : Keyword) (phase : Phase) → Closes close phase → (kind : WordKind) (b : Bool) → kind ≢ kinds.Plain → kind ≢ kinds.Keyword close → is_unread_kind kind ≡ false → reading.next phase 0 kind b ≡ Err T06
+close_refuse StatementEnd phase is kind b f g e = ap (λ (p : Phase). reading.next p 0 kind b) is ∙ symbols_refuse kind b f g e
+close_refuse ProofStart phase is kind b f g e = ap (λ (p : Phase). reading.next p 0 kind b) is ∙ expression_refuse kind b f g e
 close_refuse _ phase is kind b f g e = absurd is
 
 pub symbols_refused : (tokens : List Token) (close : Keyword) (first from end : ℕ) → AwaitsSymbols tokens close first from → end < length tokens → end ≡ from + prefix_len is_plain (drop from tokens)

@@ -129,7 +129,7 @@ build_stop_lies text words source h e statements Write reads s = tt
 
 -- ---- the report
 
-pub is_report : (text : List ℕ) (words : List Word) (source : Source) (statements : List Statement) (found : List Finding) (wrong : ℕ) → HasWords text words → tokens source ≡ tokens_of text words → ReadsStatements (tokens source) statements → AreSound (items_in source statements) → AreFindings (items_in source statements) found
+is_report : (text : List ℕ) (words : List Word) (source : Source) (statements : List Statement) (found : List Finding) (wrong : ℕ) → HasWords text words → tokens source ≡ tokens_of text words → ReadsStatements (tokens source) statements → AreSound (items_in source statements) → AreFindings (items_in source statements) found
     → wrong ≡ count_by is_wrong found → IsReport text (wrong == 0) (report (items_in source statements) found)
 is_report text words source statements found wrong h e reads sound findings w =
     record {
@@ -150,5 +150,15 @@ is_report text words source statements found wrong h e reads sound findings w =
 pub base_is : (source : Source) (statements : List Statement) (base : Base) → base.source ≡ source → base.statements.items ≡ statements → IsBase (items_in source statements) base → IsBase (items_of base) base
 base_is source statements base e f h = subst (λ (items : List Item). IsBase items base) (sym (ap (λ (s : Source). items_in s base.statements.items) e ∙ ap (items_in source) f)) h
 
-pub reads_in : (source other : Source) (statements others : List Statement) → other ≡ source → others ≡ statements → ReadsStatements (tokens source) statements → ReadsStatements (tokens other) others
+reads_in : (source other : Source) (statements others : List Statement) → other ≡ source → others ≡ statements → ReadsStatements (tokens source) statements → ReadsStatements (tokens other) others
 reads_in source other statements others e f h = subst (λ (s : Source). ReadsStatements (tokens s) others) (sym e) (subst (ReadsStatements (tokens source)) (sym f) h)
+
+-- ---- the report of a text whose statements were built
+
+pub report_of_built : (text : List ℕ) (words others : List Word) (source : Source) (statements : List Statement) (base : Base) (found : List Finding) (wrong : ℕ) → HasWords text words → source.text.now ≡ text → source.words.now ≡ others → others ≡ words → ReadsStatements (tokens source) statements
+    → base.source ≡ source → base.statements.items ≡ statements → IsBase (items_in source statements) base → AreFindings (items_of base) found → wrong ≡ count_by is_wrong found → IsReport text (wrong == 0) (report (items_of base) found)
+report_of_built text words others source statements base found wrong h text_is words_are same reads source_is statements_are is_base findings w =
+    let tokens_are = ap tokens source_is ∙ source_tokens text words others source text_is words_are same in
+    let reads_built = reads_in source base.source statements base.statements.items source_is statements_are reads in
+    let kept = base_is source statements base source_is statements_are is_base in
+    is_report text words base.source base.statements.items found wrong h tokens_are reads_built kept.sound findings w

@@ -8,6 +8,8 @@ use Rattle.mm_text.specs.declared.word.Keyword.TheVariants as keywords
 use Rattle.mm_text.specs.declared.word.WordKind.{WordKind}
 use Rattle.mm_text.specs.declared.word.WordKind.TheVariants as kinds
 use Rattle.mm_text.specs.Unit.{Token, Shape, IsPlain, IsLabel, IsShape, shape_tokens}
+use Rattle.mm_text.specs.declared.grammar.Phase.{Phase}
+use Rattle.mm_text.specs.declared.grammar.Phase.TheVariants as phases
 use Rattle.mm_text.specs.UnitReading as reading
 use Rattle.mm_frame.specs.Item.{Item, Kind}
 use Rattle.mm_frame.specs.Item as items
@@ -22,9 +24,9 @@ use Rattle.mmkeep.specs.Statements.{AreStatements, first_token, HasUnitFault, Ha
 use Rattle.mm_frame.specs.Statement.{item_of, names}
 
 -- the words before a place are read: the reading of units stands in this phase with no block open, and this is the last keyword
-pub record Reaches (tokens : List Token) (phase : reading.Phase) (last : Option Keyword) (word : ℕ) : Type 0 where
+pub record Reaches (tokens : List Token) (phase : Phase) (last : Option Keyword) (word : ℕ) : Type 0 where
   pub within : word ≤ length tokens
-  pub state : reading.run reading.Begin 0 (take word tokens) ≡ Ok (reading.state_of phase 0)
+  pub state : reading.run phases.Begin 0 (take word tokens) ≡ Ok (reading.state_of phase 0)
   pub keyword : last_keyword (take word tokens) ≡ last
   pub read : (other : ℕ) → other < word → ¬ IsUnreadAt tokens other
 
@@ -32,24 +34,24 @@ pub record Reaches (tokens : List Token) (phase : reading.Phase) (last : Option 
 pub record MayBeginAt (tokens : List Token) (word : ℕ) : Type 0 where
   pub last : Option Keyword
   pub outside : last ≢ Some ProofStart
-  pub reaches : Reaches tokens reading.Begin last word
+  pub reaches : Reaches tokens phases.Begin last word
 
 -- the words from `first` on are the beginning of a statement
-pub record Stands (tokens : List Token) (phase : reading.Phase) (last : Option Keyword) (first word : ℕ) : Type 0 where
+pub record Stands (tokens : List Token) (phase : Phase) (last : Option Keyword) (first word : ℕ) : Type 0 where
   pub begins : MayBeginAt tokens first
   pub behind : first < word
   pub reaches : Reaches tokens phase last word
-  pub unfinished : (n : ℕ) → first < n → n ≤ word → (p : reading.Phase) × (reading.run reading.Begin 0 (take n tokens) ≡ Ok (reading.state_of p 0)) × (p ≢ reading.Begin)
+  pub unfinished : (n : ℕ) → first < n → n ≤ word → (p : Phase) × (reading.run phases.Begin 0 (take n tokens) ≡ Ok (reading.state_of p 0)) × (p ≢ phases.Begin)
 
 -- the phase in which this keyword closes the symbols of a statement
-abbrev pub Closes : Keyword → reading.Phase → Type 0
-Closes StatementEnd phase = phase ≡ reading.Symbols
-Closes ProofStart phase = phase ≡ reading.Expression
+abbrev pub Closes : Keyword → Phase → Type 0
+Closes StatementEnd phase = phase ≡ phases.Symbols
+Closes ProofStart phase = phase ≡ phases.Expression
 Closes _ phase = ⊥
 
 -- the symbols of a statement, from a word on, are closed by this keyword
 pub record AwaitsSymbols (tokens : List Token) (close : Keyword) (first from : ℕ) : Type 0 where
-  pub phase : reading.Phase
+  pub phase : Phase
   pub last : Option Keyword
   pub closes : Closes close phase
   pub outside : last ≢ Some ProofStart
@@ -144,7 +146,7 @@ pub record HasLabel (tokens : List Token) (first : ℕ) : Type 0 where
   pub last : Option Keyword
   pub outside : last ≢ Some ProofStart
   pub label : IsLabel (token_at tokens first)
-  pub stands : Stands tokens reading.Labelled last first (first + 1)
+  pub stands : Stands tokens phases.Labelled last first (first + 1)
 
 -- the words are these statements, in order
 pub record ReadsStatements (tokens : List Token) (found : List Statement) : Type 0 where

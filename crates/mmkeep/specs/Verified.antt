@@ -1,5 +1,5 @@
 -- What the verification of one file answers.
-use Rattle.std.specs.Prelude.{◌≡◌, ◌↔◌, ◌⊎◌, ℕ, ◌<◌, Bool, IsTrue, List, [], ◌∷◌, ◌++◌, length, map}
+use Rattle.std.specs.Prelude.{◌≡◌, ◌↔◌, ◌⊎◌, ℕ, ◌<◌, Bool, IsTrue, Option, List, [], ◌∷◌, ◌++◌, length, map}
 use Rattle.mm_text.specs.declared.word.Word.{Word}
 use Rattle.mm_text.specs.declared.fault.TextFault.{TextFault}
 use Rattle.mm_text.specs.Reading.{HasWords, IsFault}
@@ -12,6 +12,7 @@ use Rattle.mmkeep.specs.declared.finding.Finding.{Finding}
 use Rattle.mmkeep.specs.Statements.{AreStatements, first_token, HasUnitFault, HasUnreadWord}
 use Rattle.mm_frame.specs.Statement.{item_of}
 use Rattle.mmkeep.specs.Report.{AreFindings, lines, report}
+use Rattle.mmkeep.specs.Stream.{AppendsPart}
 
 -- the text is read as these statements
 pub record HasStatements (text : List ℕ) (shapes : List Shape) : Type 0 where
@@ -31,6 +32,13 @@ pub record IsReport (text : List ℕ) (clean : Bool) (bytes : List ℕ) : Type 0
   pub findings : AreFindings (items_of_shapes shapes) found
   pub bytes_are : bytes ≡ report (items_of_shapes shapes) found
   pub clean_is : IsTrue clean ↔ (lines (items_of_shapes shapes) found ≡ [])
+
+-- known bytes grow by the beginning of a report of the text, or by all of it
+pub record BeginsReport (text : List ℕ) (old new : Option (List ℕ)) : Type 0 where
+  pub clean : Bool
+  pub bytes : List ℕ
+  pub is_report : IsReport text clean bytes
+  pub appends : AppendsPart old new bytes
 
 -- a fault of the text's units, before which every word is read
 pub record IsFaultOfUnits (text : List ℕ) (fault : TextFault) : Type 0 where

@@ -7,7 +7,7 @@ ghost use Rattle.mmkeep.specs.Source.{tokens};
 ghost use Rattle.mmkeep.specs.Progress.{IsInOrder};
 ghost use Rattle.mmkeep.specs.Base.{items_of};
 ghost use Rattle.mmkeep.specs.Entry.{item_number};
-ghost use Rattle.mmkeep.specs.Stream.{written, has_failed};
+ghost use Rattle.mmkeep.specs.Stream.{written, has_failed, AppendsPart};
 ghost use Rattle.mmkeep.specs.Report.{IsFinding, AreFindings, is_axiom, is_proved, is_wrong, line, lines, summary, report};
 
 use crate::base::Base;
@@ -53,15 +53,31 @@ fn count_axioms(findings: &[Finding]) -> usize
 fn write_number<W: Write>(number: u64, to: &mut Writing<W>) -> Result<(), WriteFailed>
     ensures ok { OnOk result (Appends (written W.contents to.old) (written W.contents to.new) (decimal number)) }
     ensures err { OnErr result (has_failed to.new ≡ true) }
+    ensures prefix { OnErr result (AppendsPart (written W.contents to.old) (written W.contents to.new) (decimal number)) }
 {
     let mut buffer = Buffer::new();
     to.write_all(buffer.format(number).as_bytes())
+}
+
+/// Writes what is counted, and how many there are.
+fn write_count<W: Write>(
+    counted: &[u8],
+    number: u64,
+    to: &mut Writing<W>,
+) -> Result<(), WriteFailed>
+    ensures ok { OnOk result (Appends (written W.contents to.old) (written W.contents to.new) (counted.now ++ decimal number)) }
+    ensures err { OnErr result (has_failed to.new ≡ true) }
+    ensures prefix { OnErr result (AppendsPart (written W.contents to.old) (written W.contents to.new) (counted.now ++ decimal number)) }
+{
+    to.write_all(counted)?;
+    write_number(number, to)
 }
 
 /// Writes the line of a theorem whose proof is wrong.
 fn write_wrong<W: Write>(label: &[u8], to: &mut Writing<W>) -> Result<(), WriteFailed>
     ensures ok { OnOk result (Appends (written W.contents to.old) (written W.contents to.new) (codes "wrong " ++ label.now ++ codes "\n")) }
     ensures err { OnErr result (has_failed to.new ≡ true) }
+    ensures prefix { OnErr result (AppendsPart (written W.contents to.old) (written W.contents to.new) (codes "wrong " ++ label.now ++ codes "\n")) }
 {
     to.write_all(b"wrong ")?;
     to.write_all(label)?;
@@ -78,15 +94,12 @@ fn write_summary<W: Write>(
     requires { proved + wrong < 2 ^ 64 }
     ensures ok { OnOk result (Appends (written W.contents to.old) (written W.contents to.new) (summary axioms proved wrong)) }
     ensures err { OnErr result (has_failed to.new ≡ true) }
+    ensures prefix { OnErr result (AppendsPart (written W.contents to.old) (written W.contents to.new) (summary axioms proved wrong)) }
 {
-    to.write_all(b"axioms ")?;
-    write_number(axioms, to)?;
-    to.write_all(b" theorems ")?;
-    write_number(proved + wrong, to)?;
-    to.write_all(b" proved ")?;
-    write_number(proved, to)?;
-    to.write_all(b" incomplete 0 wrong ")?;
-    write_number(wrong, to)?;
+    write_count(b"axioms ", axioms, to)?;
+    write_count(b" theorems ", proved + wrong, to)?;
+    write_count(b" proved ", proved, to)?;
+    write_count(b" incomplete 0 wrong ", wrong, to)?;
     to.write_all(b" faults 0\n")
 }
 
@@ -102,6 +115,7 @@ fn write_line<W: Write>(
     requires order { AllByRecursion (IsInOrder (tokens base.now.source)) base.now.statements.items }
     ensures ok { OnOk result (Appends (written W.contents to.old) (written W.contents to.new) (line (item_number (items_of base.now) number) finding)) }
     ensures err { OnErr result (has_failed to.new ≡ true) }
+    ensures prefix { OnErr result (AppendsPart (written W.contents to.old) (written W.contents to.new) (line (item_number (items_of base.now) number) finding)) }
 {
     match finding {
         Finding::Wrong => write_wrong(base.source.bytes(base.statements[number].first), to),
@@ -119,6 +133,7 @@ fn write_lines<W: Write>(
     requires order { AllByRecursion (IsInOrder (tokens base.now.source)) base.now.statements.items }
     ensures ok { OnOk result (Appends (written W.contents to.old) (written W.contents to.new) (lines (items_of base.now) findings.now)) }
     ensures err { OnErr result (has_failed to.new ≡ true) }
+    ensures prefix { OnErr result (AppendsPart (written W.contents to.old) (written W.contents to.new) (lines (items_of base.now) findings.now)) }
 {
     for number in 0..findings.len() {
         write_line(base, number, findings[number], to)?;
@@ -127,6 +142,8 @@ fn write_lines<W: Write>(
 }
 
 /// Writes the report.
+///
+/// After a failed write a part of the report may be out, which is its beginning.
 pub fn write_report<W: Write>(
     base: &Base,
     findings: &[Finding],
@@ -136,6 +153,7 @@ pub fn write_report<W: Write>(
     requires order { AllByRecursion (IsInOrder (tokens base.now.source)) base.now.statements.items }
     ensures ok { OnOk result (Appends (written W.contents to.old) (written W.contents to.new) (report (items_of base.now) findings.now)) }
     ensures err { OnErr result (has_failed to.new ≡ true) }
+    ensures prefix { OnErr result (AppendsPart (written W.contents to.old) (written W.contents to.new) (report (items_of base.now) findings.now)) }
 {
     write_lines(base, findings, to)?;
     let axioms = count_axioms(findings) as u64;

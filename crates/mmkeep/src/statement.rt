@@ -3,14 +3,14 @@
 ghost use Rattle.std.specs.Prelude.{◌≡◌, ◌↔◌, ◌⊎◌, ◌<◌, ◌≤◌, ◌+◌, length, take, IfOk, IfErr, IsTrue, codes, Some};
 ghost use Rattle.std.specs.List.{list_all};
 ghost use Rattle.mm_text.specs.Unit.{is_label_byte, IsPlain};
-ghost use Rattle.mm_text.specs.UnitReading as reading;
+ghost use Rattle.mm_text.specs.declared.grammar.Phase.TheVariants as phases;
 ghost use Rattle.mmkeep.specs.Source.{tokens, token_at};
 ghost use Rattle.mmkeep.specs.Unread.{is_unread_kind, EndsInKeyword};
 ghost use Rattle.mmkeep.specs.Progress.{refusal, unfinished, MayBeginAt, Stands, AwaitsSymbols, ClosesSymbols, ClosesProof, StopsReading, BeginsWithStatement, IsDeclarationOf, IsLabelledOf, HasLabel, ReadsStatements};
 
 use crate::fault::FirstError;
 use crate::source::Source;
-use mm_text::{Keyword, TextFault, TextNumber, WordKind};
+use mm_text::{Keyword, TextFault, TextNumber, WordKind, could_label};
 use std::alloc::Global;
 
 /// What a statement is.
@@ -108,7 +108,7 @@ fn symbols_end(
 
 /// Where the proof from a word on is closed.
 fn proof_end(source: &Source, first: usize, from: usize) -> Result<usize, FirstError>
-    requires stands { Stands (tokens source.now) reading.Symbols (Some Keyword.ProofStart) first from }
+    requires stands { Stands (tokens source.now) phases.Symbols (Some Keyword.ProofStart) first from }
     requires behind { EndsInKeyword Keyword.ProofStart (take from (tokens source.now)) }
     ensures ok { IfOk result (ClosesProof (tokens source.now) from) }
     ensures err { IfErr result (StopsReading (tokens source.now)) }
@@ -202,7 +202,7 @@ fn behind_label(source: &Source, first: usize) -> Result<Statement, FirstError>
     ensures ok { IfOk result (BeginsWithStatement (tokens source.now) first) }
     ensures err { IfErr result (StopsReading (tokens source.now)) }
 {
-    if !is_label(source.bytes(first)) {
+    if !could_label(source.bytes(first)) {
         return Err(FirstError::Text(TextFault {
             number: TextNumber::T11,
             at: source.word(first).start,
@@ -217,21 +217,6 @@ fn behind_label(source: &Source, first: usize) -> Result<Statement, FirstError>
         WordKind::Keyword(Keyword::Theorem) => theorem(source, first),
         _ => Err(refused(source, first + 1)),
     }
-}
-
-/// Whether a word could be a label: letters, digits, `-`, `_` and `.`.
-fn is_label(bytes: &[u8]) -> bool
-    ensures { result ≡ list_all is_label_byte bytes.now }
-{
-    bytes.iter().all(|byte| is_in_label(*byte))
-}
-
-/// Whether a label may have this byte.
-#[tactic(auto, unfolding(mm_text::specs::Unit::is_label_byte))]
-fn is_in_label(byte: u8) -> bool
-    ensures { result ≡ is_label_byte byte }
-{
-    matches!(byte, b'0'..=b'9' | b'A'..=b'Z' | b'a'..=b'z' | b'-' | b'_' | b'.')
 }
 
 /// The statement that begins at a word.

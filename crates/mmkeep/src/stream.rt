@@ -17,7 +17,7 @@ pub struct Writing<W: Write> {
 }
 
 impl<W: Write> Writing<W> {
-    ghost use Rattle.mmkeep.specs.Stream.{written, has_failed};
+    ghost use Rattle.mmkeep.specs.Stream.{written, has_failed, AppendsPart};
 
     /// A writer that has not failed.
     pub fn new(inner: W) -> Writing<W>
@@ -49,6 +49,7 @@ impl<W: Write> Writing<W> {
         ensures ok { OnOk result (Appends (written W.contents self.old) (written W.contents self.new) bytes.now) }
         ensures sound { OnOk result (has_failed self.new ≡ false) }
         ensures err { OnErr result (has_failed self.new ≡ true) }
+        ensures prefix { OnErr result (AppendsPart (written W.contents self.old) (written W.contents self.new) bytes.now) }
         ensures stays { has_failed self.old ≡ true → self.new ≡ self.old }
     {
         if self.failed {

@@ -3,7 +3,7 @@
 ghost use Rattle.std.specs.Prelude.{◌≡◌, ◌≢◌, ℕ, List, true, IfOk, IfErr};
 ghost use Rattle.std.specs.Io.KnownBytes.{Appends};
 ghost use Rattle.mmkeep.specs.Stream.{written, has_failed};
-ghost use Rattle.mmkeep.specs.Verified.{IsReport, IsErrorOf, IsErrorIn};
+ghost use Rattle.mmkeep.specs.Verified.{IsReport, BeginsReport, IsErrorOf, IsErrorIn};
 
 use crate::building::build;
 use crate::fault::FirstError;
@@ -21,7 +21,7 @@ use std::io::Write;
 /// Answers whether the report is clean: whether no line stands before its summary. An error comes in this order:
 /// the first fault of the text's words; the first word that no unit has at its place or that is not read yet; an
 /// unfinished statement at the end; the first statement that is not sound. After each of these, and after want of
-/// memory, nothing was written.
+/// memory, nothing was written. After a failed write a part of the report may be out, which is its beginning.
 pub fn verify_one<W: Write>(
     alloc: Global,
     _name: &[u8],
@@ -35,6 +35,9 @@ pub fn verify_one<W: Write>(
     ensures within { IfErr result (IsErrorIn text.now) }
     ensures unwritten { IfErr result (λ error. error ≢ FirstError.Write → writing.new ≡ writing.old) }
     ensures write { result ≡ Err FirstError.Write → has_failed writing.new ≡ true }
+
+    // After a failed write the beginning of the report was written, and nothing else.
+    ensures prefix { result ≡ Err FirstError.Write → BeginsReport text.now (written W.contents writing.old) (written W.contents writing.new) }
 {
     let words = words(alloc, text)?;
     let source = Source::new(text, &words);

@@ -1,0 +1,415 @@
+-- A text has one cut at most, one first fault at most, and never both.
+use Rattle.std.proofs.Common.{◌≡◌, ◌⊎◌, ℕ, zero, suc, Bool, ◌+◌, ◌-◌, ◌<◌, ◌≤◌, ◌||◌, true, List, [], ◌∷◌, ◌++◌, append_assoc, map, length, take, drop, get_or, slice_get, Some, None, Ok, Err, refl, sym, ap, ◌∙◌, subst, inl, inr, arith}
+use Rattle.std.specs.List.{concat, AllPass}
+use Rattle.std.proofs.Math.Seq.{take-append_seam, drop-append_seam}
+use Rattle.std.proofs.lemmas.Bool.{false≢true}
+use Rattle.std.proofs.lemmas.List.{append-nil, map-append, append_cancel_left, take-append-le, drop-append-le, length-append, get_or-append_right}
+use Rattle.std.proofs.lemmas.List.Elements.{All-take, All-append}
+use Rattle.std.proofs.lemmas.Option.{slice_get_within}
+use Rattle.mm_text.specs.declared.word.Word.{Word}
+use Rattle.mm_text.specs.declared.fault.TextFault.{TextFault}
+use Rattle.mm_text.specs.declared.fault.TextNumber.{TextNumber}
+use Rattle.mm_text.specs.declared.fault.TextNumber.TheVariants.{T01, T02, T03, T04, T05, T06, T07, T08, T09, T10, T11, T12}
+use Rattle.mm_text.specs.Run.{Run, runs, runs_from, is_white, ends_run}
+use Rattle.mm_text.specs.Reading.{is_allowed, first_bad, AreWords, HasWords, CanGoOn, IsFaultAt}
+use Rattle.mm_text.specs.Unit as units
+use Rattle.mm_text.specs.Unit.{Token, token_of, tokens_of, Shape, shape_tokens, Units, Nothing, Simple, Block, unit_tokens, AreUnits, IsViable, IsUnitFault, EndsInUnit, EndsInBlock}
+use Rattle.mm_text.specs.UnitReading as m
+use Rattle.mm_text.specs.LeftToRight.{Read, read, with_words, fault_at, read_text}
+use Rattle.mm_text.specs.Cut.{ends_white, ended, IsOne, end_of, IsPiece, BeginsSolid, ArePieces, IsCut, HoldWords, StopsWords, StopsUnits, IsFirstFaultAt, IsFirstFault}
+use Rattle.mm_text.proofs.ReadingLemmas.{closer, closer_closes, close_step, read_whole, read_words, same_words, text_words, text_fault}
+use Rattle.mm_text.proofs.ReaderLemmas.{in_comment, words-append}
+use Rattle.mm_text.proofs.PositionLemmas.{Lying, words_lie}
+use Rattle.mm_text.proofs.UnitReadingLemmas.{run-append, run-IsViable, IsWhole-run, run-IsWhole}
+use Rattle.mm_text.proofs.UnitFaultLemmas.{cut_twice, viable_front, not_viable_all, block_viable, one_stop, one_unit_fault, whole_has_no_fault}
+use Rattle.mm_text.proofs.UnitDivisionLemmas.{one_division}
+use Rattle.mm_text.proofs.PieceLemmas.{Seam, runs-append, shift_run, shift_word, runs-shift, words-shift, line_end, ended_is, runs-ended}
+use Rattle.mm_text.proofs.PieceUnitLemmas.{allowed_all, all_allowed, bare, tokens-shift, tokens-front, run_bare, WholeRun}
+
+-- ---- two texts, one behind the other
+
+seam : (a b : List ℕ) → ends_white a ≡ true → Seam a b
+seam a b white = ap (λ (x : Bool). x || ends_run b) white
+
+runs_joined : (a b : List ℕ) → ends_white a ≡ true → runs (a ++ b) ≡ runs a ++ map (shift_run (length a)) (runs b)
+runs_joined a b white =
+    let place : 0 + length a ≡ length a + 0 = omega arith in
+    runs-append a b 0 (seam a b white) ∙ ap (λ (n : ℕ). runs a ++ runs_from n b) place ∙ ap (λ (rs : List Run). runs a ++ rs) (runs-shift (length a) 0 b)
+
+allowed_both : (a b : List ℕ) → first_bad a ≡ None → first_bad b ≡ None → first_bad (a ++ b) ≡ None
+allowed_both a b f g = all_allowed (a ++ b) (All-append (λ x. is_allowed x ≡ true) a b (allowed_all a f) (allowed_all b g))
+
+allowed_front : (a b : List ℕ) → first_bad (a ++ b) ≡ None → first_bad a ≡ None
+allowed_front a b h = all_allowed a (subst (λ (bs : List ℕ). AllPass is_allowed bs) (take-append_seam a b) (All-take (λ x. is_allowed x ≡ true) (length a) (a ++ b) (allowed_all (a ++ b) h)))
+
+join_words : (a b : List ℕ) (ws vs : List Word) → ends_white a ≡ true → HasWords a ws → HasWords b vs → HasWords (a ++ b) (ws ++ map (shift_word (length a)) vs)
+join_words a b ws vs white f g = record {
+  allowed = allowed_both a b f.allowed g.allowed;
+  words_are = subst (λ (rs : List Run). AreWords rs (ws ++ map (shift_word (length a)) vs)) (sym (runs_joined a b white))
+      (words-append (runs a) (map (shift_run (length a)) (runs b)) ws (map (shift_word (length a)) vs) f.words_are (words-shift (length a) (runs b) vs g.words_are));
+}
+
+join_tokens : (a b : List ℕ) (ws vs : List Word) → HasWords a ws → HasWords b vs → map bare (tokens_of (a ++ b) (ws ++ map (shift_word (length a)) vs)) ≡ map bare (tokens_of a ws ++ tokens_of b vs)
+join_tokens a b ws vs f g =
+    let later : map bare (tokens_of (a ++ b) (map (shift_word (length a)) vs)) ≡ map bare (tokens_of b vs) = tokens-shift (a ++ b) b [] (length a) (drop-append_seam a b ∙ sym (append-nil b)) vs 0 (words_lie b vs g) in
+    ap (map bare) (map-append (token_of (a ++ b)) ws (map (shift_word (length a)) vs) ∙ ap (λ (ts : List Token). ts ++ tokens_of (a ++ b) (map (shift_word (length a)) vs)) (tokens-front a b ws 0 (words_lie a ws f)))
+    ∙ map-append bare (tokens_of a ws) (tokens_of (a ++ b) (map (shift_word (length a)) vs)) ∙ ap (λ (ts : List Token). map bare (tokens_of a ws) ++ ts) later ∙ sym (map-append bare (tokens_of a ws) (tokens_of b vs))
+
+join_whole : (a b : List ℕ) (ws vs : List Word) → HasWords a ws → HasWords b vs → WholeRun (tokens_of a ws) → WholeRun (tokens_of b vs) → WholeRun (tokens_of (a ++ b) (ws ++ map (shift_word (length a)) vs))
+join_whole a b ws vs f g x y =
+    run_bare (tokens_of (a ++ b) (ws ++ map (shift_word (length a)) vs)) (tokens_of a ws ++ tokens_of b vs) m.Begin 0 (join_tokens a b ws vs f g) ∙ run-append (tokens_of a ws) (tokens_of b vs) m.Begin 0 (m.Begin, 0) x ∙ y
+
+-- ---- the words of a text that has a cut
+
+-- the text has words, and they are whole units
+record HasUnits (text : List ℕ) : Type 0 where
+  found : List Word
+  has_words : HasWords text found
+  whole : WholeRun (tokens_of text found)
+
+piece_whole : (piece : List ℕ) (h : IsPiece piece) → WholeRun (tokens_of piece h.words)
+piece_whole piece h = IsWhole-run (tokens_of piece h.words) (h.units, h.are_units, h.spells)
+
+pieces_words : (pieces : List (List ℕ)) (tail : List ℕ) → ArePieces pieces tail → HasUnits (concat pieces ++ tail)
+pieces_words [] tail h = record { found = []; has_words = h; whole = refl }
+pieces_words (piece ∷ pieces) tail h =
+    let rest = pieces_words pieces tail h.2 in
+    subst (λ (bs : List ℕ). HasUnits bs) (sym (append_assoc piece (concat pieces) tail)) (record {
+      found = h.0.words ++ map (shift_word (length piece)) rest.found;
+      has_words = join_words piece (concat pieces ++ tail) h.0.words rest.found h.0.ends h.0.has_words rest.has_words;
+      whole = join_whole piece (concat pieces ++ tail) h.0.words rest.found h.0.has_words rest.has_words (piece_whole piece h.0) rest.whole;
+    })
+
+cut_units : (text : List ℕ) (pieces : List (List ℕ)) (tail : List ℕ) → IsCut text pieces tail → HasUnits text
+cut_units text pieces tail h = record {
+  found = all.found;
+  has_words = has;
+  whole = ap (m.run m.Begin 0) (sym (ap (λ (bs : List ℕ). tokens_of bs all.found) (ended_is text) ∙ tokens-front text (line_end text) all.found 0 (words_lie text all.found has))) ∙ all.whole;
+} where
+  all : HasUnits (ended text)
+  all = subst (λ (bs : List ℕ). HasUnits bs) h.joined (pieces_words pieces tail h.are_pieces)
+
+  has : HasWords text all.found
+  has = record {
+    allowed = allowed_front text (line_end text) (subst (λ (bs : List ℕ). first_bad bs ≡ None) (ended_is text) all.has_words.allowed);
+    words_are = subst (λ (rs : List Run). AreWords rs all.found) (runs-ended 0 text) all.has_words.words_are;
+  }
+
+-- ---- words of the beginning
+
+more_found : (front zs : List Run) (found later : List Word) → AreWords front found → AreWords (front ++ zs) later → (us : List Word) × (later ≡ found ++ us)
+more_found front zs found later f g = by_read (read None zs) refl where
+  all : with_words found (read None zs) ≡ Ok later
+  all = sym (read_whole front found f zs) ∙ read_words (front ++ zs) later g
+
+  by_read : (r : Read) → read None zs ≡ r → (us : List Word) × (later ≡ found ++ us)
+  by_read (Ok us) is = (us, let e : Ok later ≡ Ok (found ++ us) = sym all ∙ ap (with_words found) is in cc)
+  by_read (Err fault) is = absurd (let e : Ok later ≡ Err fault = sym all ∙ ap (with_words found) is in cc)
+
+-- what is held behind more runs begins with the words before
+longer : (front zs : List Run) (found later : List Word) → AreWords front found → HoldWords (front ++ zs) later → (us : List Word) × (later ≡ found ++ us)
+longer front zs found later f (inl h) = more_found front zs found later f h
+longer front zs found later f (inr h) =
+    more_found front (zs ++ closer ∷ []) found later f (subst (λ (rs : List Run). AreWords rs later) (append_assoc front zs (closer ∷ [])) (close_step h.first.start (front ++ zs) later closer (in_comment (front ++ zs) later h) closer_closes))
+
+not_viable_more : (text : List ℕ) (number : TextNumber) (at : ℕ) (h : StopsUnits text number at) (us : List Word) → ¬ IsViable (tokens_of text (h.found ++ us))
+not_viable_more text number at h us viable =
+    not_viable_all (tokens_of text h.found) number h.word h.stop (viable_front (tokens_of text h.found) (tokens_of text us) (subst (λ (ts : List Token). IsViable ts) (map-append (token_of text) h.found us) viable))
+
+-- ---- the kinds of first faults
+
+record MeetsWords (text : List ℕ) (number : TextNumber) (at : ℕ) : Type 0 where
+  allowed : first_bad text ≡ None
+  fault : IsFaultAt text number at
+  front : List Run
+  rest : List Run
+  joined : runs text ≡ front ++ rest
+  found : List Word
+  held : HoldWords front found
+  viable : IsViable (tokens_of text found)
+  stuck : (run : Run) (more : List Run) → rest ≡ run ∷ more → ¬ CanGoOn (front ++ run ∷ [])
+
+record EndsEarly (text : List ℕ) (number : TextNumber) (at : ℕ) : Type 0 where
+  found : List Word
+  has_words : HasWords text found
+  word : ℕ
+  token : Token
+  fault : IsUnitFault (tokens_of text found) number word
+  viable : IsViable (tokens_of text found)
+  there : slice_get (tokens_of text found) word ≡ Some token
+  place : at ≡ token.start
+
+abbrev MeetsUnits : List ℕ → TextNumber → ℕ → Type 0
+MeetsUnits text number at = (first_bad text ≡ None) × StopsUnits text number at
+
+abbrev HasBadByte : List ℕ → TextNumber → ℕ → Type 0
+HasBadByte text number at = (number ≡ T01) × (first_bad text ≡ Some at)
+
+abbrev Sorted : List ℕ → TextNumber → ℕ → Type 0
+Sorted text number at = (HasBadByte text number at) ⊎ ((MeetsWords text number at) ⊎ ((MeetsUnits text number at) ⊎ (EndsEarly text number at)))
+
+meets : (text : List ℕ) (number : TextNumber) (at : ℕ) → first_bad text ≡ None → IsFaultAt text number at → StopsWords text number at → MeetsWords text number at
+meets text number at allowed fault h = record {
+  allowed = allowed;
+  fault = fault;
+  front = h.stop.front;
+  rest = h.stop.run ∷ h.stop.rest;
+  joined = h.stop.joined;
+  found = h.found;
+  held = h.read;
+  viable = h.viable;
+  stuck = λ run more e. (let same : h.stop.run ≡ run = cc in subst (λ (r : Run). ¬ CanGoOn (h.stop.front ++ r ∷ [])) same h.stop.stops);
+}
+
+sorted : (text : List ℕ) (number : TextNumber) (at : ℕ) → IsFirstFaultAt text number at → Sorted text number at
+sorted text T01 at h = inl (refl, h)
+sorted text T02 at h = inr (inl (record {
+  allowed = h.0;
+  fault = (h.0, h.1.ends);
+  front = runs text;
+  rest = [];
+  joined = sym (append-nil (runs text));
+  found = h.1.found;
+  held = inr h.1.read;
+  viable = h.1.viable;
+  stuck = λ run more e. absurd cc;
+}))
+sorted text T03 at h = inr (inl (meets text T03 at h.0 (h.0, h.1.stop) h.1))
+sorted text T04 at h = inr (inl (meets text T04 at h.0 (h.0, h.1.stop) h.1))
+sorted text T05 at h = inr (inl (meets text T05 at h.0 (h.0, h.1.stop) h.1))
+sorted text T06 at h = inr (inr (inl h))
+sorted text T07 at h = inr (inr (inr (record { found = h.found; has_words = h.has_words; word = h.word; token = h.token; fault = h.ends; viable = h.ends.viable; there = h.there; place = h.place })))
+sorted text T08 at h = inr (inr (inr (record { found = h.found; has_words = h.has_words; word = h.word; token = h.token; fault = h.ends; viable = block_viable (tokens_of text h.found) h.word h.ends; there = h.there; place = h.place })))
+sorted text T09 at h = inr (inr (inl h))
+sorted text T10 at h = inr (inr (inl h))
+sorted text T11 at h = inr (inr (inl h))
+sorted text T12 at h = inr (inr (inl h))
+
+-- ---- no two kinds at once
+
+bad_alone : (text : List ℕ) (number : TextNumber) (at : ℕ) → HasBadByte text number at → first_bad text ≡ None → ⊥
+bad_alone text number at h allowed = let bad : first_bad text ≡ Some at = h.1 in cc
+
+words_apart : (text : List ℕ) (number : TextNumber) (at : ℕ) (found : List Word) → IsFaultAt text number at → HasWords text found → ⊥
+words_apart text number at found f g = let x : read_text text ≡ Err (fault_at number at) = text_fault text number at f in let y : read_text text ≡ Ok found = text_words text found g in cc
+
+-- words of the whole text go on behind those that stop
+units_apart : (text : List ℕ) (number : TextNumber) (at : ℕ) (found : List Word) → StopsUnits text number at → HasWords text found → ¬ IsViable (tokens_of text found)
+units_apart text number at found f g viable =
+    let more = longer f.front f.rest f.found found f.read (inl (subst (λ (rs : List Run). AreWords rs found) f.joined g.words_are)) in
+    not_viable_more text number at f more.0 (subst (λ (ws : List Word). IsViable (tokens_of text ws)) more.1 viable)
+
+met_apart : (text : List ℕ) (a b : TextNumber) (i j : ℕ) → MeetsWords text a i → StopsUnits text b j → ⊥
+met_apart text a b i j f g = by_cut (cut_twice f.front f.rest g.front g.rest (sym f.joined ∙ g.joined)) where
+  behind : (zs : List Run) → f.front ≡ g.front ++ zs → ⊥
+  behind zs is =
+      let more = longer g.front zs g.found f.found g.read (subst (λ (rs : List Run). HoldWords rs f.found) is f.held) in
+      not_viable_more text b j g more.0 (subst (λ (ws : List Word). IsViable (tokens_of text ws)) more.1 f.viable)
+
+  before : (zs : List Run) → g.front ≡ f.front ++ zs → f.rest ≡ zs ++ g.rest → ⊥
+  before [] is rest = behind [] (sym (append-nil f.front) ∙ sym is ∙ sym (append-nil g.front))
+  before (z ∷ zs) is rest =
+      let whole : AreWords ((f.front ++ z ∷ []) ++ zs) g.found = subst (λ (rs : List Run). AreWords rs g.found) (is ∙ sym (append_assoc f.front (z ∷ []) zs)) g.read in
+      f.stuck z (zs ++ g.rest) rest (zs, (whole.parts, whole.reading))
+
+  by_cut : ((zs : List Run) × (f.front ≡ g.front ++ zs) × (zs ++ f.rest ≡ g.rest)) ⊎ ((zs : List Run) × (g.front ≡ f.front ++ zs) × (f.rest ≡ zs ++ g.rest)) → ⊥
+  by_cut (inl h) = behind h.0 h.1
+  by_cut (inr h) = before h.0 h.1 h.2
+
+-- ---- one fault of each kind
+
+slice_get-front : (a b : List Token) (n : ℕ) (token : Token) → slice_get a n ≡ Some token → slice_get (a ++ b) n ≡ Some token
+slice_get-front [] b n token e = absurd cc
+slice_get-front (x ∷ a) b zero token e = e
+slice_get-front (x ∷ a) b (suc n) token e = slice_get-front a b n token e
+
+stop_more : (a b : List Token) (number : TextNumber) (word : ℕ) (h : units.StopsAt a number word) → units.StopsAt (a ++ b) number word
+stop_more a b number word h =
+    let within : word < length a = slice_get_within a word h.token h.there in
+    let front : take word a ≡ take word (a ++ b) = sym (take-append-le word a b (omega arith)) in
+    let next : take (word + 1) a ≡ take (word + 1) (a ++ b) = sym (take-append-le (word + 1) a b (omega arith)) in
+    record {
+      token = h.token;
+      there = slice_get-front a b word h.token h.there;
+      goes_on = subst (λ (ts : List Token). IsViable ts) front h.goes_on;
+      stops = subst (λ (ts : List Token). ¬ IsViable ts) next h.stops;
+      is_number = subst (λ (ts : List Token). units.IsNumber number ts h.token) front h.is_number;
+    }
+
+same_place : (tokens : List Token) (v w : ℕ) (a b : Token) → slice_get tokens v ≡ Some a → slice_get tokens w ≡ Some b → v ≡ w → a.start ≡ b.start
+same_place tokens v w a b f g same = let e : slice_get tokens w ≡ Some a = ap (slice_get tokens) (sym same) ∙ f in let is : a ≡ b = cc in ap (λ (t : Token). t.start) is
+
+-- behind more runs
+later_stop : (text : List ℕ) (a b : TextNumber) (i j : ℕ) (f : StopsUnits text a i) (g : StopsUnits text b j) (zs : List Run) → g.front ≡ f.front ++ zs → (a ≡ b) × (i ≡ j)
+later_stop text a b i j f g zs is =
+    let more = longer f.front zs f.found g.found f.read (inl (subst (λ (rs : List Run). AreWords rs g.found) is g.read)) in
+    let tokens : tokens_of text f.found ++ tokens_of text more.0 ≡ tokens_of text g.found = sym (map-append (token_of text) f.found more.0) ∙ ap (tokens_of text) (sym more.1) in
+    let stop : units.StopsAt (tokens_of text f.found ++ tokens_of text more.0) b g.word = subst (λ (ts : List Token). units.StopsAt ts b g.word) (sym tokens) g.stop in
+    let one = one_stop (tokens_of text f.found ++ tokens_of text more.0) a b f.word g.word (stop_more (tokens_of text f.found) (tokens_of text more.0) a f.word f.stop) stop in
+    (one.0, f.place ∙ same_place (tokens_of text g.found) f.word g.word f.stop.token g.stop.token (subst (λ (ts : List Token). slice_get ts f.word ≡ Some f.stop.token) tokens (slice_get-front (tokens_of text f.found) (tokens_of text more.0) f.word f.stop.token f.stop.there)) g.stop.there one.1 ∙ sym g.place)
+
+one_stop_of : (text : List ℕ) (a b : TextNumber) (i j : ℕ) → StopsUnits text a i → StopsUnits text b j → (a ≡ b) × (i ≡ j)
+one_stop_of text a b i j f g = by_cut (cut_twice f.front f.rest g.front g.rest (sym f.joined ∙ g.joined)) where
+  by_cut : ((zs : List Run) × (f.front ≡ g.front ++ zs) × (zs ++ f.rest ≡ g.rest)) ⊎ ((zs : List Run) × (g.front ≡ f.front ++ zs) × (f.rest ≡ zs ++ g.rest)) → (a ≡ b) × (i ≡ j)
+  by_cut (inl h) = let other = later_stop text b a j i g f h.0 h.1 in (sym other.0, sym other.1)
+  by_cut (inr h) = later_stop text a b i j f g h.0 h.1
+
+one_end : (text : List ℕ) (a b : TextNumber) (i j : ℕ) → EndsEarly text a i → EndsEarly text b j → (a ≡ b) × (i ≡ j)
+one_end text a b i j f g =
+    let tokens : tokens_of text g.found ≡ tokens_of text f.found = ap (tokens_of text) (same_words (runs text) g.found f.found g.has_words.words_are f.has_words.words_are) in
+    let one = one_unit_fault (tokens_of text f.found) a b f.word g.word f.fault (subst (λ (ts : List Token). IsUnitFault ts b g.word) tokens g.fault) in
+    (one.0, f.place ∙ same_place (tokens_of text f.found) f.word g.word f.token g.token f.there (subst (λ (ts : List Token). slice_get ts g.word ≡ Some g.token) tokens g.there) one.1 ∙ sym g.place)
+
+one_word_fault : (text : List ℕ) (a b : TextNumber) (i j : ℕ) → IsFaultAt text a i → IsFaultAt text b j → (a ≡ b) × (i ≡ j)
+one_word_fault text a b i j f g =
+    let x : read_text text ≡ Err (fault_at a i) = text_fault text a i f in
+    let y : read_text text ≡ Err (fault_at b j) = text_fault text b j g in
+    let same : fault_at a i ≡ fault_at b j = cc in
+    (ap (λ (t : TextFault). t.number) same, ap (λ (t : TextFault). t.at) same)
+
+one_bad : (text : List ℕ) (a b : TextNumber) (i j : ℕ) → HasBadByte text a i → HasBadByte text b j → (a ≡ b) × (i ≡ j)
+one_bad text a b i j f g = (f.0 ∙ sym g.0, let x : first_bad text ≡ Some i = f.1 in let y : first_bad text ≡ Some j = g.1 in cc)
+
+same_fault : (text : List ℕ) (a b : TextNumber) (i j : ℕ) → Sorted text a i → Sorted text b j → (a ≡ b) × (i ≡ j)
+same_fault text a b i j (inl f) (inl g) = one_bad text a b i j f g
+same_fault text a b i j (inl f) (inr (inl g)) = absurd (bad_alone text a i f g.allowed)
+same_fault text a b i j (inl f) (inr (inr (inl g))) = absurd (bad_alone text a i f g.0)
+same_fault text a b i j (inl f) (inr (inr (inr g))) = absurd (bad_alone text a i f g.has_words.allowed)
+same_fault text a b i j (inr (inl f)) (inl g) = absurd (bad_alone text b j g f.allowed)
+same_fault text a b i j (inr (inl f)) (inr (inl g)) = one_word_fault text a b i j f.fault g.fault
+same_fault text a b i j (inr (inl f)) (inr (inr (inl g))) = absurd (met_apart text a b i j f g.1)
+same_fault text a b i j (inr (inl f)) (inr (inr (inr g))) = absurd (words_apart text a i g.found f.fault g.has_words)
+same_fault text a b i j (inr (inr (inl f))) (inl g) = absurd (bad_alone text b j g f.0)
+same_fault text a b i j (inr (inr (inl f))) (inr (inl g)) = absurd (met_apart text b a j i g f.1)
+same_fault text a b i j (inr (inr (inl f))) (inr (inr (inl g))) = one_stop_of text a b i j f.1 g.1
+same_fault text a b i j (inr (inr (inl f))) (inr (inr (inr g))) = absurd (units_apart text a i g.found f.1 g.has_words g.viable)
+same_fault text a b i j (inr (inr (inr f))) (inl g) = absurd (bad_alone text b j g f.has_words.allowed)
+same_fault text a b i j (inr (inr (inr f))) (inr (inl g)) = absurd (words_apart text b j f.found g.fault f.has_words)
+same_fault text a b i j (inr (inr (inr f))) (inr (inr (inl g))) = absurd (units_apart text b j f.found g.1 f.has_words f.viable)
+same_fault text a b i j (inr (inr (inr f))) (inr (inr (inr g))) = one_end text a b i j f g
+
+pub one_first_fault : (text : List ℕ) (a b : TextFault) → IsFirstFault text a → IsFirstFault text b → a ≡ b
+one_first_fault text a b f g =
+    let same = same_fault text a.number b.number a.at b.at (sorted text a.number a.at f) (sorted text b.number b.at g) in
+    ap (λ (n : TextNumber). fault_at n a.at) same.0 ∙ ap (fault_at b.number) same.1
+
+pub cut_has_no_fault : (text : List ℕ) (pieces : List (List ℕ)) (tail : List ℕ) (fault : TextFault) → IsCut text pieces tail → IsFirstFault text fault → ⊥
+cut_has_no_fault text pieces tail fault f g = none (sorted text fault.number fault.at g) where
+  all : HasUnits text
+  all = cut_units text pieces tail f
+
+  none : Sorted text fault.number fault.at → ⊥
+  none (inl h) = bad_alone text fault.number fault.at h all.has_words.allowed
+  none (inr (inl h)) = words_apart text fault.number fault.at all.found h.fault all.has_words
+  none (inr (inr (inl h))) = units_apart text fault.number fault.at all.found h.1 all.has_words (run-IsViable (tokens_of text all.found) (m.Begin, 0) all.whole)
+  none (inr (inr (inr h))) =
+      let same : tokens_of text h.found ≡ tokens_of text all.found = ap (tokens_of text) (same_words (runs text) h.found all.found h.has_words.words_are all.has_words.words_are) in
+      whole_has_no_fault (tokens_of text h.found) fault.number h.word (run-IsWhole (tokens_of text h.found) (ap (m.run m.Begin 0) same ∙ all.whole)) h.fault
+
+-- ---- one cut
+
+one_piece_more : (u v : Units) (more : List Token) → AreUnits true u → AreUnits true v → IsOne u → IsOne v → unit_tokens u ++ more ≡ unit_tokens v → more ≡ []
+one_piece_more u v more f g one_u one_v e = by_unit u f one_u e where
+  whole : WholeRun (unit_tokens u)
+  whole = IsWhole-run (unit_tokens u) (u, f, refl)
+
+  later : (w : Units) × AreUnits true w × (unit_tokens w ≡ more)
+  later = run-IsWhole more (sym (ap (m.run m.Begin 0) (sym e) ∙ run-append (unit_tokens u) more m.Begin 0 (m.Begin, 0) whole) ∙ IsWhole-run (unit_tokens v) (v, g, refl))
+
+  nothing : later.0 ≡ Nothing → more ≡ []
+  nothing is = sym later.2 ∙ ap unit_tokens is
+
+  by_unit : (u : Units) → AreUnits true u → IsOne u → unit_tokens u ++ more ≡ unit_tokens v → more ≡ []
+  by_unit Nothing are one same = absurd one
+  by_unit (Simple shape rest) are one same =
+      let tokens : unit_tokens (Simple shape later.0) ≡ unit_tokens v = ap (λ (ts : List Token). shape_tokens shape ++ ts) later.2 ∙ ap (λ (ts : List Token). ts ++ more) (sym (append-nil (shape_tokens shape)) ∙ ap (λ (w : Units). shape_tokens shape ++ unit_tokens w) (sym one)) ∙ same in
+      nothing (subst IsOne (sym (one_division (Simple shape later.0) v (are.0, later.1) g tokens)) one_v)
+  by_unit (Block begin inner end rest) are one same =
+      let tokens : unit_tokens (Block begin inner end later.0) ≡ unit_tokens v =
+      ap (λ (ts : List Token). begin ∷ (unit_tokens inner ++ end ∷ ts)) later.2 ∙ ap (λ (ts : List Token). begin ∷ ts) (sym (append_assoc (unit_tokens inner) (end ∷ []) more)) ∙ ap (λ (w : Units). (begin ∷ (unit_tokens inner ++ end ∷ unit_tokens w)) ++ more) (sym one) ∙ same in
+      nothing (subst IsOne (sym (one_division (Block begin inner end later.0) v (are.0, are.1, are.2, later.1) g tokens)) one_v)
+
+end_within : (text : List ℕ) (at : ℕ) (ws : List Word) → Lying text at ws → end_of ws ≤ length text
+end_within text at [] h = omega arith
+end_within text at (w ∷ []) h = h.1.within
+end_within text at (w ∷ v ∷ ws) h = end_within text (w.end + 1) (v ∷ ws) h.2
+
+passes_at : (xs ys : List ℕ) (z : ℕ) → AllPass is_white (xs ++ z ∷ ys) → is_white z ≡ true
+passes_at xs ys z h =
+    let long : length (xs ++ z ∷ ys) ≡ length xs + length (z ∷ ys) = length-append xs (z ∷ ys) in
+    let none : length xs - length xs ≡ 0 = omega arith in
+    let there : get_or (xs ++ z ∷ ys) (length xs) z ≡ z = get_or-append_right xs (z ∷ ys) (length xs) (length xs) z refl (omega arith) ∙ ap (λ (n : ℕ). get_or (z ∷ ys) n z) none in
+    subst (λ (b : ℕ). is_white b ≡ true) there (h (length xs) z (omega arith))
+
+no_words_left : (text : List ℕ) (us : List Word) → tokens_of text us ≡ [] → us ≡ []
+no_words_left text [] e = refl
+no_words_left text (w ∷ us) e = absurd cc
+
+-- a piece is no longer than another that begins with it, where that is not followed by white space
+no_longer : (p zs rest : List ℕ) → IsPiece p → IsPiece (p ++ zs) → BeginsSolid (zs ++ rest) → zs ≡ []
+no_longer p [] rest f g solid = refl
+no_longer p (z ∷ zs) rest f g solid = absurd (false≢true (sym solid ∙ passes_at (drop (end_of f.words) p) zs z white)) where
+  more : (us : List Word) × (g.words ≡ f.words ++ us)
+  more = more_found (runs p) (map (shift_run (length p)) (runs (z ∷ zs))) f.words g.words f.has_words.words_are (subst (λ (rs : List Run). AreWords rs g.words) (runs_joined p (z ∷ zs) f.ends) g.has_words.words_are)
+
+  lie : Lying p 0 f.words
+  lie = words_lie p f.words f.has_words
+
+  tokens : unit_tokens f.units ++ tokens_of (p ++ z ∷ zs) more.0 ≡ unit_tokens g.units
+  tokens =
+      ap (λ (ts : List Token). ts ++ tokens_of (p ++ z ∷ zs) more.0) (f.spells ∙ sym (tokens-front p (z ∷ zs) f.words 0 lie)) ∙ sym (map-append (token_of (p ++ z ∷ zs)) f.words more.0) ∙ ap (tokens_of (p ++ z ∷ zs)) (sym more.1) ∙ sym g.spells
+
+  same : g.words ≡ f.words
+  same = more.1 ∙ ap (λ (us : List Word). f.words ++ us) (no_words_left (p ++ z ∷ zs) more.0 (one_piece_more f.units g.units (tokens_of (p ++ z ∷ zs) more.0) f.are_units g.are_units f.one g.one tokens)) ∙ append-nil f.words
+
+  white : AllPass is_white (drop (end_of f.words) p ++ z ∷ zs)
+  white = subst (λ (bs : List ℕ). AllPass is_white bs) (ap (λ (ws : List Word). drop (end_of ws) (p ++ z ∷ zs)) same ∙ drop-append-le (end_of f.words) p (z ∷ zs) (end_within p 0 f.words lie)) g.white
+
+-- a text with a unit has words
+piece_no_tail : (piece rest tail : List ℕ) (found : List Word) → IsPiece piece → HasWords rest found → HasWords tail [] → tail ≡ piece ++ rest → ⊥
+piece_no_tail piece rest tail found f g h is = by_units f.units f.one (f.spells ∙ ap (tokens_of piece) none) where
+  all : [] ≡ f.words ++ map (shift_word (length piece)) found
+  all = same_words (runs tail) [] (f.words ++ map (shift_word (length piece)) found) h.words_are (subst (λ (bs : List ℕ). AreWords (runs bs) (f.words ++ map (shift_word (length piece)) found)) (sym is) (join_words piece rest f.words found f.ends f.has_words g).words_are)
+
+  empty : (ws vs : List Word) → [] ≡ ws ++ vs → ws ≡ []
+  empty [] vs e = refl
+  empty (w ∷ ws) vs e = absurd cc
+
+  none : f.words ≡ []
+  none = empty f.words (map (shift_word (length piece)) found) all
+
+  by_units : (u : Units) → IsOne u → unit_tokens u ≡ [] → ⊥
+  by_units Nothing one e = one
+  by_units (Simple shape later) one e = shape_none shape (unit_tokens later) e where
+    shape_none : (shape : Shape) (ts : List Token) → shape_tokens shape ++ ts ≡ [] → ⊥
+    shape_none (units.Declaration keyword symbols end) ts e = cc
+    shape_none (units.Labelled label keyword symbols end) ts e = cc
+    shape_none (units.Provable label keyword symbols proof steps end) ts e = cc
+    shape_none (units.Inclusion begin name end) ts e = cc
+  by_units (Block begin inner end later) one e = cc
+
+same_pieces : (ps qs : List (List ℕ)) (s t : List ℕ) → concat ps ++ s ≡ concat qs ++ t → ArePieces ps s → ArePieces qs t → (ps ≡ qs) × (s ≡ t)
+same_pieces [] [] s t e f g = (refl, e)
+same_pieces [] (q ∷ qs) s t e f g = let rest = pieces_words qs t g.2 in absurd (piece_no_tail q (concat qs ++ t) s rest.found g.0 rest.has_words f (e ∙ append_assoc q (concat qs) t))
+same_pieces (p ∷ ps) [] s t e f g = let rest = pieces_words ps s f.2 in absurd (piece_no_tail p (concat ps ++ s) t rest.found f.0 rest.has_words g (sym e ∙ append_assoc p (concat ps) s))
+same_pieces (p ∷ ps) (q ∷ qs) s t e f g = by_cut (cut_twice p (concat ps ++ s) q (concat qs ++ t) all) (λ rest. same_pieces ps qs s t rest f.2 g.2) where
+  all : p ++ (concat ps ++ s) ≡ q ++ (concat qs ++ t)
+  all = sym (append_assoc p (concat ps) s) ∙ e ∙ append_assoc q (concat qs) t
+
+  alike : p ≡ q → ((concat ps ++ s ≡ concat qs ++ t) → (ps ≡ qs) × (s ≡ t)) → (p ∷ ps ≡ q ∷ qs) × (s ≡ t)
+  alike same more =
+      let rest = more (append_cancel_left q (concat ps ++ s) (concat qs ++ t) (ap (λ (bs : List ℕ). bs ++ (concat ps ++ s)) (sym same) ∙ all)) in
+      let later : ps ≡ qs = rest.0 in
+      (cc, rest.1)
+
+  by_cut : ((zs : List ℕ) × (p ≡ q ++ zs) × (zs ++ (concat ps ++ s) ≡ concat qs ++ t)) ⊎ ((zs : List ℕ) × (q ≡ p ++ zs) × (concat ps ++ s ≡ zs ++ (concat qs ++ t)))
+      → ((concat ps ++ s ≡ concat qs ++ t) → (ps ≡ qs) × (s ≡ t)) → (p ∷ ps ≡ q ∷ qs) × (s ≡ t)
+  by_cut (inl h) more =
+      let none : h.0 ≡ [] = no_longer q h.0 (concat ps ++ s) g.0 (subst IsPiece h.1 f.0) (subst BeginsSolid (sym h.2) g.1) in
+      alike (h.1 ∙ ap (λ (zs : List ℕ). q ++ zs) none ∙ append-nil q) more
+  by_cut (inr h) more =
+      let none : h.0 ≡ [] = no_longer p h.0 (concat qs ++ t) f.0 (subst IsPiece h.1 g.0) (subst BeginsSolid h.2 f.1) in
+      alike (sym (h.1 ∙ ap (λ (zs : List ℕ). p ++ zs) none ∙ append-nil p)) more
+
+pub one_cut : (text : List ℕ) (ps qs : List (List ℕ)) (s t : List ℕ) → IsCut text ps s → IsCut text qs t → (ps ≡ qs) × (s ≡ t)
+one_cut text ps qs s t f g = same_pieces ps qs s t (f.joined ∙ sym g.joined) f.are_pieces g.are_pieces

@@ -1,0 +1,79 @@
+-- What the steps of `cut` do to what its loop keeps.
+use Rattle.std.proofs.Common.{◌≡◌, ℕ, ◌+◌, ◌-◌, ◌≤◌, Bool, List, [], ◌∷◌, ◌++◌, length, take, drop, None, Ok, Err, sym, ap, ◌∙◌, subst, arith}
+use Rattle.std.specs.Prelude.{slice_range}
+use Rattle.std.specs.List.{prefix_len}
+use Rattle.std.proofs.lemmas.List.{take_rest}
+use Rattle.mm_text.specs.declared.grammar.Grammar.{Grammar}
+use Rattle.mm_text.specs.declared.word.Word.{Word}
+use Rattle.mm_text.specs.declared.fault.TextError.{TextError}
+use Rattle.mm_text.specs.declared.fault.TextError.TheVariants as errors
+use Rattle.mm_text.specs.declared.fault.TextNumber.{TextNumber}
+use Rattle.mm_text.specs.declared.fault.TextNumber.TheVariants.{T07, T08}
+use Rattle.mm_text.specs.Run.{is_white}
+use Rattle.mm_text.specs.Reading.{AreWords, first_bad}
+use Rattle.mm_text.specs.Unit.{token_of}
+use Rattle.mm_text.specs.UnitReading as m
+use Rattle.mm_text.specs.Grammar.{phase_of, first_behind, blocks_behind, TakesUnit, Takes, EndsWith}
+use Rattle.mm_text.specs.Reader.{runs_at, TakesWord}
+use Rattle.mm_text.specs.Cut.{ended, IsCut, IsFirstFaultAt, IsCutError}
+use Rattle.mm_text.proofs.CutLemmas.{Progress, word_lies, units_fault, unit_end, block_end, cut_end, progress_more, progress_piece}
+
+step_to : (step : m.Step) (next : m.Phase) → phase_of step ≡ Ok next → (depth : ℕ) × (step ≡ Ok (m.state_of next depth))
+step_to (Ok s) next e = let same : s.0 ≡ next = cc in (s.1, ap (λ (p : m.Phase). Ok (m.state_of p s.1)) same)
+step_to (Err number) next e = absurd cc
+
+step_refused : (step : m.Step) (number : TextNumber) → phase_of step ≡ Err number → step ≡ Err number
+step_refused (Ok s) number e = absurd cc
+step_refused (Err other) number e = let same : other ≡ number = cc in ap (λ (n : TextNumber). Err n) same
+
+-- what is kept with a grammar
+abbrev pub Keeps : List ℕ → List (List ℕ) → ℕ → ℕ → Grammar → Type 0
+Keeps text pieces from at g = Progress text pieces from at g.phase g.first g.blocks.items
+
+module _ (text : List ℕ) (pieces : List (List ℕ)) (from at : ℕ) (g : Grammar) (h : Keeps text pieces from at g) where
+  -- the fault of units that end
+  pub ends_fault : (number : TextNumber) (place : ℕ) → first_bad text ≡ None → AreWords (runs_at text at) [] → EndsWith g number place → IsFirstFaultAt text number place
+  ends_fault T07 place allowed none e = subst (λ (n : ℕ). IsFirstFaultAt text T07 n) (sym e.1) (unit_end text pieces from at g.phase g.first g.blocks.items h allowed none e.0)
+  ends_fault T08 place allowed none e = block_end text pieces from at g.phase g.first g.blocks.items h e.1 place allowed none e.0 e.2
+  ends_fault _ place allowed none e = absurd e
+
+  pub ends_cut : first_bad text ≡ None → AreWords (runs_at text at) [] → (g.phase ≡ m.Begin) × (g.blocks.items ≡ []) → IsCut text pieces (ended (take (length text - from) (drop from text)))
+  ends_cut allowed none whole = subst (λ (bs : List ℕ). IsCut text pieces (ended bs)) (sym (take_rest text from)) (cut_end text pieces from at g.phase g.first g.blocks.items h allowed none whole.0 whole.1)
+
+  module _ (word : Word) (to : ℕ) (taken : TakesWord text at word to) where
+    pub from_before : (white : ℕ) → from ≤ word.end + white
+    from_before white = let lies = word_lies text pieces from at g.phase g.first g.blocks.items h word to taken in omega (arith, lies.0, taken.some)
+
+    module _ (could : Bool) (new : Grammar) (label : could ≡ m.could_label (token_of text word)) where
+      told : phase_of (m.next g.phase (length g.blocks.items) word.kind could) ≡ phase_of (m.next g.phase (length g.blocks.items) word.kind (m.could_label (token_of text word)))
+      told = ap (λ (b : Bool). phase_of (m.next g.phase (length g.blocks.items) word.kind b)) label
+
+      pub refused : (e : TextError) → first_bad text ≡ None → Takes g word could (Err e) new → IsCutError text e
+      refused errors.Memory allowed fails = tt
+      refused (errors.Fault fault) allowed fails =
+          subst (λ (n : ℕ). IsFirstFaultAt text fault.number n) (sym fails.at) (units_fault text pieces from at g.phase g.first g.blocks.items h word to taken fault.number allowed
+          (step_refused (m.next g.phase (length g.blocks.items) word.kind (m.could_label (token_of text word))) fault.number (sym told ∙ fails.number)))
+
+      module _ (takes : TakesUnit g word could new) where
+        step : (depth : ℕ) × (m.next g.phase (length g.blocks.items) word.kind (m.could_label (token_of text word)) ≡ Ok (m.state_of new.phase depth))
+        step = step_to (m.next g.phase (length g.blocks.items) word.kind (m.could_label (token_of text word))) new.phase (sym told ∙ takes.phase)
+
+        kept : (pieces : List (List ℕ)) (from : ℕ) → Progress text pieces from to new.phase (first_behind g.phase g.first word.start) (blocks_behind word.kind g.blocks.items word.start) → Keeps text pieces from to new
+        kept pieces from p = subst (λ (n : ℕ). Progress text pieces from to new.phase n new.blocks.items) (sym takes.first) (subst (λ (bs : List ℕ). Progress text pieces from to new.phase (first_behind g.phase g.first word.start) bs) (sym takes.blocks) p)
+
+        -- a word inside a unit
+        pub keeps_more : ¬ ((new.phase ≡ m.Begin) × (new.blocks.items ≡ [])) → Keeps text pieces from to new
+        keeps_more on = kept pieces from (progress_more text pieces from at g.phase g.first g.blocks.items h word to taken new.phase step.0 step.1 (λ whole. on (whole.0, takes.blocks ∙ whole.1)))
+
+        -- a word that ends a unit
+        pub keeps_piece : first_bad text ≡ None → to ≤ length text → (new.phase ≡ m.Begin) × (new.blocks.items ≡ []) → (white : ℕ) → white ≡ prefix_len is_white (take (length text - word.end) (drop word.end text))
+            → (all : List (List ℕ)) → all ≡ pieces ++ ended (slice_range text from (word.end + white)) ∷ [] → Keeps text all (word.end + white) to new
+        keeps_piece allowed most whole white is all joined =
+            subst (λ (ps : List (List ℕ)). Keeps text ps (word.end + white) to new) (sym joined) (subst (λ (n : ℕ). Keeps text (pieces ++ ended (slice_range text from n) ∷ []) n to new) end
+            (kept (pieces ++ ended (slice_range text from (to + prefix_len is_white (drop to text))) ∷ []) (to + prefix_len is_white (drop to text))
+            (progress_piece text pieces from at g.phase g.first g.blocks.items h word to taken new.phase step.0 step.1 allowed most whole.0 (sym takes.blocks ∙ whole.1)))) where
+              here : white ≡ prefix_len is_white (drop to text)
+              here = is ∙ ap (prefix_len is_white) (take_rest text word.end) ∙ ap (λ (n : ℕ). prefix_len is_white (drop n text)) (sym taken.next)
+
+              end : to + prefix_len is_white (drop to text) ≡ word.end + white
+              end = omega (arith, here, taken.next)

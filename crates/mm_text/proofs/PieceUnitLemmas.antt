@@ -1,0 +1,328 @@
+-- A part of a text with one unit is a piece.
+use Rattle.std.proofs.Common.{◌≡◌, ◌⊎◌, ℕ, suc, ◌+◌, ◌-◌, ◌<◌, ◌≤◌, Bool, true, false, not, ◌||◌, List, [], ◌∷◌, ◌++◌, append_assoc, map, length, take, drop, get_or, Option, Some, None, Ok, Err, refl, sym, ap, ◌∙◌, subst, inl, inr, arith}
+use Rattle.std.specs.Prelude.{slice_range}
+use Rattle.std.specs.List.{AllByRecursion, AllPass, prefix_len}
+use Rattle.std.proofs.Math.Seq.{take-add, take-append_seam, drop-append_seam}
+use Rattle.std.proofs.lemmas.Bool.{cases_Bool, false≢true}
+use Rattle.std.proofs.lemmas.List.{append-nil, take-append-drop, append_cancel_right, take-append-le, drop-append-le, drop-drop, length-append, length-map, length-take-le, length-drop, take-map}
+use Rattle.std.proofs.lemmas.List.Elements.{All-append, All-take, All-drop, All-nil, All-cons}
+use Rattle.std.proofs.lemmas.List.Quantifiers.{position-Some}
+use Rattle.std.proofs.lemmas.List.Sums.{fails_before_first, prefix_len-le-length}
+use Rattle.mm_text.specs.declared.word.Word.{Word}
+use Rattle.mm_text.specs.declared.word.WordKind.{WordKind}
+use Rattle.mm_text.specs.Run.{Run, runs, runs_from, is_white, ends_run}
+use Rattle.mm_text.specs.Reading.{is_allowed, first_bad, AreWords, HasWords}
+use Rattle.mm_text.specs.Unit.{Token, token_of, tokens_of, Shape, Declaration, Labelled, Provable, Inclusion, shape_tokens, Units, Nothing, Simple, Block, unit_tokens, AreUnits}
+use Rattle.mm_text.specs.UnitReading as m
+use Rattle.mm_text.specs.Cut.{ends_white, ended, IsOne, end_of, IsPiece, BeginsSolid}
+use Rattle.mm_text.specs.Reader.{runs_at}
+use Rattle.mm_text.proofs.RunLemmas.{skip_white}
+use Rattle.mm_text.proofs.PositionLemmas.{Lying, words_lie, none_bad, passes}
+use Rattle.mm_text.proofs.UnitReadingLemmas.{IsWhole-run, run-IsWhole}
+use Rattle.mm_text.proofs.PieceLemmas.{feed_white, Seam, runs-append, shift_run, shift_word, runs-shift, words_unshift, line_end, ended_is, runs-ended, ended_white, ended-append, ends_behind}
+
+-- ---- bytes that a text may hold
+
+pub allowed_all : (text : List ℕ) → first_bad text ≡ None → AllPass is_allowed text
+allowed_all text e k d lt = passes (is_allowed (get_or text k d)) (fails_before_first (λ b. not (is_allowed b)) text k d (omega (arith, lt, none_bad text e)))
+
+pub all_allowed : (text : List ℕ) → AllPass is_allowed text → first_bad text ≡ None
+all_allowed text h = by_place (first_bad text) refl where
+  by_place : (o : Option ℕ) → first_bad text ≡ o → first_bad text ≡ None
+  by_place None e = e
+  by_place (Some i) e =
+      let bad = position-Some (λ b. not (is_allowed b)) text i 0 e in
+      let good : is_allowed (get_or text i 0) ≡ true = h i 0 bad.0 in
+      absurd (false≢true (ap not (sym good) ∙ bad.1))
+
+feed_allowed : is_allowed 10 ≡ true
+unfolding is_allowed is_white
+feed_allowed = refl
+
+pub allowed-ended : (text : List ℕ) → first_bad text ≡ None → first_bad (ended text) ≡ None
+allowed-ended text e = subst (λ (bs : List ℕ). first_bad bs ≡ None) (sym (ended_is text)) (all_allowed (text ++ line_end text) (All-append (λ b. is_allowed b ≡ true) text (line_end text) (allowed_all text e) (by_end (cases_Bool (ends_white text))))) where
+  by_end : (ends_white text ≡ true) ⊎ (ends_white text ≡ false) → AllPass is_allowed (line_end text)
+  by_end (inl white) = rw white (All-nil (λ b. is_allowed b ≡ true))
+  by_end (inr no_white) = rw no_white (All-cons (λ b. is_allowed b ≡ true) 10 [] feed_allowed (All-nil (λ b. is_allowed b ≡ true)))
+
+pub allowed_part : (text : List ℕ) (from to : ℕ) → first_bad text ≡ None → first_bad (slice_range text from to) ≡ None
+allowed_part text from to e = all_allowed (slice_range text from to) (All-take (λ b. is_allowed b ≡ true) (to - from) (drop from text) (All-drop (λ b. is_allowed b ≡ true) from text (allowed_all text e)))
+
+pub allowed_rest : (text : List ℕ) (from : ℕ) → first_bad text ≡ None → first_bad (drop from text) ≡ None
+allowed_rest text from e = all_allowed (drop from text) (All-drop (λ b. is_allowed b ≡ true) from text (allowed_all text e))
+
+-- ---- white space behind a unit
+
+abbrev pub AllWhite : List ℕ → Type 0
+AllWhite bytes = AllByRecursion (λ b. is_white b ≡ true) bytes
+
+prefix_white : (bytes : List ℕ) → AllWhite (take (prefix_len is_white bytes) bytes)
+prefix_white [] = tt
+prefix_white (b ∷ bytes) =
+    elim (cases_Bool (is_white b)) [
+      | inl white ↦ rw white (let one : 1 + prefix_len is_white bytes ≡ suc (prefix_len is_white bytes) = omega arith in rw one (white, prefix_white bytes))
+      | inr solid ↦ rw solid tt
+    ]
+
+white_ends : (bytes : List ℕ) → AllWhite bytes → ends_white bytes ≡ true
+white_ends [] h = refl
+white_ends (b ∷ []) h = h.0
+white_ends (b ∷ c ∷ bytes) h = white_ends (c ∷ bytes) h.1
+
+white_pass : (bytes : List ℕ) → AllWhite bytes → AllPass is_white bytes
+white_pass [] h = All-nil (λ b. is_white b ≡ true)
+white_pass (b ∷ bytes) h = All-cons (λ b. is_white b ≡ true) b bytes h.0 (white_pass bytes h.1)
+
+end_passes : (text : List ℕ) → AllPass is_white (line_end text)
+end_passes text =
+    elim (cases_Bool (ends_white text)) [
+      | inl white ↦ rw white (All-nil (λ b. is_white b ≡ true))
+      | inr no_white ↦ rw no_white (All-cons (λ b. is_white b ≡ true) 10 [] feed_white (All-nil (λ b. is_white b ≡ true)))
+    ]
+
+pub solid_behind : (bytes : List ℕ) → BeginsSolid (drop (prefix_len is_white bytes) bytes)
+solid_behind [] = tt
+solid_behind (b ∷ bytes) =
+    elim (cases_Bool (is_white b)) [
+      | inl white ↦ rw white (let one : 1 + prefix_len is_white bytes ≡ suc (prefix_len is_white bytes) = omega arith in rw one (solid_behind bytes))
+      | inr solid ↦ rw solid solid
+    ]
+
+pub solid_ended : (bytes : List ℕ) → BeginsSolid bytes → BeginsSolid (ended bytes)
+solid_ended [] h = tt
+solid_ended (b ∷ bytes) h = subst (λ (bs : List ℕ). BeginsSolid bs) (sym (ended_is (b ∷ bytes))) h
+
+solid_end : (bytes : List ℕ) → BeginsSolid bytes → ends_run bytes ≡ true → bytes ≡ []
+solid_end [] h e = refl
+solid_end (b ∷ bytes) h e = absurd (false≢true (sym h ∙ e))
+
+or_true : (b : Bool) → (b || true) ≡ true
+or_true true = refl
+or_true false = refl
+
+seam_at : (before white rest : List ℕ) → AllWhite white → (white ≡ [] → ends_run rest ≡ true) → Seam (before ++ white) rest
+seam_at before [] rest h ends = ap (λ (b : Bool). ends_white (before ++ []) || b) (ends refl) ∙ or_true (ends_white (before ++ []))
+seam_at before (w ∷ white) rest h ends = ap (λ (b : Bool). b || ends_run rest) (ends_behind before white w ∙ white_ends (w ∷ white) h)
+
+-- behind the white space is the end, if there is none
+no_white_end : (bytes : List ℕ) → ends_run bytes ≡ true → take (prefix_len is_white bytes) bytes ≡ [] → ends_run (drop (prefix_len is_white bytes) bytes) ≡ true
+no_white_end [] ends none = refl
+no_white_end (b ∷ bytes) ends none =
+    let one : 1 + prefix_len is_white bytes ≡ suc (prefix_len is_white bytes) = omega arith in
+    let first : b ∷ take (prefix_len is_white bytes) bytes ≡ [] = rw one at (rw ends at none) in
+    absurd cc
+
+-- ---- words of a part
+
+slice_front : (a b : ℕ) (part rest : List ℕ) → a ≤ b → b ≤ length part → slice_range (part ++ rest) a b ≡ slice_range part a b
+slice_front a b part rest le within =
+    let long : length (drop a part) ≡ length part - a = length-drop a part in
+    ap (take (b - a)) (drop-append-le a part rest (omega arith)) ∙ take-append-le (b - a) (drop a part) rest (omega arith)
+
+slice_part : (text part rest : List ℕ) (from a b : ℕ) → drop from text ≡ part ++ rest → a ≤ b → b ≤ length part → slice_range text (from + a) (from + b) ≡ slice_range part a b
+slice_part text part rest from a b joined le within =
+    let len : from + b - (from + a) ≡ b - a = omega arith in
+    ap (λ (n : ℕ). take n (drop (from + a) text)) len ∙ ap (take (b - a)) (sym (drop-drop a from text)) ∙ ap (λ (bs : List ℕ). slice_range bs a b) joined ∙ slice_front a b part rest le within
+
+-- a word without its place
+abbrev pub bare : Token → Token
+bare token = record { kind = token.kind; bytes = token.bytes; start = 0 }
+
+abbrev bare_token : WordKind → List ℕ → Token
+bare_token kind bytes = record { kind = kind; bytes = bytes; start = 0 }
+
+pub tokens-shift : (text part rest : List ℕ) (from : ℕ) → drop from text ≡ part ++ rest → (ws : List Word) (at : ℕ) → Lying part at ws → map bare (tokens_of text (map (shift_word from) ws)) ≡ map bare (tokens_of part ws)
+tokens-shift text part rest from joined [] at h = refl
+tokens-shift text part rest from joined (w ∷ ws) at h =
+    let some : w.start < w.end = h.1.some in
+    ap (λ (bs : List ℕ). bare_token w.kind bs ∷ map bare (tokens_of text (map (shift_word from) ws))) (slice_part text part rest from w.start w.end joined (omega arith) h.1.within)
+    ∙ ap (λ (ts : List Token). bare (token_of part w) ∷ ts) (tokens-shift text part rest from joined ws (w.end + 1) h.2)
+
+abbrev made_token : WordKind → List ℕ → ℕ → Token
+made_token kind bytes start = record { kind = kind; bytes = bytes; start = start }
+
+pub tokens-front : (part rest : List ℕ) (ws : List Word) (at : ℕ) → Lying part at ws → tokens_of (part ++ rest) ws ≡ tokens_of part ws
+tokens-front part rest [] at h = refl
+tokens-front part rest (w ∷ ws) at h =
+    let some : w.start < w.end = h.1.some in
+    ap (λ (bs : List ℕ). made_token w.kind bs w.start ∷ tokens_of (part ++ rest) ws) (slice_front w.start w.end part rest (omega arith) h.1.within) ∙ ap (λ (ts : List Token). token_of part w ∷ ts) (tokens-front part rest ws (w.end + 1) h.2)
+
+after_same : (step : m.Step) (a b : List Token) → ((phase : m.Phase) (depth : ℕ) → m.run phase depth a ≡ m.run phase depth b) → m.after step (λ p d. m.run p d a) ≡ m.after step (λ p d. m.run p d b)
+after_same (Ok s) a b same = same s.0 s.1
+after_same (Err number) a b same = refl
+
+-- the machine does not look at places
+pub run_bare : (a b : List Token) (phase : m.Phase) (depth : ℕ) → map bare a ≡ map bare b → m.run phase depth a ≡ m.run phase depth b
+run_bare [] [] phase depth e = refl
+run_bare [] (y ∷ b) phase depth e = absurd cc
+run_bare (x ∷ a) [] phase depth e = absurd cc
+run_bare (x ∷ a) (y ∷ b) phase depth e =
+    let first : bare x ≡ bare y = cc in
+    let rest : map bare a ≡ map bare b = cc in
+    ap (λ (t : Token). m.after (m.next phase depth t.kind (m.could_label t)) (λ p d. m.run p d a)) first ∙ after_same (m.next phase depth y.kind (m.could_label y)) a b (λ p d. run_bare a b p d rest)
+
+-- ---- one unit
+
+abbrev pub WholeRun : List Token → Type 0
+WholeRun tokens = m.run m.Begin 0 tokens ≡ Ok (m.state_of m.Begin 0)
+
+-- no words at the front, but all of them, are whole
+abbrev pub HasOne : List Token → Type 0
+HasOne tokens = (n : ℕ) → 0 < n → n < length tokens → ¬ WholeRun (take n tokens)
+
+shape_some : (shape : Shape) → 0 < length (shape_tokens shape)
+shape_some (Declaration keyword symbols end) = omega arith
+shape_some (Labelled label keyword symbols end) = omega arith
+shape_some (Provable label keyword symbols proof steps end) = omega arith
+shape_some (Inclusion begin name end) = omega arith
+
+units_some : (units : Units) → (units ≡ Nothing) ⊎ (0 < length (unit_tokens units))
+units_some Nothing = inl refl
+units_some (Simple shape later) = inr (let long : length (shape_tokens shape ++ unit_tokens later) ≡ length (shape_tokens shape) + length (unit_tokens later) = length-append (shape_tokens shape) (unit_tokens later) in let some : 0 < length (shape_tokens shape) = shape_some shape in omega arith)
+units_some (Block begin inner end later) = inr (omega arith)
+
+-- words of whole units, and then others
+no_later : (front later : List Token) → HasOne (front ++ later) → 0 < length front → WholeRun front → 0 < length later → ⊥
+no_later front later one some whole more =
+    let long : length (front ++ later) ≡ length front + length later = length-append front later in
+    one (length front) some (omega arith) (ap (m.run m.Begin 0) (take-append_seam front later) ∙ whole)
+
+later_none : (front : List Token) (later : Units) → HasOne (front ++ unit_tokens later) → 0 < length front → WholeRun front → later ≡ Nothing
+later_none front later one some whole = by_units (units_some later) where
+  by_units : (later ≡ Nothing) ⊎ (0 < length (unit_tokens later)) → later ≡ Nothing
+  by_units (inl none) = none
+  by_units (inr more) = absurd (no_later front (unit_tokens later) one some whole more)
+
+is_one : (tokens : List Token) (units : Units) → AreUnits true units → unit_tokens units ≡ tokens → 0 < length tokens → HasOne tokens → IsOne units
+is_one tokens Nothing h e some one = let none : length tokens ≡ 0 = ap length (sym e) in omega arith
+is_one tokens (Simple shape later) h e some one =
+    later_none (shape_tokens shape) later (subst HasOne (sym e) one) (shape_some shape) (IsWhole-run (shape_tokens shape) (Simple shape Nothing, (h.0, tt), append-nil (shape_tokens shape)))
+is_one tokens (Block begin inner end later) h e some one =
+    let joined : tokens ≡ (begin ∷ (unit_tokens inner ++ end ∷ [])) ++ unit_tokens later = sym e ∙ ap (λ (ts : List Token). begin ∷ ts) (sym (append_assoc (unit_tokens inner) (end ∷ []) (unit_tokens later))) in
+    later_none (begin ∷ (unit_tokens inner ++ end ∷ [])) later (subst HasOne joined one) (omega arith) (IsWhole-run (begin ∷ (unit_tokens inner ++ end ∷ [])) (Block begin inner end Nothing, (h.0, h.1, h.2, tt), refl))
+
+-- ---- where the last word ends
+
+ends_at_last : (part : List Word) (word : Word) → end_of (part ++ word ∷ []) ≡ word.end
+ends_at_last [] word = refl
+ends_at_last (w ∷ []) word = refl
+ends_at_last (w ∷ v ∷ part) word = ends_at_last (v ∷ part) word
+
+end_shift : (k : ℕ) (w : Word) (ws : List Word) → end_of (map (shift_word k) (w ∷ ws)) ≡ k + end_of (w ∷ ws)
+end_shift k w [] = refl
+end_shift k w (v ∷ ws) = end_shift k v ws
+
+pub last_end : (k : ℕ) (ws part : List Word) (word : Word) → part ++ word ∷ [] ≡ map (shift_word k) ws → k + end_of ws ≡ word.end
+last_end k [] [] word e = absurd cc
+last_end k [] (v ∷ part) word e = absurd cc
+last_end k (w ∷ ws) part word e = sym (end_shift k w ws) ∙ ap end_of (sym e) ∙ ends_at_last part word
+
+-- ---- a piece
+
+module _ (text : List ℕ) (from to : ℕ) (since : List Run) (part : List Word) (word : Word) (allowed : first_bad text ≡ None) (le : from ≤ to) (within : to ≤ length text) (joined : runs_at text from ≡ since ++ runs_at text to)
+    (reads : AreWords since (part ++ word ∷ [])) (end_is : word.end ≡ to) (ends : ends_run (drop to text) ≡ true) where
+  abbrev pub white : ℕ
+  white = prefix_len is_white (drop to text)
+
+  abbrev pub piece_bytes : List ℕ
+  piece_bytes = slice_range text from (to + white)
+
+  pub white_within : to + white ≤ length text
+  white_within = let most : white ≤ length (drop to text) = prefix_len-le-length is_white (drop to text) in let long : length (drop to text) ≡ length text - to = length-drop to text in omega arith
+
+  halves : piece_bytes ≡ slice_range text from to ++ take white (drop to text)
+  halves =
+      let len : to + white - from ≡ (to - from) + white = omega arith in
+      let place : from + (to - from) ≡ to = omega arith in
+      ap (λ (n : ℕ). take n (drop from text)) len ∙ take-add (to - from) white (drop from text)
+      ∙ ap (λ (bs : List ℕ). slice_range text from to ++ take white bs) (drop-drop (to - from) from text ∙ ap (λ (n : ℕ). drop n text) place)
+
+  rest_is : drop white (drop to text) ≡ drop (to + white) text
+  rest_is = drop-drop white to text
+
+  pub piece_seam : Seam piece_bytes (drop (to + white) text)
+  piece_seam = subst (λ (bs : List ℕ). Seam bs (drop (to + white) text)) (sym halves) (subst (λ (bs : List ℕ). Seam (slice_range text from to ++ take white (drop to text)) bs) rest_is
+      (seam_at (slice_range text from to) (take white (drop to text)) (drop white (drop to text)) (prefix_white (drop to text)) (no_white_end (drop to text) ends)))
+
+  pub piece_joined : drop from text ≡ piece_bytes ++ drop (to + white) text
+  piece_joined =
+      let place : from + (to + white - from) ≡ to + white = omega arith in
+      sym (take-append-drop (to + white - from) (drop from text)) ∙ ap (λ (bs : List ℕ). piece_bytes ++ bs) (drop-drop (to + white - from) from text ∙ ap (λ (n : ℕ). drop n text) place)
+
+  pub rest_solid : BeginsSolid (drop (to + white) text)
+  rest_solid = subst BeginsSolid rest_is (solid_behind (drop to text))
+
+  pub rest_ended : ended (drop from text) ≡ ended piece_bytes ++ ended (drop (to + white) text)
+  rest_ended = ap ended piece_joined ∙ ended-append piece_bytes (drop (to + white) text) piece_seam (solid_end (drop (to + white) text) rest_solid)
+
+  pub runs_behind : runs_at text to ≡ runs_at text (to + white)
+  runs_behind = skip_white to (drop to text) ∙ ap (runs_from (to + white)) rest_is
+
+  piece_runs : runs_from from piece_bytes ≡ since
+  piece_runs =
+      let long : length piece_bytes ≡ to + white - from = length-take-le (to + white - from) (drop from text) (let all : length (drop from text) ≡ length text - from = length-drop from text in let most : to + white ≤ length text = white_within in omega arith) in
+      let end : from + length piece_bytes ≡ to + white = omega arith in
+      append_cancel_right (runs_from from piece_bytes) since (runs_at text (to + white))
+      (ap (λ (n : ℕ). runs_from from piece_bytes ++ runs_from n (drop (to + white) text)) (sym end) ∙ sym (runs-append piece_bytes (drop (to + white) text) from piece_seam) ∙ ap (runs_from from) (sym piece_joined) ∙ joined ∙ ap (λ (rs : List Run). since ++ rs) runs_behind)
+
+  piece_words : (ws : List Word) × AreWords (runs piece_bytes) ws × (part ++ word ∷ [] ≡ map (shift_word from) ws)
+  piece_words =
+      let place : from ≡ from + 0 = omega arith in
+      let same : since ≡ map (shift_run from) (runs piece_bytes) = sym piece_runs ∙ ap (λ (n : ℕ). runs_from n piece_bytes) place ∙ runs-shift from 0 piece_bytes in
+      words_unshift from (runs piece_bytes) (part ++ word ∷ []) (subst (λ (rs : List Run). AreWords rs (part ++ word ∷ [])) same reads)
+
+  has : HasWords piece_bytes piece_words.0
+  has = record { allowed = allowed_part text from (to + white) allowed; words_are = piece_words.1 }
+
+  has_ended : HasWords (ended piece_bytes) piece_words.0
+  has_ended = record { allowed = allowed-ended piece_bytes (allowed_part text from (to + white) allowed); words_are = subst (λ (rs : List Run). AreWords rs piece_words.0) (sym (runs-ended 0 piece_bytes)) piece_words.1 }
+
+  -- the words of the part, without their places
+  same_tokens : map bare (tokens_of (ended piece_bytes) piece_words.0) ≡ map bare (tokens_of text (part ++ word ∷ []))
+  same_tokens =
+      let lie : Lying piece_bytes 0 piece_words.0 = words_lie piece_bytes piece_words.0 has in
+      ap (map bare) (ap (λ (bs : List ℕ). tokens_of bs piece_words.0) (ended_is piece_bytes) ∙ tokens-front piece_bytes (line_end piece_bytes) piece_words.0 0 lie)
+      ∙ sym (tokens-shift text piece_bytes (drop (to + white) text) from piece_joined piece_words.0 0 lie) ∙ ap (λ (ws : List Word). map bare (tokens_of text ws)) (sym piece_words.2)
+
+  white_behind : AllPass is_white (drop (end_of piece_words.0) (ended piece_bytes))
+  white_behind =
+      let last : from + end_of piece_words.0 ≡ word.end = last_end from piece_words.0 part word piece_words.2 in
+      let long : length (slice_range text from to) ≡ to - from = length-take-le (to - from) (drop from text) (let all : length (drop from text) ≡ length text - from = length-drop from text in omega arith) in
+      let end : end_of piece_words.0 ≡ length (slice_range text from to) = omega (arith, end_is, last, long) in
+      let bytes : ended piece_bytes ≡ slice_range text from to ++ (take white (drop to text) ++ line_end piece_bytes) = ended_is piece_bytes ∙ ap (λ (bs : List ℕ). bs ++ line_end piece_bytes) halves ∙ append_assoc (slice_range text from to) (take white (drop to text)) (line_end piece_bytes) in
+      let behind : drop (end_of piece_words.0) (ended piece_bytes) ≡ take white (drop to text) ++ line_end piece_bytes = ap (λ (n : ℕ). drop n (ended piece_bytes)) end ∙ ap (drop (length (slice_range text from to))) bytes ∙ drop-append_seam (slice_range text from to) (take white (drop to text) ++ line_end piece_bytes) in
+      subst (λ (bs : List ℕ). AllPass is_white bs) (sym behind) (All-append (λ b. is_white b ≡ true) (take white (drop to text)) (line_end piece_bytes) (white_pass (take white (drop to text)) (prefix_white (drop to text))) (end_passes piece_bytes))
+
+  pub piece_is : WholeRun (tokens_of text (part ++ word ∷ [])) → HasOne (tokens_of text (part ++ word ∷ [])) → IsPiece (ended piece_bytes)
+  piece_is whole one = record {
+    words = piece_words.0;
+    units = units.0;
+    has_words = has_ended;
+    are_units = units.1;
+    spells = units.2;
+    one = is_one tokens units.0 units.1 units.2 some has_one;
+    white = white_behind;
+    ends = ended_white piece_bytes;
+  } where
+    tokens : List Token
+    tokens = tokens_of (ended piece_bytes) piece_words.0
+
+    wholly : WholeRun (tokens_of (ended piece_bytes) piece_words.0)
+    wholly = run_bare (tokens_of (ended piece_bytes) piece_words.0) (tokens_of text (part ++ word ∷ [])) m.Begin 0 same_tokens ∙ whole
+
+    units : (units : Units) × AreUnits true units × (unit_tokens units ≡ tokens_of (ended piece_bytes) piece_words.0)
+    units = run-IsWhole (tokens_of (ended piece_bytes) piece_words.0) wholly
+
+    long : length (tokens_of (ended piece_bytes) piece_words.0) ≡ length (tokens_of text (part ++ word ∷ []))
+    long = sym (length-map (tokens_of (ended piece_bytes) piece_words.0) bare) ∙ ap length same_tokens ∙ length-map (tokens_of text (part ++ word ∷ [])) bare
+
+    some : 0 < length (tokens_of (ended piece_bytes) piece_words.0)
+    some =
+        let count : length (tokens_of text (part ++ word ∷ [])) ≡ length (part ++ word ∷ []) = length-map (part ++ word ∷ []) (token_of text) in
+        let last : length (part ++ word ∷ []) ≡ length part + 1 = length-append part (word ∷ []) in
+        omega (arith, long)
+
+    has_one : HasOne (tokens_of (ended piece_bytes) piece_words.0)
+    has_one n few less first =
+        one n few (omega (arith, long)) (run_bare (take n (tokens_of text (part ++ word ∷ []))) (take n (tokens_of (ended piece_bytes) piece_words.0)) m.Begin 0
+        (sym (take-map bare n (tokens_of text (part ++ word ∷ []))) ∙ ap (take n) (sym same_tokens) ∙ take-map bare n (tokens_of (ended piece_bytes) piece_words.0)) ∙ first)

@@ -1,0 +1,244 @@
+-- What the steps of a reader read, and the faults that they meet.
+use Rattle.std.proofs.Common.{◌≡◌, ◌≢◌, ℕ, ◌-◌, ◌<◌, ◌≤◌, List, [], ◌∷◌, ◌++◌, append_assoc, length, drop, slice_range, Option, Some, None, Ok, Err, refl, sym, ap, ◌∙◌, subst, inl, inr, arith}
+use Rattle.std.proofs.lemmas.List.{append-nil, length-take-le, length-drop}
+use Rattle.std.proofs.lemmas.Grind.{flat_map-append}
+use Rattle.mm_text.specs.declared.reader.Span.{Span}
+use Rattle.mm_text.specs.declared.word.Word.{Word}
+use Rattle.mm_text.specs.declared.word.WordKind.{WordKind}
+use Rattle.mm_text.specs.declared.fault.TextNumber.{TextNumber}
+use Rattle.mm_text.specs.declared.fault.TextNumber.TheVariants.{T02, T03, T04, T05}
+use Rattle.mm_text.specs.Run.{Run, runs}
+use Rattle.mm_text.specs.Spelling.{HoldsMark, opening, closing}
+use Rattle.mm_text.specs.Reading as words
+use Rattle.mm_text.specs.Reading.{part_runs, part_words, IsInside, IsPart, AreWords, EndsOpen, first_bad}
+use Rattle.mm_text.specs.Cut.{EndsInComment, HoldWords, StopsWords, IsFirstFaultAt}
+use Rattle.mm_text.specs.Unit.{tokens_of, IsViable}
+use Rattle.mm_text.specs.LeftToRight.{Read, read, cons_word, with_words, kind_of, alone, fault_at}
+use Rattle.mm_text.specs.Reader.{runs_at, run_of, TakesSpan, SkipsComment, FailsInside, TakesWord, IsRefused, MeetsRun, FailsBehind}
+use Rattle.mm_text.proofs.KindLemmas.{kind_spelled, spelled_kind, no_kind, stands_mark}
+use Rattle.mm_text.proofs.ReadLemmas.{inside_mark, outside_close, outside_word}
+use Rattle.mm_text.proofs.ReadingLemmas.{none_read, all_append, InComment, Behind, word_step, read_whole, stops, is_whole, goes_on, is_open, not_whole, stop_fault, open_fault}
+
+-- ---- readings side by side
+
+pub words-append : (a b : List Run) (ws vs : List Word) → AreWords a ws → AreWords b vs → AreWords (a ++ b) (ws ++ vs)
+words-append a b ws vs f g = record {
+  parts = f.parts ++ g.parts;
+  reading = record {
+    each = all_append IsPart f.parts g.parts f.reading.each g.reading.each;
+    joined = let e = flat_map-append part_runs f.parts g.parts in cc (e, f.reading.joined, g.reading.joined);
+  };
+  singles = let e = flat_map-append part_words f.parts g.parts in cc (e, f.singles, g.singles);
+}
+
+pub comment-append : (a b : List Run) (ws vs : List Word) → AreWords a ws → EndsInComment b vs → EndsInComment (a ++ b) (ws ++ vs)
+comment-append a b ws vs f g = record {
+  front = a ++ g.front;
+  first = g.first;
+  inside = g.inside;
+  joined = ap (λ (rs : List Run). a ++ rs) g.joined ∙ sym (append_assoc a g.front (g.first ∷ g.inside));
+  before = words-append a g.front ws vs f g.before;
+  opened = g.opened;
+  no_marks = g.no_marks;
+}
+
+-- ---- in a comment
+
+pub record Skipping (text : List ℕ) (from to : ℕ) : Type 0 where
+  pub inside : List Run
+  pub joined : runs_at text from ≡ inside ++ runs_at text to
+  pub no_marks : IsInside inside
+
+pub skip_none : (text : List ℕ) (from : ℕ) → Skipping text from from
+skip_none text from = record { inside = []; joined = refl; no_marks = tt }
+
+module _ (text : List ℕ) (from at : ℕ) (span : Span) (to : ℕ) (h : Skipping text from at) (run : TakesSpan text at span to) where
+  onto : runs_at text from ≡ h.inside ++ run_of text span ∷ runs_at text to
+  onto = h.joined ∙ ap (λ (rs : List Run). h.inside ++ rs) run.run
+
+  pub skip_more : ¬ HoldsMark (run_of text span).bytes → Skipping text from to
+  skip_more none = record {
+    inside = h.inside ++ run_of text span ∷ [];
+    joined = onto ∙ sym (append_assoc h.inside (run_of text span ∷ []) (runs_at text to));
+    no_marks = all_append (λ run. ¬ HoldsMark run.bytes) h.inside (run_of text span ∷ []) h.no_marks (none, tt);
+  }
+
+  pub skip_end : (run_of text span).bytes ≡ closing → SkipsComment text from to
+  skip_end closes = record { inside = h.inside; last = run_of text span; joined = onto; no_marks = h.no_marks; closed = closes }
+
+  pub skip_fault : (start : ℕ) → HoldsMark (run_of text span).bytes → (run_of text span).bytes ≢ closing → FailsInside (runs_at text from) start T03 span.start
+  skip_fault start holds differs = record {
+    inside = h.inside;
+    run = run_of text span;
+    rest = runs_at text to;
+    joined = onto;
+    no_marks = h.no_marks;
+    holds = holds;
+    differs = differs;
+    place = refl;
+  }
+
+pub skip_open : (text : List ℕ) (from at start : ℕ) → Skipping text from at → runs_at text at ≡ [] → FailsInside (runs_at text from) start T02 start
+skip_open text from at start h none =
+    let all : h.inside ≡ runs_at text from = sym (append-nil h.inside) ∙ sym (h.joined ∙ ap (λ (rs : List Run). h.inside ++ rs) none) in
+    (subst (λ (rs : List Run). IsInside rs) all h.no_marks, refl)
+
+-- ---- outside comments
+
+pub slice_length : (text : List ℕ) (from to : ℕ) → to ≤ length text → length (slice_range text from to) ≡ to - from
+slice_length text from to le = length-take-le (to - from) (drop from text) (simp length-drop (omega arith))
+
+pub record Passing (text : List ℕ) (from to : ℕ) : Type 0 where
+  pub seen : List Run
+  pub joined : runs_at text from ≡ seen ++ runs_at text to
+  pub reads : AreWords seen []
+
+pub pass_none : (text : List ℕ) (from : ℕ) → Passing text from from
+pass_none text from = record { seen = []; joined = refl; reads = none_read }
+
+pub pass_end : (text : List ℕ) (from at : ℕ) → Passing text from at → runs_at text at ≡ [] → AreWords (runs_at text from) []
+pass_end text from at h none =
+    let all : h.seen ≡ runs_at text from = sym (append-nil h.seen) ∙ sym (h.joined ∙ ap (λ (rs : List Run). h.seen ++ rs) none) in
+    subst (λ (rs : List Run). AreWords rs []) all h.reads
+
+module _ (text : List ℕ) (from at : ℕ) (span : Span) (to : ℕ) (h : Passing text from at) (run : TakesSpan text at span to) where
+  there : runs_at text from ≡ h.seen ++ run_of text span ∷ runs_at text to
+  there = h.joined ∙ ap (λ (rs : List Run). h.seen ++ rs) run.run
+
+  pub pass_word : (kind : WordKind) → kind_of (run_of text span).bytes ≡ Some kind → to ≤ length text → from ≤ at → TakesWord text from (record { kind = kind; start = span.start; end = span.end }) to
+  pass_word kind is within le = record {
+    taken = h.seen ++ run_of text span ∷ [];
+    joined = there ∙ sym (append_assoc h.seen (run_of text span ∷ []) (runs_at text to));
+    reads = word_step h.seen [] (run_of text span) (record { kind = kind; start = span.start; end = span.end }) h.reads (record { kind = kind_spelled (run_of text span).bytes kind is; start = refl; end = let some : span.start < span.end = run.some in let long : length (run_of text span).bytes ≡ span.end - span.start = slice_length text span.start span.end (omega (arith, within, run.next)) in omega arith });
+    begins = omega (arith, run.begins);
+    some = run.some;
+    next = run.next;
+    ends = run.ends;
+  }
+
+  pub pass_close : (run_of text span).bytes ≡ closing → FailsBehind (runs_at text from) [] T04 span.start
+  pass_close closes = record { front = h.seen; run = run_of text span; rest = runs_at text to; joined = there; place = refl; refused = (h.reads, closes) }
+
+  pub pass_dollar : (run_of text span).bytes ≢ opening → (run_of text span).bytes ≢ closing → kind_of (run_of text span).bytes ≡ None → FailsBehind (runs_at text from) [] T05 span.start
+  pass_dollar no_open no_close none = record { front = h.seen; run = run_of text span; rest = runs_at text to; joined = there; place = refl; refused = (h.reads, no_open, no_close, none) }
+
+  pub pass_comment : (end : ℕ) → (run_of text span).bytes ≡ opening → SkipsComment text to end → Passing text from end
+  pass_comment end opens skips = record {
+    seen = h.seen ++ (run_of text span ∷ (skips.inside ++ skips.last ∷ []));
+    joined = there ∙ ap (λ (rs : List Run). h.seen ++ run_of text span ∷ rs) (skips.joined ∙ sym (append_assoc skips.inside (skips.last ∷ []) (runs_at text end))) ∙ sym (append_assoc h.seen (run_of text span ∷ (skips.inside ++ skips.last ∷ [])) (runs_at text end));
+    reads = words-append h.seen (run_of text span ∷ (skips.inside ++ skips.last ∷ [])) [] [] h.reads (record {
+      parts = words.Comment (run_of text span) skips.inside skips.last ∷ [];
+      reading = record { each = (record { opened = opens; no_marks = skips.no_marks; closed = skips.closed }, tt); joined = append-nil (run_of text span ∷ (skips.inside ++ skips.last ∷ [])) };
+      singles = refl;
+    });
+  }
+
+  pub pass_fails : (number : TextNumber) (place : ℕ) → (run_of text span).bytes ≡ opening → FailsInside (runs_at text to) span.start number place → FailsBehind (runs_at text from) [] number place
+  pass_fails T02 place opens fails = (record { front = h.seen; first = run_of text span; inside = runs_at text to; joined = there; before = h.reads; opened = opens; no_marks = fails.0 }, fails.1)
+  pass_fails T03 place opens fails = record {
+    front = h.seen ++ run_of text span ∷ fails.inside;
+    run = fails.run;
+    rest = fails.rest;
+    joined = there ∙ ap (λ (rs : List Run). h.seen ++ run_of text span ∷ rs) fails.joined ∙ sym (append_assoc h.seen (run_of text span ∷ fails.inside) (fails.run ∷ fails.rest));
+    place = fails.place;
+    refused = (record { front = h.seen; first = run_of text span; inside = fails.inside; joined = refl; before = h.reads; opened = opens; no_marks = fails.no_marks }, fails.holds, fails.differs);
+  }
+  pass_fails _ place opens fails = absurd fails
+
+-- ---- what is read
+
+one_word : (word : Word) (r : Read) → with_words (word ∷ []) r ≡ cons_word word r
+one_word word (Ok words) = refl
+one_word word (Err fault) = refl
+
+pub word_read : (text : List ℕ) (from : ℕ) (word : Word) (to : ℕ) → TakesWord text from word to → read None (runs_at text from) ≡ cons_word word (read None (runs_at text to))
+word_read text from word to h = ap (read None) h.joined ∙ read_whole h.taken (word ∷ []) h.reads (runs_at text to) ∙ one_word word (read None (runs_at text to))
+
+-- ---- faults
+
+pub in_comment : (runs : List Run) (found : List Word) (h : EndsInComment runs found) → InComment h.first.start runs found
+in_comment runs found h = record { front = h.front; first = h.first; inside = h.inside; joined = h.joined; before = h.before; begins = refl; opened = h.opened; no_marks = h.no_marks }
+
+-- the state of the reading before a run that is refused
+record Refusal (number : TextNumber) (front : List Run) (found : List Word) (run : Run) : Type 0 where
+  state : Option ℕ
+  behind : Behind state front found
+  fails : (tail : List Run) → read state (run ∷ tail) ≡ Err (fault_at number run.start)
+  is_number : words.IsNumber number front run
+
+refusal : (number : TextNumber) (front : List Run) (found : List Word) (run : Run) → IsRefused number front found run → Refusal number front found run
+unfolding in_comment
+refusal T03 front found run h = record {
+  state = Some h.0.first.start;
+  behind = in_comment front found h.0;
+  fails = λ tail. inside_mark h.0.first.start run tail h.2 (stands_mark run.bytes h.1);
+  is_number = (h.0.first, is_open h.0.first.start front found (in_comment front found h.0), h.1, h.2);
+}
+refusal T04 front found run h = record { state = None; behind = h.0; fails = λ tail. outside_close run tail h.1; is_number = (is_whole front found h.0, h.1) }
+refusal T05 front found run h = record {
+  state = None;
+  behind = h.0;
+  fails = λ tail. outside_word run tail h.1 h.2 ∙ ap (λ (k : Option WordKind). alone run k (read None tail)) h.3;
+  is_number = (is_whole front found h.0, no_kind run.bytes h.3, h.2, λ kind spelled. (let is : kind_of run.bytes ≡ Some kind = spelled_kind kind run.bytes spelled in let none : kind_of run.bytes ≡ None = h.3 in cc));
+}
+refusal _ front found run h = absurd h
+
+abbrev stop_of : (runs : List Run) (found : List Word) (number : TextNumber) (at : ℕ) → MeetsRun runs found number at → words.StopsAt runs number at
+stop_of runs found number at h = record {
+  front = h.front;
+  run = h.run;
+  rest = h.rest;
+  joined = h.joined;
+  place = h.place;
+  goes_on = goes_on (refusal number h.front found h.run h.refused).state h.front found (refusal number h.front found h.run h.refused).behind;
+  stops = stops (refusal number h.front found h.run h.refused).state h.front found h.run (fault_at number h.run.start) (refusal number h.front found h.run h.refused).behind (refusal number h.front found h.run h.refused).fails;
+  is_number = (refusal number h.front found h.run h.refused).is_number;
+}
+
+ends_open : (runs : List Run) (found : List Word) (at : ℕ) (h : EndsInComment runs found) → at ≡ h.first.start → EndsOpen runs at
+unfolding in_comment
+ends_open runs found at h place = record {
+  first = h.first;
+  open_comment = is_open h.first.start runs found (in_comment runs found h);
+  place = place;
+  goes_on = goes_on (Some h.first.start) runs found (in_comment runs found h);
+  not_whole = not_whole h.first.start runs found (in_comment runs found h);
+}
+
+pub fails_read : (runs : List Run) (found : List Word) (number : TextNumber) (at : ℕ) → FailsBehind runs found number at → read None runs ≡ Err (fault_at number at)
+fails_read runs found T02 at h = open_fault runs at (ends_open runs found at h.0 h.1)
+fails_read runs found number at h = stop_fault number runs at (stop_of runs found number at h)
+
+pub fails_more : (a b : List Run) (ws vs : List Word) (number : TextNumber) (at : ℕ) → AreWords a ws → FailsBehind b vs number at → FailsBehind (a ++ b) (ws ++ vs) number at
+unfolding comment-append
+fails_more a b ws vs T02 at f g = (comment-append a b ws vs f g.0, g.1)
+fails_more a b ws vs number at f g = record {
+  front = a ++ g.front;
+  run = g.run;
+  rest = g.rest;
+  joined = ap (λ (rs : List Run). a ++ rs) g.joined ∙ sym (append_assoc a g.front (g.run ∷ g.rest));
+  place = g.place;
+  refused = refused_more number g.front g.run g.refused;
+} where
+  refused_more : (number : TextNumber) (front : List Run) (run : Run) → IsRefused number front vs run → IsRefused number (a ++ front) (ws ++ vs) run
+  refused_more T03 front run h = (comment-append a front ws vs f h.0, h.1, h.2)
+  refused_more T04 front run h = (words-append a front ws vs f h.0, h.1)
+  refused_more T05 front run h = (words-append a front ws vs f h.0, h.1, h.2, h.3)
+  refused_more _ front run h = absurd h
+
+held : (number : TextNumber) (front : List Run) (found : List Word) (run : Run) → IsRefused number front found run → HoldWords front found
+held T03 front found run h = inr h.0
+held T04 front found run h = inl h.0
+held T05 front found run h = inl h.0
+held _ front found run h = absurd h
+
+stops_words : (text : List ℕ) (found : List Word) (number : TextNumber) (at : ℕ) → IsViable (tokens_of text found) → MeetsRun (runs text) found number at → StopsWords text number at
+stops_words text found number at viable h = record { stop = stop_of (runs text) found number at h; found = found; read = held number h.front found h.run h.refused; viable = viable }
+
+-- a fault of words that is met behind words with which units go on
+pub first_of_words : (text : List ℕ) (found : List Word) (number : TextNumber) (at : ℕ) → first_bad text ≡ None → IsViable (tokens_of text found) → FailsBehind (runs text) found number at → IsFirstFaultAt text number at
+first_of_words text found T02 at allowed viable h = (allowed, record { ends = ends_open (runs text) found at h.0 h.1; found = found; read = h.0; viable = viable })
+first_of_words text found T03 at allowed viable h = (allowed, stops_words text found T03 at viable h)
+first_of_words text found T04 at allowed viable h = (allowed, stops_words text found T04 at viable h)
+first_of_words text found T05 at allowed viable h = (allowed, stops_words text found T05 at viable h)
+first_of_words text found number at allowed viable h = absurd h.refused

@@ -1,0 +1,42 @@
+use Rattle.std.proofs.Common.{◌≡◌, ◌≤◌, true, false, length, sym, ◌∙◌}
+use Rattle.mm_text.specs.PartReading.{ends_part}
+use Rattle.mm_text.proofs.PartLemmas.{divides_start, divides_end, divides_fault, divides_part, divides_more}
+use Rattle.mm_text.proofs.division.parts.Goals as goal
+
+pub loop-word-init : goal.loop-word-init
+loop-word-init c = record {
+  text = c.new-reader.ensures.text;
+  divides = rw (c.new-parts.ensures.items, c.new-reader.ensures.from) (divides_start c.args.text.now _);
+}
+
+pub loop-word-preserved-then-ends_part : goal.loop-word-preserved-then-ends_part
+loop-word-preserved-then-ends_part c =
+    let taken = rw (c.in-Ok-Some.field-0-is, c.loop-word.invariant.text) at c.in-Ok-Some.ensures.word in
+    let same = c.in-Ok-Some.ensures.text ∙ c.loop-word.invariant.text in
+    let most : c.next_word.new.self.from ≤ length c.next_word.new.self.text.now = c.next_word.new.self.in_text in
+    let ends : ends_part c.in-Ok-Some.word.kind ≡ true = sym c.ends_part.ensures ∙ c.if-ends_part.true in
+    record {
+      text = same;
+      divides = rw (c.in_ok-push-in-Ok-Some.ensures.items, c.part_kind-kind.ensures, c.unwrap_or-start.ensures) (divides_part _ _ _ _ _ c.loop-word.invariant.divides c.in-Ok-Some.word _ taken (rw same at most) ends);
+    }
+
+pub loop-word-preserved : goal.loop-word-preserved
+loop-word-preserved c =
+    let taken = rw (c.in-Ok-Some.field-0-is, c.loop-word.invariant.text) at c.in-Ok-Some.ensures.word in
+    let same = c.in-Ok-Some.ensures.text ∙ c.loop-word.invariant.text in
+    let most : c.next_word.new.self.from ≤ length c.next_word.new.self.text.now = c.next_word.new.self.in_text in
+    let on : ends_part c.in-Ok-Some.word.kind ≡ false = sym c.ends_part.ensures ∙ c.if-ends_part.false in
+    record {
+      text = same;
+      divides = rw (c.part_kind-kind.ensures, c.unwrap_or-start.ensures) (divides_more _ _ _ _ _ c.loop-word.invariant.divides c.in-Ok-Some.word _ taken (rw same at most) on);
+    }
+
+pub returns-in-Ok-None-clause-parts : goal.returns-in-Ok-None-clause-parts
+returns-in-Ok-None-clause-parts c =
+    let none = rw (c.in-Ok-None.field-0-is, c.loop-word.invariant.text) at c.in-Ok-None.ensures.word in
+    divides_end _ _ _ _ _ c.loop-word.invariant.divides none
+
+pub returns-in-Err-clause-parts : goal.returns-in-Err-clause-parts
+returns-in-Err-clause-parts c units has =
+    let fails = rw c.loop-word.invariant.text at c.in-Err.ensures.word in
+    absurd (divides_fault _ _ _ _ _ c.loop-word.invariant.divides _ _ fails units has)

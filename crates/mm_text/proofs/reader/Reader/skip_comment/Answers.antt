@@ -1,0 +1,23 @@
+use Rattle.std.proofs.Common.{◌≢◌, rules, slice_range, sym, ◌∙◌}
+use Rattle.std.proofs.lemmas.Bool.{false≢true}
+use Rattle.mm_text.specs.Spelling.{HoldsMark, closing}
+use Rattle.mm_text.proofs.KindLemmas.{mark_stands, stands_mark}
+use Rattle.mm_text.proofs.ReaderLemmas.{skip_more, skip_fault}
+use Rattle.mm_text.proofs.reader.Reader.skip_comment.Goals as goal
+
+pub returns-then-has_mark-clause-end : goal.returns-then-has_mark-clause-end
+returns-then-has_mark-clause-end c =
+    let same = c.next_run.ensures.text ∙ c.loop-span.invariant.text in
+    let differs : slice_range c.next_run.new.self.text.now c.in-Some.span.start c.in-Some.span.end ≢ closing = λ e. false≢true (sym c.if-is_closing.false ∙ c.is_closing.ensures.1 e) in
+    let holds : HoldsMark (slice_range c.next_run.new.self.text.now c.in-Some.span.start c.in-Some.span.end) = mark_stands _ (sym c.has_mark.ensures ∙ c.if-has_mark.true) in
+    skip_fault c.args.self.now.text.now c.args.self.now.from c.loop-span.self.from c.in-Some.span c.next_run.new.self.from c.loop-span.invariant.skips (rw c.loop-span.invariant.text at c.in-Some.ensures.run) c.args.start (rw same at holds) (rw same at differs)
+
+pub loop-span-preserved : goal.loop-span-preserved
+loop-span-preserved c =
+    let same = c.next_run.ensures.text ∙ c.loop-span.invariant.text in
+    let none : ¬ HoldsMark (slice_range c.next_run.new.self.text.now c.in-Some.span.start c.in-Some.span.end) = λ h. false≢true (sym c.if-has_mark.false ∙ c.has_mark.ensures ∙ stands_mark _ h) in
+    record {
+      text = same;
+      forward = search rules;
+      skips = skip_more c.args.self.now.text.now c.args.self.now.from c.loop-span.self.from c.in-Some.span c.next_run.new.self.from c.loop-span.invariant.skips (rw c.loop-span.invariant.text at c.in-Some.ensures.run) (rw same at none);
+    }

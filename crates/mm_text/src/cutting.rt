@@ -1,0 +1,79 @@
+//! The cut of a text into pieces.
+
+ghost use Rattle.std.specs.Prelude.{◌≡◌, IfOk, IfErr, All, map};
+ghost use Rattle.mm_text.specs.Unit.{Units};
+ghost use Rattle.mm_text.specs.Part.{HasUnits};
+ghost use Rattle.mm_text.specs.Cut as pieces;
+ghost use Rattle.mm_text.specs.Cut.{ended, IsCut, IsCutError};
+
+use crate::fault::{TextError, TextFault, TextNumber};
+use crate::grammar::Grammar;
+use crate::pieces::Cut;
+use crate::reader::Reader;
+use crate::reading::first_bad_byte;
+use crate::spelling::{could_label, is_white_space, white_len};
+use std::alloc::{AllocError, Global};
+
+/// Whether bytes end in white space; no bytes do.
+fn ends_white(bytes: &[u8]) -> bool
+    ensures { result ≡ pieces.ends_white bytes.now }
+{
+    match bytes.last() {
+        Some(last) => is_white_space(*last),
+        None => true,
+    }
+}
+
+/// A copy of bytes, with a line feed behind them if they do not end in white space.
+fn ended_copy(alloc: Global, bytes: &[u8]) -> Result<Vec<u8>, AllocError>
+    ensures { IfOk result (λ copy. copy.items ≡ ended bytes.now) }
+{
+    let mut copy = Vec::from_slice(alloc, bytes)?;
+    if !ends_white(bytes) {
+        copy.push(b'\n')?;
+    }
+    Ok(copy)
+}
+
+/// The pieces of a text, each with one unit, and its tail.
+///
+/// A unit is a statement, an inclusion, or a block with the units inside it. A piece goes from behind the piece
+/// before it to the end of the white space behind its unit, so the comments in front of a unit are in its piece;
+/// the tail is what stands behind the last piece. A text that does not end in white space is read as if a line
+/// feed stood behind it. The pieces and the tail are copies, and in order they are the text.
+///
+/// An error is the first fault of the text, `T01` to `T12`, with the byte that it is told at; or `Memory`, where
+/// there was no room for the pieces. Every text without a fault is cut, the empty one too.
+pub fn cut(alloc: Global, text: &[u8]) -> Result<Cut, TextError>
+    ensures cut { IfOk result (λ found. IsCut text.now (map (λ piece. piece.items) found.pieces.items) found.tail.items) }
+    ensures fault { IfErr result (IsCutError text.now) }
+
+    // This follows: the words of each piece are whole units, as `parts` requires.
+    ensures units { IfOk result (λ found. All (λ piece. (units : Units) × HasUnits piece.items units) found.pieces.items) }
+{
+    if let Some(at) = first_bad_byte(text) {
+        return Err(TextError::Fault(TextFault {
+            number: TextNumber::T01,
+            at,
+        }));
+    }
+    let mut pieces = Vec::new(alloc);
+    let mut grammar = Grammar::new(alloc);
+    let mut reader = Reader::new(text);
+    let mut from = 0;
+    while let Some(word) = reader.next_word()? {
+        grammar.take(&word, could_label(&text[word.start..word.end]))?;
+        if grammar.is_whole() {
+            let end = word.end + white_len(&text[word.end..]);
+            pieces.push(ended_copy(alloc, &text[from..end])?)?;
+            from = end;
+        }
+    }
+    match grammar.end() {
+        Some(fault) => Err(TextError::Fault(fault)),
+        None => Ok(Cut {
+            pieces,
+            tail: ended_copy(alloc, &text[from..])?,
+        }),
+    }
+}

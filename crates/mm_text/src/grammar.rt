@@ -1,0 +1,154 @@
+//! The reading of units from their beginning, word by word.
+
+ghost use Rattle.std.specs.Prelude.{◌≡◌, ◌↔◌, ℕ, Bool, IsTrue, []};
+ghost use Rattle.mm_text.specs.declared.grammar.Phase.TheVariants as phases;
+ghost use Rattle.mm_text.specs.declared.word.WordKind.TheVariants as kinds;
+ghost use Rattle.mm_text.specs.UnitReading.{next};
+ghost use Rattle.mm_text.specs.Grammar.{phase_of, level, Takes, EndsAs};
+
+use crate::fault::{TextError, TextFault, TextNumber};
+use crate::word::{Keyword, Word, WordKind};
+use std::alloc::Global;
+
+/// What may come next in a sequence of units.
+#[derive(Clone, Copy, Debug, PartialEq, Eq)]
+pub enum Phase {
+    /// A unit.
+    Begin,
+    /// The keyword behind a label.
+    Labelled,
+    /// Symbols, or the labels of a proof, and `$.`.
+    Symbols,
+    /// The symbols of a `$p`, and `$=`.
+    Expression,
+    /// The name of an inclusion.
+    Including,
+    /// The `$]` behind the name.
+    Named,
+}
+
+/// Where a reading of units stands.
+#[derive(Drop)]
+pub struct Grammar {
+    phase: Phase,
+    /// Where the unit that is being read begins, if one is.
+    first: usize,
+    /// Where the `${` of the open blocks are, the innermost last.
+    blocks: Vec<usize>,
+}
+
+impl Grammar {
+    /// Nothing is read.
+    pub fn new(alloc: Global) -> Self
+        ensures phase { result.phase ≡ phases.Begin }
+        ensures closed { result.blocks.items ≡ [] }
+    {
+        Grammar {
+            phase: Phase::Begin,
+            first: 0,
+            blocks: Vec::new(alloc),
+        }
+    }
+
+    /// Whether whole units have been read.
+    pub fn is_whole(&self) -> bool
+        ensures { IsTrue result ↔ ((self.now.phase ≡ phases.Begin) × (self.now.blocks.items ≡ [])) }
+    {
+        matches!(self.phase, Phase::Begin) && self.blocks.is_empty()
+    }
+
+    /// Reads one more word, or tells why no unit has it at this place.
+    pub fn take(&mut self, word: &Word, could_label: bool) -> Result<(), TextError>
+        ensures { Takes self.old word.now could_label result self.new }
+    {
+        let outside = self.blocks.is_empty();
+        let next = match behind(self.phase, outside, word.kind, could_label) {
+            Ok(next) => next,
+            Err(number) => {
+                return Err(TextError::Fault(TextFault {
+                    number,
+                    at: word.start,
+                }));
+            }
+        };
+        match word.kind {
+            WordKind::Keyword(Keyword::BlockStart) => self.blocks.push(word.start)?,
+            WordKind::Keyword(Keyword::BlockEnd) => {
+                self.blocks.pop();
+            }
+            _ => {}
+        }
+        if matches!(self.phase, Phase::Begin) {
+            self.first = word.start;
+        }
+        self.phase = next;
+        Ok(())
+    }
+
+    /// The fault of units that end here, if they are not whole.
+    pub fn end(&self) -> Option<TextFault>
+        ensures { EndsAs self.now result }
+    {
+        if !matches!(self.phase, Phase::Begin) {
+            return Some(TextFault {
+                number: TextNumber::T07,
+                at: self.first,
+            });
+        }
+        let start = self.blocks.last()?;
+        Some(TextFault {
+            number: TextNumber::T08,
+            at: *start,
+        })
+    }
+}
+
+/// What comes behind a word, or the number of the fault if no unit has the word at this place.
+///
+/// Outside is where no block is open.
+fn behind(
+    phase: Phase,
+    outside: bool,
+    kind: WordKind,
+    could_label: bool,
+) -> Result<Phase, TextNumber>
+    ensures { result ≡ phase_of (next phase (level outside) kind could_label) }
+{
+    match kind {
+        WordKind::Plain => behind_plain(phase, could_label),
+        WordKind::Keyword(keyword) => behind_keyword(phase, outside, keyword),
+    }
+}
+
+fn behind_plain(phase: Phase, could_label: bool) -> Result<Phase, TextNumber>
+    ensures { (depth : ℕ) → result ≡ phase_of (next phase depth kinds.Plain could_label) }
+{
+    match phase {
+        Phase::Begin if could_label => Ok(Phase::Labelled),
+        Phase::Begin => Err(TextNumber::T11),
+        Phase::Symbols => Ok(Phase::Symbols),
+        Phase::Expression => Ok(Phase::Expression),
+        Phase::Including => Ok(Phase::Named),
+        Phase::Labelled | Phase::Named => Err(TextNumber::T06),
+    }
+}
+
+fn behind_keyword(phase: Phase, outside: bool, keyword: Keyword) -> Result<Phase, TextNumber>
+    ensures { (could_label : Bool) → result ≡ phase_of (next phase (level outside) (kinds.Keyword keyword) could_label) }
+{
+    match (phase, keyword) {
+        (Phase::Begin, Keyword::BlockEnd) if outside => Err(TextNumber::T09),
+        (Phase::Begin, Keyword::BlockStart | Keyword::BlockEnd) => Ok(Phase::Begin),
+        (Phase::Begin, Keyword::InclusionStart) if outside => Ok(Phase::Including),
+        (Phase::Begin, Keyword::Constants | Keyword::Variables | Keyword::Disjoint)
+        | (Phase::Labelled, Keyword::Floating | Keyword::Essential | Keyword::Axiom)
+        | (Phase::Expression, Keyword::ProofStart) => Ok(Phase::Symbols),
+        (Phase::Labelled, Keyword::Theorem) => Ok(Phase::Expression),
+        (Phase::Symbols, Keyword::StatementEnd) | (Phase::Named, Keyword::InclusionEnd) => {
+            Ok(Phase::Begin)
+        }
+        (Phase::Including, _) => Err(TextNumber::T12),
+        (_, Keyword::InclusionStart) => Err(TextNumber::T10),
+        _ => Err(TextNumber::T06),
+    }
+}
