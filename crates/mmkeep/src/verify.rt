@@ -16,7 +16,9 @@ use mm_text::words;
 use std::alloc::Global;
 use std::io::Write;
 
-/// Verifies a file and writes its report.
+/// Verifies the text of a file and writes its report.
+///
+/// The file's name is for the lines of faults, of which there are none yet.
 ///
 /// Answers whether the report is clean: whether no line stands before its summary. An error comes in this order:
 /// the first fault of the text's words; the first word that no unit has at its place or that is not read yet; an
