@@ -1,0 +1,130 @@
+-- Files give one list of items at most.
+use Rattle.std.proofs.Common.{◌≡◌, ℕ, ◌+◌, true, List, [], ◌∷◌, ◌++◌, Some, None, map, refl, sym, ap, ◌∙◌, subst, Contains, ◌⊎◌, inl, inr}
+use Rattle.std.specs.Prelude.{slice_get}
+use Rattle.std.proofs.lemmas.Option.{none-some, same_Some}
+use Rattle.mm_text.specs.declared.word.Word.{Word}
+use Rattle.mm_text.specs.Reading.{HasWords}
+use Rattle.mm_text.specs.Unit.{Units, AreUnits, unit_tokens, tokens_of}
+use Rattle.mm_text.specs.Part.{parts_of}
+use Rattle.mm_store.specs.declared.item.Item.{Item}
+use Rattle.mm_store.specs.FilesView.{PieceView, FileView, number_of}
+use Rattle.mm_store.specs.Expansion.{Placed, IsInclusion, item_of, placed_part, second_word, ArePartsOf, ArePlaced, Expands, nothing, own, again, missing, included, IsExpansion}
+
+abbrev pub OneReading : Type 0
+OneReading = (text : List ℕ) (a b : List Word) → HasWords text a → HasWords text b → a ≡ b
+
+abbrev pub OneDivision : Type 0
+OneDivision = (a b : Units) → AreUnits true a → AreUnits true b → unit_tokens a ≡ unit_tokens b → a ≡ b
+
+-- what the parts of a list give: nothing, or what its first part gives and then the rest
+pub record Own (files : List FileView) (part : Placed) (parts : List Placed) (names : List (List ℕ)) (items : List Item) (after : List (List ℕ)) : Type 0 where
+  pub is_own : ¬ IsInclusion part
+  pub rest : List Item
+  pub is : items ≡ item_of part ∷ rest
+  pub later : Expands files parts names rest after
+
+pub record Again (files : List FileView) (part : Placed) (parts : List Placed) (names : List (List ℕ)) (items : List Item) (after : List (List ℕ)) : Type 0 where
+  pub is_inclusion : IsInclusion part
+  pub known : Contains names part.name
+  pub later : Expands files parts names items after
+
+pub record Lost (files : List FileView) (part : Placed) (parts : List Placed) (names : List (List ℕ)) (items : List Item) (after : List (List ℕ)) : Type 0 where
+  pub is_inclusion : IsInclusion part
+  pub new : ¬ Contains names part.name
+  pub none : number_of files part.name ≡ None
+  pub rest : List Item
+  pub is : items ≡ item_of part ∷ rest
+  pub later : Expands files parts (names ++ part.name ∷ []) rest after
+
+pub record Taken (files : List FileView) (part : Placed) (parts : List Placed) (names : List (List ℕ)) (items : List Item) (after : List (List ℕ)) : Type 0 where
+  pub is_inclusion : IsInclusion part
+  pub new : ¬ Contains names part.name
+  pub number : ℕ
+  pub file : FileView
+  pub is_number : number_of files part.name ≡ Some number
+  pub there : slice_get files number ≡ Some file
+  pub inner : List Placed
+  pub placed : ArePlaced number 0 file.pieces inner
+  pub gained : List Item
+  pub between : List (List ℕ)
+  pub inside : Expands files inner (names ++ part.name ∷ []) gained between
+  pub rest : List Item
+  pub is : items ≡ gained ++ rest
+  pub later : Expands files parts between rest after
+
+abbrev Way : List FileView → List Placed → List (List ℕ) → List Item → List (List ℕ) → Type 0
+Way files [] names items after = (items ≡ []) × (after ≡ names)
+Way files (part ∷ parts) names items after = (Own files part parts names items after ⊎ Again files part parts names items after) ⊎ (Lost files part parts names items after ⊎ Taken files part parts names items after)
+
+way : {files : List FileView} {parts : List Placed} {names after : List (List ℕ)} {items : List Item} → Expands files parts names items after → Way files parts names items after
+way nothing = (refl, refl)
+way (own {items = items} not d) = inl (inl (record { is_own = not; rest = items; is = refl; later = d }))
+way (again is old d) = inl (inr (record { is_inclusion = is; known = old; later = d }))
+way (missing {items = items} is new none d) = inr (inl (record { is_inclusion = is; new = new; none = none; rest = items; is = refl; later = d }))
+way (included {inner = inner} {between = between} {gained = gained} {items = items} {number = number} {file = file} is new at there placed inside d) =
+    inr (inr (record { is_inclusion = is; new = new; number = number; file = file; is_number = at; there = there; inner = inner; placed = placed; gained = gained; between = between; inside = inside; rest = items; is = refl; later = d }))
+
+-- all later parts give one thing
+abbrev One : List FileView → List Placed → List (List ℕ) → List Item → List (List ℕ) → Type 0
+One files parts names items after = (b : List Item) (y : List (List ℕ)) → Expands files parts names b y → (items ≡ b) × (after ≡ y)
+
+own_one : {files : List FileView} {part : Placed} {parts : List Placed} {names after y : List (List ℕ)} {items b : List Item} → ¬ IsInclusion part → One files parts names items after → Way files (part ∷ parts) names b y → (item_of part ∷ items ≡ b) × (after ≡ y)
+own_one {part = part} {y = y} not one (inl (inl o)) = (let r = one o.rest y o.later in (ap (λ l. item_of part ∷ l) r.0 ∙ sym o.is, r.1))
+own_one not one (inl (inr g)) = absurd (not g.is_inclusion)
+own_one not one (inr (inl l)) = absurd (not l.is_inclusion)
+own_one not one (inr (inr t)) = absurd (not t.is_inclusion)
+
+again_one : {files : List FileView} {part : Placed} {parts : List Placed} {names after y : List (List ℕ)} {items b : List Item} → IsInclusion part → Contains names part.name → One files parts names items after → Way files (part ∷ parts) names b y → (items ≡ b) × (after ≡ y)
+again_one is old one (inl (inl o)) = absurd (o.is_own is)
+again_one {y = y} {b = b} is old one (inl (inr g)) = one b y g.later
+again_one is old one (inr (inl l)) = absurd (l.new old)
+again_one is old one (inr (inr t)) = absurd (t.new old)
+
+missing_one : {files : List FileView} {part : Placed} {parts : List Placed} {names after y : List (List ℕ)} {items b : List Item} → IsInclusion part → ¬ Contains names part.name → number_of files part.name ≡ None → One files parts (names ++ part.name ∷ []) items after → Way files (part ∷ parts) names b y → (item_of part ∷ items ≡ b) × (after ≡ y)
+missing_one is new none one (inl (inl o)) = absurd (o.is_own is)
+missing_one is new none one (inl (inr g)) = absurd (new g.known)
+missing_one {part = part} {y = y} is new none one (inr (inl l)) = (let r = one l.rest y l.later in (ap (λ rest. item_of part ∷ rest) r.0 ∙ sym l.is, r.1))
+missing_one is new none one (inr (inr t)) = absurd (none-some t.number (sym none ∙ t.is_number))
+
+module _ (one_reading : OneReading) (one_division : OneDivision) where
+  parts_one : (file n : ℕ) (piece : PieceView) (a b : List Placed) → ArePartsOf file n piece a → ArePartsOf file n piece b → a ≡ b
+  parts_one file n piece a b p q =
+      let w : p.words ≡ q.words = one_reading piece.text p.words q.words p.has_words q.has_words in
+      let u : p.units ≡ q.units = one_division p.units q.units p.are_units q.are_units (p.spells ∙ ap (tokens_of piece.text) w ∙ sym q.spells) in
+      p.parts ∙ ap (λ words. map (placed_part file n piece.key (second_word piece.text words)) (parts_of p.units)) w ∙ ap (λ units. map (placed_part file n piece.key (second_word piece.text q.words)) (parts_of units)) u ∙ sym q.parts
+
+  placed_one : (file n : ℕ) (pieces : List PieceView) (a b : List Placed) → ArePlaced file n pieces a → ArePlaced file n pieces b → a ≡ b
+  placed_one file n [] a b p q = p ∙ sym q
+  placed_one file n (piece ∷ pieces) a b p q =
+      p.4 ∙ ap (λ l. l ++ p.1) (parts_one file n piece p.0 q.0 p.2 q.2) ∙ ap (λ l. q.0 ++ l) (placed_one file (n + 1) pieces p.1 q.1 p.3 q.3) ∙ sym q.4
+
+  file_one : (files : List FileView) (m n : ℕ) (f g : FileView) → slice_get files m ≡ Some f → slice_get files n ≡ Some g → m ≡ n → f ≡ g
+  file_one files m n f g p q e = same_Some f g (sym p ∙ ap (slice_get files) e ∙ q)
+
+  inner_one : (files : List FileView) (m n : ℕ) (f g : FileView) (a b : List Placed) → slice_get files m ≡ Some f → slice_get files n ≡ Some g → m ≡ n → ArePlaced m 0 f.pieces a → ArePlaced n 0 g.pieces b → a ≡ b
+  inner_one files m n f g a b p q e x y =
+      placed_one n 0 g.pieces a b (subst (λ (file : FileView). ArePlaced n 0 file.pieces a) (file_one files m n f g p q e) (subst (λ k. ArePlaced k 0 f.pieces a) e x)) y
+
+  included_one : {files : List FileView} {part : Placed} {parts inner : List Placed} {names between after y : List (List ℕ)} {gained items b : List Item} {number : ℕ} {file : FileView} → IsInclusion part → ¬ Contains names part.name → number_of files part.name ≡ Some number → slice_get files number ≡ Some file → ArePlaced number 0 file.pieces inner → One files inner (names ++ part.name ∷ []) gained between → One files parts between items after → Way files (part ∷ parts) names b y → (gained ++ items ≡ b) × (after ≡ y)
+  included_one is new at there placed inside later (inl (inl o)) = absurd (o.is_own is)
+  included_one is new at there placed inside later (inl (inr g)) = absurd (new g.known)
+  included_one {number = number} is new at there placed inside later (inr (inl l)) = absurd (none-some number (sym l.none ∙ at))
+  included_one {files} {part} {parts} {inner = inner} {names = names} {y = y} {items = items} {number = number} {file = file} is new at there placed inside later (inr (inr t)) =
+      let n : number ≡ t.number = same_Some number t.number (sym at ∙ t.is_number) in
+      let i = inner_one files number t.number file t.file inner t.inner there t.there n placed t.placed in
+      let r = inside t.gained t.between (subst (λ l. Expands files l (names ++ part.name ∷ []) t.gained t.between) (sym i) t.inside) in
+      let q = later t.rest y (subst (λ l. Expands files parts l t.rest y) (sym r.1) t.later) in
+      (ap (λ l. l ++ items) r.0 ∙ ap (λ l. t.gained ++ l) q.0 ∙ sym t.is, q.1)
+
+  same : {files : List FileView} {parts : List Placed} {names x y : List (List ℕ)} {a b : List Item} → Expands files parts names a x → Expands files parts names b y → (a ≡ b) × (x ≡ y)
+  same nothing e = (let w = way e in (sym w.0, sym w.1))
+  same (own not d) e = own_one not (λ b y later. same d later) (way e)
+  same (again is old d) e = again_one is old (λ b y later. same d later) (way e)
+  same (missing is new none d) e = missing_one is new none (λ b y later. same d later) (way e)
+  same (included is new at there placed inside d) e = included_one is new at there placed (λ b y inner. same inside inner) (λ b y later. same d later) (way e)
+
+  pub expansion_one : (files : List FileView) (top : List ℕ) (a b : List Item) → IsExpansion files top a → IsExpansion files top b → a ≡ b
+  expansion_one files top a b p q =
+      let n : p.number ≡ q.number = same_Some p.number q.number (sym p.is_top ∙ q.is_top) in
+      let i = inner_one files p.number q.number p.file q.file p.parts q.parts p.there q.there n p.placed q.placed in
+      (same (subst (λ l. Expands files l (top ∷ []) a p.after) i p.expands) q.expands).0

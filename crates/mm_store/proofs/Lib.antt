@@ -1,0 +1,10 @@
+pub mod RoomLemmas
+pub mod PlaceLemmas
+pub mod FilesLemmas
+pub mod GainLemmas
+pub mod CountLemmas
+pub mod NewFileLemmas
+pub mod ByteLemmas
+pub mod ExpansionLemmas
+pub mod StandLemmas
+pub mod Rows

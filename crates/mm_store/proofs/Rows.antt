@@ -1,0 +1,62 @@
+-- A small case of the definition: a file that includes another twice, a missing one twice, and itself.
+use Rattle.std.proofs.Common.{◌≡◌, ℕ, zero, suc, ◌<◌, List, [], ◌∷◌, length, get_or, refl, arith, Contains}
+use Rattle.mm_text.specs.declared.part.PartKind.{PartKind}
+use Rattle.mm_text.specs.declared.part.PartKind.TheVariants.{Inclusion, Axiom}
+use Rattle.mm_store.specs.declared.item.Item.{Item}
+use Rattle.mm_store.specs.FilesView.{FileView}
+use Rattle.mm_store.specs.Expansion.{Placed, item_of, Expands, nothing, own, again, missing, included}
+
+abbrev named : ℕ → List ℕ
+named byte = byte ∷ []
+
+abbrev part : PartKind → ℕ → ℕ → Placed
+part kind piece byte = record { file = 0; piece = piece; key = record { at = piece }; name = named byte; part = record { kind = kind; start = 0; end = 9 } }
+
+abbrev file : ℕ → FileView
+file byte = record { name = named byte; pieces = []; tail = [] }
+
+-- the files with the names 1, which is the top file, and 2
+abbrev files : List FileView
+files = file 1 ∷ file 2 ∷ []
+
+abbrev at_first : List (List ℕ)
+at_first = named 1 ∷ []
+
+abbrev with_other : List (List ℕ)
+with_other = named 1 ∷ named 2 ∷ []
+
+abbrev at_last : List (List ℕ)
+at_last = named 1 ∷ named 2 ∷ named 3 ∷ []
+
+new_other : ¬ Contains at_first (named 2)
+new_other there = by there.0 there.1 there.2
+  where
+    by : (k : ℕ) → k < length at_first → get_or at_first k (named 2) ≡ named 2 → ⊥
+    by zero h e = cc
+    by (suc k) h e = absurd (omega arith)
+
+new_missing : ¬ Contains with_other (named 3)
+new_missing there = by there.0 there.1 there.2
+  where
+    by : (k : ℕ) → k < length with_other → get_or with_other k (named 3) ≡ named 3 → ⊥
+    by zero h e = cc
+    by (suc zero) h e = cc
+    by (suc (suc k)) h e = absurd (omega arith)
+
+abbrev given : List Placed
+given = part Inclusion 0 2 ∷ part Inclusion 1 2 ∷ part Inclusion 2 3 ∷ part Inclusion 3 3 ∷ part Inclusion 4 1 ∷ part Axiom 5 4 ∷ []
+
+abbrev wanted : List Item
+wanted = item_of (part Inclusion 2 3) ∷ item_of (part Axiom 5 4) ∷ []
+
+pub row : Expands files given at_first wanted at_last
+row =
+    included {gained = []} new_is new_other refl refl refl nothing
+    (again refl (1, omega arith, refl)
+    (missing refl new_missing refl
+    (again refl (2, omega arith, refl)
+    (again refl (0, omega arith, refl)
+    (own (λ e. (cc)) nothing)))))
+  where
+    new_is : Inclusion ≡ Inclusion
+    new_is = refl

@@ -1,0 +1,68 @@
+-- What contracts say of files: where a key lives, where a byte of a piece stands, and what is added.
+use Rattle.std.specs.Prelude.{◌≡◌, ◌≢◌, ℕ, ◌+◌, ◌≤◌, List, [], ◌∷◌, ◌++◌, Some, AllPairs, All, length, take, slice_get}
+use Rattle.std.specs.List.{concat}
+use Rattle.mm_text.specs.Cut.{IsCut}
+use Rattle.mm_text.specs.Place.{line_at, column_at}
+use Rattle.mm_store.specs.declared.files.PieceKey.{PieceKey}
+use Rattle.mm_store.specs.declared.item.Item.{Item}
+use Rattle.mm_store.specs.declared.walk.KnownPlace.{KnownPlace}
+use Rattle.mm_store.specs.FilesView.{PieceView, FileView, FilesView, piece_texts, text_of}
+
+-- a piece of a file has this key and this text
+pub record IsLive (files : FilesView) (key : PieceKey) (text : List ℕ) : Type 0 where
+  pub number : ℕ
+  pub file : FileView
+  pub there : slice_get files.files number ≡ Some file
+  pub piece : ℕ
+  pub is_piece : slice_get file.pieces piece ≡ Some (record { key = key; text = text })
+
+-- the piece that an item names stands in its file, under its key
+pub record StandsIn (files : FilesView) (item : Item) : Type 0 where
+  pub file : FileView
+  pub there : slice_get files.files item.file ≡ Some file
+  pub text : List ℕ
+  pub is_piece : slice_get file.pieces item.piece ≡ Some (record { key = item.key; text = text })
+
+-- how many bytes of a file stand before one of its pieces
+abbrev pub piece_offset : FileView → ℕ → ℕ
+piece_offset file piece = length (concat (piece_texts (take piece file.pieces)))
+
+-- the byte `at` of a piece of a file, or its end, is the byte `offset` of the text
+pub record IsByte (files : FilesView) (number piece at : ℕ) (text : List ℕ) (offset : ℕ) : Type 0 where
+  pub file : FileView
+  pub there : slice_get files.files number ≡ Some file
+  pub is_text : text ≡ text_of file
+  pub view : PieceView
+  pub is_piece : slice_get file.pieces piece ≡ Some view
+  pub within : at ≤ length view.text
+  pub is_offset : offset ≡ piece_offset file piece + at
+
+-- the place is that of its byte in the text of the file
+pub record IsKnown (files : FilesView) (number : ℕ) (known : KnownPlace) : Type 0 where
+  pub text : List ℕ
+  pub offset : ℕ
+  pub byte : IsByte files number known.piece known.at text offset
+  pub line : known.place.line ≡ line_at text offset
+  pub column : known.place.column ≡ column_at text offset
+
+-- no two of the pieces have one key, and no piece of the files has one of these keys
+pub record AreFresh (files : FilesView) (pieces : List PieceView) : Type 0 where
+  pub distinct : AllPairs (λ one other. one.key ≢ other.key) pieces
+  pub unused : All (λ piece. (text : List ℕ) → ¬ IsLive files piece.key text) pieces
+
+-- a file of this name stands behind the others, its pieces and its tail being the cut of the text
+pub record IsAdded (old new : FilesView) (name text : List ℕ) : Type 0 where
+  pub file : FileView
+  pub last : new.files ≡ old.files ++ file ∷ []
+  pub is_name : file.name ≡ name
+  pub is_cut : IsCut text (piece_texts file.pieces) file.tail
+  pub fresh : AreFresh old file.pieces
+
+-- a file of this name, with these texts of pieces and this tail, stands behind the others
+pub record StandsLast (old new : FilesView) (name : List ℕ) (texts : List (List ℕ)) (tail : List ℕ) : Type 0 where
+  pub file : FileView
+  pub last : new.files ≡ old.files ++ file ∷ []
+  pub is_name : file.name ≡ name
+  pub is_pieces : piece_texts file.pieces ≡ texts
+  pub is_tail : file.tail ≡ tail
+  pub fresh : AreFresh old file.pieces

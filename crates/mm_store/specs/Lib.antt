@@ -1,0 +1,14 @@
+pub use Rattle.mm_text.specs.Run
+pub use Rattle.mm_text.specs.Spelling
+pub use Rattle.mm_text.specs.Reading
+pub use Rattle.mm_text.specs.Unit
+pub use Rattle.mm_text.specs.Cut
+pub use Rattle.mm_text.specs.Part
+pub use Rattle.mm_text.specs.Place
+pub mod FilesView
+pub mod FileFacts
+pub mod Expansion
+pub mod Answers
+pub mod Inside
+pub mod Walk
+pub mod Gains
