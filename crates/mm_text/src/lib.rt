@@ -1,11 +1,11 @@
 //! The text of a Metamath database: its words, and the lines and columns of its bytes.
 //!
-//! A text holds printable characters (the bytes 0x21 to 0x7E) and white space: space, tab, carriage return,
-//! line feed and form feed. White space separates words. The word `$(` begins a comment and the word `$)` ends
-//! it; a comment counts as white space, may stand anywhere, does not nest, and holds neither mark in any of its
-//! other words. A word outside comments is one of the keywords, or holds no `$` (the Metamath book, section
-//! 4.1). A text that keeps these rules has one list of words, which `words` finds; any other has one first
-//! fault, which it tells.
+//! A text holds printable characters (the bytes 0x21 to 0x7E) and white space: tab, line feed, form feed,
+//! carriage return and space. White space separates words. A comment runs from a word `$(` to the next word
+//! `$)`; it counts as white space, may stand anywhere, does not nest, and holds neither mark in any of its other
+//! words. A word outside comments is one of the keywords, or holds no `$` (the Metamath book, section 4.1). A
+//! text that keeps these rules has one list of words, which `words` finds; any other has one first fault, which
+//! it tells.
 //!
 //! The words of a database make units: statements, inclusions, and blocks with units inside. `cut` cuts a text
 //! into pieces with one unit each, or tells the first fault of its words or units, and `parts` divides a piece
