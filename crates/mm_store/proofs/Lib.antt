@@ -1,4 +1,3 @@
-pub mod RoomLemmas
 pub mod PlaceLemmas
 pub mod FilesLemmas
 pub mod GainLemmas

@@ -1,8 +1,9 @@
 //! How many bytes the files may have.
 
 ghost use Rattle.std.specs.Prelude.{◌≡◌, ◌+◌, ◌≤◌, ◌↔◌, IsTrue, length};
-ghost use Rattle.mm_text.specs.Run.{is_white};
 ghost use Rattle.mm_text.specs.Cut.{ended};
+
+use mm_text::ends_white;
 
 const MOST_BYTES: u64 = 4_294_967_295;
 
@@ -13,19 +14,13 @@ pub fn fits(held: u64, more: u64) -> bool
     more <= MOST_BYTES && held <= MOST_BYTES - more
 }
 
-#[tactic(auto, unfolding(mm_text::specs::Run::is_white))]
-fn is_white(byte: u8) -> bool
-    ensures { result ≡ is_white byte }
-{
-    matches!(byte, b' ' | b'\t' | b'\r' | b'\n' | 0x0c)
-}
-
 /// How many bytes a text has that is read with a line feed behind it where it does not end in white space.
 pub(crate) fn ended_len(text: &[u8]) -> usize
     ensures { result ≡ length (ended text.now) }
 {
-    match text.last() {
-        Some(byte) if !is_white(*byte) => text.len() + 1,
-        _ => text.len(),
+    if ends_white(text) {
+        text.len()
+    } else {
+        text.len() + 1
     }
 }

@@ -14,8 +14,9 @@ use crate::reading::first_bad_byte;
 use crate::spelling::{could_label, is_white_space, white_len};
 use std::alloc::{AllocError, Global};
 
-/// Whether bytes end in white space; no bytes do.
-fn ends_white(bytes: &[u8]) -> bool
+/// Whether a text ends in white space, so that `cut` puts no line feed behind it; the empty text counts as one that
+/// does. It takes no memory.
+pub fn ends_white(bytes: &[u8]) -> bool
     ensures { result ≡ pieces.ends_white bytes.now }
 {
     match bytes.last() {

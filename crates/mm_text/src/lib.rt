@@ -26,7 +26,7 @@ mod reading;
 mod spelling;
 mod word;
 
-pub use cutting::cut;
+pub use cutting::{cut, ends_white};
 pub use division::parts;
 pub use fault::{TextError, TextFault, TextNumber};
 pub use laws::{one_cut, one_division, one_layout, one_meaning, one_unit_fault};
