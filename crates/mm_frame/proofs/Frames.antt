@@ -36,7 +36,7 @@ assertion_expression Axiom e = refl
 assertion_expression Theorem e = refl
 assertion_expression _ e = absurd (false≢true e)
 
-expression_labelled : (k : Kind) → is_expression k ≡ true → is_labelled k ≡ true
+pub expression_labelled : (k : Kind) → is_expression k ≡ true → is_labelled k ≡ true
 expression_labelled Essential e = refl
 expression_labelled Axiom e = refl
 expression_labelled Theorem e = refl
@@ -85,7 +85,7 @@ name_known before item name s t h = by_place (in_get name item.symbols h)
     by_place (suc j, g) = known before item j name s t g
 
 -- each variable of an active `$e` is typed
-essential_typed : (before : List Item) (e : Item) (name : List ℕ) → AreKept [] before → In e (active before) → is_essential e.kind ≡ true → In name e.symbols → In name (active_variables before) → In name (typed before)
+pub essential_typed : (before : List Item) (e : Item) (name : List ℕ) → AreKept [] before → In e (active before) → is_essential e.kind ≡ true → In name e.symbols → In name (active_variables before) → In name (typed before)
 essential_typed before e name k h t n v =
     let s = active_split before e h in
     let kept_all = subst (λ w. AreKept [] w) s.whole k in
@@ -98,7 +98,7 @@ essential_typed before e name k h t n v =
     ]
 
 -- each mandatory variable is typed
-mandatory_typed : (before : List Item) (item : Item) (name : List ℕ) → AreKept [] before → IsSound before item → is_expression item.kind ≡ true → In name (mandatory_variables before item) → In name (active_variables before) × In name (typed before)
+pub mandatory_typed : (before : List Item) (item : Item) (name : List ℕ) → AreKept [] before → IsSound before item → is_expression item.kind ≡ true → In name (mandatory_variables before item) → In name (active_variables before) × In name (typed before)
 mandatory_typed before item name k s t h =
     let f = from_filter (has (active_variables before)) name (item.symbols ++ symbols_by is_essential (active before)) h in
     let v = has_in (active_variables before) name f.1 in (
@@ -160,7 +160,7 @@ read_variable before names v h =
 abbrev pub TypeOthers : Item → Item → Type 0
 TypeOthers f g = is_floating f.kind ≡ true → is_floating g.kind ≡ true → variable_of f ≢ variable_of g
 
-in_at : {X : Type 0} (xs : List X) (k : ℕ) (d : X) → k < length xs → In (get_or xs k d) xs
+pub in_at : {X : Type 0} (xs : List X) (k : ℕ) (d : X) → k < length xs → In (get_or xs k d) xs
 in_at [] k d l = absurd (omega arith)
 in_at (x ∷ xs) zero d l = inl refl
 in_at (x ∷ xs) (suc k) d l = inr (in_at xs k d (omega arith))

@@ -8,3 +8,10 @@ pub mod Heights
 pub mod Activity
 pub mod Frames
 pub mod Outermost
+pub mod SpokenLemmas
+pub mod TableLemmas
+pub mod HypothesisNumbers
+pub mod BlockLemmas
+pub mod JudgingLemmas
+pub mod PairLemmas
+pub mod KnownLemmas

@@ -1,10 +1,12 @@
 -- The first five lines of the base, by computing.
 use Rattle.std.proofs.Common.{◌≡◌, ℕ, true, false, Some, None, List, [], ◌∷◌, ◌++◌, refl, codes}
 use Rattle.mm_frame.specs.Language.{Symbol, Hypothesis, Assertion, Unknown, Inactive}
-use Rattle.mm_frame.specs.Item.{Kind, Constants, Variables, Disjoint, Floating, Essential, Axiom, Theorem, BlockStart, BlockEnd, Item}
+use Rattle.mm_frame.specs.Item.{Kind, Constants, Variables, Disjoint, Floating, Essential, Axiom, Theorem, BlockStart, BlockEnd, Item, has}
 use Rattle.mm_frame.specs.declared.FrameNumber.TheVariants.{F06, F08, F12}
 use Rattle.mm_frame.specs.Sound.{fault, kept}
 use Rattle.mm_frame.specs.Framing.{resolve, active_pairs, place_of, statement_of}
+use Rattle.mm_frame.specs.Scope.{active_variables}
+use Rattle.mm_frame.specs.Tables.{last_where, is_active_last, declares_variable, types, carries, mandatory_numbers}
 
 abbrev plain : Kind → List (List ℕ) → Item
 plain kind symbols = record { kind = kind; label = None; symbols = symbols; proof = [] }
@@ -105,3 +107,47 @@ passed_over = refl
 
 label_taken : fault five (labelled (codes "wi") Axiom (wff ∷ p ∷ [])) ≡ Some (0, F06)
 label_taken = refl
+
+-- the last items that declare, type and carry a name
+declared_at : last_where (declares_variable q) five ≡ Some 1
+declared_at = refl
+
+typed_at : last_where (types p) five ≡ Some 2
+typed_at = refl
+
+carried_at : last_where (carries (codes "wi")) five ≡ Some 4
+carried_at = refl
+
+-- a constant is declared by no `$v`
+none_declares : last_where (declares_variable wff) five ≡ None
+none_declares = refl
+
+-- the mandatory hypotheses of a statement, by their numbers
+numbers_are : mandatory_numbers five (labelled (codes "w2") Axiom (wff ∷ q ∷ arrow ∷ p ∷ [])) ≡ 2 ∷ 3 ∷ []
+numbers_are = refl
+
+number_is : mandatory_numbers five (labelled (codes "w2") Axiom (wff ∷ q ∷ [])) ≡ 3 ∷ []
+number_is = refl
+
+-- a variable of two blocks
+abbrev twice : List Item
+twice = plain BlockStart [] ∷ plain Variables (p ∷ []) ∷ plain BlockEnd [] ∷ plain BlockStart [] ∷ plain Variables (p ∷ []) ∷ []
+
+declared_twice : last_where (declares_variable p) twice ≡ Some 4
+declared_twice = refl
+
+active_there : is_active_last twice (Some 4) ≡ true
+active_there = refl
+
+active_no_more : is_active_last (twice ++ plain BlockEnd [] ∷ []) (Some 4) ≡ false
+active_no_more = refl
+
+-- why the items have to be sound: here the last `$v` is at fault, and is not active where the first one still is
+abbrev unsound : List Item
+unsound = plain Variables (p ∷ []) ∷ plain BlockStart [] ∷ plain Variables (p ∷ []) ∷ plain BlockEnd [] ∷ []
+
+active_by_the_first : has (active_variables unsound) p ≡ true
+active_by_the_first = refl
+
+inactive_by_the_last : is_active_last unsound (last_where (declares_variable p) unsound) ≡ false
+inactive_by_the_last = refl

@@ -17,7 +17,7 @@ pub closed_join : (xs ys : List Item) → closed ys ≡ 0 → closed (xs ++ ys) 
 closed_join [] ys h = h
 closed_join (x ∷ xs) ys h = ap (closed_at (mark_of x.kind)) (closed_join xs ys h)
 
-closed_more : (m : Mark) (c d : ℕ) → c ≤ d → closed_at m c ≤ closed_at m d
+pub closed_more : (m : Mark) (c d : ℕ) → c ≤ d → closed_at m c ≤ closed_at m d
 closed_more Opens zero d l = omega arith
 closed_more Opens (suc c) zero l = absurd (omega arith)
 closed_more Opens (suc c) (suc d) l = omega arith
@@ -57,11 +57,12 @@ pub active_split : (xs : List Item) (x : Item) → In x (active xs) → Split xs
 active_split [] x h = absurd h
 active_split (y ∷ ys) x h = split_at y ys x (stays ys) refl h (λ k. active_split ys x k)
 
-in_first : (b : Bool) (x : Item) (xs : List Item) → b ≡ true → In x (cond b (x ∷ xs) xs)
+-- what stands in a list whose first element is kept under a condition
+pub in_first : {X : Type 0} (b : Bool) (x : X) (xs : List X) → b ≡ true → In x (cond b (x ∷ xs) xs)
 in_first true x xs e = inl refl
 in_first false x xs e = absurd (false≢true e)
 
-in_later : (b : Bool) (x y : Item) (xs : List Item) → In x xs → In x (cond b (y ∷ xs) xs)
+pub in_later : {X : Type 0} (b : Bool) (x y : X) (xs : List X) → In x xs → In x (cond b (y ∷ xs) xs)
 in_later true x y xs h = inr h
 in_later false x y xs h = h
 

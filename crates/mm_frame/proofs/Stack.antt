@@ -7,10 +7,10 @@ use Rattle.mm_frame.specs.ScopeStack.{all_of, turn, read, is_statement_mark, sta
 use Rattle.mm_frame.proofs.Scopes.{closed_none}
 
 -- staying by counts
-ends_cons : (x : Item) (xs : List Item) → count_by is_end (x ∷ xs) ≡ cond (closes (mark_of x.kind)) 1 0 + count_by is_end xs
+pub ends_cons : (x : Item) (xs : List Item) → count_by is_end (x ∷ xs) ≡ cond (closes (mark_of x.kind)) 1 0 + count_by is_end xs
 ends_cons x xs = sum_by-cons (λ i. cond (is_end i) 1 0) x xs
 
-starts_cons : (x : Item) (xs : List Item) → count_by is_start (x ∷ xs) ≡ cond (opens (mark_of x.kind)) 1 0 + count_by is_start xs
+pub starts_cons : (x : Item) (xs : List Item) → count_by is_start (x ∷ xs) ≡ cond (opens (mark_of x.kind)) 1 0 + count_by is_start xs
 starts_cons x xs = sum_by-cons (λ i. cond (is_start i) 1 0) x xs
 
 shift : (a b c d k : ℕ) → a ≡ b → c ≡ d → b ≤ k + d → a ≤ k + c

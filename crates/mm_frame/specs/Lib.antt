@@ -1,3 +1,14 @@
+pub use Rattle.mm_text.specs.Run
+pub use Rattle.mm_text.specs.Spelling
+pub use Rattle.mm_text.specs.Reading
+pub use Rattle.mm_text.specs.Unit
+pub use Rattle.mm_text.specs.Cut
+pub use Rattle.mm_text.specs.Part
+pub use Rattle.mm_text.specs.Place
+pub use Rattle.mm_store.specs.FilesView
+pub use Rattle.mm_store.specs.FileFacts
+pub use Rattle.mm_store.specs.Expansion
+pub use Rattle.mm_store.specs.Answers
 pub mod Language
 pub mod Typing
 pub mod Item
@@ -8,4 +19,11 @@ pub mod Outermost
 pub mod Numbered
 pub mod ScopeStack
 pub mod Laws
+pub mod Blocks
+pub mod BlockEnds
+pub mod BlockNumbers
+pub mod Tables
+pub mod Judging
+pub mod Known
 pub mod Statement
+pub mod Spoken

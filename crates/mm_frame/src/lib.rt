@@ -1,6 +1,19 @@
 //! Scopes, soundness and frames: what is declared and active behind a list of items, which statements are sound, and what labels mean.
 #![tactic(auto)]
 
+mod blocks;
+mod statement;
+mod tables;
+
+pub use mm_store::{
+    Files, Item, ItemKind, KnownPlace, PieceKey, Place, StoreError, TextFault, TextNumber, fits,
+    nth_word, place,
+};
+pub use statement::Statement;
+
+#[cfg(test)]
+mod tests;
+
 ghost use Rattle.mm_frame.specs.Laws.{ActiveByBlocks, FaultIsFound, HasFaultOrIsSound, HasOneFault, KeptNext, NeverBoth, PlacesHaveFrames, ReaderIsActive, SoundHasNone, StaysByCounts};
 
 /// The number of a fault of a statement, or of a missing inclusion.

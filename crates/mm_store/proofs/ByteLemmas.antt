@@ -3,6 +3,7 @@ use Rattle.std.proofs.Common.{◌≡◌, ℕ, ◌+◌, ◌<◌, ◌≤◌, List,
 use Rattle.std.specs.Prelude.{Vec, slice_get}
 use Rattle.std.specs.List.{concat, after_last}
 use Rattle.std.specs.Option.{option_map}
+use Rattle.std.proofs.lemmas.List.{take-map}
 use Rattle.std.proofs.lemmas.List.Sums.{get_or-le-sum_by}
 use Rattle.std.proofs.lemmas.Option.{slice_get-map, slice_get-get_or, slice_get_within, get_or_from_slice_get, same_Some}
 use Rattle.mm_text.specs.Place.{is_line_feed}
@@ -43,6 +44,13 @@ module _ {Y Z : Type 0} (texts : List (Vec ℕ Y)) (entries : List (Vec ℕ Z ×
       let before = ap (λ n. take n text) byte.is_offset ∙ ap (take (piece_offset byte.file piece + at)) byte.is_text in
       let found = in_view byte.file piece at byte.view byte.is_piece byte.within in
       subst (λ texts. IsIn texts piece at (take offset text)) (ap (λ (file : FileView). piece_texts file.pieces) file ∙ texts_seen) (subst (IsIn (piece_texts byte.file.pieces) piece at) (sym before) found)
+
+  pub offset_in : (view : FilesView) → record { files = files_of texts entries } ≡ view → (piece at : ℕ) (text : List ℕ) (offset : ℕ) → IsByte view number piece at text offset → offset ≡ length (concat (map (text_at seen) (take piece keys))) + at
+  offset_in view is piece at text offset byte =
+      let here : slice_get (files_of texts entries) number ≡ Some (file_of texts entry) = slice_get-map (file_of texts) entries number ∙ ap (option_map (file_of texts)) there in
+      let file : byte.file ≡ file_of texts entry = same_Some byte.file (file_of texts entry) (sym byte.there ∙ ap (λ (v : FilesView). slice_get v.files number) (sym is) ∙ here) in
+      byte.is_offset ∙ ap (λ (file : FileView). piece_offset file piece + at) file
+      ∙ ap (λ (ts : List (List ℕ)). length (concat ts) + at) (sym (take-map (λ (p : PieceView). p.text) piece (file_of texts entry).pieces) ∙ ap (take piece) texts_seen ∙ take-map (text_at seen) piece keys)
 
   pub known_in : (view : FilesView) → record { files = files_of texts entries } ≡ view → (known : KnownPlace) → IsKnown view number known → IsBehind (bytes_before (map (text_at seen) keys) known.piece known.at) known.place
   known_in view is known k =

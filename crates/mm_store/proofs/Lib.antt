@@ -5,5 +5,6 @@ pub mod CountLemmas
 pub mod NewFileLemmas
 pub mod ByteLemmas
 pub mod ExpansionLemmas
+pub mod KeylessLemmas
 pub mod StandLemmas
 pub mod Rows

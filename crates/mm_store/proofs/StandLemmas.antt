@@ -3,51 +3,62 @@ use Rattle.std.proofs.Common.{◌≡◌, ℕ, ◌+◌, ◌<◌, ◌≤◌, List,
 use Rattle.std.specs.Prelude.{slice_get, All}
 use Rattle.std.specs.List.{AllByRecursion}
 use Rattle.std.proofs.lemmas.List.{get_or_at}
-use Rattle.std.proofs.lemmas.List.Elements.{All-from_recursion}
+use Rattle.std.proofs.lemmas.List.Elements.{All-from_recursion, recursion_from_All}
 use Rattle.std.proofs.lemmas.Option.{slice_get-get_or}
 use Rattle.mm_text.specs.declared.part.Part.{Part}
-use Rattle.mm_text.specs.Part.{parts_of}
+use Rattle.mm_text.specs.Unit.{Units}
+use Rattle.mm_text.specs.Part.{HasUnits, IsReadable, parts_of}
 use Rattle.mm_store.specs.declared.item.Item.{Item}
 use Rattle.mm_store.specs.FilesView.{PieceView, FileView, FilesView, text_of}
 use Rattle.mm_store.specs.FileFacts.{StandsIn, IsLive, IsByte, piece_offset}
-use Rattle.mm_store.specs.Expansion.{Placed, placed_part, second_word, ArePlaced, Expands, nothing, own, again, missing, included, IsExpansion}
+use Rattle.mm_store.specs.Expansion.{Placed, item_of, placed_part, second_word, ArePlaced, Expands, nothing, own, again, missing, included, IsExpansion}
+
+abbrev pub PartsAreTexts : Type 0
+PartsAreTexts = (text : List ℕ) (units : Units) → HasUnits text units → All (IsReadable text) (parts_of units)
 
 record Stands (files : List FileView) (part : Placed) : Type 0 where
   pub file : FileView
   pub there : slice_get files part.file ≡ Some file
   pub text : List ℕ
   pub is_piece : slice_get file.pieces part.piece ≡ Some (record { key = part.key; text = text })
+  pub readable : IsReadable text part.part
 
 all_joined : {X : Type 0} (P : X → Type 0) (xs ys : List X) → AllByRecursion P xs → AllByRecursion P ys → AllByRecursion P (xs ++ ys)
 all_joined P [] ys a b = b
 all_joined P (x ∷ xs) ys a b = (a.0, all_joined P xs ys a.1 b)
 
-parts_stand : (files : List FileView) (file : FileView) (number n : ℕ) (piece : PieceView) (name : List ℕ) (parts : List Part) → slice_get files number ≡ Some file → slice_get file.pieces n ≡ Some piece → AllByRecursion (Stands files) (map (placed_part number n piece.key name) parts)
-parts_stand files file number n piece name [] there here = tt
-parts_stand files file number n piece name (part ∷ parts) there here =
-    (record { file = file; there = there; text = piece.text; is_piece = here }, parts_stand files file number n piece name parts there here)
+stands_in : (files : List FileView) (part : Placed) → Stands files part → StandsIn (record { files = files }) (item_of part)
+stands_in files part h = record { file = h.file; there = h.there; text = h.text; is_piece = h.is_piece; some = h.readable.some; within = h.readable.within; words = h.readable.words; has_words = h.readable.has_words; some_word = h.readable.some_word }
 
-placed_stand : (files : List FileView) (file : FileView) (number n : ℕ) (front pieces : List PieceView) (placed : List Placed) → slice_get files number ≡ Some file → file.pieces ≡ front ++ pieces → n ≡ length front → ArePlaced number n pieces placed → AllByRecursion (Stands files) placed
-placed_stand files file number n front [] placed there whole at are = subst (AllByRecursion (Stands files)) (sym are) tt
-placed_stand files file number n front (piece ∷ pieces) placed there whole at are =
-    let long : n < length (front ++ piece ∷ pieces) = omega (arith, length-append front (piece ∷ pieces)) in
-    let here : slice_get file.pieces n ≡ Some piece = ap (λ l. slice_get l n) whole ∙ slice_get-get_or (front ++ piece ∷ pieces) n piece long ∙ ap Some (get_or_at front piece pieces piece n (sym at)) in
-    let first = subst (AllByRecursion (Stands files)) (sym are.2.parts) (parts_stand files file number n piece (second_word piece.text are.2.words) (parts_of are.2.units) there here) in
-    let next : n + 1 ≡ length (front ++ piece ∷ []) = omega (arith, length-append front (piece ∷ [])) in
-    let rest = placed_stand files file number (n + 1) (front ++ piece ∷ []) pieces are.1 there (whole ∙ sym (append_assoc front (piece ∷ []) pieces)) next are.3 in
-    subst (AllByRecursion (Stands files)) (sym are.4) (all_joined (Stands files) are.0 are.1 first rest)
+parts_stand : (files : List FileView) (file : FileView) (number n : ℕ) (piece : PieceView) (name : List ℕ) (parts : List Part) → AllByRecursion (IsReadable piece.text) parts → slice_get files number ≡ Some file → slice_get file.pieces n ≡ Some piece → AllByRecursion (Stands files) (map (placed_part number n piece.key name) parts)
+parts_stand files file number n piece name [] h there here = tt
+parts_stand files file number n piece name (part ∷ parts) h there here =
+    (record { file = file; there = there; text = piece.text; is_piece = here; readable = h.0 }, parts_stand files file number n piece name parts h.1 there here)
 
-items_stand : {files : List FileView} {parts : List Placed} {names after : List (List ℕ)} {items : List Item} → Expands files parts names items after → AllByRecursion (Stands files) parts → AllByRecursion (StandsIn (record { files = files })) items
-items_stand nothing h = tt
-items_stand (own not d) h = (record { file = h.0.file; there = h.0.there; text = h.0.text; is_piece = h.0.is_piece }, items_stand d h.1)
-items_stand (again is old d) h = items_stand d h.1
-items_stand (missing is new none d) h = (record { file = h.0.file; there = h.0.there; text = h.0.text; is_piece = h.0.is_piece }, items_stand d h.1)
-items_stand {files} (included {inner = inner} {gained = gained} {items = items} {number = number} {file = file} is new at there placed inside d) h =
-    all_joined (StandsIn (record { files = files })) gained items (items_stand inside (placed_stand files file number 0 [] file.pieces inner there refl refl placed)) (items_stand d h.1)
+module _ (parts_are_texts : PartsAreTexts) where
+  placed_stand : (files : List FileView) (file : FileView) (number n : ℕ) (front pieces : List PieceView) (placed : List Placed) → slice_get files number ≡ Some file → file.pieces ≡ front ++ pieces → n ≡ length front → ArePlaced number n pieces placed → AllByRecursion (Stands files) placed
+  placed_stand files file number n front [] placed there whole at are = subst (AllByRecursion (Stands files)) (sym are) tt
+  placed_stand files file number n front (piece ∷ pieces) placed there whole at are =
+      let long : n < length (front ++ piece ∷ pieces) = omega (arith, length-append front (piece ∷ pieces)) in
+      let here : slice_get file.pieces n ≡ Some piece = ap (λ l. slice_get l n) whole ∙ slice_get-get_or (front ++ piece ∷ pieces) n piece long ∙ ap Some (get_or_at front piece pieces piece n (sym at)) in
+      let units : HasUnits piece.text are.2.units = record { words = are.2.words; has_words = are.2.has_words; are_units = are.2.are_units; spells = are.2.spells } in
+      let readable = recursion_from_All (IsReadable piece.text) (parts_of are.2.units) (parts_are_texts piece.text are.2.units units) in
+      let first = subst (AllByRecursion (Stands files)) (sym are.2.parts) (parts_stand files file number n piece (second_word piece.text are.2.words) (parts_of are.2.units) readable there here) in
+      let next : n + 1 ≡ length (front ++ piece ∷ []) = omega (arith, length-append front (piece ∷ [])) in
+      let rest = placed_stand files file number (n + 1) (front ++ piece ∷ []) pieces are.1 there (whole ∙ sym (append_assoc front (piece ∷ []) pieces)) next are.3 in
+      subst (AllByRecursion (Stands files)) (sym are.4) (all_joined (Stands files) are.0 are.1 first rest)
 
-pub expansion_stands : (view : FilesView) (top : List ℕ) (items : List Item) → IsExpansion view.files top items → All (StandsIn view) items
-expansion_stands view top items is =
-    All-from_recursion (StandsIn view) items (items_stand is.expands (placed_stand view.files is.file is.number 0 [] is.file.pieces is.parts is.there refl refl is.placed))
+  items_stand : {files : List FileView} {parts : List Placed} {names after : List (List ℕ)} {items : List Item} → Expands files parts names items after → AllByRecursion (Stands files) parts → AllByRecursion (StandsIn (record { files = files })) items
+  items_stand nothing h = tt
+  items_stand {files} (own {part = part} not d) h = (stands_in files part h.0, items_stand d h.1)
+  items_stand (again is old d) h = items_stand d h.1
+  items_stand {files} (missing {part = part} is new none d) h = (stands_in files part h.0, items_stand d h.1)
+  items_stand {files} (included {inner = inner} {gained = gained} {items = items} {number = number} {file = file} is new at there placed inside d) h =
+      all_joined (StandsIn (record { files = files })) gained items (items_stand inside (placed_stand files file number 0 [] file.pieces inner there refl refl placed)) (items_stand d h.1)
+
+  pub expansion_stands : (view : FilesView) (top : List ℕ) (items : List Item) → IsExpansion view.files top items → All (StandsIn view) items
+  expansion_stands view top items is =
+      All-from_recursion (StandsIn view) items (items_stand is.expands (placed_stand view.files is.file is.number 0 [] is.file.pieces is.parts is.there refl refl is.placed))
 
 -- a byte of an item's piece
 pub stands_byte : (view : FilesView) (item : Item) (at : ℕ) (piece : List ℕ) (stands : StandsIn view item) → ((text : List ℕ) → IsLive view item.key text → piece ≡ text) → at ≤ length piece → IsByte view item.file item.piece at (text_of stands.file) (piece_offset stands.file item.piece + at)

@@ -26,6 +26,11 @@ IsAddError files text TooMany = HasTooMany files text
 IsAddError files text NoTop = ⊥
 IsAddError files text Memory = Unit {0}
 
+-- a fault is told at a byte of the text
+abbrev pub IsAddErrorIn : List ℕ → StoreError → Type 0
+IsAddErrorIn text (Text fault) = fault.at < length text
+IsAddErrorIn text _ = Unit {0}
+
 -- why files have no list of items: no top file, or memory
 abbrev pub IsExpansionError : StoreError → Type 0
 IsExpansionError error = (error ≡ NoTop) ⊎ (error ≡ Memory)

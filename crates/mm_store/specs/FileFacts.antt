@@ -1,6 +1,8 @@
 -- What contracts say of files: where a key lives, where a byte of a piece stands, and what is added.
-use Rattle.std.specs.Prelude.{◌≡◌, ◌≢◌, ℕ, ◌+◌, ◌≤◌, List, [], ◌∷◌, ◌++◌, Some, AllPairs, All, length, take, slice_get}
+use Rattle.std.specs.Prelude.{◌≡◌, ◌≢◌, ℕ, ◌+◌, ◌<◌, ◌≤◌, List, [], ◌∷◌, ◌++◌, Some, AllPairs, All, length, take, slice_get, slice_range}
 use Rattle.std.specs.List.{concat}
+use Rattle.mm_text.specs.declared.word.Word.{Word}
+use Rattle.mm_text.specs.Reading.{HasWords}
 use Rattle.mm_text.specs.Cut.{IsCut}
 use Rattle.mm_text.specs.Place.{line_at, column_at}
 use Rattle.mm_store.specs.declared.files.PieceKey.{PieceKey}
@@ -16,12 +18,17 @@ pub record IsLive (files : FilesView) (key : PieceKey) (text : List ℕ) : Type 
   pub piece : ℕ
   pub is_piece : slice_get file.pieces piece ≡ Some (record { key = key; text = text })
 
--- the piece that an item names stands in its file, under its key
+-- the piece that an item names stands in its file, under its key; the item has a byte of it at least, and its bytes are a text by themselves, with a word at least
 pub record StandsIn (files : FilesView) (item : Item) : Type 0 where
   pub file : FileView
   pub there : slice_get files.files item.file ≡ Some file
   pub text : List ℕ
   pub is_piece : slice_get file.pieces item.piece ≡ Some (record { key = item.key; text = text })
+  pub some : item.start < item.end
+  pub within : item.end ≤ length text
+  pub words : List Word
+  pub has_words : HasWords (slice_range text item.start item.end) words
+  pub some_word : 0 < length words
 
 -- how many bytes of a file stand before one of its pieces
 abbrev pub piece_offset : FileView → ℕ → ℕ

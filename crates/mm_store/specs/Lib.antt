@@ -8,6 +8,7 @@ pub use Rattle.mm_text.specs.Place
 pub mod FilesView
 pub mod FileFacts
 pub mod Expansion
+pub mod Keyless
 pub mod Answers
 pub mod Inside
 pub mod Walk

@@ -8,7 +8,7 @@ ghost use Rattle.mm_text.specs.Place.{line_at, column_at};
 ghost use Rattle.mm_store.specs.declared.error.StoreError.TheVariants.{NoTop};
 ghost use Rattle.mm_store.specs.FilesView.{no_files, bytes_of, find_file, number_of, text_of};
 ghost use Rattle.mm_store.specs.FileFacts.{IsAdded, IsByte, IsKnown, IsLive, StandsIn, StandsLast};
-ghost use Rattle.mm_store.specs.Answers.{IsAddError, IsExpansionError};
+ghost use Rattle.mm_store.specs.Answers.{IsAddError, IsAddErrorIn, IsExpansionError};
 ghost use Rattle.mm_store.specs.Expansion.{IsExpansion};
 ghost use Rattle.mm_store.specs.Inside.{keys_from, text_at};
 
@@ -16,9 +16,9 @@ use crate::error::StoreError;
 use crate::expanding::expand_file;
 use crate::item::Item;
 use crate::room::{ended_len, fits};
-use crate::walk::{KnownPlace, place_on};
+use crate::walk::{KnownPlace, bytes_before, place_on};
 use indexmap::IndexMap;
-use mm_text::{Cut, Place, cut};
+use mm_text::{Cut, Place, cut, parts_are_texts};
 use std::alloc::{AllocError, Global};
 use std::marker::Model;
 
@@ -102,6 +102,7 @@ impl Files {
         ensures ok { OnOk result (IsAdded self.old self.new name.now text.now) }
         ensures within { OnOk result (bytes_of self.new.files ≤ 4294967295) }
         ensures err { IfErr result (IsAddError self.old text.now) }
+        ensures fault_within { IfErr result (IsAddErrorIn text.now) }
         ensures unchanged { OnErr result (self.new ≡ self.old) }
     {
         let cut = cut(alloc, text)?;
@@ -173,6 +174,7 @@ impl Files {
         ensures no_top { IsErrOf result NoTop ↔ (number_of self.now.files top.now ≡ None) }
         ensures err { IfErr result IsExpansionError }
     {
+        parts_are_texts();
         match self.files.get_full(top) {
             None => Err(StoreError::NoTop),
             Some((number, _, file)) => Ok(expand_file(
@@ -202,6 +204,17 @@ impl Files {
     {
         let (name, _) = self.files.as_slice().get_index(file).unwrap();
         name
+    }
+
+    /// Where the byte `at` of a piece stands in the text of its file, counted from 0.
+    ///
+    /// It takes no memory. It adds up the lengths of the pieces before it.
+    pub fn offset(&self, file: usize, piece: usize, at: usize) -> usize
+        requires { (text : List ℕ) × (offset : ℕ) × IsByte self.now file piece at text offset }
+        ensures { (text : List ℕ) (offset : ℕ) → IsByte self.now file piece at text offset → result ≡ offset }
+    {
+        let (_, text) = self.files.as_slice().get_index(file).unwrap();
+        bytes_before(&self.texts, &text.keys, piece) + at
     }
 
     /// The line and the column, in the text of its file, of the byte `at` of a piece, or of its end where `at` is

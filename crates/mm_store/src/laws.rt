@@ -1,9 +1,11 @@
 //! What holds of all files. Each function does nothing; what it promises is the law.
 
-ghost use Rattle.std.specs.Prelude.{◌≡◌, ℕ, List};
+ghost use Rattle.std.specs.Prelude.{◌≡◌, ℕ, List, map};
 ghost use Rattle.mm_store.specs.declared.item.Item.{Item};
-ghost use Rattle.mm_store.specs.FilesView.{FileView};
+ghost use Rattle.mm_store.specs.FilesView.{FileView, FilesView, no_files};
+ghost use Rattle.mm_store.specs.FileFacts.{IsAdded};
 ghost use Rattle.mm_store.specs.Expansion.{IsExpansion};
+ghost use Rattle.mm_store.specs.Keyless.{keyless_file, keyless_item};
 
 /// Files give one list of items at most from a top file on.
 pub fn one_expansion()
@@ -11,4 +13,17 @@ pub fn one_expansion()
 {
     mm_text::one_meaning();
     mm_text::one_division();
+}
+
+/// The keys of pieces do not matter.
+///
+/// Files that are the same but for the keys of their pieces give items that are the same but for their keys. And
+/// files that hold just one file, made from the same name and the same text, are the same but for keys.
+pub fn keys_do_not_matter()
+    ensures items { (a b : List FileView) (top : List ℕ) (items others : List Item) → map keyless_file a ≡ map keyless_file b → IsExpansion a top items → IsExpansion b top others → map keyless_item items ≡ map keyless_item others }
+    ensures one_file { (a b : FilesView) (name text : List ℕ) → IsAdded no_files a name text → IsAdded no_files b name text → map keyless_file a.files ≡ map keyless_file b.files }
+{
+    mm_text::one_meaning();
+    mm_text::one_division();
+    mm_text::one_cut();
 }

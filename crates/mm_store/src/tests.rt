@@ -44,6 +44,13 @@ fn spelled<'a>(files: &'a Files, item: &Item) -> Option<&'a [u8]>
     files.piece(item.key).get(item.start..item.end)
 }
 
+/// Where an item begins in the text of its file.
+fn offset_of(files: &Files, item: &Item) -> usize
+    requires { StandsIn files.now item.now }
+{
+    files.offset(item.file, item.piece, item.start)
+}
+
 /// The place of an item from that of an earlier one of its file, where they are so.
 fn place_after(files: &Files, earlier: &Item, later: &Item) -> Option<Place>
     requires earlier { StandsIn files.now earlier.now }
@@ -116,6 +123,12 @@ fn tells_places_in_the_whole_file(rt: HostRuntime) -> Result<(), Fail> {
         (3, 4, 4, 1),
         (2, 5, 7, 1),
     ];
+    let offsets: [usize; 6] = [0, 8, 11, 19, 22, 48];
+    for i in 0..offsets.len() {
+        if i < items.len() {
+            assert_eq!(rt; offset_of(&files, &items[i]), offsets[i], "of {i}");
+        }
+    }
     for (earlier, later, line, column) in rows {
         if earlier < items.len() && later < items.len() {
             let found = place_after(&files, &items[earlier], &items[later]);

@@ -1,8 +1,9 @@
 //! Lines and columns of bytes in a file, from those of an earlier byte.
 
-ghost use Rattle.std.specs.Prelude.{◌≡◌, ℕ, ◌+◌, ◌<◌, ◌≤◌, ◌++◌, List, [], All, length, map, slice_index_or};
+ghost use Rattle.std.specs.Prelude.{◌≡◌, ℕ, ◌+◌, ◌<◌, ◌≤◌, ◌++◌, List, [], All, length, map, slice_index_or, take};
 ghost use Rattle.std.specs.List.{concat};
-ghost use Rattle.mm_store.specs.Walk.{IsBehind, bytes_before};
+ghost use Rattle.mm_store.specs.Walk as walk;
+ghost use Rattle.mm_store.specs.Walk.{IsBehind};
 ghost use Rattle.mm_store.specs.Inside.{text_at};
 
 use crate::files::PieceKey;
@@ -37,6 +38,20 @@ fn behind(first: Place, bytes: &[u8]) -> Place
     }
 }
 
+/// How many bytes of a file stand before the piece with this number.
+pub(crate) fn bytes_before(texts: &[Vec<u8>], keys: &[PieceKey], piece: usize) -> usize
+    requires in_range { All (λ key. key.at < length texts.now) keys.now }
+    requires small { length (concat (map (text_at texts.now) keys.now)) ≤ 4294967295 }
+    requires piece_in { piece ≤ length keys.now }
+    ensures { result ≡ length (concat (map (text_at texts.now) (take piece keys.now))) }
+{
+    let mut bytes = 0;
+    for number in 0..piece {
+        bytes += texts[keys[number].at].len();
+    }
+    bytes
+}
+
 /// The place of a byte of a piece, from an earlier one.
 pub(crate) fn place_on(
     texts: &[Vec<u8>],
@@ -47,13 +62,13 @@ pub(crate) fn place_on(
 ) -> Place
     requires in_range { All (λ key. key.at < length texts.now) keys.now }
     requires small { length (concat (map (text_at texts.now) keys.now)) ≤ 4294967295 }
-    requires known { IsBehind (bytes_before (map (text_at texts.now) keys.now) known.now.piece known.now.at) known.now.place }
+    requires known { IsBehind (walk.bytes_before (map (text_at texts.now) keys.now) known.now.piece known.now.at) known.now.place }
     requires known_within { known.now.at ≤ length (slice_index_or (map (text_at texts.now) keys.now) known.now.piece []) }
     requires earlier { known.now.piece ≤ piece }
     requires piece_in { piece < length keys.now }
     requires within { at ≤ length (slice_index_or (map (text_at texts.now) keys.now) piece []) }
     requires not_before { known.now.piece ≡ piece → known.now.at ≤ at }
-    ensures { IsBehind (bytes_before (map (text_at texts.now) keys.now) piece at) result }
+    ensures { IsBehind (walk.bytes_before (map (text_at texts.now) keys.now) piece at) result }
 {
     let mut place = known.place;
     let mut start = known.at;

@@ -16,7 +16,7 @@ use Rattle.mm_text.specs.Grammar.{first_behind, blocks_behind}
 use Rattle.mm_text.specs.Reader.{runs_at, TakesWord, FailsBehind}
 use Rattle.mm_text.specs.Cut.{ended, IsPiece, BeginsSolid, ArePieces, IsCut, IsFirstFaultAt}
 use Rattle.mm_text.proofs.LayoutLemmas.{laid_out}
-use Rattle.mm_text.proofs.PositionLemmas.{Standing, Lying, runs_stand, parts_lie}
+use Rattle.mm_text.proofs.PositionLemmas.{Standing, standing_front, Lying, runs_stand, parts_lie}
 use Rattle.mm_text.proofs.ReadingLemmas.{none_read}
 use Rattle.mm_text.proofs.ReaderLemmas.{words-append, fails_more, first_of_words}
 use Rattle.mm_text.proofs.UnitReadingLemmas.{run-append, run-IsViable}
@@ -25,10 +25,6 @@ use Rattle.mm_text.proofs.PieceLemmas.{shift_run, shift_word, runs-shift, words_
 use Rattle.mm_text.proofs.PieceUnitLemmas.{allowed-ended, allowed_rest, solid_ended, WholeRun, white_within, rest_solid, rest_ended, runs_behind, piece_is}
 
 -- ---- where words lie
-
-standing_front : (text : List ℕ) (at : ℕ) (a b : List Run) → Standing text at (a ++ b) → Standing text at a
-standing_front text at [] b h = tt
-standing_front text at (run ∷ a) b h = (h.0, standing_front text (run.start + length run.bytes + 1) a b h.1)
 
 lying_last : (text : List ℕ) (at : ℕ) (ws : List Word) (word : Word) → Lying text at (ws ++ word ∷ []) → (at ≤ word.start) × LiesIn text word
 lying_last text at [] word h = (h.0, h.1)

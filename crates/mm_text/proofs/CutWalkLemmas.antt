@@ -22,7 +22,7 @@ use Rattle.mm_text.specs.Grammar.{first_behind, blocks_behind}
 use Rattle.mm_text.specs.Reader.{runs_at, TakesSpan, SkipsComment, FailsInside, TakesWord, FailsBehind}
 use Rattle.mm_text.specs.Cut.{ended, IsCut, IsFirstFault}
 use Rattle.mm_text.proofs.KindLemmas.{mark_stands, stands_mark}
-use Rattle.mm_text.proofs.RunLemmas.{no_run, next_run, run_ends}
+use Rattle.mm_text.proofs.RunLemmas.{no_run, next_run, run_here, run_ends}
 use Rattle.mm_text.proofs.ReadingLemmas.{is_from, not_from}
 use Rattle.mm_text.proofs.ReaderLemmas.{Skipping, skip_none, skip_more, skip_end, skip_fault, skip_open, Passing, pass_none, pass_end, pass_word, pass_close, pass_dollar, pass_comment, pass_fails}
 use Rattle.mm_text.proofs.UnitScanLemmas.{is_begin}
@@ -45,7 +45,7 @@ run_by : (text : List ℕ) (from w n : ℕ) → w ≡ prefix_len is_white (take 
 run_by text from w zero w-is n-is = inl (no_run text from w 0 w-is n-is refl)
 run_by text from w (suc n) w-is n-is = inr (record { start = from + w; end = from + w + suc n }, from + w + suc n, takes, within) where
   takes : TakesSpan text from (record { start = from + w; end = from + w + suc n }) (from + w + suc n)
-  takes = record { begins = omega arith; some = omega arith; next = refl; run = next_run text from w (suc n) w-is n-is (omega arith); ends = run_ends text (from + w) (suc n) n-is }
+  takes = record { begins = omega arith; some = omega arith; next = refl; run = next_run text from w (suc n) w-is n-is (omega arith); here = run_here text (from + w) (suc n) n-is (omega arith); ends = run_ends text (from + w) (suc n) n-is }
 
   within : from + w + suc n ≤ length text
   within = let most : suc n ≤ length text - (from + w) = solid_most text (from + w) (suc n) n-is in omega arith
@@ -81,7 +81,7 @@ skip_from (suc fuel) text from at start enough le h = skip_step text from at sta
 
 -- ---- the next word
 
-abbrev Given : List ℕ → ℕ → Type 0
+abbrev pub Given : List ℕ → ℕ → Type 0
 Given text from = ((word : Word) × (to : ℕ) × TakesWord text from word to × (to ≤ length text)) ⊎ (AreWords (runs_at text from) [] ⊎ ((number : TextNumber) × (place : ℕ) × FailsBehind (runs_at text from) [] number place))
 
 word_step : (text : List ℕ) (from at : ℕ) → from ≤ at → Passing text from at → ((to : ℕ) → at < to → to ≤ length text → Passing text from to → Given text from) → Given text from
@@ -107,7 +107,7 @@ word_step text from at le h go = by_run (run_at text at) where
         ]
       ]
 
-word_from : (fuel : ℕ) (text : List ℕ) (from at : ℕ) → length text ≤ at + fuel → from ≤ at → Passing text from at → Given text from
+pub word_from : (fuel : ℕ) (text : List ℕ) (from at : ℕ) → length text ≤ at + fuel → from ≤ at → Passing text from at → Given text from
 word_from zero text from at enough le h = word_step text from at le h (λ to more within g. absurd (omega arith))
 word_from (suc fuel) text from at enough le h = word_step text from at le h (λ to more within g. word_from fuel text from to (omega arith) (omega arith) g)
 

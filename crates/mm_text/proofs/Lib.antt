@@ -20,3 +20,4 @@ pub mod CutStepLemmas
 pub mod CutLawLemmas
 pub mod CutWalkLemmas
 pub mod PartLemmas
+pub mod PartWalkLemmas

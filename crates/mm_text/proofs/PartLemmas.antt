@@ -1,8 +1,8 @@
 -- The parts that are found word by word are those of the units.
-use Rattle.std.proofs.Common.{◌≡◌, ◌⊎◌, ℕ, ◌-◌, ◌≤◌, Bool, true, false, List, [], ◌∷◌, ◌++◌, append_assoc, length, map, Option, Some, None, Ok, Err, All, refl, sym, ap, ◌∙◌, inl, inr, arith}
+use Rattle.std.proofs.Common.{◌≡◌, ◌⊎◌, ℕ, ◌-◌, ◌+◌, ◌<◌, ◌≤◌, Bool, true, false, List, [], ◌∷◌, ◌++◌, append_assoc, length, map, drop, Option, Some, None, Ok, Err, All, refl, sym, ap, ◌∙◌, subst, inl, inr, arith}
 use Rattle.std.specs.Prelude.{slice_range, unwrap_or, if◌then◌else◌}
 use Rattle.std.specs.List.{AllByRecursion}
-use Rattle.std.proofs.lemmas.List.{append-nil}
+use Rattle.std.proofs.lemmas.List.{append-nil, take-append-drop, append_cancel_right, drop-drop, length-append, length-map}
 use Rattle.std.proofs.lemmas.List.Elements.{All-nil, All-cons, All-append}
 use Rattle.mm_text.specs.declared.part.Part.{Part}
 use Rattle.mm_text.specs.declared.part.PartKind.{PartKind}
@@ -12,16 +12,18 @@ use Rattle.mm_text.specs.declared.word.WordKind.{WordKind}
 use Rattle.mm_text.specs.declared.word.WordKind.TheVariants as kinds
 use Rattle.mm_text.specs.declared.word.Keyword.TheVariants.{BlockStart, BlockEnd, Constants, Variables, Disjoint, Floating, Essential, Axiom, Theorem, StatementEnd, ProofStart, InclusionStart, InclusionEnd}
 use Rattle.mm_text.specs.declared.fault.TextNumber.{TextNumber}
-use Rattle.mm_text.specs.Run.{runs}
-use Rattle.mm_text.specs.Reading.{AreWords}
+use Rattle.mm_text.specs.Run.{Run, runs, runs_from, ends_run}
+use Rattle.mm_text.specs.Reading.{first_bad, AreWords, HasWords}
 use Rattle.mm_text.specs.Unit.{Token, token_of, tokens_of, IsKeyword, IsPlain, Shape, Declaration, Labelled, Provable, Inclusion, shape_tokens, IsShape, Units, Nothing, Simple, Block, unit_tokens, AreUnits}
 use Rattle.mm_text.specs.LeftToRight.{Read, read, fault_at}
-use Rattle.mm_text.specs.Reader.{runs_at, TakesWord, FailsBehind}
-use Rattle.mm_text.specs.Cut.{IsPiece, ArePieces}
-use Rattle.mm_text.specs.Part.{HasUnits, token_end, part, word_part, shape_part, parts_of, IsWithin}
+use Rattle.mm_text.specs.Reader.{runs_at, run_between, TakesWord, FailsBehind}
+use Rattle.mm_text.specs.Cut.{ends_white, IsPiece, ArePieces}
+use Rattle.mm_text.specs.Part.{HasUnits, token_end, part, word_part, shape_part, parts_of, IsReadable}
 use Rattle.mm_text.specs.PartReading.{ends_part, emit_word, emit}
-use Rattle.mm_text.proofs.ReadingLemmas.{read_words}
-use Rattle.mm_text.proofs.ReaderLemmas.{slice_length, word_read, fails_read}
+use Rattle.mm_text.proofs.ReadingLemmas.{none_read, word_step, read_words}
+use Rattle.mm_text.proofs.ReaderLemmas.{words-append, slice_length, word_read, fails_read}
+use Rattle.mm_text.proofs.PieceLemmas.{Seam, runs-append, shift_run, shift_word, runs-shift, words_unshift}
+use Rattle.mm_text.proofs.PieceUnitLemmas.{allowed_part, or_true}
 use Rattle.mm_text.proofs.NthLemmas.{first_word}
 
 -- ---- units
@@ -105,15 +107,68 @@ whole_parts units kind h = let all = emit_units true units kind [] h in ap (emit
 abbrev Left : List ℕ → List Part → Option ℕ → PartKind → Read → Type 0
 Left text found first kind r = (units : Units) → HasUnits text units → (rest : List Word) × (r ≡ Ok rest) × (found ++ emit first kind (tokens_of text rest) ≡ parts_of units)
 
-pub record Divides (text : List ℕ) (found : List Part) (first : Option ℕ) (kind : PartKind) (at : ℕ) : Type 0 where
-  pub rest : Left text found first kind (read None (runs_at text at))
-  pub within : All (IsWithin text) found
-  pub begun : (start : ℕ) → first ≡ Some start → start ≤ at
+-- the words of a part that has begun, up to the byte `at`
+pub record Begun (text : List ℕ) (start at : ℕ) : Type 0 where
+  pub before : start ≤ at
+  pub since : List Run
+  pub words : List Word
+  pub joined : runs_at text start ≡ since ++ runs_at text at
+  pub reads : AreWords since words
+  pub some : 0 < length words
 
-pub divides_start : (text : List ℕ) (kind : PartKind) → Divides text [] None kind 0
-divides_start text kind = record {
+begun_more : (text : List ℕ) (start at : ℕ) (word : Word) (to : ℕ) → Begun text start at → TakesWord text at word to → Begun text start to
+begun_more text start at word to h taken = record {
+  before = omega (arith, h.before, taken.begins, taken.some, taken.next);
+  since = h.since ++ taken.taken;
+  words = h.words ++ word ∷ [];
+  joined = h.joined ∙ ap (λ (rs : List Run). h.since ++ rs) taken.joined ∙ sym (append_assoc h.since taken.taken (runs_at text to));
+  reads = words-append h.since taken.taken h.words (word ∷ []) h.reads taken.reads;
+  some = omega (arith, length-append h.words (word ∷ []));
+}
+
+begun_first : (text : List ℕ) (at : ℕ) (word : Word) (to : ℕ) → TakesWord text at word to → Begun text word.start to
+begun_first text at word to taken = record {
+  before = omega (arith, taken.some, taken.next);
+  since = run_between text word.start word.end ∷ [];
+  words = word ∷ [];
+  joined = taken.here;
+  reads = word_step [] [] (run_between text word.start word.end) word none_read taken.is_word;
+  some = omega arith;
+}
+
+-- a part that ends where a run ends is a text with words
+begun_words : (text : List ℕ) (start to : ℕ) → first_bad text ≡ None → to ≤ length text → Begun text start to → ends_run (drop to text) ≡ true → (words : List Word) × HasWords (slice_range text start to) words × (0 < length words)
+begun_words text start to allowed most h ends = (words.0, record { allowed = allowed_part text start to allowed; words_are = words.1 }, omega (arith, h.some, ap length words.2, length-map words.0 (shift_word start))) where
+  joined : drop start text ≡ slice_range text start to ++ drop to text
+  joined = let place : start + (to - start) ≡ to = omega (arith, h.before) in sym (take-append-drop (to - start) (drop start text)) ∙ ap (λ (bs : List ℕ). slice_range text start to ++ bs) (drop-drop (to - start) start text ∙ ap (λ (n : ℕ). drop n text) place)
+
+  seam : Seam (slice_range text start to) (drop to text)
+  seam = rw ends (or_true (ends_white (slice_range text start to)))
+
+  own_runs : runs_from start (slice_range text start to) ≡ h.since
+  own_runs =
+      let long : length (slice_range text start to) ≡ to - start = slice_length text start to most in
+      let end : start + length (slice_range text start to) ≡ to = omega (arith, h.before) in
+      append_cancel_right (runs_from start (slice_range text start to)) h.since (runs_at text to)
+      (ap (λ (n : ℕ). runs_from start (slice_range text start to) ++ runs_from n (drop to text)) (sym end) ∙ sym (runs-append (slice_range text start to) (drop to text) start seam) ∙ ap (runs_from start) (sym joined) ∙ h.joined)
+
+  words : (ws : List Word) × AreWords (runs (slice_range text start to)) ws × (h.words ≡ map (shift_word start) ws)
+  words =
+      let place : start ≡ start + 0 = omega arith in
+      let same : h.since ≡ map (shift_run start) (runs (slice_range text start to)) = sym own_runs ∙ ap (λ (n : ℕ). runs_from n (slice_range text start to)) place ∙ runs-shift start 0 (slice_range text start to) in
+      words_unshift start (runs (slice_range text start to)) h.words (subst (λ (rs : List Run). AreWords rs h.words) same h.reads)
+
+pub record Divides (text : List ℕ) (found : List Part) (first : Option ℕ) (kind : PartKind) (at : ℕ) : Type 0 where
+  pub allowed : first_bad text ≡ None
+  pub rest : Left text found first kind (read None (runs_at text at))
+  pub readable : All (IsReadable text) found
+  pub begun : (start : ℕ) → first ≡ Some start → Begun text start at
+
+pub divides_start : (text : List ℕ) (kind : PartKind) → first_bad text ≡ None → Divides text [] None kind 0
+divides_start text kind allowed = record {
+  allowed = allowed;
   rest = λ units h. (h.words, read_words (runs text) h.words h.has_words.words_are, ap (emit None kind) (sym h.spells) ∙ whole_parts units kind h.are_units);
-  within = All-nil (IsWithin text);
+  readable = All-nil (IsReadable text);
   begun = λ start e. absurd cc;
 }
 
@@ -146,12 +201,28 @@ module _ (text : List ℕ) (found : List Part) (first : Option ℕ) (kind : Part
     end_is : token_end (token_of text word) ≡ word.end
     end_is = let long : length (slice_range text word.start word.end) ≡ word.end - word.start = slice_length text word.start word.end (omega (arith, most, taken.next)) in omega (arith, taken.some)
 
-    begins : (o : Option ℕ) → first ≡ o → unwrap_or o word.start ≤ word.start
-    begins None e = omega arith
-    begins (Some s) e = let le : s ≤ at = h.begun s e in omega (arith, taken.begins)
+    begins : (o : Option ℕ) → first ≡ o → Begun text (unwrap_or o word.start) to
+    begins None e = begun_first text at word to taken
+    begins (Some s) e = begun_more text s at word to (h.begun s e) taken
+
+    made_readable : IsReadable text (made_part (word_part kind word.kind) start word.end)
+    made_readable =
+        let begun : Begun text start to = begins first refl in
+        let words = begun_words text start to h.allowed most begun taken.ends in
+        record {
+          some = starts first refl;
+          within = omega (arith, most, taken.next);
+          words = words.0;
+          has_words = subst (λ n. HasWords (slice_range text start n) words.0) taken.next words.1;
+          some_word = words.2;
+        } where
+          starts : (o : Option ℕ) → first ≡ o → unwrap_or o word.start < word.end
+          starts None e = taken.some
+          starts (Some s) e = let b = h.begun s e in omega (arith, b.before, taken.begins, taken.some)
 
     pub divides_part : ends_part word.kind ≡ true → Divides text (found ++ made_part (word_part kind word.kind) start word.end ∷ []) None (word_part kind word.kind) to
     divides_part ends = record {
+      allowed = h.allowed;
       rest = λ units has. (let next = after_word units has in (
         next.0,
         next.1,
@@ -159,17 +230,17 @@ module _ (text : List ℕ) (found : List Part) (first : Option ℕ) (kind : Part
             ∙ ap (λ (n : ℕ). found ++ made_part (word_part kind word.kind) start n ∷ emit None (word_part kind word.kind) (tokens_of text next.0)) (sym end_is)
             ∙ ap (λ (b : Bool). found ++ (if b then made_part (word_part kind word.kind) start (token_end (token_of text word)) ∷ emit None (word_part kind word.kind) (tokens_of text next.0) else emit (Some start) (word_part kind word.kind) (tokens_of text next.0))) (sym ends) ∙ next.2,
       ));
-      within = All-append (IsWithin text) found (made_part (word_part kind word.kind) start word.end ∷ []) h.within
-          (All-cons (IsWithin text) (made_part (word_part kind word.kind) start word.end) [] (record { some = let le : start ≤ word.start = begins first refl in omega (arith, taken.some); within = omega (arith, most, taken.next) }) (All-nil (IsWithin text)));
+      readable = All-append (IsReadable text) found (made_part (word_part kind word.kind) start word.end ∷ []) h.readable (All-cons (IsReadable text) (made_part (word_part kind word.kind) start word.end) [] made_readable (All-nil (IsReadable text)));
       begun = λ s e. absurd cc;
     }
 
     pub divides_more : ends_part word.kind ≡ false → Divides text found (Some start) (word_part kind word.kind) to
     divides_more on = record {
+      allowed = h.allowed;
       rest = λ units has. (let next = after_word units has in
           (next.0, next.1, ap (λ (b : Bool). found ++ (if b then made_part (word_part kind word.kind) start (token_end (token_of text word)) ∷ emit None (word_part kind word.kind) (tokens_of text next.0) else emit (Some start) (word_part kind word.kind) (tokens_of text next.0))) (sym on) ∙ next.2));
-      within = h.within;
-      begun = λ s e. (let same : start ≡ s = cc in let le : start ≤ word.start = begins first refl in omega (arith, taken.some, taken.next));
+      readable = h.readable;
+      begun = λ s e. (let same : start ≡ s = cc in subst (λ n. Begun text n to) same (begins first refl));
     }
 
 -- ---- pieces

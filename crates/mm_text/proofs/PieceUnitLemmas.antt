@@ -96,7 +96,7 @@ solid_end : (bytes : List ℕ) → BeginsSolid bytes → ends_run bytes ≡ true
 solid_end [] h e = refl
 solid_end (b ∷ bytes) h e = absurd (false≢true (sym h ∙ e))
 
-or_true : (b : Bool) → (b || true) ≡ true
+pub or_true : (b : Bool) → (b || true) ≡ true
 or_true true = refl
 or_true false = refl
 

@@ -1,5 +1,5 @@
 -- Where the words of a text lie, and which bytes a text has.
-use Rattle.std.proofs.Common.{◌≡◌, ℕ, ◌+◌, ◌-◌, ◌<◌, ◌≤◌, Bool, true, false, not, ◌||◌, ◌&&◌, eqb, List, [], ◌∷◌, ◌++◌, append_assoc, length, take, drop, get_or, Option, Some, None, IfSome, All, AllPairs, refl, sym, ap, ◌∙◌, subst, arith, inl, inr}
+use Rattle.std.proofs.Common.{◌≡◌, ℕ, ◌+◌, ◌-◌, ◌<◌, ◌≤◌, Bool, true, false, not, ◌||◌, ◌&&◌, eqb, List, [], ◌∷◌, ◌++◌, append_assoc, length, take, drop, get_or, Option, Some, None, IfSome, Result, Ok, Err, IfErr, All, AllPairs, refl, sym, ap, ◌∙◌, subst, arith, inl, inr}
 use Rattle.std.specs.Prelude.{nat_le, nat_lt, slice_range, slice_get}
 use Rattle.std.specs.List.{flat_map, AllByRecursion, position_or_len}
 use Rattle.std.proofs.lemmas.Bool.{cases_Bool, false≢true, or_cases, and_parts, eqb-true, leb-true, ltb-false}
@@ -12,12 +12,16 @@ use Rattle.std.proofs.lemmas.List.Sums.{fails_before_first}
 use Rattle.std.proofs.Math.Seq.{take-append_seam, drop-append_seam}
 use Rattle.mm_text.specs.declared.word.Word.{Word}
 use Rattle.mm_text.specs.declared.fault.TextFault.{TextFault}
+use Rattle.mm_text.specs.declared.fault.TextError.{TextError}
+use Rattle.mm_text.specs.declared.fault.TextError.TheVariants as errors
 use Rattle.mm_text.specs.declared.fault.TextNumber.{TextNumber}
-use Rattle.mm_text.specs.declared.fault.TextNumber.TheVariants.{T01, T02}
+use Rattle.mm_text.specs.declared.fault.TextNumber.TheVariants.{T01, T02, T03, T04, T05, T06, T07, T08, T09, T10, T11, T12}
 use Rattle.mm_text.specs.Run.{Run, is_white, ends_run, runs}
 use Rattle.mm_text.specs.Layout.{IsLaidOut}
 use Rattle.mm_text.specs.Spelling.{IsSpelled, IsWord}
-use Rattle.mm_text.specs.Reading.{is_allowed, first_bad, Part, Single, Comment, part_runs, part_words, IsPart, HasWords, LiesIn, AreWithin, StopsAt, IsFaultAt, IsFault}
+use Rattle.mm_text.specs.Reading.{is_allowed, first_bad, Part, Single, Comment, part_runs, part_words, IsPart, AreWords, HasWords, LiesIn, AreWithin, StopsAt, EndsOpen, IsFaultAt, IsFault, IsErrorIn}
+use Rattle.mm_text.specs.Unit.{Token, token_of, tokens_of, EndsInUnit, EndsInBlock}
+use Rattle.mm_text.specs.Cut.{StopsUnits, EndsUnits, IsFirstFaultAt, IsFirstFault, IsCutError}
 use Rattle.mm_text.proofs.LayoutLemmas.{laid_out}
 
 -- ---- runs
@@ -45,6 +49,11 @@ pub skip : (text : List ℕ) (at : ℕ) (front later : List Run) → Standing te
 skip text at [] later h = h
 skip text at (run ∷ front) later h =
     at_or_before text at (run.start + length run.bytes + 1) later (λ x. omega (arith, h.0.behind)) (skip text (run.start + length run.bytes + 1) front later h.1)
+
+-- runs behind are left out
+pub standing_front : (text : List ℕ) (at : ℕ) (a b : List Run) → Standing text at (a ++ b) → Standing text at a
+standing_front text at [] b h = tt
+standing_front text at (run ∷ a) b h = (h.0, standing_front text (run.start + length run.bytes + 1) a b h.1)
 
 -- behind a run there is a gap
 gap_behind : (text : List ℕ) (at : ℕ) (later : List ℕ) (runs : List Run) → ends_run later ≡ true → IsLaidOut at later runs → Standing text at runs → Standing text (at + 1) runs
@@ -80,6 +89,10 @@ runs_stand text front bytes at (run ∷ runs) joined place h =
       },
       gap_behind text (run.start + length run.bytes) h.later runs h.ends h.goes_on (runs_stand text (before ++ run.bytes) h.later (run.start + length run.bytes) runs on end h.goes_on),
     )
+
+-- the runs of a text stand in it
+text_stands : (text : List ℕ) → Standing text 0 (runs text)
+text_stands text = runs_stand text [] text 0 (runs text) refl refl (laid_out 0 text)
 
 -- ---- words
 
@@ -120,10 +133,11 @@ all_rise text at [] h = λ i j d lt within. absurd (omega (arith, within))
 all_rise text at (word ∷ words) h =
     AllPairs-cons (λ (earlier later : Word). earlier.end < later.start) word words (all_behind text word.end (word.end + 1) words (omega arith) h.2) (all_rise text (word.end + 1) words h.2)
 
+read_lie : (text : List ℕ) (runs : List Run) (words : List Word) → Standing text 0 runs → AreWords runs words → Lying text 0 words
+read_lie text runs words standing h = subst (Lying text 0) h.singles (parts_lie text 0 h.parts h.reading.each (subst (Standing text 0) (sym h.reading.joined) standing))
+
 pub words_lie : (text : List ℕ) (words : List Word) → HasWords text words → Lying text 0 words
-words_lie text words h =
-    let standing : Standing text 0 (runs text) = runs_stand text [] text 0 (runs text) refl refl (laid_out 0 text) in
-    subst (Lying text 0) h.words_are.singles (parts_lie text 0 h.words_are.parts h.words_are.reading.each (subst (Standing text 0) (sym h.words_are.reading.joined) standing))
+words_lie text words h = read_lie text (runs text) words (text_stands text) h.words_are
 
 -- the words of a text lie in it, in order
 pub are_within : (text : List ℕ) (words : List Word) → HasWords text words → AreWithin text words
@@ -183,18 +197,67 @@ nth_lies text words n (Some word) h is =
 -- a run among those of a text begins in it
 run_begins : (text : List ℕ) (front rest : List Run) (run : Run) → runs text ≡ front ++ run ∷ rest → run.start < length text
 run_begins text front rest run joined =
-    let standing : Standing text 0 (runs text) = runs_stand text [] text 0 (runs text) refl refl (laid_out 0 text) in
-    let here = skip text 0 front (run ∷ rest) (subst (Standing text 0) joined standing) in
+    let here = skip text 0 front (run ∷ rest) (subst (Standing text 0) joined (text_stands text)) in
     omega (arith, here.0.some, here.0.within)
 
 stop_lies : (text : List ℕ) (number : TextNumber) (at : ℕ) → StopsAt (runs text) number at → at < length text
 stop_lies text number at h = let begins = run_begins text h.front h.rest h.run h.joined in omega (arith, h.place)
 
+open_lies : (text : List ℕ) (at : ℕ) → EndsOpen (runs text) at → at < length text
+open_lies text at h = let begins = run_begins text h.open_comment.front h.open_comment.inside h.first h.open_comment.joined in omega (arith, h.place)
+
 fault_at_lies : (text : List ℕ) (number : TextNumber) (at : ℕ) → IsFaultAt text number at → at < length text
 fault_at_lies text T01 at h = (position-Some (λ b. not (is_allowed b)) text at 0 h).0
-fault_at_lies text T02 at h = let begins = run_begins text h.1.open_comment.front h.1.open_comment.inside h.1.first h.1.open_comment.joined in omega (arith, h.1.place)
+fault_at_lies text T02 at h = open_lies text at h.1
 fault_at_lies text number at h = stop_lies text number at h.1
 
 -- the fault of a text is at one of its bytes
 pub fault_lies : (text : List ℕ) (fault : TextFault) → IsFault text fault → fault.at < length text
 fault_lies text fault h = fault_at_lies text fault.number fault.at h
+
+-- ---- first faults
+
+each_begins : (text : List ℕ) (at : ℕ) (words : List Word) → Lying text at words → All (λ token. token.start < length text) (tokens_of text words)
+each_begins text at [] h = All-nil (λ (token : Token). token.start < length text)
+each_begins text at (word ∷ words) h =
+    All-cons (λ (token : Token). token.start < length text) (token_of text word) (tokens_of text words) (omega (arith, h.1.some, h.1.within)) (each_begins text (word.end + 1) words h.2)
+
+-- a word among those of a text begins in it
+token_begins : (text : List ℕ) (at : ℕ) (words : List Word) (n : ℕ) (token : Token) → Lying text at words → slice_get (tokens_of text words) n ≡ Some token → token.start < length text
+token_begins text at words n token h there =
+    subst (λ (t : Token). t.start < length text) (get_or_from_slice_get (tokens_of text words) n token token there) (each_begins text at words h n token (slice_get_within (tokens_of text words) n token there))
+
+unit_stop_lies : (text : List ℕ) (number : TextNumber) (at : ℕ) → StopsUnits text number at → at < length text
+unit_stop_lies text number at h =
+    let lying : Lying text 0 h.found = read_lie text h.front h.found (standing_front text 0 h.front h.rest (subst (Standing text 0) h.joined (text_stands text))) h.read in
+    let begins = token_begins text 0 h.found h.word h.stop.token lying h.stop.there in
+    omega (arith, h.place)
+
+unit_end_lies : (text : List ℕ) (Ends : List Token → ℕ → Type 0) (at : ℕ) → EndsUnits text Ends at → at < length text
+unit_end_lies text Ends at h =
+    let begins = token_begins text 0 h.found h.word h.token (words_lie text h.found h.has_words) h.there in
+    omega (arith, h.place)
+
+first_fault_at_lies : (text : List ℕ) (number : TextNumber) (at : ℕ) → IsFirstFaultAt text number at → at < length text
+first_fault_at_lies text T01 at h = fault_at_lies text T01 at h
+first_fault_at_lies text T02 at h = open_lies text at h.1.ends
+first_fault_at_lies text T03 at h = stop_lies text T03 at h.1.stop
+first_fault_at_lies text T04 at h = stop_lies text T04 at h.1.stop
+first_fault_at_lies text T05 at h = stop_lies text T05 at h.1.stop
+first_fault_at_lies text T06 at h = unit_stop_lies text T06 at h.1
+first_fault_at_lies text T07 at h = unit_end_lies text EndsInUnit at h
+first_fault_at_lies text T08 at h = unit_end_lies text EndsInBlock at h
+first_fault_at_lies text T09 at h = unit_stop_lies text T09 at h.1
+first_fault_at_lies text T10 at h = unit_stop_lies text T10 at h.1
+first_fault_at_lies text T11 at h = unit_stop_lies text T11 at h.1
+first_fault_at_lies text T12 at h = unit_stop_lies text T12 at h.1
+
+-- the first fault of a text is at one of its bytes
+pub first_fault_lies : (text : List ℕ) (fault : TextFault) → IsFirstFault text fault → fault.at < length text
+first_fault_lies text fault h = first_fault_at_lies text fault.number fault.at h
+
+-- so an error of `cut` is told at one of them
+pub cut_error_lies : {X : Type 0} (text : List ℕ) (r : Result X TextError) → IfErr r (IsCutError text) → IfErr r (IsErrorIn text)
+cut_error_lies text (Ok x) h = tt
+cut_error_lies text (Err errors.Memory) h = tt
+cut_error_lies text (Err (errors.Fault fault)) h = first_fault_lies text fault h

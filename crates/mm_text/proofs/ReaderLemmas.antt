@@ -8,7 +8,7 @@ use Rattle.mm_text.specs.declared.word.WordKind.{WordKind}
 use Rattle.mm_text.specs.declared.fault.TextNumber.{TextNumber}
 use Rattle.mm_text.specs.declared.fault.TextNumber.TheVariants.{T02, T03, T04, T05}
 use Rattle.mm_text.specs.Run.{Run, runs}
-use Rattle.mm_text.specs.Spelling.{HoldsMark, opening, closing}
+use Rattle.mm_text.specs.Spelling.{IsWord, HoldsMark, opening, closing}
 use Rattle.mm_text.specs.Reading as words
 use Rattle.mm_text.specs.Reading.{part_runs, part_words, IsInside, IsPart, AreWords, EndsOpen, first_bad}
 use Rattle.mm_text.specs.Cut.{EndsInComment, HoldWords, StopsWords, IsFirstFaultAt}
@@ -109,12 +109,16 @@ module _ (text : List ℕ) (from at : ℕ) (span : Span) (to : ℕ) (h : Passing
   pass_word kind is within le = record {
     taken = h.seen ++ run_of text span ∷ [];
     joined = there ∙ sym (append_assoc h.seen (run_of text span ∷ []) (runs_at text to));
-    reads = word_step h.seen [] (run_of text span) (record { kind = kind; start = span.start; end = span.end }) h.reads (record { kind = kind_spelled (run_of text span).bytes kind is; start = refl; end = let some : span.start < span.end = run.some in let long : length (run_of text span).bytes ≡ span.end - span.start = slice_length text span.start span.end (omega (arith, within, run.next)) in omega arith });
+    reads = word_step h.seen [] (run_of text span) (record { kind = kind; start = span.start; end = span.end }) h.reads spelled;
+    here = run.here;
+    is_word = spelled;
     begins = omega (arith, run.begins);
     some = run.some;
     next = run.next;
     ends = run.ends;
-  }
+  } where
+    spelled : IsWord (run_of text span) (record { kind = kind; start = span.start; end = span.end })
+    spelled = record { kind = kind_spelled (run_of text span).bytes kind is; start = refl; end = let some : span.start < span.end = run.some in let long : length (run_of text span).bytes ≡ span.end - span.start = slice_length text span.start span.end (omega (arith, within, run.next)) in omega arith }
 
   pub pass_close : (run_of text span).bytes ≡ closing → FailsBehind (runs_at text from) [] T04 span.start
   pass_close closes = record { front = h.seen; run = run_of text span; rest = runs_at text to; joined = there; place = refl; refused = (h.reads, closes) }

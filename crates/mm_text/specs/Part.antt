@@ -1,5 +1,5 @@
 -- The parts of a text whose words are whole units, in order: statements, inclusions, and the ends of blocks.
-use Rattle.std.specs.Prelude.{◌≡◌, ℕ, ◌+◌, ◌<◌, ◌≤◌, true, List, [], ◌∷◌, ◌++◌, length}
+use Rattle.std.specs.Prelude.{◌≡◌, ℕ, ◌+◌, ◌<◌, ◌≤◌, true, List, [], ◌∷◌, ◌++◌, length, slice_range}
 use Rattle.mm_text.specs.declared.part.Part.{Part}
 use Rattle.mm_text.specs.declared.part.PartKind.{PartKind}
 use Rattle.mm_text.specs.declared.part.PartKind.TheVariants as parts
@@ -58,7 +58,10 @@ parts_of Nothing = []
 parts_of (Simple shape later) = shape_part shape ∷ parts_of later
 parts_of (Block begin inner end later) = part parts.BlockStart begin begin ∷ (parts_of inner ++ part parts.BlockEnd end end ∷ parts_of later)
 
--- a part has a byte at least, and lies in the text
-pub record IsWithin (text : List ℕ) (part : Part) : Type 0 where
+-- a part has a byte at least, lies in the text, and is a text with words by itself, of which there is one at least
+pub record IsReadable (text : List ℕ) (part : Part) : Type 0 where
   pub some : part.start < part.end
   pub within : part.end ≤ length text
+  pub words : List Word
+  pub has_words : HasWords (slice_range text part.start part.end) words
+  pub some_word : 0 < length words

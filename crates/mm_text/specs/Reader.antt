@@ -6,7 +6,7 @@ use Rattle.mm_text.specs.declared.fault.TextFault.{TextFault}
 use Rattle.mm_text.specs.declared.fault.TextNumber.{TextNumber}
 use Rattle.mm_text.specs.declared.fault.TextNumber.TheVariants.{T02, T03, T04, T05}
 use Rattle.mm_text.specs.Run.{Run, runs_from, ends_run}
-use Rattle.mm_text.specs.Spelling.{HoldsMark, opening, closing}
+use Rattle.mm_text.specs.Spelling.{HoldsMark, IsWord, opening, closing}
 use Rattle.mm_text.specs.Reading.{AreWords, IsInside}
 use Rattle.mm_text.specs.Cut.{EndsInComment}
 use Rattle.mm_text.specs.LeftToRight.{kind_of}
@@ -25,6 +25,7 @@ pub record TakesSpan (text : List ℕ) (from : ℕ) (span : Span) (to : ℕ) : T
   pub some : span.start < span.end
   pub next : to ≡ span.end
   pub run : runs_at text from ≡ run_of text span ∷ runs_at text to
+  pub here : runs_at text span.start ≡ run_of text span ∷ runs_at text to
   pub ends : ends_run (drop to text) ≡ true
 
 abbrev pub TakesRun : List ℕ → ℕ → Option Span → ℕ → Type 0
@@ -58,11 +59,17 @@ FailsInside runs start _ at = ⊥
 abbrev pub EndsComment : List ℕ → ℕ → ℕ → Result (Unit {0}) TextFault → ℕ → Type 0
 EndsComment text from start result to = MatchResult result (λ _. SkipsComment text from to) (λ fault. FailsInside (runs_at text from) start fault.number fault.at)
 
+-- the bytes of a word as a run
+abbrev pub run_between : List ℕ → ℕ → ℕ → Run
+run_between text start end = record { start = start; bytes = slice_range text start end }
+
 -- comments are read, and then a word
 pub record TakesWord (text : List ℕ) (from : ℕ) (word : Word) (to : ℕ) : Type 0 where
   pub taken : List Run
   pub joined : runs_at text from ≡ taken ++ runs_at text to
   pub reads : AreWords taken (word ∷ [])
+  pub here : runs_at text word.start ≡ run_between text word.start word.end ∷ runs_at text to
+  pub is_word : IsWord (run_between text word.start word.end) word
   pub begins : from ≤ word.start
   pub some : word.start < word.end
   pub next : to ≡ word.end

@@ -1,6 +1,7 @@
 //! The cut of a text into pieces.
 
 ghost use Rattle.std.specs.Prelude.{◌≡◌, IfOk, IfErr, All, map};
+ghost use Rattle.mm_text.specs.Reading.{IsErrorIn};
 ghost use Rattle.mm_text.specs.Unit.{Units};
 ghost use Rattle.mm_text.specs.Part.{HasUnits};
 ghost use Rattle.mm_text.specs.Cut as pieces;
@@ -49,7 +50,8 @@ pub fn cut(alloc: Global, text: &[u8]) -> Result<Cut, TextError>
     ensures cut { IfOk result (λ found. IsCut text.now (map (λ piece. piece.items) found.pieces.items) found.tail.items) }
     ensures fault { IfErr result (IsCutError text.now) }
 
-    // This follows: the words of each piece are whole units, as `parts` requires.
+    // These follow: the fault lies in the text, and the words of each piece are whole units, as `parts` requires.
+    ensures fault_within { IfErr result (IsErrorIn text.now) }
     ensures units { IfOk result (λ found. All (λ piece. (units : Units) × HasUnits piece.items units) found.pieces.items) }
 {
     if let Some(at) = first_bad_byte(text) {

@@ -2,7 +2,7 @@
 
 ghost use Rattle.std.specs.Prelude.{◌≡◌, IfOk, All};
 ghost use Rattle.mm_text.specs.Unit.{Units};
-ghost use Rattle.mm_text.specs.Part.{HasUnits, parts_of, word_part, IsWithin};
+ghost use Rattle.mm_text.specs.Part.{HasUnits, parts_of, word_part, IsReadable};
 ghost use Rattle.mm_text.specs.PartReading as reading;
 
 use crate::part::{Part, PartKind};
@@ -49,7 +49,7 @@ fn ends_part(word: WordKind) -> bool
 pub fn parts(alloc: Global, text: &[u8]) -> Result<Vec<Part>, AllocError>
     requires { (units : Units) × HasUnits text.now units }
     ensures parts { (units : Units) → HasUnits text.now units → IfOk result (λ found. found.items ≡ parts_of units) }
-    ensures within { IfOk result (λ found. All (IsWithin text.now) found.items) }
+    ensures readable { IfOk result (λ found. All (IsReadable text.now) found.items) }
 {
     let mut parts = Vec::new(alloc);
     let mut reader = Reader::new(text);

@@ -1,6 +1,6 @@
 //! What holds of every text. Each function does nothing; what it promises is the law.
 
-ghost use Rattle.std.specs.Prelude.{◌≡◌, ◌⊎◌, ℕ, true, List};
+ghost use Rattle.std.specs.Prelude.{◌≡◌, ◌⊎◌, ℕ, true, All, List};
 ghost use Rattle.std.specs.List.{AllByRecursion, flat_map};
 ghost use Rattle.mm_text.specs.declared.word.Word.{Word};
 ghost use Rattle.mm_text.specs.declared.fault.TextFault.{TextFault};
@@ -9,6 +9,7 @@ ghost use Rattle.mm_text.specs.Layout.{IsLaidOut};
 ghost use Rattle.mm_text.specs.Reading.{HasWords, IsFault};
 ghost use Rattle.mm_text.specs.declared.fault.TextNumber.{TextNumber};
 ghost use Rattle.mm_text.specs.Cut.{IsCut, IsFirstFault};
+ghost use Rattle.mm_text.specs.Part.{HasUnits, parts_of, IsReadable};
 ghost use Rattle.mm_text.specs.Unit.{Token, Shape, shape_tokens, IsShape, Units, unit_tokens, AreUnits, IsWhole, IsUnitFault};
 
 /// Each text has its words or its fault: one list of words or one fault, and never both.
@@ -44,6 +45,11 @@ pub fn one_unit_fault()
 pub fn one_division()
     ensures units { (a b : Units) → AreUnits true a → AreUnits true b → unit_tokens a ≡ unit_tokens b → a ≡ b }
     ensures shapes { (a b : List Shape) → AllByRecursion (IsShape true) a → AllByRecursion (IsShape true) b → flat_map shape_tokens a ≡ flat_map shape_tokens b → a ≡ b }
+{}
+
+/// Each part of a text of whole units has a byte at least, lies in the text, and is a text with words by itself.
+pub fn parts_are_texts()
+    ensures { (text : List ℕ) (units : Units) → HasUnits text units → All (IsReadable text) (parts_of units) }
 {}
 
 /// A text has one cut or one first fault, and never both.

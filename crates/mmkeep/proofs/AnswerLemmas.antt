@@ -1,165 +1,137 @@
 -- A text has one answer: one report or one error of its own.
-use Rattle.std.proofs.Common.{◌≡◌, ◌⊎◌, ◌↔◌, ℕ, ◌<◌, Bool, true, false, IsTrue, List, [], ◌∷◌, ◌++◌, length, get_or, slice_get, Some, Ok, Err, inl, inr, refl, sym, ◌∙◌, ap, subst, ext_get_or, arith}
-use Rattle.std.proofs.lemmas.List.{map-append}
-use Rattle.std.proofs.lemmas.Option.{slice_get-get_or}
-use Rattle.mm_text.specs.declared.word.Word.{Word}
+use Rattle.std.proofs.Common.{◌≡◌, ◌⊎◌, ◌↔◌, ℕ, zero, suc, ◌<◌, Bool, true, false, IsTrue, List, [], ◌∷◌, length, take, get_or, slice_get, Some, inl, inr, refl, sym, ◌∙◌, ap, subst, ext_get_or, arith}
+use Rattle.std.proofs.lemmas.List.{take-take}
+use Rattle.std.proofs.lemmas.Option.{slice_get-get_or, none-some, same_Some}
 use Rattle.mm_text.specs.declared.fault.TextFault.{TextFault}
-use Rattle.mm_text.specs.Reading.{HasWords, IsFault}
-use Rattle.mm_text.specs.LeftToRight.{read_text}
-use Rattle.mm_text.specs.Unit.{Token, Shape, tokens_of, IsWhole}
-use Rattle.mm_text.proofs.ReadingLemmas.{text_words, text_fault}
-use Rattle.mm_text.proofs.UnitFaultLemmas.{one_unit_fault, whole_has_no_fault}
-use Rattle.mm_text.proofs.UnitDivisionLemmas.{one_shapes, simple_units, unit_tokens-simple, are_simple}
+use Rattle.mm_text.specs.Cut.{IsFirstFault}
+use Rattle.mm_store.specs.FilesView.{no_files}
+use Rattle.mm_store.specs.Answers.{HasTooMany}
+use Rattle.mm_store.proofs.FilesLemmas.{kept_at}
 use Rattle.mm_frame.specs.Item.{Kind, Axiom, Theorem, Item, passed}
 use Rattle.mm_frame.specs.Sound.{IsSound, AreSound}
+use Rattle.mm_frame.proofs.Outermost.{sound_at_number}
 use Rattle.mmkeep.specs.declared.fault.FirstError.{FirstError}
-use Rattle.mmkeep.specs.declared.fault.FirstError.TheVariants.{Text, Later, Memory, Write}
+use Rattle.mmkeep.specs.declared.fault.FirstError.TheVariants.{Text, TooMany, Later, Memory, Write}
 use Rattle.mmkeep.specs.declared.finding.Finding.{Finding}
 use Rattle.mmkeep.specs.declared.finding.Finding.TheVariants as findings
-use Rattle.mmkeep.specs.Statements.{AreStatements, first_token, HasUnitFault, HasUnreadWord}
-use Rattle.mm_frame.specs.Statement.{item_of}
+use Rattle.mmkeep.specs.Later.{unread_word, IsRead, AreRead, IsFirstUnread}
 use Rattle.mmkeep.specs.Report.{IsVerdict, IsFinding, AreFindings, lines, report}
-use Rattle.mmkeep.specs.Verified.{HasStatements, items_of_shapes, IsReport, IsFaultOfUnits, IsUnreadWordOf, IsUnsoundIn, IsTold}
+use Rattle.mmkeep.specs.Verified.{IsReport, IsUnreadAt, IsUnsoundAt, IsTold}
+use Rattle.mmkeep.proofs.DatabaseLemmas.{Laws, Database, same_items, same_place, database_or_fault, database_or_too_many}
 
--- ---- words, or a fault of words
+-- ---- the first item that is not read, and the first that is not sound
 
-same_words : (text : List ℕ) (a b : List Word) → HasWords text a → HasWords text b → a ≡ b
-same_words text a b f g =
-    let x : read_text text ≡ Ok a = text_words text a f in
-    let y : read_text text ≡ Ok b = text_words text b g in
-    cc
+-- an item before a place is one of the items taken up to it
+taken_at : {X : Type 0} (xs : List X) (m n : ℕ) (x : X) → m < n → slice_get xs m ≡ Some x → slice_get (take n xs) m ≡ Some x
+taken_at [] m n x before e = absurd (none-some x e)
+taken_at (y ∷ xs) m zero x before e = absurd (omega arith)
+taken_at (y ∷ xs) zero (suc n) x before e = e
+taken_at (y ∷ xs) (suc m) (suc n) x before e = taken_at xs m n x (omega arith) e
 
-same_word_fault : (text : List ℕ) (a b : TextFault) → IsFault text a → IsFault text b → a ≡ b
-same_word_fault text a b f g =
-    let x : read_text text ≡ Err a = text_fault text a.number a.at f in
-    let y : read_text text ≡ Err b = text_fault text b.number b.at g in
-    cc
+all_read_or_unread : (items : List Item) (n word : ℕ) → AreRead items → ¬ IsFirstUnread items n word
+all_read_or_unread items n word read f = none-some word (sym (kept_at IsRead items n f.item f.there read) ∙ f.unread)
 
-words_or_fault : (text : List ℕ) (words : List Word) (fault : TextFault) → HasWords text words → ¬ IsFault text fault
-words_or_fault text words fault f g =
-    let x : read_text text ≡ Ok words = text_words text words f in
-    let y : read_text text ≡ Err fault = text_fault text fault.number fault.at g in
-    cc
+-- an item that is not read is not before the first that is not read
+not_read_before : (items : List Item) (m n v w : ℕ) → IsFirstUnread items m v → IsFirstUnread items n w → m < n → ⊥
+not_read_before items m n v w f g before = none-some v (sym (kept_at IsRead (take n items) m f.item (taken_at items m n f.item before f.there) g.before) ∙ f.unread)
 
--- ---- statements, or a fault of units, or a word that is not read yet
+same_unread : (items : List Item) (m n v w : ℕ) → IsFirstUnread items m v → IsFirstUnread items n w → (m ≡ n) × (v ≡ w)
+same_unread items m n v w f g =
+    let before : m < n → ⊥ = not_read_before items m n v w f g in
+    let behind : n < m → ⊥ = not_read_before items n m w v g f in
+    let number : m ≡ n = omega arith in
+    let there : slice_get items m ≡ Some g.item = ap (slice_get items) number ∙ g.there in
+    let item : f.item ≡ g.item = same_Some f.item g.item (sym f.there ∙ there) in
+    (number, same_Some v w (sym f.unread ∙ ap unread_word item ∙ g.unread))
 
-same_statements : (tokens : List Token) (a b : List Shape) → AreStatements tokens a → AreStatements tokens b → a ≡ b
-same_statements tokens a b f g = one_shapes a b f.each g.each (f.joined ∙ sym g.joined)
+-- the items before this one are sound, and it is not
+record IsFirstUnsound (items : List Item) (n : ℕ) : Type 0 where
+  said : Item
+  there : slice_get items n ≡ Some said
+  sound : AreSound (take n items)
+  unsound : ¬ IsSound (take n items) said
 
-statements_whole : (tokens : List Token) (shapes : List Shape) → AreStatements tokens shapes → IsWhole tokens
-statements_whole tokens shapes f = (simple_units shapes, are_simple true shapes f.each, unit_tokens-simple shapes ∙ f.joined)
+all_sound_or_unsound : (items : List Item) (n : ℕ) → AreSound items → ¬ IsFirstUnsound items n
+all_sound_or_unsound items n sound f = f.unsound (sound_at_number items n f.said sound f.there)
 
-statements_or_fault : (tokens : List Token) (shapes : List Shape) (fault : TextFault) → AreStatements tokens shapes → ¬ HasUnitFault tokens fault
-statements_or_fault tokens shapes fault f g = whole_has_no_fault tokens fault.number g.word (statements_whole tokens shapes f) g.is_fault
+not_sound_before : (items : List Item) (m n : ℕ) → IsFirstUnsound items m → IsFirstUnsound items n → m < n → ⊥
+not_sound_before items m n f g before =
+    f.unsound (subst (λ front. IsSound front f.said) (take-take m n items (omega arith)) (sound_at_number (take n items) m f.said g.sound (taken_at items m n f.said before f.there)))
 
-statements_or_unread : (tokens : List Token) (shapes : List Shape) (at : ℕ) → AreStatements tokens shapes → ¬ HasUnreadWord tokens at
-statements_or_unread tokens shapes at f g = f.all_read g.word g.unread
+same_unsound : (items : List Item) (m n : ℕ) → IsFirstUnsound items m → IsFirstUnsound items n → m ≡ n
+same_unsound items m n f g =
+    let before : m < n → ⊥ = not_sound_before items m n f g in
+    let behind : n < m → ⊥ = not_sound_before items n m g f in
+    omega arith
 
-fault_or_unread : (tokens : List Token) (fault : TextFault) (at : ℕ) → HasUnitFault tokens fault → ¬ HasUnreadWord tokens at
-fault_or_unread tokens fault at f g = f.unread_behind g.word g.unread g.goes_on
+-- ---- what is not read yet in a text
 
-same_token : (tokens : List Token) (v w : ℕ) (a b : Token) → v ≡ w → slice_get tokens v ≡ Some a → slice_get tokens w ≡ Some b → a ≡ b
-same_token tokens v w a b e f g = cc
+abbrev unread_database : {name text : List ℕ} {at : ℕ} → IsUnreadAt name text at → Database name text
+unread_database f = record { files = f.files; found = f.found; items = f.items; is = f.database }
 
-joined_fault : (a b : TextFault) → a.number ≡ b.number → a.at ≡ b.at → a ≡ b
-joined_fault a b e f = λ i. record { number = e i; at = f i }
+abbrev unsound_database : {name text : List ℕ} {at : ℕ} → IsUnsoundAt name text at → Database name text
+unsound_database f = record { files = f.files; found = f.found; items = f.items; is = f.database }
 
-same_unit_fault : (tokens : List Token) (a b : TextFault) → HasUnitFault tokens a → HasUnitFault tokens b → a ≡ b
-same_unit_fault tokens a b f g =
-    let both : (a.number ≡ b.number) × (f.word ≡ g.word) = one_unit_fault tokens a.number b.number f.word g.word f.is_fault g.is_fault in
-    let token : f.token ≡ g.token = same_token tokens f.word g.word f.token g.token both.1 f.there g.there in
-    joined_fault a b both.0 (f.place ∙ ap (λ (t : Token). t.start) token ∙ sym g.place)
+-- the same of the items of another database of the text
+unread_in : {name text : List ℕ} {at : ℕ} → Laws → (a : Database name text) (f : IsUnreadAt name text at) → IsFirstUnread a.items f.n f.word
+unread_in laws a f = subst (λ items. IsFirstUnread items f.n f.word) (same_items laws (unread_database f) a) f.unread
 
-same_unread : (tokens : List Token) (a b : ℕ) → HasUnreadWord tokens a → HasUnreadWord tokens b → a ≡ b
-same_unread tokens a b f g =
-    let before : f.word < g.word → ⊥ = λ l. g.first f.word l f.unread in
-    let behind : g.word < f.word → ⊥ = λ l. f.first g.word l g.unread in
-    let word : f.word ≡ g.word = omega arith in
-    let token : f.token ≡ g.token = same_token tokens f.word g.word f.token g.token word f.there g.there in
-    f.place ∙ ap (λ (t : Token). t.start) token ∙ sym g.place
+unsound_in : {name text : List ℕ} {at : ℕ} → Laws → (a : Database name text) (f : IsUnsoundAt name text at) → IsFirstUnsound a.items f.n
+unsound_in laws a f = subst (λ items. IsFirstUnsound items f.n) (same_items laws (unsound_database f) a) (record { said = f.said; there = f.is_said; sound = f.sound; unsound = f.unsound })
 
--- ---- the same of a text
+-- where all is read and sound, nothing is told
+read_or_unread : {name text : List ℕ} {at : ℕ} → Laws → (a : Database name text) → AreRead a.items → ¬ IsUnreadAt name text at
+read_or_unread laws a read f = all_read_or_unread a.items f.n f.word read (unread_in laws a f)
 
-statements_at : (text : List ℕ) (words others : List Word) (shapes : List Shape) → HasWords text words → HasWords text others → AreStatements (tokens_of text others) shapes → AreStatements (tokens_of text words) shapes
-statements_at text words others shapes f g are = subst (λ (ws : List Word). AreStatements (tokens_of text ws) shapes) (same_words text others words g f) are
+sound_or_unsound : {name text : List ℕ} {at : ℕ} → Laws → (a : Database name text) → AreSound a.items → ¬ IsUnsoundAt name text at
+sound_or_unsound laws a sound f = all_sound_or_unsound a.items f.n sound (unsound_in laws a f)
 
-fault_at : (text : List ℕ) (words others : List Word) (fault : TextFault) → HasWords text words → HasWords text others → HasUnitFault (tokens_of text others) fault → HasUnitFault (tokens_of text words) fault
-fault_at text words others fault f g is = subst (λ (ws : List Word). HasUnitFault (tokens_of text ws) fault) (same_words text others words g f) is
+same_unread_at : {name text : List ℕ} → Laws → (a b : ℕ) → IsUnreadAt name text a → IsUnreadAt name text b → a ≡ b
+same_unread_at laws a b f g =
+    let both : (f.n ≡ g.n) × (f.word ≡ g.word) = same_unread f.items f.n g.n f.word g.word f.unread (unread_in laws (unread_database f) g) in
+    same_place laws (unread_database f) (unread_database g) f.n g.n f.word g.word a b both.0 both.1 (record { item = f.item; there = f.there; place = f.place }) (record { item = g.item; there = g.there; place = g.place })
 
-unread_at : (text : List ℕ) (words others : List Word) (at : ℕ) → HasWords text words → HasWords text others → HasUnreadWord (tokens_of text others) at → HasUnreadWord (tokens_of text words) at
-unread_at text words others at f g is = subst (λ (ws : List Word). HasUnreadWord (tokens_of text ws) at) (same_words text others words g f) is
-
-same_shapes : (text : List ℕ) (a b : List Shape) → HasStatements text a → HasStatements text b → a ≡ b
-same_shapes text a b f g = same_statements (tokens_of text f.words) a b f.are (statements_at text f.words g.words b f.has_words g.has_words g.are)
-
-read_or_fault : (text : List ℕ) (shapes : List Shape) (fault : TextFault) → HasStatements text shapes → ¬ IsFaultOfUnits text fault
-read_or_fault text shapes fault f g = statements_or_fault (tokens_of text f.words) shapes fault f.are (fault_at text f.words g.words fault f.has_words g.has_words g.is_fault)
-
-read_or_unread : (text : List ℕ) (shapes : List Shape) (at : ℕ) → HasStatements text shapes → ¬ IsUnreadWordOf text at
-read_or_unread text shapes at f g = statements_or_unread (tokens_of text f.words) shapes at f.are (unread_at text f.words g.words at f.has_words g.has_words g.unread)
-
--- ---- the first statement that is not sound
-
--- two places of a list are the same, or one lies behind the other
-abbrev Places : (a b : List Shape) (x y : Shape) → Type 0
-Places a b x y = (x ≡ y) ⊎ (((m : List Shape) × (a ≡ b ++ y ∷ m)) ⊎ ((m : List Shape) × (b ≡ a ++ x ∷ m)))
-
-places_more : (p : Shape) (a b : List Shape) (x y : Shape) → Places a b x y → Places (p ∷ a) (p ∷ b) x y
-places_more p a b x y (inl e) = inl e
-places_more p a b x y (inr (inl (m, e))) = inr (inl (m, ap (λ (ss : List Shape). p ∷ ss) e))
-places_more p a b x y (inr (inr (m, e))) = inr (inr (m, ap (λ (ss : List Shape). p ∷ ss) e))
-
-places : (a b : List Shape) (x y : Shape) (s t : List Shape) → a ++ x ∷ s ≡ b ++ y ∷ t → Places a b x y
-places [] [] x y s t e = inl cc
-places [] (q ∷ b) x y s t e = let first : x ≡ q = cc in inr (inr (b, ap (λ (z : Shape). z ∷ b) (sym first)))
-places (p ∷ a) [] x y s t e = let first : p ≡ y = cc in inr (inl (a, ap (λ (z : Shape). z ∷ a) first))
-places (p ∷ a) (q ∷ b) x y s t e =
-    let first : p ≡ q = cc in
-    let rest : a ++ x ∷ s ≡ b ++ y ∷ t = cc in
-    subst (λ (z : Shape). Places (p ∷ a) (z ∷ b) x y) first (places_more p a b x y (places a b x y s t rest))
-
--- each statement of sound ones is sound against those before it
-sound_at : (shapes front : List Shape) (shape : Shape) (back : List Shape) → AreSound (items_of_shapes shapes) → shapes ≡ front ++ shape ∷ back → IsSound (items_of_shapes front) (item_of shape)
-sound_at shapes front shape back sound e = sound (items_of_shapes front) (item_of shape) (items_of_shapes back) (ap items_of_shapes e ∙ map-append item_of front (shape ∷ back))
-
-same_unsound : (text : List ℕ) (a b : ℕ) → IsUnsoundIn text a → IsUnsoundIn text b → a ≡ b
-same_unsound text a b f g = by_places (places f.front g.front f.shape g.shape f.back g.back (sym f.joined ∙ same_shapes text f.shapes g.shapes f.read g.read ∙ g.joined)) where
-  by_places : Places f.front g.front f.shape g.shape → a ≡ b
-  by_places (inl e) = f.place ∙ ap (λ (s : Shape). (first_token s).start) e ∙ sym g.place
-  by_places (inr (inl (m, e))) = absurd (g.unsound (sound_at f.front g.front g.shape m f.sound e))
-  by_places (inr (inr (m, e))) = absurd (f.unsound (sound_at g.front f.front f.shape m g.sound e))
+same_unsound_at : {name text : List ℕ} → Laws → (a b : ℕ) → IsUnsoundAt name text a → IsUnsoundAt name text b → a ≡ b
+same_unsound_at laws a b f g =
+    let number : f.n ≡ g.n = same_unsound f.items f.n g.n (unsound_in laws (unsound_database f) f) (unsound_in laws (unsound_database f) g) in
+    same_place laws (unsound_database f) (unsound_database g) f.n g.n 0 0 a b number refl (record { item = f.item; there = f.there; place = f.place }) (record { item = g.item; there = g.there; place = g.place })
 
 -- ---- one error
 
-same_fault : (text : List ℕ) (a b : TextFault) → IsTold text (Text a) → IsTold text (Text b) → a ≡ b
-same_fault text a b (inl f) (inl g) = same_word_fault text a b f g
-same_fault text a b (inl f) (inr g) = absurd (words_or_fault text g.words a g.has_words f)
-same_fault text a b (inr f) (inl g) = absurd (words_or_fault text f.words b f.has_words g)
-same_fault text a b (inr f) (inr g) = same_unit_fault (tokens_of text f.words) a b f.is_fault (fault_at text f.words g.words b f.has_words g.has_words g.is_fault)
+abbrev IsLater : List ℕ → List ℕ → ℕ → Type 0
+IsLater name text at = IsUnreadAt name text at ⊎ IsUnsoundAt name text at
 
-same_later : (text : List ℕ) (a b : ℕ) → IsTold text (Later a) → IsTold text (Later b) → a ≡ b
-same_later text a b (inl f) (inl g) = same_unread (tokens_of text f.words) a b f.unread (unread_at text f.words g.words b f.has_words g.has_words g.unread)
-same_later text a b (inl f) (inr g) = absurd (read_or_unread text g.shapes a g.read f)
-same_later text a b (inr f) (inl g) = absurd (read_or_unread text f.shapes b f.read g)
-same_later text a b (inr f) (inr g) = same_unsound text a b f g
+same_later : {name text : List ℕ} → Laws → (a b : ℕ) → IsLater name text a → IsLater name text b → a ≡ b
+same_later laws a b (inl f) (inl g) = same_unread_at laws a b f g
+same_later laws a b (inl f) (inr g) = absurd (read_or_unread laws (unsound_database g) g.read f)
+same_later laws a b (inr f) (inl g) = absurd (read_or_unread laws (unsound_database f) f.read g)
+same_later laws a b (inr f) (inr g) = same_unsound_at laws a b f g
 
-fault_or_later : (text : List ℕ) (fault : TextFault) (at : ℕ) → IsTold text (Text fault) → ¬ IsTold text (Later at)
-fault_or_later text fault at (inl f) (inl g) = words_or_fault text g.words fault g.has_words f
-fault_or_later text fault at (inl f) (inr g) = words_or_fault text g.read.words fault g.read.has_words f
-fault_or_later text fault at (inr f) (inl g) = fault_or_unread (tokens_of text f.words) fault at f.is_fault (unread_at text f.words g.words at f.has_words g.has_words g.unread)
-fault_or_later text fault at (inr f) (inr g) = read_or_fault text g.shapes fault g.read f
+later_database : {name text : List ℕ} {at : ℕ} → IsLater name text at → Database name text
+later_database (inl f) = unread_database f
+later_database (inr f) = unsound_database f
 
-pub same_error : (text : List ℕ) (a b : FirstError) → IsTold text a → IsTold text b → a ≡ b
-same_error text (Text a) (Text b) f g = ap Text (same_fault text a b f g)
-same_error text (Text a) (Later b) f g = absurd (fault_or_later text a b f g)
-same_error text (Later a) (Text b) f g = absurd (fault_or_later text b a g f)
-same_error text (Later a) (Later b) f g = ap Later (same_later text a b f g)
-same_error text (Text a) Memory f g = absurd g
-same_error text (Text a) Write f g = absurd g
-same_error text (Later a) Memory f g = absurd g
-same_error text (Later a) Write f g = absurd g
-same_error text Memory b f g = absurd f
-same_error text Write b f g = absurd f
+fault_or_too_many : Laws → (text : List ℕ) (fault : TextFault) → IsFirstFault text fault → ¬ HasTooMany no_files text
+fault_or_too_many laws text fault f g = laws.cut_or_fault text g.pieces g.tail fault g.is_cut f
+
+pub same_error : Laws → (name text : List ℕ) (a b : FirstError) → IsTold name text a → IsTold name text b → a ≡ b
+same_error laws name text (Text a) (Text b) f g = ap Text (laws.fault text a b f g)
+same_error laws name text (Text a) TooMany f g = absurd (fault_or_too_many laws text a f g)
+same_error laws name text (Text a) (Later b) f g = absurd (database_or_fault laws (later_database g) a f)
+same_error laws name text TooMany (Text b) f g = absurd (fault_or_too_many laws text b g f)
+same_error laws name text TooMany TooMany f g = refl
+same_error laws name text TooMany (Later b) f g = absurd (database_or_too_many (later_database g) f)
+same_error laws name text (Later a) (Text b) f g = absurd (database_or_fault laws (later_database f) b g)
+same_error laws name text (Later a) TooMany f g = absurd (database_or_too_many (later_database f) g)
+same_error laws name text (Later a) (Later b) f g = ap Later (same_later laws a b f g)
+same_error laws name text (Text a) Memory f g = absurd g
+same_error laws name text (Text a) Write f g = absurd g
+same_error laws name text TooMany Memory f g = absurd g
+same_error laws name text TooMany Write f g = absurd g
+same_error laws name text (Later a) Memory f g = absurd g
+same_error laws name text (Later a) Write f g = absurd g
+same_error laws name text Memory b f g = absurd f
+same_error laws name text Write b f g = absurd f
 
 -- ---- one report
 
@@ -199,32 +171,33 @@ same_summary : (items : List Item) (found others : List Finding) (clean other : 
 same_summary items found others clean other a b e f g p q =
     (same_truth (lines items found ≡ []) clean other p (subst (λ (fs : List Finding). IsTrue other ↔ (lines items fs ≡ [])) (sym e) q), f ∙ ap (λ (fs : List Finding). report items fs) e ∙ sym g)
 
--- what a report is of these statements
-record Reports (shapes : List Shape) (clean : Bool) (bytes : List ℕ) : Type 0 where
+-- what a report is of these items
+record Reports (items : List Item) (clean : Bool) (bytes : List ℕ) : Type 0 where
   found : List Finding
-  each : AreFindings (items_of_shapes shapes) found
-  bytes_are : bytes ≡ report (items_of_shapes shapes) found
-  clean_is : IsTrue clean ↔ (lines (items_of_shapes shapes) found ≡ [])
+  each : AreFindings items found
+  bytes_are : bytes ≡ report items found
+  clean_is : IsTrue clean ↔ (lines items found ≡ [])
 
-same_reports : (shapes : List Shape) (clean other : Bool) (a b : List ℕ) → Reports shapes clean a → Reports shapes other b → (clean ≡ other) × (a ≡ b)
-same_reports shapes clean other a b f g = same_summary (items_of_shapes shapes) f.found g.found clean other a b (same_findings (items_of_shapes shapes) f.found g.found f.each g.each) f.bytes_are g.bytes_are f.clean_is g.clean_is
+same_reports : (items : List Item) (clean other : Bool) (a b : List ℕ) → Reports items clean a → Reports items other b → (clean ≡ other) × (a ≡ b)
+same_reports items clean other a b f g = same_summary items f.found g.found clean other a b (same_findings items f.found g.found f.each g.each) f.bytes_are g.bytes_are f.clean_is g.clean_is
 
-reports : (text : List ℕ) (clean : Bool) (bytes : List ℕ) (f : IsReport text clean bytes) → Reports f.shapes clean bytes
-reports text clean bytes f = record { found = f.found; each = f.findings; bytes_are = f.bytes_are; clean_is = f.clean_is }
+abbrev report_database : {name text : List ℕ} {clean : Bool} {bytes : List ℕ} → IsReport name text clean bytes → Database name text
+report_database f = record { files = f.files; found = f.found; items = f.items; is = f.database }
 
-pub same_report : (text : List ℕ) (clean other : Bool) (a b : List ℕ) → IsReport text clean a → IsReport text other b → (clean ≡ other) × (a ≡ b)
-same_report text clean other a b f g =
-    same_reports f.shapes clean other a b (reports text clean a f) (subst (λ (ss : List Shape). Reports ss other b) (same_shapes text g.shapes f.shapes g.read f.read) (reports text other b g))
+-- the same of the items of another database of the text
+reports_in : {name text : List ℕ} {clean : Bool} {bytes : List ℕ} → Laws → (a : Database name text) → IsReport name text clean bytes → Reports a.items clean bytes
+reports_in {clean = clean} {bytes = bytes} laws a f =
+    subst (λ items. Reports items clean bytes) (same_items laws (report_database f) a) (record { found = f.findings; each = f.are_findings; bytes_are = f.bytes_are; clean_is = f.clean_is })
+
+pub same_report : Laws → (name text : List ℕ) (clean other : Bool) (a b : List ℕ) → IsReport name text clean a → IsReport name text other b → (clean ≡ other) × (a ≡ b)
+same_report laws name text clean other a b f g = same_reports f.items clean other a b (reports_in laws (report_database f) f) (reports_in laws (report_database f) g)
 
 -- ---- a report, or an error
 
-sound_or_unsound : (text : List ℕ) (shapes : List Shape) (at : ℕ) → HasStatements text shapes → AreSound (items_of_shapes shapes) → ¬ IsUnsoundIn text at
-sound_or_unsound text shapes at read sound g = g.unsound (sound_at shapes g.front g.shape g.back sound (same_shapes text shapes g.shapes read g.read ∙ g.joined))
-
-pub report_or_error : (text : List ℕ) (clean : Bool) (bytes : List ℕ) (error : FirstError) → IsReport text clean bytes → ¬ IsTold text error
-report_or_error text clean bytes (Text fault) f (inl g) = words_or_fault text f.read.words fault f.read.has_words g
-report_or_error text clean bytes (Text fault) f (inr g) = read_or_fault text f.shapes fault f.read g
-report_or_error text clean bytes (Later at) f (inl g) = read_or_unread text f.shapes at f.read g
-report_or_error text clean bytes (Later at) f (inr g) = sound_or_unsound text f.shapes at f.read f.sound g
-report_or_error text clean bytes Memory f g = g
-report_or_error text clean bytes Write f g = g
+pub report_or_error : Laws → (name text : List ℕ) (clean : Bool) (bytes : List ℕ) (error : FirstError) → IsReport name text clean bytes → ¬ IsTold name text error
+report_or_error laws name text clean bytes (Text fault) f g = database_or_fault laws (report_database f) fault g
+report_or_error laws name text clean bytes TooMany f g = database_or_too_many (report_database f) g
+report_or_error laws name text clean bytes (Later at) f (inl g) = read_or_unread laws (report_database f) f.read g
+report_or_error laws name text clean bytes (Later at) f (inr g) = sound_or_unsound laws (report_database f) f.sound g
+report_or_error laws name text clean bytes Memory f g = g
+report_or_error laws name text clean bytes Write f g = g

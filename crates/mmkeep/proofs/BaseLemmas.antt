@@ -14,21 +14,16 @@ use Rattle.mm_frame.specs.Language.{Symbol, Mandatory, Place, Hypothesis, Assert
 use Rattle.mm_frame.specs.Typing.{IsFrame}
 use Rattle.mm_frame.specs.Framing.{symbol, expression, hypothesis, mandatory_hypotheses, mandatory_variables, is_mandatory_pair, active_pairs, frame, place_of}
 use Rattle.mm_frame.specs.Sound.{AreSound}
-use Rattle.mm_frame.specs.Outermost.{is_outermost, IsOutermost}
+use Rattle.mm_frame.specs.Outermost.{IsOutermost}
 use Rattle.mm_frame.proofs.Members.{In, in_contains, in_get, get_in}
 use Rattle.mm_frame.proofs.Frames.{has_frames}
 use Rattle.mm_frame.proofs.Outermost.{map_same, sound_take, place_of_is, outermost_take, outermost_pairs, labelled_of, no_item_unknown, resolve_at, expression_at}
 use Rattle.mmkeep.specs.declared.base.Base.{Base}
 use Rattle.mmkeep.specs.declared.entry.Entry.{Entry}
-use Rattle.mmkeep.specs.declared.source.Source.{Source}
-use Rattle.mmkeep.specs.declared.statement.Statement.{Statement}
-use Rattle.mmkeep.specs.declared.statement.StatementKind.{StatementKind}
-use Rattle.mmkeep.specs.declared.statement.StatementKind.TheVariants as kinds
-use Rattle.mmkeep.specs.Meaning.{symbols_of, items_in}
-use Rattle.mmkeep.specs.Progress.{kind_of}
+use Rattle.mmkeep.specs.Meaning.{symbols_of}
 use Rattle.mmkeep.specs.Known.{label_in}
 use Rattle.mmkeep.specs.Entry.{item_number, HasFrame}
-use Rattle.mmkeep.specs.Base.{IsBase, items_of}
+use Rattle.mmkeep.specs.Base.{IsBase}
 use Rattle.mmkeep.specs.Stack.{expression_of, mandatory_of, frame_of, IsCitable, IsMeaning}
 use Rattle.mmkeep.proofs.CiteLemmas.{citable_floating, typing_at}
 
@@ -63,21 +58,6 @@ pub assertion_labelled : (k : Kind) → is_assertion k ≡ true → is_labelled 
 assertion_labelled Axiom e = refl
 assertion_labelled Theorem e = refl
 assertion_labelled _ e = absurd (false≢true e)
-
-outermost_kind : (k : StatementKind) → is_outermost (kind_of k) ≡ true
-outermost_kind kinds.Constants = refl
-outermost_kind kinds.Variables = refl
-outermost_kind kinds.Floating = refl
-outermost_kind kinds.Axiom = refl
-outermost_kind kinds.Theorem = refl
-
--- all statements stand in the outermost scope
-pub outermost_statements : (source : Source) (statements : List Statement) → IsOutermost (items_in source statements)
-outermost_statements source [] = tt
-outermost_statements source (s ∷ statements) = (outermost_kind s.kind, outermost_statements source statements)
-
-pub outermost_base : (base : Base) → IsOutermost (items_of base)
-outermost_base base = outermost_statements base.source base.statements.items
 
 -- a name among two symbols
 second_name : (before : List Item) (names : List (List ℕ)) (c v : Symbol) → map (symbol before) names ≡ c ∷ v ∷ [] → get_or names 1 [] ≡ v.name

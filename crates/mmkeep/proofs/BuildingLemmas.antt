@@ -1,38 +1,43 @@
 -- The sound statements of a file, one after another.
-use Rattle.std.proofs.Common.{◌≡◌, ℕ, zero, suc, ◌≤◌, true, Some, None, List, [], ◌∷◌, ◌++◌, length, take, drop, slice_get, refl, sym, ◌∙◌, ap, subst, arith, inl, inr, ◌⊎◌}
-use Rattle.std.proofs.lemmas.List.{length_push, take-append-le}
+use Rattle.std.proofs.Common.{◌≡◌, ℕ, zero, suc, ◌+◌, ◌≤◌, true, Some, None, List, [], ◌∷◌, ◌++◌, length, take, slice_get, refl, sym, ◌∙◌, ap, subst, arith, inl, inr, ◌⊎◌}
+use Rattle.std.proofs.lemmas.List.{length_push, take-append-le, length-take-le}
 use Rattle.std.proofs.lemmas.Option.{slice_get_within}
-use Rattle.mm_frame.specs.Item.{Item}
+use Rattle.mm_frame.specs.Item.{Kind, Disjoint, Essential, BlockStart, BlockEnd, Missing, Item}
 use Rattle.mm_frame.specs.Outermost.{is_outermost, IsOutermost}
-use Rattle.mm_frame.specs.Sound.{IsSound, AreSound}
-use Rattle.mm_frame.proofs.Outermost.{split_at, sound_none, sound_more}
+use Rattle.mm_frame.specs.Sound.{AreSound}
+use Rattle.mm_frame.proofs.Outermost.{sound_none, sound_more}
 use Rattle.mmkeep.specs.declared.entry.Entry.{Entry}
 use Rattle.mmkeep.specs.declared.base.Base.{Base}
 use Rattle.mmkeep.specs.declared.known.Known.{Known}
-use Rattle.mmkeep.specs.declared.source.Source.{Source}
-use Rattle.mmkeep.specs.declared.statement.Statement.{Statement}
-use Rattle.mmkeep.specs.declared.statement.StatementKind.{StatementKind}
-use Rattle.mmkeep.specs.declared.statement.StatementKind.TheVariants.{Constants, Variables, Floating, Axiom, Theorem}
-use Rattle.mmkeep.specs.Source.{tokens, token_at}
-use Rattle.mm_frame.specs.Statement.{names}
-use Rattle.mmkeep.specs.Progress.{kind_of, item_at}
-use Rattle.mmkeep.specs.Meaning.{items_in}
+use Rattle.mmkeep.specs.Later.{unread_by, AreRead}
 use Rattle.mmkeep.specs.Known.{known_name, known_label, Knows}
 use Rattle.mmkeep.specs.Entry.{IsEntry}
-use Rattle.mmkeep.specs.Base.{Declares, IsBase, HasUnsound}
+use Rattle.mmkeep.specs.Base.{Declares, IsBase}
 use Rattle.mmkeep.proofs.ExpressionLemmas.{get_push, take_push, take_all}
 
--- statements of these kinds stand in the outermost scope
-outermost_kind : (k : StatementKind) → is_outermost (kind_of k) ≡ true
-outermost_kind Constants = refl
-outermost_kind Variables = refl
-outermost_kind Floating = refl
-outermost_kind Axiom = refl
-outermost_kind Theorem = refl
+-- an item all of whose words are read stands in the outermost scope
+read_kind : (kind : Kind) (item : Item) → unread_by kind item ≡ None → is_outermost kind ≡ true
+read_kind Disjoint item e = absurd cc
+read_kind Essential item e = absurd cc
+read_kind BlockStart item e = absurd cc
+read_kind BlockEnd item e = absurd cc
+read_kind Missing item e = absurd cc
+read_kind _ item e = refl
 
-pub outermost_items : (source : Source) (statements : List Statement) → IsOutermost (items_in source statements)
-outermost_items source [] = tt
-outermost_items source (s ∷ statements) = (outermost_kind s.kind, outermost_items source statements)
+pub read_outermost : (items : List Item) → AreRead items → IsOutermost items
+read_outermost [] h = tt
+read_outermost (item ∷ items) h = (read_kind item.kind item h.0, read_outermost items h.1)
+
+pub outermost_at : (items : List Item) (n : ℕ) (item : Item) → slice_get items n ≡ Some item → AreRead items → is_outermost item.kind ≡ true
+outermost_at [] n item g h = cc
+outermost_at (first ∷ items) zero item g h = let same : first ≡ item = cc in subst (λ (i : Item). is_outermost i.kind ≡ true) same (read_kind first.kind first h.0)
+outermost_at (first ∷ items) (suc n) item g h = let there : slice_get items n ≡ Some item = cc in outermost_at items n item there h.1
+
+pub outermost_take : (items : List Item) (n : ℕ) → AreRead items → IsOutermost (take n items)
+outermost_take [] zero h = tt
+outermost_take [] (suc n) h = tt
+outermost_take (item ∷ items) zero h = tt
+outermost_take (item ∷ items) (suc n) h = (read_kind item.kind item h.0, outermost_take items n h.1)
 
 -- what is kept of the first statements
 pub record AreBuilt (items : List Item) (known : Known) (entries : List Entry) : Type 0 where
@@ -70,35 +75,15 @@ built_push items item old new entries entry b d e = record {
         let whole = take-append-le n items (item ∷ []) m ∙ take_all items n (omega arith) in
         subst (λ w. IsEntry w x y) (sym whole) (subst (λ w. IsEntry items w y) g.1 (subst (λ w. IsEntry items item w) h.1 e))
 
-items_push : (source : Source) (front : List Statement) (s : Statement) → items_in source (front ++ s ∷ []) ≡ items_in source front ++ item_at (names (tokens source)) s ∷ []
-items_push source [] s = refl
-items_push source (x ∷ front) s = ap (λ w. item_at (names (tokens source)) x ∷ w) (items_push source front s)
+pub items_count : (items : List Item) (n : ℕ) → n ≤ length items → length (take n items) ≡ n
+items_count items n l = length-take-le n items l
 
-pub items_more : (source : Source) (statements : List Statement) (n : ℕ) (s : Statement) → slice_get statements n ≡ Some s → items_in source (take (suc n) statements) ≡ items_in source (take n statements) ++ item_at (names (tokens source)) s ∷ []
-items_more source statements n s g = ap (items_in source) (take_push statements n s g) ∙ items_push source (take n statements) s
+pub built_more : (items : List Item) (n : ℕ) (item : Item) (old new : Known) (entries longer : List Entry) (entry : Entry) → slice_get items n ≡ Some item → AreBuilt (take n items) old entries → Declares (take n items) item new → IsEntry (take n items) item entry → longer ≡ entries ++ entry ∷ [] → AreBuilt (take (n + 1) items) new longer
+built_more items n item old new entries longer entry g b d i q =
+    let one : n + 1 ≡ suc n = omega arith in
+    subst (AreBuilt (take (n + 1) items) new) (sym q) (subst (λ w. AreBuilt w new (entries ++ entry ∷ [])) (sym (ap (λ k. take k items) one ∙ take_push items n item g)) (built_push (take n items) item old new entries entry b d i))
 
-pub items_count : (source : Source) (statements : List Statement) (n : ℕ) → n ≤ length statements → length (items_in source (take n statements)) ≡ n
-items_count source [] n l = (let e : n ≡ 0 = omega arith in ap (λ k. length (items_in source (take k []))) e ∙ sym e)
-items_count source (s ∷ statements) zero l = refl
-items_count source (s ∷ statements) (suc n) l = ap suc (items_count source statements n (omega arith))
-
-pub built_more : (source : Source) (statements : List Statement) (n m : ℕ) (s : Statement) (old new : Known) (entries longer : List Entry) (entry : Entry) → m ≡ suc n → slice_get statements n ≡ Some s → AreBuilt (items_in source (take n statements)) old entries → Declares (items_in source (take n statements)) (item_at (names (tokens source)) s) new → IsEntry (items_in source (take n statements)) (item_at (names (tokens source)) s) entry → longer ≡ entries ++ entry ∷ [] → AreBuilt (items_in source (take m statements)) new longer
-built_more source statements n m s old new entries longer entry e g b d i q =
-    subst (AreBuilt (items_in source (take m statements)) new) (sym q) (subst (λ w. AreBuilt w new (entries ++ entry ∷ [])) (sym (ap (λ k. items_in source (take k statements)) e ∙ items_more source statements n s g)) (built_push (items_in source (take n statements)) (item_at (names (tokens source)) s) old new entries entry b d i))
-
-pub built_base : (source : Source) (statements : List Statement) (n : ℕ) (base : Base) → length statements ≤ n → AreBuilt (items_in source (take n statements)) base.known base.entries.items → IsBase (items_in source statements) base
-built_base source statements n base l b =
-    let e = ap (items_in source) (take_all statements n l) in
-    let w = subst (λ items. AreBuilt items base.known base.entries.items) e b in
-    record { sound = w.sound; known = w.knows; count = w.count; entry = w.entry }
-
-pub has_unsound : (source : Source) (statements : List Statement) (n at : ℕ) (s : Statement) → slice_get statements n ≡ Some s → AreSound (items_in source (take n statements)) → ¬ IsSound (items_in source (take n statements)) (item_at (names (tokens source)) s) → at ≡ (token_at (tokens source) s.first).start → HasUnsound source statements at
-has_unsound source statements n at s g h u p = record {
-  front = take n statements;
-  statement = s;
-  back = drop (suc n) statements;
-  joined = split_at statements n s g;
-  sound = h;
-  unsound = u;
-  place = p;
-}
+pub built_base : (items : List Item) (n : ℕ) (base : Base) → AreRead items → length items ≤ n → AreBuilt (take n items) base.known base.entries.items → IsBase items base
+built_base items n base read l b =
+    let w = subst (λ items. AreBuilt items base.known base.entries.items) (take_all items n l) b in
+    record { outermost = read_outermost items read; sound = w.sound; known = w.knows; count = w.count; entry = w.entry }

@@ -1,23 +1,19 @@
 -- A statement behind sound ones, judged by what is known.
-use Rattle.std.proofs.Common.{◌≡◌, ℕ, suc, ◌<◌, ◌≤◌, Bool, true, false, cond, ◌||◌, ◌==◌, Option, Some, None, List, [], ◌∷◌, ◌++◌, length, take, bytes_eq, slice_get, slice_range, refl, sym, ◌∙◌, ap, subst, arith}
+use Rattle.std.proofs.Common.{◌≡◌, ℕ, suc, ◌<◌, ◌≤◌, Bool, true, false, cond, ◌||◌, ◌==◌, Option, Some, None, List, [], ◌∷◌, ◌++◌, length, take, bytes_eq, slice_get, refl, sym, ◌∙◌, ap, subst, arith}
 use native.Mathlib.Decide.{dec_lt}
 use Rattle.std.specs.Cmp.Lexicographic.{nat_list_eq_equiv}
 use Rattle.std.proofs.lemmas.Bool.{false≢true, eq-eqb}
 use Rattle.std.proofs.lemmas.List.Folds.{list_any-append}
 use Rattle.std.proofs.lemmas.Option.{slice_get_within}
-use Rattle.mm_frame.specs.Item.{Kind, Constants, Variables, Floating, Axiom, Theorem, Item, is_constants, is_variables, is_floating, is_declaring, is_labelled, is_assertion, has}
+use Rattle.mm_frame.specs.Item.{Kind, Constants, Variables, Floating, Essential, Axiom, Theorem, Item, is_constants, is_variables, is_floating, is_declaring, is_labelled, is_assertion, has}
 use Rattle.mm_frame.specs.Sound.{is_declared, IsSound}
-use Rattle.mm_frame.specs.Outermost.{IsOutermost}
+use Rattle.mm_frame.specs.Outermost.{is_outermost, IsOutermost}
 use Rattle.mm_frame.proofs.Members.{in_get, has_in}
 use Rattle.mmkeep.specs.declared.entry.Entry.{Entry}
 use Rattle.mmkeep.specs.declared.known.Known.{Known}
 use Rattle.mmkeep.specs.declared.known.Declared.{Declared}
 use Rattle.mmkeep.specs.declared.known.Declared.TheVariants.{Variable}
-use Rattle.mmkeep.specs.declared.statement.Statement.{Statement}
-use Rattle.mmkeep.specs.declared.statement.StatementKind.{StatementKind}
-use Rattle.mmkeep.specs.declared.statement.StatementKind.TheVariants as kinds
 use Rattle.mmkeep.specs.Known.{known_name, known_label, declared_in, label_in, Knows, DeclaresName, CarriesLabel}
-use Rattle.mmkeep.specs.Progress.{kind_of, label_at, item_at}
 use Rattle.mmkeep.specs.Base.{JudgesSound, JudgesEntry, IsDeclaring}
 use Rattle.mmkeep.specs.Judging.{JudgesAssertion, JudgesTyping, JudgesBody}
 use Rattle.mmkeep.proofs.SoundLemmas.{declaring, labelled, AreNew, new_constants, new_variables, constants_new, variables_new, IsNewLabel, label_of_floating, label_of_assertion, typed_assertion, assertion_typed, assertion_labelled}
@@ -27,29 +23,11 @@ use Rattle.mmkeep.proofs.EntryLemmas.{assertion_entry, typing_is_entry}
 use Rattle.mmkeep.proofs.ExpressionLemmas.{take_push, take_all}
 
 -- the item of a statement
-label_there : (names : List (List ℕ)) (s : Statement) (label : List ℕ) (k : StatementKind) → is_labelled (kind_of k) ≡ true → slice_get names s.first ≡ Some label → label_at names s k ≡ Some label
-label_there names s label kinds.Constants t g = absurd (false≢true t)
-label_there names s label kinds.Variables t g = absurd (false≢true t)
-label_there names s label kinds.Floating t g = g
-label_there names s label kinds.Axiom t g = g
-label_there names s label kinds.Theorem t g = g
+pub labelled_item : (item : Item) (label : List ℕ) → item.label ≡ Some label → labelled item.kind label item.symbols item.proof ≡ item
+labelled_item item label e = λ i. record { kind = item.kind; label = sym e i; symbols = item.symbols; proof = item.proof }
 
-pub labelled_item : (names : List (List ℕ)) (s : Statement) (label : List ℕ) → is_labelled (kind_of s.kind) ≡ true → slice_get names s.first ≡ Some label → labelled (kind_of s.kind) label (slice_range names s.symbols s.close) (slice_range names s.proof s.end) ≡ item_at names s
-labelled_item names s label t g =
-    let e = label_there names s label s.kind t g in
-    λ i. record { kind = kind_of s.kind; label = sym e i; symbols = slice_range names s.symbols s.close; proof = slice_range names s.proof s.end }
-
-no_label_there : (names : List (List ℕ)) (s : Statement) (k : StatementKind) → is_declaring (kind_of k) ≡ true → label_at names s k ≡ None
-no_label_there names s kinds.Constants t = refl
-no_label_there names s kinds.Variables t = refl
-no_label_there names s kinds.Floating t = absurd (false≢true t)
-no_label_there names s kinds.Axiom t = absurd (false≢true t)
-no_label_there names s kinds.Theorem t = absurd (false≢true t)
-
-pub declaring_item : (names : List (List ℕ)) (s : Statement) → is_declaring (kind_of s.kind) ≡ true → declaring (kind_of s.kind) (slice_range names s.symbols s.close) (slice_range names s.proof s.end) ≡ item_at names s
-declaring_item names s t =
-    let e = no_label_there names s s.kind t in
-    λ i. record { kind = kind_of s.kind; label = sym e i; symbols = slice_range names s.symbols s.close; proof = slice_range names s.proof s.end }
+pub declaring_item : (item : Item) → item.label ≡ None → declaring item.kind item.symbols item.proof ≡ item
+declaring_item item e = λ i. record { kind = item.kind; label = sym e i; symbols = item.symbols; proof = item.proof }
 
 -- what is known behind an assertion
 not_constants : (k : Kind) → is_assertion k ≡ true → is_constants k ≡ false
@@ -108,23 +86,23 @@ judged_assertion kd old new label names proof number (Some entry) t n l j c befo
   assertion_entry before old (labelled kd label names proof) entry o s k t j,
 )
 
-pub judged_labelled : (kind : StatementKind) (old mid new : Known) (label : List ℕ) (names proof : List (List ℕ)) (number : ℕ) (told : Option Entry) → is_labelled (kind_of kind) ≡ true → known_name old label ≡ None → known_label old label ≡ None → JudgesBody kind old names number told mid → CarriesLabel mid label number new → JudgesEntry old (labelled (kind_of kind) label names proof) number told new
-judged_labelled kinds.Constants old mid new label names proof number told t n l j c = absurd (false≢true t)
-judged_labelled kinds.Variables old mid new label names proof number told t n l j c = absurd (false≢true t)
-judged_labelled kinds.Floating old mid new label names proof number told t n l j c = judged_typing old mid new label names proof number told n l j c
-judged_labelled kinds.Axiom old mid new label names proof number told t n l j c = judged_assertion Axiom old new label names proof number told refl n l j.0 (subst (λ w. CarriesLabel w label number new) j.1 c)
-judged_labelled kinds.Theorem old mid new label names proof number told t n l j c = judged_assertion Theorem old new label names proof number told refl n l j.0 (subst (λ w. CarriesLabel w label number new) j.1 c)
+pub judged_labelled : (kind : Kind) (old mid new : Known) (label : List ℕ) (names proof : List (List ℕ)) (number : ℕ) (told : Option Entry) → is_labelled kind ≡ true → is_outermost kind ≡ true → known_name old label ≡ None → known_label old label ≡ None → JudgesBody kind old names number told mid → CarriesLabel mid label number new → JudgesEntry old (labelled kind label names proof) number told new
+judged_labelled Floating old mid new label names proof number told t o n l j c = judged_typing old mid new label names proof number told n l j c
+judged_labelled Axiom old mid new label names proof number told t o n l j c = judged_assertion Axiom old new label names proof number told refl n l j.0 (subst (λ w. CarriesLabel w label number new) j.1 c)
+judged_labelled Theorem old mid new label names proof number told t o n l j c = judged_assertion Theorem old new label names proof number told refl n l j.0 (subst (λ w. CarriesLabel w label number new) j.1 c)
+judged_labelled Essential old mid new label names proof number told t o n l j c = absurd (false≢true o)
+judged_labelled _ old mid new label names proof number told t o n l j c = absurd (false≢true t)
 
 -- one whose label is not free
-sound_label : (kind : StatementKind) (before : List Item) (label : List ℕ) (names proof : List (List ℕ)) → is_labelled (kind_of kind) ≡ true → IsSound before (labelled (kind_of kind) label names proof) → IsNewLabel before label
-sound_label kinds.Constants before label names proof t s = absurd (false≢true t)
-sound_label kinds.Variables before label names proof t s = absurd (false≢true t)
-sound_label kinds.Floating before label names proof t s = label_of_floating before label names proof s
-sound_label kinds.Axiom before label names proof t s = label_of_assertion Axiom before label names proof refl s
-sound_label kinds.Theorem before label names proof t s = label_of_assertion Theorem before label names proof refl s
+sound_label : (kind : Kind) (before : List Item) (label : List ℕ) (names proof : List (List ℕ)) → is_labelled kind ≡ true → is_outermost kind ≡ true → IsSound before (labelled kind label names proof) → IsNewLabel before label
+sound_label Floating before label names proof t o s = label_of_floating before label names proof s
+sound_label Axiom before label names proof t o s = label_of_assertion Axiom before label names proof refl s
+sound_label Theorem before label names proof t o s = label_of_assertion Theorem before label names proof refl s
+sound_label Essential before label names proof t o s = absurd (false≢true o)
+sound_label _ before label names proof t o s = absurd (false≢true t)
 
-pub judged_label : (kind : StatementKind) (old new : Known) (label : List ℕ) (names proof : List (List ℕ)) (number : ℕ) → is_labelled (kind_of kind) ≡ true → ((known_name old label ≡ None) × (known_label old label ≡ None) → ⊥) → JudgesEntry old (labelled (kind_of kind) label names proof) number None new
-judged_label kind old new label names proof number t f before o s size k sound = f (label_is_free before old label k (sound_label kind before label names proof t sound))
+pub judged_label : (kind : Kind) (old new : Known) (label : List ℕ) (names proof : List (List ℕ)) (number : ℕ) → is_labelled kind ≡ true → is_outermost kind ≡ true → ((known_name old label ≡ None) × (known_label old label ≡ None) → ⊥) → JudgesEntry old (labelled kind label names proof) number None new
+judged_label kind old new label names proof number t outer f before o s size k sound = f (label_is_free before old label k (sound_label kind before label names proof t outer sound))
 
 -- the first names of a `$c` or `$v` are declared
 pub record DeclaresFront (old : Known) (symbols : List (List ℕ)) (count : ℕ) (declared : Declared) (new : Known) : Type 0 where
@@ -192,26 +170,22 @@ front_more old mid new symbols count more declared name e f g n l d = record {
     ]
 
 -- new names, and names that are not
-sound_new : (kind : StatementKind) (declared : Declared) (before : List Item) (symbols proof : List (List ℕ)) → IsDeclaring kind declared → IsOutermost before → IsSound before (declaring (kind_of kind) symbols proof) → AreNew before symbols
-sound_new kinds.Constants declared before symbols proof d o s = constants_new before symbols proof s
-sound_new kinds.Variables declared before symbols proof d o s = variables_new before symbols proof o s
-sound_new kinds.Floating declared before symbols proof d o s = absurd d
-sound_new kinds.Axiom declared before symbols proof d o s = absurd d
-sound_new kinds.Theorem declared before symbols proof d o s = absurd d
+sound_new : (kind : Kind) (declared : Declared) (before : List Item) (symbols proof : List (List ℕ)) → IsDeclaring kind declared → IsOutermost before → IsSound before (declaring kind symbols proof) → AreNew before symbols
+sound_new Constants declared before symbols proof d o s = constants_new before symbols proof s
+sound_new Variables declared before symbols proof d o s = variables_new before symbols proof o s
+sound_new _ declared before symbols proof d o s = absurd d
 
-pub is_declaring_kind : (kind : StatementKind) (declared : Declared) → IsDeclaring kind declared → is_declaring (kind_of kind) ≡ true
-is_declaring_kind kinds.Constants declared d = refl
-is_declaring_kind kinds.Variables declared d = refl
-is_declaring_kind kinds.Floating declared d = absurd d
-is_declaring_kind kinds.Axiom declared d = absurd d
-is_declaring_kind kinds.Theorem declared d = absurd d
+pub is_declaring_kind : (kind : Kind) (declared : Declared) → IsDeclaring kind declared → is_declaring kind ≡ true
+is_declaring_kind Constants declared d = refl
+is_declaring_kind Variables declared d = refl
+is_declaring_kind _ declared d = absurd d
 
-pub judged_empty : (kind : StatementKind) (declared : Declared) (old new : Known) (symbols proof : List (List ℕ)) → IsDeclaring kind declared → length symbols ≡ 0 → JudgesSound old (declaring (kind_of kind) symbols proof) false new
+pub judged_empty : (kind : Kind) (declared : Declared) (old new : Known) (symbols proof : List (List ℕ)) → IsDeclaring kind declared → length symbols ≡ 0 → JudgesSound old (declaring kind symbols proof) false new
 judged_empty kind declared old new symbols proof d e before o s k sound =
     let n = sound_new kind declared before symbols proof d o sound in
     false≢true (sym n.some ∙ eq-eqb (length symbols) 0 e)
 
-pub judged_taken : (kind : StatementKind) (declared : Declared) (old mid new : Known) (symbols proof : List (List ℕ)) (count : ℕ) (name : List ℕ) → IsDeclaring kind declared → DeclaresFront old symbols count declared mid → slice_get symbols count ≡ Some name → ((known_name mid name ≡ None) × (known_label mid name ≡ None) → ⊥) → JudgesSound old (declaring (kind_of kind) symbols proof) false new
+pub judged_taken : (kind : Kind) (declared : Declared) (old mid new : Known) (symbols proof : List (List ℕ)) (count : ℕ) (name : List ℕ) → IsDeclaring kind declared → DeclaresFront old symbols count declared mid → slice_get symbols count ≡ Some name → ((known_name mid name ≡ None) × (known_label mid name ≡ None) → ⊥) → JudgesSound old (declaring kind symbols proof) false new
 judged_taken kind declared old mid new symbols proof count name d f g h before o s k sound =
     let n = sound_new kind declared before symbols proof d o sound in
     let free = k.names name ∙ declared_none before name (n.undeclared count name g) in
@@ -231,15 +205,15 @@ front_names before old new symbols count declared k f l name = f.names name ∙ 
 among_new : (before : List Item) (symbols : List (List ℕ)) (name : List ℕ) → AreNew before symbols → has symbols name ≡ true → is_declared before name ≡ false
 among_new before symbols name n h = let g = in_get name symbols (has_in symbols name h) in n.undeclared g.0 name g.1
 
-pub judged_new : (kind : StatementKind) (declared : Declared) (old new : Known) (symbols proof : List (List ℕ)) (count : ℕ) → IsDeclaring kind declared → DeclaresFront old symbols count declared new → length symbols ≤ count → (length symbols == 0) ≡ false → JudgesSound old (declaring (kind_of kind) symbols proof) true new
-judged_new kinds.Constants declared old new symbols proof count d f l e before o s k = record {
+pub judged_new : (kind : Kind) (declared : Declared) (old new : Known) (symbols proof : List (List ℕ)) (count : ℕ) → IsDeclaring kind declared → DeclaresFront old symbols count declared new → length symbols ≤ count → (length symbols == 0) ≡ false → JudgesSound old (declaring kind symbols proof) true new
+judged_new Constants declared old new symbols proof count d f l e before o s k = record {
   sound = new_constants before symbols proof o (front_new before old new symbols count declared k f l e);
   knows = record {
     names = λ name. front_names before old new symbols count declared k f l name ∙ ap (λ w. cond (has symbols name) (Some w) (declared_in before name)) d ∙ sym (names_constants before symbols proof name);
     labels = λ label. f.labels label ∙ k.labels label ∙ sym (labels_same Constants before symbols proof label refl);
   };
 }
-judged_new kinds.Variables declared old new symbols proof count d f l e before o s k =
+judged_new Variables declared old new symbols proof count d f l e before o s k =
     let n = front_new before old new symbols count declared k f l e in
     record {
       sound = new_variables before symbols proof o n;
@@ -248,6 +222,4 @@ judged_new kinds.Variables declared old new symbols proof count d f l e before o
         labels = λ label. f.labels label ∙ k.labels label ∙ sym (labels_same Variables before symbols proof label refl);
       };
     }
-judged_new kinds.Floating declared old new symbols proof count d f l e before o s k = absurd d
-judged_new kinds.Axiom declared old new symbols proof count d f l e before o s k = absurd d
-judged_new kinds.Theorem declared old new symbols proof count d f l e before o s k = absurd d
+judged_new _ declared old new symbols proof count d f l e before o s k = absurd d

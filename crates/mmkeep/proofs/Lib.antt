@@ -1,4 +1,3 @@
-pub mod AnswerLemmas
 pub mod BaseLemmas
 pub mod BuildingLemmas
 pub mod CiteLemmas
@@ -9,18 +8,15 @@ pub mod FrameLemmas
 pub mod JudgeLemmas
 pub mod JudgedLemmas
 pub mod KnownLemmas
-pub mod ProgressLemmas
-pub mod ProofLemmas
 pub mod ReportLemmas
 pub mod RunLemmas
 pub mod SoundLemmas
-pub mod SourceLemmas
 pub mod StackLemmas
-pub mod StatementLemmas
-pub mod StatementsLemmas
 pub mod StreamLemmas
-pub mod SymbolLemmas
 pub mod SymbolsLemmas
 pub mod TableLemmas
 pub mod TypingLemmas
+pub mod ReadingLemmas
+pub mod AnswerLemmas
+pub mod DatabaseLemmas
 pub mod VerifyLemmas

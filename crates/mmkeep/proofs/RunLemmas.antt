@@ -1,12 +1,9 @@
 -- A proof that is run label by label.
-use Rattle.std.proofs.Common.{◌≡◌, ◌≢◌, ◌↔◌, ℕ, ◌+◌, ◌-◌, ◌<◌, ◌≤◌, Some, List, [], ◌∷◌, ◌++◌, length, map, take, drop, get_or, refl, sym, ◌∙◌, ap, subst, arith, append_assoc, length-take, length-drop}
+use Rattle.std.proofs.Common.{◌≡◌, ◌≢◌, ◌↔◌, ℕ, ◌+◌, ◌<◌, ◌≤◌, Some, List, [], ◌∷◌, ◌++◌, length, map, take, get_or, refl, sym, ◌∙◌, ap, subst, arith, append_assoc}
 use Rattle.std.specs.Prelude.{slice_get}
-use Rattle.std.specs.List.{AllByRecursion, slice_range}
 use Rattle.std.specs.Option.{option_map}
-use Rattle.std.proofs.lemmas.List.{append-nil, take_more, take_all, length-map, get_or-take, get_or-drop, get_or-map}
-use Rattle.std.proofs.lemmas.List.Elements.{All-from_recursion}
+use Rattle.std.proofs.lemmas.List.{append-nil, take_more, take_all, length-map}
 use Rattle.std.proofs.lemmas.Option.{slice_get_read, slice_get-map, slice_get-get_or, slice_get_within, get_or_from_slice_get}
-use Rattle.mm_text.specs.Unit.{Token}
 use Rattle.mm_frame.specs.Item.{Item, passed, is_labelled}
 use Rattle.mm_frame.specs.Language.{Symbol, Resolved, Hypothesis, Assertion, Inactive, Unknown, Place}
 use Rattle.mm_frame.specs.Typing.{HasFrames}
@@ -24,15 +21,10 @@ use Rattle.mm_proof.proofs.Reaching.{Follows, follows_on, goes}
 use Rattle.mm_proof.proofs.Running.{same_reached}
 use Rattle.mmkeep.specs.declared.base.Base.{Base}
 use Rattle.mmkeep.specs.declared.entry.Entry.{Entry}
-use Rattle.mmkeep.specs.declared.source.Source.{Source}
-use Rattle.mmkeep.specs.declared.statement.Statement.{Statement}
 use Rattle.mmkeep.specs.Base.{IsBase}
 use Rattle.mmkeep.specs.Entry.{item_number}
-use Rattle.mm_frame.specs.Statement.{names}
-use Rattle.mmkeep.specs.Meaning.{symbols_of, items_in}
+use Rattle.mmkeep.specs.Meaning.{symbols_of}
 use Rattle.mmkeep.specs.Proof.{IsNoStep, IsTheorem, IsProved, steps_of}
-use Rattle.mmkeep.specs.Progress.{IsInOrder, item_at}
-use Rattle.mmkeep.specs.Source.{tokens, no_token, token_at}
 
 -- one more step
 next_steps : (steps : List Step) (k : ℕ) (label : List ℕ) → slice_get steps k ≡ Some (Named label) → take (k + 1) steps ≡ take k steps ++ Named label ∷ []
@@ -78,47 +70,20 @@ derives_reaches place labels statement =
     some_same : {a b : Expanded} → Some a ≡ Some b → a ≡ b
     some_same e = cc
 
--- the labels of a statement are its words
-pub proof_at : (words : List Token) (items : List Item) (statements : List Statement) (n w k : ℕ) (s : Statement) → items ≡ map (item_at (names words)) statements → slice_get statements n ≡ Some s → w ≡ s.proof + k → w < s.end → s.end < length words → slice_get (map Named (get_or items n passed).proof) k ≡ Some (Named (token_at words w).bytes)
-proof_at words items statements n w k s is e low high within =
-    let item : get_or items n passed ≡ item_at (names words) s = get_or_from_slice_get items n (item_at (names words) s) passed (ap (λ i. slice_get i n) is ∙ slice_get-map (item_at (names words)) statements n ∙ ap (option_map (item_at (names words))) e) in
-    let proof = slice_range (names words) s.proof s.end in
-    let long : length (names words) ≡ length words = length-map words (λ (t : Token). t.bytes) in
-    let word : get_or proof k [] ≡ (token_at words w).bytes =
-    get_or-take (s.end - s.proof) (drop s.proof (names words)) k [] (omega arith)
-    ∙ get_or-drop s.proof (names words) k []
-    ∙ ap (λ i. get_or (names words) i []) (sym low)
-    ∙ get_or-map (λ (t : Token). t.bytes) words w no_token [] (omega arith) in
-    slice_get-map Named (get_or items n passed).proof k
-    ∙ ap (λ (i : Item). option_map Named (slice_get i.proof k)) item
-    ∙ ap (option_map Named) (slice_get-get_or proof k [] (omega (arith, length-take (s.end - s.proof) (drop s.proof (names words)), length-drop s.proof (names words))) ∙ ap Some word)
-
-pub proof_length : (words : List Token) (items : List Item) (statements : List Statement) (n : ℕ) (s : Statement) → items ≡ map (item_at (names words)) statements → slice_get statements n ≡ Some s → length (map Named (get_or items n passed).proof) ≤ s.end - s.proof
-proof_length words items statements n s is e =
-    let item : get_or items n passed ≡ item_at (names words) s = get_or_from_slice_get items n (item_at (names words) s) passed (ap (λ i. slice_get i n) is ∙ slice_get-map (item_at (names words)) statements n ∙ ap (option_map (item_at (names words))) e) in
-    let proof = slice_range (names words) s.proof s.end in
-    let l : length (get_or items n passed).proof ≡ length proof = ap (λ (i : Item). length i.proof) item in
-    omega (arith, length-map (get_or items n passed).proof Named, length-take (s.end - s.proof) (drop s.proof (names words)))
-
--- a statement by its number
-pub statement_at : (source : Source) (statements : List Statement) (n : ℕ) (d : Statement) → AllByRecursion (IsInOrder (tokens source)) statements → IsTheorem (items_in source statements) n → d ≡ get_or statements n d → (n < length statements) × (slice_get statements n ≡ Some d) × IsInOrder (tokens source) d
-statement_at source statements n d order t is =
-    let within = slice_get_within (items_in source statements) n t.0 t.1 in
-    let l : n < length statements = omega (arith, length-map statements (item_at (names (tokens source)))) in
-    (l, slice_get_read statements (length statements) n d refl l is, subst (IsInOrder (tokens source)) (sym is) (All-from_recursion (IsInOrder (tokens source)) statements order n d l))
-
 -- the step that a word of a proof is
-pub step_at : (source : Source) (statements : List Statement) (n : ℕ) (d : Statement) (word : ℕ) (label : List ℕ) → AllByRecursion (IsInOrder (tokens source)) statements → IsTheorem (items_in source statements) n → d ≡ get_or statements n d → d.proof ≤ word → word < d.end → label ≡ (token_at (tokens source) word).bytes → slice_get (steps_of (items_in source statements) n) (word - d.proof) ≡ Some (Named label)
-step_at source statements n d word label order t is low high e =
-    let s = statement_at source statements n d order t is in
-    proof_at (tokens source) (items_in source statements) statements n word (word - d.proof) d refl s.1 (omega arith) high s.2.end ∙ ap (λ w. Some (Named w)) (sym e)
+pub step_at : (items : List Item) (n k : ℕ) (item : Item) (label : List ℕ) → slice_get items n ≡ Some item → k < length item.proof → label ≡ get_or item.proof k [] → slice_get (steps_of items n) k ≡ Some (Named label)
+step_at items n k item label there within is =
+    let same : get_or items n passed ≡ item = get_or_from_slice_get items n item passed there in
+    slice_get-map Named (get_or items n passed).proof k
+    ∙ ap (λ (i : Item). option_map Named (slice_get i.proof k)) same
+    ∙ ap (option_map Named) (slice_get-get_or item.proof k [] within ∙ ap Some (sym is))
 
 -- all steps, once the words are passed
-pub all_steps : (source : Source) (statements : List Statement) (n : ℕ) (d : Statement) (word : ℕ) → AllByRecursion (IsInOrder (tokens source)) statements → IsTheorem (items_in source statements) n → d ≡ get_or statements n d → d.end ≤ word → take (word - d.proof) (steps_of (items_in source statements) n) ≡ steps_of (items_in source statements) n
-all_steps source statements n d word order t is high =
-    let s = statement_at source statements n d order t is in
-    let l = proof_length (tokens source) (items_in source statements) statements n d refl s.1 in
-    take_all (word - d.proof) (steps_of (items_in source statements) n) (omega arith)
+pub all_steps : (items : List Item) (n k : ℕ) (item : Item) → slice_get items n ≡ Some item → length item.proof ≤ k → take k (steps_of items n) ≡ steps_of items n
+all_steps items n k item there high =
+    let same : get_or items n passed ≡ item = get_or_from_slice_get items n item passed there in
+    let long : length (steps_of items n) ≡ length item.proof = length-map (get_or items n passed).proof Named ∙ ap (λ (i : Item). length i.proof) same in
+    take_all k (steps_of items n) (omega arith)
 
 -- a theorem's statement, as it is kept
 pub statement_kept : (items : List Item) (base : Base) (n : ℕ) (d : Entry) → IsBase items base → IsTheorem items n → d ≡ get_or base.entries.items n d → symbols_of d.expression.items ≡ statement_of items n

@@ -1,23 +1,15 @@
 -- When the statements so far are sound, and what is kept of them.
 use Rattle.std.specs.Prelude.{◌≡◌, ℕ, ◌∷◌, [], ◌++◌, Option, Some, None, Bool, List, length, take, slice_get, MatchOption, MatchBool}
-use Rattle.mm_frame.specs.Item.{Item}
+use Rattle.mm_frame.specs.Item.{Kind, Constants, Variables, Item}
 use Rattle.mm_frame.specs.Outermost.{IsOutermost}
 use Rattle.mm_frame.specs.Sound.{IsSound, AreSound}
 use Rattle.mmkeep.specs.declared.base.Base.{Base}
 use Rattle.mmkeep.specs.declared.entry.Entry.{Entry}
-use Rattle.mmkeep.specs.declared.fault.FirstError.{FirstError}
-use Rattle.mmkeep.specs.declared.fault.FirstError.TheVariants.{Text, Later, Memory, Write}
+use Rattle.mmkeep.specs.declared.building.Built.{Built}
+use Rattle.mmkeep.specs.declared.building.Built.TheVariants.{Sound, Unsound}
 use Rattle.mmkeep.specs.declared.known.Known.{Known}
 use Rattle.mmkeep.specs.declared.known.Declared.{Declared}
 use Rattle.mmkeep.specs.declared.known.Declared.TheVariants.{Constant, Variable}
-use Rattle.mmkeep.specs.declared.statement.StatementKind.{StatementKind}
-use Rattle.mmkeep.specs.declared.statement.StatementKind.TheVariants.{Constants, Variables}
-use Rattle.mmkeep.specs.declared.source.Source.{Source}
-use Rattle.mmkeep.specs.declared.statement.Statement.{Statement}
-use Rattle.mmkeep.specs.Source.{tokens, token_at}
-use Rattle.mm_frame.specs.Statement.{names}
-use Rattle.mmkeep.specs.Progress.{item_at}
-use Rattle.mmkeep.specs.Meaning.{items_in}
 use Rattle.mmkeep.specs.Known.{Knows}
 use Rattle.mmkeep.specs.Entry.{IsEntry}
 
@@ -35,33 +27,30 @@ abbrev pub JudgesEntry : Known → Item → ℕ → Option Entry → Known → T
 JudgesEntry old item number told new = (before : List Item) → IsOutermost before → AreSound before → length before ≡ number → Knows before old → MatchOption told (¬ IsSound before item) (λ entry. Declares before item new × IsEntry before item entry)
 
 -- a statement of this kind declares names as this
-abbrev pub IsDeclaring : StatementKind → Declared → Type 0
+abbrev pub IsDeclaring : Kind → Declared → Type 0
 IsDeclaring Constants declared = declared ≡ Constant
 IsDeclaring Variables declared = declared ≡ Variable None
 IsDeclaring _ declared = ⊥
 
 -- what is kept of sound statements
 pub record IsBase (items : List Item) (base : Base) : Type 0 where
+  pub outermost : IsOutermost items
   pub sound : AreSound items
   pub known : Knows items base.known
   pub count : length base.entries.items ≡ length items
   pub entry : (n : ℕ) (item : Item) (entry : Entry) → slice_get items n ≡ Some item → slice_get base.entries.items n ≡ Some entry → IsEntry (take n items) item entry
 
--- the first statement that is not sound begins at a byte
-pub record HasUnsound (source : Source) (statements : List Statement) (at : ℕ) : Type 0 where
-  pub front : List Statement
-  pub statement : Statement
-  pub back : List Statement
-  pub joined : statements ≡ front ++ statement ∷ back
-  pub sound : AreSound (items_in source front)
-  pub unsound : ¬ IsSound (items_in source front) (item_at (names (tokens source)) statement)
-  pub place : at ≡ (token_at (tokens source) statement.first).start
-
-abbrev pub StopsBuilding : Source → List Statement → FirstError → Type 0
-StopsBuilding source statements (Later at) = HasUnsound source statements at
-StopsBuilding source statements Memory = Unit {0}
-StopsBuilding source statements (Text fault) = ⊥
-StopsBuilding source statements Write = ⊥
+-- the statement with this number is the first that is not sound
+pub record IsFirstUnsound (items : List Item) (n : ℕ) : Type 0 where
+  pub item : Item
+  pub there : slice_get items n ≡ Some item
+  pub sound : AreSound (take n items)
+  pub unsound : ¬ IsSound (take n items) item
 
 abbrev pub items_of : Base → List Item
-items_of base = items_in base.source base.statements.items
+items_of base = base.statements.items
+
+-- what comes of statements: all are sound, or one is the first that is not
+abbrev pub IsBuilt : List Item → Built → Type 0
+IsBuilt items (Sound base) = (items_of base ≡ items) × IsBase items base
+IsBuilt items (Unsound n) = IsFirstUnsound items n

@@ -1,25 +1,16 @@
 -- What the symbols behind a label have to be by what is known, and what is kept of them.
-use Rattle.std.specs.Prelude.{◌≡◌, ℕ, ◌∷◌, [], Bool, true, false, Option, Some, None, List, length, map, slice_get, slice_range, MatchOption}
+use Rattle.std.specs.Prelude.{◌≡◌, ℕ, ◌∷◌, [], Bool, true, false, Option, Some, None, List, length, map, slice_get, MatchOption}
+use Rattle.mm_frame.specs.Item.{Kind, Floating}
 use Rattle.mm_frame.specs.Language.{Symbol}
 use Rattle.mmkeep.specs.declared.entry.Entry.{Entry}
 use Rattle.mmkeep.specs.declared.judge.Expression.{Expression}
 use Rattle.mmkeep.specs.declared.known.Known.{Known}
 use Rattle.mmkeep.specs.declared.known.Declared.{Declared}
 use Rattle.mmkeep.specs.declared.known.Declared.TheVariants.{Constant, Variable}
-use Rattle.mmkeep.specs.declared.source.Source.{Source}
-use Rattle.mmkeep.specs.declared.statement.Statement.{Statement}
-use Rattle.mmkeep.specs.declared.statement.StatementKind.{StatementKind}
-use Rattle.mmkeep.specs.declared.statement.StatementKind.TheVariants.{Floating}
 use Rattle.mmkeep.specs.declared.symbol.Symbol as code
 use Rattle.mmkeep.specs.Known.{known_name, DeclaresName}
 use Rattle.mmkeep.specs.Frame.{AreFloats, ArePlaces}
 use Rattle.mmkeep.specs.Meaning.{symbols_of}
-use Rattle.mmkeep.specs.Source.{tokens}
-use Rattle.mm_frame.specs.Statement.{names}
-
--- the symbols of a statement, by their names
-abbrev pub symbols_at : Source → Statement → List (List ℕ)
-symbols_at source statement = slice_range (names (tokens source)) statement.symbols statement.close
 
 -- a name may stand in an expression: a constant, or a variable with a `$f`
 abbrev pub IsActive : Option Declared → Type 0
@@ -97,6 +88,6 @@ abbrev pub JudgesTyping : Known → List (List ℕ) → ℕ → Option Entry →
 JudgesTyping old names number told new = MatchOption told (¬ IsTyping old names) (λ entry. IsTypingEntry old names number entry new)
 
 -- what is kept of the symbols behind a label, if they are sound there
-abbrev pub JudgesBody : StatementKind → Known → List (List ℕ) → ℕ → Option Entry → Known → Type 0
+abbrev pub JudgesBody : Kind → Known → List (List ℕ) → ℕ → Option Entry → Known → Type 0
 JudgesBody Floating old names number told new = JudgesTyping old names number told new
 JudgesBody _ old names number told new = JudgesAssertion old names told × (new ≡ old)

@@ -1,9 +1,4 @@
-pub mod Inside
-pub mod Plain
-pub mod Source
-pub mod Unread
-pub mod Statements
-pub mod Progress
+pub mod Later
 pub mod Meaning
 pub mod Known
 pub mod Entry

@@ -1,49 +1,40 @@
 //! The sound statements of a file, one after another.
 
-ghost use Rattle.std.specs.Prelude.{◌≡◌, IfOk, IfErr};
-ghost use Rattle.std.specs.List.{AllByRecursion};
-ghost use Rattle.mmkeep.specs.Source.{tokens};
-ghost use Rattle.mmkeep.specs.Progress.{IsInOrder};
-ghost use Rattle.mmkeep.specs.Meaning.{items_in};
-ghost use Rattle.mmkeep.specs.Base.{IsBase, StopsBuilding};
+ghost use Rattle.std.specs.Prelude.{IfOk};
+ghost use Rattle.mmkeep.specs.Later.{AreRead};
+ghost use Rattle.mmkeep.specs.Base.{IsBuilt};
 
 use crate::base::Base;
-use crate::fault::FirstError;
 use crate::judge::entry_of;
 use crate::known::Known;
-use crate::source::Source;
-use crate::statement::Statement;
-use std::alloc::Global;
+use mm_frame::Statement;
+use std::alloc::{AllocError, Global};
 
-/// The sound statements of a file, or its first unsound one.
-pub fn build<'a>(
-    alloc: Global,
-    source: &Source<'a>,
-    statements: Vec<Statement>,
-) -> Result<Base<'a>, FirstError>
-    requires { AllByRecursion (IsInOrder (tokens source.now)) statements.items }
-    ensures source { IfOk result (λ base. base.source ≡ source.now) }
-    ensures statements { IfOk result (λ base. base.statements.items ≡ statements.items) }
-    ensures ok { IfOk result (IsBase (items_in source.now statements.items)) }
-    ensures err { IfErr result (StopsBuilding source.now statements.items) }
+/// What comes of statements.
+#[derive(Drop)]
+pub enum Built<'a> {
+    /// All are sound.
+    Sound(Base<'a>),
+    /// The statement with this number is the first that is not sound.
+    Unsound(usize),
+}
+
+/// The sound statements of a file, or the number of its first unsound one.
+pub fn build<'a>(alloc: Global, statements: Vec<Statement<'a>>) -> Result<Built<'a>, AllocError>
+    requires { AreRead statements.items }
+    ensures { IfOk result (IsBuilt statements.entry.items) }
 {
     let mut known = Known::new(alloc);
     let mut entries = Vec::new(alloc);
     for number in 0..statements.len() {
-        let statement = statements[number];
-        match entry_of(alloc, source, &mut known, &statement, number)? {
+        match entry_of(alloc, &mut known, &statements[number], number)? {
             Some(entry) => entries.push(entry)?,
-            None => {
-                return Err(FirstError::Later {
-                    at: source.word(statement.first).start,
-                });
-            }
+            None => return Ok(Built::Unsound(number)),
         }
     }
-    Ok(Base {
-        source: *source,
+    Ok(Built::Sound(Base {
         statements,
         known,
         entries,
-    })
+    }))
 }

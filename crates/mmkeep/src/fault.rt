@@ -3,7 +3,7 @@
 ghost use Rattle.std.specs.Prelude.{◌≡◌};
 ghost use Rattle.mmkeep.specs.declared.fault.FirstError.TheVariants.{Memory};
 
-use mm_text::{TextError, TextFault};
+use mm_frame::{StoreError, TextFault};
 use std::alloc::{AllocError, AllocFailed};
 use thiserror::Error;
 
@@ -13,6 +13,9 @@ pub enum FirstError {
     /// The text has this fault.
     #[error("{0}")]
     Text(TextFault),
+    /// With the line feed at its end, the text would have more than 4,294,967,295 bytes.
+    #[error("more than 4,294,967,295 bytes")]
+    TooMany,
     /// What begins at this byte is not read yet.
     #[error("byte {at} is not read yet")]
     Later { at: usize },
@@ -40,15 +43,17 @@ impl<T: Drop> From<AllocFailed<T>> for FirstError {
     }
 }
 
-impl From<TextError> for FirstError {
+impl From<StoreError> for FirstError {
     ghost use Rattle.mmkeep.specs.Errors.{error_of};
 
     ghost from_gives = { λ error e. e ≡ error_of error };
 
-    fn from(error: TextError) -> Self {
+    fn from(error: StoreError) -> Self {
         match error {
-            TextError::Fault(fault) => FirstError::Text(fault),
-            TextError::Memory => FirstError::Memory,
+            StoreError::Text(fault) => FirstError::Text(fault),
+            StoreError::TooMany => FirstError::TooMany,
+            // The one file is the top file: it is there.
+            StoreError::NoTop | StoreError::Memory => FirstError::Memory,
         }
     }
 }

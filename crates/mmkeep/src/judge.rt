@@ -3,20 +3,17 @@
 ghost use Rattle.std.specs.Prelude.{◌≡◌, true, IfOk, MatchOption};
 ghost use Rattle.mm_frame.specs.Item.{is_labelled};
 ghost use Rattle.mmkeep.specs.Known.{known_name};
-ghost use Rattle.mmkeep.specs.Source.{tokens};
-ghost use Rattle.mm_frame.specs.Statement.{names};
-ghost use Rattle.mmkeep.specs.Progress.{kind_of, item_at, IsInOrder};
+ghost use Rattle.mm_frame.specs.Outermost.{is_outermost};
 ghost use Rattle.mmkeep.specs.Base.{JudgesEntry};
 ghost use Rattle.mmkeep.specs.Meaning.{symbols_of};
-ghost use Rattle.mmkeep.specs.Judging.{symbols_at, typing_of, IsActive, IsSymbol, JudgesExpression, JudgesTyping, JudgesAssertion, JudgesBody};
+ghost use Rattle.mmkeep.specs.Judging.{typing_of, IsActive, IsSymbol, JudgesExpression, JudgesTyping, JudgesAssertion, JudgesBody};
 
 use crate::declare::declare_all;
 use crate::entry::Entry;
 use crate::frame::{hypotheses, slots};
 use crate::known::{Declared, Known};
-use crate::source::Source;
-use crate::statement::{Statement, StatementKind};
 use crate::symbol::Symbol;
+use mm_frame::{ItemKind, Statement};
 use std::alloc::{AllocError, Global};
 
 /// The symbols of an expression, and for each the number of its `$f`.
@@ -49,19 +46,17 @@ fn typing<'a>(
 /// The entry of a `$f`, if its symbols are sound; its variable has this number from then on.
 fn float<'a>(
     alloc: Global,
-    source: &Source<'a>,
     known: &mut Known,
-    statement: &Statement,
+    statement: &Statement<'a>,
     number: usize,
 ) -> Result<Option<Entry<'a>>, AllocError>
-    requires { IsInOrder (tokens source.now) statement.now }
-    ensures { IfOk result (λ entry. JudgesTyping known.old (symbols_at source.now statement.now) number entry known.new) }
+    ensures { IfOk result (λ entry. JudgesTyping known.old statement.now.symbols number entry known.new) }
 {
-    if statement.close - statement.symbols != 2 {
+    if statement.symbol_count() != 2 {
         return Ok(None);
     }
-    let typecode = source.bytes(statement.symbols);
-    let variable = source.bytes(statement.symbols + 1);
+    let typecode = statement.symbol(0);
+    let variable = statement.symbol(1);
     if !known.is_constant(typecode) || !known.is_untyped(variable) {
         return Ok(None);
     }
@@ -96,23 +91,18 @@ fn active<'a>(known: &Known, name: &'a [u8]) -> Option<(Symbol<'a>, usize)>
 /// The symbols of an assertion's expression, with the numbers of their `$f` (0 for a constant), if it is sound.
 fn expression_of<'a>(
     alloc: Global,
-    source: &Source<'a>,
     known: &Known,
-    statement: &Statement,
+    statement: &Statement<'a>,
 ) -> Result<Option<Expression<'a>>, AllocError>
-    requires { IsInOrder (tokens source.now) statement.now }
-    ensures { IfOk result (JudgesExpression known.now (symbols_at source.now statement.now)) }
+    ensures { IfOk result (JudgesExpression known.now statement.now.symbols) }
 {
-    if statement.symbols == statement.close {
-        return Ok(None);
-    }
-    if !known.is_constant(source.bytes(statement.symbols)) {
+    if statement.symbol_count() == 0 || !known.is_constant(statement.symbol(0)) {
         return Ok(None);
     }
     let mut symbols = Vec::new(alloc);
     let mut floats = Vec::new(alloc);
-    for word in statement.symbols..statement.close {
-        let Some((symbol, float)) = active(known, source.bytes(word)) else {
+    for n in 0..statement.symbol_count() {
+        let Some((symbol, float)) = active(known, statement.symbol(n)) else {
             return Ok(None);
         };
         symbols.push(symbol)?;
@@ -124,14 +114,12 @@ fn expression_of<'a>(
 /// The entry of an assertion, if its symbols are sound.
 fn assertion<'a>(
     alloc: Global,
-    source: &Source<'a>,
     known: &Known,
-    statement: &Statement,
+    statement: &Statement<'a>,
 ) -> Result<Option<Entry<'a>>, AllocError>
-    requires { IsInOrder (tokens source.now) statement.now }
-    ensures { IfOk result (JudgesAssertion known.now (symbols_at source.now statement.now)) }
+    ensures { IfOk result (JudgesAssertion known.now statement.now.symbols) }
 {
-    let Some(found) = expression_of(alloc, source, known, statement)? else {
+    let Some(found) = expression_of(alloc, known, statement)? else {
         return Ok(None);
     };
     let hypotheses = hypotheses(alloc, &found.symbols, &found.floats)?;
@@ -147,37 +135,36 @@ fn assertion<'a>(
 /// The entry of a statement that has a label, if its symbols are sound.
 fn body<'a>(
     alloc: Global,
-    source: &Source<'a>,
     known: &mut Known,
-    statement: &Statement,
+    statement: &Statement<'a>,
     number: usize,
 ) -> Result<Option<Entry<'a>>, AllocError>
-    requires { IsInOrder (tokens source.now) statement.now }
-    ensures { IfOk result (λ entry. JudgesBody statement.now.kind known.old (symbols_at source.now statement.now) number entry known.new) }
+    ensures { IfOk result (λ entry. JudgesBody statement.now.kind known.old statement.now.symbols number entry known.new) }
 {
-    match statement.kind {
-        StatementKind::Floating => float(alloc, source, known, statement, number),
-        _ => assertion(alloc, source, known, statement),
+    match statement.kind() {
+        ItemKind::Floating => float(alloc, known, statement, number),
+        _ => assertion(alloc, known, statement),
     }
 }
 
 /// The entry of a statement that has a label, if it is sound.
 fn labelled<'a>(
     alloc: Global,
-    source: &Source<'a>,
     known: &mut Known,
-    statement: &Statement,
+    statement: &Statement<'a>,
     number: usize,
 ) -> Result<Option<Entry<'a>>, AllocError>
-    requires order { IsInOrder (tokens source.now) statement.now }
-    requires kind { is_labelled (kind_of statement.now.kind) ≡ true }
-    ensures { IfOk result (λ entry. JudgesEntry known.old (item_at (names (tokens source.now)) statement.now) number entry known.new) }
+    requires labelled { is_labelled statement.now.kind ≡ true }
+    requires outermost { is_outermost statement.now.kind ≡ true }
+    ensures { IfOk result (λ entry. JudgesEntry known.old statement.now number entry known.new) }
 {
-    let label = source.bytes(statement.first);
+    let Some(label) = statement.label() else {
+        unreachable!()
+    };
     if !known.is_free(label) {
         return Ok(None);
     }
-    let entry = body(alloc, source, known, statement, number)?;
+    let entry = body(alloc, known, statement, number)?;
     known.carry(alloc, label, number)?;
     Ok(entry)
 }
@@ -185,20 +172,19 @@ fn labelled<'a>(
 /// The entry of a statement, if it is sound.
 pub fn entry_of<'a>(
     alloc: Global,
-    source: &Source<'a>,
     known: &mut Known,
-    statement: &Statement,
+    statement: &Statement<'a>,
     number: usize,
 ) -> Result<Option<Entry<'a>>, AllocError>
-    requires { IsInOrder (tokens source.now) statement.now }
-    ensures { IfOk result (λ entry. JudgesEntry known.old (item_at (names (tokens source.now)) statement.now) number entry known.new) }
+    requires { is_outermost statement.now.kind ≡ true }
+    ensures { IfOk result (λ entry. JudgesEntry known.old statement.now number entry known.new) }
 {
-    let declared = match statement.kind {
-        StatementKind::Constants => Declared::Constant,
-        StatementKind::Variables => Declared::Variable(None),
-        _ => return labelled(alloc, source, known, statement, number),
+    let declared = match statement.kind() {
+        ItemKind::Constants => Declared::Constant,
+        ItemKind::Variables => Declared::Variable(None),
+        _ => return labelled(alloc, known, statement, number),
     };
-    if declare_all(alloc, source, known, statement, declared)? {
+    if declare_all(alloc, known, statement, declared)? {
         Ok(Some(Entry::of(alloc, Vec::new(alloc))))
     } else {
         Ok(None)

@@ -9,7 +9,11 @@ ghost use Rattle.mmkeep.specs.Verified.{IsReport, IsTold};
 /// So `verify_one` tells an error of the text only where there is one, and reports each other text, unless memory
 /// runs out or a write fails.
 pub fn one_answer()
-    ensures report { (text : List ℕ) (clean other : Bool) (a b : List ℕ) → IsReport text clean a → IsReport text other b → (clean ≡ other) × (a ≡ b) }
-    ensures error { (text : List ℕ) (a b : FirstError) → IsTold text a → IsTold text b → a ≡ b }
-    ensures not_both { (text : List ℕ) (clean : Bool) (bytes : List ℕ) (error : FirstError) → IsReport text clean bytes → ¬ IsTold text error }
-{}
+    ensures report { (name text : List ℕ) (clean other : Bool) (a b : List ℕ) → IsReport name text clean a → IsReport name text other b → (clean ≡ other) × (a ≡ b) }
+    ensures error { (name text : List ℕ) (a b : FirstError) → IsTold name text a → IsTold name text b → a ≡ b }
+    ensures not_both { (name text : List ℕ) (clean : Bool) (bytes : List ℕ) (error : FirstError) → IsReport name text clean bytes → ¬ IsTold name text error }
+{
+    mm_text::one_meaning();
+    mm_text::one_cut();
+    mm_store::keys_do_not_matter();
+}

@@ -1,11 +1,8 @@
 //! The machine that runs a proof.
 
 ghost use Rattle.std.specs.Prelude.{◌≡◌, ◌↔◌, ◌<◌, ◌++◌, All, IsTrue, IfOk, MatchOption, OnOk, length, map, slice_get};
-ghost use Rattle.std.specs.List.{AllByRecursion};
 ghost use Rattle.mm_frame.specs.Framing.{place_of};
 ghost use Rattle.mm_frame.specs.Language.{Unknown};
-ghost use Rattle.mmkeep.specs.Source.{tokens};
-ghost use Rattle.mmkeep.specs.Progress.{IsInOrder};
 ghost use Rattle.mmkeep.specs.Base.{IsBase, items_of};
 ghost use Rattle.mmkeep.specs.Meaning.{symbol_of, symbols_of};
 ghost use Rattle.mmkeep.specs.Stack.{stack_of, mandatory_of, frame_of, IsCitable, IsMeaning, HaveTypecodes, HasSlot, HasSlots, standing_for, GivesBySlots, CitesOrFails};
@@ -160,14 +157,13 @@ fn run<'a>(
     number: usize,
 ) -> Result<Option<Vec<Vec<Symbol<'a>>>>, AllocError>
     requires base { IsBase (items_of base.now) base.now }
-    requires order { AllByRecursion (IsInOrder (tokens base.now.source)) base.now.statements.items }
     requires theorem { IsTheorem (items_of base.now) number }
     ensures { IfOk result (ReachesOrFails (items_of base.now) number) }
 {
-    let statement = base.statements[number];
+    let statement = &base.statements[number];
     let mut stack = Vec::new(alloc);
-    for word in statement.proof..statement.end {
-        if !step(alloc, base, number, base.source.bytes(word), &mut stack)? {
+    for word in 0..statement.proof_count() {
+        if !step(alloc, base, number, statement.proof_word(word), &mut stack)? {
             return Ok(None);
         }
     }
@@ -177,7 +173,6 @@ fn run<'a>(
 /// Whether the labels of a theorem's proof derive its statement.
 pub fn is_proved<'a>(alloc: Global, base: &Base<'a>, number: usize) -> Result<bool, AllocError>
     requires base { IsBase (items_of base.now) base.now }
-    requires order { AllByRecursion (IsInOrder (tokens base.now.source)) base.now.statements.items }
     requires theorem { IsTheorem (items_of base.now) number }
     ensures { IfOk result (λ proved. IsTrue proved ↔ IsProved (items_of base.now) number) }
 {

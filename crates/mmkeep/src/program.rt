@@ -8,7 +8,7 @@ use crate::fault::FirstError;
 use crate::outcome::Outcome;
 use crate::stream::Writing;
 use crate::verify::verify_one;
-use mm_text::{TextNumber, place};
+use mm_frame::{TextNumber, place};
 use std::alloc::{AllocError, Global};
 use std::io::{BufWriter, ErrorKind, Write};
 use std::rt::{Env, Files};
@@ -87,6 +87,10 @@ fn told(rt: &impl Eprint, file: &str, text: &[u8], error: FirstError) -> Outcome
             let (line, column) = (at.line, at.column);
             let number = fault.number;
             let _ = eprintln!(rt; "mmkeep: {file}:{line}:{column} {number:?}");
+            Outcome::Input
+        }
+        FirstError::TooMany => {
+            let _ = eprintln!(rt; "mmkeep: S05");
             Outcome::Input
         }
         FirstError::Later { at } => {

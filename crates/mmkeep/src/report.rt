@@ -1,10 +1,7 @@
 //! The report of a file.
 
 ghost use Rattle.std.specs.Prelude.{◌≡◌, ◌+◌, ◌<◌, ◌≤◌, ◌++◌, ◌^◌, ℕ, true, length, count_by, codes, decimal, OnOk, OnErr};
-ghost use Rattle.std.specs.List.{AllByRecursion};
 ghost use Rattle.std.specs.Io.KnownBytes.{Appends};
-ghost use Rattle.mmkeep.specs.Source.{tokens};
-ghost use Rattle.mmkeep.specs.Progress.{IsInOrder};
 ghost use Rattle.mmkeep.specs.Base.{items_of};
 ghost use Rattle.mmkeep.specs.Entry.{item_number};
 ghost use Rattle.mmkeep.specs.Stream.{written, has_failed, AppendsPart};
@@ -112,13 +109,12 @@ fn write_line<W: Write>(
 ) -> Result<(), WriteFailed>
     requires within { number < length (items_of base.now) }
     requires finding { IsFinding (items_of base.now) number (item_number (items_of base.now) number).kind finding }
-    requires order { AllByRecursion (IsInOrder (tokens base.now.source)) base.now.statements.items }
     ensures ok { OnOk result (Appends (written W.contents to.old) (written W.contents to.new) (line (item_number (items_of base.now) number) finding)) }
     ensures err { OnErr result (has_failed to.new ≡ true) }
     ensures prefix { OnErr result (AppendsPart (written W.contents to.old) (written W.contents to.new) (line (item_number (items_of base.now) number) finding)) }
 {
     match finding {
-        Finding::Wrong => write_wrong(base.source.bytes(base.statements[number].first), to),
+        Finding::Wrong => write_wrong(base.statements[number].label().unwrap_or(&[]), to),
         _ => Ok(()),
     }
 }
@@ -130,7 +126,6 @@ fn write_lines<W: Write>(
     to: &mut Writing<W>,
 ) -> Result<(), WriteFailed>
     requires findings { AreFindings (items_of base.now) findings.now }
-    requires order { AllByRecursion (IsInOrder (tokens base.now.source)) base.now.statements.items }
     ensures ok { OnOk result (Appends (written W.contents to.old) (written W.contents to.new) (lines (items_of base.now) findings.now)) }
     ensures err { OnErr result (has_failed to.new ≡ true) }
     ensures prefix { OnErr result (AppendsPart (written W.contents to.old) (written W.contents to.new) (lines (items_of base.now) findings.now)) }
@@ -150,7 +145,6 @@ pub fn write_report<W: Write>(
     to: &mut Writing<W>,
 ) -> Result<(), WriteFailed>
     requires findings { AreFindings (items_of base.now) findings.now }
-    requires order { AllByRecursion (IsInOrder (tokens base.now.source)) base.now.statements.items }
     ensures ok { OnOk result (Appends (written W.contents to.old) (written W.contents to.new) (report (items_of base.now) findings.now)) }
     ensures err { OnErr result (has_failed to.new ≡ true) }
     ensures prefix { OnErr result (AppendsPart (written W.contents to.old) (written W.contents to.new) (report (items_of base.now) findings.now)) }

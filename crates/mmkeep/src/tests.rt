@@ -112,12 +112,13 @@ fn reports_in_order(rt: HostRuntime) -> Result<(), Fail> {
 fn tells_what_is_not_read(rt: HostRuntime) -> Result<(), Fail> {
     let rows: [(&[u8], u16); 30] = [
         (b"${ $}\n", 1),
-        (b"$} $a\n", 1),
+        (b"${ ${ $} $}\n", 1),
+        (b"$c k $. ${ $c wff $. $}\n", 9),
         (b"e $e wff p $.\n", 3),
         (b"$d p q $.\n", 1),
         (b"$[ b.mm $]\n", 1),
-        (b"$c k $] $.\n", 6),
-        (b"$c k ${ $.\n", 6),
+        // The file itself is no inclusion.
+        (b"$[ a.mm $] $[ b.mm $]\n", 12),
         (b"t $p wff p $= ( wi ) AB $.\n", 15),
         (b"t $p wff p $= wp ? $.\n", 18),
         (b"t $p wff p $= ? $.\n", 15),
@@ -158,7 +159,7 @@ fn tells_what_is_not_read(rt: HostRuntime) -> Result<(), Fail> {
 
 #[test]
 fn tells_faults(rt: HostRuntime) -> Result<(), Fail> {
-    let rows: [(&[u8], TextNumber, usize); 17] = [
+    let rows: [(&[u8], TextNumber, usize); 24] = [
         (b"$( a\n", TextNumber::T02, 0),
         (b"$c a$b $.\n", TextNumber::T05, 3),
         (b"$c a $c $.\n", TextNumber::T06, 5),
@@ -173,10 +174,18 @@ fn tells_faults(rt: HostRuntime) -> Result<(), Fail> {
         (b"x $= wff $.\n", TextNumber::T06, 2),
         (b"$. x\n", TextNumber::T06, 0),
         (b"t $p a $= b $= $.\n", TextNumber::T06, 12),
-        // A fault of words goes before all, and a fault of units before what is not read behind it.
-        (b"${ $. a$b\n", TextNumber::T05, 6),
+        // The first word at fault decides.
+        (b"${ $. a$b\n", TextNumber::T06, 3),
         (b"$c $c $. ${\n", TextNumber::T06, 3),
         (b"$c k $. $c l\n", TextNumber::T07, 8),
+        (b"$c a$b $. $}\n", TextNumber::T05, 3),
+        (b"${ $c a $.\n", TextNumber::T08, 0),
+        (b"$}\n", TextNumber::T09, 0),
+        (b"${ $[ b $] $}\n", TextNumber::T10, 3),
+        (b"$[ $]\n", TextNumber::T12, 3),
+        // A fault of the text goes before what is not read, wherever it is.
+        (b"$[ $c $c\n", TextNumber::T12, 3),
+        (b"x $p a $= (\n", TextNumber::T07, 0),
     ];
     for (text, number, at) in rows {
         refuses(
@@ -185,9 +194,28 @@ fn tells_faults(rt: HostRuntime) -> Result<(), Fail> {
             FirstError::Text(mm_text::TextFault { number, at }),
         )?;
     }
-    // What is not read goes before a fault behind it, and before an unfinished statement.
-    refuses(&rt, b"$[ $c $c\n", FirstError::Later { at: 0 })?;
-    refuses(&rt, b"x $p a $= (\n", FirstError::Later { at: 10 })
+    Ok(())
+}
+
+/// Comments between any two words, in the proof too, change nothing.
+#[test]
+fn passes_over_comments(rt: HostRuntime) -> Result<(), Fail> {
+    let text =
+        b"$c $( x $) wff -> ( ) $. $( x $)\n$v p $( x $) q $. wp $( x $) $f wff p $.\nwq $f $( x $) wff q $.\nwi $a wff ( p -> q $( x $) ) $.\nt $p wff ( p -> q ) $= $( x $) wp wq $( x $) wi $. $( x $)";
+    reports(
+        &rt,
+        text,
+        true,
+        b"axioms 1 theorems 1 proved 1 incomplete 0 wrong 0 faults 0\n",
+    )?;
+    // The first word of the proof is no unread one, since the comment in front of it is none.
+    let text = with_line(&rt, b"t $p wff p $= $( ( ? $) wp $.\n")?;
+    reports(
+        &rt,
+        &text,
+        true,
+        b"axioms 1 theorems 1 proved 1 incomplete 0 wrong 0 faults 0\n",
+    )
 }
 
 /// A writer that takes one byte a call, and none from a call on.

@@ -6,6 +6,7 @@ use Rattle.std.proofs.lemmas.Result.{err_from_is_err_and}
 use Rattle.mm_text.proofs.CutLemmas.{progress_start, words_fault}
 use Rattle.mm_text.proofs.CutStepLemmas.{ends_fault, ends_cut, from_before, refused, keeps_more, keeps_piece}
 use Rattle.mm_text.proofs.PartLemmas.{each_units}
+use Rattle.mm_text.proofs.PositionLemmas.{first_fault_lies, cut_error_lies}
 use Rattle.mm_text.proofs.cutting.cut.Goals as goal
 
 -- the bytes of a piece
@@ -23,6 +24,9 @@ returns-in_err-word-clause-fault c =
     let p = err_from_is_err_and c.from_residual.result c.from_residual.ensures.1 in
     let fails = rw c.loop-grammar.invariant.text at c.in_err-word.ensures.word in
     rw (p.1, p.2) (words_fault _ _ _ _ _ _ _ c.loop-grammar.invariant.progress _ _ (sym c.first_bad_byte.ensures ∙ c.in_default.is) fails)
+
+pub returns-in_err-word-clause-fault_within : goal.returns-in_err-word-clause-fault_within
+returns-in_err-word-clause-fault_within c = cut_error_lies c.args.text.now c.from_residual.result (returns-in_err-word-clause-fault c)
 
 pub returns-in_err-take-clause-fault : goal.returns-in_err-take-clause-fault
 returns-in_err-take-clause-fault c =
@@ -63,6 +67,9 @@ pub returns-in-Some-end-clause-fault : goal.returns-in-Some-end-clause-fault
 returns-in-Some-end-clause-fault c =
     let none = rw (c.in_default-2.is, c.loop-grammar.invariant.text) at c.in_ok-word.ensures.word in
     ends_fault _ _ _ _ c.loop-grammar.grammar c.loop-grammar.invariant.progress _ _ (sym c.first_bad_byte.ensures ∙ c.in_default.is) none c.in-Some-end.ensures
+
+pub returns-in-Some-end-clause-fault_within : goal.returns-in-Some-end-clause-fault_within
+returns-in-Some-end-clause-fault_within c = first_fault_lies c.args.text.now c.in-Some-end.fault (returns-in-Some-end-clause-fault c)
 
 pub returns-in_ok-ended_copy-in-None-clause-cut : goal.returns-in_ok-ended_copy-in-None-clause-cut
 returns-in_ok-ended_copy-in-None-clause-cut c =

@@ -6,7 +6,7 @@ use Rattle.mm_text.proofs.division.parts.Goals as goal
 pub loop-word-init : goal.loop-word-init
 loop-word-init c = record {
   text = c.new-reader.ensures.text;
-  divides = rw (c.new-parts.ensures.items, c.new-reader.ensures.from) (divides_start c.args.text.now _);
+  divides = rw (c.new-parts.ensures.items, c.new-reader.ensures.from) (divides_start c.args.text.now _ c.requires.1.has_words.allowed);
 }
 
 pub loop-word-preserved-then-ends_part : goal.loop-word-preserved-then-ends_part

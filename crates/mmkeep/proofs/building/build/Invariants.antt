@@ -1,7 +1,6 @@
 use Rattle.std.proofs.Common.{take}
-use Rattle.mmkeep.specs.Meaning.{items_in}
 use Rattle.mmkeep.proofs.BuildingLemmas.{AreBuilt}
 use Rattle.mmkeep.proofs.building.build.Given as goal
 
 abbrev pub invariant-loop-number : goal.invariant-loop-number
-invariant-loop-number l = AreBuilt (items_in l.source (take l.number l.statements.items)) l.known l.entries.items
+invariant-loop-number l = AreBuilt (take l.number l.statements.items) l.known l.entries.items

@@ -1,11 +1,22 @@
+use Rattle.mmkeep.proofs.DatabaseLemmas.{Laws}
 use Rattle.mmkeep.proofs.AnswerLemmas.{same_report, same_error, report_or_error}
 use Rattle.mmkeep.proofs.laws.one_answer.Goals as goal
+use Rattle.mmkeep.proofs.laws.one_answer.Goals.{After-keys_do_not_matter}
+
+laws : After-keys_do_not_matter → Laws
+laws c = record {
+  words = c.one_meaning.ensures.words;
+  fault = c.one_cut.ensures.fault;
+  cut_or_fault = c.one_cut.ensures.not_both;
+  items = c.keys_do_not_matter.ensures.items;
+  one_file = c.keys_do_not_matter.ensures.one_file;
+}
 
 pub returns-clause-report : goal.returns-clause-report
-returns-clause-report c text clean other a b f g = same_report text clean other a b f g
+returns-clause-report c = same_report (laws c)
 
 pub returns-clause-error : goal.returns-clause-error
-returns-clause-error c text a b f g = same_error text a b f g
+returns-clause-error c = same_error (laws c)
 
 pub returns-clause-not_both : goal.returns-clause-not_both
-returns-clause-not_both c text clean bytes error f g = report_or_error text clean bytes error f g
+returns-clause-not_both c = report_or_error (laws c)

@@ -63,4 +63,4 @@ returns-in_ok-expand_file-in-Some-clause-few c =
 
 pub returns-in_ok-expand_file-in-Some-clause-stand : goal.returns-in_ok-expand_file-in-Some-clause-stand
 returns-in_ok-expand_file-in-Some-clause-stand c =
-    expansion_stands c.args.self.now c.args.top.now c.in_ok-expand_file-in-Some.field-0.items (returns-in_ok-expand_file-in-Some-clause-items c)
+    expansion_stands c.parts_are_texts.ensures c.args.self.now c.args.top.now c.in_ok-expand_file-in-Some.field-0.items (returns-in_ok-expand_file-in-Some-clause-items c)

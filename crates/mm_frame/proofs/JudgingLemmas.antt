@@ -1,0 +1,292 @@
+-- The fault of a statement is the one that is read from left to right.
+use Rattle.std.proofs.Common.{◌≡◌, ℕ, zero, suc, ◌+◌, ◌-◌, ◌≤◌, ◌<◌, Bool, true, false, cond, ◌&&◌, ◌||◌, ltb, leb, ◌==◌, Option, Some, None, List, [], ◌∷◌, length, drop, find, slice_get, refl, sym, ◌∙◌, ap, subst, arith}
+use Rattle.std.specs.Prelude.{option_to_list}
+use Rattle.std.specs.Option.{option_or}
+use Rattle.std.specs.List.{list_any}
+use Rattle.std.proofs.Math.Bool.{or-false}
+use Rattle.std.proofs.lemmas.Bool.{false≢true, and_left, and_right, le-leb, lt-ltb, eq-eqb, ne_eqb}
+use Rattle.std.proofs.lemmas.Option.{slice_get_past, slice_get_within}
+use Rattle.mm_frame.specs.Item.{Kind, Constants, Variables, Disjoint, Floating, Essential, Axiom, Theorem, BlockStart, BlockEnd, Missing, Passed, Item, is_constants, is_variables, is_disjoint, is_floating, is_declaring, is_expression, is_labelled, labels_of}
+use Rattle.mm_frame.specs.Scope.{is_inside}
+use Rattle.mm_frame.specs.declared.FrameNumber.{FrameNumber}
+use Rattle.mm_frame.specs.declared.FrameNumber.TheVariants.{F01, F02, F03, F04, F05, F06, F07, F08, F09, F10, F11, F12, F13, F14}
+use Rattle.mm_frame.specs.Sound.{first_symbol, closing_word, passes, at_symbol, each, first, second, later, is_third, is_repeated, is_declared, is_active_symbol, is_label, is_no_constant, is_no_variable, is_unknown, is_untyped, is_typed, is_typed_otherwise, is_short, numbers, number_at, fault_or, fault_from, fault}
+use Rattle.mm_frame.specs.Judging.{first_fault, typecode_fault, typed_fault, floating_fault, symbol_fault_of, symbol_fault, label_fault, labels_fault, front_fault, end_fault, symbols_fault, fault_by_kind}
+
+-- what a line asks of a word: whether the statement ends there too early, whether it is word 0, and what its symbol passes
+abbrev line_of : Kind → List Item → Item → Bool → Bool → ((ℕ → List ℕ → Bool) → Bool) → FrameNumber → Bool
+line_of kind before item ends starts at F01 = ends || (is_floating kind && at is_third)
+line_of kind before item ends starts at F02 = is_constants kind && (starts && is_inside before)
+line_of kind before item ends starts at F03 = (is_declaring kind || is_disjoint kind) && at (is_repeated item)
+line_of kind before item ends starts at F04 = (is_constants kind && at (each (is_declared before))) || (is_variables kind && at (each (is_active_symbol before)))
+line_of kind before item ends starts at F05 = is_declaring kind && at (each (is_label before))
+line_of kind before item ends starts at F06 = starts && list_any (is_label before) (labels_of item)
+line_of kind before item ends starts at F07 = starts && list_any (is_declared before) (labels_of item)
+line_of kind before item ends starts at F08 = is_labelled kind && at (first (is_no_constant before))
+line_of kind before item ends starts at F09 = (is_disjoint kind && at (each (is_no_variable before))) || (is_floating kind && at (second (is_no_variable before)))
+line_of kind before item ends starts at F10 = is_expression kind && at (later (is_unknown before))
+line_of kind before item ends starts at F11 = is_expression kind && at (later (is_untyped before))
+line_of kind before item ends starts at F12 = is_floating kind && at (second (is_typed before))
+line_of kind before item ends starts at F13 = is_floating kind && at (second (is_typed_otherwise before item))
+line_of kind before item ends starts at F14 = false
+
+-- the lowest number for which this is so
+abbrev number_of : Kind → List Item → Item → Bool → Bool → ((ℕ → List ℕ → Bool) → Bool) → Option FrameNumber
+number_of kind before item ends starts at = find (λ number. line_of kind before item ends starts at number) numbers
+
+-- what is found at a word, by what is known of the word
+by_word : (before : List Item) (item : Item) (word : ℕ) (ends starts : Bool) (at : (ℕ → List ℕ → Bool) → Bool) → (is_short item.kind (length item.symbols) && word == closing_word item) ≡ ends → (word == 0) ≡ starts → ((test : ℕ → List ℕ → Bool) → at_symbol test item word ≡ at test) → number_at before item word ≡ number_of item.kind before item ends starts at
+by_word before item word ends starts at e s a = λ i. number_of item.kind before item (e i) (s i) (λ test. a test i)
+
+-- no symbol stands at a word
+abbrev nothing : (ℕ → List ℕ → Bool) → Bool
+nothing test = false
+
+-- symbol n stands at a word
+abbrev at_name : ℕ → List ℕ → (ℕ → List ℕ → Bool) → Bool
+at_name n name test = test n name
+
+-- at word 0, by the kind of the statement
+start_of : (kind : Kind) (before : List Item) (item : Item) → number_of kind before item false true nothing ≡ cond (is_constants kind && is_inside before) (Some F02) (cond (list_any (is_label before) (labels_of item)) (Some F06) (cond (list_any (is_declared before) (labels_of item)) (Some F07) None))
+start_of Constants before item = refl
+start_of Variables before item = refl
+start_of Disjoint before item = refl
+start_of Floating before item = refl
+start_of Essential before item = refl
+start_of Axiom before item = refl
+start_of Theorem before item = refl
+start_of BlockStart before item = refl
+start_of BlockEnd before item = refl
+start_of Missing before item = refl
+start_of Passed before item = refl
+
+-- at a keyword behind a label
+keyword_of : (kind : Kind) (before : List Item) (item : Item) → number_of kind before item false false nothing ≡ None
+keyword_of Constants before item = refl
+keyword_of Variables before item = refl
+keyword_of Disjoint before item = refl
+keyword_of Floating before item = refl
+keyword_of Essential before item = refl
+keyword_of Axiom before item = refl
+keyword_of Theorem before item = refl
+keyword_of BlockStart before item = refl
+keyword_of BlockEnd before item = refl
+keyword_of Missing before item = refl
+keyword_of Passed before item = refl
+
+-- behind the last symbol
+end_of : (kind : Kind) (before : List Item) (item : Item) (ends : Bool) → number_of kind before item ends false nothing ≡ cond ends (Some F01) None
+end_of kind before item true = refl
+end_of kind before item false = keyword_of kind before item
+
+-- at a symbol of a `$f`, where only the third one is one too many
+abbrev third_fault : List Item → Item → ℕ → List ℕ → Option FrameNumber
+third_fault before item n name = cond (n == 0) (typecode_fault before name) (cond (n == 1) (typed_fault before item name) (cond (n == 2) (Some F01) None))
+
+third_is : (n : ℕ) (x y z w : Bool) → cond (n == 2) (Some F01) (cond (n == 0 && x) (Some F08) (cond (n == 1 && y) (Some F09) (cond (n == 1 && z) (Some F12) (cond (n == 1 && w) (Some F13) None)))) ≡ cond (n == 0) (cond x (Some F08) None) (cond (n == 1) (cond y (Some F09) (cond z (Some F12) (cond w (Some F13) None))) (cond (n == 2) (Some F01) None))
+third_is zero x y z w = refl
+third_is (suc zero) x y z w = refl
+third_is (suc (suc zero)) x y z w = refl
+third_is (suc (suc (suc n))) x y z w = same (suc (suc (suc n)) == 0) (suc (suc (suc n)) == 1) (suc (suc (suc n)) == 2) (ne_eqb (suc (suc (suc n))) 0 (λ e. omega arith)) (ne_eqb (suc (suc (suc n))) 1 (λ e. omega arith)) (ne_eqb (suc (suc (suc n))) 2 (λ e. omega arith))
+  where
+    same : (a b c : Bool) → a ≡ false → b ≡ false → c ≡ false → cond c (Some F01) (cond (a && x) (Some F08) (cond (b && y) (Some F09) (cond (b && z) (Some F12) (cond (b && w) (Some F13) None)))) ≡ cond a (cond x (Some F08) None) (cond b (cond y (Some F09) (cond z (Some F12) (cond w (Some F13) None))) (cond c (Some F01) None))
+    same a b c p q r = (λ i. cond (r i) (Some F01) (cond (p i && x) (Some F08) (cond (q i && y) (Some F09) (cond (q i && z) (Some F12) (cond (q i && w) (Some F13) None))))) ∙ sym (λ i. cond (p i) (cond x (Some F08) None) (cond (q i) (cond y (Some F09) (cond z (Some F12) (cond w (Some F13) None))) (cond (r i) (Some F01) None)))
+
+-- at a symbol of a `$e`, `$a` or `$p`
+expression_is : (n : ℕ) (x y z : Bool) → cond (n == 0 && x) (Some F08) (cond (ltb 0 n && y) (Some F10) (cond (ltb 0 n && z) (Some F11) None)) ≡ cond (n == 0) (cond x (Some F08) None) (cond y (Some F10) (cond z (Some F11) None))
+expression_is zero x y z = by_first x
+  where
+    by_first : (b : Bool) → cond b (Some F08) None ≡ cond b (Some F08) None
+    by_first b = refl
+expression_is (suc n) x y z = same (suc n == 0) (ltb 0 (suc n)) (ne_eqb (suc n) 0 (λ e. omega arith)) (lt-ltb 0 (suc n) (omega arith))
+  where
+    same : (a b : Bool) → a ≡ false → b ≡ true → cond (a && x) (Some F08) (cond (b && y) (Some F10) (cond (b && z) (Some F11) None)) ≡ cond a (cond x (Some F08) None) (cond y (Some F10) (cond z (Some F11) None))
+    same a b p q = (λ i. cond (p i && x) (Some F08) (cond (q i && y) (Some F10) (cond (q i && z) (Some F11) None))) ∙ sym (λ i. cond (p i) (cond x (Some F08) None) (cond y (Some F10) (cond z (Some F11) None)))
+
+-- what is wrong with a symbol, where only the third one of a `$f` is one too many
+abbrev symbol_number : Kind → List Item → Item → ℕ → List ℕ → Option FrameNumber
+symbol_number Floating before item n name = third_fault before item n name
+symbol_number kind before item n name = symbol_fault_of kind before item n name
+
+symbol_of : (kind : Kind) (before : List Item) (item : Item) (n : ℕ) (name : List ℕ) → number_of kind before item false false (at_name n name) ≡ symbol_number kind before item n name
+symbol_of Constants before item n name = λ i. cond (is_repeated item n name) (Some F03) (cond (or-false (is_declared before name) i) (Some F04) (cond (is_label before name) (Some F05) None))
+symbol_of Variables before item n name = refl
+symbol_of Disjoint before item n name = λ i. cond (is_repeated item n name) (Some F03) (cond (or-false (is_no_variable before name) i) (Some F09) None)
+symbol_of Floating before item n name = third_is n (is_no_constant before name) (is_no_variable before name) (is_typed before name) (is_typed_otherwise before item name)
+symbol_of Essential before item n name = expression_is n (is_no_constant before name) (is_unknown before name) (is_untyped before name)
+symbol_of Axiom before item n name = expression_is n (is_no_constant before name) (is_unknown before name) (is_untyped before name)
+symbol_of Theorem before item n name = expression_is n (is_no_constant before name) (is_unknown before name) (is_untyped before name)
+symbol_of BlockStart before item n name = refl
+symbol_of BlockEnd before item n name = refl
+symbol_of Missing before item n name = refl
+symbol_of Passed before item n name = refl
+
+-- where no symbol stands
+before_symbols : (test : ℕ → List ℕ → Bool) (item : Item) (word : ℕ) → word < first_symbol item → at_symbol test item word ≡ false
+before_symbols test item word l = and_left (leb (first_symbol item) word) _ (by_test (leb (first_symbol item) word) refl)
+  where
+    by_test : (b : Bool) → leb (first_symbol item) word ≡ b → b ≡ false
+    by_test false e = refl
+    by_test true e = let h = Rattle.std.proofs.lemmas.Bool.leb-true (first_symbol item) word e in absurd (omega arith)
+
+at_closing : (test : ℕ → List ℕ → Bool) (item : Item) → at_symbol test item (closing_word item) ≡ false
+at_closing test item = and_right (leb (first_symbol item) (closing_word item)) (passes (test (closing_word item - first_symbol item)) (slice_get item.symbols (closing_word item - first_symbol item))) (subst (λ o. passes (test (closing_word item - first_symbol item)) o ≡ false) (sym (slice_get_past item.symbols (closing_word item - first_symbol item) (omega arith))) refl)
+
+-- where a symbol stands
+at_place : (test : ℕ → List ℕ → Bool) (item : Item) (n : ℕ) (name : List ℕ) → slice_get item.symbols n ≡ Some name → at_symbol test item (first_symbol item + n) ≡ test n name
+at_place test item n name g =
+    let d : first_symbol item + n - first_symbol item ≡ n = omega arith in
+    (λ i. le-leb (first_symbol item) (first_symbol item + n) (omega arith) i && passes (test (d i)) (slice_get item.symbols (d i))) ∙ ap (passes (test n)) g
+
+not_closing : (item : Item) (word : ℕ) → (word ≡ closing_word item → ⊥) → (is_short item.kind (length item.symbols) && word == closing_word item) ≡ false
+not_closing item word n = and_right (is_short item.kind (length item.symbols)) (word == closing_word item) (ne_eqb word (closing_word item) n)
+
+-- what is found at the words of a statement
+start_is : (before : List Item) (item : Item) → number_at before item 0 ≡ number_of item.kind before item false true nothing
+start_is before item = by_word before item 0 false true nothing (not_closing item 0 (λ e. omega arith)) refl (λ test. before_symbols test item 0 (omega arith))
+
+keyword_is : (before : List Item) (item : Item) (word : ℕ) → 0 < word → word < first_symbol item → number_at before item word ≡ None
+keyword_is before item word l m = by_word before item word false false nothing (not_closing item word (λ e. omega arith)) (ne_eqb word 0 (λ e. omega arith)) (λ test. before_symbols test item word m) ∙ keyword_of item.kind before item
+
+symbol_is : (before : List Item) (item : Item) (n : ℕ) (name : List ℕ) → slice_get item.symbols n ≡ Some name → number_at before item (first_symbol item + n) ≡ symbol_number item.kind before item n name
+symbol_is before item n name g =
+    let l = slice_get_within item.symbols n name g in
+    by_word before item (first_symbol item + n) false false (at_name n name) (not_closing item (first_symbol item + n) (λ e. omega arith)) (ne_eqb (first_symbol item + n) 0 (λ e. omega arith)) (λ test. at_place test item n name g) ∙ symbol_of item.kind before item n name
+
+end_is : (before : List Item) (item : Item) → number_at before item (closing_word item) ≡ end_fault item
+end_is before item = by_word before item (closing_word item) (is_short item.kind (length item.symbols)) false nothing (at_end (is_short item.kind (length item.symbols)) (closing_word item == closing_word item) (eq-eqb (closing_word item) (closing_word item) refl)) (ne_eqb (closing_word item) 0 (λ e. omega arith)) (λ test. at_closing test item) ∙ end_of item.kind before item (is_short item.kind (length item.symbols))
+  where
+    at_end : (x y : Bool) → y ≡ true → (x && y) ≡ x
+    at_end true y e = e
+    at_end false y e = refl
+
+-- the label of a statement, of which there is one or none
+abbrev is_one_at_most : {X : Type 0} → List X → Bool
+is_one_at_most [] = true
+is_one_at_most (x ∷ []) = true
+is_one_at_most _ = false
+
+one_label : (item : Item) → is_one_at_most (labels_of item) ≡ true
+one_label item = by_label (is_labelled item.kind) item.label
+  where
+    by_label : (b : Bool) (label : Option (List ℕ)) → is_one_at_most (cond b (option_to_list label) []) ≡ true
+    by_label true None = refl
+    by_label true (Some name) = refl
+    by_label false label = refl
+
+label_is : (before : List Item) (labels : List (List ℕ)) → is_one_at_most labels ≡ true → cond (list_any (is_label before) labels) (Some F06) (cond (list_any (is_declared before) labels) (Some F07) None) ≡ labels_fault before labels
+label_is before [] h = refl
+label_is before (label ∷ []) h = λ i. cond (or-false (is_label before label) i) (Some F06) (cond (or-false (is_declared before label) i) (Some F07) None)
+label_is before (label ∷ other ∷ labels) h = absurd (false≢true h)
+
+front_is : (before : List Item) (item : Item) → number_at before item 0 ≡ front_fault before item
+front_is before item = start_is before item ∙ start_of item.kind before item ∙ ap (λ w. cond (is_constants item.kind && is_inside before) (Some F02) w) (label_is before (labels_of item) (one_label item))
+
+-- words at which nothing is found are passed over
+pass_over : (before : List Item) (item : Item) (start gap more : ℕ) → ((word : ℕ) → start ≤ word → word < start + gap → number_at before item word ≡ None) → fault_from before item start (gap + more) ≡ fault_from before item (start + gap) more
+pass_over before item start zero more h =
+    let none : 0 + more ≡ more = omega arith in
+    let here : start ≡ start + 0 = omega arith in
+    λ i. fault_from before item (here i) (none i)
+pass_over before item start (suc gap) more h =
+    let next : suc gap + more ≡ suc (gap + more) = omega arith in
+    let there : suc start + gap ≡ start + suc gap = omega arith in
+    ap (fault_from before item start) next ∙ ap (λ o. fault_or start o (fault_from before item (suc start) (gap + more))) (h start (omega arith) (omega arith)) ∙ pass_over before item (suc start) gap more (λ word l m. h word (omega arith) (omega arith)) ∙ ap (λ w. fault_from before item w more) there
+
+-- the symbols from one on, and the word behind them
+from_symbol : (before : List Item) (item : Item) (test : ℕ → List ℕ → Option FrameNumber) (word n : ℕ) (symbols : List (List ℕ)) → ((k : ℕ) (name : List ℕ) → slice_get symbols k ≡ Some name → number_at before item (word + k) ≡ test (n + k) name) → fault_from before item word (length symbols + 1) ≡ option_or (first_fault test word n symbols) (fault_or (word + length symbols) (number_at before item (word + length symbols)) None)
+from_symbol before item test word n [] h = ap (λ w. fault_or w (number_at before item w) None) (omega arith)
+from_symbol before item test word n (name ∷ symbols) h =
+    let e : length (name ∷ symbols) + 1 ≡ suc (length symbols + 1) = omega arith in
+    let i = from_symbol before item test (suc word) (suc n) symbols (λ k other g. ap (number_at before item) (omega arith) ∙ h (suc k) other g ∙ ap (λ w. test w other) (omega arith)) in
+    let f : number_at before item word ≡ test n name = ap (number_at before item) (omega arith) ∙ h 0 name refl ∙ ap (λ w. test w name) (omega arith) in
+    ap (fault_from before item word) e ∙ (λ j. fault_or word (f j) (i j)) ∙ joined (test n name) word (first_fault test (suc word) (suc n) symbols) (fault_or (suc word + length symbols) (number_at before item (suc word + length symbols)) None) ∙ ap (λ w. option_or (first_fault test word n (name ∷ symbols)) (fault_or w (number_at before item w) None)) (omega arith)
+  where
+    joined : (o : Option FrameNumber) (w : ℕ) (a b : Option (ℕ × FrameNumber)) → fault_or w o (option_or a b) ≡ option_or (fault_or w o a) b
+    joined None w a b = refl
+    joined (Some m) w a b = refl
+
+-- behind a third symbol of a `$f` nothing is looked at
+third_first : (before : List Item) (item : Item) (word : ℕ) (symbols : List (List ℕ)) → first_fault (third_fault before item) word 0 symbols ≡ first_fault (floating_fault before item) word 0 symbols
+third_first before item word [] = refl
+third_first before item word (x ∷ []) = refl
+third_first before item word (x ∷ y ∷ []) = refl
+third_first before item word (x ∷ y ∷ z ∷ symbols) = refl
+
+number_first : (kind : Kind) (before : List Item) (item : Item) (word : ℕ) (symbols : List (List ℕ)) → first_fault (symbol_number kind before item) word 0 symbols ≡ first_fault (symbol_fault_of kind before item) word 0 symbols
+number_first Floating before item word symbols = third_first before item word symbols
+number_first Constants before item word symbols = refl
+number_first Variables before item word symbols = refl
+number_first Disjoint before item word symbols = refl
+number_first Essential before item word symbols = refl
+number_first Axiom before item word symbols = refl
+number_first Theorem before item word symbols = refl
+number_first BlockStart before item word symbols = refl
+number_first BlockEnd before item word symbols = refl
+number_first Missing before item word symbols = refl
+number_first Passed before item word symbols = refl
+
+-- the fault of a statement is the one that is read from left to right
+pub fault_is : (before : List Item) (item : Item) → fault before item ≡ fault_by_kind before item
+fault_is before item =
+    let count : closing_word item + 1 ≡ suc (length (labels_of item) + (length item.symbols + 1)) = omega arith in
+    let there : 1 + length (labels_of item) ≡ first_symbol item = omega arith in
+    let words = pass_over before item 1 (length (labels_of item)) (length item.symbols + 1) (λ word l m. keyword_is before item word (omega arith) (omega arith)) ∙ ap (λ w. fault_from before item w (length item.symbols + 1)) there in
+    let symbols = from_symbol before item (symbol_number item.kind before item) (first_symbol item) 0 item.symbols (λ k name g. symbol_is before item k name g ∙ ap (λ w. symbol_number item.kind before item w name) (omega arith)) in
+    let ended : option_or (first_fault (symbol_number item.kind before item) (first_symbol item) 0 item.symbols) (fault_or (closing_word item) (number_at before item (closing_word item)) None) ≡ option_or (symbols_fault before item) (fault_or (closing_word item) (end_fault item) None) = λ i. option_or (number_first item.kind before item (first_symbol item) item.symbols i) (fault_or (closing_word item) (end_is before item i) None) in
+    let behind = words ∙ symbols ∙ ended in
+    ap (fault_from before item 0) count ∙ (λ i. fault_or 0 (front_is before item i) (behind i))
+
+-- what code over the symbols by their numbers takes
+pub first_fault_at : (test : ℕ → List ℕ → Option FrameNumber) (word n k : ℕ) (name : List ℕ) (symbols : List (List ℕ)) → slice_get symbols k ≡ Some name → first_fault test word n (drop k symbols) ≡ fault_or word (test n name) (first_fault test (suc word) (suc n) (drop (suc k) symbols))
+first_fault_at test word n k name [] g = cc
+first_fault_at test word n zero name (x ∷ symbols) g = let e : x ≡ name = cc in ap (λ w. fault_or word (test n w) (first_fault test (suc word) (suc n) symbols)) e
+first_fault_at test word n (suc k) name (x ∷ symbols) g = first_fault_at test word n k name symbols g
+
+pub first_fault_past : (test : ℕ → List ℕ → Option FrameNumber) (word n k : ℕ) (symbols : List (List ℕ)) → length symbols ≤ k → first_fault test word n (drop k symbols) ≡ None
+first_fault_past test word n zero [] l = refl
+first_fault_past test word n (suc k) [] l = refl
+first_fault_past test word n zero (x ∷ symbols) l = absurd (omega arith)
+first_fault_past test word n (suc k) (x ∷ symbols) l = first_fault_past test word n k symbols (omega arith)
+
+-- the first word of a statement that is no `$c`, and of one that has no label
+pub front_of_label : (before : List Item) (item : Item) (label : List ℕ) → is_constants item.kind ≡ false → labels_of item ≡ label ∷ [] → front_fault before item ≡ label_fault before label
+front_of_label before item label n e = λ i. cond (n i && is_inside before) (Some F02) (labels_fault before (e i))
+
+pub front_of_none : (before : List Item) (item : Item) → labels_of item ≡ [] → front_fault before item ≡ cond (is_constants item.kind && is_inside before) (Some F02) None
+front_of_none before item e = λ i. cond (is_constants item.kind && is_inside before) (Some F02) (labels_fault before (e i))
+
+-- what is no statement has no fault
+abbrev pub is_no_statement : Kind → Bool
+is_no_statement BlockStart = true
+is_no_statement BlockEnd = true
+is_no_statement Missing = true
+is_no_statement Passed = true
+is_no_statement _ = false
+
+-- what such a kind has at its words
+record HasNothing (kind : Kind) : Type 0 where
+  unlabelled : is_labelled kind ≡ false
+  no_constants : is_constants kind ≡ false
+  no_symbol : (before : List Item) (item : Item) (n : ℕ) (name : List ℕ) → symbol_fault_of kind before item n name ≡ None
+  never_short : (count : ℕ) → is_short kind count ≡ false
+
+has_nothing : (kind : Kind) → is_no_statement kind ≡ true → HasNothing kind
+has_nothing BlockStart e = record { unlabelled = refl; no_constants = refl; no_symbol = λ before item n name. refl; never_short = λ count. refl }
+has_nothing BlockEnd e = record { unlabelled = refl; no_constants = refl; no_symbol = λ before item n name. refl; never_short = λ count. refl }
+has_nothing Missing e = record { unlabelled = refl; no_constants = refl; no_symbol = λ before item n name. refl; never_short = λ count. refl }
+has_nothing Passed e = record { unlabelled = refl; no_constants = refl; no_symbol = λ before item n name. refl; never_short = λ count. refl }
+has_nothing _ e = absurd (false≢true e)
+
+first_none : (test : ℕ → List ℕ → Option FrameNumber) (word n : ℕ) (symbols : List (List ℕ)) → ((m : ℕ) (name : List ℕ) → test m name ≡ None) → first_fault test word n symbols ≡ None
+first_none test word n [] h = refl
+first_none test word n (name ∷ symbols) h = (λ i. fault_or word (h n name i) (first_fault test (suc word) (suc n) symbols)) ∙ first_none test (suc word) (suc n) symbols h
+
+pub no_statement_fault : (before : List Item) (item : Item) → is_no_statement item.kind ≡ true → fault_by_kind before item ≡ None
+no_statement_fault before item t =
+    let h = has_nothing item.kind t in
+    let unlabelled : labels_of item ≡ [] = ap (λ b. cond b (option_to_list item.label) []) h.unlabelled in
+    let front : front_fault before item ≡ None = front_of_none before item unlabelled ∙ ap (λ b. cond (b && is_inside before) (Some F02) None) h.no_constants in
+    let symbols : symbols_fault before item ≡ None = first_none (symbol_fault before item) (first_symbol item) 0 item.symbols (λ m name. h.no_symbol before item m name) in
+    let ended : end_fault item ≡ None = ap (λ b. cond b (Some F01) None) (h.never_short (length item.symbols)) in
+    λ i. fault_or 0 (front i) (option_or (symbols i) (fault_or (closing_word item) (ended i) None))

@@ -1,0 +1,261 @@
+-- What the tables of names and labels keep, and what one more item makes of what is declared.
+use Rattle.std.proofs.Common.{◌≡◌, ℕ, suc, ◌<◌, Bool, true, false, cond, ◌&&◌, ◌||◌, Option, Some, None, List, [], ◌∷◌, ◌++◌, length, take, get_or, bytes_eq, Vec, refl, sym, ◌∙◌, ap, subst, inl, inr, ◌⊎◌, arith}
+use Rattle.std.specs.Prelude.{is_some, option_to_list}
+use Rattle.std.specs.Global.{Global}
+use Rattle.std.specs.HashMap.{HashMap, UpdatesBy, get_by}
+use Rattle.std.specs.Map.{KeepsOthers, IsKeyTest, AreApart, lookup}
+use Rattle.std.specs.Cmp.Lexicographic.{nat_list_eq_equiv}
+use Rattle.std.proofs.Math.Seq.{take-suc}
+use Rattle.std.proofs.lemmas.Bool.{false≢true, cases_Bool, cond-true, cond-false, false_from_ne_true}
+use Rattle.std.proofs.lemmas.List.Folds.{list_any-append}
+use Rattle.std.proofs.lemmas.Slice.Eq.{bytes_eq-Decides}
+use Rattle.mm_store.specs.declared.item.ItemKind.{ItemKind}
+use Rattle.mm_store.specs.declared.item.ItemKind.TheVariants as items
+use Rattle.mm_frame.specs.Statement.{kind_of}
+use Rattle.mm_frame.specs.declared.tables.Tables.{Tables}
+use Rattle.mm_frame.specs.declared.tables.Declared.{Declared}
+use Rattle.mm_frame.specs.declared.tables.Declared.TheVariants.{Constant, Variable}
+use Rattle.mm_frame.specs.Item.{Kind, Constants, Variables, Disjoint, Floating, Essential, Axiom, Theorem, BlockStart, BlockEnd, Missing, Passed, Item, passed, is_constants, is_variables, is_floating, is_labelled, has, labels_of}
+use Rattle.mm_frame.specs.Item as meant
+use Rattle.mm_frame.specs.Scope.{constants, variables, active}
+use Rattle.mm_frame.specs.Sound.{is_declared, IsSound, AreSound}
+use Rattle.mm_frame.specs.Tables.{last_where, declares_variable, types, carries}
+use Rattle.mm_frame.specs.Known.{table_name, table_label, variable_at, declared_in, variable_of, float_of, typed_by, Knows, Declares, Types, Carries}
+use Rattle.mm_frame.proofs.Members.{In, in_has, from_symbols, to_symbols, in_left}
+use Rattle.mm_frame.proofs.Scopes.{active_in}
+use Rattle.mm_frame.proofs.Facts.{and_both, float_variable, float_two}
+use Rattle.mm_frame.proofs.Outermost.{sound_front}
+use Rattle.mm_frame.proofs.TableLemmas.{last_where_next, last_cases, last_none, Last, constants_next, variable_last, constant_or_variable, float_second, typed_by as types_it}
+
+apart : (bs cs ks : List ℕ) → bytes_eq bs cs ≡ false → bytes_eq bs ks ≡ true → bytes_eq cs ks ≡ false
+apart bs cs ks n y = nat_list_eq_equiv.symm cs ks ∙ sym (nat_list_eq_equiv.congr bs ks cs y) ∙ n
+
+other_entries : {K X : Type 0} (eq : K → K → Bool) (test : K → Bool) (old new : List (K × X)) → KeepsOthers eq test old new → (other : K → Bool) → IsKeyTest eq other → AreApart test other → lookup other new ≡ lookup other old
+unfolding KeepsOthers
+other_entries eq test old new h = h
+
+-- the look-ups by bytes behind a write at one key
+pub written : {X S : Type 0} (bs : List ℕ) (m n : HashMap (Vec ℕ Global) X S) (x : X) → UpdatesBy (λ a b. bytes_eq a.items b.items) (λ k. bytes_eq bs k.items) m n (Some x) → (cs : List ℕ) → get_by (λ k. bytes_eq cs k.items) n ≡ cond (bytes_eq bs cs) (Some x) (get_by (λ k. bytes_eq cs k.items) m)
+written bs m n x h cs = elim (cases_Bool (bytes_eq bs cs)) [
+  | inl y ↦ subst (λ (l : List ℕ). get_by (λ k. bytes_eq l k.items) n ≡ Some x) ((bytes_eq-Decides bs cs).0 y) h.1 ∙ sym (cond-true (bytes_eq bs cs) (Some x) (get_by (λ k. bytes_eq cs k.items) m) y)
+  | inr e ↦ other_entries (λ a b. bytes_eq a.items b.items) (λ k. bytes_eq bs k.items) m.entries n.entries h.3 (λ k. bytes_eq cs k.items) (λ a b. nat_list_eq_equiv.congr cs a.items b.items) (λ k. apart bs cs k.items e) ∙ sym (cond-false (bytes_eq bs cs) (Some x) (get_by (λ k. bytes_eq cs k.items) m) e)
+]
+
+or_none : (b : Bool) → (b || false) ≡ b
+or_none true = refl
+or_none false = refl
+
+-- a name is one of the names of a list of one
+pub has_one : (bs cs : List ℕ) → bytes_eq bs cs ≡ has (bs ∷ []) cs
+has_one bs cs = nat_list_eq_equiv.symm bs cs ∙ sym (or_none (bytes_eq cs bs))
+
+-- the look-ups behind an `insert`, with the bytes of the key by an equation
+pub inserted : {X S : Type 0} (ks bs : List ℕ) (m n : HashMap (Vec ℕ Global) X S) (x : X) → ks ≡ bs → UpdatesBy (λ a b. bytes_eq a.items b.items) (λ k. bytes_eq ks k.items) m n (Some x) → (cs : List ℕ) → get_by (λ k. bytes_eq cs k.items) n ≡ cond (has (bs ∷ []) cs) (Some x) (get_by (λ k. bytes_eq cs k.items) m)
+inserted ks bs m n x e h cs = subst (λ (l : List ℕ). get_by (λ k. bytes_eq cs k.items) n ≡ cond (bytes_eq l cs) (Some x) (get_by (λ k. bytes_eq cs k.items) m)) e (written ks m n x h cs) ∙ ap (λ b. cond b (Some x) (get_by (λ k. bytes_eq cs k.items) m)) (has_one bs cs)
+
+-- a write of what a function makes of the value found
+pub written_as : {X S : Type 0} (bs : List ℕ) (m n : HashMap (Vec ℕ Global) X S) (x : X) (f : Option X → Option X) → f (get_by (λ k. bytes_eq bs k.items) m) ≡ Some x → UpdatesBy (λ a b. bytes_eq a.items b.items) (λ k. bytes_eq bs k.items) m n (Some x) → (cs : List ℕ) → get_by (λ k. bytes_eq cs k.items) n ≡ cond (bytes_eq bs cs) (f (get_by (λ k. bytes_eq cs k.items) m)) (get_by (λ k. bytes_eq cs k.items) m)
+written_as bs m n x f e h cs = written bs m n x h cs ∙ by_test (bytes_eq bs cs) refl
+  where
+    by_test : (b : Bool) → bytes_eq bs cs ≡ b → cond b (Some x) (get_by (λ k. bytes_eq cs k.items) m) ≡ cond b (f (get_by (λ k. bytes_eq cs k.items) m)) (get_by (λ k. bytes_eq cs k.items) m)
+    by_test true y = sym e ∙ ap (λ (l : List ℕ). f (get_by (λ k. bytes_eq l k.items) m)) ((bytes_eq-Decides bs cs).0 y)
+    by_test false y = refl
+
+-- one more name is declared
+pub declares_more : (old mid new : Tables) (symbols : List (List ℕ)) (n more : ℕ) (declared : Option Declared → Declared) (name : List ℕ) (last : Declared) → more ≡ suc n → ((o : Option Declared) → declared (Some (declared o)) ≡ declared o) → n < length symbols → name ≡ get_or symbols n [] → Declares old (take n symbols) declared mid → last ≡ declared (table_name mid name) → Declares mid (name ∷ []) (λ _. last) new → Declares old (take more symbols) declared new
+declares_more old mid new symbols n more declared name last s again l e d w m = record {
+  names = names;
+  labels = λ label. m.labels label ∙ d.labels label;
+}
+  where
+    longer : (other : List ℕ) → has (take more symbols) other ≡ (has (take n symbols) other || has (name ∷ []) other)
+    longer other = ap (λ w. has w other) (ap (λ m. take m symbols) s ∙ take-suc symbols n [] l ∙ ap (λ x. take n symbols ++ x ∷ []) (sym e)) ∙ list_any-append (bytes_eq other) (take n symbols) (name ∷ [])
+
+    join : (a b : Bool) (o : Option Declared) (x : Declared) → (b ≡ true → x ≡ declared (cond a (Some (declared o)) o)) → cond b (Some x) (cond a (Some (declared o)) o) ≡ cond (a || b) (Some (declared o)) o
+    join true true o x h = ap Some (h refl ∙ again o)
+    join true false o x h = refl
+    join false true o x h = ap Some (h refl)
+    join false false o x h = refl
+
+    names : (other : List ℕ) → table_name new other ≡ cond (has (take more symbols) other) (Some (declared (table_name old other))) (table_name old other)
+    names other =
+        m.names other
+        ∙ ap (cond (has (name ∷ []) other) (Some last)) (d.names other)
+        ∙ join (has (take n symbols) other) (has (name ∷ []) other) (table_name old other) last (λ t. w ∙ ap declared (ap (table_name mid) ((bytes_eq-Decides name other).0 (has_one name other ∙ t)) ∙ d.names other))
+        ∙ ap (λ b. cond b (Some (declared (table_name old other))) (table_name old other)) (sym (longer other))
+
+-- a variable of a `$f` is declared
+typed_variable : (before : List Item) → AreSound before → (name : List ℕ) (l : Last (types name) before) → has (variables before) name ≡ true
+typed_variable before h name l =
+    let p = types_it name l.item l.good in
+    let s = h l.front l.item l.back l.whole in
+    let v = float_variable l.front l.item name s p.0 (float_second l.front l.item s p.0 ∙ ap Some p.1) in
+    let r = from_symbols is_variables name (active l.front) v in
+    in_has (variables before) name (to_symbols is_variables name before r.0 (subst (λ w. In r.0 w) (sym l.whole) (in_left r.0 l.front (l.item ∷ l.back) (active_in l.front r.0 r.1))) r.2 r.3)
+
+-- what is no variable is not typed
+pub untyped : (before : List Item) → AreSound before → (name : List ℕ) → has (variables before) name ≡ false → last_where (types name) before ≡ None
+untyped before h name e = elim (last_cases (types name) before) [
+  | inl n ↦ last_none (types name) before n
+  | inr l ↦ absurd (false≢true (sym e ∙ typed_variable before h name l))
+]
+
+without_number : (o : Option ℕ) → is_some o ≡ false → o ≡ None
+without_number None e = refl
+without_number (Some n) e = absurd (false≢true (sym e))
+
+no_variable : (before : List Item) (name : List ℕ) → last_where (declares_variable name) before ≡ None → has (variables before) name ≡ false
+no_variable before name e = variable_last before name ∙ ap is_some e
+
+constant_no_variable : (before : List Item) → AreSound before → (name : List ℕ) → has (constants before) name ≡ true → last_where (declares_variable name) before ≡ None
+constant_no_variable before h name t = without_number (last_where (declares_variable name) before) (sym (variable_last before name) ∙ constant_or_variable before h name t)
+
+-- what is told of the last `$v` and the last `$f` of a name
+pub variable_in : (before : List Item) → AreSound before → (name : List ℕ) → variable_of (declared_in before name) ≡ last_where (declares_variable name) before
+variable_in before h name = by_test (has (constants before) name) (last_where (declares_variable name) before) (last_where (types name) before) (constant_no_variable before h name)
+  where
+    by_test : (c : Bool) (v t : Option ℕ) → (c ≡ true → v ≡ None) → variable_of (cond c (Some Constant) (variable_at v t)) ≡ v
+    by_test true v t n = sym (n refl)
+    by_test false None t n = refl
+    by_test false (Some d) t n = refl
+
+pub float_in : (before : List Item) → AreSound before → (name : List ℕ) → float_of (declared_in before name) ≡ last_where (types name) before
+float_in before h name = by_test (has (constants before) name) (last_where (declares_variable name) before) (last_where (types name) before) (constant_no_variable before h name) (λ e. untyped before h name (no_variable before name e))
+  where
+    by_test : (c : Bool) (v t : Option ℕ) → (c ≡ true → v ≡ None) → (v ≡ None → t ≡ None) → float_of (cond c (Some Constant) (variable_at v t)) ≡ t
+    by_test true v t n u = sym (u (n refl))
+    by_test false None t n u = sym (u refl)
+    by_test false (Some d) t n u = refl
+
+-- what is told is told of a declared name
+pub is_declared_in : (before : List Item) (name : List ℕ) → is_some (declared_in before name) ≡ is_declared before name
+is_declared_in before name = by_test (has (constants before) name) (last_where (declares_variable name) before) (last_where (types name) before) ∙ ap (λ b. has (constants before) name || b) (sym (variable_last before name))
+  where
+    by_test : (c : Bool) (v t : Option ℕ) → is_some (cond c (Some Constant) (variable_at v t)) ≡ (c || is_some v)
+    by_test true v t = refl
+    by_test false None t = refl
+    by_test false (Some d) t = refl
+
+-- what one more item of a kind makes of what a name is declared as
+abbrev pub name_next : Kind → List (List ℕ) → ℕ → List ℕ → Option Declared → Option Declared
+name_next kind symbols number name old =
+    cond (is_constants kind && has symbols name) (Some Constant)
+    (cond (is_variables kind && has symbols name) (Some (Variable number (float_of old)))
+    (cond (is_floating kind && bytes_eq (get_or symbols 1 []) name) (typed_by number old) old))
+
+-- and of the number of a label
+abbrev pub label_next : Kind → Option (List ℕ) → ℕ → List ℕ → Option ℕ → Option ℕ
+label_next kind label number other old = cond (has (cond (is_labelled kind) (option_to_list label) []) other) (Some number) old
+
+join_next : (isc dvb tyb c : Bool) (v t : Option ℕ) (n : ℕ) → (dvb ≡ true → c ≡ false) → (dvb ≡ true → tyb ≡ false) → (tyb ≡ true → is_some v ≡ true) → (c ≡ true → v ≡ None) → (v ≡ None → t ≡ None)
+    → cond (c || isc) (Some Constant) (variable_at (cond dvb (Some n) v) (cond tyb (Some n) t)) ≡ cond isc (Some Constant) (cond dvb (Some (Variable n (float_of (cond c (Some Constant) (variable_at v t))))) (cond tyb (typed_by n (cond c (Some Constant) (variable_at v t))) (cond c (Some Constant) (variable_at v t))))
+join_next true dvb tyb true v t n a b d e f = refl
+join_next true dvb tyb false v t n a b d e f = refl
+join_next false true tyb true v t n a b d e f = absurd (false≢true (sym (a refl)))
+join_next false true true false v t n a b d e f = absurd (false≢true (sym (b refl)))
+join_next false true false false None t n a b d e f = ap (λ (w : Option ℕ). Some (Variable n w)) (f refl)
+join_next false true false false (Some m) t n a b d e f = refl
+join_next false false true true v t n a b d e f = absurd (false≢true (sym (ap is_some (e refl)) ∙ d refl))
+join_next false false true false None t n a b d e f = absurd (false≢true (d refl))
+join_next false false true false (Some m) t n a b d e f = refl
+join_next false false false true v t n a b d e f = refl
+join_next false false false false v t n a b d e f = refl
+
+has_under : (b : Bool) (symbols : List (List ℕ)) (name : List ℕ) → has (cond b symbols []) name ≡ (b && has symbols name)
+has_under true symbols name = refl
+has_under false symbols name = refl
+
+not_floating : (k : Kind) → is_variables k ≡ true → is_floating k ≡ false
+not_floating Variables e = refl
+not_floating Constants e = absurd (false≢true e)
+not_floating Disjoint e = absurd (false≢true e)
+not_floating Floating e = absurd (false≢true e)
+not_floating Essential e = absurd (false≢true e)
+not_floating Axiom e = absurd (false≢true e)
+not_floating Theorem e = absurd (false≢true e)
+not_floating BlockStart e = absurd (false≢true e)
+not_floating BlockEnd e = absurd (false≢true e)
+not_floating Missing e = absurd (false≢true e)
+not_floating Passed e = absurd (false≢true e)
+
+pub declared_next : (before : List Item) (item : Item) (name : List ℕ) → AreSound (before ++ item ∷ []) → declared_in (before ++ item ∷ []) name ≡ name_next item.kind item.symbols (length before) name (declared_in before name)
+declared_next before item name h =
+    (λ i. cond (constant i) (Some Constant) (variable_at (last_where_next (declares_variable name) before item i) (last_where_next (types name) before item i)))
+    ∙ join_next (is_constants item.kind && has item.symbols name) (declares_variable name item) (types name item) (has (constants before) name) (last_where (declares_variable name) before) (last_where (types name) before) (length before)
+    fresh apart_kinds there (constant_no_variable before front name) (λ e. untyped before front name (no_variable before name e))
+  where
+    front : AreSound before
+    front = sound_front before (item ∷ []) h
+
+    constant : has (constants (before ++ item ∷ [])) name ≡ (has (constants before) name || (is_constants item.kind && has item.symbols name))
+    constant = ap (λ w. has w name) (constants_next before item) ∙ list_any-append (bytes_eq name) (constants before) (cond (is_constants item.kind) item.symbols []) ∙ ap (λ b. has (constants before) name || b) (has_under (is_constants item.kind) item.symbols name)
+
+    fresh : declares_variable name item ≡ true → has (constants before) name ≡ false
+    fresh t = false_from_ne_true (has (constants before) name) (λ c. false≢true (
+        sym (ap is_some (constant_no_variable (before ++ item ∷ []) h name (constant ∙ ap (λ b. b || (is_constants item.kind && has item.symbols name)) c)))
+        ∙ ap is_some (last_where_next (declares_variable name) before item) ∙ ap (λ b. is_some (cond b (Some (length before)) (last_where (declares_variable name) before))) t))
+
+    apart_kinds : declares_variable name item ≡ true → types name item ≡ false
+    apart_kinds t = ap (λ b. b && bytes_eq (meant.variable_of item) name) (not_floating item.kind (and_both (is_variables item.kind) (has item.symbols name) t).0)
+
+    there : types name item ≡ true → is_some (last_where (declares_variable name) before) ≡ true
+    there t =
+        let p = types_it name item t in
+        let s = h before item [] refl in
+        let v = float_variable before item name s p.0 (float_second before item s p.0 ∙ ap Some p.1) in
+        let r = from_symbols is_variables name (active before) v in
+        sym (variable_last before name) ∙ in_has (variables before) name (to_symbols is_variables name before r.0 (active_in before r.0 r.1) r.2 r.3)
+
+-- the tables that take an item as its kind says
+pub record Takes (kind : Kind) (item : Item) (number : ℕ) (old new : Tables) : Type 0 where
+  pub names : (name : List ℕ) → table_name new name ≡ name_next kind item.symbols number name (table_name old name)
+  pub labels : (label : List ℕ) → table_label new label ≡ label_next kind item.label number label (table_label old label)
+
+pub knows_next : (before : List Item) (item : Item) (kind : Kind) (number : ℕ) (old new : Tables) → kind ≡ item.kind → AreSound (before ++ item ∷ []) → length before ≡ number → Knows before old → Takes kind item number old new → Knows (before ++ item ∷ []) new
+knows_next before item kind number old new e h l k t = record {
+  names = λ name. (let q = k.names name in t.names name ∙ (λ i. name_next (e i) item.symbols (sym l i) name (q i)) ∙ sym (declared_next before item name h));
+  labels = λ label. (let q = k.labels label in t.labels label ∙ (λ i. label_next (e i) item.label (sym l i) label (q i)) ∙ sym (last_where_next (carries label) before item));
+}
+
+-- what stands in the place of a statement at fault changes nothing
+pub knows_passed : (before : List Item) (tables : Tables) → Knows before tables → Knows (before ++ passed ∷ []) tables
+knows_passed before tables k = record {
+  names = λ name. k.names name ∙ sym (same name);
+  labels = λ label. k.labels label ∙ sym (last_where_next (carries label) before passed);
+}
+  where
+    same : (name : List ℕ) → declared_in (before ++ passed ∷ []) name ≡ declared_in before name
+    same name = (λ i. cond (constant i) (Some Constant) (variable_at (last_where_next (declares_variable name) before passed i) (last_where_next (types name) before passed i)))
+      where
+        constant : has (constants (before ++ passed ∷ [])) name ≡ has (constants before) name
+        constant = ap (λ w. has w name) (constants_next before passed) ∙ list_any-append (bytes_eq name) (constants before) [] ∙ or_none (has (constants before) name)
+
+-- the kinds
+pub takes_constants : (item : Item) (number : ℕ) (old new : Tables) → Declares old item.symbols (λ _. Constant) new → Takes Constants item number old new
+takes_constants item number old new d = record { names = d.names; labels = d.labels }
+
+pub takes_variables : (item : Item) (number : ℕ) (old new : Tables) → Declares old item.symbols (λ told. Variable number (float_of told)) new → Takes Variables item number old new
+takes_variables item number old new d = record { names = d.names; labels = d.labels }
+
+pub takes_float : (item : Item) (number : ℕ) (old mid new : Tables) → Types old (meant.variable_of item) number mid → Carries mid (option_to_list item.label) number new → Takes Floating item number old new
+takes_float item number old mid new t c = record { names = λ name. c.names name ∙ t.names name; labels = λ label. c.labels label ∙ ap (cond (has (option_to_list item.label) label) (Some number)) (t.labels label) }
+
+-- a sound `$f` has a second symbol
+pub takes_sound_float : (before : List Item) (item : Item) (number : ℕ) (old mid new : Tables) → IsSound before item → Floating ≡ item.kind → (1 < length item.symbols → Types old (meant.variable_of item) number mid) → Carries mid (option_to_list item.label) number new → Takes Floating item number old new
+takes_sound_float before item number old mid new s e t c =
+    let two = float_two before item s (ap is_floating (sym e)) in
+    let count = ap length two.2 in
+    takes_float item number old mid new (t (omega (arith, count))) c
+
+-- what only carries a label
+pub takes_label : (kind : ItemKind) (item : Item) (number : ℕ) (old new : Tables) → (kind ≡ items.Essential) ⊎ ((kind ≡ items.Axiom) ⊎ (kind ≡ items.Theorem)) → Carries old (option_to_list item.label) number new → Takes (kind_of kind) item number old new
+takes_label kind item number old new (inl e) c = subst (λ k. Takes (kind_of k) item number old new) (sym e) (record { names = c.names; labels = c.labels })
+takes_label kind item number old new (inr (inl e)) c = subst (λ k. Takes (kind_of k) item number old new) (sym e) (record { names = c.names; labels = c.labels })
+takes_label kind item number old new (inr (inr e)) c = subst (λ k. Takes (kind_of k) item number old new) (sym e) (record { names = c.names; labels = c.labels })
+
+-- what declares and carries nothing
+pub takes_nothing : (kind : ItemKind) (item : Item) (number : ℕ) (tables : Tables) → (kind ≡ items.Disjoint) ⊎ ((kind ≡ items.BlockStart) ⊎ ((kind ≡ items.BlockEnd) ⊎ (kind ≡ items.Missing))) → Takes (kind_of kind) item number tables tables
+takes_nothing kind item number tables (inl e) = subst (λ k. Takes (kind_of k) item number tables tables) (sym e) (record { names = λ name. refl; labels = λ label. refl })
+takes_nothing kind item number tables (inr (inl e)) = subst (λ k. Takes (kind_of k) item number tables tables) (sym e) (record { names = λ name. refl; labels = λ label. refl })
+takes_nothing kind item number tables (inr (inr (inl e))) = subst (λ k. Takes (kind_of k) item number tables tables) (sym e) (record { names = λ name. refl; labels = λ label. refl })
+takes_nothing kind item number tables (inr (inr (inr e))) = subst (λ k. Takes (kind_of k) item number tables tables) (sym e) (record { names = λ name. refl; labels = λ label. refl })

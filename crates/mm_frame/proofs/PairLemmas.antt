@@ -1,0 +1,123 @@
+-- Active pairs grow by those of each `$d`, and an active statement reads at its own place as behind all items.
+use Rattle.std.proofs.Common.{◌≡◌, ℕ, suc, Bool, true, false, cond, Some, List, [], ◌∷◌, ◌++◌, map, filter, flat_map, take, drop, slice_get, refl, sym, ◌∙◌, ap, subst, append_assoc, append-nil, inl, inr}
+use Rattle.std.proofs.lemmas.Bool.{false≢true, or_parts}
+use Rattle.std.proofs.lemmas.Grind.{flat_map-append}
+use Rattle.std.proofs.lemmas.Option.{get_or_from_slice_get}
+use Rattle.mm_frame.specs.Language.{Symbol}
+use Rattle.mm_frame.specs.Item.{Kind, Disjoint, Item, passed, is_disjoint, is_labelled, has}
+use Rattle.mm_frame.specs.Scope.{Opens, Closes, Neither, mark_of, is_zero, stays, active, active_variables}
+use Rattle.mm_frame.specs.declared.FrameNumber.TheVariants.{F09}
+use Rattle.mm_frame.specs.Sound.{each, is_no_variable, IsSound, AreSound}
+use Rattle.mm_frame.specs.Framing.{symbol, expression, pairs_of, active_pairs}
+use Rattle.mm_frame.specs.Tables.{item_at, is_active_at, active_numbers}
+use Rattle.mm_frame.proofs.Members.{In, in_get, has_in, in_has}
+use Rattle.mm_frame.proofs.Scopes.{active_split}
+use Rattle.mm_frame.proofs.Facts.{not_not, no_symbol_of}
+use Rattle.mm_frame.proofs.Frames.{variables_later}
+use Rattle.mm_frame.proofs.Outermost.{split_at, map_same, sound_front, expression_stays}
+use Rattle.mm_frame.proofs.TableLemmas.{not_closing, not_closing_start, closed_next, active_more}
+use Rattle.mm_frame.proofs.HypothesisNumbers.{from_active_number, active_number_items}
+
+-- a `$d` opens and closes no block
+disjoint_neither : (k : Kind) → is_disjoint k ≡ true → mark_of k ≡ Neither
+disjoint_neither Disjoint e = refl
+disjoint_neither _ e = absurd (false≢true e)
+
+start_disjoint : (k : Kind) → mark_of k ≡ Opens → is_disjoint k ≡ false
+start_disjoint Disjoint e = cc
+start_disjoint _ e = refl
+
+-- each symbol of a sound `$d` is an active variable
+pub disjoint_named : (before : List Item) (item : Item) (name : List ℕ) → IsSound before item → is_disjoint item.kind ≡ true → In name item.symbols → In name (active_variables before)
+disjoint_named before item name s t h =
+    let g = in_get name item.symbols h in
+    has_in (active_variables before) name (not_not (has (active_variables before) name) (no_symbol_of (is_disjoint item.kind) (each (is_no_variable before)) item (λ word. (or_parts _ _ (s word F09)).0) t g.0 name g.1))
+
+-- and stays one as long as the `$d` is active
+pub disjoint_variable : (items front : List Item) (item : Item) (back : List Item) (name : List ℕ) → AreSound items → items ≡ front ++ item ∷ back → is_disjoint item.kind ≡ true → stays back ≡ true → In name item.symbols → In name (active_variables items)
+disjoint_variable items front item back name h e t s n = subst (λ w. In name (active_variables w)) (sym e) (variables_later front item back name (disjoint_neither item.kind t) s (disjoint_named front item name (h front item back e) t n))
+
+pub active_disjoint_variable : (items : List Item) (item : Item) (name : List ℕ) → AreSound items → In item (active items) → is_disjoint item.kind ≡ true → In name item.symbols → has (active_variables items) name ≡ true
+active_disjoint_variable items item name h a t n = let s = active_split items item a in in_has (active_variables items) name (disjoint_variable items s.front item s.back name h s.whole t s.stayed n)
+
+-- an active `$d` reads as at its own place
+disjoint_symbol : (items front : List Item) (item : Item) (back : List Item) (name : List ℕ) → AreSound items → items ≡ front ++ item ∷ back → is_disjoint item.kind ≡ true → stays back ≡ true → In name item.symbols → symbol items name ≡ symbol front name
+disjoint_symbol items front item back name h e t s n =
+    let here = in_has (active_variables items) name (disjoint_variable items front item back name h e t s n) in
+    let there = in_has (active_variables front) name (disjoint_named front item name (h front item back e) t n) in
+    let same = here ∙ sym there in
+    λ i. record { name = name; variable = same i }
+
+pub disjoint_stays : (items front : List Item) (item : Item) (back : List Item) → AreSound items → items ≡ front ++ item ∷ back → is_disjoint item.kind ≡ true → stays back ≡ true → expression items item ≡ expression front item
+disjoint_stays items front item back h e t s = map_same (symbol items) (symbol front) item.symbols (λ name n. disjoint_symbol items front item back name h e t s n)
+
+-- the same by the number of the item: an active `$f`, `$e`, `$a` or `$p`, and an active `$d`
+pub expression_at_number : (before : List Item) → AreSound before → (n : ℕ) (item : Item) → slice_get before n ≡ Some item → is_active_at before n ≡ true → is_labelled item.kind ≡ true → expression before item ≡ expression (take n before) item
+expression_at_number before h n item e s t = expression_stays before (take n before) item (drop (suc n) before) h (split_at before n item e) t s
+
+pub disjoint_at_number : (before : List Item) → AreSound before → (n : ℕ) (item : Item) → slice_get before n ≡ Some item → is_active_at before n ≡ true → is_disjoint item.kind ≡ true → expression before item ≡ expression (take n before) item
+disjoint_at_number before h n item e s t = disjoint_stays before (take n before) item (drop (suc n) before) h (split_at before n item e) t s
+
+-- the pairs of an item, as it reads behind these items
+abbrev pub item_pairs : List Item → Item → List (Symbol × Symbol)
+item_pairs items item = cond (is_disjoint item.kind) (pairs_of (expression items item)) []
+
+pairs_same : (b c : Bool) (xs ys : List Symbol) → b ≡ c → (b ≡ true → xs ≡ ys) → cond b (pairs_of xs) [] ≡ cond c (pairs_of ys) []
+pairs_same true c xs ys e h = ap pairs_of (h refl) ∙ ap (λ w. cond w (pairs_of ys) []) e
+pairs_same false c xs ys e h = ap (λ w. cond w (pairs_of ys) []) e
+
+flat_same : {X Y : Type 0} (f g : X → List Y) (xs : List X) → ((x : X) → In x xs → f x ≡ g x) → flat_map f xs ≡ flat_map g xs
+flat_same f g [] h = refl
+flat_same f g (x ∷ xs) h = let a = h x (inl refl) in let b = flat_same f g xs (λ y k. h y (inr k)) in λ i. a i ++ b i
+
+-- one more item that is no `$}`: what an active `$d` says stays the same
+pairs_stay : (before : List Item) (item : Item) → (mark_of item.kind ≡ Closes → ⊥) → AreSound (before ++ item ∷ []) → (x : Item) → In x (active before) → item_pairs (before ++ item ∷ []) x ≡ item_pairs before x
+pairs_stay before item n h x a =
+    let s = active_split before x a in
+    let stayed : stays (s.back ++ item ∷ []) ≡ true = ap is_zero (closed_next s.back item n) ∙ s.stayed in
+    let whole = ap (λ w. w ++ item ∷ []) s.whole ∙ append_assoc s.front (x ∷ s.back) (item ∷ []) in
+    pairs_same (is_disjoint x.kind) (is_disjoint x.kind) (expression (before ++ item ∷ []) x) (expression before x) refl (λ t. disjoint_stays (before ++ item ∷ []) s.front x (s.back ++ item ∷ []) h whole t stayed ∙ sym (disjoint_stays before s.front x s.back (sound_front before (item ∷ []) h) s.whole t s.stayed))
+
+-- behind one more item that is no `$}`, there are its pairs too
+pub active_pairs_more : (before : List Item) (item : Item) → (mark_of item.kind ≡ Closes → ⊥) → AreSound (before ++ item ∷ []) → active_pairs (before ++ item ∷ []) ≡ active_pairs before ++ cond (is_disjoint item.kind) (pairs_of (expression before item)) []
+active_pairs_more before item n h =
+    let whole = before ++ item ∷ [] in
+    let old = flat_same (item_pairs whole) (item_pairs before) (active before) (pairs_stay before item n h) in
+    let new = pairs_same (is_disjoint item.kind) (is_disjoint item.kind) (expression whole item) (expression before item) refl (λ t. disjoint_stays whole before item [] h refl t refl) in
+    ap (flat_map (item_pairs whole)) (active_more before item n) ∙ flat_map-append (item_pairs whole) (active before) (item ∷ []) ∙ (λ i. old i ++ (append-nil (item_pairs whole item) ∙ new) i)
+
+pub active_pairs_next : (before : List Item) (item : Item) → mark_of item.kind ≡ Neither → AreSound (before ++ item ∷ []) → active_pairs (before ++ item ∷ []) ≡ active_pairs before ++ cond (is_disjoint item.kind) (pairs_of (expression before item)) []
+active_pairs_next before item e h = active_pairs_more before item (not_closing (mark_of item.kind) e) h
+
+pub active_pairs_start : (before : List Item) (item : Item) → mark_of item.kind ≡ Opens → AreSound (before ++ item ∷ []) → active_pairs (before ++ item ∷ []) ≡ active_pairs before
+active_pairs_start before item e h = active_pairs_more before item (not_closing_start (mark_of item.kind) e) h ∙ ap (λ b. active_pairs before ++ cond b (pairs_of (expression before item)) []) (start_disjoint item.kind e) ∙ append-nil (active_pairs before)
+
+-- the active pairs, by the numbers of the active `$d`, each read at its own place
+abbrev pub is_disjoint_item : Item → Bool
+is_disjoint_item item = is_disjoint item.kind
+
+abbrev pub pairs_at : List Item → ℕ → List (Symbol × Symbol)
+pairs_at items n = pairs_of (expression (take n items) (item_at items n))
+
+disjoint_only_at : (items : List Item) (x : Item) (xs : List Item) (b : Bool) (ps : List (Symbol × Symbol)) → ps ≡ flat_map (λ y. pairs_of (expression items y)) xs → cond b (pairs_of (expression items x)) [] ++ ps ≡ flat_map (λ y. pairs_of (expression items y)) (cond b (x ∷ xs) xs)
+disjoint_only_at items x xs true ps e = ap (λ w. pairs_of (expression items x) ++ w) e
+disjoint_only_at items x xs false ps e = e
+
+disjoint_only : (items xs : List Item) → flat_map (item_pairs items) xs ≡ flat_map (λ y. pairs_of (expression items y)) (filter is_disjoint_item xs)
+disjoint_only items [] = refl
+disjoint_only items (x ∷ xs) = disjoint_only_at items x (filter is_disjoint_item xs) (is_disjoint x.kind) (flat_map (item_pairs items) xs) (disjoint_only items xs)
+
+flat_of_map : {X Y Z : Type 0} (f : Y → List Z) (g : X → Y) (xs : List X) → flat_map f (map g xs) ≡ flat_map (λ x. f (g x)) xs
+flat_of_map f g [] = refl
+flat_of_map f g (x ∷ xs) = ap (λ w. f (g x) ++ w) (flat_of_map f g xs)
+
+pub active_pairs_by_numbers : (before : List Item) → AreSound before → active_pairs before ≡ flat_map (pairs_at before) (active_numbers is_disjoint_item before)
+active_pairs_by_numbers before h =
+    let said = λ (y : Item). pairs_of (expression before y) in
+    disjoint_only before (active before) ∙ ap (flat_map said) (sym (active_number_items is_disjoint_item before)) ∙ flat_of_map said (item_at before) (active_numbers is_disjoint_item before) ∙ flat_same (λ n. said (item_at before n)) (pairs_at before) (active_numbers is_disjoint_item before) same
+  where
+    same : (n : ℕ) → In n (active_numbers is_disjoint_item before) → pairs_of (expression before (item_at before n)) ≡ pairs_at before n
+    same n k =
+        let r = from_active_number is_disjoint_item before n k in
+        let there = get_or_from_slice_get before n r.0 passed r.1 in
+        ap (λ w. pairs_of (expression before w)) there ∙ ap pairs_of (disjoint_at_number before h n r.0 r.1 r.2 r.3) ∙ ap (λ w. pairs_of (expression (take n before) w)) (sym there)

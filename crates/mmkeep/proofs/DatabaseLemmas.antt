@@ -1,0 +1,161 @@
+-- A text is one database: its files and its items are the same but for keys, and the items say the same.
+use Rattle.std.proofs.Common.{◌≡◌, ℕ, ◌+◌, ◌<◌, ◌≤◌, List, [], ◌∷◌, Some, length, map, take, slice_get, slice_range, refl, sym, ap, ◌∙◌, subst, arith, add-zero}
+use Rattle.std.specs.List.{AllZip, concat}
+use Rattle.std.specs.Option.{option_map}
+use Rattle.std.proofs.lemmas.List.{take-map}
+use Rattle.std.proofs.lemmas.List.Sums.{sum_by-cons}
+use Rattle.std.proofs.lemmas.Option.{slice_get-map, same_Some}
+use Rattle.std.proofs.lemmas.Simd.{map-map}
+use Rattle.mm_text.specs.declared.word.Word.{Word}
+use Rattle.mm_text.specs.declared.fault.TextFault.{TextFault}
+use Rattle.mm_text.specs.Reading.{HasWords}
+use Rattle.mm_text.specs.Cut.{IsCut, IsFirstFault, ended}
+use Rattle.mm_text.specs.Unit.{tokens_of}
+use Rattle.mm_store.specs.declared.item.Item as store
+use Rattle.mm_store.specs.FilesView.{PieceView, FileView, FilesView, no_files, piece_texts, text_of, bytes_of}
+use Rattle.mm_store.specs.FileFacts.{IsAdded, StandsIn, piece_offset}
+use Rattle.mm_store.specs.Answers.{HasTooMany}
+use Rattle.mm_store.specs.Expansion.{IsExpansion}
+use Rattle.mm_store.specs.Keyless.{keyless_piece, keyless_file, keyless_item}
+use Rattle.mm_frame.specs.Item.{Item}
+use Rattle.mm_frame.specs.Statement.{Says, kind_of, item_of}
+use Rattle.mmkeep.specs.Verified.{IsDatabase, IsWordAt, start_of}
+
+-- what is known of every text and of all files
+pub record Laws : Type 0 where
+  pub words : (text : List ℕ) (a b : List Word) → HasWords text a → HasWords text b → a ≡ b
+  pub fault : (text : List ℕ) (a b : TextFault) → IsFirstFault text a → IsFirstFault text b → a ≡ b
+  pub cut_or_fault : (text : List ℕ) (pieces : List (List ℕ)) (tail : List ℕ) (fault : TextFault) → IsCut text pieces tail → ¬ IsFirstFault text fault
+  pub items : (a b : List FileView) (top : List ℕ) (xs ys : List store.Item) → map keyless_file a ≡ map keyless_file b → IsExpansion a top xs → IsExpansion b top ys → map keyless_item xs ≡ map keyless_item ys
+  pub one_file : (a b : FilesView) (name text : List ℕ) → IsAdded no_files a name text → IsAdded no_files b name text → map keyless_file a.files ≡ map keyless_file b.files
+
+-- ---- what stands in files that are the same but for keys
+
+-- lists that a function makes the same have, at one place, what it makes the same
+same_at : {X Y : Type 0} (f : X → Y) (xs ys : List X) (m n : ℕ) (x y : X) → map f xs ≡ map f ys → m ≡ n → slice_get xs m ≡ Some x → slice_get ys n ≡ Some y → f x ≡ f y
+same_at f xs ys m n x y same number at there =
+    let first : slice_get (map f xs) m ≡ Some (f x) = slice_get-map f xs m ∙ ap (option_map f) at in
+    let second : slice_get (map f ys) n ≡ Some (f y) = slice_get-map f ys n ∙ ap (option_map f) there in
+    same_Some (f x) (f y) (cc)
+
+-- the pieces have the same texts
+same_texts : (f g : FileView) → keyless_file f ≡ keyless_file g → piece_texts f.pieces ≡ piece_texts g.pieces
+same_texts f g same =
+    sym (map-map (λ (piece : PieceView). piece.text) keyless_piece f.pieces)
+    ∙ ap (λ (file : FileView). piece_texts file.pieces) same
+    ∙ map-map (λ (piece : PieceView). piece.text) keyless_piece g.pieces
+
+-- files that are the same but for keys, and an item of each of the two, the same but for its key
+record AreAlike (a b : FilesView) (x y : store.Item) : Type 0 where
+  files : map keyless_file a.files ≡ map keyless_file b.files
+  item : keyless_item x ≡ keyless_item y
+
+same_file : (a b : FilesView) (x y : store.Item) (f g : FileView) → AreAlike a b x y → slice_get a.files x.file ≡ Some f → slice_get b.files y.file ≡ Some g → keyless_file f ≡ keyless_file g
+same_file a b x y f g alike at there = same_at keyless_file a.files b.files x.file y.file f g alike.files (ap (λ (z : store.Item). z.file) alike.item) at there
+
+same_text : (a b : FilesView) (x y : store.Item) → AreAlike a b x y → (s : StandsIn a x) (t : StandsIn b y) → s.text ≡ t.text
+same_text a b x y alike s t =
+    same_at (λ (piece : PieceView). piece.text) s.file.pieces t.file.pieces x.piece y.piece (record { key = x.key; text = s.text }) (record { key = y.key; text = t.text })
+    (same_texts s.file t.file (same_file a b x y s.file t.file alike s.there t.there)) (ap (λ (z : store.Item). z.piece) alike.item) s.is_piece t.is_piece
+
+-- the bytes of an item
+abbrev bytes_in : List ℕ → store.Item → List ℕ
+bytes_in text item = slice_range text item.start item.end
+
+same_bytes : (a b : FilesView) (x y : store.Item) → AreAlike a b x y → (s : StandsIn a x) (t : StandsIn b y) → bytes_in s.text x ≡ bytes_in t.text y
+same_bytes a b x y alike s t = ap (λ text. bytes_in text x) (same_text a b x y alike s t) ∙ ap (λ (z : store.Item). bytes_in t.text z) alike.item
+
+same_words : Laws → (a b : FilesView) (x y : store.Item) → AreAlike a b x y → (s : StandsIn a x) (t : StandsIn b y) → s.words ≡ t.words
+same_words laws a b x y alike s t = laws.words (bytes_in t.text y) s.words t.words (subst (λ bytes. HasWords bytes s.words) (same_bytes a b x y alike s t) s.has_words) t.has_words
+
+-- ---- what the items say, and where their words begin
+
+same_said : Laws → (a b : FilesView) (x y : store.Item) (said other : Item) → AreAlike a b x y → Says a x said → Says b y other → said ≡ other
+same_said laws a b x y said other alike f g =
+    f.is
+    ∙ ap (λ (z : store.Item). item_of (kind_of z.kind) (tokens_of (bytes_in f.stands.text x) f.stands.words)) alike.item
+    ∙ ap (λ bytes. item_of (kind_of y.kind) (tokens_of bytes f.stands.words)) (same_bytes a b x y alike f.stands g.stands)
+    ∙ ap (λ words. item_of (kind_of y.kind) (tokens_of (bytes_in g.stands.text y) words)) (same_words laws a b x y alike f.stands g.stands)
+    ∙ sym g.is
+
+same_all_said : Laws → (a b : FilesView) (xs ys : List store.Item) (all others : List Item) → map keyless_file a.files ≡ map keyless_file b.files → map keyless_item xs ≡ map keyless_item ys → AllZip (Says a) xs all → AllZip (Says b) ys others → all ≡ others
+same_all_said laws a b [] [] [] [] files items f g = refl
+same_all_said laws a b (x ∷ xs) (y ∷ ys) (said ∷ all) (other ∷ others) files items f g =
+    let item : keyless_item x ≡ keyless_item y = cc in
+    let rest : map keyless_item xs ≡ map keyless_item ys = cc in
+    let first : said ≡ other = same_said laws a b x y said other (record { files = files; item = item }) f.0 g.0 in
+    let later : all ≡ others = same_all_said laws a b xs ys all others files rest f.1 g.1 in
+    cc
+same_all_said laws a b [] [] [] (other ∷ others) files items f g = absurd g
+same_all_said laws a b [] [] (said ∷ all) others files items f g = absurd f
+same_all_said laws a b [] (y ∷ ys) all others files items f g = cc
+same_all_said laws a b (x ∷ xs) [] all others files items f g = cc
+same_all_said laws a b (x ∷ xs) (y ∷ ys) [] others files items f g = absurd f
+same_all_said laws a b (x ∷ xs) (y ∷ ys) (said ∷ all) [] files items f g = absurd g
+
+-- the bytes before a piece, counted by the texts of the pieces
+offset_by_texts : (file : FileView) (n : ℕ) → piece_offset file n ≡ length (concat (take n (piece_texts file.pieces)))
+offset_by_texts file n = ap (λ texts. length (concat texts)) (sym (take-map (λ (piece : PieceView). piece.text) n file.pieces))
+
+same_offset : (f g : FileView) (m n : ℕ) → keyless_file f ≡ keyless_file g → m ≡ n → piece_offset f m ≡ piece_offset g n
+same_offset f g m n same number =
+    offset_by_texts f m
+    ∙ ap (λ k. length (concat (take k (piece_texts f.pieces)))) number
+    ∙ ap (λ texts. length (concat (take n texts))) (same_texts f g same)
+    ∙ sym (offset_by_texts g n)
+
+same_byte : Laws → (a b : FilesView) (x y : store.Item) (v w at there : ℕ) → AreAlike a b x y → v ≡ w → IsWordAt a x v at → IsWordAt b y w there → at ≡ there
+same_byte laws a b x y v w at there alike number f g =
+    let piece : x.piece ≡ y.piece = ap (λ (z : store.Item). z.piece) alike.item in
+    let start : x.start ≡ y.start = ap (λ (z : store.Item). z.start) alike.item in
+    let words : f.stands.words ≡ g.stands.words = same_words laws a b x y alike f.stands g.stands in
+    let file : keyless_file f.byte.file ≡ keyless_file g.byte.file = same_file a b x y f.byte.file g.byte.file alike f.byte.there g.byte.there in
+    let offset : piece_offset f.byte.file x.piece ≡ piece_offset g.byte.file y.piece = same_offset f.byte.file g.byte.file x.piece y.piece file piece in
+    f.byte.is_offset ∙ (λ i. offset i + (start i + start_of (slice_get (words i) (number i)))) ∙ sym g.byte.is_offset
+
+-- ---- two databases of one name and text
+
+-- the files, the items and what they say, of a text
+pub record Database (name text : List ℕ) : Type 0 where
+  pub files : FilesView
+  pub found : List store.Item
+  pub items : List Item
+  pub is : IsDatabase name text files found items
+
+same_files : {name text : List ℕ} → Laws → (a b : Database name text) → map keyless_file a.files.files ≡ map keyless_file b.files.files
+same_files {name} {text} laws a b = laws.one_file a.files b.files name text a.is.added b.is.added
+
+same_found : {name text : List ℕ} → Laws → (a b : Database name text) → map keyless_item a.found ≡ map keyless_item b.found
+same_found {name} {text} laws a b = laws.items a.files.files b.files.files name a.found b.found (same_files laws a b) a.is.expansion b.is.expansion
+
+pub same_items : {name text : List ℕ} → Laws → (a b : Database name text) → a.items ≡ b.items
+same_items laws a b = same_all_said laws a.files b.files a.found b.found a.items b.items (same_files laws a b) (same_found laws a b) a.is.say b.is.say
+
+-- where a word of an item begins
+pub record Place {name text : List ℕ} (database : Database name text) (n word at : ℕ) : Type 0 where
+  pub item : store.Item
+  pub there : slice_get database.found n ≡ Some item
+  pub place : IsWordAt database.files item word at
+
+-- a word with one number, of an item with one number, begins at one byte
+pub same_place : {name text : List ℕ} → Laws → (a b : Database name text) (m n v w at other : ℕ) → m ≡ n → v ≡ w → Place a m v at → Place b n w other → at ≡ other
+same_place laws a b m n v w at other number word f g =
+    let item : keyless_item f.item ≡ keyless_item g.item = same_at keyless_item a.found b.found m n f.item g.item (same_found laws a b) number f.there g.there in
+    same_byte laws a.files b.files f.item g.item v w at other (record { files = same_files laws a b; item = item }) word f.place g.place
+
+-- ---- a database, or a text that is none
+
+pub database_or_fault : {name text : List ℕ} → Laws → Database name text → (fault : TextFault) → ¬ IsFirstFault text fault
+database_or_fault {text = text} laws a fault f = laws.cut_or_fault text (piece_texts a.is.added.file.pieces) a.is.added.file.tail fault a.is.added.is_cut f
+
+-- the files have the bytes of the text, with the line feed at its end
+bytes_are : (name text : List ℕ) (files : FilesView) → IsAdded no_files files name text → bytes_of files.files ≡ length (ended text)
+bytes_are name text files f =
+    ap bytes_of f.last ∙ sum_by-cons (λ (file : FileView). length (text_of file)) f.file [] ∙ ap (λ bytes. length bytes + 0) f.is_cut.joined ∙ add-zero (length (ended text))
+
+pub database_or_too_many : {name text : List ℕ} → Database name text → ¬ HasTooMany no_files text
+database_or_too_many {name} {text} a f =
+    let bytes : bytes_of a.files.files ≡ length (ended text) = bytes_are name text a.files a.is.added in
+    let within : bytes_of a.files.files ≤ 4294967295 = a.is.within in
+    let too_many : 4294967295 < 0 + length (ended text) = f.too_many in
+    omega arith
