@@ -3,7 +3,7 @@ use Rattle.std.proofs.Common.{◌≡◌, ◌≢◌, ℕ, zero, suc, pred, ◌+�
 use Rattle.std.specs.Prelude.{Result, Ok, is_ok, IsSome, slice_range, unwrap_or, option_to_list}
 use Rattle.std.proofs.lemmas.Bool.{eq-eqb, ne_eqb, le-leb, lt-leb, false≢true}
 use Rattle.std.proofs.Math.Seq.{take-append-add}
-use Rattle.std.proofs.lemmas.List.{length_push, take-append-drop, drop-append-le, length-drop, drop_all, take-append-le, length-set, get_or-set_same, get_or-set_other}
+use Rattle.std.proofs.lemmas.List.{length_push, take-append-drop, drop-append-le, length-drop, drop_all, take_rest, take-append-le, length-set, get_or-set_same, get_or-set_other}
 use Rattle.std.proofs.lemmas.List.Sums.{sum_by-cons, sum_by_push, count_by-le-length}
 use Rattle.std.proofs.lemmas.Option.{slice_get_within, slice_get-get_or, same_Some}
 use native.Mathlib.Decide.{dec_lt}
@@ -35,18 +35,18 @@ pub is_inside_of : (items : List Item) → is_inside items ≡ is_inside_by (mar
 is_inside_of items = rw (starts_of items, ends_of items) refl
 
 -- a list with one more element
-get_front : {X : Type 0} (xs : List X) (y x : X) (n : ℕ) → slice_get xs n ≡ Some x → slice_get (xs ++ y ∷ []) n ≡ Some x
+pub get_front : {X : Type 0} (xs : List X) (y x : X) (n : ℕ) → slice_get xs n ≡ Some x → slice_get (xs ++ y ∷ []) n ≡ Some x
 get_front [] y x n e = cc
 get_front (z ∷ xs) y x zero e = e
 get_front (z ∷ xs) y x (suc n) e = get_front xs y x n e
 
-get_last : {X : Type 0} (xs : List X) (y : X) (n : ℕ) → n ≡ length xs → slice_get (xs ++ y ∷ []) n ≡ Some y
+pub get_last : {X : Type 0} (xs : List X) (y : X) (n : ℕ) → n ≡ length xs → slice_get (xs ++ y ∷ []) n ≡ Some y
 get_last [] y zero e = refl
 get_last [] y (suc n) e = absurd (omega arith)
 get_last (z ∷ xs) y zero e = absurd (omega arith)
 get_last (z ∷ xs) y (suc n) e = get_last xs y n (omega arith)
 
-get_cases : {X : Type 0} (xs : List X) (y x : X) (n : ℕ) → slice_get (xs ++ y ∷ []) n ≡ Some x → (slice_get xs n ≡ Some x) ⊎ ((n ≡ length xs) × (y ≡ x))
+pub get_cases : {X : Type 0} (xs : List X) (y x : X) (n : ℕ) → slice_get (xs ++ y ∷ []) n ≡ Some x → (slice_get xs n ≡ Some x) ⊎ ((n ≡ length xs) × (y ≡ x))
 get_cases [] y x zero e = inr (refl, same_Some y x e)
 get_cases [] y x (suc n) e = cc
 get_cases (z ∷ xs) y x zero e = inl e
@@ -73,7 +73,7 @@ marks_same ends more item before [] h = refl
 marks_same ends more item before (block ∷ blocks) h =
     ap (λ w. cond w Closes (cond (before == block) Neither Opens) ∷ marks_from more (suc item) block blocks) (h before item (omega arith)) ∙ ap (λ w. mark_between ends item before block ∷ w) (marks_same ends more (suc item) block blocks (λ b n l. h b n (omega arith)))
 
-length_marks : (ends : List (Option ℕ)) (item before : ℕ) (blocks : List ℕ) → length (marks_from ends item before blocks) ≡ length blocks
+pub length_marks : (ends : List (Option ℕ)) (item before : ℕ) (blocks : List ℕ) → length (marks_from ends item before blocks) ≡ length blocks
 length_marks ends item before [] = refl
 length_marks ends item before (block ∷ blocks) = ap suc (length_marks ends (suc item) block blocks)
 
@@ -475,6 +475,20 @@ count_within test ends blocks n e = omega (arith, count_by-le-length test (marks
 
 pub items_within : (ends : List (Option ℕ)) (blocks : List ℕ) (marks : List Mark) (n : ℕ) → marks_from ends 0 0 blocks ≡ marks → n ≤ length marks → n ≤ length blocks
 items_within ends blocks marks n e l = omega (arith, ap length e, length_marks ends 0 0 blocks)
+
+-- there are as many items as marks
+pub marks_count : (ends : List (Option ℕ)) (blocks : List ℕ) (marks : List Mark) → marks_from ends 0 0 blocks ≡ marks → length marks ≡ length blocks
+marks_count ends blocks marks e = sym (ap length e) ∙ length_marks ends 0 0 blocks
+
+-- what stands behind an item up to the last one
+pub behind_item : (marks : List Mark) (from count : ℕ) → count ≡ length marks → slice_range marks (from + 1) count ≡ drop (suc from) marks
+behind_item marks from count e =
+    let next : from + 1 ≡ suc from = omega arith in
+    ap (slice_range marks (from + 1)) e ∙ take_rest marks (from + 1) ∙ ap (λ n. drop n marks) next
+
+-- nothing stands behind an item that is yet to come
+pub behind_none : (marks : List Mark) (from : ℕ) → length marks ≤ from → stays_by (drop (suc from) marks) ≡ true
+behind_none marks from l = ap stays_by (drop_all (suc from) marks (omega arith))
 
 -- an item whose block is open is active, and one whose block has ended is so up to the end
 pub is_active_open : (blocks : List ℕ) (ends : List (Option ℕ)) (outer : List ℕ) (current begun ended from at block : ℕ) → AreKept blocks ends outer current begun ended → from < length blocks → block ≡ get_or blocks from block → end_of ends block ≡ None → stays_by (slice_range (marks_from ends 0 0 blocks) (from + 1) at) ≡ true

@@ -23,7 +23,7 @@ pub float_neither : (k : Kind) → is_floating k ≡ true → mark_of k ≡ Neit
 float_neither Floating e = refl
 float_neither _ e = absurd (false≢true e)
 
-essential_expression : (k : Kind) → is_essential k ≡ true → is_expression k ≡ true
+pub essential_expression : (k : Kind) → is_essential k ≡ true → is_expression k ≡ true
 essential_expression Essential e = refl
 essential_expression _ e = absurd (false≢true e)
 
@@ -31,7 +31,7 @@ essential_neither : (k : Kind) → is_essential k ≡ true → mark_of k ≡ Nei
 essential_neither Essential e = refl
 essential_neither _ e = absurd (false≢true e)
 
-assertion_expression : (k : Kind) → is_assertion k ≡ true → is_expression k ≡ true
+pub assertion_expression : (k : Kind) → is_assertion k ≡ true → is_expression k ≡ true
 assertion_expression Axiom e = refl
 assertion_expression Theorem e = refl
 assertion_expression _ e = absurd (false≢true e)

@@ -108,7 +108,7 @@ pub active_numbers_more : (test : Item → Bool) (items : List Item) (item : Ite
 active_numbers_more test items item c = let z : 0 + length items ≡ length items = omega arith in next_from test 0 items item c ∙ ap (λ w. active_numbers test items ++ cond (test item) (w ∷ []) []) z
 
 -- rising lists of the same numbers are the same
-above : (n : ℕ) (ns : List ℕ) (m : ℕ) → IsRising (n ∷ ns) → In m ns → n < m
+pub above : (n : ℕ) (ns : List ℕ) (m : ℕ) → IsRising (n ∷ ns) → In m ns → n < m
 above n ns m r h =
     let g = in_get m ns h in
     let e : get_or ns g.0 0 ≡ m = get_or_from_slice_get ns g.0 m 0 g.1 in
@@ -116,7 +116,7 @@ above n ns m r h =
     let l : n < get_or ns g.0 0 = r 0 (suc g.0) 0 (omega arith) (omega arith) in
     omega arith
 
-behind : (n : ℕ) (ns : List ℕ) → IsRising (n ∷ ns) → IsRising ns
+pub behind : (n : ℕ) (ns : List ℕ) → IsRising (n ∷ ns) → IsRising ns
 behind n ns r i j d l m = r (suc i) (suc j) d (omega arith) (omega arith)
 
 same_first : (m n : ℕ) (ms ns : List ℕ) → IsRising (m ∷ ms) → IsRising (n ∷ ns) → In m (n ∷ ns) → In n (m ∷ ms) → m ≡ n
@@ -190,7 +190,7 @@ pub mandatory_last : (before : List Item) → AreSound before → (item : Item) 
 mandatory_last before h item t name m = some_active before (last_where (types name) before) (sym (typed_last before h name) ∙ in_has (typed before) name (t name m))
 
 -- the item of the last number passes
-last_there : (test : Item → Bool) (before : List Item) (n : ℕ) → last_where test before ≡ Some n → (x : Item) × (slice_get before n ≡ Some x) × (test x ≡ true)
+pub last_there : (test : Item → Bool) (before : List Item) (n : ℕ) → last_where test before ≡ Some n → (x : Item) × (slice_get before n ≡ Some x) × (test x ≡ true)
 last_there test before n e = elim (last_cases test before) [
   | inl none ↦ (let q : None ≡ Some n = sym (last_none test before none) ∙ e in cc)
   | inr l ↦ (let q : Some (length l.front) ≡ Some n = sym (last_number test before l) ∙ e in let z : length l.front ≡ n = cc in (l.item, ap (λ w. slice_get w n) l.whole ∙ subst (λ w. slice_get (l.front ++ l.item ∷ l.back) w ≡ Some l.item) z (get_between l.front l.item l.back), l.good))

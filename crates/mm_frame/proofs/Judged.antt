@@ -206,7 +206,7 @@ sound_found before item s = by_fault (fault before item) refl
     by_fault None e = e
 
 -- what is passed over has no fault
-passed_sound : (before : List Item) → IsSound before passed
+pub passed_sound : (before : List Item) → IsSound before passed
 passed_sound before word F01 = refl
 passed_sound before word F02 = refl
 passed_sound before word F03 = refl

@@ -15,3 +15,9 @@ pub mod BlockLemmas
 pub mod JudgingLemmas
 pub mod PairLemmas
 pub mod KnownLemmas
+pub mod FaultLemmas
+pub mod ScopingLemmas
+pub mod EndLemmas
+pub mod MandatoryLemmas
+pub mod NamedLemmas
+pub mod BaseLemmas

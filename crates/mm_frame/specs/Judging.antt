@@ -1,9 +1,9 @@
 -- The fault of a statement as one reads it from left to right: by its kind, word by word, with the lowest number first (Metamath book, sections 4.1 and 4.2).
-use Rattle.std.specs.Prelude.{ℕ, suc, ◌&&◌, ◌==◌, if◌then◌else◌, Option, Some, None, List, [], ◌∷◌, length}
+use Rattle.std.specs.Prelude.{ℕ, suc, Bool, ◌&&◌, ◌||◌, ◌==◌, if◌then◌else◌, Option, Some, None, List, [], ◌∷◌, length}
 use Rattle.std.specs.Option.{option_or}
 use Rattle.mm_frame.specs.declared.FrameNumber.{FrameNumber}
 use Rattle.mm_frame.specs.declared.FrameNumber.TheVariants.{F01, F02, F03, F04, F05, F06, F07, F08, F09, F10, F11, F12, F13}
-use Rattle.mm_frame.specs.Item.{Kind, Constants, Variables, Disjoint, Floating, Essential, Axiom, Theorem, Item, is_constants, labels_of}
+use Rattle.mm_frame.specs.Item.{Kind, Constants, Variables, Disjoint, Floating, Essential, Axiom, Theorem, Item, is_constants, is_disjoint, is_declaring, labels_of}
 use Rattle.mm_frame.specs.Scope.{is_inside}
 use Rattle.mm_frame.specs.Sound.{first_symbol, closing_word, is_repeated, is_declared, is_active_symbol, is_label, is_no_constant, is_no_variable, is_unknown, is_untyped, is_typed, is_typed_otherwise, is_short, fault_or}
 
@@ -11,6 +11,10 @@ use Rattle.mm_frame.specs.Sound.{first_symbol, closing_word, is_repeated, is_dec
 abbrev pub first_fault : (ℕ → List ℕ → Option FrameNumber) → ℕ → ℕ → List (List ℕ) → Option (ℕ × FrameNumber)
 first_fault test word n [] = None
 first_fault test word n (name ∷ symbols) = fault_or word (test n name) (first_fault test (suc word) (suc n) symbols)
+
+-- the symbols of a statement of this kind have to differ
+abbrev pub must_differ : Kind → Bool
+must_differ kind = is_declaring kind || is_disjoint kind
 
 -- what is wrong with a symbol of a `$c`: it stands there twice, is declared, or is a label
 abbrev pub constant_fault : List Item → Item → ℕ → List ℕ → Option FrameNumber

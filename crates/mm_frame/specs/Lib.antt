@@ -27,3 +27,9 @@ pub mod Judging
 pub mod Known
 pub mod Statement
 pub mod Spoken
+pub mod Scoping
+pub mod Seen
+pub mod Named
+pub mod Pruned
+pub mod Base
+pub mod Kept

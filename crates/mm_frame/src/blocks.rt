@@ -1,6 +1,6 @@
 //! Blocks: whether an item is active at a later one.
 
-ghost use Rattle.std.specs.Prelude.{◌≡◌, ℕ, ◌+◌, ◌<◌, ◌≤◌, List, [], ◌∷◌, ◌++◌, length, slice_range, OnOk, OnErr};
+ghost use Rattle.std.specs.Prelude.{◌≡◌, ℕ, suc, ◌+◌, ◌<◌, ◌≤◌, List, [], ◌∷◌, ◌++◌, length, drop, slice_range, OnOk, OnErr};
 ghost use Rattle.mm_frame.specs.Scope.{Opens, Closes, Neither};
 ghost use Rattle.mm_frame.specs.Blocks.{is_inside_by, stays_by};
 ghost use Rattle.mm_frame.specs.BlockEnds.{end_of};
@@ -135,5 +135,12 @@ impl Blocks {
             None => true,
             Some(end) => at <= end,
         }
+    }
+
+    /// Whether the item `from` is active behind the last one; an item that is yet to come counts as active.
+    pub fn is_active_now(&self, from: usize) -> bool
+        ensures { result ≡ stays_by (drop (suc from) self.now) }
+    {
+        from >= self.block_of.len() || self.is_active(from, self.block_of.len())
     }
 }

@@ -1,15 +1,26 @@
 //! Scopes, soundness and frames: what is declared and active behind a list of items, which statements are sound, and what labels mean.
 #![tactic(auto)]
 
+mod active;
+mod base;
 mod blocks;
+mod draft;
+mod judge;
+mod mandatory;
+mod scope;
 mod statement;
+mod symbol;
 mod tables;
 
+pub use base::Base;
+pub use draft::Frame;
+pub use judge::FrameFault;
 pub use mm_store::{
     Files, Item, ItemKind, KnownPlace, PieceKey, Place, StoreError, TextFault, TextNumber, fits,
     nth_word, place,
 };
 pub use statement::Statement;
+pub use symbol::NamedSymbol;
 
 #[cfg(test)]
 mod tests;

@@ -5,6 +5,7 @@ ghost use Rattle.std.specs.Option.{option_map};
 ghost use Rattle.std.specs.List.{prefix_len};
 ghost use Rattle.mm_store.specs.FileFacts.{StandsIn};
 ghost use Rattle.mm_frame.specs.Item as meant;
+ghost use Rattle.mm_frame.specs.Sound.{first_symbol};
 ghost use Rattle.mm_frame.specs.Spoken.{IsInside};
 ghost use Rattle.mm_frame.specs.Statement as spoken;
 ghost use Rattle.mm_frame.specs.Statement.{Says};
@@ -159,6 +160,16 @@ impl<'a> Statement<'a> {
         ensures { result.now ≡ slice_index_or self.now.symbols n [] }
     {
         bytes_of(self.text, &self.words, symbols_from(self.kind) + n)
+    }
+
+    /// The place of the n-th symbol, counted from 0, among all words of the statement, which are counted from 0 as
+    /// well, the label being the first. Where n is the count of symbols, it is the place of the `$.` or `$=` behind
+    /// them.
+    pub fn symbol_place(&self, n: usize) -> usize
+        requires { n ≤ length self.now.symbols }
+        ensures { result ≡ first_symbol self.now + n }
+    {
+        symbols_from(self.kind) + n
     }
 
     /// How many words the proof has: none where there is no proof.

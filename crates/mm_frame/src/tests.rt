@@ -1,10 +1,18 @@
 //! What the calls answer for small databases.
 
+ghost use Rattle.std.specs.Prelude.{IfOk};
 ghost use Rattle.mm_store.specs.FileFacts.{StandsIn};
+ghost use Rattle.mm_frame.specs.Base.{BaseView};
+ghost use Rattle.mm_frame.specs.Kept.{IsBase};
 
+use crate::active::ActiveNumbers;
 use crate::blocks::Blocks;
+use crate::judge::{FrameFault, fault_of};
+use crate::mandatory::{hypotheses, mandatory_pairs};
+use crate::scope::Scope;
+use crate::symbol::{NamedSymbol, expression_of};
 use crate::tables::{Declared, Tables};
-use crate::{Files, Item, ItemKind, Statement, StoreError};
+use crate::{Base, Files, FrameNumber, Item, ItemKind, Statement, StoreError};
 use std::alloc::{AllocError, Global};
 use std::test::Fail;
 
@@ -207,4 +215,377 @@ fn ends_the_outermost_block(rt: HostRuntime) -> Result<(), Fail> {
     assert!(rt; !blocks.is_active(0, 2));
     assert!(rt; blocks.is_active(2, 5));
     Ok(())
+}
+
+/// Four sound items, with three variables of which one has no `$f`.
+const START: &[u8] = b"$c wff |- ( ) -> $. $v p q r $. wp $f wff p $. wq $f wff q $.\n";
+
+/// Judges an item, and takes it where it is sound.
+fn judge_item<'a>(
+    alloc: Global,
+    files: &'a Files,
+    item: &Item,
+    scope: &mut Scope<'a>,
+) -> Result<Option<FrameFault>, AllocError>
+    requires { StandsIn files.now item.now }
+{
+    let statement = Statement::read(alloc, files, item)?;
+    let found = fault_of(alloc, scope, &statement)?;
+    scope.next(alloc, &statement, found.is_none())?;
+    Ok(found)
+}
+
+/// The faults of the items of a text behind another, each with the number of its item.
+fn faults_of(
+    alloc: Global,
+    start: &[u8],
+    text: &[u8],
+) -> Result<Vec<(usize, FrameFault)>, StoreError> {
+    let mut whole = Vec::from_slice(alloc, start)?;
+    whole.extend_from_slice(text)?;
+    let mut files = Files::new(alloc);
+    files.add(alloc, b"top", &whole)?;
+    let items = files.statements(alloc, b"top")?;
+    let mut scope = Scope::new(alloc);
+    let mut faults = Vec::new(alloc);
+    for number in 0..items.len() {
+        if let Some(fault) = judge_item(alloc, &files, &items[number], &mut scope)? {
+            faults.push((number, fault))?;
+        }
+    }
+    Ok(faults)
+}
+
+/// A text with one fault: the number of the item, the word and the number of the fault.
+type Row = (&'static [u8], usize, usize, FrameNumber);
+
+/// The one fault of the items of a text behind another; `None` where they have none, or more than one.
+fn only_fault(
+    alloc: Global,
+    start: &[u8],
+    text: &[u8],
+) -> Result<Option<(usize, usize, FrameNumber)>, StoreError> {
+    match faults_of(alloc, start, text)?.as_slice() {
+        [(item, fault)] => Ok(Some((*item, fault.word, fault.number))),
+        _ => Ok(None),
+    }
+}
+
+#[test]
+fn tells_the_faults_of_declarations(rt: HostRuntime) -> Result<(), Fail> {
+    let rows: [Row; 17] = [
+        (b"$c $.", 0, 1, FrameNumber::F01),
+        (b"$v $.", 0, 1, FrameNumber::F01),
+        (b"$d $.", 0, 1, FrameNumber::F01),
+        (b"${ $c x $. $}", 1, 0, FrameNumber::F02),
+        (b"${ $c x x $. $}", 1, 0, FrameNumber::F02),
+        (b"${ $c $. $}", 1, 0, FrameNumber::F02),
+        (b"${ $} ${ ${ $} $c x $. $}", 5, 0, FrameNumber::F02),
+        (b"$c x y x $.", 0, 3, FrameNumber::F03),
+        (b"$c x x $. $c x $.", 0, 2, FrameNumber::F03),
+        (b"$v x y y x $. $v x $.", 0, 3, FrameNumber::F03),
+        (b"$c x $. $c y x $.", 1, 2, FrameNumber::F04),
+        (b"$c x $. $v y x $.", 1, 2, FrameNumber::F04),
+        (b"$v x $. $v x $.", 1, 1, FrameNumber::F04),
+        (b"$v x $. $c x x $.", 1, 1, FrameNumber::F04),
+        (b"${ $v x $. $} $c x $.", 3, 1, FrameNumber::F04),
+        (b"$c wff $. a $a wff $. $c b a $.", 2, 2, FrameNumber::F05),
+        (b"$c wff $. a $a wff $. $v a a $.", 2, 1, FrameNumber::F05),
+    ];
+    for (text, item, word, number) in rows {
+        let found = only_fault(rt.alloc(), b"", text)?;
+        assert_eq!(rt; found, Some((item, word, number)), "of {text:?}");
+    }
+    Ok(())
+}
+
+#[test]
+fn tells_the_faults_behind_declarations(rt: HostRuntime) -> Result<(), Fail> {
+    let rows: [Row; 32] = [
+        (b"$d p $.", 4, 2, FrameNumber::F01),
+        (b"wr $f $.", 4, 2, FrameNumber::F01),
+        (b"wr $f wff $.", 4, 3, FrameNumber::F01),
+        (b"wr $f wff r p $. wr $f wff r $.", 4, 4, FrameNumber::F01),
+        (b"wr $f wff r p q x $.", 4, 4, FrameNumber::F01),
+        (b"a $e $.", 4, 2, FrameNumber::F01),
+        (b"a $a $.", 4, 2, FrameNumber::F01),
+        (b"a $p $= ? $.", 4, 2, FrameNumber::F01),
+        (b"$d p q p $.", 4, 3, FrameNumber::F03),
+        (b"wp $f wff r $.", 4, 0, FrameNumber::F06),
+        (b"wp $a foo $.", 4, 0, FrameNumber::F06),
+        (b"${ a $e |- p $. $} a $a |- p $.", 7, 0, FrameNumber::F06),
+        (b"p $e |- p $.", 4, 0, FrameNumber::F07),
+        (b"wff $a |- $.", 4, 0, FrameNumber::F07),
+        (b"${ $v x $. $} x $p |- $= ? $.", 7, 0, FrameNumber::F07),
+        (b"wx $f x $.", 4, 2, FrameNumber::F08),
+        (b"wr $f p r $.", 4, 2, FrameNumber::F08),
+        (b"a $e q p $.", 4, 2, FrameNumber::F08),
+        (b"a $p foo $= ? $.", 4, 2, FrameNumber::F08),
+        (b"$d x $.", 4, 1, FrameNumber::F09),
+        (b"$d p wff $.", 4, 2, FrameNumber::F09),
+        (b"wx $f wff x $.", 4, 3, FrameNumber::F09),
+        (b"${ $v x $. $} wx $f wff x $.", 7, 3, FrameNumber::F09),
+        (
+            b"${ $v x $. a $f wff x $. $} b $f |- x $.",
+            8,
+            3,
+            FrameNumber::F09,
+        ),
+        (b"a $a |- ( p -> x ) $.", 4, 6, FrameNumber::F10),
+        (b"${ $v x $. $} a $e |- x r $.", 7, 3, FrameNumber::F10),
+        (b"a $a |- r x $.", 4, 3, FrameNumber::F11),
+        (
+            b"${ wr $f wff r $. $} a $p |- ( r $= ? $.",
+            7,
+            4,
+            FrameNumber::F11,
+        ),
+        (b"a $f wff p $.", 4, 3, FrameNumber::F12),
+        (b"a $f |- p $.", 4, 3, FrameNumber::F12),
+        (b"${ wr $f wff r $. $} a $f |- r $.", 7, 3, FrameNumber::F13),
+        (
+            b"${ $v x $. a $f wff x $. $} $v x $. b $f |- x $. c $f wff x $.",
+            9,
+            3,
+            FrameNumber::F13,
+        ),
+    ];
+    for (text, item, word, number) in rows {
+        let found = only_fault(rt.alloc(), START, text)?;
+        assert_eq!(rt; found, Some((item, word, number)), "of {text:?}");
+    }
+    Ok(())
+}
+
+#[test]
+fn tells_no_fault_of_sound_statements(rt: HostRuntime) -> Result<(), Fail> {
+    let rows: [(&[u8], &[u8]); 7] = [
+        (b"", b""),
+        (b"", ROWS),
+        (b"", b"${ $} $c x y $. $[ other.mm $] ${ $v z $. $} $v z $."),
+        (START, b"${ wr $f wff r $. $} s $f wff r $."),
+        (START, b"$d p q r $. a $e |- ( p -> q ) $. b $a |- p $."),
+        (START, b"a $p |- ( p -> p ) $= wp ? $."),
+        (START, b"${ $v x $. $} $v x $. a $f |- x $. b $a |- x x $."),
+    ];
+    for (start, text) in rows {
+        assert_eq!(rt; faults_of(rt.alloc(), start, text)?.len(), 0, "of {text:?}");
+    }
+    Ok(())
+}
+
+/// `x ${ y ${ $} z $}`: the numbers of what is active, and of nothing else.
+#[test]
+fn keeps_what_is_active(rt: HostRuntime) -> Result<(), Fail> {
+    let mut blocks = Blocks::new(rt.alloc());
+    let mut numbers = ActiveNumbers::new(rt.alloc());
+    blocks.pass()?;
+    numbers.push(0)?;
+    blocks.begin()?;
+    blocks.pass()?;
+    numbers.push(2)?;
+    blocks.begin()?;
+    blocks.end()?;
+    numbers.prune(&blocks);
+    assert_eq!(rt; numbers.as_slice(), [0, 2].as_slice());
+    blocks.pass()?;
+    numbers.push(5)?;
+    assert_eq!(rt; numbers.as_slice(), [0, 2, 5].as_slice());
+    blocks.end()?;
+    numbers.prune(&blocks);
+    assert_eq!(rt; numbers.as_slice(), [0].as_slice());
+    blocks.end()?;
+    numbers.prune(&blocks);
+    assert!(rt; numbers.as_slice().is_empty());
+    Ok(())
+}
+
+/// Eight sound items: the axiom has two mandatory variables and an essential hypothesis behind their `$f`.
+const FRAME: &[u8] =
+    b"$c wff |- $.\n$v x y z $.\nwz $f wff z $.\nwx $f wff x $.\nwy $f wff y $.\n$d x y z $.\nex $e |- y $.\nax $a |- x $.\n";
+
+/// Keeps the expression of an item, and takes it.
+fn keep_item(
+    alloc: Global,
+    files: &Files,
+    item: &Item,
+    number: usize,
+    tables: &mut Tables,
+    expressions: &mut Vec<Vec<NamedSymbol>>,
+) -> Result<(), AllocError>
+    requires { StandsIn files.now item.now }
+{
+    let statement = Statement::read(alloc, files, item)?;
+    expressions.push(expression_of(alloc, tables, &statement)?)?;
+    tables.take(alloc, &statement, number)
+}
+
+/// Does so for all items of a text.
+fn keep_all(
+    alloc: Global,
+    text: &[u8],
+    tables: &mut Tables,
+    expressions: &mut Vec<Vec<NamedSymbol>>,
+) -> Result<(), StoreError> {
+    let mut files = Files::new(alloc);
+    files.add(alloc, b"top", text)?;
+    let items = files.statements(alloc, b"top")?;
+    for number in 0..items.len() {
+        keep_item(alloc, &files, &items[number], number, tables, expressions)?;
+    }
+    Ok(())
+}
+
+/// What is kept for an item.
+fn kept_for(expressions: &[Vec<NamedSymbol>], number: usize) -> &[NamedSymbol] {
+    match expressions.get(number) {
+        Some(expression) => expression,
+        None => &[],
+    }
+}
+
+/// A symbol.
+fn named(alloc: Global, name: &[u8], variable: bool) -> Result<NamedSymbol, AllocError> {
+    let name = Vec::from_slice(alloc, name)?;
+    Ok(NamedSymbol { name, variable })
+}
+
+/// Whether the symbol at a place is the one of this name, and so is its copy.
+fn stands_at(
+    alloc: Global,
+    expression: &[NamedSymbol],
+    place: usize,
+    name: &[u8],
+    variable: bool,
+) -> Result<bool, AllocError> {
+    let wanted = named(alloc, name, variable)?;
+    match expression.get(place) {
+        Some(symbol) => Ok(symbol.same(&wanted) && wanted.same(&symbol.copy(alloc)?)),
+        None => Ok(false),
+    }
+}
+
+#[test]
+fn reads_expressions(rt: HostRuntime) -> Result<(), Fail> {
+    let mut tables = Tables::new(rt.alloc());
+    let mut expressions = Vec::new(rt.alloc());
+    keep_all(rt.alloc(), FRAME, &mut tables, &mut expressions)?;
+    let essential = kept_for(&expressions, 6);
+    assert_eq!(rt; essential.len(), 2);
+    assert!(rt; stands_at(rt.alloc(), essential, 0, b"|-", false)?);
+    assert!(rt; stands_at(rt.alloc(), essential, 1, b"y", true)?);
+    assert!(rt; !stands_at(rt.alloc(), essential, 1, b"y", false)?);
+    assert!(rt; !stands_at(rt.alloc(), essential, 1, b"x", true)?);
+    Ok(())
+}
+
+#[test]
+fn finds_mandatory_hypotheses(rt: HostRuntime) -> Result<(), Fail> {
+    let mut tables = Tables::new(rt.alloc());
+    let mut expressions = Vec::new(rt.alloc());
+    keep_all(rt.alloc(), FRAME, &mut tables, &mut expressions)?;
+    let own = kept_for(&expressions, 7);
+    let numbers = hypotheses(rt.alloc(), &tables, &[6], &expressions, own)?;
+    assert_eq!(rt; &numbers[..], [3, 4, 6].as_slice());
+    Ok(())
+}
+
+/// Adds a pair of variables.
+fn add_pair(
+    alloc: Global,
+    first: &[u8],
+    second: &[u8],
+    pairs: &mut Vec<(NamedSymbol, NamedSymbol)>,
+) -> Result<(), AllocError> {
+    let first = named(alloc, first, true)?;
+    let second = named(alloc, second, true)?;
+    pairs.push((first, second))?;
+    Ok(())
+}
+
+#[test]
+fn keeps_mandatory_pairs(rt: HostRuntime) -> Result<(), Fail> {
+    let tables = tables_of(rt.alloc(), FRAME)?;
+    let mut pairs = Vec::new(rt.alloc());
+    add_pair(rt.alloc(), b"x", b"y", &mut pairs)?;
+    add_pair(rt.alloc(), b"x", b"z", &mut pairs)?;
+    add_pair(rt.alloc(), b"y", b"z", &mut pairs)?;
+    let kept = mandatory_pairs(rt.alloc(), &tables, &[3, 4, 6], &pairs)?;
+    assert_eq!(rt; kept.len(), 1);
+    for pair in &kept {
+        assert_eq!(rt; &pair.0.name[..], b"x".as_slice());
+        assert_eq!(rt; &pair.1.name[..], b"y".as_slice());
+    }
+    Ok(())
+}
+
+/// A text with a block, a missing file and two statements at fault.
+const BASE: &[u8] =
+    b"$c wff |- $.\n${ $v x $.\nwx $f wff x $. $}\n$[ b.mm $]\nax $a |- y $.\n$v y $.\nwx $f wff y $.\nwy $f wff y $.\nay $a |- y $.\n";
+
+fn base_of(alloc: Global, text: &[u8]) -> Result<Base, StoreError>
+    ensures { IfOk result (λ base. (view : BaseView) × IsBase view base) }
+{
+    let mut files = Files::new(alloc);
+    files.add(alloc, b"top", text)?;
+    Base::build(alloc, &files, b"top")
+}
+
+/// The kind of an item.
+fn item_kind(base: &Base, i: usize) -> Option<ItemKind>
+    requires { (view : BaseView) × IsBase view base.now }
+{
+    if i < base.count() {
+        Some(base.item(i).kind)
+    } else {
+        None
+    }
+}
+
+#[test]
+fn builds_a_base(rt: HostRuntime) -> Result<(), Fail> {
+    let base = base_of(rt.alloc(), BASE)?;
+    assert_eq!(rt; base.count(), 11);
+    let faults: [(usize, FrameNumber, usize); 3] = [
+        (5, FrameNumber::F14, 1),
+        (6, FrameNumber::F10, 3),
+        (8, FrameNumber::F06, 0),
+    ];
+    for (i, number, word) in faults {
+        assert_eq!(rt; base.fault(i), Some(FrameFault { number, word }), "of {i}");
+        assert!(rt; base.expression(i).is_none());
+    }
+    for i in [0, 1, 2, 3, 4, 7, 9, 10] {
+        assert_eq!(rt; base.fault(i), None, "of {i}");
+    }
+    assert_eq!(rt; base.label(3), Some(b"wx".as_slice()));
+    assert_eq!(rt; base.label(8), Some(b"wx".as_slice()));
+    assert_eq!(rt; base.label(4), None);
+    assert_eq!(rt; base.find(b"wx"), Some(3));
+    assert_eq!(rt; base.find(b"ay"), Some(10));
+    assert_eq!(rt; base.find(b"ax"), None);
+    let expression = base.expression(10).unwrap_or(&[]);
+    assert_eq!(rt; expression.len(), 2);
+    assert!(rt; stands_at(rt.alloc(), expression, 0, b"|-", false)?);
+    assert!(rt; stands_at(rt.alloc(), expression, 1, b"y", true)?);
+    assert!(rt; base.expression(7).is_none());
+    for (i, wanted) in [(3, false), (6, false), (10, true)] {
+        assert_eq!(rt; base.frame(i).is_some(), wanted, "of {i}");
+    }
+    if let Some(frame) = base.frame(10) {
+        assert_eq!(rt; &frame.hypotheses[..], [9].as_slice());
+    }
+    assert_eq!(rt; item_kind(&base, 5), Some(ItemKind::Missing));
+    assert_eq!(rt; item_kind(&base, 10), Some(ItemKind::Axiom));
+    assert_eq!(rt; item_kind(&base, 11), None);
+    Ok(())
+}
+
+#[test]
+fn builds_no_base_without_a_top_file(rt: HostRuntime) {
+    let files = Files::new(rt.alloc());
+    assert_eq!(rt;
+        Base::build(rt.alloc(), &files, b"top").err(),
+        Some(StoreError::NoTop)
+    );
 }

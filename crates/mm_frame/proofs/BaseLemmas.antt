@@ -1,0 +1,245 @@
+-- Rows kept of the items, one more item, and what a base answers.
+use Rattle.std.proofs.Common.{◌≡◌, ℕ, zero, suc, ◌<◌, ◌≤◌, Bool, true, Option, Some, None, List, [], ◌∷◌, ◌++◌, length, map, take, drop, take_all, slice_get, Vec, append_assoc, append-nil, ◌&&◌, ◌||◌, cond, get_or, is_none, is_some, not, false, refl, sym, ◌∙◌, ap, subst, arith, inl, inr}
+use Rattle.std.specs.Option.{option_map}
+use Rattle.std.specs.List.{AllZip}
+use Rattle.std.proofs.lemmas.Bool.{false≢true, and_parts}
+use Rattle.std.proofs.lemmas.List.{length_push, take-append-le, length-take-le}
+use Rattle.std.proofs.lemmas.Option.{slice_get_within, slice_get_cases, none-some}
+use Rattle.std.specs.Global.{Global}
+use Rattle.mm_frame.specs.declared.FrameNumber.{FrameNumber}
+use Rattle.mm_frame.specs.declared.symbol.NamedSymbol.{NamedSymbol}
+use Rattle.mm_frame.specs.Item.{Kind, Axiom, Theorem, Missing, Item, passed, is_labelled, is_disjoint, is_assertion, is_essential}
+use Rattle.mm_frame.specs.Sound.{IsSound, AreSound, fault, judged, kept, kept_after}
+use Rattle.mm_frame.specs.Framing.{symbol, expression}
+use Rattle.mm_frame.specs.Scope.{Mark, Closes, mark_of, closes, active_variables}
+use Rattle.mm_frame.specs.Named.{symbols_of, expression_kept, kept_or_none, is_read, variable_of, AreSymbols, AreExpressions}
+use Rattle.mm_frame.specs.Tables.{item_at, active_numbers, is_essential_item}
+use Rattle.mm_frame.specs.Scoping.{taken}
+use Rattle.mm_frame.specs.Base.{BaseView, before, said_at, fault_by, told_fault, is_sound_at, expression_at, told_numbers, numbers_if}
+use Rattle.mm_frame.specs.Kept.{AreRows}
+use Rattle.mm_frame.proofs.Judged.{no_fault_sound, sound_found, passed_sound, kept_is_sound, kept_next, kept_after_append}
+use Rattle.mm_frame.proofs.Outermost.{kept_sound, split_at, map_same}
+use Rattle.mm_frame.proofs.Members.{in_has}
+use Rattle.mm_frame.proofs.PairLemmas.{disjoint_named}
+use Rattle.mm_frame.proofs.TableLemmas.{item_between, take_between}
+use Rattle.mm_frame.proofs.BlockLemmas.{get_cases, get_last}
+use Rattle.mm_frame.proofs.NamedLemmas.{get_before}
+use Rattle.mm_frame.proofs.HypothesisNumbers.{active_numbers_more}
+
+pub item_before : (said : List Item) (item : Item) (n : ℕ) → n < length said → item_at (said ++ item ∷ []) n ≡ item_at said n
+item_before [] item n l = absurd (omega arith)
+item_before (x ∷ xs) item zero l = refl
+item_before (x ∷ xs) item (suc n) l = item_before xs item n (omega arith)
+
+pub item_beyond : (said : List Item) (n : ℕ) → length said ≤ n → item_at said n ≡ passed
+item_beyond [] n l = refl
+item_beyond (x ∷ xs) zero l = absurd (omega arith)
+item_beyond (x ∷ xs) (suc n) l = item_beyond xs n (omega arith)
+
+-- one more item, with its row
+pub rows_more : {X : Type 0} (tells : List Item → Item → X → Type 0) (said : List Item) (item : Item) (rows : List X) (row : X) → AreRows tells said rows → tells (kept said) item row → AreRows tells (said ++ item ∷ []) (rows ++ row ∷ [])
+rows_more {X} tells said item rows row a t = record {
+  count = (let c = a.count in let p = length_push rows row in let q = length_push said item in omega arith);
+  each = λ n x e. elim (get_cases rows row x n e) [
+    | inl there ↦ (let c = a.count in let w = slice_get_within rows n x there in earlier n x (omega arith) (a.each n x there))
+    | inr last ↦ (let z : n ≡ length said = last.0 ∙ a.count in subst (λ k. tells (kept (take k (said ++ item ∷ []))) (item_at (said ++ item ∷ []) k) x) (sym z) (newest x last.1))
+  ];
+}
+  where
+    earlier : (n : ℕ) (x : X) → n < length said → tells (kept (take n said)) (item_at said n) x → tells (kept (take n (said ++ item ∷ []))) (item_at (said ++ item ∷ []) n) x
+    earlier n x l h = subst (λ w. tells (kept w) (item_at (said ++ item ∷ []) n) x) (sym (take-append-le n said (item ∷ []) (omega arith))) (subst (λ w. tells (kept (take n said)) w x) (sym (item_before said item n l)) h)
+
+    newest : (x : X) → row ≡ x → tells (kept (take (length said) (said ++ item ∷ []))) (item_at (said ++ item ∷ []) (length said)) x
+    newest x e = subst (λ w. tells (kept w) (item_at (said ++ item ∷ []) (length said)) x) (sym (take_between said item [])) (subst (λ w. tells (kept said) w x) (sym (item_between said item [])) (subst (λ w. tells (kept said) item w) e t))
+
+-- what is kept is sound
+pub kept_are_sound : (said : List Item) → AreSound (kept said)
+kept_are_sound said = kept_sound (kept said) (kept_is_sound said)
+
+-- an item is kept as it is where no fault was found
+pub kept_taken : {X : Type 0} (told : X → ℕ × FrameNumber) (said : List Item) (item : Item) (found : Option X) → option_map told found ≡ fault (kept said) item → kept said ++ taken (is_none found) item ∷ [] ≡ kept (said ++ item ∷ [])
+kept_taken told said item None e = ap (λ o. kept said ++ judged item o ∷ []) e ∙ sym (kept_next said item)
+kept_taken told said item (Some f) e = ap (λ o. kept said ++ judged item o ∷ []) e ∙ sym (kept_next said item)
+
+pub sound_found_none : {X : Type 0} (told : X → ℕ × FrameNumber) (before : List Item) (item : Item) (found : Option X) → option_map told found ≡ fault before item → is_none found ≡ true → IsSound before item
+sound_found_none told before item None e t = no_fault_sound before item (sym e)
+sound_found_none told before item (Some f) e t = absurd (false≢true t)
+
+-- past the last item there is no fault
+pub fault_beyond : (before said : List Item) (n : ℕ) → length said ≤ n → told_fault before (item_at said n) ≡ None
+fault_beyond before said n l = ap (told_fault before) (item_beyond said n l) ∙ sound_found before passed (passed_sound before)
+
+-- one more item says something
+pub zip_more : {A B : Type 0} (R : A → B → Type 0) (xs : List A) (ys : List B) (i : ℕ) (d : A) (y : B) → i < length xs → AllZip R (take i xs) ys → R (get_or xs i d) y → AllZip R (take (suc i) xs) (ys ++ y ∷ [])
+zip_more R [] ys i d y l z r = absurd (omega arith)
+zip_more R (x ∷ xs) [] zero d y l z r = (r, tt)
+zip_more R (x ∷ xs) (w ∷ ys) zero d y l z r = absurd z
+zip_more R (x ∷ xs) [] (suc i) d y l z r = absurd z
+zip_more R (x ∷ xs) (w ∷ ys) (suc i) d y l z r = (z.0, zip_more R xs ys i d y (omega arith) z.1 r)
+
+-- where there is no row there is no item
+pub row_none : {X : Type 0} (tells : List Item → Item → X → Type 0) (said : List Item) (rows : List X) (n : ℕ) → AreRows tells said rows → slice_get rows n ≡ None → length said ≤ n
+row_none tells said rows n a e = let c = a.count in let w = none_beyond rows n e in omega arith
+  where
+    none_beyond : {Y : Type 0} (ys : List Y) (k : ℕ) → slice_get ys k ≡ None → length ys ≤ k
+    none_beyond ys k e = elim (slice_get_cases ys k).1 [
+      | inl there ↦ absurd (none-some there.0 (sym e ∙ there.2))
+      | inr past ↦ past.0
+    ]
+
+pub none_found : {X : Type 0} (found : Option X) (none : Bool) → is_some found ≡ not none → is_none found ≡ none
+none_found found true e = ap not e
+none_found found false e = ap not e
+
+-- one more item, with the symbols that are kept for it
+pub symbols_more : (before : List Item) (item : Item) (expressions : List (Vec NamedSymbol Global)) (symbols : Vec NamedSymbol Global) → AreSymbols before expressions → (is_read item.kind ≡ true → symbols_of symbols.items ≡ expression before item) → AreSymbols (before ++ item ∷ []) (expressions ++ symbols ∷ [])
+symbols_more before item expressions symbols a new = record {
+  count = (let c = a.count in let p = length_push expressions symbols in let q = length_push before item in omega arith);
+  each = λ n x e t. elim (get_cases before item x n e) [
+    | inl there ↦ (let c = a.count in let w = slice_get_within before n x there in ap (λ o. symbols_of (kept_or_none o)) (get_before expressions symbols n (omega arith)) ∙ a.each n x there t ∙ ap (λ (w : List Item). expression w x) (sym (take-append-le n before (item ∷ []) (omega arith))))
+    | inr last ↦ (let z = last.0 in
+        ap (λ k. symbols_of (expression_kept (expressions ++ symbols ∷ []) k)) (z ∙ sym a.count) ∙ ap (λ o. symbols_of (kept_or_none o)) (get_last expressions symbols (length expressions) refl) ∙ new (ap (λ (w : Item). is_read w.kind) last.1 ∙ t) ∙ (λ i. expression (sym (ap (λ k. take k (before ++ item ∷ [])) z ∙ take_between before item []) i) (last.1 i)))
+  ];
+}
+
+pub symbols_taken : (before : List Item) (item : Item) (symbols : List NamedSymbol) (sound : Bool) → (sound ≡ true → is_read item.kind ≡ true → symbols_of symbols ≡ expression before item) → is_read (taken sound item).kind ≡ true → symbols_of symbols ≡ expression before (taken sound item)
+symbols_taken before item symbols true h t = h refl t
+symbols_taken before item symbols false h t = absurd (false≢true t)
+
+-- where an item stands among what is kept
+kept_after_front : (before items : List Item) → (rest : List Item) × (kept_after before items ≡ before ++ rest) × (length rest ≡ length items)
+kept_after_front before [] = ([], sym (append-nil before), refl)
+kept_after_front before (item ∷ items) =
+    let one = judged item (fault before item) in
+    let r = kept_after_front (before ++ one ∷ []) items in
+    (one ∷ r.0, r.1 ∙ append_assoc before (one ∷ []) r.0, ap suc r.2)
+
+pub kept_count : (said : List Item) → length (kept said) ≡ length said
+kept_count said = let r = kept_after_front [] said in ap length r.1 ∙ r.2
+
+pub record KeptAt (said : List Item) (i : ℕ) (item : Item) : Type 0 where
+  pub rest : List Item
+  pub whole : kept said ≡ kept (take i said) ++ judged item (fault (kept (take i said)) item) ∷ rest
+  pub number : length (kept (take i said)) ≡ i
+
+pub kept_at : (said : List Item) (i : ℕ) (item : Item) → slice_get said i ≡ Some item → KeptAt said i item
+kept_at said i item e =
+    let front = take i said in
+    let back = drop (suc i) said in
+    let one = judged item (fault (kept front) item) in
+    let r = kept_after_front (kept front ++ one ∷ []) back in
+    let w = slice_get_within said i item e in
+    record {
+      rest = r.0;
+      whole = ap kept (split_at said i item e) ∙ kept_after_append [] front (item ∷ back) ∙ r.1 ∙ append_assoc (kept front) (one ∷ []) r.0;
+      number = kept_count front ∙ length-take-le i said (omega arith);
+    }
+
+pub kept_front_at : (said : List Item) (i : ℕ) (item : Item) → slice_get said i ≡ Some item → take i (kept said) ≡ kept (take i said)
+kept_front_at said i item e =
+    let k = kept_at said i item e in
+    ap (take i) k.whole ∙ ap (λ n. take n (kept (take i said) ++ judged item (fault (kept (take i said)) item) ∷ k.rest)) (sym k.number) ∙ take_between (kept (take i said)) (judged item (fault (kept (take i said)) item)) k.rest
+
+get_between : (front : List Item) (item : Item) (back : List Item) → slice_get (front ++ item ∷ back) (length front) ≡ Some item
+get_between [] item back = refl
+get_between (x ∷ front) item back = get_between front item back
+
+pub kept_item_at : (said : List Item) (i : ℕ) (item : Item) → slice_get said i ≡ Some item → fault (kept (take i said)) item ≡ None → slice_get (kept said) i ≡ Some item
+kept_item_at said i item e f =
+    let k = kept_at said i item e in
+    ap (λ n. slice_get (kept said) n) (sym k.number) ∙ ap (λ w. slice_get w (length (kept (take i said)))) (k.whole ∙ ap (λ o. kept (take i said) ++ judged item o ∷ k.rest) f) ∙ get_between (kept (take i said)) item k.rest
+
+-- where a label is told, no fault is told exactly for a sound item
+none_told : (kind : Kind) (f : Option (ℕ × FrameNumber)) → is_none (fault_by kind f) ≡ true → f ≡ None
+none_told Missing f e = absurd (false≢true e)
+none_told _ None e = refl
+none_told _ (Some x) e = absurd (false≢true e)
+
+pub is_none_map : {X Y : Type 0} (f : X → Y) (o : Option X) → is_none (option_map f o) ≡ is_none o
+is_none_map f None = refl
+is_none_map f (Some x) = refl
+
+-- the item with a row
+pub row_item : {X : Type 0} (tells : List Item → Item → X → Type 0) (said : List Item) (rows : List X) (n : ℕ) (row : X) → AreRows tells said rows → slice_get rows n ≡ Some row → slice_get said n ≡ Some (item_at said n)
+row_item tells said rows n row a e = let c = a.count in let w = slice_get_within rows n row e in there said n (omega arith)
+  where
+    there : (xs : List Item) (k : ℕ) → k < length xs → slice_get xs k ≡ Some (item_at xs k)
+    there [] k l = absurd (omega arith)
+    there (x ∷ xs) zero l = refl
+    there (x ∷ xs) (suc k) l = there xs k (omega arith)
+
+pub shown_is : (base : BaseView) (i : ℕ) (fault : Bool) (label : Bool) → fault ≡ is_sound_at base i → label ≡ is_labelled (said_at base i).kind → (fault && label) ≡ (is_sound_at base i && is_labelled (said_at base i).kind)
+shown_is base i fault label e g = λ j. e j && g j
+
+pub not_shown : (base : BaseView) (i : ℕ) → length base.said ≤ i → false ≡ (is_sound_at base i && is_labelled (said_at base i).kind)
+not_shown base i l = sym (ap (λ (w : Item). is_none (told_fault (before base i) w) && is_labelled w.kind) (item_beyond base.said i l) ∙ and_false (is_none (told_fault (before base i) passed)))
+  where
+    and_false : (b : Bool) → (b && false) ≡ false
+    and_false true = refl
+    and_false false = refl
+
+labelled_there : (said : List Item) (i : ℕ) → is_labelled (item_at said i).kind ≡ true → slice_get said i ≡ Some (item_at said i)
+labelled_there [] i e = absurd (false≢true e)
+labelled_there (x ∷ said) zero e = refl
+labelled_there (x ∷ said) (suc i) e = labelled_there said i e
+
+pub expression_none : (base : BaseView) (i : ℕ) → (is_sound_at base i && is_labelled (said_at base i).kind) ≡ false → expression_at base i ≡ None
+expression_none base i e = ap (λ b. cond b (Some (expression (before base i) (said_at base i))) None) e
+
+pub expression_some : (base : BaseView) (i : ℕ) (expressions : List (Vec NamedSymbol Global)) → AreSymbols (kept base.said) expressions → (is_sound_at base i && is_labelled (said_at base i).kind) ≡ true → expression_at base i ≡ Some (symbols_of (expression_kept expressions i))
+expression_some base i expressions a e =
+    let item = said_at base i in
+    let parts = and_parts (is_sound_at base i) (is_labelled item.kind) e in
+    let sound = none_told item.kind (fault (before base i) item) parts.0 in
+    let there = labelled_there base.said i parts.1 in
+    let read : is_read item.kind ≡ true = ap (λ b. b || is_disjoint item.kind) parts.1 in
+    ap (λ b. cond b (Some (expression (before base i) item)) None) e ∙ ap Some (ap (λ w. expression w item) (sym (kept_front_at base.said i item there)) ∙ sym (a.each i item (kept_item_at base.said i item there sound) read))
+
+-- a sound `$d` is read as variables
+pub variables_read : (item : Item) (n : ℕ) (variables : List NamedSymbol) → length item.symbols ≤ n → symbols_of variables ≡ map variable_of (take n item.symbols) → (before : List Item) → IsSound before item → is_disjoint item.kind ≡ true → symbols_of variables ≡ expression before item
+variables_read item n variables l r before s t = r ∙ ap (map variable_of) (take_all n item.symbols l) ∙ map_same variable_of (symbol before) item.symbols (λ name m. let v = in_has (active_variables before) name (disjoint_named before item name s t m) in λ i. record { name = name; variable = sym v i })
+
+-- what is read of a `$f`, `$e`, `$a` or `$p` is its expression
+pub are_expressions : (before : List Item) (expressions : List (Vec NamedSymbol Global)) → AreSymbols before expressions → AreExpressions before expressions
+are_expressions before expressions a n item e t = a.each n item e (ap (λ b. b || is_disjoint item.kind) t)
+
+-- an item that is no `$e` and no `$}` leaves the active `$e` as they are
+not_closes : (m : Mark) → closes m ≡ false → m ≡ Closes → ⊥
+not_closes m e c = false≢true (sym e ∙ ap closes c)
+
+pub essentials_same : (before : List Item) (item : Item) → closes (mark_of item.kind) ≡ false → is_essential item.kind ≡ false → active_numbers is_essential_item before ≡ active_numbers is_essential_item (before ++ item ∷ [])
+essentials_same before item c e = sym (active_numbers_more is_essential_item before item (not_closes (mark_of item.kind) c) ∙ ap (λ b. active_numbers is_essential_item before ++ cond b (length before ∷ []) []) e ∙ append-nil (active_numbers is_essential_item before))
+
+-- a sound item has a frame exactly where it is an assertion
+told_same : (kind : Kind) (f : Option (ℕ × FrameNumber)) → (is_none f && is_assertion kind) ≡ (is_none (fault_by kind f) && is_assertion kind)
+told_same Missing None = refl
+told_same Missing (Some x) = refl
+told_same _ f = refl
+
+pub framed_told : (before : List Item) (item : Item) (flag framed : Bool) (kind : Kind) → kind ≡ item.kind → framed ≡ (flag && is_assertion kind) → is_none (fault before item) ≡ flag → numbers_if framed before item ≡ told_numbers before item
+framed_told before item flag framed kind k e n = ap (λ b. numbers_if b before item) (e ∙ (λ i. sym n i && is_assertion (k i)) ∙ told_same item.kind (fault before item))
+
+pub frame_beyond : (before said : List Item) (n : ℕ) → length said ≤ n → told_numbers before (item_at said n) ≡ None
+frame_beyond before said n l = ap (told_numbers before) (item_beyond said n l) ∙ none (is_none (told_fault before passed))
+  where
+    none : (b : Bool) → numbers_if (b && false) before passed ≡ None
+    none true = refl
+    none false = refl
+
+pub essentials_passed : (before : List Item) (item : Item) (sound : Bool) → sound ≡ false → active_numbers is_essential_item before ≡ active_numbers is_essential_item (before ++ taken sound item ∷ [])
+essentials_passed before item sound e = essentials_same before passed refl refl ∙ ap (λ b. active_numbers is_essential_item (before ++ taken b item ∷ [])) (sym e)
+
+pub essentials_other : (before : List Item) (item : Item) (sound : Bool) → sound ≡ true → closes (mark_of item.kind) ≡ false → is_essential item.kind ≡ false → active_numbers is_essential_item before ≡ active_numbers is_essential_item (before ++ taken sound item ∷ [])
+essentials_other before item sound e c t = essentials_same before item c t ∙ ap (λ b. active_numbers is_essential_item (before ++ taken b item ∷ [])) (sym e)
+
+pub none_fault : {X : Type 0} (told : X → ℕ × FrameNumber) (before : List Item) (item : Item) (found : Option X) → option_map told found ≡ fault before item → is_none (fault before item) ≡ is_none found
+none_fault told before item found e = ap is_none (sym e) ∙ is_none_map told found
+
+-- what has a frame is sound, and an assertion, whose symbols are read
+assertion_read : (kind : Kind) → is_assertion kind ≡ true → is_read kind ≡ true
+assertion_read Axiom e = refl
+assertion_read Theorem e = refl
+assertion_read _ e = absurd (false≢true e)
+
+pub framed_parts : (flag : Bool) (kind item_kind : Kind) → kind ≡ item_kind → (flag && is_assertion kind) ≡ true → (flag ≡ true) × (is_assertion item_kind ≡ true) × (is_read item_kind ≡ true)
+framed_parts flag kind item_kind k e = let p = and_parts flag (is_assertion kind) e in let a = sym (ap is_assertion k) ∙ p.1 in (p.0, a, assertion_read item_kind a)

@@ -1,0 +1,27 @@
+use Rattle.std.proofs.Common.{◌≡◌, ◌<◌, ◌+◌, suc, length, take, sym, ◌∙◌, ap, arith}
+use Rattle.mm_frame.specs.Item.{has}
+use Rattle.mm_frame.specs.Judging.{must_differ}
+use Rattle.mm_frame.proofs.FaultLemmas.{fault_there, passes_more}
+use Rattle.mm_frame.proofs.judge.symbols_fault.Goals as goal
+
+pub returns-in-Some : goal.returns-in-Some
+returns-in-Some c before h k =
+    let item = c.args.statement.now in
+    let n = c.loop-n.n in
+    let differs = c.must_differ-differ.ensures ∙ ap must_differ c.kind.ensures.kind in
+    let seen = c.in_ok-repeated.ensures (take n item.symbols) (λ d. c.loop-n.invariant.sees (sym differs ∙ d)) in
+    let within : n < length item.symbols = omega (arith, c.loop-n-test.true, c.symbol_count-n-end.ensures) in
+    fault_there item n c.symbol_place-word.result c.loop-n.seen c.in-Some.number within c.symbol_place-word.ensures c.loop-n.invariant before h k
+    (sym c.in-Some.is ∙ c.symbol_fault.ensures before h k (λ d. (seen (differs ∙ d)).0 ∙ ap (has (take n item.symbols)) c.symbol.ensures))
+
+pub loop-n-preserved : goal.loop-n-preserved
+loop-n-preserved c =
+    let item = c.args.statement.now in
+    let n = c.loop-n.n in
+    let differs = c.must_differ-differ.ensures ∙ ap must_differ c.kind.ensures.kind in
+    let seen = c.in_ok-repeated.ensures (take n item.symbols) (λ d. c.loop-n.invariant.sees (sym differs ∙ d)) in
+    let within : n < length item.symbols = omega (arith, c.loop-n-test.true, c.symbol_count-n-end.ensures) in
+    let next : n + 1 ≡ suc n = omega arith in
+    passes_more item n (n + 1) c.symbol.result.now c.loop-n.seen c.see.new.seen next within c.symbol.ensures c.loop-n.invariant
+    (λ d. (seen (differs ∙ d)).1)
+    (λ before h k. sym c.in_default.is ∙ c.symbol_fault.ensures before h k (λ d. (seen (differs ∙ d)).0 ∙ ap (has (take n item.symbols)) c.symbol.ensures))

@@ -1,0 +1,15 @@
+use Rattle.std.proofs.Common.{sym, ◌∙◌, ap}
+use Rattle.mm_frame.specs.Tables.{last_where, declares_variable, is_active_last}
+use Rattle.mm_frame.proofs.TableLemmas.{active_variable_last}
+use Rattle.mm_frame.proofs.ScopingLemmas.{active_by_marks}
+use Rattle.mm_frame.proofs.scope.Scope.is_active_variable.Goals as goal
+
+pub returns-in-Some : goal.returns-in-Some
+returns-in-Some c before h k =
+    let name = c.args.name.now in
+    c.is_active_now.ensures ∙ active_by_marks before c.args.self.now.blocks (last_where (declares_variable name) before) c.in-Some.number k.marks (sym (c.variable.ensures before h k.knows) ∙ c.in-Some.is) ∙ sym (active_variable_last before h name)
+
+pub returns-in-None : goal.returns-in-None
+returns-in-None c before h k =
+    let name = c.args.name.now in
+    ap (is_active_last before) (sym c.in-None.is ∙ c.variable.ensures before h k.knows) ∙ sym (active_variable_last before h name)

@@ -1,0 +1,17 @@
+use Rattle.std.proofs.Common.{not, bytes_eq, sym, ◌∙◌, ap}
+use Rattle.mm_frame.specs.Scoping.{typecodes_of}
+use Rattle.mm_frame.specs.Tables.{is_otherwise_at}
+use Rattle.mm_frame.proofs.TableLemmas.{typed_otherwise_last}
+use Rattle.mm_frame.proofs.ScopingLemmas.{typecode_kept}
+use Rattle.mm_frame.proofs.scope.Scope.is_typed_otherwise.Goals as goal
+
+pub returns-in-Some : goal.returns-in-Some
+returns-in-Some c before item h k t =
+    let name = c.args.name.now in
+    let kept = c.typecode.ensures ∙ typecode_kept before (typecodes_of c.args.self.now) c.in-Some.number k.types in
+    c.ne.ensures ∙ (λ i. not (bytes_eq (kept i) (sym t i))) ∙ ap (is_otherwise_at before item) (sym c.in-Some.is ∙ c.float.ensures before h k) ∙ sym (typed_otherwise_last before h name item)
+
+pub returns-in-None : goal.returns-in-None
+returns-in-None c before item h k t =
+    let name = c.args.name.now in
+    ap (is_otherwise_at before item) (sym c.in-None.is ∙ c.float.ensures before h k) ∙ sym (typed_otherwise_last before h name item)

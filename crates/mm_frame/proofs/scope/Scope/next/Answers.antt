@@ -1,0 +1,14 @@
+use Rattle.std.proofs.Common.{refl}
+use Rattle.mm_frame.specs.Item.{Passed, passed}
+use Rattle.mm_frame.proofs.KnownLemmas.{knows_passed}
+use Rattle.mm_frame.proofs.ScopingLemmas.{passed_over, marks_more, types_more}
+use Rattle.mm_frame.proofs.scope.Scope.next.Goals as goal
+
+pub returns : goal.returns
+returns c before h k s =
+    let scope = c.args.self.now in
+    passed_over before c.args.statement.now c.args.sound c.if-sound.false (record {
+      knows = knows_passed before scope.tables k.knows;
+      marks = marks_more before passed Passed _ _ refl k.marks c.in_ok-pass.ensures.ok;
+      types = types_more (λ typecode. typecode.now) before passed scope.typecodes.items c.push.new.self.items _ k.types refl c.in_ok-push.ensures.items;
+    })

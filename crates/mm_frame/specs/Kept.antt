@@ -1,0 +1,71 @@
+-- What the code keeps of the items for a base.
+use Rattle.std.specs.Prelude.{◌≡◌, ℕ, ◌<◌, Some, is_some, List, length, take, slice_get, Option, Vec}
+use Rattle.std.specs.Option.{option_map}
+use Rattle.std.specs.Global.{Global}
+use Rattle.mm_frame.specs.declared.base.Base.{Base}
+use Rattle.mm_frame.specs.declared.draft.Draft.{Draft}
+use Rattle.mm_frame.specs.declared.draft.Parts.{Parts}
+use Rattle.mm_frame.specs.declared.draft.Row.{Row}
+use Rattle.mm_frame.specs.declared.draft.Frame.{Frame}
+use Rattle.mm_frame.specs.declared.symbol.NamedSymbol.{NamedSymbol}
+use Rattle.mm_frame.specs.Named.{AreSymbols}
+use Rattle.mm_frame.specs.Item.{Item, is_labelled}
+use Rattle.mm_frame.specs.Sound.{kept}
+use Rattle.mm_frame.specs.Tables.{item_at, active_numbers, is_essential_item}
+use Rattle.mm_frame.specs.Blocks.{marks_of}
+use Rattle.mm_frame.specs.Known.{Knows}
+use Rattle.mm_frame.specs.Scoping.{Holds}
+use Rattle.mm_frame.specs.Base.{BaseView, told_fault, told_numbers}
+
+-- the row tells the label and the fault of an item behind the sound items before it
+pub record Tells (before : List Item) (item : Item) (row : Row) : Type 0 where
+  pub label : option_map (λ label. label.items) row.label ≡ item.label
+  pub labelled : is_some row.label ≡ is_labelled item.kind
+  pub fault : option_map (λ fault. (fault.word, fault.number)) row.fault ≡ told_fault before item
+
+-- the frame, where one is kept, is that of an item behind the sound items before it
+abbrev pub TellsFrame : List Item → Item → Option Frame → Type 0
+TellsFrame before item kept_frame = option_map (λ frame. frame.hypotheses.items) kept_frame ≡ told_numbers before item
+
+-- there is a row for each item, which tells of it
+pub record AreRows {X : Type 0} (tells : List Item → Item → X → Type 0) (said : List Item) (rows : List X) : Type 0 where
+  pub count : length rows ≡ length said
+  pub each : (n : ℕ) (row : X) → slice_get rows n ≡ Some row → tells (kept (take n said)) (item_at said n) row
+
+-- the draft is that behind items that say this
+pub record IsDraft (said : List Item) (draft : Draft) : Type 0 where
+  pub scope : Holds (kept said) draft.scope
+  pub rows : AreRows Tells said draft.rows.items
+  pub symbols : AreSymbols (kept said) draft.expressions.items
+  pub frames : AreRows TellsFrame said draft.frames.items
+  pub essentials : draft.essentials ≡ active_numbers is_essential_item (kept said)
+
+-- what is kept of items that say this
+pub record AreParts (said : List Item) (parts : Parts) : Type 0 where
+  pub rows : AreRows Tells said parts.rows.items
+  pub symbols : AreSymbols (kept said) parts.expressions.items
+  pub frames : AreRows TellsFrame said parts.frames.items
+  pub knows : Knows (kept said) parts.tables
+  pub marks : parts.blocks ≡ marks_of (kept said)
+
+-- the code keeps what this base answers
+pub record IsBase (base : BaseView) (code : Base) : Type 0 where
+  pub found : code.items.items ≡ base.found
+  pub count : length base.found ≡ length base.said
+  pub parts : AreParts base.said code.parts
+
+-- the rows that the code keeps
+abbrev pub rows_of : Base → List Row
+rows_of code = code.parts.rows.items
+
+-- the expressions that the code keeps
+abbrev pub expressions_of : Base → List (Vec NamedSymbol Global)
+expressions_of code = code.parts.expressions.items
+
+-- the frames that the code keeps
+abbrev pub frames_of : Base → List (Option Frame)
+frames_of code = code.parts.frames.items
+
+-- the base has an item with this number
+abbrev pub HasItem : Base → ℕ → Type 0
+HasItem code i = (base : BaseView) × IsBase base code × (i < length base.said)

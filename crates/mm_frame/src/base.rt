@@ -1,0 +1,169 @@
+//! What the items of files mean, from a top file on.
+
+ghost use Rattle.std.specs.Prelude.{◌≡◌, ◌<◌, ◌↔◌, ◌&&◌, is_none, is_some, Some, None, List, length, IfOk, IfErr, IsErrOf, slice_get};
+ghost use Rattle.std.specs.Option.{option_map};
+ghost use Rattle.mm_store.specs.FilesView.{number_of};
+ghost use Rattle.mm_store.specs.Answers.{IsExpansionError};
+ghost use Rattle.mm_store.specs.declared.error.StoreError.TheVariants.{NoTop};
+ghost use Rattle.mm_frame.specs.Item.{is_labelled};
+ghost use Rattle.mm_frame.specs.Base.{BaseView, IsOfFiles, said_at, is_sound_at, fault_at, expression_at, hypotheses_at, find_in};
+ghost use Rattle.mm_frame.specs.Named.{symbols_of, expression_kept};
+
+use crate::draft::{Draft, Frame, Parts, Row};
+use crate::judge::FrameFault;
+use crate::symbol::NamedSymbol;
+use mm_store::{Files, Item, StoreError};
+use std::alloc::Global;
+
+/// The items of files from a top file on, which of them are sound, and the frames of the assertions.
+///
+/// Items are numbered from 0 in order. What is asked of a base takes no memory, and constant time; a label is looked
+/// up by hash. What a base keeps stands for the items of the files and what they say.
+#[derive(Drop)]
+pub struct Base {
+    items: Vec<Item>,
+    parts: Parts,
+}
+
+/// The label of a row.
+fn label_in(row: &Row) -> Option<&[u8]>
+    ensures { option_map (λ label. label.now) result ≡ option_map (λ label. label.items) row.now.label }
+{
+    match &row.label {
+        Some(label) => Some(label),
+        None => None,
+    }
+}
+
+/// The frame, if one is kept.
+fn frame_in(frame: &Option<Frame>) -> Option<&Frame>
+    ensures { option_map (λ frame. frame.now.hypotheses.items) result ≡ option_map (λ frame. frame.hypotheses.items) frame.now }
+{
+    match frame {
+        Some(frame) => Some(frame),
+        None => None,
+    }
+}
+
+/// Whether a row is that of a sound item with a label.
+fn is_shown_row(row: &Row) -> bool
+    ensures { result ≡ (is_none row.now.fault && is_some row.now.label) }
+{
+    row.fault.is_none() && row.label.is_some()
+}
+
+impl Base {
+    ghost use Rattle.mm_frame.specs.Kept.{IsBase, HasItem, rows_of, expressions_of, frames_of};
+
+    /// Builds the base of the files from a top file on. `NoTop` comes where no file has the name `top`; any other
+    /// error is `Memory`. It reads each item once, in time near linear in the texts.
+    pub fn build(alloc: Global, files: &Files, top: &[u8]) -> Result<Base, StoreError>
+        ensures base { IfOk result (λ built. (base : BaseView) × IsOfFiles files.now top.now base × IsBase base built) }
+        ensures no_top { IsErrOf result NoTop ↔ (number_of files.now.files top.now ≡ None) }
+        ensures err { IfErr result IsExpansionError }
+    {
+        let items = files.statements(alloc, top)?;
+        let draft = Draft::read_all(alloc, files, &items)?;
+        Ok(Base {
+            items,
+            parts: draft.parts(),
+        })
+    }
+
+    /// What is kept of the item with this number.
+    fn row(&self, i: usize) -> Option<&Row>
+        ensures { option_map (λ row. row.now) result ≡ slice_get (rows_of self.now) i }
+    {
+        self.parts.rows.get(i)
+    }
+
+    /// The frame that is kept of the item with this number, if one is kept.
+    fn kept_frame(&self, i: usize) -> Option<&Option<Frame>>
+        ensures { option_map (λ frame. frame.now) result ≡ slice_get (frames_of self.now) i }
+    {
+        self.parts.frames.get(i)
+    }
+
+    /// Whether the item with this number is a sound `$f`, `$e`, `$a` or `$p`.
+    fn is_shown(&self, i: usize) -> bool
+        ensures { (base : BaseView) → IsBase base self.now → result ≡ (is_sound_at base i && is_labelled (said_at base i).kind) }
+    {
+        match self.row(i) {
+            Some(row) => is_shown_row(row),
+            None => false,
+        }
+    }
+
+    /// The symbols that are kept of the item with this number: none where none are kept.
+    fn symbols(&self, i: usize) -> &[NamedSymbol]
+        ensures { result.now ≡ expression_kept (expressions_of self.now) i }
+    {
+        match self.parts.expressions.get(i) {
+            Some(symbols) => symbols,
+            None => &[],
+        }
+    }
+
+    /// How many items there are.
+    pub fn count(&self) -> usize
+        ensures { (base : BaseView) → IsBase base self.now → result ≡ length base.said }
+    {
+        self.parts.rows.len()
+    }
+
+    /// The item of the files with this number.
+    pub fn item(&self, i: usize) -> &Item
+        requires { HasItem self.now i }
+        ensures { (base : BaseView) → IsBase base self.now → slice_get base.found i ≡ Some result.now }
+    {
+        &self.items[i]
+    }
+
+    /// The label of the item with this number: of a `$f`, `$e`, `$a` or `$p`, be it sound or not.
+    pub fn label(&self, i: usize) -> Option<&[u8]>
+        ensures { (base : BaseView) → IsBase base self.now → option_map (λ label. label.now) result ≡ (said_at base i).label }
+    {
+        match self.row(i) {
+            Some(row) => label_in(row),
+            None => None,
+        }
+    }
+
+    /// The fault of the item with this number, if it has one. A missing inclusion has F14 at its word 1, the name.
+    pub fn fault(&self, i: usize) -> Option<FrameFault>
+        ensures { (base : BaseView) → IsBase base self.now → option_map (λ f. (f.word, f.number)) result ≡ fault_at base i }
+    {
+        match self.row(i) {
+            Some(row) => row.fault,
+            None => None,
+        }
+    }
+
+    /// The expression of the item with this number, where it is a sound `$f`, `$e`, `$a` or `$p`.
+    pub fn expression(&self, i: usize) -> Option<&[NamedSymbol]>
+        ensures { (base : BaseView) → IsBase base self.now → option_map (λ e. symbols_of e.now) result ≡ expression_at base i }
+    {
+        if self.is_shown(i) {
+            Some(self.symbols(i))
+        } else {
+            None
+        }
+    }
+
+    /// The frame of the item with this number, where it is a sound `$a` or `$p`.
+    pub fn frame(&self, i: usize) -> Option<&Frame>
+        ensures { (base : BaseView) → IsBase base self.now → option_map (λ frame. frame.now.hypotheses.items) result ≡ hypotheses_at base i }
+    {
+        match self.kept_frame(i) {
+            Some(frame) => frame_in(frame),
+            None => None,
+        }
+    }
+
+    /// The number of the sound item that has a label, if one has it, active or not.
+    pub fn find(&self, label: &[u8]) -> Option<usize>
+        ensures { (base : BaseView) → IsBase base self.now → result ≡ find_in base label.now }
+    {
+        self.parts.tables.label(label)
+    }
+}

@@ -1,0 +1,299 @@
+//! A base in the making: what the items read so far leave.
+
+ghost use Rattle.std.specs.Prelude.{◌≡◌, ◌∷◌, ◌++◌, List, [], true, IfOk, OnOk, All, is_some, length, ◌&&◌};
+ghost use Rattle.std.specs.Option.{option_map};
+ghost use Rattle.std.specs.List.{AllZip};
+ghost use Rattle.mm_store.specs.FileFacts.{StandsIn};
+ghost use Rattle.mm_frame.specs.Item as meant;
+ghost use Rattle.mm_frame.specs.Statement.{Says, kind_of};
+ghost use Rattle.mm_frame.specs.Sound.{AreSound, IsSound, kept};
+ghost use Rattle.mm_frame.specs.Framing.{expression};
+ghost use Rattle.mm_frame.specs.Known.{Knows};
+ghost use Rattle.mm_frame.specs.Named.{symbols_of, is_read, AreExpressions};
+ghost use Rattle.mm_frame.specs.Scope.{closes, mark_of};
+ghost use Rattle.mm_frame.specs.Scoping.{taken};
+ghost use Rattle.mm_frame.specs.Blocks.{marks_of};
+ghost use Rattle.mm_frame.specs.Tables.{active_numbers, is_essential_item};
+ghost use Rattle.mm_frame.specs.Base.{fault_by, numbers_if};
+
+use crate::FrameNumber;
+use crate::active::ActiveNumbers;
+use crate::blocks::Blocks;
+use crate::judge::{FrameFault, fault_of};
+use crate::mandatory::hypotheses;
+use crate::scope::Scope;
+use crate::statement::Statement;
+use crate::symbol::{NamedSymbol, expression_of, variables_of};
+use crate::tables::Tables;
+use mm_store::{Files, Item, ItemKind};
+use std::alloc::{AllocError, Global};
+
+/// What is kept of each item.
+#[derive(Drop)]
+pub struct Row {
+    /// Its label, where it is one that has a label.
+    pub label: Option<Vec<u8>>,
+    /// Its fault: F14 where it is a missing inclusion.
+    pub fault: Option<FrameFault>,
+}
+
+/// What citing an assertion needs.
+#[derive(Drop)]
+pub struct Frame {
+    /// The numbers of the mandatory hypotheses, rising.
+    pub hypotheses: Vec<usize>,
+}
+
+/// What is kept of the items so far.
+#[derive(Drop)]
+pub struct Draft<'a> {
+    scope: Scope<'a>,
+    rows: Vec<Row>,
+    /// The symbols of each sound `$f`, `$e`, `$a`, `$p` and `$d`, by its number; none for any other item.
+    expressions: Vec<Vec<NamedSymbol>>,
+    /// The frame of each sound `$a` and `$p`, by its number; none for any other item.
+    frames: Vec<Option<Frame>>,
+    /// The active `$e`.
+    essentials: ActiveNumbers,
+}
+
+/// What is kept of all items.
+#[derive(Drop)]
+pub struct Parts {
+    pub tables: Tables,
+    pub blocks: Blocks,
+    pub rows: Vec<Row>,
+    /// The symbols of each sound `$f`, `$e`, `$a`, `$p` and `$d`, by its number; none for any other item.
+    pub expressions: Vec<Vec<NamedSymbol>>,
+    /// The frame of each sound `$a` and `$p`, by its number; none for any other item.
+    pub frames: Vec<Option<Frame>>,
+}
+
+/// The fault that is told of an item of this kind, if its statement has this fault.
+fn told_fault(kind: ItemKind, fault: Option<FrameFault>) -> Option<FrameFault>
+    ensures { option_map (λ f. (f.word, f.number)) result ≡ fault_by (kind_of kind) (option_map (λ f. (f.word, f.number)) fault) }
+{
+    match kind {
+        ItemKind::Missing => Some(FrameFault {
+            number: FrameNumber::F14,
+            word: 1,
+        }),
+        _ => fault,
+    }
+}
+
+/// A copy of the label, where there is one.
+fn label_of(alloc: Global, statement: &Statement) -> Result<Option<Vec<u8>>, AllocError>
+    ensures label { IfOk result (λ label. option_map (λ label. label.items) label ≡ statement.now.label) }
+    ensures some { IfOk result (λ label. is_some label ≡ meant.is_labelled statement.now.kind) }
+{
+    match statement.label() {
+        Some(label) => Ok(Some(Vec::from_slice(alloc, label)?)),
+        None => Ok(None),
+    }
+}
+
+/// The row of a statement with this fault.
+fn row_of(
+    alloc: Global,
+    statement: &Statement,
+    fault: Option<FrameFault>,
+) -> Result<Row, AllocError>
+    ensures label { IfOk result (λ row. option_map (λ label. label.items) row.label ≡ statement.now.label) }
+    ensures labelled { IfOk result (λ row. is_some row.label ≡ meant.is_labelled statement.now.kind) }
+    ensures fault { IfOk result (λ row. option_map (λ f. (f.word, f.number)) row.fault ≡ fault_by statement.now.kind (option_map (λ f. (f.word, f.number)) fault)) }
+{
+    let label = label_of(alloc, statement)?;
+    let fault = told_fault(statement.kind(), fault);
+    Ok(Row { label, fault })
+}
+
+fn is_disjoint(kind: ItemKind) -> bool
+    ensures { result ≡ meant.is_disjoint (kind_of kind) }
+{
+    matches!(kind, ItemKind::Disjoint)
+}
+
+/// The symbols that are kept of a statement: of a sound `$f`, `$e`, `$a`, `$p` or `$d`.
+fn symbols_kept(
+    alloc: Global,
+    tables: &Tables,
+    statement: &Statement,
+    sound: bool,
+) -> Result<Vec<NamedSymbol>, AllocError>
+    ensures { IfOk result (λ symbols. (before : List meant.Item) → AreSound before → Knows before tables.now → sound ≡ true → IsSound before statement.now → is_read statement.now.kind ≡ true → symbols_of symbols.items ≡ expression before statement.now) }
+{
+    if !sound {
+        return Ok(Vec::new(alloc));
+    }
+    if statement.label().is_some() {
+        Ok(expression_of(alloc, tables, statement)?)
+    } else if is_disjoint(statement.kind()) {
+        Ok(variables_of(alloc, statement)?)
+    } else {
+        Ok(Vec::new(alloc))
+    }
+}
+
+/// Whether a statement of this kind has a frame, if it is known to be sound or not.
+fn is_framed(kind: ItemKind, sound: bool) -> bool
+    ensures { result ≡ (sound && meant.is_assertion (kind_of kind)) }
+{
+    sound && matches!(kind, ItemKind::Axiom | ItemKind::Theorem)
+}
+
+/// The frame of a statement, if it has one.
+fn frame_of(
+    alloc: Global,
+    tables: &Tables,
+    essentials: &[usize],
+    expressions: &[Vec<NamedSymbol>],
+    own: &[NamedSymbol],
+    framed: bool,
+) -> Result<Option<Frame>, AllocError>
+    ensures { IfOk result (λ frame. (before : List meant.Item) (item : meant.Item) → AreSound before → Knows before tables.now → (framed ≡ true → IsSound before item × (meant.is_assertion item.kind ≡ true) × (symbols_of own.now ≡ expression before item)) → essentials.now ≡ active_numbers is_essential_item before → AreExpressions before expressions.now → option_map (λ f. f.hypotheses.items) frame ≡ numbers_if framed before item) }
+{
+    if !framed {
+        return Ok(None);
+    }
+    let hypotheses = hypotheses(alloc, tables, essentials, expressions, own)?;
+    Ok(Some(Frame { hypotheses }))
+}
+
+fn is_essential(kind: ItemKind) -> bool
+    ensures { result ≡ meant.is_essential (kind_of kind) }
+{
+    matches!(kind, ItemKind::Essential)
+}
+
+fn ends_block(kind: ItemKind) -> bool
+    ensures { result ≡ closes (mark_of (kind_of kind)) }
+{
+    matches!(kind, ItemKind::BlockEnd)
+}
+
+/// Goes on with the active `$e` behind one more item, of this kind where it is sound.
+fn follow(
+    essentials: &mut ActiveNumbers,
+    blocks: &Blocks,
+    kind: ItemKind,
+    number: usize,
+    sound: bool,
+) -> Result<(), AllocError>
+    ensures { OnOk result ((before : List meant.Item) (item : meant.Item) → kind_of kind ≡ item.kind → number ≡ length before → blocks.now ≡ marks_of (before ++ taken sound item ∷ []) → essentials.old ≡ active_numbers is_essential_item before → essentials.new ≡ active_numbers is_essential_item (before ++ taken sound item ∷ [])) }
+{
+    if !sound {
+        return Ok(());
+    }
+    if is_essential(kind) {
+        essentials.push(number)?;
+        return Ok(());
+    }
+    if ends_block(kind) {
+        essentials.prune(blocks);
+    }
+    Ok(())
+}
+
+impl<'a> Draft<'a> {
+    ghost use Rattle.mm_frame.specs.Kept.{IsDraft, AreParts};
+
+    /// No items. It takes no memory.
+    pub fn new(alloc: Global) -> Self
+        ensures { IsDraft [] result }
+    {
+        Draft {
+            scope: Scope::new(alloc),
+            rows: Vec::new(alloc),
+            expressions: Vec::new(alloc),
+            frames: Vec::new(alloc),
+            essentials: ActiveNumbers::new(alloc),
+        }
+    }
+
+    /// The frame of one more statement with these symbols, if it has one.
+    fn frame(
+        &self,
+        alloc: Global,
+        own: &[NamedSymbol],
+        framed: bool,
+    ) -> Result<Option<Frame>, AllocError>
+        ensures { IfOk result (λ frame. (said : List meant.Item) (item : meant.Item) → IsDraft said self.now → (framed ≡ true → IsSound (kept said) item × (meant.is_assertion item.kind ≡ true) × (symbols_of own.now ≡ expression (kept said) item)) → option_map (λ f. f.hypotheses.items) frame ≡ numbers_if framed (kept said) item) }
+    {
+        Ok(frame_of(
+            alloc,
+            self.scope.tables(),
+            self.essentials.as_slice(),
+            &self.expressions,
+            own,
+            framed,
+        )?)
+    }
+
+    /// Takes one more statement. Want of memory leaves the draft as good for nothing.
+    fn take(&mut self, alloc: Global, statement: &Statement<'a>) -> Result<(), AllocError>
+        ensures { OnOk result ((said : List meant.Item) → IsDraft said self.old → IsDraft (said ++ statement.now ∷ []) self.new) }
+    {
+        let fault = fault_of(alloc, &self.scope, statement)?;
+        let sound = fault.is_none();
+        let symbols = symbols_kept(alloc, self.scope.tables(), statement, sound)?;
+        let framed = is_framed(statement.kind(), sound);
+        let frame = self.frame(alloc, &symbols, framed)?;
+        self.frames.push(frame)?;
+        self.expressions.push(symbols)?;
+        let number = self.rows.len();
+        let row = row_of(alloc, statement, fault)?;
+        self.rows.push(row)?;
+        self.scope.next(alloc, statement, sound)?;
+        let kind = statement.kind();
+        let blocks = self.scope.blocks();
+        follow(&mut self.essentials, blocks, kind, number, sound)?;
+        Ok(())
+    }
+
+    /// Reads one more item of the files. Want of memory leaves the draft as good for nothing.
+    pub fn read(&mut self, alloc: Global, files: &'a Files, item: &Item) -> Result<(), AllocError>
+        requires { StandsIn files.now item.now }
+        ensures { OnOk result ((one : meant.Item) × Says files.now item.now one × ((said : List meant.Item) → IsDraft said self.old → IsDraft (said ++ one ∷ []) self.new)) }
+    {
+        let statement = Statement::read(alloc, files, item)?;
+        self.take(alloc, &statement)
+    }
+
+    /// Reads items of the files, from the first one on.
+    pub fn read_all(
+        alloc: Global,
+        files: &'a Files,
+        items: &[Item],
+    ) -> Result<Draft<'a>, AllocError>
+        requires { All (StandsIn files.now) items.now }
+        ensures { IfOk result (λ draft. (said : List meant.Item) × AllZip (Says files.now) items.now said × IsDraft said draft) }
+    {
+        let mut draft = Draft::new(alloc);
+        for item in items {
+            draft.read(alloc, files, item)?;
+        }
+        Ok(draft)
+    }
+
+    /// What is kept when all items are read.
+    pub fn parts(self) -> Parts
+        ensures { (said : List meant.Item) → IsDraft said self.entry → AreParts said result }
+    {
+        let Draft {
+            scope,
+            rows,
+            expressions,
+            frames,
+            ..
+        } = self;
+        let (tables, blocks) = scope.tables_and_blocks();
+        Parts {
+            tables,
+            blocks,
+            rows,
+            expressions,
+            frames,
+        }
+    }
+}

@@ -1,0 +1,248 @@
+//! The fault of a statement behind the sound items before it.
+
+ghost use Rattle.std.specs.Prelude.{◌≡◌, ◌<◌, ◌||◌, ◌∷◌, ◌++◌, ℕ, true, None, List, [], IfOk, length, slice_index_or};
+ghost use Rattle.std.specs.Option.{option_map};
+ghost use Rattle.mm_frame.specs.Item as meant;
+ghost use Rattle.mm_frame.specs.Item.{Item};
+ghost use Rattle.mm_frame.specs.Judging as judging;
+ghost use Rattle.mm_frame.specs.Sound as sound;
+ghost use Rattle.mm_frame.specs.Sound.{AreSound};
+ghost use Rattle.mm_frame.specs.Scoping.{Holds};
+ghost use Rattle.mm_frame.specs.Seen.{HasSeen};
+ghost use Rattle.mm_frame.specs.Statement.{kind_of};
+
+use crate::FrameNumber;
+use crate::scope::Scope;
+use crate::statement::Statement;
+use mm_store::ItemKind;
+use std::alloc::{AllocError, Global};
+use std::collections::HashSet;
+
+/// A fault of a statement: its number, and the word that it is told at, counted from 0 in the statement.
+#[derive(Clone, Copy, Debug, PartialEq, Eq)]
+pub struct FrameFault {
+    pub number: FrameNumber,
+    pub word: usize,
+}
+
+/// What is wrong with a label.
+fn label_fault(scope: &Scope, label: &[u8]) -> Option<FrameNumber>
+    ensures { (before : List Item) → AreSound before → Holds before scope.now → result ≡ judging.label_fault before label.now }
+{
+    if scope.is_label(label) {
+        Some(FrameNumber::F06)
+    } else if scope.is_declared(label) {
+        Some(FrameNumber::F07)
+    } else {
+        None
+    }
+}
+
+/// What is wrong at the first word: a `$c` stands in a block, or the label is wrong.
+fn front_fault(scope: &Scope, statement: &Statement) -> Option<FrameNumber>
+    ensures { (before : List Item) → AreSound before → Holds before scope.now → result ≡ judging.front_fault before statement.now }
+{
+    if matches!(statement.kind(), ItemKind::Constants) && scope.is_inside() {
+        return Some(FrameNumber::F02);
+    }
+    label_fault(scope, statement.label()?)
+}
+
+/// What is wrong with a symbol of a `$c` or `$v`, if it is known whether the symbol stands earlier in the same
+/// statement, and whether it is a symbol already that must not be declared again.
+fn declared_fault(scope: &Scope, name: &[u8], repeated: bool, declared: bool) -> Option<FrameNumber>
+    ensures constant { (before : List Item) (item : Item) (n : ℕ) → AreSound before → Holds before scope.now → repeated ≡ sound.is_repeated item n name.now → declared ≡ sound.is_declared before name.now → result ≡ judging.constant_fault before item n name.now }
+    ensures variable { (before : List Item) (item : Item) (n : ℕ) → AreSound before → Holds before scope.now → repeated ≡ sound.is_repeated item n name.now → declared ≡ sound.is_active_symbol before name.now → result ≡ judging.variable_fault before item n name.now }
+{
+    if repeated {
+        Some(FrameNumber::F03)
+    } else if declared {
+        Some(FrameNumber::F04)
+    } else if scope.is_label(name) {
+        Some(FrameNumber::F05)
+    } else {
+        None
+    }
+}
+
+/// What is wrong with a symbol of a `$d`, if it is known whether the symbol stands earlier in the same statement.
+fn disjoint_fault(scope: &Scope, name: &[u8], repeated: bool) -> Option<FrameNumber>
+    ensures { (before : List Item) (item : Item) (n : ℕ) → AreSound before → Holds before scope.now → repeated ≡ sound.is_repeated item n name.now → result ≡ judging.disjoint_fault before item n name.now }
+{
+    if repeated {
+        Some(FrameNumber::F03)
+    } else if scope.is_active_variable(name) {
+        None
+    } else {
+        Some(FrameNumber::F09)
+    }
+}
+
+/// What is wrong with a typecode.
+fn typecode_fault(scope: &Scope, name: &[u8]) -> Option<FrameNumber>
+    ensures { (before : List Item) → AreSound before → Holds before scope.now → result ≡ judging.typecode_fault before name.now }
+{
+    if !scope.is_constant(name) {
+        return Some(FrameNumber::F08);
+    }
+    None
+}
+
+/// What is wrong with the variable of a `$f` that gives it this typecode.
+fn typed_fault(scope: &Scope, name: &[u8], typecode: &[u8]) -> Option<FrameNumber>
+    ensures { (before : List Item) (item : Item) → AreSound before → Holds before scope.now → meant.typecode_of item ≡ typecode.now → result ≡ judging.typed_fault before item name.now }
+{
+    if !scope.is_active_variable(name) {
+        Some(FrameNumber::F09)
+    } else if scope.is_typed(name) {
+        Some(FrameNumber::F12)
+    } else if scope.is_typed_otherwise(name, typecode) {
+        Some(FrameNumber::F13)
+    } else {
+        None
+    }
+}
+
+/// What is wrong with the n-th symbol of a `$f`, counted from 0.
+fn floating_fault(scope: &Scope, statement: &Statement, n: usize) -> Option<FrameNumber>
+    requires { n < length statement.now.symbols }
+    ensures { (before : List Item) → AreSound before → Holds before scope.now → result ≡ judging.floating_fault before statement.now n (slice_index_or statement.now.symbols n []) }
+{
+    match n {
+        0 => typecode_fault(scope, statement.symbol(0)),
+        1 => typed_fault(scope, statement.symbol(1), statement.symbol(0)),
+        _ => Some(FrameNumber::F01),
+    }
+}
+
+/// What is wrong with a symbol behind a typecode.
+fn later_fault(scope: &Scope, name: &[u8]) -> Option<FrameNumber>
+    ensures { (before : List Item) → AreSound before → Holds before scope.now → result ≡ judging.later_fault before name.now }
+{
+    if scope.is_constant(name) {
+        None
+    } else if !scope.is_active_variable(name) {
+        Some(FrameNumber::F10)
+    } else if !scope.is_typed(name) {
+        Some(FrameNumber::F11)
+    } else {
+        None
+    }
+}
+
+/// What is wrong with the n-th symbol of a `$e`, `$a` or `$p`, counted from 0.
+fn expression_fault(scope: &Scope, n: usize, name: &[u8]) -> Option<FrameNumber>
+    ensures { (before : List Item) → AreSound before → Holds before scope.now → result ≡ judging.expression_fault before n name.now }
+{
+    if n == 0 {
+        typecode_fault(scope, name)
+    } else {
+        later_fault(scope, name)
+    }
+}
+
+/// Whether the symbols of such a statement have to differ.
+fn must_differ(kind: ItemKind) -> bool
+    ensures { result ≡ judging.must_differ (kind_of kind) }
+{
+    matches!(
+        kind,
+        ItemKind::Constants | ItemKind::Variables | ItemKind::Disjoint
+    )
+}
+
+/// What is wrong with the n-th symbol, counted from 0, if it is known whether it stands earlier in the same statement
+/// where it must not.
+fn symbol_fault(
+    scope: &Scope,
+    statement: &Statement,
+    n: usize,
+    repeated: bool,
+) -> Option<FrameNumber>
+    requires { n < length statement.now.symbols }
+    ensures { (before : List Item) → AreSound before → Holds before scope.now → (judging.must_differ statement.now.kind ≡ true → repeated ≡ sound.is_repeated statement.now n (slice_index_or statement.now.symbols n [])) → result ≡ judging.symbol_fault before statement.now n (slice_index_or statement.now.symbols n []) }
+{
+    let name = statement.symbol(n);
+    match statement.kind() {
+        ItemKind::Constants => declared_fault(scope, name, repeated, scope.is_declared(name)),
+        ItemKind::Variables => declared_fault(scope, name, repeated, scope.is_active_symbol(name)),
+        ItemKind::Disjoint => disjoint_fault(scope, name, repeated),
+        ItemKind::Floating => floating_fault(scope, statement, n),
+        ItemKind::Essential | ItemKind::Axiom | ItemKind::Theorem => {
+            expression_fault(scope, n, name)
+        }
+        ItemKind::BlockStart | ItemKind::BlockEnd | ItemKind::Missing => None,
+    }
+}
+
+/// Whether a name is among those seen so far, which it joins. Where the names need not differ, none is kept.
+fn see<'a>(seen: &mut HashSet<&'a [u8]>, name: &'a [u8], differ: bool) -> Result<bool, AllocError>
+    ensures { (names : List (List ℕ)) → (differ ≡ true → HasSeen names seen.old) → IfOk result (λ repeated. differ ≡ true → (repeated ≡ meant.has names name.now) × HasSeen (names ++ name.now ∷ []) seen.new) }
+{
+    Ok(differ && !seen.insert(name)?)
+}
+
+/// The first fault among the symbols. Memory is taken for those that have to differ.
+fn symbols_fault(
+    alloc: Global,
+    scope: &Scope,
+    statement: &Statement,
+) -> Result<Option<FrameFault>, AllocError>
+    ensures { (before : List Item) → AreSound before → Holds before scope.now → IfOk result (λ found. option_map (λ f. (f.word, f.number)) found ≡ judging.symbols_fault before statement.now) }
+{
+    let differ = must_differ(statement.kind());
+    let mut seen = HashSet::new(alloc);
+    for n in 0..statement.symbol_count() {
+        let repeated = see(&mut seen, statement.symbol(n), differ)?;
+        if let Some(number) = symbol_fault(scope, statement, n, repeated) {
+            let word = statement.symbol_place(n);
+            return Ok(Some(FrameFault { number, word }));
+        }
+    }
+    Ok(None)
+}
+
+/// Whether a statement of this kind has too few symbols.
+fn is_short(kind: ItemKind, count: usize) -> bool
+    ensures { result ≡ sound.is_short (kind_of kind) count }
+{
+    match kind {
+        ItemKind::Disjoint | ItemKind::Floating => count < 2,
+        ItemKind::BlockStart | ItemKind::BlockEnd | ItemKind::Missing => false,
+        _ => count == 0,
+    }
+}
+
+/// The fault at the end: there are too few symbols.
+fn end_fault(statement: &Statement) -> Option<FrameFault>
+    ensures { option_map (λ f. (f.word, f.number)) result ≡ sound.fault_or (sound.closing_word statement.now) (judging.end_fault statement.now) None }
+{
+    let count = statement.symbol_count();
+    if !is_short(statement.kind(), count) {
+        return None;
+    }
+    Some(FrameFault {
+        number: FrameNumber::F01,
+        word: statement.symbol_place(count),
+    })
+}
+
+/// The fault of a statement behind the sound items of a scope, if it has one: at the first word with a fault, with
+/// the lowest number there. What is no statement has none.
+///
+/// It reads the words once, in time near linear in them.
+pub fn fault_of(
+    alloc: Global,
+    scope: &Scope,
+    statement: &Statement,
+) -> Result<Option<FrameFault>, AllocError>
+    ensures { (before : List Item) → AreSound before → Holds before scope.now → IfOk result (λ found. option_map (λ f. (f.word, f.number)) found ≡ sound.fault before statement.now) }
+{
+    if let Some(number) = front_fault(scope, statement) {
+        return Ok(Some(FrameFault { number, word: 0 }));
+    }
+    if let Some(fault) = symbols_fault(alloc, scope, statement)? {
+        return Ok(Some(fault));
+    }
+    Ok(end_fault(statement))
+}

@@ -1,0 +1,195 @@
+//! What the sound items so far declare, and which of it is active.
+
+ghost use Rattle.std.specs.Prelude.{◌≡◌, true, List, [], ◌∷◌, ◌++◌, OnOk, slice_index_or};
+ghost use Rattle.mm_frame.specs.Item as meant;
+ghost use Rattle.mm_frame.specs.Scope as scopes;
+ghost use Rattle.mm_frame.specs.Scope.{mark_of};
+ghost use Rattle.mm_frame.specs.Statement.{kind_of};
+ghost use Rattle.mm_frame.specs.Sound as sound;
+ghost use Rattle.mm_frame.specs.Sound.{AreSound};
+ghost use Rattle.mm_frame.specs.Tables as numbered;
+ghost use Rattle.mm_frame.specs.Blocks.{marks_of};
+ghost use Rattle.mm_frame.specs.Known.{Knows};
+
+use crate::blocks::Blocks;
+use crate::statement::Statement;
+use crate::tables::Tables;
+use mm_store::ItemKind;
+use std::alloc::{AllocError, Global};
+
+/// What the sound items so far declare, and which of it is active.
+///
+/// Items are numbered from 0 in order; an item that is not sound is passed over and keeps its number. To take one
+/// costs time near linear in its words, and each question the time of a look-up by hash.
+#[derive(Drop)]
+pub struct Scope<'a> {
+    tables: Tables,
+    blocks: Blocks,
+    /// The first symbol of each item: empty where it has none, or was passed over.
+    typecodes: Vec<&'a [u8]>,
+}
+
+/// The first symbol, or no bytes where there is none.
+fn typecode_of<'a>(statement: &Statement<'a>) -> &'a [u8]
+    ensures { result.now ≡ meant.typecode_of statement.now }
+{
+    if statement.symbol_count() > 0 {
+        statement.symbol(0)
+    } else {
+        b""
+    }
+}
+
+/// Adds what an item of this kind does to the blocks.
+fn mark(blocks: &mut Blocks, kind: ItemKind) -> Result<(), AllocError>
+    ensures { OnOk result (blocks.new ≡ blocks.old ++ mark_of (kind_of kind) ∷ []) }
+{
+    match kind {
+        ItemKind::BlockStart => blocks.begin(),
+        ItemKind::BlockEnd => blocks.end(),
+        _ => blocks.pass(),
+    }
+}
+
+impl<'a> Scope<'a> {
+    ghost use Rattle.mm_frame.specs.Scoping.{Holds, Takes, typecodes_of};
+
+    /// No items. It takes no memory.
+    pub fn new(alloc: Global) -> Self
+        ensures { Holds [] result }
+    {
+        Scope {
+            tables: Tables::new(alloc),
+            blocks: Blocks::new(alloc),
+            typecodes: Vec::new(alloc),
+        }
+    }
+
+    /// Whether a block is open.
+    pub fn is_inside(&self) -> bool
+        ensures { (before : List meant.Item) → AreSound before → Holds before self.now → result ≡ scopes.is_inside before }
+    {
+        self.blocks.is_inside()
+    }
+
+    /// Whether a name is a constant.
+    pub fn is_constant(&self, name: &[u8]) -> bool
+        ensures { (before : List meant.Item) → AreSound before → Holds before self.now → result ≡ meant.has (scopes.constants before) name.now }
+    {
+        self.tables.is_constant(name)
+    }
+
+    /// Whether a name is a constant or a variable, active or not.
+    pub fn is_declared(&self, name: &[u8]) -> bool
+        ensures { (before : List meant.Item) → AreSound before → Holds before self.now → result ≡ sound.is_declared before name.now }
+    {
+        self.tables.is_declared(name)
+    }
+
+    /// Whether an item, active or not, has this label.
+    pub fn is_label(&self, label: &[u8]) -> bool
+        ensures { (before : List meant.Item) → AreSound before → Holds before self.now → result ≡ sound.is_label before label.now }
+    {
+        self.tables.is_label(label)
+    }
+
+    /// Whether a name is an active variable.
+    pub fn is_active_variable(&self, name: &[u8]) -> bool
+        ensures { (before : List meant.Item) → AreSound before → Holds before self.now → result ≡ meant.has (scopes.active_variables before) name.now }
+    {
+        match self.tables.variable(name) {
+            Some(number) => self.blocks.is_active_now(number),
+            None => false,
+        }
+    }
+
+    /// Whether a name is a constant or an active variable.
+    pub fn is_active_symbol(&self, name: &[u8]) -> bool
+        ensures { (before : List meant.Item) → AreSound before → Holds before self.now → result ≡ sound.is_active_symbol before name.now }
+    {
+        self.is_constant(name) || self.is_active_variable(name)
+    }
+
+    /// The number of the last `$f` of a variable, active or not.
+    pub fn float(&self, name: &[u8]) -> Option<usize>
+        ensures { (before : List meant.Item) → AreSound before → Holds before self.now → result ≡ numbered.last_where (numbered.types name.now) before }
+    {
+        self.tables.float(name)
+    }
+
+    /// Whether an active `$f` types a name.
+    pub fn is_typed(&self, name: &[u8]) -> bool
+        ensures { (before : List meant.Item) → AreSound before → Holds before self.now → result ≡ sound.is_typed before name.now }
+    {
+        match self.float(name) {
+            Some(number) => self.blocks.is_active_now(number),
+            None => false,
+        }
+    }
+
+    /// The first symbol of the item with this number; no bytes where there is no such item.
+    fn typecode(&self, number: usize) -> &'a [u8]
+        ensures { result.now ≡ slice_index_or (typecodes_of self.now) number [] }
+    {
+        self.typecodes.get(number).copied().unwrap_or(b"")
+    }
+
+    /// Whether a `$f`, active or not, gives a name another typecode than this one.
+    pub fn is_typed_otherwise(&self, name: &[u8], typecode: &[u8]) -> bool
+        ensures { (before : List meant.Item) (item : meant.Item) → AreSound before → Holds before self.now → meant.typecode_of item ≡ typecode.now → result ≡ sound.is_typed_otherwise before item name.now }
+    {
+        match self.float(name) {
+            Some(number) => self.typecode(number) != typecode,
+            None => false,
+        }
+    }
+
+    /// Takes a sound item.
+    fn take(&mut self, alloc: Global, statement: &Statement<'a>) -> Result<(), AllocError>
+        ensures { OnOk result (Takes self.old statement.now true self.new) }
+    {
+        self.tables.take(alloc, statement, self.typecodes.len())?;
+        mark(&mut self.blocks, statement.kind())?;
+        self.typecodes.push(typecode_of(statement))?;
+        Ok(())
+    }
+
+    /// Takes one more item: as it is where it is sound, and else passes over it. Want of memory leaves the scope as
+    /// good for nothing.
+    pub fn next(
+        &mut self,
+        alloc: Global,
+        statement: &Statement<'a>,
+        sound: bool,
+    ) -> Result<(), AllocError>
+        ensures { OnOk result (Takes self.old statement.now sound self.new) }
+    {
+        if sound {
+            return self.take(alloc, statement);
+        }
+        self.blocks.pass()?;
+        self.typecodes.push(b"")?;
+        Ok(())
+    }
+
+    /// What the sound items declare.
+    pub fn tables(&self) -> &Tables
+        ensures { result.now ≡ self.now.tables }
+    {
+        &self.tables
+    }
+
+    /// The blocks of the sound items.
+    pub fn blocks(&self) -> &Blocks
+        ensures { result.now ≡ self.now.blocks }
+    {
+        &self.blocks
+    }
+
+    /// What the sound items declare, and their blocks.
+    pub fn tables_and_blocks(self) -> (Tables, Blocks)
+        ensures { (before : List meant.Item) → Holds before self.entry → Knows before result.0 × (result.1 ≡ marks_of before) }
+    {
+        (self.tables, self.blocks)
+    }
+}
