@@ -1,16 +1,16 @@
 -- What a base answers: which items are sound, and what each sound one means, as functions of what the items say (Metamath book, section 4.2).
-use Rattle.std.specs.Prelude.{ℕ, Bool, ◌&&◌, if◌then◌else◌, Option, Some, None, is_none, List, take}
+use Rattle.std.specs.Prelude.{◌≡◌, ◌<◌, ℕ, Bool, true, ◌&&◌, if◌then◌else◌, Option, Some, None, is_none, List, take, map, All}
 use Rattle.std.specs.List.{AllZip}
 use Rattle.mm_store.specs.declared.item.Item as store
 use Rattle.mm_store.specs.FilesView.{FilesView}
 use Rattle.mm_store.specs.Expansion.{IsExpansion}
 use Rattle.mm_frame.specs.declared.FrameNumber.{FrameNumber}
 use Rattle.mm_frame.specs.declared.FrameNumber.TheVariants.{F14}
-use Rattle.mm_frame.specs.Language.{Symbol}
-use Rattle.mm_frame.specs.Item.{Kind, Missing, Item, is_labelled, is_assertion}
+use Rattle.mm_frame.specs.Language.{Symbol, Mandatory, Frame}
+use Rattle.mm_frame.specs.Item.{Kind, Missing, Item, is_labelled, is_assertion, is_theorem}
 use Rattle.mm_frame.specs.Sound.{fault, kept}
 use Rattle.mm_frame.specs.Statement.{Says}
-use Rattle.mm_frame.specs.Framing.{expression}
+use Rattle.mm_frame.specs.Framing.{expression, hypothesis, frame}
 use Rattle.mm_frame.specs.Tables.{item_at, last_where, carries, mandatory_numbers}
 
 -- what a base stands for: the items of the files, and what each says
@@ -67,3 +67,28 @@ hypotheses_at base i = told_numbers (before base i) (said_at base i)
 -- the number of the sound item that carries a label
 abbrev pub find_in : BaseView → List ℕ → Option ℕ
 find_in base label = last_where (carries label) (kept base.said)
+
+-- the item with this number is a sound `$f`, `$e`, `$a` or `$p`
+abbrev pub is_shown_at : BaseView → ℕ → Bool
+is_shown_at base i = is_sound_at base i && is_labelled (said_at base i).kind
+
+-- it is a sound `$a` or `$p`
+abbrev pub is_framed_at : BaseView → ℕ → Bool
+is_framed_at base i = is_sound_at base i && is_assertion (said_at base i).kind
+
+-- it is a sound `$p`
+abbrev pub is_proof_at : BaseView → ℕ → Bool
+is_proof_at base i = is_sound_at base i && is_theorem (said_at base i).kind
+
+-- the hypothesis with this number, as it is read at its own place
+abbrev pub hypothesis_at : BaseView → ℕ → Mandatory
+hypothesis_at base n = hypothesis (before base n) (said_at base n)
+
+-- the frame of the assertion with this number
+abbrev pub frame_at : BaseView → ℕ → Frame
+frame_at base i = frame (before base i) (said_at base i)
+
+-- the hypotheses of its frame are those with these numbers, which are sound and stand before it
+pub record AreHypotheses (base : BaseView) (i : ℕ) (numbers : List ℕ) : Type 0 where
+  pub each : All (λ n. (n < i) × (is_shown_at base n ≡ true)) numbers
+  pub are : map (hypothesis_at base) numbers ≡ (frame_at base i).hypotheses

@@ -58,6 +58,11 @@ is_assertion Axiom = true
 is_assertion Theorem = true
 is_assertion _ = false
 
+-- `$p`
+abbrev pub is_theorem : Kind → Bool
+is_theorem Theorem = true
+is_theorem _ = false
+
 -- `$c` and `$v`
 abbrev pub is_declaring : Kind → Bool
 is_declaring Constants = true

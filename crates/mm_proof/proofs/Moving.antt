@@ -5,7 +5,7 @@ use Rattle.std.specs.List.{AllZip}
 use Rattle.std.specs.Ordering.{int_eq}
 use Rattle.std.proofs.lemmas.List.Elements.{All-contains}
 use Rattle.std.proofs.lemmas.List.{get_or_default}
-use Rattle.mm_frame.specs.Language.{Symbol, Mandatory, Frame, Resolved, Hypothesis, Assertion, Inactive, Unknown, Place, ArePair}
+use Rattle.mm_frame.specs.Language.{Symbol, Mandatory, Frame, Resolved, Hypothesis, Assertion, Inactive, Unknown, Place, ArePair, AreSamePairs, AreSameFrame}
 use Rattle.mm_proof.specs.Substitution.{substituted}
 use Rattle.mm_proof.specs.Derivation.{Derives, DeriveInOrder, by_hypothesis, by_assertion, nothing, first_then, Takes, AreApart, ShareVariable}
 use Rattle.mm_proof.specs.Expansion.{Step, Named, Saved, Save, NotKnown, Expanded, expand_one, expand_from, expansion, last_part, or_else, weight, taken_by, with_saved, with_again}
@@ -13,7 +13,7 @@ use Rattle.mm_proof.specs.Faults.{LackPair, CitingFails, LabelFails, LineHolds}
 use Rattle.mm_proof.specs.Reaches.{Reaches, IsFault}
 use Rattle.mm_proof.specs.Machine.{AreAllKnown}
 use Rattle.mm_proof.specs.Verdict.{Decoded, IsFirstUnknown, StepsDerive, IsWrongBy, IsVerdictOnSteps}
-use Rattle.mm_proof.specs.View.{AreSamePairs, AreSameFrame, AreSameMeaning, IsSameStep, IsSameProof}
+use Rattle.mm_proof.specs.View.{AreSameMeaning, IsSameStep, IsSameProof}
 use Rattle.mm_proof.specs.declared.Spot.{Spot}
 use Rattle.mm_proof.specs.declared.ProofNumber.{ProofNumber}
 use Rattle.mm_proof.specs.declared.ProofNumber.TheVariants.{P07, P08, P09, P10, P11, P12, P14, P15}
