@@ -33,3 +33,4 @@ pub mod Named
 pub mod Pruned
 pub mod Base
 pub mod Kept
+pub mod Paired
