@@ -9,7 +9,7 @@ use Rattle.mm_frame.specs.Scope.{Opens, Closes, Neither, mark_of, is_zero, stays
 use Rattle.mm_frame.specs.declared.FrameNumber.TheVariants.{F09}
 use Rattle.mm_frame.specs.Sound.{each, is_no_variable, IsSound, AreSound}
 use Rattle.mm_frame.specs.Framing.{symbol, expression, pairs_of, active_pairs}
-use Rattle.mm_frame.specs.Tables.{item_at, is_active_at, active_numbers}
+use Rattle.mm_frame.specs.Tables.{item_at, is_active_at, active_numbers, is_disjoint_item}
 use Rattle.mm_frame.proofs.Members.{In, in_get, has_in, in_has}
 use Rattle.mm_frame.proofs.Scopes.{active_split}
 use Rattle.mm_frame.proofs.Facts.{not_not, no_symbol_of}
@@ -66,7 +66,7 @@ pairs_same : (b c : Bool) (xs ys : List Symbol) → b ≡ c → (b ≡ true → 
 pairs_same true c xs ys e h = ap pairs_of (h refl) ∙ ap (λ w. cond w (pairs_of ys) []) e
 pairs_same false c xs ys e h = ap (λ w. cond w (pairs_of ys) []) e
 
-flat_same : {X Y : Type 0} (f g : X → List Y) (xs : List X) → ((x : X) → In x xs → f x ≡ g x) → flat_map f xs ≡ flat_map g xs
+pub flat_same : {X Y : Type 0} (f g : X → List Y) (xs : List X) → ((x : X) → In x xs → f x ≡ g x) → flat_map f xs ≡ flat_map g xs
 flat_same f g [] h = refl
 flat_same f g (x ∷ xs) h = let a = h x (inl refl) in let b = flat_same f g xs (λ y k. h y (inr k)) in λ i. a i ++ b i
 
@@ -93,9 +93,6 @@ pub active_pairs_start : (before : List Item) (item : Item) → mark_of item.kin
 active_pairs_start before item e h = active_pairs_more before item (not_closing_start (mark_of item.kind) e) h ∙ ap (λ b. active_pairs before ++ cond b (pairs_of (expression before item)) []) (start_disjoint item.kind e) ∙ append-nil (active_pairs before)
 
 -- the active pairs, by the numbers of the active `$d`, each read at its own place
-abbrev pub is_disjoint_item : Item → Bool
-is_disjoint_item item = is_disjoint item.kind
-
 abbrev pub pairs_at : List Item → ℕ → List (Symbol × Symbol)
 pairs_at items n = pairs_of (expression (take n items) (item_at items n))
 

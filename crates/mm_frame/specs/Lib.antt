@@ -32,5 +32,6 @@ pub mod Seen
 pub mod Named
 pub mod Pruned
 pub mod Base
+pub mod PairLists
 pub mod Kept
 pub mod Paired

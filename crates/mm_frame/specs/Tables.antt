@@ -1,7 +1,7 @@
 -- What a reader looks up by number: the last item that declares a name, types it or carries it as a label, and whether that one item is active (Metamath book, section 4.2).
 use Rattle.std.specs.Prelude.{◌≡◌, ℕ, suc, ◌<◌, ◌⊎◌, Bool, false, not, ◌&&◌, if◌then◌else◌, Option, Some, None, List, [], ◌∷◌, take, drop, bytes_eq, slice_index_or, Contains, AllPairs}
 use Rattle.mm_frame.specs.Language.{Resolved, Unknown}
-use Rattle.mm_frame.specs.Item.{Item, passed, is_variables, is_floating, is_essential, has, labels_of, typecode_of, variable_of}
+use Rattle.mm_frame.specs.Item.{Item, passed, is_variables, is_disjoint, is_floating, is_essential, has, labels_of, typecode_of, variable_of}
 use Rattle.mm_frame.specs.Scope.{stays}
 use Rattle.mm_frame.specs.Framing.{mandatory_variables, is_mandatory, meaning}
 
@@ -62,6 +62,10 @@ active_numbers test items = active_numbers_from test 0 items
 -- the item is a `$e`
 abbrev pub is_essential_item : Item → Bool
 is_essential_item item = is_essential item.kind
+
+-- the item is a `$d`
+abbrev pub is_disjoint_item : Item → Bool
+is_disjoint_item item = is_disjoint item.kind
 
 -- the numbers of the mandatory hypotheses of a statement behind the items, in order
 abbrev pub mandatory_numbers : List Item → Item → List ℕ
