@@ -8,19 +8,19 @@ use Rattle.std.proofs.lemmas.Option.{slice_get_within, slice_get_cases, none-som
 use Rattle.std.specs.Global.{Global}
 use Rattle.mm_frame.specs.declared.FrameNumber.{FrameNumber}
 use Rattle.mm_frame.specs.declared.symbol.NamedSymbol.{NamedSymbol}
-use Rattle.mm_frame.specs.Item.{Kind, Axiom, Theorem, Missing, Item, passed, is_labelled, is_disjoint, is_assertion, is_essential}
+use Rattle.mm_frame.specs.Item.{Kind, Essential, Axiom, Theorem, Missing, Item, passed, is_labelled, is_disjoint, is_assertion, is_essential, is_theorem}
 use Rattle.mm_frame.specs.Sound.{IsSound, AreSound, fault, judged, kept, kept_after}
 use Rattle.mm_frame.specs.Framing.{symbol, expression}
-use Rattle.mm_frame.specs.Scope.{Mark, Closes, mark_of, closes, active_variables}
+use Rattle.mm_frame.specs.Scope.{Mark, Closes, Neither, mark_of, closes, active_variables}
 use Rattle.mm_frame.specs.Named.{symbols_of, expression_kept, kept_or_none, is_read, variable_of, AreSymbols, AreExpressions}
-use Rattle.mm_frame.specs.Tables.{item_at, active_numbers, is_essential_item}
+use Rattle.mm_frame.specs.Tables.{item_at, active_numbers, IsSort}
 use Rattle.mm_frame.specs.Scoping.{taken}
 use Rattle.mm_frame.specs.Base.{BaseView, before, said_at, fault_by, told_fault, is_sound_at, expression_at, told_numbers, numbers_if}
-use Rattle.mm_frame.specs.Kept.{AreRows}
+use Rattle.mm_frame.specs.Kept.{AreRows, is_told_proof}
 use Rattle.mm_frame.proofs.Judged.{no_fault_sound, sound_found, passed_sound, kept_is_sound, kept_next, kept_after_append}
 use Rattle.mm_frame.proofs.Outermost.{kept_sound, split_at, map_same}
 use Rattle.mm_frame.proofs.Members.{in_has}
-use Rattle.mm_frame.proofs.PairLemmas.{disjoint_named}
+use Rattle.mm_frame.proofs.PairLemmas.{disjoint_neither, disjoint_named}
 use Rattle.mm_frame.proofs.TableLemmas.{item_between, take_between}
 use Rattle.mm_frame.proofs.BlockLemmas.{get_cases, get_last}
 use Rattle.mm_frame.proofs.NamedLemmas.{get_before}
@@ -203,12 +203,12 @@ variables_read item n variables l r before s t = r ∙ ap (map variable_of) (tak
 pub are_expressions : (before : List Item) (expressions : List (Vec NamedSymbol Global)) → AreSymbols before expressions → AreExpressions before expressions
 are_expressions before expressions a n item e t = a.each n item e (ap (λ b. b || is_disjoint item.kind) t)
 
--- an item that is no `$e` and no `$}` leaves the active `$e` as they are
+-- an item that is not of the sort and is no `$}` leaves the active items of the sort as they are
 not_closes : (m : Mark) → closes m ≡ false → m ≡ Closes → ⊥
 not_closes m e c = false≢true (sym e ∙ ap closes c)
 
-pub essentials_same : (before : List Item) (item : Item) → closes (mark_of item.kind) ≡ false → is_essential item.kind ≡ false → active_numbers is_essential_item before ≡ active_numbers is_essential_item (before ++ item ∷ [])
-essentials_same before item c e = sym (active_numbers_more is_essential_item before item (not_closes (mark_of item.kind) c) ∙ ap (λ b. active_numbers is_essential_item before ++ cond b (length before ∷ []) []) e ∙ append-nil (active_numbers is_essential_item before))
+numbers_same : (test : Item → Bool) (before : List Item) (item : Item) → closes (mark_of item.kind) ≡ false → test item ≡ false → active_numbers test before ≡ active_numbers test (before ++ item ∷ [])
+numbers_same test before item c e = sym (active_numbers_more test before item (not_closes (mark_of item.kind) c) ∙ ap (λ b. active_numbers test before ++ cond b (length before ∷ []) []) e ∙ append-nil (active_numbers test before))
 
 -- a sound item has a frame exactly where it is an assertion
 told_same : (kind : Kind) (f : Option (ℕ × FrameNumber)) → (is_none f && is_assertion kind) ≡ (is_none (fault_by kind f) && is_assertion kind)
@@ -226,11 +226,31 @@ frame_beyond before said n l = ap (told_numbers before) (item_beyond said n l) �
     none true = refl
     none false = refl
 
-pub essentials_passed : (before : List Item) (item : Item) (sound : Bool) → sound ≡ false → active_numbers is_essential_item before ≡ active_numbers is_essential_item (before ++ taken sound item ∷ [])
-essentials_passed before item sound e = essentials_same before passed refl refl ∙ ap (λ b. active_numbers is_essential_item (before ++ taken b item ∷ [])) (sym e)
+pub numbers_passed : (test : Kind → Bool) → IsSort test → (before : List Item) (item : Item) (sound : Bool) → sound ≡ false → active_numbers (λ i. test i.kind) before ≡ active_numbers (λ i. test i.kind) (before ++ taken sound item ∷ [])
+numbers_passed test sort before item sound e = numbers_same (λ i. test i.kind) before passed refl sort.sound ∙ ap (λ b. active_numbers (λ i. test i.kind) (before ++ taken b item ∷ [])) (sym e)
 
-pub essentials_other : (before : List Item) (item : Item) (sound : Bool) → sound ≡ true → closes (mark_of item.kind) ≡ false → is_essential item.kind ≡ false → active_numbers is_essential_item before ≡ active_numbers is_essential_item (before ++ taken sound item ∷ [])
-essentials_other before item sound e c t = essentials_same before item c t ∙ ap (λ b. active_numbers is_essential_item (before ++ taken b item ∷ [])) (sym e)
+pub numbers_other : (test : Kind → Bool) (before : List Item) (item : Item) (sound : Bool) → sound ≡ true → closes (mark_of item.kind) ≡ false → test item.kind ≡ false → active_numbers (λ i. test i.kind) before ≡ active_numbers (λ i. test i.kind) (before ++ taken sound item ∷ [])
+numbers_other test before item sound e c t = numbers_same (λ i. test i.kind) before item c t ∙ ap (λ b. active_numbers (λ i. test i.kind) (before ++ taken b item ∷ [])) (sym e)
+
+-- the sorts that are followed
+essential_neither : (kind : Kind) → is_essential kind ≡ true → mark_of kind ≡ Neither
+essential_neither Essential e = refl
+essential_neither _ e = absurd (false≢true e)
+
+pub essential_sort : IsSort is_essential
+essential_sort = record { statement = essential_neither; sound = refl }
+
+pub disjoint_sort : IsSort is_disjoint
+disjoint_sort = record { statement = disjoint_neither; sound = refl }
+
+-- a sound item has a proof exactly where it is a `$p`
+told_theorem : (kind : Kind) (f : Option (ℕ × FrameNumber)) → (is_none f && is_theorem kind) ≡ (is_none (fault_by kind f) && is_theorem kind)
+told_theorem Missing None = refl
+told_theorem Missing (Some x) = refl
+told_theorem _ f = refl
+
+pub proof_told : (before : List Item) (item : Item) (flag proof : Bool) (kind : Kind) → kind ≡ item.kind → proof ≡ (flag && is_theorem kind) → is_none (fault before item) ≡ flag → proof ≡ is_told_proof before item
+proof_told before item flag proof kind k e n = e ∙ (λ i. sym n i && is_theorem (k i)) ∙ told_theorem item.kind (fault before item)
 
 pub none_fault : {X : Type 0} (told : X → ℕ × FrameNumber) (before : List Item) (item : Item) (found : Option X) → option_map told found ≡ fault before item → is_none (fault before item) ≡ is_none found
 none_fault told before item found e = ap is_none (sym e) ∙ is_none_map told found

@@ -19,6 +19,6 @@ pub mod FaultLemmas
 pub mod ScopingLemmas
 pub mod EndLemmas
 pub mod MandatoryLemmas
-pub mod PairListLemmas
 pub mod NamedLemmas
 pub mod BaseLemmas
+pub mod PairListLemmas

@@ -13,15 +13,17 @@ use Rattle.mm_frame.specs.declared.pair_lists.PairLists.{PairLists}
 use Rattle.mm_frame.specs.Language.{Symbol}
 use Rattle.mm_frame.specs.Item.{Item, passed, is_labelled, is_disjoint}
 use Rattle.mm_frame.specs.Scope.{stays}
-use Rattle.mm_frame.specs.Sound.{AreSound}
+use Rattle.mm_frame.specs.Sound.{AreSound, kept}
 use Rattle.mm_frame.specs.Framing.{expression, pairs_of, active_pairs}
 use Rattle.mm_frame.specs.Tables.{item_at, is_active_at, active_numbers, is_disjoint_item, IsRising}
 use Rattle.mm_frame.specs.Named.{symbols_of, expression_kept, kept_pairs, AreSymbols}
 use Rattle.mm_frame.specs.PairLists.{IsList, list_kept, pairs_or_none, list_made, IsMadeFor, AreMade, KeepsLists, HasActivePairs}
+use Rattle.mm_frame.specs.Kept.{AreRows, TellsPairs, is_told_proof}
 use Rattle.mm_frame.proofs.Members.{In, in_get, get_in}
 use Rattle.mm_frame.proofs.Scopes.{stays_join, stays_front}
 use Rattle.mm_frame.proofs.Outermost.{sound_take}
 use Rattle.mm_frame.proofs.BlockLemmas.{get_last}
+use Rattle.mm_frame.proofs.BaseLemmas.{rows_more}
 use Rattle.mm_frame.proofs.HypothesisNumbers.{to_active_number, from_active_number, active_numbers_rise, same_rising}
 use Rattle.mm_frame.proofs.PairLemmas.{pairs_at, flat_same, active_pairs_by_numbers}
 
@@ -218,3 +220,25 @@ made_one_more before old new count k keeps made has is told other j e = by_test 
 
 pub new_list : (old new : PairLists) (list : Vec (NamedSymbol × NamedSymbol) Global) (k : ℕ) (pairs : List (Symbol × Symbol)) → new.lists.items ≡ old.lists.items ++ list ∷ [] → k ≡ length old.lists.items → kept_pairs list.items ≡ pairs → IsList new k pairs
 new_list old new list k pairs e z is = ap (λ w. option_map (λ list. kept_pairs list.items) (slice_get w k)) e ∙ ap (option_map (λ list. kept_pairs list.items)) (get_last old.lists.items list k z) ∙ ap Some is
+
+-- the rows of numbers of lists, where there may be more lists
+pairs_stay : (said : List Item) (old new : PairLists) (numbers : List (Option ℕ)) → KeepsLists old new → AreRows (TellsPairs old) said numbers → AreRows (TellsPairs new) said numbers
+pairs_stay said old new numbers keeps rows = record {
+  count = rows.count;
+  each = λ n row e. let told = rows.each n row e in record { some = told.some; list = λ k q. list_stays old new k (active_pairs (kept (take n said))) keeps (told.list k q) };
+}
+
+pub pairs_more : (said : List Item) (item : Item) (old new : PairLists) (numbers : List (Option ℕ)) (number : Option ℕ) → KeepsLists old new → AreRows (TellsPairs old) said numbers → TellsPairs new (kept said) item number → AreRows (TellsPairs new) (said ++ item ∷ []) (numbers ++ number ∷ [])
+pairs_more said item old new numbers number keeps rows told = rows_more (TellsPairs new) said item numbers number (pairs_stay said old new numbers keeps rows) told
+
+pub keeps_all : (lists : PairLists) → KeepsLists lists lists
+keeps_all lists = record { more = []; whole = sym (append-nil lists.lists.items) }
+
+pub no_number : (lists : PairLists) (before : List Item) (item : Item) → false ≡ is_told_proof before item → TellsPairs lists before item None
+no_number lists before item e = record { some = e; list = λ k q. absurd (none-some k q) }
+
+pub some_number : (lists : PairLists) (before : List Item) (item : Item) (k : ℕ) → true ≡ is_told_proof before item → IsList lists k (active_pairs before) → TellsPairs lists before item (Some k)
+some_number lists before item k e is = record { some = e; list = λ j q. subst (λ i. IsList lists i (active_pairs before)) (same k j q) is }
+  where
+    same : (a b : ℕ) → Some a ≡ Some b → a ≡ b
+    same a b q = cc

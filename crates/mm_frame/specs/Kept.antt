@@ -1,5 +1,5 @@
 -- What the code keeps of the items for a base.
-use Rattle.std.specs.Prelude.{◌≡◌, ℕ, ◌<◌, Some, is_some, List, length, take, slice_get, Option, Vec}
+use Rattle.std.specs.Prelude.{◌≡◌, ℕ, ◌<◌, Bool, ◌&&◌, Some, is_some, is_none, List, length, take, slice_get, Option, Vec}
 use Rattle.std.specs.Option.{option_map}
 use Rattle.std.specs.Global.{Global}
 use Rattle.mm_frame.specs.declared.base.Base.{Base}
@@ -9,9 +9,12 @@ use Rattle.mm_frame.specs.declared.draft.Row.{Row}
 use Rattle.mm_frame.specs.declared.draft.Frame.{Frame}
 use Rattle.mm_frame.specs.declared.symbol.NamedSymbol.{NamedSymbol}
 use Rattle.mm_frame.specs.Named.{AreSymbols}
-use Rattle.mm_frame.specs.Item.{Item, is_labelled}
+use Rattle.mm_frame.specs.Item.{Item, is_labelled, is_theorem}
 use Rattle.mm_frame.specs.Sound.{kept}
-use Rattle.mm_frame.specs.Tables.{item_at, active_numbers, is_essential_item}
+use Rattle.mm_frame.specs.declared.pair_lists.PairLists.{PairLists}
+use Rattle.mm_frame.specs.Framing.{active_pairs}
+use Rattle.mm_frame.specs.PairLists.{IsList, AreMade}
+use Rattle.mm_frame.specs.Tables.{item_at, active_numbers, is_essential_item, is_disjoint_item}
 use Rattle.mm_frame.specs.Blocks.{marks_of}
 use Rattle.mm_frame.specs.Known.{Knows}
 use Rattle.mm_frame.specs.Scoping.{Holds}
@@ -27,6 +30,15 @@ pub record Tells (before : List Item) (item : Item) (row : Row) : Type 0 where
 abbrev pub TellsFrame : List Item → Item → Option Frame → Type 0
 TellsFrame before item kept_frame = option_map (λ frame. frame.hypotheses.items) kept_frame ≡ told_numbers before item
 
+-- the item is a sound `$p` behind the sound items before it
+abbrev pub is_told_proof : List Item → Item → Bool
+is_told_proof before item = is_none (told_fault before item) && is_theorem item.kind
+
+-- there is a number of a list exactly for a sound `$p`, and the list is of the pairs that are active there
+pub record TellsPairs (lists : PairLists) (before : List Item) (item : Item) (number : Option ℕ) : Type 0 where
+  pub some : is_some number ≡ is_told_proof before item
+  pub list : (k : ℕ) → number ≡ Some k → IsList lists k (active_pairs before)
+
 -- there is a row for each item, which tells of it
 pub record AreRows {X : Type 0} (tells : List Item → Item → X → Type 0) (said : List Item) (rows : List X) : Type 0 where
   pub count : length rows ≡ length said
@@ -39,6 +51,9 @@ pub record IsDraft (said : List Item) (draft : Draft) : Type 0 where
   pub symbols : AreSymbols (kept said) draft.expressions.items
   pub frames : AreRows TellsFrame said draft.frames.items
   pub essentials : draft.essentials ≡ active_numbers is_essential_item (kept said)
+  pub disjoints : draft.disjoints ≡ active_numbers is_disjoint_item (kept said)
+  pub made : AreMade (kept said) draft.pair_lists
+  pub pairs : AreRows (TellsPairs draft.pair_lists) said draft.pairs.items
 
 -- what is kept of items that say this
 pub record AreParts (said : List Item) (parts : Parts) : Type 0 where
@@ -47,6 +62,7 @@ pub record AreParts (said : List Item) (parts : Parts) : Type 0 where
   pub frames : AreRows TellsFrame said parts.frames.items
   pub knows : Knows (kept said) parts.tables
   pub marks : parts.blocks ≡ marks_of (kept said)
+  pub pairs : AreRows (TellsPairs parts.pair_lists) said parts.pairs.items
 
 -- the code keeps what this base answers
 pub record IsBase (base : BaseView) (code : Base) : Type 0 where
@@ -65,6 +81,10 @@ expressions_of code = code.parts.expressions.items
 -- the frames that the code keeps
 abbrev pub frames_of : Base → List (Option Frame)
 frames_of code = code.parts.frames.items
+
+-- the numbers of lists of active pairs that the code keeps
+abbrev pub pair_numbers_of : Base → List (Option ℕ)
+pair_numbers_of code = code.parts.pairs.items
 
 -- the base has an item with this number
 abbrev pub HasItem : Base → ℕ → Type 0

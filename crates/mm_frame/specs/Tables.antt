@@ -1,8 +1,8 @@
 -- What a reader looks up by number: the last item that declares a name, types it or carries it as a label, and whether that one item is active (Metamath book, section 4.2).
-use Rattle.std.specs.Prelude.{◌≡◌, ℕ, suc, ◌<◌, ◌⊎◌, Bool, false, not, ◌&&◌, if◌then◌else◌, Option, Some, None, List, [], ◌∷◌, take, drop, bytes_eq, slice_index_or, Contains, AllPairs}
+use Rattle.std.specs.Prelude.{◌≡◌, ℕ, suc, ◌<◌, ◌⊎◌, Bool, true, false, not, ◌&&◌, if◌then◌else◌, Option, Some, None, List, [], ◌∷◌, take, drop, bytes_eq, slice_index_or, Contains, AllPairs}
 use Rattle.mm_frame.specs.Language.{Resolved, Unknown}
-use Rattle.mm_frame.specs.Item.{Item, passed, is_variables, is_disjoint, is_floating, is_essential, has, labels_of, typecode_of, variable_of}
-use Rattle.mm_frame.specs.Scope.{stays}
+use Rattle.mm_frame.specs.Item.{Kind, Passed, Item, passed, is_variables, is_disjoint, is_floating, is_essential, has, labels_of, typecode_of, variable_of}
+use Rattle.mm_frame.specs.Scope.{Neither, mark_of, stays}
 use Rattle.mm_frame.specs.Framing.{mandatory_variables, is_mandatory, meaning}
 
 -- the number one further, or else 0 if the first item passes
@@ -58,6 +58,11 @@ active_numbers_from test n (item ∷ items) = if stays items && test item then n
 -- the numbers of the active items that pass a test, in order
 abbrev pub active_numbers : (Item → Bool) → List Item → List ℕ
 active_numbers test items = active_numbers_from test 0 items
+
+-- the kinds that pass are of statements, and stand for none at fault
+pub record IsSort (test : Kind → Bool) : Type 0 where
+  pub statement : (kind : Kind) → test kind ≡ true → mark_of kind ≡ Neither
+  pub sound : test Passed ≡ false
 
 -- the item is a `$e`
 abbrev pub is_essential_item : Item → Bool

@@ -1,6 +1,6 @@
 //! A base in the making: what the items read so far leave.
 
-ghost use Rattle.std.specs.Prelude.{◌≡◌, ◌∷◌, ◌++◌, List, [], true, IfOk, OnOk, All, is_some, length, ◌&&◌};
+ghost use Rattle.std.specs.Prelude.{◌≡◌, ◌∷◌, ◌++◌, Bool, List, [], true, IfOk, OnOk, All, is_some, length, ◌&&◌};
 ghost use Rattle.std.specs.Option.{option_map};
 ghost use Rattle.std.specs.List.{AllZip};
 ghost use Rattle.mm_store.specs.FileFacts.{StandsIn};
@@ -9,18 +9,21 @@ ghost use Rattle.mm_frame.specs.Statement.{Says, kind_of};
 ghost use Rattle.mm_frame.specs.Sound.{AreSound, IsSound, kept};
 ghost use Rattle.mm_frame.specs.Framing.{expression};
 ghost use Rattle.mm_frame.specs.Known.{Knows};
-ghost use Rattle.mm_frame.specs.Named.{symbols_of, is_read, AreExpressions};
+ghost use Rattle.mm_frame.specs.Named.{symbols_of, is_read, AreExpressions, AreSymbols};
 ghost use Rattle.mm_frame.specs.Scope.{closes, mark_of};
 ghost use Rattle.mm_frame.specs.Scoping.{taken};
 ghost use Rattle.mm_frame.specs.Blocks.{marks_of};
-ghost use Rattle.mm_frame.specs.Tables.{active_numbers, is_essential_item};
+ghost use Rattle.mm_frame.specs.Tables.{active_numbers, is_essential_item, is_disjoint_item, IsSort};
 ghost use Rattle.mm_frame.specs.Base.{fault_by, numbers_if};
+ghost use Rattle.mm_frame.specs.PairLists.{AreMade};
+ghost use Rattle.mm_frame.specs.Kept.{AreRows, TellsPairs, is_told_proof};
 
 use crate::FrameNumber;
 use crate::active::ActiveNumbers;
 use crate::blocks::Blocks;
 use crate::judge::{FrameFault, fault_of};
 use crate::mandatory::hypotheses;
+use crate::pair_lists::PairLists;
 use crate::scope::Scope;
 use crate::statement::Statement;
 use crate::symbol::{NamedSymbol, expression_of, variables_of};
@@ -55,6 +58,11 @@ pub struct Draft<'a> {
     frames: Vec<Option<Frame>>,
     /// The active `$e`.
     essentials: ActiveNumbers,
+    /// The active `$d`.
+    disjoints: ActiveNumbers,
+    pair_lists: PairLists,
+    /// The number of the list of all active pairs, for each sound `$p`, by its number; none for any other item.
+    pairs: Vec<Option<usize>>,
 }
 
 /// What is kept of all items.
@@ -67,6 +75,9 @@ pub struct Parts {
     pub expressions: Vec<Vec<NamedSymbol>>,
     /// The frame of each sound `$a` and `$p`, by its number; none for any other item.
     pub frames: Vec<Option<Frame>>,
+    pub pair_lists: PairLists,
+    /// The number of the list of all active pairs, for each sound `$p`, by its number; none for any other item.
+    pub pairs: Vec<Option<usize>>,
 }
 
 /// The fault that is told of an item of this kind, if its statement has this fault.
@@ -142,6 +153,13 @@ fn is_framed(kind: ItemKind, sound: bool) -> bool
     sound && matches!(kind, ItemKind::Axiom | ItemKind::Theorem)
 }
 
+/// Whether a statement of this kind has a proof, if it is known to be sound or not.
+fn has_proof(kind: ItemKind, sound: bool) -> bool
+    ensures { result ≡ (sound && meant.is_theorem (kind_of kind)) }
+{
+    sound && matches!(kind, ItemKind::Theorem)
+}
+
 /// The frame of a statement, if it has one.
 fn frame_of(
     alloc: Global,
@@ -172,26 +190,49 @@ fn ends_block(kind: ItemKind) -> bool
     matches!(kind, ItemKind::BlockEnd)
 }
 
-/// Goes on with the active `$e` behind one more item, of this kind where it is sound.
+/// Goes on with the active items of one sort behind one more item, of this kind where it is sound; `of_sort` tells
+/// whether that kind is of the sort.
 fn follow(
-    essentials: &mut ActiveNumbers,
+    numbers: &mut ActiveNumbers,
     blocks: &Blocks,
     kind: ItemKind,
+    of_sort: bool,
     number: usize,
     sound: bool,
 ) -> Result<(), AllocError>
-    ensures { OnOk result ((before : List meant.Item) (item : meant.Item) → kind_of kind ≡ item.kind → number ≡ length before → blocks.now ≡ marks_of (before ++ taken sound item ∷ []) → essentials.old ≡ active_numbers is_essential_item before → essentials.new ≡ active_numbers is_essential_item (before ++ taken sound item ∷ [])) }
+    ensures { OnOk result ((test : meant.Kind → Bool) (before : List meant.Item) (item : meant.Item) → IsSort test → kind_of kind ≡ item.kind → of_sort ≡ test item.kind → number ≡ length before → blocks.now ≡ marks_of (before ++ taken sound item ∷ []) → numbers.old ≡ active_numbers (λ i. test i.kind) before → numbers.new ≡ active_numbers (λ i. test i.kind) (before ++ taken sound item ∷ [])) }
 {
     if !sound {
         return Ok(());
     }
-    if is_essential(kind) {
-        essentials.push(number)?;
+    if of_sort {
+        numbers.push(number)?;
         return Ok(());
     }
     if ends_block(kind) {
-        essentials.prune(blocks);
+        numbers.prune(blocks);
     }
+    Ok(())
+}
+
+/// Keeps the number of the list of active pairs of one more item, where it is a sound `$p`.
+fn keep_pairs(
+    alloc: Global,
+    pair_lists: &mut PairLists,
+    pairs: &mut Vec<Option<usize>>,
+    disjoints: &[usize],
+    expressions: &[Vec<NamedSymbol>],
+    proof: bool,
+) -> Result<(), AllocError>
+    ensures made { OnOk result ((before : List meant.Item) → AreSound before → AreSymbols before expressions.now → disjoints.now ≡ active_numbers is_disjoint_item before → AreMade before pair_lists.old → AreMade before pair_lists.new) }
+    ensures pairs { OnOk result ((said : List meant.Item) (item : meant.Item) → AreSymbols (kept said) expressions.now → disjoints.now ≡ active_numbers is_disjoint_item (kept said) → AreMade (kept said) pair_lists.old → proof ≡ is_told_proof (kept said) item → AreRows (TellsPairs pair_lists.old) said pairs.old.items → AreRows (TellsPairs pair_lists.new) (said ++ item ∷ []) pairs.new.items) }
+{
+    if !proof {
+        pairs.push(None)?;
+        return Ok(());
+    }
+    let k = pair_lists.list_of(alloc, disjoints, expressions)?;
+    pairs.push(Some(k))?;
     Ok(())
 }
 
@@ -208,6 +249,9 @@ impl<'a> Draft<'a> {
             expressions: Vec::new(alloc),
             frames: Vec::new(alloc),
             essentials: ActiveNumbers::new(alloc),
+            disjoints: ActiveNumbers::new(alloc),
+            pair_lists: PairLists::new(alloc),
+            pairs: Vec::new(alloc),
         }
     }
 
@@ -239,6 +283,14 @@ impl<'a> Draft<'a> {
         let symbols = symbols_kept(alloc, self.scope.tables(), statement, sound)?;
         let framed = is_framed(statement.kind(), sound);
         let frame = self.frame(alloc, &symbols, framed)?;
+        keep_pairs(
+            alloc,
+            &mut self.pair_lists,
+            &mut self.pairs,
+            self.disjoints.as_slice(),
+            &self.expressions,
+            has_proof(statement.kind(), sound),
+        )?;
         self.frames.push(frame)?;
         self.expressions.push(symbols)?;
         let number = self.rows.len();
@@ -247,7 +299,22 @@ impl<'a> Draft<'a> {
         self.scope.next(alloc, statement, sound)?;
         let kind = statement.kind();
         let blocks = self.scope.blocks();
-        follow(&mut self.essentials, blocks, kind, number, sound)?;
+        follow(
+            &mut self.essentials,
+            blocks,
+            kind,
+            is_essential(kind),
+            number,
+            sound,
+        )?;
+        follow(
+            &mut self.disjoints,
+            blocks,
+            kind,
+            is_disjoint(kind),
+            number,
+            sound,
+        )?;
         Ok(())
     }
 
@@ -285,6 +352,8 @@ impl<'a> Draft<'a> {
             rows,
             expressions,
             frames,
+            pair_lists,
+            pairs,
             ..
         } = self;
         let (tables, blocks) = scope.tables_and_blocks();
@@ -294,6 +363,8 @@ impl<'a> Draft<'a> {
             rows,
             expressions,
             frames,
+            pair_lists,
+            pairs,
         }
     }
 }

@@ -6,8 +6,11 @@ use Rattle.mm_frame.specs.Named.{AreSymbols, is_read, symbols_of}
 use Rattle.mm_frame.specs.Statement.{kind_of}
 use Rattle.mm_frame.specs.Scoping.{Holds, taken}
 use Rattle.mm_frame.specs.Sound.{kept}
-use Rattle.mm_frame.specs.Tables.{active_numbers, is_essential_item}
-use Rattle.mm_frame.proofs.BaseLemmas.{rows_more, kept_are_sound, kept_taken, kept_count, sound_found_none, none_found, none_fault, symbols_more, symbols_taken, framed_told, framed_parts}
+use Rattle.mm_frame.specs.Tables.{active_numbers, is_essential_item, is_disjoint_item}
+use Rattle.mm_frame.specs.Item.{is_essential, is_disjoint}
+use Rattle.mm_frame.specs.PairLists.{AreMade}
+use Rattle.mm_frame.proofs.BaseLemmas.{rows_more, kept_are_sound, kept_taken, kept_count, sound_found_none, none_found, none_fault, symbols_more, symbols_taken, framed_told, framed_parts, essential_sort, disjoint_sort, proof_told}
+use Rattle.mm_frame.proofs.PairListLemmas.{made_more}
 use Rattle.mm_frame.proofs.draft.Draft.take.Goals as goal
 
 pub returns : goal.returns
@@ -31,7 +34,15 @@ returns c said d =
     let frame_told = frame ∙ framed_told (kept said) item flag framed (kind_of c.kind.result) kind c.is_framed-framed.ensures (none_fault (λ f. (f.word, f.number)) (kept said) item found told ∙ none) in
     let holds = c.in_ok-next.ensures (kept said) are_sound d.scope is_sound in
     let number : c.len-number.result ≡ length (kept said) = omega (arith, c.len-number.ensures, kept_count said, d.rows.count, c.args.self.now.rows.ok.0) in
-    let essentials = c.in_ok-follow.ensures (kept said) item c.kind-kind.ensures.kind number (c.blocks-blocks.ensures ∙ holds.marks) d.essentials in
+    let this = c.kind-kind.ensures.kind in
+    let marks = c.blocks-blocks.ensures ∙ holds.marks in
+    let essentials = c.in_ok-follow.ensures is_essential (kept said) item essential_sort this (c.is_essential.ensures ∙ ap is_essential this) number marks d.essentials in
+    let disjoints = c.in_ok-follow-2.ensures is_disjoint (kept said) item disjoint_sort this (c.is_disjoint.ensures ∙ ap is_disjoint this) number marks d.disjoints in
+    let lists = c.keep_pairs.new.pair_lists in
+    let active_disjoints = c.as_slice.ensures ∙ d.disjoints in
+    let kept_symbols = subst (λ w. AreSymbols (kept said) w) (sym c.deref-2.ensures.value) d.symbols in
+    let proof = proof_told (kept said) item flag c.has_proof.result (kind_of c.kind-2.result) c.kind-2.ensures.kind c.has_proof.ensures (none_fault (λ f. (f.word, f.number)) (kept said) item found told ∙ none) in
+    let made = made_more (kept said) (taken flag item ∷ []) lists (c.in_ok-keep_pairs.ensures.made (kept said) are_sound kept_symbols active_disjoints d.made) in
     record {
       scope = subst (λ w. Holds w c.next.new.self) more holds;
       rows = subst (λ w. AreRows Tells (said ++ item ∷ []) w) (sym c.in_ok-push-3.ensures.items) (rows_more Tells said item c.args.self.now.rows.items c.in_ok-row.row d.rows (record {
@@ -42,4 +53,7 @@ returns c said d =
       symbols = subst (λ w. AreSymbols w c.push-2.new.self.items) more (subst (λ w. AreSymbols (kept said ++ taken flag item ∷ []) w) (sym c.in_ok-push-2.ensures.items) (symbols_more (kept said) (taken flag item) c.args.self.now.expressions.items symbols d.symbols read));
       frames = subst (λ w. AreRows TellsFrame (said ++ item ∷ []) w) (sym c.in_ok-push.ensures.items) (rows_more TellsFrame said item c.args.self.now.frames.items c.in_ok-frame.frame d.frames frame_told);
       essentials = essentials ∙ ap (active_numbers is_essential_item) more;
+      disjoints = disjoints ∙ ap (active_numbers is_disjoint_item) more;
+      made = subst (λ w. AreMade w lists) more made;
+      pairs = c.in_ok-keep_pairs.ensures.pairs said item kept_symbols active_disjoints d.made proof d.pairs;
     }
