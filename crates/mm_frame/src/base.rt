@@ -1,13 +1,16 @@
 //! What the items of files mean, from a top file on.
 
-ghost use Rattle.std.specs.Prelude.{◌≡◌, ◌<◌, ◌↔◌, ◌&&◌, is_none, is_some, Some, None, List, length, IfOk, IfErr, IsErrOf, slice_get};
+ghost use Rattle.std.specs.Prelude.{◌≡◌, ◌<◌, ◌↔◌, ◌&&◌, is_none, is_some, Some, None, List, length, IfSome, IfOk, IfErr, IsErrOf, slice_get};
 ghost use Rattle.std.specs.Option.{option_map};
 ghost use Rattle.mm_store.specs.FilesView.{number_of};
 ghost use Rattle.mm_store.specs.Answers.{IsExpansionError};
 ghost use Rattle.mm_store.specs.declared.error.StoreError.TheVariants.{NoTop};
 ghost use Rattle.mm_frame.specs.Item.{is_labelled};
+ghost use Rattle.mm_frame.specs.Language.{AreSamePairs};
+ghost use Rattle.mm_frame.specs.Framing.{active_pairs};
+ghost use Rattle.mm_frame.specs.Base.{before, is_proof_at};
 ghost use Rattle.mm_frame.specs.Base.{BaseView, IsOfFiles, said_at, is_sound_at, fault_at, expression_at, hypotheses_at, find_in};
-ghost use Rattle.mm_frame.specs.Named.{symbols_of, expression_kept};
+ghost use Rattle.mm_frame.specs.Named.{symbols_of, expression_kept, kept_pairs};
 
 use crate::draft::{Draft, Frame, Parts, Row};
 use crate::judge::FrameFault;
@@ -53,7 +56,7 @@ fn is_shown_row(row: &Row) -> bool
 }
 
 impl Base {
-    ghost use Rattle.mm_frame.specs.Kept.{IsBase, HasItem, rows_of, expressions_of, frames_of};
+    ghost use Rattle.mm_frame.specs.Kept.{IsBase, HasItem, TellsPairs, rows_of, expressions_of, frames_of};
 
     /// Builds the base of the files from a top file on. `NoTop` comes where no file has the name `top`; any other
     /// error is `Memory`. It reads each item once, in time near linear in the texts.
@@ -156,6 +159,28 @@ impl Base {
     {
         match self.kept_frame(i) {
             Some(frame) => frame_in(frame),
+            None => None,
+        }
+    }
+
+    /// The number of the list of active pairs that is kept of the item with this number, if one is kept.
+    fn pair_number(&self, i: usize) -> Option<usize>
+        ensures { (base : BaseView) → IsBase base self.now → TellsPairs self.now.parts.pair_lists (before base i) (said_at base i) result }
+    {
+        match self.parts.pairs.get(i) {
+            Some(number) => *number,
+            None => None,
+        }
+    }
+
+    /// All active pairs at the item with this number, where it is a sound `$p`: its own and those of its scope,
+    /// mandatory or not.
+    pub fn pairs(&self, i: usize) -> Option<&[(NamedSymbol, NamedSymbol)]>
+        ensures some { (base : BaseView) → IsBase base self.now → is_some result ≡ is_proof_at base i }
+        ensures pairs { (base : BaseView) → IsBase base self.now → IfSome result (λ pairs. AreSamePairs (kept_pairs pairs.now) (active_pairs (before base i))) }
+    {
+        match self.pair_number(i) {
+            Some(k) => Some(self.parts.pair_lists.list(k)),
             None => None,
         }
     }

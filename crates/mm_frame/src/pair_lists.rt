@@ -1,6 +1,6 @@
 //! The lists of active pairs, which neighbours share.
 
-ghost use Rattle.std.specs.Prelude.{◌≡◌, ◌++◌, ◌∷◌, List, [], OnOk, IfOk, map};
+ghost use Rattle.std.specs.Prelude.{◌≡◌, ◌<◌, ◌+◌, ◌++◌, ◌∷◌, List, [], OnOk, IfOk, map};
 ghost use Rattle.std.specs.List.{flat_map};
 ghost use Rattle.mm_frame.specs.Item as meant;
 ghost use Rattle.mm_frame.specs.Sound.{AreSound};
@@ -100,13 +100,20 @@ fn pairs_at(
     Ok(pairs)
 }
 
+/// The count of items up to the one with this number, of so many in all: 0 where there is no such item.
+fn count_to(number: usize, count: usize) -> usize
+    ensures { number < count → result ≡ number + 1 }
+{
+    if number < count { number + 1 } else { 0 }
+}
+
 /// The count of items up to the last active `$d`: 0 where no `$d` is active.
 fn count_to_last(disjoints: &[usize], expressions: &[Vec<NamedSymbol>]) -> usize
     ensures { (before : List meant.Item) → AreSound before → AreSymbols before expressions.now → disjoints.now ≡ active_numbers is_disjoint_item before → HasActivePairs before result }
 {
     match disjoints.last() {
-        Some(number) if *number < expressions.len() => *number + 1,
-        _ => 0,
+        Some(number) => count_to(*number, expressions.len()),
+        None => 0,
     }
 }
 

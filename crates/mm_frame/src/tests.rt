@@ -7,6 +7,7 @@ ghost use Rattle.mm_frame.specs.Kept.{IsBase};
 
 use crate::active::ActiveNumbers;
 use crate::blocks::Blocks;
+use crate::draft::{Draft, Parts};
 use crate::judge::{FrameFault, fault_of};
 use crate::mandatory::{hypotheses, mandatory_pairs};
 use crate::scope::Scope;
@@ -588,4 +589,85 @@ fn builds_no_base_without_a_top_file(rt: HostRuntime) {
         Base::build(rt.alloc(), &files, b"top").err(),
         Some(StoreError::NoTop)
     );
+}
+
+/// Sixteen items: a `$d` in the outermost block and one in an inner block, with `$p` before, in and behind it. Item 12
+/// is at fault.
+const PAIRS: &[u8] =
+    b"$c wff |- $.\n$v x y z $.\nwx $f wff x $.\nwy $f wff y $.\nwz $f wff z $.\nt $p |- x $= wx $.\n$d x y $.\nax $a |- x $.\nta $p |- x $= wx $.\n${ $d z y x $.\ntb $p |- x $= wx $.\nte $p |- q $= wx $.\ntc $p |- y $= wy $. $}\ntd $p |- x $= wx $.\n";
+
+/// Whether the pair at a place is of these variables.
+fn is_pair_at(
+    pairs: &[(NamedSymbol, NamedSymbol)],
+    place: usize,
+    first: &[u8],
+    second: &[u8],
+) -> bool {
+    match pairs.get(place) {
+        Some(pair) => {
+            pair.0.variable
+                && pair.1.variable
+                && &pair.0.name[..] == first
+                && &pair.1.name[..] == second
+        }
+        None => false,
+    }
+}
+
+#[test]
+fn tells_active_pairs(rt: HostRuntime) -> Result<(), Fail> {
+    let base = base_of(rt.alloc(), PAIRS)?;
+    assert_eq!(rt; base.count(), 16);
+    for i in [0, 2, 6, 7, 9, 10, 12, 14, 16] {
+        assert!(rt; base.pairs(i).is_none(), "of {i}");
+    }
+    let rows: [(usize, &[(&[u8], &[u8])]); 5] = [
+        (5, &[]),
+        (8, &[(b"x", b"y")]),
+        (
+            11,
+            &[(b"x", b"y"), (b"z", b"y"), (b"z", b"x"), (b"y", b"x")],
+        ),
+        (
+            13,
+            &[(b"x", b"y"), (b"z", b"y"), (b"z", b"x"), (b"y", b"x")],
+        ),
+        (15, &[(b"x", b"y")]),
+    ];
+    for (i, wanted) in rows {
+        assert!(rt; base.pairs(i).is_some(), "of {i}");
+        let pairs = base.pairs(i).unwrap_or(&[]);
+        assert_eq!(rt; pairs.len(), wanted.len(), "of {i}");
+        for (place, pair) in wanted.iter().enumerate() {
+            assert!(rt; is_pair_at(pairs, place, pair.0, pair.1), "of {i}, {place}");
+        }
+    }
+    Ok(())
+}
+
+/// What is kept of the items of a text.
+fn parts_of(alloc: Global, text: &[u8]) -> Result<Parts, StoreError> {
+    let mut files = Files::new(alloc);
+    files.add(alloc, b"top", text)?;
+    let items = files.statements(alloc, b"top")?;
+    Ok(Draft::read_all(alloc, &files, &items)?.parts())
+}
+
+#[test]
+fn neighbours_share_a_list(rt: HostRuntime) -> Result<(), Fail> {
+    let parts = parts_of(rt.alloc(), PAIRS)?;
+    for (i, wanted) in [
+        (5, Some(0)),
+        (7, None),
+        (8, Some(1)),
+        (11, Some(2)),
+        (12, None),
+        (13, Some(2)),
+        (15, Some(1)),
+    ] {
+        assert_eq!(rt; parts.pairs.get(i).copied(), Some(wanted), "of {i}");
+    }
+    assert_eq!(rt; parts.pair_lists.list(2).len(), 4);
+    assert!(rt; parts.pair_lists.list(3).is_empty());
+    Ok(())
 }
