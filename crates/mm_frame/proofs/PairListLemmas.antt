@@ -1,8 +1,7 @@
 -- The active pairs are those behind the items up to the last active `$d`, and the lists that are made of them.
-use Rattle.std.proofs.Common.{◌≡◌, ℕ, zero, suc, ◌+◌, ◌-◌, ◌<◌, ◌≤◌, Bool, true, false, cond, ◌||◌, Option, Some, None, List, [], ◌∷◌, ◌++◌, length, map, flat_map, take, drop, slice_get, get_or, nat_eq, Vec, refl, sym, ◌∙◌, ap, subst, append-nil, append_assoc, arith, length-append, inl, inr}
+use Rattle.std.proofs.Common.{◌≡◌, ℕ, zero, suc, ◌+◌, ◌-◌, ◌<◌, ◌≤◌, Bool, true, false, cond, ◌||◌, Option, Some, None, List, [], ◌∷◌, ◌++◌, length, flat_map, take, drop, slice_get, get_or, nat_eq, Vec, refl, sym, ◌∙◌, ap, subst, append-nil, arith, length-append, inl, inr}
 use native.Mathlib.Decide.{dec_lt}
 use Rattle.std.specs.Option.{option_map}
-use Rattle.std.specs.HashMap.{HashMap, get}
 use Rattle.std.specs.Global.{Global}
 use Rattle.std.proofs.lemmas.Bool.{false≢true}
 use Rattle.std.proofs.lemmas.Bool.Decides.{eqb_tells}
@@ -15,7 +14,7 @@ use Rattle.mm_frame.specs.Item.{Item, passed, is_labelled, is_disjoint}
 use Rattle.mm_frame.specs.Scope.{stays}
 use Rattle.mm_frame.specs.Sound.{AreSound, kept}
 use Rattle.mm_frame.specs.Framing.{expression, pairs_of, active_pairs}
-use Rattle.mm_frame.specs.Tables.{item_at, is_active_at, active_numbers, is_disjoint_item, IsRising}
+use Rattle.mm_frame.specs.Tables.{is_active_at, active_numbers, is_disjoint_item, IsRising}
 use Rattle.mm_frame.specs.Named.{symbols_of, expression_kept, kept_pairs, AreSymbols}
 use Rattle.mm_frame.specs.PairLists.{IsList, list_kept, pairs_or_none, list_made, IsMadeFor, AreMade, KeepsLists, HasActivePairs}
 use Rattle.mm_frame.specs.Kept.{AreRows, TellsPairs, is_told_proof}

@@ -82,10 +82,6 @@ expressions_of code = code.parts.expressions.items
 abbrev pub frames_of : Base → List (Option Frame)
 frames_of code = code.parts.frames.items
 
--- the numbers of lists of active pairs that the code keeps
-abbrev pub pair_numbers_of : Base → List (Option ℕ)
-pair_numbers_of code = code.parts.pairs.items
-
 -- the base has an item with this number
 abbrev pub HasItem : Base → ℕ → Type 0
 HasItem code i = (base : BaseView) × IsBase base code × (i < length base.said)

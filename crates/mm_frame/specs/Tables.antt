@@ -59,7 +59,7 @@ active_numbers_from test n (item ∷ items) = if stays items && test item then n
 abbrev pub active_numbers : (Item → Bool) → List Item → List ℕ
 active_numbers test items = active_numbers_from test 0 items
 
--- the kinds that pass are of statements, and stand for none at fault
+-- a sort of items: none that opens or closes a block, and none that stands for a statement at fault
 pub record IsSort (test : Kind → Bool) : Type 0 where
   pub statement : (kind : Kind) → test kind ≡ true → mark_of kind ≡ Neither
   pub sound : test Passed ≡ false

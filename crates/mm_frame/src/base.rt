@@ -59,7 +59,8 @@ impl Base {
     ghost use Rattle.mm_frame.specs.Kept.{IsBase, HasItem, TellsPairs, rows_of, expressions_of, frames_of};
 
     /// Builds the base of the files from a top file on. `NoTop` comes where no file has the name `top`; any other
-    /// error is `Memory`. It reads each item once, in time near linear in the texts.
+    /// error is `Memory`. It reads each item once, in time near linear in the texts and in the lists of active pairs,
+    /// of which it makes one for each last active `$d` of a sound `$p`.
     pub fn build(alloc: Global, files: &Files, top: &[u8]) -> Result<Base, StoreError>
         ensures base { IfOk result (λ built. (base : BaseView) × IsOfFiles files.now top.now base × IsBase base built) }
         ensures no_top { IsErrOf result NoTop ↔ (number_of files.now.files top.now ≡ None) }

@@ -60,6 +60,7 @@ pub struct Draft<'a> {
     essentials: ActiveNumbers,
     /// The active `$d`.
     disjoints: ActiveNumbers,
+    /// The lists of active pairs so far.
     pair_lists: PairLists,
     /// The number of the list of all active pairs, for each sound `$p`, by its number; none for any other item.
     pairs: Vec<Option<usize>>,
@@ -75,6 +76,7 @@ pub struct Parts {
     pub expressions: Vec<Vec<NamedSymbol>>,
     /// The frame of each sound `$a` and `$p`, by its number; none for any other item.
     pub frames: Vec<Option<Frame>>,
+    /// The lists of active pairs.
     pub pair_lists: PairLists,
     /// The number of the list of all active pairs, for each sound `$p`, by its number; none for any other item.
     pub pairs: Vec<Option<usize>>,

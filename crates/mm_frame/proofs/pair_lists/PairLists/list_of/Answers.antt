@@ -1,5 +1,4 @@
 use Rattle.std.proofs.Common.{◌≡◌, ◌∷◌, [], length, ◌∙◌, arith}
-use Rattle.mm_frame.specs.Item as meant
 use Rattle.mm_frame.specs.declared.pair_lists.PairLists.{PairLists}
 use Rattle.mm_frame.specs.PairLists.{KeepsLists}
 use Rattle.mm_frame.proofs.PairListLemmas.{made_one_more, pairs_kept, new_list}
