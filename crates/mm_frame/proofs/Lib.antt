@@ -21,3 +21,4 @@ pub mod EndLemmas
 pub mod MandatoryLemmas
 pub mod NamedLemmas
 pub mod BaseLemmas
+pub mod FrameNumbers

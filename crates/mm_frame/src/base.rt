@@ -1,12 +1,13 @@
 //! What the items of files mean, from a top file on.
 
-ghost use Rattle.std.specs.Prelude.{◌≡◌, ◌<◌, ◌↔◌, ◌&&◌, is_none, is_some, Some, None, List, length, IfOk, IfErr, IsErrOf, slice_get};
+ghost use Rattle.std.specs.Prelude.{◌≡◌, ◌<◌, ◌↔◌, ◌&&◌, is_none, is_some, Some, None, List, length, IfOk, IfSome, IfErr, IsErrOf, slice_get};
 ghost use Rattle.std.specs.Option.{option_map};
 ghost use Rattle.mm_store.specs.FilesView.{number_of};
 ghost use Rattle.mm_store.specs.Answers.{IsExpansionError};
 ghost use Rattle.mm_store.specs.declared.error.StoreError.TheVariants.{NoTop};
 ghost use Rattle.mm_frame.specs.Item.{is_labelled};
-ghost use Rattle.mm_frame.specs.Base.{BaseView, IsOfFiles, said_at, is_sound_at, fault_at, expression_at, hypotheses_at, find_in};
+ghost use Rattle.mm_frame.specs.Statement.{kind_of};
+ghost use Rattle.mm_frame.specs.Base.{BaseView, IsOfFiles, said_at, is_sound_at, fault_at, expression_at, hypotheses_at, find_in, AreHypotheses};
 ghost use Rattle.mm_frame.specs.Named.{symbols_of, expression_kept};
 
 use crate::draft::{Draft, Frame, Parts, Row};
@@ -114,7 +115,8 @@ impl Base {
     /// The item of the files with this number.
     pub fn item(&self, i: usize) -> &Item
         requires { HasItem self.now i }
-        ensures { (base : BaseView) → IsBase base self.now → slice_get base.found i ≡ Some result.now }
+        ensures found { (base : BaseView) → IsBase base self.now → slice_get base.found i ≡ Some result.now }
+        ensures kind { (base : BaseView) → IsBase base self.now → kind_of result.now.kind ≡ (said_at base i).kind }
     {
         &self.items[i]
     }
@@ -152,7 +154,8 @@ impl Base {
 
     /// The frame of the item with this number, where it is a sound `$a` or `$p`.
     pub fn frame(&self, i: usize) -> Option<&Frame>
-        ensures { (base : BaseView) → IsBase base self.now → option_map (λ frame. frame.now.hypotheses.items) result ≡ hypotheses_at base i }
+        ensures hypotheses { (base : BaseView) → IsBase base self.now → option_map (λ frame. frame.now.hypotheses.items) result ≡ hypotheses_at base i }
+        ensures means { (base : BaseView) → IsBase base self.now → IfSome result (λ frame. AreHypotheses base i frame.now.hypotheses.items) }
     {
         match self.kept_frame(i) {
             Some(frame) => frame_in(frame),
