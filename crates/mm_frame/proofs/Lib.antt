@@ -22,3 +22,4 @@ pub mod MandatoryLemmas
 pub mod NamedLemmas
 pub mod BaseLemmas
 pub mod FrameNumbers
+pub mod ResolvingLemmas

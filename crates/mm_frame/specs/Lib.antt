@@ -33,4 +33,5 @@ pub mod Named
 pub mod Pruned
 pub mod Base
 pub mod Kept
+pub mod Resolving
 pub mod Paired

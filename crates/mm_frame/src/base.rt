@@ -1,14 +1,16 @@
 //! What the items of files mean, from a top file on.
 
-ghost use Rattle.std.specs.Prelude.{◌≡◌, ◌<◌, ◌↔◌, ◌&&◌, is_none, is_some, Some, None, List, length, IfOk, IfSome, IfErr, IsErrOf, slice_get};
+ghost use Rattle.std.specs.Prelude.{◌≡◌, ℕ, ◌<◌, ◌↔◌, ◌&&◌, is_none, is_some, Some, None, List, length, IfOk, IfSome, IfErr, IsErrOf, slice_get};
 ghost use Rattle.std.specs.Option.{option_map};
 ghost use Rattle.mm_store.specs.FilesView.{number_of};
 ghost use Rattle.mm_store.specs.Answers.{IsExpansionError};
 ghost use Rattle.mm_store.specs.declared.error.StoreError.TheVariants.{NoTop};
 ghost use Rattle.mm_frame.specs.Item.{is_labelled};
 ghost use Rattle.mm_frame.specs.Statement.{kind_of};
-ghost use Rattle.mm_frame.specs.Base.{BaseView, IsOfFiles, said_at, is_sound_at, fault_at, expression_at, hypotheses_at, find_in, AreHypotheses};
+ghost use Rattle.mm_frame.specs.Base.{BaseView, IsOfFiles, before, said_at, is_sound_at, fault_at, expression_at, hypotheses_at, find_in, AreHypotheses};
 ghost use Rattle.mm_frame.specs.Named.{symbols_of, expression_kept};
+ghost use Rattle.mm_frame.specs.Framing.{resolve};
+ghost use Rattle.mm_frame.specs.Resolving.{IsMeaning, Resolves};
 
 use crate::draft::{Draft, Frame, Parts, Row};
 use crate::judge::FrameFault;
@@ -24,6 +26,19 @@ use std::alloc::Global;
 pub struct Base {
     items: Vec<Item>,
     parts: Parts,
+}
+
+/// What a label means at an item.
+#[derive(Clone, Copy, Debug, PartialEq, Eq)]
+pub enum Resolved {
+    /// The label of the active hypothesis with this number.
+    Hypothesis(usize),
+    /// The label of the sound assertion with this number.
+    Assertion(usize),
+    /// The label of a hypothesis that is not active there.
+    Inactive,
+    /// No label of a sound statement before it.
+    Unknown,
 }
 
 /// The label of a row.
@@ -168,5 +183,30 @@ impl Base {
         ensures { (base : BaseView) → IsBase base self.now → result ≡ find_in base label.now }
     {
         self.parts.tables.label(label)
+    }
+    /// What the label of the sound item `j` means at the item `i`.
+    fn meaning(&self, j: usize, i: usize) -> Resolved
+        ensures { (base : BaseView) (label : List ℕ) → IsBase base self.now → find_in base label ≡ Some j → Resolves base i label result }
+    {
+        if j >= i {
+            Resolved::Unknown
+        } else if self.frame(j).is_some() {
+            Resolved::Assertion(j)
+        } else if self.parts.blocks.is_active_at(j, i) {
+            Resolved::Hypothesis(j)
+        } else {
+            Resolved::Inactive
+        }
+    }
+
+    /// What a label means at the item with this number, by the sound statements before that item alone: a label that
+    /// none of them has is unknown there, also the item's own.
+    pub fn resolve(&self, label: &[u8], i: usize) -> Resolved
+        ensures { (base : BaseView) → IsBase base self.now → IsMeaning base i label.now result (resolve (before base i) label.now) }
+    {
+        match self.find(label) {
+            Some(j) => self.meaning(j, i),
+            None => Resolved::Unknown,
+        }
     }
 }

@@ -12,7 +12,7 @@ mod statement;
 mod symbol;
 mod tables;
 
-pub use base::Base;
+pub use base::{Base, Resolved};
 pub use draft::Frame;
 pub use judge::FrameFault;
 pub use mm_store::{

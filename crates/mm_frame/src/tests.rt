@@ -12,7 +12,7 @@ use crate::mandatory::{hypotheses, mandatory_pairs};
 use crate::scope::Scope;
 use crate::symbol::{NamedSymbol, expression_of};
 use crate::tables::{Declared, Tables};
-use crate::{Base, Files, FrameNumber, Item, ItemKind, Statement, StoreError};
+use crate::{Base, Files, FrameNumber, Item, ItemKind, Resolved, Statement, StoreError};
 use std::alloc::{AllocError, Global};
 use std::test::Fail;
 
@@ -588,4 +588,35 @@ fn builds_no_base_without_a_top_file(rt: HostRuntime) {
         Base::build(rt.alloc(), &files, b"top").err(),
         Some(StoreError::NoTop)
     );
+}
+
+/// Items 0 to 9: a hypothesis and an assertion in a block, a statement at fault behind it, and a later `$f`.
+const LABELS: &[u8] =
+    b"$c wff |- $.\n$v x y $.\nwx $f wff x $.\n${ ex $e |- x $.\nax $a |- x $. $}\nbad $a |- z $.\nth $p |- x $= ? $.\nwy $f wff y $.\n";
+
+#[test]
+fn resolves_labels(rt: HostRuntime) -> Result<(), Fail> {
+    let base = base_of(rt.alloc(), LABELS)?;
+    assert_eq!(rt; base.count(), 10);
+    let rows: [(&[u8], usize, Resolved); 15] = [
+        (b"wx", 2, Resolved::Unknown),
+        (b"wx", 3, Resolved::Hypothesis(2)),
+        (b"wx", 8, Resolved::Hypothesis(2)),
+        (b"ex", 4, Resolved::Unknown),
+        (b"ex", 5, Resolved::Hypothesis(4)),
+        (b"ex", 6, Resolved::Hypothesis(4)),
+        (b"ex", 7, Resolved::Inactive),
+        (b"ax", 6, Resolved::Assertion(5)),
+        (b"ax", 8, Resolved::Assertion(5)),
+        (b"bad", 8, Resolved::Unknown),
+        (b"th", 8, Resolved::Unknown),
+        (b"wy", 8, Resolved::Unknown),
+        (b"wy", 10, Resolved::Hypothesis(9)),
+        (b"ex", 99, Resolved::Inactive),
+        (b"wff", 10, Resolved::Unknown),
+    ];
+    for (label, i, wanted) in rows {
+        assert_eq!(rt; base.resolve(label, i), wanted, "of {label:?} at {i}");
+    }
+    Ok(())
 }
