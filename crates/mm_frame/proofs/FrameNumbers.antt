@@ -1,11 +1,11 @@
 -- What is kept of an item at its number, and the hypotheses of a frame by their numbers.
-use Rattle.std.proofs.Common.{◌≡◌, ℕ, zero, suc, ◌<◌, Bool, true, false, ◌&&◌, ◌||◌, Option, Some, None, List, [], ◌∷◌, length, take, take_all, slice_get, get_or, is_none, refl, sym, ◌∙◌, ap, subst, arith, inl, inr}
+use Rattle.std.proofs.Common.{◌≡◌, ℕ, zero, suc, ◌<◌, ◌≤◌, Bool, true, false, ◌&&◌, ◌||◌, Option, Some, None, List, [], ◌∷◌, length, take, take_all, slice_get, get_or, is_none, refl, sym, ◌∙◌, ap, subst, arith, inl, inr}
 use Rattle.std.specs.Option.{option_map, IfSome}
 use Rattle.std.specs.List.{AllZip}
 use Rattle.std.proofs.lemmas.Bool.{false≢true, and_from}
 use Rattle.std.proofs.lemmas.List.{take-take}
 use Rattle.std.proofs.lemmas.List.Elements.{All-from_get_or}
-use Rattle.std.proofs.lemmas.Option.{slice_get_within, slice_get_cases, slice_get-get_or, get_or_from_slice_get}
+use Rattle.std.proofs.lemmas.Option.{none-some, slice_get_within, slice_get_cases, slice_get-get_or, get_or_from_slice_get}
 use Rattle.mm_store.specs.declared.item.Item as store
 use Rattle.mm_store.specs.FilesView.{FilesView}
 use Rattle.mm_frame.specs.declared.FrameNumber.{FrameNumber}
@@ -134,3 +134,10 @@ kind_at [] said i item z e = cc
 kind_at (x ∷ found) [] i item z e = absurd z
 kind_at (x ∷ found) (y ∷ said) zero item z e = let q : x ≡ item = cc in sym (ap (λ (w : store.Item). kind_of w.kind) q) ∙ z.0
 kind_at (x ∷ found) (y ∷ said) (suc i) item z e = kind_at found said i item z.1 e
+
+-- where none is found there is none
+pub none_past : (found : List store.Item) (said : List Item) (i : ℕ) → length found ≡ length said → slice_get found i ≡ None → length said ≤ i
+none_past found said i c e = elim (slice_get_cases found i).1 [
+  | inl there ↦ absurd (none-some there.0 (sym e ∙ there.2))
+  | inr past ↦ (let p = past.0 in omega arith)
+]

@@ -23,3 +23,4 @@ pub mod NamedLemmas
 pub mod BaseLemmas
 pub mod FrameNumbers
 pub mod ResolvingLemmas
+pub mod SameLemmas

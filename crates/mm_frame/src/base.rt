@@ -6,6 +6,7 @@ ghost use Rattle.mm_store.specs.FilesView.{number_of};
 ghost use Rattle.mm_store.specs.Answers.{IsExpansionError};
 ghost use Rattle.mm_store.specs.declared.error.StoreError.TheVariants.{NoTop};
 ghost use Rattle.mm_frame.specs.Item.{is_labelled};
+ghost use Rattle.mm_frame.specs.Item as meant;
 ghost use Rattle.mm_frame.specs.Statement.{kind_of};
 ghost use Rattle.mm_frame.specs.Base.{BaseView, IsOfFiles, before, said_at, is_sound_at, fault_at, expression_at, hypotheses_at, find_in, AreHypotheses};
 ghost use Rattle.mm_frame.specs.Named.{symbols_of, expression_kept};
@@ -15,7 +16,7 @@ ghost use Rattle.mm_frame.specs.Resolving.{IsMeaning, Resolves};
 use crate::draft::{Draft, Frame, Parts, Row};
 use crate::judge::FrameFault;
 use crate::symbol::NamedSymbol;
-use mm_store::{Files, Item, StoreError};
+use mm_store::{Files, Item, ItemKind, StoreError};
 use std::alloc::Global;
 
 /// The items of files from a top file on, which of them are sound, and the frames of the assertions.
@@ -59,6 +60,12 @@ fn frame_in(frame: &Option<Frame>) -> Option<&Frame>
         Some(frame) => Some(frame),
         None => None,
     }
+}
+
+fn is_floating(kind: ItemKind) -> bool
+    ensures { result ≡ meant.is_floating (kind_of kind) }
+{
+    matches!(kind, ItemKind::Floating)
 }
 
 /// Whether a row is that of a sound item with a label.
@@ -117,6 +124,23 @@ impl Base {
         match self.parts.expressions.get(i) {
             Some(symbols) => symbols,
             None => &[],
+        }
+    }
+
+    /// The item of the files with this number, if there is one.
+    fn found(&self, i: usize) -> Option<&Item>
+        ensures { option_map (λ item. item.now) result ≡ slice_get self.now.items.items i }
+    {
+        self.items.get(i)
+    }
+
+    /// Whether the item with this number is a `$f`.
+    pub(crate) fn is_floating(&self, i: usize) -> bool
+        ensures { (base : BaseView) → IsBase base self.now → result ≡ meant.is_floating (said_at base i).kind }
+    {
+        match self.found(i) {
+            Some(item) => is_floating(item.kind),
+            None => false,
         }
     }
 

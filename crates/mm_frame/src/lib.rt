@@ -7,6 +7,7 @@ mod blocks;
 mod draft;
 mod judge;
 mod mandatory;
+mod same;
 mod scope;
 mod statement;
 mod symbol;
