@@ -24,3 +24,4 @@ pub mod BaseLemmas
 pub mod FrameNumbers
 pub mod ResolvingLemmas
 pub mod SameLemmas
+pub mod SameFrames

@@ -32,10 +32,7 @@ fn same_pair(one: &(NamedSymbol, NamedSymbol), other: &(NamedSymbol, NamedSymbol
 }
 
 /// Whether two lists of pairs are the same, one by one.
-pub fn same_pairs(
-    one: &[(NamedSymbol, NamedSymbol)],
-    other: &[(NamedSymbol, NamedSymbol)],
-) -> bool
+pub fn same_pairs(one: &[(NamedSymbol, NamedSymbol)], other: &[(NamedSymbol, NamedSymbol)]) -> bool
     ensures { IsTrue result ↔ (kept_pairs one.now ≡ kept_pairs other.now) }
 {
     if one.len() != other.len() {
