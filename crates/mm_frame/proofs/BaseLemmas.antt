@@ -140,7 +140,7 @@ kept_front_at said i item e =
     let k = kept_at said i item e in
     ap (take i) k.whole ∙ ap (λ n. take n (kept (take i said) ++ judged item (fault (kept (take i said)) item) ∷ k.rest)) (sym k.number) ∙ take_between (kept (take i said)) (judged item (fault (kept (take i said)) item)) k.rest
 
-get_between : (front : List Item) (item : Item) (back : List Item) → slice_get (front ++ item ∷ back) (length front) ≡ Some item
+pub get_between : (front : List Item) (item : Item) (back : List Item) → slice_get (front ++ item ∷ back) (length front) ≡ Some item
 get_between [] item back = refl
 get_between (x ∷ front) item back = get_between front item back
 

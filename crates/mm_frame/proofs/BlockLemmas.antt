@@ -1,9 +1,9 @@
 -- Blocks by marks: what ties marks to items, and what one more mark makes of the block numbers.
-use Rattle.std.proofs.Common.{◌≡◌, ◌≢◌, ℕ, zero, suc, pred, ◌+◌, ◌-◌, ◌≤◌, ◌<◌, ◌==◌, leb, Bool, true, false, cond, Option, Some, None, List, [], ◌∷◌, ◌++◌, length, take, drop, get_or, set, count_by, slice_get, refl, sym, ◌∙◌, ap, subst, append_assoc, append-nil, arith, ◌⊎◌, inl, inr}
+use Rattle.std.proofs.Common.{◌≡◌, ◌≢◌, ℕ, zero, suc, pred, ◌+◌, ◌-◌, ◌≤◌, ◌<◌, ◌==◌, leb, Bool, true, false, cond, Option, Some, None, List, [], ◌∷◌, ◌++◌, length, min, take, drop, get_or, set, count_by, slice_get, refl, sym, ◌∙◌, ap, subst, append_assoc, append-nil, arith, ◌⊎◌, inl, inr}
 use Rattle.std.specs.Prelude.{Result, Ok, is_ok, IsSome, slice_range, unwrap_or, option_to_list}
 use Rattle.std.proofs.lemmas.Bool.{eq-eqb, ne_eqb, le-leb, lt-leb, false≢true}
 use Rattle.std.proofs.Math.Seq.{take-append-add}
-use Rattle.std.proofs.lemmas.List.{length_push, take-append-drop, drop-append-le, length-drop, drop_all, take_rest, take-append-le, length-set, get_or-set_same, get_or-set_other}
+use Rattle.std.proofs.lemmas.List.{length_push, take-append-drop, drop-append-le, length-drop, length-take, take_min, drop-take, drop_all, take_rest, take-append-le, length-set, get_or-set_same, get_or-set_other}
 use Rattle.std.proofs.lemmas.List.Sums.{sum_by-cons, sum_by_push, count_by-le-length}
 use Rattle.std.proofs.lemmas.Option.{slice_get_within, slice_get-get_or, same_Some}
 use native.Mathlib.Decide.{dec_lt}
@@ -489,6 +489,23 @@ behind_item marks from count e =
 -- nothing stands behind an item that is yet to come
 pub behind_none : (marks : List Mark) (from : ℕ) → length marks ≤ from → stays_by (drop (suc from) marks) ≡ true
 behind_none marks from l = ap stays_by (drop_all (suc from) marks (omega arith))
+
+-- the number of an item, or of the one that is yet to come where there is none
+pub end_within : (ends : List (Option ℕ)) (blocks : List ℕ) (marks : List Mark) (at count end : ℕ) → marks_from ends 0 0 blocks ≡ marks → count ≡ length blocks → end ≡ min at count → end ≡ min at (length marks)
+end_within ends blocks marks at count end v c e = e ∙ ap (min at) (c ∙ sym (marks_count ends blocks marks v))
+
+-- what stands behind an item before another
+pub behind_before : (marks : List Mark) (from at end : ℕ) → end ≡ min at (length marks) → from < end → slice_range marks (from + 1) end ≡ drop (suc from) (take at marks)
+behind_before marks from at end e l =
+    let next : from + 1 ≡ suc from = omega arith in
+    let whole : (from + 1) + (end - (from + 1)) ≡ end = omega arith in
+    sym (drop-take (from + 1) (end - (from + 1)) marks)
+    ∙ ap (λ n. drop (from + 1) (take n marks)) (whole ∙ e)
+    ∙ ap (drop (from + 1)) (take_min at marks)
+    ∙ ap (λ n. drop n (take at marks)) next
+
+pub before_none : (marks : List Mark) (from at end : ℕ) → end ≡ min at (length marks) → end ≤ from → stays_by (drop (suc from) (take at marks)) ≡ true
+before_none marks from at end e l = let c = length-take at marks in ap stays_by (drop_all (suc from) (take at marks) (omega arith))
 
 -- an item whose block is open is active, and one whose block has ended is so up to the end
 pub is_active_open : (blocks : List ℕ) (ends : List (Option ℕ)) (outer : List ℕ) (current begun ended from at block : ℕ) → AreKept blocks ends outer current begun ended → from < length blocks → block ≡ get_or blocks from block → end_of ends block ≡ None → stays_by (slice_range (marks_from ends 0 0 blocks) (from + 1) at) ≡ true

@@ -22,3 +22,7 @@ pub mod MandatoryLemmas
 pub mod NamedLemmas
 pub mod BaseLemmas
 pub mod PairListLemmas
+pub mod FrameNumbers
+pub mod ResolvingLemmas
+pub mod SameLemmas
+pub mod SameFrames

@@ -164,11 +164,11 @@ typed_last before h name = last_active (types name) before
     (λ y k t. let p = typed_by name y t in in_has (typed before) name (subst (λ w. In w (typed before)) p.1 (to_typed before y k p.0)))
 
 -- what tests find
-any_in : {X : Type 0} (p : X → Bool) (xs : List X) → list_any p xs ≡ true → (x : X) × In x xs × (p x ≡ true)
+pub any_in : {X : Type 0} (p : X → Bool) (xs : List X) → list_any p xs ≡ true → (x : X) × In x xs × (p x ≡ true)
 any_in p [] h = absurd (false≢true h)
 any_in p (x ∷ xs) h = elim (or_cases (p x) (list_any p xs) h) [ inl e ↦ (x, inl refl, e) | inr t ↦ (let r = any_in p xs t in (r.0, inr r.1, r.2)) ]
 
-in_any : {X : Type 0} (p : X → Bool) (x : X) (xs : List X) → In x xs → p x ≡ true → list_any p xs ≡ true
+pub in_any : {X : Type 0} (p : X → Bool) (x : X) (xs : List X) → In x xs → p x ≡ true → list_any p xs ≡ true
 in_any p x [] h t = absurd h
 in_any p x (y ∷ xs) (inl e) t = or_left (p y) (list_any p xs) (ap p e ∙ t)
 in_any p x (y ∷ xs) (inr h) t = or_right (p y) (list_any p xs) (in_any p x xs h t)

@@ -1,6 +1,7 @@
 -- What the code keeps of the items for a base.
 use Rattle.std.specs.Prelude.{◌≡◌, ℕ, ◌<◌, Bool, ◌&&◌, Some, is_some, is_none, List, length, take, slice_get, Option, Vec}
 use Rattle.std.specs.Option.{option_map}
+use Rattle.std.specs.List.{AllZip}
 use Rattle.std.specs.Global.{Global}
 use Rattle.mm_frame.specs.declared.base.Base.{Base}
 use Rattle.mm_frame.specs.declared.draft.Draft.{Draft}
@@ -10,6 +11,7 @@ use Rattle.mm_frame.specs.declared.draft.Frame.{Frame}
 use Rattle.mm_frame.specs.declared.symbol.NamedSymbol.{NamedSymbol}
 use Rattle.mm_frame.specs.Named.{AreSymbols}
 use Rattle.mm_frame.specs.Item.{Item, is_labelled, is_theorem}
+use Rattle.mm_frame.specs.Statement.{kind_of}
 use Rattle.mm_frame.specs.Sound.{kept}
 use Rattle.mm_frame.specs.declared.pair_lists.PairLists.{PairLists}
 use Rattle.mm_frame.specs.Framing.{active_pairs}
@@ -68,6 +70,7 @@ pub record AreParts (said : List Item) (parts : Parts) : Type 0 where
 pub record IsBase (base : BaseView) (code : Base) : Type 0 where
   pub found : code.items.items ≡ base.found
   pub count : length base.found ≡ length base.said
+  pub kinds : AllZip (λ item said. kind_of item.kind ≡ said.kind) base.found base.said
   pub parts : AreParts base.said code.parts
 
 -- the rows that the code keeps

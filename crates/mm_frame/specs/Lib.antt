@@ -34,4 +34,5 @@ pub mod Pruned
 pub mod Base
 pub mod PairLists
 pub mod Kept
+pub mod Resolving
 pub mod Paired

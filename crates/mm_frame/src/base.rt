@@ -1,21 +1,23 @@
 //! What the items of files mean, from a top file on.
 
-ghost use Rattle.std.specs.Prelude.{◌≡◌, ◌<◌, ◌↔◌, ◌&&◌, is_none, is_some, Some, None, List, length, IfSome, IfOk, IfErr, IsErrOf, slice_get};
+ghost use Rattle.std.specs.Prelude.{◌≡◌, ◌<◌, ◌↔◌, ◌&&◌, is_none, is_some, Some, None, List, length, ℕ, IfSome, IfOk, IfErr, IsErrOf, slice_get};
 ghost use Rattle.std.specs.Option.{option_map};
 ghost use Rattle.mm_store.specs.FilesView.{number_of};
 ghost use Rattle.mm_store.specs.Answers.{IsExpansionError};
 ghost use Rattle.mm_store.specs.declared.error.StoreError.TheVariants.{NoTop};
 ghost use Rattle.mm_frame.specs.Item.{is_labelled};
 ghost use Rattle.mm_frame.specs.Language.{AreSamePairs};
-ghost use Rattle.mm_frame.specs.Framing.{active_pairs};
-ghost use Rattle.mm_frame.specs.Base.{before, is_proof_at};
-ghost use Rattle.mm_frame.specs.Base.{BaseView, IsOfFiles, said_at, is_sound_at, fault_at, expression_at, hypotheses_at, find_in};
+ghost use Rattle.mm_frame.specs.Framing.{active_pairs, resolve};
+ghost use Rattle.mm_frame.specs.Base.{BaseView, IsOfFiles, before, said_at, is_proof_at, is_sound_at, fault_at, expression_at, hypotheses_at, find_in, AreHypotheses};
 ghost use Rattle.mm_frame.specs.Named.{symbols_of, expression_kept, kept_pairs};
+ghost use Rattle.mm_frame.specs.Item as meant;
+ghost use Rattle.mm_frame.specs.Statement.{kind_of};
+ghost use Rattle.mm_frame.specs.Resolving.{IsMeaning, Resolves};
 
 use crate::draft::{Draft, Frame, Parts, Row};
 use crate::judge::FrameFault;
 use crate::symbol::NamedSymbol;
-use mm_store::{Files, Item, StoreError};
+use mm_store::{Files, Item, ItemKind, StoreError};
 use std::alloc::Global;
 
 /// The items of files from a top file on, which of them are sound, and the frames of the assertions.
@@ -26,6 +28,19 @@ use std::alloc::Global;
 pub struct Base {
     items: Vec<Item>,
     parts: Parts,
+}
+
+/// What a label means at an item.
+#[derive(Clone, Copy, Debug, PartialEq, Eq)]
+pub enum Resolved {
+    /// The label of the active hypothesis with this number.
+    Hypothesis(usize),
+    /// The label of the sound assertion with this number.
+    Assertion(usize),
+    /// The label of a hypothesis that is not active there.
+    Inactive,
+    /// No label of a sound statement before it.
+    Unknown,
 }
 
 /// The label of a row.
@@ -46,6 +61,12 @@ fn frame_in(frame: &Option<Frame>) -> Option<&Frame>
         Some(frame) => Some(frame),
         None => None,
     }
+}
+
+fn is_floating(kind: ItemKind) -> bool
+    ensures { result ≡ meant.is_floating (kind_of kind) }
+{
+    matches!(kind, ItemKind::Floating)
 }
 
 /// Whether a row is that of a sound item with a label.
@@ -108,6 +129,23 @@ impl Base {
         }
     }
 
+    /// The item of the files with this number, if there is one.
+    fn found(&self, i: usize) -> Option<&Item>
+        ensures { option_map (λ item. item.now) result ≡ slice_get self.now.items.items i }
+    {
+        self.items.get(i)
+    }
+
+    /// Whether the item with this number is a `$f`.
+    pub(crate) fn is_floating(&self, i: usize) -> bool
+        ensures { (base : BaseView) → IsBase base self.now → result ≡ meant.is_floating (said_at base i).kind }
+    {
+        match self.found(i) {
+            Some(item) => is_floating(item.kind),
+            None => false,
+        }
+    }
+
     /// How many items there are.
     pub fn count(&self) -> usize
         ensures { (base : BaseView) → IsBase base self.now → result ≡ length base.said }
@@ -118,7 +156,8 @@ impl Base {
     /// The item of the files with this number.
     pub fn item(&self, i: usize) -> &Item
         requires { HasItem self.now i }
-        ensures { (base : BaseView) → IsBase base self.now → slice_get base.found i ≡ Some result.now }
+        ensures found { (base : BaseView) → IsBase base self.now → slice_get base.found i ≡ Some result.now }
+        ensures kind { (base : BaseView) → IsBase base self.now → kind_of result.now.kind ≡ (said_at base i).kind }
     {
         &self.items[i]
     }
@@ -156,7 +195,8 @@ impl Base {
 
     /// The frame of the item with this number, where it is a sound `$a` or `$p`.
     pub fn frame(&self, i: usize) -> Option<&Frame>
-        ensures { (base : BaseView) → IsBase base self.now → option_map (λ frame. frame.now.hypotheses.items) result ≡ hypotheses_at base i }
+        ensures hypotheses { (base : BaseView) → IsBase base self.now → option_map (λ frame. frame.now.hypotheses.items) result ≡ hypotheses_at base i }
+        ensures means { (base : BaseView) → IsBase base self.now → IfSome result (λ frame. AreHypotheses base i frame.now.hypotheses.items) }
     {
         match self.kept_frame(i) {
             Some(frame) => frame_in(frame),
@@ -191,5 +231,30 @@ impl Base {
         ensures { (base : BaseView) → IsBase base self.now → result ≡ find_in base label.now }
     {
         self.parts.tables.label(label)
+    }
+    /// What the label of the sound item `j` means at the item `i`.
+    fn meaning(&self, j: usize, i: usize) -> Resolved
+        ensures { (base : BaseView) (label : List ℕ) → IsBase base self.now → find_in base label ≡ Some j → Resolves base i label result }
+    {
+        if j >= i {
+            Resolved::Unknown
+        } else if self.frame(j).is_some() {
+            Resolved::Assertion(j)
+        } else if self.parts.blocks.is_active_at(j, i) {
+            Resolved::Hypothesis(j)
+        } else {
+            Resolved::Inactive
+        }
+    }
+
+    /// What a label means at the item with this number, by the sound statements before that item alone: a label that
+    /// none of them has is unknown there, also the item's own.
+    pub fn resolve(&self, label: &[u8], i: usize) -> Resolved
+        ensures { (base : BaseView) → IsBase base self.now → IsMeaning base i label.now result (resolve (before base i) label.now) }
+    {
+        match self.find(label) {
+            Some(j) => self.meaning(j, i),
+            None => Resolved::Unknown,
+        }
     }
 }

@@ -1,6 +1,6 @@
 //! Blocks: whether an item is active at a later one.
 
-ghost use Rattle.std.specs.Prelude.{◌≡◌, ℕ, suc, ◌+◌, ◌<◌, ◌≤◌, List, [], ◌∷◌, ◌++◌, length, drop, slice_range, OnOk, OnErr};
+ghost use Rattle.std.specs.Prelude.{◌≡◌, ℕ, suc, ◌+◌, ◌<◌, ◌≤◌, List, [], ◌∷◌, ◌++◌, length, take, drop, slice_range, OnOk, OnErr};
 ghost use Rattle.mm_frame.specs.Scope.{Opens, Closes, Neither};
 ghost use Rattle.mm_frame.specs.Blocks.{is_inside_by, stays_by};
 ghost use Rattle.mm_frame.specs.BlockEnds.{end_of};
@@ -135,6 +135,15 @@ impl Blocks {
             None => true,
             Some(end) => at <= end,
         }
+    }
+
+    /// Whether the item `from` is active at the item `at`, or behind the last one where none has that number; an item
+    /// that does not stand before it counts as active.
+    pub fn is_active_at(&self, from: usize, at: usize) -> bool
+        ensures { result ≡ stays_by (drop (suc from) (take at self.now)) }
+    {
+        let end = at.min(self.block_of.len());
+        end <= from || self.is_active(from, end)
     }
 
     /// Whether the item `from` is active behind the last one; an item that is yet to come counts as active.

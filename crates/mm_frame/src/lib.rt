@@ -8,12 +8,13 @@ mod draft;
 mod judge;
 mod mandatory;
 mod pair_lists;
+mod same;
 mod scope;
 mod statement;
 mod symbol;
 mod tables;
 
-pub use base::Base;
+pub use base::{Base, Resolved};
 pub use draft::Frame;
 pub use judge::FrameFault;
 pub use mm_store::{

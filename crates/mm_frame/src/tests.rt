@@ -10,10 +10,11 @@ use crate::blocks::Blocks;
 use crate::draft::{Draft, Parts};
 use crate::judge::{FrameFault, fault_of};
 use crate::mandatory::{hypotheses, mandatory_pairs};
+use crate::same::{same_but_pairs, same_pairs};
 use crate::scope::Scope;
 use crate::symbol::{NamedSymbol, expression_of};
 use crate::tables::{Declared, Tables};
-use crate::{Base, Files, FrameNumber, Item, ItemKind, Statement, StoreError};
+use crate::{Base, Files, FrameNumber, Item, ItemKind, Resolved, Statement, StoreError};
 use std::alloc::{AllocError, Global};
 use std::test::Fail;
 
@@ -669,5 +670,80 @@ fn neighbours_share_a_list(rt: HostRuntime) -> Result<(), Fail> {
     }
     assert_eq!(rt; parts.pair_lists.list(2).len(), 4);
     assert!(rt; parts.pair_lists.list(3).is_empty());
+    Ok(())
+}
+
+/// Items 0 to 9: a hypothesis and an assertion in a block, a statement at fault behind it, and a later `$f`.
+const LABELS: &[u8] =
+    b"$c wff |- $.\n$v x y $.\nwx $f wff x $.\n${ ex $e |- x $.\nax $a |- x $. $}\nbad $a |- z $.\nth $p |- x $= ? $.\nwy $f wff y $.\n";
+
+#[test]
+fn resolves_labels(rt: HostRuntime) -> Result<(), Fail> {
+    let base = base_of(rt.alloc(), LABELS)?;
+    assert_eq!(rt; base.count(), 10);
+    let rows: [(&[u8], usize, Resolved); 15] = [
+        (b"wx", 2, Resolved::Unknown),
+        (b"wx", 3, Resolved::Hypothesis(2)),
+        (b"wx", 8, Resolved::Hypothesis(2)),
+        (b"ex", 4, Resolved::Unknown),
+        (b"ex", 5, Resolved::Hypothesis(4)),
+        (b"ex", 6, Resolved::Hypothesis(4)),
+        (b"ex", 7, Resolved::Inactive),
+        (b"ax", 6, Resolved::Assertion(5)),
+        (b"ax", 8, Resolved::Assertion(5)),
+        (b"bad", 8, Resolved::Unknown),
+        (b"th", 8, Resolved::Unknown),
+        (b"wy", 8, Resolved::Unknown),
+        (b"wy", 10, Resolved::Hypothesis(9)),
+        (b"ex", 99, Resolved::Inactive),
+        (b"wff", 10, Resolved::Unknown),
+    ];
+    for (label, i, wanted) in rows {
+        assert_eq!(rt; base.resolve(label, i), wanted, "of {label:?} at {i}");
+    }
+    Ok(())
+}
+
+/// Items 2 to 10: assertions with one mandatory `$f`, of which one has a `$e` besides.
+const TWINS: &[u8] =
+    b"$c wff |- $.\n$v x y $.\nwx $f wff x $.\nwy $f wff y $.\nax $a |- x $.\nay $a |- y $.\nbx $a |- x $.\n${ ex $e wff x $.\ncx $a |- x $. $}\n";
+
+/// The item 1 is of the symbols of assertions of the other text, but of constants.
+const CONSTANTS: &[u8] = b"$c wff |- x $.\nax $a |- x $.\n";
+
+#[test]
+fn compares_what_assertions_need(rt: HostRuntime) -> Result<(), Fail> {
+    let base = base_of(rt.alloc(), TWINS)?;
+    let other = base_of(rt.alloc(), CONSTANTS)?;
+    for (i, j, wanted) in [
+        (4, 4, true),
+        (4, 6, true),
+        (4, 5, false),
+        (4, 9, false),
+        (9, 9, true),
+        (2, 2, false),
+    ] {
+        assert_eq!(rt;
+            same_but_pairs(&base, i, &base, j),
+            wanted,
+            "of {i} and {j}"
+        );
+    }
+    assert!(rt; !same_but_pairs(&base, 4, &other, 1));
+    assert!(rt; same_but_pairs(&other, 1, &other, 1));
+    Ok(())
+}
+
+#[test]
+fn compares_pairs(rt: HostRuntime) -> Result<(), Fail> {
+    let mut one = Vec::new(rt.alloc());
+    add_pair(rt.alloc(), b"x", b"y", &mut one)?;
+    let mut other = Vec::new(rt.alloc());
+    assert!(rt; !same_pairs(&one, &other));
+    add_pair(rt.alloc(), b"x", b"y", &mut other)?;
+    assert!(rt; same_pairs(&one, &other));
+    add_pair(rt.alloc(), b"x", b"z", &mut one)?;
+    add_pair(rt.alloc(), b"z", b"x", &mut other)?;
+    assert!(rt; !same_pairs(&one, &other));
     Ok(())
 }

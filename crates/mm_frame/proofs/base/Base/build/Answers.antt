@@ -2,6 +2,7 @@ use Rattle.std.proofs.Common.{refl, sym, subst}
 use Rattle.std.specs.List.{AllZip}
 use Rattle.std.proofs.lemmas.Slice.Zip.{AllZip-long}
 use Rattle.mm_frame.specs.Statement.{Says}
+use Rattle.mm_frame.proofs.FrameNumbers.{kinds_said}
 use Rattle.mm_frame.proofs.base.Base.build.Goals as goal
 
 pub returns-clause-base : goal.returns-clause-base
@@ -12,5 +13,5 @@ returns-clause-base c =
     let each = subst (λ w. AllZip (Says files) w read.0) c.deref.ensures.value read.1 in (
       record { found = found; said = read.0 },
       record { expansion = c.in_ok-items.ensures.items; each = each },
-      record { found = refl; count = sym (AllZip-long (Says files) found read.0 each); parts = c.parts.ensures read.0 read.2 },
+      record { found = refl; count = sym (AllZip-long (Says files) found read.0 each); kinds = kinds_said files found read.0 each; parts = c.parts.ensures read.0 read.2 },
     )
