@@ -19,5 +19,6 @@ pub mod FaultLemmas
 pub mod ScopingLemmas
 pub mod EndLemmas
 pub mod MandatoryLemmas
+pub mod PairTableLemmas
 pub mod NamedLemmas
 pub mod BaseLemmas

@@ -75,19 +75,19 @@ essential_mandatory before item e s a k m t =
     in_filter (has (active_variables before)) s.name (item.symbols ++ symbols_by is_essential (active before)) (in_right s.name item.symbols (symbols_by is_essential (active before)) (to_symbols is_essential s.name (active before) e a k r.0)) (r.1 ∙ t)
 
 -- an active item and its number
-active_at_number : (before : List Item) (n : ℕ) (item : Item) → slice_get before n ≡ Some item → is_active_at before n ≡ true → In item (active before)
+pub active_at_number : (before : List Item) (n : ℕ) (item : Item) → slice_get before n ≡ Some item → is_active_at before n ≡ true → In item (active before)
 active_at_number before n item e s = subst (λ w. In item (active w)) (sym (split_at before n item e)) (split_active (take n before) item (drop (suc n) before) s)
 
-record ActiveNumber (before : List Item) (item : Item) : Type 0 where
-  number : ℕ
-  there : slice_get before number ≡ Some item
-  stayed : is_active_at before number ≡ true
+pub record ActiveNumber (before : List Item) (item : Item) : Type 0 where
+  pub number : ℕ
+  pub there : slice_get before number ≡ Some item
+  pub stayed : is_active_at before number ≡ true
 
 get_between : (front : List Item) (item : Item) (back : List Item) → slice_get (front ++ item ∷ back) (length front) ≡ Some item
 get_between [] item back = refl
 get_between (x ∷ front) item back = get_between front item back
 
-number_of_active : (before : List Item) (item : Item) → In item (active before) → ActiveNumber before item
+pub number_of_active : (before : List Item) (item : Item) → In item (active before) → ActiveNumber before item
 number_of_active before item a =
     let s = active_split before item a in
     record {

@@ -19,7 +19,7 @@ use Rattle.mm_frame.proofs.TableLemmas.{not_closing, not_closing_start, closed_n
 use Rattle.mm_frame.proofs.HypothesisNumbers.{from_active_number, active_number_items}
 
 -- a `$d` opens and closes no block
-disjoint_neither : (k : Kind) → is_disjoint k ≡ true → mark_of k ≡ Neither
+pub disjoint_neither : (k : Kind) → is_disjoint k ≡ true → mark_of k ≡ Neither
 disjoint_neither Disjoint e = refl
 disjoint_neither _ e = absurd (false≢true e)
 

@@ -34,3 +34,4 @@ pub mod Pruned
 pub mod Base
 pub mod Kept
 pub mod Paired
+pub mod PairTable

@@ -7,6 +7,7 @@ mod blocks;
 mod draft;
 mod judge;
 mod mandatory;
+mod paired;
 mod scope;
 mod statement;
 mod symbol;
