@@ -20,5 +20,6 @@ pub mod ScopingLemmas
 pub mod EndLemmas
 pub mod MandatoryLemmas
 pub mod PairTableLemmas
+pub mod FramePairs
 pub mod NamedLemmas
 pub mod BaseLemmas

@@ -66,7 +66,7 @@ pairs_same : (b c : Bool) (xs ys : List Symbol) → b ≡ c → (b ≡ true → 
 pairs_same true c xs ys e h = ap pairs_of (h refl) ∙ ap (λ w. cond w (pairs_of ys) []) e
 pairs_same false c xs ys e h = ap (λ w. cond w (pairs_of ys) []) e
 
-flat_same : {X Y : Type 0} (f g : X → List Y) (xs : List X) → ((x : X) → In x xs → f x ≡ g x) → flat_map f xs ≡ flat_map g xs
+pub flat_same : {X Y : Type 0} (f g : X → List Y) (xs : List X) → ((x : X) → In x xs → f x ≡ g x) → flat_map f xs ≡ flat_map g xs
 flat_same f g [] h = refl
 flat_same f g (x ∷ xs) h = let a = h x (inl refl) in let b = flat_same f g xs (λ y k. h y (inr k)) in λ i. a i ++ b i
 
@@ -107,7 +107,7 @@ disjoint_only : (items xs : List Item) → flat_map (item_pairs items) xs ≡ fl
 disjoint_only items [] = refl
 disjoint_only items (x ∷ xs) = disjoint_only_at items x (filter is_disjoint_item xs) (is_disjoint x.kind) (flat_map (item_pairs items) xs) (disjoint_only items xs)
 
-flat_of_map : {X Y Z : Type 0} (f : Y → List Z) (g : X → Y) (xs : List X) → flat_map f (map g xs) ≡ flat_map (λ x. f (g x)) xs
+pub flat_of_map : {X Y Z : Type 0} (f : Y → List Z) (g : X → Y) (xs : List X) → flat_map f (map g xs) ≡ flat_map (λ x. f (g x)) xs
 flat_of_map f g [] = refl
 flat_of_map f g (x ∷ xs) = ap (λ w. f (g x) ++ w) (flat_of_map f g xs)
 

@@ -295,20 +295,21 @@ abbrev pub pairs_with : Symbol → List Symbol → List (Symbol × Symbol)
 pairs_with s others = map (λ y. (s, y)) others
 
 -- one more pair of a variable, and the pairs of one more variable
-row_next : (s : Symbol) (later : List NamedSymbol) (n : ℕ) (x : NamedSymbol) → n < length later → x ≡ get_or later n x → pairs_with s (symbols_of (take (suc n) later)) ≡ pairs_with s (symbols_of (take n later)) ++ (s, symbol_of x) ∷ []
-row_next s [] n x l e = absurd (omega arith)
-row_next s (z ∷ zs) zero x l e = ap (λ w. pairs_with s (symbol_of w ∷ [])) (sym e)
-row_next s (z ∷ zs) (suc n) x l e = ap (λ w. pairs_with s (symbol_of z ∷ []) ++ w) (row_next s zs n x (omega arith) e)
+row_next : {X : Type 0} (f : X → Symbol) (s : Symbol) (later : List X) (n : ℕ) (x : X) → n < length later → x ≡ get_or later n x → pairs_with s (map f (take (suc n) later)) ≡ pairs_with s (map f (take n later)) ++ (s, f x) ∷ []
+row_next f s [] n x l e = absurd (omega arith)
+row_next f s (z ∷ zs) zero x l e = ap (λ w. pairs_with s (f w ∷ [])) (sym e)
+row_next f s (z ∷ zs) (suc n) x l e = ap (λ w. pairs_with s (f z ∷ []) ++ w) (row_next f s zs n x (omega arith) e)
+
+pub row_last : {X : Type 0} (f : X → Symbol) (s : Symbol) (later : List X) (n : ℕ) (x : X) → n < length later → x ≡ get_or later n x → pairs_with s (map f (take (n + 1) later)) ≡ pairs_with s (map f (take n later)) ++ (s, f x) ∷ []
+row_last f s later n x l e = let z : n + 1 ≡ suc n = omega arith in ap (λ k. pairs_with s (map f (take k later))) z ∙ row_next f s later n x l e
 
 pub row_more : (old mid new : PairTable) (marks : List Mark) (s : Symbol) (later : List NamedSymbol) (n : ℕ) (x : NamedSymbol) (number : ℕ) → n < length later → x ≡ get_or later n x → TakesPairs old marks (pairs_with s (symbols_of (take n later))) number mid → TakesPairs mid marks ((s, symbol_of x) ∷ []) number new → TakesPairs old marks (pairs_with s (symbols_of (take (n + 1) later))) number new
-row_more old mid new marks s later n x number l e a b =
-    let z : suc n ≡ n + 1 = omega arith in
-    subst (λ pairs. TakesPairs old marks pairs number new) (sym (row_next s later n x l e) ∙ ap (λ k. pairs_with s (symbols_of (take k later))) z) (takes_more old mid new marks (pairs_with s (symbols_of (take n later))) ((s, symbol_of x) ∷ []) number a b)
+row_more old mid new marks s later n x number l e a b = subst (λ pairs. TakesPairs old marks pairs number new) (sym (row_last symbol_of s later n x l e)) (takes_more old mid new marks (pairs_with s (symbols_of (take n later))) ((s, symbol_of x) ∷ []) number a b)
 
-all_next : (variables : List NamedSymbol) (n : ℕ) (x : NamedSymbol) → n < length variables → x ≡ get_or variables n x → pairs_of (symbols_of (drop n variables)) ≡ pairs_with (symbol_of x) (symbols_of (drop (suc n) variables)) ++ pairs_of (symbols_of (drop (suc n) variables))
-all_next [] n x l e = absurd (omega arith)
-all_next (z ∷ zs) zero x l e = ap (λ w. pairs_with (symbol_of w) (symbols_of zs) ++ pairs_of (symbols_of zs)) (sym e)
-all_next (z ∷ zs) (suc n) x l e = all_next zs n x (omega arith) e
+all_next : {X : Type 0} (f : X → Symbol) (variables : List X) (n : ℕ) (x : X) → n < length variables → x ≡ get_or variables n x → pairs_of (map f (drop n variables)) ≡ pairs_with (f x) (map f (drop (suc n) variables)) ++ pairs_of (map f (drop (suc n) variables))
+all_next f [] n x l e = absurd (omega arith)
+all_next f (z ∷ zs) zero x l e = ap (λ w. pairs_with (f w) (map f zs) ++ pairs_of (map f zs)) (sym e)
+all_next f (z ∷ zs) (suc n) x l e = all_next f zs n x (omega arith) e
 
-pub all_more : (variables : List NamedSymbol) (n : ℕ) (x : NamedSymbol) → n < length variables → x ≡ get_or variables n x → pairs_of (symbols_of (drop n variables)) ≡ pairs_with (symbol_of x) (symbols_of (drop (n + 1) variables)) ++ pairs_of (symbols_of (drop (n + 1) variables))
-all_more variables n x l e = let z : suc n ≡ n + 1 = omega arith in all_next variables n x l e ∙ ap (λ k. pairs_with (symbol_of x) (symbols_of (drop k variables)) ++ pairs_of (symbols_of (drop k variables))) z
+pub all_more : {X : Type 0} (f : X → Symbol) (variables : List X) (n : ℕ) (x : X) → n < length variables → x ≡ get_or variables n x → pairs_of (map f (drop n variables)) ≡ pairs_with (f x) (map f (drop (n + 1) variables)) ++ pairs_of (map f (drop (n + 1) variables))
+all_more f variables n x l e = let z : suc n ≡ n + 1 = omega arith in all_next f variables n x l e ∙ ap (λ k. pairs_with (f x) (map f (drop k variables)) ++ pairs_of (map f (drop k variables))) z

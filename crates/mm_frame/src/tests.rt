@@ -8,7 +8,7 @@ ghost use Rattle.mm_frame.specs.Kept.{IsBase};
 use crate::active::ActiveNumbers;
 use crate::blocks::Blocks;
 use crate::judge::{FrameFault, fault_of};
-use crate::mandatory::{hypotheses, mandatory_pairs};
+use crate::mandatory::hypotheses;
 use crate::scope::Scope;
 use crate::symbol::{NamedSymbol, expression_of};
 use crate::tables::{Declared, Tables};
@@ -487,35 +487,6 @@ fn finds_mandatory_hypotheses(rt: HostRuntime) -> Result<(), Fail> {
     let own = kept_for(&expressions, 7);
     let numbers = hypotheses(rt.alloc(), &tables, &[6], &expressions, own)?;
     assert_eq!(rt; &numbers[..], [3, 4, 6].as_slice());
-    Ok(())
-}
-
-/// Adds a pair of variables.
-fn add_pair(
-    alloc: Global,
-    first: &[u8],
-    second: &[u8],
-    pairs: &mut Vec<(NamedSymbol, NamedSymbol)>,
-) -> Result<(), AllocError> {
-    let first = named(alloc, first, true)?;
-    let second = named(alloc, second, true)?;
-    pairs.push((first, second))?;
-    Ok(())
-}
-
-#[test]
-fn keeps_mandatory_pairs(rt: HostRuntime) -> Result<(), Fail> {
-    let tables = tables_of(rt.alloc(), FRAME)?;
-    let mut pairs = Vec::new(rt.alloc());
-    add_pair(rt.alloc(), b"x", b"y", &mut pairs)?;
-    add_pair(rt.alloc(), b"x", b"z", &mut pairs)?;
-    add_pair(rt.alloc(), b"y", b"z", &mut pairs)?;
-    let kept = mandatory_pairs(rt.alloc(), &tables, &[3, 4, 6], &pairs)?;
-    assert_eq!(rt; kept.len(), 1);
-    for pair in &kept {
-        assert_eq!(rt; &pair.0.name[..], b"x".as_slice());
-        assert_eq!(rt; &pair.1.name[..], b"y".as_slice());
-    }
     Ok(())
 }
 

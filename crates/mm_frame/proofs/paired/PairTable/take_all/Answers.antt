@@ -15,4 +15,4 @@ loop-n-preserved c =
     let row = pairs_with (symbol_of x) (symbols_of (drop (n + 1) variables)) in
     let rest = pairs_of (symbols_of (drop (n + 1) variables)) in
     let taken = subst (λ w. TakesPairs c.loop-n.self c.args.blocks.now (pairs_with (symbol_of x) (symbols_of w)) c.args.number c.take_pairs.new.self) (take_rest variables (n + 1)) c.in_ok-take_pairs.ensures in
-    (so_far.0 ++ row, so_far.1 ∙ ap (λ w. so_far.0 ++ w) (all_more variables n x c.loop-n-test.true c.index-variables-n.is) ∙ sym (append_assoc so_far.0 row rest), takes_more c.args.self.now c.loop-n.self c.take_pairs.new.self c.args.blocks.now so_far.0 row c.args.number so_far.2 taken)
+    (so_far.0 ++ row, so_far.1 ∙ ap (λ w. so_far.0 ++ w) (all_more symbol_of variables n x c.loop-n-test.true c.index-variables-n.is) ∙ sym (append_assoc so_far.0 row rest), takes_more c.args.self.now c.loop-n.self c.take_pairs.new.self c.args.blocks.now so_far.0 row c.args.number so_far.2 taken)
