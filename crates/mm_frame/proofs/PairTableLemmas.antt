@@ -19,6 +19,7 @@ use Rattle.mm_frame.specs.Blocks.{stays_by, marks_of}
 use Rattle.mm_frame.specs.Framing.{symbol, expression, pairs_of, active_pairs}
 use Rattle.mm_frame.specs.Tables.{is_active_at}
 use Rattle.mm_frame.specs.Paired.{are_paired}
+use Rattle.mm_frame.specs.Scoping.{taken}
 use Rattle.mm_frame.specs.PairTable.{value_in, number_in, pair_number, is_number_active, is_named, has_pair, number_next, TakesPairs, stand_in_order, IsPairAt, Outlasts, KnowsPairs}
 use Rattle.mm_frame.proofs.Members.{In}
 use Rattle.mm_frame.proofs.Scopes.{stays_front, stays_join}
@@ -313,3 +314,11 @@ all_next f (z ∷ zs) (suc n) x l e = all_next f zs n x (omega arith) e
 
 pub all_more : {X : Type 0} (f : X → Symbol) (variables : List X) (n : ℕ) (x : X) → n < length variables → x ≡ get_or variables n x → pairs_of (map f (drop n variables)) ≡ pairs_with (f x) (map f (drop (n + 1) variables)) ++ pairs_of (map f (drop (n + 1) variables))
 all_more f variables n x l e = let z : suc n ≡ n + 1 = omega arith in all_next f variables n x l e ∙ ap (λ k. pairs_with (f x) (map f (drop k variables)) ++ pairs_of (map f (drop k variables))) z
+
+-- an item that is not sound, or no `$d`
+not_disjoint : (item : Item) (sound : Bool) → (sound ≡ true → is_disjoint item.kind ≡ false) → is_disjoint (taken sound item).kind ≡ false
+not_disjoint item true h = h refl
+not_disjoint item false h = refl
+
+pub pairs_passed : (before : List Item) (item : Item) (sound : Bool) (table : PairTable) → (sound ≡ true → is_disjoint item.kind ≡ false) → KnowsPairs before table → KnowsPairs (before ++ taken sound item ∷ []) table
+pairs_passed before item sound table h k = pairs_other before (taken sound item) table (not_disjoint item sound h) k

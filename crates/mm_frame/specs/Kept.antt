@@ -1,5 +1,5 @@
 -- What the code keeps of the items for a base.
-use Rattle.std.specs.Prelude.{◌≡◌, ℕ, ◌<◌, Some, is_some, List, length, take, slice_get, Option, Vec}
+use Rattle.std.specs.Prelude.{◌≡◌, ℕ, ◌<◌, Bool, ◌&&◌, Some, is_none, is_some, List, length, take, slice_get, Option, Vec}
 use Rattle.std.specs.Option.{option_map}
 use Rattle.std.specs.Global.{Global}
 use Rattle.mm_frame.specs.declared.base.Base.{Base}
@@ -8,14 +8,15 @@ use Rattle.mm_frame.specs.declared.draft.Parts.{Parts}
 use Rattle.mm_frame.specs.declared.draft.Row.{Row}
 use Rattle.mm_frame.specs.declared.draft.Frame.{Frame}
 use Rattle.mm_frame.specs.declared.symbol.NamedSymbol.{NamedSymbol}
-use Rattle.mm_frame.specs.Named.{AreSymbols}
-use Rattle.mm_frame.specs.Item.{Item, is_labelled}
+use Rattle.mm_frame.specs.Named.{AreSymbols, kept_pairs}
+use Rattle.mm_frame.specs.PairTable.{KnowsPairs}
+use Rattle.mm_frame.specs.Item.{Item, is_labelled, is_assertion}
 use Rattle.mm_frame.specs.Sound.{kept}
 use Rattle.mm_frame.specs.Tables.{item_at, active_numbers, is_essential_item}
 use Rattle.mm_frame.specs.Blocks.{marks_of}
 use Rattle.mm_frame.specs.Known.{Knows}
 use Rattle.mm_frame.specs.Scoping.{Holds}
-use Rattle.mm_frame.specs.Base.{BaseView, told_fault, told_numbers}
+use Rattle.mm_frame.specs.Base.{BaseView, told_fault, numbers_if, pairs_if}
 
 -- the row tells the label and the fault of an item behind the sound items before it
 pub record Tells (before : List Item) (item : Item) (row : Row) : Type 0 where
@@ -23,9 +24,14 @@ pub record Tells (before : List Item) (item : Item) (row : Row) : Type 0 where
   pub labelled : is_some row.label ≡ is_labelled item.kind
   pub fault : option_map (λ fault. (fault.word, fault.number)) row.fault ≡ told_fault before item
 
+-- where a frame is to be kept, one is, and has the numbers and pairs of that of an assertion
+pub record KeepsFrame (framed : Bool) (before : List Item) (item : Item) (kept_frame : Option Frame) : Type 0 where
+  pub hypotheses : option_map (λ frame. frame.hypotheses.items) kept_frame ≡ numbers_if framed before item
+  pub pairs : option_map (λ frame. kept_pairs frame.pairs.items) kept_frame ≡ pairs_if framed before item
+
 -- the frame, where one is kept, is that of an item behind the sound items before it
 abbrev pub TellsFrame : List Item → Item → Option Frame → Type 0
-TellsFrame before item kept_frame = option_map (λ frame. frame.hypotheses.items) kept_frame ≡ told_numbers before item
+TellsFrame before item kept_frame = KeepsFrame (is_none (told_fault before item) && is_assertion item.kind) before item kept_frame
 
 -- there is a row for each item, which tells of it
 pub record AreRows {X : Type 0} (tells : List Item → Item → X → Type 0) (said : List Item) (rows : List X) : Type 0 where
@@ -39,6 +45,7 @@ pub record IsDraft (said : List Item) (draft : Draft) : Type 0 where
   pub symbols : AreSymbols (kept said) draft.expressions.items
   pub frames : AreRows TellsFrame said draft.frames.items
   pub essentials : draft.essentials ≡ active_numbers is_essential_item (kept said)
+  pub pairs : KnowsPairs (kept said) draft.pairs
 
 -- what is kept of items that say this
 pub record AreParts (said : List Item) (parts : Parts) : Type 0 where

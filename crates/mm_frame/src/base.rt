@@ -1,13 +1,14 @@
 //! What the items of files mean, from a top file on.
 
-ghost use Rattle.std.specs.Prelude.{◌≡◌, ◌<◌, ◌↔◌, ◌&&◌, is_none, is_some, Some, None, List, length, IfOk, IfErr, IsErrOf, slice_get};
+ghost use Rattle.std.specs.Prelude.{◌≡◌, ◌<◌, ◌↔◌, ◌&&◌, is_none, is_some, Some, None, List, length, IfOk, IfErr, IfSome, IsErrOf, slice_get};
 ghost use Rattle.std.specs.Option.{option_map};
 ghost use Rattle.mm_store.specs.FilesView.{number_of};
 ghost use Rattle.mm_store.specs.Answers.{IsExpansionError};
 ghost use Rattle.mm_store.specs.declared.error.StoreError.TheVariants.{NoTop};
 ghost use Rattle.mm_frame.specs.Item.{is_labelled};
-ghost use Rattle.mm_frame.specs.Base.{BaseView, IsOfFiles, said_at, is_sound_at, fault_at, expression_at, hypotheses_at, find_in};
-ghost use Rattle.mm_frame.specs.Named.{symbols_of, expression_kept};
+ghost use Rattle.mm_frame.specs.Base.{BaseView, IsOfFiles, said_at, is_sound_at, fault_at, expression_at, hypotheses_at, frame_at, find_in};
+ghost use Rattle.mm_frame.specs.Language.{AreSamePairs};
+ghost use Rattle.mm_frame.specs.Named.{symbols_of, expression_kept, kept_pairs};
 
 use crate::draft::{Draft, Frame, Parts, Row};
 use crate::judge::FrameFault;
@@ -37,7 +38,7 @@ fn label_in(row: &Row) -> Option<&[u8]>
 
 /// The frame, if one is kept.
 fn frame_in(frame: &Option<Frame>) -> Option<&Frame>
-    ensures { option_map (λ frame. frame.now.hypotheses.items) result ≡ option_map (λ frame. frame.hypotheses.items) frame.now }
+    ensures { option_map (λ frame. frame.now) result ≡ frame.now }
 {
     match frame {
         Some(frame) => Some(frame),
@@ -152,7 +153,8 @@ impl Base {
 
     /// The frame of the item with this number, where it is a sound `$a` or `$p`.
     pub fn frame(&self, i: usize) -> Option<&Frame>
-        ensures { (base : BaseView) → IsBase base self.now → option_map (λ frame. frame.now.hypotheses.items) result ≡ hypotheses_at base i }
+        ensures hypotheses { (base : BaseView) → IsBase base self.now → option_map (λ frame. frame.now.hypotheses.items) result ≡ hypotheses_at base i }
+        ensures pairs { (base : BaseView) → IsBase base self.now → IfSome result (λ frame. AreSamePairs (kept_pairs frame.now.pairs.items) (frame_at base i).pairs) }
     {
         match self.kept_frame(i) {
             Some(frame) => frame_in(frame),

@@ -14,13 +14,16 @@ ghost use Rattle.mm_frame.specs.Scope.{closes, mark_of};
 ghost use Rattle.mm_frame.specs.Scoping.{taken};
 ghost use Rattle.mm_frame.specs.Blocks.{marks_of};
 ghost use Rattle.mm_frame.specs.Tables.{active_numbers, is_essential_item};
-ghost use Rattle.mm_frame.specs.Base.{fault_by, numbers_if};
+ghost use Rattle.mm_frame.specs.Base.{fault_by};
+ghost use Rattle.mm_frame.specs.Kept.{KeepsFrame};
+ghost use Rattle.mm_frame.specs.PairTable.{KnowsPairs};
 
 use crate::FrameNumber;
 use crate::active::ActiveNumbers;
 use crate::blocks::Blocks;
 use crate::judge::{FrameFault, fault_of};
-use crate::mandatory::hypotheses;
+use crate::mandatory::{hypotheses, mandatory_pairs};
+use crate::paired::PairTable;
 use crate::scope::Scope;
 use crate::statement::Statement;
 use crate::symbol::{NamedSymbol, expression_of, variables_of};
@@ -42,6 +45,8 @@ pub struct Row {
 pub struct Frame {
     /// The numbers of the mandatory hypotheses, rising.
     pub hypotheses: Vec<usize>,
+    /// The mandatory pairs, each once, in the order of the `$f` of their variables.
+    pub pairs: Vec<(NamedSymbol, NamedSymbol)>,
 }
 
 /// What is kept of the items so far.
@@ -55,6 +60,8 @@ pub struct Draft<'a> {
     frames: Vec<Option<Frame>>,
     /// The active `$e`.
     essentials: ActiveNumbers,
+    /// The pairs of the active `$d`.
+    pairs: PairTable,
 }
 
 /// What is kept of all items.
@@ -146,18 +153,21 @@ fn is_framed(kind: ItemKind, sound: bool) -> bool
 fn frame_of(
     alloc: Global,
     tables: &Tables,
+    pairs: &PairTable,
+    blocks: &Blocks,
     essentials: &[usize],
     expressions: &[Vec<NamedSymbol>],
     own: &[NamedSymbol],
     framed: bool,
 ) -> Result<Option<Frame>, AllocError>
-    ensures { IfOk result (λ frame. (before : List meant.Item) (item : meant.Item) → AreSound before → Knows before tables.now → (framed ≡ true → IsSound before item × (meant.is_assertion item.kind ≡ true) × (symbols_of own.now ≡ expression before item)) → essentials.now ≡ active_numbers is_essential_item before → AreExpressions before expressions.now → option_map (λ f. f.hypotheses.items) frame ≡ numbers_if framed before item) }
+    ensures { IfOk result (λ frame. (before : List meant.Item) (item : meant.Item) → AreSound before → Knows before tables.now → KnowsPairs before pairs.now → blocks.now ≡ marks_of before → (framed ≡ true → IsSound before item × (meant.is_assertion item.kind ≡ true) × (symbols_of own.now ≡ expression before item)) → essentials.now ≡ active_numbers is_essential_item before → AreExpressions before expressions.now → KeepsFrame framed before item frame) }
 {
     if !framed {
         return Ok(None);
     }
     let hypotheses = hypotheses(alloc, tables, essentials, expressions, own)?;
-    Ok(Some(Frame { hypotheses }))
+    let pairs = mandatory_pairs(alloc, pairs, blocks, essentials, expressions, &hypotheses)?;
+    Ok(Some(Frame { hypotheses, pairs }))
 }
 
 fn is_essential(kind: ItemKind) -> bool
@@ -195,6 +205,24 @@ fn follow(
     Ok(())
 }
 
+/// Goes on with the pairs behind one more item, of this kind and with these symbols where it is sound.
+fn follow_pairs(
+    alloc: Global,
+    pairs: &mut PairTable,
+    blocks: &Blocks,
+    kind: ItemKind,
+    symbols: &[NamedSymbol],
+    number: usize,
+    sound: bool,
+) -> Result<(), AllocError>
+    ensures { OnOk result ((before : List meant.Item) (item : meant.Item) → kind_of kind ≡ item.kind → number ≡ length before → blocks.now ≡ marks_of before → (sound ≡ true → is_read item.kind ≡ true → symbols_of symbols.now ≡ expression before item) → KnowsPairs before pairs.old → KnowsPairs (before ++ taken sound item ∷ []) pairs.new) }
+{
+    if sound && is_disjoint(kind) {
+        pairs.take(alloc, blocks, symbols, number)?;
+    }
+    Ok(())
+}
+
 impl<'a> Draft<'a> {
     ghost use Rattle.mm_frame.specs.Kept.{IsDraft, AreParts};
 
@@ -208,6 +236,7 @@ impl<'a> Draft<'a> {
             expressions: Vec::new(alloc),
             frames: Vec::new(alloc),
             essentials: ActiveNumbers::new(alloc),
+            pairs: PairTable::new(alloc),
         }
     }
 
@@ -218,11 +247,13 @@ impl<'a> Draft<'a> {
         own: &[NamedSymbol],
         framed: bool,
     ) -> Result<Option<Frame>, AllocError>
-        ensures { IfOk result (λ frame. (said : List meant.Item) (item : meant.Item) → IsDraft said self.now → (framed ≡ true → IsSound (kept said) item × (meant.is_assertion item.kind ≡ true) × (symbols_of own.now ≡ expression (kept said) item)) → option_map (λ f. f.hypotheses.items) frame ≡ numbers_if framed (kept said) item) }
+        ensures { IfOk result (λ frame. (said : List meant.Item) (item : meant.Item) → IsDraft said self.now → (framed ≡ true → IsSound (kept said) item × (meant.is_assertion item.kind ≡ true) × (symbols_of own.now ≡ expression (kept said) item)) → KeepsFrame framed (kept said) item frame) }
     {
         Ok(frame_of(
             alloc,
             self.scope.tables(),
+            &self.pairs,
+            self.scope.blocks(),
             self.essentials.as_slice(),
             &self.expressions,
             own,
@@ -240,8 +271,17 @@ impl<'a> Draft<'a> {
         let framed = is_framed(statement.kind(), sound);
         let frame = self.frame(alloc, &symbols, framed)?;
         self.frames.push(frame)?;
-        self.expressions.push(symbols)?;
         let number = self.rows.len();
+        follow_pairs(
+            alloc,
+            &mut self.pairs,
+            self.scope.blocks(),
+            statement.kind(),
+            &symbols,
+            number,
+            sound,
+        )?;
+        self.expressions.push(symbols)?;
         let row = row_of(alloc, statement, fault)?;
         self.rows.push(row)?;
         self.scope.next(alloc, statement, sound)?;

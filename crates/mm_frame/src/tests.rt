@@ -552,6 +552,59 @@ fn builds_a_base(rt: HostRuntime) -> Result<(), Fail> {
     Ok(())
 }
 
+/// Five sound items: three variables, which are typed in the order z, x, y.
+const TYPED: &[u8] =
+    b"$c wff |- $.\n$v x y z $.\nwz $f wff z $.\nwx $f wff x $.\nwy $f wff y $.\n";
+
+/// The pairs of the frame of an item of a text behind `TYPED`, written one behind another; `none` where it has no
+/// frame.
+fn pairs_written(alloc: Global, text: &[u8], i: usize) -> Result<Vec<u8>, StoreError> {
+    let mut whole = Vec::from_slice(alloc, TYPED)?;
+    whole.extend_from_slice(text)?;
+    let base = base_of(alloc, &whole)?;
+    let mut written = Vec::new(alloc);
+    match base.frame(i) {
+        Some(frame) => {
+            for pair in &frame.pairs {
+                written.extend_from_slice(&pair.0.name)?;
+                written.extend_from_slice(&pair.1.name)?;
+                written.push(b' ')?;
+            }
+        }
+        None => written.extend_from_slice(b"none")?,
+    }
+    Ok(written)
+}
+
+#[test]
+fn keeps_the_pairs_of_frames(rt: HostRuntime) -> Result<(), Fail> {
+    let rows: [(&[u8], usize, &[u8]); 13] = [
+        (b"$d x y $.", 5, b"none"),
+        (b"ax $a |- x y $.", 5, b""),
+        (b"$d x y z $. ax $a |- x y z $.", 6, b"zx zy xy "),
+        // y is not mandatory
+        (b"$d x y z $. ax $a |- x z $.", 6, b"zx "),
+        // y is, for it stands in a `$e`
+        (b"$d y z $. ex $e |- y $. ax $a |- z $.", 7, b"zy "),
+        // x and z are no pair, though each is one with y
+        (b"$d x y $. $d y z $. ax $a |- x y z $.", 7, b"zy xy "),
+        (b"$d y x $. ax $a |- x y $.", 6, b"xy "),
+        (b"$d y x $. $d x y $. ax $a |- x y $.", 7, b"xy "),
+        // the block of the `$d` has ended
+        (b"${ $d x y $. $} ax $a |- x y $.", 8, b""),
+        (b"${ $d x y $. ax $a |- x y $. $}", 7, b"xy "),
+        (b"${ $d x y $. $} $d x y $. ax $a |- x y $.", 9, b"xy "),
+        // only that of the inner one has
+        (b"$d x y $. ${ $d x y $. $} ax $a |- x y $.", 9, b"xy "),
+        (b"$d x y $. ${ $d y x z $. $} ax $a |- x y z $.", 9, b"xy "),
+    ];
+    for (text, item, wanted) in rows {
+        let found = pairs_written(rt.alloc(), text, item)?;
+        assert_eq!(rt; &found[..], wanted, "of {text:?}");
+    }
+    Ok(())
+}
+
 #[test]
 fn builds_no_base_without_a_top_file(rt: HostRuntime) {
     let files = Files::new(rt.alloc());
