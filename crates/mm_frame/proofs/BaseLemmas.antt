@@ -6,17 +6,23 @@ use Rattle.std.proofs.lemmas.Bool.{false≢true, and_parts}
 use Rattle.std.proofs.lemmas.List.{length_push, take-append-le, length-take-le}
 use Rattle.std.proofs.lemmas.Option.{slice_get_within, slice_get_cases, none-some}
 use Rattle.std.specs.Global.{Global}
+use Rattle.std.specs.Borrow.{Bor}
+use Rattle.std.specs.Prelude.{IfSome}
 use Rattle.mm_frame.specs.declared.FrameNumber.{FrameNumber}
 use Rattle.mm_frame.specs.declared.symbol.NamedSymbol.{NamedSymbol}
 use Rattle.mm_frame.specs.Item.{Kind, Essential, Axiom, Theorem, Missing, Item, passed, is_labelled, is_disjoint, is_assertion, is_essential, is_theorem}
 use Rattle.mm_frame.specs.Sound.{IsSound, AreSound, fault, judged, kept, kept_after}
-use Rattle.mm_frame.specs.Framing.{symbol, expression}
+use Rattle.mm_frame.specs.Framing.{symbol, expression, frame}
 use Rattle.mm_frame.specs.Scope.{Mark, Closes, Neither, mark_of, closes, active_variables}
-use Rattle.mm_frame.specs.Named.{symbols_of, expression_kept, kept_or_none, is_read, variable_of, AreSymbols, AreExpressions}
+use Rattle.mm_frame.specs.Named.{symbols_of, kept_pairs, expression_kept, kept_or_none, is_read, variable_of, AreSymbols, AreExpressions}
 use Rattle.mm_frame.specs.Tables.{item_at, active_numbers, IsSort}
 use Rattle.mm_frame.specs.Scoping.{taken}
-use Rattle.mm_frame.specs.Base.{BaseView, before, said_at, fault_by, told_fault, is_sound_at, expression_at, told_numbers, numbers_if}
-use Rattle.mm_frame.specs.Kept.{AreRows, is_told_proof}
+use Rattle.mm_frame.specs.Base.{BaseView, before, said_at, fault_by, told_fault, is_sound_at, expression_at, told_numbers, numbers_if, pairs_if, frame_at}
+use Rattle.mm_frame.specs.Kept.{AreRows, TellsFrame, is_told_proof}
+use Rattle.mm_frame.specs.Language.{Symbol, AreSamePairs}
+use Rattle.mm_frame.specs.Paired.{pairs_in_order}
+use Rattle.mm_frame.specs.declared.draft.Frame.{Frame}
+use Rattle.mm_frame.proofs.FramePairs.{same_pairs}
 use Rattle.mm_frame.proofs.Judged.{no_fault_sound, sound_found, passed_sound, kept_is_sound, kept_next, kept_after_append}
 use Rattle.mm_frame.proofs.Outermost.{kept_sound, split_at, map_same}
 use Rattle.mm_frame.proofs.Members.{in_has}
@@ -216,8 +222,8 @@ told_same Missing None = refl
 told_same Missing (Some x) = refl
 told_same _ f = refl
 
-pub framed_told : (before : List Item) (item : Item) (flag framed : Bool) (kind : Kind) → kind ≡ item.kind → framed ≡ (flag && is_assertion kind) → is_none (fault before item) ≡ flag → numbers_if framed before item ≡ told_numbers before item
-framed_told before item flag framed kind k e n = ap (λ b. numbers_if b before item) (e ∙ (λ i. sym n i && is_assertion (k i)) ∙ told_same item.kind (fault before item))
+pub framed_told : (before : List Item) (item : Item) (flag framed : Bool) (kind : Kind) → kind ≡ item.kind → framed ≡ (flag && is_assertion kind) → is_none (fault before item) ≡ flag → framed ≡ (is_none (told_fault before item) && is_assertion item.kind)
+framed_told before item flag framed kind k e n = e ∙ (λ i. sym n i && is_assertion (k i)) ∙ told_same item.kind (fault before item)
 
 pub frame_beyond : (before said : List Item) (n : ℕ) → length said ≤ n → told_numbers before (item_at said n) ≡ None
 frame_beyond before said n l = ap (told_numbers before) (item_beyond said n l) ∙ none (is_none (told_fault before passed))
@@ -263,3 +269,21 @@ assertion_read _ e = absurd (false≢true e)
 
 pub framed_parts : (flag : Bool) (kind item_kind : Kind) → kind ≡ item_kind → (flag && is_assertion kind) ≡ true → (flag ≡ true) × (is_assertion item_kind ≡ true) × (is_read item_kind ≡ true)
 framed_parts flag kind item_kind k e = let p = and_parts flag (is_assertion kind) e in let a = sym (ap is_assertion k) ∙ p.1 in (p.0, a, assertion_read item_kind a)
+
+-- what a frame that is kept tells, read behind a reference
+pub frame_numbers : (lent : Option (Bor Frame)) (kept_frame : Option Frame) → option_map (λ frame. frame.now) lent ≡ kept_frame → option_map (λ frame. frame.now.hypotheses.items) lent ≡ option_map (λ frame. frame.hypotheses.items) kept_frame
+frame_numbers None kept_frame e = ap (option_map (λ (frame : Frame). frame.hypotheses.items)) e
+frame_numbers (Some frame) kept_frame e = ap (option_map (λ (frame : Frame). frame.hypotheses.items)) e
+
+pairs_told : (framed : Bool) (before : List Item) (item : Item) (pairs : List (Symbol × Symbol)) → Some pairs ≡ pairs_if framed before item → (framed ≡ true) × (pairs ≡ pairs_in_order (frame before item))
+pairs_told true before item pairs e = (refl, cc)
+pairs_told false before item pairs e = cc
+
+pub frame_pairs : (base : BaseView) (i : ℕ) (lent : Option (Bor Frame)) (kept_frame : Option Frame) → option_map (λ frame. frame.now) lent ≡ kept_frame → TellsFrame (before base i) (said_at base i) kept_frame → IfSome lent (λ frame. AreSamePairs (kept_pairs frame.now.pairs.items) (frame_at base i).pairs)
+frame_pairs base i None kept_frame e t = tt
+frame_pairs base i (Some frame) kept_frame e t =
+    let item = said_at base i in
+    let p = pairs_told (is_none (told_fault (before base i) item) && is_assertion item.kind) (before base i) item (kept_pairs frame.now.pairs.items) (ap (option_map (λ (f : Frame). kept_pairs f.pairs.items)) e ∙ t.pairs) in
+    let parts = and_parts (is_none (told_fault (before base i) item)) (is_assertion item.kind) p.0 in
+    let sound = no_fault_sound (before base i) item (none_told item.kind (fault (before base i) item) parts.0) in
+    subst (λ w. AreSamePairs w (frame_at base i).pairs) (sym p.1) (same_pairs (before base i) item (kept_are_sound (take i base.said)) sound parts.1)

@@ -15,7 +15,7 @@ use Rattle.mm_frame.proofs.Facts.{and_both, AreKept, sound_at, kept_front, not_c
 use Rattle.mm_frame.proofs.Judged.{kept_is_sound}
 
 -- kinds
-float_labelled : (k : Kind) → is_floating k ≡ true → is_labelled k ≡ true
+pub float_labelled : (k : Kind) → is_floating k ≡ true → is_labelled k ≡ true
 float_labelled Floating e = refl
 float_labelled _ e = absurd (false≢true e)
 
@@ -117,7 +117,7 @@ pub record Float (before : List Item) (f : Item) : Type 0 where
   pub constant : has (active_variables before) typecode ≡ false
   pub variable : has (active_variables before) name ≡ true
 
-float_of : (before : List Item) (f : Item) → AreKept [] before → In f (active before) → is_floating f.kind ≡ true → Float before f
+pub float_of : (before : List Item) (f : Item) → AreKept [] before → In f (active before) → is_floating f.kind ≡ true → Float before f
 float_of before f k h t =
     let s = active_split before f h in
     let kept_all = subst (λ w. AreKept [] w) s.whole k in
@@ -134,7 +134,7 @@ float_of before f k h t =
       variable = in_has (active_variables before) two.1 (subst (λ w. In two.1 (active_variables w)) (sym s.whole) (variables_later s.front f s.back two.1 m s.stayed v));
     }
 
-float_name : (before : List Item) (f : Item) (x : Float before f) → variable_of f ≡ x.name
+pub float_name : (before : List Item) (f : Item) (x : Float before f) → variable_of f ≡ x.name
 float_name before f x = ap (λ w. slice_index_or w 1 []) x.both
 
 -- a mandatory variable has a mandatory `$f`
@@ -251,7 +251,7 @@ typed_once before item k =
     r fx fy (float_name before x u ∙ ap (λ (w : Symbol). w.name) n ∙ sym (float_name before y v)))
     (AllPairs-filter TypeOthers (is_mandatory (mandatory_variables before item)) (active before) (active_typed_once [] before k))
 
-from_pairs : (pair : Symbol × Symbol) (xs : List Symbol) → In pair (pairs_of xs) → In pair.0 xs × In pair.1 xs
+pub from_pairs : (pair : Symbol × Symbol) (xs : List Symbol) → In pair (pairs_of xs) → In pair.0 xs × In pair.1 xs
 from_pairs pair [] h = absurd h
 from_pairs pair (x ∷ xs) h = elim (in_cases pair (map (λ y. (x, y)) xs) (pairs_of xs) h) [
   | inl a ↦ (let r = from_map (λ (y : Symbol). (x, y)) pair xs a in
@@ -270,7 +270,7 @@ side_typed before item d k t x s h m =
     let v = in_has (active_variables before) r.0 (mandatory_typed before item r.0 k t x n).0 in
     (ap (λ (w : Symbol). w.variable) (sym r.2) ∙ v, subst (IsTyped (mandatory_hypotheses before item)) r.2 (named_typed before item r.0 k t x n))
 
-pairs_typed_at : (before : List Item) (item : Item) → AreKept [] before → IsSound before item → is_expression item.kind ≡ true → (pair : Symbol × Symbol) → In pair (filter (is_mandatory_pair (mandatory_variables before item)) (active_pairs before)) → (pair.0.variable ≡ true) × (pair.1.variable ≡ true) × IsTyped (mandatory_hypotheses before item) pair.0 × IsTyped (mandatory_hypotheses before item) pair.1
+pub pairs_typed_at : (before : List Item) (item : Item) → AreKept [] before → IsSound before item → is_expression item.kind ≡ true → (pair : Symbol × Symbol) → In pair (filter (is_mandatory_pair (mandatory_variables before item)) (active_pairs before)) → (pair.0.variable ≡ true) × (pair.1.variable ≡ true) × IsTyped (mandatory_hypotheses before item) pair.0 × IsTyped (mandatory_hypotheses before item) pair.1
 pairs_typed_at before item k s t pair h =
     let f = from_filter (is_mandatory_pair (mandatory_variables before item)) pair (active_pairs before) h in
     let r = from_flat (λ (d : Item). cond (is_disjoint d.kind) (pairs_of (expression before d)) []) pair (active before) f.0 in

@@ -19,6 +19,8 @@ pub mod FaultLemmas
 pub mod ScopingLemmas
 pub mod EndLemmas
 pub mod MandatoryLemmas
+pub mod PairTableLemmas
+pub mod FramePairs
 pub mod NamedLemmas
 pub mod BaseLemmas
 pub mod PairListLemmas

@@ -1,5 +1,5 @@
 -- The numbers of the mandatory hypotheses, as the code collects them.
-use Rattle.std.proofs.Common.{◌≡◌, ℕ, suc, ◌<◌, ◌≤◌, Bool, true, false, cond, Option, Some, None, List, [], ◌∷◌, ◌++◌, length, filter, flat_map, take, drop, slice_get, get_or, refl, sym, ◌∙◌, ap, subst, eqb, arith, inl, inr, ◌⊎◌, Vec, Result, Ok, Err}
+use Rattle.std.proofs.Common.{◌≡◌, ℕ, suc, ◌<◌, ◌≤◌, Bool, true, false, cond, Option, Some, None, List, [], ◌∷◌, ◌++◌, length, flat_map, take, drop, slice_get, get_or, refl, sym, ◌∙◌, ap, subst, eqb, arith, inl, inr, ◌⊎◌, Vec, Result, Ok, Err}
 use Rattle.std.specs.Prelude.{option_to_list, is_ok}
 use Rattle.std.specs.Global.{Global}
 use Rattle.std.specs.List.{dedup}
@@ -7,29 +7,29 @@ use Rattle.std.specs.List.Sorted.{IsPermutation, IsSorted, IsBinarySearchResult}
 use native.Mathlib.Decide.{dec_lt}
 use Rattle.std.specs.List.Retain.{IsFiltered, DiffersFromLast}
 use Rattle.std.specs.Ordering.{nat_cmp}
-use Rattle.std.proofs.lemmas.Bool.{false≢true, false_from_ne_true}
+use Rattle.std.proofs.lemmas.Bool.{false≢true}
 use Rattle.std.proofs.lemmas.Option.{get_or_from_slice_get, slice_get_within}
 use Rattle.std.proofs.lemmas.List.Sorted.{searched, IsPermutation-sym, Contains-permutation}
 use Rattle.std.proofs.lemmas.List.Filters.{dedup_is}
 use Rattle.std.proofs.lemmas.List.Kept.{Contains-dedup_nat, Contains-from_dedup, AllPairs-from_increasing}
 use Rattle.std.proofs.lemmas.Map.Keys.{IsStrictlyIncreasing-dedup}
 use Rattle.mm_frame.specs.Language.{Symbol}
-use Rattle.mm_frame.specs.Item.{Kind, Floating, Item, variable_of, is_floating, is_essential, has}
+use Rattle.mm_frame.specs.Item.{Kind, Floating, Item, is_floating, is_essential, has}
 use Rattle.mm_frame.specs.Scope.{active, symbols_by, active_variables}
 use Rattle.mm_frame.specs.Sound.{AreSound}
-use Rattle.mm_frame.specs.Framing.{symbol, expression, mandatory_variables, is_mandatory, is_mandatory_pair}
+use Rattle.mm_frame.specs.Framing.{symbol, expression, mandatory_variables}
 use Rattle.mm_frame.specs.Tables.{last_where, types, is_active_at, active_numbers, is_essential_item, mandatory_numbers, IsHypothesisNumber, IsRising}
 use Rattle.mm_frame.specs.declared.symbol.NamedSymbol.{NamedSymbol}
 use Rattle.mm_frame.specs.declared.tables.Tables.{Tables}
 use Rattle.mm_frame.specs.Known.{Knows, table_name, float_of}
-use Rattle.mm_frame.specs.Named.{symbol_of, symbols_of, expression_kept, AreExpressions, float_number, float_numbers, kept_pairs, IsAssertionBehind}
-use Rattle.mm_frame.proofs.Members.{In, in_contains, contains_in, in_left, in_right, in_cases, in_map, from_map, in_get, in_filter, from_filter, in_flat, from_flat, has_in, in_has, from_symbols, to_symbols}
+use Rattle.mm_frame.specs.Named.{symbol_of, symbols_of, expression_kept, AreExpressions, float_number, float_numbers, IsAssertionBehind}
+use Rattle.mm_frame.proofs.Members.{In, in_contains, contains_in, in_left, in_right, in_cases, in_map, from_map, in_get, in_filter, from_filter, in_flat, from_flat, from_symbols, to_symbols}
 use Rattle.mm_frame.proofs.Scopes.{active_split, split_active}
 use Rattle.mm_frame.proofs.Frames.{assertion_expression, essential_expression, expression_labelled, in_at}
 use Rattle.mm_frame.proofs.Outermost.{split_at}
-use Rattle.mm_frame.proofs.TableLemmas.{active_between, typed_by}
+use Rattle.mm_frame.proofs.TableLemmas.{active_between}
 use Rattle.mm_frame.proofs.KnownLemmas.{float_in}
-use Rattle.mm_frame.proofs.HypothesisNumbers.{to_active_number, from_active_number, AreTyped, sound_typed, mandatory_numbers_built, mandatory_floats, mandatory_last, last_there, active_numbers_rise}
+use Rattle.mm_frame.proofs.HypothesisNumbers.{to_active_number, from_active_number, AreTyped, sound_typed, mandatory_numbers_built}
 use Rattle.mm_frame.proofs.PairLemmas.{expression_at_number}
 
 -- the number of the `$f` of a variable
@@ -75,19 +75,19 @@ essential_mandatory before item e s a k m t =
     in_filter (has (active_variables before)) s.name (item.symbols ++ symbols_by is_essential (active before)) (in_right s.name item.symbols (symbols_by is_essential (active before)) (to_symbols is_essential s.name (active before) e a k r.0)) (r.1 ∙ t)
 
 -- an active item and its number
-active_at_number : (before : List Item) (n : ℕ) (item : Item) → slice_get before n ≡ Some item → is_active_at before n ≡ true → In item (active before)
+pub active_at_number : (before : List Item) (n : ℕ) (item : Item) → slice_get before n ≡ Some item → is_active_at before n ≡ true → In item (active before)
 active_at_number before n item e s = subst (λ w. In item (active w)) (sym (split_at before n item e)) (split_active (take n before) item (drop (suc n) before) s)
 
-record ActiveNumber (before : List Item) (item : Item) : Type 0 where
-  number : ℕ
-  there : slice_get before number ≡ Some item
-  stayed : is_active_at before number ≡ true
+pub record ActiveNumber (before : List Item) (item : Item) : Type 0 where
+  pub number : ℕ
+  pub there : slice_get before number ≡ Some item
+  pub stayed : is_active_at before number ≡ true
 
 get_between : (front : List Item) (item : Item) (back : List Item) → slice_get (front ++ item ∷ back) (length front) ≡ Some item
 get_between [] item back = refl
 get_between (x ∷ front) item back = get_between front item back
 
-number_of_active : (before : List Item) (item : Item) → In item (active before) → ActiveNumber before item
+pub number_of_active : (before : List Item) (item : Item) → In item (active before) → ActiveNumber before item
 number_of_active before item a =
     let s = active_split before item a in
     record {
@@ -162,39 +162,12 @@ hypotheses_sorted tables expressions essentials own numbers sorted kept whole mo
     ))
 
 -- a `$f` is no `$e`
-not_both : (k : Kind) → is_floating k ≡ true → is_essential k ≡ true → ⊥
+pub not_both : (k : Kind) → is_floating k ≡ true → is_essential k ≡ true → ⊥
 not_both Floating f e = false≢true e
 not_both _ f e = false≢true f
 
-same_item : (x y : Item) → Some x ≡ Some y → x ≡ y
+pub same_item : (x y : Item) → Some x ≡ Some y → x ≡ y
 same_item x y e = cc
-
--- the last `$f` of a name is a mandatory hypothesis where the name is a mandatory variable
-number_name : (before : List Item) (item : Item) (tables : Tables) (name : List ℕ) (n : ℕ) → IsAssertionBehind before item tables → last_where (types name) before ≡ Some n → In n (mandatory_numbers before item) → In name (mandatory_variables before item)
-number_name before item tables name n b e m = by_cases ((mandatory_floats before b.sound item (assertion_typed before item tables b) n).0 (in_contains n (mandatory_numbers before item) m))
-  where
-    by_cases : IsHypothesisNumber before item n → In name (mandatory_variables before item)
-    by_cases (inl c) =
-        let r = from_active_number is_essential_item before n (contains_in n (active_numbers is_essential_item before) c) in
-        let f = last_there (types name) before n e in
-        let same = same_item f.0 r.0 (sym f.1 ∙ r.1) in
-        absurd (not_both (f.0).kind (typed_by name f.0 f.2).0 (ap (λ (x : Item). is_essential x.kind) same ∙ r.3))
-    by_cases (inr p) =
-        let f = last_there (types name) before n e in
-        let g = last_there (types p.0) before n p.2 in
-        let same = same_item g.0 f.0 (sym g.1 ∙ f.1) in
-        let names : p.0 ≡ name = sym (typed_by p.0 g.0 g.2).1 ∙ ap variable_of same ∙ (typed_by name f.0 f.2).1 in
-        subst (λ w. In w (mandatory_variables before item)) names (contains_in p.0 (mandatory_variables before item) p.1)
-
-name_number : (before : List Item) (item : Item) (tables : Tables) (name : List ℕ) (n : ℕ) → IsAssertionBehind before item tables → last_where (types name) before ≡ Some n → In name (mandatory_variables before item) → In n (mandatory_numbers before item)
-name_number before item tables name n b e m = contains_in n (mandatory_numbers before item) ((mandatory_floats before b.sound item (assertion_typed before item tables b) n).1 (inr (name, in_contains name (mandatory_variables before item) m, e)))
-
--- a name without a `$f` is no mandatory variable
-pub no_float : (before : List Item) (item : Item) (tables : Tables) (name : List ℕ) → IsAssertionBehind before item tables → float_of (table_name tables name) ≡ None → has (mandatory_variables before item) name ≡ false
-no_float before item tables name b e = false_from_ne_true (has (mandatory_variables before item) name) (λ t.
-    let r = mandatory_last before b.sound item (assertion_typed before item tables b) name (has_in (mandatory_variables before item) name t) in
-    let q : None ≡ Some r.0 = sym e ∙ float_last before tables name b.sound b.known ∙ r.1 in
-    cc)
 
 -- a number that is searched for among rising ones is found where it is
 not_falling : (xs : List ℕ) → IsRising xs → (i j : ℕ) → i ≤ j → j < length xs → get_or xs i 0 ≤ get_or xs j 0
@@ -203,7 +176,7 @@ not_falling xs h i j l m = elim (dec_lt i j) [
   | no n ↦ (let e : i ≡ j = omega arith in let g : get_or xs i 0 ≡ get_or xs j 0 = ap (λ k. get_or xs k 0) e in omega arith)
 ]
 
-found_or_not : (xs : List ℕ) (x : ℕ) (r : Result ℕ ℕ) → IsBinarySearchResult (λ y. nat_cmp y x) xs r → IsRising xs → ((is_ok r ≡ true) × In x xs) ⊎ ((is_ok r ≡ false) × (In x xs → ⊥))
+pub found_or_not : (xs : List ℕ) (x : ℕ) (r : Result ℕ ℕ) → IsBinarySearchResult (λ y. nat_cmp y x) xs r → IsRising xs → ((is_ok r ≡ true) × In x xs) ⊎ ((is_ok r ≡ false) × (In x xs → ⊥))
 found_or_not xs x (Ok place) s h =
     let m = searched xs x (Ok place) s (not_falling xs h) in
     inl (refl, subst (λ w. In w xs) m.1 (in_at xs place 0 m.0))
@@ -220,16 +193,3 @@ found_or_not xs x (Err place) s h =
             | no n ↦ (let b = m.2 g.0 (omega arith) w in omega arith)
           ],
     )
-
-pub searched_is : (before : List Item) (item : Item) (tables : Tables) (name : List ℕ) (hypotheses : List ℕ) (n : ℕ) (r : Result ℕ ℕ) → IsAssertionBehind before item tables → hypotheses ≡ mandatory_numbers before item → float_of (table_name tables name) ≡ Some n → IsBinarySearchResult (λ y. nat_cmp y n) hypotheses r → is_ok r ≡ has (mandatory_variables before item) name
-searched_is before item tables name hypotheses n r b e f s = elim (found_or_not hypotheses n r s (subst IsRising (sym e) (active_numbers_rise (is_mandatory (mandatory_variables before item)) before))) [
-  | inl p ↦ p.0 ∙ sym (in_has (mandatory_variables before item) name (number_name before item tables name n b last (subst (In n) e p.1)))
-  | inr p ↦ p.0 ∙ sym (false_from_ne_true (has (mandatory_variables before item) name) (λ t. p.1 (subst (In n) (sym e) (name_number before item tables name n b last (has_in (mandatory_variables before item) name t)))))
-]
-  where
-    last : last_where (types name) before ≡ Some n
-    last = sym (float_last before tables name b.sound b.known) ∙ f
-
--- the pairs so far
-abbrev pub ArePairs : Tables → List ℕ → List (NamedSymbol × NamedSymbol) → List (NamedSymbol × NamedSymbol) → Type 0
-ArePairs tables hypotheses pairs kept = (before : List Item) (item : Item) → IsAssertionBehind before item tables → hypotheses ≡ mandatory_numbers before item → kept_pairs kept ≡ filter (is_mandatory_pair (mandatory_variables before item)) (kept_pairs pairs)

@@ -104,7 +104,7 @@ disjoint_only : (items xs : List Item) → flat_map (item_pairs items) xs ≡ fl
 disjoint_only items [] = refl
 disjoint_only items (x ∷ xs) = disjoint_only_at items x (filter is_disjoint_item xs) (is_disjoint x.kind) (flat_map (item_pairs items) xs) (disjoint_only items xs)
 
-flat_of_map : {X Y Z : Type 0} (f : Y → List Z) (g : X → Y) (xs : List X) → flat_map f (map g xs) ≡ flat_map (λ x. f (g x)) xs
+pub flat_of_map : {X Y Z : Type 0} (f : Y → List Z) (g : X → Y) (xs : List X) → flat_map f (map g xs) ≡ flat_map (λ x. f (g x)) xs
 flat_of_map f g [] = refl
 flat_of_map f g (x ∷ xs) = ap (λ w. f (g x) ++ w) (flat_of_map f g xs)
 

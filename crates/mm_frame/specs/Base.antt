@@ -12,6 +12,7 @@ use Rattle.mm_frame.specs.Sound.{fault, kept}
 use Rattle.mm_frame.specs.Statement.{Says}
 use Rattle.mm_frame.specs.Framing.{expression, hypothesis, frame}
 use Rattle.mm_frame.specs.Tables.{item_at, last_where, carries, mandatory_numbers}
+use Rattle.mm_frame.specs.Paired.{pairs_in_order}
 
 -- what a base stands for: the items of the files, and what each says
 pub record BaseView : Type 0 where
@@ -59,6 +60,14 @@ numbers_if framed before item = if framed then Some (mandatory_numbers before it
 -- of a sound `$a` or `$p` behind the sound items before it, and no other item
 abbrev pub told_numbers : List Item → Item → Option (List ℕ)
 told_numbers before item = numbers_if (is_none (told_fault before item) && is_assertion item.kind) before item
+
+-- the pairs of the frame of an assertion, in order
+abbrev pub pairs_if : Bool → List Item → Item → Option (List (Symbol × Symbol))
+pairs_if framed before item = if framed then Some (pairs_in_order (frame before item)) else None
+
+-- of a sound `$a` or `$p` behind the sound items before it, and no other item
+abbrev pub told_pairs : List Item → Item → Option (List (Symbol × Symbol))
+told_pairs before item = pairs_if (is_none (told_fault before item) && is_assertion item.kind) before item
 
 -- the numbers of the mandatory hypotheses of the item with this number, where it is a sound `$a` or `$p`
 abbrev pub hypotheses_at : BaseView → ℕ → Option (List ℕ)

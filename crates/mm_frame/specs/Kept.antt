@@ -9,8 +9,9 @@ use Rattle.mm_frame.specs.declared.draft.Parts.{Parts}
 use Rattle.mm_frame.specs.declared.draft.Row.{Row}
 use Rattle.mm_frame.specs.declared.draft.Frame.{Frame}
 use Rattle.mm_frame.specs.declared.symbol.NamedSymbol.{NamedSymbol}
-use Rattle.mm_frame.specs.Named.{AreSymbols}
-use Rattle.mm_frame.specs.Item.{Item, is_labelled, is_theorem}
+use Rattle.mm_frame.specs.Named.{AreSymbols, kept_pairs}
+use Rattle.mm_frame.specs.PairTable.{KnowsPairs}
+use Rattle.mm_frame.specs.Item.{Item, is_labelled, is_assertion, is_theorem}
 use Rattle.mm_frame.specs.Statement.{kind_of}
 use Rattle.mm_frame.specs.Sound.{kept}
 use Rattle.mm_frame.specs.declared.pair_lists.PairLists.{PairLists}
@@ -20,7 +21,7 @@ use Rattle.mm_frame.specs.Tables.{item_at, active_numbers, is_essential_item, is
 use Rattle.mm_frame.specs.Blocks.{marks_of}
 use Rattle.mm_frame.specs.Known.{Knows}
 use Rattle.mm_frame.specs.Scoping.{Holds}
-use Rattle.mm_frame.specs.Base.{BaseView, told_fault, told_numbers}
+use Rattle.mm_frame.specs.Base.{BaseView, told_fault, numbers_if, pairs_if}
 
 -- the row tells the label and the fault of an item behind the sound items before it
 pub record Tells (before : List Item) (item : Item) (row : Row) : Type 0 where
@@ -28,9 +29,14 @@ pub record Tells (before : List Item) (item : Item) (row : Row) : Type 0 where
   pub labelled : is_some row.label ≡ is_labelled item.kind
   pub fault : option_map (λ fault. (fault.word, fault.number)) row.fault ≡ told_fault before item
 
+-- where a frame is to be kept, one is, and has the numbers and pairs of that of an assertion
+pub record KeepsFrame (framed : Bool) (before : List Item) (item : Item) (kept_frame : Option Frame) : Type 0 where
+  pub hypotheses : option_map (λ frame. frame.hypotheses.items) kept_frame ≡ numbers_if framed before item
+  pub pairs : option_map (λ frame. kept_pairs frame.pairs.items) kept_frame ≡ pairs_if framed before item
+
 -- the frame, where one is kept, is that of an item behind the sound items before it
 abbrev pub TellsFrame : List Item → Item → Option Frame → Type 0
-TellsFrame before item kept_frame = option_map (λ frame. frame.hypotheses.items) kept_frame ≡ told_numbers before item
+TellsFrame before item kept_frame = KeepsFrame (is_none (told_fault before item) && is_assertion item.kind) before item kept_frame
 
 -- the item is a sound `$p` behind the sound items before it
 abbrev pub is_told_proof : List Item → Item → Bool
@@ -55,7 +61,8 @@ pub record IsDraft (said : List Item) (draft : Draft) : Type 0 where
   pub essentials : draft.essentials ≡ active_numbers is_essential_item (kept said)
   pub disjoints : draft.disjoints ≡ active_numbers is_disjoint_item (kept said)
   pub made : AreMade (kept said) draft.pair_lists
-  pub pairs : AreRows (TellsPairs draft.pair_lists) said draft.pairs.items
+  pub pair_numbers : AreRows (TellsPairs draft.pair_lists) said draft.pair_numbers.items
+  pub pair_table : KnowsPairs (kept said) draft.pair_table
 
 -- what is kept of items that say this
 pub record AreParts (said : List Item) (parts : Parts) : Type 0 where
@@ -64,7 +71,7 @@ pub record AreParts (said : List Item) (parts : Parts) : Type 0 where
   pub frames : AreRows TellsFrame said parts.frames.items
   pub knows : Knows (kept said) parts.tables
   pub marks : parts.blocks ≡ marks_of (kept said)
-  pub pairs : AreRows (TellsPairs parts.pair_lists) said parts.pairs.items
+  pub pair_numbers : AreRows (TellsPairs parts.pair_lists) said parts.pair_numbers.items
 
 -- the code keeps what this base answers
 pub record IsBase (base : BaseView) (code : Base) : Type 0 where

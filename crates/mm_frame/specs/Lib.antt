@@ -36,3 +36,4 @@ pub mod PairLists
 pub mod Kept
 pub mod Resolving
 pub mod Paired
+pub mod PairTable

@@ -2,6 +2,7 @@
 use Rattle.std.specs.Prelude.{◌≡◌, ℕ, ◌||◌, Bool, true, not, length, if◌then◌else◌, Option, Some, None, List, [], map, take, slice_get, option_to_list, Vec}
 use Rattle.std.specs.List.{flat_map}
 use Rattle.std.specs.Global.{Global}
+use Rattle.std.specs.Borrow.{Bor}
 use Rattle.mm_frame.specs.declared.symbol.NamedSymbol.{NamedSymbol}
 use Rattle.mm_frame.specs.declared.tables.Tables.{Tables}
 use Rattle.mm_frame.specs.Language.{Symbol}
@@ -18,6 +19,10 @@ symbol_of kept = record { name = kept.name.items; variable = kept.variable }
 -- what expression they are
 abbrev pub symbols_of : List NamedSymbol → List Symbol
 symbols_of kept = map symbol_of kept
+
+-- what expression symbols that are lent are
+abbrev pub symbols_lent : List (Bor NamedSymbol) → List Symbol
+symbols_lent lent = map (λ symbol. symbol_of symbol.now) lent
 
 -- a name as a symbol, where what is no declared constant is a variable
 abbrev pub by_constants : List Item → List ℕ → Symbol

@@ -8,7 +8,7 @@ ghost use Rattle.mm_store.specs.declared.error.StoreError.TheVariants.{NoTop};
 ghost use Rattle.mm_frame.specs.Item.{is_labelled};
 ghost use Rattle.mm_frame.specs.Language.{AreSamePairs};
 ghost use Rattle.mm_frame.specs.Framing.{active_pairs, resolve};
-ghost use Rattle.mm_frame.specs.Base.{BaseView, IsOfFiles, before, said_at, is_proof_at, is_sound_at, fault_at, expression_at, hypotheses_at, find_in, AreHypotheses};
+ghost use Rattle.mm_frame.specs.Base.{BaseView, IsOfFiles, before, said_at, is_proof_at, is_sound_at, fault_at, expression_at, hypotheses_at, frame_at, find_in, AreHypotheses};
 ghost use Rattle.mm_frame.specs.Named.{symbols_of, expression_kept, kept_pairs};
 ghost use Rattle.mm_frame.specs.Item as meant;
 ghost use Rattle.mm_frame.specs.Statement.{kind_of};
@@ -55,7 +55,7 @@ fn label_in(row: &Row) -> Option<&[u8]>
 
 /// The frame, if one is kept.
 fn frame_in(frame: &Option<Frame>) -> Option<&Frame>
-    ensures { option_map (λ frame. frame.now.hypotheses.items) result ≡ option_map (λ frame. frame.hypotheses.items) frame.now }
+    ensures { option_map (λ frame. frame.now) result ≡ frame.now }
 {
     match frame {
         Some(frame) => Some(frame),
@@ -197,6 +197,7 @@ impl Base {
     pub fn frame(&self, i: usize) -> Option<&Frame>
         ensures hypotheses { (base : BaseView) → IsBase base self.now → option_map (λ frame. frame.now.hypotheses.items) result ≡ hypotheses_at base i }
         ensures means { (base : BaseView) → IsBase base self.now → IfSome result (λ frame. AreHypotheses base i frame.now.hypotheses.items) }
+        ensures pairs { (base : BaseView) → IsBase base self.now → IfSome result (λ frame. AreSamePairs (kept_pairs frame.now.pairs.items) (frame_at base i).pairs) }
     {
         match self.kept_frame(i) {
             Some(frame) => frame_in(frame),
@@ -208,7 +209,7 @@ impl Base {
     fn pair_number(&self, i: usize) -> Option<usize>
         ensures { (base : BaseView) → IsBase base self.now → TellsPairs self.now.parts.pair_lists (before base i) (said_at base i) result }
     {
-        match self.parts.pairs.get(i) {
+        match self.parts.pair_numbers.get(i) {
             Some(number) => *number,
             None => None,
         }

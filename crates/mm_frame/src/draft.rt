@@ -14,16 +14,18 @@ ghost use Rattle.mm_frame.specs.Scope.{closes, mark_of};
 ghost use Rattle.mm_frame.specs.Scoping.{taken};
 ghost use Rattle.mm_frame.specs.Blocks.{marks_of};
 ghost use Rattle.mm_frame.specs.Tables.{active_numbers, is_essential_item, is_disjoint_item, IsSort};
-ghost use Rattle.mm_frame.specs.Base.{fault_by, numbers_if};
+ghost use Rattle.mm_frame.specs.Base.{fault_by};
 ghost use Rattle.mm_frame.specs.PairLists.{AreMade};
-ghost use Rattle.mm_frame.specs.Kept.{AreRows, TellsPairs, is_told_proof};
+ghost use Rattle.mm_frame.specs.PairTable.{KnowsPairs};
+ghost use Rattle.mm_frame.specs.Kept.{AreRows, KeepsFrame, TellsPairs, is_told_proof};
 
 use crate::FrameNumber;
 use crate::active::ActiveNumbers;
 use crate::blocks::Blocks;
 use crate::judge::{FrameFault, fault_of};
-use crate::mandatory::hypotheses;
+use crate::mandatory::{hypotheses, mandatory_pairs};
 use crate::pair_lists::PairLists;
+use crate::paired::PairTable;
 use crate::scope::Scope;
 use crate::statement::Statement;
 use crate::symbol::{NamedSymbol, expression_of, variables_of};
@@ -45,6 +47,8 @@ pub struct Row {
 pub struct Frame {
     /// The numbers of the mandatory hypotheses, rising.
     pub hypotheses: Vec<usize>,
+    /// The mandatory pairs, each once, in the order of the `$f` of their variables.
+    pub pairs: Vec<(NamedSymbol, NamedSymbol)>,
 }
 
 /// What is kept of the items so far.
@@ -63,7 +67,9 @@ pub struct Draft<'a> {
     /// The lists of active pairs so far.
     pair_lists: PairLists,
     /// The number of the list of all active pairs, for each sound `$p`, by its number; none for any other item.
-    pairs: Vec<Option<usize>>,
+    pair_numbers: Vec<Option<usize>>,
+    /// The pairs of the active `$d`.
+    pair_table: PairTable,
 }
 
 /// What is kept of all items.
@@ -79,7 +85,7 @@ pub struct Parts {
     /// The lists of active pairs.
     pub pair_lists: PairLists,
     /// The number of the list of all active pairs, for each sound `$p`, by its number; none for any other item.
-    pub pairs: Vec<Option<usize>>,
+    pub pair_numbers: Vec<Option<usize>>,
 }
 
 /// The fault that is told of an item of this kind, if its statement has this fault.
@@ -166,18 +172,21 @@ fn has_proof(kind: ItemKind, sound: bool) -> bool
 fn frame_of(
     alloc: Global,
     tables: &Tables,
+    pairs: &PairTable,
+    blocks: &Blocks,
     essentials: &[usize],
     expressions: &[Vec<NamedSymbol>],
     own: &[NamedSymbol],
     framed: bool,
 ) -> Result<Option<Frame>, AllocError>
-    ensures { IfOk result (λ frame. (before : List meant.Item) (item : meant.Item) → AreSound before → Knows before tables.now → (framed ≡ true → IsSound before item × (meant.is_assertion item.kind ≡ true) × (symbols_of own.now ≡ expression before item)) → essentials.now ≡ active_numbers is_essential_item before → AreExpressions before expressions.now → option_map (λ f. f.hypotheses.items) frame ≡ numbers_if framed before item) }
+    ensures { IfOk result (λ frame. (before : List meant.Item) (item : meant.Item) → AreSound before → Knows before tables.now → KnowsPairs before pairs.now → blocks.now ≡ marks_of before → (framed ≡ true → IsSound before item × (meant.is_assertion item.kind ≡ true) × (symbols_of own.now ≡ expression before item)) → essentials.now ≡ active_numbers is_essential_item before → AreExpressions before expressions.now → KeepsFrame framed before item frame) }
 {
     if !framed {
         return Ok(None);
     }
     let hypotheses = hypotheses(alloc, tables, essentials, expressions, own)?;
-    Ok(Some(Frame { hypotheses }))
+    let pairs = mandatory_pairs(alloc, pairs, blocks, essentials, expressions, &hypotheses)?;
+    Ok(Some(Frame { hypotheses, pairs }))
 }
 
 fn is_essential(kind: ItemKind) -> bool
@@ -238,6 +247,24 @@ fn keep_pairs(
     Ok(())
 }
 
+/// Goes on with the pairs behind one more item, of this kind and with these symbols where it is sound.
+fn follow_pairs(
+    alloc: Global,
+    pairs: &mut PairTable,
+    blocks: &Blocks,
+    kind: ItemKind,
+    symbols: &[NamedSymbol],
+    number: usize,
+    sound: bool,
+) -> Result<(), AllocError>
+    ensures { OnOk result ((before : List meant.Item) (item : meant.Item) → kind_of kind ≡ item.kind → number ≡ length before → blocks.now ≡ marks_of before → (sound ≡ true → is_read item.kind ≡ true → symbols_of symbols.now ≡ expression before item) → KnowsPairs before pairs.old → KnowsPairs (before ++ taken sound item ∷ []) pairs.new) }
+{
+    if sound && is_disjoint(kind) {
+        pairs.take(alloc, blocks, symbols, number)?;
+    }
+    Ok(())
+}
+
 impl<'a> Draft<'a> {
     ghost use Rattle.mm_frame.specs.Kept.{IsDraft, AreParts};
 
@@ -253,7 +280,8 @@ impl<'a> Draft<'a> {
             essentials: ActiveNumbers::new(alloc),
             disjoints: ActiveNumbers::new(alloc),
             pair_lists: PairLists::new(alloc),
-            pairs: Vec::new(alloc),
+            pair_numbers: Vec::new(alloc),
+            pair_table: PairTable::new(alloc),
         }
     }
 
@@ -264,11 +292,13 @@ impl<'a> Draft<'a> {
         own: &[NamedSymbol],
         framed: bool,
     ) -> Result<Option<Frame>, AllocError>
-        ensures { IfOk result (λ frame. (said : List meant.Item) (item : meant.Item) → IsDraft said self.now → (framed ≡ true → IsSound (kept said) item × (meant.is_assertion item.kind ≡ true) × (symbols_of own.now ≡ expression (kept said) item)) → option_map (λ f. f.hypotheses.items) frame ≡ numbers_if framed (kept said) item) }
+        ensures { IfOk result (λ frame. (said : List meant.Item) (item : meant.Item) → IsDraft said self.now → (framed ≡ true → IsSound (kept said) item × (meant.is_assertion item.kind ≡ true) × (symbols_of own.now ≡ expression (kept said) item)) → KeepsFrame framed (kept said) item frame) }
     {
         Ok(frame_of(
             alloc,
             self.scope.tables(),
+            &self.pair_table,
+            self.scope.blocks(),
             self.essentials.as_slice(),
             &self.expressions,
             own,
@@ -288,14 +318,23 @@ impl<'a> Draft<'a> {
         keep_pairs(
             alloc,
             &mut self.pair_lists,
-            &mut self.pairs,
+            &mut self.pair_numbers,
             self.disjoints.as_slice(),
             &self.expressions,
             has_proof(statement.kind(), sound),
         )?;
         self.frames.push(frame)?;
-        self.expressions.push(symbols)?;
         let number = self.rows.len();
+        follow_pairs(
+            alloc,
+            &mut self.pair_table,
+            self.scope.blocks(),
+            statement.kind(),
+            &symbols,
+            number,
+            sound,
+        )?;
+        self.expressions.push(symbols)?;
         let row = row_of(alloc, statement, fault)?;
         self.rows.push(row)?;
         self.scope.next(alloc, statement, sound)?;
@@ -355,7 +394,7 @@ impl<'a> Draft<'a> {
             expressions,
             frames,
             pair_lists,
-            pairs,
+            pair_numbers,
             ..
         } = self;
         let (tables, blocks) = scope.tables_and_blocks();
@@ -366,7 +405,7 @@ impl<'a> Draft<'a> {
             expressions,
             frames,
             pair_lists,
-            pairs,
+            pair_numbers,
         }
     }
 }

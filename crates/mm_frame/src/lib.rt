@@ -8,6 +8,7 @@ mod draft;
 mod judge;
 mod mandatory;
 mod pair_lists;
+mod paired;
 mod same;
 mod scope;
 mod statement;

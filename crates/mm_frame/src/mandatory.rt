@@ -1,13 +1,19 @@
 //! The mandatory hypotheses and pairs of an assertion.
 
-ghost use Rattle.std.specs.Prelude.{◌≡◌, ◌++◌, ◌∷◌, ℕ, List, [], OnOk, IfOk, filter};
+ghost use Rattle.std.specs.Prelude.{◌≡◌, ◌++◌, ◌∷◌, ℕ, List, [], OnOk, IfOk, map, filter};
 ghost use Rattle.std.specs.List.{flat_map};
 ghost use Rattle.mm_frame.specs.Item as meant;
-ghost use Rattle.mm_frame.specs.Framing.{expression, mandatory_variables, active_pairs};
-ghost use Rattle.mm_frame.specs.Framing as framing;
-ghost use Rattle.mm_frame.specs.Tables.{active_numbers, is_essential_item, mandatory_numbers};
-ghost use Rattle.mm_frame.specs.Named.{symbols_of, AreExpressions, float_number, float_numbers, expression_kept, pair_of, kept_pairs, IsAssertionBehind};
+ghost use Rattle.mm_frame.specs.Sound.{AreSound};
+ghost use Rattle.mm_frame.specs.Framing.{expression, pairs_of, active_pairs, frame};
+ghost use Rattle.mm_frame.specs.Blocks.{marks_of};
+ghost use Rattle.mm_frame.specs.Tables.{active_numbers, is_essential_item, mandatory_numbers, IsRising};
+ghost use Rattle.mm_frame.specs.Named.{symbol_of, symbols_of, symbols_lent, AreExpressions, float_number, float_numbers, expression_kept, kept_pairs, IsAssertionBehind};
+ghost use Rattle.mm_frame.specs.Paired as paired;
+ghost use Rattle.mm_frame.specs.Paired.{are_paired, pairs_in_order, float_variable, float_variables};
+ghost use Rattle.mm_frame.specs.PairTable.{KnowsPairs};
 
+use crate::blocks::Blocks;
+use crate::paired::PairTable;
 use crate::symbol::NamedSymbol;
 use crate::tables::Tables;
 use std::alloc::{AllocError, Global};
@@ -94,71 +100,137 @@ pub fn hypotheses(
     Ok(numbers)
 }
 
-/// Whether a name is a mandatory variable: its `$f` is a mandatory hypothesis.
-fn is_mandatory(tables: &Tables, hypotheses: &[usize], name: &[u8]) -> bool
-    ensures { (before : List meant.Item) (item : meant.Item) → IsAssertionBehind before item tables.now → hypotheses.now ≡ mandatory_numbers before item → result ≡ meant.has (mandatory_variables before item) name.now }
+/// Whether a number is one of some that rise.
+fn is_among(numbers: &[usize], number: usize) -> bool
+    ensures { IsRising numbers.now → result ≡ paired.is_among numbers.now number }
 {
-    match tables.float(name) {
-        Some(number) => hypotheses.binary_search(&number).is_ok(),
-        None => false,
+    numbers.binary_search(&number).is_ok()
+}
+
+/// What is kept for the item with this number: none where nothing is kept.
+fn symbols_at(expressions: &[Vec<NamedSymbol>], number: usize) -> &[NamedSymbol]
+    ensures { result.now ≡ expression_kept expressions.now number }
+{
+    match expressions.get(number) {
+        Some(symbols) => symbols,
+        None => &[],
     }
 }
 
-/// Whether both variables of a pair are mandatory.
-fn is_mandatory_pair(
-    tables: &Tables,
-    hypotheses: &[usize],
-    pair: &(NamedSymbol, NamedSymbol),
-) -> bool
-    ensures { (before : List meant.Item) (item : meant.Item) → IsAssertionBehind before item tables.now → hypotheses.now ≡ mandatory_numbers before item → result ≡ framing.is_mandatory_pair (mandatory_variables before item) (pair_of pair.now) }
+/// Adds the variable of a mandatory hypothesis that is a `$f`: its number is none of those of the active `$e`.
+fn add_variable<'a>(
+    essentials: &[usize],
+    expressions: &'a [Vec<NamedSymbol>],
+    number: usize,
+    variables: &mut Vec<&'a NamedSymbol>,
+) -> Result<(), AllocError>
+    ensures { OnOk result (IsRising essentials.now → symbols_lent variables.new.items ≡ symbols_lent variables.old.items ++ float_variable essentials.now expressions.now number) }
 {
-    is_mandatory(tables, hypotheses, &pair.0.name) && is_mandatory(tables, hypotheses, &pair.1.name)
+    if is_among(essentials, number) {
+        return Ok(());
+    }
+    if let Some(variable) = symbols_at(expressions, number).get(1) {
+        variables.push(variable)?;
+    }
+    Ok(())
+}
+
+/// The variables of the mandatory `$f`, in order.
+fn variables_typed<'a>(
+    alloc: Global,
+    essentials: &[usize],
+    expressions: &'a [Vec<NamedSymbol>],
+    hypotheses: &[usize],
+) -> Result<Vec<&'a NamedSymbol>, AllocError>
+    ensures { IfOk result (λ variables. IsRising essentials.now → symbols_lent variables.items ≡ float_variables essentials.now expressions.now hypotheses.now) }
+{
+    let mut variables = Vec::new(alloc);
+    for number in hypotheses {
+        add_variable(essentials, expressions, *number, &mut variables)?;
+    }
+    Ok(variables)
 }
 
 /// Adds a copy of a pair.
 fn add_pair(
     alloc: Global,
-    pair: &(NamedSymbol, NamedSymbol),
+    first: &NamedSymbol,
+    second: &NamedSymbol,
     pairs: &mut Vec<(NamedSymbol, NamedSymbol)>,
 ) -> Result<(), AllocError>
-    ensures { OnOk result (kept_pairs pairs.new.items ≡ kept_pairs pairs.old.items ++ pair_of pair.now ∷ []) }
+    ensures { OnOk result (kept_pairs pairs.new.items ≡ kept_pairs pairs.old.items ++ (symbol_of first.now, symbol_of second.now) ∷ []) }
 {
-    let first = pair.0.copy(alloc)?;
-    let second = pair.1.copy(alloc)?;
+    let first = first.copy(alloc)?;
+    let second = second.copy(alloc)?;
     pairs.push((first, second))?;
     Ok(())
 }
 
-/// Adds a copy of a pair if both of its variables are mandatory.
-fn add_if_mandatory(
+/// Adds a copy of a pair if an active `$d` has it.
+fn add_if_active(
     alloc: Global,
-    tables: &Tables,
-    hypotheses: &[usize],
-    pair: &(NamedSymbol, NamedSymbol),
+    table: &PairTable,
+    blocks: &Blocks,
+    first: &NamedSymbol,
+    second: &NamedSymbol,
     pairs: &mut Vec<(NamedSymbol, NamedSymbol)>,
 ) -> Result<(), AllocError>
-    ensures { OnOk result ((before : List meant.Item) (item : meant.Item) → IsAssertionBehind before item tables.now → hypotheses.now ≡ mandatory_numbers before item → kept_pairs pairs.new.items ≡ kept_pairs pairs.old.items ++ filter (framing.is_mandatory_pair (mandatory_variables before item)) (pair_of pair.now ∷ [])) }
+    ensures { OnOk result ((before : List meant.Item) → KnowsPairs before table.now → blocks.now ≡ marks_of before → kept_pairs pairs.new.items ≡ kept_pairs pairs.old.items ++ filter (are_paired (active_pairs before)) ((symbol_of first.now, symbol_of second.now) ∷ [])) }
 {
-    if is_mandatory_pair(tables, hypotheses, pair) {
-        add_pair(alloc, pair, pairs)?;
+    if table.is_active_pair(blocks, &first.name, &second.name) {
+        add_pair(alloc, first, second, pairs)?;
     }
     Ok(())
 }
 
-/// The pairs of the active `$d` of which both variables are mandatory for a sound assertion, in order.
+/// Adds those of one variable with each of some others.
+fn add_active_with(
+    alloc: Global,
+    table: &PairTable,
+    blocks: &Blocks,
+    first: &NamedSymbol,
+    later: &[&NamedSymbol],
+    pairs: &mut Vec<(NamedSymbol, NamedSymbol)>,
+) -> Result<(), AllocError>
+    ensures { OnOk result ((before : List meant.Item) → KnowsPairs before table.now → blocks.now ≡ marks_of before → kept_pairs pairs.new.items ≡ kept_pairs pairs.old.items ++ filter (are_paired (active_pairs before)) (map (λ y. (symbol_of first.now, y)) (symbols_lent later.now))) }
+{
+    for second in later {
+        add_if_active(alloc, table, blocks, first, second, pairs)?;
+    }
+    Ok(())
+}
+
+/// The pairs of each variable with each later one that an active `$d` has.
+fn active_among(
+    alloc: Global,
+    table: &PairTable,
+    blocks: &Blocks,
+    variables: &[&NamedSymbol],
+) -> Result<Vec<(NamedSymbol, NamedSymbol)>, AllocError>
+    ensures { IfOk result (λ pairs. (before : List meant.Item) → KnowsPairs before table.now → blocks.now ≡ marks_of before → kept_pairs pairs.items ≡ filter (are_paired (active_pairs before)) (pairs_of (symbols_lent variables.now))) }
+{
+    let mut pairs = Vec::new(alloc);
+    for n in 0..variables.len() {
+        add_active_with(alloc, table, blocks, variables[n], &variables[n + 1..], &mut pairs)?;
+    }
+    Ok(pairs)
+}
+
+/// The pairs of a sound assertion: of the variables of its mandatory `$f`, in their order, those that an active `$d`
+/// has.
 ///
-/// `hypotheses` are the numbers of its mandatory hypotheses, and `pairs` those of all active `$d`.
+/// `table` and `blocks` are those of the items before the assertion, `essentials` are the numbers of the active `$e`,
+/// `expressions` those of the items by their numbers, and `hypotheses` are the numbers of the mandatory hypotheses.
 pub fn mandatory_pairs(
     alloc: Global,
-    tables: &Tables,
+    table: &PairTable,
+    blocks: &Blocks,
+    essentials: &[usize],
+    expressions: &[Vec<NamedSymbol>],
     hypotheses: &[usize],
-    pairs: &[(NamedSymbol, NamedSymbol)],
 ) -> Result<Vec<(NamedSymbol, NamedSymbol)>, AllocError>
-    ensures { IfOk result (λ kept. (before : List meant.Item) (item : meant.Item) → IsAssertionBehind before item tables.now → hypotheses.now ≡ mandatory_numbers before item → kept_pairs pairs.now ≡ active_pairs before → kept_pairs kept.items ≡ filter (framing.is_mandatory_pair (mandatory_variables before item)) (active_pairs before)) }
+    ensures { IfOk result (λ pairs. (before : List meant.Item) (item : meant.Item) → AreSound before → KnowsPairs before table.now → blocks.now ≡ marks_of before → essentials.now ≡ active_numbers is_essential_item before → AreExpressions before expressions.now → hypotheses.now ≡ mandatory_numbers before item → kept_pairs pairs.items ≡ pairs_in_order (frame before item)) }
 {
-    let mut kept = Vec::new(alloc);
-    for pair in pairs {
-        add_if_mandatory(alloc, tables, hypotheses, pair, &mut kept)?;
-    }
-    Ok(kept)
+    let variables = variables_typed(alloc, essentials, expressions, hypotheses)?;
+    active_among(alloc, table, blocks, &variables)
 }

@@ -9,7 +9,7 @@ use crate::active::ActiveNumbers;
 use crate::blocks::Blocks;
 use crate::draft::{Draft, Parts};
 use crate::judge::{FrameFault, fault_of};
-use crate::mandatory::{hypotheses, mandatory_pairs};
+use crate::mandatory::hypotheses;
 use crate::same::{same_but_pairs, same_pairs};
 use crate::scope::Scope;
 use crate::symbol::{NamedSymbol, expression_of};
@@ -492,35 +492,6 @@ fn finds_mandatory_hypotheses(rt: HostRuntime) -> Result<(), Fail> {
     Ok(())
 }
 
-/// Adds a pair of variables.
-fn add_pair(
-    alloc: Global,
-    first: &[u8],
-    second: &[u8],
-    pairs: &mut Vec<(NamedSymbol, NamedSymbol)>,
-) -> Result<(), AllocError> {
-    let first = named(alloc, first, true)?;
-    let second = named(alloc, second, true)?;
-    pairs.push((first, second))?;
-    Ok(())
-}
-
-#[test]
-fn keeps_mandatory_pairs(rt: HostRuntime) -> Result<(), Fail> {
-    let tables = tables_of(rt.alloc(), FRAME)?;
-    let mut pairs = Vec::new(rt.alloc());
-    add_pair(rt.alloc(), b"x", b"y", &mut pairs)?;
-    add_pair(rt.alloc(), b"x", b"z", &mut pairs)?;
-    add_pair(rt.alloc(), b"y", b"z", &mut pairs)?;
-    let kept = mandatory_pairs(rt.alloc(), &tables, &[3, 4, 6], &pairs)?;
-    assert_eq!(rt; kept.len(), 1);
-    for pair in &kept {
-        assert_eq!(rt; &pair.0.name[..], b"x".as_slice());
-        assert_eq!(rt; &pair.1.name[..], b"y".as_slice());
-    }
-    Ok(())
-}
-
 /// A text with a block, a missing file and two statements at fault.
 const BASE: &[u8] =
     b"$c wff |- $.\n${ $v x $.\nwx $f wff x $. $}\n$[ b.mm $]\nax $a |- y $.\n$v y $.\nwx $f wff y $.\nwy $f wff y $.\nay $a |- y $.\n";
@@ -580,6 +551,59 @@ fn builds_a_base(rt: HostRuntime) -> Result<(), Fail> {
     assert_eq!(rt; item_kind(&base, 5), Some(ItemKind::Missing));
     assert_eq!(rt; item_kind(&base, 10), Some(ItemKind::Axiom));
     assert_eq!(rt; item_kind(&base, 11), None);
+    Ok(())
+}
+
+/// Five sound items: three variables, which are typed in the order z, x, y.
+const TYPED: &[u8] =
+    b"$c wff |- $.\n$v x y z $.\nwz $f wff z $.\nwx $f wff x $.\nwy $f wff y $.\n";
+
+/// The pairs of the frame of an item of a text behind `TYPED`, written one behind another; `none` where it has no
+/// frame.
+fn pairs_written(alloc: Global, text: &[u8], i: usize) -> Result<Vec<u8>, StoreError> {
+    let mut whole = Vec::from_slice(alloc, TYPED)?;
+    whole.extend_from_slice(text)?;
+    let base = base_of(alloc, &whole)?;
+    let mut written = Vec::new(alloc);
+    match base.frame(i) {
+        Some(frame) => {
+            for pair in &frame.pairs {
+                written.extend_from_slice(&pair.0.name)?;
+                written.extend_from_slice(&pair.1.name)?;
+                written.push(b' ')?;
+            }
+        }
+        None => written.extend_from_slice(b"none")?,
+    }
+    Ok(written)
+}
+
+#[test]
+fn keeps_the_pairs_of_frames(rt: HostRuntime) -> Result<(), Fail> {
+    let rows: [(&[u8], usize, &[u8]); 13] = [
+        (b"$d x y $.", 5, b"none"),
+        (b"ax $a |- x y $.", 5, b""),
+        (b"$d x y z $. ax $a |- x y z $.", 6, b"zx zy xy "),
+        // y is not mandatory
+        (b"$d x y z $. ax $a |- x z $.", 6, b"zx "),
+        // y is, for it stands in a `$e`
+        (b"$d y z $. ex $e |- y $. ax $a |- z $.", 7, b"zy "),
+        // x and z are no pair, though each is one with y
+        (b"$d x y $. $d y z $. ax $a |- x y z $.", 7, b"zy xy "),
+        (b"$d y x $. ax $a |- x y $.", 6, b"xy "),
+        (b"$d y x $. $d x y $. ax $a |- x y $.", 7, b"xy "),
+        // the block of the `$d` has ended
+        (b"${ $d x y $. $} ax $a |- x y $.", 8, b""),
+        (b"${ $d x y $. ax $a |- x y $. $}", 7, b"xy "),
+        (b"${ $d x y $. $} $d x y $. ax $a |- x y $.", 9, b"xy "),
+        // only that of the inner one has
+        (b"$d x y $. ${ $d x y $. $} ax $a |- x y $.", 9, b"xy "),
+        (b"$d x y $. ${ $d y x z $. $} ax $a |- x y z $.", 9, b"xy "),
+    ];
+    for (text, item, wanted) in rows {
+        let found = pairs_written(rt.alloc(), text, item)?;
+        assert_eq!(rt; &found[..], wanted, "of {text:?}");
+    }
     Ok(())
 }
 
@@ -666,7 +690,7 @@ fn neighbours_share_a_list(rt: HostRuntime) -> Result<(), Fail> {
         (13, Some(2)),
         (15, Some(1)),
     ] {
-        assert_eq!(rt; parts.pairs.get(i).copied(), Some(wanted), "of {i}");
+        assert_eq!(rt; parts.pair_numbers.get(i).copied(), Some(wanted), "of {i}");
     }
     assert_eq!(rt; parts.pair_lists.list(2).len(), 4);
     assert!(rt; parts.pair_lists.list(3).is_empty());
@@ -731,6 +755,19 @@ fn compares_what_assertions_need(rt: HostRuntime) -> Result<(), Fail> {
     }
     assert!(rt; !same_but_pairs(&base, 4, &other, 1));
     assert!(rt; same_but_pairs(&other, 1, &other, 1));
+    Ok(())
+}
+
+/// Adds a pair of variables.
+fn add_pair(
+    alloc: Global,
+    first: &[u8],
+    second: &[u8],
+    pairs: &mut Vec<(NamedSymbol, NamedSymbol)>,
+) -> Result<(), AllocError> {
+    let first = named(alloc, first, true)?;
+    let second = named(alloc, second, true)?;
+    pairs.push((first, second))?;
     Ok(())
 }
 

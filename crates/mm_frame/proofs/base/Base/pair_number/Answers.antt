@@ -7,4 +7,4 @@ returns-in-Some c base is =
     let found = c.in-Some.ensures.lookup in
     let numbers = c.deref.result.now in
     let there = ap (λ w. slice_get w c.args.i) (sym c.deref.ensures.value) ∙ slice_get_read numbers (length numbers) c.args.i c.in-Some.number.now refl found.3.0 found.1 in
-    is.parts.pairs.each c.args.i c.in-Some.number.now there
+    is.parts.pair_numbers.each c.args.i c.in-Some.number.now there

@@ -1,6 +1,7 @@
 use Rattle.std.proofs.Common.{◌≡◌, true, length, ◌∷◌, ◌++◌, [], ◌∙◌, ap, sym, subst, arith}
 use Rattle.mm_frame.specs.Base.{fault_by}
-use Rattle.mm_frame.specs.Kept.{AreRows, Tells, TellsFrame}
+use Rattle.mm_frame.specs.Kept.{AreRows, Tells, TellsFrame, KeepsFrame}
+use Rattle.mm_frame.specs.PairTable.{KnowsPairs}
 use Rattle.mm_frame.specs.Known.{Knows}
 use Rattle.mm_frame.specs.Named.{AreSymbols, is_read, symbols_of}
 use Rattle.mm_frame.specs.Statement.{kind_of}
@@ -31,9 +32,10 @@ returns c said d =
     let kind = c.kind.ensures.kind in
     let parts = λ (t : framed ≡ true). framed_parts flag (kind_of c.kind.result) item.kind kind (sym c.is_framed-framed.ensures ∙ t) in
     let frame = c.in_ok-frame.ensures said item d (λ t. (is_sound (parts t).0, (parts t).1, ap symbols_of c.deref.ensures.value ∙ own (parts t).0 (parts t).2)) in
-    let frame_told = frame ∙ framed_told (kept said) item flag framed (kind_of c.kind.result) kind c.is_framed-framed.ensures (none_fault (λ f. (f.word, f.number)) (kept said) item found told ∙ none) in
+    let frame_told = subst (λ b. KeepsFrame b (kept said) item c.in_ok-frame.frame) (framed_told (kept said) item flag framed (kind_of c.kind.result) kind c.is_framed-framed.ensures (none_fault (λ f. (f.word, f.number)) (kept said) item found told ∙ none)) frame in
     let holds = c.in_ok-next.ensures (kept said) are_sound d.scope is_sound in
     let number : c.len-number.result ≡ length (kept said) = omega (arith, c.len-number.ensures, kept_count said, d.rows.count, c.args.self.now.rows.ok.0) in
+    let pairs = c.in_ok-follow_pairs.ensures (kept said) item c.kind-3.ensures.kind number (c.blocks-2.ensures ∙ d.scope.marks) (λ t r. ap symbols_of c.deref-3.ensures.value ∙ own t r) d.pair_table in
     let this = c.kind-kind.ensures.kind in
     let marks = c.blocks-blocks.ensures ∙ holds.marks in
     let essentials = c.in_ok-follow.ensures is_essential (kept said) item essential_sort this (c.is_essential.ensures ∙ ap is_essential this) number marks d.essentials in
@@ -55,5 +57,6 @@ returns c said d =
       essentials = essentials ∙ ap (active_numbers is_essential_item) more;
       disjoints = disjoints ∙ ap (active_numbers is_disjoint_item) more;
       made = subst (λ w. AreMade w lists) more made;
-      pairs = c.in_ok-keep_pairs.ensures.pairs said item kept_symbols active_disjoints d.made proof d.pairs;
+      pair_numbers = c.in_ok-keep_pairs.ensures.pairs said item kept_symbols active_disjoints d.made proof d.pair_numbers;
+      pair_table = subst (λ w. KnowsPairs w c.follow_pairs.new.pairs) more pairs;
     }

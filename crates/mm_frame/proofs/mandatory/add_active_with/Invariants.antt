@@ -1,0 +1,12 @@
+use Rattle.std.proofs.Common.{◌≡◌, ◌++◌, List, filter, take}
+use Rattle.mm_frame.specs.Item.{Item}
+use Rattle.mm_frame.specs.Blocks.{marks_of}
+use Rattle.mm_frame.specs.Framing.{active_pairs}
+use Rattle.mm_frame.specs.Named.{symbol_of, symbols_lent, kept_pairs}
+use Rattle.mm_frame.specs.Paired.{are_paired}
+use Rattle.mm_frame.specs.PairTable.{KnowsPairs}
+use Rattle.mm_frame.proofs.PairTableLemmas.{pairs_with}
+use Rattle.mm_frame.proofs.mandatory.add_active_with.Given as goal
+
+abbrev pub invariant-loop-second : goal.invariant-loop-second
+invariant-loop-second l = (before : List Item) → KnowsPairs before l.table → l.blocks ≡ marks_of before → kept_pairs l.pairs.items ≡ kept_pairs l.fn.pairs.items ++ filter (are_paired (active_pairs before)) (pairs_with (symbol_of l.first) (symbols_lent (take l.second-index l.later)))

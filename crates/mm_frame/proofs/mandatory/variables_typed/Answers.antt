@@ -1,0 +1,9 @@
+use Rattle.std.proofs.Common.{◌∙◌, ◌++◌, ap, sym, get_or}
+use Rattle.mm_frame.specs.Paired.{float_variable}
+use Rattle.mm_frame.proofs.FramePairs.{variables_more}
+use Rattle.mm_frame.proofs.mandatory.variables_typed.Goals as goal
+
+pub loop-number-preserved : goal.loop-number-preserved
+loop-number-preserved c rising =
+    let more = float_variable c.args.essentials.now c.args.expressions.now (get_or c.args.hypotheses.now c.loop-number.number-index 0) in
+    c.in_ok-add_variable.ensures rising ∙ ap (λ w. w ++ more) (c.loop-number.invariant rising) ∙ sym (variables_more c.args.essentials.now c.args.expressions.now c.args.hypotheses.now c.loop-number.number-index c.loop-number-test.true)

@@ -1,0 +1,8 @@
+use Rattle.std.proofs.Common.{◌≡◌, take}
+use Rattle.mm_frame.specs.Named.{symbols_lent}
+use Rattle.mm_frame.specs.Tables.{IsRising}
+use Rattle.mm_frame.specs.Paired.{float_variables}
+use Rattle.mm_frame.proofs.mandatory.variables_typed.Given as goal
+
+abbrev pub invariant-loop-number : goal.invariant-loop-number
+invariant-loop-number l = IsRising l.essentials → symbols_lent l.variables.items ≡ float_variables l.essentials l.expressions (take l.number-index l.hypotheses)

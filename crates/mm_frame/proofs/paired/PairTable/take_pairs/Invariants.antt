@@ -1,0 +1,7 @@
+use Rattle.std.proofs.Common.{map, take}
+use Rattle.mm_frame.specs.Named.{symbol_of, symbols_of}
+use Rattle.mm_frame.specs.PairTable.{TakesPairs}
+use Rattle.mm_frame.proofs.paired.PairTable.take_pairs.Given as goal
+
+abbrev pub invariant-loop-second : goal.invariant-loop-second
+invariant-loop-second l = TakesPairs l.fn.self l.blocks (map (λ y. (symbol_of l.first, y)) (symbols_of (take l.second-index l.later))) l.number l.self
