@@ -251,7 +251,7 @@ typed_once before item k =
     r fx fy (float_name before x u ∙ ap (λ (w : Symbol). w.name) n ∙ sym (float_name before y v)))
     (AllPairs-filter TypeOthers (is_mandatory (mandatory_variables before item)) (active before) (active_typed_once [] before k))
 
-from_pairs : (pair : Symbol × Symbol) (xs : List Symbol) → In pair (pairs_of xs) → In pair.0 xs × In pair.1 xs
+pub from_pairs : (pair : Symbol × Symbol) (xs : List Symbol) → In pair (pairs_of xs) → In pair.0 xs × In pair.1 xs
 from_pairs pair [] h = absurd h
 from_pairs pair (x ∷ xs) h = elim (in_cases pair (map (λ y. (x, y)) xs) (pairs_of xs) h) [
   | inl a ↦ (let r = from_map (λ (y : Symbol). (x, y)) pair xs a in
@@ -280,7 +280,7 @@ pairs_typed_at before item k s t pair h =
     let y = side_typed before item r.0 k s t pair.1 p.1 m.1 in
     (x.0, y.0, x.1, y.1)
 
-is_frame : (before : List Item) (item : Item) → AreKept [] before → IsSound before item → is_expression item.kind ≡ true → IsFrame (frame before item)
+pub is_frame : (before : List Item) (item : Item) → AreKept [] before → IsSound before item → is_expression item.kind ≡ true → IsFrame (frame before item)
 is_frame before item k s t = record {
   expression_typed = expression_typed before item k s t;
   hypotheses_typed = hypothesis_typed before item k s t;

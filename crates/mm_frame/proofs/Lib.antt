@@ -25,3 +25,4 @@ pub mod FrameNumbers
 pub mod ResolvingLemmas
 pub mod SameLemmas
 pub mod SameFrames
+pub mod InOrder
