@@ -156,7 +156,7 @@ kept_item_at said i item e f =
     ap (λ n. slice_get (kept said) n) (sym k.number) ∙ ap (λ w. slice_get w (length (kept (take i said)))) (k.whole ∙ ap (λ o. kept (take i said) ++ judged item o ∷ k.rest) f) ∙ get_between (kept (take i said)) item k.rest
 
 -- where a label is told, no fault is told exactly for a sound item
-none_told : (kind : Kind) (f : Option (ℕ × FrameNumber)) → is_none (fault_by kind f) ≡ true → f ≡ None
+pub none_told : (kind : Kind) (f : Option (ℕ × FrameNumber)) → is_none (fault_by kind f) ≡ true → f ≡ None
 none_told Missing f e = absurd (false≢true e)
 none_told _ None e = refl
 none_told _ (Some x) e = absurd (false≢true e)

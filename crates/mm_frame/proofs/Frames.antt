@@ -280,7 +280,7 @@ pairs_typed_at before item k s t pair h =
     let y = side_typed before item r.0 k s t pair.1 p.1 m.1 in
     (x.0, y.0, x.1, y.1)
 
-is_frame : (before : List Item) (item : Item) → AreKept [] before → IsSound before item → is_expression item.kind ≡ true → IsFrame (frame before item)
+pub is_frame : (before : List Item) (item : Item) → AreKept [] before → IsSound before item → is_expression item.kind ≡ true → IsFrame (frame before item)
 is_frame before item k s t = record {
   expression_typed = expression_typed before item k s t;
   hypotheses_typed = hypothesis_typed before item k s t;

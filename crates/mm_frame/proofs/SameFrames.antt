@@ -1,5 +1,6 @@
 -- Frames are the same exactly where their expressions, their hypotheses and their pairs in one order are.
 use Rattle.std.proofs.Common.{◌≡◌, Bool, true, false, ◌&&◌, ◌||◌, List, filter, bytes_eq, refl, sym, ◌∙◌, ap, subst, inl, inr}
+use Rattle.std.specs.Prelude.{IsTrue, ◌↔◌}
 use Rattle.std.proofs.lemmas.Bool.{false≢true, and_from, and_parts, or_left, or_right}
 use Rattle.mm_frame.specs.Language.{Symbol, Mandatory, Frame, ArePair, AreSamePairs, AreSameFrame}
 use Rattle.mm_frame.specs.Framing.{pairs_of}
@@ -47,3 +48,10 @@ same_from_order frame other a b e h p = record {
   hypotheses = h;
   pairs = λ x y. (λ q. (b x y).0 (subst (λ w. ArePair w x y) p ((a x y).1 q)), λ q. (a x y).0 (subst (λ w. ArePair w x y) (sym p) ((b x y).1 q)));
 }
+
+-- the test of both parts of two frames
+pub same_by_parts : (frame other : Frame) (parts pairs : Bool) → AreSamePairs (pairs_in_order frame) frame.pairs → AreSamePairs (pairs_in_order other) other.pairs → IsTrue parts ↔ ((frame.expression ≡ other.expression) × (frame.hypotheses ≡ other.hypotheses)) → IsTrue pairs ↔ (pairs_in_order frame ≡ pairs_in_order other) → IsTrue (parts && pairs) ↔ AreSameFrame frame other
+same_by_parts frame other parts pairs a b e p = (
+  λ t. (let q = and_parts parts pairs t in let r = e.0 q.0 in same_from_order frame other a b r.0 r.1 (p.0 q.1)),
+  λ s. and_from parts pairs (e.1 (s.expression, s.hypotheses)) (p.1 (same_in_order frame other s)),
+)
