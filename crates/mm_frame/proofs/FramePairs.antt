@@ -1,7 +1,6 @@
 -- The pairs of a frame: those of its variables, in order, that an active `$d` has.
-use Rattle.std.proofs.Common.{◌≡◌, ◌≢◌, ℕ, zero, suc, ◌+◌, ◌<◌, ◌≤◌, Bool, true, false, cond, ◌&&◌, ◌||◌, Some, None, List, [], ◌∷◌, ◌++◌, length, map, filter, flat_map, take, drop, slice_get, get_or, bytes_eq, Vec, Result, refl, sym, ◌∙◌, ap, subst, append_assoc, append-nil, take-suc, arith, inl, inr, ◌⊎◌}
-use Rattle.std.specs.Prelude.{is_ok, nat_eq, option_to_list, Contains}
-use Rattle.std.specs.List.{list_any}
+use Rattle.std.proofs.Common.{◌≡◌, ◌≢◌, ℕ, suc, ◌+◌, ◌<◌, ◌≤◌, Bool, true, false, cond, ◌&&◌, ◌||◌, Some, None, List, [], ◌∷◌, ◌++◌, length, map, filter, take, drop, slice_get, get_or, bytes_eq, Vec, Result, refl, sym, ◌∙◌, ap, subst, append_assoc, append-nil, take-suc, arith, inl, inr, ◌⊎◌}
+use Rattle.std.specs.Prelude.{is_ok, nat_eq, option_to_list}
 use Rattle.std.specs.List.Sorted.{IsBinarySearchResult}
 use Rattle.std.specs.Ordering.{nat_cmp}
 use Rattle.std.specs.Global.{Global}
@@ -13,20 +12,20 @@ use Rattle.std.proofs.lemmas.Map.Views.{any-filter_same, list_any-from_Contains,
 use Rattle.std.proofs.lemmas.Option.{get_or_from_slice_get}
 use Rattle.std.proofs.lemmas.Slice.Eq.{bytes_eq-Decides}
 use Rattle.mm_frame.specs.declared.symbol.NamedSymbol.{NamedSymbol}
-use Rattle.mm_frame.specs.Language.{Symbol, Mandatory, Frame, ArePair, AreSamePairs}
+use Rattle.mm_frame.specs.Language.{Symbol, Mandatory, ArePair, AreSamePairs}
 use Rattle.mm_frame.specs.Typing.{IsTyped}
 use Rattle.mm_frame.specs.Item.{Item, passed, is_disjoint, is_declaring, is_floating, is_essential, is_assertion, has, variable_of}
-use Rattle.mm_frame.specs.Scope.{active, active_variables}
+use Rattle.mm_frame.specs.Scope.{active}
 use Rattle.mm_frame.specs.declared.FrameNumber.TheVariants.{F03}
 use Rattle.mm_frame.specs.Sound.{is_repeated, IsSound, AreSound}
 use Rattle.mm_frame.specs.Framing.{symbol, expression, mandatory_variables, is_mandatory, hypothesis, mandatory_hypotheses, pairs_of, active_pairs, is_mandatory_pair, frame}
 use Rattle.mm_frame.specs.Tables.{item_at, is_active_at, active_numbers, is_essential_item, mandatory_numbers, IsRising}
 use Rattle.mm_frame.specs.Named.{symbols_of, expression_kept, AreExpressions}
 use Rattle.mm_frame.specs.Paired.{are_paired, typed_variables, pairs_in_order, is_among, float_variable, float_variables}
-use Rattle.mm_frame.proofs.Members.{In, in_contains, contains_in, in_left, in_right, in_cases, in_map, from_map, in_filter, from_filter, in_flat, from_flat, in_get, has_in, in_has}
+use Rattle.mm_frame.proofs.Members.{In, in_contains, contains_in, in_left, in_right, in_cases, in_map, from_map, in_filter, from_filter, in_flat, from_flat, in_get, in_has}
 use Rattle.mm_frame.proofs.Scopes.{active_split}
 use Rattle.mm_frame.proofs.Facts.{and_both, no_symbol_of, float_two}
-use Rattle.mm_frame.proofs.Frames.{Float, float_of, float_name, float_labelled, from_pairs, pairs_typed_at, assertion_expression}
+use Rattle.mm_frame.proofs.Frames.{float_of, float_name, float_labelled, from_pairs, pairs_typed_at, assertion_expression}
 use Rattle.mm_frame.proofs.Outermost.{split_at, filter_same, sound_kept}
 use Rattle.mm_frame.proofs.HypothesisNumbers.{to_active_number, from_active_number, hypotheses_by_numbers}
 use Rattle.mm_frame.proofs.MandatoryLemmas.{found_or_not, not_both, same_item}

@@ -1,5 +1,5 @@
 -- The numbers of the mandatory hypotheses, as the code collects them.
-use Rattle.std.proofs.Common.{◌≡◌, ℕ, suc, ◌<◌, ◌≤◌, Bool, true, false, cond, Option, Some, None, List, [], ◌∷◌, ◌++◌, length, filter, flat_map, take, drop, slice_get, get_or, refl, sym, ◌∙◌, ap, subst, eqb, arith, inl, inr, ◌⊎◌, Vec, Result, Ok, Err}
+use Rattle.std.proofs.Common.{◌≡◌, ℕ, suc, ◌<◌, ◌≤◌, Bool, true, false, cond, Option, Some, None, List, [], ◌∷◌, ◌++◌, length, flat_map, take, drop, slice_get, get_or, refl, sym, ◌∙◌, ap, subst, eqb, arith, inl, inr, ◌⊎◌, Vec, Result, Ok, Err}
 use Rattle.std.specs.Prelude.{option_to_list, is_ok}
 use Rattle.std.specs.Global.{Global}
 use Rattle.std.specs.List.{dedup}
@@ -7,29 +7,29 @@ use Rattle.std.specs.List.Sorted.{IsPermutation, IsSorted, IsBinarySearchResult}
 use native.Mathlib.Decide.{dec_lt}
 use Rattle.std.specs.List.Retain.{IsFiltered, DiffersFromLast}
 use Rattle.std.specs.Ordering.{nat_cmp}
-use Rattle.std.proofs.lemmas.Bool.{false≢true, false_from_ne_true}
+use Rattle.std.proofs.lemmas.Bool.{false≢true}
 use Rattle.std.proofs.lemmas.Option.{get_or_from_slice_get, slice_get_within}
 use Rattle.std.proofs.lemmas.List.Sorted.{searched, IsPermutation-sym, Contains-permutation}
 use Rattle.std.proofs.lemmas.List.Filters.{dedup_is}
 use Rattle.std.proofs.lemmas.List.Kept.{Contains-dedup_nat, Contains-from_dedup, AllPairs-from_increasing}
 use Rattle.std.proofs.lemmas.Map.Keys.{IsStrictlyIncreasing-dedup}
 use Rattle.mm_frame.specs.Language.{Symbol}
-use Rattle.mm_frame.specs.Item.{Kind, Floating, Item, variable_of, is_floating, is_essential, has}
+use Rattle.mm_frame.specs.Item.{Kind, Floating, Item, is_floating, is_essential, has}
 use Rattle.mm_frame.specs.Scope.{active, symbols_by, active_variables}
 use Rattle.mm_frame.specs.Sound.{AreSound}
-use Rattle.mm_frame.specs.Framing.{symbol, expression, mandatory_variables, is_mandatory, is_mandatory_pair}
+use Rattle.mm_frame.specs.Framing.{symbol, expression, mandatory_variables}
 use Rattle.mm_frame.specs.Tables.{last_where, types, is_active_at, active_numbers, is_essential_item, mandatory_numbers, IsHypothesisNumber, IsRising}
 use Rattle.mm_frame.specs.declared.symbol.NamedSymbol.{NamedSymbol}
 use Rattle.mm_frame.specs.declared.tables.Tables.{Tables}
 use Rattle.mm_frame.specs.Known.{Knows, table_name, float_of}
-use Rattle.mm_frame.specs.Named.{symbol_of, symbols_of, expression_kept, AreExpressions, float_number, float_numbers, kept_pairs, IsAssertionBehind}
-use Rattle.mm_frame.proofs.Members.{In, in_contains, contains_in, in_left, in_right, in_cases, in_map, from_map, in_get, in_filter, from_filter, in_flat, from_flat, has_in, in_has, from_symbols, to_symbols}
+use Rattle.mm_frame.specs.Named.{symbol_of, symbols_of, expression_kept, AreExpressions, float_number, float_numbers, IsAssertionBehind}
+use Rattle.mm_frame.proofs.Members.{In, in_contains, contains_in, in_left, in_right, in_cases, in_map, from_map, in_get, in_filter, from_filter, in_flat, from_flat, from_symbols, to_symbols}
 use Rattle.mm_frame.proofs.Scopes.{active_split, split_active}
 use Rattle.mm_frame.proofs.Frames.{assertion_expression, essential_expression, expression_labelled, in_at}
 use Rattle.mm_frame.proofs.Outermost.{split_at}
-use Rattle.mm_frame.proofs.TableLemmas.{active_between, typed_by}
+use Rattle.mm_frame.proofs.TableLemmas.{active_between}
 use Rattle.mm_frame.proofs.KnownLemmas.{float_in}
-use Rattle.mm_frame.proofs.HypothesisNumbers.{to_active_number, from_active_number, AreTyped, sound_typed, mandatory_numbers_built, mandatory_floats, mandatory_last, last_there, active_numbers_rise}
+use Rattle.mm_frame.proofs.HypothesisNumbers.{to_active_number, from_active_number, AreTyped, sound_typed, mandatory_numbers_built}
 use Rattle.mm_frame.proofs.PairLemmas.{expression_at_number}
 
 -- the number of the `$f` of a variable

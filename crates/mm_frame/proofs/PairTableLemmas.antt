@@ -1,5 +1,5 @@
 -- The table of pairs: what it tells behind a write, behind one more item, and of what is active.
-use Rattle.std.proofs.Common.{◌≡◌, ℕ, zero, suc, ◌+◌, ◌<◌, Bool, true, false, cond, ◌&&◌, ◌||◌, Option, Some, None, List, [], ◌∷◌, ◌++◌, length, map, flat_map, take, drop, slice_get, get_or, bytes_eq, Vec, refl, sym, ◌∙◌, ap, subst, append_assoc, append-nil, inl, inr, ◌⊎◌, arith}
+use Rattle.std.proofs.Common.{◌≡◌, ℕ, zero, suc, ◌+◌, ◌<◌, Bool, true, false, cond, ◌&&◌, ◌||◌, Option, Some, None, List, [], ◌∷◌, ◌++◌, length, map, flat_map, take, drop, get_or, bytes_eq, Vec, refl, sym, ◌∙◌, ap, subst, append_assoc, append-nil, inl, inr, ◌⊎◌, arith}
 use Rattle.std.specs.List.{list_any}
 use Rattle.std.specs.Global.{Global}
 use Rattle.std.specs.HashMap.{HashMap, UpdatesBy}
@@ -13,8 +13,8 @@ use Rattle.mm_frame.specs.declared.paired.PairTable.{PairTable}
 use Rattle.mm_frame.specs.declared.symbol.NamedSymbol.{NamedSymbol}
 use Rattle.mm_frame.specs.Named.{symbol_of, symbols_of}
 use Rattle.mm_frame.specs.Language.{Symbol}
-use Rattle.mm_frame.specs.Item.{Kind, Item, is_disjoint, has}
-use Rattle.mm_frame.specs.Scope.{Mark, mark_of, closed, closed_at, is_zero, stays, active}
+use Rattle.mm_frame.specs.Item.{Item, is_disjoint, has}
+use Rattle.mm_frame.specs.Scope.{Mark, closed, closed_at, is_zero, stays, active}
 use Rattle.mm_frame.specs.Blocks.{stays_by, marks_of}
 use Rattle.mm_frame.specs.Framing.{symbol, expression, pairs_of, active_pairs}
 use Rattle.mm_frame.specs.Tables.{is_active_at}
@@ -264,10 +264,14 @@ pairs_taken before item old new marks number variables d v l e k t = record { th
 
         by_next : has_pair (pairs_of variables) x y ≡ true → IsNext marks number (pair_number old x y) → (n : ℕ) × (pair_number new x y ≡ Some n) × Outlasts (before ++ item ∷ []) m n
         by_next h (inl a) = (c.0, told_true x y h ∙ a.3 ∙ sym a.1 ∙ c.1, still)
-        by_next h (inr b) = (number, told_true x y h ∙ b.1, λ later s.
-            let whole = c.2 (item ∷ later) (ap stays (sym (drop_more before item m later (within before x y m p))) ∙ s) in
-            let now = stays_front (drop (suc c.0) before) (item ∷ later) whole in
-            absurd (false≢true (sym (sym (ap (is_number_active marks) c.1) ∙ b.0) ∙ sym (active_is c.0) ∙ now)))
+        by_next h (inr b) = (
+          number,
+          told_true x y h ∙ b.1,
+          λ later s.
+              let whole = c.2 (item ∷ later) (ap stays (sym (drop_more before item m later (within before x y m p))) ∙ s) in
+              let now = stays_front (drop (suc c.0) before) (item ∷ later) whole in
+              absurd (false≢true (sym (sym (ap (is_number_active marks) c.1) ∙ b.0) ∙ sym (active_is c.0) ∙ now)),
+        )
 
         by_test : (b : Bool) → has_pair (pairs_of variables) x y ≡ b → (n : ℕ) × (pair_number new x y ≡ Some n) × Outlasts (before ++ item ∷ []) m n
         by_test true h = by_next h (next_cases marks number (pair_number old x y))
@@ -280,9 +284,13 @@ pairs_taken before item old new marks number variables d v l e k t = record { th
         told = told_true x y (has_it x y ∙ o)
 
         by_next : IsNext marks number (pair_number old x y) → (n : ℕ) × (pair_number new x y ≡ Some n) × Outlasts (before ++ item ∷ []) m n
-        by_next (inl a) = (a.0, told ∙ a.3, λ later s.
-            let behind : stays later ≡ true = ap stays (sym (drop_new before item m later z)) ∙ s in
-            ap stays (drop_more before item a.0 later (within before x y a.0 (k.there x y a.0 a.1))) ∙ stays_join (drop (suc a.0) before) (item ∷ later) (active_is a.0 ∙ a.2) (stays_item later behind))
+        by_next (inl a) = (
+          a.0,
+          told ∙ a.3,
+          λ later s.
+              let behind : stays later ≡ true = ap stays (sym (drop_new before item m later z)) ∙ s in
+              ap stays (drop_more before item a.0 later (within before x y a.0 (k.there x y a.0 a.1))) ∙ stays_join (drop (suc a.0) before) (item ∷ later) (active_is a.0 ∙ a.2) (stays_item later behind),
+        )
         by_next (inr b) = (number, told ∙ b.1, λ later s. subst (λ n. stays (drop (suc n) (before ++ item ∷ []) ++ later) ≡ true) (z ∙ l) s)
 
     cover : (x y : List ℕ) (m : ℕ) → IsPairAt (before ++ item ∷ []) x y m → (n : ℕ) × (pair_number new x y ≡ Some n) × Outlasts (before ++ item ∷ []) m n

@@ -1,4 +1,4 @@
-use Rattle.std.proofs.Common.{◌+◌, ◌++◌, ◌≡◌, drop, filter, subst}
+use Rattle.std.proofs.Common.{◌+◌, ◌++◌, ◌≡◌, filter, subst}
 use Rattle.std.specs.Borrow.{Bor}
 use Rattle.std.proofs.lemmas.List.{take_rest}
 use Rattle.mm_frame.specs.declared.symbol.NamedSymbol.{NamedSymbol}

@@ -2,7 +2,6 @@ use Rattle.std.proofs.Common.{◌∙◌, ap, sym}
 use Rattle.std.specs.Option.{option_map}
 use Rattle.mm_frame.specs.Base.{before}
 use Rattle.mm_frame.specs.Kept.{TellsFrame, frames_of}
-use Rattle.mm_frame.specs.declared.draft.Frame.{Frame}
 use Rattle.mm_frame.proofs.BaseLemmas.{row_none, frame_beyond, frame_numbers, frame_pairs}
 use Rattle.mm_frame.proofs.base.Base.frame.Goals as goal
 

@@ -1,4 +1,4 @@
-use Rattle.std.proofs.Common.{◌+◌, ◌∷◌, ◌++◌, [], ◌∙◌, ap, drop, subst, sym, append_assoc}
+use Rattle.std.proofs.Common.{◌+◌, ◌++◌, ◌∙◌, ap, drop, subst, sym, append_assoc}
 use Rattle.mm_frame.specs.Framing.{pairs_of}
 use Rattle.mm_frame.specs.Named.{symbol_of, symbols_of}
 use Rattle.std.proofs.lemmas.List.{take_rest}
