@@ -264,10 +264,14 @@ pairs_taken before item old new marks number variables d v l e k t = record { th
 
         by_next : has_pair (pairs_of variables) x y ≡ true → IsNext marks number (pair_number old x y) → (n : ℕ) × (pair_number new x y ≡ Some n) × Outlasts (before ++ item ∷ []) m n
         by_next h (inl a) = (c.0, told_true x y h ∙ a.3 ∙ sym a.1 ∙ c.1, still)
-        by_next h (inr b) = (number, told_true x y h ∙ b.1, λ later s.
-            let whole = c.2 (item ∷ later) (ap stays (sym (drop_more before item m later (within before x y m p))) ∙ s) in
-            let now = stays_front (drop (suc c.0) before) (item ∷ later) whole in
-            absurd (false≢true (sym (sym (ap (is_number_active marks) c.1) ∙ b.0) ∙ sym (active_is c.0) ∙ now)))
+        by_next h (inr b) = (
+          number,
+          told_true x y h ∙ b.1,
+          λ later s.
+              let whole = c.2 (item ∷ later) (ap stays (sym (drop_more before item m later (within before x y m p))) ∙ s) in
+              let now = stays_front (drop (suc c.0) before) (item ∷ later) whole in
+              absurd (false≢true (sym (sym (ap (is_number_active marks) c.1) ∙ b.0) ∙ sym (active_is c.0) ∙ now)),
+        )
 
         by_test : (b : Bool) → has_pair (pairs_of variables) x y ≡ b → (n : ℕ) × (pair_number new x y ≡ Some n) × Outlasts (before ++ item ∷ []) m n
         by_test true h = by_next h (next_cases marks number (pair_number old x y))
@@ -280,9 +284,13 @@ pairs_taken before item old new marks number variables d v l e k t = record { th
         told = told_true x y (has_it x y ∙ o)
 
         by_next : IsNext marks number (pair_number old x y) → (n : ℕ) × (pair_number new x y ≡ Some n) × Outlasts (before ++ item ∷ []) m n
-        by_next (inl a) = (a.0, told ∙ a.3, λ later s.
-            let behind : stays later ≡ true = ap stays (sym (drop_new before item m later z)) ∙ s in
-            ap stays (drop_more before item a.0 later (within before x y a.0 (k.there x y a.0 a.1))) ∙ stays_join (drop (suc a.0) before) (item ∷ later) (active_is a.0 ∙ a.2) (stays_item later behind))
+        by_next (inl a) = (
+          a.0,
+          told ∙ a.3,
+          λ later s.
+              let behind : stays later ≡ true = ap stays (sym (drop_new before item m later z)) ∙ s in
+              ap stays (drop_more before item a.0 later (within before x y a.0 (k.there x y a.0 a.1))) ∙ stays_join (drop (suc a.0) before) (item ∷ later) (active_is a.0 ∙ a.2) (stays_item later behind),
+        )
         by_next (inr b) = (number, told ∙ b.1, λ later s. subst (λ n. stays (drop (suc n) (before ++ item ∷ []) ++ later) ≡ true) (z ∙ l) s)
 
     cover : (x y : List ℕ) (m : ℕ) → IsPairAt (before ++ item ∷ []) x y m → (n : ℕ) × (pair_number new x y ≡ Some n) × Outlasts (before ++ item ∷ []) m n

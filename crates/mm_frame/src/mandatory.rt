@@ -211,7 +211,14 @@ fn active_among(
 {
     let mut pairs = Vec::new(alloc);
     for n in 0..variables.len() {
-        add_active_with(alloc, table, blocks, variables[n], &variables[n + 1..], &mut pairs)?;
+        add_active_with(
+            alloc,
+            table,
+            blocks,
+            variables[n],
+            &variables[n + 1..],
+            &mut pairs,
+        )?;
     }
     Ok(pairs)
 }

@@ -15,7 +15,7 @@ use std::collections::HashMap;
 
 /// For each pair of names the number of a `$d` that has it, one that is active as long as any of these is.
 ///
-/// To take a `$d` costs the time of a look-up by hash for each of its pairs, and so does each question.
+/// To take a `$d` takes the time of a few look-ups by hash for each of its pairs, and a question that of two.
 #[derive(Drop)]
 pub struct PairTable {
     numbers: HashMap<Vec<u8>, HashMap<Vec<u8>, usize>>,

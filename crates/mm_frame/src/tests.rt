@@ -555,8 +555,7 @@ fn builds_a_base(rt: HostRuntime) -> Result<(), Fail> {
 }
 
 /// Five sound items: three variables, which are typed in the order z, x, y.
-const TYPED: &[u8] =
-    b"$c wff |- $.\n$v x y z $.\nwz $f wff z $.\nwx $f wff x $.\nwy $f wff y $.\n";
+const TYPED: &[u8] = b"$c wff |- $.\n$v x y z $.\nwz $f wff z $.\nwx $f wff x $.\nwy $f wff y $.\n";
 
 /// The pairs of the frame of an item of a text behind `TYPED`, written one behind another; `none` where it has no
 /// frame.
