@@ -17,7 +17,7 @@ use Rattle.mm_frame.specs.Scope.{Mark, Closes, Neither, mark_of, closes, active_
 use Rattle.mm_frame.specs.Named.{symbols_of, kept_pairs, expression_kept, kept_or_none, is_read, variable_of, AreSymbols, AreExpressions}
 use Rattle.mm_frame.specs.Tables.{item_at, active_numbers, IsSort}
 use Rattle.mm_frame.specs.Scoping.{taken}
-use Rattle.mm_frame.specs.Base.{BaseView, before, said_at, fault_by, told_fault, is_sound_at, expression_at, told_numbers, numbers_if, pairs_if, frame_at}
+use Rattle.mm_frame.specs.Base.{BaseView, before, said_at, fault_by, told_fault, is_sound_at, expression_at, told_numbers, numbers_if, pairs_if, is_framed_at, frame_at}
 use Rattle.mm_frame.specs.Kept.{AreRows, TellsFrame, is_told_proof}
 use Rattle.mm_frame.specs.Language.{Symbol, AreSamePairs}
 use Rattle.mm_frame.specs.Paired.{pairs_in_order}
@@ -279,11 +279,23 @@ pairs_told : (framed : Bool) (before : List Item) (item : Item) (pairs : List (S
 pairs_told true before item pairs e = (refl, cc)
 pairs_told false before item pairs e = cc
 
+-- the pairs of the frame of an assertion in one order are its pairs
+pub framed_in_order : (base : BaseView) (i : ℕ) → is_framed_at base i ≡ true → AreSamePairs (pairs_in_order (frame_at base i)) (frame_at base i).pairs
+framed_in_order base i t =
+    let item = said_at base i in
+    let parts = and_parts (is_sound_at base i) (is_assertion item.kind) t in
+    let sound = no_fault_sound (before base i) item (none_told item.kind (fault (before base i) item) parts.0) in
+    same_pairs (before base i) item (kept_are_sound (take i base.said)) sound parts.1
+
+frame_told : (base : BaseView) (i : ℕ) (frame : Bor Frame) (kept_frame : Option Frame) → Some frame.now ≡ kept_frame → TellsFrame (before base i) (said_at base i) kept_frame → (is_framed_at base i ≡ true) × (kept_pairs frame.now.pairs.items ≡ pairs_in_order (frame_at base i))
+frame_told base i frame kept_frame e t = pairs_told (is_framed_at base i) (before base i) (said_at base i) (kept_pairs frame.now.pairs.items) (ap (option_map (λ (f : Frame). kept_pairs f.pairs.items)) e ∙ t.pairs)
+
+pub frame_order : (base : BaseView) (i : ℕ) (lent : Option (Bor Frame)) (kept_frame : Option Frame) → option_map (λ frame. frame.now) lent ≡ kept_frame → TellsFrame (before base i) (said_at base i) kept_frame → IfSome lent (λ frame. kept_pairs frame.now.pairs.items ≡ pairs_in_order (frame_at base i))
+frame_order base i None kept_frame e t = tt
+frame_order base i (Some frame) kept_frame e t = (frame_told base i frame kept_frame e t).1
+
 pub frame_pairs : (base : BaseView) (i : ℕ) (lent : Option (Bor Frame)) (kept_frame : Option Frame) → option_map (λ frame. frame.now) lent ≡ kept_frame → TellsFrame (before base i) (said_at base i) kept_frame → IfSome lent (λ frame. AreSamePairs (kept_pairs frame.now.pairs.items) (frame_at base i).pairs)
 frame_pairs base i None kept_frame e t = tt
 frame_pairs base i (Some frame) kept_frame e t =
-    let item = said_at base i in
-    let p = pairs_told (is_none (told_fault (before base i) item) && is_assertion item.kind) (before base i) item (kept_pairs frame.now.pairs.items) (ap (option_map (λ (f : Frame). kept_pairs f.pairs.items)) e ∙ t.pairs) in
-    let parts = and_parts (is_none (told_fault (before base i) item)) (is_assertion item.kind) p.0 in
-    let sound = no_fault_sound (before base i) item (none_told item.kind (fault (before base i) item) parts.0) in
-    subst (λ w. AreSamePairs w (frame_at base i).pairs) (sym p.1) (same_pairs (before base i) item (kept_are_sound (take i base.said)) sound parts.1)
+    let told = frame_told base i frame kept_frame e t in
+    subst (λ w. AreSamePairs w (frame_at base i).pairs) (sym told.1) (framed_in_order base i told.0)

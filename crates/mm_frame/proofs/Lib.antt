@@ -28,4 +28,3 @@ pub mod FrameNumbers
 pub mod ResolvingLemmas
 pub mod SameLemmas
 pub mod SameFrames
-pub mod InOrder

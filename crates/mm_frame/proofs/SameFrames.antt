@@ -10,7 +10,7 @@ use Rattle.mm_frame.proofs.Outermost.{filter_same}
 use Rattle.mm_frame.proofs.TableLemmas.{any_in, in_any}
 
 -- the names of the two are those of a pair, in one order or the other
-abbrev pub are_names : Symbol × Symbol → Symbol × Symbol → Bool
+abbrev are_names : Symbol × Symbol → Symbol × Symbol → Bool
 are_names named pair = (bytes_eq pair.0.name named.0.name && bytes_eq pair.1.name named.1.name) || (bytes_eq pair.0.name named.1.name && bytes_eq pair.1.name named.0.name)
 
 swapped : (a b c d : Bool) → ((a && b) || (c && d)) ≡ true → ((d && c) || (b && a)) ≡ true

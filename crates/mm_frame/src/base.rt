@@ -10,6 +10,7 @@ ghost use Rattle.mm_frame.specs.Language.{AreSamePairs};
 ghost use Rattle.mm_frame.specs.Framing.{active_pairs, resolve};
 ghost use Rattle.mm_frame.specs.Base.{BaseView, IsOfFiles, before, said_at, is_proof_at, is_sound_at, fault_at, expression_at, hypotheses_at, frame_at, find_in, AreHypotheses};
 ghost use Rattle.mm_frame.specs.Named.{symbols_of, expression_kept, kept_pairs};
+ghost use Rattle.mm_frame.specs.Paired.{pairs_in_order};
 ghost use Rattle.mm_frame.specs.Item as meant;
 ghost use Rattle.mm_frame.specs.Statement.{kind_of};
 ghost use Rattle.mm_frame.specs.Resolving.{IsMeaning, Resolves};
@@ -198,6 +199,7 @@ impl Base {
         ensures hypotheses { (base : BaseView) → IsBase base self.now → option_map (λ frame. frame.now.hypotheses.items) result ≡ hypotheses_at base i }
         ensures means { (base : BaseView) → IsBase base self.now → IfSome result (λ frame. AreHypotheses base i frame.now.hypotheses.items) }
         ensures pairs { (base : BaseView) → IsBase base self.now → IfSome result (λ frame. AreSamePairs (kept_pairs frame.now.pairs.items) (frame_at base i).pairs) }
+        ensures order { (base : BaseView) → IsBase base self.now → IfSome result (λ frame. kept_pairs frame.now.pairs.items ≡ pairs_in_order (frame_at base i)) }
     {
         match self.kept_frame(i) {
             Some(frame) => frame_in(frame),
@@ -233,6 +235,7 @@ impl Base {
     {
         self.parts.tables.label(label)
     }
+
     /// What the label of the sound item `j` means at the item `i`.
     fn meaning(&self, j: usize, i: usize) -> Resolved
         ensures { (base : BaseView) (label : List ℕ) → IsBase base self.now → find_in base label ≡ Some j → Resolves base i label result }

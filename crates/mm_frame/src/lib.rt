@@ -22,6 +22,7 @@ pub use mm_store::{
     Files, Item, ItemKind, KnownPlace, PieceKey, Place, StoreError, TextFault, TextNumber, fits,
     nth_word, place,
 };
+pub use same::same_frame;
 pub use statement::Statement;
 pub use symbol::NamedSymbol;
 

@@ -4,6 +4,7 @@ ghost use Rattle.std.specs.Prelude.{◌≡◌, ◌↔◌, IsTrue, true, All, map
 ghost use Rattle.mm_frame.specs.Base.{BaseView, before, said_at, is_shown_at, is_framed_at, hypothesis_at, frame_at};
 ghost use Rattle.mm_frame.specs.Framing.{expression};
 ghost use Rattle.mm_frame.specs.Kept.{IsBase};
+ghost use Rattle.mm_frame.specs.Language.{AreSameFrame};
 ghost use Rattle.mm_frame.specs.Named.{symbols_of, pair_of, kept_pairs};
 
 use crate::base::Base;
@@ -86,6 +87,20 @@ pub fn same_but_pairs(one: &Base, i: usize, other: &Base, j: usize) -> bool
         (Some(mine), Some(yours)) => {
             same_expression(one, i, other, j)
                 && same_hypotheses(one, &mine.hypotheses, other, &yours.hypotheses)
+        }
+        _ => false,
+    }
+}
+
+/// Whether two sound `$a` or `$p` have the same frame: the same expression, the same mandatory hypotheses in the same
+/// order, and the same mandatory pairs, in whatever `$d` they stand. It takes no memory, and time linear in the two
+/// frames.
+pub fn same_frame(one: &Base, i: usize, other: &Base, j: usize) -> bool
+    ensures { (base copy : BaseView) → IsBase base one.now → IsBase copy other.now → is_framed_at base i ≡ true → is_framed_at copy j ≡ true → IsTrue result ↔ AreSameFrame (frame_at base i) (frame_at copy j) }
+{
+    match (one.frame(i), other.frame(j)) {
+        (Some(mine), Some(yours)) => {
+            same_but_pairs(one, i, other, j) && same_pairs(&mine.pairs, &yours.pairs)
         }
         _ => false,
     }

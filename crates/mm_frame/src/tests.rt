@@ -14,7 +14,9 @@ use crate::same::{same_but_pairs, same_pairs};
 use crate::scope::Scope;
 use crate::symbol::{NamedSymbol, expression_of};
 use crate::tables::{Declared, Tables};
-use crate::{Base, Files, FrameNumber, Item, ItemKind, Resolved, Statement, StoreError};
+use crate::{
+    Base, Files, FrameNumber, Item, ItemKind, Resolved, Statement, StoreError, same_frame,
+};
 use std::alloc::{AllocError, Global};
 use std::test::Fail;
 
@@ -781,5 +783,42 @@ fn compares_pairs(rt: HostRuntime) -> Result<(), Fail> {
     add_pair(rt.alloc(), b"x", b"z", &mut one)?;
     add_pair(rt.alloc(), b"z", b"x", &mut other)?;
     assert!(rt; !same_pairs(&one, &other));
+    Ok(())
+}
+
+/// The item 6 is of three variables, each apart from each other.
+const APART: &[u8] =
+    b"$c wff |- $.\n$v x y z $.\nwx $f wff x $.\nwy $f wff y $.\nwz $f wff z $.\n$d x y z $.\nax $a |- x y z $.\n";
+
+/// The items 12 and 14 are of the same symbols: all three are apart in the inner block, and two of them behind it.
+const SPREAD: &[u8] =
+    b"$c wff |- $.\n$v w x y z $.\nwx $f wff x $.\nwy $f wff y $.\nww $f wff w $.\nwz $f wff z $.\n${ $d y x $.\n$d w z $.\n${ $d z y $.\n$d z x y $.\nax $a |- x y z $. $}\nbx $a |- x y z $. $}\n";
+
+/// The item 6 is that of the first text, but for the order of its `$f`.
+const TURNED: &[u8] =
+    b"$c wff |- $.\n$v x y z $.\nwy $f wff y $.\nwx $f wff x $.\nwz $f wff z $.\n$d x y z $.\nax $a |- x y z $.\n";
+
+/// The item 2 is of the names of an assertion of the twins, of which one is a constant here.
+const NAMES: &[u8] = b"$c wff |- x $.\nex $e wff x $.\nax $a |- x $.\n";
+
+#[test]
+fn compares_frames(rt: HostRuntime) -> Result<(), Fail> {
+    let rows: [(&[u8], usize, &[u8], usize, bool); 10] = [
+        (APART, 6, APART, 6, true),
+        (APART, 6, SPREAD, 12, true),
+        (SPREAD, 12, APART, 6, true),
+        (APART, 6, SPREAD, 14, false),
+        (SPREAD, 14, SPREAD, 14, true),
+        (APART, 6, TURNED, 6, false),
+        (TWINS, 4, TWINS, 6, true),
+        (TWINS, 4, TWINS, 9, false),
+        (TWINS, 4, NAMES, 2, false),
+        (TWINS, 2, TWINS, 2, false),
+    ];
+    for (k, (text, i, other_text, j, wanted)) in rows.into_iter().enumerate() {
+        let base = base_of(rt.alloc(), text)?;
+        let other = base_of(rt.alloc(), other_text)?;
+        assert_eq!(rt; same_frame(&base, i, &other, j), wanted, "of row {k}");
+    }
     Ok(())
 }
