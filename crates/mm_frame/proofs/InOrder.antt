@@ -1,10 +1,10 @@
 -- The pairs of a frame in one order are its pairs.
 use Rattle.std.proofs.Common.{◌≡◌, ℕ, suc, Bool, true, false, cond, ◌&&◌, ◌||◌, Some, List, [], ◌∷◌, map, take, drop, slice_get, bytes_eq, All, refl, sym, ◌∙◌, ap, subst, inl, inr, ◌⊎◌}
-use Rattle.std.specs.Prelude.{Contains}
+use Rattle.std.specs.Prelude.{Contains, IsTrue, ◌↔◌}
 use Rattle.std.proofs.lemmas.Bool.{false≢true, and_from, and_parts, or_cases, or_parts, or_left, or_right}
 use Rattle.std.proofs.lemmas.List.Elements.{All-contains}
 use Rattle.std.proofs.lemmas.Slice.Eq.{bytes_eq-Decides}
-use Rattle.mm_frame.specs.Language.{Symbol, Mandatory, Frame, ArePair, AreSamePairs}
+use Rattle.mm_frame.specs.Language.{Symbol, Mandatory, Frame, ArePair, AreSamePairs, AreSameFrame}
 use Rattle.mm_frame.specs.Typing.{IsTyped, IsTyping, IsFrame}
 use Rattle.mm_frame.specs.Item.{Item, is_declaring, is_disjoint, is_assertion, has}
 use Rattle.mm_frame.specs.Scope.{active}
@@ -21,7 +21,7 @@ use Rattle.mm_frame.proofs.Outermost.{sound_kept}
 use Rattle.mm_frame.proofs.TableLemmas.{any_in, in_any}
 use Rattle.mm_frame.proofs.Judged.{no_fault_sound}
 use Rattle.mm_frame.proofs.BaseLemmas.{kept_are_sound, none_told}
-use Rattle.mm_frame.proofs.SameFrames.{are_names}
+use Rattle.mm_frame.proofs.SameFrames.{are_names, same_by_parts}
 
 -- the variables that one hypothesis types
 abbrev typed_by : Mandatory → List Symbol
@@ -151,3 +151,7 @@ framed_in_order base i t =
     let item = said_at base i in
     let p = and_parts (is_sound_at base i) (is_assertion item.kind) t in
     frame_in_order (before base i) (kept_are_sound (take i base.said)) item (no_fault_sound (before base i) item (none_told item.kind (fault (before base i) item) p.0)) p.1
+
+-- the frames of two bases are the same where their parts and these pairs are
+pub same_frames : (base copy : BaseView) (i j : ℕ) (parts pairs : Bool) (mine yours : List (Symbol × Symbol)) → is_framed_at base i ≡ true → is_framed_at copy j ≡ true → mine ≡ pairs_in_order (frame_at base i) → yours ≡ pairs_in_order (frame_at copy j) → IsTrue parts ↔ (((frame_at base i).expression ≡ (frame_at copy j).expression) × ((frame_at base i).hypotheses ≡ (frame_at copy j).hypotheses)) → IsTrue pairs ↔ (mine ≡ yours) → IsTrue (parts && pairs) ↔ AreSameFrame (frame_at base i) (frame_at copy j)
+same_frames base copy i j parts pairs mine yours s t m y e p = same_by_parts (frame_at base i) (frame_at copy j) parts pairs (framed_in_order base i s) (framed_in_order copy j t) e ((λ q. sym m ∙ p.0 q ∙ y), (λ q. p.1 (m ∙ q ∙ sym y)))

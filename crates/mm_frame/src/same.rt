@@ -5,6 +5,8 @@ ghost use Rattle.mm_frame.specs.Base.{BaseView, before, said_at, is_shown_at, is
 ghost use Rattle.mm_frame.specs.Framing.{expression};
 ghost use Rattle.mm_frame.specs.Kept.{IsBase};
 ghost use Rattle.mm_frame.specs.Named.{symbols_of, pair_of, kept_pairs};
+ghost use Rattle.mm_frame.specs.Language.{AreSameFrame};
+ghost use Rattle.mm_frame.specs.Paired.{pairs_in_order};
 
 use crate::base::Base;
 use crate::symbol::NamedSymbol;
@@ -89,4 +91,18 @@ pub fn same_but_pairs(one: &Base, i: usize, other: &Base, j: usize) -> bool
         }
         _ => false,
     }
+}
+
+/// Whether two sound `$a` or `$p` have the same frame, where these are the pairs of each in one order.
+pub fn same_with_pairs(
+    one: &Base,
+    i: usize,
+    mine: &[(NamedSymbol, NamedSymbol)],
+    other: &Base,
+    j: usize,
+    yours: &[(NamedSymbol, NamedSymbol)],
+) -> bool
+    ensures { (base copy : BaseView) → IsBase base one.now → IsBase copy other.now → is_framed_at base i ≡ true → is_framed_at copy j ≡ true → kept_pairs mine.now ≡ pairs_in_order (frame_at base i) → kept_pairs yours.now ≡ pairs_in_order (frame_at copy j) → IsTrue result ↔ AreSameFrame (frame_at base i) (frame_at copy j) }
+{
+    same_but_pairs(one, i, other, j) && same_pairs(mine, yours)
 }

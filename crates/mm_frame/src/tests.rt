@@ -9,7 +9,7 @@ use crate::active::ActiveNumbers;
 use crate::blocks::Blocks;
 use crate::judge::{FrameFault, fault_of};
 use crate::mandatory::{hypotheses, mandatory_pairs};
-use crate::same::{same_but_pairs, same_pairs};
+use crate::same::{same_but_pairs, same_pairs, same_with_pairs};
 use crate::scope::Scope;
 use crate::symbol::{NamedSymbol, expression_of};
 use crate::tables::{Declared, Tables};
@@ -649,6 +649,12 @@ fn compares_what_assertions_need(rt: HostRuntime) -> Result<(), Fail> {
     }
     assert!(rt; !same_but_pairs(&base, 4, &other, 1));
     assert!(rt; same_but_pairs(&other, 1, &other, 1));
+    let mut pairs = Vec::new(rt.alloc());
+    add_pair(rt.alloc(), b"x", b"y", &mut pairs)?;
+    assert!(rt; same_with_pairs(&base, 4, &[], &base, 6, &[]));
+    assert!(rt; same_with_pairs(&base, 4, &pairs, &base, 6, &pairs));
+    assert!(rt; !same_with_pairs(&base, 4, &pairs, &base, 6, &[]));
+    assert!(rt; !same_with_pairs(&base, 4, &[], &base, 5, &[]));
     Ok(())
 }
 
