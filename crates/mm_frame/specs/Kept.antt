@@ -1,5 +1,5 @@
 -- What the code keeps of the items for a base.
-use Rattle.std.specs.Prelude.{◌≡◌, ℕ, ◌<◌, Bool, ◌&&◌, Some, is_some, is_none, List, length, take, slice_get, Option, Vec}
+use Rattle.std.specs.Prelude.{◌≡◌, ℕ, ◌<◌, ◌≤◌, Bool, ◌&&◌, Some, is_some, is_none, List, length, take, slice_get, Option, Vec}
 use Rattle.std.specs.Option.{option_map}
 use Rattle.std.specs.List.{AllZip}
 use Rattle.std.specs.Global.{Global}
@@ -77,6 +77,7 @@ pub record AreParts (said : List Item) (parts : Parts) : Type 0 where
 pub record IsBase (base : BaseView) (code : Base) : Type 0 where
   pub found : code.items.items ≡ base.found
   pub count : length base.found ≡ length base.said
+  pub few : length base.said ≤ 4294967295
   pub kinds : AllZip (λ item said. kind_of item.kind ≡ said.kind) base.found base.said
   pub parts : AreParts base.said code.parts
 

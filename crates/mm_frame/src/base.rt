@@ -1,6 +1,6 @@
 //! What the items of files mean, from a top file on.
 
-ghost use Rattle.std.specs.Prelude.{◌≡◌, ◌<◌, ◌↔◌, ◌&&◌, is_none, is_some, Some, None, List, length, ℕ, IfSome, IfOk, IfErr, IsErrOf, slice_get};
+ghost use Rattle.std.specs.Prelude.{◌≡◌, ◌<◌, ◌≤◌, ◌↔◌, ◌&&◌, is_none, is_some, Some, None, List, length, ℕ, IfSome, IfOk, IfErr, IsErrOf, slice_get};
 ghost use Rattle.std.specs.Option.{option_map};
 ghost use Rattle.mm_store.specs.FilesView.{number_of};
 ghost use Rattle.mm_store.specs.Answers.{IsExpansionError};
@@ -147,9 +147,10 @@ impl Base {
         }
     }
 
-    /// How many items there are.
+    /// How many items there are: at most 4,294,967,295.
     pub fn count(&self) -> usize
-        ensures { (base : BaseView) → IsBase base self.now → result ≡ length base.said }
+        ensures count { (base : BaseView) → IsBase base self.now → result ≡ length base.said }
+        ensures few { (base : BaseView) → IsBase base self.now → result ≤ 4294967295 }
     {
         self.parts.rows.len()
     }

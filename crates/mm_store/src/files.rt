@@ -165,12 +165,14 @@ impl Files {
     /// each statement, each beginning and end of a block, and each first reference to a name that no file has, in
     /// the order of reading.
     ///
-    /// There are at most as many as the texts of the files have bytes. `NoTop` comes where no file has the name
-    /// `top`, before memory is taken; any other error is `Memory`. The files are gone through once.
+    /// There are at most as many as the texts of the files have bytes, and so at most 4,294,967,295. `NoTop` comes
+    /// where no file has the name `top`, before memory is taken; any other error is `Memory`. The files are gone
+    /// through once.
     pub fn statements(&self, alloc: Global, top: &[u8]) -> Result<Vec<Item>, StoreError>
         ensures items { IfOk result (λ found. IsExpansion self.now.files top.now found.items) }
         ensures stand { IfOk result (λ found. All (StandsIn self.now) found.items) }
         ensures few { IfOk result (λ found. length found.items ≤ bytes_of self.now.files) }
+        ensures small { IfOk result (λ found. length found.items ≤ 4294967295) }
         ensures no_top { IsErrOf result NoTop ↔ (number_of self.now.files top.now ≡ None) }
         ensures err { IfErr result IsExpansionError }
     {

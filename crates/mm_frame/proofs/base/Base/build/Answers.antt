@@ -1,4 +1,4 @@
-use Rattle.std.proofs.Common.{refl, sym, subst}
+use Rattle.std.proofs.Common.{refl, sym, subst, arith}
 use Rattle.std.specs.List.{AllZip}
 use Rattle.std.proofs.lemmas.Slice.Zip.{AllZip-long}
 use Rattle.mm_frame.specs.Statement.{Says}
@@ -13,5 +13,5 @@ returns-clause-base c =
     let each = subst (λ w. AllZip (Says files) w read.0) c.deref.ensures.value read.1 in (
       record { found = found; said = read.0 },
       record { expansion = c.in_ok-items.ensures.items; each = each },
-      record { found = refl; count = sym (AllZip-long (Says files) found read.0 each); kinds = kinds_said files found read.0 each; parts = c.parts.ensures read.0 read.2 },
+      record { found = refl; count = sym (AllZip-long (Says files) found read.0 each); few = omega (arith, AllZip-long (Says files) found read.0 each, c.in_ok-items.ensures.small); kinds = kinds_said files found read.0 each; parts = c.parts.ensures read.0 read.2 },
     )

@@ -61,6 +61,13 @@ returns-in_ok-expand_file-in-Some-clause-few c =
     let total = ap (λ (view : FilesView). bytes_of view.files) c.self.view_is in
     omega (arith, few, small, total, g.gains.few, ap length g.gains.more)
 
+pub returns-in_ok-expand_file-in-Some-clause-small : goal.returns-in_ok-expand_file-in-Some-clause-small
+returns-in_ok-expand_file-in-Some-clause-small c =
+    let few = returns-in_ok-expand_file-in-Some-clause-few c in
+    let inside = c.self.inside in
+    let total = ap (λ (view : FilesView). bytes_of view.files) c.self.view_is in
+    omega (arith, few, total, c.self.invariant.counted, c.self.invariant.within)
+
 pub returns-in_ok-expand_file-in-Some-clause-stand : goal.returns-in_ok-expand_file-in-Some-clause-stand
 returns-in_ok-expand_file-in-Some-clause-stand c =
     expansion_stands c.parts_are_texts.ensures c.args.self.now c.args.top.now c.in_ok-expand_file-in-Some.field-0.items (returns-in_ok-expand_file-in-Some-clause-items c)
