@@ -64,7 +64,7 @@ taken_beside R (suc n) (x ∷ xs) [] a = absurd a
 taken_beside R (suc n) (x ∷ xs) (y ∷ ys) a = (a.0, taken_beside R n xs ys a.1)
 
 -- the same, the other way round
-frame_back : (a b : Frame) → AreSameFrame a b → AreSameFrame b a
+pub frame_back : (a b : Frame) → AreSameFrame a b → AreSameFrame b a
 frame_back a b s = record { expression = sym s.expression; hypotheses = sym s.hypotheses; pairs = λ x y. ((s.pairs x y).1, (s.pairs x y).0) }
 
 meaning_back : (r s : Resolved) → AreSameMeaning r s → AreSameMeaning s r
@@ -106,7 +106,7 @@ all_apart active others a b given s f all k d l =
       | inr c ↦ apart_back active (given pair.1) (given pair.0) (All-contains (λ pair. AreApart active (given pair.0) (given pair.1)) a.pairs (pair.1, pair.0) all c)
     ])
 
-takes_moved : (active others : List (Symbol × Symbol)) (a b : Frame) (given : Symbol → List Symbol) (entries : List (List Symbol)) (result : List Symbol) → AreSamePairs active others → AreSameFrame a b → Takes active a given entries result → Takes others b given entries result
+pub takes_moved : (active others : List (Symbol × Symbol)) (a b : Frame) (given : Symbol → List Symbol) (entries : List (List Symbol)) (result : List Symbol) → AreSamePairs active others → AreSameFrame a b → Takes active a given entries result → Takes others b given entries result
 takes_moved active others a b given entries result s f t = record {
   entries_match = ap (λ hs. map (λ (h : Mandatory). substituted given h.expression) hs) (sym f.hypotheses) ∙ t.entries_match;
   result_matches = ap (substituted given) (sym f.expression) ∙ t.result_matches;

@@ -1,5 +1,5 @@
 -- A text is one database: its files and its items are the same but for keys, and the items say the same.
-use Rattle.std.proofs.Common.{◌≡◌, ℕ, ◌+◌, ◌<◌, ◌≤◌, List, [], ◌∷◌, Some, length, map, take, slice_get, slice_range, refl, sym, ap, ◌∙◌, subst, arith, add-zero}
+use Rattle.std.proofs.Common.{◌≡◌, ℕ, ◌+◌, ◌<◌, ◌≤◌, List, [], ◌∷◌, ◌++◌, Some, length, map, take, slice_get, slice_range, refl, sym, ap, ◌∙◌, subst, arith, add-zero}
 use Rattle.std.specs.List.{AllZip, concat}
 use Rattle.std.specs.Option.{option_map}
 use Rattle.std.proofs.lemmas.List.{take-map}
@@ -10,6 +10,7 @@ use Rattle.mm_text.specs.declared.word.Word.{Word}
 use Rattle.mm_text.specs.declared.fault.TextFault.{TextFault}
 use Rattle.mm_text.specs.Reading.{HasWords}
 use Rattle.mm_text.specs.Cut.{IsCut, IsFirstFault, ended}
+use Rattle.mm_text.specs.Place.{line_at, column_at}
 use Rattle.mm_text.specs.Unit.{tokens_of}
 use Rattle.mm_store.specs.declared.item.Item as store
 use Rattle.mm_store.specs.FilesView.{PieceView, FileView, FilesView, no_files, piece_texts, text_of, bytes_of}
@@ -17,9 +18,12 @@ use Rattle.mm_store.specs.FileFacts.{IsAdded, StandsIn, piece_offset}
 use Rattle.mm_store.specs.Answers.{HasTooMany}
 use Rattle.mm_store.specs.Expansion.{IsExpansion}
 use Rattle.mm_store.specs.Keyless.{keyless_piece, keyless_file, keyless_item}
+use Rattle.mm_frame.specs.Base.{BaseView}
 use Rattle.mm_frame.specs.Item.{Item}
 use Rattle.mm_frame.specs.Statement.{Says, kind_of, item_of}
-use Rattle.mmkeep.specs.Verified.{IsDatabase, IsWordAt, start_of}
+use Rattle.mmkeep.specs.Base.{IsWordOf}
+use Rattle.mmkeep.specs.Report.{Shown, IsWordAt, IsShown, start_of, spelled}
+use Rattle.mmkeep.specs.Verified.{IsDatabase}
 
 -- what is known of every text and of all files
 pub record Laws : Type 0 where
@@ -113,35 +117,63 @@ same_byte laws a b x y v w at there alike number f g =
     let offset : piece_offset f.byte.file x.piece ≡ piece_offset g.byte.file y.piece = same_offset f.byte.file g.byte.file x.piece y.piece file piece in
     f.byte.is_offset ∙ (λ i. offset i + (start i + start_of (slice_get (words i) (number i)))) ∙ sym g.byte.is_offset
 
+-- ---- how a word is shown
+
+-- files that are the same but for keys have the same text
+same_file_text : (f g : FileView) → keyless_file f ≡ keyless_file g → text_of f ≡ text_of g
+same_file_text f g same =
+    let tail : f.tail ≡ g.tail = ap (λ (file : FileView). file.tail) same in
+    (λ i. concat (same_texts f g same i) ++ tail i)
+
+same_place_text : (a b : FilesView) (x y : store.Item) (v w at there : ℕ) → AreAlike a b x y → (f : IsWordAt a x v at) (g : IsWordAt b y w there) → f.text ≡ g.text
+same_place_text a b x y v w at there alike f g =
+    f.byte.is_text ∙ same_file_text f.byte.file g.byte.file (same_file a b x y f.byte.file g.byte.file alike f.byte.there g.byte.there) ∙ sym g.byte.is_text
+
+same_spelled : Laws → (a b : FilesView) (x y : store.Item) (v w : ℕ) → AreAlike a b x y → v ≡ w → (s : StandsIn a x) (t : StandsIn b y)
+    → spelled (bytes_in s.text x) (slice_get s.words v) ≡ spelled (bytes_in t.text y) (slice_get t.words w)
+same_spelled laws a b x y v w alike number s t =
+    λ i. spelled (same_bytes a b x y alike s t i) (slice_get (same_words laws a b x y alike s t i) (number i))
+
+-- a word of an item is shown in one way
+same_shown : Laws → (a b : FilesView) (x y : store.Item) (v w : ℕ) (shown other : Shown) → AreAlike a b x y → v ≡ w → IsShown a x v shown → IsShown b y w other → shown ≡ other
+same_shown laws a b x y v w shown other alike number f g =
+    let at : f.at ≡ g.at = same_byte laws a b x y v w f.at g.at alike number f.place g.place in
+    let text : f.place.text ≡ g.place.text = same_place_text a b x y v w f.at g.at alike f.place g.place in
+    let line : shown.line ≡ other.line = f.line ∙ (λ i. line_at (text i) (at i)) ∙ sym g.line in
+    let column : shown.column ≡ other.column = f.column ∙ (λ i. column_at (text i) (at i)) ∙ sym g.column in
+    let word : shown.word ≡ other.word = f.is_word ∙ same_spelled laws a b x y v w alike number f.place.stands g.place.stands ∙ sym g.is_word in
+    λ i. record { line = line i; column = column i; word = word i }
+
 -- ---- two databases of one name and text
 
--- the files, the items and what they say, of a text
+-- the files and the items of a text
 pub record Database (name text : List ℕ) : Type 0 where
   pub files : FilesView
-  pub found : List store.Item
-  pub items : List Item
-  pub is : IsDatabase name text files found items
+  pub view : BaseView
+  pub is : IsDatabase name text files view
 
 same_files : {name text : List ℕ} → Laws → (a b : Database name text) → map keyless_file a.files.files ≡ map keyless_file b.files.files
 same_files {name} {text} laws a b = laws.one_file a.files b.files name text a.is.added b.is.added
 
-same_found : {name text : List ℕ} → Laws → (a b : Database name text) → map keyless_item a.found ≡ map keyless_item b.found
-same_found {name} {text} laws a b = laws.items a.files.files b.files.files name a.found b.found (same_files laws a b) a.is.expansion b.is.expansion
+same_found : {name text : List ℕ} → Laws → (a b : Database name text) → map keyless_item a.view.found ≡ map keyless_item b.view.found
+same_found {name} {text} laws a b = laws.items a.files.files b.files.files name a.view.found b.view.found (same_files laws a b) a.is.of_files.expansion b.is.of_files.expansion
 
-pub same_items : {name text : List ℕ} → Laws → (a b : Database name text) → a.items ≡ b.items
-same_items laws a b = same_all_said laws a.files b.files a.found b.found a.items b.items (same_files laws a b) (same_found laws a b) a.is.say b.is.say
+pub same_items : {name text : List ℕ} → Laws → (a b : Database name text) → a.view.said ≡ b.view.said
+same_items laws a b = same_all_said laws a.files b.files a.view.found b.view.found a.view.said b.view.said (same_files laws a b) (same_found laws a b) a.is.of_files.each b.is.of_files.each
 
--- where a word of an item begins
-pub record Place {name text : List ℕ} (database : Database name text) (n word at : ℕ) : Type 0 where
-  pub item : store.Item
-  pub there : slice_get database.found n ≡ Some item
-  pub place : IsWordAt database.files item word at
+-- the items with one number are alike
+alike_at : {name text : List ℕ} → Laws → (a b : Database name text) (m n : ℕ) (x y : store.Item) → m ≡ n → slice_get a.view.found m ≡ Some x → slice_get b.view.found n ≡ Some y → AreAlike a.files b.files x y
+alike_at laws a b m n x y number at there = record { files = same_files laws a b; item = same_at keyless_item a.view.found b.view.found m n x y (same_found laws a b) number at there }
 
 -- a word with one number, of an item with one number, begins at one byte
-pub same_place : {name text : List ℕ} → Laws → (a b : Database name text) (m n v w at other : ℕ) → m ≡ n → v ≡ w → Place a m v at → Place b n w other → at ≡ other
+pub same_place : {name text : List ℕ} → Laws → (a b : Database name text) (m n v w at other : ℕ) → m ≡ n → v ≡ w → IsWordOf a.files a.view m v at → IsWordOf b.files b.view n w other → at ≡ other
 same_place laws a b m n v w at other number word f g =
-    let item : keyless_item f.item ≡ keyless_item g.item = same_at keyless_item a.found b.found m n f.item g.item (same_found laws a b) number f.there g.there in
-    same_byte laws a.files b.files f.item g.item v w at other (record { files = same_files laws a b; item = item }) word f.place g.place
+    same_byte laws a.files b.files f.item g.item v w at other (alike_at laws a b m n f.item g.item number f.there g.there) word f.place g.place
+
+-- and it is shown in one way
+pub same_shown_word : {name text : List ℕ} → Laws → (a b : Database name text) (n v w : ℕ) (x y : store.Item) (shown other : Shown) → v ≡ w → slice_get a.view.found n ≡ Some x → slice_get b.view.found n ≡ Some y
+    → IsShown a.files x v shown → IsShown b.files y w other → shown ≡ other
+same_shown_word laws a b n v w x y shown other word at there f g = same_shown laws a.files b.files x y v w shown other (alike_at laws a b n n x y refl at there) word f g
 
 -- ---- a database, or a text that is none
 

@@ -9,7 +9,7 @@ use Rattle.mm_store.specs.declared.item.Item as store
 use Rattle.mm_store.specs.FilesView.{FilesView, text_of}
 use Rattle.mm_store.specs.FileFacts.{StandsIn, IsByte, piece_offset}
 use Rattle.mmkeep.specs.Later.{is_unread_step, unread_from}
-use Rattle.mmkeep.specs.Verified.{start_of}
+use Rattle.mmkeep.specs.Report.{start_of}
 
 -- one more element that stands in the relation
 pub zip_push : {X Y : Type 0} (R : X → Y → Type 0) (xs : List X) (ys : List Y) (x : X) (y : Y) → AllZip R xs ys → R x y → AllZip R (xs ++ x ∷ []) (ys ++ y ∷ [])

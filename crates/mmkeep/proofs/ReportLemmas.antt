@@ -1,64 +1,95 @@
 -- The lines of a report, one more at a time.
-use Rattle.std.proofs.Common.{◌≡◌, ℕ, Bool, cond, zero-add, ◌+◌, ◌<◌, List, [], ◌∷◌, ◌++◌, length, take, drop, min, get_or, refl, sym, ◌∙◌, ap, append_assoc, arith}
+use Rattle.std.proofs.Common.{◌≡◌, ℕ, Bool, false, Option, cond, zero-add, ◌+◌, ◌<◌, List, [], ◌∷◌, ◌++◌, length, take, drop, min, get_or, refl, sym, ◌∙◌, ap, subst, append_assoc, arith}
 use Rattle.std.proofs.lemmas.List.Sums.{sum_by-cons}
-use Rattle.std.proofs.lemmas.List.{append-nil, take_more, length-take, length-take-le, take-append-drop}
-use Rattle.mm_frame.specs.Item.{Item}
+use Rattle.std.proofs.lemmas.List.{append-nil, take_more, length-take, length-take-le, length-map, get_or-map, take-append-drop}
+use Rattle.std.specs.Io.KnownBytes.{Appends}
+use Rattle.std.proofs.KnownBytes.{Appends-trans}
+use Rattle.mm_frame.specs.Item.{Item, passed}
+use Rattle.mm_frame.specs.Base.{BaseView, said_at}
+use Rattle.mm_frame.specs.Kept.{IsBase}
+use Rattle.mm_frame.specs.declared.base.Base.{Base}
+use Rattle.mm_frame.specs.declared.FrameNumber.{FrameNumber}
 use Rattle.mmkeep.specs.declared.finding.Finding.{Finding}
+use Rattle.mmkeep.specs.declared.finding.Finding.TheVariants as code
 use Rattle.std.specs.Prelude.{count_by, codes, decimal}
-use Rattle.mmkeep.specs.declared.finding.Finding.TheVariants as findings
-use Rattle.mmkeep.specs.Report.{line, lines, is_wrong, summary}
+use Rattle.mmkeep.specs.Stream.{AppendsPart}
+use Rattle.mmkeep.proofs.StreamLemmas.{part_front, part_behind}
+use Rattle.mmkeep.specs.Report.{Told, Quiet, AnAxiom, Proved, Wrong, Fault, told, told_all, line, lines, fault_line, code_of, is_axiom, is_proved, is_wrong, is_fault, summary, report}
+
+-- ---- lines
 
 -- the lines of some items, and then those of more
-lines_join : (items more : List Item) (found others : List Finding) → length found ≡ length items → lines (items ++ more) (found ++ others) ≡ lines items found ++ lines more others
-lines_join [] more [] others e = refl
-lines_join [] more (y ∷ ys) others e = cc
-lines_join (x ∷ xs) more [] others e = cc
-lines_join (x ∷ xs) more (y ∷ ys) others e = ap (λ bytes. line x y ++ bytes) (lines_join xs more ys others (cc)) ∙ sym (append_assoc (line x y) (lines xs ys) (lines more others))
+lines_join : (file : List ℕ) (items more : List Item) (all others : List Told) → length all ≡ length items → lines file (items ++ more) (all ++ others) ≡ lines file items all ++ lines file more others
+lines_join file [] more [] others e = refl
+lines_join file [] more (y ∷ ys) others e = cc
+lines_join file (x ∷ xs) more [] others e = cc
+lines_join file (x ∷ xs) more (y ∷ ys) others e = ap (λ bytes. line file x y ++ bytes) (lines_join file xs more ys others (cc)) ∙ sym (append_assoc (line file x y) (lines file xs ys) (lines file more others))
 
 -- one more item has its line behind the others'
-lines_push : (items : List Item) (found : List Finding) (item : Item) (finding : Finding) → length found ≡ length items → lines (items ++ item ∷ []) (found ++ finding ∷ []) ≡ lines items found ++ line item finding
-lines_push items found item finding e = lines_join items (item ∷ []) found (finding ∷ []) e ∙ ap (λ bytes. lines items found ++ bytes) (append-nil (line item finding))
+lines_push : (file : List ℕ) (items : List Item) (all : List Told) (item : Item) (one : Told) → length all ≡ length items → lines file (items ++ item ∷ []) (all ++ one ∷ []) ≡ lines file items all ++ line file item one
+lines_push file items all item one e = lines_join file items (item ∷ []) all (one ∷ []) e ∙ ap (λ bytes. lines file items all ++ bytes) (append-nil (line file item one))
 
 -- the lines of the first items, and then those of the others
-lines_split : (items : List Item) (found : List Finding) (i : ℕ) → length found ≡ length items → lines (take i items) (take i found) ++ lines (drop i items) (drop i found) ≡ lines items found
-lines_split items found i e =
-    let lengths : length (take i found) ≡ length (take i items) = length-take i found ∙ ap (λ (n : ℕ). min i n) e ∙ sym (length-take i items) in
-    sym (lines_join (take i items) (drop i items) (take i found) (drop i found) lengths) ∙ ap (λ (xs : List Item). lines xs (take i found ++ drop i found)) (take-append-drop i items) ∙ ap (lines items) (take-append-drop i found)
+lines_split : (file : List ℕ) (items : List Item) (all : List Told) (i : ℕ) → length all ≡ length items → lines file (take i items) (take i all) ++ lines file (drop i items) (drop i all) ≡ lines file items all
+lines_split file items all i e =
+    let lengths : length (take i all) ≡ length (take i items) = length-take i all ∙ ap (λ (n : ℕ). min i n) e ∙ sym (length-take i items) in
+    sym (lines_join file (take i items) (drop i items) (take i all) (drop i all) lengths) ∙ ap (λ (xs : List Item). lines file xs (take i all ++ drop i all)) (take-append-drop i items) ∙ ap (lines file items) (take-append-drop i all)
 
-pub lines_more : (items : List Item) (found : List Finding) (i : ℕ) (x : Item) (y : Finding) → length found ≡ length items → i < length found → lines (take (i + 1) items) (take (i + 1) found) ≡ lines (take i items) (take i found) ++ line (get_or items i x) (get_or found i y)
-lines_more items found i x y e l =
+lines_step : (file : List ℕ) (items : List Item) (all : List Told) (i : ℕ) (x : Item) (y : Told) → length all ≡ length items → i < length all → lines file (take (i + 1) items) (take (i + 1) all) ≡ lines file (take i items) (take i all) ++ line file (get_or items i x) (get_or all i y)
+lines_step file items all i x y e l =
     let in_items : i < length items = omega arith in
-    let lengths : length (take i found) ≡ length (take i items) = length-take-le i found (omega arith) ∙ sym (length-take-le i items (omega arith)) in
-    rw (take_more items i x in_items, take_more found i y l) (lines_push (take i items) (take i found) (get_or items i x) (get_or found i y) lengths)
+    let lengths : length (take i all) ≡ length (take i items) = length-take-le i all (omega arith) ∙ sym (length-take-le i items (omega arith)) in
+    rw (take_more items i x in_items, take_more all i y l) (lines_push file (take i items) (take i all) (get_or items i x) (get_or all i y) lengths)
+
+-- one more item has its line, which tells its finding
+pub lines_more : (file : List ℕ) (items : List Item) (findings : List Finding) (i : ℕ) (x : Item) (y : Finding) → length findings ≡ length items → i < length findings → lines file (take (i + 1) items) (take (i + 1) (told_all findings)) ≡ lines file (take i items) (take i (told_all findings)) ++ line file (get_or items i x) (told (get_or findings i y))
+lines_more file items findings i x y e l =
+    let count : length (told_all findings) ≡ length findings = length-map findings told in
+    let one : get_or (told_all findings) i (told y) ≡ told (get_or findings i y) = get_or-map told findings i y (told y) l in
+    lines_step file items (told_all findings) i x (told y) (count ∙ e) (omega arith) ∙ ap (λ (t : Told). lines file (take i items) (take i (told_all findings)) ++ line file (get_or items i x) t) one
 
 -- the lines of the items before one, its own, and those of the items behind it
-pub lines_at : (items : List Item) (found : List Finding) (i : ℕ) (x : Item) (y : Finding) → length found ≡ length items → i < length found → lines items found ≡ lines (take i items) (take i found) ++ line (get_or items i x) (get_or found i y) ++ lines (drop (i + 1) items) (drop (i + 1) found)
-lines_at items found i x y e l = sym (lines_split items found (i + 1) e) ∙ ap (λ bytes. bytes ++ lines (drop (i + 1) items) (drop (i + 1) found)) (lines_more items found i x y e l)
+pub lines_at : (file : List ℕ) (items : List Item) (findings : List Finding) (i : ℕ) (x : Item) (y : Finding) → length findings ≡ length items → i < length findings → lines file items (told_all findings) ≡ lines file (take i items) (take i (told_all findings)) ++ line file (get_or items i x) (told (get_or findings i y)) ++ lines file (drop (i + 1) items) (drop (i + 1) (told_all findings))
+lines_at file items findings i x y e l =
+    sym (lines_split file items (told_all findings) (i + 1) (length-map findings told ∙ e)) ∙ ap (λ bytes. bytes ++ lines file (drop (i + 1) items) (drop (i + 1) (told_all findings))) (lines_more file items findings i x y e l)
+
+-- ---- counts
 
 abbrev unit : Bool → ℕ
 unit b = cond b 1 0
 
-count_cons : (x : Finding) (xs : List Finding) → count_by is_wrong (x ∷ xs) ≡ unit (is_wrong x) + count_by is_wrong xs
-count_cons x xs = sum_by-cons (λ (f : Finding). unit (is_wrong f)) x xs
+count_cons : {X : Type 0} (test : X → Bool) (x : X) (xs : List X) → count_by test (x ∷ xs) ≡ unit (test x) + count_by test xs
+count_cons test x xs = sum_by-cons (λ y. unit (test y)) x xs
 
--- no line stands in a report where nothing is wrong
-pub no_lines : (items : List Item) (found : List Finding) → count_by is_wrong found ≡ 0 → lines items found ≡ []
-no_lines [] found n = refl
-no_lines (x ∷ xs) [] n = refl
-no_lines (x ∷ xs) (findings.Wrong ∷ ys) n = absurd (omega (arith, count_cons findings.Wrong ys))
-no_lines (x ∷ xs) (findings.Quiet ∷ ys) n = no_lines xs ys (omega (arith, count_cons findings.Quiet ys))
-no_lines (x ∷ xs) (findings.Axiom ∷ ys) n = no_lines xs ys (omega (arith, count_cons findings.Axiom ys))
-no_lines (x ∷ xs) (findings.Proved ∷ ys) n = no_lines xs ys (omega (arith, count_cons findings.Proved ys))
+-- findings are counted as what they tell is
+pub count_told : (test : Told → Bool) (findings : List Finding) → count_by (λ finding. test (told finding)) findings ≡ count_by test (told_all findings)
+count_told test [] = refl
+count_told test (x ∷ xs) = count_cons (λ finding. test (told finding)) x xs ∙ ap (λ (n : ℕ). unit (test (told x)) + n) (count_told test xs) ∙ sym (count_cons test (told x) (told_all xs))
+
+-- no line stands in a report where nothing is wrong or at fault
+pub no_lines : (file : List ℕ) (items : List Item) (all : List Told) → count_by is_wrong all ≡ 0 → count_by is_fault all ≡ 0 → lines file items all ≡ []
+no_lines file [] all n f = refl
+no_lines file (x ∷ xs) [] n f = refl
+no_lines file (x ∷ xs) (Wrong ∷ ys) n f = absurd (omega (arith, count_cons is_wrong Wrong ys))
+no_lines file (x ∷ xs) (Fault number shown ∷ ys) n f = absurd (omega (arith, count_cons is_fault (Fault number shown) ys))
+no_lines file (x ∷ xs) (Quiet ∷ ys) n f = no_lines file xs ys (omega (arith, count_cons is_wrong Quiet ys)) (omega (arith, count_cons is_fault Quiet ys))
+no_lines file (x ∷ xs) (AnAxiom ∷ ys) n f = no_lines file xs ys (omega (arith, count_cons is_wrong AnAxiom ys)) (omega (arith, count_cons is_fault AnAxiom ys))
+no_lines file (x ∷ xs) (Proved ∷ ys) n f = no_lines file xs ys (omega (arith, count_cons is_wrong Proved ys)) (omega (arith, count_cons is_fault Proved ys))
+
+-- what has no line is counted neither as wrong nor as a fault
+none_more : (one : Told) (all : List Told) → is_wrong one ≡ false → is_fault one ≡ false → (count_by is_wrong all ≡ 0) × (count_by is_fault all ≡ 0) → (count_by is_wrong (one ∷ all) ≡ 0) × (count_by is_fault (one ∷ all) ≡ 0)
+none_more one all w f p = (count_cons is_wrong one all ∙ rw w (zero-add _ ∙ p.0) , count_cons is_fault one all ∙ rw f (zero-add _ ∙ p.1))
 
 -- and one stands there where something is
-pub some_line : (items : List Item) (found : List Finding) → length found ≡ length items → lines items found ≡ [] → count_by is_wrong found ≡ 0
-some_line [] [] e l = refl
-some_line [] (y ∷ ys) e l = cc
-some_line (x ∷ xs) [] e l = refl
-some_line (x ∷ xs) (findings.Wrong ∷ ys) e l = cc
-some_line (x ∷ xs) (findings.Quiet ∷ ys) e l = count_cons findings.Quiet ys ∙ (zero-add _ ∙ some_line xs ys (cc) l)
-some_line (x ∷ xs) (findings.Axiom ∷ ys) e l = count_cons findings.Axiom ys ∙ (zero-add _ ∙ some_line xs ys (cc) l)
-some_line (x ∷ xs) (findings.Proved ∷ ys) e l = count_cons findings.Proved ys ∙ (zero-add _ ∙ some_line xs ys (cc) l)
+pub some_line : (file : List ℕ) (items : List Item) (all : List Told) → length all ≡ length items → lines file items all ≡ [] → (count_by is_wrong all ≡ 0) × (count_by is_fault all ≡ 0)
+some_line file [] [] e l = (refl , refl)
+some_line file [] (y ∷ ys) e l = cc
+some_line file (x ∷ xs) [] e l = (refl , refl)
+some_line file (x ∷ xs) (Wrong ∷ ys) e l = cc
+some_line file (x ∷ xs) (Fault number shown ∷ ys) e l = cc
+some_line file (x ∷ xs) (Quiet ∷ ys) e l = none_more Quiet ys refl refl (some_line file xs ys (cc) l)
+some_line file (x ∷ xs) (AnAxiom ∷ ys) e l = none_more AnAxiom ys refl refl (some_line file xs ys (cc) l)
+some_line file (x ∷ xs) (Proved ∷ ys) e l = none_more Proved ys refl refl (some_line file xs ys (cc) l)
 
 -- ---- the summary
 
@@ -66,5 +97,49 @@ abbrev pub counted : List ℕ → ℕ → List ℕ
 counted name number = name ++ decimal number
 
 -- the summary as it is written, part by part
-pub summary_parts : (axioms proved wrong : ℕ) → summary axioms proved wrong ≡ counted (codes "axioms ") axioms ++ (counted (codes " theorems ") (proved + wrong) ++ (counted (codes " proved ") proved ++ (counted (codes " incomplete 0 wrong ") wrong ++ codes " faults 0\n")))
-summary_parts axioms proved wrong = simp append_assoc
+pub summary_parts : (axioms proved wrong faults : ℕ) → summary axioms proved wrong faults ≡ counted (codes "axioms ") axioms ++ (counted (codes " theorems ") (proved + wrong) ++ (counted (codes " proved ") proved ++ (counted (codes " incomplete 0 wrong ") wrong ++ (counted (codes " faults ") faults ++ codes "\n"))))
+summary_parts axioms proved wrong faults = simp append_assoc
+
+-- ---- the line of a fault
+
+-- a line and a column, as they are written
+abbrev pub placed : ℕ → ℕ → List ℕ
+placed row column = decimal row ++ codes ":" ++ decimal column ++ codes " "
+
+-- a place as it is written, part by part
+pub place_parts : (row column : ℕ) → placed row column ≡ decimal row ++ (codes ":" ++ (decimal column ++ codes " "))
+place_parts row column = simp append_assoc
+
+-- the line of a fault as it is written, part by part
+pub fault_parts : (file : List ℕ) (number : FrameNumber) (row column : ℕ) (word : List ℕ) → fault_line file number (record { line = row; column = column; word = word }) ≡ codes "fault " ++ ((file ++ codes ":") ++ (placed row column ++ ((code_of number ++ codes " ") ++ (word ++ codes "\n"))))
+fault_parts file number row column word = simp append_assoc
+
+-- ---- what is written of the lines and the report
+
+-- some of these bytes are written, for each base that the code keeps with as many items as there are findings
+abbrev pub Written : Base → List Finding → (BaseView → Type 0) → Type 0
+Written base findings says = (view : BaseView) → IsBase view base → length findings ≡ length view.said → says view
+
+-- a part of one line behind those before it is a part of all lines
+pub lines_part : (a b c : Option (List ℕ)) (file : List ℕ) (base : Base) (findings : List Finding) (i : ℕ) → i < length findings → Written base findings (λ view. Appends a b (lines file (take i view.said) (take i (told_all findings)))) → ((view : BaseView) → IsBase view base → AppendsPart b c (line file (said_at view i) (told (get_or findings i code.Quiet)))) → Written base findings (λ view. AppendsPart a c (lines file view.said (told_all findings)))
+lines_part a b c file base findings i within before here view is count =
+    rw (lines_at file view.said findings i passed code.Quiet count within) (part_front _ _ _ _ (part_behind _ _ _ _ _ (before view is count) (here view is)))
+
+-- a part of the lines is one of the report
+pub report_front : (a b : Option (List ℕ)) (file : List ℕ) (base : Base) (findings : List Finding) → Written base findings (λ view. AppendsPart a b (lines file view.said (told_all findings))) → Written base findings (λ view. AppendsPart a b (report file view.said (told_all findings)))
+report_front a b file base findings p view is count = part_front _ _ _ _ (p view is count)
+
+-- the summary of some findings
+abbrev pub summed : List Finding → List ℕ
+summed findings = summary (count_by (λ finding. is_axiom (told finding)) findings) (count_by (λ finding. is_proved (told finding)) findings) (count_by (λ finding. is_wrong (told finding)) findings) (count_by (λ finding. is_fault (told finding)) findings)
+
+summed_told : (all : List Finding) → summed all ≡ summary (count_by is_axiom (told_all all)) (count_by is_proved (told_all all)) (count_by is_wrong (told_all all)) (count_by is_fault (told_all all))
+summed_told all = rw (count_told is_axiom all, count_told is_proved all, count_told is_wrong all, count_told is_fault all) refl
+
+-- the summary behind the lines is the report
+pub report_whole : (a b c : Option (List ℕ)) (file : List ℕ) (base : Base) (findings : List Finding) → Written base findings (λ view. Appends a b (lines file view.said (told_all findings))) → Appends b c (summed findings) → Written base findings (λ view. Appends a c (report file view.said (told_all findings)))
+report_whole a b c file base findings before last view is count = Appends-trans _ _ _ _ _ (before view is count) (subst (Appends b c) (summed_told findings) last)
+
+-- and a part of the summary behind them is one of the report
+pub report_behind : (a b c : Option (List ℕ)) (file : List ℕ) (base : Base) (findings : List Finding) → Written base findings (λ view. Appends a b (lines file view.said (told_all findings))) → AppendsPart b c (summed findings) → Written base findings (λ view. AppendsPart a c (report file view.said (told_all findings)))
+report_behind a b c file base findings before last view is count = part_behind _ _ _ _ _ (before view is count) (subst (AppendsPart b c) (summed_told findings) last)

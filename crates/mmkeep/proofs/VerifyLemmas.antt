@@ -1,29 +1,28 @@
 -- From what the parts of a verification answer to what it answers.
-use Rattle.std.proofs.Common.{◌≡◌, ℕ, zero, suc, ◌+◌, ◌≤◌, List, [], ◌∷◌, ◌++◌, Some, length, take, get_or, refl, sym, ◌∙◌, ap, subst, inl, inr, arith, length-append}
+use Rattle.std.proofs.Common.{◌≡◌, ◌↔◌, ℕ, zero, suc, Bool, IsTrue, ◌&&◌, ◌+◌, ◌≤◌, List, [], ◌∷◌, ◌++◌, Some, length, take, get_or, refl, sym, ◌∙◌, ap, subst, inl, inr, arith, length-append}
 use Rattle.std.specs.Prelude.{slice_get, slice_range, count_by, ◌==◌, if◌then◌else◌}
-use Rattle.std.specs.List.{AllZip, concat}
+use Rattle.std.specs.List.{concat}
 use Rattle.std.specs.Option.{option_map}
 use Rattle.std.proofs.Common.{eq-eqb}
-use Rattle.std.proofs.lemmas.Bool.{cases_Bool, eqb-true}
+use Rattle.std.proofs.lemmas.Bool.{cases_Bool, eqb-true, and_from}
 use Rattle.std.proofs.lemmas.List.{take-map}
 use Rattle.std.proofs.lemmas.Option.{slice_get_within, slice_get-map, get_or_from_slice_get, same_Some}
 use Rattle.mm_text.specs.Cut.{ends_white, ended}
 use Rattle.mm_text.proofs.PositionLemmas.{nth_lies}
-use Rattle.mm_store.specs.declared.item.Item as store
 use Rattle.mm_store.specs.FilesView.{PieceView, FileView, FilesView, no_files, bytes_of, piece_texts, text_of}
 use Rattle.mm_store.specs.FileFacts.{IsAdded, piece_offset}
-use Rattle.mm_store.specs.Expansion.{IsExpansion}
 use Rattle.mm_store.proofs.PlaceLemmas.{within_joined}
-use Rattle.mm_frame.specs.Item.{Item}
-use Rattle.mm_frame.specs.Statement.{Says}
-use Rattle.mm_frame.specs.Sound.{AreSound}
+use Rattle.mm_frame.specs.Base.{BaseView, IsOfFiles}
+use Rattle.mm_frame.specs.Kept.{IsBase}
+use Rattle.mm_frame.specs.declared.base.Base.{Base}
+use Rattle.mm_frame.proofs.Facts.{and_both}
+use Rattle.mmkeep.specs.Base.{IsOf, IsWordOf}
 use Rattle.mmkeep.specs.declared.finding.Finding.{Finding}
 use Rattle.mmkeep.specs.Later.{AreRead, IsFirstUnread}
-use Rattle.mmkeep.specs.Base.{IsFirstUnsound}
-use Rattle.mmkeep.specs.Report.{AreFindings, is_wrong, report}
-use Rattle.mmkeep.specs.Verified.{IsDatabase, IsReport, IsWordOf, IsUnreadAt, IsUnsoundAt, start_of}
-use Rattle.mmkeep.proofs.ReadingLemmas.{zip_length, start_within}
-use Rattle.mmkeep.proofs.ReportLemmas.{no_lines, some_line}
+use Rattle.mmkeep.specs.Report.{start_of, told, told_all, AreTold, is_wrong, is_fault, report}
+use Rattle.mmkeep.specs.Verified.{IsDatabase, IsReport, IsUnreadAt}
+use Rattle.mmkeep.proofs.ReadingLemmas.{start_within}
+use Rattle.mmkeep.proofs.ReportLemmas.{no_lines, some_line, count_told}
 
 -- a piece ends in the text of its file
 piece_within : (file : FileView) (n : ℕ) (view : PieceView) → slice_get file.pieces n ≡ Some view → piece_offset file n + length view.text ≤ length (text_of file)
@@ -48,17 +47,20 @@ the_file file other zero e = cc
 the_file file other (suc n) e = cc
 
 -- what the code has is the database of the text
-pub database_of : (name text : List ℕ) (before files : FilesView) (found seen : List store.Item) (items : List Item) → before ≡ no_files → IsAdded before files name text → bytes_of files.files ≤ 4294967295 → IsExpansion files.files name found → seen ≡ found → AllZip (Says files) seen items → IsDatabase name text files found items
-database_of name text before files found seen items none added within expansion same say = record {
+pub database_of : (name text : List ℕ) (before files : FilesView) (view : BaseView) → before ≡ no_files → IsAdded before files name text → bytes_of files.files ≤ 4294967295 → IsOfFiles files name view → IsDatabase name text files view
+database_of name text before files view none added within is = record {
   added = subst (λ (old : FilesView). IsAdded old files name text) none added;
   within = within;
-  expansion = expansion;
-  say = subst (λ (xs : List store.Item). AllZip (Says files) xs items) same say;
+  of_files = is;
 }
 
-module _ (name text : List ℕ) (files : FilesView) (found : List store.Item) (items : List Item) (database : IsDatabase name text files found items) where
+-- and what its base answers is what the items of the files say
+pub view_of : (name : List ℕ) (files : FilesView) (code : Base) (view : BaseView) → IsOfFiles files name view → IsBase view code → IsOf files code view
+view_of name files code view is base = record { base = base; each = is.each }
+
+module _ (name text : List ℕ) (files : FilesView) (view : BaseView) (database : IsDatabase name text files view) where
   -- a word begins at a byte of the text, or at its end
-  pub place_within : (n word at : ℕ) → IsWordOf files found n word at → at ≤ length text
+  pub place_within : (n word at : ℕ) → IsWordOf files view n word at → at ≤ length text
   place_within n word at h =
       let item = h.item in
       let stands = h.place.stands in
@@ -71,32 +73,32 @@ module _ (name text : List ℕ) (files : FilesView) (found : List store.Item) (i
       let offset : at ≡ piece_offset stands.file item.piece + (item.start + start_of (slice_get stands.words word)) = byte.is_offset ∙ ap (λ (f : FileView). piece_offset f item.piece + (item.start + start_of (slice_get stands.words word))) other in
       omega (arith, offset, piece_within stands.file item.piece (record { key = item.key; text = stands.text }) stands.is_piece, whole, ended_most text, stands.within, less)
 
-  pub count_is : length found ≡ length items
-  count_is = zip_length (Says files) found items database.say
-
   -- the first word that is not read yet
-  pub unread_at : (n word at : ℕ) → IsFirstUnread items n word → IsWordOf files found n word at → IsUnreadAt name text at
-  unread_at n word at unread h = record { files = files; found = found; items = items; database = database; n = n; word = word; unread = unread; item = h.item; there = h.there; place = h.place }
-
-  -- the first item that is not sound
-  pub unsound_at : (n at : ℕ) → AreRead items → IsFirstUnsound items n → IsWordOf files found n 0 at → IsUnsoundAt name text at
-  unsound_at n at read u h =
-      record { files = files; found = found; items = items; database = database; read = read; n = n; said = u.item; is_said = u.there; sound = u.sound; unsound = u.unsound; item = h.item; there = h.there; place = h.place }
+  pub unread_at : (n word at : ℕ) → IsFirstUnread view.said n word → IsWordOf files view n word at → IsUnreadAt name text at
+  unread_at n word at unread h = record { files = files; view = view; database = database; n = n; word = word; unread = unread; place = h }
 
   -- the report
-  pub report_is : (others : List Item) (findings : List Finding) (wrong : ℕ) → others ≡ items → AreRead items → AreSound others → AreFindings others findings → wrong ≡ count_by is_wrong findings → IsReport name text (wrong == 0) (report others findings)
-  report_is others findings wrong same read sound are w = record {
-    files = files;
-    found = found;
-    items = items;
-    database = database;
-    read = read;
-    sound = subst AreSound same sound;
-    findings = findings;
-    are_findings = subst (λ (is : List Item). AreFindings is findings) same are;
-    bytes_are = ap (λ (is : List Item). report is findings) same;
-    clean_is = (
-      λ is. no_lines items findings (sym w ∙ eqb-true wrong 0 is),
-      λ none. eq-eqb wrong 0 (w ∙ some_line items findings (are.count ∙ ap length same) none),
-    );
-  }
+  pub report_is : (found : List Finding) (clean : Bool) → AreRead view.said → AreTold files view (told_all found) → IsTrue clean ↔ ((count_by (λ finding. is_wrong (told finding)) found ≡ 0) × (count_by (λ finding. is_fault (told finding)) found ≡ 0)) → IsReport name text clean (report name view.said (told_all found))
+  report_is found clean read are both =
+      let wrong = count_told is_wrong found in
+      let faults = count_told is_fault found in
+      record {
+        files = files;
+        view = view;
+        database = database;
+        read = read;
+        all = told_all found;
+        are_told = are;
+        bytes_are = refl;
+        clean_is = (
+          λ is. (let n = both.0 is in no_lines name view.said (told_all found) (sym wrong ∙ n.0) (sym faults ∙ n.1)),
+          λ none. (let n = some_line name view.said (told_all found) are.count none in both.1 (wrong ∙ n.0, faults ∙ n.1)),
+        );
+      }
+
+-- both counts are none
+pub clean_counts : (wrong faults : ℕ) → IsTrue (wrong == 0 && faults == 0) ↔ ((wrong ≡ 0) × (faults ≡ 0))
+clean_counts wrong faults = (
+  λ is. (let b = and_both (wrong == 0) (faults == 0) is in (eqb-true wrong 0 b.0, eqb-true faults 0 b.1)),
+  λ n. and_from (wrong == 0) (faults == 0) (eq-eqb wrong 0 n.0) (eq-eqb faults 0 n.1),
+)

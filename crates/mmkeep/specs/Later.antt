@@ -1,8 +1,8 @@
--- What is not read yet: blocks, `$e`, `$d`, missing files, compressed proofs and unknown steps.
+-- What is not read yet: compressed proofs and unknown steps.
 use Rattle.std.specs.Prelude.{◌≡◌, ℕ, suc, ◌+◌, ◌==◌, Bool, ◌||◌, ◌&&◌, if◌then◌else◌, Option, Some, None, List, [], ◌∷◌, length, slice_get, take, codes, bytes_eq}
 use Rattle.std.specs.Option.{option_map}
 use Rattle.std.specs.List.{AllByRecursion}
-use Rattle.mm_frame.specs.Item.{Kind, Disjoint, Essential, Theorem, BlockStart, BlockEnd, Missing, Item}
+use Rattle.mm_frame.specs.Item.{Kind, Theorem, Item}
 use Rattle.mm_frame.specs.Statement.{symbols_from}
 
 -- an unknown step
@@ -32,11 +32,6 @@ proof_word item n = symbols_from item.kind + length item.symbols + 1 + n
 
 -- the first word of an item of this kind that is not read yet
 abbrev pub unread_by : Kind → Item → Option ℕ
-unread_by BlockStart item = Some 0
-unread_by BlockEnd item = Some 0
-unread_by Disjoint item = Some 0
-unread_by Missing item = Some 0
-unread_by Essential item = Some 1
 unread_by Theorem item = option_map (proof_word item) (unread_step item.proof)
 unread_by _ item = None
 

@@ -1,26 +1,35 @@
 //! When symbols are the same.
 
 ghost use Rattle.std.specs.Prelude.{◌≡◌, ◌↔◌, IsTrue};
-ghost use Rattle.mmkeep.specs.Meaning.{symbol_of, symbols_of};
+ghost use Rattle.mm_frame.specs.Named.{symbols_of as named};
+ghost use Rattle.mmkeep.specs.Stack.{symbols_of};
 
-use crate::symbol::Symbol;
+use mm_frame::NamedSymbol;
 
-/// Whether two symbols have one name and are of one kind.
-pub fn is_same(a: &Symbol, b: &Symbol) -> bool
-    ensures { IsTrue result ↔ (symbol_of a.now ≡ symbol_of b.now) }
-{
-    a.variable == b.variable && a.name == b.name
-}
-
-/// Whether two expressions have the same symbols.
-pub fn are_same(a: &[Symbol], b: &[Symbol]) -> bool
+/// Whether two lists have the same symbols.
+pub fn are_same(a: &[&NamedSymbol], b: &[&NamedSymbol]) -> bool
     ensures { IsTrue result ↔ (symbols_of a.now ≡ symbols_of b.now) }
 {
     if a.len() != b.len() {
         return false;
     }
     for i in 0..a.len() {
-        if !is_same(&a[i], &b[i]) {
+        if !a[i].same(b[i]) {
+            return false;
+        }
+    }
+    true
+}
+
+/// Whether a list has the symbols of an expression.
+pub fn is_expression(a: &[&NamedSymbol], b: &[NamedSymbol]) -> bool
+    ensures { IsTrue result ↔ (symbols_of a.now ≡ named b.now) }
+{
+    if a.len() != b.len() {
+        return false;
+    }
+    for i in 0..a.len() {
+        if !a[i].same(&b[i]) {
             return false;
         }
     }

@@ -1,14 +1,22 @@
-//! What is found of a statement.
+//! What is found of an item.
 
-/// What is found of a statement.
-#[derive(Clone, Copy, Debug, PartialEq, Eq)]
-pub enum Finding {
-    /// Neither an `$a` nor a `$p`.
+use mm_frame::{FrameNumber, Place};
+
+/// What is found of an item.
+#[derive(Clone, Copy, Debug)]
+pub enum Finding<'a> {
+    /// Neither at fault nor an `$a` or a `$p`.
     Quiet,
-    /// An `$a`.
+    /// A sound `$a`.
     Axiom,
-    /// A `$p` whose labels derive its statement.
+    /// A sound `$p` whose labels derive its statement.
     Proved,
-    /// A `$p` whose labels do not.
+    /// A sound `$p` whose labels do not.
     Wrong,
+    /// A fault of the item, at a word with this place in its file.
+    Fault {
+        number: FrameNumber,
+        place: Place,
+        word: &'a [u8],
+    },
 }

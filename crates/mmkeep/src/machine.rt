@@ -1,110 +1,82 @@
 //! The machine that runs a proof.
 
-ghost use Rattle.std.specs.Prelude.{◌≡◌, ◌↔◌, ◌<◌, ◌++◌, All, IsTrue, IfOk, MatchOption, OnOk, length, map, slice_get};
-ghost use Rattle.mm_frame.specs.Framing.{place_of};
-ghost use Rattle.mm_frame.specs.Language.{Unknown};
-ghost use Rattle.mmkeep.specs.Base.{IsBase, items_of};
-ghost use Rattle.mmkeep.specs.Meaning.{symbol_of, symbols_of};
-ghost use Rattle.mmkeep.specs.Stack.{stack_of, mandatory_of, frame_of, IsCitable, IsMeaning, HaveTypecodes, HasSlot, HasSlots, standing_for, GivesBySlots, CitesOrFails};
-ghost use Rattle.mmkeep.specs.Proof.{IsTheorem, IsProved, StepsOrFails, ReachesOrFails};
+ghost use Rattle.std.specs.Prelude.{◌≡◌, ◌↔◌, ◌<◌, List, true, false, IsTrue, IfOk, MatchBool, MatchOption, OnOk, length, map};
+ghost use Rattle.mm_frame.specs.Base.{BaseView, before, said_at, is_shown_at, is_proof_at};
+ghost use Rattle.mm_frame.specs.Framing.{place, active_pairs};
+ghost use Rattle.mm_frame.specs.Kept.{IsBase, HasItem};
+ghost use Rattle.mm_frame.specs.Named.{symbols_of as named};
+ghost use Rattle.mm_frame.specs.Language.{Symbol};
+ghost use Rattle.mm_frame.specs.Sound.{AreSound};
+ghost use Rattle.mm_frame.specs.Typing.{IsFrame};
+ghost use Rattle.mm_proof.specs.Derivation.{Takes};
+ghost use Rattle.mmkeep.specs.Apart.{HasPairs, KnowsActive};
+ghost use Rattle.mmkeep.specs.Cited.{mandatory_of, frame_of};
+ghost use Rattle.mmkeep.specs.Given.{given_by};
+ghost use Rattle.mmkeep.specs.Proof.{IsProved, StepsOrFails, ReachesOrFails};
+ghost use Rattle.mmkeep.specs.Stack.{symbols_of, stack_of, CannotTake, CitesOrFails, AnyOtherEssential};
 
-use crate::base::Base;
-use crate::compare::{are_same, is_same};
-use crate::entry::Entry;
-use crate::symbol::Symbol;
+use crate::apart::Disjoint;
+use crate::citing::{Cited, Hypothesis, active, assertion_of, expression};
+use crate::compare::is_expression;
+use crate::given::Given;
+use mm_frame::{Base, NamedSymbol, Resolved, Statement};
 use std::alloc::{AllocError, Global};
 
-/// The most symbols that the result of an assertion step may have.
-pub const LONGEST_RESULT: usize = 1_000_000;
-
-/// Whether an entry has the typecode of a hypothesis.
-fn has_typecode(hypothesis: &[Symbol], taken: &[Symbol]) -> bool
-    requires { 0 < length hypothesis.now }
-    ensures { IsTrue result ↔ (slice_get (symbols_of hypothesis.now) 0 ≡ slice_get (symbols_of taken.now) 0) }
-{
-    match taken.first() {
-        Some(typecode) => is_same(&hypothesis[0], typecode),
-        None => false,
-    }
-}
-
-/// Whether each entry has the typecode of its hypothesis.
-fn have_typecodes(entries: &[Entry], hypotheses: &[usize], taken: &[Vec<Symbol>]) -> bool
-    requires within { All (λ h. h < length entries.now) hypotheses.now }
-    requires some { All (λ h. 0 < length h.expression) (map (mandatory_of entries.now) hypotheses.now) }
-    requires count { length taken.now ≡ length hypotheses.now }
-    ensures { IsTrue result ↔ HaveTypecodes (map (mandatory_of entries.now) hypotheses.now) (stack_of taken.now) }
+/// Whether each entry of a `$e` is the `$e` with what is given for its variables.
+fn essentials_fit<'a>(
+    hypotheses: &[Hypothesis<'a>],
+    taken: &[Vec<&'a NamedSymbol>],
+    given: &Given<'a>,
+) -> bool
+    requires { length taken.now ≡ length hypotheses.now }
+    ensures { MatchBool result (¬ AnyOtherEssential (given_by given.now (stack_of taken.now)) (map mandatory_of hypotheses.now) (stack_of taken.now)) (AnyOtherEssential (given_by given.now (stack_of taken.now)) (map mandatory_of hypotheses.now) (stack_of taken.now)) }
 {
     for place in 0..hypotheses.len() {
-        if !has_typecode(&entries[hypotheses[place]].expression, &taken[place]) {
+        let hypothesis = hypotheses[place];
+        if !hypothesis.floating && !given.fits(taken, hypothesis.expression, &taken[place]) {
             return false;
         }
     }
     true
 }
 
-/// Puts a symbol behind others, or for a variable the entry at its slot, without the typecode.
-fn put<'a>(
-    symbols: &mut Vec<Symbol<'a>>,
-    symbol: Symbol<'a>,
-    slot: usize,
-    taken: &[Vec<Symbol<'a>>],
-) -> Result<(), AllocError>
-    requires { HasSlot (stack_of taken.now) (symbol_of symbol) slot }
-    ensures { OnOk result (symbols_of symbols.new.items ≡ symbols_of symbols.old.items ++ standing_for (stack_of taken.now) (symbol_of symbol.entry) slot) }
-{
-    if symbol.variable {
-        symbols.extend_from_slice(&taken[slot][1..])
-    } else {
-        symbols.push(symbol)?;
-        Ok(())
-    }
-}
-
-/// The expression with what the entries give for its variables, unless it is too long.
-fn substituted<'a>(
+/// What citing an assertion makes of the entries of its hypotheses, if they are such that it can be cited.
+fn result_of<'a>(
     alloc: Global,
-    cited: &Entry<'a>,
-    taken: &[Vec<Symbol<'a>>],
-) -> Result<Option<Vec<Symbol<'a>>>, AllocError>
-    requires { HasSlots (stack_of taken.now) cited.now }
-    ensures { IfOk result (GivesBySlots (stack_of taken.now) cited.now) }
+    cited: &Cited<'a>,
+    disjoint: &Disjoint<'a>,
+    taken: &[Vec<&'a NamedSymbol>],
+) -> Result<Option<Vec<&'a NamedSymbol>>, AllocError>
+    requires { length taken.now ≡ length cited.now.hypotheses.items }
+    ensures { IfOk result (λ found. (active : List (Symbol × Symbol)) → HasPairs active disjoint.now → IsFrame (frame_of cited.now) → MatchOption found (CannotTake active (frame_of cited.now) (stack_of taken.now)) (λ result. (given : Symbol → List Symbol) × Takes active (frame_of cited.now) given (stack_of taken.now) (symbols_of result.items))) }
 {
-    let mut result = Vec::new(alloc);
-    for place in 0..cited.expression.len() {
-        put(
-            &mut result,
-            cited.expression[place],
-            cited.slots[place],
-            taken,
-        )?;
-        if result.len() > LONGEST_RESULT {
-            return Ok(None);
-        }
+    let Some(given) = Given::find(alloc, &cited.hypotheses, taken)? else {
+        return Ok(None);
+    };
+    if !essentials_fit(&cited.hypotheses, taken, &given) {
+        return Ok(None);
     }
-    Ok(Some(result))
+    if !disjoint.keeps(alloc, cited.pairs, &given, taken)? {
+        return Ok(None);
+    }
+    Ok(given.substituted(alloc, taken, cited.expression)?)
 }
 
 /// Takes the entries of the mandatory hypotheses from the stack and puts the result there. Answers whether it could.
 fn cite<'a>(
     alloc: Global,
-    entries: &[Entry<'a>],
-    cited: &Entry<'a>,
-    stack: &mut Vec<Vec<Symbol<'a>>>,
+    cited: &Cited<'a>,
+    disjoint: &Disjoint<'a>,
+    stack: &mut Vec<Vec<&'a NamedSymbol>>,
 ) -> Result<bool, AllocError>
-    requires { IsCitable entries.now cited.now }
-    ensures { IfOk result (λ done. CitesOrFails (frame_of entries.now cited.now) (stack_of stack.old.items) done (stack_of stack.new.items)) }
+    ensures { IfOk result (λ done. (active : List (Symbol × Symbol)) → HasPairs active disjoint.now → IsFrame (frame_of cited.now) → CitesOrFails active (frame_of cited.now) (stack_of stack.old.items) done (stack_of stack.new.items)) }
 {
     let count = cited.hypotheses.len();
     if stack.len() < count {
         return Ok(false);
     }
     let below = stack.len() - count;
-    let taken = &stack[below..];
-    if !have_typecodes(entries, &cited.hypotheses, taken) {
-        return Ok(false);
-    }
-    match substituted(alloc, cited, taken)? {
+    match result_of(alloc, cited, disjoint, &stack[below..])? {
         None => Ok(false),
         Some(result) => {
             stack.truncate(below);
@@ -114,56 +86,60 @@ fn cite<'a>(
     }
 }
 
-/// What is kept of the statement before this one that a label names, if there is one.
-fn named<'b, 'a>(base: &'b Base<'a>, number: usize, label: &[u8]) -> Option<&'b Entry<'a>>
-    requires base { IsBase (items_of base.now) base.now }
-    requires within { number < length (items_of base.now) }
-    ensures { MatchOption result ((place_of (items_of base.now) number).resolve label.now ≡ Unknown) (λ entry. IsMeaning base.now.entries.items ((place_of (items_of base.now) number).resolve label.now) entry.now) }
+/// The symbols of an expression, as an entry.
+fn entry<'a>(
+    alloc: Global,
+    expression: &'a [NamedSymbol],
+) -> Result<Vec<&'a NamedSymbol>, AllocError>
+    ensures { IfOk result (λ entry. symbols_of entry.items ≡ named expression.now) }
 {
-    let named = base.known.label(label)?;
-    if named < number {
-        Some(&base.entries[named])
-    } else {
-        None
+    let mut symbols = Vec::new(alloc);
+    for symbol in expression {
+        symbols.push(symbol)?;
     }
+    Ok(symbols)
 }
 
-/// Does the step that a label names in the proof of a statement. Answers whether it could.
+/// Does the step that a label names in the proof of a theorem. Answers whether it could.
 fn step<'a>(
     alloc: Global,
-    base: &Base<'a>,
+    base: &'a Base,
     number: usize,
+    disjoint: &Disjoint<'a>,
     label: &[u8],
-    stack: &mut Vec<Vec<Symbol<'a>>>,
+    stack: &mut Vec<Vec<&'a NamedSymbol>>,
 ) -> Result<bool, AllocError>
-    requires base { IsBase (items_of base.now) base.now }
-    requires within { number < length (items_of base.now) }
-    ensures { IfOk result (λ done. StepsOrFails (place_of (items_of base.now) number) label.now (stack_of stack.old.items) done (stack_of stack.new.items)) }
+    requires { HasItem base.now number }
+    ensures { IfOk result (λ done. (view : BaseView) → IsBase view base.now → KnowsActive view number disjoint.now → StepsOrFails (place (before view number)) label.now (stack_of stack.old.items) done (stack_of stack.new.items)) }
 {
-    match named(base, number, label) {
-        None => Ok(false),
-        Some(entry) if entry.assertion => cite(alloc, &base.entries, entry, stack),
-        Some(entry) => {
-            stack.push(Vec::from_slice(alloc, &entry.expression)?)?;
+    match base.resolve(label, number) {
+        Resolved::Hypothesis(hypothesis) => {
+            stack.push(entry(alloc, expression(base, hypothesis))?)?;
             Ok(true)
         }
+        Resolved::Assertion(assertion) => {
+            let cited = assertion_of(alloc, base, assertion)?;
+            Ok(cite(alloc, &cited, disjoint, stack)?)
+        }
+        Resolved::Inactive | Resolved::Unknown => Ok(false),
     }
 }
 
 /// The stack behind the proof of a theorem, if it can be run.
 fn run<'a>(
     alloc: Global,
-    base: &Base<'a>,
+    base: &'a Base,
     number: usize,
-) -> Result<Option<Vec<Vec<Symbol<'a>>>>, AllocError>
-    requires base { IsBase (items_of base.now) base.now }
-    requires theorem { IsTheorem (items_of base.now) number }
-    ensures { IfOk result (ReachesOrFails (items_of base.now) number) }
+    disjoint: &Disjoint<'a>,
+    statement: &Statement,
+) -> Result<Option<Vec<Vec<&'a NamedSymbol>>>, AllocError>
+    requires { HasItem base.now number }
+    ensures { IfOk result (λ found. (view : BaseView) → IsBase view base.now → KnowsActive view number disjoint.now → ReachesOrFails (place (before view number)) statement.now.proof found) }
 {
-    let statement = &base.statements[number];
     let mut stack = Vec::new(alloc);
     for word in 0..statement.proof_count() {
-        if !step(alloc, base, number, statement.proof_word(word), &mut stack)? {
+        let label = statement.proof_word(word);
+        if !step(alloc, base, number, disjoint, label, &mut stack)? {
             return Ok(None);
         }
     }
@@ -171,15 +147,20 @@ fn run<'a>(
 }
 
 /// Whether the labels of a theorem's proof derive its statement.
-pub fn is_proved<'a>(alloc: Global, base: &Base<'a>, number: usize) -> Result<bool, AllocError>
-    requires base { IsBase (items_of base.now) base.now }
-    requires theorem { IsTheorem (items_of base.now) number }
-    ensures { IfOk result (λ proved. IsTrue proved ↔ IsProved (items_of base.now) number) }
+pub fn is_proved(
+    alloc: Global,
+    base: &Base,
+    number: usize,
+    statement: &Statement,
+) -> Result<bool, AllocError>
+    requires { HasItem base.now number }
+    ensures { IfOk result (λ proved. (view : BaseView) → IsBase view base.now → is_proof_at view number ≡ true → said_at view number ≡ statement.now → IsTrue proved ↔ IsProved view.said number) }
 {
-    match run(alloc, base, number)? {
+    let disjoint = Disjoint::of(alloc, active(base, number))?;
+    match run(alloc, base, number, &disjoint, statement)? {
         None => Ok(false),
         Some(stack) => Ok(
-            stack.len() == 1 && are_same(&stack[0], &base.entries[number].expression),
+            stack.len() == 1 && is_expression(&stack[0], expression(base, number)),
         ),
     }
 }

@@ -1,19 +1,15 @@
 //! A verifier for Metamath databases.
 #![tactic(auto)]
 
+mod apart;
 mod arguments;
 mod asking;
-mod base;
-mod building;
+mod citing;
 mod compare;
-mod declare;
-mod entry;
 mod fault;
 mod finding;
-mod frame;
-mod judge;
+mod given;
 mod judgement;
-mod known;
 mod laws;
 mod machine;
 mod outcome;
@@ -21,7 +17,6 @@ mod program;
 mod reading;
 mod report;
 mod stream;
-mod symbol;
 mod verify;
 
 pub use arguments::Command;

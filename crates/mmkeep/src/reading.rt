@@ -1,33 +1,17 @@
-//! What the items of a file say, and the first word that is not read yet.
+//! The first word of a file that is not read yet.
 
-ghost use Rattle.std.specs.Prelude.{◌≡◌, ◌↔◌, ℕ, ◌<◌, Some, All, IfOk, IfSome, IsTrue, MatchOption, length, slice_get};
-ghost use Rattle.std.specs.List.{AllZip};
+ghost use Rattle.std.specs.Prelude.{◌≡◌, ℕ, ◌<◌, IfOk, IfSome, MatchOption, length};
 ghost use Rattle.mm_store.specs.FileFacts.{StandsIn};
-ghost use Rattle.mm_frame.specs.Statement.{Says};
+ghost use Rattle.mm_frame.specs.Base.{BaseView, said_at};
+ghost use Rattle.mmkeep.specs.Base.{IsOf, HasView, HasItemOf, IsWordOf};
 ghost use Rattle.mmkeep.specs.Later as later;
 ghost use Rattle.mmkeep.specs.Later.{unread_step, unread_word, AreRead, IsFirstUnread};
-ghost use Rattle.mmkeep.specs.Verified as verified;
-ghost use Rattle.mmkeep.specs.Verified.{IsWordAt, IsWordOf};
+ghost use Rattle.mmkeep.specs.Report as report;
+ghost use Rattle.mmkeep.specs.Report.{IsWordAt};
 
-use mm_frame::{Files, Item, ItemKind, Statement, nth_word};
+use mm_frame::{Base, Files, Item, ItemKind, Statement, nth_word};
 use mm_text::Word;
 use std::alloc::{AllocError, Global};
-
-/// What each item says, in order.
-pub fn read<'a>(
-    alloc: Global,
-    files: &'a Files,
-    items: &[Item],
-) -> Result<Vec<Statement<'a>>, AllocError>
-    requires { All (StandsIn files.now) items.now }
-    ensures { IfOk result (λ said. AllZip (Says files.now) items.now said.items) }
-{
-    let mut said = Vec::new(alloc);
-    for number in 0..items.len() {
-        said.push(Statement::read(alloc, files, &items[number])?)?;
-    }
-    Ok(said)
-}
 
 fn opens_list(word: &[u8]) -> bool
     ensures { result ≡ later.opens_list word.now }
@@ -60,43 +44,59 @@ fn unread_in(statement: &Statement) -> Option<usize>
     ensures { result ≡ unread_word statement.now }
 {
     match statement.kind() {
-        ItemKind::BlockStart | ItemKind::BlockEnd | ItemKind::Disjoint | ItemKind::Missing => {
-            Some(0)
-        }
-        ItemKind::Essential => Some(1),
         ItemKind::Theorem => match unread_in_proof(statement) {
             Some(n) => Some(statement.proof_place(n)),
             None => None,
         },
-        ItemKind::Constants | ItemKind::Variables | ItemKind::Floating | ItemKind::Axiom => None,
+        _ => None,
     }
 }
 
-/// A statement by its number, and a word of it.
+/// The first word of the item with this number that is not read yet.
+fn unread_of(
+    alloc: Global,
+    files: &Files,
+    base: &Base,
+    number: usize,
+) -> Result<Option<usize>, AllocError>
+    requires { HasItemOf files.now base.now number }
+    ensures { IfOk result (λ word. (view : BaseView) → IsOf files.now base.now view → word ≡ unread_word (said_at view number)) }
+{
+    mm_text::one_meaning();
+    let item = base.item(number);
+    if !matches!(item.kind, ItemKind::Theorem) {
+        return Ok(None);
+    }
+    Ok(unread_in(&Statement::read(alloc, files, item)?))
+}
+
+/// An item by its number, and a word of it.
 #[derive(Clone, Copy, Debug)]
 pub struct Unread {
-    pub statement: usize,
+    pub item: usize,
     pub word: usize,
 }
 
 /// The first word that is not read yet.
-pub fn first_unread(statements: &[Statement]) -> Option<Unread>
-    ensures { MatchOption result (AreRead statements.now) (λ unread. IsFirstUnread statements.now unread.statement unread.word) }
+pub fn first_unread(
+    alloc: Global,
+    files: &Files,
+    base: &Base,
+) -> Result<Option<Unread>, AllocError>
+    requires { HasView files.now base.now }
+    ensures { IfOk result (λ found. (view : BaseView) → IsOf files.now base.now view → MatchOption found (AreRead view.said) (λ unread. IsFirstUnread view.said unread.item unread.word)) }
 {
-    for number in 0..statements.len() {
-        if let Some(word) = unread_in(&statements[number]) {
-            return Some(Unread {
-                statement: number,
-                word,
-            });
+    for number in 0..base.count() {
+        if let Some(word) = unread_of(alloc, files, base, number)? {
+            return Ok(Some(Unread { item: number, word }));
         }
     }
-    None
+    Ok(None)
 }
 
 /// Where a word begins; 0 where there is none.
-fn start_of(word: Option<Word>) -> usize
-    ensures { result ≡ verified.start_of word }
+pub fn start_of(word: Option<Word>) -> usize
+    ensures { result ≡ report.start_of word }
 {
     match word {
         Some(word) => word.start,
@@ -115,10 +115,9 @@ fn word_byte(files: &Files, item: &Item, word: usize) -> usize
 }
 
 /// The byte of the text at which a word of the item with this number begins, or the item where it has fewer words.
-pub fn word_of(files: &Files, items: &[Item], number: usize, word: usize) -> usize
-    requires stand { All (StandsIn files.now) items.now }
-    requires within { number < length items.now }
-    ensures { IsWordOf files.now items.now number word result }
+pub fn word_of(files: &Files, base: &Base, number: usize, word: usize) -> usize
+    requires { HasItemOf files.now base.now number }
+    ensures { (view : BaseView) → IsOf files.now base.now view → IsWordOf files.now view number word result }
 {
-    word_byte(files, &items[number], word)
+    word_byte(files, base.item(number), word)
 }

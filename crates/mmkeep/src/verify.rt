@@ -5,23 +5,21 @@ ghost use Rattle.std.specs.Io.KnownBytes.{Appends};
 ghost use Rattle.mmkeep.specs.Stream.{written, has_failed};
 ghost use Rattle.mmkeep.specs.Verified.{IsReport, BeginsReport, IsErrorOf, IsErrorIn};
 
-use crate::building::{Built, build};
 use crate::fault::FirstError;
 use crate::judgement::findings;
-use crate::reading::{first_unread, read, word_of};
-use crate::report::{count_wrong, write_report};
+use crate::reading::{first_unread, word_of};
+use crate::report::{is_clean, write_report};
 use crate::stream::Writing;
-use mm_frame::Files;
+use mm_frame::{Base, Files};
 use std::alloc::Global;
 use std::io::Write;
 
 /// Verifies the text of a file as the top file of this name and the only one, and writes its report.
 ///
-/// Answers whether the report is clean: whether no line stands before its summary. An error comes in this order:
-/// the first fault of the text; too many bytes; the first word that is not read yet, which is a block, a `$e`, a
-/// `$d`, an inclusion of another file, the beginning of a compressed proof or a `?`; the first statement that is
-/// not sound. After each of these, and after want of memory, nothing was written. After a failed write a part of
-/// the report may be out, which is its beginning.
+/// Answers whether the report is clean: whether no line of a fault or of a wrong proof stands before its summary.
+/// An error comes in this order: the first fault of the text; too many bytes; the first word that is not read yet,
+/// which is the beginning of a compressed proof or a `?` in a proof. After each of these, and after want of memory,
+/// nothing was written. After a failed write a part of the report may be out, which is its beginning.
 pub fn verify_one<W: Write>(
     alloc: Global,
     name: &[u8],
@@ -41,23 +39,14 @@ pub fn verify_one<W: Write>(
 {
     let mut files = Files::new(alloc);
     files.add(alloc, name, text)?;
-    let items = files.statements(alloc, name)?;
-    let said = read(alloc, &files, &items)?;
-    if let Some(unread) = first_unread(&said) {
-        let at = word_of(&files, &items, unread.statement, unread.word);
+    let base = Base::build(alloc, &files, name)?;
+    if let Some(unread) = first_unread(alloc, &files, &base)? {
+        let at = word_of(&files, &base, unread.item, unread.word);
         return Err(FirstError::Later { at });
     }
-    let built = build(alloc, said)?;
-    let base = match built {
-        Built::Sound(base) => base,
-        Built::Unsound(number) => {
-            let at = word_of(&files, &items, number, 0);
-            return Err(FirstError::Later { at });
-        }
-    };
-    let findings = findings(alloc, &base)?;
-    match write_report(&base, &findings, writing) {
-        Ok(()) => Ok(count_wrong(&findings) == 0),
+    let findings = findings(alloc, &files, &base)?;
+    match write_report(name, &base, &findings, writing) {
+        Ok(()) => Ok(is_clean(&findings)),
         Err(_) => Err(FirstError::Write),
     }
 }

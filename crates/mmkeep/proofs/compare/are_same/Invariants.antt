@@ -1,5 +1,5 @@
 use Rattle.std.proofs.Common.{◌≡◌, take}
-use Rattle.mmkeep.specs.Meaning.{symbols_of}
+use Rattle.mmkeep.specs.Stack.{symbols_of}
 use Rattle.mmkeep.proofs.compare.are_same.Given as goal
 
 abbrev pub invariant-loop-i : goal.invariant-loop-i

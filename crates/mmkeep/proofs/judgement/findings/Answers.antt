@@ -1,22 +1,12 @@
-use Rattle.std.proofs.Common.{◌≡◌, ℕ, List, sym, subst, arith}
-use Rattle.std.proofs.Common.{Some}
-use Rattle.std.specs.Prelude.{slice_get}
-use Rattle.std.proofs.lemmas.Grind.{common_steps}
-use Rattle.mm_frame.specs.Item.{Item}
-use Rattle.mmkeep.specs.Base.{items_of}
-use Rattle.mmkeep.specs.Entry.{item_number}
-use Rattle.mmkeep.specs.Report.{IsFinding}
-use Rattle.mmkeep.specs.declared.finding.Finding.{Finding}
-use Rattle.mmkeep.proofs.FindingLemmas.{found_more}
+use Rattle.std.proofs.Common.{◌+◌, ◌++◌, [], ◌∷◌, List, sym, ◌∙◌, ap, subst}
+use Rattle.std.proofs.lemmas.List.{map-append}
+use Rattle.mmkeep.specs.Report.{Told, told, told_all}
+use Rattle.mmkeep.proofs.ItemLemmas.{ToldUpTo, told_more}
 use Rattle.mmkeep.proofs.judgement.findings.Goals as goal
 
 pub loop-number-preserved : goal.loop-number-preserved
-loop-number-preserved c =
-    let items = items_of c.args.base.now in
+loop-number-preserved c = (c.finding_of.ensures.reached, λ view is.
     let found = c.loop-number.found.items in
-    let here = subst (λ (n : ℕ). IsFinding items n (item_number items n).kind c.in_ok-finding_of.field-0) (sym c.loop-number.invariant.count) c.in_ok-finding_of.ensures in
-    let more = found_more items found c.in_ok-finding_of.field-0 c.loop-number.invariant.each here in
-    record {
-      count = grind (arith, common_steps);
-      each = subst (λ (xs : List Finding). (n : ℕ) (item : Item) (finding : Finding) → slice_get items n ≡ Some item → slice_get xs n ≡ Some finding → IsFinding items n item.kind finding) (sym c.in_ok-push.ensures.items) more;
-    }
+    let finding = c.in_ok-finding_of.field-0 in
+    subst (ToldUpTo c.args.files.now view (c.loop-number.number + 1)) (sym (ap told_all c.in_ok-push.ensures.items ∙ map-append told found (finding ∷ [])))
+    (told_more c.args.files.now view c.loop-number.number (told_all found) (told finding) (c.in_ok-finding_of.ensures.told view is) (c.loop-number.invariant.1 view is)))

@@ -1,10 +1,12 @@
 use Rattle.std.proofs.Common.{[], take}
-use Rattle.mm_frame.specs.Framing.{place_of}
+use Rattle.mm_frame.specs.Base.{BaseView, before}
+use Rattle.mm_frame.specs.Framing.{place}
+use Rattle.mm_frame.specs.Kept.{IsBase}
 use Rattle.mm_proof.proofs.Reaching.{Follows}
-use Rattle.mmkeep.specs.Base.{items_of}
-use Rattle.mmkeep.specs.Stack.{stack_of}
+use Rattle.mmkeep.specs.Apart.{KnowsActive}
 use Rattle.mmkeep.specs.Proof.{steps_of}
+use Rattle.mmkeep.specs.Stack.{stack_of}
 use Rattle.mmkeep.proofs.machine.run.Given as goal
 
 abbrev pub invariant-loop-word : goal.invariant-loop-word
-invariant-loop-word l = Follows (place_of (items_of l.base) l.number) (take l.word (steps_of (items_of l.base) l.number)) (record { stack = stack_of l.stack.items; saved = [] })
+invariant-loop-word l = (view : BaseView) → IsBase view l.base → KnowsActive view l.number l.disjoint → Follows (place (before view l.number)) (take l.word (steps_of l.statement.proof)) (record { stack = stack_of l.stack.items; saved = [] })

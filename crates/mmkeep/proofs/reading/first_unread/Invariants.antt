@@ -1,6 +1,8 @@
 use Rattle.std.proofs.Common.{take}
+use Rattle.mm_frame.specs.Base.{BaseView}
+use Rattle.mmkeep.specs.Base.{IsOf}
 use Rattle.mmkeep.specs.Later.{AreRead}
 use Rattle.mmkeep.proofs.reading.first_unread.Given as goal
 
 abbrev pub invariant-loop-number : goal.invariant-loop-number
-invariant-loop-number l = AreRead (take l.number l.statements)
+invariant-loop-number l = (view : BaseView) → IsOf l.files l.base view → AreRead (take l.number view.said)

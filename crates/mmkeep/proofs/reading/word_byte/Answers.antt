@@ -1,7 +1,7 @@
 use Rattle.std.proofs.Common.{◌+◌, length, sym, ◌∙◌, ap, subst, arith}
 use Rattle.mm_store.specs.FilesView.{text_of}
 use Rattle.mm_store.specs.FileFacts.{IsLive, IsByte, piece_offset}
-use Rattle.mmkeep.specs.Verified.{start_of}
+use Rattle.mmkeep.specs.Report.{start_of}
 use Rattle.mmkeep.proofs.ReadingLemmas.{item_words, start_within, word_is_byte}
 use Rattle.mmkeep.proofs.reading.word_byte.Goals as goal
 
