@@ -24,7 +24,7 @@ use Rattle.mm_frame.specs.Paired.{pairs_in_order}
 use Rattle.mm_frame.specs.declared.draft.Frame.{Frame}
 use Rattle.mm_frame.proofs.FramePairs.{same_pairs}
 use Rattle.mm_frame.proofs.Judged.{no_fault_sound, sound_found, passed_sound, kept_is_sound, kept_next, kept_after_append}
-use Rattle.mm_frame.proofs.Outermost.{kept_sound, split_at, map_same}
+use Rattle.mm_frame.proofs.SoundItems.{kept_sound, split_at, map_same}
 use Rattle.mm_frame.proofs.Members.{in_has}
 use Rattle.mm_frame.proofs.PairLemmas.{disjoint_neither, disjoint_named}
 use Rattle.mm_frame.proofs.TableLemmas.{item_between, take_between}

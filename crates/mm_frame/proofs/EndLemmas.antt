@@ -13,7 +13,7 @@ use Rattle.mm_frame.specs.Tables.{is_active_at, active_numbers, IsRising}
 use Rattle.mm_frame.specs.Pruned.{IsPruned}
 use Rattle.mm_frame.proofs.Members.{In, in_contains, contains_in, in_left, in_right, in_cases, in_get}
 use Rattle.mm_frame.proofs.Scopes.{closed_none, stays_front}
-use Rattle.mm_frame.proofs.Outermost.{split_at}
+use Rattle.mm_frame.proofs.SoundItems.{split_at}
 use Rattle.mm_frame.proofs.SpokenLemmas.{get_drop}
 use Rattle.mm_frame.proofs.TableLemmas.{not_closing}
 use Rattle.mm_frame.proofs.BlockLemmas.{get_front, get_cases, stays_of}

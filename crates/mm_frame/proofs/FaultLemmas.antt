@@ -20,7 +20,7 @@ use Rattle.mm_frame.proofs.JudgingLemmas.{first_fault_at, fault_is}
 use Rattle.mm_frame.proofs.KnownLemmas.{has_one}
 use Rattle.mm_frame.proofs.Members.{has_in}
 use Rattle.mm_frame.proofs.Facts.{not_constant}
-use Rattle.mm_frame.proofs.Outermost.{sound_kept}
+use Rattle.mm_frame.proofs.SoundItems.{sound_kept}
 
 -- nothing is wrong with a constant behind a typecode: it is no active variable
 pub constant_later : (before : List Item) → AreSound before → (name : List ℕ) → has (constants before) name ≡ true → later_fault before name ≡ None

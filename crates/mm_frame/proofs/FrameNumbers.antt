@@ -17,7 +17,7 @@ use Rattle.mm_frame.specs.Statement.{kind_of, Says}
 use Rattle.mm_frame.specs.Base.{BaseView, before, said_at, fault_by, numbers_if, hypotheses_at, hypothesis_at, is_shown_at, AreHypotheses}
 use Rattle.mm_frame.proofs.Members.{In}
 use Rattle.mm_frame.proofs.Frames.{in_at}
-use Rattle.mm_frame.proofs.Outermost.{map_same}
+use Rattle.mm_frame.proofs.SoundItems.{map_same}
 use Rattle.mm_frame.proofs.PairLemmas.{expression_at_number}
 use Rattle.mm_frame.proofs.HypothesisNumbers.{from_active_number, hypotheses_by_numbers}
 use Rattle.mm_frame.proofs.BaseLemmas.{kept_count, kept_at, kept_front_at, kept_are_sound, get_between}

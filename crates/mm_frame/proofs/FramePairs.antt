@@ -26,7 +26,7 @@ use Rattle.mm_frame.proofs.Members.{In, in_contains, contains_in, in_left, in_ri
 use Rattle.mm_frame.proofs.Scopes.{active_split}
 use Rattle.mm_frame.proofs.Facts.{and_both, no_symbol_of, float_two}
 use Rattle.mm_frame.proofs.Frames.{float_of, float_name, float_labelled, from_pairs, pairs_typed_at, assertion_expression}
-use Rattle.mm_frame.proofs.Outermost.{split_at, filter_same, sound_kept}
+use Rattle.mm_frame.proofs.SoundItems.{split_at, filter_same, sound_kept}
 use Rattle.mm_frame.proofs.HypothesisNumbers.{to_active_number, from_active_number, hypotheses_by_numbers}
 use Rattle.mm_frame.proofs.MandatoryLemmas.{found_or_not, not_both, same_item}
 use Rattle.mm_frame.proofs.PairLemmas.{expression_at_number, flat_same, flat_of_map, item_pairs}

@@ -17,7 +17,7 @@ use Rattle.mm_frame.proofs.Members.{In, in_contains, contains_in, in_cases, from
 use Rattle.mm_frame.proofs.Scopes.{split_active, in_first, in_later, stays_front}
 use Rattle.mm_frame.proofs.Facts.{and_rest, and_both, not_not, no_symbol_of, not_constant, float_new}
 use Rattle.mm_frame.proofs.Frames.{expression_labelled, to_typed, essential_typed, mandatory_typed, in_at}
-use Rattle.mm_frame.proofs.Outermost.{split_at, sound_kept}
+use Rattle.mm_frame.proofs.SoundItems.{split_at, sound_kept}
 use Rattle.mm_frame.proofs.TableLemmas.{last_cases, last_none, last_number, last_is, first_cases, stands_in, typing, typed_by, float_second, typed_last, closed_next}
 
 -- an active item that passes has its number among the numbers

@@ -24,7 +24,7 @@ use Rattle.mm_frame.specs.Known.{table_name, table_label, variable_at, declared_
 use Rattle.mm_frame.proofs.Members.{In, in_has, from_symbols, to_symbols, in_left}
 use Rattle.mm_frame.proofs.Scopes.{active_in}
 use Rattle.mm_frame.proofs.Facts.{and_both, float_variable, float_two}
-use Rattle.mm_frame.proofs.Outermost.{sound_front}
+use Rattle.mm_frame.proofs.SoundItems.{sound_front}
 use Rattle.mm_frame.proofs.TableLemmas.{last_where_next, last_cases, last_none, Last, constants_next, variable_last, constant_or_variable, float_second, typed_by as types_it}
 
 apart : (bs cs ks : List ℕ) → bytes_eq bs cs ≡ false → bytes_eq bs ks ≡ true → bytes_eq cs ks ≡ false

@@ -7,7 +7,7 @@ pub mod Rows
 pub mod Heights
 pub mod Activity
 pub mod Frames
-pub mod Outermost
+pub mod SoundItems
 pub mod SpokenLemmas
 pub mod TableLemmas
 pub mod HypothesisNumbers

@@ -26,7 +26,7 @@ use Rattle.mm_frame.specs.Named.{symbol_of, symbols_of, expression_kept, AreExpr
 use Rattle.mm_frame.proofs.Members.{In, in_contains, contains_in, in_left, in_right, in_cases, in_map, from_map, in_get, in_filter, from_filter, in_flat, from_flat, from_symbols, to_symbols}
 use Rattle.mm_frame.proofs.Scopes.{active_split, split_active}
 use Rattle.mm_frame.proofs.Frames.{assertion_expression, essential_expression, expression_labelled, in_at}
-use Rattle.mm_frame.proofs.Outermost.{split_at}
+use Rattle.mm_frame.proofs.SoundItems.{split_at}
 use Rattle.mm_frame.proofs.TableLemmas.{active_between}
 use Rattle.mm_frame.proofs.KnownLemmas.{float_in}
 use Rattle.mm_frame.proofs.HypothesisNumbers.{to_active_number, from_active_number, AreTyped, sound_typed, mandatory_numbers_built}

@@ -14,7 +14,7 @@ use Rattle.mm_frame.specs.Known.{Knows}
 use Rattle.mm_frame.specs.Named.{symbols_of, by_constants, kept_or_none, expression_kept, AreExpressions}
 use Rattle.mm_frame.proofs.Members.{In, has_in, in_has}
 use Rattle.mm_frame.proofs.Facts.{not_constant}
-use Rattle.mm_frame.proofs.Outermost.{map_same, named, sound_kept}
+use Rattle.mm_frame.proofs.SoundItems.{map_same, named, sound_kept}
 use Rattle.mm_frame.proofs.TableLemmas.{take_between}
 use Rattle.mm_frame.proofs.BlockLemmas.{get_cases, get_last}
 

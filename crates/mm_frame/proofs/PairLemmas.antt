@@ -14,7 +14,7 @@ use Rattle.mm_frame.proofs.Members.{In, in_get, has_in, in_has}
 use Rattle.mm_frame.proofs.Scopes.{active_split}
 use Rattle.mm_frame.proofs.Facts.{not_not, no_symbol_of}
 use Rattle.mm_frame.proofs.Frames.{variables_later}
-use Rattle.mm_frame.proofs.Outermost.{split_at, map_same, sound_front, expression_stays}
+use Rattle.mm_frame.proofs.SoundItems.{split_at, map_same, sound_front, expression_stays}
 use Rattle.mm_frame.proofs.TableLemmas.{not_closing, not_closing_start, closed_next, active_more}
 use Rattle.mm_frame.proofs.HypothesisNumbers.{from_active_number, active_number_items}
 

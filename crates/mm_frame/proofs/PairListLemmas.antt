@@ -20,7 +20,7 @@ use Rattle.mm_frame.specs.PairLists.{IsList, list_kept, pairs_or_none, list_made
 use Rattle.mm_frame.specs.Kept.{AreRows, TellsPairs, is_told_proof}
 use Rattle.mm_frame.proofs.Members.{In, in_get, get_in}
 use Rattle.mm_frame.proofs.Scopes.{stays_join, stays_front}
-use Rattle.mm_frame.proofs.Outermost.{sound_take}
+use Rattle.mm_frame.proofs.SoundItems.{sound_take}
 use Rattle.mm_frame.proofs.BlockLemmas.{get_last}
 use Rattle.mm_frame.proofs.BaseLemmas.{rows_more}
 use Rattle.mm_frame.proofs.HypothesisNumbers.{to_active_number, from_active_number, active_numbers_rise, same_rising}

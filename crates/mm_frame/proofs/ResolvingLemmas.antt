@@ -17,7 +17,7 @@ use Rattle.mm_frame.specs.Tables.{last_where, carries}
 use Rattle.mm_frame.specs.Base.{BaseView, before, said_at, numbers_if, hypotheses_at, find_in, is_sound_at, is_shown_at, is_framed_at, frame_at}
 use Rattle.mm_frame.specs.Resolving.{IsLabelOf, Resolves}
 use Rattle.mm_frame.proofs.Members.{in_get, get_in}
-use Rattle.mm_frame.proofs.Outermost.{split_at, resolve_meaning, no_item_unknown}
+use Rattle.mm_frame.proofs.SoundItems.{split_at, resolve_meaning, no_item_unknown}
 use Rattle.mm_frame.proofs.PairLemmas.{expression_at_number}
 use Rattle.mm_frame.proofs.TableLemmas.{NonePasses, last_cases, last_number, label_first}
 use Rattle.mm_frame.proofs.HypothesisNumbers.{last_there}

@@ -6,7 +6,7 @@ use Rattle.mm_frame.specs.Language.{Symbol, Mandatory, Frame, ArePair, AreSamePa
 use Rattle.mm_frame.specs.Framing.{pairs_of}
 use Rattle.mm_frame.specs.Paired.{are_paired, typed_variables, pairs_in_order}
 use Rattle.mm_frame.proofs.Members.{in_contains, contains_in}
-use Rattle.mm_frame.proofs.Outermost.{filter_same}
+use Rattle.mm_frame.proofs.SoundItems.{filter_same}
 use Rattle.mm_frame.proofs.TableLemmas.{any_in, in_any}
 
 -- the names of the two are those of a pair, in one order or the other

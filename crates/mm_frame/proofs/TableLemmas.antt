@@ -18,7 +18,7 @@ use Rattle.mm_frame.proofs.Scopes.{active_in, split_active, in_first, in_later, 
 use Rattle.mm_frame.proofs.Facts.{and_both, no_symbol_of, apart, float_two, float_new}
 use Rattle.mm_frame.proofs.Judged.{kept_is_sound as kept_in_turn}
 use Rattle.mm_frame.proofs.Frames.{from_typed, to_typed}
-use Rattle.mm_frame.proofs.Outermost.{sound_kept, kept_sound, label_new, resolve_meaning, no_item_unknown}
+use Rattle.mm_frame.proofs.SoundItems.{sound_kept, kept_sound, label_new, resolve_meaning, no_item_unknown}
 
 -- one more item: it is the last that passes, or else the same one is
 next_at : (b c : Bool) (o : Option ℕ) (n : ℕ) → number_or_first (cond b (Some n) o) c ≡ cond b (Some (suc n)) (number_or_first o c)

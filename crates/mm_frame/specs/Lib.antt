@@ -15,7 +15,6 @@ pub mod Item
 pub mod Scope
 pub mod Sound
 pub mod Framing
-pub mod Outermost
 pub mod Numbered
 pub mod ScopeStack
 pub mod Laws

@@ -1,16 +1,14 @@
--- Sound lists keep their items, labels keep their meaning, and what is so in a list with no blocks, no `$e` and no `$d`.
-use Rattle.std.proofs.Common.{◌≡◌, ℕ, zero, suc, Bool, true, false, cond, ◌&&◌, ◌||◌, ltb, Some, None, List, [], ◌∷◌, ◌++◌, map, filter, flat_map, take, drop, count_by, slice_get, slice_index_or, refl, sym, ◌∙◌, ap, subst, append_assoc, append-nil, arith, inl, inr, ◌⊎◌}
+-- Sound lists keep their items, and labels keep their meaning.
+use Rattle.std.proofs.Common.{◌≡◌, ℕ, zero, suc, Bool, true, false, cond, Some, None, List, [], ◌∷◌, ◌++◌, map, filter, take, drop, slice_get, slice_index_or, refl, sym, ◌∙◌, ap, subst, append_assoc, append-nil, inl, inr, ◌⊎◌}
 use Rattle.std.specs.List.{list_any}
 use Rattle.std.proofs.lemmas.Bool.{false≢true, or_left, or_right, false_from_ne_true}
 use Rattle.std.proofs.lemmas.List.{take-append-drop}
-use Rattle.std.proofs.lemmas.List.Sums.{sum_by-cons}
 use Rattle.mm_frame.specs.Language.{Hypothesis, Assertion, Inactive, Unknown}
-use Rattle.mm_frame.specs.Item.{Kind, Constants, Variables, Disjoint, Floating, Essential, Axiom, Theorem, Passed, Item, passed, is_disjoint, is_floating, is_essential, is_expression, is_labelled, is_assertion, has, labels_of, variable_of}
-use Rattle.mm_frame.specs.Scope.{Neither, mark_of, closed_at, closed, is_zero, stays, active, opens, closes, is_start, is_end, is_inside, symbols_by, constants, variables, labels, active_variables, floats, typed}
+use Rattle.mm_frame.specs.Item.{Kind, Floating, Essential, Axiom, Theorem, Item, passed, is_floating, is_expression, is_labelled, is_assertion, has, labels_of}
+use Rattle.mm_frame.specs.Scope.{Neither, mark_of, stays, constants, labels, active_variables}
 use Rattle.mm_frame.specs.declared.FrameNumber.TheVariants.{F06}
 use Rattle.mm_frame.specs.Sound.{is_label, IsSound, AreSound, fault, judged, kept_after, kept}
-use Rattle.mm_frame.specs.Framing.{symbol, expression, mandatory_variables, is_mandatory, hypothesis, mandatory_hypotheses, pairs_of, active_pairs, is_mandatory_pair, frame, meaning, resolve_from, resolve, place, place_of, statement_of}
-use Rattle.mm_frame.specs.Outermost.{is_outermost, IsOutermost}
+use Rattle.mm_frame.specs.Framing.{symbol, expression, frame, meaning, resolve_from, resolve, place, place_of, statement_of}
 use Rattle.mm_frame.proofs.Members.{In, in_flat, in_get, has_in, in_has}
 use Rattle.mm_frame.proofs.Facts.{AreKept, sound_at, kept_front, not_constant, first_constant, known, float_variable, float_two}
 use Rattle.mm_frame.proofs.Judged.{no_fault_sound, sound_found, kept_more}
@@ -185,122 +183,3 @@ resolve_stays items front item back label h e s t =
     resolve_meaning items front item back label h e t
     ∙ ap (λ b. cond (is_assertion item.kind) (Assertion (frame front item)) (cond b (Hypothesis (expression items item)) Inactive)) s
     ∙ ap (λ w. cond (is_assertion item.kind) (Assertion (frame front item)) (Hypothesis w)) (expression_stays items front item back h e (labelled_of item label t) s)
-
--- kinds with no block, no `$e` and no `$d`
-outermost_neither : (k : Kind) → is_outermost k ≡ true → mark_of k ≡ Neither
-outermost_neither Constants e = refl
-outermost_neither Variables e = refl
-outermost_neither Floating e = refl
-outermost_neither Axiom e = refl
-outermost_neither Theorem e = refl
-outermost_neither Passed e = refl
-outermost_neither _ e = absurd (false≢true e)
-
-not_essential : (k : Kind) → is_outermost k ≡ true → is_essential k ≡ false
-not_essential Essential e = absurd (false≢true e)
-not_essential _ e = refl
-
-not_disjoint : (k : Kind) → is_outermost k ≡ true → is_disjoint k ≡ false
-not_disjoint Disjoint e = absurd (false≢true e)
-not_disjoint _ e = refl
-
-pub outermost_front : (front back : List Item) → IsOutermost (front ++ back) → IsOutermost front
-outermost_front [] back h = tt
-outermost_front (x ∷ front) back h = (h.0, outermost_front front back h.1)
-
-pub outermost_back : (front back : List Item) → IsOutermost (front ++ back) → IsOutermost back
-outermost_back [] back h = h
-outermost_back (x ∷ front) back h = outermost_back front back h.1
-
-pub outermost_more : (items : List Item) (item : Item) → IsOutermost items → is_outermost item.kind ≡ true → IsOutermost (items ++ item ∷ [])
-outermost_more [] item h e = (e, tt)
-outermost_more (x ∷ items) item h e = (h.0, outermost_more items item h.1 e)
-
-pub outermost_take : (items : List Item) (j : ℕ) → IsOutermost items → IsOutermost (take j items)
-outermost_take items j h = outermost_front (take j items) (drop j items) (subst IsOutermost (sym (take-append-drop j items)) h)
-
-pub outermost_in : (items : List Item) (item : Item) → IsOutermost items → In item items → is_outermost item.kind ≡ true
-outermost_in [] item h i = absurd i
-outermost_in (x ∷ items) item h (inl e) = subst (λ (w : Item). is_outermost w.kind ≡ true) e h.0
-outermost_in (x ∷ items) item h (inr i) = outermost_in items item h.1 i
-
--- nothing is ended, all is active
-pub outermost_closed : (items : List Item) → IsOutermost items → closed items ≡ 0
-outermost_closed [] h = refl
-outermost_closed (x ∷ xs) h = ap (λ m. closed_at m (closed xs)) (outermost_neither x.kind h.0) ∙ outermost_closed xs h.1
-
-pub outermost_stays : (items : List Item) → IsOutermost items → stays items ≡ true
-outermost_stays items h = ap is_zero (outermost_closed items h)
-
-pub outermost_active : (items : List Item) → IsOutermost items → active items ≡ items
-outermost_active [] h = refl
-outermost_active (x ∷ xs) h = ap (λ b. cond b (x ∷ active xs) (active xs)) (outermost_stays xs h.1) ∙ ap (λ w. x ∷ w) (outermost_active xs h.1)
-
-pub outermost_variables : (items : List Item) → IsOutermost items → active_variables items ≡ variables items
-outermost_variables items h = ap variables (outermost_active items h)
-
-pub outermost_typed : (items : List Item) → IsOutermost items → typed items ≡ map variable_of (floats items)
-outermost_typed items h = ap (λ w. map variable_of (floats w)) (outermost_active items h)
-
-abbrev unit : Bool → ℕ
-unit b = cond b 1 0
-
-outermost_starts : (items : List Item) → IsOutermost items → count_by is_start items ≡ 0
-outermost_starts [] h = refl
-outermost_starts (x ∷ xs) h = let a = sum_by-cons (λ i. cond (is_start i) 1 0) x xs in let b = outermost_starts xs h.1 in let c : unit (is_start x) ≡ 0 = ap (λ m. unit (opens m)) (outermost_neither x.kind h.0) in omega arith
-
-outermost_ends : (items : List Item) → IsOutermost items → count_by is_end items ≡ 0
-outermost_ends [] h = refl
-outermost_ends (x ∷ xs) h = let a = sum_by-cons (λ i. cond (is_end i) 1 0) x xs in let b = outermost_ends xs h.1 in let c : unit (is_end x) ≡ 0 = ap (λ m. unit (closes m)) (outermost_neither x.kind h.0) in omega arith
-
-pub outermost_outside : (items : List Item) → IsOutermost items → is_inside items ≡ false
-outermost_outside items h = let a = outermost_ends items h in let b = outermost_starts items h in λ i. ltb (a i) (b i)
-
--- no pairs, and only `$f` as hypotheses
-no_pairs_among : (before items : List Item) → IsOutermost items → flat_map (λ (item : Item). cond (is_disjoint item.kind) (pairs_of (expression before item)) []) items ≡ []
-no_pairs_among before [] h = refl
-no_pairs_among before (x ∷ xs) h = ap (λ b. cond b (pairs_of (expression before x)) [] ++ flat_map (λ (item : Item). cond (is_disjoint item.kind) (pairs_of (expression before item)) []) xs) (not_disjoint x.kind h.0) ∙ no_pairs_among before xs h.1
-
-pub outermost_pairs : (items : List Item) → IsOutermost items → active_pairs items ≡ []
-outermost_pairs items h = ap (λ w. flat_map (λ (item : Item). cond (is_disjoint item.kind) (pairs_of (expression items item)) []) w) (outermost_active items h) ∙ no_pairs_among items items h
-
-no_essential : (items : List Item) → IsOutermost items → symbols_by is_essential items ≡ []
-no_essential [] h = refl
-no_essential (x ∷ xs) h = ap (λ b. cond b x.symbols [] ++ symbols_by is_essential xs) (not_essential x.kind h.0) ∙ no_essential xs h.1
-
-pub outermost_mandatory : (before : List Item) (item : Item) → IsOutermost before → mandatory_variables before item ≡ filter (has (variables before)) item.symbols
-outermost_mandatory before item h =
-    ap (λ w. filter (has (variables w)) (item.symbols ++ symbols_by is_essential w)) (outermost_active before h)
-    ∙ ap (λ w. filter (has (variables before)) (item.symbols ++ w)) (no_essential before h)
-    ∙ ap (filter (has (variables before))) (append-nil item.symbols)
-
-pub outermost_hypotheses : (before : List Item) (item : Item) → IsOutermost before → mandatory_hypotheses before item ≡ map (hypothesis before) (filter (λ (i : Item). is_floating i.kind && has (mandatory_variables before item) (variable_of i)) before)
-outermost_hypotheses before item h =
-    ap (λ w. map (hypothesis before) (filter (is_mandatory (mandatory_variables before item)) w)) (outermost_active before h)
-    ∙ ap (map (hypothesis before)) (filter_same (is_mandatory (mandatory_variables before item)) (λ (i : Item). is_floating i.kind && has (mandatory_variables before item) (variable_of i)) before (λ x k. ap (λ b. b || (is_floating x.kind && has (mandatory_variables before item) (variable_of x))) (not_essential x.kind (outermost_in before x h k))))
-
-pub outermost_frame : (before : List Item) (item : Item) → IsOutermost before → frame before item ≡ record { expression = expression before item; hypotheses = map (hypothesis before) (filter (λ (i : Item). is_floating i.kind && has (mandatory_variables before item) (variable_of i)) before); pairs = [] }
-outermost_frame before item h =
-    let a = outermost_hypotheses before item h in
-    let b : filter (is_mandatory_pair (mandatory_variables before item)) (active_pairs before) ≡ [] = ap (filter (is_mandatory_pair (mandatory_variables before item))) (outermost_pairs before h) in
-    λ i. record { expression = expression before item; hypotheses = a i; pairs = b i }
-
--- a symbol keeps its meaning, and a label has that of its item
-stays_behind : (items front : List Item) (item : Item) (back : List Item) → IsOutermost items → items ≡ front ++ item ∷ back → stays back ≡ true
-stays_behind items front item back o e = outermost_stays back (outermost_back front (item ∷ back) (subst IsOutermost e o)).1
-
-pub outermost_symbol : (items front : List Item) (item : Item) (back : List Item) (name : List ℕ) → IsOutermost items → AreSound items → items ≡ front ++ item ∷ back → is_labelled item.kind ≡ true → In name item.symbols → symbol items name ≡ symbol front name
-outermost_symbol items front item back name o h e t n = symbol_stays items front item back name h e t (stays_behind items front item back o e) n
-
-pub outermost_expression : (items front : List Item) (item : Item) (back : List Item) → IsOutermost items → AreSound items → items ≡ front ++ item ∷ back → is_labelled item.kind ≡ true → expression items item ≡ expression front item
-outermost_expression items front item back o h e t = expression_stays items front item back h e t (stays_behind items front item back o e)
-
-pub outermost_resolve : (items front : List Item) (item : Item) (back : List Item) (label : List ℕ) → IsOutermost items → AreSound items → items ≡ front ++ item ∷ back → has (labels_of item) label ≡ true → resolve items label ≡ cond (is_assertion item.kind) (Assertion (frame front item)) (Hypothesis (expression front item))
-outermost_resolve items front item back label o h e t = resolve_stays items front item back label h e (stays_behind items front item back o e) t
-
--- the same by the number of the item
-pub resolve_at : (items : List Item) (i : ℕ) (item : Item) (label : List ℕ) → IsOutermost items → AreSound items → slice_get items i ≡ Some item → has (labels_of item) label ≡ true → resolve items label ≡ cond (is_assertion item.kind) (Assertion (frame (take i items) item)) (Hypothesis (expression (take i items) item))
-resolve_at items i item label o h g t = outermost_resolve items (take i items) item (drop (suc i) items) label o h (split_at items i item g) t
-
-pub expression_at : (items : List Item) (i : ℕ) (item : Item) → IsOutermost items → AreSound items → slice_get items i ≡ Some item → is_labelled item.kind ≡ true → expression items item ≡ expression (take i items) item
-expression_at items i item o h g t = outermost_expression items (take i items) item (drop (suc i) items) o h (split_at items i item g) t
