@@ -1,5 +1,5 @@
 -- Which variables are kept apart.
-use Rattle.std.proofs.Common.{◌≡◌, ◌≢◌, ◌↔◌, ◌⊎◌, ℕ, suc, ◌+◌, ◌<◌, ◌≤◌, Bool, true, false, not, cond, ◌&&◌, ◌||◌, Some, List, [], ◌∷◌, ◌++◌, length, map, take, get_or, bytes_eq, refl, sym, ◌∙◌, ap, subst, inl, inr, arith}
+use Rattle.std.proofs.Common.{◌≡◌, ◌↔◌, ◌⊎◌, ℕ, ◌+◌, ◌<◌, ◌≤◌, Bool, true, false, not, cond, ◌&&◌, ◌||◌, Some, List, [], ◌∷◌, ◌++◌, length, take, get_or, bytes_eq, refl, sym, ◌∙◌, ap, subst, inl, inr, arith}
 use Rattle.std.specs.Prelude.{Contains, All, Any, slice_get}
 use Rattle.std.specs.Borrow.{Bor}
 use Rattle.std.specs.List.{list_any}
@@ -13,14 +13,13 @@ use Rattle.std.proofs.lemmas.List.Folds.{list_any-append, list_any_at}
 use Rattle.std.proofs.lemmas.Slice.Eq.{bytes_eq-Decides}
 use Rattle.mm_frame.specs.Item.{has}
 use Rattle.mm_frame.specs.Language.{Symbol, ArePair, AreSamePairs, HasVariable}
-use Rattle.mm_frame.specs.Named.{symbol_of as named_symbol, pair_of, variable_of}
+use Rattle.mm_frame.specs.Named.{pair_of, variable_of}
 use Rattle.mm_frame.specs.Seen.{HasSeen}
 use Rattle.mm_frame.specs.declared.symbol.NamedSymbol.{NamedSymbol}
 use Rattle.mm_frame.proofs.Facts.{and_both}
 use Rattle.mm_frame.proofs.FaultLemmas.{sees_more}
 use Rattle.mm_frame.proofs.Members.{In, in_has, has_in, in_contains, contains_in, Contains-here}
-use Rattle.mm_proof.specs.Derivation.{AreApart, ShareVariable}
-use Rattle.mm_proof.specs.Faults.{LackPair}
+use Rattle.mm_proof.specs.Derivation.{AreApart}
 use Rattle.mmkeep.specs.declared.apart.Disjoint.{Disjoint}
 use Rattle.mmkeep.specs.Apart.{has_order, has_pair, HasOrders, HasPairs, AreNotApart, names_of, clashes_with, clash}
 use Rattle.mmkeep.specs.Stack.{symbol_of, symbols_of}
@@ -190,8 +189,14 @@ module _ (active : List (Symbol × Symbol)) (disjoint : Disjoint) (known : HasPa
       let y = (others b.0).0 (in_has bs b.0 b.1) in
       elim (cases_Bool (bytes_eq a.0 b.0)) [
         | inl s ↦ inl (variable_of a.0, x, subst (λ w. HasVariable ys (variable_of w)) (sym ((bytes_eq-Decides a.0 b.0).0 s)) y)
-        | inr d ↦ inr (variable_of a.0, variable_of b.0, x, y, (λ same. false≢true (sym d ∙ (bytes_eq-Decides a.0 b.0).1 (ap (λ (w : Symbol). w.name) same))),
-            (λ p. (let has_it = (known a.0 b.0).1 p in false≢true (sym (lost (bytes_eq a.0 b.0) (has_pair disjoint a.0 b.0) d has_it) ∙ b.2))))
+        | inr d ↦ inr (
+          variable_of a.0,
+          variable_of b.0,
+          x,
+          y,
+          (λ same. false≢true (sym d ∙ (bytes_eq-Decides a.0 b.0).1 (ap (λ (w : Symbol). w.name) same))),
+          (λ p. (let has_it = (known a.0 b.0).1 p in false≢true (sym (lost (bytes_eq a.0 b.0) (has_pair disjoint a.0 b.0) d has_it) ∙ b.2))),
+        )
       ]
     where
       lost : (s h : Bool) → s ≡ false → h ≡ true → (s || not h) ≡ false
@@ -209,6 +214,7 @@ module _ (active : List (Symbol × Symbol)) (disjoint : Disjoint) (known : HasPa
     where
       test_at : (x y : Symbol) → HasVariable xs x → HasVariable ys y → (bytes_eq x.name y.name || not (has_pair disjoint x.name y.name)) ≡ false
       test_at x y h k = none_passes (λ w. bytes_eq x.name w || not (has_pair disjoint x.name w)) bs y.name (none_passes (λ w. clashes_with disjoint w bs) ones x.name e (name_in x h)) (other_in y k)
+
       kept : (s h : Bool) → (s || not h) ≡ false → h ≡ true
       kept true h t = absurd (false≢true (sym t))
       kept false true t = refl

@@ -1,21 +1,21 @@
 -- What citing an assertion does to the stack, or why it cannot be done.
-use Rattle.std.proofs.Common.{◌≡◌, ◌≢◌, ◌⊎◌, ℕ, zero, suc, ◌+◌, ◌-◌, ◌<◌, ◌≤◌, true, false, Vec, Option, None, Some, List, [], ◌∷◌, ◌++◌, length, map, take, drop, get_or, refl, sym, ◌∙◌, ap, subst, arith, inl, inr, length-drop, length-append}
+use Rattle.std.proofs.Common.{◌≡◌, ◌≢◌, ℕ, ◌+◌, ◌-◌, ◌<◌, ◌≤◌, true, false, Vec, Option, None, Some, List, [], ◌∷◌, ◌++◌, length, map, take, drop, refl, sym, ◌∙◌, ap, subst, arith, inl, inr, length-append}
 use Rattle.std.specs.Prelude.{slice_get, All, Any, MatchOption}
 use Rattle.std.specs.Borrow.{Bor}
 use Rattle.std.specs.Global.{Global}
 use Rattle.mm_frame.specs.declared.symbol.NamedSymbol.{NamedSymbol}
 use Rattle.std.proofs.Math.Decide.{ℕ_discrete}
-use Rattle.std.proofs.lemmas.Bool.{false≢true, true≢false}
-use Rattle.std.proofs.lemmas.List.{length-map, take-append-drop, drop_at, take_rest, drop-map, take-map, map-append}
+use Rattle.std.proofs.lemmas.Bool.{true≢false}
+use Rattle.std.proofs.lemmas.List.{length-map, take-append-drop, take_rest, drop-map, take-map, map-append}
 use Rattle.std.proofs.lemmas.Option.{slice_get_within, same_Some}
 use Rattle.mm_frame.specs.Language.{Symbol, Mandatory, Frame}
 use Rattle.mm_frame.specs.Typing.{IsFrame}
 use Rattle.mm_proof.specs.Substitution.{substituted}
-use Rattle.mm_proof.specs.Derivation.{Takes, AreApart, ShareVariable}
-use Rattle.mm_proof.specs.Faults.{AnyZip, CitingFails, LackPair}
+use Rattle.mm_proof.specs.Derivation.{Takes, AreApart}
+use Rattle.mm_proof.specs.Faults.{CitingFails}
 use Rattle.mm_proof.specs.Steps.{Cites}
 use Rattle.mm_proof.specs.declared.ProofNumber.{ProofNumber}
-use Rattle.mm_proof.specs.declared.ProofNumber.TheVariants.{P07, P08, P09, P10, P11, P12}
+use Rattle.mm_proof.specs.declared.ProofNumber.TheVariants.{P08, P09, P10, P11, P12}
 use Rattle.mm_proof.proofs.Given.{all_match}
 use Rattle.mm_proof.proofs.Lines.{not_cited, entries_are}
 use Rattle.mmkeep.specs.Given.{FloatsMatch, AreTypings, AnyOtherTypecode, ExceedsLimit}

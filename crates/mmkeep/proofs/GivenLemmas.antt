@@ -1,11 +1,11 @@
 -- What entries give for variables, and where an entry is an expression under it.
-use Rattle.std.proofs.Common.{◌≡◌, ◌≢◌, ◌↔◌, ℕ, zero, suc, ◌+◌, ◌-◌, ◌<◌, ◌≤◌, Bool, true, false, cond, Option, Some, None, List, [], ◌∷◌, ◌++◌, length, map, take, drop, get_or, bytes_eq, flat_map, refl, sym, ◌∙◌, ap, subst, append_assoc, length-append, inl, inr, arith}
-use Rattle.std.specs.Prelude.{slice_get, slice_index_or, All, AllPairs}
+use Rattle.std.proofs.Common.{◌≡◌, ◌≢◌, ◌↔◌, ℕ, zero, suc, ◌+◌, ◌-◌, ◌<◌, ◌≤◌, true, false, cond, Some, None, List, [], ◌∷◌, ◌++◌, length, take, drop, get_or, bytes_eq, refl, sym, ◌∙◌, ap, subst, append_assoc, length-append, inl, inr, arith}
+use Rattle.std.specs.Prelude.{slice_get}
 use Rattle.std.proofs.Math.Decide.{ℕ_discrete}
 use Rattle.std.proofs.lemmas.Bool.{cases_Bool, false≢true}
-use Rattle.std.proofs.lemmas.List.{append_cancel_left, append-nil, take_more, drop_more, take_all, take-append-drop, map-append, take-map, drop-map, length-map, length-drop, get_or-map, drop_all}
+use Rattle.std.proofs.lemmas.List.{append_cancel_left, append-nil, take_more, drop_more, take_all, take-append-drop, map-append, take-map, drop-map, length-map, length-drop, drop_all}
 use Rattle.std.proofs.lemmas.Grind.{flat_map-append}
-use Rattle.std.proofs.lemmas.Option.{slice_get_within, get_or_from_slice_get, slice_get-get_or, same_Some}
+use Rattle.std.proofs.lemmas.Option.{slice_get_within, get_or_from_slice_get, same_Some}
 use Rattle.std.proofs.lemmas.Slice.Eq.{bytes_eq-Decides}
 use Rattle.mm_frame.specs.Language.{Symbol, Mandatory}
 use Rattle.mm_frame.specs.Typing.{IsTyping}
@@ -101,10 +101,13 @@ part_and_rest entry at n = sym (take-append-drop n (drop at entry)) ∙ ap (λ w
     empty : (n : ℕ) → drop {A = Symbol} n [] ≡ []
     empty zero = refl
     empty (suc n) = refl
+
     zero_more : (n : ℕ) → n ≡ zero + n
     zero_more n = omega arith
+
     more : (a n : ℕ) → suc (a + n) ≡ suc a + n
     more a n = omega arith
+
     drops : (a n : ℕ) (xs : List Symbol) → drop n (drop a xs) ≡ drop (a + n) xs
     drops zero n xs = ap (λ k. drop k xs) (zero_more n)
     drops (suc a) n [] = empty n ∙ sym (empty (suc a + n))

@@ -78,13 +78,13 @@ no_lines file (x ∷ xs) (Proved ∷ ys) n f = no_lines file xs ys (omega (arith
 
 -- what has no line is counted neither as wrong nor as a fault
 none_more : (one : Told) (all : List Told) → is_wrong one ≡ false → is_fault one ≡ false → (count_by is_wrong all ≡ 0) × (count_by is_fault all ≡ 0) → (count_by is_wrong (one ∷ all) ≡ 0) × (count_by is_fault (one ∷ all) ≡ 0)
-none_more one all w f p = (count_cons is_wrong one all ∙ rw w (zero-add _ ∙ p.0) , count_cons is_fault one all ∙ rw f (zero-add _ ∙ p.1))
+none_more one all w f p = (count_cons is_wrong one all ∙ rw w (zero-add _ ∙ p.0), count_cons is_fault one all ∙ rw f (zero-add _ ∙ p.1))
 
 -- and one stands there where something is
 pub some_line : (file : List ℕ) (items : List Item) (all : List Told) → length all ≡ length items → lines file items all ≡ [] → (count_by is_wrong all ≡ 0) × (count_by is_fault all ≡ 0)
-some_line file [] [] e l = (refl , refl)
+some_line file [] [] e l = (refl, refl)
 some_line file [] (y ∷ ys) e l = cc
-some_line file (x ∷ xs) [] e l = (refl , refl)
+some_line file (x ∷ xs) [] e l = (refl, refl)
 some_line file (x ∷ xs) (Wrong ∷ ys) e l = cc
 some_line file (x ∷ xs) (Fault number shown ∷ ys) e l = cc
 some_line file (x ∷ xs) (Quiet ∷ ys) e l = none_more Quiet ys refl refl (some_line file xs ys (cc) l)

@@ -1,11 +1,11 @@
 -- A proof that is run label by label.
-use Rattle.std.proofs.Common.{◌≡◌, ◌≢◌, ◌↔◌, ℕ, ◌+◌, ◌<◌, ◌≤◌, true, false, Bool, Option, None, Some, List, [], ◌∷◌, ◌++◌, length, map, take, get_or, refl, sym, ◌∙◌, ap, subst, arith, append_assoc, inl, inr}
+use Rattle.std.proofs.Common.{◌≡◌, ◌≢◌, ◌↔◌, ℕ, ◌+◌, ◌<◌, ◌≤◌, true, false, Bool, Some, List, [], ◌∷◌, ◌++◌, length, map, take, get_or, refl, sym, ◌∙◌, ap, subst, arith, append_assoc, inl, inr}
 use Rattle.std.specs.Prelude.{slice_get, All, AllPairs, Contains}
 use Rattle.std.specs.Option.{option_map}
 use Rattle.std.proofs.lemmas.List.{append-nil, take_more, take_all, length-map, get_or_default}
 use Rattle.std.proofs.lemmas.List.Elements.{All-contains}
 use Rattle.std.proofs.lemmas.Option.{slice_get-map, slice_get-get_or, slice_get_within, get_or_from_slice_get}
-use Rattle.mm_frame.specs.Language.{Symbol, Mandatory, Frame, Resolved, Hypothesis, Assertion, Inactive, Unknown, Place, ArePair, AreSamePairs, AreSameFrame, HasVariable}
+use Rattle.mm_frame.specs.Language.{Symbol, Mandatory, Frame, Hypothesis, Assertion, Inactive, Unknown, Place, AreSameFrame, HasVariable}
 use Rattle.mm_frame.specs.Typing.{IsTyped, IsTyping, IsFrame, HasFrames}
 use Rattle.mm_frame.specs.Item.{Item}
 use Rattle.mm_frame.specs.Framing.{place_of, statement_of}
@@ -24,7 +24,7 @@ use Rattle.mmkeep.specs.Proof.{IsProved, StepsOrFails, steps_of}
 use Rattle.mmkeep.specs.Stack.{CitesOrFails}
 use Rattle.std.proofs.lemmas.Bool.{false≢true, and_from}
 use Rattle.mm_frame.proofs.Facts.{and_both}
-use Rattle.mm_frame.specs.Base.{BaseView, before, said_at, is_sound_at, is_shown_at, is_framed_at, is_proof_at}
+use Rattle.mm_frame.specs.Base.{BaseView, said_at, is_sound_at, is_shown_at, is_framed_at, is_proof_at}
 use Rattle.mm_frame.specs.Item.{Kind, Axiom, Theorem, is_theorem, is_assertion, is_labelled}
 
 -- ---- an assertion whose frame is the same
@@ -53,6 +53,7 @@ frame_moved f g s is = record {
   typings = subst (λ hs. All (λ (h : Mandatory). h.floating ≡ true → IsTyping h.expression) hs) (sym s.hypotheses) is.typings;
   typed_once = subst (λ hs. AllPairs (λ (h g : Mandatory). h.floating ≡ true → g.floating ≡ true → slice_get h.expression 1 ≢ slice_get g.expression 1) hs) (sym s.hypotheses) is.typed_once;
 }
+
 -- citing by the one frame is citing by the other
 pub cited_moved : (active : List (Symbol × Symbol)) (f g : Frame) (old : List (List Symbol)) (done : Bool) (new : List (List Symbol)) → AreSameFrame f g → CitesOrFails active f old done new → CitesOrFails active g old done new
 cited_moved active f g old true new s c = cites_moved active f g old new s c

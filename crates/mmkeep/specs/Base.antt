@@ -1,5 +1,5 @@
 -- A base as that of the files that it was built from.
-use Rattle.std.specs.Prelude.{◌≡◌, ℕ, ◌<◌, ◌≤◌, Some, Option, None, List, length, slice_get, MatchOption}
+use Rattle.std.specs.Prelude.{◌≡◌, ℕ, ◌<◌, ◌≤◌, Some, Option, None, length, slice_get}
 use Rattle.std.specs.List.{AllZip}
 use Rattle.mm_store.specs.declared.item.Item as store
 use Rattle.mm_store.specs.FilesView.{FilesView}

@@ -1,5 +1,5 @@
 -- An assertion that is cited, as the code has it.
-use Rattle.std.specs.Prelude.{List, map}
+use Rattle.std.specs.Prelude.{map}
 use Rattle.mm_frame.specs.Language.{Mandatory, Frame}
 use Rattle.mm_frame.specs.Named.{symbols_of, kept_pairs}
 use Rattle.mmkeep.specs.declared.citing.Hypothesis.{Hypothesis}

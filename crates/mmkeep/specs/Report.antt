@@ -6,7 +6,7 @@ use Rattle.mm_store.specs.declared.item.Item as store
 use Rattle.mm_store.specs.FilesView.{FilesView}
 use Rattle.mm_store.specs.FileFacts.{StandsIn, IsByte}
 use Rattle.mm_frame.specs.Base.{BaseView, fault_at, is_sound_at, is_proof_at, said_at}
-use Rattle.mm_frame.specs.Item.{Kind, Axiom, Item, is_assertion}
+use Rattle.mm_frame.specs.Item.{Axiom, Item, is_assertion}
 use Rattle.mm_frame.specs.declared.FrameNumber.{FrameNumber}
 use Rattle.mm_frame.specs.declared.FrameNumber.TheVariants.{F01, F02, F03, F04, F05, F06, F07, F08, F09, F10, F11, F12, F13, F14}
 use Rattle.mmkeep.specs.declared.finding.Finding.{Finding}

@@ -1,7 +1,6 @@
 -- What the verification of one file answers.
-use Rattle.std.specs.Prelude.{◌≡◌, ◌↔◌, ℕ, ◌<◌, ◌≤◌, Bool, IsTrue, Option, List, [], length, slice_get}
+use Rattle.std.specs.Prelude.{◌≡◌, ◌↔◌, ℕ, ◌<◌, ◌≤◌, Bool, IsTrue, Option, List, [], length}
 use Rattle.mm_text.specs.Cut.{IsFirstFault}
-use Rattle.mm_store.specs.declared.item.Item as store
 use Rattle.mm_store.specs.FilesView.{FilesView, no_files, bytes_of}
 use Rattle.mm_store.specs.FileFacts.{IsAdded}
 use Rattle.mm_store.specs.Answers.{HasTooMany}

@@ -27,11 +27,7 @@ pub struct Given<'a> {
 fn behind_typecode<'s, 'a>(entry: &'s [&'a NamedSymbol]) -> &'s [&'a NamedSymbol]
     ensures { symbols_of result.now ≡ drop 1 (symbols_of entry.now) }
 {
-    if entry.is_empty() {
-        entry
-    } else {
-        &entry[1..]
-    }
+    if entry.is_empty() { entry } else { &entry[1..] }
 }
 
 /// Whether an entry has the typecode of a hypothesis.

@@ -40,13 +40,7 @@ fn is_before(reached: &Reached, file: usize, piece: usize, at: usize) -> bool
 }
 
 /// The place of a byte of a piece. It goes on from the place that is known where that stands before the byte.
-fn place_of(
-    files: &Files,
-    reached: Option<Reached>,
-    file: usize,
-    piece: usize,
-    at: usize,
-) -> Place
+fn place_of(files: &Files, reached: Option<Reached>, file: usize, piece: usize, at: usize) -> Place
     requires byte { (text : List ℕ) × (offset : ℕ) × IsByte files.now file piece at text offset }
     requires reached { IsReached files.now reached }
     ensures line { (text : List ℕ) (offset : ℕ) → IsByte files.now file piece at text offset → result.line ≡ line_at text offset }

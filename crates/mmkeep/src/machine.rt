@@ -159,8 +159,6 @@ pub fn is_proved(
     let disjoint = Disjoint::of(alloc, active(base, number))?;
     match run(alloc, base, number, &disjoint, statement)? {
         None => Ok(false),
-        Some(stack) => Ok(
-            stack.len() == 1 && is_expression(&stack[0], expression(base, number)),
-        ),
+        Some(stack) => Ok(stack.len() == 1 && is_expression(&stack[0], expression(base, number))),
     }
 }

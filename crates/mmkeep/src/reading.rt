@@ -78,11 +78,7 @@ pub struct Unread {
 }
 
 /// The first word that is not read yet.
-pub fn first_unread(
-    alloc: Global,
-    files: &Files,
-    base: &Base,
-) -> Result<Option<Unread>, AllocError>
+pub fn first_unread(alloc: Global, files: &Files, base: &Base) -> Result<Option<Unread>, AllocError>
     requires { HasView files.now base.now }
     ensures { IfOk result (λ found. (view : BaseView) → IsOf files.now base.now view → MatchOption found (AreRead view.said) (λ unread. IsFirstUnread view.said unread.item unread.word)) }
 {

@@ -122,11 +122,7 @@ fn code_of_number(number: FrameNumber) -> &'static [u8]
 }
 
 /// Writes a word and a byte behind it.
-fn write_part<W: Write>(
-    word: &[u8],
-    behind: &[u8],
-    to: &mut Writing<W>,
-) -> Result<(), WriteFailed>
+fn write_part<W: Write>(word: &[u8], behind: &[u8], to: &mut Writing<W>) -> Result<(), WriteFailed>
     ensures ok { OnOk result (Appends (written W.contents to.old) (written W.contents to.new) (word.now ++ behind.now)) }
     ensures err { OnErr result (has_failed to.new ≡ true) }
     ensures prefix { OnErr result (AppendsPart (written W.contents to.old) (written W.contents to.new) (word.now ++ behind.now)) }

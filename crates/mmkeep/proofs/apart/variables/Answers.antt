@@ -21,9 +21,9 @@ loop-symbol-preserved c =
       | then-symbol+in_ok-insert+then-branch+in_ok-push w ↦ (
           let key = w.as_slice.result in
           let pushed : names_of w.push.new.self.items ≡ names ++ key.now ∷ [] =
-              ap names_of w.in_ok-push.ensures.items
-              ∙ map-append (λ (n : Bor (List ℕ)). n.now) c.loop-symbol.names.items (w.as_slice-then-branch.result ∷ [])
-              ∙ ap (λ n. names ++ n ∷ []) (w.as_slice-then-branch.ensures.value ∙ sym w.as_slice.ensures.value) in
+          ap names_of w.in_ok-push.ensures.items
+          ∙ map-append (λ (n : Bor (List ℕ)). n.now) c.loop-symbol.names.items (w.as_slice-then-branch.result ∷ [])
+          ∙ ap (λ n. names ++ n ∷ []) (w.as_slice-then-branch.ensures.value ∙ sym w.as_slice.ensures.value) in
           let more = so_far_new names key old w.insert.new.self (take k symbols) s w.if-symbol.true w.as_slice.ensures.value w.in_ok-insert.ensures.updates c.loop-symbol.invariant in
           subst (λ seen. SoFar (names_of c.if-symbol.names.items) seen (take k symbols ++ s ∷ [])) (sym w.seen-is)
           (subst (λ ns. SoFar ns w.insert.new.self (take k symbols ++ s ∷ [])) (sym (ap (λ (v : Vec (Bor (List ℕ)) Global). names_of v.items) w.names-is ∙ pushed)) more))

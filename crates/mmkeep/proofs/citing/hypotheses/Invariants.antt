@@ -1,4 +1,4 @@
-use Rattle.std.proofs.Common.{◌≡◌, ℕ, true, map, take}
+use Rattle.std.proofs.Common.{◌≡◌, true, map, take}
 use Rattle.std.specs.Prelude.{All}
 use Rattle.mm_frame.specs.Base.{BaseView, is_shown_at, hypothesis_at}
 use Rattle.mm_frame.specs.Kept.{IsBase}

@@ -1,10 +1,8 @@
-use Rattle.std.proofs.Common.{◌≡◌, length}
 use Rattle.mm_frame.specs.Base.{BaseView}
 use Rattle.mmkeep.specs.Base.{IsOf, IsReached}
 use Rattle.mmkeep.specs.Report.{told_all}
 use Rattle.mmkeep.proofs.ItemLemmas.{ToldUpTo}
 use Rattle.mmkeep.proofs.judgement.findings.Given as goal
-
 
 abbrev pub invariant-loop-number : goal.invariant-loop-number
 invariant-loop-number l = IsReached l.files l.reached × ((view : BaseView) → IsOf l.files l.base view → ToldUpTo l.files view l.number (told_all l.found.items))

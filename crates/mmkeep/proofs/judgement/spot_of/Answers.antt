@@ -1,7 +1,6 @@
-use Rattle.std.proofs.Common.{◌≡◌, ◌+◌, List, ℕ, length, sym, ◌∙◌, ap, subst, slice_range, arith}
+use Rattle.std.proofs.Common.{◌+◌, length, ◌∙◌, ap, subst, slice_range, arith}
 use Rattle.mm_store.specs.FilesView.{text_of}
 use Rattle.mm_store.specs.FileFacts.{IsLive, IsByte, piece_offset}
-use Rattle.mm_text.specs.Place.{line_at, column_at}
 use Rattle.mmkeep.specs.Report.{start_of, spelled}
 use Rattle.mmkeep.proofs.ReadingLemmas.{item_words, start_within, word_is_byte}
 use Rattle.mmkeep.proofs.judgement.spot_of.Goals as goal

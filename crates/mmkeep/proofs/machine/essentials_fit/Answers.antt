@@ -1,4 +1,4 @@
-use Rattle.std.proofs.Common.{◌≡◌, ◌≢◌, ◌+◌, length, map, true, false, sym, ◌∙◌, ap, arith}
+use Rattle.std.proofs.Common.{◌≢◌, map, sym, ◌∙◌, ap, arith}
 use Rattle.std.proofs.lemmas.Bool.{false≢true}
 use Rattle.std.proofs.lemmas.List.{length-map}
 use Rattle.mm_frame.specs.Named.{symbols_of as named}

@@ -1,15 +1,12 @@
-use Rattle.std.proofs.Common.{◌≡◌, ◌≢◌, true, false, Option, None, Some, List, [], ◌∷◌, Vec, length, refl, sym, ◌∙◌, ap, subst, arith}
+use Rattle.std.proofs.Common.{◌≡◌, ◌≢◌, [], ◌∷◌, length, sym, ◌∙◌, ap, subst, arith}
 use Rattle.std.proofs.lemmas.Bool.{false≢true, eqb-true}
-use Rattle.std.specs.Borrow.{Bor}
-use Rattle.std.specs.Global.{Global}
-use Rattle.mm_frame.specs.declared.symbol.NamedSymbol.{NamedSymbol}
 use Rattle.mm_frame.specs.Item.{Item}
-use Rattle.mm_frame.specs.Base.{BaseView, before, said_at, hypothesis_at}
+use Rattle.mm_frame.specs.Base.{before, said_at}
 use Rattle.mm_frame.specs.Framing.{place, place_of, statement_of, active_pairs}
 use Rattle.mm_frame.specs.Named.{symbols_of as named, kept_pairs}
 use Rattle.mm_proof.specs.Reaches.{Reaches}
 use Rattle.mmkeep.specs.Apart.{KnowsActive}
-use Rattle.mmkeep.specs.Proof.{IsProved, ReachesOrFails, steps_of}
+use Rattle.mmkeep.specs.Proof.{ReachesOrFails, steps_of}
 use Rattle.mmkeep.specs.Stack.{symbols_of, stack_of}
 use Rattle.std.proofs.lemmas.List.{length-map}
 use Rattle.mmkeep.proofs.ApartLemmas.{pairs_known}

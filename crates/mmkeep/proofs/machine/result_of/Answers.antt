@@ -1,9 +1,7 @@
-use Rattle.std.proofs.Common.{◌≡◌, ◌≢◌, ◌≤◌, List, Option, None, Some, length, map, true, false, Bool, sym, ◌∙◌, ap, subst, arith}
-use Rattle.std.specs.Prelude.{MatchBool, MatchOption}
+use Rattle.std.proofs.Common.{◌≡◌, List, length, map, true, false, Bool, subst, arith}
+use Rattle.std.specs.Prelude.{MatchBool}
 use Rattle.std.proofs.lemmas.Bool.{false≢true, true≢false}
 use Rattle.std.proofs.lemmas.List.{length-map}
-use Rattle.mm_frame.specs.Named.{symbols_of as named}
-use Rattle.mm_proof.specs.Substitution.{substituted}
 use Rattle.mmkeep.specs.declared.citing.Hypothesis.{Hypothesis}
 use Rattle.mmkeep.specs.Cited.{mandatory_of, frame_of}
 use Rattle.mmkeep.specs.Given.{given_by, FindsGiven, FloatsMatch}

@@ -1,4 +1,4 @@
-use Rattle.std.proofs.Common.{◌≡◌, true, false, [], Some, take, length, slice_get, refl, sym, subst, arith}
+use Rattle.std.proofs.Common.{[], take, sym, subst, arith}
 use Rattle.mm_frame.specs.Base.{before}
 use Rattle.mm_frame.specs.Framing.{place}
 use Rattle.mm_frame.proofs.Frames.{has_frames}

@@ -1,7 +1,5 @@
-use Rattle.std.proofs.Common.{◌≡◌, sym, ◌∙◌, ap, subst}
 use Rattle.mm_frame.specs.Base.{before, frame_at}
-use Rattle.mm_frame.specs.Framing.{place, active_pairs}
-use Rattle.mm_frame.specs.Language.{Assertion}
+use Rattle.mm_frame.specs.Framing.{place}
 use Rattle.mm_frame.specs.Typing.{IsFrame}
 use Rattle.mm_frame.proofs.Frames.{has_frames}
 use Rattle.mmkeep.specs.Cited.{frame_of}

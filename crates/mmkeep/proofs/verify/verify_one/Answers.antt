@@ -1,4 +1,4 @@
-use Rattle.std.proofs.Common.{◌≡◌, List, ℕ, length, sym, ◌∙◌, ap, subst}
+use Rattle.std.proofs.Common.{◌≡◌, List, length, sym, ◌∙◌, ap, subst}
 use Rattle.std.specs.Prelude.{count_by, ◌==◌, ◌&&◌, ◌↔◌, IsTrue}
 use Rattle.std.specs.Io.KnownBytes.{Appends}
 use Rattle.std.proofs.lemmas.List.{length-map}
@@ -43,8 +43,7 @@ returns-in-Ok-clause-report g c =
     let wrong = count_by (λ finding. is_wrong (told finding)) found in
     let faults = count_by (λ finding. is_fault (told finding)) found in
     let clean : c.is_clean.result ≡ (wrong == 0 && faults == 0) = c.is_clean.ensures ∙ ap (λ (fs : List Finding). count_by (λ finding. is_wrong (told finding)) fs == 0 && count_by (λ finding. is_fault (told finding)) fs == 0) c.deref-in-Ok.ensures.value in
-    let both = subst (λ b. IsTrue b ↔ ((wrong ≡ 0) × (faults ≡ 0))) (sym clean) (clean_counts wrong faults) in
-    (
+    let both = subst (λ b. IsTrue b ↔ ((wrong ≡ 0) × (faults ≡ 0))) (sym clean) (clean_counts wrong faults) in (
       report c.args.name.now view.said (told_all found),
       report_is c.args.name.now c.args.text.now c.add.new.self view database found c.is_clean.result read are both,
       subst (λ (fs : List Finding). Appends (g.W.Write.contents c.args.writing.now.inner) (g.W.Write.contents c.write_report.new.to.inner) (report c.args.name.now view.said (told_all fs))) seen (c.in-Ok.ensures.ok view base count),

@@ -1,10 +1,8 @@
-use Rattle.std.proofs.Common.{◌≡◌, length, sym, ◌∙◌, ap, subst, arith, true, false, List}
+use Rattle.std.proofs.Common.{◌≡◌, sym, ◌∙◌, ap, subst, arith, true, false}
 use Rattle.std.proofs.lemmas.List.{length-map}
-use Rattle.std.specs.Borrow.{Bor}
-use Rattle.mm_frame.specs.Language.{Symbol}
 use Rattle.mm_frame.specs.Named.{pair_of, kept_pairs, symbol_of as named_symbol}
 use Rattle.mmkeep.specs.Given.{given_by}
-use Rattle.mmkeep.specs.Stack.{symbols_of, stack_of}
+use Rattle.mmkeep.specs.Stack.{stack_of}
 use Rattle.mmkeep.specs.Apart.{names_of, clash}
 use Rattle.mmkeep.proofs.PlaceLemmas.{read_at}
 use Rattle.mmkeep.proofs.ApartLemmas.{AreNames, apart_more, apart_all, apart_not, clash_apart, no_clash_apart}

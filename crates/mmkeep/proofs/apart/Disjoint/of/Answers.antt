@@ -1,4 +1,4 @@
-use Rattle.std.proofs.Common.{◌+◌, ◌++◌, [], ◌∷◌, take, sym, ◌∙◌, ap, subst}
+use Rattle.std.proofs.Common.{◌++◌, [], ◌∷◌, take, sym, ◌∙◌, ap, subst}
 use Rattle.std.proofs.lemmas.List.{map_more, take_all}
 use Rattle.mm_frame.specs.Named.{pair_of, kept_pairs}
 use Rattle.mmkeep.specs.Apart.{HasOrders}

@@ -1,4 +1,4 @@
-use Rattle.std.proofs.Common.{◌∙◌, sym, ap, subst, true}
+use Rattle.std.proofs.Common.{◌∙◌, sym, subst}
 use Rattle.std.proofs.lemmas.Bool.{false≢true}
 use Rattle.mmkeep.proofs.ApartLemmas.{Puts, orders_more, orders_same}
 use Rattle.mmkeep.proofs.apart.Disjoint.put.Goals as goal

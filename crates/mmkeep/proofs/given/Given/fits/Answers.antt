@@ -1,4 +1,4 @@
-use Rattle.std.proofs.Common.{subst, ◌∙◌, sym, ap, ◌≢◌, ◌++◌, List, drop, get_or, None}
+use Rattle.std.proofs.Common.{subst, ◌≢◌, ◌++◌, List, drop, get_or, None}
 use Rattle.mm_frame.specs.Language.{Symbol}
 use Rattle.std.proofs.lemmas.Bool.{false≢true}
 use Rattle.mm_frame.specs.Named.{symbol_of as named_symbol}
