@@ -556,6 +556,28 @@ fn builds_a_base(rt: HostRuntime) -> Result<(), Fail> {
     Ok(())
 }
 
+/// Eleven sound items: in a block a `$e` stands between the `$f` of two mandatory variables.
+const BETWEEN: &[u8] =
+    b"$c wff |- -> ( ) $.\n$v p q $.\nwp $f wff p $.\nwq $f wff q $.\nwi $a wff ( p -> q ) $.\n${ e1 $e |- p $. $v r $. wr $f wff r $. a3 $a |- r $. $}\n";
+
+#[test]
+fn keeps_hypotheses_in_order(rt: HostRuntime) -> Result<(), Fail> {
+    let base = base_of(rt.alloc(), BETWEEN)?;
+    assert_eq!(rt; base.count(), 11);
+    for i in 0..base.count() {
+        assert_eq!(rt; base.fault(i), None, "of {i}");
+    }
+    let rows: [(usize, &[usize]); 2] = [(4, &[2, 3]), (9, &[2, 6, 8])];
+    for (i, wanted) in rows {
+        assert!(rt; base.frame(i).is_some(), "of {i}");
+        if let Some(frame) = base.frame(i) {
+            assert_eq!(rt; &frame.hypotheses[..], wanted, "of {i}");
+            assert!(rt; frame.pairs.is_empty(), "of {i}");
+        }
+    }
+    Ok(())
+}
+
 /// Five sound items: three variables, which are typed in the order z, x, y.
 const TYPED: &[u8] = b"$c wff |- $.\n$v x y z $.\nwz $f wff z $.\nwx $f wff x $.\nwy $f wff y $.\n";
 

@@ -29,6 +29,8 @@ pub use stream::Writing;
 pub use verify::verify_one;
 
 #[cfg(test)]
+mod fault_tests;
+#[cfg(test)]
 mod tests;
 
 fn main(rt: HostRuntime) -> ExitCode {

@@ -14,27 +14,62 @@ use std::test::Fail;
 const FIVE: &[u8] =
     b"$c wff |- -> ( ) $.\n$v p q $.\nwp $f wff p $.\nwq $f wff q $.\nwi $a wff ( p -> q ) $.\n";
 
-/// These five lines and one more.
-fn with_line(rt: &(impl AllocGlobal + Abort), line: &[u8]) -> Result<Vec<u8>, Fail> {
-    let mut text = Vec::from_slice(rt.alloc(), FIVE)?;
-    text.extend_from_slice(line)?;
+/// Its sixth line.
+const RULE: &[u8] = b"${ mi $e |- p $. ma $e |- ( p -> q ) $. mp $a |- q $. $}\n";
+
+/// A theorem behind it, with a normal proof.
+const DETACHED: &[u8] =
+    b"${ h1 $e |- p $. h2 $e |- ( p -> q ) $. th $p |- q $= wp wq h1 h2 mp $. $}\n";
+
+/// Seven lines: an axiom that keeps two variables apart, and one that takes its statement.
+const APART: &[u8] =
+    b"$c wff |- $.\n$v x y z $.\nwx $f wff x $.\nwy $f wff y $.\nwz $f wff z $.\n${ $d x y $. a1 $a |- x y $. $}\n${ b1 $e |- x y $. b2 $a |- x $. $}\n";
+
+/// The statements of the demonstration database of the Metamath book.
+const DEMO: &[u8] =
+    b"$c 0 + = -> ( ) term wff |- $.\n$v t r s P Q $.\ntt $f term t $.\ntr $f term r $.\nts $f term s $.\nwp $f wff P $.\nwq $f wff Q $.\ntze $a term 0 $.\ntpl $a term ( t + r ) $.\nweq $a wff t = r $.\nwim $a wff ( P -> Q ) $.\na1 $a |- ( t = r -> ( t = s -> r = s ) ) $.\na2 $a |- ( t + 0 ) = t $.\n${\nmin $e |- P $.\nmaj $e |- ( P -> Q ) $.\nmp $a |- Q $.\n$}\nth1 $p |- t = t $=\ntt tze tpl tt weq tt tt weq tt a2 tt tze tpl\ntt weq tt tze tpl tt weq tt tt weq wim tt a2\ntt tze tpl tt tt a1 mp mp\n$.\n";
+
+/// Ten lines with eight faults; the ninth is sound, because the eighth takes no label.
+const FAULTS: &[u8] =
+    b"$c wff |- wff $.\n$c wff |- $.\n${ $c k $. $v x $. wx $f wff x $. $}\n$c x $.\nwx $a wff $.\n${ $v x $. vx $f |- x $. $}\nx $a wff $.\na $a wff y $.\n$v a $.\n$c $.\n";
+
+/// Some lines and more behind them.
+fn joined(rt: &(impl AllocGlobal + Abort), first: &[u8], behind: &[u8]) -> Result<Vec<u8>, Fail> {
+    let mut text = Vec::from_slice(rt.alloc(), first)?;
+    text.extend_from_slice(behind)?;
     Ok(text)
 }
 
-/// Checks that a text is verified with this answer and this report.
+/// The five lines and one more.
+fn with_line(rt: &(impl AllocGlobal + Abort), line: &[u8]) -> Result<Vec<u8>, Fail> {
+    joined(rt, FIVE, line)
+}
+
+/// Checks that a text of this name is verified with this report, and whether that is clean.
+fn reports_as(
+    rt: &(impl AllocGlobal + Abort),
+    name: &[u8],
+    text: &[u8],
+    clean: bool,
+    report: &[u8],
+) -> Result<(), Fail> {
+    let mut writing = Writing::new(Vec::new(rt.alloc()));
+    let answer = verify_one(rt.alloc(), name, text, &mut writing);
+    assert_eq!(rt; answer, Ok(clean), "of {text:?}");
+    assert!(rt; !writing.failed());
+    let written = writing.into_inner();
+    assert_eq!(rt; written.as_slice(), report, "of {text:?}");
+    Ok(())
+}
+
+/// Checks so of a text by the name that most have here.
 fn reports(
     rt: &(impl AllocGlobal + Abort),
     text: &[u8],
     clean: bool,
     report: &[u8],
 ) -> Result<(), Fail> {
-    let mut writing = Writing::new(Vec::new(rt.alloc()));
-    let answer = verify_one(rt.alloc(), b"a.mm", text, &mut writing);
-    assert_eq!(rt; answer, Ok(clean), "of {text:?}");
-    assert!(rt; !writing.failed());
-    let written = writing.into_inner();
-    assert_eq!(rt; written.as_slice(), report, "of {text:?}");
-    Ok(())
+    reports_as(rt, b"a.mm", text, clean, report)
 }
 
 /// Checks that a text is refused with this error, and that nothing was written.
@@ -48,25 +83,176 @@ fn refuses(rt: &(impl AllocGlobal + Abort), text: &[u8], error: FirstError) -> R
 
 #[test]
 fn reports_files(rt: HostRuntime) -> Result<(), Fail> {
+    let rows: [(&[u8], &[u8]); 4] = [
+        (
+            b"",
+            b"axioms 0 theorems 0 proved 0 incomplete 0 wrong 0 faults 0\n",
+        ),
+        (
+            b"$c |- S $.\n$v x $.\nsx $f S x $.\ne $a S $.\nax $a |- x $.\nt $p |- $= e ax $.\n",
+            b"axioms 2 theorems 1 proved 1 incomplete 0 wrong 0 faults 0\n",
+        ),
+        (
+            DEMO,
+            b"axioms 7 theorems 1 proved 1 incomplete 0 wrong 0 faults 0\n",
+        ),
+        (
+            b"$c wff |- $.\n$c k $.\nax $a |- k $.\nth $p |- k $= ax $.\n",
+            b"axioms 1 theorems 1 proved 1 incomplete 0 wrong 0 faults 0\n",
+        ),
+    ];
+    for (text, report) in rows {
+        reports(&rt, text, true, report)?;
+    }
+    Ok(())
+}
+
+/// The names of files stand in their faults.
+#[test]
+fn reports_faults(rt: HostRuntime) -> Result<(), Fail> {
+    let rows: [(&[u8], &[u8], &[u8]); 4] = [
+        (
+            b"f.mm",
+            FAULTS,
+            b"fault f.mm:1:11 F03 wff\nfault f.mm:3:4 F02 $c\nfault f.mm:4:4 F04 x\nfault f.mm:5:1 F06 wx\nfault f.mm:6:21 F13 x\nfault f.mm:7:1 F07 x\nfault f.mm:8:10 F10 y\nfault f.mm:10:4 F01 $.\naxioms 0 theorems 0 proved 0 incomplete 0 wrong 0 faults 8\n",
+        ),
+        (
+            b"t.mm",
+            b"$[ t.mm $] $[ z.mm $] $[ z.mm $]\n",
+            b"fault t.mm:1:15 F14 z.mm\naxioms 0 theorems 0 proved 0 incomplete 0 wrong 0 faults 1\n",
+        ),
+        // Constants of one database are variables of the next, without and with a typecode.
+        (
+            b"k.mm",
+            b"$c wff |- $.\n$v k $.\nax $a |- k $.\nth $p |- k $= ax $.\n",
+            b"fault k.mm:3:10 F11 k\nfault k.mm:4:10 F11 k\naxioms 0 theorems 0 proved 0 incomplete 0 wrong 0 faults 2\n",
+        ),
+        (
+            b"k.mm",
+            b"$c wff |- $.\n$v k $.\nwk $f wff k $.\nax $a |- k $.\nth $p |- k $= ax $.\n",
+            b"wrong th\naxioms 1 theorems 1 proved 0 incomplete 0 wrong 1 faults 0\n",
+        ),
+    ];
+    for (name, text, report) in rows {
+        reports_as(&rt, name, text, false, report)?;
+    }
+    Ok(())
+}
+
+/// The axiom's `$e` are taken in the order in which they stand.
+#[test]
+fn reports_blocks(rt: HostRuntime) -> Result<(), Fail> {
+    let clean = b"axioms 2 theorems 1 proved 1 incomplete 0 wrong 0 faults 0\n";
+    let text = joined(&rt, RULE, DETACHED)?;
+    reports(&rt, &with_line(&rt, &text)?, true, clean)?;
+    let turned = b"${ ma $e |- ( p -> q ) $. mi $e |- p $. mp $a |- q $. $}\n";
+    let text = joined(&rt, turned, DETACHED)?;
     reports(
         &rt,
-        b"",
-        true,
-        b"axioms 0 theorems 0 proved 0 incomplete 0 wrong 0 faults 0\n",
+        &with_line(&rt, &text)?,
+        false,
+        b"wrong th\naxioms 2 theorems 1 proved 0 incomplete 0 wrong 1 faults 0\n",
     )?;
     reports(
         &rt,
-        b"$c |- S $.\n$v x $.\nsx $f S x $.\ne $a S $.\nax $a |- x $.\nt $p |- $= e ax $.\n",
-        true,
-        b"axioms 2 theorems 1 proved 1 incomplete 0 wrong 0 faults 0\n",
+        &with_line(&rt, DETACHED)?,
+        false,
+        b"wrong th\naxioms 1 theorems 1 proved 0 incomplete 0 wrong 1 faults 0\n",
+    )?;
+    // No word of the block is declared yet.
+    let text = joined(&rt, RULE, FIVE)?;
+    reports(
+        &rt,
+        &joined(&rt, &text, DETACHED)?,
+        false,
+        b"fault a.mm:1:10 F08 |-\nfault a.mm:1:24 F08 |-\nfault a.mm:1:47 F08 |-\nwrong th\naxioms 1 theorems 1 proved 0 incomplete 0 wrong 1 faults 3\n",
     )
+}
+
+/// Behind the five lines, without a theorem.
+#[test]
+fn reports_statements(rt: HostRuntime) -> Result<(), Fail> {
+    let rows: [(&[u8], bool, &[u8]); 9] = [
+        (
+            b"${ e1 $e |- p $. $v r $. wr $f wff r $. a3 $a |- r $. $}\n",
+            true,
+            b"axioms 2 theorems 0 proved 0 incomplete 0 wrong 0 faults 0\n",
+        ),
+        (
+            b"${ x1 $e wff q $. x2 $f wff z $. $}\n",
+            false,
+            b"fault a.mm:6:29 F09 z\naxioms 1 theorems 0 proved 0 incomplete 0 wrong 0 faults 1\n",
+        ),
+        (
+            b"${ $} ${ ${ $} $d p q $. $} e $e wff p $.\n",
+            true,
+            b"axioms 1 theorems 0 proved 0 incomplete 0 wrong 0 faults 0\n",
+        ),
+        (
+            b"$[ a.mm $]\n",
+            true,
+            b"axioms 1 theorems 0 proved 0 incomplete 0 wrong 0 faults 0\n",
+        ),
+        (
+            b"$[ a.mm $] $[ b.mm $]\n",
+            false,
+            b"fault a.mm:6:15 F14 b.mm\naxioms 1 theorems 0 proved 0 incomplete 0 wrong 0 faults 1\n",
+        ),
+        // What is no word of a proof is read.
+        (
+            b"t $p wff ? $= wp $.\n",
+            false,
+            b"fault a.mm:6:10 F10 ?\naxioms 1 theorems 0 proved 0 incomplete 0 wrong 0 faults 1\n",
+        ),
+        (
+            b"$c ? $. a $a ? ( $.\n",
+            true,
+            b"axioms 2 theorems 0 proved 0 incomplete 0 wrong 0 faults 0\n",
+        ),
+        // The proof of a theorem at fault is not run.
+        (
+            b"t $p |- r $= wp wi nothing $.\n",
+            false,
+            b"fault a.mm:6:9 F10 r\naxioms 1 theorems 0 proved 0 incomplete 0 wrong 0 faults 1\n",
+        ),
+        (
+            b"wp $p wff p $= wp $.\n",
+            false,
+            b"fault a.mm:6:1 F06 wp\naxioms 1 theorems 0 proved 0 incomplete 0 wrong 0 faults 1\n",
+        ),
+    ];
+    for (line, clean, report) in rows {
+        reports(&rt, &with_line(&rt, line)?, clean, report)?;
+    }
+    Ok(())
+}
+
+/// Checks that the one theorem `t` of some lines is proved, or else wrong, and that nothing is at fault. They have this
+/// many axioms.
+fn judges(
+    rt: &(impl AllocGlobal + Abort),
+    lines: &[u8],
+    behind: &[u8],
+    axioms: &[u8],
+    proved: bool,
+) -> Result<(), Fail> {
+    let before: &[u8] = if proved {
+        b"axioms "
+    } else {
+        b"wrong t\naxioms "
+    };
+    let counts: &[u8] = if proved {
+        b" theorems 1 proved 1 incomplete 0 wrong 0 faults 0\n"
+    } else {
+        b" theorems 1 proved 0 incomplete 0 wrong 1 faults 0\n"
+    };
+    let report = joined(rt, &joined(rt, before, axioms)?, counts)?;
+    reports(rt, &joined(rt, lines, behind)?, proved, &report)
 }
 
 #[test]
 fn reports_theorems(rt: HostRuntime) -> Result<(), Fail> {
-    let proved = b"axioms 1 theorems 1 proved 1 incomplete 0 wrong 0 faults 0\n";
-    let wrong = b"wrong t\naxioms 1 theorems 1 proved 0 incomplete 0 wrong 1 faults 0\n";
-    let rows: [(&[u8], bool); 12] = [
+    let rows: [(&[u8], bool); 15] = [
         (b"t $p wff ( p -> ( p -> q ) ) $= wp wp wq wi wi $.\n", true),
         (b"t $p wff ( q -> p ) $= wq wp wi $.\n", true),
         (b"t $p wff p $= wp $.\n", true),
@@ -76,28 +262,28 @@ fn reports_theorems(rt: HostRuntime) -> Result<(), Fail> {
         (b"t $p wff p $= wi $.\n", false),
         (b"t $p wff p $= $.\n", false),
         (b"t $p wff p $= wq $.\n", false),
-        // The proof's own label, a later one and none.
+        // The proof's own label, and none.
         (b"t $p wff p $= t $.\n", false),
         (b"t $p wff p $= wr $.\n", false),
         (b"t $p |- p $= wp $.\n", false),
         (b"t $p wff ( p -> q ) $= wq wp wi $.\n", false),
+        // Normal proofs with words that are no labels.
+        (b"t $p wff p $= (wi ) A $.\n", false),
+        (b"t $p wff p $= wp ( ) A $.\n", false),
+        (b"t $p wff p $= ) ?? $.\n", false),
     ];
-    for (line, clean) in rows {
-        let text = with_line(&rt, line)?;
-        if clean {
-            reports(&rt, &text, true, proved)?;
-        } else {
-            reports(&rt, &text, false, wrong)?;
-        }
+    for (line, proved) in rows {
+        judges(&rt, FIVE, line, b"1", proved)?;
     }
     Ok(())
 }
 
+/// The first proof would be one if it might name a later theorem.
 #[test]
 fn reports_in_order(rt: HostRuntime) -> Result<(), Fail> {
     let text = with_line(
         &rt,
-        b"t1 $p wff p $= t2 $.\nt2 $p wff p $= wp $.\nt3 $p wff p $= wp t1 $.\nt4 $p wff q $= wp $.\n",
+        b"t1 $p wff p $= wp t2 $.\nt2 $p wff p $= wp $.\nt3 $p wff p $= wp t1 $.\nt4 $p wff q $= wp $.\n",
     )?;
     reports(
         &rt,
@@ -107,41 +293,240 @@ fn reports_in_order(rt: HostRuntime) -> Result<(), Fail> {
     )
 }
 
-/// What is not read yet: the place of the word, or of the first word of a statement that is not sound.
+/// Which hypotheses and assertions a proof may name, and in which order an assertion takes them.
+#[test]
+fn runs_proofs_by_scopes(rt: HostRuntime) -> Result<(), Fail> {
+    let rows: [(&[u8], bool); 19] = [
+        (b"${ h $e |- p $. t $p |- p $= h $. $}\n", true),
+        (b"${ h $e |- p $. ${ t $p |- p $= h $. $} $}\n", true),
+        (b"h $e |- p $. ${ $} t $p |- p $= h $.\n", true),
+        // The block of the `$e` has ended, or it comes later.
+        (b"${ h $e |- p $. $} t $p |- p $= h $.\n", false),
+        (b"${ t $p |- p $= h $. h $e |- p $. $}\n", false),
+        (b"${ $v x $. vx $f wff x $. t $p wff x $= vx $. $}\n", true),
+        // A variable of the same name has another `$f` now.
+        (
+            b"${ $v x $. vx $f wff x $. $} $v x $. wx $f wff x $. t $p wff x $= wx $.\n",
+            true,
+        ),
+        (
+            b"${ $v x $. vx $f wff x $. $} $v x $. wx $f wff x $. t $p wff x $= vx $.\n",
+            false,
+        ),
+        // The proof's own label.
+        (b"t $p |- p $= wp t $.\n", false),
+        (b"${ h $e |- p $. t $p |- p $= wp h t $. $}\n", false),
+        // No entry, another one, and two.
+        (b"${ h $e |- p $. t $p |- p $= $. $}\n", false),
+        (b"${ h $e |- p $. t $p |- q $= h $. $}\n", false),
+        (b"${ h $e wff p $. t $p |- p $= h $. $}\n", false),
+        (b"${ h $e |- p $. t $p |- p $= wp h $. $}\n", false),
+        (b"${ h $e |- p $. k $e |- q $. t $p |- p $= k h $. $}\n", false),
+        (b"${ h $e |- p $. k $e |- q $. t $p |- p $= h $. $}\n", true),
+        (b"${ h $e |- $. t $p |- $= h $. $}\n", true),
+        (b"${ h $e |- ( ) $. t $p |- ( ) $= h $. $}\n", true),
+        (b"${ h $e |- ( ) $. t $p |- ( $= h $. $}\n", false),
+    ];
+    for (line, clean) in rows {
+        judges(&rt, FIVE, line, b"1", clean)?;
+    }
+    Ok(())
+}
+
+/// Hypotheses are taken in the order of the text, whether they are `$f` or `$e`.
+#[test]
+fn takes_hypotheses_in_order(rt: HostRuntime) -> Result<(), Fail> {
+    let between = b"${ e1 $e |- p $. $v r $. wr $f wff r $. a3 $a |- r $. $}\n";
+    let text = with_line(&rt, between)?;
+    let rows: [(&[u8], bool); 6] = [
+        (b"${ h $e |- p $. t $p |- q $= wp h wq a3 $. $}\n", true),
+        (b"${ h $e |- q $. t $p |- p $= wq h wp a3 $. $}\n", true),
+        (b"${ h $e |- p $. t $p |- q $= wp wq h a3 $. $}\n", false),
+        (b"${ h $e |- p $. t $p |- q $= h wp wq a3 $. $}\n", false),
+        (b"${ h $e |- p $. t $p |- q $= wq h wq a3 $. $}\n", false),
+        (b"${ h $e |- p $. t $p |- q $= h wq a3 $. $}\n", false),
+    ];
+    for (line, clean) in rows {
+        judges(&rt, &text, line, b"2", clean)?;
+    }
+    // Those of the outermost block are hypotheses of all that comes behind them.
+    let text = with_line(&rt, b"e $e |- p $. a $a |- q $.\n")?;
+    let rows: [(&[u8], bool); 4] = [
+        (b"t $p |- q $= wp wq e a $.\n", true),
+        (b"t $p |- p $= wp wp e a $.\n", true),
+        (b"t $p |- q $= wq e a $.\n", false),
+        (b"t $p |- q $= wq wq e a $.\n", false),
+    ];
+    for (line, clean) in rows {
+        judges(&rt, &text, line, b"2", clean)?;
+    }
+    Ok(())
+}
+
+/// What is given for two variables that are kept apart.
+#[test]
+fn keeps_variables_apart(rt: HostRuntime) -> Result<(), Fail> {
+    let rows: [(&[u8], bool); 15] = [
+        // z is not mandatory in the theorem, and its proof needs the pair.
+        (b"${ $d x z $. t $p |- x $= wx wz wx wz a1 b2 $. $}\n", true),
+        (b"${ $d z x $. t $p |- x $= wx wz wx wz a1 b2 $. $}\n", true),
+        (b"${ t $p |- x $= wx wz wx wz a1 b2 $. $}\n", false),
+        (b"${ $d x z $. t $p |- z $= wz wx wz wx a1 b2 $. $}\n", true),
+        (b"${ $d z x $. t $p |- z $= wz wx wz wx a1 b2 $. $}\n", true),
+        (
+            b"${ $d z y x $. t $p |- x $= wx wz wx wz a1 b2 $. $}\n",
+            true,
+        ),
+        // Another pair, and two that x and z do not share.
+        (
+            b"${ $d x y $. t $p |- x $= wx wz wx wz a1 b2 $. $}\n",
+            false,
+        ),
+        (
+            b"${ $d x y $. $d y z $. t $p |- x $= wx wz wx wz a1 b2 $. $}\n",
+            false,
+        ),
+        // A shared variable.
+        (
+            b"${ $d x z $. t $p |- x $= wx wx wx wx a1 b2 $. $}\n",
+            false,
+        ),
+        (b"$d x z $. ${ t $p |- x $= wx wz wx wz a1 b2 $. $}\n", true),
+        (
+            b"$d x z $. ${ $d x z $. $} t $p |- x $= wx wz wx wz a1 b2 $.\n",
+            true,
+        ),
+        // The block of the `$d` has ended, or it comes later.
+        (
+            b"${ $d x z $. $} t $p |- x $= wx wz wx wz a1 b2 $.\n",
+            false,
+        ),
+        (
+            b"${ t $p |- x $= wx wz wx wz a1 b2 $. $d x z $. $}\n",
+            false,
+        ),
+        // The pair of the axiom is none of the theorem.
+        (b"t $p |- x $= wx wy wx wy a1 b2 $.\n", false),
+        (b"$d y x $. t $p |- x $= wx wy wx wy a1 b2 $.\n", true),
+    ];
+    for (line, clean) in rows {
+        judges(&rt, APART, line, b"2", clean)?;
+    }
+    Ok(())
+}
+
+/// Lists of none and of two variables, with an axiom for each.
+#[test]
+fn keeps_lists_apart(rt: HostRuntime) -> Result<(), Fail> {
+    let text = joined(&rt, APART, b"e $a wff $. j $a wff x y $.\n")?;
+    let rows: [(&[u8], bool); 11] = [
+        // An empty list asks nothing of the other.
+        (b"t $p |- x $= wx e wx e a1 b2 $.\n", true),
+        (b"t $p |- $= e wx e wx a1 b2 $.\n", true),
+        (b"t $p |- $= e e e e a1 b2 $.\n", true),
+        (b"t $p |- x y $= wx wy j e wx wy j e a1 b2 $.\n", true),
+        // Each variable of the one has to be apart from each of the other.
+        (
+            b"${ $d x z $. t $p |- x y $= wx wy j wz wx wy j wz a1 b2 $. $}\n",
+            false,
+        ),
+        (
+            b"${ $d z y $. t $p |- x y $= wx wy j wz wx wy j wz a1 b2 $. $}\n",
+            false,
+        ),
+        (
+            b"${ $d x z $. $d z y $. t $p |- x y $= wx wy j wz wx wy j wz a1 b2 $. $}\n",
+            true,
+        ),
+        (
+            b"${ $d x y z $. t $p |- x y $= wx wy j wz wx wy j wz a1 b2 $. $}\n",
+            true,
+        ),
+        (
+            b"${ $d x z $. $d z y $. t $p |- z $= wz wx wy j wz wx wy j a1 b2 $. $}\n",
+            true,
+        ),
+        // The two of one list may be the same, but none may be in both.
+        (
+            b"${ $d x z $. t $p |- x x $= wx wx j wz wx wx j wz a1 b2 $. $}\n",
+            true,
+        ),
+        (
+            b"${ $d x y z $. t $p |- x y $= wx wy j wy wx wy j wy a1 b2 $. $}\n",
+            false,
+        ),
+    ];
+    for (line, clean) in rows {
+        judges(&rt, &text, line, b"4", clean)?;
+    }
+    Ok(())
+}
+
+/// A statement at fault is no hypothesis, keeps nothing apart and can not be named.
+#[test]
+fn passes_over_faults(rt: HostRuntime) -> Result<(), Fail> {
+    let rows: [(&[u8], &[u8], bool, &[u8]); 5] = [
+        (
+            FIVE,
+            b"${ e $e |- z $. a $a |- p $. $} t $p |- q $= wq a $.\n",
+            false,
+            b"fault a.mm:6:12 F10 z\naxioms 2 theorems 1 proved 1 incomplete 0 wrong 0 faults 1\n",
+        ),
+        (
+            FIVE,
+            b"${ e $e |- z $. t $p |- p $= e $. $}\n",
+            false,
+            b"fault a.mm:6:12 F10 z\nwrong t\naxioms 1 theorems 1 proved 0 incomplete 0 wrong 1 faults 1\n",
+        ),
+        (
+            FIVE,
+            b"a $a |- z $. t $p |- p $= wp a $. a $a |- p $. u $p |- p $= wp a $.\n",
+            false,
+            b"fault a.mm:6:9 F10 z\nwrong t\naxioms 2 theorems 2 proved 1 incomplete 0 wrong 1 faults 1\n",
+        ),
+        (
+            APART,
+            b"${ $d x z z $. t $p |- x $= wx wz wx wz a1 b2 $. $}\n",
+            false,
+            b"fault a.mm:8:11 F03 z\nwrong t\naxioms 2 theorems 1 proved 0 incomplete 0 wrong 1 faults 1\n",
+        ),
+        // A wrong proof leaves its theorem sound.
+        (
+            FIVE,
+            b"t $p |- p $= wp $. u $p |- q $= wq t $.\n",
+            false,
+            b"wrong t\naxioms 1 theorems 2 proved 1 incomplete 0 wrong 1 faults 0\n",
+        ),
+    ];
+    for (lines, behind, clean, report) in rows {
+        reports(&rt, &joined(&rt, lines, behind)?, clean, report)?;
+    }
+    Ok(())
+}
+
+/// What is not read yet: a `?` in a proof, and a `(` as its first word, whatever else is at fault.
 #[test]
 fn tells_what_is_not_read(rt: HostRuntime) -> Result<(), Fail> {
-    let rows: [(&[u8], u16); 30] = [
-        (b"${ $}\n", 1),
-        (b"${ ${ $} $}\n", 1),
-        (b"$c k $. ${ $c wff $. $}\n", 9),
-        (b"e $e wff p $.\n", 3),
-        (b"$d p q $.\n", 1),
-        (b"$[ b.mm $]\n", 1),
-        // The file itself is no inclusion.
-        (b"$[ a.mm $] $[ b.mm $]\n", 12),
+    let rows: [(&[u8], u16); 14] = [
         (b"t $p wff p $= ( wi ) AB $.\n", 15),
-        (b"t $p wff p $= wp ? $.\n", 18),
+        (b"t $p wff p $= ( ? ) A $.\n", 15),
+        (b"t $p wff p $= ( $.\n", 15),
         (b"t $p wff p $= ? $.\n", 15),
-        (b"t $p wff ? $= wp $.\n", 1),
-        (b"$c p $.\n", 1),
-        (b"$c wff $.\n", 1),
-        (b"$c k k $.\n", 1),
-        (b"$c $.\n", 1),
-        (b"$c wp $.\n", 1),
-        (b"$v p $.\n", 1),
-        (b"$v $.\n", 1),
-        (b"wp $a wff p $.\n", 1),
-        (b"p $a wff p $.\n", 1),
-        (b"wr $f wff $.\n", 1),
-        (b"wr $f wff p q $.\n", 1),
-        (b"wr $f p p $.\n", 1),
-        (b"wr $f wff wff $.\n", 1),
-        (b"wr $f wff p $.\n", 1),
-        (b"a $a $.\n", 1),
-        (b"a $a p $.\n", 1),
-        (b"a $a wff r $.\n", 1),
-        (b"$v r $. a $a wff r $.\n", 9),
-        (b"t $p k $= wp $.\n", 1),
+        (b"t $p wff p $= wp ? $.\n", 18),
+        (b"t $p wff p $= wp ( ? $.\n", 20),
+        // Of a theorem at fault.
+        (b"t $p wff r $= ( $.\n", 15),
+        (b"wp $p wff p $= nothing ? $.\n", 24),
+        (b"t $p $= ? $.\n", 9),
+        // The first one in the order of the text.
+        (
+            b"t $p wff p $= wp $. u $p wff p $= wp ? $. v $p wff p $= ( $.\n",
+            38,
+        ),
+        (b"$[ b.mm $] ${ $c k $. t $p wff p $= ? $. $}\n", 37),
+        (b"$[ a.mm $] t $p wff p $= ( $.\n", 26),
+        (b"t $p wff p $= wq $. u $p wff p $= ? $.\n", 35),
+        (b"t $p wff p $= $( ( $) $( ? $)\t? $.\n", 31),
     ];
     for (line, column) in rows {
         let text = with_line(&rt, line)?;
@@ -159,7 +544,7 @@ fn tells_what_is_not_read(rt: HostRuntime) -> Result<(), Fail> {
 
 #[test]
 fn tells_faults(rt: HostRuntime) -> Result<(), Fail> {
-    let rows: [(&[u8], TextNumber, usize); 24] = [
+    let rows: [(&[u8], TextNumber, usize); 26] = [
         (b"$( a\n", TextNumber::T02, 0),
         (b"$c a$b $.\n", TextNumber::T05, 3),
         (b"$c a $c $.\n", TextNumber::T06, 5),
@@ -186,6 +571,9 @@ fn tells_faults(rt: HostRuntime) -> Result<(), Fail> {
         // A fault of the text goes before what is not read, wherever it is.
         (b"$[ $c $c\n", TextNumber::T12, 3),
         (b"x $p a $= (\n", TextNumber::T07, 0),
+        (b"t $p a $= ? $. $}\n", TextNumber::T09, 15),
+        // So it does before what is at fault in a statement.
+        (b"$c k k $. $}\n", TextNumber::T09, 10),
     ];
     for (text, number, at) in rows {
         refuses(
@@ -249,8 +637,9 @@ impl Write for Slow {
 
 #[test]
 fn writes_slowly_and_fails(rt: HostRuntime) -> Result<(), Fail> {
-    let text = with_line(&rt, b"t $p wff p $= wq $.\n")?;
-    let report = b"wrong t\naxioms 1 theorems 1 proved 0 incomplete 0 wrong 1 faults 0\n";
+    let text = with_line(&rt, b"a $a wff r $. t $p wff p $= wq $.\n")?;
+    let report =
+        b"fault a.mm:6:10 F10 r\nwrong t\naxioms 1 theorems 1 proved 0 incomplete 0 wrong 1 faults 1\n";
     for calls in 0..report.len() + 2 {
         let mut writing = Writing::new(Slow {
             calls,

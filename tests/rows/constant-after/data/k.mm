@@ -1,0 +1,4 @@
+$c wff |- $.
+$v k $.
+ax $a |- k $.
+th $p |- k $= ax $.

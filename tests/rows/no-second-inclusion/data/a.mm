@@ -1,0 +1,7 @@
+$[ a.mm $]
+$c wff |- -> ( ) $.
+$v p q $.
+wp $f wff p $.
+wq $f wff q $.
+wi $a wff ( p -> q ) $.
+$[ ./a.mm $] $[ ./a.mm $]

@@ -1,6 +1,0 @@
-$c wff |- -> ( ) $.
-$v p q $.
-wp $f wff p $.
-wq $f wff q $.
-wi $a wff ( p -> q ) $.
-e $e wff p $.

@@ -1,0 +1,6 @@
+$c wff |- -> ( ) $.
+$v p q $.
+wp $f wff p $.
+wq $f wff q $.
+wi $a wff ( p -> q ) $.
+t $p |- r $= wp nothing $.
