@@ -1,0 +1,8 @@
+$( Statements at fault are told with their places; the rest is verified against the sound ones alone. $)
+$c wff |- $.
+${ $c k $. $}
+$v p $.
+wp $f wff p $.
+ax $a |- p $.
+ax $a |- q $.
+t $p |- p $= wp ax $.
