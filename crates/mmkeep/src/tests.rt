@@ -321,7 +321,10 @@ fn runs_proofs_by_scopes(rt: HostRuntime) -> Result<(), Fail> {
         (b"${ h $e |- p $. t $p |- q $= h $. $}\n", false),
         (b"${ h $e wff p $. t $p |- p $= h $. $}\n", false),
         (b"${ h $e |- p $. t $p |- p $= wp h $. $}\n", false),
-        (b"${ h $e |- p $. k $e |- q $. t $p |- p $= k h $. $}\n", false),
+        (
+            b"${ h $e |- p $. k $e |- q $. t $p |- p $= k h $. $}\n",
+            false,
+        ),
         (b"${ h $e |- p $. k $e |- q $. t $p |- p $= h $. $}\n", true),
         (b"${ h $e |- $. t $p |- $= h $. $}\n", true),
         (b"${ h $e |- ( ) $. t $p |- ( ) $= h $. $}\n", true),
