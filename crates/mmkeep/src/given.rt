@@ -1,6 +1,6 @@
 //! What the entries of the mandatory `$f` give for their variables.
 
-ghost use Rattle.std.specs.Prelude.{◌≡◌, ◌↔◌, ◌++◌, ◌∷◌, [], ◌≤◌, ℕ, List, IsTrue, IfOk, OnOk, MatchOption, Some, drop, length, map, slice_get, unwrap_or, if◌then◌else◌, bytes_eq};
+ghost use Rattle.std.specs.Prelude.{◌≡◌, ◌↔◌, ◌++◌, ◌∷◌, [], ◌≤◌, ℕ, List, IsTrue, IfOk, OnOk, MatchOption, None, Some, drop, length, map, slice_get, unwrap_or, if◌then◌else◌, bytes_eq};
 ghost use Rattle.mm_frame.specs.Language.{Symbol};
 ghost use Rattle.mm_frame.specs.Named.{symbol_of as named_symbol, symbols_of as named};
 ghost use Rattle.mm_proof.specs.Substitution.{substituted as put_in, replacement};
@@ -54,7 +54,10 @@ fn variable_of(hypothesis: &[NamedSymbol]) -> &[u8]
 impl<'a> Given<'a> {
     ghost use Rattle.mmkeep.specs.Given.{place_for, given_for, given_by, FindsGiven, ExceedsLimit};
 
-    fn new(alloc: Global) -> Given<'a> {
+    /// Nothing is given for any variable.
+    fn new(alloc: Global) -> Given<'a>
+        ensures { (name : List ℕ) → place_for result name ≡ None }
+    {
         Given {
             places: HashMap::new(alloc),
         }
