@@ -14,7 +14,7 @@ ghost use Rattle.mm_frame.specs.PairTable.{KnowsPairs};
 
 use crate::blocks::Blocks;
 use crate::paired::PairTable;
-use crate::symbol::NamedSymbol;
+use crate::symbol::{NamedSymbol, add_pair};
 use crate::tables::Tables;
 use std::alloc::{AllocError, Global};
 
@@ -149,21 +149,6 @@ fn variables_typed<'a>(
         add_variable(essentials, expressions, *number, &mut variables)?;
     }
     Ok(variables)
-}
-
-/// Adds a copy of a pair.
-fn add_pair(
-    alloc: Global,
-    first: &NamedSymbol,
-    second: &NamedSymbol,
-    pairs: &mut Vec<(NamedSymbol, NamedSymbol)>,
-) -> Result<(), AllocError>
-    ensures { OnOk result (kept_pairs pairs.new.items ≡ kept_pairs pairs.old.items ++ (symbol_of first.now, symbol_of second.now) ∷ []) }
-{
-    let first = first.copy(alloc)?;
-    let second = second.copy(alloc)?;
-    pairs.push((first, second))?;
-    Ok(())
 }
 
 /// Adds a copy of a pair if an active `$d` has it.

@@ -9,7 +9,7 @@ ghost use Rattle.mm_frame.specs.Tables.{active_numbers, is_disjoint_item};
 ghost use Rattle.mm_frame.specs.Named.{symbol_of, symbols_of, AreSymbols, expression_kept, kept_pairs};
 ghost use Rattle.mm_frame.specs.PairLists.{HasActivePairs};
 
-use crate::symbol::NamedSymbol;
+use crate::symbol::{NamedSymbol, add_pair};
 use std::alloc::{AllocError, Global};
 use std::collections::HashMap;
 
@@ -24,21 +24,6 @@ pub struct PairLists {
     made: HashMap<usize, usize>,
 }
 
-/// Adds the pair of copies of two symbols.
-fn add_copies(
-    alloc: Global,
-    first: &NamedSymbol,
-    second: &NamedSymbol,
-    pairs: &mut Vec<(NamedSymbol, NamedSymbol)>,
-) -> Result<(), AllocError>
-    ensures { OnOk result (kept_pairs pairs.new.items ≡ kept_pairs pairs.old.items ++ (symbol_of first.now, symbol_of second.now) ∷ []) }
-{
-    let first = first.copy(alloc)?;
-    let second = second.copy(alloc)?;
-    pairs.push((first, second))?;
-    Ok(())
-}
-
 /// Adds the pairs of a symbol with each of others, in order.
 fn add_with_each(
     alloc: Global,
@@ -49,7 +34,7 @@ fn add_with_each(
     ensures { OnOk result (kept_pairs pairs.new.items ≡ kept_pairs pairs.old.items ++ map (λ y. (symbol_of first.now, y)) (symbols_of others.now)) }
 {
     for other in others {
-        add_copies(alloc, first, other, pairs)?;
+        add_pair(alloc, first, other, pairs)?;
     }
     Ok(())
 }

@@ -1,11 +1,11 @@
 //! Symbols of expressions, as they are kept.
 
-ghost use Rattle.std.specs.Prelude.{◌≡◌, ◌↔◌, IsTrue, IfOk, List, true};
+ghost use Rattle.std.specs.Prelude.{◌≡◌, ◌↔◌, ◌++◌, ◌∷◌, [], IsTrue, IfOk, OnOk, OnErr, List, true};
 ghost use Rattle.mm_frame.specs.Item as meant;
 ghost use Rattle.mm_frame.specs.Sound.{AreSound, IsSound};
 ghost use Rattle.mm_frame.specs.Framing.{expression};
 ghost use Rattle.mm_frame.specs.Known.{Knows};
-ghost use Rattle.mm_frame.specs.Named.{symbol_of, symbols_of, by_constants, variable_of};
+ghost use Rattle.mm_frame.specs.Named.{symbol_of, symbols_of, kept_pairs, by_constants, variable_of};
 
 use crate::statement::Statement;
 use crate::tables::Tables;
@@ -38,6 +38,22 @@ impl NamedSymbol {
             variable: self.variable,
         })
     }
+}
+
+/// Adds the pair of copies of two symbols. Want of memory leaves the pairs as they were.
+pub fn add_pair(
+    alloc: Global,
+    first: &NamedSymbol,
+    second: &NamedSymbol,
+    pairs: &mut Vec<(NamedSymbol, NamedSymbol)>,
+) -> Result<(), AllocError>
+    ensures ok { OnOk result (kept_pairs pairs.new.items ≡ kept_pairs pairs.old.items ++ (symbol_of first.now, symbol_of second.now) ∷ []) }
+    ensures err { OnErr result (kept_pairs pairs.new.items ≡ kept_pairs pairs.old.items) }
+{
+    let first = first.copy(alloc)?;
+    let second = second.copy(alloc)?;
+    pairs.push((first, second))?;
+    Ok(())
 }
 
 /// A name as a symbol: what is no declared constant is a variable.
