@@ -27,6 +27,12 @@ pub use statement::Statement;
 pub use symbol::NamedSymbol;
 
 #[cfg(test)]
+mod base_tests;
+#[cfg(test)]
+mod fault_tests;
+#[cfg(test)]
+mod frame_tests;
+#[cfg(test)]
 mod tests;
 
 ghost use Rattle.mm_frame.specs.Laws.{ActiveByBlocks, FaultIsFound, HasFaultOrIsSound, HasOneFault, KeptNext, NeverBoth, PlacesHaveFrames, ReaderIsActive, SoundHasNone, StaysByCounts};
