@@ -184,7 +184,7 @@ not_shown base i l = sym (ap (λ (w : Item). is_none (told_fault (before base i)
     and_false true = refl
     and_false false = refl
 
-labelled_there : (said : List Item) (i : ℕ) → is_labelled (item_at said i).kind ≡ true → slice_get said i ≡ Some (item_at said i)
+pub labelled_there : (said : List Item) (i : ℕ) → is_labelled (item_at said i).kind ≡ true → slice_get said i ≡ Some (item_at said i)
 labelled_there [] i e = absurd (false≢true e)
 labelled_there (x ∷ said) zero e = refl
 labelled_there (x ∷ said) (suc i) e = labelled_there said i e

@@ -28,3 +28,4 @@ pub mod FrameNumbers
 pub mod ResolvingLemmas
 pub mod SameLemmas
 pub mod SameFrames
+pub mod OwnLabels

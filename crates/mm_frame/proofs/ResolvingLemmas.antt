@@ -42,13 +42,13 @@ front_get (y ∷ ys) (suc i) zero x l e = e
 front_get (y ∷ ys) (suc i) (suc n) x l e = front_get ys i n x (omega arith) e
 
 -- the item with the label, and what the label means at another behind it
-record IsFound (base : BaseView) (i : ℕ) (label : List ℕ) (j : ℕ) : Type 0 where
-  labels : IsLabelOf base i j label
-  there : slice_get (before base i) j ≡ Some (said_at base j)
-  front : take j (before base i) ≡ before base j
-  means : resolve (before base i) label ≡ meaning (before base i) (before base j) (said_at base j) (drop (suc j) (before base i))
+pub record IsFound (base : BaseView) (i : ℕ) (label : List ℕ) (j : ℕ) : Type 0 where
+  pub labels : IsLabelOf base i j label
+  pub there : slice_get (before base i) j ≡ Some (said_at base j)
+  pub front : take j (before base i) ≡ before base j
+  pub means : resolve (before base i) label ≡ meaning (before base i) (before base j) (said_at base j) (drop (suc j) (before base i))
 
-is_found : (base : BaseView) (i : ℕ) (label : List ℕ) (j : ℕ) → find_in base label ≡ Some j → j < i → IsFound base i label j
+pub is_found : (base : BaseView) (i : ℕ) (label : List ℕ) (j : ℕ) → find_in base label ≡ Some j → j < i → IsFound base i label j
 is_found base i label j e l =
     let items = kept base.said in
     let whole = before base i in
@@ -90,7 +90,7 @@ hypothesis_means : (base : BaseView) (i : ℕ) (label : List ℕ) (j : ℕ) → 
 hypothesis_means base i label j f t = f.means ∙ ap (λ b. cond b (Assertion (frame_at base j)) (cond (stays (drop (suc j) (before base i))) (Hypothesis (expression (before base i) (said_at base j))) Inactive)) (no_assertion base j f.labels.shown t)
 
 -- activity by what the items do to the blocks
-active_by : (base : BaseView) (marks : List Mark) (i j : ℕ) → marks ≡ marks_of (kept base.said) → stays_by (drop (suc j) (take i marks)) ≡ stays (drop (suc j) (before base i))
+pub active_by : (base : BaseView) (marks : List Mark) (i j : ℕ) → marks ≡ marks_of (kept base.said) → stays_by (drop (suc j) (take i marks)) ≡ stays (drop (suc j) (before base i))
 active_by base marks i j m =
     ap (λ w. stays_by (drop (suc j) (take i w))) m
     ∙ ap (λ w. stays_by (drop (suc j) w)) (take-map (λ (item : Item). mark_of item.kind) i (kept base.said))

@@ -7,6 +7,7 @@ mod blocks;
 mod draft;
 mod judge;
 mod mandatory;
+mod own_labels;
 mod pair_lists;
 mod paired;
 mod same;
@@ -22,6 +23,7 @@ pub use mm_store::{
     Files, Item, ItemKind, KnownPlace, PieceKey, Place, StoreError, TextFault, TextNumber, fits,
     nth_word, place,
 };
+pub use own_labels::{has_own_labels, mandatory_means};
 pub use same::same_frame;
 pub use statement::Statement;
 pub use symbol::NamedSymbol;

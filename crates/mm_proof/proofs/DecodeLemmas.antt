@@ -1,0 +1,29 @@
+-- The decoding that the code has.
+use Rattle.std.proofs.Common.{◌≡◌, ℕ, true, false, Ok, List, [], ◌∷◌, length, map, drop, refl, ap}
+use Rattle.mm_frame.specs.Language.{Place}
+use Rattle.mm_proof.specs.Expansion.{Step}
+use Rattle.mm_proof.specs.Coded.{meant, meant_steps}
+use Rattle.mm_proof.specs.Decoding.{in_order, each_word, read_word, compressed_steps, is_compressed, word_spot, decoded, decoding}
+use Rattle.mm_proof.specs.Verdict.{Decoded}
+use Rattle.mm_proof.specs.declared.Spot.{Spot}
+use Rattle.mm_proof.specs.declared.step.ProofStep.{ProofStep}
+
+only_steps : (names : List Step) (steps : List ProofStep) → map (λ (step : Step × Spot). step.0) (meant_steps names steps) ≡ map (λ (step : ProofStep). meant names step.action) steps
+only_steps names [] = refl
+only_steps names (step ∷ steps) = ap (λ (w : List Step). meant names step.action ∷ w) (only_steps names steps)
+
+only_spots : (names : List Step) (steps : List ProofStep) → map (λ (step : Step × Spot). step.1) (meant_steps names steps) ≡ map (λ (step : ProofStep). step.spot) steps
+only_spots names [] = refl
+only_spots names (step ∷ steps) = ap (λ (w : List Spot). step.spot ∷ w) (only_spots names steps)
+
+abbrev made : List Step → List ProofStep → Spot → Decoded
+made names steps close = record { steps = map (λ (step : ProofStep). meant names step.action) steps; spots = map (λ (step : ProofStep). step.spot) steps; close = close }
+
+decoded_is : (names : List Step) (steps : List ProofStep) (close : Spot) → decoded close (Ok (meant_steps names steps)) ≡ Ok (made names steps close)
+decoded_is names steps close = rw (only_steps names steps, only_spots names steps) refl
+
+pub compressed_done : (place : Place) (mandatory words : List (List ℕ)) (names : List Step) (steps : List ProofStep) → is_compressed words ≡ true → compressed_steps place mandatory (drop 1 words) (word_spot (length words)) ≡ Ok (meant_steps names steps) → decoding place mandatory words ≡ Ok (made names steps (word_spot (length words)))
+compressed_done place mandatory words names steps is e = rw (is, e) (decoded_is names steps (word_spot (length words)))
+
+pub normal_done : (place : Place) (mandatory words : List (List ℕ)) (names : List Step) (steps : List ProofStep) → is_compressed words ≡ false → in_order (each_word (read_word place) 0 words) ≡ Ok (meant_steps names steps) → decoding place mandatory words ≡ Ok (made names steps (word_spot (length words)))
+normal_done place mandatory words names steps is e = rw (is, e) (decoded_is names steps (word_spot (length words)))

@@ -1,0 +1,5 @@
+use Rattle.mm_proof.proofs.RiseLemmas.{rises}
+use Rattle.mm_proof.proofs.decoding_laws.cites_rise.Goals as goal
+
+pub returns : goal.returns
+returns c = rises

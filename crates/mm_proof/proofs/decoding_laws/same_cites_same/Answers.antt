@@ -1,0 +1,5 @@
+use Rattle.mm_proof.proofs.CiteLemmas.{cites_same}
+use Rattle.mm_proof.proofs.decoding_laws.same_cites_same.Goals as goal
+
+pub returns : goal.returns
+returns c = cites_same

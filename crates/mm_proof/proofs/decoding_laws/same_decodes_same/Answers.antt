@@ -1,0 +1,5 @@
+use Rattle.mm_proof.proofs.SameLemmas.{decodes_same}
+use Rattle.mm_proof.proofs.decoding_laws.same_decodes_same.Goals as goal
+
+pub returns : goal.returns
+returns c = decodes_same

@@ -1,0 +1,69 @@
+//! The labels of a proof.
+
+ghost use Rattle.std.specs.Prelude.{◌≡◌, ◌<◌, ◌-◌, ◌^◌, ℕ, List, Ok, IfOk, IfErr, map, drop, length, codes};
+ghost use Rattle.mm_proof.specs.Expansion.{Named};
+ghost use Rattle.mm_frame.specs.Base.{BaseView};
+ghost use Rattle.mm_frame.specs.Kept.{IsBase};
+ghost use Rattle.mm_frame.specs.Resolving.{Resolves};
+ghost use Rattle.mm_proof.specs.BaseLabels.{label_at, place_at};
+ghost use Rattle.mm_proof.specs.Decoding.{word_spot, compressed_steps, read_label as read_label_lem, is_close as is_close_lem};
+ghost use Rattle.mm_proof.specs.Coded.{Tells};
+ghost use Rattle.mm_proof.specs.declared.step.Undecoded.TheVariants as errors;
+ghost use Rattle.mm_proof.specs.Labels.{TellsWord, IsListed, AreEntries, IsEntry, entry_step, entry_steps};
+
+use crate::step::{ProofFault, Undecoded};
+use crate::{ProofNumber, Spot};
+use mm_frame::{Base, Resolved, Statement};
+
+/// A fault at a word.
+fn fault_at(number: ProofNumber, word: usize) -> Undecoded
+    ensures { result ≡ errors.Fault (record { number = number; spot = word_spot word }) }
+{
+    Undecoded::Fault(ProofFault {
+        number,
+        spot: Spot { word, letter: 0 },
+    })
+}
+
+/// What the label that is the n-th word means at the item with the number `i`, where it can be used there.
+pub fn read_label(base: &Base, i: usize, label: &[u8], n: usize) -> Result<Resolved, Undecoded>
+    ensures ok { IfOk result (λ meaning. (view : BaseView) → IsBase view base.now → read_label_lem (place_at view i) label.now ≡ Ok (entry_step view meaning)) }
+    ensures entry { IfOk result (λ meaning. (view : BaseView) → IsBase view base.now → IsEntry view i meaning) }
+    ensures err { IfErr result (λ e. (view : BaseView) → IsBase view base.now → TellsWord e n (read_label_lem (place_at view i) label.now)) }
+{
+    match base.resolve(label, i) {
+        Resolved::Hypothesis(j) => Ok(Resolved::Hypothesis(j)),
+        Resolved::Assertion(j) => Ok(Resolved::Assertion(j)),
+        Resolved::Inactive => Err(fault_at(ProofNumber::P02, n)),
+        Resolved::Unknown => Err(fault_at(ProofNumber::P01, n)),
+    }
+}
+
+/// Whether a word ends the list of labels.
+fn is_close(word: &[u8]) -> bool
+    ensures { result ≡ is_close_lem word.now }
+{
+    matches!(word, b")")
+}
+
+/// Reads the list of labels behind the `(` of a compressed proof, puts what they mean behind the `labels`, and gives the
+/// number of the first `)`. After an error some may have been put there.
+pub fn read_list(
+    base: &Base,
+    i: usize,
+    statement: &Statement,
+    labels: &mut Vec<Resolved>,
+) -> Result<usize, Undecoded>
+    ensures ok { IfOk result (λ n. (view : BaseView) (mandatory : List (List ℕ)) → IsBase view base.now → entry_steps view labels.old.items ≡ map Named mandatory → AreEntries view i labels.old.items → IsListed view i mandatory statement.now.proof n labels.new.items) }
+    ensures within { IfOk result (λ n. n < 2 ^ 64 - 1) }
+    ensures err { IfErr result (λ e. (view : BaseView) (mandatory : List (List ℕ)) → IsBase view base.now → entry_steps view labels.old.items ≡ map Named mandatory → AreEntries view i labels.old.items → Tells e (compressed_steps (place_at view i) mandatory (drop 1 statement.now.proof) (word_spot (length statement.now.proof)))) }
+{
+    for n in 1..statement.proof_count() {
+        let word = statement.proof_word(n);
+        if is_close(word) {
+            return Ok(n);
+        }
+        labels.push(read_label(base, i, word, n)?)?;
+    }
+    Err(fault_at(ProofNumber::P03, statement.proof_count()))
+}

@@ -1,0 +1,170 @@
+//! The letters of a compressed proof, read in one pass.
+
+ghost use Rattle.std.specs.Prelude.{◌≡◌, ℕ, ◌+◌, ◌-◌, ◌*◌, ◌^◌, ◌<◌, ◌≤◌, min, length, List, slice_get, IfOk, IfErr, Ok};
+ghost use Rattle.mm_proof.specs.Expansion.{Step};
+ghost use Rattle.mm_proof.specs.Numbers as numbers;
+ghost use Rattle.mm_proof.specs.Decoding.{nameable, named as named_lem};
+ghost use Rattle.mm_proof.specs.LeftToRight.{read_behind, alone_behind, read_on};
+ghost use Rattle.mm_proof.specs.Coded.{Tells, meant, meant_or, meant_steps, letters_give};
+
+use crate::step::{Action, ProofFault, ProofStep, Undecoded};
+use crate::{ProofNumber, Spot};
+use mm_frame::Statement;
+use std::alloc::Global;
+
+/// Whether a byte is one of the digits `U` to `Y`.
+fn is_digit(byte: u8) -> bool
+    ensures { result ≡ numbers.is_digit byte }
+{
+    matches!(byte, b'U'..=b'Y')
+}
+
+/// The digits so far in base five, with one more: no more than the largest number there is, which names nothing.
+fn with_digit(digits: usize, worth: usize) -> usize
+    ensures { (n : ℕ) → digits ≡ min n (2 ^ 64 - 1) → result ≡ min (5 * n + worth) (2 ^ 64 - 1) }
+{
+    digits.saturating_mul(5).saturating_add(worth)
+}
+
+/// What a number names among the labels and the saves so far.
+fn named(labels: usize, saves: usize, digits: usize, last: usize) -> Result<Action, ProofNumber>
+    requires few { labels + saves < 2 ^ 64 - 1 }
+    requires some { 0 < last }
+    ensures { (names : List Step) (n : ℕ) → length names ≡ labels → digits ≡ min n (2 ^ 64 - 1) → meant_or names result ≡ named_lem (slice_get (nameable names saves) (20 * n + last - 1)) }
+{
+    let value = digits.saturating_mul(20).saturating_add(last);
+    if value <= labels {
+        Ok(Action::Label(value - 1))
+    } else if value - labels <= saves {
+        Ok(Action::Saved(value - labels - 1))
+    } else {
+        Err(ProofNumber::P06)
+    }
+}
+
+/// An action that takes no digits.
+fn alone(digits: usize, action: Action) -> Result<Action, ProofNumber>
+    ensures { (names : List Step) (n : ℕ) → digits ≡ min n (2 ^ 64 - 1) → meant_or names result ≡ alone_behind n (meant names action) }
+{
+    if digits == 0 {
+        Ok(action)
+    } else {
+        Err(ProofNumber::P05)
+    }
+}
+
+/// What a letter that is no digit does behind these digits.
+fn action(labels: usize, saves: usize, digits: usize, byte: u8) -> Result<Action, ProofNumber>
+    requires few { labels + saves < 2 ^ 64 - 1 }
+    ensures { (names : List Step) (n : ℕ) → length names ≡ labels → digits ≡ min n (2 ^ 64 - 1) → meant_or names result ≡ read_behind (nameable names saves) n byte }
+{
+    match byte {
+        b'A'..=b'T' => named(labels, saves, digits, usize::from(byte - b'@')),
+        b'Z' => alone(digits, Action::Save),
+        b'?' => alone(digits, Action::Unknown),
+        _ => Err(ProofNumber::P04),
+    }
+}
+
+/// The letters so far: the steps that they stand for, and digits that wait for the letter behind them.
+#[derive(Drop)]
+pub struct LetterReader {
+    /// How many labels numbers name: the mandatory hypotheses and the listed labels.
+    labels: usize,
+    /// How many of the steps so far are saves.
+    saves: usize,
+    /// The digits in base five: 0 where there are none, and no more than the largest number there is.
+    digits: usize,
+    steps: Vec<ProofStep>,
+    ghost few_labels: { labels < 2 ^ 63 },
+    ghost few_saves: { saves ≤ length steps.items },
+}
+
+impl LetterReader {
+    ghost use Rattle.std.specs.Prelude.{[], ◌∷◌, ◌++◌, OnOk};
+    ghost use Rattle.mm_proof.specs.Letters.{Letter, letters_in};
+    ghost use Rattle.mm_proof.specs.Reader.{Aim, Goes};
+
+    /// A reader before the first letter, where numbers name this many labels.
+    fn new(alloc: Global, labels: usize) -> Self
+        requires { labels < 2 ^ 63 }
+        ensures { (aim : Aim) (ls : List Letter) → length aim.names ≡ labels → aim.total ≡ read_on aim.names aim.close 0 0 ls → Goes aim result ls }
+    {
+        LetterReader {
+            labels,
+            saves: 0,
+            digits: 0,
+            steps: Vec::new(alloc),
+        }
+    }
+
+    /// Reads one letter.
+    fn read(&mut self, byte: u8, spot: Spot) -> Result<(), Undecoded>
+        ensures ok { OnOk result ((aim : Aim) (ls : List Letter) → Goes aim self.old (record { byte = byte; spot = spot } ∷ ls) → Goes aim self.new ls) }
+        ensures err { IfErr result (λ e. (aim : Aim) (ls : List Letter) → Goes aim self.old (record { byte = byte; spot = spot } ∷ ls) → Tells e aim.total) }
+    {
+        if is_digit(byte) {
+            self.digits = with_digit(self.digits, usize::from(byte - b'T'));
+            return Ok(());
+        }
+        match action(self.labels, self.saves, self.digits, byte) {
+            Ok(action) => {
+                self.steps.push(ProofStep { action, spot })?;
+                self.digits = 0;
+                if byte == b'Z' {
+                    self.saves += 1;
+                }
+                Ok(())
+            }
+            Err(number) => Err(Undecoded::Fault(ProofFault { number, spot })),
+        }
+    }
+
+    /// Reads the letters of the word with this number.
+    fn read_word(&mut self, n: usize, word: &[u8]) -> Result<(), Undecoded>
+        ensures ok { OnOk result ((aim : Aim) (ls : List Letter) → Goes aim self.old (letters_in (n, word.now) ++ ls) → Goes aim self.new ls) }
+        ensures err { IfErr result (λ e. (aim : Aim) (ls : List Letter) → Goes aim self.old (letters_in (n, word.now) ++ ls) → Tells e aim.total) }
+    {
+        for (letter, byte) in word.iter().enumerate() {
+            self.read(*byte, Spot { word: n, letter })?;
+        }
+        Ok(())
+    }
+
+    /// The steps, or the fault of digits that no letter follows.
+    fn end(self, close: Spot) -> Result<Vec<ProofStep>, Undecoded>
+        ensures ok { IfOk result (λ steps. (aim : Aim) → aim.close ≡ close → Goes aim self [] → aim.total ≡ Ok (meant_steps aim.names steps.items)) }
+        ensures err { IfErr result (λ e. (aim : Aim) → aim.close ≡ close → Goes aim self [] → Tells e aim.total) }
+    {
+        if self.digits == 0 {
+            Ok(self.steps)
+        } else {
+            Err(Undecoded::Fault(ProofFault {
+                number: ProofNumber::P05,
+                spot: close,
+            }))
+        }
+    }
+}
+
+/// The steps of the letters of a proof, which go from the word with the number `from` on, where numbers name this many
+/// labels and then the saves.
+pub fn read_letters(
+    alloc: Global,
+    statement: &Statement,
+    from: usize,
+    labels: usize,
+) -> Result<Vec<ProofStep>, Undecoded>
+    requires { labels < 2 ^ 63 }
+    ensures ok { IfOk result (λ steps. (names : List Step) → length names ≡ labels → letters_give names statement.now.proof from ≡ Ok (meant_steps names steps.items)) }
+    ensures err { IfErr result (λ e. (names : List Step) → length names ≡ labels → Tells e (letters_give names statement.now.proof from)) }
+{
+    let mut reader = LetterReader::new(alloc, labels);
+    for n in from..statement.proof_count() {
+        reader.read_word(n, statement.proof_word(n))?;
+    }
+    reader.end(Spot {
+        word: statement.proof_count(),
+        letter: 0,
+    })
+}

@@ -1,0 +1,135 @@
+//! Decoding: the steps of a proof, or its first fault.
+
+ghost use Rattle.std.specs.Prelude.{◌≡◌, ℕ, ◌+◌, List, Ok, IfOk, IfErr, map, drop, length, codes, bytes_eq, ◌∷◌, ◌++◌};
+ghost use Rattle.std.specs.List.{before_first};
+ghost use Rattle.mm_proof.specs.Expansion.{Step, Named};
+ghost use Rattle.mm_frame.specs.Base.{BaseView};
+ghost use Rattle.mm_frame.specs.Kept.{IsBase};
+ghost use Rattle.mm_proof.specs.BaseLabels.{label_at, place_at};
+ghost use Rattle.mm_proof.specs.Decoding.{word_spot, read_word as read_word_lem, in_order, each_word, compressed_steps, decoding, is_close, is_compressed as is_compressed_lem};
+ghost use Rattle.mm_frame.specs.declared.base.Resolved.TheVariants as answers;
+ghost use Rattle.mm_proof.specs.Coded.{Tells, meant, meant_steps};
+ghost use Rattle.mm_proof.specs.Decoded.{decoded_steps, TellsFault};
+ghost use Rattle.mm_proof.specs.Labels.{TellsWord, AreEntries, AreActive, IsEntry, entry_step, entry_steps, labels_at, label_table, word_step};
+
+use crate::Spot;
+use crate::labels::{read_label, read_list};
+use crate::letters::read_letters;
+use crate::step::{Action, ProofStep, Undecoded};
+use mm_frame::{Base, Resolved, Statement};
+use std::alloc::{AllocError, Global};
+
+/// The steps of a proof, and what the labels that they name mean.
+#[derive(Drop)]
+pub struct Decoding {
+    /// Of a compressed proof what its numbers name first: the mandatory hypotheses and the listed labels; of a normal
+    /// one what its words name, `Unknown` standing for a `?`.
+    pub labels: Vec<Resolved>,
+    /// The steps, in order.
+    pub steps: Vec<ProofStep>,
+}
+
+/// The entries of the mandatory hypotheses, which are the items with these numbers.
+fn hypotheses(alloc: Global, mandatory: &[usize]) -> Result<Vec<Resolved>, AllocError>
+    ensures { IfOk result (λ labels. labels.items ≡ map answers.Hypothesis mandatory.now) }
+{
+    mandatory
+        .iter()
+        .map(|number| Resolved::Hypothesis(*number))
+        .collect(alloc)
+}
+
+/// Decodes a compressed proof of the item with the number `i`.
+fn decode_compressed(
+    alloc: Global,
+    base: &Base,
+    i: usize,
+    mandatory: &[usize],
+    statement: &Statement,
+) -> Result<Decoding, Undecoded>
+    ensures ok { IfOk result (λ d. (view : BaseView) → IsBase view base.now → AreActive view i mandatory.now → compressed_steps (place_at view i) (labels_at view mandatory.now) (drop 1 statement.now.proof) (word_spot (length statement.now.proof)) ≡ Ok (meant_steps (entry_steps view d.labels.items) d.steps.items)) }
+    ensures entries { IfOk result (λ d. (view : BaseView) → IsBase view base.now → AreActive view i mandatory.now → AreEntries view i d.labels.items) }
+    ensures table { IfOk result (λ d. (view : BaseView) → IsBase view base.now → AreActive view i mandatory.now → entry_steps view d.labels.items ≡ map Named (labels_at view mandatory.now ++ before_first is_close (drop 1 statement.now.proof))) }
+    ensures err { IfErr result (λ e. (view : BaseView) → IsBase view base.now → AreActive view i mandatory.now → Tells e (compressed_steps (place_at view i) (labels_at view mandatory.now) (drop 1 statement.now.proof) (word_spot (length statement.now.proof)))) }
+{
+    let mut labels = hypotheses(alloc, mandatory)?;
+    let close = read_list(base, i, statement, &mut labels)?;
+    let steps = read_letters(alloc, statement, close + 1, labels.len())?;
+    Ok(Decoding { labels, steps })
+}
+
+/// Whether a word is a `?`.
+fn is_unknown(word: &[u8]) -> bool
+    ensures { result ≡ bytes_eq word.now (codes "?") }
+{
+    matches!(word, b"?")
+}
+
+/// What the n-th word of a normal proof of the item with the number `i` names, and what it does.
+fn read_word(base: &Base, i: usize, word: &[u8], n: usize) -> Result<(Resolved, Action), Undecoded>
+    ensures ok { IfOk result (λ read. (view : BaseView) → IsBase view base.now → read_word_lem (place_at view i) word.now ≡ Ok (entry_step view read.0)) }
+    ensures action { IfOk result (λ read. (view : BaseView) (before after : List Step) → IsBase view base.now → length before ≡ n → meant (before ++ entry_step view read.0 ∷ after) read.1 ≡ entry_step view read.0) }
+    ensures entry { IfOk result (λ read. (view : BaseView) → IsBase view base.now → IsEntry view i read.0) }
+    ensures err { IfErr result (λ e. (view : BaseView) → IsBase view base.now → TellsWord e n (read_word_lem (place_at view i) word.now)) }
+{
+    if is_unknown(word) {
+        Ok((Resolved::Unknown, Action::Unknown))
+    } else {
+        Ok((read_label(base, i, word, n)?, Action::Label(n)))
+    }
+}
+
+/// The words of a normal proof of the item with the number `i`, one by one.
+fn decode_normal(
+    alloc: Global,
+    base: &Base,
+    i: usize,
+    statement: &Statement,
+) -> Result<Decoding, Undecoded>
+    ensures ok { IfOk result (λ d. (view : BaseView) → IsBase view base.now → in_order (each_word (read_word_lem (place_at view i)) 0 statement.now.proof) ≡ Ok (meant_steps (entry_steps view d.labels.items) d.steps.items)) }
+    ensures entries { IfOk result (λ d. (view : BaseView) → IsBase view base.now → AreEntries view i d.labels.items) }
+    ensures table { IfOk result (λ d. (view : BaseView) → IsBase view base.now → entry_steps view d.labels.items ≡ map word_step statement.now.proof) }
+    ensures err { IfErr result (λ e. (view : BaseView) → IsBase view base.now → Tells e (in_order (each_word (read_word_lem (place_at view i)) 0 statement.now.proof))) }
+{
+    let mut labels = Vec::new(alloc);
+    let mut steps = Vec::new(alloc);
+    for word in 0..statement.proof_count() {
+        let (label, action) = read_word(base, i, statement.proof_word(word), word)?;
+        labels.push(label)?;
+        steps.push(ProofStep {
+            action,
+            spot: Spot { word, letter: 0 },
+        })?;
+    }
+    Ok(Decoding { labels, steps })
+}
+
+/// Whether the words of a proof are those of a compressed one: the first is a `(`.
+pub fn is_compressed(statement: &Statement) -> bool
+    ensures { result ≡ is_compressed_lem statement.now.proof }
+{
+    statement.proof_count() > 0 && matches!(statement.proof_word(0), b"(")
+}
+
+/// Decodes the proof of the item with the number `i`, whose mandatory hypotheses are the items with these numbers.
+///
+/// It reads the words once, in time linear in their bytes, and looks each label up once. After an error nothing is
+/// kept.
+pub fn decode(
+    alloc: Global,
+    base: &Base,
+    i: usize,
+    mandatory: &[usize],
+    statement: &Statement,
+) -> Result<Decoding, Undecoded>
+    ensures ok { IfOk result (λ d. (view : BaseView) → IsBase view base.now → AreActive view i mandatory.now → decoding (place_at view i) (labels_at view mandatory.now) statement.now.proof ≡ Ok (decoded_steps view d statement.now.proof)) }
+    ensures entries { IfOk result (λ d. (view : BaseView) → IsBase view base.now → AreActive view i mandatory.now → AreEntries view i d.labels.items) }
+    ensures table { IfOk result (λ d. (view : BaseView) → IsBase view base.now → AreActive view i mandatory.now → entry_steps view d.labels.items ≡ label_table (labels_at view mandatory.now) statement.now.proof) }
+    ensures err { IfErr result (λ e. (view : BaseView) → IsBase view base.now → AreActive view i mandatory.now → TellsFault e (decoding (place_at view i) (labels_at view mandatory.now) statement.now.proof)) }
+{
+    if is_compressed(statement) {
+        decode_compressed(alloc, base, i, mandatory, statement)
+    } else {
+        decode_normal(alloc, base, i, statement)
+    }
+}
