@@ -12,7 +12,7 @@ use Rattle.mm_frame.specs.Item.{Item, passed}
 use Rattle.mm_frame.specs.Kept.{IsBase, HasItem}
 use Rattle.mm_frame.specs.Statement.{Says, kind_of, item_of}
 use Rattle.mm_frame.specs.declared.base.Base.{Base}
-use Rattle.mmkeep.specs.Base.{IsOf, HasItemOf}
+use Rattle.mm_proof.specs.OfFiles.{IsOf, HasItemOf}
 use Rattle.mmkeep.specs.Report.{Told, IsTold, AreTold}
 use Rattle.mmkeep.proofs.PlaceLemmas.{zip_found}
 
