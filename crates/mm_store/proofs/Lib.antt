@@ -8,3 +8,4 @@ pub mod ExpansionLemmas
 pub mod KeylessLemmas
 pub mod StandLemmas
 pub mod Rows
+pub mod OffsetLemmas

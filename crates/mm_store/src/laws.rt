@@ -1,9 +1,9 @@
 //! What holds of all files. Each function does nothing; what it promises is the law.
 
-ghost use Rattle.std.specs.Prelude.{◌≡◌, ℕ, List, map};
+ghost use Rattle.std.specs.Prelude.{◌≡◌, ◌≤◌, ℕ, List, length, map};
 ghost use Rattle.mm_store.specs.declared.item.Item.{Item};
 ghost use Rattle.mm_store.specs.FilesView.{FileView, FilesView, no_files};
-ghost use Rattle.mm_store.specs.FileFacts.{IsAdded};
+ghost use Rattle.mm_store.specs.FileFacts.{IsAdded, IsByte};
 ghost use Rattle.mm_store.specs.Expansion.{IsExpansion};
 ghost use Rattle.mm_store.specs.Keyless.{keyless_file, keyless_item};
 
@@ -27,3 +27,8 @@ pub fn keys_do_not_matter()
     mm_text::one_division();
     mm_text::one_cut();
 }
+
+/// A byte of a piece, or the end of the piece, stands in the text of its file, or at its end.
+pub fn bytes_are_within()
+    ensures { (files : FilesView) (number piece at : ℕ) (text : List ℕ) (offset : ℕ) → IsByte files number piece at text offset → offset ≤ length text }
+{}

@@ -56,7 +56,7 @@ module _ (files : FilesView) (item : store.Item) (stands : StandsIn files item) 
       let long : length (slice_range piece item.start item.end) ≡ item.end - item.start = length-take-le (item.end - item.start) (drop item.start piece) (omega (arith, length-drop item.start piece, ap length same, stands.within)) in
       omega (arith, h.some, h.within, stands.some)
 
-  pub word_is_byte : (at : ℕ) → at < item.end → IsByte files item.file item.piece at (text_of stands.file) (piece_offset stands.file item.piece + at)
+  pub word_is_byte : (at : ℕ) → at ≤ item.end → IsByte files item.file item.piece at (text_of stands.file) (piece_offset stands.file item.piece + at)
   word_is_byte at less = record {
     file = stands.file;
     there = stands.there;

@@ -1,11 +1,12 @@
 -- Where the words of the items of a base stand.
 use Rattle.std.specs.Prelude.{◌≡◌, ℕ, ◌≤◌, Some, Option, None, slice_get}
+use Rattle.mm_text.specs.declared.location.Place.{Place}
 use Rattle.mm_store.specs.declared.item.Item as store
 use Rattle.mm_store.specs.FilesView.{FilesView}
 use Rattle.mm_store.specs.FileFacts.{IsKnown}
 use Rattle.mm_frame.specs.Base.{BaseView}
 use Rattle.mmkeep.specs.declared.judgement.Reached.{Reached}
-use Rattle.mmkeep.specs.Report.{IsWordAt}
+use Rattle.mmkeep.specs.Report.{IsWordAt, HasPlace}
 
 -- a place that is known is that of its byte
 abbrev pub IsReached : FilesView → Option Reached → Type 0
@@ -17,6 +18,12 @@ pub record IsWordOf (files : FilesView) (view : BaseView) (n word at : ℕ) : Ty
   pub item : store.Item
   pub there : slice_get view.found n ≡ Some item
   pub place : IsWordAt files item word at
+
+-- a word of the item with this number has this line and column
+pub record HasPlaceOf (files : FilesView) (view : BaseView) (n word : ℕ) (place : Place) : Type 0 where
+  pub item : store.Item
+  pub there : slice_get view.found n ≡ Some item
+  pub has_place : HasPlace files item word place
 
 -- a byte of a piece stands behind what is known, or there
 pub record IsBefore (reached : Reached) (file piece at : ℕ) : Type 0 where

@@ -3,6 +3,6 @@ pub mod Stream
 pub mod Report
 pub mod Base
 pub mod Verified
-pub mod Errors
+pub mod FirstErrors
 pub mod Asking
 pub mod Status

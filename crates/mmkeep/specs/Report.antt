@@ -1,5 +1,6 @@
 -- The report of a file: a line for each fault and for each theorem whose proof is wrong, and a line of counts.
-use Rattle.std.specs.Prelude.{◌≡◌, ◌+◌, ℕ, true, false, Bool, Option, Some, None, unwrap_or, List, [], ◌∷◌, ◌++◌, length, map, slice_get, slice_range, count_by, codes, decimal}
+use Rattle.std.specs.Prelude.{◌≡◌, ◌+◌, ◌<◌, ℕ, true, false, Bool, Option, Some, None, unwrap_or, List, [], ◌∷◌, ◌++◌, length, map, slice_get, slice_range, count_by, codes, decimal}
+use Rattle.mm_text.specs.declared.location.Place.{Place}
 use Rattle.mm_text.specs.declared.word.Word.{Word}
 use Rattle.mm_text.specs.Place.{line_at, column_at}
 use Rattle.mm_store.specs.declared.item.Item as store
@@ -53,6 +54,14 @@ pub record IsWordAt (files : FilesView) (item : store.Item) (word at : ℕ) : Ty
   pub stands : StandsIn files item
   pub text : List ℕ
   pub byte : IsByte files item.file item.piece (item.start + start_of (slice_get stands.words word)) text at
+
+-- and has this line and column
+pub record HasPlace (files : FilesView) (item : store.Item) (word : ℕ) (place : Place) : Type 0 where
+  pub at : ℕ
+  pub is_word : IsWordAt files item word at
+  pub within : at < length is_word.text
+  pub line : place.line ≡ line_at is_word.text at
+  pub column : place.column ≡ column_at is_word.text at
 
 -- a word of an item is shown like this
 pub record IsShown (files : FilesView) (item : store.Item) (word : ℕ) (shown : Shown) : Type 0 where
