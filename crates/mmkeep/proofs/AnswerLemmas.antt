@@ -20,7 +20,7 @@ use Rattle.mmkeep.specs.declared.fault.FirstError.TheVariants.{Text, Store, Late
 use Rattle.mmkeep.specs.FirstErrors.{IsAnswerToText, IsToldOfText}
 use Rattle.mmkeep.specs.Later.{unread_word, IsRead, AreRead, IsFirstUnread}
 use Rattle.mm_proof.specs.Proved.{IsProved}
-use Rattle.mmkeep.specs.Report.{Shown, Told, Quiet, AnAxiom, Proved, Wrong, Fault, IsTold as IsToldOf, IsFaultOf, AreTold, lines, report}
+use Rattle.mmkeep.specs.Report.{Shown, Told, Quiet, AnAxiom, Proved, Wrong, Fault, IsRightlyTold, IsFaultOf, AreRightlyTold, lines, report}
 use Rattle.mmkeep.specs.Verified.{IsReport, IsUnreadAt, IsPlaceIn}
 use Rattle.mmkeep.proofs.DatabaseLemmas.{Laws, Database, same_items, same_place, same_shown_word, database_or_fault, database_or_too_many}
 
@@ -150,7 +150,7 @@ theorem_class true _ e = absurd (cc)
 fault_class : (fault : Option (ℕ × FrameNumber)) (kind : Kind) (one : ℕ × FrameNumber) → fault ≡ Some one → 0 ≡ class_of (is_none fault) kind
 fault_class fault kind one e = sym (ap (λ (f : Option (ℕ × FrameNumber)). class_of (is_none f) kind) e)
 
-told_class : (files : FilesView) (view : BaseView) (n : ℕ) (one : Told) → IsToldOf files view n one → class_told one ≡ class_at view n
+told_class : (files : FilesView) (view : BaseView) (n : ℕ) (one : Told) → IsRightlyTold files view n one → class_told one ≡ class_at view n
 told_class files view n Quiet f = quiet_class (is_sound_at view n) (said_at view n).kind f.sound f.kind
 told_class files view n AnAxiom f = axiom_class (is_sound_at view n) (said_at view n).kind f.sound f.kind
 told_class files view n Proved f = theorem_class (is_sound_at view n) (said_at view n).kind f.0
@@ -162,7 +162,7 @@ told_class files view n (Fault number shown) f = fault_class (fault_at view n) (
 same_fault_at : {name text : List ℕ} → Laws → (a b : Database name text) (n : ℕ) → fault_at a.view n ≡ fault_at b.view n
 same_fault_at laws a b n = ap (λ items. told_fault (kept (take n items)) (item_at items n)) (same_items laws a b)
 
-same_class : {name text : List ℕ} → Laws → (a b : Database name text) (n : ℕ) (one other : Told) → IsToldOf a.files a.view n one → IsToldOf b.files b.view n other → class_told one ≡ class_told other
+same_class : {name text : List ℕ} → Laws → (a b : Database name text) (n : ℕ) (one other : Told) → IsRightlyTold a.files a.view n one → IsRightlyTold b.files b.view n other → class_told one ≡ class_told other
 same_class laws a b n one other f g =
     let classes : class_at a.view n ≡ class_at b.view n = (λ i. class_of (is_none (same_fault_at laws a b n i)) (item_at (same_items laws a b i) n).kind) in
     told_class a.files a.view n one f ∙ classes ∙ sym (told_class b.files b.view n other g)
@@ -180,7 +180,7 @@ same_fault laws a b n number other shown there f g =
     let same : shown ≡ there = same_shown_word laws a b n f.word g.word f.item g.item shown there word f.there g.there f.is_shown g.is_shown in
     (λ i. Fault (numbers i) (same i))
 
-same_told_by : {name text : List ℕ} → Laws → (a b : Database name text) (n : ℕ) (one other : Told) → class_told one ≡ class_told other → IsToldOf a.files a.view n one → IsToldOf b.files b.view n other → one ≡ other
+same_told_by : {name text : List ℕ} → Laws → (a b : Database name text) (n : ℕ) (one other : Told) → class_told one ≡ class_told other → IsRightlyTold a.files a.view n one → IsRightlyTold b.files b.view n other → one ≡ other
 same_told_by laws a b n Quiet Quiet same f g = refl
 same_told_by laws a b n AnAxiom AnAxiom same f g = refl
 same_told_by laws a b n Proved Proved same f g = refl
@@ -190,12 +190,12 @@ same_told_by laws a b n Wrong Wrong same f g = refl
 same_told_by laws a b n (Fault number shown) (Fault other there) same f g = same_fault laws a b n number other shown there f g
 same_told_by laws a b n one other same f g = absurd (omega arith)
 
-same_told : {name text : List ℕ} → Laws → (a b : Database name text) (n : ℕ) (one other : Told) → IsToldOf a.files a.view n one → IsToldOf b.files b.view n other → one ≡ other
+same_told : {name text : List ℕ} → Laws → (a b : Database name text) (n : ℕ) (one other : Told) → IsRightlyTold a.files a.view n one → IsRightlyTold b.files b.view n other → one ≡ other
 same_told laws a b n one other f g = same_told_by laws a b n one other (same_class laws a b n one other f g) f g
 
 -- ---- one report
 
-same_all_told : {name text : List ℕ} → Laws → (a b : Database name text) (all others : List Told) → AreTold a.files a.view all → AreTold b.files b.view others → all ≡ others
+same_all_told : {name text : List ℕ} → Laws → (a b : Database name text) (all others : List Told) → AreRightlyTold a.files a.view all → AreRightlyTold b.files b.view others → all ≡ others
 same_all_told laws a b all others f g =
     let counts : length a.view.said ≡ length b.view.said = ap length (same_items laws a b) in
     ext_get_or Quiet all others (f.count ∙ counts ∙ sym g.count) (λ n within.

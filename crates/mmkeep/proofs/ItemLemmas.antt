@@ -13,7 +13,7 @@ use Rattle.mm_frame.specs.Kept.{IsBase, HasItem}
 use Rattle.mm_frame.specs.Statement.{Says, kind_of, item_of}
 use Rattle.mm_frame.specs.declared.base.Base.{Base}
 use Rattle.mm_proof.specs.OfFiles.{IsOf, HasItemOf}
-use Rattle.mmkeep.specs.Report.{Told, IsTold, AreTold}
+use Rattle.mmkeep.specs.Report.{Told, IsRightlyTold, AreRightlyTold}
 use Rattle.mmkeep.proofs.PlaceLemmas.{zip_found}
 
 -- what it says
@@ -55,7 +55,7 @@ same_said one files item a b f g =
 -- so many are told rightly
 pub record ToldUpTo (files : FilesView) (view : BaseView) (n : ℕ) (all : List Told) : Type 0 where
   pub count : length all ≡ n
-  pub each : (k : ℕ) (one : Told) → slice_get all k ≡ Some one → IsTold files view k one
+  pub each : (k : ℕ) (one : Told) → slice_get all k ≡ Some one → IsRightlyTold files view k one
 
 pub told_none : (files : FilesView) (view : BaseView) → ToldUpTo files view 0 []
 told_none files view = record { count = refl; each = λ k one e. (cc) }
@@ -67,14 +67,14 @@ pushed [] x (suc k) y e = cc
 pushed (z ∷ xs) x zero y e = inl e
 pushed (z ∷ xs) x (suc k) y e = elim (pushed xs x k y e) [ inl h ↦ inl h | inr h ↦ inr (ap suc h.0, h.1) ]
 
-pub told_more : (files : FilesView) (view : BaseView) (n : ℕ) (all : List Told) (one : Told) → IsTold files view n one → ToldUpTo files view n all → ToldUpTo files view (n + 1) (all ++ one ∷ [])
+pub told_more : (files : FilesView) (view : BaseView) (n : ℕ) (all : List Told) (one : Told) → IsRightlyTold files view n one → ToldUpTo files view n all → ToldUpTo files view (n + 1) (all ++ one ∷ [])
 told_more files view n all one t f = record {
   count = length-append all (one ∷ []) ∙ ap (λ k. k + 1) f.count;
   each = λ k other e. elim (pushed all one k other e) [
     | inl h ↦ f.each k other h
-    | inr h ↦ subst (λ m. IsTold files view m other) (sym (h.0 ∙ f.count)) (subst (IsTold files view n) h.1 t)
+    | inr h ↦ subst (λ m. IsRightlyTold files view m other) (sym (h.0 ∙ f.count)) (subst (IsRightlyTold files view n) h.1 t)
   ];
 }
 
-pub told_every : (files : FilesView) (view : BaseView) (n : ℕ) (all : List Told) → n ≡ length view.said → ToldUpTo files view n all → AreTold files view all
+pub told_every : (files : FilesView) (view : BaseView) (n : ℕ) (all : List Told) → n ≡ length view.said → ToldUpTo files view n all → AreRightlyTold files view all
 told_every files view n all e f = record { count = f.count ∙ e; each = f.each }

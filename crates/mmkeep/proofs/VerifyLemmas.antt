@@ -16,12 +16,11 @@ use Rattle.mm_frame.specs.declared.base.Base.{Base}
 use Rattle.mm_proof.specs.OfFiles.{IsOf}
 use Rattle.mmkeep.specs.declared.fault.FirstError.TheVariants.{Later}
 use Rattle.mmkeep.specs.Base.{IsWordOf, HasPlaceOf}
-use Rattle.mmkeep.specs.declared.finding.Finding.{Finding}
 use Rattle.mmkeep.specs.FirstErrors.{IsErrorOf}
 use Rattle.mmkeep.specs.Later.{AreRead, IsFirstUnread}
-use Rattle.mmkeep.specs.Report.{told, told_all, AreTold, is_wrong, is_fault, report}
+use Rattle.mmkeep.specs.Report.{Told, AreRightlyTold, counts, report}
 use Rattle.mmkeep.specs.Verified.{IsDatabase, IsReport, IsPlaceIn}
-use Rattle.mmkeep.proofs.ReportLemmas.{no_lines, some_line, count_told}
+use Rattle.mmkeep.proofs.ReportLemmas.{no_lines, some_line}
 
 and_both : (x y : Bool) → (x && y) ≡ true → (x ≡ true) × (y ≡ true)
 and_both true y h = (refl, h)
@@ -55,6 +54,10 @@ database_of name text files view added within is = record { added = added; withi
 pub view_of : (name : List ℕ) (files : FilesView) (code : Base) (view : BaseView) → IsOfFiles files name view → IsBase view code → IsOf files code view
 view_of name files code view is base = record { base = base; each = is.each }
 
+-- nothing wrong and no fault is told
+abbrev pub IsClean : List Told → Type 0
+IsClean all = ((counts all).wrong ≡ 0) × ((counts all).faults ≡ 0)
+
 module _ (name text : List ℕ) (files : FilesView) (view : BaseView) (database : IsDatabase name text files view) where
   -- the place of a word in the text that was read
   pub place_in : (n word : ℕ) (place : Place) → HasPlaceOf files view n word place → (at : ℕ) × IsWordOf files view n word at × IsPlaceIn text at place
@@ -83,23 +86,20 @@ module _ (name text : List ℕ) (files : FilesView) (view : BaseView) (database 
       (there.0, record { files = files; view = view; database = database; n = n; word = word; unread = unread; place = there.1 }, there.2)
 
   -- the report
-  pub report_is : (found : List Finding) (clean : Bool) → AreRead view.said → AreTold files view (told_all found) → IsTrue clean ↔ ((count_by (λ finding. is_wrong (told finding)) found ≡ 0) × (count_by (λ finding. is_fault (told finding)) found ≡ 0)) → IsReport name text clean (report name view.said (told_all found))
-  report_is found clean read are both =
-      let wrong = count_told is_wrong found in
-      let faults = count_told is_fault found in
-      record {
-        files = files;
-        view = view;
-        database = database;
-        read = read;
-        all = told_all found;
-        are_told = are;
-        bytes_are = refl;
-        clean_is = (
-          λ is. (let n = both.0 is in no_lines name view.said (told_all found) (sym wrong ∙ n.0) (sym faults ∙ n.1)),
-          λ none. (let n = some_line name view.said (told_all found) are.count none in both.1 (wrong ∙ n.0, faults ∙ n.1)),
-        );
-      }
+  pub report_is : (all : List Told) (clean : Bool) → AreRead view.said → AreRightlyTold files view all → IsTrue clean ↔ IsClean all → IsReport name text clean (report name view.said all)
+  report_is all clean read are both = record {
+    files = files;
+    view = view;
+    database = database;
+    read = read;
+    all = all;
+    are_told = are;
+    bytes_are = refl;
+    clean_is = (
+      λ is. (let n = both.0 is in no_lines name view.said all n.0 n.1),
+      λ none. both.1 (some_line name view.said all are.count none),
+    );
+  }
 
 -- both counts are none
 pub clean_counts : (wrong faults : ℕ) → IsTrue (wrong == 0 && faults == 0) ↔ ((wrong ≡ 0) × (faults ≡ 0))

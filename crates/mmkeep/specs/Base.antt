@@ -1,12 +1,13 @@
 -- Where the words of the items of a base stand.
-use Rattle.std.specs.Prelude.{◌≡◌, ℕ, ◌≤◌, Some, Option, None, slice_get}
+use Rattle.std.specs.Prelude.{◌≡◌, ℕ, ◌<◌, ◌≤◌, Some, Option, None, length, slice_get}
 use Rattle.mm_text.specs.declared.location.Place.{Place}
+use Rattle.mm_text.specs.Place.{line_at, column_at}
 use Rattle.mm_store.specs.declared.item.Item as store
 use Rattle.mm_store.specs.FilesView.{FilesView}
 use Rattle.mm_store.specs.FileFacts.{IsKnown}
 use Rattle.mm_frame.specs.Base.{BaseView}
 use Rattle.mmkeep.specs.declared.judgement.Reached.{Reached}
-use Rattle.mmkeep.specs.Report.{IsWordAt, HasPlace}
+use Rattle.mmkeep.specs.Report.{IsWordAt}
 
 -- a place that is known is that of its byte
 abbrev pub IsReached : FilesView → Option Reached → Type 0
@@ -19,7 +20,15 @@ pub record IsWordOf (files : FilesView) (view : BaseView) (n word at : ℕ) : Ty
   pub there : slice_get view.found n ≡ Some item
   pub place : IsWordAt files item word at
 
--- a word of the item with this number has this line and column
+-- a word of an item begins at a byte of the text with this line and column
+pub record HasPlace (files : FilesView) (item : store.Item) (word : ℕ) (place : Place) : Type 0 where
+  pub at : ℕ
+  pub is_word : IsWordAt files item word at
+  pub within : at < length is_word.text
+  pub line : place.line ≡ line_at is_word.text at
+  pub column : place.column ≡ column_at is_word.text at
+
+-- so does one of the item with this number
 pub record HasPlaceOf (files : FilesView) (view : BaseView) (n word : ℕ) (place : Place) : Type 0 where
   pub item : store.Item
   pub there : slice_get view.found n ≡ Some item

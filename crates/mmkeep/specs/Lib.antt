@@ -1,6 +1,7 @@
 pub mod Later
 pub mod Stream
 pub mod Report
+pub mod Findings
 pub mod Base
 pub mod Verified
 pub mod FirstErrors

@@ -7,7 +7,7 @@ use Rattle.mm_store.specs.FileFacts.{IsAdded}
 use Rattle.mm_frame.specs.Base.{BaseView, IsOfFiles}
 use Rattle.mmkeep.specs.Base.{IsWordOf}
 use Rattle.mmkeep.specs.Later.{AreRead, IsFirstUnread}
-use Rattle.mmkeep.specs.Report.{Told, AreTold, lines, report}
+use Rattle.mmkeep.specs.Report.{Told, AreRightlyTold, lines, report}
 use Rattle.mmkeep.specs.Stream.{AppendsPart}
 
 -- the text is the one file, and the top file, of this name, and not too long; its expansion has these items, which say this
@@ -23,7 +23,7 @@ pub record IsReport (name text : List ℕ) (clean : Bool) (bytes : List ℕ) : T
   pub database : IsDatabase name text files view
   pub read : AreRead view.said
   pub all : List Told
-  pub are_told : AreTold files view all
+  pub are_told : AreRightlyTold files view all
   pub bytes_are : bytes ≡ report name view.said all
   pub clean_is : IsTrue clean ↔ (lines name view.said all ≡ [])
 

@@ -8,7 +8,8 @@ ghost use Rattle.mm_frame.specs.Base.{BaseView, is_proof_at};
 ghost use Rattle.mm_proof.specs.OfFiles.{IsOf, HasView, HasItemOf};
 ghost use Rattle.mmkeep.specs.Base.{IsReached, IsBefore};
 ghost use Rattle.mmkeep.specs.Report as report;
-ghost use Rattle.mmkeep.specs.Report.{IsShown, IsTold, AreTold, IsFaultAt, told, told_all};
+ghost use Rattle.mmkeep.specs.Findings.{told, told_all};
+ghost use Rattle.mmkeep.specs.Report.{IsShown, IsRightlyTold, AreRightlyTold, TellsFaultAt};
 
 use crate::finding::Finding;
 use crate::reading::start_of;
@@ -93,7 +94,7 @@ fn at_fault<'a>(
 ) -> Finding<'a>
     requires stands { StandsIn files.now item.now }
     requires reached { IsReached files.now reached.old }
-    ensures shown { IsFaultAt files.now item.now fault.word fault.number (told result) }
+    ensures shown { TellsFaultAt files.now item.now fault.word fault.number (told result) }
     ensures reached { IsReached files.now reached.new }
 {
     let spot = spot_of(files, item, fault.word, *reached);
@@ -120,7 +121,8 @@ fn verdict<'a>(
     number: usize,
 ) -> Result<Finding<'a>, AllocError>
     requires { HasItemOf files.now base.now number }
-    ensures { IfOk result (λ finding. (view : BaseView) → IsOf files.now base.now view → is_proof_at view number ≡ true → IsTold files.now view number (told finding)) }
+    ensures { IfOk result (λ finding. (view : BaseView) → IsOf files.now base.now view → is_proof_at view number ≡ true
+        → IsRightlyTold files.now view number (told finding)) }
 {
     if is_proved(alloc, files, base, number)? {
         Ok(Finding::Proved)
@@ -139,7 +141,7 @@ fn finding_of<'a>(
 ) -> Result<Finding<'a>, AllocError>
     requires item { HasItemOf files.now base.now number }
     requires reached { IsReached files.now reached.old }
-    ensures told { IfOk result (λ finding. (view : BaseView) → IsOf files.now base.now view → IsTold files.now view number (told finding)) }
+    ensures told { IfOk result (λ finding. (view : BaseView) → IsOf files.now base.now view → IsRightlyTold files.now view number (told finding)) }
     ensures reached { IsReached files.now reached.new }
 {
     let item = base.item(number);
@@ -160,7 +162,7 @@ pub fn findings<'a>(
     base: &Base,
 ) -> Result<Vec<Finding<'a>>, AllocError>
     requires { HasView files.now base.now }
-    ensures { IfOk result (λ found. (view : BaseView) → IsOf files.now base.now view → AreTold files.now view (told_all found.items)) }
+    ensures { IfOk result (λ found. (view : BaseView) → IsOf files.now base.now view → AreRightlyTold files.now view (told_all found.items)) }
 {
     let mut found = Vec::new(alloc);
     let mut reached = None;

@@ -10,9 +10,11 @@ ghost use Rattle.mmkeep.specs.Verified.{IsReport};
 /// So `verify_one` tells an error of the text only where there is one, and reports each other text, unless memory
 /// runs out or a write fails.
 pub fn one_answer()
-    ensures report { (name text : List ℕ) (clean other : Bool) (a b : List ℕ) → IsReport name text clean a → IsReport name text other b → (clean ≡ other) × (a ≡ b) }
+    ensures report { (name text : List ℕ) (clean other : Bool) (a b : List ℕ)
+        → IsReport name text clean a → IsReport name text other b → (clean ≡ other) × (a ≡ b) }
     ensures error { (name text : List ℕ) (a b : FirstError) → IsToldOfText name text a → IsToldOfText name text b → a ≡ b }
-    ensures not_both { (name text : List ℕ) (clean : Bool) (bytes : List ℕ) (error : FirstError) → IsReport name text clean bytes → ¬ IsToldOfText name text error }
+    ensures not_both { (name text : List ℕ) (clean : Bool) (bytes : List ℕ) (error : FirstError)
+        → IsReport name text clean bytes → ¬ IsToldOfText name text error }
 {
     mm_text::one_meaning();
     mm_text::one_cut();

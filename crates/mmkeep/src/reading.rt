@@ -4,11 +4,10 @@ ghost use Rattle.std.specs.Prelude.{◌≡◌, ℕ, ◌<◌, IfOk, IfSome, Match
 ghost use Rattle.mm_store.specs.FileFacts.{StandsIn};
 ghost use Rattle.mm_frame.specs.Base.{BaseView, said_at};
 ghost use Rattle.mm_proof.specs.OfFiles.{IsOf, HasView, HasItemOf};
-ghost use Rattle.mmkeep.specs.Base.{HasPlaceOf};
+ghost use Rattle.mmkeep.specs.Base.{HasPlace, HasPlaceOf};
 ghost use Rattle.mmkeep.specs.Later as later;
 ghost use Rattle.mmkeep.specs.Later.{unread_step, unread_word, AreRead, IsFirstUnread};
 ghost use Rattle.mmkeep.specs.Report as report;
-ghost use Rattle.mmkeep.specs.Report.{HasPlace};
 
 use mm_frame::{Base, Files, Item, ItemKind, Place, Statement, nth_word};
 use mm_text::Word;
@@ -81,7 +80,8 @@ pub struct Unread {
 /// The first word that is not read yet.
 pub fn first_unread(alloc: Global, files: &Files, base: &Base) -> Result<Option<Unread>, AllocError>
     requires { HasView files.now base.now }
-    ensures { IfOk result (λ found. (view : BaseView) → IsOf files.now base.now view → MatchOption found (AreRead view.said) (λ unread. IsFirstUnread view.said unread.item unread.word)) }
+    ensures { IfOk result (λ found. (view : BaseView) → IsOf files.now base.now view
+        → MatchOption found (AreRead view.said) (λ unread. IsFirstUnread view.said unread.item unread.word)) }
 {
     for number in 0..base.count() {
         if let Some(word) = unread_of(alloc, files, base, number)? {

@@ -11,8 +11,9 @@ ghost use Rattle.mmkeep.specs.Verified.{IsReport, BeginsReport};
 use crate::fault::FirstError;
 use crate::judgement::findings;
 use crate::reading::{first_unread, place_of_word};
-use crate::report::{is_clean, write_report};
+use crate::report::write_report;
 use crate::stream::Writing;
+use crate::tally::is_clean;
 use mm_frame::{Base, Files, StoreError, place};
 use std::alloc::Global;
 use std::io::Write;
@@ -46,7 +47,8 @@ pub fn verify_one<W: Write>(
     text: Vec<u8>,
     writing: &mut Writing<W>,
 ) -> Result<bool, FirstError>
-    ensures report { IfOk result (λ clean. (bytes : List ℕ) × IsReport name.now text.items clean bytes × Appends (written W.contents writing.old) (written W.contents writing.new) bytes) }
+    ensures report { IfOk result (λ clean. (bytes : List ℕ) × IsReport name.now text.items clean bytes
+        × Appends (written W.contents writing.old) (written W.contents writing.new) bytes) }
 
     // Each error comes only where the text has it, is told with its place, and then nothing was written.
     ensures error { IfErr result (IsErrorOf name.now text.items) }
@@ -54,7 +56,8 @@ pub fn verify_one<W: Write>(
     ensures write { result ≡ Err FirstError.Write → has_failed writing.new ≡ true }
 
     // After a failed write the beginning of the report was written, and nothing else.
-    ensures prefix { result ≡ Err FirstError.Write → BeginsReport name.now text.items (written W.contents writing.old) (written W.contents writing.new) }
+    ensures prefix { result ≡ Err FirstError.Write
+        → BeginsReport name.now text.items (written W.contents writing.old) (written W.contents writing.new) }
 {
     let files = only_file(alloc, name, text)?;
     let base = Base::build(alloc, &files, name)?;
