@@ -3,11 +3,12 @@ use Rattle.std.proofs.Common.{◌≡◌, ℕ, ◌+◌, Result, Ok, Err, List, le
 use Rattle.mm_frame.specs.Language.{Place}
 use Rattle.mm_frame.specs.Typing.{HasFrames}
 use Rattle.mm_proof.specs.Expansion.{Step}
-use Rattle.mm_proof.specs.Machine.{State, AreDecodedAfter}
+use Rattle.mm_proof.specs.Machine.{State, AreDecoded}
 use Rattle.mm_proof.specs.Run.{run_part, AreDone}
 use Rattle.mm_proof.specs.declared.ProofNumber.{ProofNumber}
 use Rattle.mm_proof.proofs.Part.{part_known, part_decoded}
 use Rattle.mm_proof.proofs.Reaching.{reached}
+use Rattle.mm_proof.proofs.Threaded.{threaded}
 use Rattle.mm_proof.proofs.Running.{run, run_right, RunSays, no_fault, same_fault}
 
 -- one number at most
@@ -22,5 +23,5 @@ by_run place steps (Ok s) f = (length (run_part steps), inr ((s.stack, reached p
 by_run place steps (Err fault) f = (fault.0 + 1, inl (fault.0, fault.1, f, refl))
 
 -- and one at least
-pub some_count : (place : Place) → HasFrames place → (steps : List Step) → AreDecodedAfter place 0 steps → (count : ℕ) × AreDone place steps count
-some_count place is steps decoded = by_run place steps (run place (run_part steps)) (run_right place is (run_part steps) (part_decoded place 0 steps decoded) (part_known steps))
+pub some_count : (place : Place) → HasFrames place → (steps : List Step) → AreDecoded place steps → (count : ℕ) × AreDone place steps count
+some_count place is steps decoded = by_run place steps (run place (run_part steps)) (run_right place is (run_part steps) (part_decoded place 0 steps (threaded place steps decoded)) (part_known steps))

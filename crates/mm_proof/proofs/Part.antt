@@ -6,9 +6,10 @@ use Rattle.std.proofs.Math.Numerals.{one-add}
 use Rattle.std.proofs.lemmas.Bool.{cases_Bool}
 use Rattle.mm_frame.specs.Language.{Place}
 use Rattle.mm_proof.specs.Expansion.{Step, Named, Saved, Save, NotKnown}
-use Rattle.mm_proof.specs.Machine.{AreDecodedAfter, AreAllKnown}
+use Rattle.mm_proof.specs.Machine.{AreAllKnown}
 use Rattle.mm_proof.specs.Run.{is_unknown, run_part}
 use Rattle.mm_proof.specs.View.{IsSameStep}
+use Rattle.mm_proof.proofs.Threaded.{AreDecodedAfter}
 
 -- a known step
 known_one : (x : Step) → x ≢ NotKnown → is_unknown x ≡ false
