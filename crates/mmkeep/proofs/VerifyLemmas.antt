@@ -16,7 +16,8 @@ use Rattle.mm_frame.specs.Base.{BaseView, IsOfFiles}
 use Rattle.mm_frame.specs.Kept.{IsBase}
 use Rattle.mm_frame.specs.declared.base.Base.{Base}
 use Rattle.mm_frame.proofs.Facts.{and_both}
-use Rattle.mmkeep.specs.Base.{IsOf, IsWordOf}
+use Rattle.mm_proof.specs.OfFiles.{IsOf}
+use Rattle.mmkeep.specs.Base.{IsWordOf}
 use Rattle.mmkeep.specs.declared.finding.Finding.{Finding}
 use Rattle.mmkeep.specs.Later.{AreRead}
 use Rattle.mmkeep.specs.Report.{start_of, told, told_all, AreTold, is_wrong, is_fault, report}
