@@ -205,6 +205,7 @@ fn active_among(
             &mut pairs,
         )?;
     }
+    pairs.shrink_to_fit();
     Ok(pairs)
 }
 
