@@ -165,15 +165,6 @@ pub is_none_map : {X Y : Type 0} (f : X → Y) (o : Option X) → is_none (optio
 is_none_map f None = refl
 is_none_map f (Some x) = refl
 
--- the item with a row
-pub row_item : {X : Type 0} (tells : List Item → Item → X → Type 0) (said : List Item) (rows : List X) (n : ℕ) (row : X) → AreRows tells said rows → slice_get rows n ≡ Some row → slice_get said n ≡ Some (item_at said n)
-row_item tells said rows n row a e = let c = a.count in let w = slice_get_within rows n row e in there said n (omega arith)
-  where
-    there : (xs : List Item) (k : ℕ) → k < length xs → slice_get xs k ≡ Some (item_at xs k)
-    there [] k l = absurd (omega arith)
-    there (x ∷ xs) zero l = refl
-    there (x ∷ xs) (suc k) l = there xs k (omega arith)
-
 pub shown_is : (base : BaseView) (i : ℕ) (fault : Bool) (label : Bool) → fault ≡ is_sound_at base i → label ≡ is_labelled (said_at base i).kind → (fault && label) ≡ (is_sound_at base i && is_labelled (said_at base i).kind)
 shown_is base i fault label e g = λ j. e j && g j
 

@@ -69,10 +69,6 @@ told_numbers before item = numbers_if (is_none (told_fault before item) && is_as
 abbrev pub pairs_if : Bool → List Item → Item → Option (List (Symbol × Symbol))
 pairs_if framed before item = if framed then Some (pairs_in_order (frame before item)) else None
 
--- of a sound `$a` or `$p` behind the sound items before it, and no other item
-abbrev pub told_pairs : List Item → Item → Option (List (Symbol × Symbol))
-told_pairs before item = pairs_if (is_none (told_fault before item) && is_assertion item.kind) before item
-
 -- the numbers of the mandatory hypotheses of the item with this number, where it is a sound `$a` or `$p`
 abbrev pub hypotheses_at : BaseView → ℕ → Option (List ℕ)
 hypotheses_at base i = told_numbers (before base i) (said_at base i)

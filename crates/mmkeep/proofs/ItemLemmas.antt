@@ -9,11 +9,11 @@ use Rattle.mm_store.specs.FilesView.{PieceView, FileView, FilesView}
 use Rattle.mm_store.specs.FileFacts.{StandsIn}
 use Rattle.mm_frame.specs.Base.{BaseView, said_at}
 use Rattle.mm_frame.specs.Item.{Item, passed}
-use Rattle.mm_frame.specs.Kept.{IsBase, HasItem}
+use Rattle.mm_frame.specs.Kept.{IsBase}
 use Rattle.mm_frame.specs.Statement.{Says, kind_of, item_of}
 use Rattle.mm_frame.specs.declared.base.Base.{Base}
-use Rattle.mmkeep.specs.Base.{IsOf, HasItemOf}
-use Rattle.mmkeep.specs.Report.{Told, IsTold, AreTold}
+use Rattle.mm_proof.specs.OfFiles.{IsOf, HasItemOf}
+use Rattle.mmkeep.specs.Report.{Told, IsTold}
 use Rattle.mmkeep.proofs.PlaceLemmas.{zip_found}
 
 -- what it says
@@ -25,10 +25,6 @@ says_at files code view n item is e =
 -- that it stands in its piece
 pub stands_at : (files : FilesView) (code : Base) (n : ℕ) (item : store.Item) → HasItemOf files code n → ((view : BaseView) → IsBase view code → slice_get view.found n ≡ Some item) → StandsIn files item
 stands_at files code n item has e = (says_at files code has.0 n item has.1 (e has.0 has.1.base)).stands
-
--- that the base has it
-pub has_item : (files : FilesView) (code : Base) (n : ℕ) → HasItemOf files code n → HasItem code n
-has_item files code n has = (has.0, has.1.base, has.2)
 
 abbrev pub OneMeaning : Type 0
 OneMeaning = (text : List ℕ) (a b : List Word) → HasWords text a → HasWords text b → a ≡ b
@@ -57,9 +53,6 @@ pub record ToldUpTo (files : FilesView) (view : BaseView) (n : ℕ) (all : List 
   pub count : length all ≡ n
   pub each : (k : ℕ) (one : Told) → slice_get all k ≡ Some one → IsTold files view k one
 
-pub told_none : (files : FilesView) (view : BaseView) → ToldUpTo files view 0 []
-told_none files view = record { count = refl; each = λ k one e. (cc) }
-
 -- an element of a list with one more
 pushed : {X : Type 0} (xs : List X) (x : X) (k : ℕ) (y : X) → slice_get (xs ++ x ∷ []) k ≡ Some y → (slice_get xs k ≡ Some y) ⊎ ((k ≡ length xs) × (x ≡ y))
 pushed [] x zero y e = inr (refl, same_Some x y e)
@@ -75,6 +68,3 @@ told_more files view n all one t f = record {
     | inr h ↦ subst (λ m. IsTold files view m other) (sym (h.0 ∙ f.count)) (subst (IsTold files view n) h.1 t)
   ];
 }
-
-pub told_every : (files : FilesView) (view : BaseView) (n : ℕ) (all : List Told) → n ≡ length view.said → ToldUpTo files view n all → AreTold files view all
-told_every files view n all e f = record { count = f.count ∙ e; each = f.each }

@@ -1,47 +1,15 @@
 -- What the items of a file say, and the first word that is not read yet.
-use Rattle.std.proofs.Common.{◌≡◌, ℕ, suc, ◌+◌, ◌-◌, ◌<◌, ◌≤◌, true, false, cond, Some, None, Option, List, [], ◌∷◌, ◌++◌, length, take, drop, get_or, refl, sym, ◌∙◌, ap, subst, arith}
+use Rattle.std.proofs.Common.{◌≡◌, ℕ, ◌+◌, ◌-◌, ◌<◌, Some, None, Option, List, length, drop, refl, sym, ap, subst, arith}
 use Rattle.std.specs.Prelude.{slice_range, IfSome}
-use Rattle.std.specs.List.{AllZip}
-use Rattle.std.proofs.lemmas.List.{take_more, drop_more, drop_all, length-take-le, length-drop}
+use Rattle.std.proofs.lemmas.List.{length-take-le, length-drop}
 use Rattle.mm_text.specs.declared.word.Word.{Word}
 use Rattle.mm_text.specs.Reading.{HasWords, LiesIn}
 use Rattle.mm_store.specs.declared.item.Item as store
 use Rattle.mm_store.specs.FilesView.{FilesView, text_of}
 use Rattle.mm_store.specs.FileFacts.{StandsIn, IsByte, piece_offset}
-use Rattle.mmkeep.specs.Later.{is_unread_step, unread_from}
 use Rattle.mmkeep.specs.Report.{start_of}
 
--- one more element that stands in the relation
-pub zip_push : {X Y : Type 0} (R : X → Y → Type 0) (xs : List X) (ys : List Y) (x : X) (y : Y) → AllZip R xs ys → R x y → AllZip R (xs ++ x ∷ []) (ys ++ y ∷ [])
-zip_push R [] [] x y h r = (r, tt)
-zip_push R [] (z ∷ ys) x y h r = absurd h
-zip_push R (w ∷ xs) [] x y h r = absurd h
-zip_push R (w ∷ xs) (z ∷ ys) x y h r = (h.0, zip_push R xs ys x y h.1 r)
-
-pub zip_length : {X Y : Type 0} (R : X → Y → Type 0) (xs : List X) (ys : List Y) → AllZip R xs ys → length xs ≡ length ys
-zip_length R [] [] h = refl
-zip_length R [] (y ∷ ys) h = absurd h
-zip_length R (x ∷ xs) [] h = absurd h
-zip_length R (x ∷ xs) (y ∷ ys) h = ap suc (zip_length R xs ys h.1)
-
-pub zip_more : {X Y : Type 0} (R : X → Y → Type 0) (xs : List X) (ys : List Y) (n : ℕ) (d : X) (y : Y) → n < length xs → AllZip R (take n xs) ys → R (get_or xs n d) y → AllZip R (take (n + 1) xs) (ys ++ y ∷ [])
-zip_more R xs ys n d y within h r = subst (λ w. AllZip R w (ys ++ y ∷ [])) (sym (take_more xs n d within)) (zip_push R (take n xs) ys (get_or xs n d) y h r)
-
 -- ---- the words of a proof
-
--- one more word that is read
-pub unread_next : (proof : List (List ℕ)) (n : ℕ) (word : List ℕ) → n < length proof → word ≡ get_or proof n [] → is_unread_step n word ≡ false → unread_from n (drop n proof) ≡ unread_from (n + 1) (drop (n + 1) proof)
-unread_next proof n word within is passes =
-    let one : n + 1 ≡ suc n = omega arith in
-    ap (unread_from n) (drop_more proof n [] within ∙ ap (λ w. w ∷ drop (n + 1) proof) (sym is)) ∙ ap (λ b. cond b (Some n) (unread_from (suc n) (drop (n + 1) proof))) passes ∙ ap (λ k. unread_from k (drop (n + 1) proof)) (sym one)
-
--- a word that is not
-pub unread_here : (proof : List (List ℕ)) (n : ℕ) (word : List ℕ) → n < length proof → word ≡ get_or proof n [] → is_unread_step n word ≡ true → unread_from n (drop n proof) ≡ Some n
-unread_here proof n word within is stops =
-    ap (unread_from n) (drop_more proof n [] within ∙ ap (λ w. w ∷ drop (n + 1) proof) (sym is)) ∙ ap (λ b. cond b (Some n) (unread_from (suc n) (drop (n + 1) proof))) stops
-
-pub unread_end : (proof : List (List ℕ)) (n : ℕ) → length proof ≤ n → unread_from n (drop n proof) ≡ None
-unread_end proof n past = ap (unread_from n) (drop_all n proof past)
 
 -- ---- the byte of a word
 

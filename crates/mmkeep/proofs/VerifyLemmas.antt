@@ -16,11 +16,12 @@ use Rattle.mm_frame.specs.Base.{BaseView, IsOfFiles}
 use Rattle.mm_frame.specs.Kept.{IsBase}
 use Rattle.mm_frame.specs.declared.base.Base.{Base}
 use Rattle.mm_frame.proofs.Facts.{and_both}
-use Rattle.mmkeep.specs.Base.{IsOf, IsWordOf}
+use Rattle.mm_proof.specs.OfFiles.{IsOf}
+use Rattle.mmkeep.specs.Base.{IsWordOf}
 use Rattle.mmkeep.specs.declared.finding.Finding.{Finding}
-use Rattle.mmkeep.specs.Later.{AreRead, IsFirstUnread}
+use Rattle.mmkeep.specs.Later.{AreRead}
 use Rattle.mmkeep.specs.Report.{start_of, told, told_all, AreTold, is_wrong, is_fault, report}
-use Rattle.mmkeep.specs.Verified.{IsDatabase, IsReport, IsUnreadAt}
+use Rattle.mmkeep.specs.Verified.{IsDatabase, IsReport}
 use Rattle.mmkeep.proofs.ReadingLemmas.{start_within}
 use Rattle.mmkeep.proofs.ReportLemmas.{no_lines, some_line, count_told}
 
@@ -72,10 +73,6 @@ module _ (name text : List ℕ) (files : FilesView) (view : BaseView) (database 
       let less = start_within files item stands stands.text refl (slice_get stands.words word) (nth_lies (slice_range stands.text item.start item.end) stands.words word (slice_get stands.words word) stands.has_words refl) in
       let offset : at ≡ piece_offset stands.file item.piece + (item.start + start_of (slice_get stands.words word)) = byte.is_offset ∙ ap (λ (f : FileView). piece_offset f item.piece + (item.start + start_of (slice_get stands.words word))) other in
       omega (arith, offset, piece_within stands.file item.piece (record { key = item.key; text = stands.text }) stands.is_piece, whole, ended_most text, stands.within, less)
-
-  -- the first word that is not read yet
-  pub unread_at : (n word at : ℕ) → IsFirstUnread view.said n word → IsWordOf files view n word at → IsUnreadAt name text at
-  unread_at n word at unread h = record { files = files; view = view; database = database; n = n; word = word; unread = unread; place = h }
 
   -- the report
   pub report_is : (found : List Finding) (clean : Bool) → AreRead view.said → AreTold files view (told_all found) → IsTrue clean ↔ ((count_by (λ finding. is_wrong (told finding)) found ≡ 0) × (count_by (λ finding. is_fault (told finding)) found ≡ 0)) → IsReport name text clean (report name view.said (told_all found))

@@ -11,7 +11,7 @@ use Rattle.mm_frame.specs.declared.FrameNumber.{FrameNumber}
 use Rattle.mm_frame.specs.declared.FrameNumber.TheVariants.{F01, F02, F03, F04, F05, F06, F07, F08, F09, F10, F11, F12, F13, F14}
 use Rattle.mmkeep.specs.declared.finding.Finding.{Finding}
 use Rattle.mmkeep.specs.declared.finding.Finding.TheVariants as code
-use Rattle.mmkeep.specs.Proof.{IsProved}
+use Rattle.mm_proof.specs.Proved.{IsProved}
 
 -- A word as a line shows it: its place, and how it is spelled.
 pub record Shown : Type 0 where

@@ -5,14 +5,15 @@ ghost use Rattle.mm_text.specs.Place.{line_at, column_at};
 ghost use Rattle.mm_text.specs.Reading.{LiesIn};
 ghost use Rattle.mm_store.specs.FileFacts.{IsByte, IsKnown, StandsIn};
 ghost use Rattle.mm_frame.specs.Base.{BaseView, is_proof_at};
-ghost use Rattle.mmkeep.specs.Base.{IsOf, HasView, HasItemOf, IsReached, IsBefore};
+ghost use Rattle.mm_proof.specs.OfFiles.{IsOf, HasView, HasItemOf};
+ghost use Rattle.mmkeep.specs.Base.{IsReached, IsBefore};
 ghost use Rattle.mmkeep.specs.Report as report;
 ghost use Rattle.mmkeep.specs.Report.{IsShown, IsTold, AreTold, IsFaultAt, told, told_all};
 
 use crate::finding::Finding;
-use crate::machine::is_proved;
 use crate::reading::start_of;
-use mm_frame::{Base, Files, FrameFault, Item, ItemKind, KnownPlace, Place, Statement, nth_word};
+use mm_frame::{Base, Files, FrameFault, Item, ItemKind, KnownPlace, Place, nth_word};
+use mm_proof::is_proved;
 use mm_text::Word;
 use std::alloc::{AllocError, Global};
 
@@ -121,9 +122,7 @@ fn verdict<'a>(
     requires { HasItemOf files.now base.now number }
     ensures { IfOk result (λ finding. (view : BaseView) → IsOf files.now base.now view → is_proof_at view number ≡ true → IsTold files.now view number (told finding)) }
 {
-    mm_text::one_meaning();
-    let statement = Statement::read(alloc, files, base.item(number))?;
-    if is_proved(alloc, base, number, &statement)? {
+    if is_proved(alloc, files, base, number)? {
         Ok(Finding::Proved)
     } else {
         Ok(Finding::Wrong)

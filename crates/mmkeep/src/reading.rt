@@ -3,7 +3,8 @@
 ghost use Rattle.std.specs.Prelude.{◌≡◌, ℕ, ◌<◌, IfOk, IfSome, MatchOption, length};
 ghost use Rattle.mm_store.specs.FileFacts.{StandsIn};
 ghost use Rattle.mm_frame.specs.Base.{BaseView, said_at};
-ghost use Rattle.mmkeep.specs.Base.{IsOf, HasView, HasItemOf, IsWordOf};
+ghost use Rattle.mm_proof.specs.OfFiles.{IsOf, HasView, HasItemOf};
+ghost use Rattle.mmkeep.specs.Base.{IsWordOf};
 ghost use Rattle.mmkeep.specs.Later as later;
 ghost use Rattle.mmkeep.specs.Later.{unread_step, unread_word, AreRead, IsFirstUnread};
 ghost use Rattle.mmkeep.specs.Report as report;
