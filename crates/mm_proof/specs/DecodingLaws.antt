@@ -1,9 +1,9 @@
 -- What is proved of decoding: each is the contract of a function.
-use Rattle.std.specs.Prelude.{All, ◌≡◌, ℕ, ◌<◌, ◌≤◌, ◌↔◌, true, false, Result, Ok, Err, List, [], ◌∷◌, ◌++◌, length, flat_map, codes}
+use Rattle.std.specs.Prelude.{◌≡◌, ℕ, ◌<◌, ◌≤◌, ◌↔◌, true, false, Result, Ok, Err, List, [], ◌∷◌, ◌++◌, length, flat_map, codes}
 use Rattle.std.specs.List.{AllByRecursion, list_any}
-use Rattle.mm_frame.specs.Base.{BaseView, before, said_at, is_shown_at}
+use Rattle.mm_frame.specs.Base.{BaseView, AreSaid, before, said_at}
 use Rattle.mm_frame.specs.Tables.{mandatory_numbers}
-use Rattle.mm_proof.specs.BaseLabels.{HasLabels, HasOwnLabels}
+use Rattle.mm_proof.specs.BaseLabels.{HasOwnLabels}
 use Rattle.mm_proof.specs.Labels.{AreActive}
 use Rattle.mm_frame.specs.Language.{Place}
 use Rattle.mm_proof.specs.Expansion.{Step}
@@ -89,8 +89,8 @@ DecodesShort = (place : Place) (mandatory words : List (List ℕ)) (d : Decoded)
 
 -- No two sound items have the same label.
 abbrev pub LabelsAreOwn : Type 0
-LabelsAreOwn = (view : BaseView) → HasLabels view → HasOwnLabels view
+LabelsAreOwn = (view : BaseView) → AreSaid view → HasOwnLabels view
 
 -- The mandatory hypotheses of an item are active there.
 abbrev pub MandatoryAreActive : Type 0
-MandatoryAreActive = (view : BaseView) (i : ℕ) → HasLabels view → All (λ n. (n < i) × (is_shown_at view n ≡ true)) (mandatory_numbers (before view i) (said_at view i)) → AreActive view i (mandatory_numbers (before view i) (said_at view i))
+MandatoryAreActive = (view : BaseView) (i : ℕ) → AreSaid view → AreActive view i (mandatory_numbers (before view i) (said_at view i))
