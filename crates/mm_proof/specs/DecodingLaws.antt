@@ -1,8 +1,7 @@
 -- What is proved of decoding: each is the contract of a function.
-use Rattle.std.specs.Prelude.{All, ◌≡◌, ℕ, ◌<◌, ◌≤◌, ◌↔◌, true, false, Result, Ok, Err, List, [], ◌∷◌, ◌++◌, length, flat_map, codes}
+use Rattle.std.specs.Prelude.{◌≡◌, ℕ, ◌<◌, ◌≤◌, ◌↔◌, true, false, Result, Ok, Err, List, [], ◌∷◌, ◌++◌, length, flat_map, codes}
 use Rattle.std.specs.List.{AllByRecursion, list_any}
-use Rattle.mm_frame.specs.Base.{BaseView, before, said_at, is_shown_at}
-use Rattle.mm_frame.specs.Tables.{mandatory_numbers}
+use Rattle.mm_frame.specs.Base.{BaseView, AreHypotheses}
 use Rattle.mm_proof.specs.BaseLabels.{HasLabels, HasOwnLabels}
 use Rattle.mm_proof.specs.Labels.{AreActive}
 use Rattle.mm_frame.specs.Language.{Place}
@@ -93,4 +92,4 @@ LabelsAreOwn = (view : BaseView) → HasLabels view → HasOwnLabels view
 
 -- The mandatory hypotheses of an item are active there.
 abbrev pub MandatoryAreActive : Type 0
-MandatoryAreActive = (view : BaseView) (i : ℕ) → HasLabels view → All (λ n. (n < i) × (is_shown_at view n ≡ true)) (mandatory_numbers (before view i) (said_at view i)) → AreActive view i (mandatory_numbers (before view i) (said_at view i))
+MandatoryAreActive = (view : BaseView) (i : ℕ) (numbers : List ℕ) → HasLabels view → AreHypotheses view i numbers → AreActive view i numbers

@@ -2,10 +2,9 @@
 use Rattle.std.specs.Prelude.{ℕ, Bool, true, false, Vec, Option, Some, None, List, map}
 use Rattle.std.specs.Borrow.{Bor}
 use Rattle.std.specs.Global.{Global}
-use Rattle.mm_frame.specs.Item.{Item}
+use Rattle.mm_frame.specs.Item.{Item, item_at}
 use Rattle.mm_frame.specs.Framing.{place_of, statement_of}
 use Rattle.mm_frame.specs.Language.{Symbol, Place}
-use Rattle.mm_frame.specs.Tables.{item_at}
 use Rattle.mm_frame.specs.declared.symbol.NamedSymbol.{NamedSymbol}
 use Rattle.mm_proof.specs.Derivation.{Derives}
 use Rattle.mm_proof.specs.Expansion.{Step, Named}
