@@ -22,7 +22,8 @@ use Rattle.mm_frame.specs.Tables.{last_where, types, is_active_at, active_number
 use Rattle.mm_frame.specs.declared.symbol.NamedSymbol.{NamedSymbol}
 use Rattle.mm_frame.specs.declared.tables.Tables.{Tables}
 use Rattle.mm_frame.specs.Known.{Knows, table_name, float_of}
-use Rattle.mm_frame.specs.Named.{symbol_of, symbols_of, expression_kept, AreExpressions, float_number, float_numbers, IsAssertionBehind}
+use Rattle.mm_frame.specs.Named.{symbol_of, symbols_of}
+use Rattle.mm_frame.specs.KeptSymbols.{expression_kept, AreExpressions, float_number, float_numbers, IsAssertionBehind}
 use Rattle.mm_frame.proofs.Members.{In, in_contains, contains_in, in_left, in_right, in_cases, in_map, from_map, in_get, in_filter, from_filter, in_flat, from_flat, from_symbols, to_symbols}
 use Rattle.mm_frame.proofs.Scopes.{active_split, split_active}
 use Rattle.mm_frame.proofs.Frames.{assertion_expression, essential_expression, expression_labelled, in_at}

@@ -5,7 +5,8 @@ ghost use Rattle.mm_frame.specs.Item as meant;
 ghost use Rattle.mm_frame.specs.Sound.{AreSound, IsSound};
 ghost use Rattle.mm_frame.specs.Framing.{expression};
 ghost use Rattle.mm_frame.specs.Known.{Knows};
-ghost use Rattle.mm_frame.specs.Named.{symbol_of, symbols_of, kept_pairs, by_constants, variable_of};
+ghost use Rattle.mm_frame.specs.Named.{symbol_of, symbols_of, kept_pairs, variable_of};
+ghost use Rattle.mm_frame.specs.KeptSymbols.{by_constants};
 
 use crate::statement::Statement;
 use crate::tables::Tables;

@@ -1,6 +1,6 @@
 use Rattle.std.proofs.Common.{◌∙◌, sym, subst}
 use Rattle.mm_frame.specs.Known.{Knows}
-use Rattle.mm_frame.specs.Named.{AreSymbols}
+use Rattle.mm_frame.specs.KeptSymbols.{AreSymbols}
 use Rattle.mm_frame.specs.Sound.{kept}
 use Rattle.mm_frame.proofs.BaseLemmas.{kept_are_sound, are_expressions}
 use Rattle.mm_frame.proofs.draft.Draft.frame.Goals as goal

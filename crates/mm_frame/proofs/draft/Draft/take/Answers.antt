@@ -3,7 +3,8 @@ use Rattle.mm_frame.specs.Base.{fault_by}
 use Rattle.mm_frame.specs.Kept.{AreRows, Tells, TellsFrame, KeepsFrame}
 use Rattle.mm_frame.specs.PairTable.{KnowsPairs}
 use Rattle.mm_frame.specs.Known.{Knows}
-use Rattle.mm_frame.specs.Named.{AreSymbols, is_read, symbols_of}
+use Rattle.mm_frame.specs.Named.{symbols_of}
+use Rattle.mm_frame.specs.KeptSymbols.{AreSymbols, is_read}
 use Rattle.mm_frame.specs.Statement.{kind_of}
 use Rattle.mm_frame.specs.Scoping.{Holds, taken}
 use Rattle.mm_frame.specs.Sound.{kept}
