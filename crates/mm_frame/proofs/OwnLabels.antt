@@ -1,17 +1,17 @@
 -- A label belongs to one sound item, and a mandatory hypothesis is found by its label.
-use Rattle.std.proofs.Common.{◌≡◌, ℕ, suc, ◌<◌, ◌≤◌, Bool, true, false, cond, ◌&&◌, ◌||◌, Option, Some, None, List, [], ◌∷◌, length, take, drop, slice_get, bytes_eq, refl, sym, ◌∙◌, ap, arith}
+use Rattle.std.proofs.Common.{◌≡◌, ℕ, suc, Bool, true, false, cond, ◌&&◌, ◌||◌, Option, Some, List, [], take, drop, slice_get, refl, sym, ◌∙◌, ap, arith}
 use Rattle.std.specs.Prelude.{option_to_list, Contains}
 use Rattle.std.proofs.lemmas.Bool.{false≢true, and_parts}
 use Rattle.std.proofs.lemmas.List.{length-take-le}
 use Rattle.std.proofs.lemmas.Option.{slice_get_within}
 use Rattle.std.proofs.lemmas.Slice.Eq.{bytes_eq-Decides}
 use Rattle.mm_frame.specs.declared.base.Resolved.TheVariants as answers
-use Rattle.mm_frame.specs.Item.{Kind, Constants, Variables, Disjoint, Floating, Essential, Axiom, Theorem, BlockStart, BlockEnd, Missing, Passed, Item, is_labelled, is_assertion, is_essential, is_floating, has, labels_of, variable_of}
-use Rattle.mm_frame.specs.Blocks.{stays_by, marks_of}
+use Rattle.mm_frame.specs.Item.{Kind, Axiom, Theorem, Item, is_labelled, is_assertion, is_essential, is_floating, has, variable_of}
+use Rattle.mm_frame.specs.Blocks.{marks_of}
 use Rattle.mm_frame.specs.Sound.{kept, fault}
 use Rattle.mm_frame.specs.Framing.{mandatory_variables, is_mandatory}
-use Rattle.mm_frame.specs.Tables.{last_where, carries, mandatory_numbers}
-use Rattle.mm_frame.specs.Base.{BaseView, before, said_at, find_in, is_sound_at, is_shown_at, is_framed_at}
+use Rattle.mm_frame.specs.Tables.{mandatory_numbers}
+use Rattle.mm_frame.specs.Base.{BaseView, before, said_at, find_in, is_sound_at, is_shown_at}
 use Rattle.mm_frame.specs.Resolving.{IsLabelOf, Resolves}
 use Rattle.mm_frame.proofs.Members.{contains_in}
 use Rattle.mm_frame.proofs.SoundItems.{split_at}

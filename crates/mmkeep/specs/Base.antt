@@ -1,9 +1,9 @@
 -- A base as that of the files that it was built from.
-use Rattle.std.specs.Prelude.{◌≡◌, ℕ, ◌<◌, ◌≤◌, Some, Option, None, length, slice_get}
+use Rattle.std.specs.Prelude.{◌≡◌, ℕ, ◌<◌, ◌≤◌, All, Some, Option, None, length, slice_get}
 use Rattle.std.specs.List.{AllZip}
 use Rattle.mm_store.specs.declared.item.Item as store
 use Rattle.mm_store.specs.FilesView.{FilesView}
-use Rattle.mm_store.specs.FileFacts.{IsKnown}
+use Rattle.mm_store.specs.FileFacts.{IsKnown, StandsIn}
 use Rattle.mm_frame.specs.Base.{BaseView}
 use Rattle.mm_frame.specs.Kept.{IsBase}
 use Rattle.mm_frame.specs.Statement.{Says}
@@ -11,10 +11,11 @@ use Rattle.mm_frame.specs.declared.base.Base.{Base}
 use Rattle.mmkeep.specs.declared.judgement.Reached.{Reached}
 use Rattle.mmkeep.specs.Report.{IsWordAt}
 
--- the code's base answers this, and what it answers is what the items of the files say
+-- the code's base answers this, what it answers is what the items of the files say, and the items stand in the files
 pub record IsOf (files : FilesView) (code : Base) (view : BaseView) : Type 0 where
   pub base : IsBase view code
   pub each : AllZip (Says files) view.found view.said
+  pub stand : All (StandsIn files) view.found
 
 -- there is what the code's base answers
 abbrev pub HasView : FilesView → Base → Type 0
