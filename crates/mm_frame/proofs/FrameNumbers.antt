@@ -131,7 +131,7 @@ which_are base i n =
     )
 
 -- the mandatory hypotheses by their numbers
-mandatory_are : (base : BaseView) (i : ℕ) → AreHypotheses base i (mandatory_numbers (before base i) (said_at base i))
+pub mandatory_are : (base : BaseView) (i : ℕ) → AreHypotheses base i (mandatory_numbers (before base i) (said_at base i))
 mandatory_are base i =
     let front = before base i in
     let item = said_at base i in

@@ -23,6 +23,10 @@ pub record IsOfFiles (files : FilesView) (top : List ℕ) (base : BaseView) : Ty
   pub expansion : IsExpansion files.files top base.found
   pub each : AllZip (Says files) base.found base.said
 
+-- what each item says is what its words say, in some files
+abbrev pub AreSaid : BaseView → Type 0
+AreSaid base = (files : FilesView) × AllZip (Says files) base.found base.said
+
 -- the sound items before the one with this number, with a placeholder for each one at fault
 abbrev pub before : BaseView → ℕ → List Item
 before base i = kept (take i base.said)

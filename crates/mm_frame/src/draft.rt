@@ -3,7 +3,7 @@
 ghost use Rattle.std.specs.Prelude.{◌≡◌, ◌∷◌, ◌++◌, Bool, List, [], true, IfOk, OnOk, All, is_some, length, ◌&&◌};
 ghost use Rattle.std.specs.Option.{option_map};
 ghost use Rattle.std.specs.List.{AllZip};
-ghost use Rattle.mm_store.specs.FileFacts.{StandsIn};
+ghost use Rattle.mm_store.specs.FileFacts.{CanBeRead};
 ghost use Rattle.mm_frame.specs.Item as meant;
 ghost use Rattle.mm_frame.specs.Statement.{Says, kind_of};
 ghost use Rattle.mm_frame.specs.Sound.{AreSound, IsSound, kept};
@@ -365,7 +365,7 @@ impl<'a> Draft<'a> {
 
     /// Reads one more item of the files. Want of memory leaves the draft as good for nothing.
     pub fn read(&mut self, alloc: Global, files: &'a Files, item: &Item) -> Result<(), AllocError>
-        requires { StandsIn files.now item.now }
+        requires { CanBeRead files.now item.now }
         ensures { OnOk result ((one : meant.Item) × Says files.now item.now one × ((said : List meant.Item) → IsDraft said self.old → IsDraft (said ++ one ∷ []) self.new)) }
     {
         let statement = Statement::read(alloc, files, item)?;
@@ -378,7 +378,7 @@ impl<'a> Draft<'a> {
         files: &'a Files,
         items: &[Item],
     ) -> Result<Draft<'a>, AllocError>
-        requires { All (StandsIn files.now) items.now }
+        requires { All (CanBeRead files.now) items.now }
         ensures { IfOk result (λ draft. (said : List meant.Item) × AllZip (Says files.now) items.now said × IsDraft said draft) }
     {
         let mut draft = Draft::new(alloc);

@@ -23,7 +23,7 @@ pub use mm_store::{
     Files, Item, ItemKind, KnownPlace, PieceKey, Place, StoreError, TextFault, TextNumber, fits,
     nth_word, place,
 };
-pub use own_labels::{has_own_labels, mandatory_means};
+pub use own_labels::{has_own_labels, items_have_labels, mandatory_means, mandatory_stand_before};
 pub use same::same_frame;
 pub use statement::Statement;
 pub use symbol::NamedSymbol;

@@ -218,6 +218,7 @@ fn active_among(
             &mut pairs,
         )?;
     }
+    pairs.shrink_to_fit();
     Ok(pairs)
 }
 

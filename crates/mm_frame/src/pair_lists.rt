@@ -83,6 +83,7 @@ fn pairs_at(
     for number in disjoints {
         add_pairs_at(alloc, expressions, *number, &mut pairs)?;
     }
+    pairs.shrink_to_fit();
     Ok(pairs)
 }
 

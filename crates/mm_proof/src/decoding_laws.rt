@@ -2,7 +2,7 @@
 
 ghost use Rattle.mm_proof.specs.DecodingLaws.{LabelsAreOwn, MandatoryAreActive, HasNumberTable, NumbersAreApart, EachIsWritten, HasOneDivision, TellsFirstFault, LettersReadOn, DecodesShort, DecodesSurely, CitesRise, SameCitesSame, SameDecodesSame};
 
-use mm_frame::{has_own_labels, mandatory_means};
+use mm_frame::{has_own_labels, items_have_labels, mandatory_means, mandatory_stand_before};
 
 /// The numbers of the book's table.
 pub fn has_number_table()
@@ -64,11 +64,14 @@ pub fn labels_are_own()
     ensures { LabelsAreOwn }
 {
     has_own_labels();
+    items_have_labels();
 }
 
 /// The mandatory hypotheses of an item are active there.
 pub fn mandatory_are_active()
     ensures { MandatoryAreActive }
 {
+    items_have_labels();
     mandatory_means();
+    mandatory_stand_before();
 }
