@@ -6,11 +6,10 @@ use Rattle.std.specs.Borrow.{Bor}
 use Rattle.mm_frame.specs.declared.symbol.NamedSymbol.{NamedSymbol}
 use Rattle.mm_frame.specs.declared.tables.Tables.{Tables}
 use Rattle.mm_frame.specs.Language.{Symbol}
-use Rattle.mm_frame.specs.Item.{Kind, Item, has, is_labelled, is_disjoint, is_assertion}
-use Rattle.mm_frame.specs.Sound.{AreSound, IsSound}
+use Rattle.mm_frame.specs.Item.{Kind, Item, has, is_labelled, is_disjoint}
 use Rattle.mm_frame.specs.Scope.{constants}
 use Rattle.mm_frame.specs.Framing.{expression}
-use Rattle.mm_frame.specs.Known.{Knows, table_name, float_of}
+use Rattle.mm_frame.specs.Known.{table_name, float_of}
 use Rattle.mm_frame.specs.Named.{symbol_of, symbols_of}
 
 -- what expression symbols that are lent are
@@ -50,10 +49,3 @@ float_number tables kept = if kept.variable then option_to_list (float_of (table
 -- the numbers of the `$f` of the variables among some symbols, in order
 abbrev pub float_numbers : Tables → List NamedSymbol → List ℕ
 float_numbers tables symbols = flat_map (float_number tables) symbols
-
--- the item is a sound `$a` or `$p` behind sound items, which the tables know
-pub record IsAssertionBehind (before : List Item) (item : Item) (tables : Tables) : Type 0 where
-  pub sound : AreSound before
-  pub known : Knows before tables
-  pub item_sound : IsSound before item
-  pub assertion : is_assertion item.kind ≡ true

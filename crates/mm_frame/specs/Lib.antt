@@ -30,6 +30,7 @@ pub mod Scoping
 pub mod Seen
 pub mod Named
 pub mod KeptSymbols
+pub mod Earlier
 pub mod Pruned
 pub mod Base
 pub mod PairLists

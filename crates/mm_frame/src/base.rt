@@ -199,7 +199,8 @@ impl Base {
     /// The frame that is kept of the item with this number, if one is kept; its pairs stand in the order of its `$f`.
     pub(crate) fn kept_frame(&self, i: usize) -> Option<&Frame>
         ensures numbers { (base : BaseView) → IsBase base self.now → option_map (λ frame. frame.now.hypotheses.items) result ≡ hypotheses_at base i }
-        ensures order { (base : BaseView) → IsBase base self.now → IfSome result (λ frame. kept_pairs frame.now.pairs.items ≡ pairs_in_order (frame_at base i)) }
+        ensures order { (base : BaseView) → IsBase base self.now →
+            IfSome result (λ frame. kept_pairs frame.now.pairs.items ≡ pairs_in_order (frame_at base i)) }
     {
         match self.frame_row(i) {
             Some(frame) => frame_in(frame),

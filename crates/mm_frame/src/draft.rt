@@ -14,6 +14,7 @@ ghost use Rattle.mm_frame.specs.KeptSymbols.{is_read, AreExpressions, AreSymbols
 ghost use Rattle.mm_frame.specs.Scope.{closes, mark_of};
 ghost use Rattle.mm_frame.specs.Scoping.{taken};
 ghost use Rattle.mm_frame.specs.Blocks.{marks_of};
+ghost use Rattle.mm_frame.specs.Earlier.{IsFramed, KnowsEarlier};
 ghost use Rattle.mm_frame.specs.Tables.{active_numbers, is_essential_item, is_disjoint_item, IsSort};
 ghost use Rattle.mm_frame.specs.Base.{fault_by};
 ghost use Rattle.mm_frame.specs.PairLists.{AreMade};
@@ -24,7 +25,7 @@ use crate::FrameNumber;
 use crate::active::ActiveNumbers;
 use crate::blocks::Blocks;
 use crate::judge::{FrameFault, fault_of};
-use crate::mandatory::{hypotheses, mandatory_pairs};
+use crate::mandatory::{Earlier, hypotheses, mandatory_pairs};
 use crate::pair_lists::PairLists;
 use crate::paired::PairTable;
 use crate::scope::Scope;
@@ -169,24 +170,21 @@ fn has_proof(kind: ItemKind, sound: bool) -> bool
     sound && matches!(kind, ItemKind::Theorem)
 }
 
-/// The frame of a statement, if it has one.
+/// The frame of a statement with these symbols, if it has one.
 fn frame_of(
     alloc: Global,
-    tables: &Tables,
-    pairs: &PairTable,
-    blocks: &Blocks,
-    essentials: &[usize],
-    expressions: &[Vec<NamedSymbol>],
+    earlier: &Earlier,
     own: &[NamedSymbol],
     framed: bool,
 ) -> Result<Option<Frame>, AllocError>
-    ensures { IfOk result (λ frame. (before : List meant.Item) (item : meant.Item) → AreSound before → Knows before tables.now → KnowsPairs before pairs.now → blocks.now ≡ marks_of before → (framed ≡ true → IsSound before item × (meant.is_assertion item.kind ≡ true) × (symbols_of own.now ≡ expression before item)) → essentials.now ≡ active_numbers is_essential_item before → AreExpressions before expressions.now → KeepsFrame framed before item frame) }
+    ensures { IfOk result (λ frame. (before : List meant.Item) (item : meant.Item) → KnowsEarlier before earlier.now
+        → (framed ≡ true → IsFramed before item own.now) → KeepsFrame framed before item frame) }
 {
     if !framed {
         return Ok(None);
     }
-    let hypotheses = hypotheses(alloc, tables, essentials, expressions, own)?;
-    let pairs = mandatory_pairs(alloc, pairs, blocks, essentials, expressions, &hypotheses)?;
+    let hypotheses = hypotheses(alloc, earlier, own)?;
+    let pairs = mandatory_pairs(alloc, earlier, &hypotheses)?;
     Ok(Some(Frame { hypotheses, pairs }))
 }
 
@@ -286,6 +284,19 @@ impl<'a> Draft<'a> {
         }
     }
 
+    /// What is known of the items so far.
+    fn earlier(&self) -> Earlier<'_>
+        ensures { (said : List meant.Item) → IsDraft said self.now → KnowsEarlier (kept said) result }
+    {
+        Earlier {
+            tables: self.scope.tables(),
+            pairs: &self.pair_table,
+            blocks: self.scope.blocks(),
+            essentials: self.essentials.as_slice(),
+            expressions: &self.expressions,
+        }
+    }
+
     /// The frame of one more statement with these symbols, if it has one.
     fn frame(
         &self,
@@ -293,18 +304,10 @@ impl<'a> Draft<'a> {
         own: &[NamedSymbol],
         framed: bool,
     ) -> Result<Option<Frame>, AllocError>
-        ensures { IfOk result (λ frame. (said : List meant.Item) (item : meant.Item) → IsDraft said self.now → (framed ≡ true → IsSound (kept said) item × (meant.is_assertion item.kind ≡ true) × (symbols_of own.now ≡ expression (kept said) item)) → KeepsFrame framed (kept said) item frame) }
+        ensures { IfOk result (λ frame. (said : List meant.Item) (item : meant.Item) → IsDraft said self.now
+            → (framed ≡ true → IsFramed (kept said) item own.now) → KeepsFrame framed (kept said) item frame) }
     {
-        Ok(frame_of(
-            alloc,
-            self.scope.tables(),
-            &self.pair_table,
-            self.scope.blocks(),
-            self.essentials.as_slice(),
-            &self.expressions,
-            own,
-            framed,
-        )?)
+        Ok(frame_of(alloc, &self.earlier(), own, framed)?)
     }
 
     /// Takes one more statement. Want of memory leaves the draft as good for nothing.
