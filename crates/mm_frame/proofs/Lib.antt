@@ -29,3 +29,4 @@ pub mod ResolvingLemmas
 pub mod SameLemmas
 pub mod SameFrames
 pub mod OwnLabels
+pub mod SaidLabels

@@ -20,7 +20,7 @@ use Rattle.mm_proof.specs.declared.step.Action.{Action}
 use Rattle.mm_proof.specs.declared.step.ProofStep.{ProofStep}
 use Rattle.mm_proof.specs.declared.step.Undecoded.{Undecoded}
 use Rattle.mm_proof.specs.declared.step.Undecoded.TheVariants as errors
-use Rattle.mm_proof.proofs.ReaderLemmas.{next_is, with_one, with_none, meant_more}
+use Rattle.mm_proof.proofs.ReaderLemmas.{next_is, with_one, meant_more}
 use Rattle.mm_proof.proofs.TableLemmas.{entries_more}
 
 count_more : (labels : List Resolved) (n : ℕ) (meaning : Resolved) → length labels ≡ n → length (labels ++ meaning ∷ []) ≡ n + 1
@@ -43,9 +43,6 @@ taken_more words n less = map_more word_step words n [] less
 
 names_more : (view : BaseView) (labels : List Resolved) (meaning : Resolved) (more : List Step) → entry_steps view (labels ++ meaning ∷ []) ++ more ≡ entry_steps view labels ++ entry_step view meaning ∷ more
 names_more view labels meaning more = ap (λ (w : List Step). w ++ more) (map-append (entry_step view) labels (meaning ∷ [])) ∙ append_assoc (entry_steps view labels) (entry_step view meaning ∷ []) more
-
-pub begins : (view : BaseView) (i : ℕ) (words : List (List ℕ)) (labels : List Resolved) (steps : List ProofStep) → labels ≡ [] → steps ≡ [] → Normal view i words 0 labels steps
-begins view i words labels steps none nothing = rw (none, nothing) (record { count = refl; entries = tt; table = refl; rest = λ more. with_none (in_order (each_word (read_word (place_at view i)) 0 words)) })
 
 module _ (view : BaseView) (i : ℕ) (words : List (List ℕ)) (n : ℕ) (labels : List Resolved) (steps : List ProofStep) (normal : Normal view i words n labels steps) where
   -- what the words from there on give, by the first of them

@@ -14,9 +14,8 @@ use Rattle.mm_proof.specs.Faults.{AnyZip, entries_for, LackPair, CitingFails, La
 use Rattle.mm_proof.specs.Machine.{State, Turns, IsUsable, IsReady}
 use Rattle.mm_proof.specs.declared.ProofNumber.{ProofNumber}
 use Rattle.mm_proof.specs.declared.ProofNumber.TheVariants.{P01, P02, P03, P04, P05, P06, P07, P08, P09, P10, P11, P12, P13, P14, P15}
-use Rattle.mm_frame.proofs.Members.{Contains-here}
+use Rattle.mm_proof.proofs.Members.{Contains-here, contains_there}
 use Rattle.mm_proof.proofs.Unique.{same_substituted}
-use Rattle.mm_frame.proofs.Members.{contains_there}
 use Rattle.mm_proof.proofs.Lines.{FloatsMatch, agree, IsTypedPair, not_cited}
 use Rattle.mm_proof.proofs.Choices.{both_of, not_of, expression_discrete, dec_any, dec_any_zip, dec_share, dec_lack, are_apart}
 use Rattle.mm_proof.proofs.Reaching.{last_entry}

@@ -1,13 +1,13 @@
 -- What is proved of decoding: each is the contract of a function.
-use Rattle.std.specs.Prelude.{All, ◌≡◌, ℕ, ◌<◌, ◌≤◌, ◌↔◌, true, false, Result, Ok, Err, List, [], ◌∷◌, ◌++◌, length, flat_map, codes}
+use Rattle.std.specs.Prelude.{◌≡◌, ℕ, ◌<◌, ◌≤◌, ◌↔◌, true, false, Result, Ok, Err, List, [], ◌∷◌, ◌++◌, length, flat_map, codes}
 use Rattle.std.specs.List.{AllByRecursion, list_any}
-use Rattle.mm_frame.specs.Base.{BaseView, before, said_at, is_shown_at}
+use Rattle.mm_frame.specs.Base.{BaseView, AreSaid, before, said_at}
 use Rattle.mm_frame.specs.Tables.{mandatory_numbers}
-use Rattle.mm_proof.specs.BaseLabels.{HasLabels, HasOwnLabels}
+use Rattle.mm_proof.specs.BaseLabels.{HasOwnLabels}
 use Rattle.mm_proof.specs.Labels.{AreActive}
 use Rattle.mm_frame.specs.Language.{Place}
 use Rattle.mm_proof.specs.Expansion.{Step}
-use Rattle.mm_proof.specs.Machine.{IsUsable, AreDecodedAfter}
+use Rattle.mm_proof.specs.Machine.{IsUsable, AreDecoded}
 use Rattle.mm_proof.specs.Numbers.{is_digit, is_last, number_of}
 use Rattle.mm_proof.specs.Letters.{Letter, Group, groups, IsDivided}
 use Rattle.mm_proof.specs.Decoding.{Reading, in_order, is_close, decoding}
@@ -62,9 +62,9 @@ without_spots (Err fault) = Err fault.0
 abbrev pub LettersReadOn : Type 0
 LettersReadOn = (place : Place) (mandatory listed some others : List (List ℕ)) → list_any is_close listed ≡ false → flat_map (λ word. word) some ≡ flat_map (λ word. word) others → without_spots (decoding place mandatory (codes "(" ∷ (listed ++ codes ")" ∷ some))) ≡ without_spots (decoding place mandatory (codes "(" ∷ (listed ++ codes ")" ∷ others)))
 
--- Decoding makes sure that each label can be used and each saved number is of a save before it, and there is a spot for each step.
+-- Decoding makes sure that each label can be used and each saved number is of one of the saves before it, and there is a spot for each step.
 abbrev pub DecodesSurely : Type 0
-DecodesSurely = (place : Place) (mandatory words : List (List ℕ)) (d : Decoded) → AllByRecursion (λ label. IsUsable (place.resolve label)) mandatory → decoding place mandatory words ≡ Ok d → AreDecodedAfter place 0 d.steps × (length d.spots ≡ length d.steps)
+DecodesSurely = (place : Place) (mandatory words : List (List ℕ)) (d : Decoded) → AllByRecursion (λ label. IsUsable (place.resolve label)) mandatory → decoding place mandatory words ≡ Ok d → AreDecoded place d.steps × (length d.spots ≡ length d.steps)
 
 -- Proofs with the same words decode to the same where their labels mean the same, though mandatory hypotheses may have other labels.
 abbrev pub SameDecodesSame : Type 0
@@ -89,8 +89,8 @@ DecodesShort = (place : Place) (mandatory words : List (List ℕ)) (d : Decoded)
 
 -- No two sound items have the same label.
 abbrev pub LabelsAreOwn : Type 0
-LabelsAreOwn = (view : BaseView) → HasLabels view → HasOwnLabels view
+LabelsAreOwn = (view : BaseView) → AreSaid view → HasOwnLabels view
 
 -- The mandatory hypotheses of an item are active there.
 abbrev pub MandatoryAreActive : Type 0
-MandatoryAreActive = (view : BaseView) (i : ℕ) → HasLabels view → All (λ n. (n < i) × (is_shown_at view n ≡ true)) (mandatory_numbers (before view i) (said_at view i)) → AreActive view i (mandatory_numbers (before view i) (said_at view i))
+MandatoryAreActive = (view : BaseView) (i : ℕ) → AreSaid view → AreActive view i (mandatory_numbers (before view i) (said_at view i))

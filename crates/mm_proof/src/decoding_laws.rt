@@ -2,6 +2,8 @@
 
 ghost use Rattle.mm_proof.specs.DecodingLaws.{LabelsAreOwn, MandatoryAreActive, HasNumberTable, NumbersAreApart, EachIsWritten, HasOneDivision, TellsFirstFault, LettersReadOn, DecodesShort, DecodesSurely, CitesRise, SameCitesSame, SameDecodesSame};
 
+use mm_frame::{has_own_labels, items_have_labels, mandatory_means, mandatory_stand_before};
+
 /// The numbers of the book's table.
 pub fn has_number_table()
     ensures { HasNumberTable }
@@ -60,9 +62,16 @@ pub fn decodes_short()
 /// No two sound items have the same label.
 pub fn labels_are_own()
     ensures { LabelsAreOwn }
-{}
+{
+    has_own_labels();
+    items_have_labels();
+}
 
 /// The mandatory hypotheses of an item are active there.
 pub fn mandatory_are_active()
     ensures { MandatoryAreActive }
-{}
+{
+    items_have_labels();
+    mandatory_means();
+    mandatory_stand_before();
+}

@@ -1,4 +1,4 @@
-ghost use Rattle.mm_store.specs.FileFacts.{StandsIn};
+ghost use Rattle.mm_store.specs.FileFacts.{CanBeRead, StandsIn};
 
 use crate::{Files, Item, ItemKind, Place, StoreError, TextFault, TextNumber, fits, place};
 use std::alloc::{AllocError, Global};
@@ -39,7 +39,7 @@ fn files_of(alloc: Global, text: &[u8]) -> Result<Files, StoreError> {
 
 /// The bytes of an item.
 fn spelled<'a>(files: &'a Files, item: &Item) -> Option<&'a [u8]>
-    requires { StandsIn files.now item.now }
+    requires { CanBeRead files.now item.now }
 {
     files.piece(item.key).get(item.start..item.end)
 }
@@ -125,7 +125,7 @@ fn places_alike(alloc: Global, text: &[u8]) -> Result<usize, StoreError> {
     let files = files_of(alloc, text)?;
     let items = files.statements(alloc, b"top")?;
     let mut alike = 0;
-    let mut from = 0;
+    let mut from = 0usize;
     for i in 0..items.len() {
         let len = files.piece(items[i].key).len();
         for at in [

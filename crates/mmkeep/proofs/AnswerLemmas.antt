@@ -7,14 +7,13 @@ use Rattle.mm_store.specs.FilesView.{FilesView, no_files}
 use Rattle.mm_store.specs.Answers.{HasTooMany}
 use Rattle.mm_store.proofs.FilesLemmas.{kept_at}
 use Rattle.mm_frame.specs.Base.{BaseView, told_fault, fault_at, is_sound_at, said_at}
-use Rattle.mm_frame.specs.Item.{Kind, Axiom, Theorem, Item, is_assertion, is_theorem}
+use Rattle.mm_frame.specs.Item.{Kind, Axiom, Theorem, Item, is_assertion, is_theorem, item_at}
 use Rattle.mm_frame.specs.Sound.{kept}
-use Rattle.mm_frame.specs.Tables.{item_at}
 use Rattle.mm_frame.specs.declared.FrameNumber.{FrameNumber}
 use Rattle.mmkeep.specs.declared.fault.FirstError.{FirstError}
 use Rattle.mmkeep.specs.declared.fault.FirstError.TheVariants.{Text, TooMany, Later, Memory, Write}
 use Rattle.mmkeep.specs.Later.{unread_word, IsRead, AreRead, IsFirstUnread}
-use Rattle.mmkeep.specs.Proof.{IsProved}
+use Rattle.mm_proof.specs.Proved.{IsProved}
 use Rattle.mmkeep.specs.Report.{Shown, Told, Quiet, AnAxiom, Proved, Wrong, Fault, IsTold as IsToldOf, IsFaultOf, AreTold, lines, report}
 use Rattle.mmkeep.specs.Verified.{IsReport, IsUnreadAt, IsTold}
 use Rattle.mmkeep.proofs.DatabaseLemmas.{Laws, Database, same_items, same_place, same_shown_word, database_or_fault, database_or_too_many}

@@ -1,8 +1,4 @@
 pub mod PlaceLemmas
-pub mod GivenLemmas
-pub mod ApartLemmas
-pub mod CiteLemmas
-pub mod RunLemmas
 pub mod ReadingLemmas
 pub mod StreamLemmas
 pub mod ReportLemmas

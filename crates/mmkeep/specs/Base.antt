@@ -1,28 +1,11 @@
--- A base as that of the files that it was built from.
-use Rattle.std.specs.Prelude.{◌≡◌, ℕ, ◌<◌, ◌≤◌, Some, Option, None, length, slice_get}
-use Rattle.std.specs.List.{AllZip}
+-- Where the words of the items of a base stand.
+use Rattle.std.specs.Prelude.{◌≡◌, ℕ, ◌≤◌, Some, Option, None, slice_get}
 use Rattle.mm_store.specs.declared.item.Item as store
 use Rattle.mm_store.specs.FilesView.{FilesView}
 use Rattle.mm_store.specs.FileFacts.{IsKnown}
 use Rattle.mm_frame.specs.Base.{BaseView}
-use Rattle.mm_frame.specs.Kept.{IsBase}
-use Rattle.mm_frame.specs.Statement.{Says}
-use Rattle.mm_frame.specs.declared.base.Base.{Base}
 use Rattle.mmkeep.specs.declared.judgement.Reached.{Reached}
 use Rattle.mmkeep.specs.Report.{IsWordAt}
-
--- the code's base answers this, and what it answers is what the items of the files say
-pub record IsOf (files : FilesView) (code : Base) (view : BaseView) : Type 0 where
-  pub base : IsBase view code
-  pub each : AllZip (Says files) view.found view.said
-
--- there is what the code's base answers
-abbrev pub HasView : FilesView → Base → Type 0
-HasView files code = (view : BaseView) × IsOf files code view
-
--- and it has an item with this number
-abbrev pub HasItemOf : FilesView → Base → ℕ → Type 0
-HasItemOf files code n = (view : BaseView) × IsOf files code view × (n < length view.said)
 
 -- a place that is known is that of its byte
 abbrev pub IsReached : FilesView → Option Reached → Type 0

@@ -1,9 +1,4 @@
 pub mod Later
-pub mod Stack
-pub mod Cited
-pub mod Given
-pub mod Apart
-pub mod Proof
 pub mod Stream
 pub mod Report
 pub mod Base

@@ -1,17 +1,12 @@
 //! A verifier for Metamath databases.
 #![tactic(auto)]
 
-mod apart;
 mod arguments;
 mod asking;
-mod citing;
-mod compare;
 mod fault;
 mod finding;
-mod given;
 mod judgement;
 mod laws;
-mod machine;
 mod outcome;
 mod program;
 mod reading;

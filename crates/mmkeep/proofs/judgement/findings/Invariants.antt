@@ -1,5 +1,6 @@
 use Rattle.mm_frame.specs.Base.{BaseView}
-use Rattle.mmkeep.specs.Base.{IsOf, IsReached}
+use Rattle.mm_proof.specs.OfFiles.{IsOf}
+use Rattle.mmkeep.specs.Base.{IsReached}
 use Rattle.mmkeep.specs.Report.{told_all}
 use Rattle.mmkeep.proofs.ItemLemmas.{ToldUpTo}
 use Rattle.mmkeep.proofs.judgement.findings.Given as goal

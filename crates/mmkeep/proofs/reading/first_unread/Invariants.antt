@@ -1,6 +1,6 @@
 use Rattle.std.proofs.Common.{take}
 use Rattle.mm_frame.specs.Base.{BaseView}
-use Rattle.mmkeep.specs.Base.{IsOf}
+use Rattle.mm_proof.specs.OfFiles.{IsOf}
 use Rattle.mmkeep.specs.Later.{AreRead}
 use Rattle.mmkeep.proofs.reading.first_unread.Given as goal
 

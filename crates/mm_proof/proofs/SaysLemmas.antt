@@ -1,0 +1,35 @@
+-- What a base and its files say of one item.
+use Rattle.std.proofs.Common.{◌≡◌, ℕ, zero, suc, Some, List, [], ◌∷◌, slice_get, refl, sym, subst}
+use Rattle.std.specs.List.{AllZip}
+use Rattle.std.proofs.lemmas.Option.{get_or_from_slice_get}
+use Rattle.mm_store.specs.declared.item.Item as store
+use Rattle.mm_store.specs.FilesView.{FilesView}
+use Rattle.mm_store.specs.FileFacts.{CanBeRead}
+use Rattle.mm_frame.specs.Base.{BaseView, said_at}
+use Rattle.mm_frame.specs.Item.{passed}
+use Rattle.mm_frame.specs.Kept.{IsBase, HasItem}
+use Rattle.mm_frame.specs.Statement.{Says}
+use Rattle.mm_frame.specs.declared.base.Base.{Base}
+use Rattle.mm_proof.specs.OfFiles.{IsOf, HasItemOf}
+
+-- the element of the one list with that of the other
+zip_found : {A B : Type 0} (R : A → B → Type 0) (xs : List A) (ys : List B) (i : ℕ) (x : A) → AllZip R xs ys → slice_get xs i ≡ Some x → (y : B) × (slice_get ys i ≡ Some y) × R x y
+zip_found R [] [] i x a e = cc
+zip_found R [] (z ∷ ys) i x a e = absurd a
+zip_found R (w ∷ xs) [] i x a e = absurd a
+zip_found R (w ∷ xs) (z ∷ ys) zero x a e = let f : w ≡ x = cc in (z, refl, subst (λ v. R v z) f a.0)
+zip_found R (w ∷ xs) (z ∷ ys) (suc i) x a e = zip_found R xs ys i x a.1 e
+
+-- what it says
+pub says_at : (files : FilesView) (code : Base) (view : BaseView) (n : ℕ) (item : store.Item) → IsOf files code view → slice_get view.found n ≡ Some item → Says files item (said_at view n)
+says_at files code view n item is e =
+    let y = zip_found (Says files) view.found view.said n item is.each e in
+    subst (Says files item) (sym (get_or_from_slice_get view.said n y.0 passed y.1)) y.2
+
+-- that it can be read
+pub read_at : (files : FilesView) (code : Base) (n : ℕ) (item : store.Item) → HasItemOf files code n → ((view : BaseView) → IsBase view code → slice_get view.found n ≡ Some item) → CanBeRead files item
+read_at files code n item has e = (says_at files code has.0 n item has.1 (e has.0 has.1.base)).read
+
+-- that the base has it
+pub has_item : (files : FilesView) (code : Base) (n : ℕ) → HasItemOf files code n → HasItem code n
+has_item files code n has = (has.0, has.1.base, has.2)

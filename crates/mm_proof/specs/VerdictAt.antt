@@ -1,0 +1,28 @@
+-- The verdict on the proof of an item of a base, its decoding included.
+use Rattle.std.specs.Prelude.{ℕ, Result, List, map}
+use Rattle.mm_frame.specs.Base.{BaseView, before, said_at}
+use Rattle.mm_frame.specs.Framing.{expression}
+use Rattle.mm_frame.specs.Language.{Symbol}
+use Rattle.mm_frame.specs.Tables.{mandatory_numbers}
+use Rattle.mm_proof.specs.BaseLabels.{label_at, place_at}
+use Rattle.mm_proof.specs.Decoding.{decoding}
+use Rattle.mm_proof.specs.Verdict.{Decoded, IsVerdict}
+use Rattle.mm_proof.specs.declared.Spot.{Spot}
+use Rattle.mm_proof.specs.declared.ProofNumber.{ProofNumber}
+use Rattle.mm_proof.specs.declared.Verdict.{Verdict}
+
+-- the labels of the mandatory hypotheses of the item with this number, in order
+abbrev pub mandatory_labels : BaseView → ℕ → List (List ℕ)
+mandatory_labels view i = map (label_at view) (mandatory_numbers (before view i) (said_at view i))
+
+-- the expression that its proof is of
+abbrev pub statement_at : BaseView → ℕ → List Symbol
+statement_at view i = expression (before view i) (said_at view i)
+
+-- what the words of its proof decode to
+abbrev pub decoding_at : BaseView → ℕ → Result Decoded (ProofNumber × Spot)
+decoding_at view i = decoding (place_at view i) (mandatory_labels view i) (said_at view i).proof
+
+-- the verdict on its proof
+abbrev pub IsVerdictAt : BaseView → ℕ → Verdict → Type 0
+IsVerdictAt view i verdict = IsVerdict (place_at view i) (statement_at view i) (decoding_at view i) verdict

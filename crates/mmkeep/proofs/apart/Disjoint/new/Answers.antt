@@ -1,5 +1,0 @@
-use Rattle.mmkeep.proofs.ApartLemmas.{no_orders}
-use Rattle.mmkeep.proofs.apart.Disjoint.new.Goals as goal
-
-pub returns : goal.returns
-returns c = no_orders (record { pairs = c.new.result }) c.new.ensures.empty

@@ -1,7 +1,0 @@
-use Rattle.std.proofs.Common.{take}
-use Rattle.mm_frame.specs.Named.{kept_pairs}
-use Rattle.mmkeep.specs.Apart.{HasOrders}
-use Rattle.mmkeep.proofs.apart.Disjoint.of.Given as goal
-
-abbrev pub invariant-loop-pair : goal.invariant-loop-pair
-invariant-loop-pair l = HasOrders (kept_pairs (take l.pair-index l.pairs)) l.disjoint

@@ -1,9 +1,0 @@
-use Rattle.std.proofs.Common.{◌≡◌, true, map, take}
-use Rattle.std.specs.Prelude.{All}
-use Rattle.mm_frame.specs.Base.{BaseView, is_shown_at, hypothesis_at}
-use Rattle.mm_frame.specs.Kept.{IsBase}
-use Rattle.mmkeep.specs.Cited.{mandatory_of}
-use Rattle.mmkeep.proofs.citing.hypotheses.Given as goal
-
-abbrev pub invariant-loop-number : goal.invariant-loop-number
-invariant-loop-number l = (view : BaseView) → IsBase view l.base → All (λ n. is_shown_at view n ≡ true) l.numbers → map mandatory_of l.found.items ≡ map (hypothesis_at view) (take l.number-index l.numbers)

@@ -1,7 +1,0 @@
-use Rattle.std.proofs.Common.{◌≡◌, take}
-use Rattle.mm_frame.specs.Named.{symbols_of as named}
-use Rattle.mmkeep.specs.Stack.{symbols_of}
-use Rattle.mmkeep.proofs.compare.is_expression.Given as goal
-
-abbrev pub invariant-loop-i : goal.invariant-loop-i
-invariant-loop-i l = symbols_of (take l.i l.a) ≡ named (take l.i l.b)
