@@ -10,14 +10,16 @@ use Rattle.std.specs.Borrow.{Bor}
 use Rattle.std.specs.Prelude.{IfSome}
 use Rattle.mm_frame.specs.declared.FrameNumber.{FrameNumber}
 use Rattle.mm_frame.specs.declared.symbol.NamedSymbol.{NamedSymbol}
-use Rattle.mm_frame.specs.Item.{Kind, Essential, Axiom, Theorem, Missing, Item, passed, is_labelled, is_disjoint, is_assertion, is_essential, is_theorem}
+use Rattle.mm_frame.specs.Item.{Kind, Essential, Axiom, Theorem, Missing, Item, passed, is_labelled, is_disjoint, is_assertion, is_essential, is_theorem, item_at}
 use Rattle.mm_frame.specs.Sound.{IsSound, AreSound, fault, judged, kept, kept_after}
 use Rattle.mm_frame.specs.Framing.{symbol, expression, frame}
 use Rattle.mm_frame.specs.Scope.{Mark, Closes, Neither, mark_of, closes, active_variables}
-use Rattle.mm_frame.specs.Named.{symbols_of, kept_pairs, expression_kept, kept_or_none, is_read, variable_of, AreSymbols, AreExpressions}
-use Rattle.mm_frame.specs.Tables.{item_at, active_numbers, IsSort}
+use Rattle.mm_frame.specs.Named.{symbols_of, kept_pairs, variable_of}
+use Rattle.mm_frame.specs.KeptSymbols.{expression_kept, kept_or_none, is_read, AreSymbols, AreExpressions}
+use Rattle.mm_frame.specs.Tables.{active_numbers, IsSort}
 use Rattle.mm_frame.specs.Scoping.{taken}
-use Rattle.mm_frame.specs.Base.{BaseView, before, said_at, fault_by, told_fault, is_sound_at, expression_at, told_numbers, numbers_if, pairs_if, is_framed_at, frame_at}
+use Rattle.mm_frame.specs.Base.{BaseView, before, said_at, fault_by, told_fault, is_sound_at, expression_at, is_framed_at, frame_at}
+use Rattle.mm_frame.specs.Kept.{told_numbers, numbers_if, pairs_if}
 use Rattle.mm_frame.specs.Kept.{AreRows, TellsFrame, is_told_proof}
 use Rattle.mm_frame.specs.Language.{Symbol, AreSamePairs}
 use Rattle.mm_frame.specs.Paired.{pairs_in_order}
@@ -285,8 +287,7 @@ pub frame_order : (base : BaseView) (i : ℕ) (lent : Option (Bor Frame)) (kept_
 frame_order base i None kept_frame e t = tt
 frame_order base i (Some frame) kept_frame e t = (frame_told base i frame kept_frame e t).1
 
-pub frame_pairs : (base : BaseView) (i : ℕ) (lent : Option (Bor Frame)) (kept_frame : Option Frame) → option_map (λ frame. frame.now) lent ≡ kept_frame → TellsFrame (before base i) (said_at base i) kept_frame → IfSome lent (λ frame. AreSamePairs (kept_pairs frame.now.pairs.items) (frame_at base i).pairs)
-frame_pairs base i None kept_frame e t = tt
-frame_pairs base i (Some frame) kept_frame e t =
-    let told = frame_told base i frame kept_frame e t in
-    subst (λ w. AreSamePairs w (frame_at base i).pairs) (sym told.1) (framed_in_order base i told.0)
+-- pairs in this order are those of the frame of an assertion
+pub ordered_pairs : {X : Type 0} (told : X → List (Symbol × Symbol)) (base : BaseView) (i : ℕ) (found : Option X) → is_some found ≡ is_framed_at base i → IfSome found (λ x. told x ≡ pairs_in_order (frame_at base i)) → IfSome found (λ x. AreSamePairs (told x) (frame_at base i).pairs)
+ordered_pairs told base i None s e = tt
+ordered_pairs told base i (Some x) s e = subst (λ w. AreSamePairs w (frame_at base i).pairs) (sym e) (framed_in_order base i (sym s))

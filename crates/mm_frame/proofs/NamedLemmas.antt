@@ -8,7 +8,8 @@ use Rattle.mm_frame.specs.Framing.{symbol, expression}
 use Rattle.mm_frame.specs.declared.symbol.NamedSymbol.{NamedSymbol}
 use Rattle.mm_frame.specs.declared.tables.Tables.{Tables}
 use Rattle.mm_frame.specs.Known.{Knows}
-use Rattle.mm_frame.specs.Named.{symbols_of, by_constants}
+use Rattle.mm_frame.specs.Named.{symbols_of}
+use Rattle.mm_frame.specs.KeptSymbols.{by_constants}
 use Rattle.mm_frame.proofs.Members.{In, has_in, in_has}
 use Rattle.mm_frame.proofs.Facts.{not_constant}
 use Rattle.mm_frame.proofs.SoundItems.{map_same, named, sound_kept}

@@ -15,7 +15,8 @@ use Rattle.mm_frame.specs.Scope.{stays}
 use Rattle.mm_frame.specs.Sound.{AreSound, kept}
 use Rattle.mm_frame.specs.Framing.{expression, pairs_of, active_pairs}
 use Rattle.mm_frame.specs.Tables.{is_active_at, active_numbers, is_disjoint_item, IsRising}
-use Rattle.mm_frame.specs.Named.{symbols_of, expression_kept, kept_pairs, AreSymbols}
+use Rattle.mm_frame.specs.Named.{symbols_of, kept_pairs}
+use Rattle.mm_frame.specs.KeptSymbols.{expression_kept, AreSymbols}
 use Rattle.mm_frame.specs.PairLists.{IsList, list_made, IsMadeFor, AreMade, KeepsLists, HasActivePairs}
 use Rattle.mm_frame.specs.Kept.{AreRows, TellsPairs, is_told_proof}
 use Rattle.mm_frame.proofs.Members.{In, in_get, get_in}

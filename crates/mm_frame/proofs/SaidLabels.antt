@@ -9,7 +9,7 @@ use Rattle.mm_frame.specs.declared.FrameNumber.TheVariants.{F01}
 use Rattle.mm_frame.specs.Item.{Kind, Floating, Essential, Axiom, Theorem, Item, is_floating, is_labelled}
 use Rattle.mm_frame.specs.Sound.{closing_word, at_symbol, is_third, is_short, fault, IsSound}
 use Rattle.mm_frame.specs.Statement.{kind_of, names, symbols_in, label_in, item_of, Says}
-use Rattle.mm_frame.specs.Tables.{item_at}
+use Rattle.mm_frame.specs.Item.{item_at}
 use Rattle.mm_frame.specs.Base.{BaseView, AreSaid, before, said_at, is_sound_at, is_shown_at}
 use Rattle.mm_frame.proofs.Judged.{no_fault_sound}
 use Rattle.mm_frame.proofs.BaseLemmas.{none_told}

@@ -1,5 +1,5 @@
 -- What is proved of scopes, soundness and frames: each is the contract of a function.
-use Rattle.std.specs.Prelude.{◌≡◌, ℕ, ◌<◌, ◌≤◌, ◌↔◌, ◌⊎◌, true, Some, None, List, [], ◌∷◌, ◌++◌, take, count_by, slice_get, Contains}
+use Rattle.std.specs.Prelude.{◌≡◌, ℕ, ◌<◌, ◌≤◌, ◌↔◌, ◌⊎◌, true, Some, None, List, [], ◌∷◌, ◌++◌, take, count_by, slice_get}
 use Rattle.mm_frame.specs.Typing.{HasFrames}
 use Rattle.mm_frame.specs.Item.{Item}
 use Rattle.mm_frame.specs.Numbered.{IsActive, between}
@@ -7,9 +7,9 @@ use Rattle.mm_frame.specs.Scope.{Neither, mark_of, closed, stays, active, is_sta
 use Rattle.mm_frame.specs.declared.FrameNumber.{FrameNumber}
 use Rattle.mm_frame.specs.Sound.{IsSound, IsFault, fault, judged, kept}
 use Rattle.mm_frame.specs.Framing.{place_of}
-use Rattle.mm_frame.specs.Base.{BaseView, AreSaid, AreHypotheses, before, said_at, is_shown_at}
+use Rattle.mm_frame.specs.Base.{BaseView, AreSaid, AreHypotheses, IsMandatoryAt, before, said_at, is_shown_at}
 use Rattle.mm_frame.specs.Tables.{mandatory_numbers}
-use Rattle.mm_frame.specs.Resolving.{IsLabelOf, Resolves}
+use Rattle.mm_frame.specs.Resolving.{IsCarrier, Resolves}
 use Rattle.mm_frame.specs.declared.base.Resolved.TheVariants as answers
 use Rattle.mm_frame.specs.ScopeStack.{read, all_of, statements}
 
@@ -59,11 +59,11 @@ ItemsHaveLabels = (base : BaseView) → AreSaid base → (j : ℕ) → is_shown_
 
 -- Two sound items with one label are one.
 abbrev pub HasOwnLabels : Type 0
-HasOwnLabels = (base : BaseView) (i j k : ℕ) (label : List ℕ) → IsLabelOf base i j label → IsLabelOf base i k label → j ≡ k
+HasOwnLabels = (base : BaseView) (j k : ℕ) (label : List ℕ) → IsCarrier base label j → IsCarrier base label k → j ≡ k
 
 -- A mandatory hypothesis of an item is what its label means there.
 abbrev pub MandatoryMeans : Type 0
-MandatoryMeans = (base : BaseView) (i n : ℕ) (label : List ℕ) → IsLabelOf base i n label → Contains (mandatory_numbers (before base i) (said_at base i)) n → Resolves base i label (answers.Hypothesis n)
+MandatoryMeans = (base : BaseView) (i n : ℕ) (label : List ℕ) → IsCarrier base label n → IsMandatoryAt base i n → Resolves base i label (answers.Hypothesis n)
 
 -- The mandatory hypotheses of an item are sound and stand before it, and are those of its frame.
 abbrev pub MandatoryStandBefore : Type 0

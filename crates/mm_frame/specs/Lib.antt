@@ -29,6 +29,8 @@ pub mod Spoken
 pub mod Scoping
 pub mod Seen
 pub mod Named
+pub mod KeptSymbols
+pub mod Earlier
 pub mod Pruned
 pub mod Base
 pub mod PairLists

@@ -1,6 +1,6 @@
 -- What a reader looks up by number: the last item that declares a name, types it or carries it as a label, and whether that one item is active (Metamath book, section 4.2).
-use Rattle.std.specs.Prelude.{◌≡◌, ℕ, suc, ◌<◌, ◌⊎◌, Bool, true, false, not, ◌&&◌, if◌then◌else◌, Option, Some, None, List, [], ◌∷◌, drop, bytes_eq, slice_index_or, Contains, AllPairs}
-use Rattle.mm_frame.specs.Item.{Kind, Passed, Item, passed, is_variables, is_disjoint, is_floating, is_essential, has, labels_of, typecode_of, variable_of}
+use Rattle.std.specs.Prelude.{◌≡◌, ℕ, suc, ◌<◌, ◌⊎◌, Bool, true, false, not, ◌&&◌, if◌then◌else◌, Option, Some, None, List, [], ◌∷◌, drop, bytes_eq, Contains, AllPairs}
+use Rattle.mm_frame.specs.Item.{Kind, Passed, Item, item_at, is_variables, is_disjoint, is_floating, is_essential, has, labels_of, typecode_of, variable_of}
 use Rattle.mm_frame.specs.Scope.{Neither, mark_of, stays}
 use Rattle.mm_frame.specs.Framing.{mandatory_variables, is_mandatory}
 
@@ -13,10 +13,6 @@ number_or_first None passes = if passes then Some 0 else None
 abbrev pub last_where : (Item → Bool) → List Item → Option ℕ
 last_where test [] = None
 last_where test (item ∷ items) = number_or_first (last_where test items) (test item)
-
--- the item with this number
-abbrev pub item_at : List Item → ℕ → Item
-item_at items n = slice_index_or items n passed
 
 -- the item with this number is active behind the items; a number past the last item counts as active
 abbrev pub is_active_at : List Item → ℕ → Bool

@@ -170,7 +170,7 @@ module _ (view : BaseView) where
       is_assertion ((place_at view i).resolve (label_at view j)) ≡ true →
       names (label_at view j) (slice_index_or (entry_steps view labels) k NotKnown) ≡ is_item (item_of (slice_get labels k)) j
   label_named own i j [] k all s a = refl
-  label_named own i j (answers.Assertion m ∷ labels) zero all s a = own_eq own j m s all.0.0.shown ∙ eq_turned j m
+  label_named own i j (answers.Assertion m ∷ labels) zero all s a = own_eq own j m s all.0.0.carrier.shown ∙ eq_turned j m
   label_named own i j (answers.Hypothesis m ∷ labels) zero all s a = other_label (place_at view i) (place_at view i) (place_at view i) (label_at view j) (label_at view m) a (entry_none i m all.0)
   label_named own i j (answers.Inactive ∷ labels) zero all s a = refl
   label_named own i j (answers.Unknown ∷ labels) zero all s a = refl
@@ -197,7 +197,7 @@ module _ (view : BaseView) where
       AreEntries view i entries →
       Agrees (is_cited (place_at view i) (map (λ (step : ProofStep). meant (entry_steps view labels) step.action) steps)) (λ j. list_any (names_item labels j) steps) entries
   agree own i labels steps [] all some = tt
-  agree own i labels steps (answers.Assertion j ∷ entries) all some = (some.0.0.shown, rw (entry_some i j some.0) (any_named own i j labels steps all some.0.0.shown (entry_some i j some.0)), agree own i labels steps entries all some.1)
+  agree own i labels steps (answers.Assertion j ∷ entries) all some = (some.0.0.carrier.shown, rw (entry_some i j some.0) (any_named own i j labels steps all some.0.0.carrier.shown (entry_some i j some.0)), agree own i labels steps entries all some.1)
   agree own i labels steps (answers.Hypothesis j ∷ entries) all some = (rw (entry_none i j some.0) refl, agree own i labels steps entries all some.1)
   agree own i labels steps (answers.Inactive ∷ entries) all some = agree own i labels steps entries all some.1
   agree own i labels steps (answers.Unknown ∷ entries) all some = agree own i labels steps entries all some.1

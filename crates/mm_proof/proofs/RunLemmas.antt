@@ -7,9 +7,8 @@ use Rattle.std.proofs.lemmas.List.Elements.{All-contains}
 use Rattle.std.proofs.lemmas.Option.{slice_get-map, slice_get-get_or, slice_get_within, get_or_from_slice_get}
 use Rattle.mm_frame.specs.Language.{Symbol, Mandatory, Frame, Assertion, Place, AreSameFrame, HasVariable}
 use Rattle.mm_frame.specs.Typing.{IsTyped, IsTyping, IsFrame, HasFrames}
-use Rattle.mm_frame.specs.Item.{Item}
+use Rattle.mm_frame.specs.Item.{Item, item_at}
 use Rattle.mm_frame.specs.Framing.{place_of, statement_of}
-use Rattle.mm_frame.specs.Tables.{item_at}
 use Rattle.mm_proof.specs.Derivation.{Derives}
 use Rattle.mm_proof.specs.Expansion.{Step, Named, Expanded, expand_from}
 use Rattle.mm_proof.specs.Reaches.{Reaches}

@@ -7,7 +7,7 @@ ghost use Rattle.mm_text.specs.Cut.{ArePieces};
 ghost use Rattle.mm_text.specs.Place.{line_at, column_at};
 ghost use Rattle.mm_store.specs.declared.error.StoreError.TheVariants.{NoTop};
 ghost use Rattle.mm_store.specs.FilesView.{no_files, bytes_of, find_file, number_of, text_of};
-ghost use Rattle.mm_store.specs.FileFacts.{IsAdded, IsByte, IsKnown, IsLive, StandsIn, StandsLast};
+ghost use Rattle.mm_store.specs.FileFacts.{CanBeRead, HaveOwnKeys, IsAdded, IsByte, IsKnown, IsLive, StandsIn, StandsLast};
 ghost use Rattle.mm_store.specs.Answers.{IsAddError, IsAddErrorIn, IsExpansionError};
 ghost use Rattle.mm_store.specs.Expansion.{IsExpansion};
 ghost use Rattle.mm_store.specs.Inside.{keys_from, text_at};
@@ -170,6 +170,7 @@ impl Files {
     /// through once.
     pub fn statements(&self, alloc: Global, top: &[u8]) -> Result<Vec<Item>, StoreError>
         ensures items { IfOk result (λ found. IsExpansion self.now.files top.now found.items) }
+        ensures read { IfOk result (λ found. All (CanBeRead self.now) found.items) }
         ensures stand { IfOk result (λ found. All (StandsIn self.now) found.items) }
         ensures few { IfOk result (λ found. length found.items ≤ bytes_of self.now.files) }
         ensures small { IfOk result (λ found. length found.items ≤ 4294967295) }
@@ -197,6 +198,13 @@ impl Files {
         ensures small { length result.now ≤ 4294967295 }
     {
         &self.texts[key.at]
+    }
+
+    /// A key has one text at most. It does nothing; what it promises holds of all files.
+    pub fn own_keys(&self)
+        ensures { HaveOwnKeys self.now }
+    {
+        let _ = &self.texts;
     }
 
     /// The name of the file with this number. It takes no memory.

@@ -18,7 +18,7 @@ mod walk;
 pub use error::StoreError;
 pub use files::{Files, PieceKey};
 pub use item::{Item, ItemKind};
-pub use laws::{keys_do_not_matter, one_expansion};
+pub use laws::{items_stand, keys_are_own, keys_do_not_matter, one_expansion};
 pub use mm_text::{Place, TextFault, TextNumber, nth_word, place};
 pub use room::fits;
 pub use walk::KnownPlace;

@@ -1,4 +1,4 @@
-ghost use Rattle.mm_store.specs.FileFacts.{StandsIn};
+ghost use Rattle.mm_store.specs.FileFacts.{CanBeRead, StandsIn};
 
 use crate::{Files, Item, ItemKind, KnownPlace, Place, StoreError, TextFault, TextNumber, fits};
 use std::alloc::Global;
@@ -39,16 +39,19 @@ fn files_of(alloc: Global, text: &[u8]) -> Result<Files, StoreError> {
 
 /// The bytes of an item.
 fn spelled<'a>(files: &'a Files, item: &Item) -> Option<&'a [u8]>
-    requires { StandsIn files.now item.now }
+    requires { CanBeRead files.now item.now }
 {
     files.piece(item.key).get(item.start..item.end)
 }
 
-/// Where an item begins in the text of its file.
-fn offset_of(files: &Files, item: &Item) -> usize
+/// Where an item begins in the text of its file, if its piece has this byte.
+fn offset_of(files: &Files, item: &Item) -> Option<usize>
     requires { StandsIn files.now item.now }
 {
-    files.offset(item.file, item.piece, item.start)
+    if item.start > files.piece(item.key).len() {
+        return None;
+    }
+    Some(files.offset(item.file, item.piece, item.start))
 }
 
 /// The place of an item from that of an earlier one of its file, where they are so.
@@ -126,7 +129,7 @@ fn tells_places_in_the_whole_file(rt: HostRuntime) -> Result<(), Fail> {
     let offsets: [usize; 6] = [0, 8, 11, 19, 22, 48];
     for i in 0..offsets.len() {
         if i < items.len() {
-            assert_eq!(rt; offset_of(&files, &items[i]), offsets[i], "of {i}");
+            assert_eq!(rt; offset_of(&files, &items[i]), Some(offsets[i]), "of {i}");
         }
     }
     for (earlier, later, line, column) in rows {

@@ -1,6 +1,6 @@
 -- From what the parts of a verification answer to what it answers.
 use Rattle.std.proofs.Common.{◌≡◌, ◌↔◌, ℕ, zero, suc, Bool, IsTrue, ◌&&◌, ◌+◌, ◌≤◌, List, [], ◌∷◌, ◌++◌, Some, length, take, get_or, refl, sym, ◌∙◌, ap, subst, inl, inr, arith, length-append}
-use Rattle.std.specs.Prelude.{slice_get, slice_range, count_by, ◌==◌, if◌then◌else◌}
+use Rattle.std.specs.Prelude.{All, slice_get, slice_range, count_by, ◌==◌, if◌then◌else◌}
 use Rattle.std.specs.List.{concat}
 use Rattle.std.specs.Option.{option_map}
 use Rattle.std.proofs.Common.{eq-eqb}
@@ -10,7 +10,9 @@ use Rattle.std.proofs.lemmas.Option.{slice_get_within, slice_get-map, get_or_fro
 use Rattle.mm_text.specs.Cut.{ends_white, ended}
 use Rattle.mm_text.proofs.PositionLemmas.{nth_lies}
 use Rattle.mm_store.specs.FilesView.{PieceView, FileView, FilesView, no_files, bytes_of, piece_texts, text_of}
-use Rattle.mm_store.specs.FileFacts.{IsAdded, piece_offset}
+use Rattle.mm_store.specs.FileFacts.{HaveOwnKeys, IsAdded, IsLive, StandsIn, piece_offset}
+use Rattle.mm_store.specs.Expansion.{IsExpansion}
+use Rattle.mm_store.specs.declared.item.Item as store
 use Rattle.mm_store.proofs.PlaceLemmas.{within_joined}
 use Rattle.mm_frame.specs.Base.{BaseView, IsOfFiles}
 use Rattle.mm_frame.specs.Kept.{IsBase}
@@ -55,24 +57,31 @@ database_of name text before files view none added within is = record {
   of_files = is;
 }
 
+-- the items of all files stand where they say
+abbrev pub ItemsStand : Type 0
+ItemsStand = (files : FilesView) (top : List ℕ) (items : List store.Item) → IsExpansion files.files top items → All (StandsIn files) items
+
 -- and what its base answers is what the items of the files say
-pub view_of : (name : List ℕ) (files : FilesView) (code : Base) (view : BaseView) → IsOfFiles files name view → IsBase view code → IsOf files code view
-view_of name files code view is base = record { base = base; each = is.each }
+pub view_of : (name : List ℕ) (files : FilesView) (code : Base) (view : BaseView) → ItemsStand → IsOfFiles files name view → IsBase view code → IsOf files code view
+view_of name files code view stand is base = record { base = base; each = is.each; stand = stand files name view.found is.expansion }
 
 module _ (name text : List ℕ) (files : FilesView) (view : BaseView) (database : IsDatabase name text files view) where
   -- a word begins at a byte of the text, or at its end
-  pub place_within : (n word at : ℕ) → IsWordOf files view n word at → at ≤ length text
-  place_within n word at h =
+  pub place_within : HaveOwnKeys files → (n word at : ℕ) → IsWordOf files view n word at → at ≤ length text
+  place_within own n word at h =
       let item = h.item in
-      let stands = h.place.stands in
+      let read = h.place.read in
       let byte = h.place.byte in
       let added = database.added in
-      let same : added.file ≡ stands.file = the_file added.file stands.file item.file (sym (ap (λ (fs : List FileView). slice_get fs item.file) added.last) ∙ stands.there) in
-      let other : byte.file ≡ stands.file = same_Some byte.file stands.file (sym byte.there ∙ stands.there) in
-      let whole : length (text_of stands.file) ≡ length (ended text) = ap (λ (f : FileView). length (text_of f)) (sym same) ∙ ap length added.is_cut.joined in
-      let less = start_within files item stands stands.text refl (slice_get stands.words word) (nth_lies (slice_range stands.text item.start item.end) stands.words word (slice_get stands.words word) stands.has_words refl) in
-      let offset : at ≡ piece_offset stands.file item.piece + (item.start + start_of (slice_get stands.words word)) = byte.is_offset ∙ ap (λ (f : FileView). piece_offset f item.piece + (item.start + start_of (slice_get stands.words word))) other in
-      omega (arith, offset, piece_within stands.file item.piece (record { key = item.key; text = stands.text }) stands.is_piece, whole, ended_most text, stands.within, less)
+      let same : added.file ≡ byte.file = the_file added.file byte.file item.file (sym (ap (λ (fs : List FileView). slice_get fs item.file) added.last) ∙ byte.there) in
+      let whole : length (text_of byte.file) ≡ length (ended text) = ap (λ (f : FileView). length (text_of f)) (sym same) ∙ ap length added.is_cut.joined in
+      let stands = h.place.stands in
+      let there : IsLive files item.key stands.text = record { number = item.file; file = stands.file; there = stands.there; piece = item.piece; is_piece = stands.is_piece } in
+      let file : byte.file ≡ stands.file = same_Some byte.file stands.file (sym byte.there ∙ stands.there) in
+      let piece : byte.view ≡ record { key = item.key; text = stands.text } = same_Some byte.view (record { key = item.key; text = stands.text }) (sym byte.is_piece ∙ ap (λ (f : FileView). slice_get f.pieces item.piece) file ∙ stands.is_piece) in
+      let long : length read.text ≡ length byte.view.text = ap length (own item.key read.text stands.text read.live there) ∙ ap (λ (p : PieceView). length p.text) (sym piece) in
+      let less = start_within files item read read.text (λ other live. own item.key read.text other read.live live) (slice_get read.words word) (nth_lies (slice_range read.text item.start item.end) read.words word (slice_get read.words word) read.has_words refl) in
+      omega (arith, byte.is_offset, piece_within byte.file item.piece byte.view byte.is_piece, whole, ended_most text, long, less, read.within)
 
   -- the report
   pub report_is : (found : List Finding) (clean : Bool) → AreRead view.said → AreTold files view (told_all found) → IsTrue clean ↔ ((count_by (λ finding. is_wrong (told finding)) found ≡ 0) × (count_by (λ finding. is_fault (told finding)) found ≡ 0)) → IsReport name text clean (report name view.said (told_all found))

@@ -3,7 +3,7 @@
 ghost use Rattle.std.specs.Prelude.{◌≡◌, ◌↔◌, ◌+◌, ◌<◌, ◌≤◌, ℕ, true, List, IfOk, IfSome, IsTrue, length, slice_range};
 ghost use Rattle.mm_text.specs.Place.{line_at, column_at};
 ghost use Rattle.mm_text.specs.Reading.{LiesIn};
-ghost use Rattle.mm_store.specs.FileFacts.{IsByte, IsKnown, StandsIn};
+ghost use Rattle.mm_store.specs.FileFacts.{CanBeRead, IsByte, IsKnown, StandsIn};
 ghost use Rattle.mm_frame.specs.Base.{BaseView, is_proof_at};
 ghost use Rattle.mm_proof.specs.OfFiles.{IsOf, HasView, HasItemOf};
 ghost use Rattle.mmkeep.specs.Base.{IsReached, IsBefore};
@@ -68,12 +68,12 @@ fn spelled(text: &[u8], word: Option<Word>) -> &[u8]
 
 /// A word of an item.
 fn spot_of<'a>(files: &'a Files, item: &Item, word: usize, reached: Option<Reached>) -> Spot<'a>
+    requires read { CanBeRead files.now item.now }
     requires stands { StandsIn files.now item.now }
     requires reached { IsReached files.now reached }
     ensures shown { IsShown files.now item.now word (record { line = result.place.line; column = result.place.column; word = result.word.now }) }
     ensures known { IsKnown files.now item.now.file (record { piece = item.now.piece; at = result.at; place = result.place }) }
 {
-    mm_text::one_meaning();
     let text = &files.piece(item.key)[item.start..item.end];
     let found = nth_word(text, word);
     let at = item.start + start_of(found);
@@ -91,6 +91,7 @@ fn at_fault<'a>(
     fault: FrameFault,
     reached: &mut Option<Reached>,
 ) -> Finding<'a>
+    requires read { CanBeRead files.now item.now }
     requires stands { StandsIn files.now item.now }
     requires reached { IsReached files.now reached.old }
     ensures shown { IsFaultAt files.now item.now fault.word fault.number (told result) }

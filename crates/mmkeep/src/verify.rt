@@ -37,6 +37,8 @@ pub fn verify_one<W: Write>(
     // After a failed write the beginning of the report was written, and nothing else.
     ensures prefix { result ≡ Err FirstError.Write → BeginsReport name.now text.now (written W.contents writing.old) (written W.contents writing.new) }
 {
+    mm_store::items_stand();
+    mm_store::keys_are_own();
     let mut files = Files::new(alloc);
     files.add(alloc, name, text)?;
     let base = Base::build(alloc, &files, name)?;

@@ -10,6 +10,8 @@ laws c = record {
   cut_or_fault = c.one_cut.ensures.not_both;
   items = c.keys_do_not_matter.ensures.items;
   one_file = c.keys_do_not_matter.ensures.one_file;
+  own_keys = c.keys_are_own.ensures;
+  stand = c.items_stand.ensures.stand;
 }
 
 pub returns-clause-report : goal.returns-clause-report

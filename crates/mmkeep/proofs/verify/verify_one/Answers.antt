@@ -7,33 +7,53 @@ use Rattle.mmkeep.specs.declared.finding.Finding.{Finding}
 use Rattle.mmkeep.specs.Report.{told, told_all, is_wrong, is_fault, report}
 use Rattle.mmkeep.specs.Stream.{AppendsPart}
 use Rattle.mmkeep.proofs.PlaceLemmas.{from_some, from_none}
-use Rattle.mmkeep.proofs.VerifyLemmas.{database_of, view_of, place_within, report_is, clean_counts}
+use Rattle.mmkeep.proofs.VerifyLemmas.{database_of, view_of, place_within, unread_at, report_is, clean_counts}
 use Rattle.mmkeep.proofs.verify.verify_one.Goals as goal
+
+pub first_unread-requires : goal.first_unread-requires
+first_unread-requires g c =
+    let view = c.in_ok-base.ensures.base.0 in
+    (view, view_of c.args.name.now c.add.new.self c.in_ok-base.base view c.items_stand.ensures.stand c.in_ok-base.ensures.base.1 c.in_ok-base.ensures.base.2)
+
+pub findings-requires : goal.findings-requires
+findings-requires g c =
+    let view = c.in_ok-base.ensures.base.0 in
+    (view, view_of c.args.name.now c.add.new.self c.in_ok-base.base view c.items_stand.ensures.stand c.in_ok-base.ensures.base.1 c.in_ok-base.ensures.base.2)
 
 pub word_of-at-requires : goal.word_of-at-requires
 word_of-at-requires g c =
     let view = c.in_ok-base.ensures.base.0 in
     let of_files = c.in_ok-base.ensures.base.1 in
     let base = c.in_ok-base.ensures.base.2 in
-    let is = view_of c.args.name.now c.add.new.self c.in_ok-base.base view of_files base in
+    let is = view_of c.args.name.now c.add.new.self c.in_ok-base.base view c.items_stand.ensures.stand of_files base in
     let unread = from_some _ _ c.in_ok-unread.field-0 c.in-Some.unread c.in-Some.is (c.in_ok-unread.ensures view is) in
     (view, is, slice_get_within view.said c.in-Some.unread.item unread.item unread.there)
+
+pub returns-in-Some-clause-error : goal.returns-in-Some-clause-error
+returns-in-Some-clause-error g c =
+    let view = c.in_ok-base.ensures.base.0 in
+    let of_files = c.in_ok-base.ensures.base.1 in
+    let base = c.in_ok-base.ensures.base.2 in
+    let is = view_of c.args.name.now c.add.new.self c.in_ok-base.base view c.items_stand.ensures.stand of_files base in
+    let database = database_of c.args.name.now c.args.text.now c.new-files.result c.add.new.self view c.new-files.ensures c.in_ok-add.ensures.ok c.in_ok-add.ensures.within of_files in
+    let unread = from_some _ _ c.in_ok-unread.field-0 c.in-Some.unread c.in-Some.is (c.in_ok-unread.ensures view is) in
+    unread_at c.args.name.now c.args.text.now c.add.new.self view database c.in-Some.unread.item c.in-Some.unread.word c.word_of-at.result unread (c.word_of-at.ensures view is)
 
 pub returns-in-Some-clause-within : goal.returns-in-Some-clause-within
 returns-in-Some-clause-within g c =
     let view = c.in_ok-base.ensures.base.0 in
     let of_files = c.in_ok-base.ensures.base.1 in
     let base = c.in_ok-base.ensures.base.2 in
-    let is = view_of c.args.name.now c.add.new.self c.in_ok-base.base view of_files base in
+    let is = view_of c.args.name.now c.add.new.self c.in_ok-base.base view c.items_stand.ensures.stand of_files base in
     let database = database_of c.args.name.now c.args.text.now c.new-files.result c.add.new.self view c.new-files.ensures c.in_ok-add.ensures.ok c.in_ok-add.ensures.within of_files in
-    place_within c.args.name.now c.args.text.now c.add.new.self view database c.in-Some.unread.item c.in-Some.unread.word c.word_of-at.result (c.word_of-at.ensures view is)
+    place_within c.args.name.now c.args.text.now c.add.new.self view database (c.keys_are_own.ensures c.add.new.self c.args.name.now c.args.text.now database.added) c.in-Some.unread.item c.in-Some.unread.word c.word_of-at.result (c.word_of-at.ensures view is)
 
 pub returns-in-Ok-clause-report : goal.returns-in-Ok-clause-report
 returns-in-Ok-clause-report g c =
     let view = c.in_ok-base.ensures.base.0 in
     let of_files = c.in_ok-base.ensures.base.1 in
     let base = c.in_ok-base.ensures.base.2 in
-    let is = view_of c.args.name.now c.add.new.self c.in_ok-base.base view of_files base in
+    let is = view_of c.args.name.now c.add.new.self c.in_ok-base.base view c.items_stand.ensures.stand of_files base in
     let database = database_of c.args.name.now c.args.text.now c.new-files.result c.add.new.self view c.new-files.ensures c.in_ok-add.ensures.ok c.in_ok-add.ensures.within of_files in
     let read = from_none _ _ c.in_ok-unread.field-0 c.in_default.is (c.in_ok-unread.ensures view is) in
     let found = c.in_ok-findings.findings.items in
@@ -54,7 +74,7 @@ returns-clause-prefix g c =
     let view = c.in_ok-base.ensures.base.0 in
     let of_files = c.in_ok-base.ensures.base.1 in
     let base = c.in_ok-base.ensures.base.2 in
-    let is = view_of c.args.name.now c.add.new.self c.in_ok-base.base view of_files base in
+    let is = view_of c.args.name.now c.add.new.self c.in_ok-base.base view c.items_stand.ensures.stand of_files base in
     let database = database_of c.args.name.now c.args.text.now c.new-files.result c.add.new.self view c.new-files.ensures c.in_ok-add.ensures.ok c.in_ok-add.ensures.within of_files in
     let read = from_none _ _ c.in_ok-unread.field-0 c.in_default.is (c.in_ok-unread.ensures view is) in
     let found = c.in_ok-findings.findings.items in

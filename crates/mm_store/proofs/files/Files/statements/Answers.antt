@@ -11,7 +11,7 @@ use Rattle.mm_store.specs.Expansion.{IsExpansion}
 use Rattle.mm_store.specs.Gains.{FileGains}
 use Rattle.mm_store.proofs.FilesLemmas.{number_is, file_small}
 use Rattle.mm_store.proofs.GainLemmas.{only_top, not_no_top}
-use Rattle.mm_store.proofs.StandLemmas.{expansion_stands}
+use Rattle.mm_store.proofs.StandLemmas.{expansion_read, expansion_stands}
 use Rattle.mm_store.proofs.CountLemmas.{placed_few}
 use Rattle.mm_store.proofs.files.Files.statements.Goals as goal
 
@@ -71,3 +71,7 @@ returns-in_ok-expand_file-in-Some-clause-small c =
 pub returns-in_ok-expand_file-in-Some-clause-stand : goal.returns-in_ok-expand_file-in-Some-clause-stand
 returns-in_ok-expand_file-in-Some-clause-stand c =
     expansion_stands c.parts_are_texts.ensures c.args.self.now c.args.top.now c.in_ok-expand_file-in-Some.field-0.items (returns-in_ok-expand_file-in-Some-clause-items c)
+
+pub returns-in_ok-expand_file-in-Some-clause-read : goal.returns-in_ok-expand_file-in-Some-clause-read
+returns-in_ok-expand_file-in-Some-clause-read c =
+    expansion_read c.parts_are_texts.ensures c.args.self.now c.args.top.now c.in_ok-expand_file-in-Some.field-0.items (returns-in_ok-expand_file-in-Some-clause-items c)
