@@ -1,9 +1,8 @@
 -- The verdict on the proof of an item of a base, its decoding included.
 use Rattle.std.specs.Prelude.{ℕ, Result, List, map}
 use Rattle.mm_frame.specs.Base.{BaseView, before, said_at}
-use Rattle.mm_frame.specs.Framing.{expression}
+use Rattle.mm_frame.specs.Framing.{expression, mandatory_numbers}
 use Rattle.mm_frame.specs.Language.{Symbol}
-use Rattle.mm_frame.specs.Tables.{mandatory_numbers}
 use Rattle.mm_proof.specs.BaseLabels.{label_at, place_at}
 use Rattle.mm_proof.specs.Decoding.{decoding}
 use Rattle.mm_proof.specs.Verdict.{Decoded, IsVerdict}
