@@ -43,7 +43,7 @@ label_there kind (token ∷ tokens) t n = (token.bytes, ap (λ b. cond b (Some t
 
 -- the words that an item is
 said_by : (files : FilesView) (item : store.Item) (said : Item) → Says files item said → (kind : Kind) × (tokens : List Token) × (said ≡ item_of kind tokens)
-said_by files item said s = (kind_of item.kind, tokens_of (slice_range s.stands.text item.start item.end) s.stands.words, s.is)
+said_by files item said s = (kind_of item.kind, tokens_of (slice_range s.read.text item.start item.end) s.read.words, s.is)
 
 said_words : (files : FilesView) (found : List store.Item) (said : List Item) (j : ℕ) → AllZip (Says files) found said → is_labelled (item_at said j).kind ≡ true → (kind : Kind) × (tokens : List Token) × (item_at said j ≡ item_of kind tokens)
 said_words files [] [] j z t = absurd (false≢true t)

@@ -21,8 +21,8 @@ pub use base::{Base, Resolved};
 pub use draft::Frame;
 pub use judge::FrameFault;
 pub use mm_store::{
-    Files, Item, ItemKind, KnownPlace, PieceKey, Place, StoreError, TextFault, TextNumber, fits,
-    nth_word, place,
+    Files, Item, ItemKind, Keyword, PieceKey, Place, StoreError, TextFault, TextNumber, Word,
+    WordKind, fits, nth_word, place,
 };
 pub use one_base::files_have_one_base;
 pub use own_labels::{has_own_labels, items_have_labels, mandatory_means, mandatory_stand_before};

@@ -18,6 +18,7 @@ use Rattle.mm_proof.specs.declared.Spot.{Spot}
 use Rattle.mm_proof.specs.declared.ProofNumber.{ProofNumber}
 use Rattle.mm_proof.specs.declared.Verdict.{Verdict}
 use Rattle.mm_proof.specs.declared.Verdict.TheVariants.{Proved, Wrong}
+use Rattle.mm_proof.specs.declared.step.ProofFault.{ProofFault}
 use Rattle.mm_proof.proofs.BaseLemmas.{mandatory_are_active}
 use Rattle.mm_proof.proofs.Judging.{proved_derived, same_verdict, some_verdict}
 use Rattle.mm_proof.proofs.SureLemmas.{decodes_surely}
@@ -38,8 +39,11 @@ active_usable view i [] a = tt
 active_usable view i (n ∷ numbers) a = (subst IsUsable (sym a.0.1) tt, active_usable view i numbers a.1)
 
 -- what a proof decodes to has a verdict
-judged : (place : Place) → HasFrames place → (statement : List Symbol) (mandatory words : List (List ℕ)) → AllByRecursion (λ label. IsUsable (place.resolve label)) mandatory → (found : Result Decoded (ProofNumber × Spot)) → decoding place mandatory words ≡ found → (v : Verdict) × IsVerdict place statement found v
-judged place is statement mandatory words usable (Err fault) e = (Wrong fault.0 fault.1, refl)
+judged :
+    (place : Place) → HasFrames place → (statement : List Symbol) (mandatory words : List (List ℕ)) →
+    AllByRecursion (λ label. IsUsable (place.resolve label)) mandatory → (found : Result Decoded ProofFault) → decoding place mandatory words ≡ found →
+    (v : Verdict) × IsVerdict place statement found v
+judged place is statement mandatory words usable (Err fault) e = (Wrong fault.number fault.spot, refl)
 judged place is statement mandatory words usable (Ok d) e = let s = decodes_surely place mandatory words d usable e in some_verdict place is statement d s.0 s.1
 
 pub has_verdict_at : frame.PlacesHaveFrames → frame.ItemsHaveLabels → frame.MandatoryMeans → frame.MandatoryStandBefore → (view : BaseView) (i : ℕ) → AreSaid view → (v : Verdict) × IsVerdictAt view i v
@@ -51,20 +55,20 @@ pub one_verdict_at : frame.PlacesHaveFrames → (view : BaseView) (i : ℕ) (v w
 one_verdict_at frames view i v w p q = same_verdict (place_at view i) (frames view.said i) (statement_at view i) (decoding_at view i) v w p q
 
 -- what Proved says of what a proof decodes to
-abbrev IsDerivedBy : Place → List Symbol → Result Decoded (ProofNumber × Spot) → Type 0
+abbrev IsDerivedBy : Place → List Symbol → Result Decoded ProofFault → Type 0
 IsDerivedBy place statement found = (d : Decoded) × (found ≡ Ok d) × AreAllKnown d.steps × StepsDerive place d.steps statement
 
 not_wrong : (number : ProofNumber) (spot : Spot) → Proved ≡ Wrong number spot → ⊥
 not_wrong number spot e = cc
 
-not_ok : (fault : ProofNumber × Spot) (d : Decoded) → ◌≡◌ {A = Result Decoded (ProofNumber × Spot)} (Err fault) (Ok d) → ⊥
+not_ok : (fault : ProofFault) (d : Decoded) → ◌≡◌ {A = Result Decoded ProofFault} (Err fault) (Ok d) → ⊥
 not_ok fault d e = cc
 
-same_ok : (d other : Decoded) → ◌≡◌ {A = Result Decoded (ProofNumber × Spot)} (Ok d) (Ok other) → other ≡ d
+same_ok : (d other : Decoded) → ◌≡◌ {A = Result Decoded ProofFault} (Ok d) (Ok other) → other ≡ d
 same_ok d other e = cc
 
-proved_by : (place : Place) (statement : List Symbol) (found : Result Decoded (ProofNumber × Spot)) → IsVerdict place statement found Proved ↔ IsDerivedBy place statement found
-proved_by place statement (Err fault) = (λ p. absurd (not_wrong fault.0 fault.1 p), λ d. absurd (not_ok fault d.0 d.1))
+proved_by : (place : Place) (statement : List Symbol) (found : Result Decoded ProofFault) → IsVerdict place statement found Proved ↔ IsDerivedBy place statement found
+proved_by place statement (Err fault) = (λ p. absurd (not_wrong fault.number fault.spot p), λ d. absurd (not_ok fault d.0 d.1))
 proved_by place statement (Ok d) =
     let both = proved_derived place statement d in (
       λ p. (let b = both.0 p in (d, refl, b.0, b.1)),

@@ -262,7 +262,10 @@ lack_back active xs ys l = (l.1, l.0, l.3, l.2, (λ e. l.4 (sym e)), (λ r. l.5 
 lack_moved : (active others : List (Symbol × Symbol)) (xs ys : List Symbol) → AreSamePairs active others → LackPair active xs ys → LackPair others xs ys
 lack_moved active others xs ys s l = (l.0, l.1, l.2, l.3, l.4, (λ r. l.5 ((s l.0 l.1).1 r)))
 
-pairs_moved : (active others : List (Symbol × Symbol)) (expression : List Symbol) (hypotheses : List Mandatory) (pairs : List (Symbol × Symbol)) (b : Frame) (stack : List (List Symbol)) (number : ProofNumber) → AreSamePairs active others → AreSamePairs pairs b.pairs → expression ≡ b.expression → hypotheses ≡ b.hypotheses → CitingFails active (record { expression = expression; hypotheses = hypotheses; pairs = pairs }) stack number → CitingFails others b stack number
+pairs_moved :
+    (active others : List (Symbol × Symbol)) (expression : List Symbol) (hypotheses : List Mandatory) (pairs : List (Symbol × Symbol)) (b : Frame) (stack : List (List Symbol)) (number : ProofNumber) →
+    AreSamePairs active others → AreSamePairs pairs b.pairs → expression ≡ b.expression → hypotheses ≡ b.hypotheses →
+    CitingFails active (record { expression = expression; hypotheses = hypotheses; pairs = pairs }) stack number → CitingFails others b stack number
 pairs_moved active others expression hypotheses pairs b stack number s f e h c =
     by_number number (subst (λ (w : Frame). CitingFails active w stack number) (λ i. record { expression = e i; hypotheses = h i; pairs = pairs }) c)
   where

@@ -46,11 +46,17 @@ names_more view labels meaning more = ap (λ (w : List Step). w ++ more) (map-ap
 
 module _ (view : BaseView) (i : ℕ) (words : List (List ℕ)) (n : ℕ) (labels : List Resolved) (steps : List ProofStep) (normal : Normal view i words n labels steps) where
   -- what the words from there on give, by the first of them
-  by_word : (word : List ℕ) (more : List Step) → n < length words → word ≡ get_or words n [] → with_steps (meant_steps (entry_steps view labels ++ more) steps) (read_first (word_spot n) (read_word (place_at view i) word) (in_order (each_word (read_word (place_at view i)) (n + 1) (drop (n + 1) words)))) ≡ in_order (each_word (read_word (place_at view i)) 0 words)
+  by_word :
+      (word : List ℕ) (more : List Step) → n < length words → word ≡ get_or words n [] →
+      with_steps (meant_steps (entry_steps view labels ++ more) steps) (read_first (word_spot n) (read_word (place_at view i) word) (in_order (each_word (read_word (place_at view i)) (n + 1) (drop (n + 1) words)))) ≡ in_order (each_word (read_word (place_at view i)) 0 words)
   by_word word more less is = ap (λ (w : List (List ℕ)). with_steps (meant_steps (entry_steps view labels ++ more) steps) (in_order (each_word (read_word (place_at view i)) n w))) (ap (λ (w : List ℕ). w ∷ drop (n + 1) words) is ∙ sym (next_is words n [] less)) ∙ normal.rest more
 
   -- one more word
-  pub word_on : (word : List ℕ) (meaning : Resolved) (action : Action) → n < length words → word ≡ get_or words n [] → read_word (place_at view i) word ≡ Ok (entry_step view meaning) → ((before after : List Step) → length before ≡ n → meant (before ++ entry_step view meaning ∷ after) action ≡ entry_step view meaning) → IsEntry view i meaning → Normal view i words (n + 1) (labels ++ meaning ∷ []) (steps ++ record { action = action; spot = word_spot n } ∷ [])
+  pub word_on :
+      (word : List ℕ) (meaning : Resolved) (action : Action) → n < length words → word ≡ get_or words n [] →
+      read_word (place_at view i) word ≡ Ok (entry_step view meaning) →
+      ((before after : List Step) → length before ≡ n → meant (before ++ entry_step view meaning ∷ after) action ≡ entry_step view meaning) →
+      IsEntry view i meaning → Normal view i words (n + 1) (labels ++ meaning ∷ []) (steps ++ record { action = action; spot = word_spot n } ∷ [])
   word_on word meaning action less is read acts entry = record {
     count = count_more labels n meaning normal.count;
     entries = entries_more view i labels meaning normal.entries entry;

@@ -16,7 +16,9 @@ MeansHypothesis place label h = place.resolve label ≡ Hypothesis h.expression
 
 -- The label of each mandatory hypothesis of an item means it there.
 abbrev pub MandatoryLabelsMean : Type 0
-MandatoryLabelsMean = (view : BaseView) (i : ℕ) → AreSaid view → AllZip (MeansHypothesis (place_at view i)) (mandatory_labels view i) (frame_at view i).hypotheses
+MandatoryLabelsMean =
+    (view : BaseView) (i : ℕ) → AreSaid view →
+    AllZip (MeansHypothesis (place_at view i)) (mandatory_labels view i) (frame_at view i).hypotheses
 
 -- There is one verdict at most on the proof of an item.
 abbrev pub HasOneVerdictAt : Type 0

@@ -21,4 +21,6 @@ IsReached place steps = (stack : List (List Symbol)) × Reaches place (run_part 
 
 -- so many steps are done: up to and with the one at fault, or all that are run
 abbrev pub AreDone : Place → List Step → ℕ → Type 0
-AreDone place steps count = ((n : ℕ) × (number : ProofNumber) × IsFault place (run_part steps) n number × (count ≡ n + 1)) ⊎ (IsReached place steps × (count ≡ length (run_part steps)))
+AreDone place steps count =
+    ((n : ℕ) × (number : ProofNumber) × IsFault place (run_part steps) n number × (count ≡ n + 1)) ⊎
+    (IsReached place steps × (count ≡ length (run_part steps)))

@@ -6,9 +6,8 @@ use Rattle.mm_frame.specs.Language.{Symbol}
 use Rattle.mm_proof.specs.BaseLabels.{label_at, place_at}
 use Rattle.mm_proof.specs.Decoding.{decoding}
 use Rattle.mm_proof.specs.Verdict.{Decoded, IsVerdict}
-use Rattle.mm_proof.specs.declared.Spot.{Spot}
-use Rattle.mm_proof.specs.declared.ProofNumber.{ProofNumber}
 use Rattle.mm_proof.specs.declared.Verdict.{Verdict}
+use Rattle.mm_proof.specs.declared.step.ProofFault.{ProofFault}
 
 -- the labels of the mandatory hypotheses of the item with this number, in order
 abbrev pub mandatory_labels : BaseView → ℕ → List (List ℕ)
@@ -19,7 +18,7 @@ abbrev pub statement_at : BaseView → ℕ → List Symbol
 statement_at view i = expression (before view i) (said_at view i)
 
 -- what the words of its proof decode to
-abbrev pub decoding_at : BaseView → ℕ → Result Decoded (ProofNumber × Spot)
+abbrev pub decoding_at : BaseView → ℕ → Result Decoded ProofFault
 decoding_at view i = decoding (place_at view i) (mandatory_labels view i) (said_at view i).proof
 
 -- the verdict on its proof

@@ -5,6 +5,8 @@ ghost use Rattle.mm_proof.specs.ItemLaws.{MandatoryLabelsMean, HasOneVerdictAt, 
 use mm_frame::{items_have_labels, mandatory_means, mandatory_stand_before, places_have_frames};
 
 /// The label of each mandatory hypothesis of an item means it there.
+///
+/// It shows what the definitions mean; no code calls on it.
 pub fn mandatory_labels_mean()
     ensures { MandatoryLabelsMean }
 {

@@ -4,10 +4,8 @@ use Rattle.std.specs.List.{concat}
 use Rattle.mm_text.specs.declared.word.Word.{Word}
 use Rattle.mm_text.specs.Reading.{HasWords}
 use Rattle.mm_text.specs.Cut.{IsCut}
-use Rattle.mm_text.specs.Place.{line_at, column_at}
 use Rattle.mm_store.specs.declared.files.PieceKey.{PieceKey}
 use Rattle.mm_store.specs.declared.item.Item.{Item}
-use Rattle.mm_store.specs.declared.walk.KnownPlace.{KnownPlace}
 use Rattle.mm_store.specs.FilesView.{PieceView, FileView, FilesView, piece_texts, text_of}
 
 -- a piece of a file has this key and this text
@@ -52,14 +50,6 @@ pub record IsByte (files : FilesView) (number piece at : ℕ) (text : List ℕ) 
   pub is_piece : slice_get file.pieces piece ≡ Some view
   pub within : at ≤ length view.text
   pub is_offset : offset ≡ piece_offset file piece + at
-
--- the place is that of its byte in the text of the file
-pub record IsKnown (files : FilesView) (number : ℕ) (known : KnownPlace) : Type 0 where
-  pub text : List ℕ
-  pub offset : ℕ
-  pub byte : IsByte files number known.piece known.at text offset
-  pub line : known.place.line ≡ line_at text offset
-  pub column : known.place.column ≡ column_at text offset
 
 -- no two of the pieces have one key, and no piece of the files has one of these keys
 pub record AreFresh (files : FilesView) (pieces : List PieceView) : Type 0 where
