@@ -10,14 +10,16 @@ use Rattle.std.specs.Borrow.{Bor}
 use Rattle.std.specs.Prelude.{IfSome}
 use Rattle.mm_frame.specs.declared.FrameNumber.{FrameNumber}
 use Rattle.mm_frame.specs.declared.symbol.NamedSymbol.{NamedSymbol}
-use Rattle.mm_frame.specs.Item.{Kind, Essential, Axiom, Theorem, Missing, Item, passed, is_labelled, is_disjoint, is_assertion, is_essential, is_theorem}
+use Rattle.mm_frame.specs.Item.{Kind, Essential, Axiom, Theorem, Missing, Item, passed, is_labelled, is_disjoint, is_assertion, is_essential, is_theorem, item_at}
 use Rattle.mm_frame.specs.Sound.{IsSound, AreSound, fault, judged, kept, kept_after}
 use Rattle.mm_frame.specs.Framing.{symbol, expression, frame}
-use Rattle.mm_frame.specs.Scope.{Mark, Closes, Neither, mark_of, closes, active_variables}
-use Rattle.mm_frame.specs.Named.{symbols_of, kept_pairs, expression_kept, kept_or_none, is_read, variable_of, AreSymbols, AreExpressions}
-use Rattle.mm_frame.specs.Tables.{item_at, active_numbers, IsSort}
+use Rattle.mm_frame.specs.Scope.{Mark, Closes, Neither, mark_of, closes, active_variables, active_numbers}
+use Rattle.mm_frame.specs.Named.{symbols_of, kept_pairs, variable_of}
+use Rattle.mm_frame.specs.KeptSymbols.{expression_kept, kept_or_none, is_read, AreSymbols, AreExpressions}
+use Rattle.mm_frame.specs.Tables.{IsSort}
 use Rattle.mm_frame.specs.Scoping.{taken}
-use Rattle.mm_frame.specs.Base.{BaseView, before, said_at, fault_by, told_fault, is_sound_at, expression_at, told_numbers, numbers_if, pairs_if, is_framed_at, frame_at}
+use Rattle.mm_frame.specs.Base.{BaseView, before, said_at, fault_by, told_fault, is_sound_at, expression_at, is_framed_at, frame_at}
+use Rattle.mm_frame.specs.Kept.{told_numbers, numbers_if, pairs_if}
 use Rattle.mm_frame.specs.Kept.{AreRows, TellsFrame, is_told_proof}
 use Rattle.mm_frame.specs.Language.{Symbol, AreSamePairs}
 use Rattle.mm_frame.specs.Paired.{pairs_in_order}
@@ -165,15 +167,6 @@ pub is_none_map : {X Y : Type 0} (f : X → Y) (o : Option X) → is_none (optio
 is_none_map f None = refl
 is_none_map f (Some x) = refl
 
--- the item with a row
-pub row_item : {X : Type 0} (tells : List Item → Item → X → Type 0) (said : List Item) (rows : List X) (n : ℕ) (row : X) → AreRows tells said rows → slice_get rows n ≡ Some row → slice_get said n ≡ Some (item_at said n)
-row_item tells said rows n row a e = let c = a.count in let w = slice_get_within rows n row e in there said n (omega arith)
-  where
-    there : (xs : List Item) (k : ℕ) → k < length xs → slice_get xs k ≡ Some (item_at xs k)
-    there [] k l = absurd (omega arith)
-    there (x ∷ xs) zero l = refl
-    there (x ∷ xs) (suc k) l = there xs k (omega arith)
-
 pub shown_is : (base : BaseView) (i : ℕ) (fault : Bool) (label : Bool) → fault ≡ is_sound_at base i → label ≡ is_labelled (said_at base i).kind → (fault && label) ≡ (is_sound_at base i && is_labelled (said_at base i).kind)
 shown_is base i fault label e g = λ j. e j && g j
 
@@ -294,8 +287,7 @@ pub frame_order : (base : BaseView) (i : ℕ) (lent : Option (Bor Frame)) (kept_
 frame_order base i None kept_frame e t = tt
 frame_order base i (Some frame) kept_frame e t = (frame_told base i frame kept_frame e t).1
 
-pub frame_pairs : (base : BaseView) (i : ℕ) (lent : Option (Bor Frame)) (kept_frame : Option Frame) → option_map (λ frame. frame.now) lent ≡ kept_frame → TellsFrame (before base i) (said_at base i) kept_frame → IfSome lent (λ frame. AreSamePairs (kept_pairs frame.now.pairs.items) (frame_at base i).pairs)
-frame_pairs base i None kept_frame e t = tt
-frame_pairs base i (Some frame) kept_frame e t =
-    let told = frame_told base i frame kept_frame e t in
-    subst (λ w. AreSamePairs w (frame_at base i).pairs) (sym told.1) (framed_in_order base i told.0)
+-- pairs in this order are those of the frame of an assertion
+pub ordered_pairs : {X : Type 0} (told : X → List (Symbol × Symbol)) (base : BaseView) (i : ℕ) (found : Option X) → is_some found ≡ is_framed_at base i → IfSome found (λ x. told x ≡ pairs_in_order (frame_at base i)) → IfSome found (λ x. AreSamePairs (told x) (frame_at base i).pairs)
+ordered_pairs told base i None s e = tt
+ordered_pairs told base i (Some x) s e = subst (λ w. AreSamePairs w (frame_at base i).pairs) (sym e) (framed_in_order base i (sym s))

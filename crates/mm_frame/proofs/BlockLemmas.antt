@@ -4,16 +4,15 @@ use Rattle.std.specs.Prelude.{Result, Ok, is_ok, IsSome, slice_range, unwrap_or,
 use Rattle.std.proofs.lemmas.Bool.{eq-eqb, ne_eqb, le-leb, lt-leb, false≢true}
 use Rattle.std.proofs.Math.Seq.{take-append-add}
 use Rattle.std.proofs.lemmas.List.{length_push, take-append-drop, drop-append-le, length-drop, length-take, take_min, drop-take, drop_all, take_rest, take-append-le, length-set, get_or-set_same, get_or-set_other}
-use Rattle.std.proofs.lemmas.List.Sums.{sum_by-cons, sum_by_push, count_by-le-length}
+use Rattle.std.proofs.lemmas.List.Sums.{sum_by_push, count_by-le-length}
 use Rattle.std.proofs.lemmas.Option.{slice_get_within, slice_get-get_or, same_Some}
 use native.Mathlib.Decide.{dec_lt}
 use Rattle.mm_frame.specs.Item.{Item}
-use Rattle.mm_frame.specs.Scope.{Mark, Opens, Closes, Neither, mark_of, closed_at, closed, is_zero, stays, opens, closes, is_start, is_end, is_inside}
-use Rattle.mm_frame.specs.Blocks.{closed_by, stays_by, marks_of, is_inside_by}
+use Rattle.mm_frame.specs.Scope.{Mark, Opens, Closes, Neither, mark_of, closed_at, closed, is_zero, stays, opens, closes}
+use Rattle.mm_frame.specs.Blocks.{closed_by, stays_by, marks_of}
 use Rattle.mm_frame.specs.BlockEnds.{end_of}
 use Rattle.mm_frame.specs.BlockNumbers.{is_at, mark_between, marks_from, last_block, LeavesOpen, StandsOpen, StandsEnded, Stands, AreBlocks, AreKept}
 use Rattle.mm_frame.proofs.Scopes.{closed_more}
-use Rattle.mm_frame.proofs.Stack.{starts_cons, ends_cons}
 
 -- marks and items
 closed_of : (items : List Item) → closed items ≡ closed_by (marks_of items)
@@ -22,17 +21,6 @@ closed_of (item ∷ items) = ap (closed_at (mark_of item.kind)) (closed_of items
 
 pub stays_of : (items : List Item) → stays items ≡ stays_by (marks_of items)
 stays_of items = ap is_zero (closed_of items)
-
-starts_of : (items : List Item) → count_by is_start items ≡ count_by opens (marks_of items)
-starts_of [] = refl
-starts_of (item ∷ items) = starts_cons item items ∙ ap (λ n. cond (opens (mark_of item.kind)) 1 0 + n) (starts_of items) ∙ sym (sum_by-cons (λ m. cond (opens m) 1 0) (mark_of item.kind) (marks_of items))
-
-ends_of : (items : List Item) → count_by is_end items ≡ count_by closes (marks_of items)
-ends_of [] = refl
-ends_of (item ∷ items) = ends_cons item items ∙ ap (λ n. cond (closes (mark_of item.kind)) 1 0 + n) (ends_of items) ∙ sym (sum_by-cons (λ m. cond (closes m) 1 0) (mark_of item.kind) (marks_of items))
-
-pub is_inside_of : (items : List Item) → is_inside items ≡ is_inside_by (marks_of items)
-is_inside_of items = rw (starts_of items, ends_of items) refl
 
 -- a list with one more element
 pub get_front : {X : Type 0} (xs : List X) (y x : X) (n : ℕ) → slice_get xs n ≡ Some x → slice_get (xs ++ y ∷ []) n ≡ Some x
@@ -404,25 +392,6 @@ module _ (blocks : List ℕ) (ends : List (Option ℕ)) (outer rest : List ℕ) 
 -- counts of one more mark
 count_push : (test : Mark → Bool) (marks : List Mark) (mark : Mark) → count_by test (marks ++ mark ∷ []) ≡ count_by test marks + cond (test mark) 1 0
 count_push test marks mark = sum_by_push (λ m. cond (test m) 1 0) marks mark
-
--- at first
-no_blocks : AreBlocks [] [] [] 0 []
-no_blocks = record {
-  stand = λ item block there. absurd (no_element item block there);
-  unended = λ level block there. refl;
-  distinct = λ one other block a b. the_only one block a ∙ sym (the_only other block b);
-  numbered = λ level block there. absurd (no_element level block there);
-  newest = omega arith;
-  last = refl;
-}
-  where
-    the_only : (level block : ℕ) → slice_get (0 ∷ []) level ≡ Some block → level ≡ 0
-    the_only zero block h = refl
-    the_only (suc level) block h = absurd (no_element level block h)
-
--- what always holds, at first and behind one more item
-pub kept_new : AreKept [] [] [] 0 0 0
-kept_new = record { are_blocks = no_blocks; begun_is = refl; ended_is = refl }
 
 pub kept_moved : (blocks others : List ℕ) (ends more : List (Option ℕ)) (outer around : List ℕ) (current begun ended : ℕ) → others ≡ blocks → more ≡ ends → around ≡ outer → AreKept blocks ends outer current begun ended → AreKept others more around current begun ended
 kept_moved blocks others ends more outer around current begun ended a b d k = subst (λ w. AreKept w more around current begun ended) (sym a) (subst (λ w. AreKept blocks w around current begun ended) (sym b) (subst (λ w. AreKept blocks ends w current begun ended) (sym d) k))

@@ -1,15 +1,14 @@
 -- What a `$}` leaves of the numbers of active items: those that stood last go.
-use Rattle.std.proofs.Common.{◌≡◌, ℕ, zero, suc, ◌+◌, ◌-◌, ◌<◌, Bool, true, false, cond, Option, Some, List, [], ◌∷◌, ◌++◌, length, take, drop, slice_get, get_or, refl, sym, ◌∙◌, ap, subst, append_assoc, append-nil, arith, inl, inr, ◌⊎◌, length-append}
+use Rattle.std.proofs.Common.{◌≡◌, ℕ, zero, suc, ◌+◌, ◌-◌, ◌<◌, Bool, true, false, cond, Option, Some, List, [], ◌∷◌, ◌++◌, length, take, drop, slice_get, get_or, refl, sym, ◌∙◌, ap, subst, append_assoc, arith, inl, inr, ◌⊎◌, length-append}
 use Rattle.std.specs.Prelude.{Contains, option_to_list}
-use Rattle.std.specs.List.{prefix_len}
 use Rattle.std.proofs.lemmas.Bool.{false≢true}
 use Rattle.std.proofs.lemmas.Option.{get_or_from_slice_get, slice_get_within}
 use Rattle.std.proofs.Math.Seq.{get_or-append_seam, drop-nil}
 use Rattle.std.proofs.lemmas.List.{drop-append-le, drop-map, length_push, get_or_append_left}
 use Rattle.mm_frame.specs.Item.{Item}
-use Rattle.mm_frame.specs.Scope.{Mark, Closes, Neither, mark_of, closed_at, closed, is_zero, stays}
+use Rattle.mm_frame.specs.Scope.{Mark, Neither, mark_of, closed_at, closed, is_zero, stays, active_numbers}
 use Rattle.mm_frame.specs.Blocks.{stays_by, marks_of}
-use Rattle.mm_frame.specs.Tables.{is_active_at, active_numbers, IsRising}
+use Rattle.mm_frame.specs.Tables.{is_active_at, IsRising}
 use Rattle.mm_frame.specs.Pruned.{IsPruned}
 use Rattle.mm_frame.proofs.Members.{In, in_contains, contains_in, in_left, in_right, in_cases, in_get}
 use Rattle.mm_frame.proofs.Scopes.{closed_none, stays_front}
@@ -17,7 +16,7 @@ use Rattle.mm_frame.proofs.SoundItems.{split_at}
 use Rattle.mm_frame.proofs.SpokenLemmas.{get_drop}
 use Rattle.mm_frame.proofs.TableLemmas.{not_closing}
 use Rattle.mm_frame.proofs.BlockLemmas.{get_front, get_cases, stays_of}
-use Rattle.mm_frame.proofs.HypothesisNumbers.{to_active_number, from_active_number, active_numbers_rise, active_numbers_more, above, behind, same_rising}
+use Rattle.mm_frame.proofs.HypothesisNumbers.{to_active_number, from_active_number, active_numbers_rise, active_numbers_more, same_rising}
 
 -- what is active behind one more item was active before it
 pub active_at_front : (before : List Item) (item : Item) (n : ℕ) → n < length before → is_active_at (before ++ item ∷ []) n ≡ true → is_active_at before n ≡ true
@@ -48,20 +47,9 @@ active_at_earlier before item m n x l e h k =
     let same : closed (middle ++ x ∷ (back ++ item ∷ [])) ≡ closed (middle ++ x ∷ back) = closed_same middle (x ∷ (back ++ item ∷ [])) (x ∷ back) (ap (closed_at (mark_of x.kind)) none) in
     ap stays (drop-append-le (suc m) before (item ∷ []) (omega arith) ∙ ap (λ ys. ys ++ item ∷ []) parts ∙ append_assoc middle (x ∷ back) (item ∷ [])) ∙ ap is_zero same ∙ ap stays (sym parts) ∙ h
 
--- so where an earlier one is active no more, a later one is not
-pub inactive_later : (before : List Item) (item : Item) (m n : ℕ) (x : Item) → m < n → slice_get before n ≡ Some x → is_active_at before m ≡ true → is_active_at (before ++ item ∷ []) m ≡ false → is_active_at (before ++ item ∷ []) n ≡ false
-inactive_later before item m n x l e h k = by_test (is_active_at (before ++ item ∷ []) n) refl
-  where
-    by_test : (b : Bool) → is_active_at (before ++ item ∷ []) n ≡ b → is_active_at (before ++ item ∷ []) n ≡ false
-    by_test false q = q
-    by_test true q = absurd (false≢true (sym k ∙ active_at_earlier before item m n x l e h q))
-
 -- one more item that is no `$}`, and that passes or does not
 pub active_numbers_passed : (test : Item → Bool) (before : List Item) (item : Item) → mark_of item.kind ≡ Neither → test item ≡ true → active_numbers test (before ++ item ∷ []) ≡ active_numbers test before ++ length before ∷ []
 active_numbers_passed test before item m t = active_numbers_more test before item (not_closing (mark_of item.kind) m) ∙ ap (λ b. active_numbers test before ++ cond b (length before ∷ []) []) t
-
-pub active_numbers_other : (test : Item → Bool) (before : List Item) (item : Item) → (mark_of item.kind ≡ Closes → ⊥) → test item ≡ false → active_numbers test (before ++ item ∷ []) ≡ active_numbers test before
-active_numbers_other test before item m t = active_numbers_more test before item m ∙ ap (λ b. active_numbers test before ++ cond b (length before ∷ []) []) t ∙ append-nil (active_numbers test before)
 
 -- a number of an active item behind one more that does not pass
 number_before : (test : Item → Bool) (before : List Item) (item : Item) → test item ≡ false → (n : ℕ) → In n (active_numbers test (before ++ item ∷ [])) → In n (active_numbers test before) × (is_active_at (before ++ item ∷ []) n ≡ true)
@@ -80,10 +68,6 @@ rising_front : (kept gone : List ℕ) → IsRising (kept ++ gone) → IsRising k
 rising_front kept gone r i j d l m =
     let n = length-append kept gone in
     subst (λ a. a < get_or kept j d) (get_or_append_left kept gone d i (omega arith)) (subst (λ b. get_or (kept ++ gone) i d < b) (get_or_append_left kept gone d j m) (r i j d l (omega arith)))
-
-rising_back : (kept gone : List ℕ) → IsRising (kept ++ gone) → IsRising gone
-rising_back [] gone r = r
-rising_back (k ∷ kept) gone r = rising_back kept gone (behind k (kept ++ gone) r)
 
 -- the last of some numbers
 abbrev IsEmptyOrEnds : List ℕ → Type 0
@@ -156,9 +140,6 @@ pub record Dropped (marks : List Mark) (old new : List ℕ) : Type 0 where
   pub parts : old ≡ new ++ gone
   pub ended : (n : ℕ) → Contains gone n → stays_by (drop (n + 1) marks) ≡ false
 
-pub dropped_none : (marks : List Mark) (numbers : List ℕ) → Dropped marks numbers numbers
-dropped_none marks numbers = record { gone = []; parts = sym (append-nil numbers); ended = λ n c. absurd (contains_in n [] c) }
-
 pub dropped_more : (marks : List Mark) (old now new : List ℕ) (number : ℕ) → Dropped marks old now → now ≡ new ++ number ∷ [] → stays_by (drop (number + 1) marks) ≡ false → Dropped marks old new
 dropped_more marks old now new number d e f = record {
   gone = number ∷ d.gone;
@@ -175,57 +156,3 @@ popped_last now new popped n len e last l there =
     let w = slice_get_within now (length now - 1) n there in
     let z : length now - 1 ≡ len - 1 = omega arith in
     e ∙ ap (λ o. new ++ option_to_list o) (last 0 (omega arith) ∙ ap Some (get_or_from_slice_get now (len - 1) n 0 (subst (λ k. slice_get now k ≡ Some n) z there)))
-
--- the longest beginning of which all numbers pass
-record Beginning (p : ℕ → Bool) (numbers : List ℕ) : Type 0 where
-  kept : List ℕ
-  gone : List ℕ
-  parts : numbers ≡ kept ++ gone
-  good : (n : ℕ) → In n kept → p n ≡ true
-  bad : (n : ℕ) (rest : List ℕ) → gone ≡ n ∷ rest → p n ≡ false
-  is : kept ≡ take (prefix_len p numbers) numbers
-
-beginning : (p : ℕ → Bool) (numbers : List ℕ) → Beginning p numbers
-beginning p [] = record { kept = []; gone = []; parts = refl; good = λ n h. absurd h; bad = λ n rest e. cc; is = refl }
-beginning p (m ∷ numbers) = by_test (p m) refl (beginning p numbers)
-  where
-    by_test : (b : Bool) → p m ≡ b → Beginning p numbers → Beginning p (m ∷ numbers)
-    by_test true e r = record {
-      kept = m ∷ r.kept;
-      gone = r.gone;
-      parts = ap (λ w. m ∷ w) r.parts;
-      good = λ n h. elim h [ inl q ↦ ap p (sym q) ∙ e | inr k ↦ r.good n k ];
-      bad = r.bad;
-      is = (let more : suc (prefix_len p numbers) ≡ 1 + prefix_len p numbers = omega arith in ap (λ w. m ∷ w) r.is ∙ ap (λ k. take k (m ∷ numbers)) more ∙ ap (λ b. take (cond b (1 + prefix_len p numbers) 0) (m ∷ numbers)) (sym e));
-    }
-    by_test false e r = record {
-      kept = [];
-      gone = m ∷ numbers;
-      parts = refl;
-      good = λ n h. absurd h;
-      bad = λ n rest q. let same : m ≡ n = cc in ap p (sym same) ∙ e;
-      is = ap (λ b. take (cond b (1 + prefix_len p numbers) 0) (m ∷ numbers)) (sym e);
-    }
-
--- behind a `$}` the numbers are the longest beginning of those before it whose items all are still active
-pub active_numbers_end : (test : Item → Bool) (before : List Item) (item : Item) → test item ≡ false → active_numbers test (before ++ item ∷ []) ≡ take (prefix_len (is_active_at (before ++ item ∷ [])) (active_numbers test before)) (active_numbers test before)
-active_numbers_end test before item t = sym (pruned_numbers test before item b.kept b.gone t b.parts (λ n h. ended n b.gone refl h) (λ front n e. b.good n (subst (In n) (sym e) (in_right n front (n ∷ []) (inl refl))))) ∙ b.is
-  where
-    b : Beginning (is_active_at (before ++ item ∷ [])) (active_numbers test before)
-    b = beginning (is_active_at (before ++ item ∷ [])) (active_numbers test before)
-
-    there : (n : ℕ) → In n b.gone → In n (active_numbers test before)
-    there n h = subst (In n) (sym b.parts) (in_right n b.kept b.gone h)
-
-    later : (m n : ℕ) (rest : List ℕ) → b.gone ≡ m ∷ rest → In n rest → m < n
-    later m n rest q h =
-        let rising = subst IsRising (b.parts ∙ ap (λ w. b.kept ++ w) q) (active_numbers_rise test before) in
-        above m rest n (rising_back b.kept (m ∷ rest) rising) h
-
-    ended : (n : ℕ) (gone : List ℕ) → b.gone ≡ gone → In n gone → is_active_at (before ++ item ∷ []) n ≡ false
-    ended n [] q h = absurd h
-    ended n (m ∷ rest) q (inl e) = b.bad n rest (q ∙ ap (λ k. k ∷ rest) e)
-    ended n (m ∷ rest) q (inr h) =
-        let r = from_active_number test before m (there m (subst (In m) (sym q) (inl refl))) in
-        let s = from_active_number test before n (there n (subst (In n) (sym q) (inr h))) in
-        inactive_later before item m n s.0 (later m n rest q h) s.1 r.2 (b.bad m rest q)

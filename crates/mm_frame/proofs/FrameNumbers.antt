@@ -1,26 +1,27 @@
 -- What is kept of an item at its number, and the hypotheses of a frame by their numbers.
-use Rattle.std.proofs.Common.{◌≡◌, ℕ, zero, suc, ◌<◌, ◌≤◌, Bool, true, false, ◌&&◌, ◌||◌, Option, Some, None, List, [], ◌∷◌, length, take, take_all, slice_get, get_or, is_none, refl, sym, ◌∙◌, ap, subst, arith, inl, inr}
+use Rattle.std.proofs.Common.{◌≡◌, ◌↔◌, ℕ, zero, suc, ◌<◌, ◌≤◌, Bool, true, false, ◌&&◌, ◌||◌, Option, Some, None, List, [], ◌∷◌, length, take, take_all, slice_get, get_or, is_none, is_some, refl, sym, ◌∙◌, ap, subst, arith, inl, inr}
 use Rattle.std.specs.Option.{option_map, IfSome}
+use Rattle.std.specs.Prelude.{Contains}
 use Rattle.std.specs.List.{AllZip}
-use Rattle.std.proofs.lemmas.Bool.{false≢true, and_from}
+use Rattle.std.proofs.lemmas.Bool.{false≢true, and_from, and_parts}
 use Rattle.std.proofs.lemmas.List.{take-take}
 use Rattle.std.proofs.lemmas.List.Elements.{All-from_get_or}
 use Rattle.std.proofs.lemmas.Option.{none-some, slice_get_within, slice_get_cases, slice_get-get_or, get_or_from_slice_get}
 use Rattle.mm_store.specs.declared.item.Item as store
 use Rattle.mm_store.specs.FilesView.{FilesView}
 use Rattle.mm_frame.specs.declared.FrameNumber.{FrameNumber}
-use Rattle.mm_frame.specs.Item.{Kind, Floating, Essential, Missing, Item, passed, is_floating, is_essential, is_labelled, has, variable_of}
+use Rattle.mm_frame.specs.Item.{Kind, Floating, Essential, Missing, Item, passed, is_floating, is_essential, is_labelled, has, variable_of, item_at}
 use Rattle.mm_frame.specs.Sound.{fault, judged, kept}
-use Rattle.mm_frame.specs.Framing.{is_mandatory, mandatory_variables, expression, hypothesis}
-use Rattle.mm_frame.specs.Tables.{item_at, mandatory_numbers}
+use Rattle.mm_frame.specs.Framing.{is_mandatory, mandatory_variables, expression, hypothesis, mandatory_numbers}
 use Rattle.mm_frame.specs.Statement.{kind_of, Says}
-use Rattle.mm_frame.specs.Base.{BaseView, before, said_at, fault_by, numbers_if, hypotheses_at, hypothesis_at, is_shown_at, AreHypotheses}
-use Rattle.mm_frame.proofs.Members.{In}
+use Rattle.mm_frame.specs.Base.{BaseView, before, said_at, fault_by, hypothesis_at, is_sound_at, is_shown_at, is_framed_at, IsMandatoryAt, AreHypotheses}
+use Rattle.mm_frame.specs.Kept.{numbers_if, hypotheses_at}
+use Rattle.mm_frame.proofs.Members.{In, in_contains, contains_in}
 use Rattle.mm_frame.proofs.Frames.{in_at}
 use Rattle.mm_frame.proofs.SoundItems.{map_same}
 use Rattle.mm_frame.proofs.PairLemmas.{expression_at_number}
-use Rattle.mm_frame.proofs.HypothesisNumbers.{from_active_number, hypotheses_by_numbers}
-use Rattle.mm_frame.proofs.BaseLemmas.{kept_count, kept_at, kept_front_at, kept_are_sound, get_between}
+use Rattle.mm_frame.proofs.HypothesisNumbers.{to_active_number, from_active_number, active_numbers_rise, hypotheses_by_numbers}
+use Rattle.mm_frame.proofs.BaseLemmas.{kept_item_at, none_told, labelled_there, kept_count, kept_at, kept_front_at, kept_are_sound, get_between}
 
 -- an element of the front of a list
 pub get_front : {X : Type 0} (xs : List X) (i n : ℕ) (x : X) → slice_get (take i xs) n ≡ Some x → (n < i) × (slice_get xs n ≡ Some x)
@@ -95,13 +96,48 @@ mandatory_at base i n k =
       same = ap (hypothesis (before base n)) (sym s.0) ∙ sym (ap (hypothesis front) there ∙ (λ j. record { floating = is_floating x.kind; expression = read j }));
     }
 
+-- a sound item with a label stands in the sound items
+pub shown_there : (base : BaseView) (j : ℕ) → is_shown_at base j ≡ true → slice_get (kept base.said) j ≡ Some (said_at base j)
+shown_there base j s =
+    let p = and_parts (is_sound_at base j) (is_labelled (said_at base j).kind) s in
+    kept_item_at base.said j (said_at base j) (labelled_there base.said j p.1) (none_told (said_at base j).kind (fault (before base j) (said_at base j)) p.0)
+
+-- an element of a list is one of a front that is long enough
+pub front_get : {X : Type 0} (xs : List X) (i n : ℕ) (x : X) → n < i → slice_get xs n ≡ Some x → slice_get (take i xs) n ≡ Some x
+front_get [] i n x l e = cc
+front_get (y ∷ ys) zero n x l e = absurd (omega arith)
+front_get (y ∷ ys) (suc i) zero x l e = e
+front_get (y ∷ ys) (suc i) (suc n) x l e = front_get ys i n x (omega arith) e
+
+-- it stands among those before a later one
+pub shown_before : (base : BaseView) (i j : ℕ) → j < i → is_shown_at base j ≡ true → slice_get (before base i) j ≡ Some (said_at base j)
+shown_before base i j l s = subst (λ w. slice_get w j ≡ Some (said_at base j)) (kept_front base.said i) (front_get (kept base.said) i j (said_at base j) l (shown_there base j s))
+
+-- the mandatory hypotheses are those with these numbers
+which_are : (base : BaseView) (i n : ℕ) → Contains (mandatory_numbers (before base i) (said_at base i)) n ↔ IsMandatoryAt base i n
+which_are base i n =
+    let front = before base i in
+    let mandatory = mandatory_variables front (said_at base i) in
+    let numbers = mandatory_numbers front (said_at base i) in (
+      λ c.
+          let k = contains_in n numbers c in
+          let m = mandatory_at base i n k in
+          let r = from_active_number (is_mandatory mandatory) front n k in
+          let e : Some r.0 ≡ Some (said_at base n) = sym r.1 ∙ shown_before base i n m.earlier m.shown in
+          let same : r.0 ≡ said_at base n = cc in
+          record { earlier = m.earlier; shown = m.shown; active = r.2; mandatory = subst (λ (x : Item). is_mandatory mandatory x ≡ true) same r.3 },
+      λ m. in_contains n numbers (to_active_number (is_mandatory mandatory) front n (said_at base n) (shown_before base i n m.earlier m.shown) m.active m.mandatory),
+    )
+
 -- the mandatory hypotheses by their numbers
-mandatory_are : (base : BaseView) (i : ℕ) → AreHypotheses base i (mandatory_numbers (before base i) (said_at base i))
+pub mandatory_are : (base : BaseView) (i : ℕ) → AreHypotheses base i (mandatory_numbers (before base i) (said_at base i))
 mandatory_are base i =
     let front = before base i in
     let item = said_at base i in
     let numbers = mandatory_numbers front item in
     record {
+      which = which_are base i;
+      rise = active_numbers_rise (is_mandatory (mandatory_variables front item)) front;
       each = All-from_get_or (λ n. (n < i) × (is_shown_at base n ≡ true)) numbers 0 (λ k l. let m = mandatory_at base i (get_or numbers k 0) (in_at numbers k 0 l) in (m.earlier, m.shown));
       are = map_same (hypothesis_at base) (λ n. hypothesis front (item_at front n)) numbers (λ n k. (mandatory_at base i n k).same) ∙ sym (hypotheses_by_numbers front item);
     }
@@ -118,6 +154,16 @@ frame_numbers base i numbers e = subst (AreHypotheses base i) (numbers_told _ (b
 pub frame_means : {X : Type 0} (told : X → List ℕ) (base : BaseView) (i : ℕ) (found : Option X) → option_map told found ≡ hypotheses_at base i → IfSome found (λ x. AreHypotheses base i (told x))
 frame_means told base i None e = tt
 frame_means told base i (Some x) e = frame_numbers base i (told x) (sym e)
+
+-- a frame is told exactly for an assertion
+told_some : {X : Type 0} (told : X → List ℕ) (found : Option X) (framed : Bool) (front : List Item) (item : Item) → option_map told found ≡ numbers_if framed front item → is_some found ≡ framed
+told_some told None true front item e = cc
+told_some told None false front item e = refl
+told_some told (Some x) true front item e = refl
+told_some told (Some x) false front item e = cc
+
+pub framed_some : {X : Type 0} (told : X → List ℕ) (found : Option X) (base : BaseView) (j : ℕ) → option_map told found ≡ hypotheses_at base j → is_some found ≡ is_framed_at base j
+framed_some told found base j e = told_some told found (is_framed_at base j) (before base j) (said_at base j) e
 
 -- an item of the files is of the kind of what it says
 abbrev pub HasKind : store.Item → Item → Type 0

@@ -1,22 +1,21 @@
 -- The mandatory hypotheses of a statement are those whose numbers the tables give.
-use Rattle.std.proofs.Common.{◌≡◌, ℕ, zero, suc, ◌+◌, ◌<◌, Bool, true, false, cond, not, ◌&&◌, ltb, Option, Some, None, List, [], ◌∷◌, ◌++◌, length, map, filter, take, drop, slice_get, get_or, refl, sym, ◌∙◌, ap, subst, append_assoc, arith, inl, inr}
+use Rattle.std.proofs.Common.{◌≡◌, ℕ, zero, suc, ◌+◌, ◌<◌, Bool, true, false, cond, ◌&&◌, Option, Some, None, List, [], ◌∷◌, ◌++◌, length, map, filter, take, drop, slice_get, get_or, refl, sym, ◌∙◌, ap, subst, append_assoc, arith, inl, inr}
 use Rattle.std.specs.Prelude.{Contains, ◌↔◌}
 use Rattle.std.proofs.Math.Seq.{drop-nil}
-use Rattle.std.proofs.lemmas.Bool.{false≢true, or_cases, or_left, or_right, and_from, lt-ltb, false_from_ne_true}
+use Rattle.std.proofs.lemmas.Bool.{false≢true, or_cases, or_left, or_right, and_from, false_from_ne_true}
 use Rattle.std.proofs.lemmas.Option.{get_or_from_slice_get, slice_get_within}
 use Rattle.std.proofs.lemmas.List.{length-take-le}
 use Rattle.std.proofs.lemmas.Simd.{map-map}
 use Rattle.std.proofs.lemmas.List.Kept.{AllPairs-cons}
-use Rattle.mm_frame.specs.Item.{Item, passed, is_floating, is_essential, is_expression, is_labelled, has, variable_of}
-use Rattle.mm_frame.specs.Scope.{Closes, mark_of, is_zero, stays, active, symbols_by, constants, active_variables, typed}
-use Rattle.mm_frame.specs.declared.FrameNumber.TheVariants.{F08, F11}
-use Rattle.mm_frame.specs.Sound.{first, later, is_no_constant, is_untyped, line, IsSound, AreSound}
-use Rattle.mm_frame.specs.Framing.{mandatory_variables, is_mandatory, hypothesis, mandatory_hypotheses}
-use Rattle.mm_frame.specs.Tables.{last_where, item_at, is_active_at, is_active_last, types, active_numbers_from, active_numbers, is_essential_item, mandatory_numbers, IsHypothesisNumber, IsRising}
-use Rattle.mm_frame.proofs.Members.{In, in_contains, contains_in, in_cases, from_filter, in_get, has_in, in_has, from_symbols}
+use Rattle.mm_frame.specs.Item.{Item, passed, is_floating, is_essential, is_expression, has, variable_of, item_at}
+use Rattle.mm_frame.specs.Scope.{Closes, mark_of, is_zero, stays, active, typed, active_numbers_from, active_numbers}
+use Rattle.mm_frame.specs.Sound.{IsSound, AreSound}
+use Rattle.mm_frame.specs.Framing.{mandatory_variables, is_mandatory, hypothesis, mandatory_hypotheses, mandatory_numbers}
+use Rattle.mm_frame.specs.Tables.{last_where, is_active_at, is_active_last, types, is_essential_item, IsHypothesisNumber, IsRising}
+use Rattle.mm_frame.proofs.Members.{In, in_contains, contains_in, in_get, has_in, in_has}
 use Rattle.mm_frame.proofs.Scopes.{split_active, in_first, in_later, stays_front}
-use Rattle.mm_frame.proofs.Facts.{and_rest, and_both, not_not, no_symbol_of, not_constant, float_new}
-use Rattle.mm_frame.proofs.Frames.{expression_labelled, to_typed, essential_typed, mandatory_typed, in_at}
+use Rattle.mm_frame.proofs.Facts.{and_both, float_new}
+use Rattle.mm_frame.proofs.Frames.{to_typed, mandatory_typed, in_at}
 use Rattle.mm_frame.proofs.SoundItems.{split_at, sound_kept}
 use Rattle.mm_frame.proofs.TableLemmas.{last_cases, last_none, last_number, last_is, first_cases, stands_in, typing, typed_by, float_second, typed_last, closed_next}
 
@@ -162,25 +161,6 @@ AreTyped before item = (name : List ℕ) → In name (mandatory_variables before
 pub sound_typed : (before : List Item) → AreSound before → (item : Item) → IsSound before item → is_expression item.kind ≡ true → AreTyped before item
 sound_typed before h item s t name m = (mandatory_typed before item name (sound_kept before h) s t m).1
 
--- and where its typecode is a constant, and no variable behind it is untyped
-pub lines_typed : (before : List Item) → AreSound before → (item : Item) → is_expression item.kind ≡ true → ((word : ℕ) → line before item word F08 ≡ false) → ((word : ℕ) → line before item word F11 ≡ false) → AreTyped before item
-lines_typed before h item t f u name m =
-    let r = from_filter (has (active_variables before)) name (item.symbols ++ symbols_by is_essential (active before)) m in
-    let v = has_in (active_variables before) name r.1 in
-    elim (in_cases name item.symbols (symbols_by is_essential (active before)) r.0) [
-      | inl a ↦ by_place v (in_get name item.symbols a)
-      | inr b ↦ (let e = from_symbols is_essential name (active before) b in essential_typed before e.0 name (sound_kept before h) e.1 e.2 e.3 v)
-    ]
-  where
-    by_place : In name (active_variables before) → (k : ℕ) × (slice_get item.symbols k ≡ Some name) → In name (typed before)
-    by_place v (zero, g) =
-        let c = not_not (has (constants before) name) (no_symbol_of (is_labelled item.kind) (first (is_no_constant before)) item f (expression_labelled item.kind t) 0 name g) in
-        absurd (not_constant before (sound_kept before h) name (has_in (constants before) name c) v)
-    by_place v (suc k, g) =
-        let a = no_symbol_of (is_expression item.kind) (later (is_untyped before)) item u t (suc k) name g in
-        let b = and_rest (ltb 0 (suc k)) (is_untyped before name) a (lt-ltb 0 (suc k) (omega arith)) in
-        has_in (typed before) name (not_not (has (typed before) name) (and_rest (has (active_variables before) name) (not (has (typed before) name)) b (in_has (active_variables before) name v)))
-
 -- a mandatory variable has a last `$f`, which is active
 some_active : (before : List Item) (o : Option ℕ) → is_active_last before o ≡ true → (n : ℕ) × (o ≡ Some n) × (is_active_at before n ≡ true)
 some_active before None h = absurd (false≢true h)
@@ -225,9 +205,6 @@ number_to before h item t n (inr p) =
     let f = typed_by p.0 r.0 r.2 in
     to_active_number (is_mandatory mandatory) before n r.0 r.1 (subst (λ w. is_active_at before w ≡ true) z a.2) (or_right (is_essential (r.0).kind) (is_floating (r.0).kind && has mandatory (variable_of r.0)) (and_from (is_floating (r.0).kind) (has mandatory (variable_of r.0)) f.0 (in_has mandatory (variable_of r.0) (subst (λ w. In w mandatory) (sym f.1) m))))
 
-pub mandatory_floats : (before : List Item) → AreSound before → (item : Item) → AreTyped before item → (n : ℕ) → Contains (mandatory_numbers before item) n ↔ IsHypothesisNumber before item n
-mandatory_floats before h item t n = (λ c. number_from before h item n (contains_in n (mandatory_numbers before item) c), λ c. in_contains n (mandatory_numbers before item) (number_to before h item t n c))
-
 -- the mandatory hypotheses by their numbers
 pub hypotheses_by_numbers : (before : List Item) (item : Item) → mandatory_hypotheses before item ≡ map (λ n. hypothesis before (item_at before n)) (mandatory_numbers before item)
 hypotheses_by_numbers before item = ap (map (hypothesis before)) (sym (active_number_items (is_mandatory (mandatory_variables before item)) before)) ∙ map-map (hypothesis before) (item_at before) (mandatory_numbers before item)
@@ -237,6 +214,3 @@ pub mandatory_numbers_built : (before : List Item) → AreSound before → (item
 mandatory_numbers_built before h item t built r f = same_rising built (mandatory_numbers before item) r (active_numbers_rise (is_mandatory (mandatory_variables before item)) before)
     (λ n k. number_to before h item t n ((f n).0 (in_contains n built k)))
     (λ n k. contains_in n built ((f n).1 (number_from before h item n k)))
-
-pub hypotheses_built : (before : List Item) → AreSound before → (item : Item) → AreTyped before item → (built : List ℕ) → IsRising built → ((n : ℕ) → Contains built n ↔ IsHypothesisNumber before item n) → mandatory_hypotheses before item ≡ map (λ n. hypothesis before (item_at before n)) built
-hypotheses_built before h item t built r f = hypotheses_by_numbers before item ∙ ap (map (λ n. hypothesis before (item_at before n))) (sym (mandatory_numbers_built before h item t built r f))

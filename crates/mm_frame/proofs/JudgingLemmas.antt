@@ -11,7 +11,7 @@ use Rattle.mm_frame.specs.Scope.{is_inside}
 use Rattle.mm_frame.specs.declared.FrameNumber.{FrameNumber}
 use Rattle.mm_frame.specs.declared.FrameNumber.TheVariants.{F01, F02, F03, F04, F05, F06, F07, F08, F09, F10, F11, F12, F13, F14}
 use Rattle.mm_frame.specs.Sound.{first_symbol, closing_word, passes, at_symbol, each, first, second, later, is_third, is_repeated, is_declared, is_active_symbol, is_label, is_no_constant, is_no_variable, is_unknown, is_untyped, is_typed, is_typed_otherwise, is_short, numbers, number_at, fault_or, fault_from, fault}
-use Rattle.mm_frame.specs.Judging.{first_fault, typecode_fault, typed_fault, floating_fault, symbol_fault_of, symbol_fault, label_fault, labels_fault, front_fault, end_fault, symbols_fault, fault_by_kind}
+use Rattle.mm_frame.specs.Judging.{first_fault, typecode_fault, typed_fault, floating_fault, symbol_fault_of, labels_fault, front_fault, end_fault, symbols_fault, fault_by_kind}
 
 -- what a line asks of a word: whether the statement ends there too early, whether it is word 0, and what its symbol passes
 abbrev line_of : Kind → List Item → Item → Bool → Bool → ((ℕ → List ℕ → Bool) → Bool) → FrameNumber → Bool
@@ -242,51 +242,3 @@ pub first_fault_at : (test : ℕ → List ℕ → Option FrameNumber) (word n k 
 first_fault_at test word n k name [] g = cc
 first_fault_at test word n zero name (x ∷ symbols) g = let e : x ≡ name = cc in ap (λ w. fault_or word (test n w) (first_fault test (suc word) (suc n) symbols)) e
 first_fault_at test word n (suc k) name (x ∷ symbols) g = first_fault_at test word n k name symbols g
-
-pub first_fault_past : (test : ℕ → List ℕ → Option FrameNumber) (word n k : ℕ) (symbols : List (List ℕ)) → length symbols ≤ k → first_fault test word n (drop k symbols) ≡ None
-first_fault_past test word n zero [] l = refl
-first_fault_past test word n (suc k) [] l = refl
-first_fault_past test word n zero (x ∷ symbols) l = absurd (omega arith)
-first_fault_past test word n (suc k) (x ∷ symbols) l = first_fault_past test word n k symbols (omega arith)
-
--- the first word of a statement that is no `$c`, and of one that has no label
-pub front_of_label : (before : List Item) (item : Item) (label : List ℕ) → is_constants item.kind ≡ false → labels_of item ≡ label ∷ [] → front_fault before item ≡ label_fault before label
-front_of_label before item label n e = λ i. cond (n i && is_inside before) (Some F02) (labels_fault before (e i))
-
-pub front_of_none : (before : List Item) (item : Item) → labels_of item ≡ [] → front_fault before item ≡ cond (is_constants item.kind && is_inside before) (Some F02) None
-front_of_none before item e = λ i. cond (is_constants item.kind && is_inside before) (Some F02) (labels_fault before (e i))
-
--- what is no statement has no fault
-abbrev pub is_no_statement : Kind → Bool
-is_no_statement BlockStart = true
-is_no_statement BlockEnd = true
-is_no_statement Missing = true
-is_no_statement Passed = true
-is_no_statement _ = false
-
--- what such a kind has at its words
-record HasNothing (kind : Kind) : Type 0 where
-  unlabelled : is_labelled kind ≡ false
-  no_constants : is_constants kind ≡ false
-  no_symbol : (before : List Item) (item : Item) (n : ℕ) (name : List ℕ) → symbol_fault_of kind before item n name ≡ None
-  never_short : (count : ℕ) → is_short kind count ≡ false
-
-has_nothing : (kind : Kind) → is_no_statement kind ≡ true → HasNothing kind
-has_nothing BlockStart e = record { unlabelled = refl; no_constants = refl; no_symbol = λ before item n name. refl; never_short = λ count. refl }
-has_nothing BlockEnd e = record { unlabelled = refl; no_constants = refl; no_symbol = λ before item n name. refl; never_short = λ count. refl }
-has_nothing Missing e = record { unlabelled = refl; no_constants = refl; no_symbol = λ before item n name. refl; never_short = λ count. refl }
-has_nothing Passed e = record { unlabelled = refl; no_constants = refl; no_symbol = λ before item n name. refl; never_short = λ count. refl }
-has_nothing _ e = absurd (false≢true e)
-
-first_none : (test : ℕ → List ℕ → Option FrameNumber) (word n : ℕ) (symbols : List (List ℕ)) → ((m : ℕ) (name : List ℕ) → test m name ≡ None) → first_fault test word n symbols ≡ None
-first_none test word n [] h = refl
-first_none test word n (name ∷ symbols) h = (λ i. fault_or word (h n name i) (first_fault test (suc word) (suc n) symbols)) ∙ first_none test (suc word) (suc n) symbols h
-
-pub no_statement_fault : (before : List Item) (item : Item) → is_no_statement item.kind ≡ true → fault_by_kind before item ≡ None
-no_statement_fault before item t =
-    let h = has_nothing item.kind t in
-    let unlabelled : labels_of item ≡ [] = ap (λ b. cond b (option_to_list item.label) []) h.unlabelled in
-    let front : front_fault before item ≡ None = front_of_none before item unlabelled ∙ ap (λ b. cond (b && is_inside before) (Some F02) None) h.no_constants in
-    let symbols : symbols_fault before item ≡ None = first_none (symbol_fault before item) (first_symbol item) 0 item.symbols (λ m name. h.no_symbol before item m name) in
-    let ended : end_fault item ≡ None = ap (λ b. cond b (Some F01) None) (h.never_short (length item.symbols)) in
-    λ i. fault_or 0 (front i) (option_or (symbols i) (fault_or (closing_word item) (ended i) None))

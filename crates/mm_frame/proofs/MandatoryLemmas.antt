@@ -14,15 +14,16 @@ use Rattle.std.proofs.lemmas.List.Filters.{dedup_is}
 use Rattle.std.proofs.lemmas.List.Kept.{Contains-dedup_nat, Contains-from_dedup, AllPairs-from_increasing}
 use Rattle.std.proofs.lemmas.Map.Keys.{IsStrictlyIncreasing-dedup}
 use Rattle.mm_frame.specs.Language.{Symbol}
-use Rattle.mm_frame.specs.Item.{Kind, Floating, Item, is_floating, is_essential, has}
-use Rattle.mm_frame.specs.Scope.{active, symbols_by, active_variables}
-use Rattle.mm_frame.specs.Sound.{AreSound}
-use Rattle.mm_frame.specs.Framing.{symbol, expression, mandatory_variables}
-use Rattle.mm_frame.specs.Tables.{last_where, types, is_active_at, active_numbers, is_essential_item, mandatory_numbers, IsHypothesisNumber, IsRising}
+use Rattle.mm_frame.specs.Item.{Kind, Floating, Item, is_floating, is_essential, is_assertion, has}
+use Rattle.mm_frame.specs.Scope.{active, symbols_by, active_variables, active_numbers}
+use Rattle.mm_frame.specs.Sound.{AreSound, IsSound}
+use Rattle.mm_frame.specs.Framing.{symbol, expression, mandatory_variables, mandatory_numbers}
+use Rattle.mm_frame.specs.Tables.{last_where, types, is_active_at, is_essential_item, IsHypothesisNumber, IsRising}
 use Rattle.mm_frame.specs.declared.symbol.NamedSymbol.{NamedSymbol}
 use Rattle.mm_frame.specs.declared.tables.Tables.{Tables}
 use Rattle.mm_frame.specs.Known.{Knows, table_name, float_of}
-use Rattle.mm_frame.specs.Named.{symbol_of, symbols_of, expression_kept, AreExpressions, float_number, float_numbers, IsAssertionBehind}
+use Rattle.mm_frame.specs.Named.{symbol_of, symbols_of}
+use Rattle.mm_frame.specs.KeptSymbols.{expression_kept, AreExpressions, float_number, float_numbers}
 use Rattle.mm_frame.proofs.Members.{In, in_contains, contains_in, in_left, in_right, in_cases, in_map, from_map, in_get, in_filter, from_filter, in_flat, from_flat, from_symbols, to_symbols}
 use Rattle.mm_frame.proofs.Scopes.{active_split, split_active}
 use Rattle.mm_frame.proofs.Frames.{assertion_expression, essential_expression, expression_labelled, in_at}
@@ -144,6 +145,13 @@ collected_to before item tables expressions own h k a o n (inr p) =
         let at = number_of_active before e q.1 in
         let same = kept_essential before expressions at.number e h a at.there at.stayed q.2 in
         in_flat (λ m. float_numbers tables (expression_kept expressions m)) at.number n (active_numbers is_essential_item before) (to_active_number is_essential_item before at.number e at.there at.stayed q.2) (float_to before tables (expression_kept expressions at.number) (symbol before name) n h k (subst (In (symbol before name)) (sym same) (in_map (symbol before) name e.symbols q.3)) v last)
+
+-- the item is a sound `$a` or `$p` behind sound items, which the tables know
+pub record IsAssertionBehind (before : List Item) (item : Item) (tables : Tables) : Type 0 where
+  pub sound : AreSound before
+  pub known : Knows before tables
+  pub item_sound : IsSound before item
+  pub assertion : is_assertion item.kind ≡ true
 
 -- each mandatory variable of the assertion is typed
 assertion_typed : (before : List Item) (item : Item) (tables : Tables) → IsAssertionBehind before item tables → AreTyped before item

@@ -1,9 +1,6 @@
 -- The expression of a sound statement, as the code makes and keeps it.
-use Rattle.std.proofs.Common.{◌≡◌, ℕ, zero, suc, ◌<◌, ◌≤◌, true, not, List, [], ◌∷◌, ◌++◌, length, map, take, slice_get, refl, sym, ◌∙◌, ap, arith, inl, inr, ◌⊎◌, take_all, Vec}
-use Rattle.std.specs.Global.{Global}
-use Rattle.std.proofs.lemmas.Option.{slice_get_within}
+use Rattle.std.proofs.Common.{◌≡◌, ℕ, zero, suc, ◌<◌, ◌≤◌, true, not, List, [], ◌∷◌, ◌++◌, length, map, take, slice_get, refl, sym, ◌∙◌, ap, arith, inl, inr, ◌⊎◌, take_all}
 use Rattle.std.proofs.lemmas.Bool.{false_from_ne_true}
-use Rattle.std.proofs.lemmas.List.{take-append-le}
 use Rattle.mm_frame.specs.Item.{Item, is_labelled, has}
 use Rattle.mm_frame.specs.Scope.{constants, active_variables}
 use Rattle.mm_frame.specs.Sound.{IsSound, AreSound}
@@ -11,12 +8,11 @@ use Rattle.mm_frame.specs.Framing.{symbol, expression}
 use Rattle.mm_frame.specs.declared.symbol.NamedSymbol.{NamedSymbol}
 use Rattle.mm_frame.specs.declared.tables.Tables.{Tables}
 use Rattle.mm_frame.specs.Known.{Knows}
-use Rattle.mm_frame.specs.Named.{symbols_of, by_constants, kept_or_none, expression_kept, AreExpressions}
+use Rattle.mm_frame.specs.Named.{symbols_of}
+use Rattle.mm_frame.specs.KeptSymbols.{by_constants}
 use Rattle.mm_frame.proofs.Members.{In, has_in, in_has}
 use Rattle.mm_frame.proofs.Facts.{not_constant}
 use Rattle.mm_frame.proofs.SoundItems.{map_same, named, sound_kept}
-use Rattle.mm_frame.proofs.TableLemmas.{take_between}
-use Rattle.mm_frame.proofs.BlockLemmas.{get_cases, get_last}
 
 -- the first symbols are read
 abbrev pub AreRead : Tables → List (List ℕ) → List NamedSymbol → Type 0
@@ -37,11 +33,3 @@ pub get_before : {X : Type 0} (xs : List X) (y : X) (n : ℕ) → n < length xs 
 get_before [] y n l = absurd (omega arith)
 get_before (x ∷ xs) y zero l = refl
 get_before (x ∷ xs) y (suc n) l = get_before xs y n (omega arith)
-
--- one more item, with what is kept for it
-pub expressions_more : (before : List Item) (item : Item) (expressions : List (Vec NamedSymbol Global)) (kept : Vec NamedSymbol Global) → length expressions ≡ length before → AreExpressions before expressions → (is_labelled item.kind ≡ true → symbols_of kept.items ≡ expression before item) → AreExpressions (before ++ item ∷ []) (expressions ++ kept ∷ [])
-expressions_more before item expressions kept l a new n x e t = elim (get_cases before item x n e) [
-  | inl there ↦ (let w = slice_get_within before n x there in ap (λ o. symbols_of (kept_or_none o)) (get_before expressions kept n (omega arith)) ∙ a n x there t ∙ ap (λ (w : List Item). expression w x) (sym (take-append-le n before (item ∷ []) (omega arith))))
-  | inr last ↦ (let z = last.0 in
-      ap (λ k. symbols_of (expression_kept (expressions ++ kept ∷ []) k)) (z ∙ sym l) ∙ ap (λ o. symbols_of (kept_or_none o)) (get_last expressions kept (length expressions) refl) ∙ new (ap (λ (w : Item). is_labelled w.kind) last.1 ∙ t) ∙ (λ i. expression (sym (ap (λ k. take k (before ++ item ∷ [])) z ∙ take_between before item []) i) (last.1 i)))
-]

@@ -1,31 +1,24 @@
 -- Active pairs grow by those of each `$d`, and an active statement reads at its own place as behind all items.
-use Rattle.std.proofs.Common.{◌≡◌, ℕ, suc, Bool, true, false, cond, Some, List, [], ◌∷◌, ◌++◌, map, filter, flat_map, take, drop, slice_get, refl, sym, ◌∙◌, ap, subst, append_assoc, append-nil, inl, inr}
+use Rattle.std.proofs.Common.{◌≡◌, ℕ, suc, Bool, true, false, cond, Some, List, [], ◌∷◌, ◌++◌, map, filter, flat_map, take, drop, slice_get, refl, sym, ◌∙◌, ap, subst, inl, inr}
 use Rattle.std.proofs.lemmas.Bool.{false≢true, or_parts}
-use Rattle.std.proofs.lemmas.Grind.{flat_map-append}
 use Rattle.std.proofs.lemmas.Option.{get_or_from_slice_get}
 use Rattle.mm_frame.specs.Language.{Symbol}
-use Rattle.mm_frame.specs.Item.{Kind, Disjoint, Item, passed, is_disjoint, is_labelled, has}
-use Rattle.mm_frame.specs.Scope.{Opens, Closes, Neither, mark_of, is_zero, stays, active, active_variables}
+use Rattle.mm_frame.specs.Item.{Kind, Disjoint, Item, passed, is_disjoint, is_labelled, has, item_at}
+use Rattle.mm_frame.specs.Scope.{Neither, mark_of, stays, active, active_variables, active_numbers}
 use Rattle.mm_frame.specs.declared.FrameNumber.TheVariants.{F09}
 use Rattle.mm_frame.specs.Sound.{each, is_no_variable, IsSound, AreSound}
 use Rattle.mm_frame.specs.Framing.{symbol, expression, pairs_of, active_pairs}
-use Rattle.mm_frame.specs.Tables.{item_at, is_active_at, active_numbers, is_disjoint_item}
+use Rattle.mm_frame.specs.Tables.{is_active_at, is_disjoint_item}
 use Rattle.mm_frame.proofs.Members.{In, in_get, has_in, in_has}
-use Rattle.mm_frame.proofs.Scopes.{active_split}
 use Rattle.mm_frame.proofs.Facts.{not_not, no_symbol_of}
 use Rattle.mm_frame.proofs.Frames.{variables_later}
-use Rattle.mm_frame.proofs.SoundItems.{split_at, map_same, sound_front, expression_stays}
-use Rattle.mm_frame.proofs.TableLemmas.{not_closing, not_closing_start, closed_next, active_more}
+use Rattle.mm_frame.proofs.SoundItems.{split_at, map_same, expression_stays}
 use Rattle.mm_frame.proofs.HypothesisNumbers.{from_active_number, active_number_items}
 
 -- a `$d` opens and closes no block
 pub disjoint_neither : (k : Kind) → is_disjoint k ≡ true → mark_of k ≡ Neither
 disjoint_neither Disjoint e = refl
 disjoint_neither _ e = absurd (false≢true e)
-
-start_disjoint : (k : Kind) → mark_of k ≡ Opens → is_disjoint k ≡ false
-start_disjoint Disjoint e = cc
-start_disjoint _ e = refl
 
 -- each symbol of a sound `$d` is an active variable
 pub disjoint_named : (before : List Item) (item : Item) (name : List ℕ) → IsSound before item → is_disjoint item.kind ≡ true → In name item.symbols → In name (active_variables before)
@@ -36,9 +29,6 @@ disjoint_named before item name s t h =
 -- and stays one as long as the `$d` is active
 pub disjoint_variable : (items front : List Item) (item : Item) (back : List Item) (name : List ℕ) → AreSound items → items ≡ front ++ item ∷ back → is_disjoint item.kind ≡ true → stays back ≡ true → In name item.symbols → In name (active_variables items)
 disjoint_variable items front item back name h e t s n = subst (λ w. In name (active_variables w)) (sym e) (variables_later front item back name (disjoint_neither item.kind t) s (disjoint_named front item name (h front item back e) t n))
-
-pub active_disjoint_variable : (items : List Item) (item : Item) (name : List ℕ) → AreSound items → In item (active items) → is_disjoint item.kind ≡ true → In name item.symbols → has (active_variables items) name ≡ true
-active_disjoint_variable items item name h a t n = let s = active_split items item a in in_has (active_variables items) name (disjoint_variable items s.front item s.back name h s.whole t s.stayed n)
 
 -- an active `$d` reads as at its own place
 disjoint_symbol : (items front : List Item) (item : Item) (back : List Item) (name : List ℕ) → AreSound items → items ≡ front ++ item ∷ back → is_disjoint item.kind ≡ true → stays back ≡ true → In name item.symbols → symbol items name ≡ symbol front name
@@ -62,35 +52,9 @@ disjoint_at_number before h n item e s t = disjoint_stays before (take n before)
 abbrev pub item_pairs : List Item → Item → List (Symbol × Symbol)
 item_pairs items item = cond (is_disjoint item.kind) (pairs_of (expression items item)) []
 
-pairs_same : (b c : Bool) (xs ys : List Symbol) → b ≡ c → (b ≡ true → xs ≡ ys) → cond b (pairs_of xs) [] ≡ cond c (pairs_of ys) []
-pairs_same true c xs ys e h = ap pairs_of (h refl) ∙ ap (λ w. cond w (pairs_of ys) []) e
-pairs_same false c xs ys e h = ap (λ w. cond w (pairs_of ys) []) e
-
 pub flat_same : {X Y : Type 0} (f g : X → List Y) (xs : List X) → ((x : X) → In x xs → f x ≡ g x) → flat_map f xs ≡ flat_map g xs
 flat_same f g [] h = refl
 flat_same f g (x ∷ xs) h = let a = h x (inl refl) in let b = flat_same f g xs (λ y k. h y (inr k)) in λ i. a i ++ b i
-
--- one more item that is no `$}`: what an active `$d` says stays the same
-pairs_stay : (before : List Item) (item : Item) → (mark_of item.kind ≡ Closes → ⊥) → AreSound (before ++ item ∷ []) → (x : Item) → In x (active before) → item_pairs (before ++ item ∷ []) x ≡ item_pairs before x
-pairs_stay before item n h x a =
-    let s = active_split before x a in
-    let stayed : stays (s.back ++ item ∷ []) ≡ true = ap is_zero (closed_next s.back item n) ∙ s.stayed in
-    let whole = ap (λ w. w ++ item ∷ []) s.whole ∙ append_assoc s.front (x ∷ s.back) (item ∷ []) in
-    pairs_same (is_disjoint x.kind) (is_disjoint x.kind) (expression (before ++ item ∷ []) x) (expression before x) refl (λ t. disjoint_stays (before ++ item ∷ []) s.front x (s.back ++ item ∷ []) h whole t stayed ∙ sym (disjoint_stays before s.front x s.back (sound_front before (item ∷ []) h) s.whole t s.stayed))
-
--- behind one more item that is no `$}`, there are its pairs too
-pub active_pairs_more : (before : List Item) (item : Item) → (mark_of item.kind ≡ Closes → ⊥) → AreSound (before ++ item ∷ []) → active_pairs (before ++ item ∷ []) ≡ active_pairs before ++ cond (is_disjoint item.kind) (pairs_of (expression before item)) []
-active_pairs_more before item n h =
-    let whole = before ++ item ∷ [] in
-    let old = flat_same (item_pairs whole) (item_pairs before) (active before) (pairs_stay before item n h) in
-    let new = pairs_same (is_disjoint item.kind) (is_disjoint item.kind) (expression whole item) (expression before item) refl (λ t. disjoint_stays whole before item [] h refl t refl) in
-    ap (flat_map (item_pairs whole)) (active_more before item n) ∙ flat_map-append (item_pairs whole) (active before) (item ∷ []) ∙ (λ i. old i ++ (append-nil (item_pairs whole item) ∙ new) i)
-
-pub active_pairs_next : (before : List Item) (item : Item) → mark_of item.kind ≡ Neither → AreSound (before ++ item ∷ []) → active_pairs (before ++ item ∷ []) ≡ active_pairs before ++ cond (is_disjoint item.kind) (pairs_of (expression before item)) []
-active_pairs_next before item e h = active_pairs_more before item (not_closing (mark_of item.kind) e) h
-
-pub active_pairs_start : (before : List Item) (item : Item) → mark_of item.kind ≡ Opens → AreSound (before ++ item ∷ []) → active_pairs (before ++ item ∷ []) ≡ active_pairs before
-active_pairs_start before item e h = active_pairs_more before item (not_closing_start (mark_of item.kind) e) h ∙ ap (λ b. active_pairs before ++ cond b (pairs_of (expression before item)) []) (start_disjoint item.kind e) ∙ append-nil (active_pairs before)
 
 -- the active pairs, by the numbers of the active `$d`, each read at its own place
 abbrev pub pairs_at : List Item → ℕ → List (Symbol × Symbol)

@@ -11,12 +11,13 @@ use Rattle.mm_frame.specs.declared.symbol.NamedSymbol.{NamedSymbol}
 use Rattle.mm_frame.specs.declared.pair_lists.PairLists.{PairLists}
 use Rattle.mm_frame.specs.Language.{Symbol}
 use Rattle.mm_frame.specs.Item.{Item, passed, is_labelled, is_disjoint}
-use Rattle.mm_frame.specs.Scope.{stays}
+use Rattle.mm_frame.specs.Scope.{stays, active_numbers}
 use Rattle.mm_frame.specs.Sound.{AreSound, kept}
 use Rattle.mm_frame.specs.Framing.{expression, pairs_of, active_pairs}
-use Rattle.mm_frame.specs.Tables.{is_active_at, active_numbers, is_disjoint_item, IsRising}
-use Rattle.mm_frame.specs.Named.{symbols_of, expression_kept, kept_pairs, AreSymbols}
-use Rattle.mm_frame.specs.PairLists.{IsList, list_kept, pairs_or_none, list_made, IsMadeFor, AreMade, KeepsLists, HasActivePairs}
+use Rattle.mm_frame.specs.Tables.{is_active_at, is_disjoint_item, IsRising}
+use Rattle.mm_frame.specs.Named.{symbols_of, kept_pairs}
+use Rattle.mm_frame.specs.KeptSymbols.{expression_kept, AreSymbols}
+use Rattle.mm_frame.specs.PairLists.{IsList, list_made, IsMadeFor, AreMade, KeepsLists, HasActivePairs}
 use Rattle.mm_frame.specs.Kept.{AreRows, TellsPairs, is_told_proof}
 use Rattle.mm_frame.proofs.Members.{In, in_get, get_in}
 use Rattle.mm_frame.proofs.Scopes.{stays_join, stays_front}
@@ -176,12 +177,6 @@ list_stays old new k pairs keeps is =
     let r = some_map (λ list. kept_pairs list.items) (slice_get old.lists.items k) pairs is in
     ap (λ w. option_map (λ list. kept_pairs list.items) (slice_get w k)) keeps.whole ∙ ap (option_map (λ list. kept_pairs list.items)) (get_join old.lists.items keeps.more k r.0 r.1) ∙ ap Some r.2
 
--- what pairs a list is of
-pub list_pairs : (lists : PairLists) (k : ℕ) (pairs : List (Symbol × Symbol)) → IsList lists k pairs → kept_pairs (list_kept lists k) ≡ pairs
-list_pairs lists k pairs is =
-    let r = some_map (λ list. kept_pairs list.items) (slice_get lists.lists.items k) pairs is in
-    ap (λ o. kept_pairs (pairs_or_none o)) r.1 ∙ r.2
-
 -- the lists that are made stay so behind more items
 pub made_more : (before later : List Item) (lists : PairLists) → AreMade before lists → AreMade (before ++ later) lists
 made_more before later lists m count k e =
@@ -192,10 +187,6 @@ made_more before later lists m count k e =
       within = omega arith;
       list = subst (λ items. IsList lists k (active_pairs items)) (sym (take-append-le count before later r.within)) r.list;
     }
-
--- a list that is made for items with the active pairs
-pub made_pairs : (before : List Item) (lists : PairLists) (count k : ℕ) → AreMade before lists → HasActivePairs before count → list_made lists count ≡ Some k → IsList lists k (active_pairs before)
-made_pairs before lists count k m has e = subst (IsList lists k) has.pairs (m count k e).list
 
 -- one more list
 pub made_one_more : (before : List Item) (old new : PairLists) (count k : ℕ) → KeepsLists old new → AreMade before old → HasActivePairs before count → IsList new k (active_pairs before) → ((other : ℕ) → list_made new other ≡ cond (nat_eq count other) (Some k) (list_made old other)) → AreMade before new

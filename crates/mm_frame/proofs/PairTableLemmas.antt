@@ -42,14 +42,6 @@ pair_written first second old new numbers number rows row x y = by_test (bytes_e
     by_test true e = ap (λ o. number_in o y) (rows x ∙ ap (λ b. cond b (Some numbers) (value_in old x)) e) ∙ row y ∙ ap (λ w. cond (bytes_eq second y) (Some number) (number_in (value_in old w) y)) ((bytes_eq-Decides first x).0 e)
     by_test false e = ap (λ o. number_in o y) (rows x ∙ ap (λ b. cond b (Some numbers) (value_in old x)) e)
 
--- a pair of names
-or_none : (b : Bool) → (b || false) ≡ b
-or_none true = refl
-or_none false = refl
-
-pub takes_one : (old new : PairTable) (marks : List Mark) (first second : Symbol) (number : ℕ) → ((x y : List ℕ) → pair_number new x y ≡ cond (bytes_eq first.name x && bytes_eq second.name y) (number_next marks number (pair_number old x y)) (pair_number old x y)) → TakesPairs old marks ((first, second) ∷ []) number new
-takes_one old new marks first second number h x y = h x y ∙ ap (λ b. cond b (number_next marks number (pair_number old x y)) (pair_number old x y)) (sym (or_none (bytes_eq first.name x && bytes_eq second.name y)))
-
 -- pairs and further pairs
 next_again : (marks : List Mark) (number : ℕ) (o : Option ℕ) → number_next marks number (number_next marks number o) ≡ number_next marks number o
 next_again marks number o = by_test (is_number_active marks o) refl

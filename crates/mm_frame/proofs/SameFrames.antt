@@ -1,8 +1,10 @@
 -- Frames are the same exactly where their expressions, their hypotheses and their pairs in one order are.
-use Rattle.std.proofs.Common.{◌≡◌, Bool, true, false, ◌&&◌, ◌||◌, List, filter, bytes_eq, refl, sym, ◌∙◌, ap, subst, inl, inr}
-use Rattle.std.specs.Prelude.{IsTrue, ◌↔◌}
+use Rattle.std.proofs.Common.{◌≡◌, ℕ, Bool, true, false, ◌&&◌, ◌||◌, List, filter, map, bytes_eq, refl, sym, ◌∙◌, ap, subst, inl, inr}
+use Rattle.std.specs.Prelude.{IsTrue, ◌↔◌, All}
 use Rattle.std.proofs.lemmas.Bool.{false≢true, and_from, and_parts, or_left, or_right}
 use Rattle.mm_frame.specs.Language.{Symbol, Mandatory, Frame, ArePair, AreSamePairs, AreSameFrame}
+use Rattle.mm_frame.specs.Item.{Kind, Axiom, Theorem, is_assertion, is_labelled}
+use Rattle.mm_frame.specs.Base.{BaseView, said_at, is_sound_at, is_shown_at, is_framed_at, hypothesis_at, frame_at, AreHypotheses}
 use Rattle.mm_frame.specs.Framing.{pairs_of}
 use Rattle.mm_frame.specs.Paired.{are_paired, typed_variables, pairs_in_order}
 use Rattle.mm_frame.proofs.Members.{in_contains, contains_in}
@@ -55,3 +57,22 @@ same_by_parts frame other parts pairs a b e p = (
   λ t. (let q = and_parts parts pairs t in let r = e.0 q.0 in same_from_order frame other a b r.0 r.1 (p.0 q.1)),
   λ s. and_from parts pairs (e.1 (s.expression, s.hypotheses)) (p.1 (same_in_order frame other s)),
 )
+
+assertion_labelled : (kind : Kind) → is_assertion kind ≡ true → is_labelled kind ≡ true
+assertion_labelled Axiom e = refl
+assertion_labelled Theorem e = refl
+assertion_labelled _ e = absurd (false≢true e)
+
+-- a sound assertion is a sound item with a label
+pub framed_shown : (base : BaseView) (i : ℕ) → is_framed_at base i ≡ true → is_shown_at base i ≡ true
+framed_shown base i e =
+    let p = and_parts (is_sound_at base i) (is_assertion (said_at base i).kind) e in
+    and_from (is_sound_at base i) (is_labelled (said_at base i).kind) p.0 (assertion_labelled (said_at base i).kind p.1)
+
+-- hypotheses by their numbers are the same where those of the frames are
+pub same_by_numbers : (base copy : BaseView) (i j : ℕ) (mine yours : List ℕ) (P : Type 0) → AreHypotheses base i mine → AreHypotheses copy j yours → P ↔ (map (hypothesis_at base) mine ≡ map (hypothesis_at copy) yours) → P ↔ ((frame_at base i).hypotheses ≡ (frame_at copy j).hypotheses)
+same_by_numbers base copy i j mine yours P a b p = (λ x. sym a.are ∙ p.0 x ∙ b.are, λ e. p.1 (a.are ∙ e ∙ sym b.are))
+
+-- the numbers of hypotheses are those of sound items with labels
+pub all_shown : (base : BaseView) (i : ℕ) (numbers : List ℕ) → AreHypotheses base i numbers → All (λ n. is_shown_at base n ≡ true) numbers
+all_shown base i numbers a k d l = (a.each k d l).1

@@ -2,10 +2,10 @@
 use Rattle.std.proofs.Common.{◌≡◌, ℕ, suc, Bool, false, Option, Some, List, [], ◌∷◌, ◌++◌, length, drop, map, get_or, sym, ◌∙◌, ap, subst}
 use Rattle.std.proofs.Math.ListN.{get_or-map}
 use Rattle.std.proofs.lemmas.List.{map-append, drop-map, length-map}
-use Rattle.mm_frame.specs.Item.{Kind, Item, passed, typecode_of}
+use Rattle.mm_frame.specs.Item.{Kind, Item, passed, typecode_of, item_at}
 use Rattle.mm_frame.specs.Scope.{Mark, mark_of}
 use Rattle.mm_frame.specs.Blocks.{stays_by, marks_of}
-use Rattle.mm_frame.specs.Tables.{item_at, is_active_last}
+use Rattle.mm_frame.specs.Tables.{is_active_last}
 use Rattle.mm_frame.specs.declared.scope.Scope.{Scope}
 use Rattle.mm_frame.specs.Scoping.{Holds, taken}
 use Rattle.mm_frame.proofs.BlockLemmas.{stays_of}

@@ -1,17 +1,17 @@
 -- Sound lists keep their items, and labels keep their meaning.
-use Rattle.std.proofs.Common.{◌≡◌, ℕ, zero, suc, Bool, true, false, cond, Some, None, List, [], ◌∷◌, ◌++◌, map, filter, take, drop, slice_get, slice_index_or, refl, sym, ◌∙◌, ap, subst, append_assoc, append-nil, inl, inr, ◌⊎◌}
+use Rattle.std.proofs.Common.{◌≡◌, ℕ, zero, suc, Bool, true, false, cond, Some, List, [], ◌∷◌, ◌++◌, map, filter, take, drop, slice_get, refl, sym, ◌∙◌, ap, subst, append_assoc, append-nil, inl, inr, ◌⊎◌}
 use Rattle.std.specs.List.{list_any}
 use Rattle.std.proofs.lemmas.Bool.{false≢true, or_left, or_right, false_from_ne_true}
 use Rattle.std.proofs.lemmas.List.{take-append-drop}
-use Rattle.mm_frame.specs.Language.{Hypothesis, Assertion, Inactive, Unknown}
-use Rattle.mm_frame.specs.Item.{Kind, Floating, Essential, Axiom, Theorem, Item, passed, is_floating, is_expression, is_labelled, is_assertion, has, labels_of}
+use Rattle.mm_frame.specs.Language.{Unknown}
+use Rattle.mm_frame.specs.Item.{Kind, Floating, Essential, Axiom, Theorem, Item, is_floating, is_expression, is_labelled, has, labels_of}
 use Rattle.mm_frame.specs.Scope.{Neither, mark_of, stays, constants, labels, active_variables}
 use Rattle.mm_frame.specs.declared.FrameNumber.TheVariants.{F06}
-use Rattle.mm_frame.specs.Sound.{is_label, IsSound, AreSound, fault, judged, kept_after, kept}
-use Rattle.mm_frame.specs.Framing.{symbol, expression, frame, meaning, resolve_from, resolve, place, place_of, statement_of}
+use Rattle.mm_frame.specs.Sound.{is_label, IsSound, AreSound}
+use Rattle.mm_frame.specs.Framing.{symbol, expression, meaning, resolve_from, resolve}
 use Rattle.mm_frame.proofs.Members.{In, in_flat, in_get, has_in, in_has}
 use Rattle.mm_frame.proofs.Facts.{AreKept, sound_at, kept_front, not_constant, first_constant, known, float_variable, float_two}
-use Rattle.mm_frame.proofs.Judged.{no_fault_sound, sound_found, kept_more}
+use Rattle.mm_frame.proofs.Judged.{kept_more}
 use Rattle.mm_frame.proofs.Frames.{constants_later, variables_later}
 
 -- an item by its number
@@ -45,45 +45,8 @@ sound_front front back h = kept_sound front (kept_front [] front back (sound_kep
 pub sound_take : (items : List Item) (j : ℕ) → AreSound items → AreSound (take j items)
 sound_take items j h = sound_front (take j items) (drop j items) (subst AreSound (sym (take-append-drop j items)) h)
 
-pub sound_none : AreSound []
-sound_none = kept_sound [] tt
-
 pub sound_more : (items : List Item) (item : Item) → AreSound items → IsSound items item → AreSound (items ++ item ∷ [])
 sound_more items item h s = kept_sound (items ++ item ∷ []) (kept_more [] items item (sound_kept items h) s)
-
--- what is kept of sound items is all
-kept_after_all : (before items : List Item) → AreKept before items → kept_after before items ≡ before ++ items
-kept_after_all before [] k = sym (append-nil before)
-kept_after_all before (x ∷ xs) k = ap (λ o. kept_after (before ++ judged x o ∷ []) xs) (sound_found before x k.0) ∙ kept_after_all (before ++ x ∷ []) xs k.1 ∙ append_assoc before (x ∷ []) xs
-
-pub kept_all : (items : List Item) → AreSound items → kept items ≡ items
-kept_all items h = kept_after_all [] items (sound_kept items h)
-
-pub kept_take : (items : List Item) (j : ℕ) → AreSound items → kept (take j items) ≡ take j items
-kept_take items j h = kept_all (take j items) (sound_take items j h)
-
--- items are sound exactly where none has a fault behind those kept before it
-no_faults_after : (before items : List Item) → ((j : ℕ) (item : Item) → slice_get items j ≡ Some item → fault (kept_after before (take j items)) item ≡ None) → AreKept before items
-no_faults_after before [] h = tt
-no_faults_after before (x ∷ xs) h =
-    let e : fault before x ≡ None = h 0 x refl in
-    (no_fault_sound before x e, no_faults_after (before ++ x ∷ []) xs (λ j item g. subst (λ o. fault (kept_after (before ++ judged x o ∷ []) (take j xs)) item ≡ None) e (h (suc j) item g)))
-
-pub no_faults_sound : (items : List Item) → ((j : ℕ) (item : Item) → slice_get items j ≡ Some item → fault (kept (take j items)) item ≡ None) → AreSound items
-no_faults_sound items h = kept_sound items (no_faults_after [] items h)
-
-pub sound_at_number : (items : List Item) (j : ℕ) (item : Item) → AreSound items → slice_get items j ≡ Some item → IsSound (take j items) item
-sound_at_number items j item h g = h (take j items) item (drop (suc j) items) (split_at items j item g)
-
-pub sound_no_faults : (items : List Item) → AreSound items → (j : ℕ) (item : Item) → slice_get items j ≡ Some item → fault (kept (take j items)) item ≡ None
-sound_no_faults items h j item g = ap (λ w. fault w item) (kept_take items j h) ∙ sound_found (take j items) item (sound_at_number items j item h g)
-
--- the place and the statement of an item of a sound list
-pub place_of_is : (items : List Item) (j : ℕ) → AreSound items → place_of items j ≡ place (take j items)
-place_of_is items j h = ap place (kept_take items j h)
-
-pub statement_of_is : (items : List Item) (j : ℕ) → AreSound items → statement_of items j ≡ expression (take j items) (slice_index_or items j passed)
-statement_of_is items j h = ap (λ w. expression w (slice_index_or items j passed)) (kept_take items j h)
 
 -- a labelled statement stands in no other block than before it
 pub labelled_neither : (k : Kind) → is_labelled k ≡ true → mark_of k ≡ Neither
@@ -156,10 +119,6 @@ resolve_skip whole before (x ∷ front) rest label h =
     ∙ resolve_skip whole (before ++ x ∷ []) front rest label (λ y k. h y (inr k))
     ∙ ap (λ w. resolve_from whole w rest label) (append_assoc before (x ∷ []) front)
 
--- a label that no item has is unknown
-pub resolve_unknown : (items : List Item) (label : List ℕ) → has (labels items) label ≡ false → resolve items label ≡ Unknown
-resolve_unknown items label h = ap (λ w. resolve_from items [] w label) (sym (append-nil items)) ∙ resolve_skip items [] items [] label (no_label items label h)
-
 pub no_item_unknown : (items : List Item) (label : List ℕ) → ((item : Item) → In item items → has (labels_of item) label ≡ false) → resolve items label ≡ Unknown
 no_item_unknown items label h = ap (λ w. resolve_from items [] w label) (sym (append-nil items)) ∙ resolve_skip items [] items [] label h
 
@@ -169,17 +128,3 @@ resolve_meaning items front item back label h e t =
     ap (λ w. resolve_from items [] w label) e
     ∙ resolve_skip items [] front (item ∷ back) label (no_label front label (label_new front item label (h front item back e) t))
     ∙ ap (λ b. cond b (meaning items front item back) (resolve_from items (front ++ item ∷ []) back label)) t
-
-labelled_at : (b : Bool) (names : List (List ℕ)) (label : List ℕ) → has (cond b names []) label ≡ true → b ≡ true
-labelled_at true names label h = refl
-labelled_at false names label h = h
-
-pub labelled_of : (item : Item) (label : List ℕ) → has (labels_of item) label ≡ true → is_labelled item.kind ≡ true
-labelled_of item label h = labelled_at (is_labelled item.kind) _ label h
-
--- the label of a statement that is active, or an assertion
-pub resolve_stays : (items front : List Item) (item : Item) (back : List Item) (label : List ℕ) → AreSound items → items ≡ front ++ item ∷ back → stays back ≡ true → has (labels_of item) label ≡ true → resolve items label ≡ cond (is_assertion item.kind) (Assertion (frame front item)) (Hypothesis (expression front item))
-resolve_stays items front item back label h e s t =
-    resolve_meaning items front item back label h e t
-    ∙ ap (λ b. cond (is_assertion item.kind) (Assertion (frame front item)) (cond b (Hypothesis (expression items item)) Inactive)) s
-    ∙ ap (λ w. cond (is_assertion item.kind) (Assertion (frame front item)) (Hypothesis w)) (expression_stays items front item back h e (labelled_of item label t) s)

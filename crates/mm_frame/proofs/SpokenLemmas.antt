@@ -1,6 +1,6 @@
 -- The words of a statement, and how many of them are symbols and words of the proof.
 use Rattle.std.proofs.Common.{◌≡◌, ℕ, zero, suc, ◌+◌, ◌<◌, Bool, cond, List, [], ◌∷◌, Some, length, map, take, drop, get_or, refl, sym, ◌∙◌, ap, arith}
-use Rattle.std.specs.Prelude.{slice_get, All}
+use Rattle.std.specs.Prelude.{slice_get}
 use Rattle.std.specs.Option.{option_map}
 use Rattle.std.specs.List.{prefix_len}
 use Rattle.std.proofs.lemmas.List.{drop-map}
@@ -8,9 +8,7 @@ use Rattle.std.proofs.lemmas.List.Folds.{length-prefix_len}
 use Rattle.std.proofs.lemmas.Option.{slice_get-map, get_or_from_slice_get}
 use Rattle.mm_text.specs.declared.word.Word.{Word}
 use Rattle.mm_text.specs.Unit.{Token, token_of, tokens_of}
-use Rattle.mm_text.specs.Reading.{AreWithin, LiesIn}
 use Rattle.mm_frame.specs.Statement.{is_plain_kind, is_plain, plain_from, names}
-use Rattle.mm_frame.specs.Spoken.{IsInside}
 
 prefix_len-map : {X Y : Type 0} (f : X → Y) (p : Y → Bool) (xs : List X) → prefix_len p (map f xs) ≡ prefix_len (λ x. p (f x)) xs
 prefix_len-map f p [] = refl
@@ -45,7 +43,3 @@ plain_at tokens from n bytes l is =
       length-names : (ts : List Token) → length (names ts) ≡ length ts
       length-names [] = refl
       length-names (t ∷ ts) = ap suc (length-names ts)
-
--- words of a text lie in it
-pub all_inside : (text : List ℕ) (words : List Word) → AreWithin text words → All (IsInside text) words
-all_inside text words within k d l = let lies : LiesIn text (get_or words k d) = within.each k d l in (omega (arith, lies.some), lies.within)

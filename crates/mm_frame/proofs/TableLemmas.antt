@@ -1,24 +1,20 @@
 -- What is looked up by number is what the definitions say.
-use Rattle.std.proofs.Common.{◌≡◌, ℕ, suc, ◌<◌, Bool, true, false, cond, not, ◌&&◌, Option, Some, None, List, [], ◌∷◌, ◌++◌, length, map, take, drop, slice_get, slice_index_or, bytes_eq, refl, sym, ◌∙◌, ap, subst, append_assoc, append-nil, arith, inl, inr, ◌⊎◌}
-use Rattle.std.specs.Prelude.{is_some, option_to_list}
+use Rattle.std.proofs.Common.{◌≡◌, ℕ, suc, Bool, true, false, cond, not, ◌&&◌, Option, Some, None, List, [], ◌∷◌, ◌++◌, length, take, drop, slice_get, slice_index_or, bytes_eq, refl, sym, ◌∙◌, ap, subst, append_assoc, append-nil, inl, inr, ◌⊎◌}
+use Rattle.std.specs.Prelude.{is_some}
 use Rattle.std.specs.List.{list_any}
 use Rattle.std.proofs.lemmas.Bool.{false≢true, or_parts, or_cases, or_left, or_right, and_from, false_from_ne_true}
 use Rattle.std.proofs.lemmas.Slice.Eq.{bytes_eq-Decides}
 use Rattle.std.proofs.lemmas.Grind.{flat_map-append}
-use Rattle.std.proofs.lemmas.List.{map-append, drop-append-le}
-use Rattle.std.proofs.lemmas.List.Elements.{filter-append}
-use Rattle.mm_frame.specs.Item.{Kind, Constants, Variables, Floating, Essential, Axiom, Theorem, Item, is_constants, is_variables, is_floating, is_labelled, has, labels_of, typecode_of, variable_of}
-use Rattle.mm_frame.specs.Scope.{Mark, Opens, Closes, Neither, mark_of, closed_at, closed, is_zero, stays, active, symbols_by, constants, variables, labels, active_variables, floats, typed}
+use Rattle.mm_frame.specs.Item.{Kind, Item, is_constants, is_variables, is_floating, has, labels_of, typecode_of, variable_of, item_at}
+use Rattle.mm_frame.specs.Scope.{Mark, Opens, Closes, Neither, mark_of, closed_at, closed, stays, active, symbols_by, constants, variables, labels, active_variables, floats, typed}
 use Rattle.mm_frame.specs.declared.FrameNumber.TheVariants.{F04, F13}
-use Rattle.mm_frame.specs.Sound.{each, second, is_active_symbol, is_typed_otherwise, IsSound, AreSound, kept}
-use Rattle.mm_frame.specs.Framing.{meaning, resolve}
-use Rattle.mm_frame.specs.Tables.{number_or_first, last_where, item_at, is_active_at, is_active_last, declares_variable, types, carries, is_otherwise_at, meaning_at}
+use Rattle.mm_frame.specs.Sound.{each, second, is_active_symbol, is_typed_otherwise, IsSound, AreSound}
+use Rattle.mm_frame.specs.Tables.{number_or_first, last_where, is_active_at, is_active_last, declares_variable, types, carries, is_otherwise_at}
 use Rattle.mm_frame.proofs.Members.{In, in_right, in_cases, in_filter, from_filter, in_flat, from_flat, in_get, has_in, in_has, from_symbols, to_symbols}
 use Rattle.mm_frame.proofs.Scopes.{active_in, split_active, in_first, in_later, closed_join, stays_front}
 use Rattle.mm_frame.proofs.Facts.{and_both, no_symbol_of, apart, float_two, float_new}
-use Rattle.mm_frame.proofs.Judged.{kept_is_sound as kept_in_turn}
 use Rattle.mm_frame.proofs.Frames.{from_typed, to_typed}
-use Rattle.mm_frame.proofs.SoundItems.{sound_kept, kept_sound, label_new, resolve_meaning, no_item_unknown}
+use Rattle.mm_frame.proofs.SoundItems.{sound_kept, label_new}
 
 -- one more item: it is the last that passes, or else the same one is
 next_at : (b c : Bool) (o : Option ℕ) (n : ℕ) → number_or_first (cond b (Some n) o) c ≡ cond b (Some (suc n)) (number_or_first o c)
@@ -264,35 +260,12 @@ label_first before h label front item back e t = ap (last_where (carries label))
     let s = h (front ++ item ∷ p.front) y p.back (e ∙ ap (λ w. front ++ item ∷ w) p.whole ∙ sym (append_assoc front (item ∷ p.front) (y ∷ p.back))) in
     false≢true (sym (label_new (front ++ item ∷ p.front) y label s u) ∙ in_has (labels (front ++ item ∷ p.front)) label (in_flat labels_of item label (front ++ item ∷ p.front) (in_right item front (item ∷ p.front) (inl refl)) (has_in (labels_of item) label t)))))
 
--- what a label means is read off the item that has it
-pub resolve_last : (before : List Item) → AreSound before → (label : List ℕ) → resolve before label ≡ meaning_at before (last_where (carries label) before)
-resolve_last before h label = elim (last_cases (carries label) before) [
-  | inl n ↦ no_item_unknown before label n ∙ sym (ap (meaning_at before) (last_none (carries label) before n))
-  | inr l ↦ resolve_meaning before l.front l.item l.back label h l.whole l.good ∙ sym (ap (meaning_at before) (last_number (carries label) before l) ∙ parts l)
-]
-  where
-    parts : (l : Last (carries label) before) → meaning before (take (length l.front) before) (item_at before (length l.front)) (drop (suc (length l.front)) before) ≡ meaning before l.front l.item l.back
-    parts l =
-        let a = ap (take (length l.front)) l.whole ∙ take_between l.front l.item l.back in
-        let b = ap (λ w. item_at w (length l.front)) l.whole ∙ item_between l.front l.item l.back in
-        let c = ap (drop (suc (length l.front))) l.whole ∙ drop_between l.front l.item l.back in
-        λ i. meaning before (a i) (b i) (c i)
-
 -- one more item
 pub symbols_next : (test : Kind → Bool) (before : List Item) (item : Item) → symbols_by test (before ++ item ∷ []) ≡ symbols_by test before ++ cond (test item.kind) item.symbols []
 symbols_next test before item = flat_map-append (λ (i : Item). cond (test i.kind) i.symbols []) before (item ∷ []) ∙ ap (λ w. symbols_by test before ++ w) (append-nil (cond (test item.kind) item.symbols []))
 
 pub constants_next : (before : List Item) (item : Item) → constants (before ++ item ∷ []) ≡ constants before ++ cond (is_constants item.kind) item.symbols []
 constants_next before item = symbols_next is_constants before item
-
-pub variables_next : (before : List Item) (item : Item) → variables (before ++ item ∷ []) ≡ variables before ++ cond (is_variables item.kind) item.symbols []
-variables_next before item = symbols_next is_variables before item
-
-pub labels_next : (before : List Item) (item : Item) → labels (before ++ item ∷ []) ≡ labels before ++ labels_of item
-labels_next before item = flat_map-append labels_of before (item ∷ []) ∙ ap (λ w. labels before ++ w) (append-nil (labels_of item))
-
-pub floats_next : (before : List Item) (item : Item) → floats (before ++ item ∷ []) ≡ floats before ++ cond (is_floating item.kind) (item ∷ []) []
-floats_next before item = filter-append (λ (i : Item). is_floating i.kind) before (item ∷ [])
 
 -- nothing is closed by an item that is no `$}`
 closes_none : (m : Mark) → (m ≡ Closes → ⊥) → closed_at m 0 ≡ 0
@@ -303,105 +276,5 @@ closes_none Neither n = refl
 pub not_closing : (m : Mark) → m ≡ Neither → m ≡ Closes → ⊥
 not_closing m e c = let q : Neither ≡ Closes = sym e ∙ c in cc
 
-pub not_closing_start : (m : Mark) → m ≡ Opens → m ≡ Closes → ⊥
-not_closing_start m e c = let q : Opens ≡ Closes = sym e ∙ c in cc
-
-starting : (m : Mark) → m ≡ Opens → m ≡ Neither → ⊥
-starting m e c = let q : Opens ≡ Neither = sym e ∙ c in cc
-
 pub closed_next : (before : List Item) (item : Item) → (mark_of item.kind ≡ Closes → ⊥) → closed (before ++ item ∷ []) ≡ closed before
 closed_next before item n = closed_join before (item ∷ []) (closes_none (mark_of item.kind) n)
-
--- behind one more item that is no `$}`, what was active is, and that item
-pub active_more : (before : List Item) (item : Item) → (mark_of item.kind ≡ Closes → ⊥) → active (before ++ item ∷ []) ≡ active before ++ item ∷ []
-active_more [] item n = refl
-active_more (x ∷ before) item n =
-    let a = closed_next before item n in
-    let b = active_more before item n in
-    (λ i. cond (is_zero (a i)) (x ∷ b i) (b i)) ∙ cond_append (stays before) x (active before) (item ∷ [])
-  where
-    cond_append : (b : Bool) (x : Item) (xs ys : List Item) → cond b (x ∷ (xs ++ ys)) (xs ++ ys) ≡ cond b (x ∷ xs) xs ++ ys
-    cond_append true x xs ys = refl
-    cond_append false x xs ys = refl
-
-pub active_next : (before : List Item) (item : Item) → mark_of item.kind ≡ Neither → active (before ++ item ∷ []) ≡ active before ++ item ∷ []
-active_next before item e = active_more before item (not_closing (mark_of item.kind) e)
-
-pub active_variables_next : (before : List Item) (item : Item) → mark_of item.kind ≡ Neither → active_variables (before ++ item ∷ []) ≡ active_variables before ++ cond (is_variables item.kind) item.symbols []
-active_variables_next before item e = ap variables (active_next before item e) ∙ variables_next (active before) item
-
-pub active_floats_next : (before : List Item) (item : Item) → mark_of item.kind ≡ Neither → floats (active (before ++ item ∷ [])) ≡ floats (active before) ++ cond (is_floating item.kind) (item ∷ []) []
-active_floats_next before item e = ap floats (active_next before item e) ∙ floats_next (active before) item
-
-typed_one : (b : Bool) (item : Item) → map variable_of (cond b (item ∷ []) []) ≡ cond b (variable_of item ∷ []) []
-typed_one true item = refl
-typed_one false item = refl
-
-pub typed_next : (before : List Item) (item : Item) → mark_of item.kind ≡ Neither → typed (before ++ item ∷ []) ≡ typed before ++ cond (is_floating item.kind) (variable_of item ∷ []) []
-typed_next before item e =
-    ap (map variable_of) (active_floats_next before item e)
-    ∙ map-append variable_of (floats (active before)) (cond (is_floating item.kind) (item ∷ []) [])
-    ∙ ap (λ w. typed before ++ w) (typed_one (is_floating item.kind) item)
-
--- a `${` or `$}` declares and types nothing, and has no label
-mark_constants : (k : Kind) → (mark_of k ≡ Neither → ⊥) → is_constants k ≡ false
-mark_constants Constants n = absurd (n refl)
-mark_constants _ n = refl
-
-mark_variables : (k : Kind) → (mark_of k ≡ Neither → ⊥) → is_variables k ≡ false
-mark_variables Variables n = absurd (n refl)
-mark_variables _ n = refl
-
-mark_floating : (k : Kind) → (mark_of k ≡ Neither → ⊥) → is_floating k ≡ false
-mark_floating Floating n = absurd (n refl)
-mark_floating _ n = refl
-
-mark_labelled : (k : Kind) → (mark_of k ≡ Neither → ⊥) → is_labelled k ≡ false
-mark_labelled Floating n = absurd (n refl)
-mark_labelled Essential n = absurd (n refl)
-mark_labelled Axiom n = absurd (n refl)
-mark_labelled Theorem n = absurd (n refl)
-mark_labelled _ n = refl
-
-pub constants_mark : (before : List Item) (item : Item) → (mark_of item.kind ≡ Neither → ⊥) → constants (before ++ item ∷ []) ≡ constants before
-constants_mark before item n = constants_next before item ∙ ap (λ b. constants before ++ cond b item.symbols []) (mark_constants item.kind n) ∙ append-nil (constants before)
-
-pub variables_mark : (before : List Item) (item : Item) → (mark_of item.kind ≡ Neither → ⊥) → variables (before ++ item ∷ []) ≡ variables before
-variables_mark before item n = variables_next before item ∙ ap (λ b. variables before ++ cond b item.symbols []) (mark_variables item.kind n) ∙ append-nil (variables before)
-
-pub labels_mark : (before : List Item) (item : Item) → (mark_of item.kind ≡ Neither → ⊥) → labels (before ++ item ∷ []) ≡ labels before
-labels_mark before item n = labels_next before item ∙ ap (λ b. labels before ++ cond b (option_to_list item.label) []) (mark_labelled item.kind n) ∙ append-nil (labels before)
-
-pub floats_mark : (before : List Item) (item : Item) → (mark_of item.kind ≡ Neither → ⊥) → floats (before ++ item ∷ []) ≡ floats before
-floats_mark before item n = floats_next before item ∙ ap (λ b. floats before ++ cond b (item ∷ []) []) (mark_floating item.kind n) ∙ append-nil (floats before)
-
--- no number is looked up otherwise behind a `${` or `$}`
-pub declares_mark : (name : List ℕ) (item : Item) → (mark_of item.kind ≡ Neither → ⊥) → declares_variable name item ≡ false
-declares_mark name item n = ap (λ b. b && has item.symbols name) (mark_variables item.kind n)
-
-pub types_mark : (name : List ℕ) (item : Item) → (mark_of item.kind ≡ Neither → ⊥) → types name item ≡ false
-types_mark name item n = ap (λ b. b && bytes_eq (variable_of item) name) (mark_floating item.kind n)
-
-pub carries_mark : (label : List ℕ) (item : Item) → (mark_of item.kind ≡ Neither → ⊥) → carries label item ≡ false
-carries_mark label item n = ap (λ b. has (cond b (option_to_list item.label) []) label) (mark_labelled item.kind n)
-
-pub last_where_skips : (test : Item → Bool) (items : List Item) (item : Item) → test item ≡ false → last_where test (items ++ item ∷ []) ≡ last_where test items
-last_where_skips test items item e = last_where_next test items item ∙ ap (λ b. cond b (Some (length items)) (last_where test items)) e
-
--- a `${` changes nothing of what is active
-pub active_variables_start : (before : List Item) (item : Item) → mark_of item.kind ≡ Opens → active_variables (before ++ item ∷ []) ≡ active_variables before
-active_variables_start before item e = ap variables (active_more before item (not_closing_start (mark_of item.kind) e)) ∙ variables_mark (active before) item (starting (mark_of item.kind) e)
-
-pub typed_start : (before : List Item) (item : Item) → mark_of item.kind ≡ Opens → typed (before ++ item ∷ []) ≡ typed before
-typed_start before item e = ap (λ w. map variable_of (floats w)) (active_more before item (not_closing_start (mark_of item.kind) e)) ∙ ap (map variable_of) (floats_mark (active before) item (starting (mark_of item.kind) e))
-
--- an item stays active behind one more that is no `$}`, and the new one is active
-pub active_at_more : (before : List Item) (item : Item) (n : ℕ) → n < length before → (mark_of item.kind ≡ Closes → ⊥) → is_active_at (before ++ item ∷ []) n ≡ is_active_at before n
-active_at_more before item n l c = ap stays (drop-append-le (suc n) before (item ∷ []) (omega arith)) ∙ ap is_zero (closed_next (drop (suc n) before) item c)
-
-pub active_at_new : (before : List Item) (item : Item) → is_active_at (before ++ item ∷ []) (length before) ≡ true
-active_at_new before item = active_between before item []
-
--- what is kept of items is sound
-pub kept_is_sound : (items : List Item) → AreSound (kept items)
-kept_is_sound items = kept_sound (kept items) (kept_in_turn items)

@@ -1,8 +1,8 @@
 -- Frames: the mandatory variables, hypotheses and pairs of an assertion, and what a label means at a statement (Metamath book, section 4.2).
-use Rattle.std.specs.Prelude.{ℕ, Bool, ◌&&◌, ◌||◌, if◌then◌else◌, List, [], ◌∷◌, ◌++◌, take, map, filter, flat_map, slice_index_or}
+use Rattle.std.specs.Prelude.{ℕ, Bool, ◌&&◌, ◌||◌, if◌then◌else◌, List, [], ◌∷◌, ◌++◌, take, map, filter, flat_map}
 use Rattle.mm_frame.specs.Language.{Symbol, Mandatory, Frame, Resolved, Hypothesis, Assertion, Inactive, Unknown, Place}
-use Rattle.mm_frame.specs.Item.{Item, passed, is_disjoint, is_floating, is_essential, is_assertion, has, labels_of, variable_of}
-use Rattle.mm_frame.specs.Scope.{stays, active, symbols_by, active_variables}
+use Rattle.mm_frame.specs.Item.{Item, item_at, is_disjoint, is_floating, is_essential, is_assertion, has, labels_of, variable_of}
+use Rattle.mm_frame.specs.Scope.{stays, active, active_numbers, symbols_by, active_variables}
 use Rattle.mm_frame.specs.Sound.{kept}
 
 -- what a name is behind these items
@@ -28,6 +28,10 @@ hypothesis before item = record { floating = is_floating item.kind; expression =
 -- the active hypotheses that are mandatory, in order of occurrence
 abbrev pub mandatory_hypotheses : List Item → Item → List Mandatory
 mandatory_hypotheses before item = map (hypothesis before) (filter (is_mandatory (mandatory_variables before item)) (active before))
+
+-- the numbers of the mandatory hypotheses of a statement behind the items, in order
+abbrev pub mandatory_numbers : List Item → Item → List ℕ
+mandatory_numbers before item = active_numbers (is_mandatory (mandatory_variables before item)) before
 
 -- each with each later one
 abbrev pub pairs_of : List Symbol → List (Symbol × Symbol)
@@ -77,4 +81,4 @@ place_of items j = place (before_of items j)
 
 -- the expression that the proof of item j is of
 abbrev pub statement_of : List Item → ℕ → List Symbol
-statement_of items j = expression (before_of items j) (slice_index_or items j passed)
+statement_of items j = expression (before_of items j) (item_at items j)

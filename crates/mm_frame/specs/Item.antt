@@ -99,3 +99,7 @@ typecode_of item = slice_index_or item.symbols 0 []
 -- the second symbol, which is the variable of a `$f`
 abbrev pub variable_of : Item → List ℕ
 variable_of item = slice_index_or item.symbols 1 []
+
+-- the item with this number: past the last one, what stands for no statement
+abbrev pub item_at : List Item → ℕ → Item
+item_at items n = slice_index_or items n passed

@@ -1,5 +1,5 @@
 -- What the code keeps of the items for a base.
-use Rattle.std.specs.Prelude.{◌≡◌, ℕ, ◌<◌, ◌≤◌, Bool, ◌&&◌, Some, is_some, is_none, List, length, take, slice_get, Option, Vec}
+use Rattle.std.specs.Prelude.{◌≡◌, ℕ, ◌<◌, ◌≤◌, Bool, ◌&&◌, if◌then◌else◌, Some, None, is_some, is_none, List, length, take, slice_get, Option, Vec}
 use Rattle.std.specs.Option.{option_map}
 use Rattle.std.specs.List.{AllZip}
 use Rattle.std.specs.Global.{Global}
@@ -9,25 +9,49 @@ use Rattle.mm_frame.specs.declared.draft.Parts.{Parts}
 use Rattle.mm_frame.specs.declared.draft.Row.{Row}
 use Rattle.mm_frame.specs.declared.draft.Frame.{Frame}
 use Rattle.mm_frame.specs.declared.symbol.NamedSymbol.{NamedSymbol}
-use Rattle.mm_frame.specs.Named.{AreSymbols, kept_pairs}
+use Rattle.mm_frame.specs.Named.{kept_pairs}
+use Rattle.mm_frame.specs.KeptSymbols.{AreSymbols}
 use Rattle.mm_frame.specs.PairTable.{KnowsPairs}
-use Rattle.mm_frame.specs.Item.{Item, is_labelled, is_assertion, is_theorem}
+use Rattle.mm_frame.specs.Item.{Item, is_labelled, is_assertion, is_theorem, item_at}
 use Rattle.mm_frame.specs.Statement.{kind_of}
 use Rattle.mm_frame.specs.Sound.{kept}
 use Rattle.mm_frame.specs.declared.pair_lists.PairLists.{PairLists}
-use Rattle.mm_frame.specs.Framing.{active_pairs}
+use Rattle.mm_frame.specs.Language.{Symbol}
+use Rattle.mm_frame.specs.Framing.{frame, active_pairs, mandatory_numbers}
 use Rattle.mm_frame.specs.PairLists.{IsList, AreMade}
-use Rattle.mm_frame.specs.Tables.{item_at, active_numbers, is_essential_item, is_disjoint_item}
+use Rattle.mm_frame.specs.Tables.{last_where, carries, is_essential_item, is_disjoint_item}
+use Rattle.mm_frame.specs.Scope.{active_numbers}
+use Rattle.mm_frame.specs.Paired.{pairs_in_order}
 use Rattle.mm_frame.specs.Blocks.{marks_of}
 use Rattle.mm_frame.specs.Known.{Knows}
 use Rattle.mm_frame.specs.Scoping.{Holds}
-use Rattle.mm_frame.specs.Base.{BaseView, told_fault, numbers_if, pairs_if}
+use Rattle.mm_frame.specs.Base.{BaseView, before, said_at, told_fault}
 
 -- the row tells the label and the fault of an item behind the sound items before it
 pub record Tells (before : List Item) (item : Item) (row : Row) : Type 0 where
   pub label : option_map (λ label. label.items) row.label ≡ item.label
   pub labelled : is_some row.label ≡ is_labelled item.kind
   pub fault : option_map (λ fault. (fault.word, fault.number)) row.fault ≡ told_fault before item
+
+-- the numbers of the mandatory hypotheses of an assertion
+abbrev pub numbers_if : Bool → List Item → Item → Option (List ℕ)
+numbers_if framed before item = if framed then Some (mandatory_numbers before item) else None
+
+-- of a sound `$a` or `$p` behind the sound items before it, and no other item
+abbrev pub told_numbers : List Item → Item → Option (List ℕ)
+told_numbers before item = numbers_if (is_none (told_fault before item) && is_assertion item.kind) before item
+
+-- the pairs of the frame of an assertion, in order
+abbrev pub pairs_if : Bool → List Item → Item → Option (List (Symbol × Symbol))
+pairs_if framed before item = if framed then Some (pairs_in_order (frame before item)) else None
+
+-- the numbers of the mandatory hypotheses of the item with this number, where it is a sound `$a` or `$p`
+abbrev pub hypotheses_at : BaseView → ℕ → Option (List ℕ)
+hypotheses_at base i = told_numbers (before base i) (said_at base i)
+
+-- the number of the sound item that carries a label
+abbrev pub find_in : BaseView → List ℕ → Option ℕ
+find_in base label = last_where (carries label) (kept base.said)
 
 -- where a frame is to be kept, one is, and has the numbers and pairs of that of an assertion
 pub record KeepsFrame (framed : Bool) (before : List Item) (item : Item) (kept_frame : Option Frame) : Type 0 where

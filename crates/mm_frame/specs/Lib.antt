@@ -8,6 +8,7 @@ pub use Rattle.mm_text.specs.Place
 pub use Rattle.mm_store.specs.FilesView
 pub use Rattle.mm_store.specs.FileFacts
 pub use Rattle.mm_store.specs.Expansion
+pub use Rattle.mm_store.specs.Keyless
 pub use Rattle.mm_store.specs.Answers
 pub mod Language
 pub mod Typing
@@ -29,6 +30,8 @@ pub mod Spoken
 pub mod Scoping
 pub mod Seen
 pub mod Named
+pub mod KeptSymbols
+pub mod Earlier
 pub mod Pruned
 pub mod Base
 pub mod PairLists

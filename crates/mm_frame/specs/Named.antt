@@ -1,16 +1,7 @@
--- Symbols and expressions as the code keeps them.
-use Rattle.std.specs.Prelude.{◌≡◌, ℕ, ◌||◌, Bool, true, not, length, if◌then◌else◌, Option, Some, None, List, [], map, take, slice_get, option_to_list, Vec}
-use Rattle.std.specs.List.{flat_map}
-use Rattle.std.specs.Global.{Global}
-use Rattle.std.specs.Borrow.{Bor}
+-- What symbols, expressions and pairs the code's symbols are.
+use Rattle.std.specs.Prelude.{ℕ, true, List, map}
 use Rattle.mm_frame.specs.declared.symbol.NamedSymbol.{NamedSymbol}
-use Rattle.mm_frame.specs.declared.tables.Tables.{Tables}
 use Rattle.mm_frame.specs.Language.{Symbol}
-use Rattle.mm_frame.specs.Item.{Kind, Item, has, is_labelled, is_disjoint, is_assertion}
-use Rattle.mm_frame.specs.Sound.{AreSound, IsSound}
-use Rattle.mm_frame.specs.Scope.{constants}
-use Rattle.mm_frame.specs.Framing.{expression}
-use Rattle.mm_frame.specs.Known.{Knows, table_name, float_of}
 
 -- what symbol it is
 abbrev pub symbol_of : NamedSymbol → Symbol
@@ -20,47 +11,9 @@ symbol_of kept = record { name = kept.name.items; variable = kept.variable }
 abbrev pub symbols_of : List NamedSymbol → List Symbol
 symbols_of kept = map symbol_of kept
 
--- what expression symbols that are lent are
-abbrev pub symbols_lent : List (Bor NamedSymbol) → List Symbol
-symbols_lent lent = map (λ symbol. symbol_of symbol.now) lent
-
--- a name as a symbol, where what is no declared constant is a variable
-abbrev pub by_constants : List Item → List ℕ → Symbol
-by_constants before name = record { name = name; variable = not (has (constants before) name) }
-
 -- a name as a variable
 abbrev pub variable_of : List ℕ → Symbol
 variable_of name = record { name = name; variable = true }
-
--- the symbols that are kept for an item: none where nothing is kept
-abbrev pub kept_or_none : Option (Vec NamedSymbol Global) → List NamedSymbol
-kept_or_none None = []
-kept_or_none (Some kept) = kept.items
-
--- the symbols that are kept for the item with this number
-abbrev pub expression_kept : List (Vec NamedSymbol Global) → ℕ → List NamedSymbol
-expression_kept expressions n = kept_or_none (slice_get expressions n)
-
--- for each `$f`, `$e`, `$a` and `$p` its expression is kept, read at its own place
-abbrev pub AreExpressions : List Item → List (Vec NamedSymbol Global) → Type 0
-AreExpressions before expressions = (n : ℕ) (item : Item) → slice_get before n ≡ Some item → is_labelled item.kind ≡ true → symbols_of (expression_kept expressions n) ≡ expression (take n before) item
-
--- a `$f`, `$e`, `$a`, `$p` or `$d`
-abbrev pub is_read : Kind → Bool
-is_read kind = is_labelled kind || is_disjoint kind
-
--- for each of these its symbols are kept, read at its own place
-pub record AreSymbols (before : List Item) (expressions : List (Vec NamedSymbol Global)) : Type 0 where
-  pub count : length expressions ≡ length before
-  pub each : (n : ℕ) (item : Item) → slice_get before n ≡ Some item → is_read item.kind ≡ true → symbols_of (expression_kept expressions n) ≡ expression (take n before) item
-
--- the number of the `$f` of a symbol that is a variable
-abbrev pub float_number : Tables → NamedSymbol → List ℕ
-float_number tables kept = if kept.variable then option_to_list (float_of (table_name tables kept.name.items)) else []
-
--- the numbers of the `$f` of the variables among some symbols, in order
-abbrev pub float_numbers : Tables → List NamedSymbol → List ℕ
-float_numbers tables symbols = flat_map (float_number tables) symbols
 
 -- what pair of symbols it is
 abbrev pub pair_of : NamedSymbol × NamedSymbol → Symbol × Symbol
@@ -69,10 +22,3 @@ pair_of kept = (symbol_of kept.0, symbol_of kept.1)
 -- what pairs they are
 abbrev pub kept_pairs : List (NamedSymbol × NamedSymbol) → List (Symbol × Symbol)
 kept_pairs kept = map pair_of kept
-
--- the item is a sound `$a` or `$p` behind sound items, which the tables know
-pub record IsAssertionBehind (before : List Item) (item : Item) (tables : Tables) : Type 0 where
-  pub sound : AreSound before
-  pub known : Knows before tables
-  pub item_sound : IsSound before item
-  pub assertion : is_assertion item.kind ≡ true

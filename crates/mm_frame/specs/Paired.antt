@@ -5,7 +5,8 @@ use Rattle.std.specs.Global.{Global}
 use Rattle.mm_frame.specs.declared.symbol.NamedSymbol.{NamedSymbol}
 use Rattle.mm_frame.specs.Language.{Symbol, Mandatory, Frame}
 use Rattle.mm_frame.specs.Framing.{pairs_of}
-use Rattle.mm_frame.specs.Named.{symbols_of, expression_kept}
+use Rattle.mm_frame.specs.Named.{symbols_of}
+use Rattle.mm_frame.specs.KeptSymbols.{expression_kept}
 
 -- the names are those of one of the pairs, in one order or the other
 abbrev pub are_paired : List (Symbol × Symbol) → Symbol × Symbol → Bool

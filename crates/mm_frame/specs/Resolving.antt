@@ -6,11 +6,15 @@ use Rattle.mm_frame.specs.Language.{Resolved, Hypothesis, Assertion, Inactive, U
 use Rattle.mm_frame.specs.Framing.{expression, resolve}
 use Rattle.mm_frame.specs.Base.{BaseView, before, said_at, is_shown_at, is_framed_at, frame_at}
 
--- the item with this number is a sound statement before item i, and has the label
-pub record IsLabelOf (base : BaseView) (i j : ℕ) (label : List ℕ) : Type 0 where
-  pub earlier : j < i
+-- the item with this number is a sound `$f`, `$e`, `$a` or `$p`, and has the label
+pub record IsCarrier (base : BaseView) (label : List ℕ) (j : ℕ) : Type 0 where
   pub shown : is_shown_at base j ≡ true
   pub label_is : (said_at base j).label ≡ Some label
+
+-- so it is, and the item stands before item i
+pub record IsLabelOf (base : BaseView) (i j : ℕ) (label : List ℕ) : Type 0 where
+  pub earlier : j < i
+  pub carrier : IsCarrier base label j
 
 -- what is answered of a label at item i, where it means this there
 abbrev pub IsMeaning : BaseView → ℕ → List ℕ → answer.Resolved → Resolved → Type 0

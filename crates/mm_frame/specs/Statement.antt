@@ -9,7 +9,7 @@ use Rattle.mm_store.specs.declared.item.Item as store
 use Rattle.mm_store.specs.declared.item.ItemKind.{ItemKind}
 use Rattle.mm_store.specs.declared.item.ItemKind.TheVariants as items
 use Rattle.mm_store.specs.FilesView.{FilesView}
-use Rattle.mm_store.specs.FileFacts.{StandsIn}
+use Rattle.mm_store.specs.FileFacts.{CanBeRead}
 use Rattle.mm_store.specs.Expansion.{IsExpansion}
 use Rattle.mm_frame.specs.Item.{Kind, Constants, Variables, Disjoint, Floating, Essential, Axiom, Theorem, BlockStart, BlockEnd, Missing, Item, is_labelled}
 
@@ -64,8 +64,8 @@ item_of kind tokens = record { kind = kind; label = label_in kind tokens; symbol
 
 -- what an item of the files says by its words
 pub record Says (files : FilesView) (item : store.Item) (said : Item) : Type 0 where
-  pub stands : StandsIn files item
-  pub is : said ≡ item_of (kind_of item.kind) (tokens_of (slice_range stands.text item.start item.end) stands.words)
+  pub read : CanBeRead files item
+  pub is : said ≡ item_of (kind_of item.kind) (tokens_of (slice_range read.text item.start item.end) read.words)
 
 -- what the items of the files say, from the top file on
 pub record AreItems (files : FilesView) (top : List ℕ) (items : List Item) : Type 0 where

@@ -8,12 +8,13 @@ ghost use Rattle.mm_store.specs.declared.error.StoreError.TheVariants.{NoTop};
 ghost use Rattle.mm_frame.specs.Item.{is_labelled};
 ghost use Rattle.mm_frame.specs.Language.{AreSamePairs};
 ghost use Rattle.mm_frame.specs.Framing.{active_pairs, resolve};
-ghost use Rattle.mm_frame.specs.Base.{BaseView, IsOfFiles, before, said_at, is_proof_at, is_sound_at, fault_at, expression_at, hypotheses_at, frame_at, find_in, AreHypotheses};
-ghost use Rattle.mm_frame.specs.Named.{symbols_of, expression_kept, kept_pairs};
+ghost use Rattle.mm_frame.specs.Base.{BaseView, IsOfFiles, before, said_at, is_proof_at, is_framed_at, is_sound_at, fault_at, expression_at, frame_at, AreHypotheses};
+ghost use Rattle.mm_frame.specs.Named.{symbols_of, kept_pairs};
+ghost use Rattle.mm_frame.specs.KeptSymbols.{expression_kept};
 ghost use Rattle.mm_frame.specs.Paired.{pairs_in_order};
 ghost use Rattle.mm_frame.specs.Item as meant;
 ghost use Rattle.mm_frame.specs.Statement.{kind_of};
-ghost use Rattle.mm_frame.specs.Resolving.{IsMeaning, Resolves};
+ghost use Rattle.mm_frame.specs.Resolving.{IsCarrier, IsMeaning, Resolves};
 
 use crate::draft::{Draft, Frame, Parts, Row};
 use crate::judge::FrameFault;
@@ -78,7 +79,7 @@ fn is_shown_row(row: &Row) -> bool
 }
 
 impl Base {
-    ghost use Rattle.mm_frame.specs.Kept.{IsBase, HasItem, TellsPairs, rows_of, expressions_of, frames_of};
+    ghost use Rattle.mm_frame.specs.Kept.{IsBase, TellsPairs, hypotheses_at, rows_of, expressions_of, frames_of};
 
     /// Builds the base of the files from a top file on. `NoTop` comes where no file has the name `top`; any other
     /// error is `Memory`. It reads each item once, in time near linear in the texts and in the lists of active pairs,
@@ -103,8 +104,8 @@ impl Base {
         self.parts.rows.get(i)
     }
 
-    /// The frame that is kept of the item with this number, if one is kept.
-    fn kept_frame(&self, i: usize) -> Option<&Option<Frame>>
+    /// What is kept of the frame of the item with this number.
+    fn frame_row(&self, i: usize) -> Option<&Option<Frame>>
         ensures { option_map (λ frame. frame.now) result ≡ slice_get (frames_of self.now) i }
     {
         self.parts.frames.get(i)
@@ -157,7 +158,7 @@ impl Base {
 
     /// The item of the files with this number.
     pub fn item(&self, i: usize) -> &Item
-        requires { HasItem self.now i }
+        requires { (base : BaseView) × IsBase base self.now × (i < length base.said) }
         ensures found { (base : BaseView) → IsBase base self.now → slice_get base.found i ≡ Some result.now }
         ensures kind { (base : BaseView) → IsBase base self.now → kind_of result.now.kind ≡ (said_at base i).kind }
     {
@@ -195,17 +196,25 @@ impl Base {
         }
     }
 
-    /// The frame of the item with this number, where it is a sound `$a` or `$p`.
-    pub fn frame(&self, i: usize) -> Option<&Frame>
-        ensures hypotheses { (base : BaseView) → IsBase base self.now → option_map (λ frame. frame.now.hypotheses.items) result ≡ hypotheses_at base i }
-        ensures means { (base : BaseView) → IsBase base self.now → IfSome result (λ frame. AreHypotheses base i frame.now.hypotheses.items) }
-        ensures pairs { (base : BaseView) → IsBase base self.now → IfSome result (λ frame. AreSamePairs (kept_pairs frame.now.pairs.items) (frame_at base i).pairs) }
-        ensures order { (base : BaseView) → IsBase base self.now → IfSome result (λ frame. kept_pairs frame.now.pairs.items ≡ pairs_in_order (frame_at base i)) }
+    /// The frame that is kept of the item with this number, if one is kept; its pairs stand in the order of its `$f`.
+    pub(crate) fn kept_frame(&self, i: usize) -> Option<&Frame>
+        ensures numbers { (base : BaseView) → IsBase base self.now → option_map (λ frame. frame.now.hypotheses.items) result ≡ hypotheses_at base i }
+        ensures order { (base : BaseView) → IsBase base self.now →
+            IfSome result (λ frame. kept_pairs frame.now.pairs.items ≡ pairs_in_order (frame_at base i)) }
     {
-        match self.kept_frame(i) {
+        match self.frame_row(i) {
             Some(frame) => frame_in(frame),
             None => None,
         }
+    }
+
+    /// The frame of the item with this number, where it is a sound `$a` or `$p`: its mandatory hypotheses and pairs.
+    pub fn frame(&self, i: usize) -> Option<&Frame>
+        ensures some { (base : BaseView) → IsBase base self.now → is_some result ≡ is_framed_at base i }
+        ensures means { (base : BaseView) → IsBase base self.now → IfSome result (λ frame. AreHypotheses base i frame.now.hypotheses.items) }
+        ensures pairs { (base : BaseView) → IsBase base self.now → IfSome result (λ frame. AreSamePairs (kept_pairs frame.now.pairs.items) (frame_at base i).pairs) }
+    {
+        self.kept_frame(i)
     }
 
     /// The number of the list of active pairs that is kept of the item with this number, if one is kept.
@@ -232,14 +241,14 @@ impl Base {
 
     /// The number of the sound item that has a label, if one has it, active or not.
     pub fn find(&self, label: &[u8]) -> Option<usize>
-        ensures { (base : BaseView) → IsBase base self.now → result ≡ find_in base label.now }
+        ensures { (base : BaseView) (j : ℕ) → IsBase base self.now → (result ≡ Some j) ↔ IsCarrier base label.now j }
     {
         self.parts.tables.label(label)
     }
 
     /// What the label of the sound item `j` means at the item `i`.
     fn meaning(&self, j: usize, i: usize) -> Resolved
-        ensures { (base : BaseView) (label : List ℕ) → IsBase base self.now → find_in base label ≡ Some j → Resolves base i label result }
+        ensures { (base : BaseView) (label : List ℕ) → IsBase base self.now → IsCarrier base label j → Resolves base i label result }
     {
         if j >= i {
             Resolved::Unknown

@@ -3,17 +3,19 @@
 ghost use Rattle.std.specs.Prelude.{◌≡◌, ◌∷◌, ◌++◌, Bool, List, [], true, IfOk, OnOk, All, is_some, length, ◌&&◌};
 ghost use Rattle.std.specs.Option.{option_map};
 ghost use Rattle.std.specs.List.{AllZip};
-ghost use Rattle.mm_store.specs.FileFacts.{StandsIn};
+ghost use Rattle.mm_store.specs.FileFacts.{CanBeRead};
 ghost use Rattle.mm_frame.specs.Item as meant;
 ghost use Rattle.mm_frame.specs.Statement.{Says, kind_of};
 ghost use Rattle.mm_frame.specs.Sound.{AreSound, IsSound, kept};
 ghost use Rattle.mm_frame.specs.Framing.{expression};
 ghost use Rattle.mm_frame.specs.Known.{Knows};
-ghost use Rattle.mm_frame.specs.Named.{symbols_of, is_read, AreExpressions, AreSymbols};
-ghost use Rattle.mm_frame.specs.Scope.{closes, mark_of};
+ghost use Rattle.mm_frame.specs.Named.{symbols_of};
+ghost use Rattle.mm_frame.specs.KeptSymbols.{is_read, AreExpressions, AreSymbols};
+ghost use Rattle.mm_frame.specs.Scope.{closes, mark_of, active_numbers};
 ghost use Rattle.mm_frame.specs.Scoping.{taken};
 ghost use Rattle.mm_frame.specs.Blocks.{marks_of};
-ghost use Rattle.mm_frame.specs.Tables.{active_numbers, is_essential_item, is_disjoint_item, IsSort};
+ghost use Rattle.mm_frame.specs.Earlier.{IsFramed, KnowsEarlier};
+ghost use Rattle.mm_frame.specs.Tables.{is_essential_item, is_disjoint_item, IsSort};
 ghost use Rattle.mm_frame.specs.Base.{fault_by};
 ghost use Rattle.mm_frame.specs.PairLists.{AreMade};
 ghost use Rattle.mm_frame.specs.PairTable.{KnowsPairs};
@@ -23,7 +25,7 @@ use crate::FrameNumber;
 use crate::active::ActiveNumbers;
 use crate::blocks::Blocks;
 use crate::judge::{FrameFault, fault_of};
-use crate::mandatory::{hypotheses, mandatory_pairs};
+use crate::mandatory::{Earlier, hypotheses, mandatory_pairs};
 use crate::pair_lists::PairLists;
 use crate::paired::PairTable;
 use crate::scope::Scope;
@@ -168,24 +170,21 @@ fn has_proof(kind: ItemKind, sound: bool) -> bool
     sound && matches!(kind, ItemKind::Theorem)
 }
 
-/// The frame of a statement, if it has one.
+/// The frame of a statement with these symbols, if it has one.
 fn frame_of(
     alloc: Global,
-    tables: &Tables,
-    pairs: &PairTable,
-    blocks: &Blocks,
-    essentials: &[usize],
-    expressions: &[Vec<NamedSymbol>],
+    earlier: &Earlier,
     own: &[NamedSymbol],
     framed: bool,
 ) -> Result<Option<Frame>, AllocError>
-    ensures { IfOk result (λ frame. (before : List meant.Item) (item : meant.Item) → AreSound before → Knows before tables.now → KnowsPairs before pairs.now → blocks.now ≡ marks_of before → (framed ≡ true → IsSound before item × (meant.is_assertion item.kind ≡ true) × (symbols_of own.now ≡ expression before item)) → essentials.now ≡ active_numbers is_essential_item before → AreExpressions before expressions.now → KeepsFrame framed before item frame) }
+    ensures { IfOk result (λ frame. (before : List meant.Item) (item : meant.Item) → KnowsEarlier before earlier.now
+        → (framed ≡ true → IsFramed before item own.now) → KeepsFrame framed before item frame) }
 {
     if !framed {
         return Ok(None);
     }
-    let hypotheses = hypotheses(alloc, tables, essentials, expressions, own)?;
-    let pairs = mandatory_pairs(alloc, pairs, blocks, essentials, expressions, &hypotheses)?;
+    let hypotheses = hypotheses(alloc, earlier, own)?;
+    let pairs = mandatory_pairs(alloc, earlier, &hypotheses)?;
     Ok(Some(Frame { hypotheses, pairs }))
 }
 
@@ -285,6 +284,19 @@ impl<'a> Draft<'a> {
         }
     }
 
+    /// What is known of the items so far.
+    fn earlier(&self) -> Earlier<'_>
+        ensures { (said : List meant.Item) → IsDraft said self.now → KnowsEarlier (kept said) result }
+    {
+        Earlier {
+            tables: self.scope.tables(),
+            pairs: &self.pair_table,
+            blocks: self.scope.blocks(),
+            essentials: self.essentials.as_slice(),
+            expressions: &self.expressions,
+        }
+    }
+
     /// The frame of one more statement with these symbols, if it has one.
     fn frame(
         &self,
@@ -292,18 +304,10 @@ impl<'a> Draft<'a> {
         own: &[NamedSymbol],
         framed: bool,
     ) -> Result<Option<Frame>, AllocError>
-        ensures { IfOk result (λ frame. (said : List meant.Item) (item : meant.Item) → IsDraft said self.now → (framed ≡ true → IsSound (kept said) item × (meant.is_assertion item.kind ≡ true) × (symbols_of own.now ≡ expression (kept said) item)) → KeepsFrame framed (kept said) item frame) }
+        ensures { IfOk result (λ frame. (said : List meant.Item) (item : meant.Item) → IsDraft said self.now
+            → (framed ≡ true → IsFramed (kept said) item own.now) → KeepsFrame framed (kept said) item frame) }
     {
-        Ok(frame_of(
-            alloc,
-            self.scope.tables(),
-            &self.pair_table,
-            self.scope.blocks(),
-            self.essentials.as_slice(),
-            &self.expressions,
-            own,
-            framed,
-        )?)
+        Ok(frame_of(alloc, &self.earlier(), own, framed)?)
     }
 
     /// Takes one more statement. Want of memory leaves the draft as good for nothing.
@@ -361,7 +365,7 @@ impl<'a> Draft<'a> {
 
     /// Reads one more item of the files. Want of memory leaves the draft as good for nothing.
     pub fn read(&mut self, alloc: Global, files: &'a Files, item: &Item) -> Result<(), AllocError>
-        requires { StandsIn files.now item.now }
+        requires { CanBeRead files.now item.now }
         ensures { OnOk result ((one : meant.Item) × Says files.now item.now one × ((said : List meant.Item) → IsDraft said self.old → IsDraft (said ++ one ∷ []) self.new)) }
     {
         let statement = Statement::read(alloc, files, item)?;
@@ -374,7 +378,7 @@ impl<'a> Draft<'a> {
         files: &'a Files,
         items: &[Item],
     ) -> Result<Draft<'a>, AllocError>
-        requires { All (StandsIn files.now) items.now }
+        requires { All (CanBeRead files.now) items.now }
         ensures { IfOk result (λ draft. (said : List meant.Item) × AllZip (Says files.now) items.now said × IsDraft said draft) }
     {
         let mut draft = Draft::new(alloc);

@@ -1,6 +1,6 @@
 //! The faults of statements of small databases.
 
-ghost use Rattle.mm_store.specs.FileFacts.{StandsIn};
+ghost use Rattle.mm_store.specs.FileFacts.{CanBeRead};
 
 use crate::judge::{FrameFault, fault_of};
 use crate::scope::Scope;
@@ -19,7 +19,7 @@ fn judge_item<'a>(
     item: &Item,
     scope: &mut Scope<'a>,
 ) -> Result<Option<FrameFault>, AllocError>
-    requires { StandsIn files.now item.now }
+    requires { CanBeRead files.now item.now }
 {
     let statement = Statement::read(alloc, files, item)?;
     let found = fault_of(alloc, scope, &statement)?;

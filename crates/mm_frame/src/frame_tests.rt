@@ -1,6 +1,6 @@
 //! Expressions, mandatory hypotheses and pairs of small databases, and when two assertions have the same frame.
 
-ghost use Rattle.mm_store.specs.FileFacts.{StandsIn};
+ghost use Rattle.mm_store.specs.FileFacts.{CanBeRead};
 
 use crate::base_tests::base_of;
 use crate::draft::{Draft, Parts};
@@ -25,7 +25,7 @@ fn keep_item(
     tables: &mut Tables,
     expressions: &mut Vec<Vec<NamedSymbol>>,
 ) -> Result<(), AllocError>
-    requires { StandsIn files.now item.now }
+    requires { CanBeRead files.now item.now }
 {
     let statement = Statement::read(alloc, files, item)?;
     expressions.push(expression_of(alloc, tables, &statement)?)?;

@@ -3,11 +3,12 @@
 ghost use Rattle.std.specs.Prelude.{◌≡◌, ◌++◌, ◌∷◌, ℕ, List, [], OnOk, IfOk, map, filter};
 ghost use Rattle.std.specs.List.{flat_map};
 ghost use Rattle.mm_frame.specs.Item as meant;
-ghost use Rattle.mm_frame.specs.Sound.{AreSound};
-ghost use Rattle.mm_frame.specs.Framing.{expression, pairs_of, active_pairs, frame};
+ghost use Rattle.mm_frame.specs.Framing.{pairs_of, active_pairs, frame, mandatory_numbers};
+ghost use Rattle.mm_frame.specs.Earlier.{IsFramed, KnowsEarlier};
 ghost use Rattle.mm_frame.specs.Blocks.{marks_of};
-ghost use Rattle.mm_frame.specs.Tables.{active_numbers, is_essential_item, mandatory_numbers, IsRising};
-ghost use Rattle.mm_frame.specs.Named.{symbol_of, symbols_of, symbols_lent, AreExpressions, float_number, float_numbers, expression_kept, kept_pairs, IsAssertionBehind};
+ghost use Rattle.mm_frame.specs.Tables.{IsRising};
+ghost use Rattle.mm_frame.specs.Named.{symbol_of, kept_pairs};
+ghost use Rattle.mm_frame.specs.KeptSymbols.{symbols_lent, float_number, float_numbers, expression_kept};
 ghost use Rattle.mm_frame.specs.Paired as paired;
 ghost use Rattle.mm_frame.specs.Paired.{are_paired, pairs_in_order, float_variable, float_variables};
 ghost use Rattle.mm_frame.specs.PairTable.{KnowsPairs};
@@ -17,6 +18,21 @@ use crate::paired::PairTable;
 use crate::symbol::{NamedSymbol, add_pair};
 use crate::tables::Tables;
 use std::alloc::{AllocError, Global};
+
+/// What is known of the sound items before an assertion.
+#[derive(Clone, Copy)]
+pub struct Earlier<'a> {
+    /// What they declare.
+    pub tables: &'a Tables,
+    /// The pairs of their `$d`.
+    pub pairs: &'a PairTable,
+    /// Their blocks.
+    pub blocks: &'a Blocks,
+    /// The numbers of the active `$e`, rising.
+    pub essentials: &'a [usize],
+    /// The symbols of each, by its number.
+    pub expressions: &'a [Vec<NamedSymbol>],
+}
 
 /// Adds the number of the `$f` of a symbol that is a variable.
 fn add_float(
@@ -78,23 +94,20 @@ fn add_all_floats(
     Ok(())
 }
 
-/// The numbers of the mandatory hypotheses of a sound assertion, rising: of the active `$e`, and of the `$f` of the
-/// variables of these and of the assertion.
-///
-/// `essentials` are the numbers of the active `$e`, `expressions` those of the items before the assertion by their
-/// numbers, and `own` is the assertion's.
+/// The numbers of the mandatory hypotheses of a sound assertion with these symbols, rising: of the active `$e`, and of
+/// the `$f` of the variables of these and of the assertion.
 pub fn hypotheses(
     alloc: Global,
-    tables: &Tables,
-    essentials: &[usize],
-    expressions: &[Vec<NamedSymbol>],
+    earlier: &Earlier,
     own: &[NamedSymbol],
 ) -> Result<Vec<usize>, AllocError>
-    ensures { IfOk result (λ numbers. (before : List meant.Item) (item : meant.Item) → IsAssertionBehind before item tables.now → essentials.now ≡ active_numbers is_essential_item before → AreExpressions before expressions.now → symbols_of own.now ≡ expression before item → numbers.items ≡ mandatory_numbers before item) }
+    ensures { IfOk result (λ numbers. (before : List meant.Item) (item : meant.Item) → KnowsEarlier before earlier.now
+        → IsFramed before item own.now → numbers.items ≡ mandatory_numbers before item) }
 {
+    let (essentials, expressions) = (earlier.essentials, earlier.expressions);
     let mut numbers = Vec::from_slice(alloc, essentials)?;
-    add_floats(tables, own, &mut numbers)?;
-    add_all_floats(tables, expressions, essentials, &mut numbers)?;
+    add_floats(earlier.tables, own, &mut numbers)?;
+    add_all_floats(earlier.tables, expressions, essentials, &mut numbers)?;
     numbers.sort_unstable();
     numbers.dedup();
     Ok(numbers)
@@ -205,24 +218,20 @@ fn active_among(
             &mut pairs,
         )?;
     }
+    pairs.shrink_to_fit();
     Ok(pairs)
 }
 
-/// The pairs of a sound assertion: of the variables of its mandatory `$f`, in their order, those that an active `$d`
-/// has.
-///
-/// `table` and `blocks` are those of the items before the assertion, `essentials` are the numbers of the active `$e`,
-/// `expressions` those of the items by their numbers, and `hypotheses` are the numbers of the mandatory hypotheses.
+/// The pairs of a sound assertion with these mandatory hypotheses: of the variables of its mandatory `$f`, in their
+/// order, those that an active `$d` has.
 pub fn mandatory_pairs(
     alloc: Global,
-    table: &PairTable,
-    blocks: &Blocks,
-    essentials: &[usize],
-    expressions: &[Vec<NamedSymbol>],
+    earlier: &Earlier,
     hypotheses: &[usize],
 ) -> Result<Vec<(NamedSymbol, NamedSymbol)>, AllocError>
-    ensures { IfOk result (λ pairs. (before : List meant.Item) (item : meant.Item) → AreSound before → KnowsPairs before table.now → blocks.now ≡ marks_of before → essentials.now ≡ active_numbers is_essential_item before → AreExpressions before expressions.now → hypotheses.now ≡ mandatory_numbers before item → kept_pairs pairs.items ≡ pairs_in_order (frame before item)) }
+    ensures { IfOk result (λ pairs. (before : List meant.Item) (item : meant.Item) → KnowsEarlier before earlier.now
+        → hypotheses.now ≡ mandatory_numbers before item → kept_pairs pairs.items ≡ pairs_in_order (frame before item)) }
 {
-    let variables = variables_typed(alloc, essentials, expressions, hypotheses)?;
-    active_among(alloc, table, blocks, &variables)
+    let variables = variables_typed(alloc, earlier.essentials, earlier.expressions, hypotheses)?;
+    active_among(alloc, earlier.pairs, earlier.blocks, &variables)
 }

@@ -1,6 +1,11 @@
-//! Labels belong to one item each.
+//! Each sound item has a label of its own, and mandatory hypotheses are found by theirs.
 
-ghost use Rattle.mm_frame.specs.Laws.{HasOwnLabels, MandatoryMeans};
+ghost use Rattle.mm_frame.specs.Laws.{HasOwnLabels, ItemsHaveLabels, MandatoryMeans, MandatoryStandBefore};
+
+/// Each sound `$f`, `$e`, `$a` and `$p` has a label.
+pub fn items_have_labels()
+    ensures { ItemsHaveLabels }
+{}
 
 /// Two sound items with one label are one.
 pub fn has_own_labels()
@@ -10,4 +15,9 @@ pub fn has_own_labels()
 /// A mandatory hypothesis of an item is what its label means there.
 pub fn mandatory_means()
     ensures { MandatoryMeans }
+{}
+
+/// The mandatory hypotheses of an item are sound and stand before it, and are those of its frame.
+pub fn mandatory_stand_before()
+    ensures { MandatoryStandBefore }
 {}

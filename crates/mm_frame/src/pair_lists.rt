@@ -5,8 +5,10 @@ ghost use Rattle.std.specs.List.{flat_map};
 ghost use Rattle.mm_frame.specs.Item as meant;
 ghost use Rattle.mm_frame.specs.Sound.{AreSound};
 ghost use Rattle.mm_frame.specs.Framing.{pairs_of, active_pairs};
-ghost use Rattle.mm_frame.specs.Tables.{active_numbers, is_disjoint_item};
-ghost use Rattle.mm_frame.specs.Named.{symbol_of, symbols_of, AreSymbols, expression_kept, kept_pairs};
+ghost use Rattle.mm_frame.specs.Tables.{is_disjoint_item};
+ghost use Rattle.mm_frame.specs.Scope.{active_numbers};
+ghost use Rattle.mm_frame.specs.Named.{symbol_of, symbols_of, kept_pairs};
+ghost use Rattle.mm_frame.specs.KeptSymbols.{AreSymbols, expression_kept};
 ghost use Rattle.mm_frame.specs.PairLists.{HasActivePairs};
 
 use crate::symbol::{NamedSymbol, add_pair};
@@ -82,6 +84,7 @@ fn pairs_at(
     for number in disjoints {
         add_pairs_at(alloc, expressions, *number, &mut pairs)?;
     }
+    pairs.shrink_to_fit();
     Ok(pairs)
 }
 

@@ -98,7 +98,7 @@ pub fn same_but_pairs(one: &Base, i: usize, other: &Base, j: usize) -> bool
 pub fn same_frame(one: &Base, i: usize, other: &Base, j: usize) -> bool
     ensures { (base copy : BaseView) → IsBase base one.now → IsBase copy other.now → is_framed_at base i ≡ true → is_framed_at copy j ≡ true → IsTrue result ↔ AreSameFrame (frame_at base i) (frame_at copy j) }
 {
-    match (one.frame(i), other.frame(j)) {
+    match (one.kept_frame(i), other.kept_frame(j)) {
         (Some(mine), Some(yours)) => {
             same_but_pairs(one, i, other, j) && same_pairs(&mine.pairs, &yours.pairs)
         }

@@ -3,7 +3,7 @@
 ghost use Rattle.std.specs.Prelude.{◌≡◌, ◌+◌, ◌<◌, ◌≤◌, [], false, None, Some, All, IfOk, length, drop, is_some, slice_get, slice_index_or};
 ghost use Rattle.std.specs.Option.{option_map};
 ghost use Rattle.std.specs.List.{prefix_len};
-ghost use Rattle.mm_store.specs.FileFacts.{StandsIn};
+ghost use Rattle.mm_store.specs.FileFacts.{CanBeRead};
 ghost use Rattle.mm_frame.specs.Item as meant;
 ghost use Rattle.mm_frame.specs.Sound.{first_symbol};
 ghost use Rattle.mm_frame.specs.Spoken.{IsInside};
@@ -97,8 +97,9 @@ fn bytes_of<'a>(text: &'a [u8], words: &[Word], n: usize) -> &'a [u8]
 impl<'a> Statement<'a> {
     /// What an item of the files says. The item's bytes are read once.
     pub fn read(alloc: Global, files: &'a Files, item: &Item) -> Result<Self, AllocError>
-        requires { StandsIn files.now item.now }
-        ensures { IfOk result (Says files.now item.now) }
+        requires { CanBeRead files.now item.now }
+        ensures says { IfOk result (Says files.now item.now) }
+        ensures only { IfOk result (λ read. (said : meant.Item) → Says files.now item.now said → read ≡ said) }
     {
         one_meaning();
         let text = &files.piece(item.key)[item.start..item.end];

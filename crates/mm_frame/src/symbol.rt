@@ -5,7 +5,8 @@ ghost use Rattle.mm_frame.specs.Item as meant;
 ghost use Rattle.mm_frame.specs.Sound.{AreSound, IsSound};
 ghost use Rattle.mm_frame.specs.Framing.{expression};
 ghost use Rattle.mm_frame.specs.Known.{Knows};
-ghost use Rattle.mm_frame.specs.Named.{symbol_of, symbols_of, kept_pairs, by_constants, variable_of};
+ghost use Rattle.mm_frame.specs.Named.{symbol_of, symbols_of, kept_pairs, variable_of};
+ghost use Rattle.mm_frame.specs.KeptSymbols.{by_constants};
 
 use crate::statement::Statement;
 use crate::tables::Tables;
@@ -73,7 +74,7 @@ pub fn expression_of(
 ) -> Result<Vec<NamedSymbol>, AllocError>
     ensures { IfOk result (λ symbols. (before : List meant.Item) → AreSound before → Knows before tables.now → IsSound before statement.now → meant.is_labelled statement.now.kind ≡ true → symbols_of symbols.items ≡ expression before statement.now) }
 {
-    let mut symbols = Vec::new(alloc);
+    let mut symbols = Vec::with_capacity(alloc, statement.symbol_count())?;
     for n in 0..statement.symbol_count() {
         symbols.push(symbol_named(alloc, tables, statement.symbol(n))?)?;
     }
@@ -95,7 +96,7 @@ fn variable_named(alloc: Global, name: &[u8]) -> Result<NamedSymbol, AllocError>
 pub fn variables_of(alloc: Global, statement: &Statement) -> Result<Vec<NamedSymbol>, AllocError>
     ensures { IfOk result (λ symbols. (before : List meant.Item) → IsSound before statement.now → meant.is_disjoint statement.now.kind ≡ true → symbols_of symbols.items ≡ expression before statement.now) }
 {
-    let mut variables = Vec::new(alloc);
+    let mut variables = Vec::with_capacity(alloc, statement.symbol_count())?;
     for n in 0..statement.symbol_count() {
         variables.push(variable_named(alloc, statement.symbol(n))?)?;
     }

@@ -1,6 +1,6 @@
 //! What the tables, the items and the blocks of small databases tell.
 
-ghost use Rattle.mm_store.specs.FileFacts.{StandsIn};
+ghost use Rattle.mm_store.specs.FileFacts.{CanBeRead};
 
 use crate::active::ActiveNumbers;
 use crate::blocks::Blocks;
@@ -21,7 +21,7 @@ fn take_item(
     number: usize,
     tables: &mut Tables,
 ) -> Result<(), AllocError>
-    requires { StandsIn files.now item.now }
+    requires { CanBeRead files.now item.now }
 {
     let statement = Statement::read(alloc, files, item)?;
     tables.take(alloc, &statement, number)
@@ -99,7 +99,7 @@ fn tells_which_items_have_labels(rt: HostRuntime) -> Result<(), Fail> {
 
 /// The label of an item, a colon, its symbols and its proof with a space before each word, and `=` between the two.
 fn words_of(alloc: Global, files: &Files, item: &Item) -> Result<Vec<u8>, AllocError>
-    requires { StandsIn files.now item.now }
+    requires { CanBeRead files.now item.now }
 {
     let statement = Statement::read(alloc, files, item)?;
     let mut words = Vec::new(alloc);
@@ -147,7 +147,7 @@ fn tells_what_items_say(rt: HostRuntime) -> Result<(), Fail> {
 
 /// Where the words of the last proof are among those of their statement.
 fn last_place(alloc: Global, files: &Files, item: &Item) -> Result<Option<usize>, AllocError>
-    requires { StandsIn files.now item.now }
+    requires { CanBeRead files.now item.now }
 {
     let statement = Statement::read(alloc, files, item)?;
     if statement.proof_count() == 2 && statement.kind() == ItemKind::Theorem {

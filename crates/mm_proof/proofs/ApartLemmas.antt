@@ -1,5 +1,5 @@
 -- Which variables are kept apart.
-use Rattle.std.proofs.Common.{◌≡◌, ◌↔◌, ◌⊎◌, ℕ, ◌+◌, ◌<◌, ◌≤◌, Bool, true, false, not, cond, ◌&&◌, ◌||◌, Some, List, [], ◌∷◌, ◌++◌, length, take, get_or, bytes_eq, refl, sym, ◌∙◌, ap, subst, inl, inr, arith}
+use Rattle.std.proofs.Common.{◌≡◌, ◌↔◌, ◌⊎◌, ℕ, ◌+◌, ◌<◌, ◌≤◌, Bool, true, false, not, cond, ◌&&◌, ◌||◌, Some, List, [], ◌∷◌, ◌++◌, length, get_or, bytes_eq, refl, sym, ◌∙◌, ap, subst, inl, inr, arith}
 use Rattle.std.specs.Prelude.{Contains, All, Any, slice_get}
 use Rattle.std.specs.Borrow.{Bor}
 use Rattle.std.specs.List.{list_any}
@@ -7,9 +7,9 @@ use Rattle.std.specs.HashSet.{HashSet, Updates, IsUnchanged, contains_by}
 use Rattle.std.proofs.Math.Decide.{ℕ_discrete}
 use Rattle.std.proofs.lemmas.Option.{slice_get-get_or, slice_get_within, get_or_from_slice_get, same_Some}
 use Rattle.std.proofs.lemmas.Bool.{cases_Bool, false≢true, or_cases, or_left, or_right, and_from, false_from_ne_true}
-use Rattle.std.proofs.lemmas.List.{map-append, map_more, get_or-map, get_or_default, length-map}
+use Rattle.std.proofs.lemmas.List.{map-append, get_or-map, get_or_default, length-map}
 use Rattle.std.proofs.lemmas.List.Elements.{Contains-push_cases, Contains-append_left, Contains-append_right}
-use Rattle.std.proofs.lemmas.List.Folds.{list_any-append, list_any_at}
+use Rattle.std.proofs.lemmas.List.Folds.{list_any_at}
 use Rattle.std.proofs.lemmas.Slice.Eq.{bytes_eq-Decides}
 use Rattle.mm_frame.specs.Item.{has}
 use Rattle.mm_frame.specs.Language.{Symbol, ArePair, AreSamePairs, HasVariable}
@@ -144,14 +144,6 @@ passes_at test names i y l e t =
 
 pub passes_in : (test : List ℕ → Bool) (names : List (Bor (List ℕ))) (i : ℕ) (d : Bor (List ℕ)) → i < length names → test (get_or names i d).now ≡ true → list_any test (names_of names) ≡ true
 passes_in test names i d l t = passes_at test names i (get_or names i d) l (get_or_default names i d (get_or names i d) l) t
-
--- one more that does not
-pub passes_not : (test : List ℕ → Bool) (names : List (Bor (List ℕ))) (i : ℕ) (y : Bor (List ℕ)) → i < length names → y ≡ get_or names i y → test y.now ≡ false → list_any test (names_of (take i names)) ≡ false → list_any test (names_of (take (i + 1) names)) ≡ false
-passes_not test names i y l e t f =
-    ap (list_any test) (map_more (λ (name : Bor (List ℕ)). name.now) names i y l ∙ ap (λ (name : Bor (List ℕ)). names_of (take i names) ++ name.now ∷ []) (sym e))
-    ∙ list_any-append test (names_of (take i names)) (y.now ∷ [])
-    ∙ ap (λ w. w || (test y.now || false)) f
-    ∙ ap (λ w. w || false) t
 
 -- a test that some element passes, and one that none does
 some_passes : (test : List ℕ → Bool) (xs : List (List ℕ)) → list_any test xs ≡ true → (x : List ℕ) × In x xs × (test x ≡ true)

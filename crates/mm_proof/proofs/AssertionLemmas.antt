@@ -1,5 +1,5 @@
 -- What citing an assertion does to the stack, or why it cannot be done.
-use Rattle.std.proofs.Common.{◌≡◌, ◌≢◌, ℕ, ◌+◌, ◌-◌, ◌<◌, ◌≤◌, true, false, Vec, Option, None, Some, List, [], ◌∷◌, ◌++◌, length, map, take, drop, refl, sym, ◌∙◌, ap, subst, arith, inl, inr, length-append}
+use Rattle.std.proofs.Common.{◌≡◌, ◌≢◌, ℕ, ◌+◌, ◌-◌, ◌<◌, ◌≤◌, true, false, Vec, Option, None, Some, List, [], ◌∷◌, ◌++◌, length, map, take, drop, refl, sym, ◌∙◌, ap, subst, arith, inl, inr}
 use Rattle.std.specs.Prelude.{slice_get, All, Any, MatchOption}
 use Rattle.std.specs.Borrow.{Bor}
 use Rattle.std.specs.Global.{Global}
@@ -113,12 +113,6 @@ cites active frame stack next n given result t e = record { below = take n stack
 
 pub cites_not : (active : List (Symbol × Symbol)) (frame : Frame) (stack next : List (List Symbol)) → CannotTake active frame (drop (length stack - length frame.hypotheses) stack) → ¬ Cites active frame stack next
 cites_not active frame stack next n m = n m.given m.result (subst (λ es. Takes active frame m.given es m.result) (sym (entries_are active frame stack next m)) m.takes)
-
-pub cites_too_few : (active : List (Symbol × Symbol)) (frame : Frame) (stack next : List (List Symbol)) → length stack < length frame.hypotheses → ¬ Cites active frame stack next
-cites_too_few active frame stack next l m =
-    let count = ap length (sym m.takes.entries_match) ∙ length-map frame.hypotheses (λ h. substituted m.given h.expression) in
-    let whole = ap length m.before in
-    omega (arith, length-append m.below m.entries)
 
 -- ---- the stack as it is kept
 

@@ -76,7 +76,10 @@ module _ (p q : Place) where
   name_same label Save _ f g both = absurd both.0
   name_same label NotKnown _ f g both = absurd both.0
 
-  any_same : (label : List ℕ) (steps others : List (Step × Spot)) → is_assertion (p.resolve label) ≡ true → is_assertion (q.resolve label) ≡ true → AllZip (λ s t. IsBoth p q s.0 t.0 × (s.1 ≡ t.1)) steps others → list_any (names label) (map (λ (s : Step × Spot). s.0) steps) ≡ list_any (names label) (map (λ (s : Step × Spot). s.0) others)
+  any_same :
+      (label : List ℕ) (steps others : List (Step × Spot)) → is_assertion (p.resolve label) ≡ true → is_assertion (q.resolve label) ≡ true →
+      AllZip (λ s t. IsBoth p q s.0 t.0 × (s.1 ≡ t.1)) steps others →
+      list_any (names label) (map (λ (s : Step × Spot). s.0) steps) ≡ list_any (names label) (map (λ (s : Step × Spot). s.0) others)
   any_same label [] [] f g all = refl
   any_same label [] (t ∷ others) f g all = absurd all
   any_same label (s ∷ steps) [] f g all = absurd all
@@ -88,7 +91,10 @@ module _ (p q : Place) where
     | inr e ↦ rw (assertion_same (p.resolve label) (q.resolve label) s, e) refl
   ]
 
-  each_same : (words : List (ℕ × List ℕ)) (steps others : List (Step × Spot)) → AllZip (λ s t. IsBoth p q s.0 t.0 × (s.1 ≡ t.1)) steps others → AllByRecursion (λ (w : ℕ × List ℕ). IsSameLabel p q w.1) words → AllByRecursion (λ (w : ℕ × List ℕ). is_cited p (map (λ (s : Step × Spot). s.0) steps) w.1 ≡ is_cited q (map (λ (s : Step × Spot). s.0) others) w.1) words
+  each_same :
+      (words : List (ℕ × List ℕ)) (steps others : List (Step × Spot)) → AllZip (λ s t. IsBoth p q s.0 t.0 × (s.1 ≡ t.1)) steps others →
+      AllByRecursion (λ (w : ℕ × List ℕ). IsSameLabel p q w.1) words →
+      AllByRecursion (λ (w : ℕ × List ℕ). is_cited p (map (λ (s : Step × Spot). s.0) steps) w.1 ≡ is_cited q (map (λ (s : Step × Spot). s.0) others) w.1) words
   each_same [] steps others all s = tt
   each_same (word ∷ words) steps others all s = (cited_same word.1 steps others all s.0, each_same words steps others all s.1)
 
@@ -99,4 +105,6 @@ module _ (p q : Place) where
   cites_on words close (Err fault) (Ok others) all s = absurd all
 
   pub cites_same : (mandatory others words : List (List ℕ)) → AreSameToDecode p q mandatory others words → cites p words (decoding p mandatory words) ≡ cites q words (decoding q others words)
-  cites_same mandatory others words s = cites_on words (word_spot (length words)) (steps_in p mandatory words (word_spot (length words))) (steps_in q others words (word_spot (length words))) (steps_same p q mandatory others words (word_spot (length words)) s) (words_all (IsSameLabel p q) words s.labels)
+  cites_same mandatory others words s =
+      let close = word_spot (length words) in
+      cites_on words close (steps_in p mandatory words close) (steps_in q others words close) (steps_same p q mandatory others words close s) (words_all (IsSameLabel p q) words s.labels)

@@ -165,27 +165,39 @@ module _ (view : BaseView) where
   entry_some i j h = rw h.2 refl
 
   -- a step names the label of an assertion where its entry is that assertion
-  label_named : HasOwnLabels view → (i j : ℕ) (labels : List Resolved) (k : ℕ) → AreEntries view i labels → is_shown_at view j ≡ true → is_assertion ((place_at view i).resolve (label_at view j)) ≡ true → names (label_at view j) (slice_index_or (entry_steps view labels) k NotKnown) ≡ is_item (item_of (slice_get labels k)) j
+  label_named :
+      HasOwnLabels view → (i j : ℕ) (labels : List Resolved) (k : ℕ) → AreEntries view i labels → is_shown_at view j ≡ true →
+      is_assertion ((place_at view i).resolve (label_at view j)) ≡ true →
+      names (label_at view j) (slice_index_or (entry_steps view labels) k NotKnown) ≡ is_item (item_of (slice_get labels k)) j
   label_named own i j [] k all s a = refl
-  label_named own i j (answers.Assertion m ∷ labels) zero all s a = own_eq own j m s all.0.0.shown ∙ eq_turned j m
+  label_named own i j (answers.Assertion m ∷ labels) zero all s a = own_eq own j m s all.0.0.carrier.shown ∙ eq_turned j m
   label_named own i j (answers.Hypothesis m ∷ labels) zero all s a = other_label (place_at view i) (place_at view i) (place_at view i) (label_at view j) (label_at view m) a (entry_none i m all.0)
   label_named own i j (answers.Inactive ∷ labels) zero all s a = refl
   label_named own i j (answers.Unknown ∷ labels) zero all s a = refl
   label_named own i j (label ∷ labels) (suc k) all s a = label_named own i j labels k all.1 s a
 
-  action_named : HasOwnLabels view → (i j : ℕ) (labels : List Resolved) (action : Action) → AreEntries view i labels → is_shown_at view j ≡ true → is_assertion ((place_at view i).resolve (label_at view j)) ≡ true → names (label_at view j) (meant (entry_steps view labels) action) ≡ is_item (item_named labels action) j
+  action_named :
+      HasOwnLabels view → (i j : ℕ) (labels : List Resolved) (action : Action) → AreEntries view i labels → is_shown_at view j ≡ true →
+      is_assertion ((place_at view i).resolve (label_at view j)) ≡ true →
+      names (label_at view j) (meant (entry_steps view labels) action) ≡ is_item (item_named labels action) j
   action_named own i j labels (actions.Label k) all s a = label_named own i j labels k all s a
   action_named own i j labels (actions.Saved n) all s a = refl
   action_named own i j labels actions.Save all s a = refl
   action_named own i j labels actions.Unknown all s a = refl
 
-  any_named : HasOwnLabels view → (i j : ℕ) (labels : List Resolved) (steps : List ProofStep) → AreEntries view i labels → is_shown_at view j ≡ true → is_assertion ((place_at view i).resolve (label_at view j)) ≡ true → list_any (names (label_at view j)) (map (λ (step : ProofStep). meant (entry_steps view labels) step.action) steps) ≡ list_any (names_item labels j) steps
+  any_named :
+      HasOwnLabels view → (i j : ℕ) (labels : List Resolved) (steps : List ProofStep) → AreEntries view i labels → is_shown_at view j ≡ true →
+      is_assertion ((place_at view i).resolve (label_at view j)) ≡ true →
+      list_any (names (label_at view j)) (map (λ (step : ProofStep). meant (entry_steps view labels) step.action) steps) ≡ list_any (names_item labels j) steps
   any_named own i j labels [] all s a = refl
   any_named own i j labels (step ∷ steps) all s a = rw (action_named own i j labels step.action all s a, any_named own i j labels steps all s a) refl
 
-  agree : HasOwnLabels view → (i : ℕ) (labels : List Resolved) (steps : List ProofStep) (entries : List Resolved) → AreEntries view i labels → AreEntries view i entries → Agrees (is_cited (place_at view i) (map (λ (step : ProofStep). meant (entry_steps view labels) step.action) steps)) (λ j. list_any (names_item labels j) steps) entries
+  agree :
+      HasOwnLabels view → (i : ℕ) (labels : List Resolved) (steps : List ProofStep) (entries : List Resolved) → AreEntries view i labels →
+      AreEntries view i entries →
+      Agrees (is_cited (place_at view i) (map (λ (step : ProofStep). meant (entry_steps view labels) step.action) steps)) (λ j. list_any (names_item labels j) steps) entries
   agree own i labels steps [] all some = tt
-  agree own i labels steps (answers.Assertion j ∷ entries) all some = (some.0.0.shown, rw (entry_some i j some.0) (any_named own i j labels steps all some.0.0.shown (entry_some i j some.0)), agree own i labels steps entries all some.1)
+  agree own i labels steps (answers.Assertion j ∷ entries) all some = (some.0.0.carrier.shown, rw (entry_some i j some.0) (any_named own i j labels steps all some.0.0.carrier.shown (entry_some i j some.0)), agree own i labels steps entries all some.1)
   agree own i labels steps (answers.Hypothesis j ∷ entries) all some = (rw (entry_none i j some.0) refl, agree own i labels steps entries all some.1)
   agree own i labels steps (answers.Inactive ∷ entries) all some = agree own i labels steps entries all some.1
   agree own i labels steps (answers.Unknown ∷ entries) all some = agree own i labels steps entries all some.1
@@ -201,7 +213,10 @@ module _ (view : BaseView) where
   behind_entries i (suc n) (label ∷ labels) all = behind_entries i n labels all.1
 
   -- a compressed proof
-  pub cites_compressed : HasOwnLabels view → (i : ℕ) (numbers : List ℕ) (words : List (List ℕ)) (labels : List Resolved) (steps : List ProofStep) → is_compressed words ≡ true → AreEntries view i labels → entry_steps view labels ≡ label_table (labels_at view numbers) words → item_cites (λ j. list_any (names_item labels j) steps) 1 (drop (length numbers) labels) ≡ cited_words (place_at view i) words (map (λ (step : ProofStep). meant (entry_steps view labels) step.action) steps)
+  pub cites_compressed :
+      HasOwnLabels view → (i : ℕ) (numbers : List ℕ) (words : List (List ℕ)) (labels : List Resolved) (steps : List ProofStep) → is_compressed words ≡ true →
+      AreEntries view i labels → entry_steps view labels ≡ label_table (labels_at view numbers) words →
+      item_cites (λ j. list_any (names_item labels j) steps) 1 (drop (length numbers) labels) ≡ cited_words (place_at view i) words (map (λ (step : ProofStep). meant (entry_steps view labels) step.action) steps)
   cites_compressed own i numbers words labels steps is all table =
       let P = is_cited (place_at view i) (map (λ (step : ProofStep). meant (entry_steps view labels) step.action) steps) in
       let listed = before_first is_close (drop 1 words) in
@@ -210,7 +225,10 @@ module _ (view : BaseView) where
       rw is (sym (told_items own P (λ j. list_any (names_item labels j) steps) 1 (enumerate_from 1 listed) (drop (length numbers) labels) (aligned_list 1 (drop (length numbers) labels) listed entries) a))
 
   -- a normal proof
-  pub cites_normal : HasOwnLabels view → (i : ℕ) (mandatory words : List (List ℕ)) (labels : List Resolved) (steps : List ProofStep) → is_compressed words ≡ false → AreEntries view i labels → entry_steps view labels ≡ label_table mandatory words → item_cites (λ j. list_any (names_item labels j) steps) 0 (drop 0 labels) ≡ cited_words (place_at view i) words (map (λ (step : ProofStep). meant (entry_steps view labels) step.action) steps)
+  pub cites_normal :
+      HasOwnLabels view → (i : ℕ) (mandatory words : List (List ℕ)) (labels : List Resolved) (steps : List ProofStep) → is_compressed words ≡ false →
+      AreEntries view i labels → entry_steps view labels ≡ label_table mandatory words →
+      item_cites (λ j. list_any (names_item labels j) steps) 0 (drop 0 labels) ≡ cited_words (place_at view i) words (map (λ (step : ProofStep). meant (entry_steps view labels) step.action) steps)
   cites_normal own i mandatory words labels steps is all table =
       let P = is_cited (place_at view i) (map (λ (step : ProofStep). meant (entry_steps view labels) step.action) steps) in
       let a = agree own i labels steps labels all all in

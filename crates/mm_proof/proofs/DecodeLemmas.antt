@@ -22,8 +22,14 @@ made names steps close = record { steps = map (λ (step : ProofStep). meant name
 decoded_is : (names : List Step) (steps : List ProofStep) (close : Spot) → decoded close (Ok (meant_steps names steps)) ≡ Ok (made names steps close)
 decoded_is names steps close = rw (only_steps names steps, only_spots names steps) refl
 
-pub compressed_done : (place : Place) (mandatory words : List (List ℕ)) (names : List Step) (steps : List ProofStep) → is_compressed words ≡ true → compressed_steps place mandatory (drop 1 words) (word_spot (length words)) ≡ Ok (meant_steps names steps) → decoding place mandatory words ≡ Ok (made names steps (word_spot (length words)))
+pub compressed_done :
+    (place : Place) (mandatory words : List (List ℕ)) (names : List Step) (steps : List ProofStep) → is_compressed words ≡ true →
+    compressed_steps place mandatory (drop 1 words) (word_spot (length words)) ≡ Ok (meant_steps names steps) →
+    decoding place mandatory words ≡ Ok (made names steps (word_spot (length words)))
 compressed_done place mandatory words names steps is e = rw (is, e) (decoded_is names steps (word_spot (length words)))
 
-pub normal_done : (place : Place) (mandatory words : List (List ℕ)) (names : List Step) (steps : List ProofStep) → is_compressed words ≡ false → in_order (each_word (read_word place) 0 words) ≡ Ok (meant_steps names steps) → decoding place mandatory words ≡ Ok (made names steps (word_spot (length words)))
+pub normal_done :
+    (place : Place) (mandatory words : List (List ℕ)) (names : List Step) (steps : List ProofStep) → is_compressed words ≡ false →
+    in_order (each_word (read_word place) 0 words) ≡ Ok (meant_steps names steps) →
+    decoding place mandatory words ≡ Ok (made names steps (word_spot (length words)))
 normal_done place mandatory words names steps is e = rw (is, e) (decoded_is names steps (word_spot (length words)))

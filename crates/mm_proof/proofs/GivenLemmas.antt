@@ -1,9 +1,9 @@
 -- What entries give for variables, and where an entry is an expression under it.
-use Rattle.std.proofs.Common.{◌≡◌, ◌≢◌, ◌↔◌, ℕ, zero, suc, ◌+◌, ◌-◌, ◌<◌, ◌≤◌, true, false, cond, Some, None, List, [], ◌∷◌, ◌++◌, length, take, drop, get_or, bytes_eq, refl, sym, ◌∙◌, ap, subst, append_assoc, length-append, inl, inr, arith}
+use Rattle.std.proofs.Common.{◌≡◌, ◌≢◌, ℕ, zero, suc, ◌+◌, ◌-◌, ◌<◌, ◌≤◌, true, false, cond, Some, None, List, [], ◌∷◌, ◌++◌, length, take, drop, get_or, bytes_eq, refl, sym, ◌∙◌, ap, subst, append_assoc, length-append, inl, inr, arith}
 use Rattle.std.specs.Prelude.{slice_get}
 use Rattle.std.proofs.Math.Decide.{ℕ_discrete}
 use Rattle.std.proofs.lemmas.Bool.{cases_Bool, false≢true}
-use Rattle.std.proofs.lemmas.List.{append_cancel_left, append-nil, take_more, drop_more, take_all, take-append-drop, map-append, take-map, drop-map, length-map, length-drop, drop_all}
+use Rattle.std.proofs.lemmas.List.{append_cancel_left, append-nil, take_more, drop_more, take-append-drop, map-append, take-map, drop-map, length-map, length-drop, drop_all}
 use Rattle.std.proofs.lemmas.Grind.{flat_map-append}
 use Rattle.std.proofs.lemmas.Option.{slice_get_within, get_or_from_slice_get, same_Some}
 use Rattle.std.proofs.lemmas.Slice.Eq.{bytes_eq-Decides}
@@ -43,38 +43,11 @@ pub record FitsSoFar (given : Symbol → List Symbol) (expression : List NamedSy
   pub within : at ≤ length entry
   pub joined : entry ≡ substituted given (named (take k expression)) ++ drop at entry
 
-pub fits_more : (given : Symbol → List Symbol) (expression : List NamedSymbol) (entry : List Symbol) (k at behind : ℕ) (d : NamedSymbol) → k < length expression → FitsSoFar given expression entry k at → StandsAt (replacement given (named_symbol (get_or expression k d))) entry at (Some behind) → FitsSoFar given expression entry (k + 1) behind
-fits_more given expression entry k at behind d l f s = record {
-  within = s.0;
-  joined =
-      f.joined
-      ∙ ap (λ w. substituted given (named (take k expression)) ++ w) s.1
-      ∙ sym (append_assoc (substituted given (named (take k expression))) (replacement given (named_symbol (get_or expression k d))) (drop behind entry))
-      ∙ ap (λ w. w ++ drop behind entry) (sym (put_more given expression k d l));
-}
-
 pub fits_not : (given : Symbol → List Symbol) (expression : List NamedSymbol) (entry : List Symbol) (k at : ℕ) (d : NamedSymbol) → k < length expression → FitsSoFar given expression entry k at → StandsAt (replacement given (named_symbol (get_or expression k d))) entry at None → substituted given (named expression) ≢ entry
 fits_not given expression entry k at d l f s e =
     let front = substituted given (named (take k expression)) in
     let rest = substituted given (named (drop (k + 1) expression)) in
     s rest (append_cancel_left front (drop at entry) (replacement given (named_symbol (get_or expression k d)) ++ rest) (sym f.joined ∙ sym e ∙ put_rest given expression k d l))
-
-pub fits_end : (given : Symbol → List Symbol) (expression : List NamedSymbol) (entry : List Symbol) (k at : ℕ) → length expression ≤ k → FitsSoFar given expression entry k at → (at ≡ length entry) ↔ (substituted given (named expression) ≡ entry)
-fits_end given expression entry k at l f =
-    let whole : entry ≡ substituted given (named expression) ++ drop at entry = f.joined ∙ ap (λ w. substituted given (named w) ++ drop at entry) (take_all k expression l) in (
-      λ e. sym (whole ∙ ap (λ w. substituted given (named expression) ++ w) (drop_all at entry (omega arith)) ∙ append-nil (substituted given (named expression))),
-      λ e.
-          let none : drop at entry ≡ [] = append_cancel_left entry (drop at entry) [] (ap (λ w. w ++ drop at entry) (sym e) ∙ sym whole ∙ sym (append-nil entry)) in
-          let count = length-drop-none at entry none in
-          let within = f.within in
-          omega arith,
-    )
-  where
-    length-drop-none : (n : ℕ) (xs : List Symbol) → drop n xs ≡ [] → length xs ≤ n
-    length-drop-none zero [] e = omega arith
-    length-drop-none zero (x ∷ xs) e = cc
-    length-drop-none (suc n) [] e = omega arith
-    length-drop-none (suc n) (x ∷ xs) e = let h = length-drop-none n xs e in omega arith
 
 -- ---- one symbol, or some, at a place
 

@@ -30,7 +30,10 @@ rest_ok (Ok step) spot (Err fault) steps e = cc
 rest_ok (Err number) spot rest steps e = cc
 
 -- one more label
-listed_more : (place : Place) (n : ℕ) (listed : List (List ℕ)) (word : List ℕ) (step : Step) (steps : List (Step × Spot)) → in_order (each_word (read_label place) n listed) ≡ Ok steps → read_label place word ≡ Ok step → (more : List (Step × Spot)) × (in_order (each_word (read_label place) n (listed ++ word ∷ [])) ≡ Ok more)
+listed_more :
+    (place : Place) (n : ℕ) (listed : List (List ℕ)) (word : List ℕ) (step : Step) (steps : List (Step × Spot)) →
+    in_order (each_word (read_label place) n listed) ≡ Ok steps → read_label place word ≡ Ok step →
+    (more : List (Step × Spot)) × (in_order (each_word (read_label place) n (listed ++ word ∷ [])) ≡ Ok more)
 listed_more place n [] word step steps e f = ((step, word_spot n) ∷ [], rw f refl)
 listed_more place n (first ∷ listed) word step steps e f =
     let r = rest_ok (read_label place first) (word_spot n) (in_order (each_word (read_label place) (n + 1) listed)) steps e in
@@ -38,12 +41,15 @@ listed_more place n (first ∷ listed) word step steps e f =
     ((r.0.0, word_spot n) ∷ more.0, ok_with (read_label place first) (word_spot n) _ r.0.0 more.0 r.0.1 more.1)
 
 -- a label that cannot be used
-fails_at : (place : Place) (n : ℕ) (listed : List (List ℕ)) (word : List ℕ) (words : List (List ℕ)) (number : ProofNumber) (steps : List (Step × Spot)) → in_order (each_word (read_label place) n listed) ≡ Ok steps → read_label place word ≡ Err number → in_order (each_word (read_label place) n (listed ++ word ∷ words)) ≡ Err (number, word_spot (n + length listed))
-fails_at place n [] word words number steps e f = let k : n ≡ n + 0 = omega arith in rw f (ap (λ (w : ℕ). Err (number, word_spot w)) k)
+fails_at :
+    (place : Place) (n : ℕ) (listed : List (List ℕ)) (word : List ℕ) (words : List (List ℕ)) (number : ProofNumber) (steps : List (Step × Spot)) →
+    in_order (each_word (read_label place) n listed) ≡ Ok steps → read_label place word ≡ Err number →
+    in_order (each_word (read_label place) n (listed ++ word ∷ words)) ≡ Err (record { number = number; spot = word_spot (n + length listed) })
+fails_at place n [] word words number steps e f = let k : n ≡ n + 0 = omega arith in rw f (ap (λ (w : ℕ). Err (record { number = number; spot = word_spot w })) k)
 fails_at place n (first ∷ listed) word words number steps e f =
     let r = rest_ok (read_label place first) (word_spot n) (in_order (each_word (read_label place) (n + 1) listed)) steps e in
     let k : n + 1 + length listed ≡ n + suc (length listed) = omega arith in
-    rw (r.0.1, fails_at place (n + 1) listed word words number r.1.0 r.1.1 f) (ap (λ (w : ℕ). Err (number, word_spot w)) k)
+    rw (r.0.1, fails_at place (n + 1) listed word words number r.1.0 r.1.1 f) (ap (λ (w : ℕ). Err (record { number = number; spot = word_spot w })) k)
 
 pub none_more : (listed : List (List ℕ)) (word : List ℕ) → list_any is_close listed ≡ false → is_close word ≡ false → list_any is_close (listed ++ word ∷ []) ≡ false
 none_more [] word e f = rw f refl
@@ -83,12 +89,19 @@ at_close place mandatory close listed words are =
     ∙ ap (λ (w : Steps). if_read w (letter_steps mandatory listed (length listed + 2) words close)) are.0.1
     ∙ ap (λ (w : ℕ). letter_steps mandatory listed w words close) k
 
-at_fault : (place : Place) (mandatory : List (List ℕ)) (close : Spot) (listed : List (List ℕ)) (word : List ℕ) (words : List (List ℕ)) (number : ProofNumber) → AreListed place 1 listed → is_close word ≡ false → read_label place word ≡ Err number → compressed_steps place mandatory (listed ++ word ∷ words) close ≡ Err (number, word_spot (1 + length listed))
+at_fault :
+    (place : Place) (mandatory : List (List ℕ)) (close : Spot) (listed : List (List ℕ)) (word : List ℕ) (words : List (List ℕ)) (number : ProofNumber) →
+    AreListed place 1 listed → is_close word ≡ false → read_label place word ≡ Err number →
+    compressed_steps place mandatory (listed ++ word ∷ words) close ≡ Err (record { number = number; spot = word_spot (1 + length listed) })
 at_fault place mandatory close listed word words number are other fails =
     ap (λ (w : List (List ℕ)). parts place mandatory close w (list_any is_close (listed ++ word ∷ words)) (after_first is_close (listed ++ word ∷ words))) (before_none listed (word ∷ words) are.1 ∙ ap (λ (w : List (List ℕ)). listed ++ w) (before_one word words other))
     ∙ rw (fails_at place 1 listed word (before_first is_close words) number are.0.0 are.0.1 fails) refl
 
-by_label : (place : Place) (mandatory : List (List ℕ)) (close : Spot) (listed : List (List ℕ)) (word : List ℕ) (words : List (List ℕ)) (r : Result Step ProofNumber) → read_label place word ≡ r → AreListed place 1 listed → is_close word ≡ false → (AreListed place 1 (listed ++ word ∷ []) → Joined place mandatory close (listed ++ word ∷ []) words) → compressed_steps place mandatory (listed ++ word ∷ words) close ≡ behind_label (1 + length listed) r (list_on place mandatory close (listed ++ word ∷ []) (1 + length listed + 1) words)
+by_label :
+    (place : Place) (mandatory : List (List ℕ)) (close : Spot) (listed : List (List ℕ)) (word : List ℕ) (words : List (List ℕ)) (r : Result Step ProofNumber) →
+    read_label place word ≡ r → AreListed place 1 listed → is_close word ≡ false →
+    (AreListed place 1 (listed ++ word ∷ []) → Joined place mandatory close (listed ++ word ∷ []) words) →
+    compressed_steps place mandatory (listed ++ word ∷ words) close ≡ behind_label (1 + length listed) r (list_on place mandatory close (listed ++ word ∷ []) (1 + length listed + 1) words)
 by_label place mandatory close listed word words (Ok step) e are other rest =
     ap (λ (w : List (List ℕ)). compressed_steps place mandatory w close) (sym (append_assoc listed (word ∷ []) words))
     ∙ rest (listed_more place 1 listed word step are.0.0 are.0.1 e, none_more listed word are.1 other)

@@ -12,7 +12,9 @@ use Rattle.mm_proof.specs.Expansion.{Step, Named, Saved, Save, NotKnown, Expande
 use Rattle.mm_proof.specs.Faults.{LackPair, CitingFails, LabelFails, LineHolds}
 use Rattle.mm_proof.specs.Reaches.{Reaches, IsFault}
 use Rattle.mm_proof.specs.Machine.{AreAllKnown}
-use Rattle.mm_proof.specs.Verdict.{Decoded, IsFirstUnknown, StepsDerive, IsWrongBy, IsVerdictOnSteps}
+use Rattle.mm_proof.specs.Run.{run_part}
+use Rattle.mm_proof.proofs.Part.{part_same}
+use Rattle.mm_proof.specs.Verdict.{Decoded, IsFirstUnknown, IsWrongBy, IsVerdictOnSteps}
 use Rattle.mm_proof.specs.View.{AreSameMeaning, IsSameStep, IsSameProof}
 use Rattle.mm_proof.specs.declared.Spot.{Spot}
 use Rattle.mm_proof.specs.declared.ProofNumber.{ProofNumber}
@@ -245,11 +247,6 @@ reached_moved p q s xs ys stack a r =
     let y = expansion_moved p q xs ys r.expanded a r.expands in
     record { expanded = y.0; expands = y.1; in_order = joined_moved p q s r.in_order y.0.labels y.2.labels }
 
-pub derive_moved : (p q : Place) → AreSamePairs p.active q.active → (xs ys : List Step) (statement : List Symbol) → AllZip (IsSameStep p q) xs ys → StepsDerive p xs statement → StepsDerive q ys statement
-derive_moved p q s xs ys statement a d =
-    let y = expansion_moved p q xs ys d.0 a d.1 in
-    (y.0, y.1, derived_moved p q s d.2 y.0.labels y.2.labels)
-
 -- a line that holds, at the other place
 any_moved : (P : Symbol → Symbol → Type 0) (pairs others : List (Symbol × Symbol)) → ((x y : Symbol) → P x y → P y x) → AreSamePairs pairs others → Any (λ pair. P pair.0 pair.1) pairs → Any (λ pair. P pair.0 pair.1) others
 any_moved P pairs others back s a =
@@ -265,7 +262,10 @@ lack_back active xs ys l = (l.1, l.0, l.3, l.2, (λ e. l.4 (sym e)), (λ r. l.5 
 lack_moved : (active others : List (Symbol × Symbol)) (xs ys : List Symbol) → AreSamePairs active others → LackPair active xs ys → LackPair others xs ys
 lack_moved active others xs ys s l = (l.0, l.1, l.2, l.3, l.4, (λ r. l.5 ((s l.0 l.1).1 r)))
 
-pairs_moved : (active others : List (Symbol × Symbol)) (expression : List Symbol) (hypotheses : List Mandatory) (pairs : List (Symbol × Symbol)) (b : Frame) (stack : List (List Symbol)) (number : ProofNumber) → AreSamePairs active others → AreSamePairs pairs b.pairs → expression ≡ b.expression → hypotheses ≡ b.hypotheses → CitingFails active (record { expression = expression; hypotheses = hypotheses; pairs = pairs }) stack number → CitingFails others b stack number
+pairs_moved :
+    (active others : List (Symbol × Symbol)) (expression : List Symbol) (hypotheses : List Mandatory) (pairs : List (Symbol × Symbol)) (b : Frame) (stack : List (List Symbol)) (number : ProofNumber) →
+    AreSamePairs active others → AreSamePairs pairs b.pairs → expression ≡ b.expression → hypotheses ≡ b.hypotheses →
+    CitingFails active (record { expression = expression; hypotheses = hypotheses; pairs = pairs }) stack number → CitingFails others b stack number
 pairs_moved active others expression hypotheses pairs b stack number s f e h c =
     by_number number (subst (λ (w : Frame). CitingFails active w stack number) (λ i. record { expression = e i; hypotheses = h i; pairs = pairs }) c)
   where
@@ -345,12 +345,21 @@ first_unknown_moved p q xs ys n a f = (
 )
 
 wrong_moved : (p q : Place) (statement : List Symbol) (c d : Decoded) (number : ProofNumber) (spot : Spot) → IsSameProof p q c d → IsWrongBy p statement c number spot → IsWrongBy q statement d number spot
-wrong_moved p q statement c d P14 spot s w = (w.0, reached_moved p q s.active c.steps d.steps w.0 s.steps w.1, w.2, w.3 ∙ s.close)
-wrong_moved p q statement c d P15 spot s w = (w.0, reached_moved p q s.active c.steps d.steps (w.0 ∷ []) s.steps w.1, w.2, w.3 ∙ s.close)
-wrong_moved p q statement c d number spot s w = (w.0, fault_moved p q s.active c.steps d.steps w.0 number s.steps w.1, ap (λ l. slice_get l w.0) (sym s.spots) ∙ w.2)
+wrong_moved p q statement c d P14 spot s w = (known_moved p q c.steps d.steps s.steps w.0, w.1, reached_moved p q s.active c.steps d.steps w.1 s.steps w.2, w.3, w.4 ∙ s.close)
+wrong_moved p q statement c d P15 spot s w = (known_moved p q c.steps d.steps s.steps w.0, w.1, reached_moved p q s.active c.steps d.steps (w.1 ∷ []) s.steps w.2, w.3, w.4 ∙ s.close)
+wrong_moved p q statement c d number spot s w = (
+  w.0,
+  fault_moved p q s.active (run_part c.steps) (run_part d.steps) w.0 number (part_same p q c.steps d.steps s.steps) w.1,
+  ap (λ l. slice_get l w.0) (sym s.spots) ∙ w.2,
+)
 
 -- the same proof has the same verdict
 pub verdict_moved : (p q : Place) (statement : List Symbol) (c d : Decoded) (v : Verdict) → IsSameProof p q c d → IsVerdictOnSteps p statement c v → IsVerdictOnSteps q statement d v
-verdict_moved p q statement c d Proved s v = (known_moved p q c.steps d.steps s.steps v.0, derive_moved p q s.active c.steps d.steps statement s.steps v.1)
-verdict_moved p q statement c d (Incomplete spot) s v = (v.0, first_unknown_moved p q c.steps d.steps v.0 s.steps v.1, ap (λ l. slice_get l v.0) (sym s.spots) ∙ v.2)
-verdict_moved p q statement c d (Wrong number spot) s v = (known_moved p q c.steps d.steps s.steps v.0, wrong_moved p q statement c d number spot s v.1)
+verdict_moved p q statement c d Proved s v = (known_moved p q c.steps d.steps s.steps v.0, reached_moved p q s.active c.steps d.steps (statement ∷ []) s.steps v.1)
+verdict_moved p q statement c d (Incomplete spot) s v = (
+  v.0,
+  first_unknown_moved p q c.steps d.steps v.0 s.steps v.1,
+  ap (λ l. slice_get l v.0) (sym s.spots) ∙ v.2,
+  (v.3.0, reached_moved p q s.active (run_part c.steps) (run_part d.steps) v.3.0 (part_same p q c.steps d.steps s.steps) v.3.1),
+)
+verdict_moved p q statement c d (Wrong number spot) s v = wrong_moved p q statement c d number spot s v

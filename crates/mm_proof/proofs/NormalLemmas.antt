@@ -20,7 +20,7 @@ use Rattle.mm_proof.specs.declared.step.Action.{Action}
 use Rattle.mm_proof.specs.declared.step.ProofStep.{ProofStep}
 use Rattle.mm_proof.specs.declared.step.Undecoded.{Undecoded}
 use Rattle.mm_proof.specs.declared.step.Undecoded.TheVariants as errors
-use Rattle.mm_proof.proofs.ReaderLemmas.{next_is, with_one, with_none, meant_more}
+use Rattle.mm_proof.proofs.ReaderLemmas.{next_is, with_one, meant_more}
 use Rattle.mm_proof.proofs.TableLemmas.{entries_more}
 
 count_more : (labels : List Resolved) (n : ℕ) (meaning : Resolved) → length labels ≡ n → length (labels ++ meaning ∷ []) ≡ n + 1
@@ -44,16 +44,19 @@ taken_more words n less = map_more word_step words n [] less
 names_more : (view : BaseView) (labels : List Resolved) (meaning : Resolved) (more : List Step) → entry_steps view (labels ++ meaning ∷ []) ++ more ≡ entry_steps view labels ++ entry_step view meaning ∷ more
 names_more view labels meaning more = ap (λ (w : List Step). w ++ more) (map-append (entry_step view) labels (meaning ∷ [])) ∙ append_assoc (entry_steps view labels) (entry_step view meaning ∷ []) more
 
-pub begins : (view : BaseView) (i : ℕ) (words : List (List ℕ)) (labels : List Resolved) (steps : List ProofStep) → labels ≡ [] → steps ≡ [] → Normal view i words 0 labels steps
-begins view i words labels steps none nothing = rw (none, nothing) (record { count = refl; entries = tt; table = refl; rest = λ more. with_none (in_order (each_word (read_word (place_at view i)) 0 words)) })
-
 module _ (view : BaseView) (i : ℕ) (words : List (List ℕ)) (n : ℕ) (labels : List Resolved) (steps : List ProofStep) (normal : Normal view i words n labels steps) where
   -- what the words from there on give, by the first of them
-  by_word : (word : List ℕ) (more : List Step) → n < length words → word ≡ get_or words n [] → with_steps (meant_steps (entry_steps view labels ++ more) steps) (read_first (word_spot n) (read_word (place_at view i) word) (in_order (each_word (read_word (place_at view i)) (n + 1) (drop (n + 1) words)))) ≡ in_order (each_word (read_word (place_at view i)) 0 words)
+  by_word :
+      (word : List ℕ) (more : List Step) → n < length words → word ≡ get_or words n [] →
+      with_steps (meant_steps (entry_steps view labels ++ more) steps) (read_first (word_spot n) (read_word (place_at view i) word) (in_order (each_word (read_word (place_at view i)) (n + 1) (drop (n + 1) words)))) ≡ in_order (each_word (read_word (place_at view i)) 0 words)
   by_word word more less is = ap (λ (w : List (List ℕ)). with_steps (meant_steps (entry_steps view labels ++ more) steps) (in_order (each_word (read_word (place_at view i)) n w))) (ap (λ (w : List ℕ). w ∷ drop (n + 1) words) is ∙ sym (next_is words n [] less)) ∙ normal.rest more
 
   -- one more word
-  pub word_on : (word : List ℕ) (meaning : Resolved) (action : Action) → n < length words → word ≡ get_or words n [] → read_word (place_at view i) word ≡ Ok (entry_step view meaning) → ((before after : List Step) → length before ≡ n → meant (before ++ entry_step view meaning ∷ after) action ≡ entry_step view meaning) → IsEntry view i meaning → Normal view i words (n + 1) (labels ++ meaning ∷ []) (steps ++ record { action = action; spot = word_spot n } ∷ [])
+  pub word_on :
+      (word : List ℕ) (meaning : Resolved) (action : Action) → n < length words → word ≡ get_or words n [] →
+      read_word (place_at view i) word ≡ Ok (entry_step view meaning) →
+      ((before after : List Step) → length before ≡ n → meant (before ++ entry_step view meaning ∷ after) action ≡ entry_step view meaning) →
+      IsEntry view i meaning → Normal view i words (n + 1) (labels ++ meaning ∷ []) (steps ++ record { action = action; spot = word_spot n } ∷ [])
   word_on word meaning action less is read acts entry = record {
     count = count_more labels n meaning normal.count;
     entries = entries_more view i labels meaning normal.entries entry;

@@ -9,7 +9,7 @@ use Rattle.mm_proof.specs.Expansion.{Step, Named, Save, NotKnown}
 use Rattle.mm_proof.specs.Numbers.{is_digit}
 use Rattle.mm_proof.specs.Letters.{Letter, Group, letters_in, letters_from, cut_group, groups_behind, groups}
 use Rattle.mm_proof.specs.Decoding.{Steps, with_step, read_first, in_order, alone, nameable, read_letter, each_group, is_close, compressed_steps, letter_steps, if_read, each_word, read_label, decoded, decoding, word_spot}
-use Rattle.mm_proof.specs.DecodingLaws.{without_spots}
+use Rattle.mm_proof.specs.DecodingLaws.{without_spots, compressed_words}
 use Rattle.mm_proof.specs.declared.Spot.{Spot}
 use Rattle.mm_proof.specs.declared.ProofNumber.{ProofNumber}
 use Rattle.mm_proof.specs.declared.ProofNumber.TheVariants.{P03}
@@ -29,7 +29,7 @@ bytes_from n (word ∷ words) = map-append (λ (l : Letter). l.byte) (letters_in
 -- without its spots
 abbrev told : Steps → Result (List Step) ProofNumber
 told (Ok steps) = Ok (map (λ step. step.0) steps)
-told (Err fault) = Err fault.0
+told (Err fault) = Err fault.number
 
 told_with : (step : Step) (at by : Spot) (rest other : Steps) → told rest ≡ told other → told (with_step step at rest) ≡ told (with_step step by other)
 told_with step at by (Ok rest) (Ok other) e = let k : map (λ (s : Step × Spot). s.0) rest ≡ map (λ (s : Step × Spot). s.0) other = cc in cc
@@ -109,10 +109,12 @@ has_close [] words = refl
 has_close (word ∷ listed) words = elim (is_close word) as (λ b. (b || list_any is_close (listed ++ codes ")" ∷ words)) ≡ true) [ true ↦ refl | false ↦ has_close listed words ]
 
 abbrev pub parts : Place → List (List ℕ) → Spot → List (List ℕ) → Bool → List (List ℕ) → Steps
-parts place mandatory close listed has rest = if_read (in_order (each_word (read_label place) 1 listed)) (cond has (letter_steps mandatory listed (length listed + 2) rest close) (Err (P03, close)))
+parts place mandatory close listed has rest = if_read (in_order (each_word (read_label place) 1 listed)) (cond has (letter_steps mandatory listed (length listed + 2) rest close) (Err (record { number = P03; spot = close })))
 
 -- a compressed proof with its list
-pub compressed_is : (place : Place) (mandatory : List (List ℕ)) (close : Spot) (listed words : List (List ℕ)) → list_any is_close listed ≡ false → compressed_steps place mandatory (listed ++ codes ")" ∷ words) close ≡ if_read (in_order (each_word (read_label place) 1 listed)) (letter_steps mandatory listed (length listed + 2) words close)
+pub compressed_is :
+    (place : Place) (mandatory : List (List ℕ)) (close : Spot) (listed words : List (List ℕ)) → list_any is_close listed ≡ false →
+    compressed_steps place mandatory (listed ++ codes ")" ∷ words) close ≡ if_read (in_order (each_word (read_label place) 1 listed)) (letter_steps mandatory listed (length listed + 2) words close)
 compressed_is place mandatory close listed words e =
     ap (λ (w : List (List ℕ)). parts place mandatory close w (list_any is_close (listed ++ codes ")" ∷ words)) (after_first is_close (listed ++ codes ")" ∷ words))) (before_close listed words e)
     ∙ ap (λ (w : Bool). parts place mandatory close listed w (after_first is_close (listed ++ codes ")" ∷ words))) (has_close listed words)
@@ -129,10 +131,22 @@ told_decoded close (Err fault) = refl
 letters_same : (mandatory listed : List (List ℕ)) (n : ℕ) (at by : Spot) (some others : List (List ℕ)) → flat_map (λ word. word) some ≡ flat_map (λ word. word) others → told (letter_steps mandatory listed n some at) ≡ told (letter_steps mandatory listed n others by)
 letters_same mandatory listed n at by some others e = behind_same (map Named (mandatory ++ listed)) 0 at by [] [] (letters_from n some) (letters_from n others) refl (bytes_from n some ∙ e ∙ sym (bytes_from n others))
 
-told_words : (place : Place) (mandatory listed words : List (List ℕ)) → list_any is_close listed ≡ false → without_spots (decoding place mandatory (codes "(" ∷ (listed ++ codes ")" ∷ words))) ≡ told (if_read (in_order (each_word (read_label place) 1 listed)) (letter_steps mandatory listed (length listed + 2) words (word_spot (length (codes "(" ∷ (listed ++ codes ")" ∷ words))))))
-told_words place mandatory listed words e = told_decoded (word_spot (length (codes "(" ∷ (listed ++ codes ")" ∷ words)))) (compressed_steps place mandatory (listed ++ codes ")" ∷ words) (word_spot (length (codes "(" ∷ (listed ++ codes ")" ∷ words))))) ∙ ap told (compressed_is place mandatory (word_spot (length (codes "(" ∷ (listed ++ codes ")" ∷ words)))) listed words e)
+-- the spot behind a compressed proof with these listed labels and these words of letters
+abbrev close_of : List (List ℕ) → List (List ℕ) → Spot
+close_of listed words = word_spot (length (compressed_words listed words))
 
-pub reads_on : (place : Place) (mandatory listed some others : List (List ℕ)) → list_any is_close listed ≡ false → flat_map (λ word. word) some ≡ flat_map (λ word. word) others → without_spots (decoding place mandatory (codes "(" ∷ (listed ++ codes ")" ∷ some))) ≡ without_spots (decoding place mandatory (codes "(" ∷ (listed ++ codes ")" ∷ others)))
+told_words :
+    (place : Place) (mandatory listed words : List (List ℕ)) → list_any is_close listed ≡ false →
+    without_spots (decoding place mandatory (compressed_words listed words))
+    ≡ told (if_read (in_order (each_word (read_label place) 1 listed)) (letter_steps mandatory listed (length listed + 2) words (close_of listed words)))
+told_words place mandatory listed words e =
+    told_decoded (close_of listed words) (compressed_steps place mandatory (listed ++ codes ")" ∷ words) (close_of listed words))
+    ∙ ap told (compressed_is place mandatory (close_of listed words) listed words e)
+
+pub reads_on :
+    (place : Place) (mandatory listed some others : List (List ℕ)) →
+    list_any is_close listed ≡ false → flat_map (λ word. word) some ≡ flat_map (λ word. word) others →
+    without_spots (decoding place mandatory (compressed_words listed some)) ≡ without_spots (decoding place mandatory (compressed_words listed others))
 reads_on place mandatory listed some others e f =
     told_words place mandatory listed some e
     ∙ told_if (in_order (each_word (read_label place) 1 listed)) _ _ (letters_same mandatory listed (length listed + 2) _ _ some others f)

@@ -10,6 +10,7 @@ use Rattle.mm_proof.specs.DecodingLaws.{Rise}
 use Rattle.mm_proof.specs.Verdict.{Decoded}
 use Rattle.mm_proof.specs.declared.ProofNumber.{ProofNumber}
 use Rattle.mm_proof.specs.declared.Spot.{Spot}
+use Rattle.mm_proof.specs.declared.step.ProofFault.{ProofFault}
 use Rattle.mm_proof.proofs.CiteLemmas.{kept_all}
 
 -- words with numbers that rise
@@ -56,6 +57,6 @@ labels_rise words = elim (cases_Bool (is_compressed words)) [
   | inr e ↦ rw e (kept (λ (w : ℕ × List ℕ). not (bytes_eq w.1 (codes "?"))) (enumerate_from 0 words) (numbered 0 words))
 ]
 
-pub rises : (place : Place) (words : List (List ℕ)) (decoding : Result Decoded (ProofNumber × Spot)) → Rise (cites place words decoding)
+pub rises : (place : Place) (words : List (List ℕ)) (decoding : Result Decoded ProofFault) → Rise (cites place words decoding)
 rises place words (Ok d) = only_numbers (filter (λ (w : ℕ × List ℕ). is_cited place d.steps w.1) (firsts (label_words words))) (kept (λ (w : ℕ × List ℕ). is_cited place d.steps w.1) (firsts (label_words words)) (firsts_rise (label_words words) (labels_rise words)))
 rises place words (Err fault) = tt

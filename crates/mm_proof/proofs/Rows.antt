@@ -9,6 +9,7 @@ use Rattle.mm_proof.specs.Verdict.{Decoded}
 use Rattle.mm_proof.specs.declared.Spot.{Spot}
 use Rattle.mm_proof.specs.declared.ProofNumber.{ProofNumber}
 use Rattle.mm_proof.specs.declared.ProofNumber.TheVariants.{P01, P02, P03, P04, P05, P06}
+use Rattle.mm_proof.specs.declared.step.ProofFault.{ProofFault}
 
 -- a place: `wp` is an active hypothesis, `wi` an assertion, `old` a hypothesis that is not active
 meaning : List ℕ → Resolved
@@ -22,11 +23,11 @@ here : Place
 unfolding meaning
 here = record { resolve = meaning; active = [] }
 
-steps_of : Result Decoded (ProofNumber × Spot) → Result (List Step) (ProofNumber × Spot)
+steps_of : Result Decoded ProofFault → Result (List Step) ProofFault
 steps_of (Ok d) = Ok d.steps
 steps_of (Err fault) = Err fault
 
-read : List (List ℕ) → Result (List Step) (ProofNumber × Spot)
+read : List (List ℕ) → Result (List Step) ProofFault
 unfolding steps_of here meaning
 read words = steps_of (decoding here (codes "wp" ∷ []) words)
 
@@ -51,23 +52,23 @@ broken : read (with_list (codes "AAB" ∷ codes "ZC" ∷ codes "B" ∷ [])) ≡ 
 unfolding read steps_of here meaning with_list wp wi at
 broken = refl
 
-out_of_range : read (with_list (codes "AABCB" ∷ [])) ≡ Err (P06, at 3 3)
+out_of_range : read (with_list (codes "AABCB" ∷ [])) ≡ Err (record { number = P06; spot = at 3 3 })
 unfolding read steps_of here meaning with_list wp wi at
 out_of_range = refl
 
-cut : read (with_list (codes "AABU" ∷ [])) ≡ Err (P05, at 4 0)
+cut : read (with_list (codes "AABU" ∷ [])) ≡ Err (record { number = P05; spot = at 4 0 })
 unfolding read steps_of here meaning with_list wp wi at
 cut = refl
 
-bad : read (with_list (codes "AABa" ∷ [])) ≡ Err (P04, at 3 3)
+bad : read (with_list (codes "AABa" ∷ [])) ≡ Err (record { number = P04; spot = at 3 3 })
 unfolding read steps_of here meaning with_list wp wi at
 bad = refl
 
-bad_behind_digits : read (with_list (codes "AAU" ∷ codes "Va" ∷ [])) ≡ Err (P04, at 4 1)
+bad_behind_digits : read (with_list (codes "AAU" ∷ codes "Va" ∷ [])) ≡ Err (record { number = P04; spot = at 4 1 })
 unfolding read steps_of here meaning with_list wp wi at
 bad_behind_digits = refl
 
-cut_by_save : read (with_list (codes "AU" ∷ codes "Z" ∷ [])) ≡ Err (P05, at 4 0)
+cut_by_save : read (with_list (codes "AU" ∷ codes "Z" ∷ [])) ≡ Err (record { number = P05; spot = at 4 0 })
 unfolding read steps_of here meaning with_list wp wi at
 cut_by_save = refl
 
@@ -75,23 +76,23 @@ no_letters : read (with_list []) ≡ Ok []
 unfolding read steps_of here meaning with_list wp wi at
 no_letters = refl
 
-no_close : read (codes "(" ∷ codes "wi" ∷ codes "wp" ∷ []) ≡ Err (P03, at 3 0)
+no_close : read (codes "(" ∷ codes "wi" ∷ codes "wp" ∷ []) ≡ Err (record { number = P03; spot = at 3 0 })
 unfolding read steps_of here meaning with_list wp wi at
 no_close = refl
 
-close_in_word : read (codes "(" ∷ codes "wi)A" ∷ []) ≡ Err (P01, at 1 0)
+close_in_word : read (codes "(" ∷ codes "wi)A" ∷ []) ≡ Err (record { number = P01; spot = at 1 0 })
 unfolding read steps_of here meaning with_list wp wi at
 close_in_word = refl
 
-list_with_unknown : read (codes "(" ∷ codes "?" ∷ codes ")" ∷ codes "a" ∷ []) ≡ Err (P01, at 1 0)
+list_with_unknown : read (codes "(" ∷ codes "?" ∷ codes ")" ∷ codes "a" ∷ []) ≡ Err (record { number = P01; spot = at 1 0 })
 unfolding read steps_of here meaning with_list wp wi at
 list_with_unknown = refl
 
-behind_unknown : read (codes "?" ∷ codes "nolabel" ∷ []) ≡ Err (P01, at 1 0)
+behind_unknown : read (codes "?" ∷ codes "nolabel" ∷ []) ≡ Err (record { number = P01; spot = at 1 0 })
 unfolding read steps_of here meaning with_list wp wi at
 behind_unknown = refl
 
-inactive_first : read (codes "old" ∷ codes "nolabel" ∷ []) ≡ Err (P02, at 0 0)
+inactive_first : read (codes "old" ∷ codes "nolabel" ∷ []) ≡ Err (record { number = P02; spot = at 0 0 })
 unfolding read steps_of here meaning with_list wp wi at
 inactive_first = refl
 
@@ -103,11 +104,11 @@ unknown_letter : read (with_list (codes "A?B" ∷ [])) ≡ Ok (wp ∷ NotKnown �
 unfolding read steps_of here meaning with_list wp wi at
 unknown_letter = refl
 
-thousand : read (with_list ((replicate 1000 89 ++ 84 ∷ []) ∷ [])) ≡ Err (P06, at 3 1000)
+thousand : read (with_list ((replicate 1000 89 ++ 84 ∷ []) ∷ [])) ≡ Err (record { number = P06; spot = at 3 1000 })
 unfolding read steps_of here meaning with_list wp wi at
 thousand = refl
 
-thousand_cut : read (with_list (replicate 1000 89 ∷ [])) ≡ Err (P05, at 4 0)
+thousand_cut : read (with_list (replicate 1000 89 ∷ [])) ≡ Err (record { number = P05; spot = at 4 0 })
 unfolding read steps_of here meaning with_list wp wi at
 thousand_cut = refl
 

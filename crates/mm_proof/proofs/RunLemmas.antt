@@ -5,11 +5,10 @@ use Rattle.std.specs.Option.{option_map}
 use Rattle.std.proofs.lemmas.List.{append-nil, take_more, take_all, length-map, get_or_default}
 use Rattle.std.proofs.lemmas.List.Elements.{All-contains}
 use Rattle.std.proofs.lemmas.Option.{slice_get-map, slice_get-get_or, slice_get_within, get_or_from_slice_get}
-use Rattle.mm_frame.specs.Language.{Symbol, Mandatory, Frame, Hypothesis, Assertion, Inactive, Unknown, Place, AreSameFrame, HasVariable}
+use Rattle.mm_frame.specs.Language.{Symbol, Mandatory, Frame, Assertion, Place, AreSameFrame, HasVariable}
 use Rattle.mm_frame.specs.Typing.{IsTyped, IsTyping, IsFrame, HasFrames}
-use Rattle.mm_frame.specs.Item.{Item}
+use Rattle.mm_frame.specs.Item.{Item, item_at}
 use Rattle.mm_frame.specs.Framing.{place_of, statement_of}
-use Rattle.mm_frame.specs.Tables.{item_at}
 use Rattle.mm_proof.specs.Derivation.{Derives}
 use Rattle.mm_proof.specs.Expansion.{Step, Named, Expanded, expand_from}
 use Rattle.mm_proof.specs.Reaches.{Reaches}
@@ -64,15 +63,6 @@ cited_moved active f g old false new s c = λ next m. c next (cites_moved active
 pub steps_cited : (place : Place) (label : List ℕ) (frame : Frame) (old : List (List Symbol)) (done : Bool) (new : List (List Symbol)) → place.resolve label ≡ Assertion frame → CitesOrFails place.active frame old done new → StepsOrFails place label old done new
 steps_cited place label frame old true new e c = subst (λ r. Moves place.active r old new) (sym e) c
 steps_cited place label frame old false new e c = λ next m. c next (subst (λ r. Moves place.active r old next) e m)
-
-pub steps_pushed : (place : Place) (label : List ℕ) (e : List Symbol) (old new : List (List Symbol)) → place.resolve label ≡ Hypothesis e → new ≡ old ++ e ∷ [] → StepsOrFails place label old true new
-steps_pushed place label e old new r p = subst (λ m. Moves place.active m old new) (sym r) p
-
-pub steps_inactive : (place : Place) (label : List ℕ) (old new : List (List Symbol)) → place.resolve label ≡ Inactive → StepsOrFails place label old false new
-steps_inactive place label old new r next m = subst (λ w. Moves place.active w old next) r m
-
-pub steps_unknown : (place : Place) (label : List ℕ) (old new : List (List Symbol)) → place.resolve label ≡ Unknown → StepsOrFails place label old false new
-steps_unknown place label old new r next m = subst (λ w. Moves place.active w old next) r m
 
 -- one more step
 next_steps : (steps : List Step) (k : ℕ) (label : List ℕ) → slice_get steps k ≡ Some (Named label) → take (k + 1) steps ≡ take k steps ++ Named label ∷ []

@@ -41,7 +41,7 @@ module _ (p q : Place) where
 
   first_same : (spot : Spot) (r o : Result Step ProofNumber) (rest others : Steps) → IsSameResult r o → AreSame rest others → AreSame (read_first spot r rest) (read_first spot o others)
   first_same spot (Ok s) (Ok t) rest others e all = with_same spot s t rest others e all
-  first_same spot (Err n) (Err m) rest others e all = ap (λ (w : ProofNumber). (w, spot)) e
+  first_same spot (Err n) (Err m) rest others e all = λ i. record { number = e i; spot = spot }
   first_same spot (Ok s) (Err m) rest others e all = absurd e
   first_same spot (Err n) (Ok t) rest others e all = absurd e
 
@@ -114,7 +114,10 @@ module _ (p q : Place) where
 
   groups_same : (labels others : List Step) (close : Spot) (saves : ℕ) (gs : List Group) → AllZip IsBoth labels others → AreSame (in_order (each_group labels close saves gs)) (in_order (each_group others close saves gs))
   groups_same labels others close saves [] all = tt
-  groups_same labels others close saves (g ∷ gs) all = first_same (group_spot close g.last) (read_group (nameable labels saves) g.digits g.last) (read_group (nameable others saves) g.digits g.last) _ _ (group_same labels others saves g.digits g.last all) (groups_same labels others close (cond (is_save g.last) (saves + 1) saves) gs all)
+  groups_same labels others close saves (g ∷ gs) all =
+      first_same (group_spot close g.last) (read_group (nameable labels saves) g.digits g.last) (read_group (nameable others saves) g.digits g.last) _ _
+      (group_same labels others saves g.digits g.last all)
+      (groups_same labels others close (cond (is_save g.last) (saves + 1) saves) gs all)
 
   hypothesis_both : (a b : List ℕ) → IsSameHypothesis p q a b → IsBoth (Named a) (Named b)
   hypothesis_both a b h = (rw (h.1, h.2) refl, inr (rw h.1 refl, rw h.2 refl))
@@ -134,7 +137,11 @@ module _ (p q : Place) where
 
   compressed_same : (mandatory others words : List (List ℕ)) (close : Spot) → AllZip (IsSameHypothesis p q) mandatory others → AllByRecursion (IsSameLabel p q) (before_first is_close words) → AreSame (compressed_steps p mandatory words close) (compressed_steps q others words close)
   compressed_same mandatory others words close h all = elim (cases_Bool (list_any is_close words)) [
-    | inl e ↦ rw e (read_same _ _ _ _ (list_same 1 (before_first is_close words) all) (groups_same (map Named (mandatory ++ before_first is_close words)) (map Named (others ++ before_first is_close words)) close 0 (groups (letters_from (length (before_first is_close words) + 2) (after_first is_close words))) (named_all mandatory others (before_first is_close words) h all)))
+    | inl e ↦
+        let listed = before_first is_close words in
+        let letters = letters_from (length listed + 2) (after_first is_close words) in
+        let after = groups_same (map Named (mandatory ++ listed)) (map Named (others ++ listed)) close 0 (groups letters) (named_all mandatory others listed h all) in
+        rw e (read_same _ _ _ _ (list_same 1 listed all) after)
     | inr e ↦ rw e (read_same _ _ _ _ (list_same 1 (before_first is_close words) all) refl)
   ]
 

@@ -5,7 +5,7 @@ use Rattle.std.specs.List.{AllByRecursion, range_with_len, before_first, list_an
 use Rattle.std.proofs.lemmas.Bool.{cases_Bool, and_parts, leb-true}
 use Rattle.mm_frame.specs.Language.{Resolved, Hypothesis, Assertion, Inactive, Unknown, Place}
 use Rattle.mm_proof.specs.Expansion.{Step, Named, Saved, Save, NotKnown}
-use Rattle.mm_proof.specs.Machine.{IsUsable, AreDecodedAfter}
+use Rattle.mm_proof.specs.Machine.{IsUsable, AreDecoded}
 use Rattle.mm_proof.specs.Numbers.{is_last}
 use Rattle.mm_proof.specs.Letters.{Letter, Group, groups, letters_from}
 use Rattle.mm_proof.specs.Decoding.{Steps, in_order, usable, read_label, read_word, each_word, nameable, named, alone, read_letter, read_group, group_spot, is_save, each_group, is_close, is_compressed, compressed_steps, steps_in, word_spot, decoded, decoding, if_read}
@@ -13,6 +13,7 @@ use Rattle.mm_proof.specs.Verdict.{Decoded}
 use Rattle.mm_proof.specs.declared.Spot.{Spot}
 use Rattle.mm_proof.specs.declared.ProofNumber.{ProofNumber}
 use Rattle.mm_proof.proofs.OrderLemmas.{read_ok}
+use Rattle.mm_proof.proofs.Threaded.{AreDecodedAfter, counted}
 
 abbrev step_list : List (Step × Spot) → List Step
 step_list steps = map (λ step. step.0) steps
@@ -170,7 +171,7 @@ same_count : (steps : List (Step × Spot)) → length (map (λ (step : Step × S
 same_count [] = refl
 same_count (step ∷ steps) = ap suc (same_count steps)
 
-pub decodes_surely : (place : Place) (mandatory words : List (List ℕ)) (d : Decoded) → AllByRecursion (λ label. IsUsable (place.resolve label)) mandatory → decoding place mandatory words ≡ Ok d → AreDecodedAfter place 0 d.steps × (length d.spots ≡ length d.steps)
+pub decodes_surely : (place : Place) (mandatory words : List (List ℕ)) (d : Decoded) → AllByRecursion (λ label. IsUsable (place.resolve label)) mandatory → decoding place mandatory words ≡ Ok d → AreDecoded place d.steps × (length d.spots ≡ length d.steps)
 decodes_surely place mandatory words d all e =
     let s = decoded_ok (word_spot (length words)) (steps_in place mandatory words (word_spot (length words))) d e in
-    rw s.2 (steps_sure place mandatory words (word_spot (length words)) s.0 all s.1, same_count s.0)
+    rw s.2 (counted place (step_list s.0) (steps_sure place mandatory words (word_spot (length words)) s.0 all s.1), same_count s.0)

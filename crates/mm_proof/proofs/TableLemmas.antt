@@ -75,7 +75,7 @@ module _ (view : BaseView) (i : ℕ) (mandatory words : List (List ℕ)) (n : �
   fails word errors.Memory less is other tells = tt
 
   -- at the end
-  pub stops : length words ≤ n → compressed_steps (place_at view i) mandatory (drop 1 words) (word_spot (length words)) ≡ Err (P03, word_spot (length words))
+  pub stops : length words ≤ n → compressed_steps (place_at view i) mandatory (drop 1 words) (word_spot (length words)) ≡ Err (record { number = P03; spot = word_spot (length words) })
   stops past = lists.rest ∙ ap (list_on (place_at view i) mandatory (word_spot (length words)) lists.listed n) (drop_of_length-le words past)
 
 -- the mandatory hypotheses as entries
@@ -88,10 +88,16 @@ hypothesis_entries view i [] all = tt
 hypothesis_entries view i (j ∷ numbers) all = (all.0, hypothesis_entries view i numbers all.1)
 
 -- the letters behind the list
-pub compressed_ok : (view : BaseView) (i : ℕ) (mandatory words : List (List ℕ)) (n : ℕ) (labels : List Resolved) (steps : List ProofStep) → IsListed view i mandatory words n labels → letters_give (entry_steps view labels) words (n + 1) ≡ Ok (meant_steps (entry_steps view labels) steps) → compressed_steps (place_at view i) mandatory (drop 1 words) (word_spot (length words)) ≡ Ok (meant_steps (entry_steps view labels) steps)
+pub compressed_ok :
+    (view : BaseView) (i : ℕ) (mandatory words : List (List ℕ)) (n : ℕ) (labels : List Resolved) (steps : List ProofStep) →
+    IsListed view i mandatory words n labels → letters_give (entry_steps view labels) words (n + 1) ≡ Ok (meant_steps (entry_steps view labels) steps) →
+    compressed_steps (place_at view i) mandatory (drop 1 words) (word_spot (length words)) ≡ Ok (meant_steps (entry_steps view labels) steps)
 compressed_ok view i mandatory words n labels steps listed e = listed.rest ∙ ap (λ (names : List Step). letters_give names words (n + 1)) (sym listed.labels_are) ∙ e
 
-pub compressed_err : (view : BaseView) (i : ℕ) (mandatory words : List (List ℕ)) (n : ℕ) (labels : List Resolved) (e : Undecoded) → IsListed view i mandatory words n labels → Tells e (letters_give (entry_steps view labels) words (n + 1)) → Tells e (compressed_steps (place_at view i) mandatory (drop 1 words) (word_spot (length words)))
+pub compressed_err :
+    (view : BaseView) (i : ℕ) (mandatory words : List (List ℕ)) (n : ℕ) (labels : List Resolved) (e : Undecoded) → IsListed view i mandatory words n labels →
+    Tells e (letters_give (entry_steps view labels) words (n + 1)) →
+    Tells e (compressed_steps (place_at view i) mandatory (drop 1 words) (word_spot (length words)))
 compressed_err view i mandatory words n labels e listed tells = subst (Tells e) (sym (listed.rest ∙ ap (λ (names : List Step). letters_give names words (n + 1)) (sym listed.labels_are))) tells
 
 -- the table of a compressed proof

@@ -14,9 +14,8 @@ use Rattle.mm_proof.specs.Faults.{AnyZip, entries_for, LackPair, CitingFails, La
 use Rattle.mm_proof.specs.Machine.{State, Turns, IsUsable, IsReady}
 use Rattle.mm_proof.specs.declared.ProofNumber.{ProofNumber}
 use Rattle.mm_proof.specs.declared.ProofNumber.TheVariants.{P01, P02, P03, P04, P05, P06, P07, P08, P09, P10, P11, P12, P13, P14, P15}
-use Rattle.mm_frame.proofs.Members.{Contains-here}
+use Rattle.mm_proof.proofs.Members.{Contains-here, contains_there}
 use Rattle.mm_proof.proofs.Unique.{same_substituted}
-use Rattle.mm_frame.proofs.Members.{contains_there}
 use Rattle.mm_proof.proofs.Lines.{FloatsMatch, agree, IsTypedPair, not_cited}
 use Rattle.mm_proof.proofs.Choices.{both_of, not_of, expression_discrete, dec_any, dec_any_zip, dec_share, dec_lack, are_apart}
 use Rattle.mm_proof.proofs.Reaching.{last_entry}
@@ -71,7 +70,9 @@ choose : {Q X : Type 0} → Dec Q → ProofNumber → Result X ProofNumber → R
 choose (yes q) number rest = Err number
 choose (no n) number rest = rest
 
-choose_says : {Q X : Type 0} (Right : X → Type 0) (P : ProofNumber → Type 0) (number : ProofNumber) (rest : Result X ProofNumber) (d : Dec Q) → (Q → P number) → (P number → Q) → NoneBelow P (row_of number) → ((Q → ⊥) → NoneBelow P (suc (row_of number)) → Says Right P rest) → Says Right P (choose d number rest)
+choose_says :
+    {Q X : Type 0} (Right : X → Type 0) (P : ProofNumber → Type 0) (number : ProofNumber) (rest : Result X ProofNumber) (d : Dec Q) → (Q → P number) →
+    (P number → Q) → NoneBelow P (row_of number) → ((Q → ⊥) → NoneBelow P (suc (row_of number)) → Says Right P rest) → Says Right P (choose d number rest)
 unfolding choose
 choose_says Right P number rest (yes q) to from below go = (to q, λ other p. at_least (row_of number) (row_of other) (below other p))
   where
@@ -116,12 +117,18 @@ any_zip_to R S [] ys f a = a
 any_zip_to R S (x ∷ xs) [] f a = a
 any_zip_to R S (x ∷ xs) (y ∷ ys) f a = elim a [ inl r ↦ inl (f x y (Contains-here x xs) r) | inr b ↦ inr (any_zip_to R S xs ys (λ w z c r. f w z (contains_there x xs w c) r) b) ]
 
-wrong_by : (frame : Frame) → IsFrame frame → (f g : Symbol → List Symbol) (es : List (List Symbol)) → FloatsMatch f frame.hypotheses es → FloatsMatch g frame.hypotheses es → AnyZip (λ h e. (h.floating ≡ false) × (substituted f h.expression ≢ e)) frame.hypotheses es → AnyZip (λ h e. (h.floating ≡ false) × (substituted g h.expression ≢ e)) frame.hypotheses es
+wrong_by :
+    (frame : Frame) → IsFrame frame → (f g : Symbol → List Symbol) (es : List (List Symbol)) → FloatsMatch f frame.hypotheses es →
+    FloatsMatch g frame.hypotheses es → AnyZip (λ h e. (h.floating ≡ false) × (substituted f h.expression ≢ e)) frame.hypotheses es →
+    AnyZip (λ h e. (h.floating ≡ false) × (substituted g h.expression ≢ e)) frame.hypotheses es
 wrong_by frame is f g es a b =
     any_zip_to (λ h e. (h.floating ≡ false) × (substituted f h.expression ≢ e)) (λ h e. (h.floating ≡ false) × (substituted g h.expression ≢ e)) frame.hypotheses es
     (λ h e c r. (r.0, λ s. r.1 (same_substituted f g h.expression (λ v w. agree f g frame.hypotheses es v a b w.1 (is.hypotheses_typed h c v w)) ∙ s)))
 
-pairs_by : (R : List Symbol → List Symbol → Type 0) (frame : Frame) → IsFrame frame → (f g : Symbol → List Symbol) (es : List (List Symbol)) → FloatsMatch f frame.hypotheses es → FloatsMatch g frame.hypotheses es → Any (λ pair. R (f pair.0) (f pair.1)) frame.pairs → Any (λ pair. R (g pair.0) (g pair.1)) frame.pairs
+pairs_by :
+    (R : List Symbol → List Symbol → Type 0) (frame : Frame) → IsFrame frame → (f g : Symbol → List Symbol) (es : List (List Symbol)) →
+    FloatsMatch f frame.hypotheses es → FloatsMatch g frame.hypotheses es → Any (λ pair. R (f pair.0) (f pair.1)) frame.pairs →
+    Any (λ pair. R (g pair.0) (g pair.1)) frame.pairs
 pairs_by R frame is f g es a b any =
     let pair = any.1 in
     let t = subst (IsTypedPair frame.hypotheses) any.3 (is.pairs_typed any.0 any.1 any.2) in
@@ -135,7 +142,11 @@ long_by frame is f g es a b l =
     omega arith
 
 -- where no line holds, the assertion is cited
-cites_by : (active : List (Symbol × Symbol)) (frame : Frame) (stack : List (List Symbol)) (given : Symbol → List Symbol) → (length stack < length frame.hypotheses → ⊥) → map (λ h. substituted given h.expression) frame.hypotheses ≡ entries_for frame stack → All (λ pair. AreApart active (given pair.0) (given pair.1)) frame.pairs → (1000000 < length (substituted given frame.expression) → ⊥) → Cites active frame stack (take (length stack - length frame.hypotheses) stack ++ substituted given frame.expression ∷ [])
+cites_by :
+    (active : List (Symbol × Symbol)) (frame : Frame) (stack : List (List Symbol)) (given : Symbol → List Symbol) →
+    (length stack < length frame.hypotheses → ⊥) → map (λ h. substituted given h.expression) frame.hypotheses ≡ entries_for frame stack →
+    All (λ pair. AreApart active (given pair.0) (given pair.1)) frame.pairs → (1000000 < length (substituted given frame.expression) → ⊥) →
+    Cites active frame stack (take (length stack - length frame.hypotheses) stack ++ substituted given frame.expression ∷ [])
 cites_by active frame stack given few m a long = record {
   below = take (length stack - length frame.hypotheses) stack;
   entries = entries_for frame stack;
@@ -146,7 +157,10 @@ cites_by active frame stack given few m a long = record {
   after = refl;
 }
 
-apart_by : (active : List (Symbol × Symbol)) (given : Symbol → List Symbol) (pairs : List (Symbol × Symbol)) → (Any (λ pair. ShareVariable (given pair.0) (given pair.1)) pairs → ⊥) → (Any (λ pair. LackPair active (given pair.0) (given pair.1)) pairs → ⊥) → All (λ pair. AreApart active (given pair.0) (given pair.1)) pairs
+apart_by :
+    (active : List (Symbol × Symbol)) (given : Symbol → List Symbol) (pairs : List (Symbol × Symbol)) →
+    (Any (λ pair. ShareVariable (given pair.0) (given pair.1)) pairs → ⊥) → (Any (λ pair. LackPair active (given pair.0) (given pair.1)) pairs → ⊥) →
+    All (λ pair. AreApart active (given pair.0) (given pair.1)) pairs
 apart_by active given pairs share lack k d l =
     let pair = get_or pairs k d in
     let same = within pairs k d l in
@@ -201,7 +215,9 @@ turn place s (Saved n) = pushed s (slice_get s.saved n)
 turn place s Save = saved_top s s.stack
 turn place s NotKnown = Err P01
 
-label_says : (place : Place) → HasFrames place → (label : List ℕ) (r : Resolved) (s : State) → place.resolve label ≡ r → IsUsable r → Says (λ (after : State). Moves place.active r s.stack after.stack × (after.saved ≡ s.saved)) (LabelFails place.active r s.stack) (with_stack s (label_turn place.active r s.stack))
+label_says :
+    (place : Place) → HasFrames place → (label : List ℕ) (r : Resolved) (s : State) → place.resolve label ≡ r → IsUsable r →
+    Says (λ (after : State). Moves place.active r s.stack after.stack × (after.saved ≡ s.saved)) (LabelFails place.active r s.stack) (with_stack s (label_turn place.active r s.stack))
 unfolding with_stack label_turn
 label_says place is label (Hypothesis e) s at u = (refl, refl)
 label_says place is label (Assertion frame) s at u = answer (cite place.active frame s.stack) (cite_says place.active frame s.stack (is label frame at))

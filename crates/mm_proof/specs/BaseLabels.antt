@@ -1,5 +1,5 @@
 -- The label of each item of a base, and what a proof at an item is read against.
-use Rattle.std.specs.Prelude.{◌≡◌, ℕ, true, Some, List, [], unwrap_or}
+use Rattle.std.specs.Prelude.{◌≡◌, ℕ, true, List, [], unwrap_or}
 use Rattle.mm_frame.specs.Base.{BaseView, before, said_at, is_shown_at}
 use Rattle.mm_frame.specs.Framing.{place}
 use Rattle.mm_frame.specs.Language.{Place}
@@ -15,7 +15,3 @@ place_at base i = place (before base i)
 -- no two sound items have the same label
 abbrev pub HasOwnLabels : BaseView → Type 0
 HasOwnLabels base = (j k : ℕ) → is_shown_at base j ≡ true → is_shown_at base k ≡ true → label_at base j ≡ label_at base k → j ≡ k
-
--- each sound item of a kind that has a label has one
-abbrev pub HasLabels : BaseView → Type 0
-HasLabels base = (j : ℕ) → is_shown_at base j ≡ true → (label : List ℕ) × ((said_at base j).label ≡ Some label)

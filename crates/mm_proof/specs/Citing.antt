@@ -5,12 +5,13 @@ use Rattle.mm_frame.specs.Language.{Resolved, Hypothesis, Assertion, Inactive, U
 use Rattle.mm_proof.specs.Expansion.{Step, Named, Saved, Save, NotKnown}
 use Rattle.mm_proof.specs.Decoding.{is_compressed, is_close}
 use Rattle.mm_proof.specs.Verdict.{Decoded}
-use Rattle.mm_proof.specs.declared.Spot.{Spot}
-use Rattle.mm_proof.specs.declared.ProofNumber.{ProofNumber}
+use Rattle.mm_proof.specs.declared.step.ProofFault.{ProofFault}
 
 -- the words that are labels, with their numbers: those of a normal proof other than `?`, or those of the list
 abbrev pub label_words : List (List ℕ) → List (ℕ × List ℕ)
-label_words words = if is_compressed words then enumerate_from 1 (before_first is_close (drop 1 words)) else filter (λ word. not (bytes_eq word.1 (codes "?"))) (enumerate_from 0 words)
+label_words words =
+    if is_compressed words then enumerate_from 1 (before_first is_close (drop 1 words))
+    else filter (λ word. not (bytes_eq word.1 (codes "?"))) (enumerate_from 0 words)
 
 -- each once, by the first word
 abbrev pub firsts : List (ℕ × List ℕ) → List (ℕ × List ℕ)
@@ -39,6 +40,6 @@ abbrev pub cited_words : Place → List (List ℕ) → List Step → List ℕ
 cited_words place words steps = map (λ word. word.0) (filter (λ word. is_cited place steps word.1) (firsts (label_words words)))
 
 -- none where decoding tells a fault
-abbrev pub cites : Place → List (List ℕ) → Result Decoded (ProofNumber × Spot) → List ℕ
+abbrev pub cites : Place → List (List ℕ) → Result Decoded ProofFault → List ℕ
 cites place words (Ok d) = cited_words place words d.steps
 cites place words (Err fault) = []

@@ -5,11 +5,10 @@ use Rattle.mm_proof.specs.Coded.{meant}
 use Rattle.mm_proof.specs.Decoding.{word_spot}
 use Rattle.mm_proof.specs.Labels.{entry_steps}
 use Rattle.mm_proof.specs.Verdict.{Decoded}
-use Rattle.mm_proof.specs.declared.Spot.{Spot}
-use Rattle.mm_proof.specs.declared.ProofNumber.{ProofNumber}
 use Rattle.mm_proof.specs.declared.reading.Decoding.{Decoding}
 use Rattle.mm_proof.specs.declared.step.Undecoded.{Undecoded}
 use Rattle.mm_proof.specs.declared.step.Undecoded.TheVariants as errors
+use Rattle.mm_proof.specs.declared.step.ProofFault.{ProofFault}
 
 -- the steps that the code has, with their spots, and the spot behind these words
 abbrev pub decoded_steps : BaseView → Decoding → List (List ℕ) → Decoded
@@ -20,6 +19,6 @@ decoded_steps base d words = record {
 }
 
 -- a fault that is told is the fault; want of memory tells none
-abbrev pub TellsFault : Undecoded → Result Decoded (ProofNumber × Spot) → Type 0
-TellsFault (errors.Fault fault) decoding = decoding ≡ Err (fault.number, fault.spot)
+abbrev pub TellsFault : Undecoded → Result Decoded ProofFault → Type 0
+TellsFault (errors.Fault fault) decoding = decoding ≡ Err fault
 TellsFault errors.Memory decoding = Unit {0}

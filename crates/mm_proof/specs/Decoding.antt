@@ -1,5 +1,6 @@
 -- Decoding: the steps that the words of a proof stand for, or the first fault in reading order (Metamath book, section 4.1 and Appendix B).
-use Rattle.std.specs.Prelude.{ℕ, ◌+◌, ◌-◌, ◌==◌, Bool, false, if◌then◌else◌, Option, Some, None, Result, Ok, Err, List, [], ◌∷◌, ◌++◌, length, map, drop, slice_get, bytes_eq, codes}
+use Rattle.std.specs.Prelude.{ℕ, ◌+◌, ◌-◌, ◌==◌, Bool, false, if◌then◌else◌, Option, Some, None, Result, Ok, Err}
+use Rattle.std.specs.Prelude.{List, [], ◌∷◌, ◌++◌, length, map, drop, slice_get, bytes_eq, codes}
 use Rattle.std.specs.List.{list_any, enumerate_from, range_with_len, before_first, after_first}
 use Rattle.mm_frame.specs.Language.{Resolved, Hypothesis, Assertion, Inactive, Unknown, Place}
 use Rattle.mm_proof.specs.Expansion.{Step, Named, Saved, Save, NotKnown}
@@ -9,6 +10,7 @@ use Rattle.mm_proof.specs.Verdict.{Decoded}
 use Rattle.mm_proof.specs.declared.Spot.{Spot}
 use Rattle.mm_proof.specs.declared.ProofNumber.{ProofNumber}
 use Rattle.mm_proof.specs.declared.ProofNumber.TheVariants.{P01, P02, P03, P04, P05, P06}
+use Rattle.mm_proof.specs.declared.step.ProofFault.{ProofFault}
 
 -- What is read at a spot: a step, or a fault.
 pub record Reading : Type 0 where
@@ -17,7 +19,7 @@ pub record Reading : Type 0 where
 
 -- the steps with their spots, or the first fault with its spot
 abbrev pub Steps : Type 0
-Steps = Result (List (Step × Spot)) (ProofNumber × Spot)
+Steps = Result (List (Step × Spot)) ProofFault
 
 -- one more step in front of the others
 abbrev pub with_step : Step → Spot → Steps → Steps
@@ -27,7 +29,7 @@ with_step step spot (Err fault) = Err fault
 -- a step and what is behind it, or a fault
 abbrev pub read_first : Spot → Result Step ProofNumber → Steps → Steps
 read_first spot (Ok step) rest = with_step step spot rest
-read_first spot (Err number) rest = Err (number, spot)
+read_first spot (Err number) rest = Err (record { number = number; spot = spot })
 
 -- all steps, or the first fault
 abbrev pub in_order : List Reading → Steps
@@ -96,7 +98,9 @@ is_save None = false
 -- the groups, each read behind the saves of those before it
 abbrev pub each_group : List Step → Spot → ℕ → List Group → List Reading
 each_group labels close saves [] = []
-each_group labels close saves (group ∷ groups) = record { spot = group_spot close group.last; step = read_group (nameable labels saves) group.digits group.last } ∷ each_group labels close (if is_save group.last then saves + 1 else saves) groups
+each_group labels close saves (group ∷ groups) =
+    record { spot = group_spot close group.last; step = read_group (nameable labels saves) group.digits group.last }
+    ∷ each_group labels close (if is_save group.last then saves + 1 else saves) groups
 
 -- whether a word ends the list of labels
 abbrev pub is_close : List ℕ → Bool
@@ -115,21 +119,25 @@ letter_steps mandatory listed n words close = in_order (each_group (map Named (m
 abbrev pub compressed_steps : Place → List (List ℕ) → List (List ℕ) → Spot → Steps
 compressed_steps place mandatory words close = let listed = before_first is_close words in
     if_read (in_order (each_word (read_label place) 1 listed))
-    (if list_any is_close words then letter_steps mandatory listed (length listed + 2) (after_first is_close words) close else Err (P03, close))
+    (if list_any is_close words then letter_steps mandatory listed (length listed + 2) (after_first is_close words) close
+    else Err (record { number = P03; spot = close }))
 
 -- whether the words of a proof are those of a compressed one
 abbrev pub is_compressed : List (List ℕ) → Bool
 is_compressed [] = false
 is_compressed (word ∷ words) = bytes_eq word (codes "(")
 
+-- the steps of a compressed proof, or of a normal one
 abbrev pub steps_in : Place → List (List ℕ) → List (List ℕ) → Spot → Steps
-steps_in place mandatory words close = if is_compressed words then compressed_steps place mandatory (drop 1 words) close else in_order (each_word (read_word place) 0 words)
+steps_in place mandatory words close =
+    if is_compressed words then compressed_steps place mandatory (drop 1 words) close
+    else in_order (each_word (read_word place) 0 words)
 
 -- the steps and their spots
-abbrev pub decoded : Spot → Steps → Result Decoded (ProofNumber × Spot)
+abbrev pub decoded : Spot → Steps → Result Decoded ProofFault
 decoded close (Ok steps) = Ok (record { steps = map (λ step. step.0) steps; spots = map (λ step. step.1) steps; close = close })
 decoded close (Err fault) = Err fault
 
 -- what the words of a proof decode to at a place, with these labels of the mandatory hypotheses
-abbrev pub decoding : Place → List (List ℕ) → List (List ℕ) → Result Decoded (ProofNumber × Spot)
+abbrev pub decoding : Place → List (List ℕ) → List (List ℕ) → Result Decoded ProofFault
 decoding place mandatory words = let close = word_spot (length words) in decoded close (steps_in place mandatory words close)

@@ -1,21 +1,21 @@
 -- What is proved of decoding: each is the contract of a function.
-use Rattle.std.specs.Prelude.{All, ◌≡◌, ℕ, ◌<◌, ◌≤◌, ◌↔◌, true, false, Result, Ok, Err, List, [], ◌∷◌, ◌++◌, length, flat_map, codes}
+use Rattle.std.specs.Prelude.{◌≡◌, ℕ, ◌<◌, ◌≤◌, ◌↔◌, true, false, Result, Ok, Err, List, [], ◌∷◌, ◌++◌, length, flat_map, codes}
 use Rattle.std.specs.List.{AllByRecursion, list_any}
-use Rattle.mm_frame.specs.Base.{BaseView, before, said_at, is_shown_at}
-use Rattle.mm_frame.specs.Tables.{mandatory_numbers}
-use Rattle.mm_proof.specs.BaseLabels.{HasLabels, HasOwnLabels}
+use Rattle.mm_frame.specs.Base.{BaseView, AreSaid, before, said_at}
+use Rattle.mm_frame.specs.Framing.{mandatory_numbers}
+use Rattle.mm_proof.specs.BaseLabels.{HasOwnLabels}
 use Rattle.mm_proof.specs.Labels.{AreActive}
 use Rattle.mm_frame.specs.Language.{Place}
 use Rattle.mm_proof.specs.Expansion.{Step}
-use Rattle.mm_proof.specs.Machine.{IsUsable, AreDecodedAfter}
+use Rattle.mm_proof.specs.Machine.{IsUsable, AreDecoded}
 use Rattle.mm_proof.specs.Numbers.{is_digit, is_last, number_of}
 use Rattle.mm_proof.specs.Letters.{Letter, Group, groups, IsDivided}
 use Rattle.mm_proof.specs.Decoding.{Reading, in_order, is_close, decoding}
 use Rattle.mm_proof.specs.Citing.{cites}
 use Rattle.mm_proof.specs.View.{AreSameToDecode, IsSameDecoding}
 use Rattle.mm_proof.specs.Verdict.{Decoded}
-use Rattle.mm_proof.specs.declared.Spot.{Spot}
 use Rattle.mm_proof.specs.declared.ProofNumber.{ProofNumber}
+use Rattle.mm_proof.specs.declared.step.ProofFault.{ProofFault}
 
 -- digits, and a last letter
 abbrev pub IsNumber : List ℕ → ℕ → Type 0
@@ -24,7 +24,10 @@ IsNumber digits last = AllByRecursion (λ d. is_digit d ≡ true) digits × (is_
 -- The table of numbers: `A`, `T`, `UA`, `UT`, `VA`, `YT`, `UUA`, `YYT`, `UUUA`.
 abbrev pub HasNumberTable : Type 0
 HasNumberTable =
-    (number_of [] 65 ≡ 1) × (number_of [] 84 ≡ 20) × (number_of (codes "U") 65 ≡ 21) × (number_of (codes "U") 84 ≡ 40) × (number_of (codes "V") 65 ≡ 41) × (number_of (codes "Y") 84 ≡ 120) × (number_of (codes "UU") 65 ≡ 121) × (number_of (codes "YY") 84 ≡ 620) × (number_of (codes "UUU") 65 ≡ 621)
+    (number_of [] 65 ≡ 1) × (number_of [] 84 ≡ 20) ×
+    (number_of (codes "U") 65 ≡ 21) × (number_of (codes "U") 84 ≡ 40) ×
+    (number_of (codes "V") 65 ≡ 41) × (number_of (codes "Y") 84 ≡ 120) ×
+    (number_of (codes "UU") 65 ≡ 121) × (number_of (codes "YY") 84 ≡ 620) × (number_of (codes "UUU") 65 ≡ 621)
 
 -- Two numbers that are written differently are different.
 abbrev pub NumbersAreApart : Type 0
@@ -43,36 +46,50 @@ abbrev pub IsRead : Reading → Type 0
 IsRead reading = (step : Step) × (reading.step ≡ Ok step)
 
 -- the first that is no step is this fault
-pub record IsFirstFault (readings : List Reading) (number : ProofNumber) (spot : Spot) : Type 0 where
+pub record IsFirstFault (readings : List Reading) (fault : ProofFault) : Type 0 where
   pub front : List Reading
   pub back : List Reading
-  pub whole : readings ≡ front ++ record { spot = spot; step = Err number } ∷ back
+  pub whole : readings ≡ front ++ record { spot = fault.spot; step = Err fault.number } ∷ back
   pub before : AllByRecursion IsRead front
 
 -- The fault that is told is the first in reading order.
 abbrev pub TellsFirstFault : Type 0
-TellsFirstFault = (readings : List Reading) (number : ProofNumber) (spot : Spot) → (in_order readings ≡ Err (number, spot)) ↔ IsFirstFault readings number spot
+TellsFirstFault = (readings : List Reading) (fault : ProofFault) → (in_order readings ≡ Err fault) ↔ IsFirstFault readings fault
 
 -- the steps, or the number of the fault, wherever they stand
-abbrev pub without_spots : Result Decoded (ProofNumber × Spot) → Result (List Step) ProofNumber
+abbrev pub without_spots : Result Decoded ProofFault → Result (List Step) ProofNumber
 without_spots (Ok d) = Ok d.steps
-without_spots (Err fault) = Err fault.0
+without_spots (Err fault) = Err fault.number
+
+-- the words of a compressed proof with these listed labels and these words of letters
+abbrev pub compressed_words : List (List ℕ) → List (List ℕ) → List (List ℕ)
+compressed_words listed letters = codes "(" ∷ (listed ++ codes ")" ∷ letters)
 
 -- Letters read on over the ends of words: only the letters in a row count.
 abbrev pub LettersReadOn : Type 0
-LettersReadOn = (place : Place) (mandatory listed some others : List (List ℕ)) → list_any is_close listed ≡ false → flat_map (λ word. word) some ≡ flat_map (λ word. word) others → without_spots (decoding place mandatory (codes "(" ∷ (listed ++ codes ")" ∷ some))) ≡ without_spots (decoding place mandatory (codes "(" ∷ (listed ++ codes ")" ∷ others)))
+LettersReadOn =
+    (place : Place) (mandatory listed some others : List (List ℕ)) →
+    list_any is_close listed ≡ false → flat_map (λ word. word) some ≡ flat_map (λ word. word) others →
+    without_spots (decoding place mandatory (compressed_words listed some)) ≡ without_spots (decoding place mandatory (compressed_words listed others))
 
--- Decoding makes sure that each label can be used and each saved number is of a save before it, and there is a spot for each step.
+-- Decoding makes sure that each label can be used and each saved number is of one of the saves before it, and there is a spot for each step.
 abbrev pub DecodesSurely : Type 0
-DecodesSurely = (place : Place) (mandatory words : List (List ℕ)) (d : Decoded) → AllByRecursion (λ label. IsUsable (place.resolve label)) mandatory → decoding place mandatory words ≡ Ok d → AreDecodedAfter place 0 d.steps × (length d.spots ≡ length d.steps)
+DecodesSurely =
+    (place : Place) (mandatory words : List (List ℕ)) (d : Decoded) →
+    AllByRecursion (λ label. IsUsable (place.resolve label)) mandatory → decoding place mandatory words ≡ Ok d →
+    AreDecoded place d.steps × (length d.spots ≡ length d.steps)
 
 -- Proofs with the same words decode to the same where their labels mean the same, though mandatory hypotheses may have other labels.
 abbrev pub SameDecodesSame : Type 0
-SameDecodesSame = (place other : Place) (mandatory others words : List (List ℕ)) → AreSameToDecode place other mandatory others words → IsSameDecoding place other (decoding place mandatory words) (decoding other others words)
+SameDecodesSame =
+    (place other : Place) (mandatory others words : List (List ℕ)) → AreSameToDecode place other mandatory others words →
+    IsSameDecoding place other (decoding place mandatory words) (decoding other others words)
 
 -- and they cite by the same words.
 abbrev pub SameCitesSame : Type 0
-SameCitesSame = (place other : Place) (mandatory others words : List (List ℕ)) → AreSameToDecode place other mandatory others words → cites place words (decoding place mandatory words) ≡ cites other words (decoding other others words)
+SameCitesSame =
+    (place other : Place) (mandatory others words : List (List ℕ)) → AreSameToDecode place other mandatory others words →
+    cites place words (decoding place mandatory words) ≡ cites other words (decoding other others words)
 
 -- each number is below those behind it
 abbrev pub Rise : List ℕ → Type 0
@@ -81,16 +98,19 @@ Rise (n ∷ numbers) = AllByRecursion (λ m. n < m) numbers × Rise numbers
 
 -- The words that cite rise.
 abbrev pub CitesRise : Type 0
-CitesRise = (place : Place) (words : List (List ℕ)) (decoding : Result Decoded (ProofNumber × Spot)) → Rise (cites place words decoding)
+CitesRise = (place : Place) (words : List (List ℕ)) (decoding : Result Decoded ProofFault) → Rise (cites place words decoding)
 
 -- There are at most as many steps as the words have bytes, where no word is empty.
 abbrev pub DecodesShort : Type 0
-DecodesShort = (place : Place) (mandatory words : List (List ℕ)) (d : Decoded) → AllByRecursion (λ word. 0 < length word) words → decoding place mandatory words ≡ Ok d → length d.steps ≤ length (flat_map (λ word. word) words)
+DecodesShort =
+    (place : Place) (mandatory words : List (List ℕ)) (d : Decoded) →
+    AllByRecursion (λ word. 0 < length word) words → decoding place mandatory words ≡ Ok d →
+    length d.steps ≤ length (flat_map (λ word. word) words)
 
 -- No two sound items have the same label.
 abbrev pub LabelsAreOwn : Type 0
-LabelsAreOwn = (view : BaseView) → HasLabels view → HasOwnLabels view
+LabelsAreOwn = (view : BaseView) → AreSaid view → HasOwnLabels view
 
 -- The mandatory hypotheses of an item are active there.
 abbrev pub MandatoryAreActive : Type 0
-MandatoryAreActive = (view : BaseView) (i : ℕ) → HasLabels view → All (λ n. (n < i) × (is_shown_at view n ≡ true)) (mandatory_numbers (before view i) (said_at view i)) → AreActive view i (mandatory_numbers (before view i) (said_at view i))
+MandatoryAreActive = (view : BaseView) (i : ℕ) → AreSaid view → AreActive view i (mandatory_numbers (before view i) (said_at view i))

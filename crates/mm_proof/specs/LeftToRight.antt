@@ -1,4 +1,5 @@
--- The letters read from left to right, with a number for the digits so far. No public contract speaks of it: it stands between the code and the definition, with which it is proved to agree.
+-- The letters read from left to right, with a number for the digits so far. No public contract speaks of it: it stands
+-- between the code and the definition, with which it is proved to agree.
 use Rattle.std.specs.Prelude.{ℕ, ◌+◌, ◌-◌, ◌*◌, ◌==◌, if◌then◌else◌, Result, Ok, Err, List, [], ◌∷◌, ◌++◌, slice_get}
 use Rattle.mm_frame.specs.Language.{Place}
 use Rattle.mm_proof.specs.Expansion.{Step, Save, NotKnown}
@@ -23,14 +24,16 @@ read_behind names digits byte =
 
 -- the end, behind digits with this number
 abbrev pub end_behind : Spot → ℕ → Steps
-end_behind close digits = if digits == 0 then Ok [] else Err (P05, close)
+end_behind close digits = if digits == 0 then Ok [] else Err (record { number = P05; spot = close })
 
 -- letters behind some saves and behind digits with this number
 abbrev pub read_on : List Step → Spot → ℕ → ℕ → List Letter → Steps
 read_on labels close saves digits [] = end_behind close digits
 read_on labels close saves digits (letter ∷ letters) =
     if is_digit letter.byte then read_on labels close saves (5 * digits + digit_worth letter.byte) letters
-    else read_first letter.spot (read_behind (nameable labels saves) digits letter.byte) (read_on labels close (if letter.byte == 90 then saves + 1 else saves) 0 letters)
+    else
+    read_first letter.spot (read_behind (nameable labels saves) digits letter.byte)
+    (read_on labels close (if letter.byte == 90 then saves + 1 else saves) 0 letters)
 
 -- steps that were read before
 abbrev pub with_steps : List (Step × Spot) → Steps → Steps
@@ -40,11 +43,11 @@ with_steps done (Err fault) = Err fault
 -- a label of the list, and what is behind it
 abbrev pub behind_label : ℕ → Result Step ProofNumber → Steps → Steps
 behind_label n (Ok step) behind = behind
-behind_label n (Err number) behind = Err (number, word_spot n)
+behind_label n (Err number) behind = Err (record { number = number; spot = word_spot n })
 
 -- the words from word n on, behind labels that were listed
 abbrev pub list_on : Place → List (List ℕ) → Spot → List (List ℕ) → ℕ → List (List ℕ) → Steps
-list_on place mandatory close listed n [] = Err (P03, close)
+list_on place mandatory close listed n [] = Err (record { number = P03; spot = close })
 list_on place mandatory close listed n (word ∷ words) =
     if is_close word then letter_steps mandatory listed (n + 1) words close
     else behind_label n (read_label place word) (list_on place mandatory close (listed ++ word ∷ []) (n + 1) words)

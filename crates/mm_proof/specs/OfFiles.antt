@@ -1,16 +1,18 @@
 -- A base as that of the files that it was built from.
-use Rattle.std.specs.Prelude.{ℕ, ◌<◌, length}
+use Rattle.std.specs.Prelude.{ℕ, ◌<◌, All, length}
 use Rattle.std.specs.List.{AllZip}
 use Rattle.mm_store.specs.FilesView.{FilesView}
+use Rattle.mm_store.specs.FileFacts.{StandsIn}
 use Rattle.mm_frame.specs.Base.{BaseView}
 use Rattle.mm_frame.specs.Kept.{IsBase}
 use Rattle.mm_frame.specs.Statement.{Says}
 use Rattle.mm_frame.specs.declared.base.Base.{Base}
 
--- the code's base answers this, and what it answers is what the items of the files say
+-- the code's base answers this, what it answers is what the items of the files say, and the items stand in the files
 pub record IsOf (files : FilesView) (code : Base) (view : BaseView) : Type 0 where
   pub base : IsBase view code
   pub each : AllZip (Says files) view.found view.said
+  pub stand : All (StandsIn files) view.found
 
 -- there is what the code's base answers
 abbrev pub HasView : FilesView → Base → Type 0

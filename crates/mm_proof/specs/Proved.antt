@@ -2,7 +2,7 @@
 use Rattle.std.specs.Prelude.{ℕ, List}
 use Rattle.mm_frame.specs.Item.{Item}
 use Rattle.mm_frame.specs.Framing.{place_of, statement_of}
-use Rattle.mm_frame.specs.Tables.{item_at}
+use Rattle.mm_frame.specs.Item.{item_at}
 use Rattle.mm_proof.specs.Derivation.{Derives}
 
 -- the labels of the proof of the item with this number derive its statement

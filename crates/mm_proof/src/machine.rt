@@ -181,7 +181,6 @@ pub fn is_proved(
     requires { HasItemOf files.now base.now number }
     ensures { IfOk result (λ proved. (view : BaseView) → IsOf files.now base.now view → is_proof_at view number ≡ true → IsTrue proved ↔ IsProved view.said number) }
 {
-    mm_text::one_meaning();
     let statement = Statement::read(alloc, files, base.item(number))?;
     proves(alloc, base, number, &statement)
 }

@@ -1,19 +1,19 @@
 -- Where a byte of a piece stands in its file, by the fields of `Files`.
-use Rattle.std.proofs.Common.{◌≡◌, ℕ, ◌+◌, ◌<◌, ◌≤◌, List, [], Some, length, map, take, get_or, refl, sym, ap, ◌∙◌, subst, arith, length-append, count_by}
+use Rattle.std.proofs.Common.{◌≡◌, ℕ, ◌+◌, ◌<◌, ◌≤◌, List, [], Some, length, map, take, get_or, sym, ap, ◌∙◌, subst, arith, length-append}
 use Rattle.std.specs.Prelude.{Vec, slice_get}
-use Rattle.std.specs.List.{concat, after_last}
+use Rattle.std.specs.List.{concat}
 use Rattle.std.specs.Option.{option_map}
 use Rattle.std.proofs.lemmas.List.{take-map}
 use Rattle.std.proofs.lemmas.List.Sums.{get_or-le-sum_by}
-use Rattle.std.proofs.lemmas.Option.{slice_get-map, slice_get-get_or, slice_get_within, get_or_from_slice_get, same_Some}
-use Rattle.mm_text.specs.Place.{is_line_feed}
+use Rattle.std.proofs.lemmas.Option.{slice_get-map, slice_get_within, get_or_from_slice_get, same_Some}
 use Rattle.mm_store.specs.declared.files.PieceKey.{PieceKey}
 use Rattle.mm_store.specs.declared.files.FileText.{FileText}
+use Rattle.mm_store.specs.declared.piece_text.PieceText.{PieceText}
 use Rattle.mm_store.specs.FilesView.{PieceView, FileView, FilesView, piece_texts, text_of, bytes_of}
-use Rattle.mm_store.specs.FileFacts.{IsByte, IsKnown, IsLive, piece_offset}
-use Rattle.mm_store.specs.declared.walk.KnownPlace.{KnownPlace}
+use Rattle.mm_store.specs.FileFacts.{IsByte, IsLive, piece_offset}
 use Rattle.mm_store.specs.Inside.{text_at, file_of, files_of}
-use Rattle.mm_store.specs.Walk.{IsBehind, bytes_before}
+use Rattle.mm_store.specs.declared.start.Start.{Start}
+use Rattle.mm_store.specs.Lines.{AreStarts, IsStart, bytes_before}
 use Rattle.mm_store.proofs.FilesLemmas.{texts_are, file_small}
 use Rattle.mm_store.proofs.PlaceLemmas.{before_byte, within_joined}
 
@@ -33,11 +33,11 @@ in_view file piece at view there within =
       is_before = before_byte file piece at view there within;
     }
 
-module _ {Y Z : Type 0} (texts : List (Vec ℕ Y)) (entries : List (Vec ℕ Z × FileText)) (number : ℕ) (entry : Vec ℕ Z × FileText) (there : slice_get entries number ≡ Some entry) (seen : List (Vec ℕ Y)) (same : seen ≡ texts) (keys : List PieceKey) (keys_are : keys ≡ entry.1.keys.items) where
-  texts_seen : piece_texts (file_of texts entry).pieces ≡ map (text_at seen) keys
-  texts_seen = texts_are texts entry.1.keys.items ∙ ap (λ t. map (text_at t) entry.1.keys.items) (sym same) ∙ ap (map (text_at seen)) (sym keys_are)
+module _ {Z : Type 0} (texts : List PieceText) (entries : List (Vec ℕ Z × FileText)) (number : ℕ) (entry : Vec ℕ Z × FileText) (there : slice_get entries number ≡ Some entry) (seen : List PieceText) (same : seen ≡ texts) where
+  texts_seen : piece_texts (file_of texts entry).pieces ≡ map (text_at seen) entry.1.keys.items
+  texts_seen = texts_are texts entry.1.keys.items ∙ ap (λ t. map (text_at t) entry.1.keys.items) (sym same)
 
-  pub byte_in : (view : FilesView) → record { files = files_of texts entries } ≡ view → (piece at : ℕ) (text : List ℕ) (offset : ℕ) → IsByte view number piece at text offset → IsIn (map (text_at seen) keys) piece at (take offset text)
+  pub byte_in : (view : FilesView) → record { files = files_of texts entries } ≡ view → (piece at : ℕ) (text : List ℕ) (offset : ℕ) → IsByte view number piece at text offset → IsIn (map (text_at seen) entry.1.keys.items) piece at (take offset text)
   byte_in view is piece at text offset byte =
       let here : slice_get (files_of texts entries) number ≡ Some (file_of texts entry) = slice_get-map (file_of texts) entries number ∙ ap (option_map (file_of texts)) there in
       let file : byte.file ≡ file_of texts entry = same_Some byte.file (file_of texts entry) (sym byte.there ∙ ap (λ (v : FilesView). slice_get v.files number) (sym is) ∙ here) in
@@ -45,32 +45,19 @@ module _ {Y Z : Type 0} (texts : List (Vec ℕ Y)) (entries : List (Vec ℕ Z ×
       let found = in_view byte.file piece at byte.view byte.is_piece byte.within in
       subst (λ texts. IsIn texts piece at (take offset text)) (ap (λ (file : FileView). piece_texts file.pieces) file ∙ texts_seen) (subst (IsIn (piece_texts byte.file.pieces) piece at) (sym before) found)
 
-  pub offset_in : (view : FilesView) → record { files = files_of texts entries } ≡ view → (piece at : ℕ) (text : List ℕ) (offset : ℕ) → IsByte view number piece at text offset → offset ≡ length (concat (map (text_at seen) (take piece keys))) + at
+  pub offset_in : (view : FilesView) → record { files = files_of texts entries } ≡ view → (piece at : ℕ) (text : List ℕ) (offset : ℕ) → IsByte view number piece at text offset → offset ≡ length (concat (take piece (map (text_at seen) entry.1.keys.items))) + at
   offset_in view is piece at text offset byte =
       let here : slice_get (files_of texts entries) number ≡ Some (file_of texts entry) = slice_get-map (file_of texts) entries number ∙ ap (option_map (file_of texts)) there in
       let file : byte.file ≡ file_of texts entry = same_Some byte.file (file_of texts entry) (sym byte.there ∙ ap (λ (v : FilesView). slice_get v.files number) (sym is) ∙ here) in
       byte.is_offset ∙ ap (λ (file : FileView). piece_offset file piece + at) file
-      ∙ ap (λ (ts : List (List ℕ)). length (concat ts) + at) (sym (take-map (λ (p : PieceView). p.text) piece (file_of texts entry).pieces) ∙ ap (take piece) texts_seen ∙ take-map (text_at seen) piece keys)
+      ∙ ap (λ (ts : List (List ℕ)). length (concat ts) + at) (sym (take-map (λ (p : PieceView). p.text) piece (file_of texts entry).pieces) ∙ ap (take piece) texts_seen)
 
-  pub known_in : (view : FilesView) → record { files = files_of texts entries } ≡ view → (known : KnownPlace) → IsKnown view number known → IsBehind (bytes_before (map (text_at seen) keys) known.piece known.at) known.place
-  known_in view is known k =
-      let found = byte_in view is known.piece known.at k.text k.offset k.byte in
-      record { line = k.line ∙ ap (λ before. count_by is_line_feed before + 1) found.is_before; column = k.column ∙ ap (λ before. length (after_last is_line_feed before) + 1) found.is_before }
-
-  pub small_in : bytes_of (files_of texts entries) ≤ 4294967295 → length (concat (map (text_at seen) keys)) ≤ 4294967295
+  pub small_in : bytes_of (files_of texts entries) ≤ 4294967295 → length (concat (map (text_at seen) entry.1.keys.items)) ≤ 4294967295
   small_in small = omega (arith, ap (λ texts. length (concat texts)) texts_seen, file_small texts entries number entry there)
 
--- the first byte of a file that has a piece is known
-pub first_known : (view : FilesView) (number piece at : ℕ) (text : List ℕ) (offset : ℕ) → IsByte view number piece at text offset → IsKnown view number (record { piece = 0; at = 0; place = record { line = 1; column = 1 } })
-first_known view number piece at text offset byte =
-    let within : 0 < length byte.file.pieces = omega (arith, slice_get_within byte.file.pieces piece byte.view byte.is_piece) in
-    record {
-      text = text_of byte.file;
-      offset = 0;
-      byte = record { file = byte.file; there = byte.there; is_text = refl; view = get_or byte.file.pieces 0 byte.view; is_piece = slice_get-get_or byte.file.pieces 0 byte.view within; within = omega arith; is_offset = refl };
-      line = refl;
-      column = refl;
-    }
+-- where a piece begins, read from the list
+pub start_read : (texts : List (List ℕ)) (starts : List Start) (piece : ℕ) (start : Start) → AreStarts texts starts → piece < length texts → start ≡ get_or starts piece start → IsStart (concat (take piece texts)) start
+start_read texts starts piece start are h is = subst (IsStart (concat (take piece texts))) (sym is) (are.each piece start (omega (arith, are.many)))
 
 -- a live piece is no longer than all files
 pub live_small : (files : List FileView) (key : PieceKey) (text : List ℕ) → IsLive (record { files = files }) key text → length text ≤ bytes_of files

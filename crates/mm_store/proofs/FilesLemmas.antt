@@ -11,6 +11,7 @@ use Rattle.std.proofs.lemmas.List.Folds.{concat-append}
 use Rattle.std.proofs.lemmas.Option.{slice_get-map, slice_get-get_or, same_Some, slice_get_within, get_or_from_slice_get}
 use Rattle.mm_store.specs.declared.files.PieceKey.{PieceKey}
 use Rattle.mm_store.specs.declared.files.FileText.{FileText}
+use Rattle.mm_store.specs.declared.piece_text.PieceText.{PieceText}
 use Rattle.mm_store.specs.FilesView.{piece_texts, text_of, bytes_of, number_of, find_file, file_at}
 use Rattle.mm_store.specs.FileFacts.{IsLive}
 use Rattle.mm_store.specs.Inside.{text_at, text_under, piece_of, file_of, files_of, IsFileKept}
@@ -30,19 +31,19 @@ there_from_map f (x ∷ xs) (suc n) y h = there_from_map f xs n y h
 same_tests : (b : Bool) (m n : ℕ) → m ≡ n → cond (not b) (1 + m) 0 ≡ cond (not b) (1 + n) 0
 same_tests b m n e = ap (λ (k : ℕ). cond (not b) (1 + k) 0) e
 
-module _ {Y : Type 0} (texts : List (Vec ℕ Y)) where
+module _ (texts : List PieceText) where
   pub texts_are : (keys : List PieceKey) → piece_texts (map (piece_of texts) keys) ≡ map (text_at texts) keys
   texts_are [] = refl
   texts_are (key ∷ keys) = ap (λ l. text_at texts key ∷ l) (texts_are keys)
 
   -- the text under a key that a read of the list gives
-  pub text_read : (key : PieceKey) (text : Vec ℕ Y) → key.at < length texts → text ≡ get_or texts key.at text → text_at texts key ≡ text.items
+  pub text_read : (key : PieceKey) (text : PieceText) → key.at < length texts → text ≡ get_or texts key.at text → text_at texts key ≡ text.text.items
   text_read key text h e = ap text_under (slice_get-get_or texts key.at text h ∙ ap Some (sym e))
 
-  pub piece_read : (keys : List PieceKey) (n : ℕ) (text : Vec ℕ Y) → n < length keys → All (λ key. key.at < length texts) keys → text ≡ get_or texts (get_or keys n (record { at = 0 })).at text → get_or (map (text_at texts) keys) n [] ≡ text.items
-  piece_read keys n text h in_range e =
-      let key : PieceKey = get_or keys n (record { at = 0 }) in
-      get_or-map (text_at texts) keys n (record { at = 0 }) [] h ∙ text_read key text (in_range n (record { at = 0 }) h) e
+  -- the text of the piece that a key of a list names
+  pub piece_read : (keys : List PieceKey) (n : ℕ) (key : PieceKey) (text : PieceText) → n < length keys → All (λ key. key.at < length texts) keys → key ≡ get_or keys n key → text ≡ get_or texts key.at text → get_or (map (text_at texts) keys) n [] ≡ text.text.items
+  piece_read keys n key text h in_range is e =
+      get_or-map (text_at texts) keys n key [] h ∙ ap (text_at texts) (sym is) ∙ text_read key text (subst (λ key. key.at < length texts) (sym is) (in_range n key h)) e
 
   pub concat_more : (keys : List PieceKey) (n : ℕ) → n < length keys → concat (map (text_at texts) (take (n + 1) keys)) ≡ concat (map (text_at texts) (take n keys)) ++ text_at texts (get_or keys n (record { at = 0 }))
   concat_more keys n h =
@@ -50,7 +51,7 @@ module _ {Y : Type 0} (texts : List (Vec ℕ Y)) where
       ap concat (map_more (text_at texts) keys n (record { at = 0 }) h) ∙ concat-append (map (text_at texts) (take n keys)) (text_at texts key ∷ []) ∙ ap (λ l. concat (map (text_at texts) (take n keys)) ++ l) (append-nil (text_at texts key))
 
   -- the bytes of one more piece, which are no more than those of all
-  pub length_more : (keys : List PieceKey) (n : ℕ) (text : Vec ℕ Y) → n < length keys → All (λ key. key.at < length texts) keys → text ≡ get_or texts (get_or keys n (record { at = 0 })).at text → length (concat (map (text_at texts) (take (n + 1) keys))) ≡ length (concat (map (text_at texts) (take n keys))) + length text.items
+  pub length_more : (keys : List PieceKey) (n : ℕ) (text : PieceText) → n < length keys → All (λ key. key.at < length texts) keys → text ≡ get_or texts (get_or keys n (record { at = 0 })).at text → length (concat (map (text_at texts) (take (n + 1) keys))) ≡ length (concat (map (text_at texts) (take n keys))) + length text.text.items
   length_more keys n text h in_range e =
       let key : PieceKey = get_or keys n (record { at = 0 }) in
       ap length (concat_more keys n h) ∙ length-append (concat (map (text_at texts) (take n keys))) (text_at texts key) ∙ ap (λ l. length (concat (map (text_at texts) (take n keys))) + length l) (text_read key text (in_range n (record { at = 0 }) h) e)
@@ -70,13 +71,13 @@ module _ {Y : Type 0} (texts : List (Vec ℕ Y)) where
       omega (arith, le, ap (λ file. length (text_of file)) at, length-append (concat (piece_texts file.pieces)) file.tail)
 
   -- a key of a file is in range, and its text stands under it
-  pub live_is : {Z : Type 0} (entries : List (Vec ℕ Z × FileText)) (key : PieceKey) (text : List ℕ) → AllByRecursion (IsFileKept texts) entries → IsLive (record { files = files_of texts entries }) key text → (key.at < length texts) × (text ≡ text_at texts key)
+  pub live_is : {Z : Type 0} (entries : List (Vec ℕ Z × FileText)) (key : PieceKey) (text : List ℕ) → AllByRecursion (λ entry. IsFileKept texts entry.1) entries → IsLive (record { files = files_of texts entries }) key text → (key.at < length texts) × (text ≡ text_at texts key)
   live_is entries key text kept live =
       let f = there_from_map (file_of texts) entries live.number live.file live.there in
       let is_piece : slice_get (map (piece_of texts) f.0.1.keys.items) live.piece ≡ Some (record { key = key; text = text }) = subst (λ file. slice_get file.pieces live.piece ≡ Some (record { key = key; text = text })) f.2 live.is_piece in
       let k = there_from_map (piece_of texts) f.0.1.keys.items live.piece (record { key = key; text = text }) is_piece in
       let same : key ≡ k.0 = ap (λ piece. piece.key) k.2 in
-      let in_range = (kept_at (IsFileKept texts) entries live.number f.0 f.1 kept).in_range live.piece k.0 (slice_get_within f.0.1.keys.items live.piece k.0 k.1) in
+      let in_range = (kept_at (λ entry. IsFileKept texts entry.1) entries live.number f.0 f.1 kept).in_range live.piece k.0 (slice_get_within f.0.1.keys.items live.piece k.0 k.1) in
       let at : get_or f.0.1.keys.items live.piece k.0 ≡ k.0 = get_or_from_slice_get f.0.1.keys.items live.piece k.0 k.0 k.1 in
       (subst (λ key. key.at < length texts) (at ∙ sym same) in_range, ap (λ piece. piece.text) k.2 ∙ ap (text_at texts) (sym same))
 

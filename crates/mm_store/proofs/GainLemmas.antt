@@ -14,6 +14,7 @@ use Rattle.indexmap.specs.IndexSet.{insert_key}
 use Rattle.mm_store.specs.declared.item.Item.{Item}
 use Rattle.std.proofs.lemmas.Option.{none-some}
 use Rattle.mm_store.specs.declared.files.PieceKey.{PieceKey}
+use Rattle.mm_store.specs.declared.piece_text.PieceText.{PieceText}
 use Rattle.mm_store.specs.Inside.{piece_of, text_at}
 use Rattle.mm_store.specs.FilesView.{PieceView, FileView, number_of}
 use Rattle.mm_store.specs.Expansion.{Placed, IsInclusion, item_of, ArePartsOf, ArePlaced, Expands, nothing, own, again, missing, included}
@@ -107,7 +108,7 @@ file_gains_next file n pieces piece at g h = record {
 pub file_gains_none : (file : ℕ) (names : List (List ℕ)) → FileGains file [] names names []
 file_gains_none file names = record { placed = []; are_placed = refl; gains = gains_nothing names [] }
 
-pub next_of_file : {Y : Type 0} (texts : List (Vec ℕ Y)) (keys : List PieceKey) (file n : ℕ) (text : List ℕ) {names between after : List (List ℕ)} {some all : List Item} → n < length keys → text ≡ text_at texts (get_or keys n (record { at = 0 })) → FileGains file (map (piece_of texts) (take n keys)) names between some → PieceGains file n (record { key = get_or keys n (record { at = 0 }); text = text }) between some after all → FileGains file (map (piece_of texts) (take (n + 1) keys)) names after all
+pub next_of_file : (texts : List PieceText) (keys : List PieceKey) (file n : ℕ) (text : List ℕ) {names between after : List (List ℕ)} {some all : List Item} → n < length keys → text ≡ text_at texts (get_or keys n (record { at = 0 })) → FileGains file (map (piece_of texts) (take n keys)) names between some → PieceGains file n (record { key = get_or keys n (record { at = 0 }); text = text }) between some after all → FileGains file (map (piece_of texts) (take (n + 1) keys)) names after all
 next_of_file texts keys file n text {names} {after = after} {all = all} h same g piece =
     let key : PieceKey = get_or keys n (record { at = 0 }) in
     let within : n ≤ length keys = omega arith in

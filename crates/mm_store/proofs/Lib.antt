@@ -6,6 +6,7 @@ pub mod NewFileLemmas
 pub mod ByteLemmas
 pub mod ExpansionLemmas
 pub mod KeylessLemmas
+pub mod KeyLemmas
 pub mod StandLemmas
 pub mod Rows
 pub mod OffsetLemmas

@@ -1,21 +1,19 @@
 -- Lines and columns behind joined bytes, and where the bytes of a piece stand.
-use Rattle.std.proofs.Common.{◌≡◌, ℕ, suc, ◌+◌, ◌-◌, ◌<◌, ◌≤◌, Bool, true, false, not, eqb, cond, List, [], ◌∷◌, ◌++◌, Some, length, take, drop, get_or, reverse, count_by, refl, sym, ap, ◌∙◌, subst, append_assoc, arith, length-append, inl, inr}
+use Rattle.std.proofs.Common.{◌≡◌, ℕ, zero, suc, ◌+◌, ◌-◌, ◌<◌, ◌≤◌, Bool, true, false, not, eqb, cond, List, [], ◌∷◌, ◌++◌, Some, length, take, drop, get_or, reverse, count_by, refl, sym, ap, ◌∙◌, subst, append_assoc, arith, length-append}
 use Rattle.std.specs.Prelude.{slice_get}
 use Rattle.std.specs.List.{suffix_len, prefix_len, after_last, concat}
 use Rattle.std.proofs.lemmas.Bool.Decides.{nat_tests}
-use Rattle.std.proofs.lemmas.List.{append-nil, length-take, length-drop, length-reverse, reverse-append, take_more, drop_more, take-append-drop, take-append-le, take-map}
+use Rattle.std.proofs.lemmas.List.{append-nil, length-drop, length-reverse, reverse-append, take_more, drop_more, take-append-drop, take-append-le, take-map}
 use Rattle.std.proofs.lemmas.List.Sums.{sum_by-cons, sum_by-append, suffix_len-le-length, count_by-le-length}
 use Rattle.std.proofs.lemmas.List.Sorted.{sum_by-IsPermutation, IsPermutation-reverse}
 use Rattle.std.proofs.lemmas.List.Folds.{prefix_len-append, concat-append}
 use Rattle.std.proofs.lemmas.Option.{get_or_from_slice_get, slice_get_within, slice_get-map}
 use Rattle.std.specs.Option.{option_map}
-use Rattle.std.proofs.Math.Nat.{eq-or-lt_of_le}
-use Rattle.std.proofs.Math.Seq.{take-append-add, take-add}
-use Rattle.mm_text.specs.declared.location.Place.{Place}
+use Rattle.std.proofs.Math.Seq.{take-append-add}
 use Rattle.mm_text.specs.Place.{is_line_feed}
 use Rattle.mm_store.specs.FilesView.{PieceView, FileView, piece_texts, text_of}
 use Rattle.mm_store.specs.FileFacts.{piece_offset}
-use Rattle.mm_store.specs.Walk.{IsBehind, bytes_before}
+use Rattle.mm_store.specs.Lines.{bytes_before}
 
 abbrev is_other : ℕ → Bool
 is_other b = not (is_line_feed b)
@@ -61,24 +59,27 @@ column_begins a b some =
 pub lines_joined : (a b : List ℕ) → count_by is_line_feed (a ++ b) ≡ count_by is_line_feed a + count_by is_line_feed b
 lines_joined a b = sum_by-append (λ x. cond (is_line_feed x) 1 0) a b
 
--- a line and a column are at most one more than the bytes before them
-pub line_small : (before : List ℕ) (place : Place) → IsBehind before place → (place.line ≤ length before + 1) × (place.column ≤ length before + 1)
-line_small before place is =
-    (omega (arith, is.line, count_by-le-length is_line_feed before), omega (arith, is.column, length_after before, suffix_len-le-length is_other before))
+-- line feeds, and bytes behind the last of them, are no more than all bytes
+pub feeds_most : (bytes : List ℕ) → count_by is_line_feed bytes ≤ length bytes
+feeds_most bytes = count_by-le-length is_line_feed bytes
 
-concat_one : (texts : List (List ℕ)) (n : ℕ) → n < length texts → concat (take (n + 1) texts) ≡ concat (take n texts) ++ get_or texts n []
+pub behind_most : (bytes : List ℕ) → length (after_last is_line_feed bytes) ≤ length bytes
+behind_most bytes = omega (arith, length_after bytes, suffix_len-le-length is_other bytes)
+
+-- what holds of the elements of a list by their places, and of one more behind them
+pub each_more : {X : Type 0} (P : ℕ → X → Type 0) (xs : List X) (x : X) (n : ℕ) → length xs ≡ n → ((k : ℕ) (d : X) → k < n → P k (get_or xs k d)) → P n x → (k : ℕ) (d : X) → k < n + 1 → P k (get_or (xs ++ x ∷ []) k d)
+each_more P [] x n long each last zero d h = subst (λ m. P m x) (sym long) last
+each_more P [] x n long each last (suc k) d h = absurd (omega arith)
+each_more P (y ∷ xs) x n long each last zero d h = each 0 d (omega arith)
+each_more P (y ∷ xs) x n long each last (suc k) d h = each_more (λ j z. P (suc j) z) xs x (n - 1) (omega arith) (λ j e lt. each (suc j) e (omega arith)) (let same : suc (n - 1) ≡ n = omega arith in subst (λ m. P m x) (sym same) last) k d (omega arith)
+
+pub concat_one : (texts : List (List ℕ)) (n : ℕ) → n < length texts → concat (take (n + 1) texts) ≡ concat (take n texts) ++ get_or texts n []
 concat_one texts n h = rw (take_more texts n [] h, concat-append) (ap (λ l. concat (take n texts) ++ l) (append-nil (get_or texts n [])))
 
 -- the bytes before the next piece
 pub next_piece : (texts : List (List ℕ)) (n at : ℕ) → n < length texts → bytes_before texts (n + 1) 0 ≡ bytes_before texts n at ++ drop at (get_or texts n [])
 next_piece texts n at h =
     append-nil (concat (take (n + 1) texts)) ∙ concat_one texts n h ∙ ap (λ l. concat (take n texts) ++ l) (sym (take-append-drop at (get_or texts n []))) ∙ sym (append_assoc (concat (take n texts)) (take at (get_or texts n [])) (drop at (get_or texts n [])))
-
--- the bytes before a later byte of the same piece
-pub same_piece : (texts : List (List ℕ)) (n at later : ℕ) → at ≤ later → bytes_before texts n later ≡ bytes_before texts n at ++ take (later - at) (drop at (get_or texts n []))
-same_piece texts n at later h =
-    let e : later ≡ at + (later - at) = omega arith in
-    ap (λ k. bytes_before texts n k) e ∙ ap (λ l. concat (take n texts) ++ l) (take-add at (later - at) (get_or texts n [])) ∙ sym (append_assoc (concat (take n texts)) (take at (get_or texts n [])) (take (later - at) (drop at (get_or texts n []))))
 
 -- bytes of a piece lie within the joined texts
 pub within_joined : (texts : List (List ℕ)) (n at : ℕ) → n < length texts → length (bytes_before texts n at) + length (drop at (get_or texts n [])) ≤ length (concat texts)
@@ -90,6 +91,10 @@ within_joined texts n at h =
     let l = length-append (bytes_before texts n at) (drop at (get_or texts n [])) in
     let m = length-append (concat (take (n + 1) texts)) (concat (drop (n + 1) texts)) in
     omega (arith, ap length (sym a ∙ b), ap length (sym d ∙ c))
+
+-- what stands before a text among joined ones, and the text, are no longer than all
+pub piece_within : (texts : List (List ℕ)) (n : ℕ) → n < length texts → length (concat (take n texts)) + length (get_or texts n []) ≤ length (concat texts)
+piece_within texts n h = omega (arith, within_joined texts n 0 h, ap length (append-nil (concat (take n texts))))
 
 before_in : (texts : List (List ℕ)) (n at : ℕ) (tail : List ℕ) → n < length texts → at ≤ length (get_or texts n []) → take (length (concat (take n texts)) + at) (concat texts ++ tail) ≡ bytes_before texts n at
 before_in texts n at tail h within =
@@ -106,25 +111,3 @@ before_byte file n at view there within =
     let here : slice_get texts n ≡ Some view.text = slice_get-map (λ piece. piece.text) file.pieces n ∙ ap (option_map (λ piece. piece.text)) there in
     let long : at ≤ length (get_or texts n []) = rw (get_or_from_slice_get texts n view.text [] here) within in
     ap (λ l. take (length (concat l) + at) (text_of file)) (sym (take-map (λ piece. piece.text) n file.pieces)) ∙ before_in texts n at file.tail (slice_get_within texts n view.text here) long
-
--- bytes of a piece behind a known place keep its line and column small
-fits : (texts : List (List ℕ)) (n at : ℕ) (place : Place) (part : List ℕ) → n < length texts → IsBehind (bytes_before texts n at) place → length (concat texts) ≤ 4294967295 → length part ≤ length (drop at (get_or texts n [])) → (place.line + length part < 18446744073709551616) × (place.column + length part < 18446744073709551616)
-fits texts n at place part h is small le =
-    let w = within_joined texts n at h in
-    let s = line_small (bytes_before texts n at) place is in
-    (omega (arith, s.0), omega (arith, s.1))
-
-length-part : (n at : ℕ) (text : List ℕ) → length (take n (drop at text)) ≤ length (drop at text)
-length-part n at text = omega (arith, length-take n (drop at text))
-
-pub part_fits : (texts : List (List ℕ)) (n at m : ℕ) (place : Place) (text : List ℕ) → n < length texts → get_or texts n [] ≡ text → IsBehind (bytes_before texts n at) place → length (concat texts) ≤ 4294967295 → (place.line + length (take m (drop at text)) < 18446744073709551616) × (place.column + length (take m (drop at text)) < 18446744073709551616)
-part_fits texts n at m place text h same is small =
-    fits texts n at place (take m (drop at text)) h is small (subst (λ t. length (take m (drop at text)) ≤ length (drop at t)) (sym same) (length-part m at text))
-
--- where a walk began in the same piece, or at the beginning of a later one, it is not past the byte
-pub not_past : (known number piece start known_at at : ℕ) → known ≤ number → number ≡ piece → (number ≡ known → start ≡ known_at) → (known < number → start ≡ 0) → (known ≡ piece → known_at ≤ at) → start ≤ at
-not_past known number piece start known_at at le same first later before =
-    elim (eq-or-lt_of_le le) [
-      | inl e ↦ (let f : start ≡ known_at = first (sym e) in let g : known_at ≤ at = before (e ∙ same) in omega arith)
-      | inr lt ↦ (let f : start ≡ 0 = later lt in omega arith)
-    ]

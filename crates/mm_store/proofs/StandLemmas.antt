@@ -10,7 +10,7 @@ use Rattle.mm_text.specs.Unit.{Units}
 use Rattle.mm_text.specs.Part.{HasUnits, IsReadable, parts_of}
 use Rattle.mm_store.specs.declared.item.Item.{Item}
 use Rattle.mm_store.specs.FilesView.{PieceView, FileView, FilesView, text_of}
-use Rattle.mm_store.specs.FileFacts.{StandsIn, IsLive, IsByte, piece_offset}
+use Rattle.mm_store.specs.FileFacts.{CanBeRead, StandsIn, IsLive, IsByte, piece_offset}
 use Rattle.mm_store.specs.Expansion.{Placed, item_of, placed_part, second_word, ArePlaced, Expands, nothing, own, again, missing, included, IsExpansion}
 
 abbrev pub PartsAreTexts : Type 0
@@ -27,8 +27,18 @@ all_joined : {X : Type 0} (P : X → Type 0) (xs ys : List X) → AllByRecursion
 all_joined P [] ys a b = b
 all_joined P (x ∷ xs) ys a b = (a.0, all_joined P xs ys a.1 b)
 
-stands_in : (files : List FileView) (part : Placed) → Stands files part → StandsIn (record { files = files }) (item_of part)
-stands_in files part h = record { file = h.file; there = h.there; text = h.text; is_piece = h.is_piece; some = h.readable.some; within = h.readable.within; words = h.readable.words; has_words = h.readable.has_words; some_word = h.readable.some_word }
+-- an item of such a part
+record Found (files : FilesView) (item : Item) : Type 0 where
+  pub read : CanBeRead files item
+  pub stands : StandsIn files item
+
+found : (files : List FileView) (part : Placed) → Stands files part → Found (record { files = files }) (item_of part)
+found files part h =
+    let live : IsLive (record { files = files }) part.key h.text = record { number = part.file; file = h.file; there = h.there; piece = part.piece; is_piece = h.is_piece } in
+    record {
+      read = record { text = h.text; live = live; some = h.readable.some; within = h.readable.within; words = h.readable.words; has_words = h.readable.has_words; some_word = h.readable.some_word };
+      stands = record { file = h.file; there = h.there; text = h.text; is_piece = h.is_piece };
+    }
 
 parts_stand : (files : List FileView) (file : FileView) (number n : ℕ) (piece : PieceView) (name : List ℕ) (parts : List Part) → AllByRecursion (IsReadable piece.text) parts → slice_get files number ≡ Some file → slice_get file.pieces n ≡ Some piece → AllByRecursion (Stands files) (map (placed_part number n piece.key name) parts)
 parts_stand files file number n piece name [] h there here = tt
@@ -48,17 +58,23 @@ module _ (parts_are_texts : PartsAreTexts) where
       let rest = placed_stand files file number (n + 1) (front ++ piece ∷ []) pieces are.1 there (whole ∙ sym (append_assoc front (piece ∷ []) pieces)) next are.3 in
       subst (AllByRecursion (Stands files)) (sym are.4) (all_joined (Stands files) are.0 are.1 first rest)
 
-  items_stand : {files : List FileView} {parts : List Placed} {names after : List (List ℕ)} {items : List Item} → Expands files parts names items after → AllByRecursion (Stands files) parts → AllByRecursion (StandsIn (record { files = files })) items
-  items_stand nothing h = tt
-  items_stand {files} (own {part = part} not d) h = (stands_in files part h.0, items_stand d h.1)
-  items_stand (again is old d) h = items_stand d h.1
-  items_stand {files} (missing {part = part} is new none d) h = (stands_in files part h.0, items_stand d h.1)
-  items_stand {files} (included {inner = inner} {gained = gained} {items = items} {number = number} {file = file} is new at there placed inside d) h =
-      all_joined (StandsIn (record { files = files })) gained items (items_stand inside (placed_stand files file number 0 [] file.pieces inner there refl refl placed)) (items_stand d h.1)
+  items_found : {files : List FileView} {parts : List Placed} {names after : List (List ℕ)} {items : List Item} → Expands files parts names items after → AllByRecursion (Stands files) parts → AllByRecursion (Found (record { files = files })) items
+  items_found nothing h = tt
+  items_found {files} (own {part = part} not d) h = (found files part h.0, items_found d h.1)
+  items_found (again is old d) h = items_found d h.1
+  items_found {files} (missing {part = part} is new none d) h = (found files part h.0, items_found d h.1)
+  items_found {files} (included {inner = inner} {gained = gained} {items = items} {number = number} {file = file} is new at there placed inside d) h =
+      all_joined (Found (record { files = files })) gained items (items_found inside (placed_stand files file number 0 [] file.pieces inner there refl refl placed)) (items_found d h.1)
+
+  expansion_found : (view : FilesView) (top : List ℕ) (items : List Item) → IsExpansion view.files top items → All (Found view) items
+  expansion_found view top items is =
+      All-from_recursion (Found view) items (items_found is.expands (placed_stand view.files is.file is.number 0 [] is.file.pieces is.parts is.there refl refl is.placed))
 
   pub expansion_stands : (view : FilesView) (top : List ℕ) (items : List Item) → IsExpansion view.files top items → All (StandsIn view) items
-  expansion_stands view top items is =
-      All-from_recursion (StandsIn view) items (items_stand is.expands (placed_stand view.files is.file is.number 0 [] is.file.pieces is.parts is.there refl refl is.placed))
+  expansion_stands view top items is = λ n item within. (expansion_found view top items is n item within).stands
+
+  pub expansion_read : (view : FilesView) (top : List ℕ) (items : List Item) → IsExpansion view.files top items → All (CanBeRead view) items
+  expansion_read view top items is = λ n item within. (expansion_found view top items is n item within).read
 
 -- a byte of an item's piece
 pub stands_byte : (view : FilesView) (item : Item) (at : ℕ) (piece : List ℕ) (stands : StandsIn view item) → ((text : List ℕ) → IsLive view item.key text → piece ≡ text) → at ≤ length piece → IsByte view item.file item.piece at (text_of stands.file) (piece_offset stands.file item.piece + at)

@@ -4,10 +4,8 @@ use Rattle.std.specs.List.{concat}
 use Rattle.mm_text.specs.declared.word.Word.{Word}
 use Rattle.mm_text.specs.Reading.{HasWords}
 use Rattle.mm_text.specs.Cut.{IsCut}
-use Rattle.mm_text.specs.Place.{line_at, column_at}
 use Rattle.mm_store.specs.declared.files.PieceKey.{PieceKey}
 use Rattle.mm_store.specs.declared.item.Item.{Item}
-use Rattle.mm_store.specs.declared.walk.KnownPlace.{KnownPlace}
 use Rattle.mm_store.specs.FilesView.{PieceView, FileView, FilesView, piece_texts, text_of}
 
 -- a piece of a file has this key and this text
@@ -18,17 +16,26 @@ pub record IsLive (files : FilesView) (key : PieceKey) (text : List ℕ) : Type 
   pub piece : ℕ
   pub is_piece : slice_get file.pieces piece ≡ Some (record { key = key; text = text })
 
--- the piece that an item names stands in its file, under its key; the item has a byte of it at least, and its bytes are a text by themselves, with a word at least
-pub record StandsIn (files : FilesView) (item : Item) : Type 0 where
-  pub file : FileView
-  pub there : slice_get files.files item.file ≡ Some file
+-- a key has one text at most
+abbrev pub HaveOwnKeys : FilesView → Type 0
+HaveOwnKeys files = (key : PieceKey) (a b : List ℕ) → IsLive files key a → IsLive files key b → a ≡ b
+
+-- an item can be read, by its key: its piece has a text, of which the item has a byte at least, and its bytes are a text by themselves, with a word at least
+pub record CanBeRead (files : FilesView) (item : Item) : Type 0 where
   pub text : List ℕ
-  pub is_piece : slice_get file.pieces item.piece ≡ Some (record { key = item.key; text = text })
+  pub live : IsLive files item.key text
   pub some : item.start < item.end
   pub within : item.end ≤ length text
   pub words : List Word
   pub has_words : HasWords (slice_range text item.start item.end) words
   pub some_word : 0 < length words
+
+-- an item stands where it says: its file, by number, has its piece, by number, under its key
+pub record StandsIn (files : FilesView) (item : Item) : Type 0 where
+  pub file : FileView
+  pub there : slice_get files.files item.file ≡ Some file
+  pub text : List ℕ
+  pub is_piece : slice_get file.pieces item.piece ≡ Some (record { key = item.key; text = text })
 
 -- how many bytes of a file stand before one of its pieces
 abbrev pub piece_offset : FileView → ℕ → ℕ
@@ -43,14 +50,6 @@ pub record IsByte (files : FilesView) (number piece at : ℕ) (text : List ℕ) 
   pub is_piece : slice_get file.pieces piece ≡ Some view
   pub within : at ≤ length view.text
   pub is_offset : offset ≡ piece_offset file piece + at
-
--- the place is that of its byte in the text of the file
-pub record IsKnown (files : FilesView) (number : ℕ) (known : KnownPlace) : Type 0 where
-  pub text : List ℕ
-  pub offset : ℕ
-  pub byte : IsByte files number known.piece known.at text offset
-  pub line : known.place.line ≡ line_at text offset
-  pub column : known.place.column ≡ column_at text offset
 
 -- no two of the pieces have one key, and no piece of the files has one of these keys
 pub record AreFresh (files : FilesView) (pieces : List PieceView) : Type 0 where

@@ -4,22 +4,26 @@ use Rattle.std.specs.List.{AllByRecursion, flat_map, range_with_len}
 use Rattle.mm_text.specs.declared.word.Word.{Word}
 use Rattle.mm_text.specs.Reading.{HasWords}
 use Rattle.mm_text.specs.Unit.{Units, AreUnits, unit_tokens, tokens_of}
-use Rattle.mm_text.specs.Cut.{IsOne}
+use Rattle.mm_text.specs.Cut.{IsOne, ends_white}
+use Rattle.mm_text.specs.declared.part.Part.{Part}
+use Rattle.mm_text.specs.Part.{HasUnits, parts_of}
 use Rattle.mm_store.specs.declared.files.PieceKey.{PieceKey}
 use Rattle.mm_store.specs.declared.files.FileText.{FileText}
+use Rattle.mm_store.specs.declared.piece_text.PieceText.{PieceText}
 use Rattle.mm_store.specs.declared.files.Files.TheInside.{Inside}
 use Rattle.mm_store.specs.FilesView.{PieceView, FileView, FilesView, bytes_of}
+use Rattle.mm_store.specs.Lines.{AreMarks, AreStarts}
 
-abbrev pub text_under : {Y : Type 0} → Option (Vec ℕ Y) → List ℕ
+abbrev pub text_under : Option PieceText → List ℕ
 text_under None = []
-text_under (Some text) = text.items
+text_under (Some piece) = piece.text.items
 
 -- the text under a key
-abbrev pub text_at : {Y : Type 0} → List (Vec ℕ Y) → PieceKey → List ℕ
-text_at texts key = text_under (slice_get texts key.at)
+abbrev pub text_at : List PieceText → PieceKey → List ℕ
+text_at pieces key = text_under (slice_get pieces key.at)
 
-abbrev pub piece_of : {Y : Type 0} → List (Vec ℕ Y) → PieceKey → PieceView
-piece_of texts key = record { key = key; text = text_at texts key }
+abbrev pub piece_of : List PieceText → PieceKey → PieceView
+piece_of pieces key = record { key = key; text = text_at pieces key }
 
 abbrev pub key_of : ℕ → PieceKey
 key_of at = record { at = at }
@@ -29,16 +33,16 @@ abbrev pub keys_from : ℕ → ℕ → List PieceKey
 keys_from start count = map key_of (range_with_len start count)
 
 -- one file of the map
-abbrev pub file_of : {Y Z : Type 0} → List (Vec ℕ Y) → (Vec ℕ Z × FileText) → FileView
-file_of texts entry = record { name = entry.0.items; pieces = map (piece_of texts) entry.1.keys.items; tail = entry.1.tail.items }
+abbrev pub file_of : {Z : Type 0} → List PieceText → (Vec ℕ Z × FileText) → FileView
+file_of pieces entry = record { name = entry.0.items; pieces = map (piece_of pieces) entry.1.keys.items; tail = entry.1.tail.items }
 
-abbrev pub files_of : {Y Z : Type 0} → List (Vec ℕ Y) → List (Vec ℕ Z × FileText) → List FileView
-files_of texts entries = map (file_of texts) entries
+abbrev pub files_of : {Z : Type 0} → List PieceText → List (Vec ℕ Z × FileText) → List FileView
+files_of pieces entries = map (file_of pieces) entries
 
 abbrev pub view_of : Inside → FilesView
-view_of inside = record { files = files_of inside.texts.items inside.files.entries }
+view_of inside = record { files = files_of inside.pieces.items inside.files.entries }
 
--- a text holds one unit
+-- a text holds one unit, and ends in white space
 pub record HoldsUnit (text : List ℕ) : Type 0 where
   pub words : List Word
   pub units : Units
@@ -46,19 +50,41 @@ pub record HoldsUnit (text : List ℕ) : Type 0 where
   pub are_units : AreUnits true units
   pub spells : unit_tokens units ≡ tokens_of text words
   pub one : IsOne units
+  pub ends : ends_white text ≡ true
 
--- the keys of a file are places in the list of texts, each piece holds one unit, and the tail no word
-pub record IsFileKept {Y Z : Type 0} (texts : List (Vec ℕ Y)) (entry : Vec ℕ Z × FileText) : Type 0 where
-  pub in_range : All (λ key. key.at < length texts) entry.1.keys.items
-  pub pieces : All (λ key. HoldsUnit (text_at texts key)) entry.1.keys.items
-  pub tail : HasWords entry.1.tail.items []
+-- these are the parts of a text
+abbrev pub IsDivided : List ℕ → List Part → Type 0
+IsDivided text parts = (units : Units) → HasUnits text units → parts ≡ parts_of units
+
+-- the text of a piece, which has no more bytes than files may have
+pub record CanBeKept (text : List ℕ) : Type 0 where
+  pub unit : HoldsUnit text
+  pub small : length text ≤ 4294967295
+
+-- the text of a piece is kept with its parts and its marks
+pub record IsPieceKept (piece : PieceText) : Type 0 where
+  pub text : CanBeKept piece.text.items
+  pub divided : IsDivided piece.text.items piece.parts.items
+  pub marked : AreMarks piece.text.items piece.marks.items
+
+-- the keys of a file are places in the list of pieces, it is known where each piece begins, and the tail holds no word
+pub record IsFileKept (pieces : List PieceText) (file : FileText) : Type 0 where
+  pub in_range : All (λ key. key.at < length pieces) file.keys.items
+  pub starts : AreStarts (map (text_at pieces) file.keys.items) file.starts.items
+  pub tail : HasWords file.tail.items []
 
 abbrev pub keys_of_files : {Z : Type 0} → List (Vec ℕ Z × FileText) → List PieceKey
 keys_of_files entries = flat_map (λ entry. entry.1.keys.items) entries
 
-pub record IsKept (inside : Inside) : Type 0 where
-  pub one_file : length inside.files.entries ≤ 1
-  pub files : AllByRecursion (IsFileKept inside.texts.items) inside.files.entries
-  pub distinct : AllPairs (λ one other. one ≢ other) (keys_of_files inside.files.entries)
-  pub counted : inside.bytes ≡ bytes_of (files_of inside.texts.items inside.files.entries)
-  pub within : inside.bytes ≤ 4294967295
+-- files and pieces are kept, each piece under one key of one file, with the count of the bytes of all files
+pub record AreKept {Z : Type 0} (entries : List (Vec ℕ Z × FileText)) (pieces : List PieceText) (bytes : ℕ) : Type 0 where
+  pub one_file : length entries ≤ 1
+  pub files : AllByRecursion (λ entry. IsFileKept pieces entry.1) entries
+  pub texts : All IsPieceKept pieces
+  pub distinct : AllPairs (λ one other. one ≢ other) (keys_of_files entries)
+  pub no_more : length pieces ≡ length (keys_of_files entries)
+  pub counted : bytes ≡ bytes_of (files_of pieces entries)
+  pub within : bytes ≤ 4294967295
+
+abbrev pub IsKept : Inside → Type 0
+IsKept inside = AreKept inside.files.entries inside.pieces.items inside.bytes

@@ -11,5 +11,5 @@ pub mod Expansion
 pub mod Keyless
 pub mod Answers
 pub mod Inside
-pub mod Walk
+pub mod Lines
 pub mod Gains

@@ -6,12 +6,13 @@ ghost use Rattle.mm_text.specs.declared.part.PartKind.TheVariants.{Inclusion};
 ghost use Rattle.mm_text.specs.Reading.{HasWords};
 ghost use Rattle.mm_store.specs.Expansion.{item_kind, item_of, placed_part, second_word};
 ghost use Rattle.mm_store.specs.Gains.{names_in, Takes, Gains, PieceGains, FileGains};
-ghost use Rattle.mm_store.specs.Inside.{HoldsUnit, piece_of, text_at};
+ghost use Rattle.mm_store.specs.Inside.{HoldsUnit, IsDivided, IsPieceKept, piece_of};
 
 use crate::files::PieceKey;
 use crate::item::{Item, ItemKind};
+use crate::piece_text::PieceText;
 use indexmap::IndexSet;
-use mm_text::{Part, PartKind, nth_word, parts};
+use mm_text::{Part, PartKind, nth_word};
 use std::alloc::{AllocError, Global};
 
 /// Where a piece stands, and its key.
@@ -105,14 +106,16 @@ fn expand_piece(
     alloc: Global,
     origin: Origin,
     text: &[u8],
+    parts: &[Part],
     names: &mut IndexSet<Vec<u8>>,
     items: &mut Vec<Item>,
 ) -> Result<(), AllocError>
-    requires { HoldsUnit text.now }
+    requires unit { HoldsUnit text.now }
+    requires divided { IsDivided text.now parts.now }
     ensures { OnOk result
         (PieceGains origin.file origin.piece (record { key = origin.key; text = text.now }) (names_in names.old) items.old.items (names_in names.new) items.new.items) }
 {
-    for part in &parts(alloc, text)? {
+    for part in parts {
         expand_part(alloc, origin, text, *part, names, items)?;
     }
     Ok(())
@@ -124,12 +127,12 @@ pub(crate) fn expand_file(
     file: usize,
     top: &[u8],
     keys: &[PieceKey],
-    texts: &[Vec<u8>],
+    pieces: &[PieceText],
 ) -> Result<Vec<Item>, AllocError>
-    requires in_range { All (λ key. key.at < length texts.now) keys.now }
-    requires units { All (λ key. HoldsUnit (text_at texts.now key)) keys.now }
+    requires in_range { All (λ key. key.at < length pieces.now) keys.now }
+    requires kept { All IsPieceKept pieces.now }
     ensures { IfOk result
-        (λ items. (after : List (List ℕ)) × FileGains file (map (piece_of texts.now) keys.now) (top.now ∷ []) after items.items) }
+        (λ items. (after : List (List ℕ)) × FileGains file (map (piece_of pieces.now) keys.now) (top.now ∷ []) after items.items) }
 {
     let mut names = IndexSet::new(alloc);
     names.insert(Vec::from_slice(alloc, top)?)?;
@@ -137,7 +140,15 @@ pub(crate) fn expand_file(
     for piece in 0..keys.len() {
         let key = keys[piece];
         let origin = Origin { file, piece, key };
-        expand_piece(alloc, origin, &texts[key.at], &mut names, &mut items)?;
+        let kept = &pieces[key.at];
+        expand_piece(
+            alloc,
+            origin,
+            &kept.text,
+            &kept.parts,
+            &mut names,
+            &mut items,
+        )?;
     }
     Ok(items)
 }

@@ -1,22 +1,25 @@
 //! Files by name.
 
-ghost use Rattle.std.specs.Prelude.{◌≡◌, ℕ, ◌+◌, ◌<◌, ◌≤◌, ◌↔◌, ◌++◌, List, Some, None, IfOk, IfErr, OnOk, OnErr, IsErrOf, All, length, map, slice_get};
+ghost use Rattle.std.specs.Prelude.{◌≡◌, ℕ, ◌+◌, ◌<◌, ◌≤◌, ◌↔◌, ◌++◌, List, Some, None, IfOk, IfErr, OnOk, OnErr, IsErrOf, All, length, map, slice_get, slice_index_or, []};
 ghost use Rattle.std.specs.Option.{option_map};
 ghost use Rattle.std.specs.List.{concat};
 ghost use Rattle.mm_text.specs.Cut.{ArePieces};
 ghost use Rattle.mm_text.specs.Place.{line_at, column_at};
 ghost use Rattle.mm_store.specs.declared.error.StoreError.TheVariants.{NoTop};
 ghost use Rattle.mm_store.specs.FilesView.{no_files, bytes_of, find_file, number_of, text_of};
-ghost use Rattle.mm_store.specs.FileFacts.{IsAdded, IsByte, IsKnown, IsLive, StandsIn, StandsLast};
+ghost use Rattle.mm_store.specs.FileFacts.{CanBeRead, HaveOwnKeys, IsAdded, IsByte, IsLive, StandsIn, StandsLast};
 ghost use Rattle.mm_store.specs.Answers.{IsAddError, IsAddErrorIn, IsExpansionError};
 ghost use Rattle.mm_store.specs.Expansion.{IsExpansion};
-ghost use Rattle.mm_store.specs.Inside.{keys_from, text_at};
+ghost use Rattle.mm_store.specs.Inside.{IsFileKept, IsPieceKept, keys_from, text_at};
+ghost use Rattle.mm_store.specs.Lines.{AreLines, AreStarts, bytes_before};
 
 use crate::error::StoreError;
 use crate::expanding::expand_file;
 use crate::item::Item;
+use crate::lines::{Lines, lines_before};
+use crate::piece_text::{PieceText, kept_pieces};
 use crate::room::{ended_len, fits};
-use crate::walk::{KnownPlace, bytes_before, place_on};
+use crate::start::{Start, starts};
 use indexmap::IndexMap;
 use mm_text::{Cut, Place, cut, parts_are_texts};
 use std::alloc::{AllocError, Global};
@@ -28,10 +31,11 @@ pub struct PieceKey {
     pub(crate) at: usize,
 }
 
-/// The keys of a file's pieces in order, and what is behind the last.
+/// The keys of a file's pieces in order, where each piece begins, and what is behind the last.
 #[derive(Drop)]
 pub struct FileText {
     keys: Vec<PieceKey>,
+    starts: Vec<Start>,
     tail: Vec<u8>,
 }
 
@@ -42,7 +46,7 @@ pub struct FileText {
 #[derive(Drop)]
 pub struct Files {
     files: IndexMap<Vec<u8>, FileText>,
-    texts: Vec<Vec<u8>>,
+    pieces: Vec<PieceText>,
     bytes: u64,
 }
 
@@ -67,13 +71,46 @@ fn new_keys(alloc: Global, start: usize, count: usize) -> Result<Vec<PieceKey>, 
         .collect(alloc)
 }
 
-fn joined(alloc: Global, file: &FileText, texts: &[Vec<u8>]) -> Result<Vec<u8>, AllocError>
-    requires { All (λ key. key.at < length texts.now) file.now.keys.items }
-    ensures { IfOk result (λ text. text.items ≡ concat (map (text_at texts.now) file.now.keys.items) ++ file.now.tail.items) }
+/// A file of these pieces and this tail. The keys of its pieces are those of the next places from this one on.
+fn new_file(
+    alloc: Global,
+    first: usize,
+    pieces: &[PieceText],
+    tail: Vec<u8>,
+) -> Result<FileText, AllocError>
+    requires few { first + length pieces.now < 18446744073709551616 }
+    requires kept { All IsPieceKept pieces.now }
+    requires small { length (concat (map (λ piece. piece.text.items) pieces.now)) ≤ 4294967295 }
+    ensures keys { IfOk result (λ file. file.keys.items ≡ keys_from first (length pieces.now)) }
+    ensures starts { IfOk result (λ file. AreStarts (map (λ piece. piece.text.items) pieces.now) file.starts.items) }
+    ensures tail { IfOk result (λ file. file.tail.items ≡ tail.items) }
+{
+    let keys = new_keys(alloc, first, pieces.len())?;
+    let starts = starts(alloc, pieces)?;
+    Ok(FileText { keys, starts, tail })
+}
+
+/// The lines of a file up to a byte of a piece.
+fn lines_at(file: &FileText, pieces: &[PieceText], piece: usize, at: usize) -> Lines
+    requires file { IsFileKept pieces.now file.now }
+    requires pieces { All IsPieceKept pieces.now }
+    requires small { length (concat (map (text_at pieces.now) file.now.keys.items)) ≤ 4294967295 }
+    requires piece_in { piece < length file.now.keys.items }
+    requires within { at ≤ length (slice_index_or (map (text_at pieces.now) file.now.keys.items) piece []) }
+    ensures { AreLines (bytes_before (map (text_at pieces.now) file.now.keys.items) piece at) result }
+{
+    let kept = &pieces[file.keys[piece].at];
+    let inside = lines_before(&kept.text, &kept.marks, at);
+    file.starts[piece].lines.then(inside)
+}
+
+fn joined(alloc: Global, file: &FileText, pieces: &[PieceText]) -> Result<Vec<u8>, AllocError>
+    requires { All (λ key. key.at < length pieces.now) file.now.keys.items }
+    ensures { IfOk result (λ text. text.items ≡ concat (map (text_at pieces.now) file.now.keys.items) ++ file.now.tail.items) }
 {
     let mut text = Vec::new(alloc);
     for key in &file.keys {
-        text.extend_from_slice(&texts[key.at])?;
+        text.extend_from_slice(&pieces[key.at].text)?;
     }
     text.extend_from_slice(&file.tail)?;
     Ok(text)
@@ -86,7 +123,7 @@ impl Files {
     {
         Files {
             files: IndexMap::new(alloc),
-            texts: Vec::new(alloc),
+            pieces: Vec::new(alloc),
             bytes: 0,
         }
     }
@@ -130,12 +167,12 @@ impl Files {
             (StandsLast self.old self.new name.now (map (λ piece. piece.items) cut.pieces.items) cut.tail.items) }
         ensures err { OnErr result (self.new ≡ self.old) }
     {
-        let Cut { mut pieces, tail } = cut;
-        self.texts.reserve(pieces.len())?;
-        let keys = new_keys(alloc, self.texts.len(), pieces.len())?;
-        let name = Vec::from_slice(alloc, name)?;
-        self.files.insert(name, FileText { keys, tail })?;
-        self.texts.append(&mut pieces).unwrap();
+        let Cut { pieces, tail } = cut;
+        let mut kept = kept_pieces(alloc, pieces)?;
+        self.pieces.reserve(kept.len())?;
+        let file = new_file(alloc, self.pieces.len(), &kept, tail)?;
+        self.files.insert(Vec::from_slice(alloc, name)?, file)?;
+        self.pieces.append(&mut kept).unwrap();
         self.bytes += bytes;
         Ok(())
     }
@@ -147,7 +184,7 @@ impl Files {
     {
         match self.files.get_full(name) {
             None => Ok(None),
-            Some((_, _, file)) => Ok(Some(joined(alloc, file, &self.texts)?)),
+            Some((_, _, file)) => Ok(Some(joined(alloc, file, &self.pieces)?)),
         }
     }
 
@@ -170,6 +207,7 @@ impl Files {
     /// through once.
     pub fn statements(&self, alloc: Global, top: &[u8]) -> Result<Vec<Item>, StoreError>
         ensures items { IfOk result (λ found. IsExpansion self.now.files top.now found.items) }
+        ensures read { IfOk result (λ found. All (CanBeRead self.now) found.items) }
         ensures stand { IfOk result (λ found. All (StandsIn self.now) found.items) }
         ensures few { IfOk result (λ found. length found.items ≤ bytes_of self.now.files) }
         ensures small { IfOk result (λ found. length found.items ≤ 4294967295) }
@@ -184,7 +222,7 @@ impl Files {
                 number,
                 top,
                 &file.keys,
-                &self.texts,
+                &self.pieces,
             )?),
         }
     }
@@ -196,7 +234,14 @@ impl Files {
         ensures text { (text : List ℕ) → IsLive self.now key text → result.now ≡ text }
         ensures small { length result.now ≤ 4294967295 }
     {
-        &self.texts[key.at]
+        &self.pieces[key.at].text
+    }
+
+    /// A key has one text at most. It does nothing; what it promises holds of all files.
+    pub fn own_keys(&self)
+        ensures { HaveOwnKeys self.now }
+    {
+        let _ = &self.pieces;
     }
 
     /// The name of the file with this number. It takes no memory.
@@ -210,43 +255,25 @@ impl Files {
 
     /// Where the byte `at` of a piece stands in the text of its file, counted from 0.
     ///
-    /// It takes no memory. It adds up the lengths of the pieces before it.
+    /// It takes no memory, and constant time.
     pub fn offset(&self, file: usize, piece: usize, at: usize) -> usize
         requires { (text : List ℕ) × (offset : ℕ) × IsByte self.now file piece at text offset }
         ensures { (text : List ℕ) (offset : ℕ) → IsByte self.now file piece at text offset → result ≡ offset }
     {
         let (_, text) = self.files.as_slice().get_index(file).unwrap();
-        bytes_before(&self.texts, &text.keys, piece) + at
+        text.starts[piece].bytes as usize + at
     }
 
     /// The line and the column, in the text of its file, of the byte `at` of a piece, or of its end where `at` is
     /// the length of the piece.
     ///
-    /// It takes no memory. It goes through the file from its beginning; `place_from` goes on from a known place.
+    /// It takes no memory. It goes through a kilobyte of the piece at most, wherever the byte stands.
     pub fn place(&self, file: usize, piece: usize, at: usize) -> Place
         requires { (text : List ℕ) × (offset : ℕ) × IsByte self.now file piece at text offset }
         ensures line { (text : List ℕ) (offset : ℕ) → IsByte self.now file piece at text offset → result.line ≡ line_at text offset }
         ensures column { (text : List ℕ) (offset : ℕ) → IsByte self.now file piece at text offset → result.column ≡ column_at text offset }
     {
-        let first = KnownPlace {
-            piece: 0,
-            at: 0,
-            place: Place { line: 1, column: 1 },
-        };
-        self.place_from(file, &first, piece, at)
-    }
-
-    /// What `place` answers, from the place of an earlier byte of the same file, or of the byte itself: it goes
-    /// through the bytes between the two, and no others. It takes no memory.
-    pub fn place_from(&self, file: usize, known: &KnownPlace, piece: usize, at: usize) -> Place
-        requires byte { (text : List ℕ) × (offset : ℕ) × IsByte self.now file piece at text offset }
-        requires known { IsKnown self.now file known.now }
-        requires earlier { known.now.piece ≤ piece }
-        requires not_before { known.now.piece ≡ piece → known.now.at ≤ at }
-        ensures line { (text : List ℕ) (offset : ℕ) → IsByte self.now file piece at text offset → result.line ≡ line_at text offset }
-        ensures column { (text : List ℕ) (offset : ℕ) → IsByte self.now file piece at text offset → result.column ≡ column_at text offset }
-    {
         let (_, text) = self.files.as_slice().get_index(file).unwrap();
-        place_on(&self.texts, &text.keys, known, piece, at)
+        lines_at(text, &self.pieces, piece, at).place()
     }
 }

@@ -1,9 +1,9 @@
 //! What holds of all files. Each function does nothing; what it promises is the law.
 
-ghost use Rattle.std.specs.Prelude.{◌≡◌, ◌≤◌, ℕ, List, length, map};
+ghost use Rattle.std.specs.Prelude.{◌≡◌, ◌≤◌, ℕ, All, List, length, map};
 ghost use Rattle.mm_store.specs.declared.item.Item.{Item};
 ghost use Rattle.mm_store.specs.FilesView.{FileView, FilesView, no_files};
-ghost use Rattle.mm_store.specs.FileFacts.{IsAdded, IsByte};
+ghost use Rattle.mm_store.specs.FileFacts.{CanBeRead, HaveOwnKeys, IsAdded, IsByte, StandsIn};
 ghost use Rattle.mm_store.specs.Expansion.{IsExpansion};
 ghost use Rattle.mm_store.specs.Keyless.{keyless_file, keyless_item};
 
@@ -14,6 +14,19 @@ pub fn one_expansion()
     mm_text::one_meaning();
     mm_text::one_division();
 }
+
+/// Each item of files can be read, and stands where it says.
+pub fn items_stand()
+    ensures read { (files : FilesView) (top : List ℕ) (items : List Item) → IsExpansion files.files top items → All (CanBeRead files) items }
+    ensures stand { (files : FilesView) (top : List ℕ) (items : List Item) → IsExpansion files.files top items → All (StandsIn files) items }
+{
+    mm_text::parts_are_texts();
+}
+
+/// In files that hold just one file a key has one text at most.
+pub fn keys_are_own()
+    ensures { (files : FilesView) (name text : List ℕ) → IsAdded no_files files name text → HaveOwnKeys files }
+{}
 
 /// The keys of pieces do not matter.
 ///

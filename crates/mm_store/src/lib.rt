@@ -12,16 +12,17 @@ mod expanding;
 mod files;
 mod item;
 mod laws;
+mod lines;
+mod piece_text;
 mod room;
-mod walk;
+mod start;
 
 pub use error::StoreError;
 pub use files::{Files, PieceKey};
 pub use item::{Item, ItemKind};
-pub use laws::{bytes_are_within, keys_do_not_matter, one_expansion};
-pub use mm_text::{Place, TextFault, TextNumber, nth_word, place};
+pub use laws::{bytes_are_within, items_stand, keys_are_own, keys_do_not_matter, one_expansion};
+pub use mm_text::{Keyword, Place, TextFault, TextNumber, Word, WordKind, nth_word, place};
 pub use room::fits;
-pub use walk::KnownPlace;
 
 #[cfg(test)]
 mod tests;

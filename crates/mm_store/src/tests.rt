@@ -1,7 +1,7 @@
-ghost use Rattle.mm_store.specs.FileFacts.{StandsIn};
+ghost use Rattle.mm_store.specs.FileFacts.{CanBeRead, StandsIn};
 
-use crate::{Files, Item, ItemKind, KnownPlace, Place, StoreError, TextFault, TextNumber, fits};
-use std::alloc::Global;
+use crate::{Files, Item, ItemKind, Place, StoreError, TextFault, TextNumber, fits, place};
+use std::alloc::{AllocError, Global};
 use std::test::Fail;
 
 /// Six pieces, from the bytes 0, 8, 22, 30, 38 and 48 on, and a tail.
@@ -39,44 +39,30 @@ fn files_of(alloc: Global, text: &[u8]) -> Result<Files, StoreError> {
 
 /// The bytes of an item.
 fn spelled<'a>(files: &'a Files, item: &Item) -> Option<&'a [u8]>
-    requires { StandsIn files.now item.now }
+    requires { CanBeRead files.now item.now }
 {
     files.piece(item.key).get(item.start..item.end)
 }
 
-/// Where an item begins in the text of its file.
-fn offset_of(files: &Files, item: &Item) -> usize
+/// Where a byte of an item's piece stands in the text of its file, and its place there; none behind the piece.
+fn found_at(files: &Files, item: &Item, at: usize) -> Option<(usize, Place)>
     requires { StandsIn files.now item.now }
 {
-    files.offset(item.file, item.piece, item.start)
+    let text = files.piece(item.key);
+    if at > text.len() {
+        return None;
+    }
+    let offset = files.offset(item.file, item.piece, at);
+    Some((offset, files.place(item.file, item.piece, at)))
 }
 
-/// The place of an item from that of an earlier one of its file, where they are so.
-fn place_after(files: &Files, earlier: &Item, later: &Item) -> Option<Place>
-    requires earlier { StandsIn files.now earlier.now }
-    requires later { StandsIn files.now later.now }
-{
-    let before = files.piece(earlier.key);
-    let after = files.piece(later.key);
-    if earlier.file != later.file {
-        return None;
+/// As many copies of some bytes.
+fn repeated(alloc: Global, bytes: &[u8], times: usize) -> Result<Vec<u8>, AllocError> {
+    let mut text = Vec::new(alloc);
+    for _ in 0..times {
+        text.extend_from_slice(bytes)?;
     }
-    if earlier.piece >= later.piece {
-        return None;
-    }
-    if earlier.start > before.len() {
-        return None;
-    }
-    if later.start > after.len() {
-        return None;
-    }
-    let place = files.place(earlier.file, earlier.piece, earlier.start);
-    let known = KnownPlace {
-        piece: earlier.piece,
-        at: earlier.start,
-        place,
-    };
-    Some(files.place_from(later.file, &known, later.piece, later.start))
+    Ok(text)
 }
 
 #[test]
@@ -112,30 +98,48 @@ fn lists_items_and_the_first_missing_reference(rt: HostRuntime) -> Result<(), Fa
 }
 
 #[test]
-fn tells_places_in_the_whole_file(rt: HostRuntime) -> Result<(), Fail> {
+fn tells_where_items_stand(rt: HostRuntime) -> Result<(), Fail> {
     let files = files_of(rt.alloc(), ROWS)?;
     let items = files.statements(rt.alloc(), b"top")?;
-    assert_eq!(rt; items.len(), 6);
-    let rows: [(usize, usize, u64, u64); 5] = [
-        (0, 1, 2, 1),
-        (0, 2, 2, 4),
-        (0, 3, 3, 1),
-        (3, 4, 4, 1),
-        (2, 5, 7, 1),
+    let rows: [(usize, u64, u64); 6] = [
+        (0, 1, 1),
+        (8, 2, 1),
+        (11, 2, 4),
+        (19, 3, 1),
+        (22, 4, 1),
+        (48, 7, 1),
     ];
-    let offsets: [usize; 6] = [0, 8, 11, 19, 22, 48];
-    for i in 0..offsets.len() {
+    assert_eq!(rt; items.len(), rows.len());
+    for i in 0..rows.len() {
+        let (offset, line, column) = rows[i];
         if i < items.len() {
-            assert_eq!(rt; offset_of(&files, &items[i]), offsets[i], "of {i}");
-        }
-    }
-    for (earlier, later, line, column) in rows {
-        if earlier < items.len() && later < items.len() {
-            let found = place_after(&files, &items[earlier], &items[later]);
-            assert_eq!(rt; found, Some(Place { line, column }), "of {later}");
+            let found = found_at(&files, &items[i], items[i].start);
+            assert_eq!(rt; found, Some((offset, Place { line, column })), "of {i}");
         }
     }
     Ok(())
+}
+
+/// How many of some bytes of the pieces have the offset and the place that the whole text gives them.
+fn places_alike(alloc: Global, text: &[u8]) -> Result<usize, StoreError> {
+    let files = files_of(alloc, text)?;
+    let items = files.statements(alloc, b"top")?;
+    let mut alike = 0usize;
+    let mut from = 0usize;
+    for i in 0..items.len() {
+        let len = files.piece(items[i].key).len();
+        for at in [
+            0, 1, 2, 700, 1023, 1024, 1025, 2047, 2048, 2049, 2500, 3000, len,
+        ] {
+            let offset = from.wrapping_add(at);
+            let found = found_at(&files, &items[i], at);
+            if offset <= text.len() && found == Some((offset, place(text, offset))) {
+                alike = alike.saturating_add(1);
+            }
+        }
+        from = from.wrapping_add(len);
+    }
+    Ok(alike)
 }
 
 #[test]
@@ -188,5 +192,51 @@ fn counts_bytes_up_to_the_limit(rt: HostRuntime) -> Result<(), Fail> {
     for (held, more, wanted) in rows {
         assert_eq!(rt; fits(held, more), wanted, "of {held} and {more}");
     }
+    Ok(())
+}
+
+/// A statement with as many copies of some bytes, white space and symbols.
+fn long_statement(alloc: Global, symbols: &[u8], times: usize) -> Result<Vec<u8>, AllocError> {
+    let mut text = Vec::from_slice(alloc, b"$c")?;
+    text.extend_from_slice(&repeated(alloc, symbols, times)?)?;
+    text.extend_from_slice(b" $.\n")?;
+    Ok(text)
+}
+
+#[test]
+fn tells_places_as_the_whole_text_does(rt: HostRuntime) -> Result<(), Fail> {
+    let alloc = rt.alloc();
+    let rows: [&[u8]; 5] = [
+        b" a",
+        b"\na",
+        b"     \n    a",
+        b" a\t\x0c\r",
+        b"\n\n\n\n\n a a a a a",
+    ];
+    let mut all = Vec::new(alloc);
+    for symbols in rows {
+        let text = long_statement(alloc, symbols, 1500)?;
+        assert_eq!(rt; places_alike(alloc, &text)?, 13, "of {symbols:?}");
+        all.extend_from_slice(&text)?;
+    }
+    assert_eq!(rt; places_alike(alloc, &all)?, 5 * 13);
+    Ok(())
+}
+
+#[test]
+fn takes_blocks_within_blocks(rt: HostRuntime) -> Result<(), Fail> {
+    let alloc = rt.alloc();
+    let mut text = repeated(alloc, b"${ ", 100_000)?;
+    text.extend_from_slice(&repeated(alloc, b"$} ", 99_999)?)?;
+    let mut files = Files::new(alloc);
+    let unclosed = StoreError::Text(TextFault {
+        number: TextNumber::T08,
+        at: 0,
+    });
+    assert_eq!(rt; files.add(alloc, b"top", &text), Err(unclosed));
+    text.extend_from_slice(b"$} ")?;
+    files.add(alloc, b"top", &text)?;
+    assert_eq!(rt; files.piece_count(b"top"), Some(1));
+    assert_eq!(rt; files.statements(alloc, b"top")?.len(), 200_000);
     Ok(())
 }

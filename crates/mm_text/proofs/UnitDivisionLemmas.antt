@@ -1,44 +1,15 @@
 -- A list of words has one division into units.
-use Rattle.std.proofs.Common.{◌≡◌, ◌⊎◌, ℕ, Bool, true, false, List, [], ◌∷◌, ◌++◌, append_assoc, refl, sym, ap, ◌∙◌, subst, inl, inr, arith}
+use Rattle.std.proofs.Common.{◌≡◌, ◌⊎◌, Bool, true, false, List, [], ◌∷◌, ◌++◌, append_assoc, refl, sym, ap, ◌∙◌, subst, inl, inr, arith}
 use Rattle.std.specs.List.{AllByRecursion, flat_map}
 use Rattle.std.proofs.lemmas.List.{append-nil}
 use Rattle.mm_text.specs.declared.word.Keyword.{Keyword}
 use Rattle.mm_text.specs.declared.word.Keyword.TheVariants.{BlockStart, BlockEnd, Constants, Variables, Floating, Essential, Disjoint, Axiom, Theorem, StatementEnd, ProofStart, InclusionStart}
 use Rattle.mm_text.specs.declared.word.WordKind.TheVariants as kinds
 use Rattle.mm_text.specs.Unit.{Token, IsKeyword, IsPlain, Shape, Declaration, Labelled, Provable, Inclusion, shape_tokens, IsShape, Units, Nothing, Simple, Block, unit_tokens, AreUnits}
-use Rattle.mm_text.specs.UnitReading as m
 use Rattle.mm_text.specs.BlockCounts.{is_start, is_end}
-use Rattle.mm_text.proofs.UnitReadingLemmas.{through_symbols, through_expression, through_shape}
 use Rattle.mm_text.proofs.UnitFaultLemmas.{IsInner, inner_shape, start_counts, end_counts}
 
 -- ---- the machine over shapes and plain words
-
-pub run_symbols : (depth : ℕ) (symbols tail : List Token) → AllByRecursion IsPlain symbols → m.run m.Symbols depth (symbols ++ tail) ≡ m.run m.Symbols depth tail
-run_symbols depth symbols tail plain = through_symbols depth symbols tail plain
-
-pub run_expression : (depth : ℕ) (symbols tail : List Token) → AllByRecursion IsPlain symbols → m.run m.Expression depth (symbols ++ tail) ≡ m.run m.Expression depth tail
-run_expression depth symbols tail plain = through_expression depth symbols tail plain
-
-pub run_shape : (shape : Shape) (tail : List Token) → IsShape true shape → m.run m.Begin 0 (shape_tokens shape ++ tail) ≡ m.run m.Begin 0 tail
-run_shape shape tail is = through_shape 0 shape tail is
-
-pub run_shapes : (shapes : List Shape) (tail : List Token) → AllByRecursion (IsShape true) shapes → m.run m.Begin 0 (flat_map shape_tokens shapes ++ tail) ≡ m.run m.Begin 0 tail
-run_shapes [] tail h = refl
-run_shapes (shape ∷ shapes) tail h =
-    ap (m.run m.Begin 0) (append_assoc (shape_tokens shape) (flat_map shape_tokens shapes) tail) ∙ run_shape shape (flat_map shape_tokens shapes ++ tail) h.0 ∙ run_shapes shapes tail h.1
-
--- a list of shapes is a sequence of units with no blocks
-abbrev pub simple_units : List Shape → Units
-simple_units [] = Nothing
-simple_units (shape ∷ shapes) = Simple shape (simple_units shapes)
-
-pub unit_tokens-simple : (shapes : List Shape) → unit_tokens (simple_units shapes) ≡ flat_map shape_tokens shapes
-unit_tokens-simple [] = refl
-unit_tokens-simple (shape ∷ shapes) = ap (λ (ts : List Token). shape_tokens shape ++ ts) (unit_tokens-simple shapes)
-
-pub are_simple : (outside : Bool) (shapes : List Shape) → AllByRecursion (IsShape outside) shapes → AreUnits outside (simple_units shapes)
-are_simple outside [] h = tt
-are_simple outside (shape ∷ shapes) h = (h.0, are_simple outside shapes h.1)
 
 -- ---- one shape
 

@@ -21,9 +21,6 @@ viable_front front more h = (more ++ h.0, subst (λ (ts : List Token). IsWhole t
 pub viable_take : (tokens : List Token) (k : ℕ) → IsViable tokens → IsViable (take k tokens)
 viable_take tokens k h = viable_front (take k tokens) (drop k tokens) (subst (λ (ts : List Token). IsViable ts) (sym (take-append-drop k tokens)) h)
 
-pub viable_before : (tokens : List Token) (number : TextNumber) (word k : ℕ) → StopsAt tokens number word → k ≤ word → IsViable (take k tokens)
-viable_before tokens number word k h l = subst (λ (ts : List Token). IsViable ts) (take-take k word tokens l) (viable_take (take word tokens) k h.goes_on)
-
 pub viable_run : (tokens : List Token) → IsViable tokens → (s : m.Phase × ℕ) × (m.run m.Begin 0 tokens ≡ Ok s)
 viable_run tokens h = by_step (m.run m.Begin 0 tokens) refl where
   by_step : (step : m.Step) → m.run m.Begin 0 tokens ≡ step → (s : m.Phase × ℕ) × (m.run m.Begin 0 tokens ≡ Ok s)
@@ -140,9 +137,6 @@ inclusion_from front depth e = got (ends_at front m.Begin 0 depth e) where
   got : ((front ≡ []) × (m.Begin ≡ m.Including)) ⊎ EndsInInclusion front → EndsInInclusion front
   got (inl (none, is)) = absurd cc
   got (inr h) = h
-
-pub ends_in_inclusion : (front : List Token) (phase : m.Phase) (depth : ℕ) → m.run m.Begin 0 front ≡ Ok (m.state_of phase depth) → EndsInInclusion front ↔ (phase ≡ m.Including)
-ends_in_inclusion front phase depth e = (inclusion_phase front phase depth e, λ is. inclusion_from front depth (e ∙ ap (λ (p : m.Phase). Ok (p, depth)) is))
 
 -- ---- the number of the word that stops
 
@@ -467,9 +461,6 @@ pub block_viable : (tokens : List Token) (word : ℕ) → EndsInBlock tokens wor
 block_viable tokens word h = viable_front tokens (a_block ∷ []) (block_begins tokens word h)
 
 -- ---- one fault, and none of a whole list
-
-abbrev Same : TextNumber → TextNumber → ℕ → ℕ → Type 0
-Same a b v w = (a ≡ b) × (v ≡ w)
 
 -- a fault is of one of three kinds
 abbrev Sorted : List Token → TextNumber → ℕ → Type 0

@@ -60,21 +60,6 @@ run_counts (token ∷ tokens) phase depth s e = by_step (λ p d h. run_counts to
   by_step more (Ok t) first e = let rest : t.1 + starts tokens ≡ s.1 + ends tokens = more t.0 t.1 e in let here : depth + is_start token.kind ≡ t.1 + is_end token.kind = first in omega arith
   by_step more (Err number) first e = absurd cc
 
-start_most : (kind : WordKind) → is_start kind ≤ 1
-start_most (kinds.Keyword BlockStart) = omega arith
-start_most _ = omega arith
-
-starts-le-length : (tokens : List Token) → starts tokens ≤ length tokens
-starts-le-length [] = omega arith
-starts-le-length (token ∷ tokens) = let more : starts tokens ≤ length tokens = starts-le-length tokens in let most : is_start token.kind ≤ 1 = start_most token.kind in omega arith
-
--- no more blocks are open than there are words
-pub run_depth : (tokens : List Token) (phase : m.Phase) (depth : ℕ) → m.run m.Begin 0 tokens ≡ Ok (m.state_of phase depth) → depth ≤ length tokens
-run_depth tokens phase depth e =
-    let count : 0 + starts tokens ≡ depth + ends tokens = run_counts tokens m.Begin 0 (phase, depth) e in
-    let most : starts tokens ≤ length tokens = starts-le-length tokens in
-    omega arith
-
 -- from word number `from` on stand `level` more `$}` than `${`, and from no later word on more `${` than `$}`
 pub record Scan (tokens : List Token) (from level : ℕ) : Type 0 where
   pub even : level + starts (drop from tokens) ≡ ends (drop from tokens)

@@ -11,9 +11,8 @@ use Rattle.mm_store.specs.declared.error.StoreError.{StoreError}
 use Rattle.mm_store.specs.declared.error.StoreError.TheVariants.{TooMany}
 use Rattle.mm_store.specs.Answers.{HasTooMany}
 use Rattle.mm_frame.specs.Base.{BaseView, told_fault, fault_at, is_sound_at, said_at}
-use Rattle.mm_frame.specs.Item.{Kind, Axiom, Theorem, Item, is_assertion, is_theorem}
+use Rattle.mm_frame.specs.Item.{Kind, Axiom, Theorem, Item, is_assertion, is_theorem, item_at}
 use Rattle.mm_frame.specs.Sound.{kept}
-use Rattle.mm_frame.specs.Tables.{item_at}
 use Rattle.mm_frame.specs.declared.FrameNumber.{FrameNumber}
 use Rattle.mmkeep.specs.declared.fault.FirstError.{FirstError}
 use Rattle.mmkeep.specs.declared.fault.FirstError.TheVariants.{Text, Store, Later, Write}

@@ -1,26 +1,25 @@
 -- A text is one database: its files and its items are the same but for keys, and the items say the same.
-use Rattle.std.proofs.Common.{◌≡◌, ℕ, ◌+◌, ◌<◌, ◌≤◌, List, [], ◌∷◌, ◌++◌, Some, length, map, take, slice_get, slice_range, refl, sym, ap, ◌∙◌, subst, arith, add-zero}
-use Rattle.std.specs.List.{AllZip, concat}
+use Rattle.std.proofs.Common.{◌≡◌, ℕ, ◌+◌, ◌<◌, ◌≤◌, List, [], ◌++◌, Some, length, map, take, slice_get, slice_range, refl, sym, ap, ◌∙◌, subst, arith, add-zero}
+use Rattle.std.specs.Prelude.{All}
+use Rattle.std.specs.List.{concat}
 use Rattle.std.specs.Option.{option_map}
 use Rattle.std.proofs.lemmas.List.{take-map}
 use Rattle.std.proofs.lemmas.List.Sums.{sum_by-cons}
-use Rattle.std.proofs.lemmas.Option.{slice_get-map, same_Some}
+use Rattle.std.proofs.lemmas.Option.{slice_get-map, slice_get_within, get_or_from_slice_get, same_Some}
 use Rattle.std.proofs.lemmas.Simd.{map-map}
 use Rattle.mm_text.specs.declared.word.Word.{Word}
 use Rattle.mm_text.specs.declared.fault.TextFault.{TextFault}
 use Rattle.mm_text.specs.Reading.{HasWords}
 use Rattle.mm_text.specs.Cut.{IsCut, IsFirstFault, ended}
 use Rattle.mm_text.specs.Place.{line_at, column_at}
-use Rattle.mm_text.specs.Unit.{tokens_of}
 use Rattle.mm_store.specs.declared.item.Item as store
 use Rattle.mm_store.specs.FilesView.{PieceView, FileView, FilesView, no_files, piece_texts, text_of, bytes_of}
-use Rattle.mm_store.specs.FileFacts.{IsAdded, StandsIn, piece_offset}
+use Rattle.mm_store.specs.FileFacts.{CanBeRead, HaveOwnKeys, IsAdded, StandsIn, piece_offset}
 use Rattle.mm_store.specs.Answers.{HasTooMany}
 use Rattle.mm_store.specs.Expansion.{IsExpansion}
 use Rattle.mm_store.specs.Keyless.{keyless_piece, keyless_file, keyless_item}
 use Rattle.mm_frame.specs.Base.{BaseView}
-use Rattle.mm_frame.specs.Item.{Item}
-use Rattle.mm_frame.specs.Statement.{Says, kind_of, item_of}
+use Rattle.mm_frame.specs.Laws.{AreAlikeBases}
 use Rattle.mmkeep.specs.Base.{IsWordOf}
 use Rattle.mmkeep.specs.Report.{Shown, IsWordAt, IsShown, start_of, spelled}
 use Rattle.mmkeep.specs.Verified.{IsDatabase}
@@ -30,10 +29,16 @@ pub record Laws : Type 0 where
   pub words : (text : List ℕ) (a b : List Word) → HasWords text a → HasWords text b → a ≡ b
   pub fault : (text : List ℕ) (a b : TextFault) → IsFirstFault text a → IsFirstFault text b → a ≡ b
   pub cut_or_fault : (text : List ℕ) (pieces : List (List ℕ)) (tail : List ℕ) (fault : TextFault) → IsCut text pieces tail → ¬ IsFirstFault text fault
-  pub items : (a b : List FileView) (top : List ℕ) (xs ys : List store.Item) → map keyless_file a ≡ map keyless_file b → IsExpansion a top xs → IsExpansion b top ys → map keyless_item xs ≡ map keyless_item ys
+  pub said : (a b : FilesView) (top : List ℕ) (base other : BaseView) → AreAlikeBases a b top base other → (map keyless_item base.found ≡ map keyless_item other.found) × (base.said ≡ other.said)
   pub one_file : (a b : FilesView) (name text : List ℕ) → IsAdded no_files a name text → IsAdded no_files b name text → map keyless_file a.files ≡ map keyless_file b.files
+  pub own_keys : (files : FilesView) (name text : List ℕ) → IsAdded no_files files name text → HaveOwnKeys files
+  pub stand : (files : FilesView) (top : List ℕ) (items : List store.Item) → IsExpansion files.files top items → All (StandsIn files) items
 
 -- ---- what stands in files that are the same but for keys
+
+-- what holds of all elements holds of the one at a place
+kept_at : {X : Type 0} (P : X → Type 0) (xs : List X) (n : ℕ) (x : X) → All P xs → slice_get xs n ≡ Some x → P x
+kept_at P xs n x all there = subst P (get_or_from_slice_get xs n x x there) (all n x (slice_get_within xs n x there))
 
 -- lists that a function makes the same have, at one place, what it makes the same
 same_at : {X Y : Type 0} (f : X → Y) (xs ys : List X) (m n : ℕ) (x y : X) → map f xs ≡ map f ys → m ≡ n → slice_get xs m ≡ Some x → slice_get ys n ≡ Some y → f x ≡ f y
@@ -49,53 +54,47 @@ same_texts f g same =
     ∙ ap (λ (file : FileView). piece_texts file.pieces) same
     ∙ map-map (λ (piece : PieceView). piece.text) keyless_piece g.pieces
 
--- files that are the same but for keys, and an item of each of the two, the same but for its key
-record AreAlike (a b : FilesView) (x y : store.Item) : Type 0 where
+-- files that are the same but for keys, in each of which a key has one text
+record AreAlikeFiles (a b : FilesView) : Type 0 where
   files : map keyless_file a.files ≡ map keyless_file b.files
+  first : HaveOwnKeys a
+  second : HaveOwnKeys b
+
+-- and an item of each of the two, the same but for its key
+record AreAlike (a b : FilesView) (x y : store.Item) : Type 0 where
+  both : AreAlikeFiles a b
   item : keyless_item x ≡ keyless_item y
+  first : StandsIn a x
+  second : StandsIn b y
 
 same_file : (a b : FilesView) (x y : store.Item) (f g : FileView) → AreAlike a b x y → slice_get a.files x.file ≡ Some f → slice_get b.files y.file ≡ Some g → keyless_file f ≡ keyless_file g
-same_file a b x y f g alike at there = same_at keyless_file a.files b.files x.file y.file f g alike.files (ap (λ (z : store.Item). z.file) alike.item) at there
+same_file a b x y f g alike at there = same_at keyless_file a.files b.files x.file y.file f g alike.both.files (ap (λ (z : store.Item). z.file) alike.item) at there
 
-same_text : (a b : FilesView) (x y : store.Item) → AreAlike a b x y → (s : StandsIn a x) (t : StandsIn b y) → s.text ≡ t.text
-same_text a b x y alike s t =
+-- the texts of their pieces are the same
+same_piece : (a b : FilesView) (x y : store.Item) → AreAlike a b x y → (s : StandsIn a x) (t : StandsIn b y) → s.text ≡ t.text
+same_piece a b x y alike s t =
     same_at (λ (piece : PieceView). piece.text) s.file.pieces t.file.pieces x.piece y.piece (record { key = x.key; text = s.text }) (record { key = y.key; text = t.text })
     (same_texts s.file t.file (same_file a b x y s.file t.file alike s.there t.there)) (ap (λ (z : store.Item). z.piece) alike.item) s.is_piece t.is_piece
+
+-- an item is read where it stands
+read_there : (files : FilesView) (item : store.Item) → HaveOwnKeys files → (r : CanBeRead files item) (s : StandsIn files item) → r.text ≡ s.text
+read_there files item own r s =
+    own item.key r.text s.text r.live (record { number = item.file; file = s.file; there = s.there; piece = item.piece; is_piece = s.is_piece })
+
+same_text : (a b : FilesView) (x y : store.Item) → AreAlike a b x y → (r : CanBeRead a x) (q : CanBeRead b y) → r.text ≡ q.text
+same_text a b x y alike r q = read_there a x alike.both.first r alike.first ∙ same_piece a b x y alike alike.first alike.second ∙ sym (read_there b y alike.both.second q alike.second)
 
 -- the bytes of an item
 abbrev bytes_in : List ℕ → store.Item → List ℕ
 bytes_in text item = slice_range text item.start item.end
 
-same_bytes : (a b : FilesView) (x y : store.Item) → AreAlike a b x y → (s : StandsIn a x) (t : StandsIn b y) → bytes_in s.text x ≡ bytes_in t.text y
+same_bytes : (a b : FilesView) (x y : store.Item) → AreAlike a b x y → (s : CanBeRead a x) (t : CanBeRead b y) → bytes_in s.text x ≡ bytes_in t.text y
 same_bytes a b x y alike s t = ap (λ text. bytes_in text x) (same_text a b x y alike s t) ∙ ap (λ (z : store.Item). bytes_in t.text z) alike.item
 
-same_words : Laws → (a b : FilesView) (x y : store.Item) → AreAlike a b x y → (s : StandsIn a x) (t : StandsIn b y) → s.words ≡ t.words
+same_words : Laws → (a b : FilesView) (x y : store.Item) → AreAlike a b x y → (s : CanBeRead a x) (t : CanBeRead b y) → s.words ≡ t.words
 same_words laws a b x y alike s t = laws.words (bytes_in t.text y) s.words t.words (subst (λ bytes. HasWords bytes s.words) (same_bytes a b x y alike s t) s.has_words) t.has_words
 
--- ---- what the items say, and where their words begin
-
-same_said : Laws → (a b : FilesView) (x y : store.Item) (said other : Item) → AreAlike a b x y → Says a x said → Says b y other → said ≡ other
-same_said laws a b x y said other alike f g =
-    f.is
-    ∙ ap (λ (z : store.Item). item_of (kind_of z.kind) (tokens_of (bytes_in f.stands.text x) f.stands.words)) alike.item
-    ∙ ap (λ bytes. item_of (kind_of y.kind) (tokens_of bytes f.stands.words)) (same_bytes a b x y alike f.stands g.stands)
-    ∙ ap (λ words. item_of (kind_of y.kind) (tokens_of (bytes_in g.stands.text y) words)) (same_words laws a b x y alike f.stands g.stands)
-    ∙ sym g.is
-
-same_all_said : Laws → (a b : FilesView) (xs ys : List store.Item) (all others : List Item) → map keyless_file a.files ≡ map keyless_file b.files → map keyless_item xs ≡ map keyless_item ys → AllZip (Says a) xs all → AllZip (Says b) ys others → all ≡ others
-same_all_said laws a b [] [] [] [] files items f g = refl
-same_all_said laws a b (x ∷ xs) (y ∷ ys) (said ∷ all) (other ∷ others) files items f g =
-    let item : keyless_item x ≡ keyless_item y = cc in
-    let rest : map keyless_item xs ≡ map keyless_item ys = cc in
-    let first : said ≡ other = same_said laws a b x y said other (record { files = files; item = item }) f.0 g.0 in
-    let later : all ≡ others = same_all_said laws a b xs ys all others files rest f.1 g.1 in
-    cc
-same_all_said laws a b [] [] [] (other ∷ others) files items f g = absurd g
-same_all_said laws a b [] [] (said ∷ all) others files items f g = absurd f
-same_all_said laws a b [] (y ∷ ys) all others files items f g = cc
-same_all_said laws a b (x ∷ xs) [] all others files items f g = cc
-same_all_said laws a b (x ∷ xs) (y ∷ ys) [] others files items f g = absurd f
-same_all_said laws a b (x ∷ xs) (y ∷ ys) (said ∷ all) [] files items f g = absurd g
+-- ---- where the words of items begin
 
 -- the bytes before a piece, counted by the texts of the pieces
 offset_by_texts : (file : FileView) (n : ℕ) → piece_offset file n ≡ length (concat (take n (piece_texts file.pieces)))
@@ -112,7 +111,7 @@ same_byte : Laws → (a b : FilesView) (x y : store.Item) (v w at there : ℕ) �
 same_byte laws a b x y v w at there alike number f g =
     let piece : x.piece ≡ y.piece = ap (λ (z : store.Item). z.piece) alike.item in
     let start : x.start ≡ y.start = ap (λ (z : store.Item). z.start) alike.item in
-    let words : f.stands.words ≡ g.stands.words = same_words laws a b x y alike f.stands g.stands in
+    let words : f.read.words ≡ g.read.words = same_words laws a b x y alike f.read g.read in
     let file : keyless_file f.byte.file ≡ keyless_file g.byte.file = same_file a b x y f.byte.file g.byte.file alike f.byte.there g.byte.there in
     let offset : piece_offset f.byte.file x.piece ≡ piece_offset g.byte.file y.piece = same_offset f.byte.file g.byte.file x.piece y.piece file piece in
     f.byte.is_offset ∙ (λ i. offset i + (start i + start_of (slice_get (words i) (number i)))) ∙ sym g.byte.is_offset
@@ -129,7 +128,7 @@ same_place_text : (a b : FilesView) (x y : store.Item) (v w at there : ℕ) → 
 same_place_text a b x y v w at there alike f g =
     f.byte.is_text ∙ same_file_text f.byte.file g.byte.file (same_file a b x y f.byte.file g.byte.file alike f.byte.there g.byte.there) ∙ sym g.byte.is_text
 
-same_spelled : Laws → (a b : FilesView) (x y : store.Item) (v w : ℕ) → AreAlike a b x y → v ≡ w → (s : StandsIn a x) (t : StandsIn b y)
+same_spelled : Laws → (a b : FilesView) (x y : store.Item) (v w : ℕ) → AreAlike a b x y → v ≡ w → (s : CanBeRead a x) (t : CanBeRead b y)
     → spelled (bytes_in s.text x) (slice_get s.words v) ≡ spelled (bytes_in t.text y) (slice_get t.words w)
 same_spelled laws a b x y v w alike number s t =
     λ i. spelled (same_bytes a b x y alike s t i) (slice_get (same_words laws a b x y alike s t i) (number i))
@@ -141,7 +140,7 @@ same_shown laws a b x y v w shown other alike number f g =
     let text : f.place.text ≡ g.place.text = same_place_text a b x y v w f.at g.at alike f.place g.place in
     let line : shown.line ≡ other.line = f.line ∙ (λ i. line_at (text i) (at i)) ∙ sym g.line in
     let column : shown.column ≡ other.column = f.column ∙ (λ i. column_at (text i) (at i)) ∙ sym g.column in
-    let word : shown.word ≡ other.word = f.is_word ∙ same_spelled laws a b x y v w alike number f.place.stands g.place.stands ∙ sym g.is_word in
+    let word : shown.word ≡ other.word = f.is_word ∙ same_spelled laws a b x y v w alike number f.place.read g.place.read ∙ sym g.is_word in
     λ i. record { line = line i; column = column i; word = word i }
 
 -- ---- two databases of one name and text
@@ -152,18 +151,35 @@ pub record Database (name text : List ℕ) : Type 0 where
   pub view : BaseView
   pub is : IsDatabase name text files view
 
-same_files : {name text : List ℕ} → Laws → (a b : Database name text) → map keyless_file a.files.files ≡ map keyless_file b.files.files
-same_files {name} {text} laws a b = laws.one_file a.files b.files name text a.is.added b.is.added
+same_files : {name text : List ℕ} → Laws → (a b : Database name text) → AreAlikeFiles a.files b.files
+same_files {name} {text} laws a b = record {
+  files = laws.one_file a.files b.files name text a.is.added b.is.added;
+  first = laws.own_keys a.files name text a.is.added;
+  second = laws.own_keys b.files name text b.is.added;
+}
+
+items_stand : {name text : List ℕ} → Laws → (a : Database name text) → All (StandsIn a.files) a.view.found
+items_stand {name} laws a = laws.stand a.files name a.view.found a.is.of_files.expansion
+
+alike_bases : {name text : List ℕ} → Laws → (a b : Database name text) → AreAlikeBases a.files b.files name a.view b.view
+alike_bases laws a b =
+    let files = same_files laws a b in
+    record { files = files.files; keys = files.first; other_keys = files.second; is_base = a.is.of_files; is_other = b.is.of_files }
 
 same_found : {name text : List ℕ} → Laws → (a b : Database name text) → map keyless_item a.view.found ≡ map keyless_item b.view.found
-same_found {name} {text} laws a b = laws.items a.files.files b.files.files name a.view.found b.view.found (same_files laws a b) a.is.of_files.expansion b.is.of_files.expansion
+same_found {name} laws a b = (laws.said a.files b.files name a.view b.view (alike_bases laws a b)).0
 
 pub same_items : {name text : List ℕ} → Laws → (a b : Database name text) → a.view.said ≡ b.view.said
-same_items laws a b = same_all_said laws a.files b.files a.view.found b.view.found a.view.said b.view.said (same_files laws a b) (same_found laws a b) a.is.of_files.each b.is.of_files.each
+same_items {name} laws a b = (laws.said a.files b.files name a.view b.view (alike_bases laws a b)).1
 
 -- the items with one number are alike
 alike_at : {name text : List ℕ} → Laws → (a b : Database name text) (m n : ℕ) (x y : store.Item) → m ≡ n → slice_get a.view.found m ≡ Some x → slice_get b.view.found n ≡ Some y → AreAlike a.files b.files x y
-alike_at laws a b m n x y number at there = record { files = same_files laws a b; item = same_at keyless_item a.view.found b.view.found m n x y (same_found laws a b) number at there }
+alike_at laws a b m n x y number at there = record {
+  both = same_files laws a b;
+  item = same_at keyless_item a.view.found b.view.found m n x y (same_found laws a b) number at there;
+  first = kept_at (StandsIn a.files) a.view.found m x (items_stand laws a) at;
+  second = kept_at (StandsIn b.files) b.view.found n y (items_stand laws b) there;
+}
 
 -- a word with one number, of an item with one number, begins at one byte
 pub same_place : {name text : List ℕ} → Laws → (a b : Database name text) (m n v w at other : ℕ) → m ≡ n → v ≡ w → IsWordOf a.files a.view m v at → IsWordOf b.files b.view n w other → at ≡ other

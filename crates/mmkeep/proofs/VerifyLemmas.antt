@@ -1,6 +1,6 @@
 -- From what the parts of a verification answer to what it answers.
 use Rattle.std.proofs.Common.{◌≡◌, ◌↔◌, ℕ, zero, suc, Bool, true, false, IsTrue, ◌&&◌, ◌+◌, ◌≤◌, List, [], ◌∷◌, ◌++◌, Some, length, take, refl, sym, ◌∙◌, ap, inl, inr, arith, length-append}
-use Rattle.std.specs.Prelude.{slice_get, count_by, ◌==◌, if◌then◌else◌}
+use Rattle.std.specs.Prelude.{All, slice_get, count_by, ◌==◌, if◌then◌else◌}
 use Rattle.std.specs.List.{after_last}
 use Rattle.std.proofs.Common.{eq-eqb}
 use Rattle.std.proofs.lemmas.Bool.{cases_Bool, eqb-true, and_from, false≢true}
@@ -9,7 +9,9 @@ use Rattle.mm_text.specs.declared.location.Place.{Place}
 use Rattle.mm_text.specs.Cut.{ends_white, ended}
 use Rattle.mm_text.specs.Place.{is_line_feed}
 use Rattle.mm_store.specs.FilesView.{FileView, FilesView, no_files, bytes_of, text_of}
-use Rattle.mm_store.specs.FileFacts.{IsAdded}
+use Rattle.mm_store.specs.FileFacts.{IsAdded, StandsIn}
+use Rattle.mm_store.specs.Expansion.{IsExpansion}
+use Rattle.mm_store.specs.declared.item.Item as store
 use Rattle.mm_frame.specs.Base.{BaseView, IsOfFiles}
 use Rattle.mm_frame.specs.Kept.{IsBase}
 use Rattle.mm_frame.specs.declared.base.Base.{Base}
@@ -50,9 +52,13 @@ the_file file other (suc n) e = cc
 pub database_of : (name text : List ℕ) (files : FilesView) (view : BaseView) → IsAdded no_files files name text → bytes_of files.files ≤ 4294967295 → IsOfFiles files name view → IsDatabase name text files view
 database_of name text files view added within is = record { added = added; within = within; of_files = is }
 
+-- the items of all files stand where they say
+abbrev pub ItemsStand : Type 0
+ItemsStand = (files : FilesView) (top : List ℕ) (items : List store.Item) → IsExpansion files.files top items → All (StandsIn files) items
+
 -- and what its base answers is what the items of the files say
-pub view_of : (name : List ℕ) (files : FilesView) (code : Base) (view : BaseView) → IsOfFiles files name view → IsBase view code → IsOf files code view
-view_of name files code view is base = record { base = base; each = is.each }
+pub view_of : (name : List ℕ) (files : FilesView) (code : Base) (view : BaseView) → ItemsStand → IsOfFiles files name view → IsBase view code → IsOf files code view
+view_of name files code view stand is base = record { base = base; each = is.each; stand = stand files name view.found is.expansion }
 
 -- nothing wrong and no fault is told
 abbrev pub IsClean : List Told → Type 0

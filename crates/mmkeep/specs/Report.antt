@@ -5,7 +5,7 @@ use Rattle.mm_text.specs.declared.word.Word.{Word}
 use Rattle.mm_text.specs.Place.{line_at, column_at}
 use Rattle.mm_store.specs.declared.item.Item as store
 use Rattle.mm_store.specs.FilesView.{FilesView}
-use Rattle.mm_store.specs.FileFacts.{StandsIn, IsByte}
+use Rattle.mm_store.specs.FileFacts.{CanBeRead, StandsIn, IsByte}
 use Rattle.mm_frame.specs.Base.{BaseView, fault_at, is_sound_at, is_proof_at, said_at}
 use Rattle.mm_frame.specs.Item.{Axiom, Item, is_assertion}
 use Rattle.mm_frame.specs.declared.FrameNumber.{FrameNumber}
@@ -39,8 +39,9 @@ spelled text (Some word) = slice_range text word.start word.end
 -- a word of an item begins at this byte of the text of its file
 pub record IsWordAt (files : FilesView) (item : store.Item) (word at : ℕ) : Type 0 where
   pub stands : StandsIn files item
+  pub read : CanBeRead files item
   pub text : List ℕ
-  pub byte : IsByte files item.file item.piece (item.start + start_of (slice_get stands.words word)) text at
+  pub byte : IsByte files item.file item.piece (item.start + start_of (slice_get read.words word)) text at
 
 -- a word of an item is shown like this
 pub record IsShown (files : FilesView) (item : store.Item) (word : ℕ) (shown : Shown) : Type 0 where
@@ -48,7 +49,7 @@ pub record IsShown (files : FilesView) (item : store.Item) (word : ℕ) (shown :
   pub place : IsWordAt files item word at
   pub line : shown.line ≡ line_at place.text at
   pub column : shown.column ≡ column_at place.text at
-  pub is_word : shown.word ≡ spelled (slice_range place.stands.text item.start item.end) (slice_get place.stands.words word)
+  pub is_word : shown.word ≡ spelled (slice_range place.read.text item.start item.end) (slice_get place.read.words word)
 
 -- it tells the fault with this number, at this word of an item
 abbrev pub TellsFaultAt : FilesView → store.Item → ℕ → FrameNumber → Told → Type 0

@@ -18,5 +18,8 @@ pub fn one_answer()
 {
     mm_text::one_meaning();
     mm_text::one_cut();
+    mm_store::items_stand();
+    mm_store::keys_are_own();
     mm_store::keys_do_not_matter();
+    mm_frame::files_have_one_base();
 }

@@ -1,7 +1,7 @@
 //! The first word of a file that is not read yet.
 
 ghost use Rattle.std.specs.Prelude.{◌≡◌, ℕ, ◌<◌, IfOk, IfSome, MatchOption, length};
-ghost use Rattle.mm_store.specs.FileFacts.{StandsIn};
+ghost use Rattle.mm_store.specs.FileFacts.{CanBeRead, StandsIn};
 ghost use Rattle.mm_frame.specs.Base.{BaseView, said_at};
 ghost use Rattle.mm_proof.specs.OfFiles.{IsOf, HasView, HasItemOf};
 ghost use Rattle.mmkeep.specs.Base.{HasPlace, HasPlaceOf};
@@ -62,7 +62,6 @@ fn unread_of(
     requires { HasItemOf files.now base.now number }
     ensures { IfOk result (λ word. (view : BaseView) → IsOf files.now base.now view → word ≡ unread_word (said_at view number)) }
 {
-    mm_text::one_meaning();
     let item = base.item(number);
     if !matches!(item.kind, ItemKind::Theorem) {
         return Ok(None);
@@ -103,7 +102,8 @@ pub fn start_of(word: Option<Word>) -> usize
 
 /// The place of a word of an item in the text of its file, or of the item where it has fewer words.
 fn word_place(files: &Files, item: &Item, word: usize) -> Place
-    requires { StandsIn files.now item.now }
+    requires read { CanBeRead files.now item.now }
+    requires stands { StandsIn files.now item.now }
     ensures { HasPlace files.now item.now word result }
 {
     mm_store::bytes_are_within();

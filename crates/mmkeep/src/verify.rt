@@ -59,6 +59,7 @@ pub fn verify_one<W: Write>(
     ensures prefix { result ≡ Err FirstError.Write
         → BeginsReport name.now text.items (written W.contents writing.old) (written W.contents writing.new) }
 {
+    mm_store::items_stand();
     let files = only_file(alloc, name, text)?;
     let base = Base::build(alloc, &files, name)?;
     if let Some(unread) = first_unread(alloc, &files, &base)? {

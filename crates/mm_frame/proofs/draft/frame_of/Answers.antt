@@ -1,13 +1,12 @@
 use Rattle.std.proofs.Common.{Some, ◌∙◌, ap, sym}
-use Rattle.mm_frame.specs.Base.{numbers_if, pairs_if}
+use Rattle.mm_frame.specs.Kept.{numbers_if, pairs_if}
 use Rattle.mm_frame.proofs.draft.frame_of.Goals as goal
 
 pub returns : goal.returns
-returns c before item sound known pairs marks parts essentials expressions =
+returns c before item known parts =
     let framed = c.if-not-framed.false in
-    let own = parts framed in
-    let numbers = c.in_ok-hypotheses.ensures before item (record { sound = sound; known = known; item_sound = own.0; assertion = own.1 }) essentials expressions own.2 in
+    let numbers = c.in_ok-hypotheses.ensures before item known (parts framed) in
     record {
       hypotheses = ap Some numbers ∙ sym (ap (λ b. numbers_if b before item) framed);
-      pairs = ap Some (c.in_ok-pairs.ensures before item sound pairs marks essentials expressions (c.deref.ensures.value ∙ numbers)) ∙ sym (ap (λ b. pairs_if b before item) framed);
+      pairs = ap Some (c.in_ok-pairs.ensures before item known (c.deref.ensures.value ∙ numbers)) ∙ sym (ap (λ b. pairs_if b before item) framed);
     }

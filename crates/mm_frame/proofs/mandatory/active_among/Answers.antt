@@ -3,7 +3,8 @@ use Rattle.std.specs.Borrow.{Bor}
 use Rattle.std.proofs.lemmas.List.{take_rest}
 use Rattle.mm_frame.specs.declared.symbol.NamedSymbol.{NamedSymbol}
 use Rattle.mm_frame.specs.Framing.{active_pairs, pairs_of}
-use Rattle.mm_frame.specs.Named.{symbol_of, symbols_lent, kept_pairs}
+use Rattle.mm_frame.specs.Named.{symbol_of, kept_pairs}
+use Rattle.mm_frame.specs.KeptSymbols.{symbols_lent}
 use Rattle.mm_frame.specs.Paired.{are_paired}
 use Rattle.mm_frame.proofs.PairTableLemmas.{pairs_with}
 use Rattle.mm_frame.proofs.FramePairs.{among_more}

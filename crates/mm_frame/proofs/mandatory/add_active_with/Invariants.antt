@@ -2,7 +2,8 @@ use Rattle.std.proofs.Common.{◌≡◌, ◌++◌, List, filter, take}
 use Rattle.mm_frame.specs.Item.{Item}
 use Rattle.mm_frame.specs.Blocks.{marks_of}
 use Rattle.mm_frame.specs.Framing.{active_pairs}
-use Rattle.mm_frame.specs.Named.{symbol_of, symbols_lent, kept_pairs}
+use Rattle.mm_frame.specs.Named.{symbol_of, kept_pairs}
+use Rattle.mm_frame.specs.KeptSymbols.{symbols_lent}
 use Rattle.mm_frame.specs.Paired.{are_paired}
 use Rattle.mm_frame.specs.PairTable.{KnowsPairs}
 use Rattle.mm_frame.proofs.PairTableLemmas.{pairs_with}

@@ -1,14 +1,15 @@
 use Rattle.std.proofs.Common.{◌∙◌, ap, ◌++◌, flat_map}
-use Rattle.mm_frame.specs.Named.{float_numbers, expression_kept}
+use Rattle.mm_frame.specs.KeptSymbols.{float_numbers, expression_kept}
 use Rattle.mm_frame.proofs.MandatoryLemmas.{hypotheses_sorted}
 use Rattle.mm_frame.proofs.mandatory.hypotheses.Goals as goal
 
 pub returns : goal.returns
-returns c =
-    let tables = c.args.tables.now in
-    let expressions = c.args.expressions.now in
-    let essentials = c.args.essentials.now in
+returns c before item known framed =
+    let tables = c.args.earlier.now.tables.now in
+    let expressions = c.args.earlier.now.expressions.now in
+    let essentials = c.args.earlier.now.essentials.now in
     let own = c.args.own.now in
     let found = flat_map (λ n. float_numbers tables (expression_kept expressions n)) essentials in
     let numbers = c.in_ok-add_all_floats.ensures ∙ ap (λ w. w ++ found) (c.in_ok-add_floats.ensures ∙ ap (λ w. w ++ float_numbers tables own) c.in_ok-numbers.ensures.items) in
     hypotheses_sorted tables expressions essentials own c.add_all_floats.new.numbers.items c.sort_unstable.new.self.items c.dedup.new.self.items numbers c.sort_unstable.ensures.permutation c.sort_unstable.ensures.sorted c.dedup.ensures.filtered
+    before item (record { sound = known.sound; known = known.known; item_sound = framed.sound; assertion = framed.assertion }) known.essentials known.expressions framed.symbols

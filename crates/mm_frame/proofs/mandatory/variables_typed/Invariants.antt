@@ -1,5 +1,5 @@
 use Rattle.std.proofs.Common.{◌≡◌, take}
-use Rattle.mm_frame.specs.Named.{symbols_lent}
+use Rattle.mm_frame.specs.KeptSymbols.{symbols_lent}
 use Rattle.mm_frame.specs.Tables.{IsRising}
 use Rattle.mm_frame.specs.Paired.{float_variables}
 use Rattle.mm_frame.proofs.mandatory.variables_typed.Given as goal

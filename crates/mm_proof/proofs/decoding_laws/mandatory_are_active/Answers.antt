@@ -2,4 +2,4 @@ use Rattle.mm_proof.proofs.BaseLemmas.{mandatory_are_active}
 use Rattle.mm_proof.proofs.decoding_laws.mandatory_are_active.Goals as goal
 
 pub returns : goal.returns
-returns c = mandatory_are_active
+returns c = mandatory_are_active c.items_have_labels.ensures c.mandatory_means.ensures c.mandatory_stand_before.ensures

@@ -4,4 +4,4 @@ use Rattle.mm_store.specs.Inside.{text_at}
 use Rattle.mm_store.proofs.files.joined.Given as goal
 
 abbrev pub invariant-loop-key : goal.invariant-loop-key
-invariant-loop-key l = l.text.items ≡ concat (map (text_at l.texts) (take l.key-index l.file.keys.items))
+invariant-loop-key l = l.text.items ≡ concat (map (text_at l.pieces) (take l.key-index l.file.keys.items))

@@ -11,12 +11,22 @@ use Rattle.mmkeep.proofs.PlaceLemmas.{from_some, from_none}
 use Rattle.mmkeep.proofs.VerifyLemmas.{database_of, view_of, unread_at, report_is, clean_counts, IsClean}
 use Rattle.mmkeep.proofs.verify.verify_one.Goals as goal
 
+pub first_unread-requires : goal.first_unread-requires
+first_unread-requires g c =
+    let view = c.in_ok-base.ensures.base.0 in
+    (view, view_of c.args.name.now c.in_ok-files.files c.in_ok-base.base view c.items_stand.ensures.stand c.in_ok-base.ensures.base.1 c.in_ok-base.ensures.base.2)
+
+pub findings-requires : goal.findings-requires
+findings-requires g c =
+    let view = c.in_ok-base.ensures.base.0 in
+    (view, view_of c.args.name.now c.in_ok-files.files c.in_ok-base.base view c.items_stand.ensures.stand c.in_ok-base.ensures.base.1 c.in_ok-base.ensures.base.2)
+
 pub place_of_word-place-requires : goal.place_of_word-place-requires
 place_of_word-place-requires g c =
     let view = c.in_ok-base.ensures.base.0 in
     let of_files = c.in_ok-base.ensures.base.1 in
     let base = c.in_ok-base.ensures.base.2 in
-    let is = view_of c.args.name.now c.in_ok-files.files c.in_ok-base.base view of_files base in
+    let is = view_of c.args.name.now c.in_ok-files.files c.in_ok-base.base view c.items_stand.ensures.stand of_files base in
     let unread = from_some _ _ c.in_ok-unread.field-0 c.in-Some.unread c.in-Some.is (c.in_ok-unread.ensures view is) in
     (view, is, slice_get_within view.said c.in-Some.unread.item unread.item unread.there)
 
@@ -25,7 +35,7 @@ returns-in-Some-clause-error g c =
     let view = c.in_ok-base.ensures.base.0 in
     let of_files = c.in_ok-base.ensures.base.1 in
     let base = c.in_ok-base.ensures.base.2 in
-    let is = view_of c.args.name.now c.in_ok-files.files c.in_ok-base.base view of_files base in
+    let is = view_of c.args.name.now c.in_ok-files.files c.in_ok-base.base view c.items_stand.ensures.stand of_files base in
     let database = database_of c.args.name.now c.args.text.items c.in_ok-files.files view c.in_ok-files.ensures.added c.in_ok-files.ensures.within of_files in
     let unread = from_some _ _ c.in_ok-unread.field-0 c.in-Some.unread c.in-Some.is (c.in_ok-unread.ensures view is) in
     unread_at c.args.name.now c.args.text.items c.in_ok-files.files view database c.in-Some.unread.item c.in-Some.unread.word c.place_of_word-place.result unread (c.place_of_word-place.ensures view is)
@@ -35,7 +45,7 @@ returns-in-Ok-clause-report g c =
     let view = c.in_ok-base.ensures.base.0 in
     let of_files = c.in_ok-base.ensures.base.1 in
     let base = c.in_ok-base.ensures.base.2 in
-    let is = view_of c.args.name.now c.in_ok-files.files c.in_ok-base.base view of_files base in
+    let is = view_of c.args.name.now c.in_ok-files.files c.in_ok-base.base view c.items_stand.ensures.stand of_files base in
     let database = database_of c.args.name.now c.args.text.items c.in_ok-files.files view c.in_ok-files.ensures.added c.in_ok-files.ensures.within of_files in
     let read = from_none _ _ c.in_ok-unread.field-0 c.in_default.is (c.in_ok-unread.ensures view is) in
     let found = c.in_ok-findings.findings.items in
@@ -56,7 +66,7 @@ returns-clause-write g c =
     let view = c.in_ok-base.ensures.base.0 in
     let of_files = c.in_ok-base.ensures.base.1 in
     let base = c.in_ok-base.ensures.base.2 in
-    let is = view_of c.args.name.now c.in_ok-files.files c.in_ok-base.base view of_files base in
+    let is = view_of c.args.name.now c.in_ok-files.files c.in_ok-base.base view c.items_stand.ensures.stand of_files base in
     let found = c.in_ok-findings.findings.items in
     let are = c.in_ok-findings.ensures view is in
     let seen = c.deref.ensures.value in
@@ -68,7 +78,7 @@ returns-clause-prefix g c =
     let view = c.in_ok-base.ensures.base.0 in
     let of_files = c.in_ok-base.ensures.base.1 in
     let base = c.in_ok-base.ensures.base.2 in
-    let is = view_of c.args.name.now c.in_ok-files.files c.in_ok-base.base view of_files base in
+    let is = view_of c.args.name.now c.in_ok-files.files c.in_ok-base.base view c.items_stand.ensures.stand of_files base in
     let database = database_of c.args.name.now c.args.text.items c.in_ok-files.files view c.in_ok-files.ensures.added c.in_ok-files.ensures.within of_files in
     let read = from_none _ _ c.in_ok-unread.field-0 c.in_default.is (c.in_ok-unread.ensures view is) in
     let found = c.in_ok-findings.findings.items in

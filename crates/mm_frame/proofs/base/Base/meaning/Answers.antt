@@ -1,15 +1,15 @@
 use Rattle.std.proofs.Common.{◌∙◌, sym}
-use Rattle.mm_frame.proofs.ResolvingLemmas.{framed_some, assertion_means, active_means, inactive_means, later_means}
+use Rattle.mm_frame.proofs.ResolvingLemmas.{assertion_means, active_means, inactive_means, later_means}
 use Rattle.mm_frame.proofs.base.Base.meaning.Goals as goal
 
 pub returns-then-j-i : goal.returns-then-j-i
 returns-then-j-i c base label is e = later_means base c.args.i label c.args.j e c.if-j-i.true
 
 pub returns-then-is_some : goal.returns-then-is_some
-returns-then-is_some c base label is e = assertion_means base c.args.i label c.args.j e c.if-j-i.false (sym (framed_some (λ frame. frame.now.hypotheses.items) c.frame.result base c.args.j (c.frame.ensures.hypotheses base is)) ∙ sym c.is_some.ensures ∙ c.if-is_some.true)
+returns-then-is_some c base label is e = assertion_means base c.args.i label c.args.j e c.if-j-i.false (sym (c.frame.ensures.some base is) ∙ sym c.is_some.ensures ∙ c.if-is_some.true)
 
 pub returns-then-is_active_at : goal.returns-then-is_active_at
-returns-then-is_active_at c base label is e = active_means base c.args.i label c.args.j c.args.self.now.parts.blocks is.parts.marks e c.if-j-i.false (sym (framed_some (λ frame. frame.now.hypotheses.items) c.frame.result base c.args.j (c.frame.ensures.hypotheses base is)) ∙ sym c.is_some.ensures ∙ c.if-is_some.false) (sym c.is_active_at.ensures ∙ c.if-is_active_at.true)
+returns-then-is_active_at c base label is e = active_means base c.args.i label c.args.j c.args.self.now.parts.blocks is.parts.marks e c.if-j-i.false (sym (c.frame.ensures.some base is) ∙ sym c.is_some.ensures ∙ c.if-is_some.false) (sym c.is_active_at.ensures ∙ c.if-is_active_at.true)
 
 pub returns-else-is_active_at : goal.returns-else-is_active_at
-returns-else-is_active_at c base label is e = inactive_means base c.args.i label c.args.j c.args.self.now.parts.blocks is.parts.marks e c.if-j-i.false (sym (framed_some (λ frame. frame.now.hypotheses.items) c.frame.result base c.args.j (c.frame.ensures.hypotheses base is)) ∙ sym c.is_some.ensures ∙ c.if-is_some.false) (sym c.is_active_at.ensures ∙ c.if-is_active_at.false)
+returns-else-is_active_at c base label is e = inactive_means base c.args.i label c.args.j c.args.self.now.parts.blocks is.parts.marks e c.if-j-i.false (sym (c.frame.ensures.some base is) ∙ sym c.is_some.ensures ∙ c.if-is_some.false) (sym c.is_active_at.ensures ∙ c.if-is_active_at.false)

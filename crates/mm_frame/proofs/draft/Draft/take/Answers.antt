@@ -3,11 +3,13 @@ use Rattle.mm_frame.specs.Base.{fault_by}
 use Rattle.mm_frame.specs.Kept.{AreRows, Tells, TellsFrame, KeepsFrame}
 use Rattle.mm_frame.specs.PairTable.{KnowsPairs}
 use Rattle.mm_frame.specs.Known.{Knows}
-use Rattle.mm_frame.specs.Named.{AreSymbols, is_read, symbols_of}
+use Rattle.mm_frame.specs.Named.{symbols_of}
+use Rattle.mm_frame.specs.KeptSymbols.{AreSymbols, is_read}
 use Rattle.mm_frame.specs.Statement.{kind_of}
 use Rattle.mm_frame.specs.Scoping.{Holds, taken}
 use Rattle.mm_frame.specs.Sound.{kept}
-use Rattle.mm_frame.specs.Tables.{active_numbers, is_essential_item, is_disjoint_item}
+use Rattle.mm_frame.specs.Tables.{is_essential_item, is_disjoint_item}
+use Rattle.mm_frame.specs.Scope.{active_numbers}
 use Rattle.mm_frame.specs.Item.{is_essential, is_disjoint}
 use Rattle.mm_frame.specs.PairLists.{AreMade}
 use Rattle.mm_frame.proofs.BaseLemmas.{rows_more, kept_are_sound, kept_taken, kept_count, sound_found_none, none_found, none_fault, symbols_more, symbols_taken, framed_told, framed_parts, essential_sort, disjoint_sort, proof_told}
@@ -31,7 +33,7 @@ returns c said d =
     let read = symbols_taken (kept said) item symbols.items flag own in
     let kind = c.kind.ensures.kind in
     let parts = λ (t : framed ≡ true). framed_parts flag (kind_of c.kind.result) item.kind kind (sym c.is_framed-framed.ensures ∙ t) in
-    let frame = c.in_ok-frame.ensures said item d (λ t. (is_sound (parts t).0, (parts t).1, ap symbols_of c.deref.ensures.value ∙ own (parts t).0 (parts t).2)) in
+    let frame = c.in_ok-frame.ensures said item d (λ t. record { sound = is_sound (parts t).0; assertion = (parts t).1; symbols = ap symbols_of c.deref.ensures.value ∙ own (parts t).0 (parts t).2 }) in
     let frame_told = subst (λ b. KeepsFrame b (kept said) item c.in_ok-frame.frame) (framed_told (kept said) item flag framed (kind_of c.kind.result) kind c.is_framed-framed.ensures (none_fault (λ f. (f.word, f.number)) (kept said) item found told ∙ none)) frame in
     let holds = c.in_ok-next.ensures (kept said) are_sound d.scope is_sound in
     let number : c.len-number.result ≡ length (kept said) = omega (arith, c.len-number.ensures, kept_count said, d.rows.count, c.args.self.now.rows.ok.0) in

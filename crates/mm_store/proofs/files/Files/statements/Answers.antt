@@ -11,32 +11,32 @@ use Rattle.mm_store.specs.Expansion.{IsExpansion}
 use Rattle.mm_store.specs.Gains.{FileGains}
 use Rattle.mm_store.proofs.FilesLemmas.{number_is, file_small}
 use Rattle.mm_store.proofs.GainLemmas.{only_top, not_no_top}
-use Rattle.mm_store.proofs.StandLemmas.{expansion_stands}
+use Rattle.mm_store.proofs.StandLemmas.{expansion_read, expansion_stands}
 use Rattle.mm_store.proofs.CountLemmas.{placed_few}
 use Rattle.mm_store.proofs.files.Files.statements.Goals as goal
 
 pub returns-in-None-clause-no_top : goal.returns-in-None-clause-no_top
 returns-in-None-clause-no_top c =
     let inside = c.self.inside in
-    let none = ap (λ files. number_of files.files c.args.top.now) (sym c.self.view_is) ∙ number_is inside.texts.items c.args.top.now inside.files.entries ∙ sym c.in-None.ensures.index in
+    let none = ap (λ files. number_of files.files c.args.top.now) (sym c.self.view_is) ∙ number_is inside.pieces.items c.args.top.now inside.files.entries ∙ sym c.in-None.ensures.index in
     (λ e. none, λ e. refl)
 
 pub returns-in_err-expand_file-in-Some-clause-no_top : goal.returns-in_err-expand_file-in-Some-clause-no_top
 returns-in_err-expand_file-in-Some-clause-no_top c =
     let inside = c.self.inside in
-    let some : number_of c.args.self.now.files c.args.top.now ≡ Some c.in-Some.number = ap (λ files. number_of files.files c.args.top.now) (sym c.self.view_is) ∙ number_is inside.texts.items c.args.top.now inside.files.entries ∙ sym c.in-Some.ensures.index in
+    let some : number_of c.args.self.now.files c.args.top.now ≡ Some c.in-Some.number = ap (λ files. number_of files.files c.args.top.now) (sym c.self.view_is) ∙ number_is inside.pieces.items c.args.top.now inside.files.entries ∙ sym c.in-Some.ensures.index in
     (λ e. absurd (not_no_top c.from_residual.result c.from_residual.ensures.1 e), λ e. absurd (none-some c.in-Some.number (sym e ∙ some)))
 
 pub returns-in_ok-expand_file-in-Some-clause-no_top : goal.returns-in_ok-expand_file-in-Some-clause-no_top
 returns-in_ok-expand_file-in-Some-clause-no_top c =
     let inside = c.self.inside in
-    let some : number_of c.args.self.now.files c.args.top.now ≡ Some c.in-Some.number = ap (λ files. number_of files.files c.args.top.now) (sym c.self.view_is) ∙ number_is inside.texts.items c.args.top.now inside.files.entries ∙ sym c.in-Some.ensures.index in
+    let some : number_of c.args.self.now.files c.args.top.now ≡ Some c.in-Some.number = ap (λ files. number_of files.files c.args.top.now) (sym c.self.view_is) ∙ number_is inside.pieces.items c.args.top.now inside.files.entries ∙ sym c.in-Some.ensures.index in
     (λ e. (cc), λ e. absurd (none-some c.in-Some.number (sym e ∙ some)))
 
 pub returns-in_ok-expand_file-in-Some-clause-items : goal.returns-in_ok-expand_file-in-Some-clause-items
 returns-in_ok-expand_file-in-Some-clause-items c =
     let inside = c.self.inside in
-    let texts = inside.texts.items in
+    let texts = inside.pieces.items in
     let entry : Vec ℕ Global × FileText = (c.in-Some.field-0-1.now, c.in-Some.file.now) in
     let files = files_of texts inside.files.entries in
     let items = c.in_ok-expand_file-in-Some.field-0.items in
@@ -51,7 +51,7 @@ returns-in_ok-expand_file-in-Some-clause-items c =
 pub returns-in_ok-expand_file-in-Some-clause-few : goal.returns-in_ok-expand_file-in-Some-clause-few
 returns-in_ok-expand_file-in-Some-clause-few c =
     let inside = c.self.inside in
-    let texts = inside.texts.items in
+    let texts = inside.pieces.items in
     let entry : Vec ℕ Global × FileText = (c.in-Some.field-0-1.now, c.in-Some.file.now) in
     let items = c.in_ok-expand_file-in-Some.field-0.items in
     let after = c.in_ok-expand_file-in-Some.ensures.0 in
@@ -71,3 +71,7 @@ returns-in_ok-expand_file-in-Some-clause-small c =
 pub returns-in_ok-expand_file-in-Some-clause-stand : goal.returns-in_ok-expand_file-in-Some-clause-stand
 returns-in_ok-expand_file-in-Some-clause-stand c =
     expansion_stands c.parts_are_texts.ensures c.args.self.now c.args.top.now c.in_ok-expand_file-in-Some.field-0.items (returns-in_ok-expand_file-in-Some-clause-items c)
+
+pub returns-in_ok-expand_file-in-Some-clause-read : goal.returns-in_ok-expand_file-in-Some-clause-read
+returns-in_ok-expand_file-in-Some-clause-read c =
+    expansion_read c.parts_are_texts.ensures c.args.self.now c.args.top.now c.in_ok-expand_file-in-Some.field-0.items (returns-in_ok-expand_file-in-Some-clause-items c)

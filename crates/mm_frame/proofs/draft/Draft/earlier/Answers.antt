@@ -1,0 +1,18 @@
+use Rattle.std.proofs.Common.{◌∙◌, sym, subst}
+use Rattle.mm_frame.specs.Known.{Knows}
+use Rattle.mm_frame.specs.KeptSymbols.{AreSymbols}
+use Rattle.mm_frame.specs.Sound.{kept}
+use Rattle.mm_frame.proofs.BaseLemmas.{kept_are_sound, are_expressions}
+use Rattle.mm_frame.proofs.draft.Draft.earlier.Goals as goal
+
+pub returns : goal.returns
+returns c said d =
+    let before = kept said in
+    record {
+      sound = kept_are_sound said;
+      known = subst (λ w. Knows before w) (sym c.tables.ensures) d.scope.knows;
+      pairs = d.pair_table;
+      marks = c.blocks-2.ensures ∙ d.scope.marks;
+      essentials = c.as_slice.ensures ∙ d.essentials;
+      expressions = are_expressions before c.deref.result.now (subst (λ w. AreSymbols before w) (sym c.deref.ensures.value) d.symbols);
+    }

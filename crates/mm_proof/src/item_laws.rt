@@ -1,0 +1,60 @@
+//! The laws of the proofs of items.
+
+ghost use Rattle.mm_proof.specs.ItemLaws.{MandatoryLabelsMean, HasOneVerdictAt, HasVerdictAt, ProvedIsDerivedAt, HasOneCountAt, HasCountAt};
+
+use mm_frame::{items_have_labels, mandatory_means, mandatory_stand_before, places_have_frames};
+
+/// The label of each mandatory hypothesis of an item means it there.
+///
+/// It shows what the definitions mean; no code calls on it.
+pub fn mandatory_labels_mean()
+    ensures { MandatoryLabelsMean }
+{
+    items_have_labels();
+    mandatory_means();
+    mandatory_stand_before();
+}
+
+/// There is one verdict at most on the proof of an item.
+pub fn has_one_verdict_at()
+    ensures { HasOneVerdictAt }
+{
+    places_have_frames();
+}
+
+/// There is a verdict on the proof of each item of a base of files.
+pub fn has_verdict_at()
+    ensures { HasVerdictAt }
+{
+    places_have_frames();
+    items_have_labels();
+    mandatory_means();
+    mandatory_stand_before();
+}
+
+/// Proved is the verdict on the proof of an item exactly where it decodes, no step is unknown, and its expanded labels
+/// derive the statement.
+pub fn proved_is_derived_at()
+    ensures { ProvedIsDerivedAt }
+{}
+
+/// There is one number at most of the steps of the proof of an item that are done.
+///
+/// For the steps of a run, which are counted; no code calls on it yet.
+pub fn has_one_count_at()
+    ensures { HasOneCountAt }
+{
+    places_have_frames();
+}
+
+/// There is a number of the steps that are done, on the proof of each item of a base of files.
+///
+/// For the steps of a run, which are counted; no code calls on it yet.
+pub fn has_count_at()
+    ensures { HasCountAt }
+{
+    places_have_frames();
+    items_have_labels();
+    mandatory_means();
+    mandatory_stand_before();
+}

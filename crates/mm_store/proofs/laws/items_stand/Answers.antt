@@ -1,0 +1,8 @@
+use Rattle.mm_store.proofs.StandLemmas.{expansion_read, expansion_stands}
+use Rattle.mm_store.proofs.laws.items_stand.Goals as goal
+
+pub returns-clause-read : goal.returns-clause-read
+returns-clause-read c = expansion_read c.parts_are_texts.ensures
+
+pub returns-clause-stand : goal.returns-clause-stand
+returns-clause-stand c = expansion_stands c.parts_are_texts.ensures
