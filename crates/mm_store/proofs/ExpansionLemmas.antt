@@ -79,7 +79,8 @@ again_one {y = y} {b = b} is old one (inl (inr g)) = one b y g.later
 again_one is old one (inr (inl l)) = absurd (l.new old)
 again_one is old one (inr (inr t)) = absurd (t.new old)
 
-missing_one : {files : List FileView} {part : Placed} {parts : List Placed} {names after y : List (List ℕ)} {items b : List Item} → IsInclusion part → ¬ Contains names part.name → number_of files part.name ≡ None → One files parts (names ++ part.name ∷ []) items after → Way files (part ∷ parts) names b y → (item_of part ∷ items ≡ b) × (after ≡ y)
+missing_one : {files : List FileView} {part : Placed} {parts : List Placed} {names after y : List (List ℕ)} {items b : List Item} → IsInclusion part → ¬ Contains names part.name
+    → number_of files part.name ≡ None → One files parts (names ++ part.name ∷ []) items after → Way files (part ∷ parts) names b y → (item_of part ∷ items ≡ b) × (after ≡ y)
 missing_one is new none one (inl (inl o)) = absurd (o.is_own is)
 missing_one is new none one (inl (inr g)) = absurd (new g.known)
 missing_one {part = part} {y = y} is new none one (inr (inl l)) = (let r = one l.rest y l.later in (ap (λ rest. item_of part ∷ rest) r.0 ∙ sym l.is, r.1))
@@ -104,7 +105,9 @@ module _ (one_reading : OneReading) (one_division : OneDivision) where
   inner_one files m n f g a b p q e x y =
       placed_one n 0 g.pieces a b (subst (λ (file : FileView). ArePlaced n 0 file.pieces a) (file_one files m n f g p q e) (subst (λ k. ArePlaced k 0 f.pieces a) e x)) y
 
-  included_one : {files : List FileView} {part : Placed} {parts inner : List Placed} {names between after y : List (List ℕ)} {gained items b : List Item} {number : ℕ} {file : FileView} → IsInclusion part → ¬ Contains names part.name → number_of files part.name ≡ Some number → slice_get files number ≡ Some file → ArePlaced number 0 file.pieces inner → One files inner (names ++ part.name ∷ []) gained between → One files parts between items after → Way files (part ∷ parts) names b y → (gained ++ items ≡ b) × (after ≡ y)
+  included_one : {files : List FileView} {part : Placed} {parts inner : List Placed} {names between after y : List (List ℕ)} {gained items b : List Item} {number : ℕ} {file : FileView}
+      → IsInclusion part → ¬ Contains names part.name → number_of files part.name ≡ Some number → slice_get files number ≡ Some file → ArePlaced number 0 file.pieces inner
+      → One files inner (names ++ part.name ∷ []) gained between → One files parts between items after → Way files (part ∷ parts) names b y → (gained ++ items ≡ b) × (after ≡ y)
   included_one is new at there placed inside later (inl (inl o)) = absurd (o.is_own is)
   included_one is new at there placed inside later (inl (inr g)) = absurd (new g.known)
   included_one {number = number} is new at there placed inside later (inr (inl l)) = absurd (none-some number (sym l.none ∙ at))

@@ -48,7 +48,16 @@ expands_keyless {files} {names = names} {after = after} (included {part = part} 
 
 pub expansion_keyless : (files : List FileView) (top : List ℕ) (items : List Item) → IsExpansion files top items → IsExpansion (map keyless_file files) top (map keyless_item items)
 expansion_keyless files top items is =
-    record { number = is.number; file = keyless_file is.file; is_top = number_keyless files top ∙ is.is_top; there = there_keyless files is.number is.file is.there; parts = map keyless_placed is.parts; placed = placed_keyless is.number 0 is.file.pieces is.parts is.placed; after = is.after; expands = expands_keyless is.expands }
+    record {
+      number = is.number;
+      file = keyless_file is.file;
+      is_top = number_keyless files top ∙ is.is_top;
+      there = there_keyless files is.number is.file is.there;
+      parts = map keyless_placed is.parts;
+      placed = placed_keyless is.number 0 is.file.pieces is.parts is.placed;
+      after = is.after;
+      expands = expands_keyless is.expands;
+    }
 
 pub same_items : OneReading → OneDivision → (a b : List FileView) (top : List ℕ) (items others : List Item) → map keyless_file a ≡ map keyless_file b → IsExpansion a top items → IsExpansion b top others → map keyless_item items ≡ map keyless_item others
 same_items one_reading one_division a b top items others same p q =

@@ -65,8 +65,11 @@ inner_kind (Inclusion begin name end) is e = absurd (false≢true is.0)
 inner_named : (text : List ℕ) (units : Units) → AreUnits false units → AllByRecursion (IsNamed text) (named_parts units)
 inner_named text Nothing are = tt
 inner_named text (Simple shape later) are = (λ e. absurd (inner_kind shape are.0 e), inner_named text later are.1)
-inner_named text (Block begin inner end later) are =
-    (λ e. (let k : parts.BlockStart ≡ parts.Inclusion = e in absurd cc), all_and (IsNamed text) (named_parts inner) (nameless (part parts.BlockEnd end end) ∷ named_parts later) (inner_named text inner are.1) (λ e. (let k : parts.BlockEnd ≡ parts.Inclusion = e in absurd cc), inner_named text later are.3))
+inner_named text (Block begin inner end later) are = (
+  λ e. (let k : parts.BlockStart ≡ parts.Inclusion = e in absurd cc),
+  all_and (IsNamed text) (named_parts inner) (nameless (part parts.BlockEnd end end) ∷ named_parts later) (inner_named text inner are.1)
+      (λ e. (let k : parts.BlockEnd ≡ parts.Inclusion = e in absurd cc), inner_named text later are.3),
+)
 
 -- a statement that is alone in its text has these words
 abbrev pub StandsAlone : Type 0

@@ -16,7 +16,8 @@ names_in names = map (λ name. name.items) names.keys
 -- the name that an inclusion has is the second word of its own bytes
 abbrev pub IsNamed : List ℕ → Named → Type 0
 IsNamed text named =
-    named.part.kind ≡ Inclusion → (words : List Word) → HasWords (part_bytes text named.part) words → named.name ≡ second_word (part_bytes text named.part) words
+    named.part.kind ≡ Inclusion → (words : List Word) → HasWords (part_bytes text named.part) words
+    → named.name ≡ second_word (part_bytes text named.part) words
 
 -- a name that is not in the set is put behind the others
 abbrev pub Takes : List (List ℕ) → List ℕ → Bool → List (List ℕ) → Type 0

@@ -56,9 +56,11 @@ pub fn parts_are_texts()
 ///
 /// So the bytes of a statement or an inclusion that is the one unit of a text have its words, and no others.
 pub fn words_stand_alone()
-    ensures words { (text : List ℕ) (first : Word) (more own : List Word) → HasWords text (first ∷ more) → HasWords (slice_range text first.start (end_of (first ∷ more))) own
+    ensures words { (text : List ℕ) (first : Word) (more own : List Word) → HasWords text (first ∷ more)
+        → HasWords (slice_range text first.start (end_of (first ∷ more))) own
         → spellings (slice_range text first.start (end_of (first ∷ more))) own ≡ spellings text (first ∷ more) }
-    ensures statement { (text : List ℕ) (shape : Shape) (own : List Word) → HasUnits text (Simple shape Nothing) → HasWords (part_bytes text (shape_part shape)) own
+    ensures statement { (text : List ℕ) (shape : Shape) (own : List Word) → HasUnits text (Simple shape Nothing)
+        → HasWords (part_bytes text (shape_part shape)) own
         → spellings (part_bytes text (shape_part shape)) own ≡ map (λ token. token.bytes) (shape_tokens shape) }
 {}
 

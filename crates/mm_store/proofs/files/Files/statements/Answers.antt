@@ -48,7 +48,16 @@ returns-in_ok-expand_file-in-Some-clause-items c =
     let after = c.in_ok-expand_file-in-Some.ensures.0 in
     let g = subst (λ pieces. FileGains c.in-Some.number pieces (c.args.top.now ∷ []) after items) (ap (λ texts. map (piece_of texts) c.deref.result.now) c.deref-in-Some.ensures.value ∙ ap (map (piece_of texts)) c.deref.ensures.value) c.in_ok-expand_file-in-Some.ensures.1 in
     let one : length files ≤ 1 = omega (arith, length-map inside.files.entries (file_of texts), c.self.invariant.one_file) in
-    let is : IsExpansion files c.args.top.now g.gains.gained = record { number = c.in-Some.number; file = file_of texts entry; is_top = is_top; there = there; parts = g.placed; placed = g.are_placed; after = after; expands = g.gains.expands files (only_top files c.args.top.now c.in-Some.number one is_top) } in
+    let is : IsExpansion files c.args.top.now g.gains.gained = record {
+      number = c.in-Some.number;
+      file = file_of texts entry;
+      is_top = is_top;
+      there = there;
+      parts = g.placed;
+      placed = g.are_placed;
+      after = after;
+      expands = g.gains.expands files (only_top files c.args.top.now c.in-Some.number one is_top);
+    } in
     subst (λ (view : FilesView). IsExpansion view.files c.args.top.now items) c.self.view_is (subst (λ items. IsExpansion files c.args.top.now items) (sym g.gains.more) is)
 
 pub returns-in_ok-expand_file-in-Some-clause-few : goal.returns-in_ok-expand_file-in-Some-clause-few
