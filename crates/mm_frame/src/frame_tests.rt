@@ -179,7 +179,9 @@ fn keeps_the_pairs_of_frames(rt: HostRuntime) -> Result<(), Fail> {
 /// Sixteen items: a `$d` in the outermost block and one in an inner block, with `$p` before, in and behind it. Item 12
 /// is at fault.
 const PAIRS: &[u8] =
-    b"$c wff |- $.\n$v x y z $.\nwx $f wff x $.\nwy $f wff y $.\nwz $f wff z $.\nt $p |- x $= wx $.\n$d x y $.\nax $a |- x $.\nta $p |- x $= wx $.\n${ $d z y x $.\ntb $p |- x $= wx $.\nte $p |- q $= wx $.\ntc $p |- y $= wy $. $}\ntd $p |- x $= wx $.\n";
+    b"$c wff |- $.\n$v x y z $.\nwx $f wff x $.\nwy $f wff y $.\nwz $f wff z $.\nt $p |- x $= wx $.\n\
+$d x y $.\nax $a |- x $.\nta $p |- x $= wx $.\n${ $d z y x $.\ntb $p |- x $= wx $.\n\
+te $p |- q $= wx $.\ntc $p |- y $= wy $. $}\ntd $p |- x $= wx $.\n";
 
 /// Whether the pair at a place is of these variables.
 fn is_pair_at(
@@ -320,7 +322,8 @@ const APART: &[u8] =
 
 /// The items 12 and 14 are of the same symbols: all three are apart in the inner block, and two of them behind it.
 const SPREAD: &[u8] =
-    b"$c wff |- $.\n$v w x y z $.\nwx $f wff x $.\nwy $f wff y $.\nww $f wff w $.\nwz $f wff z $.\n${ $d y x $.\n$d w z $.\n${ $d z y $.\n$d z x y $.\nax $a |- x y z $. $}\nbx $a |- x y z $. $}\n";
+    b"$c wff |- $.\n$v w x y z $.\nwx $f wff x $.\nwy $f wff y $.\nww $f wff w $.\nwz $f wff z $.\n\
+${ $d y x $.\n$d w z $.\n${ $d z y $.\n$d z x y $.\nax $a |- x y z $. $}\nbx $a |- x y z $. $}\n";
 
 /// The item 6 is that of the first text, but for the order of its `$f`.
 const TURNED: &[u8] =
