@@ -3,8 +3,10 @@
 ghost use Rattle.mm_store.specs.FileFacts.{CanBeRead};
 
 use crate::base_tests::base_of;
+use crate::blocks::Blocks;
 use crate::draft::{Draft, Parts};
-use crate::mandatory::hypotheses;
+use crate::mandatory::{Earlier, hypotheses};
+use crate::paired::PairTable;
 use crate::same::{same_but_pairs, same_pairs};
 use crate::symbol::{NamedSymbol, expression_of};
 use crate::tables::Tables;
@@ -97,7 +99,14 @@ fn finds_mandatory_hypotheses(rt: HostRuntime) -> Result<(), Fail> {
     let mut expressions = Vec::new(rt.alloc());
     keep_all(rt.alloc(), FRAME, &mut tables, &mut expressions)?;
     let own = kept_for(&expressions, 7);
-    let numbers = hypotheses(rt.alloc(), &tables, &[6], &expressions, own)?;
+    let earlier = Earlier {
+        tables: &tables,
+        pairs: &PairTable::new(rt.alloc()),
+        blocks: &Blocks::new(rt.alloc()),
+        essentials: &[6],
+        expressions: &expressions,
+    };
+    let numbers = hypotheses(rt.alloc(), &earlier, own)?;
     assert_eq!(rt; &numbers[..], [3, 4, 6].as_slice());
     Ok(())
 }
