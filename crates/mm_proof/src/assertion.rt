@@ -61,7 +61,8 @@ fn hypotheses<'a>(
     numbers: &[usize],
 ) -> Result<Vec<Hypothesis<'a>>, AllocError>
     requires { All (HasItem base.now) numbers.now }
-    ensures { IfOk result (λ found. (view : BaseView) → IsBase view base.now → All (λ n. is_shown_at view n ≡ true) numbers.now → map mandatory_of found.items ≡ map (hypothesis_at view) numbers.now) }
+    ensures { IfOk result (λ found. (view : BaseView) → IsBase view base.now → All (λ n. is_shown_at view n ≡ true) numbers.now →
+        map mandatory_of found.items ≡ map (hypothesis_at view) numbers.now) }
 {
     let mut found = Vec::new(alloc);
     for number in numbers {
