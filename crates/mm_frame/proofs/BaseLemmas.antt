@@ -13,10 +13,10 @@ use Rattle.mm_frame.specs.declared.symbol.NamedSymbol.{NamedSymbol}
 use Rattle.mm_frame.specs.Item.{Kind, Essential, Axiom, Theorem, Missing, Item, passed, is_labelled, is_disjoint, is_assertion, is_essential, is_theorem, item_at}
 use Rattle.mm_frame.specs.Sound.{IsSound, AreSound, fault, judged, kept, kept_after}
 use Rattle.mm_frame.specs.Framing.{symbol, expression, frame}
-use Rattle.mm_frame.specs.Scope.{Mark, Closes, Neither, mark_of, closes, active_variables}
+use Rattle.mm_frame.specs.Scope.{Mark, Closes, Neither, mark_of, closes, active_variables, active_numbers}
 use Rattle.mm_frame.specs.Named.{symbols_of, kept_pairs, variable_of}
 use Rattle.mm_frame.specs.KeptSymbols.{expression_kept, kept_or_none, is_read, AreSymbols, AreExpressions}
-use Rattle.mm_frame.specs.Tables.{active_numbers, IsSort}
+use Rattle.mm_frame.specs.Tables.{IsSort}
 use Rattle.mm_frame.specs.Scoping.{taken}
 use Rattle.mm_frame.specs.Base.{BaseView, before, said_at, fault_by, told_fault, is_sound_at, expression_at, is_framed_at, frame_at}
 use Rattle.mm_frame.specs.Kept.{told_numbers, numbers_if, pairs_if}

@@ -15,11 +15,11 @@ use Rattle.mm_frame.specs.declared.symbol.NamedSymbol.{NamedSymbol}
 use Rattle.mm_frame.specs.Language.{Symbol, Mandatory, ArePair, AreSamePairs}
 use Rattle.mm_frame.specs.Typing.{IsTyped}
 use Rattle.mm_frame.specs.Item.{Item, passed, is_disjoint, is_declaring, is_floating, is_essential, is_assertion, has, variable_of, item_at}
-use Rattle.mm_frame.specs.Scope.{active}
+use Rattle.mm_frame.specs.Scope.{active, active_numbers}
 use Rattle.mm_frame.specs.declared.FrameNumber.TheVariants.{F03}
 use Rattle.mm_frame.specs.Sound.{is_repeated, IsSound, AreSound}
-use Rattle.mm_frame.specs.Framing.{symbol, expression, mandatory_variables, is_mandatory, hypothesis, mandatory_hypotheses, pairs_of, active_pairs, is_mandatory_pair, frame}
-use Rattle.mm_frame.specs.Tables.{is_active_at, active_numbers, is_essential_item, mandatory_numbers, IsRising}
+use Rattle.mm_frame.specs.Framing.{symbol, expression, mandatory_variables, is_mandatory, hypothesis, mandatory_hypotheses, pairs_of, active_pairs, is_mandatory_pair, frame, mandatory_numbers}
+use Rattle.mm_frame.specs.Tables.{is_active_at, is_essential_item, IsRising}
 use Rattle.mm_frame.specs.Named.{symbols_of}
 use Rattle.mm_frame.specs.KeptSymbols.{expression_kept, AreExpressions}
 use Rattle.mm_frame.specs.Paired.{are_paired, typed_variables, pairs_in_order, is_among, float_variable, float_variables}

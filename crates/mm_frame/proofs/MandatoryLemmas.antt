@@ -15,10 +15,10 @@ use Rattle.std.proofs.lemmas.List.Kept.{Contains-dedup_nat, Contains-from_dedup,
 use Rattle.std.proofs.lemmas.Map.Keys.{IsStrictlyIncreasing-dedup}
 use Rattle.mm_frame.specs.Language.{Symbol}
 use Rattle.mm_frame.specs.Item.{Kind, Floating, Item, is_floating, is_essential, is_assertion, has}
-use Rattle.mm_frame.specs.Scope.{active, symbols_by, active_variables}
+use Rattle.mm_frame.specs.Scope.{active, symbols_by, active_variables, active_numbers}
 use Rattle.mm_frame.specs.Sound.{AreSound, IsSound}
-use Rattle.mm_frame.specs.Framing.{symbol, expression, mandatory_variables}
-use Rattle.mm_frame.specs.Tables.{last_where, types, is_active_at, active_numbers, is_essential_item, mandatory_numbers, IsHypothesisNumber, IsRising}
+use Rattle.mm_frame.specs.Framing.{symbol, expression, mandatory_variables, mandatory_numbers}
+use Rattle.mm_frame.specs.Tables.{last_where, types, is_active_at, is_essential_item, IsHypothesisNumber, IsRising}
 use Rattle.mm_frame.specs.declared.symbol.NamedSymbol.{NamedSymbol}
 use Rattle.mm_frame.specs.declared.tables.Tables.{Tables}
 use Rattle.mm_frame.specs.Known.{Knows, table_name, float_of}

@@ -4,9 +4,9 @@ use Rattle.mm_frame.specs.Language.{Symbol, Hypothesis, Assertion, Unknown, Inac
 use Rattle.mm_frame.specs.Item.{Kind, Constants, Variables, Disjoint, Floating, Essential, Axiom, Theorem, BlockStart, BlockEnd, Item, has}
 use Rattle.mm_frame.specs.declared.FrameNumber.TheVariants.{F06, F08, F12}
 use Rattle.mm_frame.specs.Sound.{fault, kept}
-use Rattle.mm_frame.specs.Framing.{resolve, active_pairs, place_of, statement_of}
+use Rattle.mm_frame.specs.Framing.{resolve, active_pairs, place_of, statement_of, mandatory_numbers}
 use Rattle.mm_frame.specs.Scope.{active_variables}
-use Rattle.mm_frame.specs.Tables.{last_where, is_active_last, declares_variable, types, carries, mandatory_numbers}
+use Rattle.mm_frame.specs.Tables.{last_where, is_active_last, declares_variable, types, carries}
 
 abbrev plain : Kind → List (List ℕ) → Item
 plain kind symbols = record { kind = kind; label = None; symbols = symbols; proof = [] }

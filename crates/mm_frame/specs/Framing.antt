@@ -2,7 +2,7 @@
 use Rattle.std.specs.Prelude.{ℕ, Bool, ◌&&◌, ◌||◌, if◌then◌else◌, List, [], ◌∷◌, ◌++◌, take, map, filter, flat_map}
 use Rattle.mm_frame.specs.Language.{Symbol, Mandatory, Frame, Resolved, Hypothesis, Assertion, Inactive, Unknown, Place}
 use Rattle.mm_frame.specs.Item.{Item, item_at, is_disjoint, is_floating, is_essential, is_assertion, has, labels_of, variable_of}
-use Rattle.mm_frame.specs.Scope.{stays, active, symbols_by, active_variables}
+use Rattle.mm_frame.specs.Scope.{stays, active, active_numbers, symbols_by, active_variables}
 use Rattle.mm_frame.specs.Sound.{kept}
 
 -- what a name is behind these items
@@ -28,6 +28,10 @@ hypothesis before item = record { floating = is_floating item.kind; expression =
 -- the active hypotheses that are mandatory, in order of occurrence
 abbrev pub mandatory_hypotheses : List Item → Item → List Mandatory
 mandatory_hypotheses before item = map (hypothesis before) (filter (is_mandatory (mandatory_variables before item)) (active before))
+
+-- the numbers of the mandatory hypotheses of a statement behind the items, in order
+abbrev pub mandatory_numbers : List Item → Item → List ℕ
+mandatory_numbers before item = active_numbers (is_mandatory (mandatory_variables before item)) before
 
 -- each with each later one
 abbrev pub pairs_of : List Symbol → List (Symbol × Symbol)

@@ -2,9 +2,8 @@
 
 ghost use Rattle.std.specs.Prelude.{◌≡◌, ◌+◌, ℕ, Bool, true, false, List, [], ◌∷◌, ◌++◌, length, drop, OnOk, OnErr};
 ghost use Rattle.mm_frame.specs.Item as meant;
-ghost use Rattle.mm_frame.specs.Scope.{Neither, mark_of};
+ghost use Rattle.mm_frame.specs.Scope.{Neither, mark_of, active_numbers};
 ghost use Rattle.mm_frame.specs.Blocks.{stays_by, marks_of};
-ghost use Rattle.mm_frame.specs.Tables.{active_numbers};
 ghost use Rattle.mm_frame.specs.Pruned.{IsPruned};
 
 use crate::blocks::Blocks;

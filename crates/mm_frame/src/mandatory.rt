@@ -3,10 +3,10 @@
 ghost use Rattle.std.specs.Prelude.{◌≡◌, ◌++◌, ◌∷◌, ℕ, List, [], OnOk, IfOk, map, filter};
 ghost use Rattle.std.specs.List.{flat_map};
 ghost use Rattle.mm_frame.specs.Item as meant;
-ghost use Rattle.mm_frame.specs.Framing.{pairs_of, active_pairs, frame};
+ghost use Rattle.mm_frame.specs.Framing.{pairs_of, active_pairs, frame, mandatory_numbers};
 ghost use Rattle.mm_frame.specs.Earlier.{IsFramed, KnowsEarlier};
 ghost use Rattle.mm_frame.specs.Blocks.{marks_of};
-ghost use Rattle.mm_frame.specs.Tables.{mandatory_numbers, IsRising};
+ghost use Rattle.mm_frame.specs.Tables.{IsRising};
 ghost use Rattle.mm_frame.specs.Named.{symbol_of, kept_pairs};
 ghost use Rattle.mm_frame.specs.KeptSymbols.{symbols_lent, float_number, float_numbers, expression_kept};
 ghost use Rattle.mm_frame.specs.Paired as paired;

@@ -5,7 +5,7 @@ use Rattle.std.specs.List.{AllZip, AllByRecursion}
 use Rattle.mm_frame.specs.Base.{BaseView, AreSaid, before, said_at, hypothesis_at, frame_at}
 use Rattle.mm_frame.specs.Language.{Symbol, Place}
 use Rattle.mm_frame.specs.Laws as frame
-use Rattle.mm_frame.specs.Tables.{mandatory_numbers}
+use Rattle.mm_frame.specs.Framing.{mandatory_numbers}
 use Rattle.mm_frame.specs.Typing.{HasFrames}
 use Rattle.mm_proof.specs.BaseLabels.{label_at, place_at}
 use Rattle.mm_proof.specs.Decoding.{decoding}

@@ -1,9 +1,8 @@
 -- The verdict on the proof of an item of a base, its decoding included; which of its words cite, and how many of its steps are done.
 use Rattle.std.specs.Prelude.{◌≡◌, ℕ, Result, Ok, Err, List, map}
 use Rattle.mm_frame.specs.Base.{BaseView, before, said_at}
-use Rattle.mm_frame.specs.Framing.{expression}
+use Rattle.mm_frame.specs.Framing.{expression, mandatory_numbers}
 use Rattle.mm_frame.specs.Language.{Symbol, Place}
-use Rattle.mm_frame.specs.Tables.{mandatory_numbers}
 use Rattle.mm_proof.specs.BaseLabels.{label_at, place_at}
 use Rattle.mm_proof.specs.Citing.{cites}
 use Rattle.mm_proof.specs.Decoding.{decoding}

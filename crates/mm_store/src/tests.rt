@@ -124,7 +124,7 @@ fn tells_where_items_stand(rt: HostRuntime) -> Result<(), Fail> {
 fn places_alike(alloc: Global, text: &[u8]) -> Result<usize, StoreError> {
     let files = files_of(alloc, text)?;
     let items = files.statements(alloc, b"top")?;
-    let mut alike = 0;
+    let mut alike = 0usize;
     let mut from = 0usize;
     for i in 0..items.len() {
         let len = files.piece(items[i].key).len();
@@ -134,7 +134,7 @@ fn places_alike(alloc: Global, text: &[u8]) -> Result<usize, StoreError> {
             let offset = from.wrapping_add(at);
             let found = found_at(&files, &items[i], at);
             if offset <= text.len() && found == Some((offset, place(text, offset))) {
-                alike += 1;
+                alike = alike.saturating_add(1);
             }
         }
         from = from.wrapping_add(len);

@@ -21,3 +21,4 @@ pub mod CutLawLemmas
 pub mod CutWalkLemmas
 pub mod PartLemmas
 pub mod PartWalkLemmas
+pub mod OwnWordLemmas

@@ -38,5 +38,6 @@ nth_none text left n old before e words h =
     let empty : w.0 ≡ [] = let is : old ≡ Ok w.0 = w.1 in cc in
     ap (λ (rest : List Word). slice_get rest left) (sym empty) ∙ w.2
 
-pub nth_fault : (text : List ℕ) (left n : ℕ) (old : Read) (fault : TextFault) → Left text left n old → old ≡ Err fault → (words : List Word) → HasWords text words → None ≡ slice_get words n
-nth_fault text left n old fault before e words h = absurd (let w = before words h in let is : old ≡ Ok w.0 = w.1 in cc)
+-- a text that has words meets no fault
+pub nth_fault : (text : List ℕ) (left n : ℕ) (old : Read) (fault : TextFault) → Left text left n old → old ≡ Err fault → (words : List Word) → ¬ HasWords text words
+nth_fault text left n old fault before e words h = let w = before words h in let is : old ≡ Ok w.0 = w.1 in cc

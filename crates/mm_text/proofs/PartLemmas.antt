@@ -116,7 +116,7 @@ pub record Begun (text : List ℕ) (start at : ℕ) : Type 0 where
   pub reads : AreWords since words
   pub some : 0 < length words
 
-begun_more : (text : List ℕ) (start at : ℕ) (word : Word) (to : ℕ) → Begun text start at → TakesWord text at word to → Begun text start to
+abbrev pub begun_more : (text : List ℕ) (start at : ℕ) (word : Word) (to : ℕ) → Begun text start at → TakesWord text at word to → Begun text start to
 begun_more text start at word to h taken = record {
   before = omega (arith, h.before, taken.begins, taken.some, taken.next);
   since = h.since ++ taken.taken;
@@ -126,7 +126,7 @@ begun_more text start at word to h taken = record {
   some = omega (arith, length-append h.words (word ∷ []));
 }
 
-begun_first : (text : List ℕ) (at : ℕ) (word : Word) (to : ℕ) → TakesWord text at word to → Begun text word.start to
+abbrev pub begun_first : (text : List ℕ) (at : ℕ) (word : Word) (to : ℕ) → TakesWord text at word to → Begun text word.start to
 begun_first text at word to taken = record {
   before = omega (arith, taken.some, taken.next);
   since = run_between text word.start word.end ∷ [];
@@ -137,8 +137,8 @@ begun_first text at word to taken = record {
 }
 
 -- a part that ends where a run ends is a text with words
-begun_words : (text : List ℕ) (start to : ℕ) → first_bad text ≡ None → to ≤ length text → Begun text start to → ends_run (drop to text) ≡ true → (words : List Word) × HasWords (slice_range text start to) words × (0 < length words)
-begun_words text start to allowed most h ends = (words.0, record { allowed = allowed_part text start to allowed; words_are = words.1 }, omega (arith, h.some, ap length words.2, length-map words.0 (shift_word start))) where
+pub begun_words : (text : List ℕ) (start to : ℕ) → first_bad text ≡ None → to ≤ length text → (h : Begun text start to) → ends_run (drop to text) ≡ true → (words : List Word) × HasWords (slice_range text start to) words × (0 < length words) × (h.words ≡ map (shift_word start) words)
+begun_words text start to allowed most h ends = (words.0, record { allowed = allowed_part text start to allowed; words_are = words.1 }, omega (arith, h.some, ap length words.2, length-map words.0 (shift_word start)), words.2) where
   joined : drop start text ≡ slice_range text start to ++ drop to text
   joined = let place : start + (to - start) ≡ to = omega (arith, h.before) in sym (take-append-drop (to - start) (drop start text)) ∙ ap (λ (bs : List ℕ). slice_range text start to ++ bs) (drop-drop (to - start) start text ∙ ap (λ (n : ℕ). drop n text) place)
 

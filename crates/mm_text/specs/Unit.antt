@@ -22,6 +22,10 @@ token_of text word = record { kind = word.kind; bytes = slice_range text word.st
 abbrev pub tokens_of : List ℕ → List Word → List Token
 tokens_of text words = map (token_of text) words
 
+-- the bytes of each word
+abbrev pub spellings : List ℕ → List Word → List (List ℕ)
+spellings text words = map (λ token. token.bytes) (tokens_of text words)
+
 abbrev pub IsKeyword : Keyword → Token → Type 0
 IsKeyword keyword token = token.kind ≡ kinds.Keyword keyword
 

@@ -73,7 +73,7 @@ pub fn parts(alloc: Global, text: &[u8]) -> Result<Vec<Part>, AllocError>
             }
             Ok(None) => return Ok(parts),
             // a text whose words are units has no fault
-            Err(_) => return Ok(parts),
+            Err(_) => unreachable!(),
         }
     }
 }

@@ -1,6 +1,6 @@
 //! What holds of every text. Each function does nothing; what it promises is the law.
 
-ghost use Rattle.std.specs.Prelude.{◌≡◌, ◌⊎◌, ℕ, true, All, List};
+ghost use Rattle.std.specs.Prelude.{◌≡◌, ◌⊎◌, ℕ, true, All, List, ◌∷◌, slice_range};
 ghost use Rattle.std.specs.List.{AllByRecursion, flat_map};
 ghost use Rattle.mm_text.specs.declared.word.Word.{Word};
 ghost use Rattle.mm_text.specs.declared.fault.TextFault.{TextFault};
@@ -8,9 +8,9 @@ ghost use Rattle.mm_text.specs.Run.{Run, runs};
 ghost use Rattle.mm_text.specs.Layout.{IsLaidOut};
 ghost use Rattle.mm_text.specs.Reading.{HasWords, IsFault};
 ghost use Rattle.mm_text.specs.declared.fault.TextNumber.{TextNumber};
-ghost use Rattle.mm_text.specs.Cut.{IsCut, IsFirstFault};
+ghost use Rattle.mm_text.specs.Cut.{IsCut, IsFirstFault, end_of};
 ghost use Rattle.mm_text.specs.Part.{HasUnits, parts_of, IsReadable};
-ghost use Rattle.mm_text.specs.Unit.{Token, Shape, shape_tokens, IsShape, Units, unit_tokens, AreUnits, IsWhole, IsUnitFault};
+ghost use Rattle.mm_text.specs.Unit.{Token, spellings, Shape, shape_tokens, IsShape, Units, unit_tokens, AreUnits, IsWhole, IsUnitFault};
 
 /// Each text has its words or its fault: one list of words or one fault, and never both.
 ///
@@ -50,6 +50,12 @@ pub fn one_division()
 /// Each part of a text of whole units has a byte at least, lies in the text, and is a text with words by itself.
 pub fn parts_are_texts()
     ensures { (text : List ℕ) (units : Units) → HasUnits text units → All (IsReadable text) (parts_of units) }
+{}
+
+/// The bytes of a text from its first word to its last are a text with the same words.
+pub fn words_stand_alone()
+    ensures { (text : List ℕ) (first : Word) (more own : List Word) → HasWords text (first ∷ more) → HasWords (slice_range text first.start (end_of (first ∷ more))) own
+        → spellings (slice_range text first.start (end_of (first ∷ more))) own ≡ spellings text (first ∷ more) }
 {}
 
 /// A text has one cut or one first fault, and never both.

@@ -75,7 +75,8 @@ pub fn nth_word(text: &[u8], n: usize) -> Option<Word>
             Ok(Some(word)) if left == 0 => return Some(word),
             Ok(Some(_)) => left -= 1,
             Ok(None) => return None,
-            Err(_) => return None,
+            // a text that has words has no fault
+            Err(_) => unreachable!(),
         }
     }
 }

@@ -29,7 +29,6 @@ stands_at files code n item has e =
     let there = e has.0 has.1.base in
     subst (StandsIn files) (get_or_from_slice_get has.0.found n item item there) (has.1.stand n item (slice_get_within has.0.found n item there))
 
-
 -- ---- what is told of the items, one after another
 
 -- so many are told rightly

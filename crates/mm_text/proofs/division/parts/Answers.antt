@@ -36,7 +36,7 @@ returns-in-Ok-None-clause-parts c =
     let none = rw (c.in-Ok-None.field-0-is, c.loop-word.invariant.text) at c.in-Ok-None.ensures.word in
     divides_end _ _ _ _ _ c.loop-word.invariant.divides none
 
-pub returns-in-Err-clause-parts : goal.returns-in-Err-clause-parts
-returns-in-Err-clause-parts c units has =
+pub unreachable-requires : goal.unreachable-requires
+unreachable-requires c =
     let fails = rw c.loop-word.invariant.text at c.in-Err.ensures.word in
-    absurd (divides_fault _ _ _ _ _ c.loop-word.invariant.divides _ _ fails units has)
+    divides_fault _ _ _ _ _ c.loop-word.invariant.divides _ _ fails c.requires.0 c.requires.1

@@ -31,10 +31,10 @@ returns-in-Ok-None-clause-nth c =
     let given = rw (c.in-Ok-None.field-0-is, c.loop-word.invariant.text) at c.in-Ok-None.ensures.word in
     nth_none c.args.text.now c.loop-word.left c.args.n _ c.loop-word.invariant.rest (read_words _ [] given)
 
-pub returns-in-Err-clause-nth : goal.returns-in-Err-clause-nth
-returns-in-Err-clause-nth c =
-    let given = rw c.loop-word.invariant.text at c.in-Err.ensures.word in
-    nth_fault c.args.text.now c.loop-word.left c.args.n _ c.in-Err.field-0 c.loop-word.invariant.rest (fails_read _ [] _ _ given)
-
 pub returns-in-Ok-Some-clause-within : goal.returns-in-Ok-Some-clause-within
 returns-in-Ok-Some-clause-within c = nth_lies c.args.text.now c.requires.0 c.args.n (Some c.in-Ok-Some.word) c.requires.1 (returns-in-Ok-Some-clause-nth c c.requires.0 c.requires.1)
+
+pub unreachable-requires : goal.unreachable-requires
+unreachable-requires c =
+    let given = rw c.loop-word.invariant.text at c.in-Err.ensures.word in
+    nth_fault c.args.text.now c.loop-word.left c.args.n _ c.in-Err.field-0 c.loop-word.invariant.rest (fails_read _ [] _ _ given) c.requires.0 c.requires.1

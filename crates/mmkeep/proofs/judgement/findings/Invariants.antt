@@ -1,9 +1,8 @@
 use Rattle.mm_frame.specs.Base.{BaseView}
 use Rattle.mm_proof.specs.OfFiles.{IsOf}
-use Rattle.mmkeep.specs.Base.{IsReached}
 use Rattle.mmkeep.specs.Report.{told_all}
 use Rattle.mmkeep.proofs.ItemLemmas.{ToldUpTo}
 use Rattle.mmkeep.proofs.judgement.findings.Given as goal
 
 abbrev pub invariant-loop-number : goal.invariant-loop-number
-invariant-loop-number l = IsReached l.files l.reached × ((view : BaseView) → IsOf l.files l.base view → ToldUpTo l.files view l.number (told_all l.found.items))
+invariant-loop-number l = (view : BaseView) → IsOf l.files l.base view → ToldUpTo l.files view l.number (told_all l.found.items)

@@ -15,8 +15,8 @@ nth_word-found-requires c =
     let read = c.requires.read in
     (read.words, item_words c.args.files.now c.args.item.now read c.piece.result.now c.piece.ensures.text)
 
-pub place_of-requires-clause-byte : goal.place_of-requires-clause-byte
-place_of-requires-clause-byte c =
+pub place-requires : goal.place-requires
+place-requires c =
     let files = c.args.files.now in
     let read = c.requires.read in
     let stands = c.requires.stands in
@@ -26,8 +26,8 @@ place_of-requires-clause-byte c =
     let at = item.start + c.start_of.result in
     (text_of stands.file, piece_offset stands.file item.piece + at, word_is_byte files item read piece c.piece.ensures.text stands at (omega (arith, less, c.start_of.ensures)))
 
-pub returns-clause-shown : goal.returns-clause-shown
-returns-clause-shown c =
+pub returns : goal.returns
+returns c =
     let files = c.args.files.now in
     let read = c.requires.read in
     let stands = c.requires.stands in
@@ -47,25 +47,7 @@ returns-clause-shown c =
         text = text_of stands.file;
         byte = subst (λ start. IsByte files item.file item.piece (item.start + start) (text_of stands.file) offset) start byte;
       };
-      line = c.place_of.ensures.line (text_of stands.file) offset byte;
-      column = c.place_of.ensures.column (text_of stands.file) offset byte;
+      line = c.place.ensures.line (text_of stands.file) offset byte;
+      column = c.place.ensures.column (text_of stands.file) offset byte;
       is_word = c.spelled.ensures ∙ (λ i. spelled (slice_range (same i) item.start item.end) (word i));
-    }
-
-pub returns-clause-known : goal.returns-clause-known
-returns-clause-known c =
-    let files = c.args.files.now in
-    let read = c.requires.read in
-    let stands = c.requires.stands in
-    let item = c.args.item.now in
-    let piece = c.piece.result.now in
-    let less = start_within files item read piece c.piece.ensures.text c.nth_word-found.result c.nth_word-found.ensures.within in
-    let offset = piece_offset stands.file item.piece + (item.start + c.start_of.result) in
-    let byte = word_is_byte files item read piece c.piece.ensures.text stands (item.start + c.start_of.result) (omega (arith, less, c.start_of.ensures)) in
-    record {
-      text = text_of stands.file;
-      offset = offset;
-      byte = byte;
-      line = c.place_of.ensures.line (text_of stands.file) offset byte;
-      column = c.place_of.ensures.column (text_of stands.file) offset byte;
     }
