@@ -185,7 +185,8 @@ pub fn is_proved(
     number: usize,
 ) -> Result<bool, AllocError>
     requires { HasItemOf files.now base.now number }
-    ensures { IfOk result (λ proved. (view : BaseView) → IsOf files.now base.now view → is_proof_at view number ≡ true → IsTrue proved ↔ IsProved view.said number) }
+    ensures { IfOk result (λ proved. (view : BaseView) → IsOf files.now base.now view → is_proof_at view number ≡ true →
+        IsTrue proved ↔ IsProved view.said number) }
 {
     let statement = Statement::read(alloc, files, base.item(number))?;
     proves(alloc, base, number, &statement)
