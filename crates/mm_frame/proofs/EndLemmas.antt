@@ -6,9 +6,9 @@ use Rattle.std.proofs.lemmas.Option.{get_or_from_slice_get, slice_get_within}
 use Rattle.std.proofs.Math.Seq.{get_or-append_seam, drop-nil}
 use Rattle.std.proofs.lemmas.List.{drop-append-le, drop-map, length_push, get_or_append_left}
 use Rattle.mm_frame.specs.Item.{Item}
-use Rattle.mm_frame.specs.Scope.{Mark, Neither, mark_of, closed_at, closed, is_zero, stays}
+use Rattle.mm_frame.specs.Scope.{Mark, Neither, mark_of, closed_at, closed, is_zero, stays, active_numbers}
 use Rattle.mm_frame.specs.Blocks.{stays_by, marks_of}
-use Rattle.mm_frame.specs.Tables.{is_active_at, active_numbers, IsRising}
+use Rattle.mm_frame.specs.Tables.{is_active_at, IsRising}
 use Rattle.mm_frame.specs.Pruned.{IsPruned}
 use Rattle.mm_frame.proofs.Members.{In, in_contains, contains_in, in_left, in_right, in_cases, in_get}
 use Rattle.mm_frame.proofs.Scopes.{closed_none, stays_front}
@@ -81,7 +81,8 @@ last_of (n ∷ numbers) = elim (last_of numbers) [
 ]
 
 -- what is left is a beginning, and the longest of which all are still active: so it is what is active behind the `$}`
-pub pruned_numbers : (test : Item → Bool) (before : List Item) (item : Item) (kept gone : List ℕ) → test item ≡ false → active_numbers test before ≡ kept ++ gone → ((n : ℕ) → In n gone → is_active_at (before ++ item ∷ []) n ≡ false) → ((front : List ℕ) (n : ℕ) → kept ≡ front ++ n ∷ [] → is_active_at (before ++ item ∷ []) n ≡ true) → kept ≡ active_numbers test (before ++ item ∷ [])
+pub pruned_numbers : (test : Item → Bool) (before : List Item) (item : Item) (kept gone : List ℕ) → test item ≡ false → active_numbers test before ≡ kept ++ gone → ((n : ℕ) → In n gone → is_active_at (before ++ item ∷ []) n ≡ false)
+    → ((front : List ℕ) (n : ℕ) → kept ≡ front ++ n ∷ [] → is_active_at (before ++ item ∷ []) n ≡ true) → kept ≡ active_numbers test (before ++ item ∷ [])
 pruned_numbers test before item kept gone t e ended last =
     let whole = before ++ item ∷ [] in
     let rising = subst IsRising e (active_numbers_rise test before) in

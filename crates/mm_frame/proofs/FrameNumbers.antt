@@ -12,8 +12,7 @@ use Rattle.mm_store.specs.FilesView.{FilesView}
 use Rattle.mm_frame.specs.declared.FrameNumber.{FrameNumber}
 use Rattle.mm_frame.specs.Item.{Kind, Floating, Essential, Missing, Item, passed, is_floating, is_essential, is_labelled, has, variable_of, item_at}
 use Rattle.mm_frame.specs.Sound.{fault, judged, kept}
-use Rattle.mm_frame.specs.Framing.{is_mandatory, mandatory_variables, expression, hypothesis}
-use Rattle.mm_frame.specs.Tables.{mandatory_numbers}
+use Rattle.mm_frame.specs.Framing.{is_mandatory, mandatory_variables, expression, hypothesis, mandatory_numbers}
 use Rattle.mm_frame.specs.Statement.{kind_of, Says}
 use Rattle.mm_frame.specs.Base.{BaseView, before, said_at, fault_by, hypothesis_at, is_sound_at, is_shown_at, is_framed_at, IsMandatoryAt, AreHypotheses}
 use Rattle.mm_frame.specs.Kept.{numbers_if, hypotheses_at}

@@ -8,10 +8,10 @@ use Rattle.std.proofs.lemmas.List.{length-take-le}
 use Rattle.std.proofs.lemmas.Simd.{map-map}
 use Rattle.std.proofs.lemmas.List.Kept.{AllPairs-cons}
 use Rattle.mm_frame.specs.Item.{Item, passed, is_floating, is_essential, is_expression, has, variable_of, item_at}
-use Rattle.mm_frame.specs.Scope.{Closes, mark_of, is_zero, stays, active, typed}
+use Rattle.mm_frame.specs.Scope.{Closes, mark_of, is_zero, stays, active, typed, active_numbers_from, active_numbers}
 use Rattle.mm_frame.specs.Sound.{IsSound, AreSound}
-use Rattle.mm_frame.specs.Framing.{mandatory_variables, is_mandatory, hypothesis, mandatory_hypotheses}
-use Rattle.mm_frame.specs.Tables.{last_where, is_active_at, is_active_last, types, active_numbers_from, active_numbers, is_essential_item, mandatory_numbers, IsHypothesisNumber, IsRising}
+use Rattle.mm_frame.specs.Framing.{mandatory_variables, is_mandatory, hypothesis, mandatory_hypotheses, mandatory_numbers}
+use Rattle.mm_frame.specs.Tables.{last_where, is_active_at, is_active_last, types, is_essential_item, IsHypothesisNumber, IsRising}
 use Rattle.mm_frame.proofs.Members.{In, in_contains, contains_in, in_get, has_in, in_has}
 use Rattle.mm_frame.proofs.Scopes.{split_active, in_first, in_later, stays_front}
 use Rattle.mm_frame.proofs.Facts.{and_both, float_new}
@@ -203,7 +203,8 @@ number_to before h item t n (inr p) =
     let z : a.0 ≡ n = cc in
     let r = last_there (types p.0) before n p.2 in
     let f = typed_by p.0 r.0 r.2 in
-    to_active_number (is_mandatory mandatory) before n r.0 r.1 (subst (λ w. is_active_at before w ≡ true) z a.2) (or_right (is_essential (r.0).kind) (is_floating (r.0).kind && has mandatory (variable_of r.0)) (and_from (is_floating (r.0).kind) (has mandatory (variable_of r.0)) f.0 (in_has mandatory (variable_of r.0) (subst (λ w. In w mandatory) (sym f.1) m))))
+    to_active_number (is_mandatory mandatory) before n r.0 r.1 (subst (λ w. is_active_at before w ≡ true) z a.2)
+    (or_right (is_essential (r.0).kind) (is_floating (r.0).kind && has mandatory (variable_of r.0)) (and_from (is_floating (r.0).kind) (has mandatory (variable_of r.0)) f.0 (in_has mandatory (variable_of r.0) (subst (λ w. In w mandatory) (sym f.1) m))))
 
 -- the mandatory hypotheses by their numbers
 pub hypotheses_by_numbers : (before : List Item) (item : Item) → mandatory_hypotheses before item ≡ map (λ n. hypothesis before (item_at before n)) (mandatory_numbers before item)

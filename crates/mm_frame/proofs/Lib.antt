@@ -29,4 +29,5 @@ pub mod ResolvingLemmas
 pub mod SameLemmas
 pub mod SameFrames
 pub mod OwnLabels
+pub mod OneBase
 pub mod SaidLabels

@@ -4,11 +4,11 @@ use Rattle.std.proofs.lemmas.Bool.{false≢true, or_parts}
 use Rattle.std.proofs.lemmas.Option.{get_or_from_slice_get}
 use Rattle.mm_frame.specs.Language.{Symbol}
 use Rattle.mm_frame.specs.Item.{Kind, Disjoint, Item, passed, is_disjoint, is_labelled, has, item_at}
-use Rattle.mm_frame.specs.Scope.{Neither, mark_of, stays, active, active_variables}
+use Rattle.mm_frame.specs.Scope.{Neither, mark_of, stays, active, active_variables, active_numbers}
 use Rattle.mm_frame.specs.declared.FrameNumber.TheVariants.{F09}
 use Rattle.mm_frame.specs.Sound.{each, is_no_variable, IsSound, AreSound}
 use Rattle.mm_frame.specs.Framing.{symbol, expression, pairs_of, active_pairs}
-use Rattle.mm_frame.specs.Tables.{is_active_at, active_numbers, is_disjoint_item}
+use Rattle.mm_frame.specs.Tables.{is_active_at, is_disjoint_item}
 use Rattle.mm_frame.proofs.Members.{In, in_get, has_in, in_has}
 use Rattle.mm_frame.proofs.Facts.{not_not, no_symbol_of}
 use Rattle.mm_frame.proofs.Frames.{variables_later}

@@ -11,10 +11,10 @@ use Rattle.mm_frame.specs.declared.symbol.NamedSymbol.{NamedSymbol}
 use Rattle.mm_frame.specs.declared.pair_lists.PairLists.{PairLists}
 use Rattle.mm_frame.specs.Language.{Symbol}
 use Rattle.mm_frame.specs.Item.{Item, passed, is_labelled, is_disjoint}
-use Rattle.mm_frame.specs.Scope.{stays}
+use Rattle.mm_frame.specs.Scope.{stays, active_numbers}
 use Rattle.mm_frame.specs.Sound.{AreSound, kept}
 use Rattle.mm_frame.specs.Framing.{expression, pairs_of, active_pairs}
-use Rattle.mm_frame.specs.Tables.{is_active_at, active_numbers, is_disjoint_item, IsRising}
+use Rattle.mm_frame.specs.Tables.{is_active_at, is_disjoint_item, IsRising}
 use Rattle.mm_frame.specs.Named.{symbols_of, kept_pairs}
 use Rattle.mm_frame.specs.KeptSymbols.{expression_kept, AreSymbols}
 use Rattle.mm_frame.specs.PairLists.{IsList, list_made, IsMadeFor, AreMade, KeepsLists, HasActivePairs}
@@ -189,7 +189,8 @@ made_more before later lists m count k e =
     }
 
 -- one more list
-pub made_one_more : (before : List Item) (old new : PairLists) (count k : ℕ) → KeepsLists old new → AreMade before old → HasActivePairs before count → IsList new k (active_pairs before) → ((other : ℕ) → list_made new other ≡ cond (nat_eq count other) (Some k) (list_made old other)) → AreMade before new
+pub made_one_more : (before : List Item) (old new : PairLists) (count k : ℕ) → KeepsLists old new → AreMade before old → HasActivePairs before count → IsList new k (active_pairs before) → ((other : ℕ) → list_made new other ≡ cond (nat_eq count other) (Some k) (list_made old other))
+    → AreMade before new
 made_one_more before old new count k keeps made has is told other j e = by_test (nat_eq count other) refl
   where
     this : other ≡ count → k ≡ j → IsMadeFor before new other j

@@ -4,9 +4,9 @@ use Rattle.mm_frame.specs.Language.{Symbol, Hypothesis, Assertion, Unknown, Inac
 use Rattle.mm_frame.specs.Item.{Kind, Constants, Variables, Disjoint, Floating, Essential, Axiom, Theorem, BlockStart, BlockEnd, Item, has}
 use Rattle.mm_frame.specs.declared.FrameNumber.TheVariants.{F06, F08, F12}
 use Rattle.mm_frame.specs.Sound.{fault, kept}
-use Rattle.mm_frame.specs.Framing.{resolve, active_pairs, place_of, statement_of}
+use Rattle.mm_frame.specs.Framing.{resolve, active_pairs, place_of, statement_of, mandatory_numbers}
 use Rattle.mm_frame.specs.Scope.{active_variables}
-use Rattle.mm_frame.specs.Tables.{last_where, is_active_last, declares_variable, types, carries, mandatory_numbers}
+use Rattle.mm_frame.specs.Tables.{last_where, is_active_last, declares_variable, types, carries}
 
 abbrev plain : Kind → List (List ℕ) → Item
 plain kind symbols = record { kind = kind; label = None; symbols = symbols; proof = [] }
@@ -83,7 +83,8 @@ mi_is = refl
 -- the mandatory hypotheses of `mp`, in order: wp wq mi ma
 mp_is : resolve (five ++ block) (codes "mp") ≡ Assertion (record {
   expression = constant turnstile ∷ variable q ∷ [];
-  hypotheses = record { floating = true; expression = constant wff ∷ variable p ∷ [] } ∷ record { floating = true; expression = constant wff ∷ variable q ∷ [] } ∷ record { floating = false; expression = constant turnstile ∷ variable p ∷ [] } ∷ record { floating = false; expression = constant turnstile ∷ constant left ∷ variable p ∷ constant arrow ∷ variable q ∷ constant right ∷ [] } ∷ [];
+  hypotheses = record { floating = true; expression = constant wff ∷ variable p ∷ [] } ∷ record { floating = true; expression = constant wff ∷ variable q ∷ [] }
+      ∷ record { floating = false; expression = constant turnstile ∷ variable p ∷ [] } ∷ record { floating = false; expression = constant turnstile ∷ constant left ∷ variable p ∷ constant arrow ∷ variable q ∷ constant right ∷ [] } ∷ [];
   pairs = [];
 })
 mp_is = refl

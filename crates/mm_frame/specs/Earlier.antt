@@ -6,7 +6,8 @@ use Rattle.mm_frame.specs.Item.{Item, is_assertion}
 use Rattle.mm_frame.specs.Sound.{AreSound, IsSound}
 use Rattle.mm_frame.specs.Framing.{expression}
 use Rattle.mm_frame.specs.Blocks.{marks_of}
-use Rattle.mm_frame.specs.Tables.{active_numbers, is_essential_item}
+use Rattle.mm_frame.specs.Tables.{is_essential_item}
+use Rattle.mm_frame.specs.Scope.{active_numbers}
 use Rattle.mm_frame.specs.Known.{Knows}
 use Rattle.mm_frame.specs.PairTable.{KnowsPairs}
 use Rattle.mm_frame.specs.Named.{symbols_of}

@@ -2,7 +2,7 @@
 use Rattle.std.specs.Prelude.{ℕ, Bool, ◌&&◌, ◌||◌, if◌then◌else◌, List, [], ◌∷◌, ◌++◌, take, map, filter, flat_map}
 use Rattle.mm_frame.specs.Language.{Symbol, Mandatory, Frame, Resolved, Hypothesis, Assertion, Inactive, Unknown, Place}
 use Rattle.mm_frame.specs.Item.{Item, item_at, is_disjoint, is_floating, is_essential, is_assertion, has, labels_of, variable_of}
-use Rattle.mm_frame.specs.Scope.{stays, active, symbols_by, active_variables}
+use Rattle.mm_frame.specs.Scope.{stays, active, active_numbers, symbols_by, active_variables}
 use Rattle.mm_frame.specs.Sound.{kept}
 
 -- what a name is behind these items
@@ -29,6 +29,10 @@ hypothesis before item = record { floating = is_floating item.kind; expression =
 abbrev pub mandatory_hypotheses : List Item → Item → List Mandatory
 mandatory_hypotheses before item = map (hypothesis before) (filter (is_mandatory (mandatory_variables before item)) (active before))
 
+-- the numbers of the mandatory hypotheses of a statement behind the items, in order
+abbrev pub mandatory_numbers : List Item → Item → List ℕ
+mandatory_numbers before item = active_numbers (is_mandatory (mandatory_variables before item)) before
+
 -- each with each later one
 abbrev pub pairs_of : List Symbol → List (Symbol × Symbol)
 pairs_of [] = []
@@ -52,12 +56,17 @@ frame before item = record {
 
 -- what the label of an item means, with the items before it and those behind it
 abbrev pub meaning : List Item → List Item → Item → List Item → Resolved
-meaning whole front item back = if is_assertion item.kind then Assertion (frame front item) else (if stays back then Hypothesis (expression whole item) else Inactive)
+meaning whole front item back =
+    if is_assertion item.kind then Assertion (frame front item)
+    else if stays back then Hypothesis (expression whole item)
+    else Inactive
 
 -- what a label means in the whole list, where it is looked for from the back part on
 abbrev pub resolve_from : List Item → List Item → List Item → List ℕ → Resolved
 resolve_from whole front [] label = Unknown
-resolve_from whole front (item ∷ back) label = if has (labels_of item) label then meaning whole front item back else resolve_from whole (front ++ item ∷ []) back label
+resolve_from whole front (item ∷ back) label =
+    if has (labels_of item) label then meaning whole front item back
+    else resolve_from whole (front ++ item ∷ []) back label
 
 -- what a label means behind these items
 abbrev pub resolve : List Item → List ℕ → Resolved

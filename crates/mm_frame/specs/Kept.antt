@@ -17,9 +17,10 @@ use Rattle.mm_frame.specs.Statement.{kind_of}
 use Rattle.mm_frame.specs.Sound.{kept}
 use Rattle.mm_frame.specs.declared.pair_lists.PairLists.{PairLists}
 use Rattle.mm_frame.specs.Language.{Symbol}
-use Rattle.mm_frame.specs.Framing.{frame, active_pairs}
+use Rattle.mm_frame.specs.Framing.{frame, active_pairs, mandatory_numbers}
 use Rattle.mm_frame.specs.PairLists.{IsList, AreMade}
-use Rattle.mm_frame.specs.Tables.{last_where, carries, mandatory_numbers, active_numbers, is_essential_item, is_disjoint_item}
+use Rattle.mm_frame.specs.Tables.{last_where, carries, is_essential_item, is_disjoint_item}
+use Rattle.mm_frame.specs.Scope.{active_numbers}
 use Rattle.mm_frame.specs.Paired.{pairs_in_order}
 use Rattle.mm_frame.specs.Blocks.{marks_of}
 use Rattle.mm_frame.specs.Known.{Knows}

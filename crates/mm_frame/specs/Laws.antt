@@ -1,14 +1,16 @@
 -- What is proved of scopes, soundness and frames: each is the contract of a function.
-use Rattle.std.specs.Prelude.{◌≡◌, ℕ, ◌<◌, ◌≤◌, ◌↔◌, ◌⊎◌, true, Some, None, List, [], ◌∷◌, ◌++◌, take, count_by, slice_get}
+use Rattle.std.specs.Prelude.{◌≡◌, ℕ, ◌<◌, ◌≤◌, ◌↔◌, ◌⊎◌, true, Some, None, List, [], ◌∷◌, ◌++◌, map, take, count_by, slice_get}
+use Rattle.mm_store.specs.FilesView.{FilesView}
+use Rattle.mm_store.specs.FileFacts.{HaveOwnKeys}
+use Rattle.mm_store.specs.Keyless.{keyless_file, keyless_item}
 use Rattle.mm_frame.specs.Typing.{HasFrames}
 use Rattle.mm_frame.specs.Item.{Item}
 use Rattle.mm_frame.specs.Numbered.{IsActive, between}
 use Rattle.mm_frame.specs.Scope.{Neither, mark_of, closed, stays, active, is_start, is_end}
 use Rattle.mm_frame.specs.declared.FrameNumber.{FrameNumber}
 use Rattle.mm_frame.specs.Sound.{IsSound, IsFault, fault, judged, kept}
-use Rattle.mm_frame.specs.Framing.{place_of}
-use Rattle.mm_frame.specs.Base.{BaseView, AreSaid, AreHypotheses, IsMandatoryAt, before, said_at, is_shown_at}
-use Rattle.mm_frame.specs.Tables.{mandatory_numbers}
+use Rattle.mm_frame.specs.Framing.{place_of, mandatory_numbers}
+use Rattle.mm_frame.specs.Base.{BaseView, IsOfFiles, AreSaid, AreHypotheses, IsMandatoryAt, before, said_at, is_shown_at}
 use Rattle.mm_frame.specs.Resolving.{IsCarrier, Resolves}
 use Rattle.mm_frame.specs.declared.base.Resolved.TheVariants as answers
 use Rattle.mm_frame.specs.ScopeStack.{read, all_of, statements}
@@ -51,7 +53,8 @@ ReaderIsActive = (items : List Item) → closed items ≡ 0 → all_of (read ([]
 
 -- A statement is active at a later one exactly where the items between them close no block that was open before them.
 abbrev pub ActiveByBlocks : Type 0
-ActiveByBlocks = (items : List Item) (i j : ℕ) (x y : Item) → stays items ≡ true → slice_get items i ≡ Some x → slice_get items j ≡ Some y → mark_of x.kind ≡ Neither → mark_of y.kind ≡ Neither → i < j → (stays (between items i j) ≡ true) ↔ IsActive items i j
+ActiveByBlocks = (items : List Item) (i j : ℕ) (x y : Item) → stays items ≡ true → slice_get items i ≡ Some x → slice_get items j ≡ Some y
+    → mark_of x.kind ≡ Neither → mark_of y.kind ≡ Neither → i < j → (stays (between items i j) ≡ true) ↔ IsActive items i j
 
 -- Each sound `$f`, `$e`, `$a` and `$p` has a label.
 abbrev pub ItemsHaveLabels : Type 0
@@ -68,3 +71,21 @@ MandatoryMeans = (base : BaseView) (i n : ℕ) (label : List ℕ) → IsCarrier 
 -- The mandatory hypotheses of an item are sound and stand before it, and are those of its frame.
 abbrev pub MandatoryStandBefore : Type 0
 MandatoryStandBefore = (base : BaseView) (i : ℕ) → AreHypotheses base i (mandatory_numbers (before base i) (said_at base i))
+
+-- Files in which a key has one text have one base from a top file on.
+abbrev pub FilesHaveOneBase : Type 0
+FilesHaveOneBase = (files : FilesView) (top : List ℕ) (base other : BaseView) → HaveOwnKeys files → IsOfFiles files top base → IsOfFiles files top other
+    → base ≡ other
+
+-- two bases of files that are the same but for the keys of their pieces
+pub record AreAlikeBases (a b : FilesView) (top : List ℕ) (base other : BaseView) : Type 0 where
+  pub files : map keyless_file a.files ≡ map keyless_file b.files
+  pub keys : HaveOwnKeys a
+  pub other_keys : HaveOwnKeys b
+  pub is_base : IsOfFiles a top base
+  pub is_other : IsOfFiles b top other
+
+-- Such bases are the same but for keys: their items say the same.
+abbrev pub AlikeFilesSayTheSame : Type 0
+AlikeFilesSayTheSame = (a b : FilesView) (top : List ℕ) (base other : BaseView) → AreAlikeBases a b top base other
+    → (map keyless_item base.found ≡ map keyless_item other.found) × (base.said ≡ other.said)

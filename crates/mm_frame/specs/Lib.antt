@@ -8,6 +8,7 @@ pub use Rattle.mm_text.specs.Place
 pub use Rattle.mm_store.specs.FilesView
 pub use Rattle.mm_store.specs.FileFacts
 pub use Rattle.mm_store.specs.Expansion
+pub use Rattle.mm_store.specs.Keyless
 pub use Rattle.mm_store.specs.Answers
 pub mod Language
 pub mod Typing

@@ -1,5 +1,5 @@
 -- Scopes: what is declared, and what is active behind a list of items (Metamath book, section 4.2).
-use Rattle.std.specs.Prelude.{ℕ, zero, suc, pred, Bool, true, false, if◌then◌else◌, ltb, List, [], ◌∷◌, filter, map, flat_map, count_by}
+use Rattle.std.specs.Prelude.{ℕ, zero, suc, pred, Bool, true, false, ◌&&◌, if◌then◌else◌, ltb, List, [], ◌∷◌, filter, map, flat_map, count_by}
 use Rattle.mm_frame.specs.Item.{Kind, BlockStart, BlockEnd, Item, is_constants, is_variables, is_floating, labels_of, variable_of}
 
 -- What an item does to the blocks that are open.
@@ -38,6 +38,17 @@ stays items = is_zero (closed items)
 abbrev pub active : List Item → List Item
 active [] = []
 active (item ∷ items) = if stays items then item ∷ active items else active items
+
+-- the numbers, counted from this one, of the items that are active behind the list and pass a test
+abbrev pub active_numbers_from : (Item → Bool) → ℕ → List Item → List ℕ
+active_numbers_from test n [] = []
+active_numbers_from test n (item ∷ items) =
+    if stays items && test item then n ∷ active_numbers_from test (suc n) items
+    else active_numbers_from test (suc n) items
+
+-- the numbers of the active items that pass a test, in order
+abbrev pub active_numbers : (Item → Bool) → List Item → List ℕ
+active_numbers test items = active_numbers_from test 0 items
 
 -- a block is opened
 abbrev pub opens : Mark → Bool

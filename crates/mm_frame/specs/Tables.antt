@@ -1,8 +1,10 @@
--- What a reader looks up by number: the last item that declares a name, types it or carries it as a label, and whether that one item is active (Metamath book, section 4.2).
-use Rattle.std.specs.Prelude.{◌≡◌, ℕ, suc, ◌<◌, ◌⊎◌, Bool, true, false, not, ◌&&◌, if◌then◌else◌, Option, Some, None, List, [], ◌∷◌, drop, bytes_eq, Contains, AllPairs}
+-- What a reader looks up by number: the last item that declares a name, types it or carries it as a label, and whether that one
+-- item is active (Metamath book, section 4.2).
+use Rattle.std.specs.Prelude.{◌≡◌, ℕ, suc, ◌<◌, ◌⊎◌, Bool, true, false, not, ◌&&◌, if◌then◌else◌, Option, Some, None, List, [], ◌∷◌, drop, bytes_eq, Contains}
+use Rattle.std.specs.Prelude.{AllPairs}
 use Rattle.mm_frame.specs.Item.{Kind, Passed, Item, item_at, is_variables, is_disjoint, is_floating, is_essential, has, labels_of, typecode_of, variable_of}
-use Rattle.mm_frame.specs.Scope.{Neither, mark_of, stays}
-use Rattle.mm_frame.specs.Framing.{mandatory_variables, is_mandatory}
+use Rattle.mm_frame.specs.Scope.{Neither, mark_of, stays, active_numbers}
+use Rattle.mm_frame.specs.Framing.{mandatory_variables}
 
 -- the number one further, or else 0 if the first item passes
 abbrev pub number_or_first : Option ℕ → Bool → Option ℕ
@@ -40,15 +42,6 @@ abbrev pub is_otherwise_at : List Item → Item → Option ℕ → Bool
 is_otherwise_at items item None = false
 is_otherwise_at items item (Some n) = not (bytes_eq (typecode_of (item_at items n)) (typecode_of item))
 
--- the numbers, counted from this one, of the items that are active behind the list and pass a test
-abbrev pub active_numbers_from : (Item → Bool) → ℕ → List Item → List ℕ
-active_numbers_from test n [] = []
-active_numbers_from test n (item ∷ items) = if stays items && test item then n ∷ active_numbers_from test (suc n) items else active_numbers_from test (suc n) items
-
--- the numbers of the active items that pass a test, in order
-abbrev pub active_numbers : (Item → Bool) → List Item → List ℕ
-active_numbers test items = active_numbers_from test 0 items
-
 -- a sort of items: none that opens or closes a block, and none that stands for a statement at fault
 pub record IsSort (test : Kind → Bool) : Type 0 where
   pub statement : (kind : Kind) → test kind ≡ true → mark_of kind ≡ Neither
@@ -62,13 +55,11 @@ is_essential_item item = is_essential item.kind
 abbrev pub is_disjoint_item : Item → Bool
 is_disjoint_item item = is_disjoint item.kind
 
--- the numbers of the mandatory hypotheses of a statement behind the items, in order
-abbrev pub mandatory_numbers : List Item → Item → List ℕ
-mandatory_numbers before item = active_numbers (is_mandatory (mandatory_variables before item)) before
-
 -- the number is that of an active `$e`, or of the last `$f` of a mandatory variable
 abbrev pub IsHypothesisNumber : List Item → Item → ℕ → Type 0
-IsHypothesisNumber before item n = Contains (active_numbers is_essential_item before) n ⊎ ((name : List ℕ) × Contains (mandatory_variables before item) name × (last_where (types name) before ≡ Some n))
+IsHypothesisNumber before item n =
+    Contains (active_numbers is_essential_item before) n
+    ⊎ ((name : List ℕ) × Contains (mandatory_variables before item) name × (last_where (types name) before ≡ Some n))
 
 -- each number is less than each later one
 abbrev pub IsRising : List ℕ → Type 0

@@ -7,6 +7,7 @@ mod blocks;
 mod draft;
 mod judge;
 mod mandatory;
+mod one_base;
 mod own_labels;
 mod pair_lists;
 mod paired;
@@ -23,6 +24,7 @@ pub use mm_store::{
     Files, Item, ItemKind, Keyword, PieceKey, Place, StoreError, TextFault, TextNumber, Word,
     WordKind, fits, nth_word, place,
 };
+pub use one_base::files_have_one_base;
 pub use own_labels::{has_own_labels, items_have_labels, mandatory_means, mandatory_stand_before};
 pub use same::same_frame;
 pub use statement::Statement;
@@ -37,7 +39,8 @@ mod frame_tests;
 #[cfg(test)]
 mod tests;
 
-ghost use Rattle.mm_frame.specs.Laws.{ActiveByBlocks, FaultIsFound, HasFaultOrIsSound, HasOneFault, KeptNext, NeverBoth, PlacesHaveFrames, ReaderIsActive, SoundHasNone, StaysByCounts};
+ghost use Rattle.mm_frame.specs.Laws.{ActiveByBlocks, FaultIsFound, HasFaultOrIsSound, HasOneFault, KeptNext, NeverBoth, PlacesHaveFrames, ReaderIsActive};
+ghost use Rattle.mm_frame.specs.Laws.{SoundHasNone, StaysByCounts};
 
 /// The number of a fault of a statement, or of a missing inclusion.
 #[derive(Clone, Copy, Debug, PartialEq, Eq)]

@@ -4,7 +4,7 @@ use Rattle.std.specs.Prelude.{Contains, unwrap_or}
 use Rattle.mm_frame.specs.Base.{BaseView, AreSaid, before, said_at, is_shown_at}
 use Rattle.mm_frame.specs.Laws as frame
 use Rattle.mm_frame.specs.Resolving.{IsCarrier, Resolves}
-use Rattle.mm_frame.specs.Tables.{mandatory_numbers}
+use Rattle.mm_frame.specs.Framing.{mandatory_numbers}
 use Rattle.mm_frame.specs.declared.base.Resolved.TheVariants as answers
 use Rattle.mm_proof.proofs.Members.{Contains-here, contains_there}
 use Rattle.mm_proof.specs.BaseLabels.{label_at, HasOwnLabels}

@@ -1,11 +1,11 @@
 -- The verdict on the proof of an item of a base.
-use Rattle.std.proofs.Common.{◌≡◌, ℕ, Result, Ok, Err, List, [], ◌∷◌, map, refl, sym, subst}
+use Rattle.std.proofs.Common.{◌≡◌, ℕ, Result, Ok, Err, List, [], ◌∷◌, map, refl, sym, ◌∙◌, subst}
 use Rattle.std.specs.Prelude.{◌↔◌}
 use Rattle.std.specs.List.{AllZip, AllByRecursion}
 use Rattle.mm_frame.specs.Base.{BaseView, AreSaid, before, said_at, hypothesis_at, frame_at}
 use Rattle.mm_frame.specs.Language.{Symbol, Place}
 use Rattle.mm_frame.specs.Laws as frame
-use Rattle.mm_frame.specs.Tables.{mandatory_numbers}
+use Rattle.mm_frame.specs.Framing.{mandatory_numbers}
 use Rattle.mm_frame.specs.Typing.{HasFrames}
 use Rattle.mm_proof.specs.BaseLabels.{label_at, place_at}
 use Rattle.mm_proof.specs.Decoding.{decoding}
@@ -13,13 +13,14 @@ use Rattle.mm_proof.specs.ItemLaws.{MeansHypothesis, IsDerivedAt}
 use Rattle.mm_proof.specs.Labels.{AreActive}
 use Rattle.mm_proof.specs.Machine.{IsUsable, AreAllKnown}
 use Rattle.mm_proof.specs.Verdict.{Decoded, StepsDerive, IsVerdict}
-use Rattle.mm_proof.specs.VerdictAt.{mandatory_labels, statement_at, decoding_at, IsVerdictAt}
+use Rattle.mm_proof.specs.VerdictAt.{mandatory_labels, statement_at, decoding_at, IsVerdictAt, AreDoneIn, AreDoneAt}
 use Rattle.mm_proof.specs.declared.Spot.{Spot}
 use Rattle.mm_proof.specs.declared.ProofNumber.{ProofNumber}
 use Rattle.mm_proof.specs.declared.Verdict.{Verdict}
 use Rattle.mm_proof.specs.declared.Verdict.TheVariants.{Proved, Wrong}
 use Rattle.mm_proof.specs.declared.step.ProofFault.{ProofFault}
 use Rattle.mm_proof.proofs.BaseLemmas.{mandatory_are_active}
+use Rattle.mm_proof.proofs.Counting.{one_count, some_count}
 use Rattle.mm_proof.proofs.Judging.{proved_derived, same_verdict, some_verdict}
 use Rattle.mm_proof.proofs.SureLemmas.{decodes_surely}
 
@@ -77,3 +78,24 @@ proved_by place statement (Ok d) =
 
 pub proved_at : (view : BaseView) (i : ℕ) → IsVerdictAt view i Proved ↔ IsDerivedAt view i
 proved_at view i = proved_by (place_at view i) (statement_at view i) (decoding_at view i)
+
+one_count_in : (place : Place) → HasFrames place → (found : Result Decoded ProofFault) (a b : ℕ) → AreDoneIn place found a → AreDoneIn place found b → a ≡ b
+one_count_in place is (Err fault) a b p q = p ∙ sym q
+one_count_in place is (Ok d) a b p q = one_count place is d.steps a b p q
+
+pub one_count_at : frame.PlacesHaveFrames → (view : BaseView) (i a b : ℕ) → AreDoneAt view i a → AreDoneAt view i b → a ≡ b
+one_count_at frames view i a b p q = one_count_in (place_at view i) (frames view.said i) (decoding_at view i) a b p q
+
+-- of what a proof decodes to some steps are done
+counted :
+    (place : Place) → HasFrames place → (mandatory words : List (List ℕ)) → AllByRecursion (λ label. IsUsable (place.resolve label)) mandatory →
+    (found : Result Decoded ProofFault) → decoding place mandatory words ≡ found → (count : ℕ) × AreDoneIn place found count
+counted place is mandatory words usable (Err fault) e = (0, refl)
+counted place is mandatory words usable (Ok d) e = let s = decodes_surely place mandatory words d usable e in some_count place is d.steps s.0
+
+pub has_count_at :
+    frame.PlacesHaveFrames → frame.ItemsHaveLabels → frame.MandatoryMeans → frame.MandatoryStandBefore →
+    (view : BaseView) (i : ℕ) → AreSaid view → (count : ℕ) × AreDoneAt view i count
+has_count_at frames has means stand view i said =
+    let usable = active_usable view i (mandatory_numbers (before view i) (said_at view i)) (mandatory_are_active has means stand view i said) in
+    counted (place_at view i) (frames view.said i) (mandatory_labels view i) (said_at view i).proof usable (decoding_at view i) refl

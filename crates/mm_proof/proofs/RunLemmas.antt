@@ -70,12 +70,18 @@ next_steps steps k label e =
     take_more steps k (Named label) (slice_get_within steps k (Named label) e) ∙ ap (λ s. take k steps ++ s ∷ []) (get_or_from_slice_get steps k (Named label) (Named label) e)
 
 -- the machine goes on by a label
-pub goes_on : (place : Place) (steps : List Step) (k : ℕ) (label : List ℕ) (stack next : List (List Symbol)) → slice_get steps k ≡ Some (Named label) → Follows place (take k steps) (record { stack = stack; saved = [] }) → Moves place.active (place.resolve label) stack next → Follows place (take (k + 1) steps) (record { stack = next; saved = [] })
+pub goes_on :
+    (place : Place) (steps : List Step) (k : ℕ) (label : List ℕ) (stack next : List (List Symbol)) → slice_get steps k ≡ Some (Named label) →
+    Follows place (take k steps) (record { stack = stack; saved = [] }) → Moves place.active (place.resolve label) stack next →
+    Follows place (take (k + 1) steps) (record { stack = next; saved = [] })
 goes_on place steps k label stack next e f m =
     subst (λ w. Follows place w (record { stack = next; saved = [] })) (sym (next_steps steps k label e)) (follows_on place (take k steps) (Named label) (record { stack = stack; saved = [] }) (record { stack = next; saved = [] }) f (m, refl))
 
 -- where a label moves to no stack, the steps reach nothing
-pub stops : (place : Place) → HasFrames place → (steps : List Step) (k : ℕ) (label : List ℕ) (stack next : List (List Symbol)) → slice_get steps k ≡ Some (Named label) → Follows place (take k steps) (record { stack = stack; saved = [] }) → ((other : List (List Symbol)) → ¬ Moves place.active (place.resolve label) stack other) → Reaches place steps next → ⊥
+pub stops :
+    (place : Place) → HasFrames place → (steps : List Step) (k : ℕ) (label : List ℕ) (stack next : List (List Symbol)) →
+    slice_get steps k ≡ Some (Named label) → Follows place (take k steps) (record { stack = stack; saved = [] }) →
+    ((other : List (List Symbol)) → ¬ Moves place.active (place.resolve label) stack other) → Reaches place steps next → ⊥
 stops place is steps k label stack next e f n r =
     let within = slice_get_within steps k (Named label) e in
     let whole = subst (λ w. Reaches place w next) (sym (take_all (length steps) steps (omega arith))) r in

@@ -2,7 +2,7 @@
 use Rattle.std.specs.Prelude.{◌≡◌, ℕ, ◌<◌, ◌≤◌, ◌↔◌, true, false, Result, Ok, Err, List, [], ◌∷◌, ◌++◌, length, flat_map, codes}
 use Rattle.std.specs.List.{AllByRecursion, list_any}
 use Rattle.mm_frame.specs.Base.{BaseView, AreSaid, before, said_at}
-use Rattle.mm_frame.specs.Tables.{mandatory_numbers}
+use Rattle.mm_frame.specs.Framing.{mandatory_numbers}
 use Rattle.mm_proof.specs.BaseLabels.{HasOwnLabels}
 use Rattle.mm_proof.specs.Labels.{AreActive}
 use Rattle.mm_frame.specs.Language.{Place}

@@ -6,7 +6,7 @@ use Rattle.mm_frame.specs.Language.{Mandatory, Hypothesis, Place}
 use Rattle.mm_proof.specs.BaseLabels.{place_at}
 use Rattle.mm_proof.specs.Machine.{AreAllKnown}
 use Rattle.mm_proof.specs.Verdict.{Decoded, StepsDerive}
-use Rattle.mm_proof.specs.VerdictAt.{mandatory_labels, statement_at, decoding_at, IsVerdictAt}
+use Rattle.mm_proof.specs.VerdictAt.{mandatory_labels, statement_at, decoding_at, IsVerdictAt, AreDoneAt}
 use Rattle.mm_proof.specs.declared.Verdict.{Verdict}
 use Rattle.mm_proof.specs.declared.Verdict.TheVariants.{Proved}
 
@@ -35,3 +35,11 @@ IsDerivedAt view i = (d : Decoded) × (decoding_at view i ≡ Ok d) × AreAllKno
 -- Proved is the verdict exactly where this holds.
 abbrev pub ProvedIsDerivedAt : Type 0
 ProvedIsDerivedAt = (view : BaseView) (i : ℕ) → IsVerdictAt view i Proved ↔ IsDerivedAt view i
+
+-- There is one number at most of the steps of the proof of an item that are done.
+abbrev pub HasOneCountAt : Type 0
+HasOneCountAt = (view : BaseView) (i a b : ℕ) → AreDoneAt view i a → AreDoneAt view i b → a ≡ b
+
+-- There is one, where the items say what their words say.
+abbrev pub HasCountAt : Type 0
+HasCountAt = (view : BaseView) (i : ℕ) → AreSaid view → (count : ℕ) × AreDoneAt view i count

@@ -1,11 +1,12 @@
--- The verdict on the proof of an item of a base, its decoding included.
-use Rattle.std.specs.Prelude.{ℕ, Result, List, map}
+-- The verdict on the proof of an item of a base, its decoding included; which of its words cite, and how many of its steps are done.
+use Rattle.std.specs.Prelude.{◌≡◌, ℕ, Result, Ok, Err, List, map}
 use Rattle.mm_frame.specs.Base.{BaseView, before, said_at}
-use Rattle.mm_frame.specs.Framing.{expression}
-use Rattle.mm_frame.specs.Language.{Symbol}
-use Rattle.mm_frame.specs.Tables.{mandatory_numbers}
+use Rattle.mm_frame.specs.Framing.{expression, mandatory_numbers}
+use Rattle.mm_frame.specs.Language.{Symbol, Place}
 use Rattle.mm_proof.specs.BaseLabels.{label_at, place_at}
+use Rattle.mm_proof.specs.Citing.{cites}
 use Rattle.mm_proof.specs.Decoding.{decoding}
+use Rattle.mm_proof.specs.Run.{AreDone}
 use Rattle.mm_proof.specs.Verdict.{Decoded, IsVerdict}
 use Rattle.mm_proof.specs.declared.Verdict.{Verdict}
 use Rattle.mm_proof.specs.declared.step.ProofFault.{ProofFault}
@@ -25,3 +26,16 @@ decoding_at view i = decoding (place_at view i) (mandatory_labels view i) (said_
 -- the verdict on its proof
 abbrev pub IsVerdictAt : BaseView → ℕ → Verdict → Type 0
 IsVerdictAt view i verdict = IsVerdict (place_at view i) (statement_at view i) (decoding_at view i) verdict
+
+-- the numbers of the words of its proof that cite
+abbrev pub cites_at : BaseView → ℕ → List ℕ
+cites_at view i = cites (place_at view i) (said_at view i).proof (decoding_at view i)
+
+-- so many steps of what decoding gives are done: none where it tells a fault
+abbrev pub AreDoneIn : Place → Result Decoded ProofFault → ℕ → Type 0
+AreDoneIn place (Err fault) count = count ≡ 0
+AreDoneIn place (Ok d) count = AreDone place d.steps count
+
+-- so many steps of its proof are done
+abbrev pub AreDoneAt : BaseView → ℕ → ℕ → Type 0
+AreDoneAt view i count = AreDoneIn (place_at view i) (decoding_at view i) count

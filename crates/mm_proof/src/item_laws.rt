@@ -1,6 +1,6 @@
 //! The laws of the proofs of items.
 
-ghost use Rattle.mm_proof.specs.ItemLaws.{MandatoryLabelsMean, HasOneVerdictAt, HasVerdictAt, ProvedIsDerivedAt};
+ghost use Rattle.mm_proof.specs.ItemLaws.{MandatoryLabelsMean, HasOneVerdictAt, HasVerdictAt, ProvedIsDerivedAt, HasOneCountAt, HasCountAt};
 
 use mm_frame::{items_have_labels, mandatory_means, mandatory_stand_before, places_have_frames};
 
@@ -37,3 +37,24 @@ pub fn has_verdict_at()
 pub fn proved_is_derived_at()
     ensures { ProvedIsDerivedAt }
 {}
+
+/// There is one number at most of the steps of the proof of an item that are done.
+///
+/// For the steps of a run, which are counted; no code calls on it yet.
+pub fn has_one_count_at()
+    ensures { HasOneCountAt }
+{
+    places_have_frames();
+}
+
+/// There is a number of the steps that are done, on the proof of each item of a base of files.
+///
+/// For the steps of a run, which are counted; no code calls on it yet.
+pub fn has_count_at()
+    ensures { HasCountAt }
+{
+    places_have_frames();
+    items_have_labels();
+    mandatory_means();
+    mandatory_stand_before();
+}

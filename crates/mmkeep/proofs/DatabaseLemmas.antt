@@ -1,11 +1,10 @@
 -- A text is one database: its files and its items are the same but for keys, and the items say the same.
 use Rattle.std.proofs.Common.{◌≡◌, ℕ, ◌+◌, ◌<◌, ◌≤◌, List, [], ◌∷◌, ◌++◌, Some, length, map, take, slice_get, slice_range, refl, sym, ap, ◌∙◌, subst, arith, add-zero}
 use Rattle.std.specs.Prelude.{All}
-use Rattle.std.specs.List.{AllByRecursion, AllZip, concat}
+use Rattle.std.specs.List.{concat}
 use Rattle.std.specs.Option.{option_map}
 use Rattle.std.proofs.lemmas.List.{take-map}
 use Rattle.std.proofs.lemmas.List.Sums.{sum_by-cons}
-use Rattle.std.proofs.lemmas.List.Elements.{recursion_from_All}
 use Rattle.std.proofs.lemmas.Option.{slice_get-map, slice_get_within, get_or_from_slice_get, same_Some}
 use Rattle.std.proofs.lemmas.Simd.{map-map}
 use Rattle.mm_text.specs.declared.word.Word.{Word}
@@ -13,7 +12,6 @@ use Rattle.mm_text.specs.declared.fault.TextFault.{TextFault}
 use Rattle.mm_text.specs.Reading.{HasWords}
 use Rattle.mm_text.specs.Cut.{IsCut, IsFirstFault, ended}
 use Rattle.mm_text.specs.Place.{line_at, column_at}
-use Rattle.mm_text.specs.Unit.{tokens_of}
 use Rattle.mm_store.specs.declared.item.Item as store
 use Rattle.mm_store.specs.FilesView.{PieceView, FileView, FilesView, no_files, piece_texts, text_of, bytes_of}
 use Rattle.mm_store.specs.FileFacts.{CanBeRead, HaveOwnKeys, IsAdded, StandsIn, piece_offset}
@@ -21,8 +19,7 @@ use Rattle.mm_store.specs.Answers.{HasTooMany}
 use Rattle.mm_store.specs.Expansion.{IsExpansion}
 use Rattle.mm_store.specs.Keyless.{keyless_piece, keyless_file, keyless_item}
 use Rattle.mm_frame.specs.Base.{BaseView}
-use Rattle.mm_frame.specs.Item.{Item}
-use Rattle.mm_frame.specs.Statement.{Says, kind_of, item_of}
+use Rattle.mm_frame.specs.Laws.{AreAlikeBases}
 use Rattle.mmkeep.specs.Base.{IsWordOf}
 use Rattle.mmkeep.specs.Report.{Shown, IsWordAt, IsShown, start_of, spelled}
 use Rattle.mmkeep.specs.Verified.{IsDatabase}
@@ -32,7 +29,7 @@ pub record Laws : Type 0 where
   pub words : (text : List ℕ) (a b : List Word) → HasWords text a → HasWords text b → a ≡ b
   pub fault : (text : List ℕ) (a b : TextFault) → IsFirstFault text a → IsFirstFault text b → a ≡ b
   pub cut_or_fault : (text : List ℕ) (pieces : List (List ℕ)) (tail : List ℕ) (fault : TextFault) → IsCut text pieces tail → ¬ IsFirstFault text fault
-  pub items : (a b : List FileView) (top : List ℕ) (xs ys : List store.Item) → map keyless_file a ≡ map keyless_file b → IsExpansion a top xs → IsExpansion b top ys → map keyless_item xs ≡ map keyless_item ys
+  pub said : (a b : FilesView) (top : List ℕ) (base other : BaseView) → AreAlikeBases a b top base other → (map keyless_item base.found ≡ map keyless_item other.found) × (base.said ≡ other.said)
   pub one_file : (a b : FilesView) (name text : List ℕ) → IsAdded no_files a name text → IsAdded no_files b name text → map keyless_file a.files ≡ map keyless_file b.files
   pub own_keys : (files : FilesView) (name text : List ℕ) → IsAdded no_files files name text → HaveOwnKeys files
   pub stand : (files : FilesView) (top : List ℕ) (items : List store.Item) → IsExpansion files.files top items → All (StandsIn files) items
@@ -97,34 +94,7 @@ same_bytes a b x y alike s t = ap (λ text. bytes_in text x) (same_text a b x y 
 same_words : Laws → (a b : FilesView) (x y : store.Item) → AreAlike a b x y → (s : CanBeRead a x) (t : CanBeRead b y) → s.words ≡ t.words
 same_words laws a b x y alike s t = laws.words (bytes_in t.text y) s.words t.words (subst (λ bytes. HasWords bytes s.words) (same_bytes a b x y alike s t) s.has_words) t.has_words
 
--- ---- what the items say, and where their words begin
-
-same_said : Laws → (a b : FilesView) (x y : store.Item) (said other : Item) → AreAlike a b x y → Says a x said → Says b y other → said ≡ other
-same_said laws a b x y said other alike f g =
-    f.is
-    ∙ ap (λ (z : store.Item). item_of (kind_of z.kind) (tokens_of (bytes_in f.read.text x) f.read.words)) alike.item
-    ∙ ap (λ bytes. item_of (kind_of y.kind) (tokens_of bytes f.read.words)) (same_bytes a b x y alike f.read g.read)
-    ∙ ap (λ words. item_of (kind_of y.kind) (tokens_of (bytes_in g.read.text y) words)) (same_words laws a b x y alike f.read g.read)
-    ∙ sym g.is
-
--- the items stand in the files
-abbrev Stand : FilesView → List store.Item → Type 0
-Stand files items = AllByRecursion (StandsIn files) items
-
-same_all_said : Laws → (a b : FilesView) (xs ys : List store.Item) (all others : List Item) → AreAlikeFiles a b → Stand a xs → Stand b ys → map keyless_item xs ≡ map keyless_item ys → AllZip (Says a) xs all → AllZip (Says b) ys others → all ≡ others
-same_all_said laws a b [] [] [] [] both s t items f g = refl
-same_all_said laws a b (x ∷ xs) (y ∷ ys) (said ∷ all) (other ∷ others) both s t items f g =
-    let item : keyless_item x ≡ keyless_item y = cc in
-    let rest : map keyless_item xs ≡ map keyless_item ys = cc in
-    let first : said ≡ other = same_said laws a b x y said other (record { both = both; item = item; first = s.0; second = t.0 }) f.0 g.0 in
-    let later : all ≡ others = same_all_said laws a b xs ys all others both s.1 t.1 rest f.1 g.1 in
-    cc
-same_all_said laws a b [] [] [] (other ∷ others) both s t items f g = absurd g
-same_all_said laws a b [] [] (said ∷ all) others both s t items f g = absurd f
-same_all_said laws a b [] (y ∷ ys) all others both s t items f g = cc
-same_all_said laws a b (x ∷ xs) [] all others both s t items f g = cc
-same_all_said laws a b (x ∷ xs) (y ∷ ys) [] others both s t items f g = absurd f
-same_all_said laws a b (x ∷ xs) (y ∷ ys) (said ∷ all) [] both s t items f g = absurd g
+-- ---- where the words of items begin
 
 -- the bytes before a piece, counted by the texts of the pieces
 offset_by_texts : (file : FileView) (n : ℕ) → piece_offset file n ≡ length (concat (take n (piece_texts file.pieces)))
@@ -191,14 +161,16 @@ same_files {name} {text} laws a b = record {
 items_stand : {name text : List ℕ} → Laws → (a : Database name text) → All (StandsIn a.files) a.view.found
 items_stand {name} laws a = laws.stand a.files name a.view.found a.is.of_files.expansion
 
+alike_bases : {name text : List ℕ} → Laws → (a b : Database name text) → AreAlikeBases a.files b.files name a.view b.view
+alike_bases laws a b =
+    let files = same_files laws a b in
+    record { files = files.files; keys = files.first; other_keys = files.second; is_base = a.is.of_files; is_other = b.is.of_files }
+
 same_found : {name text : List ℕ} → Laws → (a b : Database name text) → map keyless_item a.view.found ≡ map keyless_item b.view.found
-same_found {name} {text} laws a b = laws.items a.files.files b.files.files name a.view.found b.view.found (same_files laws a b).files a.is.of_files.expansion b.is.of_files.expansion
+same_found {name} laws a b = (laws.said a.files b.files name a.view b.view (alike_bases laws a b)).0
 
 pub same_items : {name text : List ℕ} → Laws → (a b : Database name text) → a.view.said ≡ b.view.said
-same_items laws a b =
-    same_all_said laws a.files b.files a.view.found b.view.found a.view.said b.view.said (same_files laws a b)
-    (recursion_from_All (StandsIn a.files) a.view.found (items_stand laws a)) (recursion_from_All (StandsIn b.files) b.view.found (items_stand laws b))
-    (same_found laws a b) a.is.of_files.each b.is.of_files.each
+same_items {name} laws a b = (laws.said a.files b.files name a.view b.view (alike_bases laws a b)).1
 
 -- the items with one number are alike
 alike_at : {name text : List ℕ} → Laws → (a b : Database name text) (m n : ℕ) (x y : store.Item) → m ≡ n → slice_get a.view.found m ≡ Some x → slice_get b.view.found n ≡ Some y → AreAlike a.files b.files x y

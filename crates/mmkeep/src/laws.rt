@@ -18,4 +18,5 @@ pub fn one_answer()
     mm_store::items_stand();
     mm_store::keys_are_own();
     mm_store::keys_do_not_matter();
+    mm_frame::files_have_one_base();
 }

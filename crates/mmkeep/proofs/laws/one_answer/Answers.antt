@@ -1,14 +1,14 @@
 use Rattle.mmkeep.proofs.DatabaseLemmas.{Laws}
 use Rattle.mmkeep.proofs.AnswerLemmas.{same_report, same_error, report_or_error}
 use Rattle.mmkeep.proofs.laws.one_answer.Goals as goal
-use Rattle.mmkeep.proofs.laws.one_answer.Goals.{After-keys_do_not_matter}
+use Rattle.mmkeep.proofs.laws.one_answer.Goals.{After-files_have_one_base}
 
-laws : After-keys_do_not_matter → Laws
+laws : After-files_have_one_base → Laws
 laws c = record {
   words = c.one_meaning.ensures.words;
   fault = c.one_cut.ensures.fault;
   cut_or_fault = c.one_cut.ensures.not_both;
-  items = c.keys_do_not_matter.ensures.items;
+  said = c.files_have_one_base.ensures.said;
   one_file = c.keys_do_not_matter.ensures.one_file;
   own_keys = c.keys_are_own.ensures;
   stand = c.items_stand.ensures.stand;

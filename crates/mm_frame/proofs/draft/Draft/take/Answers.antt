@@ -8,7 +8,8 @@ use Rattle.mm_frame.specs.KeptSymbols.{AreSymbols, is_read}
 use Rattle.mm_frame.specs.Statement.{kind_of}
 use Rattle.mm_frame.specs.Scoping.{Holds, taken}
 use Rattle.mm_frame.specs.Sound.{kept}
-use Rattle.mm_frame.specs.Tables.{active_numbers, is_essential_item, is_disjoint_item}
+use Rattle.mm_frame.specs.Tables.{is_essential_item, is_disjoint_item}
+use Rattle.mm_frame.specs.Scope.{active_numbers}
 use Rattle.mm_frame.specs.Item.{is_essential, is_disjoint}
 use Rattle.mm_frame.specs.PairLists.{AreMade}
 use Rattle.mm_frame.proofs.BaseLemmas.{rows_more, kept_are_sound, kept_taken, kept_count, sound_found_none, none_found, none_fault, symbols_more, symbols_taken, framed_told, framed_parts, essential_sort, disjoint_sort, proof_told}
