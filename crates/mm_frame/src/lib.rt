@@ -39,7 +39,8 @@ mod frame_tests;
 #[cfg(test)]
 mod tests;
 
-ghost use Rattle.mm_frame.specs.Laws.{ActiveByBlocks, FaultIsFound, HasFaultOrIsSound, HasOneFault, KeptNext, NeverBoth, PlacesHaveFrames, ReaderIsActive, SoundHasNone, StaysByCounts};
+ghost use Rattle.mm_frame.specs.Laws.{ActiveByBlocks, FaultIsFound, HasFaultOrIsSound, HasOneFault, KeptNext, NeverBoth, PlacesHaveFrames, ReaderIsActive};
+ghost use Rattle.mm_frame.specs.Laws.{SoundHasNone, StaysByCounts};
 
 /// The number of a fault of a statement, or of a missing inclusion.
 #[derive(Clone, Copy, Debug, PartialEq, Eq)]

@@ -5,10 +5,9 @@ use Rattle.std.proofs.lemmas.Option.{none-some, same_Some}
 use Rattle.mm_text.specs.declared.word.Word.{Word}
 use Rattle.mm_text.specs.Reading.{HasWords}
 use Rattle.mm_text.specs.Unit.{Units, AreUnits, unit_tokens, tokens_of}
-use Rattle.mm_text.specs.Part.{parts_of}
 use Rattle.mm_store.specs.declared.item.Item.{Item}
 use Rattle.mm_store.specs.FilesView.{PieceView, FileView, number_of}
-use Rattle.mm_store.specs.Expansion.{Placed, IsInclusion, item_of, placed_part, second_word, ArePartsOf, ArePlaced, Expands, nothing, own, again, missing, included, IsExpansion}
+use Rattle.mm_store.specs.Expansion.{Placed, IsInclusion, item_of, named_parts, placed_part, ArePartsOf, ArePlaced, Expands, nothing, own, again, missing, included, IsExpansion}
 
 abbrev pub OneReading : Type 0
 OneReading = (text : List ℕ) (a b : List Word) → HasWords text a → HasWords text b → a ≡ b
@@ -91,7 +90,7 @@ module _ (one_reading : OneReading) (one_division : OneDivision) where
   parts_one file n piece a b p q =
       let w : p.words ≡ q.words = one_reading piece.text p.words q.words p.has_words q.has_words in
       let u : p.units ≡ q.units = one_division p.units q.units p.are_units q.are_units (p.spells ∙ ap (tokens_of piece.text) w ∙ sym q.spells) in
-      p.parts ∙ ap (λ words. map (placed_part file n piece.key (second_word piece.text words)) (parts_of p.units)) w ∙ ap (λ units. map (placed_part file n piece.key (second_word piece.text q.words)) (parts_of units)) u ∙ sym q.parts
+      p.parts ∙ ap (λ units. map (placed_part file n piece.key) (named_parts units)) u ∙ sym q.parts
 
   placed_one : (file n : ℕ) (pieces : List PieceView) (a b : List Placed) → ArePlaced file n pieces a → ArePlaced file n pieces b → a ≡ b
   placed_one file n [] a b p q = p ∙ sym q

@@ -7,11 +7,10 @@ use Rattle.std.proofs.lemmas.List.{length-map, map-append}
 use Rattle.std.proofs.lemmas.Option.{slice_get-map}
 use Rattle.std.proofs.lemmas.Simd.{map-map}
 use Rattle.mm_text.specs.Cut.{IsCut}
-use Rattle.mm_text.specs.Part.{parts_of}
 use Rattle.mm_store.specs.declared.item.Item.{Item}
 use Rattle.mm_store.specs.FilesView.{PieceView, FileView, FilesView, number_of, piece_texts}
 use Rattle.mm_store.specs.FileFacts.{IsAdded}
-use Rattle.mm_store.specs.Expansion.{Placed, placed_part, second_word, ArePartsOf, ArePlaced, Expands, nothing, own, again, missing, included, IsExpansion}
+use Rattle.mm_store.specs.Expansion.{Placed, named_parts, placed_part, ArePartsOf, ArePlaced, Expands, nothing, own, again, missing, included, IsExpansion}
 use Rattle.mm_store.specs.Keyless.{one_key, keyless_piece, keyless_file, keyless_placed, keyless_item}
 use Rattle.mm_store.proofs.ExpansionLemmas.{OneReading, OneDivision, expansion_one}
 
@@ -31,7 +30,7 @@ there_keyless files number file there = slice_get-map keyless_file files number 
 
 parts_keyless : (file n : ℕ) (piece : PieceView) (placed : List Placed) → ArePartsOf file n piece placed → ArePartsOf file n (keyless_piece piece) (map keyless_placed placed)
 parts_keyless file n piece placed are =
-    record { words = are.words; units = are.units; has_words = are.has_words; are_units = are.are_units; spells = are.spells; parts = ap (map keyless_placed) are.parts ∙ map-map keyless_placed (placed_part file n piece.key (second_word piece.text are.words)) (parts_of are.units) }
+    record { words = are.words; units = are.units; has_words = are.has_words; are_units = are.are_units; spells = are.spells; parts = ap (map keyless_placed) are.parts ∙ map-map keyless_placed (placed_part file n piece.key) (named_parts are.units) }
 
 placed_keyless : (file n : ℕ) (pieces : List PieceView) (placed : List Placed) → ArePlaced file n pieces placed → ArePlaced file n (map keyless_piece pieces) (map keyless_placed placed)
 placed_keyless file n [] placed are = ap (map keyless_placed) are

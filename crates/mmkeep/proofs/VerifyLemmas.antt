@@ -21,9 +21,9 @@ use Rattle.mm_frame.proofs.Facts.{and_both}
 use Rattle.mm_proof.specs.OfFiles.{IsOf}
 use Rattle.mmkeep.specs.Base.{IsWordOf}
 use Rattle.mmkeep.specs.declared.finding.Finding.{Finding}
-use Rattle.mmkeep.specs.Later.{AreRead}
+use Rattle.mmkeep.specs.Later.{AreRead, IsFirstUnread}
 use Rattle.mmkeep.specs.Report.{start_of, told, told_all, AreTold, is_wrong, is_fault, report}
-use Rattle.mmkeep.specs.Verified.{IsDatabase, IsReport}
+use Rattle.mmkeep.specs.Verified.{IsDatabase, IsReport, IsUnreadAt}
 use Rattle.mmkeep.proofs.ReadingLemmas.{start_within}
 use Rattle.mmkeep.proofs.ReportLemmas.{no_lines, some_line, count_told}
 
@@ -82,6 +82,10 @@ module _ (name text : List ℕ) (files : FilesView) (view : BaseView) (database 
       let long : length read.text ≡ length byte.view.text = ap length (own item.key read.text stands.text read.live there) ∙ ap (λ (p : PieceView). length p.text) (sym piece) in
       let less = start_within files item read read.text (λ other live. own item.key read.text other read.live live) (slice_get read.words word) (nth_lies (slice_range read.text item.start item.end) read.words word (slice_get read.words word) read.has_words refl) in
       omega (arith, byte.is_offset, piece_within byte.file item.piece byte.view byte.is_piece, whole, ended_most text, long, less, read.within)
+
+  -- the first word that is not read yet
+  pub unread_at : (n word at : ℕ) → IsFirstUnread view.said n word → IsWordOf files view n word at → IsUnreadAt name text at
+  unread_at n word at unread h = record { files = files; view = view; database = database; n = n; word = word; unread = unread; place = h }
 
   -- the report
   pub report_is : (found : List Finding) (clean : Bool) → AreRead view.said → AreTold files view (told_all found) → IsTrue clean ↔ ((count_by (λ finding. is_wrong (told finding)) found ≡ 0) × (count_by (λ finding. is_fault (told finding)) found ≡ 0)) → IsReport name text clean (report name view.said (told_all found))

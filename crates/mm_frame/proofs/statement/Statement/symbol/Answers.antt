@@ -12,5 +12,6 @@ pub returns : goal.returns
 returns c =
     let inside = c.self.inside in
     let tokens = tokens_inside inside in
-    let is = ap (λ ws. option_map (λ (t : Token). t.bytes) (slice_get (tokens_of inside.text.now ws) (symbols_from (kind_of inside.kind) + c.args.n))) (sym c.deref.ensures.value) ∙ ap (λ from. option_map (λ (t : Token). t.bytes) (slice_get (tokens_of inside.text.now c.deref.result.now) (from + c.args.n))) (sym c.symbols_from.ensures) ∙ c.bytes_of.ensures in
+    let is = ap (λ ws. option_map (λ (t : Token). t.bytes) (slice_get (tokens_of inside.text.now ws) (symbols_from (kind_of inside.kind) + c.args.n))) (sym c.deref.ensures.value)
+    ∙ ap (λ from. option_map (λ (t : Token). t.bytes) (slice_get (tokens_of inside.text.now c.deref.result.now) (from + c.args.n))) (sym c.symbols_from.ensures) ∙ c.bytes_of.ensures in
     plain_at tokens (symbols_from (kind_of inside.kind)) c.args.n c.bytes_of.result.now (subst (λ (item : Item). c.args.n < length item.symbols) (sym c.self.view_is) c.requires) is ∙ ap (λ (item : Item). get_or item.symbols c.args.n []) c.self.view_is
