@@ -30,7 +30,8 @@ fn with_digit(digits: usize, worth: usize) -> usize
 fn named(labels: usize, saves: usize, digits: usize, last: usize) -> Result<Action, ProofNumber>
     requires few { labels + saves < 2 ^ 64 - 1 }
     requires some { 0 < last }
-    ensures { (names : List Step) (n : ℕ) → length names ≡ labels → digits ≡ min n (2 ^ 64 - 1) → meant_or names result ≡ named_lem (slice_get (nameable names saves) (20 * n + last - 1)) }
+    ensures { (names : List Step) (n : ℕ) → length names ≡ labels → digits ≡ min n (2 ^ 64 - 1) →
+        meant_or names result ≡ named_lem (slice_get (nameable names saves) (20 * n + last - 1)) }
 {
     let value = digits.saturating_mul(20).saturating_add(last);
     if value <= labels {
@@ -56,7 +57,8 @@ fn alone(digits: usize, action: Action) -> Result<Action, ProofNumber>
 /// What a letter that is no digit does behind these digits.
 fn action(labels: usize, saves: usize, digits: usize, byte: u8) -> Result<Action, ProofNumber>
     requires few { labels + saves < 2 ^ 64 - 1 }
-    ensures { (names : List Step) (n : ℕ) → length names ≡ labels → digits ≡ min n (2 ^ 64 - 1) → meant_or names result ≡ read_behind (nameable names saves) n byte }
+    ensures { (names : List Step) (n : ℕ) → length names ≡ labels → digits ≡ min n (2 ^ 64 - 1) →
+        meant_or names result ≡ read_behind (nameable names saves) n byte }
 {
     match byte {
         b'A'..=b'T' => named(labels, saves, digits, usize::from(byte - b'@')),

@@ -6,10 +6,11 @@ ghost use Rattle.mm_proof.specs.Expansion.{Step, Named};
 ghost use Rattle.mm_frame.specs.Base.{BaseView};
 ghost use Rattle.mm_frame.specs.Kept.{IsBase};
 ghost use Rattle.mm_proof.specs.BaseLabels.{label_at, place_at};
-ghost use Rattle.mm_proof.specs.Decoding.{word_spot, read_word as read_word_lem, in_order, each_word, compressed_steps, decoding, is_close, is_compressed as is_compressed_lem};
+ghost use Rattle.mm_proof.specs.Decoding.{word_spot, read_word as read_word_lem, compressed_steps, is_compressed as is_compressed_lem};
 ghost use Rattle.mm_frame.specs.declared.base.Resolved.TheVariants as answers;
 ghost use Rattle.mm_proof.specs.Coded.{Tells, meant, meant_steps};
-ghost use Rattle.mm_proof.specs.Decoded.{decoded_steps, TellsFault};
+ghost use Rattle.mm_proof.specs.Decoded.{decoded_steps, TellsFault, InViews, WhereActive, compressed_at, normal_at, decoding_of};
+ghost use Rattle.mm_proof.specs.Decoded.{steps_by, listed_table};
 ghost use Rattle.mm_proof.specs.Labels.{TellsWord, AreEntries, AreActive, IsEntry, entry_step, entry_steps, labels_at, label_table, word_step};
 
 use crate::Spot;
@@ -48,9 +49,11 @@ fn decode_compressed(
     statement: &Statement,
 ) -> Result<Decoding, Undecoded>
     ensures ok { IfOk result (λ d. (view : BaseView) → IsBase view base.now → AreActive view i mandatory.now → compressed_steps (place_at view i) (labels_at view mandatory.now) (drop 1 statement.now.proof) (word_spot (length statement.now.proof)) ≡ Ok (meant_steps (entry_steps view d.labels.items) d.steps.items)) }
-    ensures entries { IfOk result (λ d. (view : BaseView) → IsBase view base.now → AreActive view i mandatory.now → AreEntries view i d.labels.items) }
-    ensures table { IfOk result (λ d. (view : BaseView) → IsBase view base.now → AreActive view i mandatory.now → entry_steps view d.labels.items ≡ map Named (labels_at view mandatory.now ++ before_first is_close (drop 1 statement.now.proof))) }
-    ensures err { IfErr result (λ e. (view : BaseView) → IsBase view base.now → AreActive view i mandatory.now → Tells e (compressed_steps (place_at view i) (labels_at view mandatory.now) (drop 1 statement.now.proof) (word_spot (length statement.now.proof)))) }
+    ensures entries { IfOk result (λ d. WhereActive base.now i mandatory.now (λ view. AreEntries view i d.labels.items)) }
+    ensures table { IfOk result (λ d. WhereActive base.now i mandatory.now (λ view.
+        entry_steps view d.labels.items ≡ listed_table view mandatory.now statement.now.proof)) }
+    ensures err { IfErr result (λ e. WhereActive base.now i mandatory.now (λ view.
+        Tells e (compressed_at view i mandatory.now statement.now.proof))) }
 {
     let mut labels = hypotheses(alloc, mandatory)?;
     let close = read_list(base, i, statement, &mut labels)?;
@@ -67,10 +70,11 @@ fn is_unknown(word: &[u8]) -> bool
 
 /// What the n-th word of a normal proof of the item with the number `i` names, and what it does.
 fn read_word(base: &Base, i: usize, word: &[u8], n: usize) -> Result<(Resolved, Action), Undecoded>
-    ensures ok { IfOk result (λ read. (view : BaseView) → IsBase view base.now → read_word_lem (place_at view i) word.now ≡ Ok (entry_step view read.0)) }
-    ensures action { IfOk result (λ read. (view : BaseView) (before after : List Step) → IsBase view base.now → length before ≡ n → meant (before ++ entry_step view read.0 ∷ after) read.1 ≡ entry_step view read.0) }
-    ensures entry { IfOk result (λ read. (view : BaseView) → IsBase view base.now → IsEntry view i read.0) }
-    ensures err { IfErr result (λ e. (view : BaseView) → IsBase view base.now → TellsWord e n (read_word_lem (place_at view i) word.now)) }
+    ensures ok { IfOk result (λ read. InViews base.now (λ view. read_word_lem (place_at view i) word.now ≡ Ok (entry_step view read.0))) }
+    ensures action { IfOk result (λ read. (view : BaseView) (before after : List Step) → IsBase view base.now → length before ≡ n →
+        meant (before ++ entry_step view read.0 ∷ after) read.1 ≡ entry_step view read.0) }
+    ensures entry { IfOk result (λ read. InViews base.now (λ view. IsEntry view i read.0)) }
+    ensures err { IfErr result (λ e. InViews base.now (λ view. TellsWord e n (read_word_lem (place_at view i) word.now))) }
 {
     if is_unknown(word) {
         Ok((Resolved::Unknown, Action::Unknown))
@@ -86,10 +90,10 @@ fn decode_normal(
     i: usize,
     statement: &Statement,
 ) -> Result<Decoding, Undecoded>
-    ensures ok { IfOk result (λ d. (view : BaseView) → IsBase view base.now → in_order (each_word (read_word_lem (place_at view i)) 0 statement.now.proof) ≡ Ok (meant_steps (entry_steps view d.labels.items) d.steps.items)) }
-    ensures entries { IfOk result (λ d. (view : BaseView) → IsBase view base.now → AreEntries view i d.labels.items) }
-    ensures table { IfOk result (λ d. (view : BaseView) → IsBase view base.now → entry_steps view d.labels.items ≡ map word_step statement.now.proof) }
-    ensures err { IfErr result (λ e. (view : BaseView) → IsBase view base.now → Tells e (in_order (each_word (read_word_lem (place_at view i)) 0 statement.now.proof))) }
+    ensures ok { IfOk result (λ d. InViews base.now (λ view. normal_at view i statement.now.proof ≡ Ok (steps_by view d))) }
+    ensures entries { IfOk result (λ d. InViews base.now (λ view. AreEntries view i d.labels.items)) }
+    ensures table { IfOk result (λ d. InViews base.now (λ view. entry_steps view d.labels.items ≡ map word_step statement.now.proof)) }
+    ensures err { IfErr result (λ e. InViews base.now (λ view. Tells e (normal_at view i statement.now.proof))) }
 {
     let mut labels = Vec::new(alloc);
     let mut steps = Vec::new(alloc);
@@ -122,10 +126,13 @@ pub fn decode(
     mandatory: &[usize],
     statement: &Statement,
 ) -> Result<Decoding, Undecoded>
-    ensures ok { IfOk result (λ d. (view : BaseView) → IsBase view base.now → AreActive view i mandatory.now → decoding (place_at view i) (labels_at view mandatory.now) statement.now.proof ≡ Ok (decoded_steps view d statement.now.proof)) }
-    ensures entries { IfOk result (λ d. (view : BaseView) → IsBase view base.now → AreActive view i mandatory.now → AreEntries view i d.labels.items) }
-    ensures table { IfOk result (λ d. (view : BaseView) → IsBase view base.now → AreActive view i mandatory.now → entry_steps view d.labels.items ≡ label_table (labels_at view mandatory.now) statement.now.proof) }
-    ensures err { IfErr result (λ e. (view : BaseView) → IsBase view base.now → AreActive view i mandatory.now → TellsFault e (decoding (place_at view i) (labels_at view mandatory.now) statement.now.proof)) }
+    ensures ok { IfOk result (λ d. WhereActive base.now i mandatory.now (λ view.
+        decoding_of view i mandatory.now statement.now.proof ≡ Ok (decoded_steps view d statement.now.proof))) }
+    ensures entries { IfOk result (λ d. WhereActive base.now i mandatory.now (λ view. AreEntries view i d.labels.items)) }
+    ensures table { IfOk result (λ d. WhereActive base.now i mandatory.now (λ view.
+        entry_steps view d.labels.items ≡ label_table (labels_at view mandatory.now) statement.now.proof)) }
+    ensures err { IfErr result (λ e. WhereActive base.now i mandatory.now (λ view.
+        TellsFault e (decoding_of view i mandatory.now statement.now.proof))) }
 {
     if is_compressed(statement) {
         decode_compressed(alloc, base, i, mandatory, statement)
