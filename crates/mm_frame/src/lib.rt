@@ -10,6 +10,7 @@ mod mandatory;
 mod own_labels;
 mod pair_lists;
 mod paired;
+mod proof_words;
 mod same;
 mod scope;
 mod statement;
@@ -24,6 +25,7 @@ pub use mm_store::{
     nth_word, place,
 };
 pub use own_labels::{has_own_labels, mandatory_means};
+pub use proof_words::ProofWords;
 pub use same::same_frame;
 pub use statement::Statement;
 pub use symbol::NamedSymbol;

@@ -1,6 +1,6 @@
 //! Decoding: the steps of a proof, or its first fault.
 
-ghost use Rattle.std.specs.Prelude.{◌≡◌, ℕ, ◌+◌, List, Ok, IfOk, IfErr, map, drop, length, codes, bytes_eq, ◌∷◌, ◌++◌};
+ghost use Rattle.std.specs.Prelude.{◌≡◌, true, ℕ, ◌+◌, List, Ok, IfOk, IfErr, map, drop, length, codes, bytes_eq, ◌∷◌, ◌++◌};
 ghost use Rattle.std.specs.List.{before_first};
 ghost use Rattle.mm_proof.specs.Expansion.{Step, Named};
 ghost use Rattle.mm_frame.specs.Base.{BaseView};
@@ -47,14 +47,17 @@ fn decode_compressed(
     mandatory: &[usize],
     statement: &Statement,
 ) -> Result<Decoding, Undecoded>
+    requires { is_compressed_lem statement.now.proof ≡ true }
     ensures ok { IfOk result (λ d. (view : BaseView) → IsBase view base.now → AreActive view i mandatory.now → compressed_steps (place_at view i) (labels_at view mandatory.now) (drop 1 statement.now.proof) (word_spot (length statement.now.proof)) ≡ Ok (meant_steps (entry_steps view d.labels.items) d.steps.items)) }
     ensures entries { IfOk result (λ d. (view : BaseView) → IsBase view base.now → AreActive view i mandatory.now → AreEntries view i d.labels.items) }
     ensures table { IfOk result (λ d. (view : BaseView) → IsBase view base.now → AreActive view i mandatory.now → entry_steps view d.labels.items ≡ map Named (labels_at view mandatory.now ++ before_first is_close (drop 1 statement.now.proof))) }
     ensures err { IfErr result (λ e. (view : BaseView) → IsBase view base.now → AreActive view i mandatory.now → Tells e (compressed_steps (place_at view i) (labels_at view mandatory.now) (drop 1 statement.now.proof) (word_spot (length statement.now.proof)))) }
 {
     let mut labels = hypotheses(alloc, mandatory)?;
-    let close = read_list(base, i, statement, &mut labels)?;
-    let steps = read_letters(alloc, statement, close + 1, labels.len())?;
+    let mut words = statement.proof();
+    let _open = words.next_word();
+    let close = read_list(base, i, &mut words, &mut labels)?;
+    let steps = read_letters(alloc, &mut words, close + 1, labels.len())?;
     Ok(Decoding { labels, steps })
 }
 
@@ -93,13 +96,16 @@ fn decode_normal(
 {
     let mut labels = Vec::new(alloc);
     let mut steps = Vec::new(alloc);
-    for word in 0..statement.proof_count() {
-        let (label, action) = read_word(base, i, statement.proof_word(word), word)?;
+    let mut words = statement.proof();
+    let mut n = 0;
+    while let Some(word) = words.next_word() {
+        let (label, action) = read_word(base, i, word, n)?;
         labels.push(label)?;
         steps.push(ProofStep {
             action,
-            spot: Spot { word, letter: 0 },
+            spot: Spot { word: n, letter: 0 },
         })?;
+        n += 1;
     }
     Ok(Decoding { labels, steps })
 }
@@ -108,7 +114,11 @@ fn decode_normal(
 pub fn is_compressed(statement: &Statement) -> bool
     ensures { result ≡ is_compressed_lem statement.now.proof }
 {
-    statement.proof_count() > 0 && matches!(statement.proof_word(0), b"(")
+    let mut words = statement.proof();
+    match words.next_word() {
+        Some(word) => matches!(word, b"("),
+        None => false,
+    }
 }
 
 /// Decodes the proof of the item with the number `i`, whose mandatory hypotheses are the items with these numbers.

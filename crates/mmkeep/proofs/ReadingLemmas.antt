@@ -2,7 +2,7 @@
 use Rattle.std.proofs.Common.{◌≡◌, ℕ, suc, ◌+◌, ◌-◌, ◌<◌, ◌≤◌, true, false, cond, Some, None, Option, List, [], ◌∷◌, ◌++◌, length, take, drop, get_or, refl, sym, ◌∙◌, ap, subst, arith}
 use Rattle.std.specs.Prelude.{slice_range, IfSome}
 use Rattle.std.specs.List.{AllZip}
-use Rattle.std.proofs.lemmas.List.{take_more, drop_more, drop_all, length-take-le, length-drop}
+use Rattle.std.proofs.lemmas.List.{take_more, length-take-le, length-drop}
 use Rattle.mm_text.specs.declared.word.Word.{Word}
 use Rattle.mm_text.specs.Reading.{HasWords, LiesIn}
 use Rattle.mm_store.specs.declared.item.Item as store
@@ -30,18 +30,14 @@ zip_more R xs ys n d y within h r = subst (λ w. AllZip R w (ys ++ y ∷ [])) (s
 -- ---- the words of a proof
 
 -- one more word that is read
-pub unread_next : (proof : List (List ℕ)) (n : ℕ) (word : List ℕ) → n < length proof → word ≡ get_or proof n [] → is_unread_step n word ≡ false → unread_from n (drop n proof) ≡ unread_from (n + 1) (drop (n + 1) proof)
-unread_next proof n word within is passes =
+pub unread_next : (n : ℕ) (word : List ℕ) (left words : List (List ℕ)) → left ≡ word ∷ words → is_unread_step n word ≡ false → unread_from n left ≡ unread_from (n + 1) words
+unread_next n word left words is passes =
     let one : n + 1 ≡ suc n = omega arith in
-    ap (unread_from n) (drop_more proof n [] within ∙ ap (λ w. w ∷ drop (n + 1) proof) (sym is)) ∙ ap (λ b. cond b (Some n) (unread_from (suc n) (drop (n + 1) proof))) passes ∙ ap (λ k. unread_from k (drop (n + 1) proof)) (sym one)
+    ap (unread_from n) is ∙ ap (λ b. cond b (Some n) (unread_from (suc n) words)) passes ∙ ap (λ k. unread_from k words) (sym one)
 
 -- a word that is not
-pub unread_here : (proof : List (List ℕ)) (n : ℕ) (word : List ℕ) → n < length proof → word ≡ get_or proof n [] → is_unread_step n word ≡ true → unread_from n (drop n proof) ≡ Some n
-unread_here proof n word within is stops =
-    ap (unread_from n) (drop_more proof n [] within ∙ ap (λ w. w ∷ drop (n + 1) proof) (sym is)) ∙ ap (λ b. cond b (Some n) (unread_from (suc n) (drop (n + 1) proof))) stops
-
-pub unread_end : (proof : List (List ℕ)) (n : ℕ) → length proof ≤ n → unread_from n (drop n proof) ≡ None
-unread_end proof n past = ap (unread_from n) (drop_all n proof past)
+pub unread_here : (n : ℕ) (word : List ℕ) (left words : List (List ℕ)) → left ≡ word ∷ words → is_unread_step n word ≡ true → unread_from n left ≡ Some n
+unread_here n word left words is stops = ap (unread_from n) is ∙ ap (λ b. cond b (Some n) (unread_from (suc n) words)) stops
 
 -- ---- the byte of a word
 

@@ -137,8 +137,8 @@ fn run<'a>(
     ensures { IfOk result (λ found. (view : BaseView) → IsBase view base.now → KnowsActive view number disjoint.now → ReachesOrFails (place (before view number)) statement.now.proof found) }
 {
     let mut stack = Vec::new(alloc);
-    for word in 0..statement.proof_count() {
-        let label = statement.proof_word(word);
+    let mut words = statement.proof();
+    while let Some(label) = words.next_word() {
         if !step(alloc, base, number, disjoint, label, &mut stack)? {
             return Ok(None);
         }
