@@ -1,6 +1,6 @@
 //! Decoding: the steps of a proof, or its first fault.
 
-ghost use Rattle.std.specs.Prelude.{◌≡◌, ℕ, ◌+◌, List, Ok, IfOk, IfErr, map, drop, length, codes, bytes_eq, ◌∷◌, ◌++◌};
+ghost use Rattle.std.specs.Prelude.{◌≡◌, true, ℕ, ◌+◌, List, Ok, IfOk, IfErr, map, drop, length, codes, bytes_eq, ◌∷◌, ◌++◌};
 ghost use Rattle.std.specs.List.{before_first};
 ghost use Rattle.mm_proof.specs.Expansion.{Step, Named};
 ghost use Rattle.mm_frame.specs.Base.{BaseView};
@@ -48,6 +48,7 @@ fn decode_compressed(
     mandatory: &[usize],
     statement: &Statement,
 ) -> Result<Decoding, Undecoded>
+    requires { is_compressed_lem statement.now.proof ≡ true }
     ensures ok { IfOk result (λ d. (view : BaseView) → IsBase view base.now → AreActive view i mandatory.now → compressed_steps (place_at view i) (labels_at view mandatory.now) (drop 1 statement.now.proof) (word_spot (length statement.now.proof)) ≡ Ok (meant_steps (entry_steps view d.labels.items) d.steps.items)) }
     ensures entries { IfOk result (λ d. WhereActive base.now i mandatory.now (λ view. AreEntries view i d.labels.items)) }
     ensures table { IfOk result (λ d. WhereActive base.now i mandatory.now (λ view.
@@ -56,8 +57,10 @@ fn decode_compressed(
         Tells e (compressed_at view i mandatory.now statement.now.proof))) }
 {
     let mut labels = hypotheses(alloc, mandatory)?;
-    let close = read_list(base, i, statement, &mut labels)?;
-    let steps = read_letters(alloc, statement, close + 1, labels.len())?;
+    let mut words = statement.proof();
+    let _open = words.next_word();
+    let close = read_list(base, i, &mut words, &mut labels)?;
+    let steps = read_letters(alloc, &mut words, close + 1, labels.len())?;
     Ok(Decoding { labels, steps })
 }
 
@@ -97,13 +100,16 @@ fn decode_normal(
 {
     let mut labels = Vec::new(alloc);
     let mut steps = Vec::new(alloc);
-    for word in 0..statement.proof_count() {
-        let (label, action) = read_word(base, i, statement.proof_word(word), word)?;
+    let mut words = statement.proof();
+    let mut n = 0;
+    while let Some(word) = words.next_word() {
+        let (label, action) = read_word(base, i, word, n)?;
         labels.push(label)?;
         steps.push(ProofStep {
             action,
-            spot: Spot { word, letter: 0 },
+            spot: Spot { word: n, letter: 0 },
         })?;
+        n += 1;
     }
     Ok(Decoding { labels, steps })
 }
@@ -112,7 +118,11 @@ fn decode_normal(
 pub fn is_compressed(statement: &Statement) -> bool
     ensures { result ≡ is_compressed_lem statement.now.proof }
 {
-    statement.proof_count() > 0 && matches!(statement.proof_word(0), b"(")
+    let mut words = statement.proof();
+    match words.next_word() {
+        Some(word) => matches!(word, b"("),
+        None => false,
+    }
 }
 
 /// Decodes the proof of the item with the number `i`, whose mandatory hypotheses are the items with these numbers.
