@@ -5,13 +5,13 @@ ghost use Rattle.std.specs.List.{before_first};
 ghost use Rattle.mm_proof.specs.Expansion.{Step, Named};
 ghost use Rattle.mm_frame.specs.Base.{BaseView};
 ghost use Rattle.mm_frame.specs.Kept.{IsBase};
-ghost use Rattle.mm_proof.specs.BaseLabels.{label_at, place_at};
+ghost use Rattle.mm_proof.specs.BaseLabels.{label_at, place_at, AreActive};
 ghost use Rattle.mm_proof.specs.Decoding.{word_spot, read_word as read_word_lem, compressed_steps, is_compressed as is_compressed_lem};
 ghost use Rattle.mm_frame.specs.declared.base.Resolved.TheVariants as answers;
 ghost use Rattle.mm_proof.specs.Coded.{Tells, meant, meant_steps};
 ghost use Rattle.mm_proof.specs.Decoded.{decoded_steps, TellsFault, InViews, WhereActive, compressed_at, normal_at, decoding_of};
 ghost use Rattle.mm_proof.specs.Decoded.{steps_by, listed_table};
-ghost use Rattle.mm_proof.specs.Labels.{TellsWord, AreEntries, AreActive, IsEntry, entry_step, entry_steps, labels_at, label_table, word_step};
+ghost use Rattle.mm_proof.specs.Labels.{TellsWord, AreEntries, IsEntry, entry_step, entry_steps, labels_at, label_table, word_step};
 
 use crate::Spot;
 use crate::labels::{read_label, read_list};
