@@ -42,10 +42,6 @@ AreEntries base i labels = AllByRecursion (IsEntry base i) labels
 abbrev pub labels_at : BaseView → List ℕ → List (List ℕ)
 labels_at base numbers = map (label_at base) numbers
 
--- the items are hypotheses that are active at item i
-abbrev pub AreActive : BaseView → ℕ → List ℕ → Type 0
-AreActive base i numbers = AllByRecursion (λ j. Resolves base i (label_at base j) (answers.Hypothesis j)) numbers
-
 -- a fault that is told is that of a word
 abbrev pub TellsWord : Undecoded → ℕ → Result Step ProofNumber → Type 0
 TellsWord (errors.Fault fault) n read = (read ≡ Err fault.number) × (fault.spot ≡ word_spot n)
