@@ -180,4 +180,5 @@ active_by_blocks items i j x y h ei ej mx my l = (to_active, from_active)
         (a.blocks b w).before_end e (from_ends items h b e d)
 
     from_active : IsActive items i j → stays (between items i j) ≡ true
-    from_active a = heights_stay items h i j l (λ k u v. (let q : suc (i + (k - suc i)) ≡ k = omega arith in subst (λ w. height items (suc i) ≤ height items w) q (to_height (height items) (is_height items h) i j (flat_at items i x ei mx) (around a) (k - suc i) (omega arith) (k - suc i) (omega arith))))
+    from_active a = heights_stay items h i j l
+        (λ k u v. (let q : suc (i + (k - suc i)) ≡ k = omega arith in subst (λ w. height items (suc i) ≤ height items w) q (to_height (height items) (is_height items h) i j (flat_at items i x ei mx) (around a) (k - suc i) (omega arith) (k - suc i) (omega arith))))

@@ -100,13 +100,15 @@ none_found found true e = ap not e
 none_found found false e = ap not e
 
 -- one more item, with the symbols that are kept for it
-pub symbols_more : (before : List Item) (item : Item) (expressions : List (Vec NamedSymbol Global)) (symbols : Vec NamedSymbol Global) → AreSymbols before expressions → (is_read item.kind ≡ true → symbols_of symbols.items ≡ expression before item) → AreSymbols (before ++ item ∷ []) (expressions ++ symbols ∷ [])
+pub symbols_more : (before : List Item) (item : Item) (expressions : List (Vec NamedSymbol Global)) (symbols : Vec NamedSymbol Global) → AreSymbols before expressions → (is_read item.kind ≡ true → symbols_of symbols.items ≡ expression before item)
+    → AreSymbols (before ++ item ∷ []) (expressions ++ symbols ∷ [])
 symbols_more before item expressions symbols a new = record {
   count = (let c = a.count in let p = length_push expressions symbols in let q = length_push before item in omega arith);
   each = λ n x e t. elim (get_cases before item x n e) [
     | inl there ↦ (let c = a.count in let w = slice_get_within before n x there in ap (λ o. symbols_of (kept_or_none o)) (get_before expressions symbols n (omega arith)) ∙ a.each n x there t ∙ ap (λ (w : List Item). expression w x) (sym (take-append-le n before (item ∷ []) (omega arith))))
     | inr last ↦ (let z = last.0 in
-        ap (λ k. symbols_of (expression_kept (expressions ++ symbols ∷ []) k)) (z ∙ sym a.count) ∙ ap (λ o. symbols_of (kept_or_none o)) (get_last expressions symbols (length expressions) refl) ∙ new (ap (λ (w : Item). is_read w.kind) last.1 ∙ t) ∙ (λ i. expression (sym (ap (λ k. take k (before ++ item ∷ [])) z ∙ take_between before item []) i) (last.1 i)))
+        ap (λ k. symbols_of (expression_kept (expressions ++ symbols ∷ []) k)) (z ∙ sym a.count) ∙ ap (λ o. symbols_of (kept_or_none o)) (get_last expressions symbols (length expressions) refl) ∙ new (ap (λ (w : Item). is_read w.kind) last.1 ∙ t)
+        ∙ (λ i. expression (sym (ap (λ k. take k (before ++ item ∷ [])) z ∙ take_between before item []) i) (last.1 i)))
   ];
 }
 
@@ -196,7 +198,8 @@ expression_some base i expressions a e =
 
 -- a sound `$d` is read as variables
 pub variables_read : (item : Item) (n : ℕ) (variables : List NamedSymbol) → length item.symbols ≤ n → symbols_of variables ≡ map variable_of (take n item.symbols) → (before : List Item) → IsSound before item → is_disjoint item.kind ≡ true → symbols_of variables ≡ expression before item
-variables_read item n variables l r before s t = r ∙ ap (map variable_of) (take_all n item.symbols l) ∙ map_same variable_of (symbol before) item.symbols (λ name m. let v = in_has (active_variables before) name (disjoint_named before item name s t m) in λ i. record { name = name; variable = sym v i })
+variables_read item n variables l r before s t = r ∙ ap (map variable_of) (take_all n item.symbols l)
+    ∙ map_same variable_of (symbol before) item.symbols (λ name m. let v = in_has (active_variables before) name (disjoint_named before item name s t m) in λ i. record { name = name; variable = sym v i })
 
 -- what is read of a `$f`, `$e`, `$a` or `$p` is its expression
 pub are_expressions : (before : List Item) (expressions : List (Vec NamedSymbol Global)) → AreSymbols before expressions → AreExpressions before expressions
@@ -283,7 +286,8 @@ framed_in_order base i t =
 frame_told : (base : BaseView) (i : ℕ) (frame : Bor Frame) (kept_frame : Option Frame) → Some frame.now ≡ kept_frame → TellsFrame (before base i) (said_at base i) kept_frame → (is_framed_at base i ≡ true) × (kept_pairs frame.now.pairs.items ≡ pairs_in_order (frame_at base i))
 frame_told base i frame kept_frame e t = pairs_told (is_framed_at base i) (before base i) (said_at base i) (kept_pairs frame.now.pairs.items) (ap (option_map (λ (f : Frame). kept_pairs f.pairs.items)) e ∙ t.pairs)
 
-pub frame_order : (base : BaseView) (i : ℕ) (lent : Option (Bor Frame)) (kept_frame : Option Frame) → option_map (λ frame. frame.now) lent ≡ kept_frame → TellsFrame (before base i) (said_at base i) kept_frame → IfSome lent (λ frame. kept_pairs frame.now.pairs.items ≡ pairs_in_order (frame_at base i))
+pub frame_order : (base : BaseView) (i : ℕ) (lent : Option (Bor Frame)) (kept_frame : Option Frame) → option_map (λ frame. frame.now) lent ≡ kept_frame → TellsFrame (before base i) (said_at base i) kept_frame
+    → IfSome lent (λ frame. kept_pairs frame.now.pairs.items ≡ pairs_in_order (frame_at base i))
 frame_order base i None kept_frame e t = tt
 frame_order base i (Some frame) kept_frame e t = (frame_told base i frame kept_frame e t).1
 

@@ -173,8 +173,11 @@ stand_last outer behind block item end e q =
     })
 
 -- the blocks of all items, where those of the earlier ones are known
-stands_all : (blocks : List ℕ) (ends : List (Option ℕ)) (outer : List ℕ) (next : ℕ) (marks : List Mark) (mark : Mark) → length marks ≡ length blocks → end_of ends next ≡ None → ((item block : ℕ) → slice_get blocks item ≡ Some block → Stands (outer ++ next ∷ []) (drop (suc item) marks ++ mark ∷ []) block item (end_of ends block)) → (item block : ℕ) → slice_get (blocks ++ next ∷ []) item ≡ Some block → Stands (outer ++ next ∷ []) (drop (suc item) (marks ++ mark ∷ [])) block item (end_of ends block)
-stands_all blocks ends outer next marks mark count e h = each_more (λ item block. Stands (outer ++ next ∷ []) (drop (suc item) (marks ++ mark ∷ [])) block item (end_of ends block)) blocks next earlier (stand_last outer (drop (suc (length blocks)) (marks ++ mark ∷ [])) next (length blocks) (end_of ends next) e (let p = length_push marks mark in drop_all (suc (length blocks)) (marks ++ mark ∷ []) (omega arith)))
+stands_all : (blocks : List ℕ) (ends : List (Option ℕ)) (outer : List ℕ) (next : ℕ) (marks : List Mark) (mark : Mark) → length marks ≡ length blocks → end_of ends next ≡ None
+    → ((item block : ℕ) → slice_get blocks item ≡ Some block → Stands (outer ++ next ∷ []) (drop (suc item) marks ++ mark ∷ []) block item (end_of ends block)) → (item block : ℕ) → slice_get (blocks ++ next ∷ []) item ≡ Some block
+    → Stands (outer ++ next ∷ []) (drop (suc item) (marks ++ mark ∷ [])) block item (end_of ends block)
+stands_all blocks ends outer next marks mark count e h = each_more (λ item block. Stands (outer ++ next ∷ []) (drop (suc item) (marks ++ mark ∷ [])) block item (end_of ends block)) blocks next earlier
+    (stand_last outer (drop (suc (length blocks)) (marks ++ mark ∷ [])) next (length blocks) (end_of ends next) e (let p = length_push marks mark in drop_all (suc (length blocks)) (marks ++ mark ∷ []) (omega arith)))
   where
     earlier : (item block : ℕ) → slice_get blocks item ≡ Some block → Stands (outer ++ next ∷ []) (drop (suc item) (marks ++ mark ∷ [])) block item (end_of ends block)
     earlier item block there =
@@ -206,7 +209,8 @@ passed blocks ends outer current marks count k = record {
 }
   where
     earlier : (item block : ℕ) → slice_get blocks item ≡ Some block → Stands (outer ++ current ∷ []) (drop (suc item) marks ++ Neither ∷ []) block item (end_of ends block)
-    earlier item block there = stand_more (outer ++ current ∷ []) (outer ++ current ∷ []) (drop (suc item) marks) Neither block item (end_of ends block) (k.stand item block there) (λ s. record { level = s.level; there = s.there; leaves = leaves_neither (drop (suc item) marks) (length (outer ++ current ∷ []) - suc s.level) (length (outer ++ current ∷ []) - suc s.level) refl s.leaves })
+    earlier item block there = stand_more (outer ++ current ∷ []) (outer ++ current ∷ []) (drop (suc item) marks) Neither block item (end_of ends block) (k.stand item block there)
+        (λ s. record { level = s.level; there = s.there; leaves = leaves_neither (drop (suc item) marks) (length (outer ++ current ∷ []) - suc s.level) (length (outer ++ current ∷ []) - suc s.level) refl s.leaves })
 
 mark_neither : (ends : List (Option ℕ)) (item before current : ℕ) → before ≡ current → end_of ends current ≡ None → mark_between ends item before current ≡ Neither
 mark_neither ends item before current e z = subst (λ w. mark_between ends item w current ≡ Neither) (sym e) (ap (λ end. cond (is_at end item) Closes (cond (current == current) Neither Opens)) z ∙ ap (λ w. cond w Neither Opens) (eq-eqb current current refl))
@@ -216,7 +220,8 @@ passed_marks blocks ends outer current marks k =
     marks_push ends 0 0 blocks current (length blocks) (omega arith) ∙ ap (λ m. marks_from ends 0 0 blocks ++ m ∷ []) (mark_neither ends (length blocks) (last_block 0 blocks) current k.last (k.unended (length outer) current (get_last outer current (length outer) refl)))
 
 -- an item that begins a block
-begun : (blocks : List ℕ) (ends : List (Option ℕ)) (outer : List ℕ) (current next : ℕ) (marks : List Mark) → length marks ≡ length blocks → current < length ends → next ≡ length ends → AreBlocks blocks ends outer current marks → AreBlocks (blocks ++ next ∷ []) ends (outer ++ current ∷ []) next (marks ++ Opens ∷ [])
+begun : (blocks : List ℕ) (ends : List (Option ℕ)) (outer : List ℕ) (current next : ℕ) (marks : List Mark) → length marks ≡ length blocks → current < length ends → next ≡ length ends → AreBlocks blocks ends outer current marks
+    → AreBlocks (blocks ++ next ∷ []) ends (outer ++ current ∷ []) next (marks ++ Opens ∷ [])
 begun blocks ends outer current next marks count l q k = record {
   stand = stands_all blocks ends (outer ++ current ∷ []) next marks Opens count (end_of_past ends next (omega arith)) earlier;
   unended = each_more (λ level block. end_of ends block ≡ None) (outer ++ current ∷ []) next k.unended (end_of_past ends next (omega arith));
@@ -233,7 +238,8 @@ begun blocks ends outer current next marks count l q k = record {
     earlier item block there = stand_more (outer ++ current ∷ []) ((outer ++ current ∷ []) ++ next ∷ []) (drop (suc item) marks) Opens block item (end_of ends block) (k.stand item block there) (λ s. record {
       level = s.level;
       there = get_front (outer ++ current ∷ []) next block s.level s.there;
-      leaves = leaves_more (drop (suc item) marks) (length (outer ++ current ∷ []) - suc s.level) (length ((outer ++ current ∷ []) ++ next ∷ []) - suc s.level) (let w = slice_get_within (outer ++ current ∷ []) s.level block s.there in let p = length_push (outer ++ current ∷ []) next in omega arith) s.leaves;
+      leaves = leaves_more (drop (suc item) marks) (length (outer ++ current ∷ []) - suc s.level) (length ((outer ++ current ∷ []) ++ next ∷ []) - suc s.level) (let w = slice_get_within (outer ++ current ∷ []) s.level block s.there in let p = length_push (outer ++ current ∷ []) next in omega arith)
+          s.leaves;
     })
 
 mark_opens : (ends : List (Option ℕ)) (item before current next : ℕ) → before ≡ current → end_of ends current ≡ None → current ≢ next → mark_between ends item before next ≡ Opens
@@ -336,7 +342,8 @@ module _ (blocks : List ℕ) (ends : List (Option ℕ)) (outer rest : List ℕ) 
       ]
 
   -- the block of an earlier item ended, or ends now, or is open
-  ended_block : (count : length marks ≡ length blocks) (item block : ℕ) (end : Option ℕ) → item < length blocks → end_of ends block ≡ end → Stands (outer ++ current ∷ []) (drop (suc item) marks) block item end → Stands (rest ++ next ∷ []) (drop (suc item) marks ++ Closes ∷ []) block item (end_of (closing ends current (length blocks)) block)
+  ended_block : (count : length marks ≡ length blocks) (item block : ℕ) (end : Option ℕ) → item < length blocks → end_of ends block ≡ end → Stands (outer ++ current ∷ []) (drop (suc item) marks) block item end
+      → Stands (rest ++ next ∷ []) (drop (suc item) marks ++ Closes ∷ []) block item (end_of (closing ends current (length blocks)) block)
   ended_block count item block (Some end) w e s =
       let n : block ≢ current = λ q. (cc (innermost, e)) in
       subst (λ o. Stands (rest ++ next ∷ []) (drop (suc item) marks ++ Closes ∷ []) block item o) (sym (end_of_other ends current (length blocks) block n ∙ e)) (more_ended (drop (suc item) marks) Closes item end s)
@@ -368,7 +375,8 @@ module _ (blocks : List ℕ) (ends : List (Option ℕ)) (outer rest : List ℕ) 
 
   ended : length marks ≡ length blocks → AreBlocks (blocks ++ next ∷ []) (closing ends current (length blocks)) rest next (marks ++ Closes ∷ [])
   ended count = record {
-    stand = stands_all blocks (closing ends current (length blocks)) rest next marks Closes count (ended_unended (length rest) next (get_last rest next (length rest) refl)) (λ item block there. ended_block count item block (end_of ends block) (slice_get_within blocks item block there) refl (k.stand item block there));
+    stand = stands_all blocks (closing ends current (length blocks)) rest next marks Closes count (ended_unended (length rest) next (get_last rest next (length rest) refl))
+        (λ item block there. ended_block count item block (end_of ends block) (slice_get_within blocks item block there) refl (k.stand item block there));
     unended = ended_unended;
     distinct = ended_distinct;
     numbered = ended_numbered;
@@ -384,10 +392,12 @@ module _ (blocks : List ℕ) (ends : List (Option ℕ)) (outer rest : List ℕ) 
 
   pub ended_marks : marks_from (closing ends current (length blocks)) 0 0 (blocks ++ next ∷ []) ≡ marks_from ends 0 0 blocks ++ Closes ∷ []
   ended_marks =
-      marks_push (closing ends current (length blocks)) 0 0 blocks next (length blocks) (omega arith) ∙ ap (λ m. marks_from (closing ends current (length blocks)) 0 0 blocks ++ m ∷ []) (mark_closes (last_block 0 blocks) k.last) ∙ ap (λ w. w ++ Closes ∷ []) (marks_same ends (closing ends current (length blocks)) 0 0 blocks same_before)
+      marks_push (closing ends current (length blocks)) 0 0 blocks next (length blocks) (omega arith) ∙ ap (λ m. marks_from (closing ends current (length blocks)) 0 0 blocks ++ m ∷ []) (mark_closes (last_block 0 blocks) k.last)
+      ∙ ap (λ w. w ++ Closes ∷ []) (marks_same ends (closing ends current (length blocks)) 0 0 blocks same_before)
     where
       mark_closes : (before : ℕ) → before ≡ current → mark_between (closing ends current (length blocks)) (length blocks) before next ≡ Closes
-      mark_closes before e = ap (λ end. cond (is_at end (length blocks)) Closes (cond (before == next) Neither Opens)) (ap (λ b. end_of (closing ends current (length blocks)) b) e ∙ end_of_closed ends current (length blocks) l) ∙ ap (λ w. cond w Closes (cond (before == next) Neither Opens)) (eq-eqb (length blocks) (length blocks) refl)
+      mark_closes before e = ap (λ end. cond (is_at end (length blocks)) Closes (cond (before == next) Neither Opens)) (ap (λ b. end_of (closing ends current (length blocks)) b) e ∙ end_of_closed ends current (length blocks) l)
+          ∙ ap (λ w. cond w Closes (cond (before == next) Neither Opens)) (eq-eqb (length blocks) (length blocks) refl)
 
 -- counts of one more mark
 count_push : (test : Mark → Bool) (marks : List Mark) (mark : Mark) → count_by test (marks ++ mark ∷ []) ≡ count_by test marks + cond (test mark) 1 0
@@ -428,7 +438,8 @@ kept_begun blocks ends outer current next begun_count ended l q k =
       ended_is = same_count closes marks _ Opens ended ended more k.ended_is (omega arith);
     }
 
-pub kept_ended : (blocks : List ℕ) (ends : List (Option ℕ)) (outer rest : List ℕ) (current next begun ended : ℕ) → current < length ends → Popped outer rest next (length ends) → AreKept blocks ends outer current begun ended → AreKept (blocks ++ next ∷ []) (closing ends current (length blocks)) rest next begun (ended + 1)
+pub kept_ended : (blocks : List ℕ) (ends : List (Option ℕ)) (outer rest : List ℕ) (current next begun ended : ℕ) → current < length ends → Popped outer rest next (length ends) → AreKept blocks ends outer current begun ended
+    → AreKept (blocks ++ next ∷ []) (closing ends current (length blocks)) rest next begun (ended + 1)
 kept_ended blocks ends outer rest current next begun ended_count l p k =
     let marks = marks_from ends 0 0 blocks in
     let more = ended_marks blocks ends outer rest current next marks l p k.are_blocks in
@@ -477,13 +488,15 @@ pub before_none : (marks : List Mark) (from at end : ℕ) → end ≡ min at (le
 before_none marks from at end e l = let c = length-take at marks in ap stays_by (drop_all (suc from) (take at marks) (omega arith))
 
 -- an item whose block is open is active, and one whose block has ended is so up to the end
-pub is_active_open : (blocks : List ℕ) (ends : List (Option ℕ)) (outer : List ℕ) (current begun ended from at block : ℕ) → AreKept blocks ends outer current begun ended → from < length blocks → block ≡ get_or blocks from block → end_of ends block ≡ None → stays_by (slice_range (marks_from ends 0 0 blocks) (from + 1) at) ≡ true
+pub is_active_open : (blocks : List ℕ) (ends : List (Option ℕ)) (outer : List ℕ) (current begun ended from at block : ℕ) → AreKept blocks ends outer current begun ended → from < length blocks → block ≡ get_or blocks from block → end_of ends block ≡ None
+    → stays_by (slice_range (marks_from ends 0 0 blocks) (from + 1) at) ≡ true
 is_active_open blocks ends outer current begun ended from at block k l there e =
     let marks = marks_from ends 0 0 blocks in
     let s : StandsOpen (outer ++ current ∷ []) (drop (suc from) marks) block = subst (λ end. Stands (outer ++ current ∷ []) (drop (suc from) marks) block from end) e (k.are_blocks.stand from block (slice_get-get_or blocks from block l ∙ ap Some (sym there))) in
     active_open marks from at (length (outer ++ current ∷ []) - suc s.level) s.leaves
 
-pub is_active_ended : (blocks : List ℕ) (ends : List (Option ℕ)) (outer : List ℕ) (current begun ended from at block end : ℕ) → AreKept blocks ends outer current begun ended → from < at → from < length blocks → block ≡ get_or blocks from block → end_of ends block ≡ Some end → stays_by (slice_range (marks_from ends 0 0 blocks) (from + 1) at) ≡ leb at end
+pub is_active_ended : (blocks : List ℕ) (ends : List (Option ℕ)) (outer : List ℕ) (current begun ended from at block end : ℕ) → AreKept blocks ends outer current begun ended → from < at → from < length blocks → block ≡ get_or blocks from block → end_of ends block ≡ Some end
+    → stays_by (slice_range (marks_from ends 0 0 blocks) (from + 1) at) ≡ leb at end
 is_active_ended blocks ends outer current begun ended from at block end k f l there e =
     let marks = marks_from ends 0 0 blocks in
     active_ended marks from at end f (subst (λ end. Stands (outer ++ current ∷ []) (drop (suc from) marks) block from end) e (k.are_blocks.stand from block (slice_get-get_or blocks from block l ∙ ap Some (sym there))))

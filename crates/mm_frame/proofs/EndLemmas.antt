@@ -81,7 +81,8 @@ last_of (n ∷ numbers) = elim (last_of numbers) [
 ]
 
 -- what is left is a beginning, and the longest of which all are still active: so it is what is active behind the `$}`
-pub pruned_numbers : (test : Item → Bool) (before : List Item) (item : Item) (kept gone : List ℕ) → test item ≡ false → active_numbers test before ≡ kept ++ gone → ((n : ℕ) → In n gone → is_active_at (before ++ item ∷ []) n ≡ false) → ((front : List ℕ) (n : ℕ) → kept ≡ front ++ n ∷ [] → is_active_at (before ++ item ∷ []) n ≡ true) → kept ≡ active_numbers test (before ++ item ∷ [])
+pub pruned_numbers : (test : Item → Bool) (before : List Item) (item : Item) (kept gone : List ℕ) → test item ≡ false → active_numbers test before ≡ kept ++ gone → ((n : ℕ) → In n gone → is_active_at (before ++ item ∷ []) n ≡ false)
+    → ((front : List ℕ) (n : ℕ) → kept ≡ front ++ n ∷ [] → is_active_at (before ++ item ∷ []) n ≡ true) → kept ≡ active_numbers test (before ++ item ∷ [])
 pruned_numbers test before item kept gone t e ended last =
     let whole = before ++ item ∷ [] in
     let rising = subst IsRising e (active_numbers_rise test before) in

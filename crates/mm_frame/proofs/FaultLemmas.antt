@@ -82,7 +82,9 @@ passes_more {scope = scope} item n more name old new m l e p seen none = record 
     longer : take more item.symbols ≡ take n item.symbols ++ name ∷ []
     longer = ap (λ w. take w item.symbols) m ∙ take-suc item.symbols n [] l ∙ ap (λ x. take n item.symbols ++ x ∷ []) (sym e)
 
-    passed_by : (before : List Item) → AreSound before → Holds before scope → fault_or (first_symbol item + n) (symbol_fault before item n (get_or item.symbols n [])) (first_fault (symbol_fault before item) (suc (first_symbol item + n)) (suc n) (drop (suc n) item.symbols)) ≡ first_fault (symbol_fault before item) (first_symbol item + more) more (drop more item.symbols)
+    passed_by : (before : List Item) → AreSound before → Holds before scope
+        → fault_or (first_symbol item + n) (symbol_fault before item n (get_or item.symbols n [])) (first_fault (symbol_fault before item) (suc (first_symbol item + n)) (suc n) (drop (suc n) item.symbols)) ≡ first_fault (symbol_fault before item) (first_symbol item + more) more
+        (drop more item.symbols)
     passed_by before h k =
         let word : suc (first_symbol item + n) ≡ first_symbol item + more = omega (arith, m) in
         (λ i. fault_or (first_symbol item + n) (sym (none before h k) i) (first_fault (symbol_fault before item) (word i) (sym m i) (drop (sym m i) item.symbols)))

@@ -53,7 +53,8 @@ among_found numbers n r s h = elim (found_or_not numbers n r s h) [
 abbrev variables_if : Bool → List Symbol → List Symbol
 variables_if floating symbols = cond floating (drop 1 symbols) []
 
-variables_at : (before : List Item) (item : Item) (expressions : List (Vec NamedSymbol Global)) (n : ℕ) → AreSound before → AreExpressions before expressions → In n (mandatory_numbers before item) → float_variable (active_numbers is_essential_item before) expressions n ≡ variables_if (is_floating (item_at before n).kind) (expression before (item_at before n))
+variables_at : (before : List Item) (item : Item) (expressions : List (Vec NamedSymbol Global)) (n : ℕ) → AreSound before → AreExpressions before expressions → In n (mandatory_numbers before item)
+    → float_variable (active_numbers is_essential_item before) expressions n ≡ variables_if (is_floating (item_at before n).kind) (expression before (item_at before n))
 variables_at before item expressions n h a m =
     let r = from_active_number (is_mandatory (mandatory_variables before item)) before n m in
     let there = get_or_from_slice_get before n r.0 passed r.1 in
@@ -72,7 +73,8 @@ variables_at before item expressions n h a m =
         let same = same_item x r.0 (sym there ∙ r.1) in
         not_both x.kind f (ap (λ (y : Item). is_essential y.kind) same ∙ r.3))
 
-    by_kind : (x : Item) → slice_get before n ≡ Some x → is_active_at before n ≡ true → (is_essential x.kind ≡ true) ⊎ ((is_floating x.kind && has (mandatory_variables before item) (variable_of x)) ≡ true) → float_variable essentials expressions n ≡ variables_if (is_floating x.kind) (expression before x)
+    by_kind : (x : Item) → slice_get before n ≡ Some x → is_active_at before n ≡ true → (is_essential x.kind ≡ true) ⊎ ((is_floating x.kind && has (mandatory_variables before item) (variable_of x)) ≡ true)
+        → float_variable essentials expressions n ≡ variables_if (is_floating x.kind) (expression before x)
     by_kind x there stayed (inl e) =
         ap (λ b. cond b [] (option_to_list (slice_get (symbols_of (expression_kept expressions n)) 1))) (in_among essentials n (to_active_number is_essential_item before n x there stayed e))
         ∙ sym (ap (λ b. variables_if b (expression before x)) (no_float x e))
@@ -86,7 +88,8 @@ variables_at before item expressions n h a m =
         ∙ ap (λ w. option_to_list (slice_get w 1)) (kept_is ∙ symbols)
         ∙ sym (ap (λ b. variables_if b (expression before x)) f ∙ ap (drop 1) symbols)
 
-pub variables_are : (before : List Item) (item : Item) (essentials numbers : List ℕ) (expressions : List (Vec NamedSymbol Global)) → AreSound before → essentials ≡ active_numbers is_essential_item before → AreExpressions before expressions → numbers ≡ mandatory_numbers before item → float_variables essentials expressions numbers ≡ typed_variables (mandatory_hypotheses before item)
+pub variables_are : (before : List Item) (item : Item) (essentials numbers : List ℕ) (expressions : List (Vec NamedSymbol Global)) → AreSound before → essentials ≡ active_numbers is_essential_item before → AreExpressions before expressions → numbers ≡ mandatory_numbers before item
+    → float_variables essentials expressions numbers ≡ typed_variables (mandatory_hypotheses before item)
 variables_are before item essentials numbers expressions h e a m =
     let said = λ (x : Mandatory). variables_if x.floating x.expression in
     let hypothesis_of = λ (n : ℕ). hypothesis before (item_at before n) in
@@ -174,7 +177,8 @@ nothing_second essentials expressions n symbols so_far e l =
     sym (append-nil so_far)
     ∙ ap (λ w. so_far ++ w) (sym (ap (λ o. cond (is_among essentials n) [] (option_to_list o)) (ap (λ w. slice_get (symbols_of w) 1) (sym e) ∙ no_second symbols l) ∙ nothing (is_among essentials n)))
 
-pub variables_more : (essentials : List ℕ) (expressions : List (Vec NamedSymbol Global)) (numbers : List ℕ) (n : ℕ) → n < length numbers → float_variables essentials expressions (take (n + 1) numbers) ≡ float_variables essentials expressions (take n numbers) ++ float_variable essentials expressions (get_or numbers n 0)
+pub variables_more : (essentials : List ℕ) (expressions : List (Vec NamedSymbol Global)) (numbers : List ℕ) (n : ℕ) → n < length numbers
+    → float_variables essentials expressions (take (n + 1) numbers) ≡ float_variables essentials expressions (take n numbers) ++ float_variable essentials expressions (get_or numbers n 0)
 variables_more essentials expressions numbers n l =
     let z : n + 1 ≡ suc n = omega arith in
     ap (λ k. float_variables essentials expressions (take k numbers)) z
@@ -183,7 +187,8 @@ variables_more essentials expressions numbers n l =
     ∙ ap (λ w. float_variables essentials expressions (take n numbers) ++ w) (append-nil (float_variable essentials expressions (get_or numbers n 0)))
 
 -- one more variable
-pub among_more : {X : Type 0} (f : X → Symbol) (test : Symbol × Symbol → Bool) (variables : List X) (n : ℕ) (x : X) (old new all : List (Symbol × Symbol)) → n < length variables → x ≡ get_or variables n x → old ++ filter test (pairs_of (map f (drop n variables))) ≡ all → new ≡ old ++ filter test (pairs_with (f x) (map f (drop (n + 1) variables))) → new ++ filter test (pairs_of (map f (drop (n + 1) variables))) ≡ all
+pub among_more : {X : Type 0} (f : X → Symbol) (test : Symbol × Symbol → Bool) (variables : List X) (n : ℕ) (x : X) (old new all : List (Symbol × Symbol)) → n < length variables → x ≡ get_or variables n x → old ++ filter test (pairs_of (map f (drop n variables))) ≡ all
+    → new ≡ old ++ filter test (pairs_with (f x) (map f (drop (n + 1) variables))) → new ++ filter test (pairs_of (map f (drop (n + 1) variables))) ≡ all
 among_more f test variables n x old new all l e so_far more =
     let row = pairs_with (f x) (map f (drop (n + 1) variables)) in
     let rest = pairs_of (map f (drop (n + 1) variables)) in

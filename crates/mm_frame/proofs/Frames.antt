@@ -144,7 +144,8 @@ named_typed before item name k s t h =
     let r = from_typed before name b.1 in
     let x = float_of before r.0 k r.1 r.2 in
     let same : x.name ≡ name = sym (float_name before r.0 x) ∙ r.3 in
-    let mandatory = or_right (is_essential (r.0).kind) (is_floating (r.0).kind && has (mandatory_variables before item) (variable_of r.0)) (and_from (is_floating (r.0).kind) (has (mandatory_variables before item) (variable_of r.0)) r.2 (in_has (mandatory_variables before item) (variable_of r.0) (subst (λ w. In w (mandatory_variables before item)) (sym r.3) h))) in
+    let mandatory = or_right (is_essential (r.0).kind) (is_floating (r.0).kind && has (mandatory_variables before item) (variable_of r.0))
+    (and_from (is_floating (r.0).kind) (has (mandatory_variables before item) (variable_of r.0)) r.2 (in_has (mandatory_variables before item) (variable_of r.0) (subst (λ w. In w (mandatory_variables before item)) (sym r.3) h))) in
     let there = in_map (hypothesis before) r.0 (filter (is_mandatory (mandatory_variables before item)) (active before)) (in_filter (is_mandatory (mandatory_variables before item)) r.0 (active before) r.1 mandatory) in
     let e : expression before r.0 ≡ symbol before x.typecode ∷ symbol before name ∷ [] = ap (map (symbol before)) x.both ∙ ap (λ w. symbol before x.typecode ∷ symbol before w ∷ []) same in
     let whole : hypothesis before r.0 ≡ record { floating = true; expression = symbol before x.typecode ∷ symbol before name ∷ [] } = λ i. record { floating = r.2 i; expression = e i } in
@@ -270,7 +271,8 @@ side_typed before item d k t x s h m =
     let v = in_has (active_variables before) r.0 (mandatory_typed before item r.0 k t x n).0 in
     (ap (λ (w : Symbol). w.variable) (sym r.2) ∙ v, subst (IsTyped (mandatory_hypotheses before item)) r.2 (named_typed before item r.0 k t x n))
 
-pub pairs_typed_at : (before : List Item) (item : Item) → AreKept [] before → IsSound before item → is_expression item.kind ≡ true → (pair : Symbol × Symbol) → In pair (filter (is_mandatory_pair (mandatory_variables before item)) (active_pairs before)) → (pair.0.variable ≡ true) × (pair.1.variable ≡ true) × IsTyped (mandatory_hypotheses before item) pair.0 × IsTyped (mandatory_hypotheses before item) pair.1
+pub pairs_typed_at : (before : List Item) (item : Item) → AreKept [] before → IsSound before item → is_expression item.kind ≡ true → (pair : Symbol × Symbol) → In pair (filter (is_mandatory_pair (mandatory_variables before item)) (active_pairs before))
+    → (pair.0.variable ≡ true) × (pair.1.variable ≡ true) × IsTyped (mandatory_hypotheses before item) pair.0 × IsTyped (mandatory_hypotheses before item) pair.1
 pairs_typed_at before item k s t pair h =
     let f = from_filter (is_mandatory_pair (mandatory_variables before item)) pair (active_pairs before) h in
     let r = from_flat (λ (d : Item). cond (is_disjoint d.kind) (pairs_of (expression before d)) []) pair (active before) f.0 in
@@ -290,7 +292,8 @@ is_frame before item k s t = record {
 }
 
 -- what resolves to an assertion is one that is sound
-resolved_at : (whole front : List Item) (item : Item) (back : List Item) (label : List ℕ) (f : Frame) (b : Bool) → AreKept [] (front ++ item ∷ back) → cond b (meaning whole front item back) (resolve_from whole (front ++ item ∷ []) back label) ≡ Assertion f → (resolve_from whole (front ++ item ∷ []) back label ≡ Assertion f → IsFrame f) → IsFrame f
+resolved_at : (whole front : List Item) (item : Item) (back : List Item) (label : List ℕ) (f : Frame) (b : Bool) → AreKept [] (front ++ item ∷ back) → cond b (meaning whole front item back) (resolve_from whole (front ++ item ∷ []) back label) ≡ Assertion f
+    → (resolve_from whole (front ++ item ∷ []) back label ≡ Assertion f → IsFrame f) → IsFrame f
 resolved_at whole front item back label f true k e r = by_kind (is_assertion item.kind) (stays back) refl e
   where
     by_kind : (a s : Bool) → is_assertion item.kind ≡ a → cond a (Assertion (frame front item)) (cond s (Hypothesis (expression whole item)) Inactive) ≡ Assertion f → IsFrame f

@@ -203,7 +203,8 @@ number_to before h item t n (inr p) =
     let z : a.0 ≡ n = cc in
     let r = last_there (types p.0) before n p.2 in
     let f = typed_by p.0 r.0 r.2 in
-    to_active_number (is_mandatory mandatory) before n r.0 r.1 (subst (λ w. is_active_at before w ≡ true) z a.2) (or_right (is_essential (r.0).kind) (is_floating (r.0).kind && has mandatory (variable_of r.0)) (and_from (is_floating (r.0).kind) (has mandatory (variable_of r.0)) f.0 (in_has mandatory (variable_of r.0) (subst (λ w. In w mandatory) (sym f.1) m))))
+    to_active_number (is_mandatory mandatory) before n r.0 r.1 (subst (λ w. is_active_at before w ≡ true) z a.2)
+    (or_right (is_essential (r.0).kind) (is_floating (r.0).kind && has mandatory (variable_of r.0)) (and_from (is_floating (r.0).kind) (has mandatory (variable_of r.0)) f.0 (in_has mandatory (variable_of r.0) (subst (λ w. In w mandatory) (sym f.1) m))))
 
 -- the mandatory hypotheses by their numbers
 pub hypotheses_by_numbers : (before : List Item) (item : Item) → mandatory_hypotheses before item ≡ map (λ n. hypothesis before (item_at before n)) (mandatory_numbers before item)

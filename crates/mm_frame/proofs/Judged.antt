@@ -7,12 +7,14 @@ use Rattle.mm_frame.specs.Item.{Item, passed, is_constants, is_variables, is_dis
 use Rattle.mm_frame.specs.Scope.{is_inside}
 use Rattle.mm_frame.specs.declared.FrameNumber.{FrameNumber}
 use Rattle.mm_frame.specs.declared.FrameNumber.TheVariants.{F01, F02, F03, F04, F05, F06, F07, F08, F09, F10, F11, F12, F13, F14}
-use Rattle.mm_frame.specs.Sound.{first_symbol, closing_word, passes, at_symbol, each, first, second, later, is_third, is_repeated, is_declared, is_active_symbol, is_label, is_no_constant, is_no_variable, is_unknown, is_untyped, is_typed, is_typed_otherwise, is_short, line, LineHolds, IsSound, row, IsFault, numbers, number_at, fault_or, fault_from, fault, judged, kept_after, kept}
+use Rattle.mm_frame.specs.Sound.{first_symbol, closing_word, passes, at_symbol, each, first, second, later, is_third, is_repeated, is_declared, is_active_symbol, is_label, is_no_constant, is_no_variable, is_unknown, is_untyped, is_typed, is_typed_otherwise, is_short, line, LineHolds, IsSound, row}
+use Rattle.mm_frame.specs.Sound.{IsFault, numbers, number_at, fault_or, fault_from, fault, judged, kept_after, kept}
 use Rattle.mm_frame.proofs.Facts.{AreKept}
 
 -- no line holds behind the statement's words
 past_symbols : (test : ℕ → List ℕ → Bool) (item : Item) (word : ℕ) → closing_word item < word → at_symbol test item word ≡ false
-past_symbols test item word l = and_right (leb (first_symbol item) word) (passes (test (word - first_symbol item)) (slice_get item.symbols (word - first_symbol item))) (subst (λ o. passes (test (word - first_symbol item)) o ≡ false) (sym (slice_get_past item.symbols (word - first_symbol item) (omega arith))) refl)
+past_symbols test item word l = and_right (leb (first_symbol item) word) (passes (test (word - first_symbol item)) (slice_get item.symbols (word - first_symbol item)))
+    (subst (λ o. passes (test (word - first_symbol item)) o ≡ false) (sym (slice_get_past item.symbols (word - first_symbol item) (omega arith))) refl)
 
 not_word : (x y : ℕ) → (x ≡ y → ⊥) → (x == y) ≡ false
 not_word x y n = ne_eqb x y n
@@ -110,7 +112,8 @@ pub record IsLeast (before : List Item) (item : Item) (start word : ℕ) (n : Fr
   pub found : number_at before item word ≡ Some n
   pub least : (v : ℕ) → start ≤ v → v < word → number_at before item v ≡ None
 
-least_at : (before : List Item) (item : Item) (start : ℕ) (o : Option FrameNumber) (later : Option (ℕ × FrameNumber)) (w : ℕ) (n : FrameNumber) → number_at before item start ≡ o → fault_or start o later ≡ Some (w, n) → (later ≡ Some (w, n) → IsLeast before item (suc start) w n × (suc start ≤ w)) → IsLeast before item start w n × (start ≤ w)
+least_at : (before : List Item) (item : Item) (start : ℕ) (o : Option FrameNumber) (later : Option (ℕ × FrameNumber)) (w : ℕ) (n : FrameNumber) → number_at before item start ≡ o → fault_or start o later ≡ Some (w, n) → (later ≡ Some (w, n) → IsLeast before item (suc start) w n × (suc start ≤ w))
+    → IsLeast before item start w n × (start ≤ w)
 least_at before item start (Some m) later w n t e r =
     let p = some_pair start w m n e in
     (record { found = subst (λ x. number_at before item x ≡ Some n) p.0 (t ∙ ap Some p.1); least = λ v a b. absurd (let q = p.0 in omega arith) }, (let q = p.0 in omega arith))

@@ -10,7 +10,8 @@ use Rattle.mm_frame.specs.Item.{Kind, Constants, Variables, Disjoint, Floating, 
 use Rattle.mm_frame.specs.Scope.{is_inside}
 use Rattle.mm_frame.specs.declared.FrameNumber.{FrameNumber}
 use Rattle.mm_frame.specs.declared.FrameNumber.TheVariants.{F01, F02, F03, F04, F05, F06, F07, F08, F09, F10, F11, F12, F13, F14}
-use Rattle.mm_frame.specs.Sound.{first_symbol, closing_word, passes, at_symbol, each, first, second, later, is_third, is_repeated, is_declared, is_active_symbol, is_label, is_no_constant, is_no_variable, is_unknown, is_untyped, is_typed, is_typed_otherwise, is_short, numbers, number_at, fault_or, fault_from, fault}
+use Rattle.mm_frame.specs.Sound.{first_symbol, closing_word, passes, at_symbol, each, first, second, later, is_third, is_repeated, is_declared, is_active_symbol, is_label, is_no_constant, is_no_variable, is_unknown, is_untyped, is_typed, is_typed_otherwise, is_short, numbers, number_at, fault_or}
+use Rattle.mm_frame.specs.Sound.{fault_from, fault}
 use Rattle.mm_frame.specs.Judging.{first_fault, typecode_fault, typed_fault, floating_fault, symbol_fault_of, labels_fault, front_fault, end_fault, symbols_fault, fault_by_kind}
 
 -- what a line asks of a word: whether the statement ends there too early, whether it is word 0, and what its symbol passes
@@ -35,7 +36,8 @@ abbrev number_of : Kind → List Item → Item → Bool → Bool → ((ℕ → L
 number_of kind before item ends starts at = find (λ number. line_of kind before item ends starts at number) numbers
 
 -- what is found at a word, by what is known of the word
-by_word : (before : List Item) (item : Item) (word : ℕ) (ends starts : Bool) (at : (ℕ → List ℕ → Bool) → Bool) → (is_short item.kind (length item.symbols) && word == closing_word item) ≡ ends → (word == 0) ≡ starts → ((test : ℕ → List ℕ → Bool) → at_symbol test item word ≡ at test) → number_at before item word ≡ number_of item.kind before item ends starts at
+by_word : (before : List Item) (item : Item) (word : ℕ) (ends starts : Bool) (at : (ℕ → List ℕ → Bool) → Bool) → (is_short item.kind (length item.symbols) && word == closing_word item) ≡ ends → (word == 0) ≡ starts → ((test : ℕ → List ℕ → Bool) → at_symbol test item word ≡ at test)
+    → number_at before item word ≡ number_of item.kind before item ends starts at
 by_word before item word ends starts at e s a = λ i. number_of item.kind before item (e i) (s i) (λ test. a test i)
 
 -- no symbol stands at a word
@@ -47,7 +49,8 @@ abbrev at_name : ℕ → List ℕ → (ℕ → List ℕ → Bool) → Bool
 at_name n name test = test n name
 
 -- at word 0, by the kind of the statement
-start_of : (kind : Kind) (before : List Item) (item : Item) → number_of kind before item false true nothing ≡ cond (is_constants kind && is_inside before) (Some F02) (cond (list_any (is_label before) (labels_of item)) (Some F06) (cond (list_any (is_declared before) (labels_of item)) (Some F07) None))
+start_of : (kind : Kind) (before : List Item) (item : Item)
+    → number_of kind before item false true nothing ≡ cond (is_constants kind && is_inside before) (Some F02) (cond (list_any (is_label before) (labels_of item)) (Some F06) (cond (list_any (is_declared before) (labels_of item)) (Some F07) None))
 start_of Constants before item = refl
 start_of Variables before item = refl
 start_of Disjoint before item = refl
@@ -83,14 +86,18 @@ end_of kind before item false = keyword_of kind before item
 abbrev third_fault : List Item → Item → ℕ → List ℕ → Option FrameNumber
 third_fault before item n name = cond (n == 0) (typecode_fault before name) (cond (n == 1) (typed_fault before item name) (cond (n == 2) (Some F01) None))
 
-third_is : (n : ℕ) (x y z w : Bool) → cond (n == 2) (Some F01) (cond (n == 0 && x) (Some F08) (cond (n == 1 && y) (Some F09) (cond (n == 1 && z) (Some F12) (cond (n == 1 && w) (Some F13) None)))) ≡ cond (n == 0) (cond x (Some F08) None) (cond (n == 1) (cond y (Some F09) (cond z (Some F12) (cond w (Some F13) None))) (cond (n == 2) (Some F01) None))
+third_is : (n : ℕ) (x y z w : Bool)
+    → cond (n == 2) (Some F01) (cond (n == 0 && x) (Some F08) (cond (n == 1 && y) (Some F09) (cond (n == 1 && z) (Some F12) (cond (n == 1 && w) (Some F13) None)))) ≡ cond (n == 0) (cond x (Some F08) None)
+    (cond (n == 1) (cond y (Some F09) (cond z (Some F12) (cond w (Some F13) None))) (cond (n == 2) (Some F01) None))
 third_is zero x y z w = refl
 third_is (suc zero) x y z w = refl
 third_is (suc (suc zero)) x y z w = refl
 third_is (suc (suc (suc n))) x y z w = same (suc (suc (suc n)) == 0) (suc (suc (suc n)) == 1) (suc (suc (suc n)) == 2) (ne_eqb (suc (suc (suc n))) 0 (λ e. omega arith)) (ne_eqb (suc (suc (suc n))) 1 (λ e. omega arith)) (ne_eqb (suc (suc (suc n))) 2 (λ e. omega arith))
   where
-    same : (a b c : Bool) → a ≡ false → b ≡ false → c ≡ false → cond c (Some F01) (cond (a && x) (Some F08) (cond (b && y) (Some F09) (cond (b && z) (Some F12) (cond (b && w) (Some F13) None)))) ≡ cond a (cond x (Some F08) None) (cond b (cond y (Some F09) (cond z (Some F12) (cond w (Some F13) None))) (cond c (Some F01) None))
-    same a b c p q r = (λ i. cond (r i) (Some F01) (cond (p i && x) (Some F08) (cond (q i && y) (Some F09) (cond (q i && z) (Some F12) (cond (q i && w) (Some F13) None))))) ∙ sym (λ i. cond (p i) (cond x (Some F08) None) (cond (q i) (cond y (Some F09) (cond z (Some F12) (cond w (Some F13) None))) (cond (r i) (Some F01) None)))
+    same : (a b c : Bool) → a ≡ false → b ≡ false → c ≡ false
+        → cond c (Some F01) (cond (a && x) (Some F08) (cond (b && y) (Some F09) (cond (b && z) (Some F12) (cond (b && w) (Some F13) None)))) ≡ cond a (cond x (Some F08) None) (cond b (cond y (Some F09) (cond z (Some F12) (cond w (Some F13) None))) (cond c (Some F01) None))
+    same a b c p q r = (λ i. cond (r i) (Some F01) (cond (p i && x) (Some F08) (cond (q i && y) (Some F09) (cond (q i && z) (Some F12) (cond (q i && w) (Some F13) None)))))
+        ∙ sym (λ i. cond (p i) (cond x (Some F08) None) (cond (q i) (cond y (Some F09) (cond z (Some F12) (cond w (Some F13) None))) (cond (r i) (Some F01) None)))
 
 -- at a symbol of a `$e`, `$a` or `$p`
 expression_is : (n : ℕ) (x y z : Bool) → cond (n == 0 && x) (Some F08) (cond (ltb 0 n && y) (Some F10) (cond (ltb 0 n && z) (Some F11) None)) ≡ cond (n == 0) (cond x (Some F08) None) (cond y (Some F10) (cond z (Some F11) None))
@@ -130,7 +137,8 @@ before_symbols test item word l = and_left (leb (first_symbol item) word) _ (by_
     by_test true e = let h = Rattle.std.proofs.lemmas.Bool.leb-true (first_symbol item) word e in absurd (omega arith)
 
 at_closing : (test : ℕ → List ℕ → Bool) (item : Item) → at_symbol test item (closing_word item) ≡ false
-at_closing test item = and_right (leb (first_symbol item) (closing_word item)) (passes (test (closing_word item - first_symbol item)) (slice_get item.symbols (closing_word item - first_symbol item))) (subst (λ o. passes (test (closing_word item - first_symbol item)) o ≡ false) (sym (slice_get_past item.symbols (closing_word item - first_symbol item) (omega arith))) refl)
+at_closing test item = and_right (leb (first_symbol item) (closing_word item)) (passes (test (closing_word item - first_symbol item)) (slice_get item.symbols (closing_word item - first_symbol item)))
+    (subst (λ o. passes (test (closing_word item - first_symbol item)) o ≡ false) (sym (slice_get_past item.symbols (closing_word item - first_symbol item) (omega arith))) refl)
 
 -- where a symbol stands
 at_place : (test : ℕ → List ℕ → Bool) (item : Item) (n : ℕ) (name : List ℕ) → slice_get item.symbols n ≡ Some name → at_symbol test item (first_symbol item + n) ≡ test n name
@@ -154,7 +162,8 @@ symbol_is before item n name g =
     by_word before item (first_symbol item + n) false false (at_name n name) (not_closing item (first_symbol item + n) (λ e. omega arith)) (ne_eqb (first_symbol item + n) 0 (λ e. omega arith)) (λ test. at_place test item n name g) ∙ symbol_of item.kind before item n name
 
 end_is : (before : List Item) (item : Item) → number_at before item (closing_word item) ≡ end_fault item
-end_is before item = by_word before item (closing_word item) (is_short item.kind (length item.symbols)) false nothing (at_end (is_short item.kind (length item.symbols)) (closing_word item == closing_word item) (eq-eqb (closing_word item) (closing_word item) refl)) (ne_eqb (closing_word item) 0 (λ e. omega arith)) (λ test. at_closing test item) ∙ end_of item.kind before item (is_short item.kind (length item.symbols))
+end_is before item = by_word before item (closing_word item) (is_short item.kind (length item.symbols)) false nothing (at_end (is_short item.kind (length item.symbols)) (closing_word item == closing_word item) (eq-eqb (closing_word item) (closing_word item) refl))
+    (ne_eqb (closing_word item) 0 (λ e. omega arith)) (λ test. at_closing test item) ∙ end_of item.kind before item (is_short item.kind (length item.symbols))
   where
     at_end : (x y : Bool) → y ≡ true → (x && y) ≡ x
     at_end true y e = e
@@ -191,16 +200,19 @@ pass_over before item start zero more h =
 pass_over before item start (suc gap) more h =
     let next : suc gap + more ≡ suc (gap + more) = omega arith in
     let there : suc start + gap ≡ start + suc gap = omega arith in
-    ap (fault_from before item start) next ∙ ap (λ o. fault_or start o (fault_from before item (suc start) (gap + more))) (h start (omega arith) (omega arith)) ∙ pass_over before item (suc start) gap more (λ word l m. h word (omega arith) (omega arith)) ∙ ap (λ w. fault_from before item w more) there
+    ap (fault_from before item start) next ∙ ap (λ o. fault_or start o (fault_from before item (suc start) (gap + more))) (h start (omega arith) (omega arith)) ∙ pass_over before item (suc start) gap more (λ word l m. h word (omega arith) (omega arith))
+    ∙ ap (λ w. fault_from before item w more) there
 
 -- the symbols from one on, and the word behind them
-from_symbol : (before : List Item) (item : Item) (test : ℕ → List ℕ → Option FrameNumber) (word n : ℕ) (symbols : List (List ℕ)) → ((k : ℕ) (name : List ℕ) → slice_get symbols k ≡ Some name → number_at before item (word + k) ≡ test (n + k) name) → fault_from before item word (length symbols + 1) ≡ option_or (first_fault test word n symbols) (fault_or (word + length symbols) (number_at before item (word + length symbols)) None)
+from_symbol : (before : List Item) (item : Item) (test : ℕ → List ℕ → Option FrameNumber) (word n : ℕ) (symbols : List (List ℕ)) → ((k : ℕ) (name : List ℕ) → slice_get symbols k ≡ Some name → number_at before item (word + k) ≡ test (n + k) name)
+    → fault_from before item word (length symbols + 1) ≡ option_or (first_fault test word n symbols) (fault_or (word + length symbols) (number_at before item (word + length symbols)) None)
 from_symbol before item test word n [] h = ap (λ w. fault_or w (number_at before item w) None) (omega arith)
 from_symbol before item test word n (name ∷ symbols) h =
     let e : length (name ∷ symbols) + 1 ≡ suc (length symbols + 1) = omega arith in
     let i = from_symbol before item test (suc word) (suc n) symbols (λ k other g. ap (number_at before item) (omega arith) ∙ h (suc k) other g ∙ ap (λ w. test w other) (omega arith)) in
     let f : number_at before item word ≡ test n name = ap (number_at before item) (omega arith) ∙ h 0 name refl ∙ ap (λ w. test w name) (omega arith) in
-    ap (fault_from before item word) e ∙ (λ j. fault_or word (f j) (i j)) ∙ joined (test n name) word (first_fault test (suc word) (suc n) symbols) (fault_or (suc word + length symbols) (number_at before item (suc word + length symbols)) None) ∙ ap (λ w. option_or (first_fault test word n (name ∷ symbols)) (fault_or w (number_at before item w) None)) (omega arith)
+    ap (fault_from before item word) e ∙ (λ j. fault_or word (f j) (i j)) ∙ joined (test n name) word (first_fault test (suc word) (suc n) symbols) (fault_or (suc word + length symbols) (number_at before item (suc word + length symbols)) None)
+    ∙ ap (λ w. option_or (first_fault test word n (name ∷ symbols)) (fault_or w (number_at before item w) None)) (omega arith)
   where
     joined : (o : Option FrameNumber) (w : ℕ) (a b : Option (ℕ × FrameNumber)) → fault_or w o (option_or a b) ≡ option_or (fault_or w o a) b
     joined None w a b = refl
@@ -233,7 +245,8 @@ fault_is before item =
     let there : 1 + length (labels_of item) ≡ first_symbol item = omega arith in
     let words = pass_over before item 1 (length (labels_of item)) (length item.symbols + 1) (λ word l m. keyword_is before item word (omega arith) (omega arith)) ∙ ap (λ w. fault_from before item w (length item.symbols + 1)) there in
     let symbols = from_symbol before item (symbol_number item.kind before item) (first_symbol item) 0 item.symbols (λ k name g. symbol_is before item k name g ∙ ap (λ w. symbol_number item.kind before item w name) (omega arith)) in
-    let ended : option_or (first_fault (symbol_number item.kind before item) (first_symbol item) 0 item.symbols) (fault_or (closing_word item) (number_at before item (closing_word item)) None) ≡ option_or (symbols_fault before item) (fault_or (closing_word item) (end_fault item) None) = λ i. option_or (number_first item.kind before item (first_symbol item) item.symbols i) (fault_or (closing_word item) (end_is before item i) None) in
+    let ended : option_or (first_fault (symbol_number item.kind before item) (first_symbol item) 0 item.symbols) (fault_or (closing_word item) (number_at before item (closing_word item)) None) ≡ option_or (symbols_fault before item)
+    (fault_or (closing_word item) (end_fault item) None) = λ i. option_or (number_first item.kind before item (first_symbol item) item.symbols i) (fault_or (closing_word item) (end_is before item i) None) in
     let behind = words ∙ symbols ∙ ended in
     ap (fault_from before item 0) count ∙ (λ i. fault_or 0 (front_is before item i) (behind i))
 

@@ -38,7 +38,8 @@ other_entries eq test old new h = h
 pub written : {X S : Type 0} (bs : List ℕ) (m n : HashMap (Vec ℕ Global) X S) (x : X) → UpdatesBy (λ a b. bytes_eq a.items b.items) (λ k. bytes_eq bs k.items) m n (Some x) → (cs : List ℕ) → get_by (λ k. bytes_eq cs k.items) n ≡ cond (bytes_eq bs cs) (Some x) (get_by (λ k. bytes_eq cs k.items) m)
 written bs m n x h cs = elim (cases_Bool (bytes_eq bs cs)) [
   | inl y ↦ subst (λ (l : List ℕ). get_by (λ k. bytes_eq l k.items) n ≡ Some x) ((bytes_eq-Decides bs cs).0 y) h.1 ∙ sym (cond-true (bytes_eq bs cs) (Some x) (get_by (λ k. bytes_eq cs k.items) m) y)
-  | inr e ↦ other_entries (λ a b. bytes_eq a.items b.items) (λ k. bytes_eq bs k.items) m.entries n.entries h.3 (λ k. bytes_eq cs k.items) (λ a b. nat_list_eq_equiv.congr cs a.items b.items) (λ k. apart bs cs k.items e) ∙ sym (cond-false (bytes_eq bs cs) (Some x) (get_by (λ k. bytes_eq cs k.items) m) e)
+  | inr e ↦ other_entries (λ a b. bytes_eq a.items b.items) (λ k. bytes_eq bs k.items) m.entries n.entries h.3 (λ k. bytes_eq cs k.items) (λ a b. nat_list_eq_equiv.congr cs a.items b.items) (λ k. apart bs cs k.items e)
+      ∙ sym (cond-false (bytes_eq bs cs) (Some x) (get_by (λ k. bytes_eq cs k.items) m) e)
 ]
 
 or_none : (b : Bool) → (b || false) ≡ b
@@ -50,11 +51,13 @@ pub has_one : (bs cs : List ℕ) → bytes_eq bs cs ≡ has (bs ∷ []) cs
 has_one bs cs = nat_list_eq_equiv.symm bs cs ∙ sym (or_none (bytes_eq cs bs))
 
 -- the look-ups behind an `insert`, with the bytes of the key by an equation
-pub inserted : {X S : Type 0} (ks bs : List ℕ) (m n : HashMap (Vec ℕ Global) X S) (x : X) → ks ≡ bs → UpdatesBy (λ a b. bytes_eq a.items b.items) (λ k. bytes_eq ks k.items) m n (Some x) → (cs : List ℕ) → get_by (λ k. bytes_eq cs k.items) n ≡ cond (has (bs ∷ []) cs) (Some x) (get_by (λ k. bytes_eq cs k.items) m)
+pub inserted : {X S : Type 0} (ks bs : List ℕ) (m n : HashMap (Vec ℕ Global) X S) (x : X) → ks ≡ bs → UpdatesBy (λ a b. bytes_eq a.items b.items) (λ k. bytes_eq ks k.items) m n (Some x) → (cs : List ℕ)
+    → get_by (λ k. bytes_eq cs k.items) n ≡ cond (has (bs ∷ []) cs) (Some x) (get_by (λ k. bytes_eq cs k.items) m)
 inserted ks bs m n x e h cs = subst (λ (l : List ℕ). get_by (λ k. bytes_eq cs k.items) n ≡ cond (bytes_eq l cs) (Some x) (get_by (λ k. bytes_eq cs k.items) m)) e (written ks m n x h cs) ∙ ap (λ b. cond b (Some x) (get_by (λ k. bytes_eq cs k.items) m)) (has_one bs cs)
 
 -- a write of what a function makes of the value found
-pub written_as : {X S : Type 0} (bs : List ℕ) (m n : HashMap (Vec ℕ Global) X S) (x : X) (f : Option X → Option X) → f (get_by (λ k. bytes_eq bs k.items) m) ≡ Some x → UpdatesBy (λ a b. bytes_eq a.items b.items) (λ k. bytes_eq bs k.items) m n (Some x) → (cs : List ℕ) → get_by (λ k. bytes_eq cs k.items) n ≡ cond (bytes_eq bs cs) (f (get_by (λ k. bytes_eq cs k.items) m)) (get_by (λ k. bytes_eq cs k.items) m)
+pub written_as : {X S : Type 0} (bs : List ℕ) (m n : HashMap (Vec ℕ Global) X S) (x : X) (f : Option X → Option X) → f (get_by (λ k. bytes_eq bs k.items) m) ≡ Some x → UpdatesBy (λ a b. bytes_eq a.items b.items) (λ k. bytes_eq bs k.items) m n (Some x) → (cs : List ℕ)
+    → get_by (λ k. bytes_eq cs k.items) n ≡ cond (bytes_eq bs cs) (f (get_by (λ k. bytes_eq cs k.items) m)) (get_by (λ k. bytes_eq cs k.items) m)
 written_as bs m n x f e h cs = written bs m n x h cs ∙ by_test (bytes_eq bs cs) refl
   where
     by_test : (b : Bool) → bytes_eq bs cs ≡ b → cond b (Some x) (get_by (λ k. bytes_eq cs k.items) m) ≡ cond b (f (get_by (λ k. bytes_eq cs k.items) m)) (get_by (λ k. bytes_eq cs k.items) m)
@@ -62,7 +65,8 @@ written_as bs m n x f e h cs = written bs m n x h cs ∙ by_test (bytes_eq bs cs
     by_test false y = refl
 
 -- one more name is declared
-pub declares_more : (old mid new : Tables) (symbols : List (List ℕ)) (n more : ℕ) (declared : Option Declared → Declared) (name : List ℕ) (last : Declared) → more ≡ suc n → ((o : Option Declared) → declared (Some (declared o)) ≡ declared o) → n < length symbols → name ≡ get_or symbols n [] → Declares old (take n symbols) declared mid → last ≡ declared (table_name mid name) → Declares mid (name ∷ []) (λ _. last) new → Declares old (take more symbols) declared new
+pub declares_more : (old mid new : Tables) (symbols : List (List ℕ)) (n more : ℕ) (declared : Option Declared → Declared) (name : List ℕ) (last : Declared) → more ≡ suc n → ((o : Option Declared) → declared (Some (declared o)) ≡ declared o) → n < length symbols → name ≡ get_or symbols n []
+    → Declares old (take n symbols) declared mid → last ≡ declared (table_name mid name) → Declares mid (name ∷ []) (λ _. last) new → Declares old (take more symbols) declared new
 declares_more old mid new symbols n more declared name last s again l e d w m = record {
   names = names;
   labels = λ label. m.labels label ∙ d.labels label;
@@ -148,7 +152,8 @@ abbrev pub label_next : Kind → Option (List ℕ) → ℕ → List ℕ → Opti
 label_next kind label number other old = cond (has (cond (is_labelled kind) (option_to_list label) []) other) (Some number) old
 
 join_next : (isc dvb tyb c : Bool) (v t : Option ℕ) (n : ℕ) → (dvb ≡ true → c ≡ false) → (dvb ≡ true → tyb ≡ false) → (tyb ≡ true → is_some v ≡ true) → (c ≡ true → v ≡ None) → (v ≡ None → t ≡ None)
-    → cond (c || isc) (Some Constant) (variable_at (cond dvb (Some n) v) (cond tyb (Some n) t)) ≡ cond isc (Some Constant) (cond dvb (Some (Variable n (float_of (cond c (Some Constant) (variable_at v t))))) (cond tyb (typed_by n (cond c (Some Constant) (variable_at v t))) (cond c (Some Constant) (variable_at v t))))
+    → cond (c || isc) (Some Constant) (variable_at (cond dvb (Some n) v) (cond tyb (Some n) t)) ≡ cond isc (Some Constant)
+    (cond dvb (Some (Variable n (float_of (cond c (Some Constant) (variable_at v t))))) (cond tyb (typed_by n (cond c (Some Constant) (variable_at v t))) (cond c (Some Constant) (variable_at v t))))
 join_next true dvb tyb true v t n a b d e f = refl
 join_next true dvb tyb false v t n a b d e f = refl
 join_next false true tyb true v t n a b d e f = absurd (false≢true (sym (a refl)))
@@ -241,7 +246,8 @@ pub takes_float : (item : Item) (number : ℕ) (old mid new : Tables) → Types 
 takes_float item number old mid new t c = record { names = λ name. c.names name ∙ t.names name; labels = λ label. c.labels label ∙ ap (cond (has (option_to_list item.label) label) (Some number)) (t.labels label) }
 
 -- a sound `$f` has a second symbol
-pub takes_sound_float : (before : List Item) (item : Item) (number : ℕ) (old mid new : Tables) → IsSound before item → Floating ≡ item.kind → (1 < length item.symbols → Types old (meant.variable_of item) number mid) → Carries mid (option_to_list item.label) number new → Takes Floating item number old new
+pub takes_sound_float : (before : List Item) (item : Item) (number : ℕ) (old mid new : Tables) → IsSound before item → Floating ≡ item.kind → (1 < length item.symbols → Types old (meant.variable_of item) number mid) → Carries mid (option_to_list item.label) number new
+    → Takes Floating item number old new
 takes_sound_float before item number old mid new s e t c =
     let two = float_two before item s (ap is_floating (sym e)) in
     let count = ap length two.2 in

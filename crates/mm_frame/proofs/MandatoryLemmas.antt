@@ -98,7 +98,8 @@ number_of_active before item a =
     }
 
 -- what is kept for an active `$e` is its expression
-kept_essential : (before : List Item) (expressions : List (Vec NamedSymbol Global)) (n : ℕ) (e : Item) → AreSound before → AreExpressions before expressions → slice_get before n ≡ Some e → is_active_at before n ≡ true → is_essential e.kind ≡ true → symbols_of (expression_kept expressions n) ≡ expression before e
+kept_essential : (before : List Item) (expressions : List (Vec NamedSymbol Global)) (n : ℕ) (e : Item) → AreSound before → AreExpressions before expressions → slice_get before n ≡ Some e → is_active_at before n ≡ true → is_essential e.kind ≡ true
+    → symbols_of (expression_kept expressions n) ≡ expression before e
 kept_essential before expressions n e h a there s t =
     let labelled = expression_labelled e.kind (essential_expression e.kind t) in
     a n e there labelled ∙ sym (expression_at_number before h n e there s labelled)
@@ -107,7 +108,8 @@ kept_essential before expressions n e h a there s t =
 abbrev pub collected : Tables → List (Vec NamedSymbol Global) → List ℕ → List NamedSymbol → List ℕ
 collected tables expressions essentials own = (essentials ++ float_numbers tables own) ++ flat_map (λ n. float_numbers tables (expression_kept expressions n)) essentials
 
-collected_from : (before : List Item) (item : Item) (tables : Tables) (expressions : List (Vec NamedSymbol Global)) (own : List NamedSymbol) → AreSound before → Knows before tables → AreExpressions before expressions → symbols_of own ≡ expression before item → (n : ℕ) → In n (collected tables expressions (active_numbers is_essential_item before) own) → IsHypothesisNumber before item n
+collected_from : (before : List Item) (item : Item) (tables : Tables) (expressions : List (Vec NamedSymbol Global)) (own : List NamedSymbol) → AreSound before → Knows before tables → AreExpressions before expressions → symbols_of own ≡ expression before item → (n : ℕ)
+    → In n (collected tables expressions (active_numbers is_essential_item before) own) → IsHypothesisNumber before item n
 collected_from before item tables expressions own h k a o n m =
     let essentials = active_numbers is_essential_item before in
     elim (in_cases n (essentials ++ float_numbers tables own) (flat_map (λ m. float_numbers tables (expression_kept expressions m)) essentials) m) [
@@ -125,7 +127,8 @@ collected_from before item tables expressions own h k a o n m =
         let there = subst (In r.0) (kept_essential before expressions p.0 e.0 h a e.1 e.2 e.3) r.1 in
         inr ((r.0).name, in_contains (r.0).name (mandatory_variables before item) (essential_mandatory before item e.0 r.0 (active_at_number before p.0 e.0 e.1 e.2) e.3 there r.2), r.3)
 
-collected_to : (before : List Item) (item : Item) (tables : Tables) (expressions : List (Vec NamedSymbol Global)) (own : List NamedSymbol) → AreSound before → Knows before tables → AreExpressions before expressions → symbols_of own ≡ expression before item → (n : ℕ) → IsHypothesisNumber before item n → In n (collected tables expressions (active_numbers is_essential_item before) own)
+collected_to : (before : List Item) (item : Item) (tables : Tables) (expressions : List (Vec NamedSymbol Global)) (own : List NamedSymbol) → AreSound before → Knows before tables → AreExpressions before expressions → symbols_of own ≡ expression before item → (n : ℕ)
+    → IsHypothesisNumber before item n → In n (collected tables expressions (active_numbers is_essential_item before) own)
 collected_to before item tables expressions own h k a o n (inl c) =
     let essentials = active_numbers is_essential_item before in
     in_left n (essentials ++ float_numbers tables own) (flat_map (λ m. float_numbers tables (expression_kept expressions m)) essentials) (in_left n essentials (float_numbers tables own) (contains_in n essentials c))
@@ -139,12 +142,14 @@ collected_to before item tables expressions own h k a o n (inr p) =
       | inr b ↦ in_right n (essentials ++ float_numbers tables own) found (of_essential name r.1 p.2 (from_symbols is_essential name (active before) b))
     ]
   where
-    of_essential : (name : List ℕ) → has (active_variables before) name ≡ true → last_where (types name) before ≡ Some n → (e : Item) × In e (active before) × (is_essential e.kind ≡ true) × In name e.symbols → In n (flat_map (λ m. float_numbers tables (expression_kept expressions m)) (active_numbers is_essential_item before))
+    of_essential : (name : List ℕ) → has (active_variables before) name ≡ true → last_where (types name) before ≡ Some n → (e : Item) × In e (active before) × (is_essential e.kind ≡ true) × In name e.symbols
+        → In n (flat_map (λ m. float_numbers tables (expression_kept expressions m)) (active_numbers is_essential_item before))
     of_essential name v last q =
         let e = q.0 in
         let at = number_of_active before e q.1 in
         let same = kept_essential before expressions at.number e h a at.there at.stayed q.2 in
-        in_flat (λ m. float_numbers tables (expression_kept expressions m)) at.number n (active_numbers is_essential_item before) (to_active_number is_essential_item before at.number e at.there at.stayed q.2) (float_to before tables (expression_kept expressions at.number) (symbol before name) n h k (subst (In (symbol before name)) (sym same) (in_map (symbol before) name e.symbols q.3)) v last)
+        in_flat (λ m. float_numbers tables (expression_kept expressions m)) at.number n (active_numbers is_essential_item before) (to_active_number is_essential_item before at.number e at.there at.stayed q.2)
+        (float_to before tables (expression_kept expressions at.number) (symbol before name) n h k (subst (In (symbol before name)) (sym same) (in_map (symbol before) name e.symbols q.3)) v last)
 
 -- the item is a sound `$a` or `$p` behind sound items, which the tables know
 pub record IsAssertionBehind (before : List Item) (item : Item) (tables : Tables) : Type 0 where
@@ -158,7 +163,9 @@ assertion_typed : (before : List Item) (item : Item) (tables : Tables) → IsAss
 assertion_typed before item tables b = sound_typed before b.sound item b.item_sound (assertion_expression item.kind b.assertion)
 
 -- sorted, and each once
-pub hypotheses_sorted : (tables : Tables) (expressions : List (Vec NamedSymbol Global)) (essentials : List ℕ) (own : List NamedSymbol) (numbers sorted kept : List ℕ) → numbers ≡ collected tables expressions essentials own → IsPermutation numbers sorted → IsSorted nat_cmp sorted → IsFiltered (DiffersFromLast eqb) [] sorted kept → (before : List Item) (item : Item) → IsAssertionBehind before item tables → essentials ≡ active_numbers is_essential_item before → AreExpressions before expressions → symbols_of own ≡ expression before item → kept ≡ mandatory_numbers before item
+pub hypotheses_sorted : (tables : Tables) (expressions : List (Vec NamedSymbol Global)) (essentials : List ℕ) (own : List NamedSymbol) (numbers sorted kept : List ℕ) → numbers ≡ collected tables expressions essentials own → IsPermutation numbers sorted → IsSorted nat_cmp sorted
+    → IsFiltered (DiffersFromLast eqb) [] sorted kept → (before : List Item) (item : Item) → IsAssertionBehind before item tables → essentials ≡ active_numbers is_essential_item before → AreExpressions before expressions → symbols_of own ≡ expression before item
+    → kept ≡ mandatory_numbers before item
 hypotheses_sorted tables expressions essentials own numbers sorted kept whole moved rising filtered before item b e a o =
     let h = b.sound in
     let k = b.known in

@@ -26,7 +26,8 @@ by_constants_is before item name h s t n = let same = is_variable (named before 
     is_variable (inl c) = ap not (in_has (constants before) name c) ∙ sym (false_from_ne_true (has (active_variables before) name) (λ v. not_constant before (sound_kept before h) name c (has_in (active_variables before) name v)))
     is_variable (inr v) = ap not (false_from_ne_true (has (constants before) name) (λ c. not_constant before (sound_kept before h) name (has_in (constants before) name c) v)) ∙ sym (in_has (active_variables before) name v)
 
-pub read_all : (tables : Tables) (item : Item) (n : ℕ) (kept : List NamedSymbol) → length item.symbols ≤ n → AreRead tables (take n item.symbols) kept → (before : List Item) → AreSound before → Knows before tables → IsSound before item → is_labelled item.kind ≡ true → symbols_of kept ≡ expression before item
+pub read_all : (tables : Tables) (item : Item) (n : ℕ) (kept : List NamedSymbol) → length item.symbols ≤ n → AreRead tables (take n item.symbols) kept → (before : List Item) → AreSound before → Knows before tables → IsSound before item → is_labelled item.kind ≡ true
+    → symbols_of kept ≡ expression before item
 read_all tables item n kept l r before h k s t = r before k ∙ ap (map (by_constants before)) (take_all n item.symbols l) ∙ map_same (by_constants before) (symbol before) item.symbols (λ name m. by_constants_is before item name h s t m)
 
 pub get_before : {X : Type 0} (xs : List X) (y : X) (n : ℕ) → n < length xs → slice_get (xs ++ y ∷ []) n ≡ slice_get xs n

@@ -189,7 +189,8 @@ made_more before later lists m count k e =
     }
 
 -- one more list
-pub made_one_more : (before : List Item) (old new : PairLists) (count k : ℕ) → KeepsLists old new → AreMade before old → HasActivePairs before count → IsList new k (active_pairs before) → ((other : ℕ) → list_made new other ≡ cond (nat_eq count other) (Some k) (list_made old other)) → AreMade before new
+pub made_one_more : (before : List Item) (old new : PairLists) (count k : ℕ) → KeepsLists old new → AreMade before old → HasActivePairs before count → IsList new k (active_pairs before) → ((other : ℕ) → list_made new other ≡ cond (nat_eq count other) (Some k) (list_made old other))
+    → AreMade before new
 made_one_more before old new count k keeps made has is told other j e = by_test (nat_eq count other) refl
   where
     this : other ≡ count → k ≡ j → IsMadeFor before new other j

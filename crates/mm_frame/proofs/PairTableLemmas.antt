@@ -35,7 +35,8 @@ pub written_at : {X S : Type 0} (ks bs : List ℕ) (m n : HashMap (Vec ℕ Globa
 written_at ks bs m n x e h cs = subst (λ (l : List ℕ). value_in n cs ≡ cond (bytes_eq l cs) (Some x) (value_in m cs)) e (written ks m n x h cs)
 
 -- a number for two names: the numbers behind the first one are written
-pub pair_written : {S T : Type 0} (first second : List ℕ) (old new : HashMap (Vec ℕ Global) (HashMap (Vec ℕ Global) ℕ S) T) (numbers : HashMap (Vec ℕ Global) ℕ S) (number : ℕ) → ((x : List ℕ) → value_in new x ≡ cond (bytes_eq first x) (Some numbers) (value_in old x)) → ((y : List ℕ) → value_in numbers y ≡ cond (bytes_eq second y) (Some number) (number_in (value_in old first) y)) → (x y : List ℕ) → number_in (value_in new x) y ≡ cond (bytes_eq first x && bytes_eq second y) (Some number) (number_in (value_in old x) y)
+pub pair_written : {S T : Type 0} (first second : List ℕ) (old new : HashMap (Vec ℕ Global) (HashMap (Vec ℕ Global) ℕ S) T) (numbers : HashMap (Vec ℕ Global) ℕ S) (number : ℕ) → ((x : List ℕ) → value_in new x ≡ cond (bytes_eq first x) (Some numbers) (value_in old x))
+    → ((y : List ℕ) → value_in numbers y ≡ cond (bytes_eq second y) (Some number) (number_in (value_in old first) y)) → (x y : List ℕ) → number_in (value_in new x) y ≡ cond (bytes_eq first x && bytes_eq second y) (Some number) (number_in (value_in old x) y)
 pair_written first second old new numbers number rows row x y = by_test (bytes_eq first x) refl
   where
     by_test : (b : Bool) → bytes_eq first x ≡ b → number_in (value_in new x) y ≡ cond (b && bytes_eq second y) (Some number) (number_in (value_in old x) y)
@@ -154,7 +155,8 @@ active_told before table k x y = both_ways (is_number_active (marks_of before) (
         let s = c.2 [] (ap stays (append-nil (drop (suc m.number) before)) ∙ m.stayed) in
         ap (is_number_active (marks_of before)) c.1 ∙ sym (active_at_marks before c.0) ∙ ap stays (sym (append-nil (drop (suc c.0) before))) ∙ s
 
-pub paired_told : (before : List Item) (table : PairTable) (marks : List Mark) → KnowsPairs before table → marks ≡ marks_of before → (named : Symbol × Symbol) → (is_number_active marks (pair_number table named.0.name named.1.name) || is_number_active marks (pair_number table named.1.name named.0.name)) ≡ are_paired (active_pairs before) named
+pub paired_told : (before : List Item) (table : PairTable) (marks : List Mark) → KnowsPairs before table → marks ≡ marks_of before → (named : Symbol × Symbol)
+    → (is_number_active marks (pair_number table named.0.name named.1.name) || is_number_active marks (pair_number table named.1.name named.0.name)) ≡ are_paired (active_pairs before) named
 paired_told before table marks k e named =
     ap (λ w. is_number_active w (pair_number table named.0.name named.1.name) || is_number_active w (pair_number table named.1.name named.0.name)) e
     ∙ (λ i. active_told before table k named.0.name named.1.name i || active_told before table k named.1.name named.0.name i)
@@ -213,7 +215,8 @@ next_cases marks number (Some n) = by_test (stays_by (drop (suc n) marks)) refl
 same_some : (m n : ℕ) → Some m ≡ Some n → m ≡ n
 same_some m n e = cc
 
-pub pairs_taken : (before : List Item) (item : Item) (old new : PairTable) (marks : List Mark) (number : ℕ) (variables : List Symbol) → is_disjoint item.kind ≡ true → variables ≡ expression before item → length before ≡ number → marks ≡ marks_of before → KnowsPairs before old → TakesPairs old marks (pairs_of variables) number new → KnowsPairs (before ++ item ∷ []) new
+pub pairs_taken : (before : List Item) (item : Item) (old new : PairTable) (marks : List Mark) (number : ℕ) (variables : List Symbol) → is_disjoint item.kind ≡ true → variables ≡ expression before item → length before ≡ number → marks ≡ marks_of before → KnowsPairs before old
+    → TakesPairs old marks (pairs_of variables) number new → KnowsPairs (before ++ item ∷ []) new
 pairs_taken before item old new marks number variables d v l e k t = record { there = there; cover = cover }
   where
     has_it : (x y : List ℕ) → has_pair (pairs_of variables) x y ≡ stand_in_order item.symbols x y
@@ -304,7 +307,8 @@ row_next f s (z ∷ zs) (suc n) x l e = ap (λ w. pairs_with s (f z ∷ []) ++ w
 pub row_last : {X : Type 0} (f : X → Symbol) (s : Symbol) (later : List X) (n : ℕ) (x : X) → n < length later → x ≡ get_or later n x → pairs_with s (map f (take (n + 1) later)) ≡ pairs_with s (map f (take n later)) ++ (s, f x) ∷ []
 row_last f s later n x l e = let z : n + 1 ≡ suc n = omega arith in ap (λ k. pairs_with s (map f (take k later))) z ∙ row_next f s later n x l e
 
-pub row_more : (old mid new : PairTable) (marks : List Mark) (s : Symbol) (later : List NamedSymbol) (n : ℕ) (x : NamedSymbol) (number : ℕ) → n < length later → x ≡ get_or later n x → TakesPairs old marks (pairs_with s (symbols_of (take n later))) number mid → TakesPairs mid marks ((s, symbol_of x) ∷ []) number new → TakesPairs old marks (pairs_with s (symbols_of (take (n + 1) later))) number new
+pub row_more : (old mid new : PairTable) (marks : List Mark) (s : Symbol) (later : List NamedSymbol) (n : ℕ) (x : NamedSymbol) (number : ℕ) → n < length later → x ≡ get_or later n x → TakesPairs old marks (pairs_with s (symbols_of (take n later))) number mid
+    → TakesPairs mid marks ((s, symbol_of x) ∷ []) number new → TakesPairs old marks (pairs_with s (symbols_of (take (n + 1) later))) number new
 row_more old mid new marks s later n x number l e a b = subst (λ pairs. TakesPairs old marks pairs number new) (sym (row_last symbol_of s later n x l e)) (takes_more old mid new marks (pairs_with s (symbols_of (take n later))) ((s, symbol_of x) ∷ []) number a b)
 
 all_next : {X : Type 0} (f : X → Symbol) (variables : List X) (n : ℕ) (x : X) → n < length variables → x ≡ get_or variables n x → pairs_of (map f (drop n variables)) ≡ pairs_with (f x) (map f (drop (suc n) variables)) ++ pairs_of (map f (drop (suc n) variables))

@@ -83,7 +83,8 @@ mi_is = refl
 -- the mandatory hypotheses of `mp`, in order: wp wq mi ma
 mp_is : resolve (five ++ block) (codes "mp") ≡ Assertion (record {
   expression = constant turnstile ∷ variable q ∷ [];
-  hypotheses = record { floating = true; expression = constant wff ∷ variable p ∷ [] } ∷ record { floating = true; expression = constant wff ∷ variable q ∷ [] } ∷ record { floating = false; expression = constant turnstile ∷ variable p ∷ [] } ∷ record { floating = false; expression = constant turnstile ∷ constant left ∷ variable p ∷ constant arrow ∷ variable q ∷ constant right ∷ [] } ∷ [];
+  hypotheses = record { floating = true; expression = constant wff ∷ variable p ∷ [] } ∷ record { floating = true; expression = constant wff ∷ variable q ∷ [] }
+      ∷ record { floating = false; expression = constant turnstile ∷ variable p ∷ [] } ∷ record { floating = false; expression = constant turnstile ∷ constant left ∷ variable p ∷ constant arrow ∷ variable q ∷ constant right ∷ [] } ∷ [];
   pairs = [];
 })
 mp_is = refl

@@ -52,7 +52,8 @@ same_from_order frame other a b e h p = record {
 }
 
 -- the test of both parts of two frames
-pub same_by_parts : (frame other : Frame) (parts pairs : Bool) → AreSamePairs (pairs_in_order frame) frame.pairs → AreSamePairs (pairs_in_order other) other.pairs → IsTrue parts ↔ ((frame.expression ≡ other.expression) × (frame.hypotheses ≡ other.hypotheses)) → IsTrue pairs ↔ (pairs_in_order frame ≡ pairs_in_order other) → IsTrue (parts && pairs) ↔ AreSameFrame frame other
+pub same_by_parts : (frame other : Frame) (parts pairs : Bool) → AreSamePairs (pairs_in_order frame) frame.pairs → AreSamePairs (pairs_in_order other) other.pairs → IsTrue parts ↔ ((frame.expression ≡ other.expression) × (frame.hypotheses ≡ other.hypotheses))
+    → IsTrue pairs ↔ (pairs_in_order frame ≡ pairs_in_order other) → IsTrue (parts && pairs) ↔ AreSameFrame frame other
 same_by_parts frame other parts pairs a b e p = (
   λ t. (let q = and_parts parts pairs t in let r = e.0 q.0 in same_from_order frame other a b r.0 r.1 (p.0 q.1)),
   λ s. and_from parts pairs (e.1 (s.expression, s.hypotheses)) (p.1 (same_in_order frame other s)),

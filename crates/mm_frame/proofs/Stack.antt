@@ -59,7 +59,8 @@ read_put x zero scope scopes live e =
     ap (λ w. w ++ statements live) (sym (append_assoc (all_of scopes) scope (x ∷ []))) ∙ append_assoc (all_of scopes ++ scope) (x ∷ []) (statements live) ∙ ap (λ w. (all_of scopes ++ scope) ++ w) (sym (is_statement x live e))
 read_put x (suc c) scope scopes live e = refl
 
-read_at : (m : Mark) (x : Item) (xs : List Item) (scopes : List (List Item)) (c : ℕ) (live : List Item) → mark_of x.kind ≡ m → closed_at m c < length scopes → ((s : List (List Item)) → c < length s → all_of (read s xs) ≡ all_of (drop c s) ++ statements live) → all_of (read (turn m x scopes) xs) ≡ all_of (drop (closed_at m c) scopes) ++ statements (cond (is_zero c) (x ∷ live) live)
+read_at : (m : Mark) (x : Item) (xs : List Item) (scopes : List (List Item)) (c : ℕ) (live : List Item) → mark_of x.kind ≡ m → closed_at m c < length scopes → ((s : List (List Item)) → c < length s → all_of (read s xs) ≡ all_of (drop c s) ++ statements live)
+    → all_of (read (turn m x scopes) xs) ≡ all_of (drop (closed_at m c) scopes) ++ statements (cond (is_zero c) (x ∷ live) live)
 read_at m x xs [] c live e l r = absurd (omega arith)
 read_at Opens x xs (scope ∷ scopes) c live e l r = r ([] ∷ scope ∷ scopes) (below c (scope ∷ scopes) l) ∙ read_opens x c (scope ∷ scopes) (statements live) ∙ ap (λ w. all_of (drop (pred c) (scope ∷ scopes)) ++ w) (sym (not_statement Opens x (is_zero c) live e refl))
   where

@@ -96,7 +96,8 @@ active_cases (x ∷ front) item back i h = elim (first_cases (stays (front ++ it
 ]
 
 -- where no two items that pass are active at once, one that passes is active if the last one is
-last_active : (test : Item → Bool) (before : List Item) → ((front : List Item) (item : Item) (back : List Item) → before ≡ front ++ item ∷ back → test item ≡ true → (y : Item) → In y (active front) → test y ≡ true → ⊥) → (b : Bool) → (b ≡ true → (y : Item) × In y (active before) × (test y ≡ true)) → ((y : Item) → In y (active before) → test y ≡ true → b ≡ true) → b ≡ is_active_last before (last_where test before)
+last_active : (test : Item → Bool) (before : List Item) → ((front : List Item) (item : Item) (back : List Item) → before ≡ front ++ item ∷ back → test item ≡ true → (y : Item) → In y (active front) → test y ≡ true → ⊥) → (b : Bool) → (b ≡ true → (y : Item) × In y (active before) × (test y ≡ true))
+    → ((y : Item) → In y (active before) → test y ≡ true → b ≡ true) → b ≡ is_active_last before (last_where test before)
 last_active test before alone b from to = elim (last_cases test before) [
   | inl n ↦ false_from_ne_true b (λ t. let r = from t in false≢true (sym (n r.0 (active_in before r.0 r.1)) ∙ r.2)) ∙ sym (ap (is_active_last before) (last_none test before n))
   | inr l ↦ by_stays l (stays l.back) refl ∙ sym (ap (is_active_last before) (last_number test before l) ∙ ap (λ w. is_active_at w (length l.front)) l.whole ∙ active_between l.front l.item l.back)
@@ -200,7 +201,8 @@ same_typecode before item name y s t h u = by_test (bytes_eq (typecode_of y) (ty
 pub typed_otherwise_last : (before : List Item) → AreSound before → (name : List ℕ) (item : Item) → is_typed_otherwise before item name ≡ is_otherwise_at before item (last_where (types name) before)
 typed_otherwise_last before h name item = elim (last_cases (types name) before) [
   | inl n ↦ false_from_ne_true (is_typed_otherwise before item name) (λ t. let r = otherwise_from before item name t in false≢true (sym (n r.0 r.1) ∙ r.2)) ∙ sym (ap (is_otherwise_at before item) (last_none (types name) before n))
-  | inr l ↦ by_test l (bytes_eq (typecode_of l.item) (typecode_of item)) refl ∙ sym (ap (is_otherwise_at before item) (last_number (types name) before l) ∙ ap (λ w. not (bytes_eq (typecode_of (item_at w (length l.front))) (typecode_of item))) l.whole ∙ ap (λ w. not (bytes_eq (typecode_of w) (typecode_of item))) (item_between l.front l.item l.back))
+  | inr l ↦ by_test l (bytes_eq (typecode_of l.item) (typecode_of item)) refl
+      ∙ sym (ap (is_otherwise_at before item) (last_number (types name) before l) ∙ ap (λ w. not (bytes_eq (typecode_of (item_at w (length l.front))) (typecode_of item))) l.whole ∙ ap (λ w. not (bytes_eq (typecode_of w) (typecode_of item))) (item_between l.front l.item l.back))
 ]
   where
     same : (l : Last (types name) before) (y : Item) → In y before → types name y ≡ true → typecode_of y ≡ typecode_of l.item

@@ -1,5 +1,6 @@
 -- What a base answers: which items are sound, and what each sound one means, as functions of what the items say (Metamath book, section 4.2).
-use Rattle.std.specs.Prelude.{◌≡◌, ◌<◌, ◌↔◌, ℕ, suc, Bool, true, ◌&&◌, if◌then◌else◌, Option, Some, None, is_none, List, take, drop, map, All, AllPairs, Contains}
+use Rattle.std.specs.Prelude.{◌≡◌, ◌<◌, ◌↔◌, ℕ, suc, Bool, true, ◌&&◌, if◌then◌else◌, Option, Some, None, is_none, List, take, drop, map, All, AllPairs}
+use Rattle.std.specs.Prelude.{Contains}
 use Rattle.std.specs.List.{AllZip}
 use Rattle.mm_store.specs.declared.item.Item as store
 use Rattle.mm_store.specs.FilesView.{FilesView}

@@ -1,5 +1,6 @@
 -- From the fields of `Blocks` to what contracts see, and what always holds of the fields.
-use Rattle.std.specs.Prelude.{◌≡◌, ℕ, suc, ◌+◌, ◌-◌, ◌<◌, ◌≤◌, Bool, false, if◌then◌else◌, ◌==◌, Option, Some, None, List, [], ◌∷◌, ◌++◌, length, drop, count_by, slice_get}
+use Rattle.std.specs.Prelude.{◌≡◌, ℕ, suc, ◌+◌, ◌-◌, ◌<◌, ◌≤◌, Bool, false, if◌then◌else◌, ◌==◌, Option, Some, None, List, [], ◌∷◌, ◌++◌, length, drop}
+use Rattle.std.specs.Prelude.{count_by, slice_get}
 use Rattle.mm_frame.specs.Scope.{Mark, Opens, Closes, Neither, opens, closes}
 use Rattle.mm_frame.specs.Blocks.{closed_by}
 use Rattle.mm_frame.specs.BlockEnds.{end_of}

@@ -56,12 +56,17 @@ frame before item = record {
 
 -- what the label of an item means, with the items before it and those behind it
 abbrev pub meaning : List Item → List Item → Item → List Item → Resolved
-meaning whole front item back = if is_assertion item.kind then Assertion (frame front item) else (if stays back then Hypothesis (expression whole item) else Inactive)
+meaning whole front item back =
+    if is_assertion item.kind then Assertion (frame front item)
+    else if stays back then Hypothesis (expression whole item)
+    else Inactive
 
 -- what a label means in the whole list, where it is looked for from the back part on
 abbrev pub resolve_from : List Item → List Item → List Item → List ℕ → Resolved
 resolve_from whole front [] label = Unknown
-resolve_from whole front (item ∷ back) label = if has (labels_of item) label then meaning whole front item back else resolve_from whole (front ++ item ∷ []) back label
+resolve_from whole front (item ∷ back) label =
+    if has (labels_of item) label then meaning whole front item back
+    else resolve_from whole (front ++ item ∷ []) back label
 
 -- what a label means behind these items
 abbrev pub resolve : List Item → List ℕ → Resolved

@@ -3,9 +3,11 @@ use Rattle.std.specs.Prelude.{ℕ, suc, Bool, ◌&&◌, ◌||◌, ◌==◌, if�
 use Rattle.std.specs.Option.{option_or}
 use Rattle.mm_frame.specs.declared.FrameNumber.{FrameNumber}
 use Rattle.mm_frame.specs.declared.FrameNumber.TheVariants.{F01, F02, F03, F04, F05, F06, F07, F08, F09, F10, F11, F12, F13}
-use Rattle.mm_frame.specs.Item.{Kind, Constants, Variables, Disjoint, Floating, Essential, Axiom, Theorem, Item, is_constants, is_disjoint, is_declaring, labels_of}
+use Rattle.mm_frame.specs.Item.{Kind, Constants, Variables, Disjoint, Floating, Essential, Axiom, Theorem, Item, is_constants, is_disjoint, is_declaring}
+use Rattle.mm_frame.specs.Item.{labels_of}
 use Rattle.mm_frame.specs.Scope.{is_inside}
-use Rattle.mm_frame.specs.Sound.{first_symbol, closing_word, is_repeated, is_declared, is_active_symbol, is_label, is_no_constant, is_no_variable, is_unknown, is_untyped, is_typed, is_typed_otherwise, is_short, fault_or}
+use Rattle.mm_frame.specs.Sound.{first_symbol, closing_word, is_repeated, is_declared, is_active_symbol, is_label, is_no_constant, is_no_variable, is_unknown}
+use Rattle.mm_frame.specs.Sound.{is_untyped, is_typed, is_typed_otherwise, is_short, fault_or}
 
 -- the first symbol with a fault, where the first of these symbols has number n in its statement and stands at this word
 abbrev pub first_fault : (ℕ → List ℕ → Option FrameNumber) → ℕ → ℕ → List (List ℕ) → Option (ℕ × FrameNumber)
@@ -18,11 +20,19 @@ must_differ kind = is_declaring kind || is_disjoint kind
 
 -- what is wrong with a symbol of a `$c`: it stands there twice, is declared, or is a label
 abbrev pub constant_fault : List Item → Item → ℕ → List ℕ → Option FrameNumber
-constant_fault before item n name = if is_repeated item n name then Some F03 else (if is_declared before name then Some F04 else (if is_label before name then Some F05 else None))
+constant_fault before item n name =
+    if is_repeated item n name then Some F03
+    else if is_declared before name then Some F04
+    else if is_label before name then Some F05
+    else None
 
 -- what is wrong with a symbol of a `$v`: it stands there twice, is a constant or an active variable, or is a label
 abbrev pub variable_fault : List Item → Item → ℕ → List ℕ → Option FrameNumber
-variable_fault before item n name = if is_repeated item n name then Some F03 else (if is_active_symbol before name then Some F04 else (if is_label before name then Some F05 else None))
+variable_fault before item n name =
+    if is_repeated item n name then Some F03
+    else if is_active_symbol before name then Some F04
+    else if is_label before name then Some F05
+    else None
 
 -- what is wrong with a symbol of a `$d`: it stands there twice, or is no active variable
 abbrev pub disjoint_fault : List Item → Item → ℕ → List ℕ → Option FrameNumber
@@ -34,7 +44,11 @@ typecode_fault before name = if is_no_constant before name then Some F08 else No
 
 -- what is wrong with the variable of a `$f`: it is no active variable, is typed already, or had another typecode
 abbrev pub typed_fault : List Item → Item → List ℕ → Option FrameNumber
-typed_fault before item name = if is_no_variable before name then Some F09 else (if is_typed before name then Some F12 else (if is_typed_otherwise before item name then Some F13 else None))
+typed_fault before item name =
+    if is_no_variable before name then Some F09
+    else if is_typed before name then Some F12
+    else if is_typed_otherwise before item name then Some F13
+    else None
 
 -- what is wrong with a symbol of a `$f`: with its typecode, with its variable, or that there is one symbol more
 abbrev pub floating_fault : List Item → Item → ℕ → List ℕ → Option FrameNumber

@@ -31,7 +31,8 @@ expression_kept expressions n = kept_or_none (slice_get expressions n)
 
 -- for each `$f`, `$e`, `$a` and `$p` its expression is kept, read at its own place
 abbrev pub AreExpressions : List Item → List (Vec NamedSymbol Global) → Type 0
-AreExpressions before expressions = (n : ℕ) (item : Item) → slice_get before n ≡ Some item → is_labelled item.kind ≡ true → symbols_of (expression_kept expressions n) ≡ expression (take n before) item
+AreExpressions before expressions = (n : ℕ) (item : Item) → slice_get before n ≡ Some item → is_labelled item.kind ≡ true
+    → symbols_of (expression_kept expressions n) ≡ expression (take n before) item
 
 -- a `$f`, `$e`, `$a`, `$p` or `$d`
 abbrev pub is_read : Kind → Bool
@@ -40,7 +41,8 @@ is_read kind = is_labelled kind || is_disjoint kind
 -- for each of these its symbols are kept, read at its own place
 pub record AreSymbols (before : List Item) (expressions : List (Vec NamedSymbol Global)) : Type 0 where
   pub count : length expressions ≡ length before
-  pub each : (n : ℕ) (item : Item) → slice_get before n ≡ Some item → is_read item.kind ≡ true → symbols_of (expression_kept expressions n) ≡ expression (take n before) item
+  pub each : (n : ℕ) (item : Item) → slice_get before n ≡ Some item → is_read item.kind ≡ true
+      → symbols_of (expression_kept expressions n) ≡ expression (take n before) item
 
 -- the number of the `$f` of a symbol that is a variable
 abbrev pub float_number : Tables → NamedSymbol → List ℕ

@@ -23,7 +23,9 @@ variable_at (Some declared) float = Some (Variable declared float)
 
 -- what a name is declared as: a constant, or a variable with the last `$v` that declares it and the last `$f` that types it
 abbrev pub declared_in : List Item → List ℕ → Option Declared
-declared_in items name = if has (constants items) name then Some Constant else variable_at (last_where (declares_variable name) items) (last_where (types name) items)
+declared_in items name =
+    if has (constants items) name then Some Constant
+    else variable_at (last_where (declares_variable name) items) (last_where (types name) items)
 
 -- the number of the last `$v` of a variable
 abbrev pub variable_of : Option Declared → Option ℕ

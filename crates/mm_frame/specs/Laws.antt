@@ -53,7 +53,8 @@ ReaderIsActive = (items : List Item) → closed items ≡ 0 → all_of (read ([]
 
 -- A statement is active at a later one exactly where the items between them close no block that was open before them.
 abbrev pub ActiveByBlocks : Type 0
-ActiveByBlocks = (items : List Item) (i j : ℕ) (x y : Item) → stays items ≡ true → slice_get items i ≡ Some x → slice_get items j ≡ Some y → mark_of x.kind ≡ Neither → mark_of y.kind ≡ Neither → i < j → (stays (between items i j) ≡ true) ↔ IsActive items i j
+ActiveByBlocks = (items : List Item) (i j : ℕ) (x y : Item) → stays items ≡ true → slice_get items i ≡ Some x → slice_get items j ≡ Some y
+    → mark_of x.kind ≡ Neither → mark_of y.kind ≡ Neither → i < j → (stays (between items i j) ≡ true) ↔ IsActive items i j
 
 -- Each sound `$f`, `$e`, `$a` and `$p` has a label.
 abbrev pub ItemsHaveLabels : Type 0

@@ -1,5 +1,7 @@
--- What the code keeps of the pairs of the sound `$d` so far: for two names the number of a `$d` that has them in this order, one that is active as long as any of these is.
-use Rattle.std.specs.Prelude.{◌≡◌, ℕ, suc, Bool, true, false, ◌&&◌, ◌||◌, if◌then◌else◌, Option, Some, None, List, [], ◌∷◌, ◌++◌, drop, slice_get, bytes_eq, Vec}
+-- What the code keeps of the pairs of the sound `$d` so far: for two names the number of a `$d` that has them in this order,
+-- one that is active as long as any of these is.
+use Rattle.std.specs.Prelude.{◌≡◌, ℕ, suc, Bool, true, false, ◌&&◌, ◌||◌, if◌then◌else◌, Option, Some, None, List, [], ◌∷◌, ◌++◌, drop, slice_get, bytes_eq}
+use Rattle.std.specs.Prelude.{Vec}
 use Rattle.std.specs.List.{list_any}
 use Rattle.std.specs.Global.{Global}
 use Rattle.std.specs.HashMap.{HashMap, get_by}
@@ -41,7 +43,8 @@ number_next marks number told = if is_number_active marks told then told else So
 
 -- so it is for each of these pairs, and nothing else changes
 abbrev pub TakesPairs : PairTable → List Mark → List (Symbol × Symbol) → ℕ → PairTable → Type 0
-TakesPairs old marks pairs number new = (x y : List ℕ) → pair_number new x y ≡ (if has_pair pairs x y then number_next marks number (pair_number old x y) else pair_number old x y)
+TakesPairs old marks pairs number new = (x y : List ℕ)
+    → pair_number new x y ≡ (if has_pair pairs x y then number_next marks number (pair_number old x y) else pair_number old x y)
 
 -- the second name stands behind the first one
 abbrev pub stand_in_order : List (List ℕ) → List ℕ → List ℕ → Bool

@@ -10,7 +10,9 @@ use Rattle.mm_frame.specs.KeptSymbols.{expression_kept}
 
 -- the names are those of one of the pairs, in one order or the other
 abbrev pub are_paired : List (Symbol × Symbol) → Symbol × Symbol → Bool
-are_paired pairs named = list_any (λ pair. (bytes_eq pair.0.name named.0.name && bytes_eq pair.1.name named.1.name) || (bytes_eq pair.0.name named.1.name && bytes_eq pair.1.name named.0.name)) pairs
+are_paired pairs named = list_any (λ pair.
+    (bytes_eq pair.0.name named.0.name && bytes_eq pair.1.name named.1.name)
+    || (bytes_eq pair.0.name named.1.name && bytes_eq pair.1.name named.0.name)) pairs
 
 -- the variables that mandatory `$f` type, in order
 abbrev pub typed_variables : List Mandatory → List Symbol

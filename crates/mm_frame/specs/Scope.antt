@@ -42,7 +42,9 @@ active (item ∷ items) = if stays items then item ∷ active items else active 
 -- the numbers, counted from this one, of the items that are active behind the list and pass a test
 abbrev pub active_numbers_from : (Item → Bool) → ℕ → List Item → List ℕ
 active_numbers_from test n [] = []
-active_numbers_from test n (item ∷ items) = if stays items && test item then n ∷ active_numbers_from test (suc n) items else active_numbers_from test (suc n) items
+active_numbers_from test n (item ∷ items) =
+    if stays items && test item then n ∷ active_numbers_from test (suc n) items
+    else active_numbers_from test (suc n) items
 
 -- the numbers of the active items that pass a test, in order
 abbrev pub active_numbers : (Item → Bool) → List Item → List ℕ

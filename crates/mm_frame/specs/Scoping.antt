@@ -22,4 +22,5 @@ taken sound item = if sound then item else passed
 
 -- the scope takes one more item, which is sound if it is said to be so
 abbrev pub Takes : Scope → Item → Bool → Scope → Type 0
-Takes old item sound new = (before : List Item) → AreSound before → Holds before old → (sound ≡ true → IsSound before item) → Holds (before ++ taken sound item ∷ []) new
+Takes old item sound new = (before : List Item) → AreSound before → Holds before old → (sound ≡ true → IsSound before item)
+    → Holds (before ++ taken sound item ∷ []) new

@@ -1,9 +1,12 @@
--- Soundness: the fault of a statement behind the sound ones before it, and the items with each statement at fault passed over (Metamath book, sections 4.1 and 4.2).
-use Rattle.std.specs.Prelude.{◌≡◌, ℕ, zero, suc, ◌+◌, ◌-◌, ◌≤◌, Bool, true, false, not, ◌&&◌, ◌||◌, ltb, leb, ◌==◌, Option, Some, None, List, [], ◌∷◌, ◌++◌, length, take, bytes_eq, slice_get, find}
+-- Soundness: the fault of a statement behind the sound ones before it, and the items with each statement at fault passed over
+-- (Metamath book, sections 4.1 and 4.2).
+use Rattle.std.specs.Prelude.{◌≡◌, ℕ, zero, suc, ◌+◌, ◌-◌, ◌≤◌, Bool, true, false, not, ◌&&◌, ◌||◌, ltb, leb, ◌==◌, Option, Some, None, List, [], ◌∷◌, ◌++◌}
+use Rattle.std.specs.Prelude.{length, take, bytes_eq, slice_get, find}
 use Rattle.std.specs.List.{list_any}
 use Rattle.mm_frame.specs.declared.FrameNumber.{FrameNumber}
 use Rattle.mm_frame.specs.declared.FrameNumber.TheVariants.{F01, F02, F03, F04, F05, F06, F07, F08, F09, F10, F11, F12, F13, F14}
-use Rattle.mm_frame.specs.Item.{Kind, Constants, Variables, Disjoint, Floating, Essential, Axiom, Theorem, Item, passed, is_constants, is_variables, is_disjoint, is_floating, is_declaring, is_expression, is_labelled, has, labels_of, typecode_of, variable_of}
+use Rattle.mm_frame.specs.Item.{Kind, Constants, Variables, Disjoint, Floating, Essential, Axiom, Theorem, Item, passed, is_constants, is_variables}
+use Rattle.mm_frame.specs.Item.{is_disjoint, is_floating, is_declaring, is_expression, is_labelled, has, labels_of, typecode_of, variable_of}
 use Rattle.mm_frame.specs.Scope.{is_inside, constants, variables, labels, active_variables, floats, typed}
 
 -- the word of the first symbol
@@ -81,7 +84,8 @@ is_typed before name = has (typed before) name
 
 -- another `$f`, active or not, gives the variable another typecode
 abbrev pub is_typed_otherwise : List Item → Item → List ℕ → Bool
-is_typed_otherwise before item name = list_any (λ other. bytes_eq (variable_of other) name && not (bytes_eq (typecode_of other) (typecode_of item))) (floats before)
+is_typed_otherwise before item name = list_any (λ other.
+    bytes_eq (variable_of other) name && not (bytes_eq (typecode_of other) (typecode_of item))) (floats before)
 
 -- the statement has too few symbols
 abbrev pub is_short : Kind → ℕ → Bool
@@ -103,7 +107,9 @@ line before item word F02 = is_constants item.kind && (word == 0 && is_inside be
 -- a symbol that stands earlier in the same `$c`, `$v` or `$d`
 line before item word F03 = (is_declaring item.kind || is_disjoint item.kind) && at_symbol (is_repeated item) item word
 -- a `$c` of what was ever declared, or a `$v` of a constant or an active variable
-line before item word F04 = (is_constants item.kind && at_symbol (each (is_declared before)) item word) || (is_variables item.kind && at_symbol (each (is_active_symbol before)) item word)
+line before item word F04 =
+    (is_constants item.kind && at_symbol (each (is_declared before)) item word)
+    || (is_variables item.kind && at_symbol (each (is_active_symbol before)) item word)
 -- a declared symbol that is a label
 line before item word F05 = is_declaring item.kind && at_symbol (each (is_label before)) item word
 -- a label that is a label already
@@ -113,7 +119,9 @@ line before item word F07 = word == 0 && list_any (is_declared before) (labels_o
 -- a typecode that is no constant
 line before item word F08 = is_labelled item.kind && at_symbol (first (is_no_constant before)) item word
 -- no active variable in a `$d`, or as the second symbol of a `$f`
-line before item word F09 = (is_disjoint item.kind && at_symbol (each (is_no_variable before)) item word) || (is_floating item.kind && at_symbol (second (is_no_variable before)) item word)
+line before item word F09 =
+    (is_disjoint item.kind && at_symbol (each (is_no_variable before)) item word)
+    || (is_floating item.kind && at_symbol (second (is_no_variable before)) item word)
 -- behind the typecode, neither a constant nor an active variable
 line before item word F10 = is_expression item.kind && at_symbol (later (is_unknown before)) item word
 -- behind the typecode, an active variable that no active `$f` types

@@ -1,5 +1,7 @@
--- What a reader looks up by number: the last item that declares a name, types it or carries it as a label, and whether that one item is active (Metamath book, section 4.2).
-use Rattle.std.specs.Prelude.{◌≡◌, ℕ, suc, ◌<◌, ◌⊎◌, Bool, true, false, not, ◌&&◌, if◌then◌else◌, Option, Some, None, List, [], ◌∷◌, drop, bytes_eq, Contains, AllPairs}
+-- What a reader looks up by number: the last item that declares a name, types it or carries it as a label, and whether that one
+-- item is active (Metamath book, section 4.2).
+use Rattle.std.specs.Prelude.{◌≡◌, ℕ, suc, ◌<◌, ◌⊎◌, Bool, true, false, not, ◌&&◌, if◌then◌else◌, Option, Some, None, List, [], ◌∷◌, drop, bytes_eq, Contains}
+use Rattle.std.specs.Prelude.{AllPairs}
 use Rattle.mm_frame.specs.Item.{Kind, Passed, Item, item_at, is_variables, is_disjoint, is_floating, is_essential, has, labels_of, typecode_of, variable_of}
 use Rattle.mm_frame.specs.Scope.{Neither, mark_of, stays, active_numbers}
 use Rattle.mm_frame.specs.Framing.{mandatory_variables}
@@ -55,7 +57,9 @@ is_disjoint_item item = is_disjoint item.kind
 
 -- the number is that of an active `$e`, or of the last `$f` of a mandatory variable
 abbrev pub IsHypothesisNumber : List Item → Item → ℕ → Type 0
-IsHypothesisNumber before item n = Contains (active_numbers is_essential_item before) n ⊎ ((name : List ℕ) × Contains (mandatory_variables before item) name × (last_where (types name) before ≡ Some n))
+IsHypothesisNumber before item n =
+    Contains (active_numbers is_essential_item before) n
+    ⊎ ((name : List ℕ) × Contains (mandatory_variables before item) name × (last_where (types name) before ≡ Some n))
 
 -- each number is less than each later one
 abbrev pub IsRising : List ℕ → Type 0

@@ -64,7 +64,8 @@ impl ActiveNumbers {
     /// not, and is no `$}`, changes nothing.
     pub fn push(&mut self, number: usize) -> Result<(), AllocError>
         ensures ok { OnOk result (self.new ≡ self.old ++ number ∷ []) }
-        ensures next { OnOk result ((test : meant.Item → Bool) (before : List meant.Item) (item : meant.Item) → mark_of item.kind ≡ Neither → test item ≡ true → number ≡ length before → self.old ≡ active_numbers test before → self.new ≡ active_numbers test (before ++ item ∷ [])) }
+        ensures next { OnOk result ((test : meant.Item → Bool) (before : List meant.Item) (item : meant.Item) → mark_of item.kind ≡ Neither → test item ≡ true
+            → number ≡ length before → self.old ≡ active_numbers test before → self.new ≡ active_numbers test (before ++ item ∷ [])) }
         ensures err { OnErr result (self.new ≡ self.old) }
     {
         self.numbers.push(number)?;
@@ -74,7 +75,8 @@ impl ActiveNumbers {
     /// Drops the numbers of what is no longer active behind one more item that is not of this sort. Only a `$}` can
     /// make a difference: so it is called behind each.
     pub fn prune(&mut self, blocks: &Blocks)
-        ensures { (test : meant.Item → Bool) (before : List meant.Item) (item : meant.Item) → test item ≡ false → blocks.now ≡ marks_of (before ++ item ∷ []) → self.old ≡ active_numbers test before → self.new ≡ active_numbers test (before ++ item ∷ []) }
+        ensures { (test : meant.Item → Bool) (before : List meant.Item) (item : meant.Item) → test item ≡ false → blocks.now ≡ marks_of (before ++ item ∷ [])
+            → self.old ≡ active_numbers test before → self.new ≡ active_numbers test (before ++ item ∷ []) }
     {
         drop_ended(&mut self.numbers, blocks);
     }

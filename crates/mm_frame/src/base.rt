@@ -8,7 +8,8 @@ ghost use Rattle.mm_store.specs.declared.error.StoreError.TheVariants.{NoTop};
 ghost use Rattle.mm_frame.specs.Item.{is_labelled};
 ghost use Rattle.mm_frame.specs.Language.{AreSamePairs};
 ghost use Rattle.mm_frame.specs.Framing.{active_pairs, resolve};
-ghost use Rattle.mm_frame.specs.Base.{BaseView, IsOfFiles, before, said_at, is_proof_at, is_framed_at, is_sound_at, fault_at, expression_at, frame_at, AreHypotheses};
+ghost use Rattle.mm_frame.specs.Base.{BaseView, IsOfFiles, before, said_at, is_proof_at, is_framed_at, is_sound_at, fault_at, expression_at, frame_at};
+ghost use Rattle.mm_frame.specs.Base.{AreHypotheses};
 ghost use Rattle.mm_frame.specs.Named.{symbols_of, kept_pairs};
 ghost use Rattle.mm_frame.specs.KeptSymbols.{expression_kept};
 ghost use Rattle.mm_frame.specs.Paired.{pairs_in_order};
@@ -212,7 +213,8 @@ impl Base {
     pub fn frame(&self, i: usize) -> Option<&Frame>
         ensures some { (base : BaseView) → IsBase base self.now → is_some result ≡ is_framed_at base i }
         ensures means { (base : BaseView) → IsBase base self.now → IfSome result (λ frame. AreHypotheses base i frame.now.hypotheses.items) }
-        ensures pairs { (base : BaseView) → IsBase base self.now → IfSome result (λ frame. AreSamePairs (kept_pairs frame.now.pairs.items) (frame_at base i).pairs) }
+        ensures pairs { (base : BaseView) → IsBase base self.now
+            → IfSome result (λ frame. AreSamePairs (kept_pairs frame.now.pairs.items) (frame_at base i).pairs) }
     {
         self.kept_frame(i)
     }

@@ -122,7 +122,8 @@ fn row_of(
 ) -> Result<Row, AllocError>
     ensures label { IfOk result (λ row. option_map (λ label. label.items) row.label ≡ statement.now.label) }
     ensures labelled { IfOk result (λ row. is_some row.label ≡ meant.is_labelled statement.now.kind) }
-    ensures fault { IfOk result (λ row. option_map (λ f. (f.word, f.number)) row.fault ≡ fault_by statement.now.kind (option_map (λ f. (f.word, f.number)) fault)) }
+    ensures fault { IfOk result (λ row. option_map (λ f. (f.word, f.number)) row.fault
+        ≡ fault_by statement.now.kind (option_map (λ f. (f.word, f.number)) fault)) }
 {
     let label = label_of(alloc, statement)?;
     let fault = told_fault(statement.kind(), fault);
@@ -142,7 +143,8 @@ fn symbols_kept(
     statement: &Statement,
     sound: bool,
 ) -> Result<Vec<NamedSymbol>, AllocError>
-    ensures { IfOk result (λ symbols. (before : List meant.Item) → AreSound before → Knows before tables.now → sound ≡ true → IsSound before statement.now → is_read statement.now.kind ≡ true → symbols_of symbols.items ≡ expression before statement.now) }
+    ensures { IfOk result (λ symbols. (before : List meant.Item) → AreSound before → Knows before tables.now → sound ≡ true → IsSound before statement.now
+        → is_read statement.now.kind ≡ true → symbols_of symbols.items ≡ expression before statement.now) }
 {
     if !sound {
         return Ok(Vec::new(alloc));
@@ -210,7 +212,9 @@ fn follow(
     number: usize,
     sound: bool,
 ) -> Result<(), AllocError>
-    ensures { OnOk result ((test : meant.Kind → Bool) (before : List meant.Item) (item : meant.Item) → IsSort test → kind_of kind ≡ item.kind → of_sort ≡ test item.kind → number ≡ length before → blocks.now ≡ marks_of (before ++ taken sound item ∷ []) → numbers.old ≡ active_numbers (λ i. test i.kind) before → numbers.new ≡ active_numbers (λ i. test i.kind) (before ++ taken sound item ∷ [])) }
+    ensures { OnOk result ((test : meant.Kind → Bool) (before : List meant.Item) (item : meant.Item) → IsSort test → kind_of kind ≡ item.kind
+        → of_sort ≡ test item.kind → number ≡ length before → blocks.now ≡ marks_of (before ++ taken sound item ∷ [])
+        → numbers.old ≡ active_numbers (λ i. test i.kind) before → numbers.new ≡ active_numbers (λ i. test i.kind) (before ++ taken sound item ∷ [])) }
 {
     if !sound {
         return Ok(());
@@ -234,8 +238,11 @@ fn keep_pairs(
     expressions: &[Vec<NamedSymbol>],
     proof: bool,
 ) -> Result<(), AllocError>
-    ensures made { OnOk result ((before : List meant.Item) → AreSound before → AreSymbols before expressions.now → disjoints.now ≡ active_numbers is_disjoint_item before → AreMade before pair_lists.old → AreMade before pair_lists.new) }
-    ensures pairs { OnOk result ((said : List meant.Item) (item : meant.Item) → AreSymbols (kept said) expressions.now → disjoints.now ≡ active_numbers is_disjoint_item (kept said) → AreMade (kept said) pair_lists.old → proof ≡ is_told_proof (kept said) item → AreRows (TellsPairs pair_lists.old) said pairs.old.items → AreRows (TellsPairs pair_lists.new) (said ++ item ∷ []) pairs.new.items) }
+    ensures made { OnOk result ((before : List meant.Item) → AreSound before → AreSymbols before expressions.now
+        → disjoints.now ≡ active_numbers is_disjoint_item before → AreMade before pair_lists.old → AreMade before pair_lists.new) }
+    ensures pairs { OnOk result ((said : List meant.Item) (item : meant.Item) → AreSymbols (kept said) expressions.now
+        → disjoints.now ≡ active_numbers is_disjoint_item (kept said) → AreMade (kept said) pair_lists.old → proof ≡ is_told_proof (kept said) item
+        → AreRows (TellsPairs pair_lists.old) said pairs.old.items → AreRows (TellsPairs pair_lists.new) (said ++ item ∷ []) pairs.new.items) }
 {
     if !proof {
         pairs.push(None)?;
@@ -256,7 +263,9 @@ fn follow_pairs(
     number: usize,
     sound: bool,
 ) -> Result<(), AllocError>
-    ensures { OnOk result ((before : List meant.Item) (item : meant.Item) → kind_of kind ≡ item.kind → number ≡ length before → blocks.now ≡ marks_of before → (sound ≡ true → is_read item.kind ≡ true → symbols_of symbols.now ≡ expression before item) → KnowsPairs before pairs.old → KnowsPairs (before ++ taken sound item ∷ []) pairs.new) }
+    ensures { OnOk result ((before : List meant.Item) (item : meant.Item) → kind_of kind ≡ item.kind → number ≡ length before → blocks.now ≡ marks_of before
+        → (sound ≡ true → is_read item.kind ≡ true → symbols_of symbols.now ≡ expression before item) → KnowsPairs before pairs.old
+        → KnowsPairs (before ++ taken sound item ∷ []) pairs.new) }
 {
     if sound && is_disjoint(kind) {
         pairs.take(alloc, blocks, symbols, number)?;
@@ -366,7 +375,8 @@ impl<'a> Draft<'a> {
     /// Reads one more item of the files. Want of memory leaves the draft as good for nothing.
     pub fn read(&mut self, alloc: Global, files: &'a Files, item: &Item) -> Result<(), AllocError>
         requires { CanBeRead files.now item.now }
-        ensures { OnOk result ((one : meant.Item) × Says files.now item.now one × ((said : List meant.Item) → IsDraft said self.old → IsDraft (said ++ one ∷ []) self.new)) }
+        ensures { OnOk result ((one : meant.Item) × Says files.now item.now one
+            × ((said : List meant.Item) → IsDraft said self.old → IsDraft (said ++ one ∷ []) self.new)) }
     {
         let statement = Statement::read(alloc, files, item)?;
         self.take(alloc, &statement)

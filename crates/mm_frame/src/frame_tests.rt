@@ -3,8 +3,10 @@
 ghost use Rattle.mm_store.specs.FileFacts.{CanBeRead};
 
 use crate::base_tests::base_of;
+use crate::blocks::Blocks;
 use crate::draft::{Draft, Parts};
-use crate::mandatory::hypotheses;
+use crate::mandatory::{Earlier, hypotheses};
+use crate::paired::PairTable;
 use crate::same::{same_but_pairs, same_pairs};
 use crate::symbol::{NamedSymbol, expression_of};
 use crate::tables::Tables;
@@ -97,7 +99,14 @@ fn finds_mandatory_hypotheses(rt: HostRuntime) -> Result<(), Fail> {
     let mut expressions = Vec::new(rt.alloc());
     keep_all(rt.alloc(), FRAME, &mut tables, &mut expressions)?;
     let own = kept_for(&expressions, 7);
-    let numbers = hypotheses(rt.alloc(), &tables, &[6], &expressions, own)?;
+    let earlier = Earlier {
+        tables: &tables,
+        pairs: &PairTable::new(rt.alloc()),
+        blocks: &Blocks::new(rt.alloc()),
+        essentials: &[6],
+        expressions: &expressions,
+    };
+    let numbers = hypotheses(rt.alloc(), &earlier, own)?;
     assert_eq!(rt; &numbers[..], [3, 4, 6].as_slice());
     Ok(())
 }
@@ -179,7 +188,9 @@ fn keeps_the_pairs_of_frames(rt: HostRuntime) -> Result<(), Fail> {
 /// Sixteen items: a `$d` in the outermost block and one in an inner block, with `$p` before, in and behind it. Item 12
 /// is at fault.
 const PAIRS: &[u8] =
-    b"$c wff |- $.\n$v x y z $.\nwx $f wff x $.\nwy $f wff y $.\nwz $f wff z $.\nt $p |- x $= wx $.\n$d x y $.\nax $a |- x $.\nta $p |- x $= wx $.\n${ $d z y x $.\ntb $p |- x $= wx $.\nte $p |- q $= wx $.\ntc $p |- y $= wy $. $}\ntd $p |- x $= wx $.\n";
+    b"$c wff |- $.\n$v x y z $.\nwx $f wff x $.\nwy $f wff y $.\nwz $f wff z $.\nt $p |- x $= wx $.\n\
+$d x y $.\nax $a |- x $.\nta $p |- x $= wx $.\n${ $d z y x $.\ntb $p |- x $= wx $.\n\
+te $p |- q $= wx $.\ntc $p |- y $= wy $. $}\ntd $p |- x $= wx $.\n";
 
 /// Whether the pair at a place is of these variables.
 fn is_pair_at(
@@ -320,7 +331,8 @@ const APART: &[u8] =
 
 /// The items 12 and 14 are of the same symbols: all three are apart in the inner block, and two of them behind it.
 const SPREAD: &[u8] =
-    b"$c wff |- $.\n$v w x y z $.\nwx $f wff x $.\nwy $f wff y $.\nww $f wff w $.\nwz $f wff z $.\n${ $d y x $.\n$d w z $.\n${ $d z y $.\n$d z x y $.\nax $a |- x y z $. $}\nbx $a |- x y z $. $}\n";
+    b"$c wff |- $.\n$v w x y z $.\nwx $f wff x $.\nwy $f wff y $.\nww $f wff w $.\nwz $f wff z $.\n\
+${ $d y x $.\n$d w z $.\n${ $d z y $.\n$d z x y $.\nax $a |- x y z $. $}\nbx $a |- x y z $. $}\n";
 
 /// The item 6 is that of the first text, but for the order of its `$f`.
 const TURNED: &[u8] =

@@ -51,8 +51,10 @@ fn front_fault(scope: &Scope, statement: &Statement) -> Option<FrameNumber>
 /// What is wrong with a symbol of a `$c` or `$v`, if it is known whether the symbol stands earlier in the same
 /// statement, and whether it is a symbol already that must not be declared again.
 fn declared_fault(scope: &Scope, name: &[u8], repeated: bool, declared: bool) -> Option<FrameNumber>
-    ensures constant { (before : List Item) (item : Item) (n : ℕ) → AreSound before → Holds before scope.now → repeated ≡ sound.is_repeated item n name.now → declared ≡ sound.is_declared before name.now → result ≡ judging.constant_fault before item n name.now }
-    ensures variable { (before : List Item) (item : Item) (n : ℕ) → AreSound before → Holds before scope.now → repeated ≡ sound.is_repeated item n name.now → declared ≡ sound.is_active_symbol before name.now → result ≡ judging.variable_fault before item n name.now }
+    ensures constant { (before : List Item) (item : Item) (n : ℕ) → AreSound before → Holds before scope.now → repeated ≡ sound.is_repeated item n name.now
+        → declared ≡ sound.is_declared before name.now → result ≡ judging.constant_fault before item n name.now }
+    ensures variable { (before : List Item) (item : Item) (n : ℕ) → AreSound before → Holds before scope.now → repeated ≡ sound.is_repeated item n name.now
+        → declared ≡ sound.is_active_symbol before name.now → result ≡ judging.variable_fault before item n name.now }
 {
     if repeated {
         Some(FrameNumber::F03)
@@ -67,7 +69,8 @@ fn declared_fault(scope: &Scope, name: &[u8], repeated: bool, declared: bool) ->
 
 /// What is wrong with a symbol of a `$d`, if it is known whether the symbol stands earlier in the same statement.
 fn disjoint_fault(scope: &Scope, name: &[u8], repeated: bool) -> Option<FrameNumber>
-    ensures { (before : List Item) (item : Item) (n : ℕ) → AreSound before → Holds before scope.now → repeated ≡ sound.is_repeated item n name.now → result ≡ judging.disjoint_fault before item n name.now }
+    ensures { (before : List Item) (item : Item) (n : ℕ) → AreSound before → Holds before scope.now → repeated ≡ sound.is_repeated item n name.now
+        → result ≡ judging.disjoint_fault before item n name.now }
 {
     if repeated {
         Some(FrameNumber::F03)
@@ -90,7 +93,8 @@ fn typecode_fault(scope: &Scope, name: &[u8]) -> Option<FrameNumber>
 
 /// What is wrong with the variable of a `$f` that gives it this typecode.
 fn typed_fault(scope: &Scope, name: &[u8], typecode: &[u8]) -> Option<FrameNumber>
-    ensures { (before : List Item) (item : Item) → AreSound before → Holds before scope.now → meant.typecode_of item ≡ typecode.now → result ≡ judging.typed_fault before item name.now }
+    ensures { (before : List Item) (item : Item) → AreSound before → Holds before scope.now → meant.typecode_of item ≡ typecode.now
+        → result ≡ judging.typed_fault before item name.now }
 {
     if !scope.is_active_variable(name) {
         Some(FrameNumber::F09)
@@ -106,7 +110,8 @@ fn typed_fault(scope: &Scope, name: &[u8], typecode: &[u8]) -> Option<FrameNumbe
 /// What is wrong with the n-th symbol of a `$f`, counted from 0.
 fn floating_fault(scope: &Scope, statement: &Statement, n: usize) -> Option<FrameNumber>
     requires { n < length statement.now.symbols }
-    ensures { (before : List Item) → AreSound before → Holds before scope.now → result ≡ judging.floating_fault before statement.now n (slice_index_or statement.now.symbols n []) }
+    ensures { (before : List Item) → AreSound before → Holds before scope.now
+        → result ≡ judging.floating_fault before statement.now n (slice_index_or statement.now.symbols n []) }
 {
     match n {
         0 => typecode_fault(scope, statement.symbol(0)),
@@ -160,7 +165,9 @@ fn symbol_fault(
     repeated: bool,
 ) -> Option<FrameNumber>
     requires { n < length statement.now.symbols }
-    ensures { (before : List Item) → AreSound before → Holds before scope.now → (judging.must_differ statement.now.kind ≡ true → repeated ≡ sound.is_repeated statement.now n (slice_index_or statement.now.symbols n [])) → result ≡ judging.symbol_fault before statement.now n (slice_index_or statement.now.symbols n []) }
+    ensures { (before : List Item) → AreSound before → Holds before scope.now
+        → (judging.must_differ statement.now.kind ≡ true → repeated ≡ sound.is_repeated statement.now n (slice_index_or statement.now.symbols n []))
+        → result ≡ judging.symbol_fault before statement.now n (slice_index_or statement.now.symbols n []) }
 {
     let name = statement.symbol(n);
     match statement.kind() {
@@ -177,7 +184,8 @@ fn symbol_fault(
 
 /// Whether a name is among those seen so far, which it joins. Where the names need not differ, none is kept.
 fn see<'a>(seen: &mut HashSet<&'a [u8]>, name: &'a [u8], differ: bool) -> Result<bool, AllocError>
-    ensures { (names : List (List ℕ)) → (differ ≡ true → HasSeen names seen.old) → IfOk result (λ repeated. differ ≡ true → (repeated ≡ meant.has names name.now) × HasSeen (names ++ name.now ∷ []) seen.new) }
+    ensures { (names : List (List ℕ)) → (differ ≡ true → HasSeen names seen.old)
+        → IfOk result (λ repeated. differ ≡ true → (repeated ≡ meant.has names name.now) × HasSeen (names ++ name.now ∷ []) seen.new) }
 {
     Ok(differ && !seen.insert(name)?)
 }
@@ -188,7 +196,8 @@ fn symbols_fault(
     scope: &Scope,
     statement: &Statement,
 ) -> Result<Option<FrameFault>, AllocError>
-    ensures { (before : List Item) → AreSound before → Holds before scope.now → IfOk result (λ found. option_map (λ f. (f.word, f.number)) found ≡ judging.symbols_fault before statement.now) }
+    ensures { (before : List Item) → AreSound before → Holds before scope.now
+        → IfOk result (λ found. option_map (λ f. (f.word, f.number)) found ≡ judging.symbols_fault before statement.now) }
 {
     let differ = must_differ(statement.kind());
     let mut seen = HashSet::new(alloc);
@@ -236,7 +245,8 @@ pub fn fault_of(
     scope: &Scope,
     statement: &Statement,
 ) -> Result<Option<FrameFault>, AllocError>
-    ensures { (before : List Item) → AreSound before → Holds before scope.now → IfOk result (λ found. option_map (λ f. (f.word, f.number)) found ≡ sound.fault before statement.now) }
+    ensures { (before : List Item) → AreSound before → Holds before scope.now
+        → IfOk result (λ found. option_map (λ f. (f.word, f.number)) found ≡ sound.fault before statement.now) }
 {
     if let Some(number) = front_fault(scope, statement) {
         return Ok(Some(FrameFault { number, word: 0 }));

@@ -137,7 +137,8 @@ fn add_variable<'a>(
     number: usize,
     variables: &mut Vec<&'a NamedSymbol>,
 ) -> Result<(), AllocError>
-    ensures { OnOk result (IsRising essentials.now → symbols_lent variables.new.items ≡ symbols_lent variables.old.items ++ float_variable essentials.now expressions.now number) }
+    ensures { OnOk result (IsRising essentials.now
+        → symbols_lent variables.new.items ≡ symbols_lent variables.old.items ++ float_variable essentials.now expressions.now number) }
 {
     if is_among(essentials, number) {
         return Ok(());
@@ -155,7 +156,8 @@ fn variables_typed<'a>(
     expressions: &'a [Vec<NamedSymbol>],
     hypotheses: &[usize],
 ) -> Result<Vec<&'a NamedSymbol>, AllocError>
-    ensures { IfOk result (λ variables. IsRising essentials.now → symbols_lent variables.items ≡ float_variables essentials.now expressions.now hypotheses.now) }
+    ensures { IfOk result (λ variables. IsRising essentials.now
+        → symbols_lent variables.items ≡ float_variables essentials.now expressions.now hypotheses.now) }
 {
     let mut variables = Vec::new(alloc);
     for number in hypotheses {
@@ -173,7 +175,9 @@ fn add_if_active(
     second: &NamedSymbol,
     pairs: &mut Vec<(NamedSymbol, NamedSymbol)>,
 ) -> Result<(), AllocError>
-    ensures { OnOk result ((before : List meant.Item) → KnowsPairs before table.now → blocks.now ≡ marks_of before → kept_pairs pairs.new.items ≡ kept_pairs pairs.old.items ++ filter (are_paired (active_pairs before)) ((symbol_of first.now, symbol_of second.now) ∷ [])) }
+    ensures { OnOk result ((before : List meant.Item) → KnowsPairs before table.now → blocks.now ≡ marks_of before
+        → kept_pairs pairs.new.items
+        ≡ kept_pairs pairs.old.items ++ filter (are_paired (active_pairs before)) ((symbol_of first.now, symbol_of second.now) ∷ [])) }
 {
     if table.is_active_pair(blocks, &first.name, &second.name) {
         add_pair(alloc, first, second, pairs)?;
@@ -190,7 +194,9 @@ fn add_active_with(
     later: &[&NamedSymbol],
     pairs: &mut Vec<(NamedSymbol, NamedSymbol)>,
 ) -> Result<(), AllocError>
-    ensures { OnOk result ((before : List meant.Item) → KnowsPairs before table.now → blocks.now ≡ marks_of before → kept_pairs pairs.new.items ≡ kept_pairs pairs.old.items ++ filter (are_paired (active_pairs before)) (map (λ y. (symbol_of first.now, y)) (symbols_lent later.now))) }
+    ensures { OnOk result ((before : List meant.Item) → KnowsPairs before table.now → blocks.now ≡ marks_of before
+        → kept_pairs pairs.new.items
+        ≡ kept_pairs pairs.old.items ++ filter (are_paired (active_pairs before)) (map (λ y. (symbol_of first.now, y)) (symbols_lent later.now))) }
 {
     for second in later {
         add_if_active(alloc, table, blocks, first, second, pairs)?;
@@ -205,7 +211,8 @@ fn active_among(
     blocks: &Blocks,
     variables: &[&NamedSymbol],
 ) -> Result<Vec<(NamedSymbol, NamedSymbol)>, AllocError>
-    ensures { IfOk result (λ pairs. (before : List meant.Item) → KnowsPairs before table.now → blocks.now ≡ marks_of before → kept_pairs pairs.items ≡ filter (are_paired (active_pairs before)) (pairs_of (symbols_lent variables.now))) }
+    ensures { IfOk result (λ pairs. (before : List meant.Item) → KnowsPairs before table.now → blocks.now ≡ marks_of before
+        → kept_pairs pairs.items ≡ filter (are_paired (active_pairs before)) (pairs_of (symbols_lent variables.now))) }
 {
     let mut pairs = Vec::new(alloc);
     for n in 0..variables.len() {

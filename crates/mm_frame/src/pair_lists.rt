@@ -97,7 +97,8 @@ fn count_to(number: usize, count: usize) -> usize
 
 /// The count of items up to the last active `$d`: 0 where no `$d` is active.
 fn count_to_last(disjoints: &[usize], expressions: &[Vec<NamedSymbol>]) -> usize
-    ensures { (before : List meant.Item) → AreSound before → AreSymbols before expressions.now → disjoints.now ≡ active_numbers is_disjoint_item before → HasActivePairs before result }
+    ensures { (before : List meant.Item) → AreSound before → AreSymbols before expressions.now → disjoints.now ≡ active_numbers is_disjoint_item before
+        → HasActivePairs before result }
 {
     match disjoints.last() {
         Some(number) => count_to(*number, expressions.len()),
@@ -135,8 +136,10 @@ impl PairLists {
         disjoints: &[usize],
         expressions: &[Vec<NamedSymbol>],
     ) -> Result<usize, AllocError>
-        ensures pairs { IfOk result (λ k. (before : List meant.Item) → AreSound before → AreSymbols before expressions.now → disjoints.now ≡ active_numbers is_disjoint_item before → AreMade before self.old → IsList self.new k (active_pairs before)) }
-        ensures made { OnOk result ((before : List meant.Item) → AreSound before → AreSymbols before expressions.now → disjoints.now ≡ active_numbers is_disjoint_item before → AreMade before self.old → AreMade before self.new) }
+        ensures pairs { IfOk result (λ k. (before : List meant.Item) → AreSound before → AreSymbols before expressions.now
+            → disjoints.now ≡ active_numbers is_disjoint_item before → AreMade before self.old → IsList self.new k (active_pairs before)) }
+        ensures made { OnOk result ((before : List meant.Item) → AreSound before → AreSymbols before expressions.now
+            → disjoints.now ≡ active_numbers is_disjoint_item before → AreMade before self.old → AreMade before self.new) }
         ensures kept { OnOk result (KeepsLists self.old self.new) }
     {
         let count = count_to_last(disjoints, expressions);

@@ -66,7 +66,8 @@ impl PairTable {
 
     /// Whether an active `$d` has the two names, in one order or the other.
     pub fn is_active_pair(&self, blocks: &Blocks, first: &[u8], second: &[u8]) -> bool
-        ensures { (before : List meant.Item) → KnowsPairs before self.now → blocks.now ≡ marks_of before → result ≡ are_paired (active_pairs before) (variable_of first.now, variable_of second.now) }
+        ensures { (before : List meant.Item) → KnowsPairs before self.now → blocks.now ≡ marks_of before
+            → result ≡ are_paired (active_pairs before) (variable_of first.now, variable_of second.now) }
     {
         self.is_active(blocks, first, second) || self.is_active(blocks, second, first)
     }
@@ -79,7 +80,8 @@ impl PairTable {
         second: &[u8],
         number: usize,
     ) -> Result<(), AllocError>
-        ensures { OnOk result (value_in self.old.numbers first.now ≡ None → (x y : List ℕ) → pair_number self.new x y ≡ (if bytes_eq first.now x && bytes_eq second.now y then Some number else pair_number self.old x y)) }
+        ensures { OnOk result (value_in self.old.numbers first.now ≡ None → (x y : List ℕ)
+            → pair_number self.new x y ≡ (if bytes_eq first.now x && bytes_eq second.now y then Some number else pair_number self.old x y)) }
     {
         let mut numbers = HashMap::new(alloc);
         keep(alloc, &mut numbers, second, number)?;
@@ -96,7 +98,8 @@ impl PairTable {
         second: &[u8],
         number: usize,
     ) -> Result<(), AllocError>
-        ensures { OnOk result ((x y : List ℕ) → pair_number self.new x y ≡ (if bytes_eq first.now x && bytes_eq second.now y then Some number else pair_number self.old x y)) }
+        ensures { OnOk result ((x y : List ℕ)
+            → pair_number self.new x y ≡ (if bytes_eq first.now x && bytes_eq second.now y then Some number else pair_number self.old x y)) }
     {
         match self.numbers.get_mut(first) {
             Some(numbers) => keep(alloc, numbers, second, number),
@@ -163,7 +166,9 @@ impl PairTable {
         variables: &[NamedSymbol],
         number: usize,
     ) -> Result<(), AllocError>
-        ensures { OnOk result ((before : List meant.Item) (item : meant.Item) → meant.is_disjoint item.kind ≡ true → symbols_of variables.now ≡ expression before item → length before ≡ number → blocks.now ≡ marks_of before → KnowsPairs before self.old → KnowsPairs (before ++ item ∷ []) self.new) }
+        ensures { OnOk result ((before : List meant.Item) (item : meant.Item) → meant.is_disjoint item.kind ≡ true
+            → symbols_of variables.now ≡ expression before item → length before ≡ number → blocks.now ≡ marks_of before → KnowsPairs before self.old
+            → KnowsPairs (before ++ item ∷ []) self.new) }
     {
         self.take_all(alloc, blocks, variables, number)
     }

@@ -49,7 +49,8 @@ pub fn same_pairs(one: &[(NamedSymbol, NamedSymbol)], other: &[(NamedSymbol, Nam
 
 /// Whether two sound `$f`, `$e`, `$a` or `$p` have the same expression.
 fn same_expression(one: &Base, i: usize, other: &Base, j: usize) -> bool
-    ensures { (base copy : BaseView) → IsBase base one.now → IsBase copy other.now → is_shown_at base i ≡ true → is_shown_at copy j ≡ true → IsTrue result ↔ (expression (before base i) (said_at base i) ≡ expression (before copy j) (said_at copy j)) }
+    ensures { (base copy : BaseView) → IsBase base one.now → IsBase copy other.now → is_shown_at base i ≡ true → is_shown_at copy j ≡ true
+        → IsTrue result ↔ (expression (before base i) (said_at base i) ≡ expression (before copy j) (said_at copy j)) }
 {
     match (one.expression(i), other.expression(j)) {
         (Some(mine), Some(yours)) => same_symbols(mine, yours),
@@ -59,14 +60,16 @@ fn same_expression(one: &Base, i: usize, other: &Base, j: usize) -> bool
 
 /// Whether two hypotheses are the same.
 fn same_hypothesis(one: &Base, i: usize, other: &Base, j: usize) -> bool
-    ensures { (base copy : BaseView) → IsBase base one.now → IsBase copy other.now → is_shown_at base i ≡ true → is_shown_at copy j ≡ true → IsTrue result ↔ (hypothesis_at base i ≡ hypothesis_at copy j) }
+    ensures { (base copy : BaseView) → IsBase base one.now → IsBase copy other.now → is_shown_at base i ≡ true → is_shown_at copy j ≡ true
+        → IsTrue result ↔ (hypothesis_at base i ≡ hypothesis_at copy j) }
 {
     one.is_floating(i) == other.is_floating(j) && same_expression(one, i, other, j)
 }
 
 /// Whether the hypotheses with these numbers are the same, one by one.
 fn same_hypotheses(one: &Base, mine: &[usize], other: &Base, yours: &[usize]) -> bool
-    ensures { (base copy : BaseView) → IsBase base one.now → IsBase copy other.now → All (λ n. is_shown_at base n ≡ true) mine.now → All (λ n. is_shown_at copy n ≡ true) yours.now → IsTrue result ↔ (map (hypothesis_at base) mine.now ≡ map (hypothesis_at copy) yours.now) }
+    ensures { (base copy : BaseView) → IsBase base one.now → IsBase copy other.now → All (λ n. is_shown_at base n ≡ true) mine.now
+        → All (λ n. is_shown_at copy n ≡ true) yours.now → IsTrue result ↔ (map (hypothesis_at base) mine.now ≡ map (hypothesis_at copy) yours.now) }
 {
     if mine.len() != yours.len() {
         return false;
@@ -81,7 +84,8 @@ fn same_hypotheses(one: &Base, mine: &[usize], other: &Base, yours: &[usize]) ->
 
 /// Whether two sound `$a` or `$p` have the same expression and the same mandatory hypotheses.
 pub fn same_but_pairs(one: &Base, i: usize, other: &Base, j: usize) -> bool
-    ensures { (base copy : BaseView) → IsBase base one.now → IsBase copy other.now → is_framed_at base i ≡ true → is_framed_at copy j ≡ true → IsTrue result ↔ (((frame_at base i).expression ≡ (frame_at copy j).expression) × ((frame_at base i).hypotheses ≡ (frame_at copy j).hypotheses)) }
+    ensures { (base copy : BaseView) → IsBase base one.now → IsBase copy other.now → is_framed_at base i ≡ true → is_framed_at copy j ≡ true
+        → IsTrue result ↔ (((frame_at base i).expression ≡ (frame_at copy j).expression) × ((frame_at base i).hypotheses ≡ (frame_at copy j).hypotheses)) }
 {
     match (one.frame(i), other.frame(j)) {
         (Some(mine), Some(yours)) => {
@@ -96,7 +100,8 @@ pub fn same_but_pairs(one: &Base, i: usize, other: &Base, j: usize) -> bool
 /// order, and the same mandatory pairs, in whatever `$d` they stand. It takes no memory, and time linear in the two
 /// frames.
 pub fn same_frame(one: &Base, i: usize, other: &Base, j: usize) -> bool
-    ensures { (base copy : BaseView) → IsBase base one.now → IsBase copy other.now → is_framed_at base i ≡ true → is_framed_at copy j ≡ true → IsTrue result ↔ AreSameFrame (frame_at base i) (frame_at copy j) }
+    ensures { (base copy : BaseView) → IsBase base one.now → IsBase copy other.now → is_framed_at base i ≡ true → is_framed_at copy j ≡ true
+        → IsTrue result ↔ AreSameFrame (frame_at base i) (frame_at copy j) }
 {
     match (one.kept_frame(i), other.kept_frame(j)) {
         (Some(mine), Some(yours)) => {

@@ -136,7 +136,8 @@ impl<'a> Scope<'a> {
 
     /// Whether a `$f`, active or not, gives a name another typecode than this one.
     pub fn is_typed_otherwise(&self, name: &[u8], typecode: &[u8]) -> bool
-        ensures { (before : List meant.Item) (item : meant.Item) → AreSound before → Holds before self.now → meant.typecode_of item ≡ typecode.now → result ≡ sound.is_typed_otherwise before item name.now }
+        ensures { (before : List meant.Item) (item : meant.Item) → AreSound before → Holds before self.now → meant.typecode_of item ≡ typecode.now
+            → result ≡ sound.is_typed_otherwise before item name.now }
     {
         match self.float(name) {
             Some(number) => self.typecode(number) != typecode,

@@ -72,7 +72,8 @@ pub fn expression_of(
     tables: &Tables,
     statement: &Statement,
 ) -> Result<Vec<NamedSymbol>, AllocError>
-    ensures { IfOk result (λ symbols. (before : List meant.Item) → AreSound before → Knows before tables.now → IsSound before statement.now → meant.is_labelled statement.now.kind ≡ true → symbols_of symbols.items ≡ expression before statement.now) }
+    ensures { IfOk result (λ symbols. (before : List meant.Item) → AreSound before → Knows before tables.now → IsSound before statement.now
+        → meant.is_labelled statement.now.kind ≡ true → symbols_of symbols.items ≡ expression before statement.now) }
 {
     let mut symbols = Vec::with_capacity(alloc, statement.symbol_count())?;
     for n in 0..statement.symbol_count() {
@@ -94,7 +95,8 @@ fn variable_named(alloc: Global, name: &[u8]) -> Result<NamedSymbol, AllocError>
 
 /// The variables of a sound `$d`.
 pub fn variables_of(alloc: Global, statement: &Statement) -> Result<Vec<NamedSymbol>, AllocError>
-    ensures { IfOk result (λ symbols. (before : List meant.Item) → IsSound before statement.now → meant.is_disjoint statement.now.kind ≡ true → symbols_of symbols.items ≡ expression before statement.now) }
+    ensures { IfOk result (λ symbols. (before : List meant.Item) → IsSound before statement.now → meant.is_disjoint statement.now.kind ≡ true
+        → symbols_of symbols.items ≡ expression before statement.now) }
 {
     let mut variables = Vec::with_capacity(alloc, statement.symbol_count())?;
     for n in 0..statement.symbol_count() {

@@ -82,7 +82,8 @@ impl Tables {
 
     /// The number of the last `$v` that declares a name: none for a constant.
     pub fn variable(&self, name: &[u8]) -> Option<usize>
-        ensures { (before : List meant.Item) → sound.AreSound before → Knows before self.now → result ≡ numbered.last_where (numbered.declares_variable name.now) before }
+        ensures { (before : List meant.Item) → sound.AreSound before → Knows before self.now
+            → result ≡ numbered.last_where (numbered.declares_variable name.now) before }
     {
         match self.name(name)? {
             Declared::Variable { declared, .. } => Some(declared),
@@ -93,7 +94,8 @@ impl Tables {
     /// The number of the last `$f` that types a name: none for what is no variable.
     pub fn float(&self, name: &[u8]) -> Option<usize>
         ensures value { result ≡ float_of (table_name self.now name.now) }
-        ensures last { (before : List meant.Item) → sound.AreSound before → Knows before self.now → result ≡ numbered.last_where (numbered.types name.now) before }
+        ensures last { (before : List meant.Item) → sound.AreSound before → Knows before self.now
+            → result ≡ numbered.last_where (numbered.types name.now) before }
     {
         match self.name(name)? {
             Declared::Variable { float, .. } => float,
@@ -184,7 +186,8 @@ impl Tables {
         statement: &Statement,
         number: usize,
     ) -> Result<(), AllocError>
-        ensures { OnOk result ((before : List meant.Item) → sound.AreSound (before ++ statement.now ∷ []) → length before ≡ number → Knows before self.old → Knows (before ++ statement.now ∷ []) self.new) }
+        ensures { OnOk result ((before : List meant.Item) → sound.AreSound (before ++ statement.now ∷ []) → length before ≡ number → Knows before self.old
+            → Knows (before ++ statement.now ∷ []) self.new) }
     {
         match statement.kind() {
             ItemKind::Constants => self.take_constants(alloc, statement),

@@ -107,7 +107,9 @@ so_far_constant names seen symbols s f h = record {
   );
 }
 
-pub so_far_old : {S : Type 0} (names : List (List ℕ)) (old new : HashSet (Bor (List ℕ)) S) (symbols : List (Bor NamedSymbol)) (s : Bor NamedSymbol) → contains_by (λ key. bytes_eq s.now.name.items key.now) old ≡ true → IsUnchanged old new → SoFar names old symbols → SoFar names new (symbols ++ s ∷ [])
+pub so_far_old :
+    {S : Type 0} (names : List (List ℕ)) (old new : HashSet (Bor (List ℕ)) S) (symbols : List (Bor NamedSymbol)) (s : Bor NamedSymbol) →
+    contains_by (λ key. bytes_eq s.now.name.items key.now) old ≡ true → IsUnchanged old new → SoFar names old symbols → SoFar names new (symbols ++ s ∷ [])
 so_far_old names old new symbols s t u h = record {
   seen_is = λ name. ap (λ keys. list_any (λ (key : Bor (List ℕ)). bytes_eq name key.now) keys) u ∙ h.seen_is name;
   have = λ name. (
@@ -119,7 +121,10 @@ so_far_old names old new symbols s t u h = record {
   );
 }
 
-pub so_far_new : {S : Type 0} (names : List (List ℕ)) (key : Bor (List ℕ)) (old new : HashSet (Bor (List ℕ)) S) (symbols : List (Bor NamedSymbol)) (s : Bor NamedSymbol) → s.now.variable ≡ true → key.now ≡ s.now.name.items → Updates (λ x y. bytes_eq x.now y.now) old new key true → SoFar names old symbols → SoFar (names ++ key.now ∷ []) new (symbols ++ s ∷ [])
+pub so_far_new :
+    {S : Type 0} (names : List (List ℕ)) (key : Bor (List ℕ)) (old new : HashSet (Bor (List ℕ)) S) (symbols : List (Bor NamedSymbol)) (s : Bor NamedSymbol) →
+    s.now.variable ≡ true → key.now ≡ s.now.name.items → Updates (λ x y. bytes_eq x.now y.now) old new key true → SoFar names old symbols →
+    SoFar (names ++ key.now ∷ []) new (symbols ++ s ∷ [])
 so_far_new names key old new symbols s v is u h = record {
   seen_is = sees_more names key old new h.seen_is u;
   have = λ name. (

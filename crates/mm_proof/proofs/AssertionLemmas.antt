@@ -29,7 +29,9 @@ use Rattle.mm_proof.proofs.PlaceLemmas.{any_zip_at, any_zip_place}
 abbrev pub EssentialsFit : (Symbol → List Symbol) → List Mandatory → List (List Symbol) → ℕ → Type 0
 EssentialsFit given hs es n = (k : ℕ) (h : Mandatory) (e : List Symbol) → k < n → slice_get hs k ≡ Some h → slice_get es k ≡ Some e → h.floating ≡ false → substituted given h.expression ≡ e
 
-pub essentials_more : (given : Symbol → List Symbol) (hs : List Mandatory) (es : List (List Symbol)) (n : ℕ) (h : Mandatory) (e : List Symbol) → slice_get hs n ≡ Some h → slice_get es n ≡ Some e → (h.floating ≡ false → substituted given h.expression ≡ e) → EssentialsFit given hs es n → EssentialsFit given hs es (n + 1)
+pub essentials_more :
+    (given : Symbol → List Symbol) (hs : List Mandatory) (es : List (List Symbol)) (n : ℕ) (h : Mandatory) (e : List Symbol) → slice_get hs n ≡ Some h →
+    slice_get es n ≡ Some e → (h.floating ≡ false → substituted given h.expression ≡ e) → EssentialsFit given hs es n → EssentialsFit given hs es (n + 1)
 essentials_more given hs es n h e a b r f k g x l c d is = by_case (ℕ_discrete k n)
   where
     by_case : Dec (k ≡ n) → substituted given g.expression ≡ x
@@ -89,7 +91,10 @@ module _ (active : List (Symbol × Symbol)) (frame : Frame) (es : List (List Sym
   pub fails_long : (given : Symbol → List Symbol) → IsFrame frame → FloatsMatch given frame.hypotheses es → ExceedsLimit (substituted given frame.expression) → CannotTake active frame es
   fails_long given is m l = fails P12 is (given, subst (λ w. FloatsMatch given frame.hypotheses w) (sym taken_all) m, l)
 
-  pub takes_all : (given : Symbol → List Symbol) (result : List Symbol) → FloatsMatch given frame.hypotheses es → ¬ AnyOtherEssential given frame.hypotheses es → All (λ pair. AreApart active (given pair.0) (given pair.1)) frame.pairs → result ≡ substituted given frame.expression → length result ≤ 1000000 → Takes active frame given es result
+  pub takes_all :
+      (given : Symbol → List Symbol) (result : List Symbol) → FloatsMatch given frame.hypotheses es → ¬ AnyOtherEssential given frame.hypotheses es →
+      All (λ pair. AreApart active (given pair.0) (given pair.1)) frame.pairs → result ≡ substituted given frame.expression → length result ≤ 1000000 →
+      Takes active frame given es result
   takes_all given result m e a r short = record {
     entries_match = all_match given frame.hypotheses es (sym count) m e;
     result_matches = sym r;
@@ -98,7 +103,10 @@ module _ (active : List (Symbol × Symbol)) (frame : Frame) (es : List (List Sym
   }
 
   -- by what came of the substitution
-  pub result_taken : (given : Symbol → List Symbol) → IsFrame frame → FloatsMatch given frame.hypotheses es → ¬ AnyOtherEssential given frame.hypotheses es → All (λ pair. AreApart active (given pair.0) (given pair.1)) frame.pairs → (found : Option (Vec (Bor NamedSymbol) Global)) → MatchOption found (ExceedsLimit (substituted given frame.expression)) (λ symbols. (symbols_of symbols.items ≡ substituted given frame.expression) × (length symbols.items ≤ 1000000))
+  pub result_taken :
+      (given : Symbol → List Symbol) → IsFrame frame → FloatsMatch given frame.hypotheses es → ¬ AnyOtherEssential given frame.hypotheses es →
+      All (λ pair. AreApart active (given pair.0) (given pair.1)) frame.pairs → (found : Option (Vec (Bor NamedSymbol) Global)) →
+      MatchOption found (ExceedsLimit (substituted given frame.expression)) (λ symbols. (symbols_of symbols.items ≡ substituted given frame.expression) × (length symbols.items ≤ 1000000))
       → MatchOption found (CannotTake active frame es) (λ result. (given : Symbol → List Symbol) × Takes active frame given es (symbols_of result.items))
   result_taken given is m e a None long = fails_long given is m long
   result_taken given is m e a (Some symbols) s = (given, takes_all given (symbols_of symbols.items) m e a s.0 (short s.1))

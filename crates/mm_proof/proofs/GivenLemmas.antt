@@ -30,7 +30,9 @@ put_more given expression k d l =
     ∙ ap (λ w. substituted given (named (take k expression)) ++ w) (append-nil (replacement given (named_symbol (get_or expression k d))))
 
 -- and of the rest
-pub put_rest : (given : Symbol → List Symbol) (expression : List NamedSymbol) (k : ℕ) (d : NamedSymbol) → k < length expression → substituted given (named expression) ≡ substituted given (named (take k expression)) ++ (replacement given (named_symbol (get_or expression k d)) ++ substituted given (named (drop (k + 1) expression)))
+pub put_rest :
+    (given : Symbol → List Symbol) (expression : List NamedSymbol) (k : ℕ) (d : NamedSymbol) → k < length expression →
+    substituted given (named expression) ≡ substituted given (named (take k expression)) ++ (replacement given (named_symbol (get_or expression k d)) ++ substituted given (named (drop (k + 1) expression)))
 put_rest given expression k d l =
     ap (λ w. substituted given (named w)) (sym (take-append-drop (k + 1) expression))
     ∙ ap (substituted given) (map-append named_symbol (take (k + 1) expression) (drop (k + 1) expression))
@@ -43,7 +45,10 @@ pub record FitsSoFar (given : Symbol → List Symbol) (expression : List NamedSy
   pub within : at ≤ length entry
   pub joined : entry ≡ substituted given (named (take k expression)) ++ drop at entry
 
-pub fits_not : (given : Symbol → List Symbol) (expression : List NamedSymbol) (entry : List Symbol) (k at : ℕ) (d : NamedSymbol) → k < length expression → FitsSoFar given expression entry k at → StandsAt (replacement given (named_symbol (get_or expression k d))) entry at None → substituted given (named expression) ≢ entry
+pub fits_not :
+    (given : Symbol → List Symbol) (expression : List NamedSymbol) (entry : List Symbol) (k at : ℕ) (d : NamedSymbol) → k < length expression →
+    FitsSoFar given expression entry k at → StandsAt (replacement given (named_symbol (get_or expression k d))) entry at None →
+    substituted given (named expression) ≢ entry
 fits_not given expression entry k at d l f s e =
     let front = substituted given (named (take k expression)) in
     let rest = substituted given (named (drop (k + 1) expression)) in
@@ -167,7 +172,10 @@ module _ (hs : List Mandatory) (es : List (List Symbol)) (typings : AreTypings h
   ]
 
   -- one more `$f`
-  pub matches_more : (old new : Given) (n : ℕ) (h : Mandatory) (e : List Symbol) (name : List ℕ) → slice_get hs n ≡ Some h → slice_get es n ≡ Some e → h.floating ≡ true → ((typecode variable : Symbol) → h.expression ≡ typecode ∷ variable ∷ [] → name ≡ variable.name) → slice_get h.expression 0 ≡ slice_get e 0 → PutsPlace old name n new → MatchesUpTo (given_by old es) hs es n → MatchesUpTo (given_by new es) hs es (n + 1)
+  pub matches_more :
+      (old new : Given) (n : ℕ) (h : Mandatory) (e : List Symbol) (name : List ℕ) → slice_get hs n ≡ Some h → slice_get es n ≡ Some e → h.floating ≡ true →
+      ((typecode variable : Symbol) → h.expression ≡ typecode ∷ variable ∷ [] → name ≡ variable.name) → slice_get h.expression 0 ≡ slice_get e 0 →
+      PutsPlace old name n new → MatchesUpTo (given_by old es) hs es n → MatchesUpTo (given_by new es) hs es (n + 1)
   matches_more old new n h e name a b f named_so first p m k g x l c d is = by_case (ℕ_discrete k n)
     where
       by_case : Dec (k ≡ n) → substituted (given_by new es) g.expression ≡ x

@@ -8,8 +8,6 @@ use Rattle.mm_proof.specs.Decoding.{is_close, is_compressed}
 use Rattle.mm_frame.specs.Language.{Place}
 use Rattle.mm_proof.specs.DecodingLaws.{Rise}
 use Rattle.mm_proof.specs.Verdict.{Decoded}
-use Rattle.mm_proof.specs.declared.ProofNumber.{ProofNumber}
-use Rattle.mm_proof.specs.declared.Spot.{Spot}
 use Rattle.mm_proof.specs.declared.step.ProofFault.{ProofFault}
 use Rattle.mm_proof.proofs.CiteLemmas.{kept_all}
 

@@ -5,9 +5,9 @@ use Rattle.mm_frame.specs.Language.{Resolved, Hypothesis, Assertion, Inactive, U
 use Rattle.mm_proof.specs.Expansion.{Step, Named, Saved, Save, NotKnown}
 use Rattle.mm_proof.specs.Decoding.{decoding}
 use Rattle.mm_proof.specs.Citing.{cites}
+use Rattle.mm_proof.specs.Run.{run_part}
 use Rattle.mm_proof.specs.Verdict.{Decoded}
 use Rattle.mm_proof.specs.declared.Spot.{Spot}
-use Rattle.mm_proof.specs.declared.ProofNumber.{ProofNumber}
 use Rattle.mm_proof.specs.declared.ProofNumber.TheVariants.{P01, P02, P03, P04, P05, P06}
 use Rattle.mm_proof.specs.declared.step.ProofFault.{ProofFault}
 
@@ -136,3 +136,12 @@ cites_with_fault = refl
 cites_normal : cited (codes "wp" ∷ codes "wi" ∷ codes "?" ∷ codes "wi" ∷ []) ≡ 1 ∷ []
 unfolding cited here meaning
 cites_normal = refl
+
+-- what is run of a proof with an unknown step, and of one without
+part_before_unknown : run_part (wp ∷ wi ∷ NotKnown ∷ wi ∷ NotKnown ∷ []) ≡ wp ∷ wi ∷ []
+unfolding wp wi
+part_before_unknown = refl
+
+part_of_known : run_part (wp ∷ Save ∷ Saved 0 ∷ wi ∷ []) ≡ wp ∷ Save ∷ Saved 0 ∷ wi ∷ []
+unfolding wp wi
+part_of_known = refl

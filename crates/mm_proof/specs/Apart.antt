@@ -7,7 +7,7 @@ use Rattle.mm_frame.specs.Base.{BaseView, before}
 use Rattle.mm_frame.specs.Framing.{active_pairs}
 use Rattle.mm_frame.specs.Language.{Symbol, ArePair}
 use Rattle.mm_frame.specs.Named.{variable_of}
-use Rattle.mm_proof.specs.Derivation.{ShareVariable}
+use Rattle.mm_proof.specs.Derivation.{ShareVariable, AreApart}
 use Rattle.mm_proof.specs.Faults.{LackPair}
 use Rattle.mm_proof.specs.declared.apart.Disjoint.{Disjoint}
 
@@ -34,6 +34,14 @@ KnowsActive view number disjoint = HasPairs (active_pairs (before view number)) 
 -- the lists share a variable, or have two of which no pair is made
 abbrev pub AreNotApart : List (Symbol × Symbol) → List Symbol → List Symbol → Type 0
 AreNotApart active xs ys = ShareVariable xs ys ⊎ LackPair active xs ys
+
+-- by a substitution the two lists of a pair are kept apart
+abbrev pub KeepsPair : List (Symbol × Symbol) → (Symbol → List Symbol) → Symbol × Symbol → Type 0
+KeepsPair active given pair = AreApart active (given pair.0) (given pair.1)
+
+-- they are not
+abbrev pub LosesPair : List (Symbol × Symbol) → (Symbol → List Symbol) → Symbol × Symbol → Type 0
+LosesPair active given pair = AreNotApart active (given pair.0) (given pair.1)
 
 abbrev pub names_of : List (Bor (List ℕ)) → List (List ℕ)
 names_of names = map (λ name. name.now) names

@@ -11,4 +11,8 @@ mandatory_of hypothesis = record { floating = hypothesis.floating; expression = 
 
 -- what frame it has
 abbrev pub frame_of : Cited → Frame
-frame_of cited = record { expression = symbols_of cited.expression.now; hypotheses = map mandatory_of cited.hypotheses.items; pairs = kept_pairs cited.pairs.now }
+frame_of cited = record {
+  expression = symbols_of cited.expression.now;
+  hypotheses = map mandatory_of cited.hypotheses.items;
+  pairs = kept_pairs cited.pairs.now;
+}

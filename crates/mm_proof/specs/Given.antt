@@ -1,5 +1,10 @@
 -- What entries give for the variables of mandatory `$f`.
-use Rattle.std.specs.Prelude.{◌≡◌, ◌≢◌, ℕ, ◌<◌, ◌≤◌, ◌++◌, true, Option, Some, None, List, [], drop, length, bytes_eq, slice_get, slice_index_or, MatchOption, All, AllPairs}
+use Rattle.std.specs.Prelude.{◌≡◌, ◌≢◌, ℕ, ◌<◌, ◌≤◌, ◌++◌, true, Option, Some, None, List, [], drop, length, bytes_eq}
+use Rattle.std.specs.Prelude.{slice_get, slice_index_or, MatchOption, All, AllPairs, Vec}
+use Rattle.std.specs.Borrow.{Bor}
+use Rattle.std.specs.Global.{Global}
+use Rattle.mm_frame.specs.declared.symbol.NamedSymbol.{NamedSymbol}
+use Rattle.mm_proof.specs.Stack.{symbols_of}
 use Rattle.std.specs.List.{AllZip}
 use Rattle.std.specs.HashMap.{get_by}
 use Rattle.mm_frame.specs.Language.{Symbol, Mandatory}
@@ -40,11 +45,18 @@ pub record AreTypings (hypotheses : List Mandatory) : Type 0 where
 
 -- what the entries give, unless one of a `$f` has another typecode
 abbrev pub FindsGiven : List Mandatory → List (List Symbol) → Option Given → Type 0
-FindsGiven hypotheses entries found = AreTypings hypotheses → MatchOption found (AnyOtherTypecode hypotheses entries) (λ given. FloatsMatch (given_by given entries) hypotheses entries)
+FindsGiven hypotheses entries found =
+    AreTypings hypotheses → MatchOption found (AnyOtherTypecode hypotheses entries) (λ given. FloatsMatch (given_by given entries) hypotheses entries)
 
 -- more than 1,000,000 symbols
 abbrev pub ExceedsLimit : List Symbol → Type 0
 ExceedsLimit symbols = 1000000 < length symbols
+
+-- the expression under the substitution, or that it has too many symbols
+abbrev pub SubstitutedOrLong : (Symbol → List Symbol) → List Symbol → Option (Vec (Bor NamedSymbol) Global) → Type 0
+SubstitutedOrLong given expression found =
+    MatchOption found (ExceedsLimit (substituted given expression))
+    (λ symbols. (symbols_of symbols.items ≡ substituted given expression) × (length symbols.items ≤ 1000000))
 
 -- the place behind some symbols, where they stand at a place of others
 abbrev pub StandsAt : List Symbol → List Symbol → ℕ → Option ℕ → Type 0

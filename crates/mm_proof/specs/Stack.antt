@@ -1,5 +1,5 @@
 -- The stack of the machine, and what citing an assertion does to it.
-use Rattle.std.specs.Prelude.{◌≡◌, ◌≢◌, Vec, Bool, true, false, List, map}
+use Rattle.std.specs.Prelude.{◌≡◌, ◌≢◌, Vec, Bool, true, false, Option, List, map, MatchOption}
 use Rattle.std.specs.Borrow.{Bor}
 use Rattle.std.specs.Global.{Global}
 use Rattle.mm_frame.specs.Language.{Symbol, Mandatory, Frame}
@@ -28,6 +28,11 @@ AnyOtherEssential given hypotheses entries = AnyZip (λ h e. (h.floating ≡ fal
 -- a frame takes the entries to no result
 abbrev pub CannotTake : List (Symbol × Symbol) → Frame → List (List Symbol) → Type 0
 CannotTake active frame entries = (given : Symbol → List Symbol) (result : List Symbol) → ¬ Takes active frame given entries result
+
+-- what a frame takes the entries to, or that it takes them to none
+abbrev pub TakesOrFails : List (Symbol × Symbol) → Frame → List (List Symbol) → Option (Vec (Bor NamedSymbol) Global) → Type 0
+TakesOrFails active frame entries found =
+    MatchOption found (CannotTake active frame entries) (λ result. (given : Symbol → List Symbol) × Takes active frame given entries (symbols_of result.items))
 
 -- whether citing an assertion took one stack to the other, or cannot be done
 abbrev pub CitesOrFails : List (Symbol × Symbol) → Frame → List (List Symbol) → Bool → List (List Symbol) → Type 0

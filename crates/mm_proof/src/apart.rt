@@ -5,9 +5,8 @@ ghost use Rattle.std.specs.List.{list_any};
 ghost use Rattle.mm_frame.specs.Item.{has};
 ghost use Rattle.mm_frame.specs.Language.{Symbol, HasVariable};
 ghost use Rattle.mm_frame.specs.Named.{pair_of, kept_pairs, variable_of};
-ghost use Rattle.mm_proof.specs.Derivation.{AreApart};
 ghost use Rattle.mm_proof.specs.Stack.{symbols_of, stack_of};
-ghost use Rattle.mm_proof.specs.Apart.{HasOrders, HasPairs, AreNotApart, names_of, clashes_with, clash};
+ghost use Rattle.mm_proof.specs.Apart.{HasOrders, HasPairs, KeepsPair, LosesPair, names_of, clashes_with, clash};
 ghost use Rattle.mm_proof.specs.Given.{given_by};
 
 use crate::replacing::Given;
@@ -114,8 +113,8 @@ impl<'a> Disjoint<'a> {
         taken: &[Vec<&'a NamedSymbol>],
     ) -> Result<bool, AllocError>
         ensures { IfOk result (λ kept. (active : List (Symbol × Symbol)) → HasPairs active self.now → MatchBool kept
-            (All (λ pair. AreApart active (given_by given.now (stack_of taken.now) pair.0) (given_by given.now (stack_of taken.now) pair.1)) (kept_pairs mandatory.now))
-            (Any (λ pair. AreNotApart active (given_by given.now (stack_of taken.now) pair.0) (given_by given.now (stack_of taken.now) pair.1)) (kept_pairs mandatory.now))) }
+            (All (KeepsPair active (given_by given.now (stack_of taken.now))) (kept_pairs mandatory.now))
+            (Any (LosesPair active (given_by given.now (stack_of taken.now))) (kept_pairs mandatory.now))) }
     {
         for pair in mandatory {
             let xs = variables(alloc, given.of(taken, &pair.0.name))?;

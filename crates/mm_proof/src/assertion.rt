@@ -38,7 +38,8 @@ pub fn expression(base: &Base, number: usize) -> &[NamedSymbol]
 
 /// The active pairs at a theorem; none where the item with this number is no theorem.
 pub fn active(base: &Base, number: usize) -> &[(NamedSymbol, NamedSymbol)]
-    ensures { (view : BaseView) → IsBase view base.now → is_proof_at view number ≡ true → AreSamePairs (kept_pairs result.now) (active_pairs (before view number)) }
+    ensures { (view : BaseView) → IsBase view base.now → is_proof_at view number ≡ true →
+        AreSamePairs (kept_pairs result.now) (active_pairs (before view number)) }
 {
     base.pairs(number).unwrap_or(&[])
 }
@@ -61,7 +62,8 @@ fn hypotheses<'a>(
     numbers: &[usize],
 ) -> Result<Vec<Hypothesis<'a>>, AllocError>
     requires { All (HasItem base.now) numbers.now }
-    ensures { IfOk result (λ found. (view : BaseView) → IsBase view base.now → All (λ n. is_shown_at view n ≡ true) numbers.now → map mandatory_of found.items ≡ map (hypothesis_at view) numbers.now) }
+    ensures { IfOk result (λ found. (view : BaseView) → IsBase view base.now → All (λ n. is_shown_at view n ≡ true) numbers.now →
+        map mandatory_of found.items ≡ map (hypothesis_at view) numbers.now) }
 {
     let mut found = Vec::new(alloc);
     for number in numbers {
@@ -73,7 +75,8 @@ fn hypotheses<'a>(
 /// The assertion with this number.
 pub fn assertion_of(alloc: Global, base: &Base, number: usize) -> Result<Cited<'_>, AllocError>
     requires { (view : BaseView) × IsBase view base.now × (is_framed_at view number ≡ true) × (number < length view.said) }
-    ensures { IfOk result (λ cited. (view : BaseView) → IsBase view base.now → is_framed_at view number ≡ true → AreSameFrame (frame_of cited) (frame_at view number)) }
+    ensures { IfOk result (λ cited. (view : BaseView) → IsBase view base.now → is_framed_at view number ≡ true →
+        AreSameFrame (frame_of cited) (frame_at view number)) }
 {
     let expression = expression(base, number);
     match base.frame(number) {

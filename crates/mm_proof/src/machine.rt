@@ -1,6 +1,6 @@
 //! The machine that runs a proof.
 
-ghost use Rattle.std.specs.Prelude.{◌≡◌, ◌↔◌, ◌<◌, List, true, false, IsTrue, IfOk, MatchBool, MatchOption, OnOk, length, map};
+ghost use Rattle.std.specs.Prelude.{◌≡◌, ◌↔◌, ◌<◌, List, true, false, IsTrue, IfOk, MatchBool, OnOk, length, map};
 ghost use Rattle.mm_frame.specs.Base.{BaseView, before, said_at, is_shown_at, is_proof_at};
 ghost use Rattle.mm_frame.specs.Framing.{place, active_pairs};
 ghost use Rattle.mm_frame.specs.Kept.{IsBase, HasItem};
@@ -8,14 +8,13 @@ ghost use Rattle.mm_frame.specs.Named.{symbols_of as named};
 ghost use Rattle.mm_frame.specs.Language.{Symbol};
 ghost use Rattle.mm_frame.specs.Sound.{AreSound};
 ghost use Rattle.mm_frame.specs.Typing.{IsFrame};
-ghost use Rattle.mm_proof.specs.Derivation.{Takes};
 ghost use Rattle.mm_proof.specs.Apart.{HasPairs, KnowsActive};
 ghost use Rattle.mm_proof.specs.CitedFrame.{mandatory_of, frame_of};
 ghost use Rattle.mm_proof.specs.Given.{given_by};
 ghost use Rattle.mm_proof.specs.OfFiles.{IsOf, HasItemOf};
 ghost use Rattle.mm_proof.specs.Proved.{IsProved};
 ghost use Rattle.mm_proof.specs.StackRuns.{StepsOrFails, ReachesOrFails};
-ghost use Rattle.mm_proof.specs.Stack.{symbols_of, stack_of, CannotTake, CitesOrFails, AnyOtherEssential};
+ghost use Rattle.mm_proof.specs.Stack.{symbols_of, stack_of, TakesOrFails, CitesOrFails, AnyOtherEssential};
 
 use crate::apart::Disjoint;
 use crate::assertion::{Cited, Hypothesis, active, assertion_of, expression};
@@ -31,7 +30,9 @@ fn essentials_fit<'a>(
     given: &Given<'a>,
 ) -> bool
     requires { length taken.now ≡ length hypotheses.now }
-    ensures { MatchBool result (¬ AnyOtherEssential (given_by given.now (stack_of taken.now)) (map mandatory_of hypotheses.now) (stack_of taken.now)) (AnyOtherEssential (given_by given.now (stack_of taken.now)) (map mandatory_of hypotheses.now) (stack_of taken.now)) }
+    ensures { MatchBool result
+        (¬ AnyOtherEssential (given_by given.now (stack_of taken.now)) (map mandatory_of hypotheses.now) (stack_of taken.now))
+        (AnyOtherEssential (given_by given.now (stack_of taken.now)) (map mandatory_of hypotheses.now) (stack_of taken.now)) }
 {
     for place in 0..hypotheses.len() {
         let hypothesis = hypotheses[place];
@@ -50,7 +51,8 @@ fn result_of<'a>(
     taken: &[Vec<&'a NamedSymbol>],
 ) -> Result<Option<Vec<&'a NamedSymbol>>, AllocError>
     requires { length taken.now ≡ length cited.now.hypotheses.items }
-    ensures { IfOk result (λ found. (active : List (Symbol × Symbol)) → HasPairs active disjoint.now → IsFrame (frame_of cited.now) → MatchOption found (CannotTake active (frame_of cited.now) (stack_of taken.now)) (λ result. (given : Symbol → List Symbol) × Takes active (frame_of cited.now) given (stack_of taken.now) (symbols_of result.items))) }
+    ensures { IfOk result (λ found. (active : List (Symbol × Symbol)) → HasPairs active disjoint.now → IsFrame (frame_of cited.now) →
+        TakesOrFails active (frame_of cited.now) (stack_of taken.now) found) }
 {
     let Some(given) = Given::find(alloc, &cited.hypotheses, taken)? else {
         return Ok(None);
@@ -71,7 +73,8 @@ fn cite<'a>(
     disjoint: &Disjoint<'a>,
     stack: &mut Vec<Vec<&'a NamedSymbol>>,
 ) -> Result<bool, AllocError>
-    ensures { IfOk result (λ done. (active : List (Symbol × Symbol)) → HasPairs active disjoint.now → IsFrame (frame_of cited.now) → CitesOrFails active (frame_of cited.now) (stack_of stack.old.items) done (stack_of stack.new.items)) }
+    ensures { IfOk result (λ done. (active : List (Symbol × Symbol)) → HasPairs active disjoint.now → IsFrame (frame_of cited.now) →
+        CitesOrFails active (frame_of cited.now) (stack_of stack.old.items) done (stack_of stack.new.items)) }
 {
     let count = cited.hypotheses.len();
     if stack.len() < count {
@@ -112,7 +115,8 @@ fn step<'a>(
     stack: &mut Vec<Vec<&'a NamedSymbol>>,
 ) -> Result<bool, AllocError>
     requires { HasItem base.now number }
-    ensures { IfOk result (λ done. (view : BaseView) → IsBase view base.now → KnowsActive view number disjoint.now → StepsOrFails (place (before view number)) label.now (stack_of stack.old.items) done (stack_of stack.new.items)) }
+    ensures { IfOk result (λ done. (view : BaseView) → IsBase view base.now → KnowsActive view number disjoint.now →
+        StepsOrFails (place (before view number)) label.now (stack_of stack.old.items) done (stack_of stack.new.items)) }
 {
     mm_frame::places_have_frames();
     match base.resolve(label, number) {
@@ -137,12 +141,13 @@ fn run<'a>(
     statement: &Statement,
 ) -> Result<Option<Vec<Vec<&'a NamedSymbol>>>, AllocError>
     requires { HasItem base.now number }
-    ensures { IfOk result (λ found. (view : BaseView) → IsBase view base.now → KnowsActive view number disjoint.now → ReachesOrFails (place (before view number)) statement.now.proof found) }
+    ensures { IfOk result (λ found. (view : BaseView) → IsBase view base.now → KnowsActive view number disjoint.now →
+        ReachesOrFails (place (before view number)) statement.now.proof found) }
 {
     mm_frame::places_have_frames();
     let mut stack = Vec::new(alloc);
-    for word in 0..statement.proof_count() {
-        let label = statement.proof_word(word);
+    let mut words = statement.proof();
+    while let Some(label) = words.next_word() {
         if !step(alloc, base, number, disjoint, label, &mut stack)? {
             return Ok(None);
         }
@@ -158,7 +163,8 @@ fn proves(
     statement: &Statement,
 ) -> Result<bool, AllocError>
     requires { HasItem base.now number }
-    ensures { IfOk result (λ proved. (view : BaseView) → IsBase view base.now → is_proof_at view number ≡ true → said_at view number ≡ statement.now → IsTrue proved ↔ IsProved view.said number) }
+    ensures { IfOk result (λ proved. (view : BaseView) → IsBase view base.now → is_proof_at view number ≡ true → said_at view number ≡ statement.now →
+        IsTrue proved ↔ IsProved view.said number) }
 {
     mm_frame::places_have_frames();
     let disjoint = Disjoint::of(alloc, active(base, number))?;
@@ -179,7 +185,8 @@ pub fn is_proved(
     number: usize,
 ) -> Result<bool, AllocError>
     requires { HasItemOf files.now base.now number }
-    ensures { IfOk result (λ proved. (view : BaseView) → IsOf files.now base.now view → is_proof_at view number ≡ true → IsTrue proved ↔ IsProved view.said number) }
+    ensures { IfOk result (λ proved. (view : BaseView) → IsOf files.now base.now view → is_proof_at view number ≡ true →
+        IsTrue proved ↔ IsProved view.said number) }
 {
     let statement = Statement::read(alloc, files, base.item(number))?;
     proves(alloc, base, number, &statement)

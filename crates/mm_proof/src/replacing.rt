@@ -1,6 +1,7 @@
 //! What the entries of the mandatory `$f` give for their variables.
 
-ghost use Rattle.std.specs.Prelude.{◌≡◌, ◌↔◌, ◌++◌, ◌∷◌, [], ◌≤◌, ℕ, List, IsTrue, IfOk, OnOk, MatchOption, None, Some, drop, length, map, slice_get, unwrap_or, if◌then◌else◌, bytes_eq};
+ghost use Rattle.std.specs.Prelude.{◌≡◌, ◌↔◌, ◌++◌, ◌∷◌, [], ◌≤◌, ℕ, List, IsTrue, IfOk, OnOk, None, Some};
+ghost use Rattle.std.specs.Prelude.{drop, length, map, slice_get, unwrap_or, if◌then◌else◌, bytes_eq};
 ghost use Rattle.mm_frame.specs.Language.{Symbol};
 ghost use Rattle.mm_frame.specs.Named.{symbol_of as named_symbol, symbols_of as named};
 ghost use Rattle.mm_proof.specs.Substitution.{substituted as put_in, replacement};
@@ -52,7 +53,7 @@ fn variable_of(hypothesis: &[NamedSymbol]) -> &[u8]
 }
 
 impl<'a> Given<'a> {
-    ghost use Rattle.mm_proof.specs.Given.{place_for, given_for, given_by, FindsGiven, ExceedsLimit};
+    ghost use Rattle.mm_proof.specs.Given.{place_for, given_for, given_by, FindsGiven, SubstitutedOrLong};
 
     /// Nothing is given for any variable.
     fn new(alloc: Global) -> Given<'a>
@@ -121,7 +122,8 @@ impl<'a> Given<'a> {
         symbol: &'a NamedSymbol,
         symbols: &mut Vec<&'a NamedSymbol>,
     ) -> Result<(), AllocError>
-        ensures { OnOk result (symbols_of symbols.new.items ≡ symbols_of symbols.old.items ++ replacement (given_by self.now (stack_of taken.now)) (named_symbol symbol.now)) }
+        ensures { OnOk result (symbols_of symbols.new.items
+            ≡ symbols_of symbols.old.items ++ replacement (given_by self.now (stack_of taken.now)) (named_symbol symbol.now)) }
     {
         if symbol.variable {
             symbols.extend_from_slice(self.of(taken, &symbol.name))
@@ -138,7 +140,7 @@ impl<'a> Given<'a> {
         taken: &[Vec<&'a NamedSymbol>],
         expression: &'a [NamedSymbol],
     ) -> Result<Option<Vec<&'a NamedSymbol>>, AllocError>
-        ensures { IfOk result (λ found. MatchOption found (ExceedsLimit (put_in (given_by self.now (stack_of taken.now)) (named expression.now))) (λ symbols. (symbols_of symbols.items ≡ put_in (given_by self.now (stack_of taken.now)) (named expression.now)) × (length symbols.items ≤ 1000000))) }
+        ensures { IfOk result (SubstitutedOrLong (given_by self.now (stack_of taken.now)) (named expression.now)) }
     {
         let mut symbols = Vec::new(alloc);
         for symbol in expression {

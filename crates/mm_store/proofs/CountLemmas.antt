@@ -10,7 +10,8 @@ use Rattle.mm_text.specs.Unit.{Shape, Declaration, Labelled, Provable, Inclusion
 use Rattle.mm_text.specs.declared.part.PartKind.TheVariants.{BlockEnd}
 use Rattle.mm_text.specs.Part.{part, parts_of}
 use Rattle.mm_store.specs.FilesView.{PieceView, piece_texts}
-use Rattle.mm_store.specs.Expansion.{Placed, placed_part, second_word, ArePartsOf, ArePlaced}
+use Rattle.mm_store.specs.Expansion.{Placed, named_parts, placed_part, ArePartsOf, ArePlaced}
+use Rattle.mm_store.proofs.NameLemmas.{named_are}
 
 front_count : (at b : ℕ) (runs : List Run) → length (with_front at b runs) ≡ length runs
 front_count at b [] = refl
@@ -50,8 +51,9 @@ parts_few (Block begin inner end later) =
 
 of_piece : (file n : ℕ) (piece : PieceView) (placed : List Placed) → ArePartsOf file n piece placed → length placed ≤ length piece.text
 of_piece file n piece placed are =
-    let f = placed_part file n piece.key (second_word piece.text are.words) in
-    omega (arith, ap length are.parts, length-map (parts_of are.units) f, parts_few are.units, ap length are.spells, length-map are.words (token_of piece.text), words_few piece.text are.words are.has_words)
+    let named = named_parts are.units in
+    let many = length-map named (λ named. named.part) in
+    omega (arith, ap length are.parts, length-map named (placed_part file n piece.key), many, ap length (named_are are.units), parts_few are.units, ap length are.spells, length-map are.words (token_of piece.text), words_few piece.text are.words are.has_words)
 
 pub placed_few : (file n : ℕ) (pieces : List PieceView) (placed : List Placed) → ArePlaced file n pieces placed → length placed ≤ length (concat (piece_texts pieces))
 placed_few file n [] placed are = omega (arith, ap length are)

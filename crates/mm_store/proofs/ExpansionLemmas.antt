@@ -5,10 +5,9 @@ use Rattle.std.proofs.lemmas.Option.{none-some, same_Some}
 use Rattle.mm_text.specs.declared.word.Word.{Word}
 use Rattle.mm_text.specs.Reading.{HasWords}
 use Rattle.mm_text.specs.Unit.{Units, AreUnits, unit_tokens, tokens_of}
-use Rattle.mm_text.specs.Part.{parts_of}
 use Rattle.mm_store.specs.declared.item.Item.{Item}
 use Rattle.mm_store.specs.FilesView.{PieceView, FileView, number_of}
-use Rattle.mm_store.specs.Expansion.{Placed, IsInclusion, item_of, placed_part, second_word, ArePartsOf, ArePlaced, Expands, nothing, own, again, missing, included, IsExpansion}
+use Rattle.mm_store.specs.Expansion.{Placed, IsInclusion, item_of, named_parts, placed_part, ArePartsOf, ArePlaced, Expands, nothing, own, again, missing, included, IsExpansion}
 
 abbrev pub OneReading : Type 0
 OneReading = (text : List ℕ) (a b : List Word) → HasWords text a → HasWords text b → a ≡ b
@@ -80,7 +79,8 @@ again_one {y = y} {b = b} is old one (inl (inr g)) = one b y g.later
 again_one is old one (inr (inl l)) = absurd (l.new old)
 again_one is old one (inr (inr t)) = absurd (t.new old)
 
-missing_one : {files : List FileView} {part : Placed} {parts : List Placed} {names after y : List (List ℕ)} {items b : List Item} → IsInclusion part → ¬ Contains names part.name → number_of files part.name ≡ None → One files parts (names ++ part.name ∷ []) items after → Way files (part ∷ parts) names b y → (item_of part ∷ items ≡ b) × (after ≡ y)
+missing_one : {files : List FileView} {part : Placed} {parts : List Placed} {names after y : List (List ℕ)} {items b : List Item} → IsInclusion part → ¬ Contains names part.name
+    → number_of files part.name ≡ None → One files parts (names ++ part.name ∷ []) items after → Way files (part ∷ parts) names b y → (item_of part ∷ items ≡ b) × (after ≡ y)
 missing_one is new none one (inl (inl o)) = absurd (o.is_own is)
 missing_one is new none one (inl (inr g)) = absurd (new g.known)
 missing_one {part = part} {y = y} is new none one (inr (inl l)) = (let r = one l.rest y l.later in (ap (λ rest. item_of part ∷ rest) r.0 ∙ sym l.is, r.1))
@@ -91,7 +91,7 @@ module _ (one_reading : OneReading) (one_division : OneDivision) where
   parts_one file n piece a b p q =
       let w : p.words ≡ q.words = one_reading piece.text p.words q.words p.has_words q.has_words in
       let u : p.units ≡ q.units = one_division p.units q.units p.are_units q.are_units (p.spells ∙ ap (tokens_of piece.text) w ∙ sym q.spells) in
-      p.parts ∙ ap (λ words. map (placed_part file n piece.key (second_word piece.text words)) (parts_of p.units)) w ∙ ap (λ units. map (placed_part file n piece.key (second_word piece.text q.words)) (parts_of units)) u ∙ sym q.parts
+      p.parts ∙ ap (λ units. map (placed_part file n piece.key) (named_parts units)) u ∙ sym q.parts
 
   placed_one : (file n : ℕ) (pieces : List PieceView) (a b : List Placed) → ArePlaced file n pieces a → ArePlaced file n pieces b → a ≡ b
   placed_one file n [] a b p q = p ∙ sym q
@@ -105,7 +105,9 @@ module _ (one_reading : OneReading) (one_division : OneDivision) where
   inner_one files m n f g a b p q e x y =
       placed_one n 0 g.pieces a b (subst (λ (file : FileView). ArePlaced n 0 file.pieces a) (file_one files m n f g p q e) (subst (λ k. ArePlaced k 0 f.pieces a) e x)) y
 
-  included_one : {files : List FileView} {part : Placed} {parts inner : List Placed} {names between after y : List (List ℕ)} {gained items b : List Item} {number : ℕ} {file : FileView} → IsInclusion part → ¬ Contains names part.name → number_of files part.name ≡ Some number → slice_get files number ≡ Some file → ArePlaced number 0 file.pieces inner → One files inner (names ++ part.name ∷ []) gained between → One files parts between items after → Way files (part ∷ parts) names b y → (gained ++ items ≡ b) × (after ≡ y)
+  included_one : {files : List FileView} {part : Placed} {parts inner : List Placed} {names between after y : List (List ℕ)} {gained items b : List Item} {number : ℕ} {file : FileView}
+      → IsInclusion part → ¬ Contains names part.name → number_of files part.name ≡ Some number → slice_get files number ≡ Some file → ArePlaced number 0 file.pieces inner
+      → One files inner (names ++ part.name ∷ []) gained between → One files parts between items after → Way files (part ∷ parts) names b y → (gained ++ items ≡ b) × (after ≡ y)
   included_one is new at there placed inside later (inl (inl o)) = absurd (o.is_own is)
   included_one is new at there placed inside later (inl (inr g)) = absurd (new g.known)
   included_one {number = number} is new at there placed inside later (inr (inl l)) = absurd (none-some number (sym l.none ∙ at))

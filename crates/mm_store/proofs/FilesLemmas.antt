@@ -1,11 +1,11 @@
 -- From the fields of `Files` to what a contract sees.
-use Rattle.std.proofs.Common.{◌≡◌, ℕ, zero, suc, ◌+◌, ◌<◌, ◌≤◌, Bool, not, cond, List, [], ◌∷◌, ◌++◌, Some, None, length, map, take, drop, get_or, refl, sym, ap, ◌∙◌, subst, arith, length-append}
+use Rattle.std.proofs.Common.{◌≡◌, ℕ, zero, suc, ◌+◌, ◌<◌, ◌≤◌, Bool, not, cond, List, [], ◌∷◌, ◌++◌, Some, None, length, map, take, get_or, refl, sym, ap, ◌∙◌, subst, arith, length-append}
 use Rattle.std.specs.Prelude.{slice_get, position, Vec, All}
 use Rattle.std.specs.List.{AllByRecursion, concat, position_or_len}
 use Rattle.std.specs.Option.{option_map}
 use Rattle.std.specs.Str.{bytes_eq}
 use Rattle.std.specs.Map.{keys_of}
-use Rattle.std.proofs.lemmas.List.{length-map, get_or-map, map_more, map-append, append-nil, take-append-drop}
+use Rattle.std.proofs.lemmas.List.{length-map, get_or-map, map_more, append-nil}
 use Rattle.std.proofs.lemmas.List.Sums.{get_or-le-sum_by}
 use Rattle.std.proofs.lemmas.List.Folds.{concat-append}
 use Rattle.std.proofs.lemmas.Option.{slice_get-map, slice_get-get_or, same_Some, slice_get_within, get_or_from_slice_get}
@@ -49,17 +49,6 @@ module _ (texts : List PieceText) where
   concat_more keys n h =
       let key : PieceKey = get_or keys n (record { at = 0 }) in
       ap concat (map_more (text_at texts) keys n (record { at = 0 }) h) ∙ concat-append (map (text_at texts) (take n keys)) (text_at texts key ∷ []) ∙ ap (λ l. concat (map (text_at texts) (take n keys)) ++ l) (append-nil (text_at texts key))
-
-  -- the bytes of one more piece, which are no more than those of all
-  pub length_more : (keys : List PieceKey) (n : ℕ) (text : PieceText) → n < length keys → All (λ key. key.at < length texts) keys → text ≡ get_or texts (get_or keys n (record { at = 0 })).at text → length (concat (map (text_at texts) (take (n + 1) keys))) ≡ length (concat (map (text_at texts) (take n keys))) + length text.text.items
-  length_more keys n text h in_range e =
-      let key : PieceKey = get_or keys n (record { at = 0 }) in
-      ap length (concat_more keys n h) ∙ length-append (concat (map (text_at texts) (take n keys))) (text_at texts key) ∙ ap (λ l. length (concat (map (text_at texts) (take n keys))) + length l) (text_read key text (in_range n (record { at = 0 }) h) e)
-
-  pub length_most : (keys : List PieceKey) (n : ℕ) → length (concat (map (text_at texts) (take n keys))) ≤ length (concat (map (text_at texts) keys))
-  length_most keys n =
-      let whole : concat (map (text_at texts) keys) ≡ concat (map (text_at texts) (take n keys)) ++ concat (map (text_at texts) (drop n keys)) = ap (λ l. concat (map (text_at texts) l)) (sym (take-append-drop n keys)) ∙ ap concat (map-append (text_at texts) (take n keys) (drop n keys)) ∙ concat-append (map (text_at texts) (take n keys)) (map (text_at texts) (drop n keys)) in
-      omega (arith, ap length whole, length-append (concat (map (text_at texts) (take n keys))) (concat (map (text_at texts) (drop n keys))))
 
   -- the pieces of a file are no longer than all files
   pub file_small : {Z : Type 0} (entries : List (Vec ℕ Z × FileText)) (n : ℕ) (entry : Vec ℕ Z × FileText) → slice_get entries n ≡ Some entry → length (concat (piece_texts (map (piece_of texts) entry.1.keys.items))) ≤ bytes_of (files_of texts entries)

@@ -38,7 +38,8 @@ pub test_from_Contains : {Y : Type 0} (name : List ℕ) (names : List (Vec ℕ Y
 test_from_Contains name [] h there = absurd (omega (arith, there.1))
 test_from_Contains {Y} name (x ∷ names) h there = by (bytes_eq name x.items) refl h (λ h. test_from_Contains name names h) (Contains-append_cases (x.items ∷ []) (map (λ key. key.items) names) name there)
   where
-    by : (b : Bool) → bytes_eq name x.items ≡ b → (b || list_any (λ key. bytes_eq name key.items) names) ≡ false → (list_any (λ key. bytes_eq name key.items) names ≡ false → ¬ Contains (map (λ key. key.items) names) name) → Contains (x.items ∷ []) name ⊎ Contains (map (λ key. key.items) names) name → ⊥
+    by : (b : Bool) → bytes_eq name x.items ≡ b → (b || list_any (λ key. bytes_eq name key.items) names) ≡ false
+        → (list_any (λ key. bytes_eq name key.items) names ≡ false → ¬ Contains (map (λ key. key.items) names) name) → Contains (x.items ∷ []) name ⊎ Contains (map (λ key. key.items) names) name → ⊥
     by true e h later there = false≢true (sym h)
     by false e h later (inl here) = false≢true (sym e ∙ (bytes_eq-Decides name x.items).1 (sym (one_is x.items name here.0 here.1 here.2)))
     by false e h later (inr there) = later h there
@@ -98,7 +99,8 @@ placed_next file start n [] piece placed more at h parts =
 placed_next file start n (p ∷ pieces) piece placed more at h parts =
     (h.0, h.1 ++ more, h.2, placed_next file (start + 1) n pieces piece h.1 more (omega arith) h.3 parts, ap (λ l. l ++ more) h.4 ∙ append_assoc h.0 h.1 more)
 
-pub file_gains_next : (file n : ℕ) (pieces : List PieceView) (piece : PieceView) {names between after : List (List ℕ)} {some all : List Item} → length pieces ≡ n → FileGains file pieces names between some → PieceGains file n piece between some after all → FileGains file (pieces ++ piece ∷ []) names after all
+pub file_gains_next : (file n : ℕ) (pieces : List PieceView) (piece : PieceView) {names between after : List (List ℕ)} {some all : List Item} → length pieces ≡ n
+    → FileGains file pieces names between some → PieceGains file n piece between some after all → FileGains file (pieces ++ piece ∷ []) names after all
 file_gains_next file n pieces piece at g h = record {
   placed = g.placed ++ h.placed;
   are_placed = placed_next file 0 n pieces piece g.placed h.placed (omega arith) g.are_placed h.are_parts;
@@ -108,7 +110,9 @@ file_gains_next file n pieces piece at g h = record {
 pub file_gains_none : (file : ℕ) (names : List (List ℕ)) → FileGains file [] names names []
 file_gains_none file names = record { placed = []; are_placed = refl; gains = gains_nothing names [] }
 
-pub next_of_file : (texts : List PieceText) (keys : List PieceKey) (file n : ℕ) (text : List ℕ) {names between after : List (List ℕ)} {some all : List Item} → n < length keys → text ≡ text_at texts (get_or keys n (record { at = 0 })) → FileGains file (map (piece_of texts) (take n keys)) names between some → PieceGains file n (record { key = get_or keys n (record { at = 0 }); text = text }) between some after all → FileGains file (map (piece_of texts) (take (n + 1) keys)) names after all
+pub next_of_file : (texts : List PieceText) (keys : List PieceKey) (file n : ℕ) (text : List ℕ) {names between after : List (List ℕ)} {some all : List Item} → n < length keys
+    → text ≡ text_at texts (get_or keys n (record { at = 0 })) → FileGains file (map (piece_of texts) (take n keys)) names between some
+    → PieceGains file n (record { key = get_or keys n (record { at = 0 }); text = text }) between some after all → FileGains file (map (piece_of texts) (take (n + 1) keys)) names after all
 next_of_file texts keys file n text {names} {after = after} {all = all} h same g piece =
     let key : PieceKey = get_or keys n (record { at = 0 }) in
     let within : n ≤ length keys = omega arith in

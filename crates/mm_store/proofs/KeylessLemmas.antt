@@ -7,11 +7,10 @@ use Rattle.std.proofs.lemmas.List.{length-map, map-append}
 use Rattle.std.proofs.lemmas.Option.{slice_get-map}
 use Rattle.std.proofs.lemmas.Simd.{map-map}
 use Rattle.mm_text.specs.Cut.{IsCut}
-use Rattle.mm_text.specs.Part.{parts_of}
 use Rattle.mm_store.specs.declared.item.Item.{Item}
 use Rattle.mm_store.specs.FilesView.{PieceView, FileView, FilesView, number_of, piece_texts}
 use Rattle.mm_store.specs.FileFacts.{IsAdded}
-use Rattle.mm_store.specs.Expansion.{Placed, placed_part, second_word, ArePartsOf, ArePlaced, Expands, nothing, own, again, missing, included, IsExpansion}
+use Rattle.mm_store.specs.Expansion.{Placed, named_parts, placed_part, ArePartsOf, ArePlaced, Expands, nothing, own, again, missing, included, IsExpansion}
 use Rattle.mm_store.specs.Keyless.{one_key, keyless_piece, keyless_file, keyless_placed, keyless_item}
 use Rattle.mm_store.proofs.ExpansionLemmas.{OneReading, OneDivision, expansion_one}
 
@@ -31,7 +30,7 @@ there_keyless files number file there = slice_get-map keyless_file files number 
 
 parts_keyless : (file n : ℕ) (piece : PieceView) (placed : List Placed) → ArePartsOf file n piece placed → ArePartsOf file n (keyless_piece piece) (map keyless_placed placed)
 parts_keyless file n piece placed are =
-    record { words = are.words; units = are.units; has_words = are.has_words; are_units = are.are_units; spells = are.spells; parts = ap (map keyless_placed) are.parts ∙ map-map keyless_placed (placed_part file n piece.key (second_word piece.text are.words)) (parts_of are.units) }
+    record { words = are.words; units = are.units; has_words = are.has_words; are_units = are.are_units; spells = are.spells; parts = ap (map keyless_placed) are.parts ∙ map-map keyless_placed (placed_part file n piece.key) (named_parts are.units) }
 
 placed_keyless : (file n : ℕ) (pieces : List PieceView) (placed : List Placed) → ArePlaced file n pieces placed → ArePlaced file n (map keyless_piece pieces) (map keyless_placed placed)
 placed_keyless file n [] placed are = ap (map keyless_placed) are
@@ -49,7 +48,16 @@ expands_keyless {files} {names = names} {after = after} (included {part = part} 
 
 pub expansion_keyless : (files : List FileView) (top : List ℕ) (items : List Item) → IsExpansion files top items → IsExpansion (map keyless_file files) top (map keyless_item items)
 expansion_keyless files top items is =
-    record { number = is.number; file = keyless_file is.file; is_top = number_keyless files top ∙ is.is_top; there = there_keyless files is.number is.file is.there; parts = map keyless_placed is.parts; placed = placed_keyless is.number 0 is.file.pieces is.parts is.placed; after = is.after; expands = expands_keyless is.expands }
+    record {
+      number = is.number;
+      file = keyless_file is.file;
+      is_top = number_keyless files top ∙ is.is_top;
+      there = there_keyless files is.number is.file is.there;
+      parts = map keyless_placed is.parts;
+      placed = placed_keyless is.number 0 is.file.pieces is.parts is.placed;
+      after = is.after;
+      expands = expands_keyless is.expands;
+    }
 
 pub same_items : OneReading → OneDivision → (a b : List FileView) (top : List ℕ) (items others : List Item) → map keyless_file a ≡ map keyless_file b → IsExpansion a top items → IsExpansion b top others → map keyless_item items ≡ map keyless_item others
 same_items one_reading one_division a b top items others same p q =

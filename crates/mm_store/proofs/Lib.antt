@@ -7,6 +7,8 @@ pub mod ByteLemmas
 pub mod ExpansionLemmas
 pub mod KeylessLemmas
 pub mod KeyLemmas
+pub mod NameLemmas
+pub mod HeldLemmas
 pub mod StandLemmas
 pub mod Rows
 pub mod OffsetLemmas

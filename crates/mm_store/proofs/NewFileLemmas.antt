@@ -35,7 +35,9 @@ texts_new old (text ∷ new) =
     let again = texts_new (old ++ text ∷ []) new in
     let all : (old ++ text ∷ []) ++ new ≡ old ++ text ∷ new = append_assoc old (text ∷ []) new in
     let start : length (old ++ text ∷ []) ≡ length old + 1 = omega (arith, length-append old (text ∷ [])) in
-    let rest : map (text_at (old ++ text ∷ new)) (keys_from (length old + 1) (length new)) ≡ map (λ text. text.text.items) new = subst (λ all. map (text_at all) (keys_from (length old + 1) (length new)) ≡ map (λ text. text.text.items) new) all (subst (λ k. map (text_at ((old ++ text ∷ []) ++ new)) (keys_from k (length new)) ≡ map (λ text. text.text.items) new) start again) in
+    let texts = map (λ text. text.text.items) new in
+    let at_start = subst (λ k. map (text_at ((old ++ text ∷ []) ++ new)) (keys_from k (length new)) ≡ texts) start again in
+    let rest : map (text_at (old ++ text ∷ new)) (keys_from (length old + 1) (length new)) ≡ texts = subst (λ all. map (text_at all) (keys_from (length old + 1) (length new)) ≡ texts) all at_start in
     ap (λ x. x ∷ map (text_at (old ++ text ∷ new)) (keys_from (length old + 1) (length new))) here ∙ ap (λ l. text.text.items ∷ l) rest
 
 -- no two keys are one

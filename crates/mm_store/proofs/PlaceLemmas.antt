@@ -4,7 +4,7 @@ use Rattle.std.specs.Prelude.{slice_get}
 use Rattle.std.specs.List.{suffix_len, prefix_len, after_last, concat}
 use Rattle.std.proofs.lemmas.Bool.Decides.{nat_tests}
 use Rattle.std.proofs.lemmas.List.{append-nil, length-drop, length-reverse, reverse-append, take_more, drop_more, take-append-drop, take-append-le, take-map}
-use Rattle.std.proofs.lemmas.List.Sums.{sum_by-cons, sum_by-append, suffix_len-le-length, count_by-le-length}
+use Rattle.std.proofs.lemmas.List.Sums.{sum_by-cons, sum_by-append, suffix_len-le-length}
 use Rattle.std.proofs.lemmas.List.Sorted.{sum_by-IsPermutation, IsPermutation-reverse}
 use Rattle.std.proofs.lemmas.List.Folds.{prefix_len-append, concat-append}
 use Rattle.std.proofs.lemmas.Option.{get_or_from_slice_get, slice_get_within, slice_get-map}
@@ -58,13 +58,6 @@ column_begins a b some =
 
 pub lines_joined : (a b : List ℕ) → count_by is_line_feed (a ++ b) ≡ count_by is_line_feed a + count_by is_line_feed b
 lines_joined a b = sum_by-append (λ x. cond (is_line_feed x) 1 0) a b
-
--- line feeds, and bytes behind the last of them, are no more than all bytes
-pub feeds_most : (bytes : List ℕ) → count_by is_line_feed bytes ≤ length bytes
-feeds_most bytes = count_by-le-length is_line_feed bytes
-
-pub behind_most : (bytes : List ℕ) → length (after_last is_line_feed bytes) ≤ length bytes
-behind_most bytes = omega (arith, length_after bytes, suffix_len-le-length is_other bytes)
 
 -- what holds of the elements of a list by their places, and of one more behind them
 pub each_more : {X : Type 0} (P : ℕ → X → Type 0) (xs : List X) (x : X) (n : ℕ) → length xs ≡ n → ((k : ℕ) (d : X) → k < n → P k (get_or xs k d)) → P n x → (k : ℕ) (d : X) → k < n + 1 → P k (get_or (xs ++ x ∷ []) k d)

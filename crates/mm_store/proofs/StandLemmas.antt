@@ -5,13 +5,13 @@ use Rattle.std.specs.List.{AllByRecursion}
 use Rattle.std.proofs.lemmas.List.{get_or_at}
 use Rattle.std.proofs.lemmas.List.Elements.{All-from_recursion, recursion_from_All}
 use Rattle.std.proofs.lemmas.Option.{slice_get-get_or}
-use Rattle.mm_text.specs.declared.part.Part.{Part}
 use Rattle.mm_text.specs.Unit.{Units}
 use Rattle.mm_text.specs.Part.{HasUnits, IsReadable, parts_of}
 use Rattle.mm_store.specs.declared.item.Item.{Item}
 use Rattle.mm_store.specs.FilesView.{PieceView, FileView, FilesView, text_of}
 use Rattle.mm_store.specs.FileFacts.{CanBeRead, StandsIn, IsLive, IsByte, piece_offset}
-use Rattle.mm_store.specs.Expansion.{Placed, item_of, placed_part, second_word, ArePlaced, Expands, nothing, own, again, missing, included, IsExpansion}
+use Rattle.mm_store.specs.Expansion.{Placed, item_of, Named, named_parts, placed_part, ArePlaced, Expands, nothing, own, again, missing, included, IsExpansion}
+use Rattle.mm_store.proofs.NameLemmas.{all_and, all_mapped, named_are}
 
 abbrev pub PartsAreTexts : Type 0
 PartsAreTexts = (text : List ℕ) (units : Units) → HasUnits text units → All (IsReadable text) (parts_of units)
@@ -22,10 +22,6 @@ record Stands (files : List FileView) (part : Placed) : Type 0 where
   pub text : List ℕ
   pub is_piece : slice_get file.pieces part.piece ≡ Some (record { key = part.key; text = text })
   pub readable : IsReadable text part.part
-
-all_joined : {X : Type 0} (P : X → Type 0) (xs ys : List X) → AllByRecursion P xs → AllByRecursion P ys → AllByRecursion P (xs ++ ys)
-all_joined P [] ys a b = b
-all_joined P (x ∷ xs) ys a b = (a.0, all_joined P xs ys a.1 b)
 
 -- an item of such a part
 record Found (files : FilesView) (item : Item) : Type 0 where
@@ -40,10 +36,11 @@ found files part h =
       stands = record { file = h.file; there = h.there; text = h.text; is_piece = h.is_piece };
     }
 
-parts_stand : (files : List FileView) (file : FileView) (number n : ℕ) (piece : PieceView) (name : List ℕ) (parts : List Part) → AllByRecursion (IsReadable piece.text) parts → slice_get files number ≡ Some file → slice_get file.pieces n ≡ Some piece → AllByRecursion (Stands files) (map (placed_part number n piece.key name) parts)
-parts_stand files file number n piece name [] h there here = tt
-parts_stand files file number n piece name (part ∷ parts) h there here =
-    (record { file = file; there = there; text = piece.text; is_piece = here; readable = h.0 }, parts_stand files file number n piece name parts h.1 there here)
+parts_stand : (files : List FileView) (file : FileView) (number n : ℕ) (piece : PieceView) (parts : List Named) → AllByRecursion (λ named. IsReadable piece.text named.part) parts → slice_get files number ≡ Some file → slice_get file.pieces n ≡ Some piece
+    → AllByRecursion (Stands files) (map (placed_part number n piece.key) parts)
+parts_stand files file number n piece [] h there here = tt
+parts_stand files file number n piece (part ∷ parts) h there here =
+    (record { file = file; there = there; text = piece.text; is_piece = here; readable = h.0 }, parts_stand files file number n piece parts h.1 there here)
 
 module _ (parts_are_texts : PartsAreTexts) where
   placed_stand : (files : List FileView) (file : FileView) (number n : ℕ) (front pieces : List PieceView) (placed : List Placed) → slice_get files number ≡ Some file → file.pieces ≡ front ++ pieces → n ≡ length front → ArePlaced number n pieces placed → AllByRecursion (Stands files) placed
@@ -53,10 +50,11 @@ module _ (parts_are_texts : PartsAreTexts) where
       let here : slice_get file.pieces n ≡ Some piece = ap (λ l. slice_get l n) whole ∙ slice_get-get_or (front ++ piece ∷ pieces) n piece long ∙ ap Some (get_or_at front piece pieces piece n (sym at)) in
       let units : HasUnits piece.text are.2.units = record { words = are.2.words; has_words = are.2.has_words; are_units = are.2.are_units; spells = are.2.spells } in
       let readable = recursion_from_All (IsReadable piece.text) (parts_of are.2.units) (parts_are_texts piece.text are.2.units units) in
-      let first = subst (AllByRecursion (Stands files)) (sym are.2.parts) (parts_stand files file number n piece (second_word piece.text are.2.words) (parts_of are.2.units) readable there here) in
+      let named = all_mapped (IsReadable piece.text) (λ named. named.part) (named_parts are.2.units) (subst (AllByRecursion (IsReadable piece.text)) (sym (named_are are.2.units)) readable) in
+      let first = subst (AllByRecursion (Stands files)) (sym are.2.parts) (parts_stand files file number n piece (named_parts are.2.units) named there here) in
       let next : n + 1 ≡ length (front ++ piece ∷ []) = omega (arith, length-append front (piece ∷ [])) in
       let rest = placed_stand files file number (n + 1) (front ++ piece ∷ []) pieces are.1 there (whole ∙ sym (append_assoc front (piece ∷ []) pieces)) next are.3 in
-      subst (AllByRecursion (Stands files)) (sym are.4) (all_joined (Stands files) are.0 are.1 first rest)
+      subst (AllByRecursion (Stands files)) (sym are.4) (all_and (Stands files) are.0 are.1 first rest)
 
   items_found : {files : List FileView} {parts : List Placed} {names after : List (List ℕ)} {items : List Item} → Expands files parts names items after → AllByRecursion (Stands files) parts → AllByRecursion (Found (record { files = files })) items
   items_found nothing h = tt
@@ -64,7 +62,7 @@ module _ (parts_are_texts : PartsAreTexts) where
   items_found (again is old d) h = items_found d h.1
   items_found {files} (missing {part = part} is new none d) h = (found files part h.0, items_found d h.1)
   items_found {files} (included {inner = inner} {gained = gained} {items = items} {number = number} {file = file} is new at there placed inside d) h =
-      all_joined (Found (record { files = files })) gained items (items_found inside (placed_stand files file number 0 [] file.pieces inner there refl refl placed)) (items_found d h.1)
+      all_and (Found (record { files = files })) gained items (items_found inside (placed_stand files file number 0 [] file.pieces inner there refl refl placed)) (items_found d h.1)
 
   expansion_found : (view : FilesView) (top : List ℕ) (items : List Item) → IsExpansion view.files top items → All (Found view) items
   expansion_found view top items is =

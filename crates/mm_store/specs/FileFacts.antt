@@ -1,12 +1,14 @@
 -- What contracts say of files: where a key lives, where a byte of a piece stands, and what is added.
-use Rattle.std.specs.Prelude.{◌≡◌, ◌≢◌, ℕ, ◌+◌, ◌<◌, ◌≤◌, List, [], ◌∷◌, ◌++◌, Some, AllPairs, All, length, take, slice_get, slice_range}
+use Rattle.std.specs.Prelude.{◌≡◌, ◌≢◌, ℕ, ◌+◌, ◌<◌, ◌≤◌}
+use Rattle.std.specs.Prelude.{List, [], ◌∷◌, ◌++◌, Some, None, AllPairs, All, length, take, slice_get, slice_range}
 use Rattle.std.specs.List.{concat}
 use Rattle.mm_text.specs.declared.word.Word.{Word}
 use Rattle.mm_text.specs.Reading.{HasWords}
 use Rattle.mm_text.specs.Cut.{IsCut}
 use Rattle.mm_store.specs.declared.files.PieceKey.{PieceKey}
 use Rattle.mm_store.specs.declared.item.Item.{Item}
-use Rattle.mm_store.specs.FilesView.{PieceView, FileView, FilesView, piece_texts, text_of}
+use Rattle.mm_store.specs.declared.item.ItemKind.TheVariants.{Missing}
+use Rattle.mm_store.specs.FilesView.{PieceView, FileView, FilesView, number_of, piece_texts, text_of}
 
 -- a piece of a file has this key and this text
 pub record IsLive (files : FilesView) (key : PieceKey) (text : List ℕ) : Type 0 where
@@ -20,7 +22,8 @@ pub record IsLive (files : FilesView) (key : PieceKey) (text : List ℕ) : Type 
 abbrev pub HaveOwnKeys : FilesView → Type 0
 HaveOwnKeys files = (key : PieceKey) (a b : List ℕ) → IsLive files key a → IsLive files key b → a ≡ b
 
--- an item can be read, by its key: its piece has a text, of which the item has a byte at least, and its bytes are a text by themselves, with a word at least
+-- an item can be read, by its key: its piece has a text, of which the item has a byte at least, and its bytes are a text by themselves, with a
+-- word at least
 pub record CanBeRead (files : FilesView) (item : Item) : Type 0 where
   pub text : List ℕ
   pub live : IsLive files item.key text
@@ -36,6 +39,16 @@ pub record StandsIn (files : FilesView) (item : Item) : Type 0 where
   pub there : slice_get files.files item.file ≡ Some file
   pub text : List ℕ
   pub is_piece : slice_get file.pieces item.piece ≡ Some (record { key = item.key; text = text })
+
+-- the second word of bytes; no bytes, where there is none
+abbrev pub second_word : List ℕ → List Word → List ℕ
+second_word bytes words = elim (slice_get words 1) [ None ↦ [] | Some word ↦ slice_range bytes word.start word.end ]
+
+-- where an item is a reference to a missing file, no file has the name that is the second word of the item's own bytes
+abbrev pub NamesNoFile : FilesView → Item → Type 0
+NamesNoFile files item =
+    item.kind ≡ Missing → (text : List ℕ) (words : List Word) → IsLive files item.key text → HasWords (slice_range text item.start item.end) words
+    → number_of files.files (second_word (slice_range text item.start item.end) words) ≡ None
 
 -- how many bytes of a file stand before one of its pieces
 abbrev pub piece_offset : FileView → ℕ → ℕ

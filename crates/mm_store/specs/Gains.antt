@@ -3,10 +3,21 @@ use Rattle.std.specs.Prelude.{◌≡◌, ℕ, ◌≤◌, Bool, true, false, List
 use Rattle.indexmap.specs.IndexSet.{IndexSet}
 use Rattle.mm_store.specs.declared.item.Item.{Item}
 use Rattle.mm_store.specs.FilesView.{PieceView, FileView, number_of}
-use Rattle.mm_store.specs.Expansion.{Placed, Expands, ArePartsOf, ArePlaced}
+use Rattle.mm_text.specs.declared.word.Word.{Word}
+use Rattle.mm_text.specs.declared.part.PartKind.TheVariants.{Inclusion}
+use Rattle.mm_text.specs.Reading.{HasWords}
+use Rattle.mm_text.specs.Part.{part_bytes}
+use Rattle.mm_store.specs.FileFacts.{second_word}
+use Rattle.mm_store.specs.Expansion.{Named, Placed, Expands, ArePartsOf, ArePlaced}
 
 abbrev pub names_in : {Y S : Type 0} → IndexSet (Vec ℕ Y) S → List (List ℕ)
 names_in names = map (λ name. name.items) names.keys
+
+-- the name that an inclusion has is the second word of its own bytes
+abbrev pub IsNamed : List ℕ → Named → Type 0
+IsNamed text named =
+    named.part.kind ≡ Inclusion → (words : List Word) → HasWords (part_bytes text named.part) words
+    → named.name ≡ second_word (part_bytes text named.part) words
 
 -- a name that is not in the set is put behind the others
 abbrev pub Takes : List (List ℕ) → List ℕ → Bool → List (List ℕ) → Type 0

@@ -4,8 +4,10 @@ ghost use Rattle.std.specs.Prelude.{◌≡◌, ℕ, ◌<◌, ◌↔◌, IsTrue, 
 ghost use Rattle.mm_text.specs.declared.word.Word.{Word};
 ghost use Rattle.mm_text.specs.declared.part.PartKind.TheVariants.{Inclusion};
 ghost use Rattle.mm_text.specs.Reading.{HasWords};
-ghost use Rattle.mm_store.specs.Expansion.{item_kind, item_of, placed_part, second_word};
-ghost use Rattle.mm_store.specs.Gains.{names_in, Takes, Gains, PieceGains, FileGains};
+ghost use Rattle.mm_text.specs.Part.{IsReadable};
+ghost use Rattle.mm_store.specs.FileFacts.{second_word};
+ghost use Rattle.mm_store.specs.Expansion.{item_kind, item_of, placed_part};
+ghost use Rattle.mm_store.specs.Gains.{names_in, IsNamed, Takes, Gains, PieceGains, FileGains};
 ghost use Rattle.mm_store.specs.Inside.{HoldsUnit, IsDivided, IsPieceKept, piece_of};
 
 use crate::files::PieceKey;
@@ -47,7 +49,7 @@ fn is_inclusion(kind: PartKind) -> bool
 }
 
 fn item_of(origin: Origin, part: Part) -> Item
-    ensures { (name : List ℕ) → result ≡ item_of (placed_part origin.file origin.piece origin.key name part) }
+    ensures { (name : List ℕ) → result ≡ item_of (placed_part origin.file origin.piece origin.key (record { part = part; name = name })) }
 {
     Item {
         kind: item_kind(part.kind),
@@ -90,12 +92,17 @@ fn expand_part(
     names: &mut IndexSet<Vec<u8>>,
     items: &mut Vec<Item>,
 ) -> Result<(), AllocError>
-    requires { (words : List Word) × HasWords text.now words }
+    requires { IsReadable text.now part }
     ensures { OnOk result
-        ((words : List Word) → HasWords text.now words → Gains (placed_part origin.file origin.piece origin.key (second_word text.now words) part ∷ []) (names_in names.old) items.old.items (names_in names.new) items.new.items) }
+        ((name : List ℕ) → IsNamed text.now (record { part = part; name = name })
+        → Gains (placed_part origin.file origin.piece origin.key (record { part = part; name = name }) ∷ [])
+        (names_in names.old) items.old.items (names_in names.new) items.new.items) }
 {
-    if is_inclusion(part.kind) && !take_name(alloc, second_word(text), names)? {
-        return Ok(());
+    if is_inclusion(part.kind) {
+        let name = second_word(&text[part.start..part.end]);
+        if !take_name(alloc, name, names)? {
+            return Ok(());
+        }
     }
     items.push(item_of(origin, part))?;
     Ok(())
@@ -113,8 +120,11 @@ fn expand_piece(
     requires unit { HoldsUnit text.now }
     requires divided { IsDivided text.now parts.now }
     ensures { OnOk result
-        (PieceGains origin.file origin.piece (record { key = origin.key; text = text.now }) (names_in names.old) items.old.items (names_in names.new) items.new.items) }
+        (PieceGains origin.file origin.piece (record { key = origin.key; text = text.now })
+        (names_in names.old) items.old.items (names_in names.new) items.new.items) }
 {
+    mm_text::parts_are_texts();
+    mm_text::words_stand_alone();
     for part in parts {
         expand_part(alloc, origin, text, *part, names, items)?;
     }

@@ -1,13 +1,14 @@
 //! Files by name.
 
-ghost use Rattle.std.specs.Prelude.{◌≡◌, ℕ, ◌+◌, ◌<◌, ◌≤◌, ◌↔◌, ◌++◌, List, Some, None, IfOk, IfErr, OnOk, OnErr, IsErrOf, All, length, map, slice_get, slice_index_or, []};
+ghost use Rattle.std.specs.Prelude.{◌≡◌, ℕ, ◌+◌, ◌<◌, ◌≤◌, ◌↔◌};
+ghost use Rattle.std.specs.Prelude.{◌++◌, List, Some, None, IfOk, IfErr, OnOk, OnErr, IsErrOf, All, length, map, slice_get, slice_index_or, []};
 ghost use Rattle.std.specs.Option.{option_map};
 ghost use Rattle.std.specs.List.{concat};
 ghost use Rattle.mm_text.specs.Cut.{ArePieces};
 ghost use Rattle.mm_text.specs.Place.{line_at, column_at};
 ghost use Rattle.mm_store.specs.declared.error.StoreError.TheVariants.{NoTop};
 ghost use Rattle.mm_store.specs.FilesView.{no_files, bytes_of, find_file, number_of, text_of};
-ghost use Rattle.mm_store.specs.FileFacts.{CanBeRead, HaveOwnKeys, IsAdded, IsByte, IsLive, StandsIn, StandsLast};
+ghost use Rattle.mm_store.specs.FileFacts.{CanBeRead, HaveOwnKeys, IsAdded, IsByte, IsLive, NamesNoFile, StandsIn, StandsLast};
 ghost use Rattle.mm_store.specs.Answers.{IsAddError, IsAddErrorIn, IsExpansionError};
 ghost use Rattle.mm_store.specs.Expansion.{IsExpansion};
 ghost use Rattle.mm_store.specs.Inside.{IsFileKept, IsPieceKept, keys_from, text_at};
@@ -21,7 +22,7 @@ use crate::piece_text::{PieceText, kept_pieces};
 use crate::room::{ended_len, fits};
 use crate::start::{Start, starts};
 use indexmap::IndexMap;
-use mm_text::{Cut, Place, cut, parts_are_texts};
+use mm_text::{Cut, Place, cut, parts_are_texts, words_stand_alone};
 use std::alloc::{AllocError, Global};
 use std::marker::Model;
 
@@ -209,12 +210,16 @@ impl Files {
         ensures items { IfOk result (λ found. IsExpansion self.now.files top.now found.items) }
         ensures read { IfOk result (λ found. All (CanBeRead self.now) found.items) }
         ensures stand { IfOk result (λ found. All (StandsIn self.now) found.items) }
+        ensures missing { IfOk result (λ found. All (NamesNoFile self.now) found.items) }
         ensures few { IfOk result (λ found. length found.items ≤ bytes_of self.now.files) }
         ensures small { IfOk result (λ found. length found.items ≤ 4294967295) }
         ensures no_top { IsErrOf result NoTop ↔ (number_of self.now.files top.now ≡ None) }
         ensures err { IfErr result IsExpansionError }
     {
+        mm_text::one_meaning();
+        mm_text::one_division();
         parts_are_texts();
+        words_stand_alone();
         match self.files.get_full(top) {
             None => Err(StoreError::NoTop),
             Some((number, _, file)) => Ok(expand_file(

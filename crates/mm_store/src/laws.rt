@@ -33,8 +33,10 @@ pub fn keys_are_own()
 /// Files that are the same but for the keys of their pieces give items that are the same but for their keys. And
 /// files that hold just one file, made from the same name and the same text, are the same but for keys.
 pub fn keys_do_not_matter()
-    ensures items { (a b : List FileView) (top : List ℕ) (items others : List Item) → map keyless_file a ≡ map keyless_file b → IsExpansion a top items → IsExpansion b top others → map keyless_item items ≡ map keyless_item others }
-    ensures one_file { (a b : FilesView) (name text : List ℕ) → IsAdded no_files a name text → IsAdded no_files b name text → map keyless_file a.files ≡ map keyless_file b.files }
+    ensures items { (a b : List FileView) (top : List ℕ) (items others : List Item) → map keyless_file a ≡ map keyless_file b
+        → IsExpansion a top items → IsExpansion b top others → map keyless_item items ≡ map keyless_item others }
+    ensures one_file { (a b : FilesView) (name text : List ℕ) → IsAdded no_files a name text → IsAdded no_files b name text
+        → map keyless_file a.files ≡ map keyless_file b.files }
 {
     mm_text::one_meaning();
     mm_text::one_division();

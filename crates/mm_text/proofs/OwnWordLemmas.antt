@@ -1,19 +1,20 @@
 -- A text without what stands before its first word and behind its last has the same words.
 use Rattle.std.proofs.Common.{◌≡◌, ℕ, zero, suc, ◌+◌, ◌-◌, ◌<◌, ◌≤◌, true, List, [], ◌∷◌, ◌++◌, append_assoc, length, map, drop, None, Ok, Err, refl, sym, ap, ◌∙◌, subst, inl, inr, arith}
 use Rattle.std.specs.Prelude.{slice_range}
-use Rattle.std.proofs.lemmas.List.{append-nil, take-append-drop}
+use Rattle.std.proofs.lemmas.List.{append-nil, length-append, take-append-drop}
 use Rattle.mm_text.specs.declared.word.Word.{Word}
 use Rattle.mm_text.specs.Run.{runs, ends_run}
-use Rattle.mm_text.specs.Reading.{HasWords}
-use Rattle.mm_text.specs.Unit.{Token, tokens_of, spellings}
+use Rattle.mm_text.specs.Reading.{HasWords, LiesIn}
+use Rattle.mm_text.specs.Unit.{Token, token_of, tokens_of, spellings, Shape, Declaration, Labelled, Provable, Inclusion, shape_tokens, Nothing, Simple}
+use Rattle.mm_text.specs.Part.{HasUnits, token_end, shape_part}
 use Rattle.mm_text.specs.Cut.{end_of}
 use Rattle.mm_text.specs.LeftToRight.{read, fault_at}
 use Rattle.mm_text.specs.Reader.{runs_at, TakesWord}
-use Rattle.mm_text.proofs.ReadingLemmas.{read_words}
-use Rattle.mm_text.proofs.ReaderLemmas.{pass_none, word_read, fails_read}
+use Rattle.mm_text.proofs.ReadingLemmas.{read_words, same_words}
+use Rattle.mm_text.proofs.ReaderLemmas.{pass_none, slice_length, word_read, fails_read}
 use Rattle.mm_text.proofs.PieceLemmas.{shift_word}
 use Rattle.mm_text.proofs.PieceUnitLemmas.{bare, tokens-shift}
-use Rattle.mm_text.proofs.PositionLemmas.{words_lie}
+use Rattle.mm_text.proofs.PositionLemmas.{Lying, words_lie}
 use Rattle.mm_text.proofs.CutWalkLemmas.{Given, word_from}
 use Rattle.mm_text.proofs.NthLemmas.{first_word}
 use Rattle.mm_text.proofs.PartLemmas.{Begun, begun_first, begun_more, begun_words}
@@ -103,3 +104,67 @@ alone text first more has = by_given (word_from (length text) text 0 0 (omega ar
   by_given (inl (word, to, taken, within)) = alone_from text first more has word to taken within
   by_given (inr (inl none)) = absurd (let a : Ok (first ∷ more) ≡ Ok [] = sym read_all ∙ read_words (runs_at text 0) [] none in cc)
   by_given (inr (inr (number, place, fails))) = absurd (let a : Ok (first ∷ more) ≡ Err (fault_at number place) = sym read_all ∙ fails_read (runs_at text 0) [] number place fails in cc)
+
+pub own_alone : (text : List ℕ) (first : Word) (more own : List Word) → HasWords text (first ∷ more) → HasWords (slice_range text first.start (end_of (first ∷ more))) own
+    → spellings (slice_range text first.start (end_of (first ∷ more))) own ≡ spellings text (first ∷ more)
+own_alone text first more own has are =
+    let found = alone text first more has in
+    let part = slice_range text first.start (end_of (first ∷ more)) in
+    ap (spellings part) (same_words (runs part) own found.0 are.words_are found.1.words_are) ∙ found.2
+
+-- ---- a statement that is alone in its text
+
+word_end : (text : List ℕ) (word : Word) → LiesIn text word → token_end (token_of text word) ≡ word.end
+word_end text word lies = omega (arith, slice_length text word.start word.end lies.within, lies.some)
+
+last_end : (text : List ℕ) (front : List Token) (last : Token) (words : List Word) (at : ℕ) → Lying text at words → front ++ last ∷ [] ≡ tokens_of text words → token_end last ≡ end_of words
+last_end text front last [] at lie e = absurd (omega (arith, ap length e, length-append front (last ∷ [])))
+last_end text [] last (word ∷ []) at lie e = let same : last ≡ token_of text word = cc in ap token_end same ∙ word_end text word lie.1
+last_end text [] last (word ∷ next ∷ words) at lie e = absurd (omega (arith, ap length e))
+last_end text (token ∷ front) last (word ∷ []) at lie e = absurd (omega (arith, ap length e, length-append front (last ∷ [])))
+last_end text (token ∷ front) last (word ∷ next ∷ words) at lie e =
+    let rest : front ++ last ∷ [] ≡ tokens_of text (next ∷ words) = cc in
+    last_end text front last (next ∷ words) (word.end + 1) lie.2 rest
+
+-- the first word of a statement and its last
+record Ends (shape : Shape) : Type 0 where
+  pub first : Token
+  pub more : List Token
+  pub begins : shape_tokens shape ≡ first ∷ more
+  pub front : List Token
+  pub last : Token
+  pub closes : shape_tokens shape ≡ front ++ last ∷ []
+  pub start : (shape_part shape).start ≡ first.start
+  pub end : (shape_part shape).end ≡ token_end last
+
+ends_of : (shape : Shape) → Ends shape
+ends_of (Declaration keyword symbols end) = record { first = keyword; more = symbols ++ end ∷ []; begins = refl; front = keyword ∷ symbols; last = end; closes = refl; start = refl; end = refl }
+ends_of (Labelled label keyword symbols end) = record { first = label; more = keyword ∷ (symbols ++ end ∷ []); begins = refl; front = label ∷ keyword ∷ symbols; last = end; closes = refl; start = refl; end = refl }
+ends_of (Provable label keyword symbols proof steps end) = record {
+  first = label;
+  more = keyword ∷ (symbols ++ proof ∷ (steps ++ end ∷ []));
+  begins = refl;
+  front = label ∷ keyword ∷ (symbols ++ proof ∷ steps);
+  last = end;
+  closes = ap (λ tokens. label ∷ keyword ∷ tokens) (sym (append_assoc symbols (proof ∷ steps) (end ∷ [])));
+  start = refl;
+  end = refl;
+}
+ends_of (Inclusion begin name end) = record { first = begin; more = name ∷ end ∷ []; begins = refl; front = begin ∷ name ∷ []; last = end; closes = refl; start = refl; end = refl }
+
+pub statement_alone : (text : List ℕ) (shape : Shape) (own : List Word) → HasUnits text (Simple shape Nothing) → HasWords (slice_range text (shape_part shape).start (shape_part shape).end) own
+    → spellings (slice_range text (shape_part shape).start (shape_part shape).end) own ≡ map (λ token. token.bytes) (shape_tokens shape)
+statement_alone text shape own units are = by units.words units.has_words (sym (append-nil (shape_tokens shape)) ∙ units.spells) where
+  ends : Ends shape
+  ends = ends_of shape
+
+  by : (words : List Word) → HasWords text words → shape_tokens shape ≡ tokens_of text words
+      → spellings (slice_range text (shape_part shape).start (shape_part shape).end) own ≡ map (λ token. token.bytes) (shape_tokens shape)
+  by [] has tokens = absurd (let none : ends.first ∷ ends.more ≡ [] = sym ends.begins ∙ tokens in omega (arith, ap length none))
+  by (word ∷ words) has tokens =
+      let all : ends.first ∷ ends.more ≡ tokens_of text (word ∷ words) = sym ends.begins ∙ tokens in
+      let first : ends.first ≡ token_of text word = cc in
+      let start : (shape_part shape).start ≡ word.start = ends.start ∙ ap (λ (token : Token). token.start) first in
+      let end : (shape_part shape).end ≡ end_of (word ∷ words) = ends.end ∙ last_end text ends.front ends.last (word ∷ words) 0 (words_lie text (word ∷ words) has) (sym ends.closes ∙ tokens) in
+      let part : slice_range text (shape_part shape).start (shape_part shape).end ≡ slice_range text word.start (end_of (word ∷ words)) = ap (λ n. slice_range text n (shape_part shape).end) start ∙ ap (slice_range text word.start) end in
+      ap (λ bytes. spellings bytes own) part ∙ own_alone text word words own has (subst (λ bytes. HasWords bytes own) part are) ∙ ap (map (λ token. token.bytes)) (sym tokens)

@@ -58,10 +58,14 @@ parts_of Nothing = []
 parts_of (Simple shape later) = shape_part shape ∷ parts_of later
 parts_of (Block begin inner end later) = part parts.BlockStart begin begin ∷ (parts_of inner ++ part parts.BlockEnd end end ∷ parts_of later)
 
+-- the bytes of a part of a text
+abbrev pub part_bytes : List ℕ → Part → List ℕ
+part_bytes text part = slice_range text part.start part.end
+
 -- a part has a byte at least, lies in the text, and is a text with words by itself, of which there is one at least
 pub record IsReadable (text : List ℕ) (part : Part) : Type 0 where
   pub some : part.start < part.end
   pub within : part.end ≤ length text
   pub words : List Word
-  pub has_words : HasWords (slice_range text part.start part.end) words
+  pub has_words : HasWords (part_bytes text part) words
   pub some_word : 0 < length words

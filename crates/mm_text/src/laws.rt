@@ -1,6 +1,6 @@
 //! What holds of every text. Each function does nothing; what it promises is the law.
 
-ghost use Rattle.std.specs.Prelude.{◌≡◌, ◌⊎◌, ℕ, true, All, List, ◌∷◌, slice_range};
+ghost use Rattle.std.specs.Prelude.{◌≡◌, ◌⊎◌, ℕ, true, All, List, ◌∷◌, map, slice_range};
 ghost use Rattle.std.specs.List.{AllByRecursion, flat_map};
 ghost use Rattle.mm_text.specs.declared.word.Word.{Word};
 ghost use Rattle.mm_text.specs.declared.fault.TextFault.{TextFault};
@@ -9,8 +9,8 @@ ghost use Rattle.mm_text.specs.Layout.{IsLaidOut};
 ghost use Rattle.mm_text.specs.Reading.{HasWords, IsFault};
 ghost use Rattle.mm_text.specs.declared.fault.TextNumber.{TextNumber};
 ghost use Rattle.mm_text.specs.Cut.{IsCut, IsFirstFault, end_of};
-ghost use Rattle.mm_text.specs.Part.{HasUnits, parts_of, IsReadable};
-ghost use Rattle.mm_text.specs.Unit.{Token, spellings, Shape, shape_tokens, IsShape, Units, unit_tokens, AreUnits, IsWhole, IsUnitFault};
+ghost use Rattle.mm_text.specs.Part.{HasUnits, part_bytes, parts_of, shape_part, IsReadable};
+ghost use Rattle.mm_text.specs.Unit.{Token, spellings, Shape, shape_tokens, IsShape, Units, Nothing, Simple, unit_tokens, AreUnits, IsWhole, IsUnitFault};
 
 /// Each text has its words or its fault: one list of words or one fault, and never both.
 ///
@@ -53,9 +53,15 @@ pub fn parts_are_texts()
 {}
 
 /// The bytes of a text from its first word to its last are a text with the same words.
+///
+/// So the bytes of a statement or an inclusion that is the one unit of a text have its words, and no others.
 pub fn words_stand_alone()
-    ensures { (text : List ℕ) (first : Word) (more own : List Word) → HasWords text (first ∷ more) → HasWords (slice_range text first.start (end_of (first ∷ more))) own
+    ensures words { (text : List ℕ) (first : Word) (more own : List Word) → HasWords text (first ∷ more)
+        → HasWords (slice_range text first.start (end_of (first ∷ more))) own
         → spellings (slice_range text first.start (end_of (first ∷ more))) own ≡ spellings text (first ∷ more) }
+    ensures statement { (text : List ℕ) (shape : Shape) (own : List Word) → HasUnits text (Simple shape Nothing)
+        → HasWords (part_bytes text (shape_part shape)) own
+        → spellings (part_bytes text (shape_part shape)) own ≡ map (λ token. token.bytes) (shape_tokens shape) }
 {}
 
 /// A text has one cut or one first fault, and never both.

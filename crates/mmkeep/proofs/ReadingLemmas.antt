@@ -1,5 +1,5 @@
 -- What the items of a file say, and the first word that is not read yet.
-use Rattle.std.proofs.Common.{◌≡◌, ℕ, ◌+◌, ◌-◌, ◌<◌, ◌≤◌, Some, None, Option, List, length, drop, refl, sym, ap, subst, arith}
+use Rattle.std.proofs.Common.{◌≤◌, ◌≡◌, ℕ, ◌+◌, ◌-◌, ◌<◌, Some, None, Option, List, length, drop, refl, sym, ap, subst, arith}
 use Rattle.std.specs.Prelude.{slice_range, IfSome}
 use Rattle.std.proofs.lemmas.List.{length-take-le, length-drop}
 use Rattle.mm_text.specs.declared.word.Word.{Word}

@@ -9,4 +9,5 @@ use Rattle.mm_frame.specs.PairTable.{KnowsPairs}
 use Rattle.mm_frame.proofs.mandatory.active_among.Given as goal
 
 abbrev pub invariant-loop-n : goal.invariant-loop-n
-invariant-loop-n l = (before : List Item) → KnowsPairs before l.table → l.blocks ≡ marks_of before → kept_pairs l.pairs.items ++ filter (are_paired (active_pairs before)) (pairs_of (symbols_lent (drop l.n l.variables))) ≡ filter (are_paired (active_pairs before)) (pairs_of (symbols_lent l.variables))
+invariant-loop-n l = (before : List Item) → KnowsPairs before l.table → l.blocks ≡ marks_of before
+    → kept_pairs l.pairs.items ++ filter (are_paired (active_pairs before)) (pairs_of (symbols_lent (drop l.n l.variables))) ≡ filter (are_paired (active_pairs before)) (pairs_of (symbols_lent l.variables))

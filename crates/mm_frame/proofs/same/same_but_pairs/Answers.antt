@@ -11,7 +11,8 @@ returns-then-same_expression c base copy is are s t =
     let mine = subst (AreHypotheses base i) (sym c.deref.ensures.value) (c.in-Some-Some.ensures.means base is) in
     let yours = subst (AreHypotheses copy j) (sym c.deref-then-same_expression.ensures.value) (c.in-Some-Some.ensures'.means copy are) in
     let expressions = (c.same_expression.ensures base copy is are (framed_shown base i s) (framed_shown copy j t)).0 c.if-same_expression.true in
-    let hypotheses = same_by_numbers base copy i j c.deref.result.now c.deref-then-same_expression.result.now (IsTrue c.same_hypotheses.result) mine yours (c.same_hypotheses.ensures base copy is are (all_shown base i c.deref.result.now mine) (all_shown copy j c.deref-then-same_expression.result.now yours)) in
+    let hypotheses = same_by_numbers base copy i j c.deref.result.now c.deref-then-same_expression.result.now (IsTrue c.same_hypotheses.result) mine yours
+    (c.same_hypotheses.ensures base copy is are (all_shown base i c.deref.result.now mine) (all_shown copy j c.deref-then-same_expression.result.now yours)) in
     (λ b. (expressions, hypotheses.0 b), λ p. hypotheses.1 p.1)
 
 pub returns-else-same_expression : goal.returns-else-same_expression

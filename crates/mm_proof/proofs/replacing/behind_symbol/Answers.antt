@@ -13,6 +13,9 @@ returns-then-same c = stands_one (named_symbol c.args.symbol.now) (symbol_of c.i
 
 pub returns-else-at-entry : goal.returns-else-at-entry
 returns-else-at-entry c = elim c.else-at-entry.branch [
-  | else-at-entry-via-then-at-entry+else-same w ↦ stands_not_one (named_symbol c.args.symbol.now) (symbol_of w.index-entry-at.result) (symbols_of c.args.entry.now) c.args.at (read_at symbol_of c.args.entry.now c.args.at w.index-entry-at.result w.if-at-entry.true w.index-entry-at.is) (λ e. false≢true (sym w.if-same.false ∙ w.same.ensures.1 e))
+  | else-at-entry-via-then-at-entry+else-same w ↦
+      stands_not_one (named_symbol c.args.symbol.now) (symbol_of w.index-entry-at.result) (symbols_of c.args.entry.now) c.args.at
+      (read_at symbol_of c.args.entry.now c.args.at w.index-entry-at.result w.if-at-entry.true w.index-entry-at.is)
+      (λ e. false≢true (sym w.if-same.false ∙ w.same.ensures.1 e))
   | else-at-entry-via-else-at-entry w ↦ stands_past (named_symbol c.args.symbol.now) (symbols_of c.args.entry.now) c.args.at (omega (arith, length-map c.args.entry.now symbol_of, w.if-at-entry.false))
 ]

@@ -7,12 +7,14 @@ use Rattle.mm_frame.proofs.blocks.Blocks.begin.Goals as goal
 pub invariant_of-self-in_err-reserve : goal.invariant_of-self-in_err-reserve
 invariant_of-self-in_err-reserve c =
     let i = c.self.inside in
-    kept_moved i.block_of.items i.block_of.items _ c.enter.new.ends.items i.outer.items c.reserve.new.self.items i.current i.begun i.ended refl refl c.reserve.ensures.items (kept_entered i.block_of.items i.ends.items c.enter.new.ends.items i.outer.items i.current i.begun i.ended c.enter.ensures.same c.enter.ensures.longer c.self.invariant)
+    kept_moved i.block_of.items i.block_of.items _ c.enter.new.ends.items i.outer.items c.reserve.new.self.items i.current i.begun i.ended refl refl c.reserve.ensures.items
+    (kept_entered i.block_of.items i.ends.items c.enter.new.ends.items i.outer.items i.current i.begun i.ended c.enter.ensures.same c.enter.ensures.longer c.self.invariant)
 
 pub invariant_of-self-in_err-push : goal.invariant_of-self-in_err-push
 invariant_of-self-in_err-push c =
     let i = c.self.inside in
-    kept_moved i.block_of.items c.push.new.self.items _ c.enter.new.ends.items i.outer.items c.reserve.new.self.items i.current i.begun i.ended c.in_err-push.ensures.items refl c.reserve.ensures.items (kept_entered i.block_of.items i.ends.items c.enter.new.ends.items i.outer.items i.current i.begun i.ended c.enter.ensures.same c.enter.ensures.longer c.self.invariant)
+    kept_moved i.block_of.items c.push.new.self.items _ c.enter.new.ends.items i.outer.items c.reserve.new.self.items i.current i.begun i.ended c.in_err-push.ensures.items refl c.reserve.ensures.items
+    (kept_entered i.block_of.items i.ends.items c.enter.new.ends.items i.outer.items i.current i.begun i.ended c.enter.ensures.same c.enter.ensures.longer c.self.invariant)
 
 pub overflow_add-self : goal.overflow_add-self
 overflow_add-self c =
@@ -34,4 +36,5 @@ returns-clause-ok c =
     let ends = c.enter.new.ends in
     let next : c.len-block.result ≡ length ends.items = omega (arith, c.len-block.ensures, ends.ok.0) in
     let kept = kept_entered i.block_of.items i.ends.items ends.items i.outer.items i.current i.begun i.ended c.enter.ensures.same c.enter.ensures.longer c.self.invariant in
-    ap (marks_from ends.items 0 0) c.in_ok-push.ensures.items ∙ begun_marks i.block_of.items ends.items i.outer.items i.current c.len-block.result (marks_from ends.items 0 0 i.block_of.items) c.in_ok-enter.ensures.ok next kept.are_blocks ∙ ap (λ marks. marks ++ Opens ∷ []) (entered_marks i.ends.items ends.items i.block_of.items c.enter.ensures.same ∙ c.self.view_is)
+    ap (marks_from ends.items 0 0) c.in_ok-push.ensures.items ∙ begun_marks i.block_of.items ends.items i.outer.items i.current c.len-block.result (marks_from ends.items 0 0 i.block_of.items) c.in_ok-enter.ensures.ok next kept.are_blocks
+    ∙ ap (λ marks. marks ++ Opens ∷ []) (entered_marks i.ends.items ends.items i.block_of.items c.enter.ensures.same ∙ c.self.view_is)

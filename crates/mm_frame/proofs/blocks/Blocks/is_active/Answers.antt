@@ -23,4 +23,5 @@ returns-in-Some c =
     let block = c.index.result.now in
     let in_range : c.args.from < length inside.block_of.items = omega (arith, items_within inside.ends.items inside.block_of.items c.args.self.now c.args.at c.self.view_is c.requires.within) in
     let ended_block = ap (λ ends. end_of ends block) (sym c.deref.ensures.value) ∙ sym c.end_of_block.ensures ∙ c.in-Some.is in
-    sym (ap (λ marks. stays_by (slice_range marks (c.args.from + 1) c.args.at)) (sym c.self.view_is) ∙ is_active_ended inside.block_of.items inside.ends.items inside.outer.items inside.current inside.begun inside.ended c.args.from c.args.at block c.in-Some.end c.self.invariant c.requires.earlier in_range c.index.ensures ended_block)
+    sym (ap (λ marks. stays_by (slice_range marks (c.args.from + 1) c.args.at)) (sym c.self.view_is)
+    ∙ is_active_ended inside.block_of.items inside.ends.items inside.outer.items inside.current inside.begun inside.ended c.args.from c.args.at block c.in-Some.end c.self.invariant c.requires.earlier in_range c.index.ensures ended_block)

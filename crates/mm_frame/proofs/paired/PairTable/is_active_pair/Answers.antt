@@ -12,4 +12,5 @@ returns-then-is_active c before k e =
 pub returns-else-is_active : goal.returns-else-is_active
 returns-else-is_active c before k e =
     let told = λ (a : List ℕ) (b : List ℕ). is_number_active c.args.blocks.now (pair_number c.args.self.now a b) in
-    or_second c.is_active.result (told c.args.first.now c.args.second.now) (told c.args.second.now c.args.first.now) c.is_active-else-is_active.result c.is_active.ensures c.if-is_active.false c.is_active-else-is_active.ensures ∙ paired_told before c.args.self.now c.args.blocks.now k e (variable_of c.args.first.now, variable_of c.args.second.now)
+    or_second c.is_active.result (told c.args.first.now c.args.second.now) (told c.args.second.now c.args.first.now) c.is_active-else-is_active.result c.is_active.ensures c.if-is_active.false c.is_active-else-is_active.ensures
+    ∙ paired_told before c.args.self.now c.args.blocks.now k e (variable_of c.args.first.now, variable_of c.args.second.now)

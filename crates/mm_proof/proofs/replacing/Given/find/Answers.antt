@@ -49,4 +49,7 @@ pub returns : goal.returns
 returns c typings =
     let hs = map mandatory_of c.args.hypotheses.now in
     let es = stack_of c.args.taken.now in
-    matches_all (given_by c.loop-place.given es) hs es c.loop-place.place (omega (arith, c.requires, length-map c.args.hypotheses.now mandatory_of, length-map c.args.taken.now (λ v. symbols_of v.items))) (omega (arith, length-map c.args.hypotheses.now mandatory_of, c.loop-place-test.false)) (c.loop-place.invariant typings)
+    matches_all (given_by c.loop-place.given es) hs es c.loop-place.place
+    (omega (arith, c.requires, length-map c.args.hypotheses.now mandatory_of, length-map c.args.taken.now (λ v. symbols_of v.items)))
+    (omega (arith, length-map c.args.hypotheses.now mandatory_of, c.loop-place-test.false))
+    (c.loop-place.invariant typings)

@@ -14,5 +14,6 @@ returns-in-None c =
     let given = given_by c.args.self.now (stack_of c.args.taken.now) in
     let entry = symbols_of c.args.entry.now in
     let symbol = c.symbol-item.result in
-    let missing : StandsAt (replacement given (named_symbol (get_or c.args.expression.now c.loop-symbol.symbol-index symbol))) entry c.loop-symbol.at None = subst (λ (s : NamedSymbol). (rest : List Symbol) → drop c.loop-symbol.at entry ≢ replacement given (named_symbol s) ++ rest) c.symbol-item.is c.in-None.ensures in
+    let missing : StandsAt (replacement given (named_symbol (get_or c.args.expression.now c.loop-symbol.symbol-index symbol))) entry c.loop-symbol.at None =
+    subst (λ (s : NamedSymbol). (rest : List Symbol) → drop c.loop-symbol.at entry ≢ replacement given (named_symbol s) ++ rest) c.symbol-item.is c.in-None.ensures in
     (λ t. absurd (false≢true t), λ e. absurd (fits_not given c.args.expression.now entry c.loop-symbol.symbol-index c.loop-symbol.at symbol c.loop-symbol-test.true c.loop-symbol.invariant missing e))

@@ -42,7 +42,9 @@ invariant_of-self-2 c =
     let tail = subst (λ tail. HasWords tail []) (sym c.in_ok-file.ensures.tail) (tail_of (map (λ text. text.items) c.args.cut.pieces.items) c.args.cut.tail.items c.requires.pieces) in
     let starts : AreStarts (map (λ piece. piece.text.items) new) entry.1.starts.items = subst (λ (ps : List PieceText). AreStarts (map (λ piece. piece.text.items) ps) entry.1.starts.items) c.deref.ensures.value c.in_ok-file.ensures.starts in
     let bytes = inside.bytes + c.args.bytes in
-    let counted : bytes ≡ length (concat (map (λ piece. piece.text.items) new) ++ entry.1.tail.items) = omega (arith, empty, c.self.invariant.counted, c.requires.counted, ap (λ texts. length (concat texts ++ entry.1.tail.items)) c.in_ok-kept.ensures.texts, ap (λ tail. length (concat (map (λ text. text.items) c.args.cut.pieces.items) ++ tail)) c.in_ok-file.ensures.tail) in
+    let given = ap (λ texts. length (concat texts ++ entry.1.tail.items)) c.in_ok-kept.ensures.texts in
+    let behind = ap (λ tail. length (concat (map (λ text. text.items) c.args.cut.pieces.items) ++ tail)) c.in_ok-file.ensures.tail in
+    let counted : bytes ≡ length (concat (map (λ piece. piece.text.items) new) ++ entry.1.tail.items) = omega (arith, empty, c.self.invariant.counted, c.requires.counted, given, behind) in
     let within : bytes ≤ 4294967295 = omega (arith, empty, c.self.invariant.counted, c.requires.fits) in
     let all = file_added old new entry keys first kept c.in_ok-kept.ensures.kept tail starts bytes counted within in
     subst (λ es. AreKept es c.append.new.self.items bytes) (sym entries) (subst (λ ps. AreKept (entry ∷ []) ps bytes) (sym pieces) all)

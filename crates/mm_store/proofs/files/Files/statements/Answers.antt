@@ -11,6 +11,9 @@ use Rattle.mm_store.specs.Expansion.{IsExpansion}
 use Rattle.mm_store.specs.Gains.{FileGains}
 use Rattle.mm_store.proofs.FilesLemmas.{number_is, file_small}
 use Rattle.mm_store.proofs.GainLemmas.{only_top, not_no_top}
+use Rattle.mm_store.specs.FileFacts.{HaveOwnKeys}
+use Rattle.mm_store.proofs.NameLemmas.{HoldUnits, expansion_names}
+use Rattle.mm_store.proofs.HeldLemmas.{keys_held, units_held}
 use Rattle.mm_store.proofs.StandLemmas.{expansion_read, expansion_stands}
 use Rattle.mm_store.proofs.CountLemmas.{placed_few}
 use Rattle.mm_store.proofs.files.Files.statements.Goals as goal
@@ -45,7 +48,16 @@ returns-in_ok-expand_file-in-Some-clause-items c =
     let after = c.in_ok-expand_file-in-Some.ensures.0 in
     let g = subst (λ pieces. FileGains c.in-Some.number pieces (c.args.top.now ∷ []) after items) (ap (λ texts. map (piece_of texts) c.deref.result.now) c.deref-in-Some.ensures.value ∙ ap (map (piece_of texts)) c.deref.ensures.value) c.in_ok-expand_file-in-Some.ensures.1 in
     let one : length files ≤ 1 = omega (arith, length-map inside.files.entries (file_of texts), c.self.invariant.one_file) in
-    let is : IsExpansion files c.args.top.now g.gains.gained = record { number = c.in-Some.number; file = file_of texts entry; is_top = is_top; there = there; parts = g.placed; placed = g.are_placed; after = after; expands = g.gains.expands files (only_top files c.args.top.now c.in-Some.number one is_top) } in
+    let is : IsExpansion files c.args.top.now g.gains.gained = record {
+      number = c.in-Some.number;
+      file = file_of texts entry;
+      is_top = is_top;
+      there = there;
+      parts = g.placed;
+      placed = g.are_placed;
+      after = after;
+      expands = g.gains.expands files (only_top files c.args.top.now c.in-Some.number one is_top);
+    } in
     subst (λ (view : FilesView). IsExpansion view.files c.args.top.now items) c.self.view_is (subst (λ items. IsExpansion files c.args.top.now items) (sym g.gains.more) is)
 
 pub returns-in_ok-expand_file-in-Some-clause-few : goal.returns-in_ok-expand_file-in-Some-clause-few
@@ -75,3 +87,13 @@ returns-in_ok-expand_file-in-Some-clause-stand c =
 pub returns-in_ok-expand_file-in-Some-clause-read : goal.returns-in_ok-expand_file-in-Some-clause-read
 returns-in_ok-expand_file-in-Some-clause-read c =
     expansion_read c.parts_are_texts.ensures c.args.self.now c.args.top.now c.in_ok-expand_file-in-Some.field-0.items (returns-in_ok-expand_file-in-Some-clause-items c)
+
+pub returns-in_ok-expand_file-in-Some-clause-missing : goal.returns-in_ok-expand_file-in-Some-clause-missing
+returns-in_ok-expand_file-in-Some-clause-missing c =
+    let inside = c.self.inside in
+    let pieces = inside.pieces.items in
+    let files = files_of pieces inside.files.entries in
+    let hold : HoldUnits files = units_held pieces inside.files.entries c.self.invariant.files c.self.invariant.texts in
+    let keys : HaveOwnKeys (record { files = files }) = keys_held pieces inside.files.entries c.self.invariant.files in
+    expansion_names c.one_meaning.ensures.words c.one_division.ensures.units c.words_stand_alone.ensures.statement c.args.self.now c.args.top.now c.in_ok-expand_file-in-Some.field-0.items
+    (subst (λ (view : FilesView). HoldUnits view.files) c.self.view_is hold) (subst HaveOwnKeys c.self.view_is keys) (returns-in_ok-expand_file-in-Some-clause-items c)
