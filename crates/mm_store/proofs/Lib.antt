@@ -11,3 +11,4 @@ pub mod NameLemmas
 pub mod HeldLemmas
 pub mod StandLemmas
 pub mod Rows
+pub mod OffsetLemmas

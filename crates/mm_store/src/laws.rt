@@ -1,9 +1,9 @@
 //! What holds of all files. Each function does nothing; what it promises is the law.
 
-ghost use Rattle.std.specs.Prelude.{◌≡◌, ℕ, All, List, map};
+ghost use Rattle.std.specs.Prelude.{◌≡◌, ◌≤◌, ℕ, All, List, length, map};
 ghost use Rattle.mm_store.specs.declared.item.Item.{Item};
 ghost use Rattle.mm_store.specs.FilesView.{FileView, FilesView, no_files};
-ghost use Rattle.mm_store.specs.FileFacts.{CanBeRead, HaveOwnKeys, IsAdded, StandsIn};
+ghost use Rattle.mm_store.specs.FileFacts.{CanBeRead, HaveOwnKeys, IsAdded, IsByte, StandsIn};
 ghost use Rattle.mm_store.specs.Expansion.{IsExpansion};
 ghost use Rattle.mm_store.specs.Keyless.{keyless_file, keyless_item};
 
@@ -42,3 +42,8 @@ pub fn keys_do_not_matter()
     mm_text::one_division();
     mm_text::one_cut();
 }
+
+/// A byte of a piece, or the end of the piece, stands in the text of its file, or at its end.
+pub fn bytes_are_within()
+    ensures { (files : FilesView) (number piece at : ℕ) (text : List ℕ) (offset : ℕ) → IsByte files number piece at text offset → offset ≤ length text }
+{}

@@ -20,7 +20,7 @@ mod start;
 pub use error::StoreError;
 pub use files::{Files, PieceKey};
 pub use item::{Item, ItemKind};
-pub use laws::{items_stand, keys_are_own, keys_do_not_matter, one_expansion};
+pub use laws::{bytes_are_within, items_stand, keys_are_own, keys_do_not_matter, one_expansion};
 pub use mm_text::{Keyword, Place, TextFault, TextNumber, Word, WordKind, nth_word, place};
 pub use room::fits;
 

@@ -1,24 +1,35 @@
 -- A text has one answer: one report or one error of its own.
 use Rattle.std.proofs.Common.{◌≡◌, ◌↔◌, ℕ, zero, suc, ◌<◌, Bool, true, false, ◌&&◌, IsTrue, Option, is_none, List, [], ◌∷◌, length, take, get_or, slice_get, Some, refl, sym, ◌∙◌, ap, subst, ext_get_or, arith}
+use Rattle.std.specs.List.{AllByRecursion}
 use Rattle.std.proofs.lemmas.Option.{slice_get-get_or, none-some, same_Some}
 use Rattle.mm_text.specs.declared.fault.TextFault.{TextFault}
+use Rattle.mm_text.specs.declared.location.Place.{Place}
 use Rattle.mm_text.specs.Cut.{IsFirstFault}
+use Rattle.mm_text.specs.Place.{line_at, column_at}
 use Rattle.mm_store.specs.FilesView.{FilesView, no_files}
+use Rattle.mm_store.specs.declared.error.StoreError.{StoreError}
+use Rattle.mm_store.specs.declared.error.StoreError.TheVariants.{TooMany}
 use Rattle.mm_store.specs.Answers.{HasTooMany}
-use Rattle.mm_store.proofs.FilesLemmas.{kept_at}
 use Rattle.mm_frame.specs.Base.{BaseView, told_fault, fault_at, is_sound_at, said_at}
 use Rattle.mm_frame.specs.Item.{Kind, Axiom, Theorem, Item, is_assertion, is_theorem, item_at}
 use Rattle.mm_frame.specs.Sound.{kept}
 use Rattle.mm_frame.specs.declared.FrameNumber.{FrameNumber}
 use Rattle.mmkeep.specs.declared.fault.FirstError.{FirstError}
-use Rattle.mmkeep.specs.declared.fault.FirstError.TheVariants.{Text, TooMany, Later, Memory, Write}
+use Rattle.mmkeep.specs.declared.fault.FirstError.TheVariants.{Text, Store, Later, Write}
+use Rattle.mmkeep.specs.FirstErrors.{IsAnswerToText, IsToldOfText}
 use Rattle.mmkeep.specs.Later.{unread_word, IsRead, AreRead, IsFirstUnread}
 use Rattle.mm_proof.specs.Proved.{IsProved}
-use Rattle.mmkeep.specs.Report.{Shown, Told, Quiet, AnAxiom, Proved, Wrong, Fault, IsTold as IsToldOf, IsFaultOf, AreTold, lines, report}
-use Rattle.mmkeep.specs.Verified.{IsReport, IsUnreadAt, IsTold}
+use Rattle.mmkeep.specs.Report.{Shown, Told, Quiet, AnAxiom, Proved, Wrong, Fault, IsRightlyTold, IsFaultOf, AreRightlyTold, lines, report}
+use Rattle.mmkeep.specs.Verified.{IsReport, IsUnreadAt, IsPlaceIn}
 use Rattle.mmkeep.proofs.DatabaseLemmas.{Laws, Database, same_items, same_place, same_shown_word, database_or_fault, database_or_too_many}
 
 -- ---- the first item that is not read
+
+-- what holds of each item holds of one
+kept_at : {X : Type 0} (P : X → Type 0) (xs : List X) (n : ℕ) (x : X) → slice_get xs n ≡ Some x → AllByRecursion P xs → P x
+kept_at P [] n x there h = cc
+kept_at P (y ∷ xs) zero x there h = subst P (same_Some y x there) h.0
+kept_at P (y ∷ xs) (suc n) x there h = kept_at P xs n x there h.1
 
 -- an item before a place is one of the items taken up to it
 taken_at : {X : Type 0} (xs : List X) (m n : ℕ) (x : X) → m < n → slice_get xs m ≡ Some x → slice_get (take n xs) m ≡ Some x
@@ -66,23 +77,39 @@ same_unread_at laws a b f g =
 fault_or_too_many : Laws → (text : List ℕ) (fault : TextFault) → IsFirstFault text fault → ¬ HasTooMany no_files text
 fault_or_too_many laws text fault f g = laws.cut_or_fault text g.pieces g.tail fault g.is_cut f
 
-pub same_error : Laws → (name text : List ℕ) (a b : FirstError) → IsTold name text a → IsTold name text b → a ≡ b
-same_error laws name text (Text a) (Text b) f g = ap Text (laws.fault text a b f g)
-same_error laws name text (Text a) TooMany f g = absurd (fault_or_too_many laws text a f g)
-same_error laws name text (Text a) (Later b) f g = absurd (database_or_fault laws (unread_database g) a f)
-same_error laws name text TooMany (Text b) f g = absurd (fault_or_too_many laws text b g f)
-same_error laws name text TooMany TooMany f g = refl
-same_error laws name text TooMany (Later b) f g = absurd (database_or_too_many (unread_database g) f)
-same_error laws name text (Later a) (Text b) f g = absurd (database_or_fault laws (unread_database f) b g)
-same_error laws name text (Later a) TooMany f g = absurd (database_or_too_many (unread_database f) g)
-same_error laws name text (Later a) (Later b) f g = ap Later (same_unread_at laws a b f g)
-same_error laws name text (Text a) Memory f g = absurd g
-same_error laws name text (Text a) Write f g = absurd g
-same_error laws name text TooMany Memory f g = absurd g
-same_error laws name text TooMany Write f g = absurd g
-same_error laws name text (Later a) Memory f g = absurd g
+-- one byte has one place
+one_place : (text : List ℕ) (a b : ℕ) (place other : Place) → a ≡ b → IsPlaceIn text a place → IsPlaceIn text b other → place ≡ other
+one_place text a b place other same f g =
+    let row : place.line ≡ other.line = f.line ∙ ap (line_at text) same ∙ sym g.line in
+    let column : place.column ≡ other.column = f.column ∙ ap (column_at text) same ∙ sym g.column in
+    (λ i. record { line = row i; column = column i })
+
+-- nothing else is answered to the text itself
+answered : (text : List ℕ) (error : StoreError) → IsAnswerToText text error → HasTooMany no_files text
+answered text TooMany f = f
+answered text _ f = absurd f
+
+one_answered : (text : List ℕ) (a b : StoreError) → IsAnswerToText text a → IsAnswerToText text b → a ≡ b
+one_answered text TooMany TooMany f g = refl
+one_answered text TooMany _ f g = absurd g
+one_answered text _ b f g = absurd f
+
+pub same_error : Laws → (name text : List ℕ) (a b : FirstError) → IsToldOfText name text a → IsToldOfText name text b → a ≡ b
+same_error laws name text (Text a place) (Text b other) f g =
+    let fault : a ≡ b = laws.fault text a b f.0 g.0 in
+    let there : place ≡ other = one_place text a.at b.at place other (ap (λ (x : TextFault). x.at) fault) f.2 g.2 in
+    (λ i. Text (fault i) (there i))
+same_error laws name text (Text a place) (Store b) f g = absurd (fault_or_too_many laws text a f.0 (answered text b g))
+same_error laws name text (Text a place) (Later b) f g = absurd (database_or_fault laws (unread_database g.1) a f.0)
+same_error laws name text (Text a place) Write f g = absurd g
+same_error laws name text (Store a) (Text b place) f g = absurd (fault_or_too_many laws text b g.0 (answered text a f))
+same_error laws name text (Store a) (Store b) f g = ap Store (one_answered text a b f g)
+same_error laws name text (Store a) (Later b) f g = absurd (database_or_too_many (unread_database g.1) (answered text a f))
+same_error laws name text (Store a) Write f g = absurd g
+same_error laws name text (Later a) (Text b place) f g = absurd (database_or_fault laws (unread_database f.1) b g.0)
+same_error laws name text (Later a) (Store b) f g = absurd (database_or_too_many (unread_database f.1) (answered text b g))
+same_error laws name text (Later a) (Later b) f g = ap Later (one_place text f.0 g.0 a b (same_unread_at laws f.0 g.0 f.1 g.1) f.2 g.2)
 same_error laws name text (Later a) Write f g = absurd g
-same_error laws name text Memory b f g = absurd f
 same_error laws name text Write b f g = absurd f
 
 -- ---- what is told of one item
@@ -122,7 +149,7 @@ theorem_class true _ e = absurd (cc)
 fault_class : (fault : Option (ℕ × FrameNumber)) (kind : Kind) (one : ℕ × FrameNumber) → fault ≡ Some one → 0 ≡ class_of (is_none fault) kind
 fault_class fault kind one e = sym (ap (λ (f : Option (ℕ × FrameNumber)). class_of (is_none f) kind) e)
 
-told_class : (files : FilesView) (view : BaseView) (n : ℕ) (one : Told) → IsToldOf files view n one → class_told one ≡ class_at view n
+told_class : (files : FilesView) (view : BaseView) (n : ℕ) (one : Told) → IsRightlyTold files view n one → class_told one ≡ class_at view n
 told_class files view n Quiet f = quiet_class (is_sound_at view n) (said_at view n).kind f.sound f.kind
 told_class files view n AnAxiom f = axiom_class (is_sound_at view n) (said_at view n).kind f.sound f.kind
 told_class files view n Proved f = theorem_class (is_sound_at view n) (said_at view n).kind f.0
@@ -134,7 +161,7 @@ told_class files view n (Fault number shown) f = fault_class (fault_at view n) (
 same_fault_at : {name text : List ℕ} → Laws → (a b : Database name text) (n : ℕ) → fault_at a.view n ≡ fault_at b.view n
 same_fault_at laws a b n = ap (λ items. told_fault (kept (take n items)) (item_at items n)) (same_items laws a b)
 
-same_class : {name text : List ℕ} → Laws → (a b : Database name text) (n : ℕ) (one other : Told) → IsToldOf a.files a.view n one → IsToldOf b.files b.view n other → class_told one ≡ class_told other
+same_class : {name text : List ℕ} → Laws → (a b : Database name text) (n : ℕ) (one other : Told) → IsRightlyTold a.files a.view n one → IsRightlyTold b.files b.view n other → class_told one ≡ class_told other
 same_class laws a b n one other f g =
     let classes : class_at a.view n ≡ class_at b.view n = (λ i. class_of (is_none (same_fault_at laws a b n i)) (item_at (same_items laws a b i) n).kind) in
     told_class a.files a.view n one f ∙ classes ∙ sym (told_class b.files b.view n other g)
@@ -152,7 +179,7 @@ same_fault laws a b n number other shown there f g =
     let same : shown ≡ there = same_shown_word laws a b n f.word g.word f.item g.item shown there word f.there g.there f.is_shown g.is_shown in
     (λ i. Fault (numbers i) (same i))
 
-same_told_by : {name text : List ℕ} → Laws → (a b : Database name text) (n : ℕ) (one other : Told) → class_told one ≡ class_told other → IsToldOf a.files a.view n one → IsToldOf b.files b.view n other → one ≡ other
+same_told_by : {name text : List ℕ} → Laws → (a b : Database name text) (n : ℕ) (one other : Told) → class_told one ≡ class_told other → IsRightlyTold a.files a.view n one → IsRightlyTold b.files b.view n other → one ≡ other
 same_told_by laws a b n Quiet Quiet same f g = refl
 same_told_by laws a b n AnAxiom AnAxiom same f g = refl
 same_told_by laws a b n Proved Proved same f g = refl
@@ -162,12 +189,12 @@ same_told_by laws a b n Wrong Wrong same f g = refl
 same_told_by laws a b n (Fault number shown) (Fault other there) same f g = same_fault laws a b n number other shown there f g
 same_told_by laws a b n one other same f g = absurd (omega arith)
 
-same_told : {name text : List ℕ} → Laws → (a b : Database name text) (n : ℕ) (one other : Told) → IsToldOf a.files a.view n one → IsToldOf b.files b.view n other → one ≡ other
+same_told : {name text : List ℕ} → Laws → (a b : Database name text) (n : ℕ) (one other : Told) → IsRightlyTold a.files a.view n one → IsRightlyTold b.files b.view n other → one ≡ other
 same_told laws a b n one other f g = same_told_by laws a b n one other (same_class laws a b n one other f g) f g
 
 -- ---- one report
 
-same_all_told : {name text : List ℕ} → Laws → (a b : Database name text) (all others : List Told) → AreTold a.files a.view all → AreTold b.files b.view others → all ≡ others
+same_all_told : {name text : List ℕ} → Laws → (a b : Database name text) (all others : List Told) → AreRightlyTold a.files a.view all → AreRightlyTold b.files b.view others → all ≡ others
 same_all_told laws a b all others f g =
     let counts : length a.view.said ≡ length b.view.said = ap length (same_items laws a b) in
     ext_get_or Quiet all others (f.count ∙ counts ∙ sym g.count) (λ n within.
@@ -197,9 +224,8 @@ same_report laws name text clean other a b f g =
 
 -- ---- a report, or an error
 
-pub report_or_error : Laws → (name text : List ℕ) (clean : Bool) (bytes : List ℕ) (error : FirstError) → IsReport name text clean bytes → ¬ IsTold name text error
-report_or_error laws name text clean bytes (Text fault) f g = database_or_fault laws (report_database f) fault g
-report_or_error laws name text clean bytes TooMany f g = database_or_too_many (report_database f) g
-report_or_error laws name text clean bytes (Later at) f g = read_or_unread laws (report_database f) f.read g
-report_or_error laws name text clean bytes Memory f g = g
+pub report_or_error : Laws → (name text : List ℕ) (clean : Bool) (bytes : List ℕ) (error : FirstError) → IsReport name text clean bytes → ¬ IsToldOfText name text error
+report_or_error laws name text clean bytes (Text fault place) f g = database_or_fault laws (report_database f) fault g.0
+report_or_error laws name text clean bytes (Store error) f g = database_or_too_many (report_database f) (answered text error g)
+report_or_error laws name text clean bytes (Later place) f g = read_or_unread laws (report_database f) f.read g.1
 report_or_error laws name text clean bytes Write f g = g

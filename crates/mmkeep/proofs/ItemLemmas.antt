@@ -10,7 +10,7 @@ use Rattle.mm_frame.specs.Kept.{IsBase}
 use Rattle.mm_frame.specs.Statement.{Says}
 use Rattle.mm_frame.specs.declared.base.Base.{Base}
 use Rattle.mm_proof.specs.OfFiles.{IsOf, HasItemOf}
-use Rattle.mmkeep.specs.Report.{Told, IsTold}
+use Rattle.mmkeep.specs.Report.{Told, IsRightlyTold}
 use Rattle.mmkeep.proofs.PlaceLemmas.{zip_found}
 
 -- what it says
@@ -34,7 +34,7 @@ stands_at files code n item has e =
 -- so many are told rightly
 pub record ToldUpTo (files : FilesView) (view : BaseView) (n : ℕ) (all : List Told) : Type 0 where
   pub count : length all ≡ n
-  pub each : (k : ℕ) (one : Told) → slice_get all k ≡ Some one → IsTold files view k one
+  pub each : (k : ℕ) (one : Told) → slice_get all k ≡ Some one → IsRightlyTold files view k one
 
 -- an element of a list with one more
 pushed : {X : Type 0} (xs : List X) (x : X) (k : ℕ) (y : X) → slice_get (xs ++ x ∷ []) k ≡ Some y → (slice_get xs k ≡ Some y) ⊎ ((k ≡ length xs) × (x ≡ y))
@@ -43,11 +43,11 @@ pushed [] x (suc k) y e = cc
 pushed (z ∷ xs) x zero y e = inl e
 pushed (z ∷ xs) x (suc k) y e = elim (pushed xs x k y e) [ inl h ↦ inl h | inr h ↦ inr (ap suc h.0, h.1) ]
 
-pub told_more : (files : FilesView) (view : BaseView) (n : ℕ) (all : List Told) (one : Told) → IsTold files view n one → ToldUpTo files view n all → ToldUpTo files view (n + 1) (all ++ one ∷ [])
+pub told_more : (files : FilesView) (view : BaseView) (n : ℕ) (all : List Told) (one : Told) → IsRightlyTold files view n one → ToldUpTo files view n all → ToldUpTo files view (n + 1) (all ++ one ∷ [])
 told_more files view n all one t f = record {
   count = length-append all (one ∷ []) ∙ ap (λ k. k + 1) f.count;
   each = λ k other e. elim (pushed all one k other e) [
     | inl h ↦ f.each k other h
-    | inr h ↦ subst (λ m. IsTold files view m other) (sym (h.0 ∙ f.count)) (subst (IsTold files view n) h.1 t)
+    | inr h ↦ subst (λ m. IsRightlyTold files view m other) (sym (h.0 ∙ f.count)) (subst (IsRightlyTold files view n) h.1 t)
   ];
 }

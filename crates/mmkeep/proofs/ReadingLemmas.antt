@@ -9,8 +9,6 @@ use Rattle.mm_store.specs.FilesView.{FilesView, text_of}
 use Rattle.mm_store.specs.FileFacts.{CanBeRead, StandsIn, IsByte, IsLive, piece_offset}
 use Rattle.mmkeep.specs.Report.{start_of}
 
--- ---- the words of a proof
-
 -- ---- the byte of a word
 
 -- what a piece's text is that is read under the key of an item
@@ -34,7 +32,7 @@ module _ (files : FilesView) (item : store.Item) (read : CanBeRead files item) (
       let long : length (slice_range piece item.start item.end) ≡ item.end - item.start = length-take-le (item.end - item.start) (drop item.start piece) (omega (arith, length-drop item.start piece, item_within)) in
       omega (arith, h.some, h.within, read.some)
 
-  pub word_is_byte : (stands : StandsIn files item) (at : ℕ) → at < item.end → IsByte files item.file item.piece at (text_of stands.file) (piece_offset stands.file item.piece + at)
+  pub word_is_byte : (stands : StandsIn files item) (at : ℕ) → at ≤ item.end → IsByte files item.file item.piece at (text_of stands.file) (piece_offset stands.file item.piece + at)
   word_is_byte stands at less =
       let live : IsLive files item.key stands.text = record { number = item.file; file = stands.file; there = stands.there; piece = item.piece; is_piece = stands.is_piece } in
       record {

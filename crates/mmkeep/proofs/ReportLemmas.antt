@@ -1,9 +1,8 @@
 -- The lines of a report, one more at a time.
-use Rattle.std.proofs.Common.{◌≡◌, ℕ, Bool, false, Option, cond, zero-add, ◌+◌, ◌<◌, List, [], ◌∷◌, ◌++◌, length, take, drop, min, get_or, refl, sym, ◌∙◌, ap, subst, append_assoc, arith}
+use Rattle.std.proofs.Common.{◌≡◌, ℕ, Bool, false, Option, Result, cond, zero-add, ◌+◌, ◌<◌, List, [], ◌∷◌, ◌++◌, length, take, drop, min, get_or, refl, sym, ◌∙◌, ap, subst, append_assoc, arith}
 use Rattle.std.proofs.lemmas.List.Sums.{sum_by-cons}
 use Rattle.std.proofs.lemmas.List.{append-nil, take_more, length-take, length-take-le, length-map, get_or-map, take-append-drop}
 use Rattle.std.specs.Io.KnownBytes.{Appends}
-use Rattle.std.proofs.KnownBytes.{Appends-trans}
 use Rattle.mm_frame.specs.Item.{Item, passed}
 use Rattle.mm_frame.specs.Base.{BaseView, said_at}
 use Rattle.mm_frame.specs.Kept.{IsBase}
@@ -11,10 +10,14 @@ use Rattle.mm_frame.specs.declared.base.Base.{Base}
 use Rattle.mm_frame.specs.declared.FrameNumber.{FrameNumber}
 use Rattle.mmkeep.specs.declared.finding.Finding.{Finding}
 use Rattle.mmkeep.specs.declared.finding.Finding.TheVariants as code
-use Rattle.std.specs.Prelude.{count_by, codes, decimal}
-use Rattle.mmkeep.specs.Stream.{AppendsPart}
-use Rattle.mmkeep.proofs.StreamLemmas.{part_front, part_behind}
-use Rattle.mmkeep.specs.Report.{Told, Quiet, AnAxiom, Proved, Wrong, Fault, told, told_all, line, lines, fault_line, code_of, is_axiom, is_proved, is_wrong, is_fault, summary, report}
+use Rattle.std.specs.Prelude.{IsErr, count_by, codes, decimal}
+use Rattle.mmkeep.specs.declared.stream.Writing.{Writing}
+use Rattle.mmkeep.specs.declared.tally.Tally.{Tally}
+use Rattle.mmkeep.specs.Findings.{AreOfEach, counted, told, told_all}
+use Rattle.mmkeep.specs.Report.{Told, Quiet, AnAxiom, Proved, Wrong, Fault, Counts, counts, line, lines, fault_line, code_of}
+use Rattle.mmkeep.specs.Report.{is_wrong, is_fault, summary, report}
+use Rattle.mmkeep.specs.Stream.{Stops, Writes, written}
+use Rattle.mmkeep.proofs.StreamLemmas.{stops_front, stops_behind, writes_behind, writes_stop}
 
 -- ---- lines
 
@@ -42,14 +45,16 @@ lines_step file items all i x y e l =
     rw (take_more items i x in_items, take_more all i y l) (lines_push file (take i items) (take i all) (get_or items i x) (get_or all i y) lengths)
 
 -- one more item has its line, which tells its finding
-pub lines_more : (file : List ℕ) (items : List Item) (findings : List Finding) (i : ℕ) (x : Item) (y : Finding) → length findings ≡ length items → i < length findings → lines file (take (i + 1) items) (take (i + 1) (told_all findings)) ≡ lines file (take i items) (take i (told_all findings)) ++ line file (get_or items i x) (told (get_or findings i y))
+pub lines_more : (file : List ℕ) (items : List Item) (findings : List Finding) (i : ℕ) (x : Item) (y : Finding) → length findings ≡ length items → i < length findings
+    → lines file (take (i + 1) items) (take (i + 1) (told_all findings)) ≡ lines file (take i items) (take i (told_all findings)) ++ line file (get_or items i x) (told (get_or findings i y))
 lines_more file items findings i x y e l =
     let count : length (told_all findings) ≡ length findings = length-map findings told in
     let one : get_or (told_all findings) i (told y) ≡ told (get_or findings i y) = get_or-map told findings i y (told y) l in
     lines_step file items (told_all findings) i x (told y) (count ∙ e) (omega arith) ∙ ap (λ (t : Told). lines file (take i items) (take i (told_all findings)) ++ line file (get_or items i x) t) one
 
 -- the lines of the items before one, its own, and those of the items behind it
-pub lines_at : (file : List ℕ) (items : List Item) (findings : List Finding) (i : ℕ) (x : Item) (y : Finding) → length findings ≡ length items → i < length findings → lines file items (told_all findings) ≡ lines file (take i items) (take i (told_all findings)) ++ line file (get_or items i x) (told (get_or findings i y)) ++ lines file (drop (i + 1) items) (drop (i + 1) (told_all findings))
+pub lines_at : (file : List ℕ) (items : List Item) (findings : List Finding) (i : ℕ) (x : Item) (y : Finding) → length findings ≡ length items → i < length findings
+    → lines file items (told_all findings) ≡ lines file (take i items) (take i (told_all findings)) ++ line file (get_or items i x) (told (get_or findings i y)) ++ lines file (drop (i + 1) items) (drop (i + 1) (told_all findings))
 lines_at file items findings i x y e l =
     sym (lines_split file items (told_all findings) (i + 1) (length-map findings told ∙ e)) ∙ ap (λ bytes. bytes ++ lines file (drop (i + 1) items) (drop (i + 1) (told_all findings))) (lines_more file items findings i x y e l)
 
@@ -93,12 +98,18 @@ some_line file (x ∷ xs) (Proved ∷ ys) e l = none_more Proved ys refl refl (s
 
 -- ---- the summary
 
-abbrev pub counted : List ℕ → ℕ → List ℕ
-counted name number = name ++ decimal number
+-- what is counted, and how many there are
+abbrev pub named_count : List ℕ → ℕ → List ℕ
+named_count name number = name ++ decimal number
 
 -- the summary as it is written, part by part
-pub summary_parts : (axioms proved wrong faults : ℕ) → summary axioms proved wrong faults ≡ counted (codes "axioms ") axioms ++ (counted (codes " theorems ") (proved + wrong) ++ (counted (codes " proved ") proved ++ (counted (codes " incomplete 0 wrong ") wrong ++ (counted (codes " faults ") faults ++ codes "\n"))))
-summary_parts axioms proved wrong faults = simp append_assoc
+pub summary_parts : (tally : Tally) → summary (counted tally)
+    ≡ named_count (codes "axioms ") tally.axioms
+    ++ (named_count (codes " theorems ") (tally.proved + tally.wrong)
+    ++ (named_count (codes " proved ") tally.proved
+    ++ (named_count (codes " incomplete 0 wrong ") tally.wrong
+    ++ (named_count (codes " faults ") tally.faults ++ codes "\n"))))
+summary_parts tally = simp append_assoc
 
 -- ---- the line of a fault
 
@@ -111,35 +122,32 @@ pub place_parts : (row column : ℕ) → placed row column ≡ decimal row ++ (c
 place_parts row column = simp append_assoc
 
 -- the line of a fault as it is written, part by part
-pub fault_parts : (file : List ℕ) (number : FrameNumber) (row column : ℕ) (word : List ℕ) → fault_line file number (record { line = row; column = column; word = word }) ≡ codes "fault " ++ ((file ++ codes ":") ++ (placed row column ++ ((code_of number ++ codes " ") ++ (word ++ codes "\n"))))
+pub fault_parts : (file : List ℕ) (number : FrameNumber) (row column : ℕ) (word : List ℕ)
+    → fault_line file number (record { line = row; column = column; word = word }) ≡ codes "fault " ++ ((file ++ codes ":") ++ (placed row column ++ ((code_of number ++ codes " ") ++ (word ++ codes "\n"))))
 fault_parts file number row column word = simp append_assoc
 
 -- ---- what is written of the lines and the report
 
--- some of these bytes are written, for each base that the code keeps with as many items as there are findings
-abbrev pub Written : Base → List Finding → (BaseView → Type 0) → Type 0
-Written base findings says = (view : BaseView) → IsBase view base → length findings ≡ length view.said → says view
+module _ {W : Type 0} (contents : W → Option (List ℕ)) (file : List ℕ) (base : Base) (findings : List Finding) where
+  -- for each base that the code keeps, with as many items as there are findings
+  abbrev pub ForEach : (BaseView → Type 0) → Type 0
+  ForEach says = (view : BaseView) → AreOfEach findings base view → says view
 
--- a part of one line behind those before it is a part of all lines
-pub lines_part : (a b c : Option (List ℕ)) (file : List ℕ) (base : Base) (findings : List Finding) (i : ℕ) → i < length findings → Written base findings (λ view. Appends a b (lines file (take i view.said) (take i (told_all findings)))) → ((view : BaseView) → IsBase view base → AppendsPart b c (line file (said_at view i) (told (get_or findings i code.Quiet)))) → Written base findings (λ view. AppendsPart a c (lines file view.said (told_all findings)))
-lines_part a b c file base findings i within before here view is count =
-    rw (lines_at file view.said findings i passed code.Quiet count within) (part_front _ _ _ _ (part_behind _ _ _ _ _ (before view is count) (here view is)))
+  -- a write that fails in one line, behind those before it, fails in the lines
+  pub lines_stop : {T E : Type 0} (a b c : Writing W) (r : Result T E) (i : ℕ) → i < length findings → IsErr r
+      → ForEach (λ view. Appends (written contents a) (written contents b) (lines file (take i view.said) (take i (told_all findings))))
+      → ((view : BaseView) → IsBase view base → Stops contents b c (line file (said_at view i) (told (get_or findings i code.Quiet))))
+      → ForEach (λ view. Writes contents a c r (lines file view.said (told_all findings)))
+  lines_stop a b c r i within failed before here view is =
+      rw (lines_at file view.said findings i passed code.Quiet is.count within)
+      (writes_stop failed (stops_front _ (stops_behind contents a b c _ _ (before view is) (here view is.base))))
 
--- a part of the lines is one of the report
-pub report_front : (a b : Option (List ℕ)) (file : List ℕ) (base : Base) (findings : List Finding) → Written base findings (λ view. AppendsPart a b (lines file view.said (told_all findings))) → Written base findings (λ view. AppendsPart a b (report file view.said (told_all findings)))
-report_front a b file base findings p view is count = part_front _ _ _ _ (p view is count)
+  -- so it does in the report
+  pub report_stop : {T E : Type 0} (a b : Writing W) (r : Result T E) → IsErr r → ForEach (λ view. Stops contents a b (lines file view.said (told_all findings))) → ForEach (λ view. Writes contents a b r (report file view.said (told_all findings)))
+  report_stop a b r failed lines view is = writes_stop failed (stops_front _ (lines view is))
 
--- the summary of some findings
-abbrev pub summed : List Finding → List ℕ
-summed findings = summary (count_by (λ finding. is_axiom (told finding)) findings) (count_by (λ finding. is_proved (told finding)) findings) (count_by (λ finding. is_wrong (told finding)) findings) (count_by (λ finding. is_fault (told finding)) findings)
-
-summed_told : (all : List Finding) → summed all ≡ summary (count_by is_axiom (told_all all)) (count_by is_proved (told_all all)) (count_by is_wrong (told_all all)) (count_by is_fault (told_all all))
-summed_told all = rw (count_told is_axiom all, count_told is_proved all, count_told is_wrong all, count_told is_fault all) refl
-
--- the summary behind the lines is the report
-pub report_whole : (a b c : Option (List ℕ)) (file : List ℕ) (base : Base) (findings : List Finding) → Written base findings (λ view. Appends a b (lines file view.said (told_all findings))) → Appends b c (summed findings) → Written base findings (λ view. Appends a c (report file view.said (told_all findings)))
-report_whole a b c file base findings before last view is count = Appends-trans _ _ _ _ _ (before view is count) (subst (Appends b c) (summed_told findings) last)
-
--- and a part of the summary behind them is one of the report
-pub report_behind : (a b c : Option (List ℕ)) (file : List ℕ) (base : Base) (findings : List Finding) → Written base findings (λ view. Appends a b (lines file view.said (told_all findings))) → AppendsPart b c (summed findings) → Written base findings (λ view. AppendsPart a c (report file view.said (told_all findings)))
-report_behind a b c file base findings before last view is count = part_behind _ _ _ _ _ (before view is count) (subst (AppendsPart b c) (summed_told findings) last)
+  -- and the summary is written behind the lines
+  pub report_then : {T E : Type 0} (a b c : Writing W) (r : Result T E) (last : Counts) → last ≡ counts (told_all findings)
+      → ForEach (λ view. Appends (written contents a) (written contents b) (lines file view.said (told_all findings))) → Writes contents b c r (summary last)
+      → ForEach (λ view. Writes contents a c r (report file view.said (told_all findings)))
+  report_then a b c r last same before w view is = writes_behind contents a b c r _ _ (before view is) (subst (λ n. Writes contents b c r (summary n)) same w)

@@ -1,8 +1,9 @@
 pub mod Later
 pub mod Stream
 pub mod Report
+pub mod Findings
 pub mod Base
 pub mod Verified
-pub mod Errors
+pub mod FirstErrors
 pub mod Asking
 pub mod Status

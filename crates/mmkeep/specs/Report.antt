@@ -1,5 +1,6 @@
 -- The report of a file: a line for each fault and for each theorem whose proof is wrong, and a line of counts.
-use Rattle.std.specs.Prelude.{◌≡◌, ◌+◌, ℕ, true, false, Bool, Option, Some, None, unwrap_or, List, [], ◌∷◌, ◌++◌, length, map, slice_get, slice_range, count_by, codes, decimal}
+use Rattle.std.specs.Prelude.{◌≡◌, ◌+◌, ℕ, true, false, Bool, Option, Some, None, unwrap_or}
+use Rattle.std.specs.Prelude.{List, [], ◌∷◌, ◌++◌, length, slice_get, slice_range, count_by, codes, decimal}
 use Rattle.mm_text.specs.declared.word.Word.{Word}
 use Rattle.mm_text.specs.Place.{line_at, column_at}
 use Rattle.mm_store.specs.declared.item.Item as store
@@ -9,8 +10,6 @@ use Rattle.mm_frame.specs.Base.{BaseView, fault_at, is_sound_at, is_proof_at, sa
 use Rattle.mm_frame.specs.Item.{Axiom, Item, is_assertion}
 use Rattle.mm_frame.specs.declared.FrameNumber.{FrameNumber}
 use Rattle.mm_frame.specs.declared.FrameNumber.TheVariants.{F01, F02, F03, F04, F05, F06, F07, F08, F09, F10, F11, F12, F13, F14}
-use Rattle.mmkeep.specs.declared.finding.Finding.{Finding}
-use Rattle.mmkeep.specs.declared.finding.Finding.TheVariants as code
 use Rattle.mm_proof.specs.Proved.{IsProved}
 
 -- A word as a line shows it: its place, and how it is spelled.
@@ -26,17 +25,6 @@ pub data Told : Type 0 where
   Proved : Told
   Wrong : Told
   Fault : FrameNumber → Shown → Told
-
--- what a finding tells
-abbrev pub told : Finding → Told
-told code.Quiet = Quiet
-told code.Axiom = AnAxiom
-told code.Proved = Proved
-told code.Wrong = Wrong
-told (code.Fault number place word) = Fault number (record { line = place.line; column = place.column; word = word.now })
-
-abbrev pub told_all : List Finding → List Told
-told_all findings = map told findings
 
 -- where the word with a number begins; 0 where there are fewer
 abbrev pub start_of : Option Word → ℕ
@@ -63,9 +51,9 @@ pub record IsShown (files : FilesView) (item : store.Item) (word : ℕ) (shown :
   pub column : shown.column ≡ column_at place.text at
   pub is_word : shown.word ≡ spelled (slice_range place.read.text item.start item.end) (slice_get place.read.words word)
 
--- the fault with this number, at this word of an item
-abbrev pub IsFaultAt : FilesView → store.Item → ℕ → FrameNumber → Told → Type 0
-IsFaultAt files item word number one = (shown : Shown) × (one ≡ Fault number shown) × IsShown files item word shown
+-- it tells the fault with this number, at this word of an item
+abbrev pub TellsFaultAt : FilesView → store.Item → ℕ → FrameNumber → Told → Type 0
+TellsFaultAt files item word number one = (shown : Shown) × (one ≡ Fault number shown) × IsShown files item word shown
 
 -- the fault of the item with this number, told at its word
 pub record IsFaultOf (files : FilesView) (view : BaseView) (n : ℕ) (number : FrameNumber) (shown : Shown) : Type 0 where
@@ -85,18 +73,19 @@ pub record IsAxiom (view : BaseView) (n : ℕ) : Type 0 where
   pub sound : is_sound_at view n ≡ true
   pub kind : (said_at view n).kind ≡ Axiom
 
--- what is told rightly of the item with this number: a sound theorem is proved where its labels derive its statement, and else wrong
-abbrev pub IsTold : FilesView → BaseView → ℕ → Told → Type 0
-IsTold files view n Quiet = IsQuiet view n
-IsTold files view n AnAxiom = IsAxiom view n
-IsTold files view n Proved = (is_proof_at view n ≡ true) × IsProved view.said n
-IsTold files view n Wrong = (is_proof_at view n ≡ true) × (¬ IsProved view.said n)
-IsTold files view n (Fault number shown) = IsFaultOf files view n number shown
+-- what is told rightly of the item with this number: a sound theorem is proved where its labels derive its statement,
+-- and else wrong
+abbrev pub IsRightlyTold : FilesView → BaseView → ℕ → Told → Type 0
+IsRightlyTold files view n Quiet = IsQuiet view n
+IsRightlyTold files view n AnAxiom = IsAxiom view n
+IsRightlyTold files view n Proved = (is_proof_at view n ≡ true) × IsProved view.said n
+IsRightlyTold files view n Wrong = (is_proof_at view n ≡ true) × (¬ IsProved view.said n)
+IsRightlyTold files view n (Fault number shown) = IsFaultOf files view n number shown
 
 -- what is told rightly of each item
-pub record AreTold (files : FilesView) (view : BaseView) (all : List Told) : Type 0 where
+pub record AreRightlyTold (files : FilesView) (view : BaseView) (all : List Told) : Type 0 where
   pub count : length all ≡ length view.said
-  pub each : (n : ℕ) (one : Told) → slice_get all n ≡ Some one → IsTold files view n one
+  pub each : (n : ℕ) (one : Told) → slice_get all n ≡ Some one → IsRightlyTold files view n one
 
 abbrev pub is_axiom : Told → Bool
 is_axiom AnAxiom = true
@@ -133,7 +122,9 @@ code_of F14 = codes "F14"
 
 -- the line of a fault: the file, the place, the number and the word
 abbrev pub fault_line : List ℕ → FrameNumber → Shown → List ℕ
-fault_line file number shown = codes "fault " ++ file ++ codes ":" ++ decimal shown.line ++ codes ":" ++ decimal shown.column ++ codes " " ++ code_of number ++ codes " " ++ shown.word ++ codes "\n"
+fault_line file number shown =
+    codes "fault " ++ file ++ codes ":" ++ decimal shown.line ++ codes ":" ++ decimal shown.column ++ codes " "
+    ++ code_of number ++ codes " " ++ shown.word ++ codes "\n"
 
 -- the line of an item, if it has one
 abbrev pub line : List ℕ → Item → Told → List ℕ
@@ -147,9 +138,28 @@ lines file [] all = []
 lines file (item ∷ items) [] = []
 lines file (item ∷ items) (one ∷ all) = line file item one ++ lines file items all
 
+-- How many there are: sound `$a`, sound `$p` that are proved and that are wrong, and faults.
+pub record Counts : Type 0 where
+  pub axioms : ℕ
+  pub proved : ℕ
+  pub wrong : ℕ
+  pub faults : ℕ
+
+-- how many are told
+abbrev pub counts : List Told → Counts
+counts all = record {
+  axioms = count_by is_axiom all;
+  proved = count_by is_proved all;
+  wrong = count_by is_wrong all;
+  faults = count_by is_fault all;
+}
+
 -- the last line: the sound `$a`, the sound `$p`, how many of these are proved, incomplete and wrong, and the faults
-abbrev pub summary : ℕ → ℕ → ℕ → ℕ → List ℕ
-summary axioms proved wrong faults = codes "axioms " ++ decimal axioms ++ codes " theorems " ++ decimal (proved + wrong) ++ codes " proved " ++ decimal proved ++ codes " incomplete 0 wrong " ++ decimal wrong ++ codes " faults " ++ decimal faults ++ codes "\n"
+abbrev pub summary : Counts → List ℕ
+summary counts =
+    codes "axioms " ++ decimal counts.axioms ++ codes " theorems " ++ decimal (counts.proved + counts.wrong)
+    ++ codes " proved " ++ decimal counts.proved ++ codes " incomplete 0 wrong " ++ decimal counts.wrong
+    ++ codes " faults " ++ decimal counts.faults ++ codes "\n"
 
 abbrev pub report : List ℕ → List Item → List Told → List ℕ
-report file items all = lines file items all ++ summary (count_by is_axiom all) (count_by is_proved all) (count_by is_wrong all) (count_by is_fault all)
+report file items all = lines file items all ++ summary (counts all)

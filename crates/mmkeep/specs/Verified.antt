@@ -1,15 +1,13 @@
 -- What the verification of one file answers.
-use Rattle.std.specs.Prelude.{◌≡◌, ◌↔◌, ℕ, ◌<◌, ◌≤◌, Bool, IsTrue, Option, List, [], length}
-use Rattle.mm_text.specs.Cut.{IsFirstFault}
+use Rattle.std.specs.Prelude.{◌≡◌, ◌↔◌, ℕ, ◌≤◌, Bool, IsTrue, Option, List, [], length}
+use Rattle.mm_text.specs.declared.location.Place.{Place}
+use Rattle.mm_text.specs.Place.{line_at, column_at}
 use Rattle.mm_store.specs.FilesView.{FilesView, no_files, bytes_of}
 use Rattle.mm_store.specs.FileFacts.{IsAdded}
-use Rattle.mm_store.specs.Answers.{HasTooMany}
 use Rattle.mm_frame.specs.Base.{BaseView, IsOfFiles}
-use Rattle.mmkeep.specs.declared.fault.FirstError.{FirstError}
-use Rattle.mmkeep.specs.declared.fault.FirstError.TheVariants.{Text, TooMany, Later, Memory, Write}
 use Rattle.mmkeep.specs.Base.{IsWordOf}
 use Rattle.mmkeep.specs.Later.{AreRead, IsFirstUnread}
-use Rattle.mmkeep.specs.Report.{Told, AreTold, lines, report}
+use Rattle.mmkeep.specs.Report.{Told, AreRightlyTold, lines, report}
 use Rattle.mmkeep.specs.Stream.{AppendsPart}
 
 -- the text is the one file, and the top file, of this name, and not too long; its expansion has these items, which say this
@@ -25,7 +23,7 @@ pub record IsReport (name text : List ℕ) (clean : Bool) (bytes : List ℕ) : T
   pub database : IsDatabase name text files view
   pub read : AreRead view.said
   pub all : List Told
-  pub are_told : AreTold files view all
+  pub are_told : AreRightlyTold files view all
   pub bytes_are : bytes ≡ report name view.said all
   pub clean_is : IsTrue clean ↔ (lines name view.said all ≡ [])
 
@@ -46,26 +44,8 @@ pub record IsUnreadAt (name text : List ℕ) (at : ℕ) : Type 0 where
   pub unread : IsFirstUnread view.said n word
   pub place : IsWordOf files view n word at
 
--- when each error comes; want of memory and a failed write may come of any text
-abbrev pub IsErrorOf : List ℕ → List ℕ → FirstError → Type 0
-IsErrorOf name text (Text fault) = IsFirstFault text fault
-IsErrorOf name text TooMany = HasTooMany no_files text
-IsErrorOf name text (Later at) = IsUnreadAt name text at
-IsErrorOf name text Memory = Unit {0}
-IsErrorOf name text Write = Unit {0}
-
--- what is told of the text itself: its first fault, that it is too long, or what is not read yet
-abbrev pub IsTold : List ℕ → List ℕ → FirstError → Type 0
-IsTold name text (Text fault) = IsErrorOf name text (Text fault)
-IsTold name text TooMany = IsErrorOf name text TooMany
-IsTold name text (Later at) = IsErrorOf name text (Later at)
-IsTold name text Memory = ⊥
-IsTold name text Write = ⊥
-
--- the error is told at a byte of the text, or at its end
-abbrev pub IsErrorIn : List ℕ → FirstError → Type 0
-IsErrorIn text (Text fault) = fault.at < length text
-IsErrorIn text TooMany = Unit {0}
-IsErrorIn text (Later at) = at ≤ length text
-IsErrorIn text Memory = Unit {0}
-IsErrorIn text Write = Unit {0}
+-- the line and the column of a byte of the text, or of its end
+pub record IsPlaceIn (text : List ℕ) (at : ℕ) (place : Place) : Type 0 where
+  pub within : at ≤ length text
+  pub line : place.line ≡ line_at text at
+  pub column : place.column ≡ column_at text at

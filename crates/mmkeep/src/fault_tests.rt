@@ -18,7 +18,7 @@ fn tells_one(rt: &(impl AllocGlobal + Abort), row: &Row) -> Result<(), Fail> {
     let mut text = Vec::from_slice(rt.alloc(), START)?;
     text.extend_from_slice(behind.as_bytes())?;
     let mut writing = Writing::new(Vec::new(rt.alloc()));
-    let answer = verify_one(rt.alloc(), b"a.mm", &text, &mut writing);
+    let answer = verify_one(rt.alloc(), b"a.mm", text, &mut writing);
     assert_eq!(rt; answer, Ok(lines.is_empty()), "of {behind:?}");
     let written = writing.into_inner();
     assert!(rt; written.len() >= lines.len(), "of {behind:?}");

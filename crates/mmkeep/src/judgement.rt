@@ -6,7 +6,8 @@ ghost use Rattle.mm_store.specs.FileFacts.{CanBeRead, StandsIn};
 ghost use Rattle.mm_frame.specs.Base.{BaseView, is_proof_at};
 ghost use Rattle.mm_proof.specs.OfFiles.{IsOf, HasView, HasItemOf};
 ghost use Rattle.mmkeep.specs.Report as report;
-ghost use Rattle.mmkeep.specs.Report.{IsShown, IsTold, AreTold, IsFaultAt, told, told_all};
+ghost use Rattle.mmkeep.specs.Findings.{told, told_all};
+ghost use Rattle.mmkeep.specs.Report.{IsShown, IsRightlyTold, AreRightlyTold, TellsFaultAt};
 
 use crate::finding::Finding;
 use crate::reading::start_of;
@@ -51,7 +52,7 @@ fn spot_of<'a>(files: &'a Files, item: &Item, word: usize) -> Spot<'a>
 fn at_fault<'a>(files: &'a Files, item: &Item, fault: FrameFault) -> Finding<'a>
     requires read { CanBeRead files.now item.now }
     requires stands { StandsIn files.now item.now }
-    ensures { IsFaultAt files.now item.now fault.word fault.number (told result) }
+    ensures { TellsFaultAt files.now item.now fault.word fault.number (told result) }
 {
     let spot = spot_of(files, item, fault.word);
     Finding::Fault {
@@ -69,7 +70,8 @@ fn verdict<'a>(
     number: usize,
 ) -> Result<Finding<'a>, AllocError>
     requires { HasItemOf files.now base.now number }
-    ensures { IfOk result (λ finding. (view : BaseView) → IsOf files.now base.now view → is_proof_at view number ≡ true → IsTold files.now view number (told finding)) }
+    ensures { IfOk result (λ finding. (view : BaseView) → IsOf files.now base.now view → is_proof_at view number ≡ true
+        → IsRightlyTold files.now view number (told finding)) }
 {
     if is_proved(alloc, files, base, number)? {
         Ok(Finding::Proved)
@@ -86,7 +88,7 @@ fn finding_of<'a>(
     number: usize,
 ) -> Result<Finding<'a>, AllocError>
     requires { HasItemOf files.now base.now number }
-    ensures { IfOk result (λ finding. (view : BaseView) → IsOf files.now base.now view → IsTold files.now view number (told finding)) }
+    ensures { IfOk result (λ finding. (view : BaseView) → IsOf files.now base.now view → IsRightlyTold files.now view number (told finding)) }
 {
     let item = base.item(number);
     if let Some(fault) = base.fault(number) {
@@ -106,7 +108,7 @@ pub fn findings<'a>(
     base: &Base,
 ) -> Result<Vec<Finding<'a>>, AllocError>
     requires { HasView files.now base.now }
-    ensures { IfOk result (λ found. (view : BaseView) → IsOf files.now base.now view → AreTold files.now view (told_all found.items)) }
+    ensures { IfOk result (λ found. (view : BaseView) → IsOf files.now base.now view → AreRightlyTold files.now view (told_all found.items)) }
 {
     let mut found = Vec::new(alloc);
     for number in 0..base.count() {

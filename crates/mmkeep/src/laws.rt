@@ -2,16 +2,19 @@
 
 ghost use Rattle.std.specs.Prelude.{◌≡◌, ℕ, Bool, List};
 ghost use Rattle.mmkeep.specs.declared.fault.FirstError.{FirstError};
-ghost use Rattle.mmkeep.specs.Verified.{IsReport, IsTold};
+ghost use Rattle.mmkeep.specs.FirstErrors.{IsToldOfText};
+ghost use Rattle.mmkeep.specs.Verified.{IsReport};
 
 /// A text has one report at most, or one error that is told of it; and never both.
 ///
 /// So `verify_one` tells an error of the text only where there is one, and reports each other text, unless memory
 /// runs out or a write fails.
 pub fn one_answer()
-    ensures report { (name text : List ℕ) (clean other : Bool) (a b : List ℕ) → IsReport name text clean a → IsReport name text other b → (clean ≡ other) × (a ≡ b) }
-    ensures error { (name text : List ℕ) (a b : FirstError) → IsTold name text a → IsTold name text b → a ≡ b }
-    ensures not_both { (name text : List ℕ) (clean : Bool) (bytes : List ℕ) (error : FirstError) → IsReport name text clean bytes → ¬ IsTold name text error }
+    ensures report { (name text : List ℕ) (clean other : Bool) (a b : List ℕ)
+        → IsReport name text clean a → IsReport name text other b → (clean ≡ other) × (a ≡ b) }
+    ensures error { (name text : List ℕ) (a b : FirstError) → IsToldOfText name text a → IsToldOfText name text b → a ≡ b }
+    ensures not_both { (name text : List ℕ) (clean : Bool) (bytes : List ℕ) (error : FirstError)
+        → IsReport name text clean bytes → ¬ IsToldOfText name text error }
 {
     mm_text::one_meaning();
     mm_text::one_cut();

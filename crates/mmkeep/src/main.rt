@@ -12,6 +12,7 @@ mod program;
 mod reading;
 mod report;
 mod stream;
+mod tally;
 mod verify;
 
 pub use arguments::Command;

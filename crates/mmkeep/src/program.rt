@@ -1,6 +1,7 @@
 //! The program: the words of the command line, the file, the report and the standard error lines.
 
-ghost use Rattle.mmkeep.specs.Verified.{IsErrorIn};
+ghost use Rattle.std.specs.Prelude.{ℕ, List};
+ghost use Rattle.mmkeep.specs.FirstErrors.{IsAnswerOf, IsError};
 
 use crate::arguments::Command;
 use crate::asking::command;
@@ -8,7 +9,7 @@ use crate::fault::FirstError;
 use crate::outcome::Outcome;
 use crate::stream::Writing;
 use crate::verify::verify_one;
-use mm_frame::{TextNumber, place};
+use mm_frame::{Place, StoreError};
 use std::alloc::{AllocError, Global};
 use std::io::{BufWriter, ErrorKind, Write};
 use std::rt::{Env, Files};
@@ -53,7 +54,7 @@ fn chosen(alloc: Global, arguments: &[String]) -> Result<Option<Command<'_>>, Al
 /// Verifies a file, and writes its report to standard output.
 fn verify(rt: &(impl Files + Print + Eprint + AllocGlobal), file: &str) -> Outcome {
     match fs::read(rt, file) {
-        Ok(text) => verify_text(rt, file, &text),
+        Ok(text) => verify_text(rt, file, text),
         Err(error) if error.kind() == ErrorKind::OutOfMemory => lack_memory(rt),
         Err(_) => {
             let _ = eprintln!(rt; "mmkeep: {file}: cannot be read");
@@ -62,7 +63,7 @@ fn verify(rt: &(impl Files + Print + Eprint + AllocGlobal), file: &str) -> Outco
     }
 }
 
-fn verify_text(rt: &(impl Print + Eprint + AllocGlobal), file: &str, text: &[u8]) -> Outcome {
+fn verify_text(rt: &(impl Print + Eprint + AllocGlobal), file: &str, text: Vec<u8>) -> Outcome {
     let Ok(out) = BufWriter::new(rt.alloc(), io::writer(rt)) else {
         return lack_memory(rt);
     };
@@ -73,34 +74,40 @@ fn verify_text(rt: &(impl Print + Eprint + AllocGlobal), file: &str, text: &[u8]
         Ok(_) if flushed.is_err() => fail_to_write(rt),
         Ok(true) => Outcome::Clean,
         Ok(false) => Outcome::Findings,
-        Err(error) => told(rt, file, text, error),
+        Err(error) => told(rt, file, error),
     }
 }
 
 /// Tells why a file was not verified.
-fn told(rt: &impl Eprint, file: &str, text: &[u8], error: FirstError) -> Outcome
-    requires { IsErrorIn text.now error }
+fn told(rt: &impl Eprint, file: &str, error: FirstError) -> Outcome
+    requires { IsError error }
 {
     match error {
-        FirstError::Text(fault) => {
-            let at = place(text, fault.at);
-            let (line, column) = (at.line, at.column);
+        FirstError::Text(fault, Place { line, column }) => {
             let number = fault.number;
             let _ = eprintln!(rt; "mmkeep: {file}:{line}:{column} {number:?}");
             Outcome::Input
         }
-        FirstError::TooMany => {
-            let _ = eprintln!(rt; "mmkeep: S05");
-            Outcome::Input
-        }
-        FirstError::Later { at } => {
-            let at = place(text, at);
-            let (line, column) = (at.line, at.column);
+        FirstError::Later(Place { line, column }) => {
             let _ = eprintln!(rt; "mmkeep: {file}:{line}:{column} not yet");
             Outcome::Input
         }
-        FirstError::Memory => lack_memory(rt),
+        FirstError::Store(answer) => told_of_files(rt, answer),
         FirstError::Write => fail_to_write(rt),
+    }
+}
+
+/// Tells what the files answered to a text without a fault.
+fn told_of_files(rt: &impl Eprint, answer: StoreError) -> Outcome
+    requires { (text : List ℕ) × IsAnswerOf text answer }
+{
+    match answer {
+        StoreError::TooMany => {
+            let _ = eprintln!(rt; "mmkeep: S05");
+            Outcome::Input
+        }
+        StoreError::Memory => lack_memory(rt),
+        _ => unreachable!(),
     }
 }
 

@@ -4,13 +4,12 @@ ghost use Rattle.std.specs.Prelude.{◌≡◌, ℕ, ◌<◌, IfOk, IfSome, Match
 ghost use Rattle.mm_store.specs.FileFacts.{CanBeRead, StandsIn};
 ghost use Rattle.mm_frame.specs.Base.{BaseView, said_at};
 ghost use Rattle.mm_proof.specs.OfFiles.{IsOf, HasView, HasItemOf};
-ghost use Rattle.mmkeep.specs.Base.{IsWordOf};
+ghost use Rattle.mmkeep.specs.Base.{HasPlace, HasPlaceOf};
 ghost use Rattle.mmkeep.specs.Later as later;
 ghost use Rattle.mmkeep.specs.Later.{unread_step, unread_word, AreRead, IsFirstUnread};
 ghost use Rattle.mmkeep.specs.Report as report;
-ghost use Rattle.mmkeep.specs.Report.{IsWordAt};
 
-use mm_frame::{Base, Files, Item, ItemKind, Statement, nth_word};
+use mm_frame::{Base, Files, Item, ItemKind, Place, Statement, nth_word};
 use mm_text::Word;
 use std::alloc::{AllocError, Global};
 
@@ -82,7 +81,8 @@ pub struct Unread {
 /// The first word that is not read yet.
 pub fn first_unread(alloc: Global, files: &Files, base: &Base) -> Result<Option<Unread>, AllocError>
     requires { HasView files.now base.now }
-    ensures { IfOk result (λ found. (view : BaseView) → IsOf files.now base.now view → MatchOption found (AreRead view.said) (λ unread. IsFirstUnread view.said unread.item unread.word)) }
+    ensures { IfOk result (λ found. (view : BaseView) → IsOf files.now base.now view
+        → MatchOption found (AreRead view.said) (λ unread. IsFirstUnread view.said unread.item unread.word)) }
 {
     for number in 0..base.count() {
         if let Some(word) = unread_of(alloc, files, base, number)? {
@@ -102,21 +102,22 @@ pub fn start_of(word: Option<Word>) -> usize
     }
 }
 
-/// The byte of the text at which a word of an item begins, or the item where it has fewer words.
-fn word_byte(files: &Files, item: &Item, word: usize) -> usize
+/// The place of a word of an item in the text of its file, or of the item where it has fewer words.
+fn word_place(files: &Files, item: &Item, word: usize) -> Place
     requires read { CanBeRead files.now item.now }
     requires stands { StandsIn files.now item.now }
-    ensures { IsWordAt files.now item.now word result }
+    ensures { HasPlace files.now item.now word result }
 {
+    mm_store::bytes_are_within();
     let text = &files.piece(item.key)[item.start..item.end];
     let start = start_of(nth_word(text, word));
-    files.offset(item.file, item.piece, item.start + start)
+    files.place(item.file, item.piece, item.start + start)
 }
 
-/// The byte of the text at which a word of the item with this number begins, or the item where it has fewer words.
-pub fn word_of(files: &Files, base: &Base, number: usize, word: usize) -> usize
+/// The place of a word of the item with this number, or of the item where it has fewer words.
+pub fn place_of_word(files: &Files, base: &Base, number: usize, word: usize) -> Place
     requires { HasItemOf files.now base.now number }
-    ensures { (view : BaseView) → IsOf files.now base.now view → IsWordOf files.now view number word result }
+    ensures { (view : BaseView) → IsOf files.now base.now view → HasPlaceOf files.now view number word result }
 {
-    word_byte(files, base.item(number), word)
+    word_place(files, base.item(number), word)
 }

@@ -1,7 +1,6 @@
 //! A writer that stops at its first failure.
 
-ghost use Rattle.std.specs.Prelude.{◌≡◌, true, false, OnOk, OnErr};
-ghost use Rattle.std.specs.Io.KnownBytes.{Appends};
+ghost use Rattle.std.specs.Prelude.{◌≡◌, true, false, OnOk};
 
 use std::io::Write;
 
@@ -17,7 +16,7 @@ pub struct Writing<W: Write> {
 }
 
 impl<W: Write> Writing<W> {
-    ghost use Rattle.mmkeep.specs.Stream.{written, has_failed, AppendsPart};
+    ghost use Rattle.mmkeep.specs.Stream.{written, has_failed, Writes};
 
     /// A writer that has not failed.
     pub fn new(inner: W) -> Writing<W>
@@ -46,10 +45,8 @@ impl<W: Write> Writing<W> {
 
     /// Writes all of the bytes, by as many calls of `write` as the writer wants.
     pub fn write_all(&mut self, bytes: &[u8]) -> Result<(), WriteFailed>
-        ensures ok { OnOk result (Appends (written W.contents self.old) (written W.contents self.new) bytes.now) }
+        ensures writes { Writes W.contents self.old self.new result bytes.now }
         ensures sound { OnOk result (has_failed self.new ≡ false) }
-        ensures err { OnErr result (has_failed self.new ≡ true) }
-        ensures prefix { OnErr result (AppendsPart (written W.contents self.old) (written W.contents self.new) bytes.now) }
         ensures stays { has_failed self.old ≡ true → self.new ≡ self.old }
     {
         if self.failed {

@@ -4,7 +4,7 @@ use crate::fault::FirstError;
 use crate::outcome::{Outcome, status};
 use crate::stream::Writing;
 use crate::verify::verify_one;
-use mm_text::{Place, TextNumber, place};
+use mm_text::{Place, TextNumber};
 use std::io;
 use std::io::Write;
 use std::process::Abort;
@@ -54,7 +54,8 @@ fn reports_as(
     report: &[u8],
 ) -> Result<(), Fail> {
     let mut writing = Writing::new(Vec::new(rt.alloc()));
-    let answer = verify_one(rt.alloc(), name, text, &mut writing);
+    let text_given = Vec::from_slice(rt.alloc(), text)?;
+    let answer = verify_one(rt.alloc(), name, text_given, &mut writing);
     assert_eq!(rt; answer, Ok(clean), "of {text:?}");
     assert!(rt; !writing.failed());
     let written = writing.into_inner();
@@ -75,7 +76,8 @@ fn reports(
 /// Checks that a text is refused with this error, and that nothing was written.
 fn refuses(rt: &(impl AllocGlobal + Abort), text: &[u8], error: FirstError) -> Result<(), Fail> {
     let mut writing = Writing::new(Vec::new(rt.alloc()));
-    let answer = verify_one(rt.alloc(), b"a.mm", text, &mut writing);
+    let text_given = Vec::from_slice(rt.alloc(), text)?;
+    let answer = verify_one(rt.alloc(), b"a.mm", text_given, &mut writing);
     assert_eq!(rt; answer, Err(error), "of {text:?}");
     assert!(rt; writing.into_inner().is_empty());
     Ok(())
@@ -533,14 +535,11 @@ fn tells_what_is_not_read(rt: HostRuntime) -> Result<(), Fail> {
     ];
     for (line, column) in rows {
         let text = with_line(&rt, line)?;
-        let at = FIVE.len() + usize::from(column) - 1;
-        assert!(rt; at <= text.len());
-        let wanted = Place {
+        let place = Place {
             line: 6,
             column: u64::from(column),
         };
-        assert_eq!(rt; place(&text, at), wanted);
-        refuses(&rt, &text, FirstError::Later { at })?;
+        refuses(&rt, &text, FirstError::Later(place))?;
     }
     Ok(())
 }
@@ -579,13 +578,28 @@ fn tells_faults(rt: HostRuntime) -> Result<(), Fail> {
         (b"$c k k $. $}\n", TextNumber::T09, 10),
     ];
     for (text, number, at) in rows {
+        let place = Place {
+            line: 1,
+            column: at as u64 + 1,
+        };
         refuses(
             &rt,
             text,
-            FirstError::Text(mm_text::TextFault { number, at }),
+            FirstError::Text(mm_text::TextFault { number, at }, place),
         )?;
     }
-    Ok(())
+    // On another line.
+    refuses(
+        &rt,
+        b"$c k $.\n\n  $c l\n",
+        FirstError::Text(
+            mm_text::TextFault {
+                number: TextNumber::T07,
+                at: 11,
+            },
+            Place { line: 3, column: 3 },
+        ),
+    )
 }
 
 /// Comments between any two words, in the proof too, change nothing.
@@ -648,7 +662,8 @@ fn writes_slowly_and_fails(rt: HostRuntime) -> Result<(), Fail> {
             calls,
             taken: Vec::new(rt.alloc()),
         });
-        let answer = verify_one(rt.alloc(), b"a.mm", &text, &mut writing);
+        let given = Vec::from_slice(rt.alloc(), &text)?;
+        let answer = verify_one(rt.alloc(), b"a.mm", given, &mut writing);
         let failed = writing.failed();
         let taken = writing.into_inner().taken;
         if calls < report.len() {
@@ -661,6 +676,58 @@ fn writes_slowly_and_fails(rt: HostRuntime) -> Result<(), Fail> {
             assert_eq!(rt; taken.as_slice(), report.as_slice());
         }
     }
+    Ok(())
+}
+
+/// A writer that fails at one call, would take everything before and behind it, and counts the calls.
+#[derive(Drop)]
+struct Broken {
+    at: usize,
+    calls: usize,
+    taken: Vec<u8>,
+}
+
+impl Write for Broken {
+    fn write(&mut self, buf: &[u8]) -> io::Result<usize> {
+        self.calls = self.calls.saturating_add(1);
+        if self.calls == self.at || self.taken.extend_from_slice(buf).is_err() {
+            return Err(io::Error::from(io::ErrorKind::BrokenPipe));
+        }
+        Ok(buf.len())
+    }
+
+    fn flush(&mut self) -> io::Result<()> {
+        Ok(())
+    }
+}
+
+/// Behind a call that failed there is none.
+#[test]
+fn calls_no_more_after_a_failure(rt: HostRuntime) -> Result<(), Fail> {
+    let text = with_line(&rt, b"a $a wff r $. t $p wff p $= wq $.\n")?;
+    let report =
+        b"fault a.mm:6:10 F10 r\nwrong t\naxioms 1 theorems 1 proved 0 incomplete 0 wrong 1 faults 1\n";
+    let mut whole = 0;
+    for at in 1..64 {
+        let mut writing = Writing::new(Broken {
+            at,
+            calls: 0,
+            taken: Vec::new(rt.alloc()),
+        });
+        let given = Vec::from_slice(rt.alloc(), &text)?;
+        let answer = verify_one(rt.alloc(), b"a.mm", given, &mut writing);
+        let broken = writing.into_inner();
+        if broken.calls < at {
+            assert_eq!(rt; answer, Ok(false));
+            assert_eq!(rt; broken.taken.as_slice(), report.as_slice());
+            whole += 1;
+        } else {
+            assert_eq!(rt; answer, Err(FirstError::Write));
+            assert_eq!(rt; broken.calls, at);
+            assert!(rt; report.starts_with(&broken.taken) && broken.taken.len() < report.len());
+        }
+    }
+    assert!(rt; 0 < whole && whole < 63);
     Ok(())
 }
 

@@ -1,9 +1,10 @@
-use Rattle.std.proofs.lemmas.Result.{on_err_weaker}
-use Rattle.mmkeep.proofs.StreamLemmas.{part_front, part_behind, on_err}
+use Rattle.mmkeep.proofs.StreamLemmas.{stops_front, writes_then, writes_stop}
 use Rattle.mmkeep.proofs.report.write_count.Goals as goal
 
-pub returns-in_err-write_all-clause-prefix : goal.returns-in_err-write_all-clause-prefix
-returns-in_err-write_all-clause-prefix g c = on_err _ (part_front _ _ _ _ c.in_err-write_all.ensures.prefix)
+pub returns-in_err-write_all : goal.returns-in_err-write_all
+returns-in_err-write_all g c =
+    writes_stop c.from_residual.ensures.0 (stops_front _ c.in_err-write_all.ensures.writes.err)
 
-pub returns-clause-prefix : goal.returns-clause-prefix
-returns-clause-prefix g c = on_err_weaker c.write_number.result (part_behind _ _ _ _ _ c.in_ok-write_all.ensures.ok) c.write_number.ensures.prefix
+pub returns : goal.returns
+returns g c =
+    writes_then c.in_ok-write_all.ensures.writes c.write_number.ensures

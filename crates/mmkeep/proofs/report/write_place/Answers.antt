@@ -1,20 +1,23 @@
-use Rattle.std.proofs.lemmas.Result.{on_err_weaker}
 use Rattle.mmkeep.proofs.ReportLemmas.{place_parts}
-use Rattle.mmkeep.proofs.StreamLemmas.{part_front, part_behind, on_err}
+use Rattle.mmkeep.proofs.StreamLemmas.{stops_front, stops_then, writes_then, writes_stop}
 use Rattle.mmkeep.proofs.report.write_place.Goals as goal
 
-pub returns-in_err-write_number-clause-prefix : goal.returns-in_err-write_number-clause-prefix
-returns-in_err-write_number-clause-prefix g c = rw (place_parts c.args.place.line c.args.place.column) (on_err _ (part_front _ _ _ _ c.in_err-write_number.ensures.prefix))
-
-pub returns-in_err-write_all-clause-prefix : goal.returns-in_err-write_all-clause-prefix
-returns-in_err-write_all-clause-prefix g c = rw (place_parts c.args.place.line c.args.place.column) (on_err _ (part_behind _ _ _ _ _ c.in_ok-write_number.ensures.ok (part_front _ _ _ _ c.in_err-write_all.ensures.prefix)))
-
-pub returns-in_err-write_number-2-clause-prefix : goal.returns-in_err-write_number-2-clause-prefix
-returns-in_err-write_number-2-clause-prefix g c = rw (place_parts c.args.place.line c.args.place.column) (on_err _ (part_behind _ _ _ _ _ c.in_ok-write_number.ensures.ok (part_behind _ _ _ _ _ c.in_ok-write_all.ensures.ok (part_front _ _ _ _ c.in_err-write_number-2.ensures.prefix))))
-
-pub returns-clause-prefix : goal.returns-clause-prefix
-returns-clause-prefix g c =
+pub returns-in_err-write_number : goal.returns-in_err-write_number
+returns-in_err-write_number g c =
     rw (place_parts c.args.place.line c.args.place.column)
-    (on_err_weaker c.write_all-2.result
-    (λ last. part_behind _ _ _ _ _ c.in_ok-write_number.ensures.ok (part_behind _ _ _ _ _ c.in_ok-write_all.ensures.ok (part_behind _ _ _ _ _ c.in_ok-write_number-2.ensures.ok last)))
-    c.write_all-2.ensures.prefix)
+    (writes_stop c.from_residual.ensures.0 (stops_front _ c.in_err-write_number.ensures.err))
+
+pub returns-in_err-write_all : goal.returns-in_err-write_all
+returns-in_err-write_all g c =
+    rw (place_parts c.args.place.line c.args.place.column)
+    (writes_stop c.from_residual-in_err-write_all.ensures.0 (stops_then c.in_ok-write_number.ensures (stops_front _ c.in_err-write_all.ensures.writes.err)))
+
+pub returns-in_err-write_number-2 : goal.returns-in_err-write_number-2
+returns-in_err-write_number-2 g c =
+    rw (place_parts c.args.place.line c.args.place.column)
+    (writes_stop c.from_residual-in_err-write_number-2.ensures.0 (stops_then c.in_ok-write_number.ensures (stops_then c.in_ok-write_all.ensures.writes (stops_front _ c.in_err-write_number-2.ensures.err))))
+
+pub returns : goal.returns
+returns g c =
+    rw (place_parts c.args.place.line c.args.place.column)
+    (writes_then c.in_ok-write_number.ensures (writes_then c.in_ok-write_all.ensures.writes (writes_then c.in_ok-write_number-2.ensures c.write_all-2.ensures.writes)))

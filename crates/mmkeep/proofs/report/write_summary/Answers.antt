@@ -1,39 +1,33 @@
-use Rattle.std.proofs.lemmas.Result.{on_ok_weaker, on_err_weaker}
-use Rattle.std.proofs.KnownBytes.{Appends-trans}
 use Rattle.mmkeep.proofs.ReportLemmas.{summary_parts}
-use Rattle.mmkeep.proofs.StreamLemmas.{part_front, part_behind, on_err}
+use Rattle.mmkeep.proofs.StreamLemmas.{stops_front, stops_then, writes_then, writes_stop}
 use Rattle.mmkeep.proofs.report.write_summary.Goals as goal
 
-pub returns-in_err-write_count-clause-prefix : goal.returns-in_err-write_count-clause-prefix
-returns-in_err-write_count-clause-prefix g c =
-    rw (summary_parts c.args.axioms c.args.proved c.args.wrong c.args.faults) (on_err _ (part_front _ _ _ _ c.in_err-write_count.ensures.prefix))
+pub returns-in_err-write_count : goal.returns-in_err-write_count
+returns-in_err-write_count g c =
+    rw (summary_parts c.args.tally.now)
+    (writes_stop c.from_residual.ensures.0 (stops_front _ c.in_err-write_count.ensures.err))
 
-pub returns-in_err-write_count-2-clause-prefix : goal.returns-in_err-write_count-2-clause-prefix
-returns-in_err-write_count-2-clause-prefix g c =
-    rw (summary_parts c.args.axioms c.args.proved c.args.wrong c.args.faults) (on_err _ (part_behind _ _ _ _ _ c.in_ok-write_count.ensures.ok (part_front _ _ _ _ c.in_err-write_count-2.ensures.prefix)))
+pub returns-in_err-write_count-2 : goal.returns-in_err-write_count-2
+returns-in_err-write_count-2 g c =
+    rw (summary_parts c.args.tally.now)
+    (writes_stop c.from_residual-in_err-write_count-2.ensures.0 (stops_then c.in_ok-write_count.ensures (stops_front _ c.in_err-write_count-2.ensures.err)))
 
-pub returns-in_err-write_count-3-clause-prefix : goal.returns-in_err-write_count-3-clause-prefix
-returns-in_err-write_count-3-clause-prefix g c =
-    rw (summary_parts c.args.axioms c.args.proved c.args.wrong c.args.faults) (on_err _ (part_behind _ _ _ _ _ c.in_ok-write_count.ensures.ok (part_behind _ _ _ _ _ c.in_ok-write_count-2.ensures.ok (part_front _ _ _ _ c.in_err-write_count-3.ensures.prefix))))
+pub returns-in_err-write_count-3 : goal.returns-in_err-write_count-3
+returns-in_err-write_count-3 g c =
+    rw (summary_parts c.args.tally.now)
+    (writes_stop c.from_residual-in_err-write_count-3.ensures.0 (stops_then c.in_ok-write_count.ensures (stops_then c.in_ok-write_count-2.ensures (stops_front _ c.in_err-write_count-3.ensures.err))))
 
-pub returns-in_err-write_count-4-clause-prefix : goal.returns-in_err-write_count-4-clause-prefix
-returns-in_err-write_count-4-clause-prefix g c =
-    rw (summary_parts c.args.axioms c.args.proved c.args.wrong c.args.faults) (on_err _ (part_behind _ _ _ _ _ c.in_ok-write_count.ensures.ok (part_behind _ _ _ _ _ c.in_ok-write_count-2.ensures.ok (part_behind _ _ _ _ _ c.in_ok-write_count-3.ensures.ok (part_front _ _ _ _ c.in_err-write_count-4.ensures.prefix)))))
+pub returns-in_err-write_count-4 : goal.returns-in_err-write_count-4
+returns-in_err-write_count-4 g c =
+    rw (summary_parts c.args.tally.now)
+    (writes_stop c.from_residual-in_err-write_count-4.ensures.0 (stops_then c.in_ok-write_count.ensures (stops_then c.in_ok-write_count-2.ensures (stops_then c.in_ok-write_count-3.ensures (stops_front _ c.in_err-write_count-4.ensures.err)))))
 
-pub returns-in_err-write_count-5-clause-prefix : goal.returns-in_err-write_count-5-clause-prefix
-returns-in_err-write_count-5-clause-prefix g c =
-    rw (summary_parts c.args.axioms c.args.proved c.args.wrong c.args.faults) (on_err _ (part_behind _ _ _ _ _ c.in_ok-write_count.ensures.ok (part_behind _ _ _ _ _ c.in_ok-write_count-2.ensures.ok (part_behind _ _ _ _ _ c.in_ok-write_count-3.ensures.ok (part_behind _ _ _ _ _ c.in_ok-write_count-4.ensures.ok (part_front _ _ _ _ c.in_err-write_count-5.ensures.prefix))))))
+pub returns-in_err-write_count-5 : goal.returns-in_err-write_count-5
+returns-in_err-write_count-5 g c =
+    rw (summary_parts c.args.tally.now)
+    (writes_stop c.from_residual-in_err-write_count-5.ensures.0 (stops_then c.in_ok-write_count.ensures (stops_then c.in_ok-write_count-2.ensures (stops_then c.in_ok-write_count-3.ensures (stops_then c.in_ok-write_count-4.ensures (stops_front _ c.in_err-write_count-5.ensures.err))))))
 
-pub returns-clause-ok : goal.returns-clause-ok
-returns-clause-ok g c =
-    rw (summary_parts c.args.axioms c.args.proved c.args.wrong c.args.faults)
-    (on_ok_weaker c.write_all.result
-    (λ last. Appends-trans _ _ _ _ _ c.in_ok-write_count.ensures.ok (Appends-trans _ _ _ _ _ c.in_ok-write_count-2.ensures.ok (Appends-trans _ _ _ _ _ c.in_ok-write_count-3.ensures.ok (Appends-trans _ _ _ _ _ c.in_ok-write_count-4.ensures.ok (Appends-trans _ _ _ _ _ c.in_ok-write_count-5.ensures.ok last)))))
-    c.write_all.ensures.ok)
-
-pub returns-clause-prefix : goal.returns-clause-prefix
-returns-clause-prefix g c =
-    rw (summary_parts c.args.axioms c.args.proved c.args.wrong c.args.faults)
-    (on_err_weaker c.write_all.result
-    (λ last. part_behind _ _ _ _ _ c.in_ok-write_count.ensures.ok (part_behind _ _ _ _ _ c.in_ok-write_count-2.ensures.ok (part_behind _ _ _ _ _ c.in_ok-write_count-3.ensures.ok (part_behind _ _ _ _ _ c.in_ok-write_count-4.ensures.ok (part_behind _ _ _ _ _ c.in_ok-write_count-5.ensures.ok last)))))
-    c.write_all.ensures.prefix)
+pub returns : goal.returns
+returns g c =
+    rw (summary_parts c.args.tally.now)
+    (writes_then c.in_ok-write_count.ensures (writes_then c.in_ok-write_count-2.ensures (writes_then c.in_ok-write_count-3.ensures (writes_then c.in_ok-write_count-4.ensures (writes_then c.in_ok-write_count-5.ensures c.write_all.ensures.writes)))))

@@ -1,9 +1,9 @@
-use Rattle.std.proofs.Common.{◌+◌, sym, ◌∙◌, ap, subst, arith}
+use Rattle.std.proofs.Common.{◌+◌, ◌∙◌, ap, subst, arith}
 use Rattle.mm_store.specs.FilesView.{text_of}
 use Rattle.mm_store.specs.FileFacts.{IsByte, piece_offset}
 use Rattle.mmkeep.specs.Report.{start_of}
 use Rattle.mmkeep.proofs.ReadingLemmas.{item_within, item_words, start_within, word_is_byte}
-use Rattle.mmkeep.proofs.reading.word_byte.Goals as goal
+use Rattle.mmkeep.proofs.reading.word_place.Goals as goal
 
 pub slice_bounds-text-end : goal.slice_bounds-text-end
 slice_bounds-text-end c =
@@ -15,8 +15,8 @@ nth_word-requires c =
     let read = c.requires.read in
     (read.words, item_words c.args.files.now c.args.item.now read c.piece.result.now c.piece.ensures.text)
 
-pub offset-requires : goal.offset-requires
-offset-requires c =
+pub place-requires : goal.place-requires
+place-requires c =
     let files = c.args.files.now in
     let read = c.requires.read in
     let stands = c.requires.stands in
@@ -36,11 +36,20 @@ returns c =
     let word = c.nth_word.ensures.nth read.words (item_words files item read piece c.piece.ensures.text) in
     let start = c.start_of-start.ensures ∙ ap start_of word in
     let less = start_within files item read piece c.piece.ensures.text c.nth_word.result c.nth_word.ensures.within in
-    let byte = word_is_byte files item read piece c.piece.ensures.text stands (item.start + c.start_of-start.result) (omega (arith, less, c.start_of-start.ensures)) in
-    let at = c.offset.ensures (text_of stands.file) (piece_offset stands.file item.piece + (item.start + c.start_of-start.result)) byte in
+    let at = item.start + c.start_of-start.result in
+    let offset = piece_offset stands.file item.piece + at in
+    let byte = word_is_byte files item read piece c.piece.ensures.text stands at (omega (arith, less, c.start_of-start.ensures)) in
+    let behind = word_is_byte files item read piece c.piece.ensures.text stands (at + 1) (omega (arith, less, c.start_of-start.ensures)) in
+    let last = c.bytes_are_within.ensures files item.file item.piece (at + 1) (text_of stands.file) (piece_offset stands.file item.piece + (at + 1)) behind in
     record {
-      stands = stands;
-      read = read;
-      text = text_of stands.file;
-      byte = subst (λ start. IsByte files item.file item.piece (item.start + start) (text_of stands.file) c.offset.result) start (subst (λ at. IsByte files item.file item.piece (item.start + c.start_of-start.result) (text_of stands.file) at) (sym at) byte);
+      at = offset;
+      is_word = record {
+        stands = stands;
+        read = read;
+        text = text_of stands.file;
+        byte = subst (λ start. IsByte files item.file item.piece (item.start + start) (text_of stands.file) offset) start byte;
+      };
+      within = omega (arith, last);
+      line = c.place.ensures.line (text_of stands.file) offset byte;
+      column = c.place.ensures.column (text_of stands.file) offset byte;
     }

@@ -1,0 +1,5 @@
+use Rattle.mm_store.proofs.OffsetLemmas.{byte_within}
+use Rattle.mm_store.proofs.laws.bytes_are_within.Goals as goal
+
+pub returns : goal.returns
+returns c = byte_within

@@ -1,0 +1,13 @@
+use Rattle.std.proofs.Common.{◌∙◌}
+use Rattle.mmkeep.specs.Report.{is_axiom, is_proved, is_wrong, is_fault}
+use Rattle.mmkeep.proofs.ReportLemmas.{count_told}
+use Rattle.mmkeep.proofs.tally.Tally.of.Goals as goal
+
+pub returns-clause-counts : goal.returns-clause-counts
+returns-clause-counts c =
+    let findings = c.args.findings.now in
+    let axioms = c.count_axioms.ensures.value ∙ count_told is_axiom findings in
+    let proved = c.count_proved.ensures.value ∙ count_told is_proved findings in
+    let wrong = c.count_wrong.ensures.value ∙ count_told is_wrong findings in
+    let faults = c.count_faults.ensures.value ∙ count_told is_fault findings in
+    λ i. record { axioms = axioms i; proved = proved i; wrong = wrong i; faults = faults i }
