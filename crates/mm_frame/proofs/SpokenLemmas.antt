@@ -1,30 +1,19 @@
--- The words of a statement, and how many of them are symbols and words of the proof.
-use Rattle.std.proofs.Common.{◌≡◌, ℕ, zero, suc, ◌+◌, ◌<◌, Bool, cond, List, [], ◌∷◌, Some, length, map, take, drop, get_or, refl, sym, ◌∙◌, ap, arith}
-use Rattle.std.specs.Prelude.{slice_get}
+-- The words of a statement between its keywords, read one by one.
+use Rattle.std.proofs.Common.{◌≡◌, ℕ, zero, suc, ◌+◌, Bool, true, false, cond, if◌then◌else◌, List, [], ◌∷◌, ◌++◌, Option, Some, None, length, map, take, drop, refl, sym, ◌∙◌, ap, arith, append_assoc, length-append}
+use Rattle.std.specs.Prelude.{slice_get, MatchOption}
 use Rattle.std.specs.Option.{option_map}
 use Rattle.std.specs.List.{prefix_len}
-use Rattle.std.proofs.lemmas.List.{drop-map}
-use Rattle.std.proofs.lemmas.List.Folds.{length-prefix_len}
-use Rattle.std.proofs.lemmas.Option.{slice_get-map, get_or_from_slice_get}
+use Rattle.std.proofs.lemmas.List.{drop-map, drop-drop, take-map, append-nil}
+use Rattle.std.proofs.lemmas.Simd.{map-map}
 use Rattle.mm_text.specs.declared.word.Word.{Word}
 use Rattle.mm_text.specs.Unit.{Token, token_of, tokens_of}
-use Rattle.mm_frame.specs.Statement.{is_plain_kind, is_plain, plain_from, names}
+use Rattle.mm_frame.specs.Item.{Kind, Item, is_labelled}
+use Rattle.mm_frame.specs.PlainWords.{TakesLabel, bytes_in, plain_words, plain_bytes}
+use Rattle.mm_frame.specs.Statement.{is_plain_kind, is_plain, names, plain_from, symbols_from, symbols_in, proof_in, label_in, item_of}
 
 prefix_len-map : {X Y : Type 0} (f : X → Y) (p : Y → Bool) (xs : List X) → prefix_len p (map f xs) ≡ prefix_len (λ x. p (f x)) xs
 prefix_len-map f p [] = refl
 prefix_len-map f p (x ∷ xs) = ap (λ n. cond (p (f x)) (1 + n) 0) (prefix_len-map f p xs)
-
--- the plain words from a place on, counted
-pub plain_count_is : (text : List ℕ) (words : List Word) (from n : ℕ) → n ≡ prefix_len (λ (w : Word). is_plain_kind w.kind) (drop from words) → n ≡ length (plain_from from (tokens_of text words))
-plain_count_is text words from n is =
-    is ∙ sym (prefix_len-map (token_of text) is_plain (drop from words)) ∙ ap (prefix_len is_plain) (sym (drop-map (token_of text) from words)) ∙ sym (length-prefix_len is_plain (drop from (tokens_of text words)))
-
-pub get_take : {X : Type 0} (xs : List X) (k n : ℕ) → n < length (take k xs) → slice_get (take k xs) n ≡ slice_get xs n
-get_take [] zero n l = absurd (omega arith)
-get_take [] (suc k) n l = absurd (omega arith)
-get_take (x ∷ xs) zero n l = absurd (omega arith)
-get_take (x ∷ xs) (suc k) zero l = refl
-get_take (x ∷ xs) (suc k) (suc n) l = get_take xs k n (omega arith)
 
 pub get_drop : {X : Type 0} (xs : List X) (k n m : ℕ) → m ≡ k + n → slice_get (drop k xs) n ≡ slice_get xs m
 get_drop xs zero n m e = let same : n ≡ m = omega arith in ap (slice_get xs) same
@@ -32,14 +21,119 @@ get_drop [] (suc k) n m e = refl
 get_drop (x ∷ xs) (suc k) n zero e = absurd (omega arith)
 get_drop (x ∷ xs) (suc k) n (suc m) e = get_drop xs k n m (omega arith)
 
--- the word with this number among the plain words from a place on
-pub plain_at : (tokens : List Token) (from n : ℕ) (bytes : List ℕ) → n < length (names (plain_from from tokens)) → option_map (λ token. token.bytes) (slice_get tokens (from + n)) ≡ Some bytes → bytes ≡ get_or (names (plain_from from tokens)) n []
-plain_at tokens from n bytes l is =
-    let rest = drop from tokens in
-    let k = prefix_len is_plain rest in
-    let long : n < length (take k rest) = omega (arith, length-names (take k rest)) in
-    let here : slice_get (names (take k rest)) n ≡ Some bytes = slice_get-map (λ (t : Token). t.bytes) (take k rest) n ∙ ap (option_map (λ (t : Token). t.bytes)) (get_take rest k n long ∙ get_drop tokens from n (from + n) refl) ∙ is in
-    sym (get_or_from_slice_get (names (take k rest)) n bytes [] here) where
-      length-names : (ts : List Token) → length (names ts) ≡ length ts
-      length-names [] = refl
-      length-names (t ∷ ts) = ap suc (length-names ts)
+-- ---- words one by one
+
+-- a plain word is one of the words before the first keyword
+pub plain_more : (word : Word) (words : List Word) → is_plain_kind word.kind ≡ true → plain_words (word ∷ words) ≡ word ∷ plain_words words
+plain_more word words plain =
+    let n = prefix_len (λ (w : Word). is_plain_kind w.kind) words in
+    let one : 1 + n ≡ suc n = omega arith in
+    ap (λ b. take (cond b (1 + n) 0) (word ∷ words)) plain ∙ ap (λ k. take k (word ∷ words)) one
+
+-- and a keyword ends them
+pub plain_end : (word : Word) (words : List Word) → is_plain_kind word.kind ≡ false → plain_words (word ∷ words) ≡ []
+plain_end word words keyword = ap (λ b. take (cond b (1 + prefix_len (λ (w : Word). is_plain_kind w.kind) words) 0) (word ∷ words)) keyword
+
+-- the words of a proof with a word in front
+pub proof_more : (text : List ℕ) (old new : List Word) (word : Word) → old ≡ word ∷ new → is_plain_kind word.kind ≡ true → plain_bytes text old ≡ bytes_in text word ∷ plain_bytes text new
+proof_more text old new word e plain = ap (plain_bytes text) e ∙ ap (map (bytes_in text)) (plain_more word new plain)
+
+-- ---- symbols
+
+-- the symbols so far, of these words, and the words that are left
+pub record Symbols (words left symbols : List Word) : Type 0 where
+  pub joined : plain_words words ≡ symbols ++ plain_words left
+  pub behind : left ≡ drop (length symbols) words
+
+pub symbols_none : (words : List Word) → Symbols words words []
+symbols_none words = record { joined = refl; behind = refl }
+
+pub symbols_more : (words left new symbols : List Word) (word : Word) → Symbols words left symbols → left ≡ word ∷ new → is_plain_kind word.kind ≡ true → Symbols words new (symbols ++ word ∷ [])
+symbols_more words left new symbols word h e plain = record {
+  joined = h.joined ∙ ap (λ l. symbols ++ plain_words l) e ∙ ap (λ l. symbols ++ l) (plain_more word new plain) ∙ sym (append_assoc symbols (word ∷ []) (plain_words new));
+  behind =
+      let one : length symbols + 1 ≡ length (symbols ++ word ∷ []) = omega (arith, length-append symbols (word ∷ [])) in
+      ap (drop 1) (sym e ∙ h.behind) ∙ drop-drop 1 (length symbols) words ∙ ap (λ k. drop k words) one;
+}
+
+-- all symbols, and the words behind the one that closes them
+pub record AllSymbols (words new symbols : List Word) : Type 0 where
+  pub are : symbols ≡ plain_words words
+  pub rest : new ≡ drop (length (plain_words words) + 1) words
+
+rest_is : (words left new symbols : List Word) → plain_words words ≡ symbols → left ≡ drop (length symbols) words → new ≡ drop 1 left → AllSymbols words new symbols
+rest_is words left new symbols all behind e = record {
+  are = sym all;
+  rest = e ∙ ap (drop 1) behind ∙ drop-drop 1 (length symbols) words ∙ ap (λ (l : List Word). drop (length l + 1) words) (sym all);
+}
+
+pub symbols_closed : (words left new symbols : List Word) (word : Word) → Symbols words left symbols → left ≡ word ∷ new → is_plain_kind word.kind ≡ false → AllSymbols words new symbols
+symbols_closed words left new symbols word h e keyword =
+    let all = h.joined ∙ ap (λ l. symbols ++ plain_words l) e ∙ ap (λ l. symbols ++ l) (plain_end word new keyword) ∙ append-nil symbols in
+    rest_is words left new symbols all h.behind (ap (drop 1) (sym e))
+
+pub symbols_out : (words left new symbols : List Word) → Symbols words left symbols → left ≡ [] → new ≡ [] → AllSymbols words new symbols
+symbols_out words left new symbols h none done =
+    let all = h.joined ∙ ap (λ l. symbols ++ plain_words l) none ∙ append-nil symbols in
+    rest_is words left new symbols all h.behind (done ∙ ap (drop 1) (sym none))
+
+-- ---- a statement
+
+-- the words behind one word
+pub behind_one : (old new : List Word) (word : Option Word) → MatchOption word ((old ≡ []) × (new ≡ [])) (λ w. old ≡ w ∷ new) → new ≡ drop 1 old
+behind_one old new None h = h.1 ∙ ap (drop 1) (sym h.0)
+behind_one old new (Some word) h = ap (drop 1) (sym h)
+
+-- how plain words are spelled
+plain_names : (text : List ℕ) (words : List Word) → names (plain_from 0 (tokens_of text words)) ≡ plain_bytes text words
+plain_names text words =
+    let count = prefix_len-map (token_of text) is_plain words in
+    ap (λ n. names (take n (tokens_of text words))) count
+    ∙ ap names (take-map (token_of text) (prefix_len (λ (w : Word). is_plain_kind w.kind) words) words)
+    ∙ map-map (λ (token : Token). token.bytes) (token_of text) (plain_words words)
+
+-- from a place on
+names_from : (text : List ℕ) (words : List Word) (from : ℕ) → names (plain_from from (tokens_of text words)) ≡ plain_bytes text (drop from words)
+names_from text words from = ap (λ tokens. names (plain_from 0 tokens)) (drop-map (token_of text) from words) ∙ plain_names text (drop from words)
+
+count_names : (tokens : List Token) → length (names tokens) ≡ length tokens
+count_names [] = refl
+count_names (token ∷ tokens) = ap suc (count_names tokens)
+
+count_bytes : (text : List ℕ) (words : List Word) → length (map (bytes_in text) words) ≡ length words
+count_bytes text [] = refl
+count_bytes text (word ∷ words) = ap suc (count_bytes text words)
+
+-- the words behind the label and the keyword
+behind_label : (labelled : Bool) (words new : List Word) (label : Option Word) → TakesLabel labelled words label new → drop 1 new ≡ drop (if labelled then 2 else 1) words
+behind_label true words new (Some word) h = sym (ap (drop 2) h)
+behind_label false words new None h = ap (drop 1) h
+behind_label true words new None h = absurd h
+behind_label false words new (Some word) h = absurd h
+
+label_is : (labelled : Bool) (text : List ℕ) (words new : List Word) (label : Option Word) → TakesLabel labelled words label new → option_map (bytes_in text) label ≡ (if labelled then option_map (λ (token : Token). token.bytes) (slice_get (tokens_of text words) 0) else None)
+label_is true text words new (Some word) h = sym (ap (λ (ws : List Word). option_map (λ (token : Token). token.bytes) (slice_get (tokens_of text ws) 0)) h)
+label_is false text words new None h = refl
+label_is true text words new None h = absurd h
+label_is false text words new (Some word) h = absurd h
+
+-- what is read of a statement with these words
+pub record Reads (kind : Kind) (words : List Word) (label : Option Word) (symbols rest : List Word) : Type 0 where
+  pub behind : List Word
+  pub takes : TakesLabel (is_labelled kind) words label behind
+  pub first : List Word
+  pub keyword : first ≡ drop 1 behind
+  pub all : AllSymbols first rest symbols
+
+pub item_read : (kind : Kind) (text : List ℕ) (words : List Word) (label : Option Word) (symbols rest : List Word) → Reads kind words label symbols rest
+    → ◌≡◌ {A = Item} (record { kind = kind; label = option_map (bytes_in text) label; symbols = map (bytes_in text) symbols; proof = plain_bytes text rest }) (item_of kind (tokens_of text words))
+item_read kind text words label symbols rest h =
+    let from = symbols_from kind in
+    let first : h.first ≡ drop from words = h.keyword ∙ behind_label (is_labelled kind) words h.behind label h.takes in
+    let spelled : map (bytes_in text) symbols ≡ names (symbols_in kind (tokens_of text words)) = ap (map (bytes_in text)) h.all.are ∙ ap (plain_bytes text) first ∙ sym (names_from text words from) in
+    let count : length (plain_words h.first) ≡ length (symbols_in kind (tokens_of text words)) = ap length (sym h.all.are) ∙ sym (count_bytes text symbols) ∙ ap length spelled ∙ count_names (symbols_in kind (tokens_of text words)) in
+    let places : from + (length (plain_words h.first) + 1) ≡ from + length (symbols_in kind (tokens_of text words)) + 1 = omega (arith, count) in
+    let behind : rest ≡ drop (from + length (symbols_in kind (tokens_of text words)) + 1) words = h.all.rest ∙ ap (drop (length (plain_words h.first) + 1)) first ∙ drop-drop (length (plain_words h.first) + 1) from words ∙ ap (λ k. drop k words) places in
+    let proof : plain_bytes text rest ≡ names (proof_in kind (tokens_of text words)) = ap (plain_bytes text) behind ∙ sym (names_from text words (from + length (symbols_in kind (tokens_of text words)) + 1)) in
+    let labelled : option_map (bytes_in text) label ≡ label_in kind (tokens_of text words) = label_is (is_labelled kind) text words h.behind label h.takes in
+    λ i. record { kind = kind; label = labelled i; symbols = spelled i; proof = proof i }

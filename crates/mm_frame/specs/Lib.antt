@@ -26,7 +26,9 @@ pub mod Tables
 pub mod Judging
 pub mod Known
 pub mod Statement
+pub mod PlainWords
 pub mod Spoken
+pub mod SpokenProof
 pub mod Scoping
 pub mod Seen
 pub mod Named

@@ -11,6 +11,7 @@ mod one_base;
 mod own_labels;
 mod pair_lists;
 mod paired;
+mod proof_words;
 mod same;
 mod scope;
 mod statement;
@@ -26,6 +27,7 @@ pub use mm_store::{
 };
 pub use one_base::files_have_one_base;
 pub use own_labels::{has_own_labels, items_have_labels, mandatory_means, mandatory_stand_before};
+pub use proof_words::ProofWords;
 pub use same::same_frame;
 pub use statement::Statement;
 pub use symbol::NamedSymbol;

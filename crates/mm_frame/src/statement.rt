@@ -1,70 +1,52 @@
 //! What an item of the files says.
 
-ghost use Rattle.std.specs.Prelude.{◌≡◌, ◌+◌, ◌<◌, ◌≤◌, [], false, None, Some, All, IfOk, length, drop, is_some, slice_get, slice_index_or};
+ghost use Rattle.std.specs.Prelude.{◌≡◌, ◌+◌, ◌<◌, ◌≤◌, [], false, None, All, IfOk, IfSome, OnOk, length, drop, is_some, slice_index_or};
 ghost use Rattle.std.specs.Option.{option_map};
-ghost use Rattle.std.specs.List.{prefix_len};
 ghost use Rattle.mm_store.specs.FileFacts.{CanBeRead};
 ghost use Rattle.mm_frame.specs.Item as meant;
 ghost use Rattle.mm_frame.specs.Sound.{first_symbol};
-ghost use Rattle.mm_frame.specs.Spoken.{IsInside};
+ghost use Rattle.mm_frame.specs.PlainWords.{IsInside, TakesLabel, bytes_in, plain_words};
 ghost use Rattle.mm_frame.specs.Statement as spoken;
 ghost use Rattle.mm_frame.specs.Statement.{Says};
 ghost use Rattle.mm_text.specs.Unit.{tokens_of};
 
+use crate::proof_words::ProofWords;
 use mm_store::{Files, Item, ItemKind};
-use mm_text::{Word, WordKind, one_meaning, words};
+use mm_text::{Word, WordCursor, WordKind};
 use std::alloc::{AllocError, Global};
 use std::marker::Model;
 
 /// A statement or another item of the files: its kind, its label, its symbols, and the words of its proof.
 ///
-/// The words are slices of the text of the item's piece; nothing is copied.
+/// The words are slices of the text of the item's piece; nothing is copied. Those up to the `$=` or `$.` are read once
+/// and kept; those of the proof are read where they are asked for.
 #[derive(Drop)]
 pub struct Statement<'a> {
     kind: ItemKind,
     text: &'a [u8],
-    words: Vec<Word>,
-    symbols: usize,
-    proof: usize,
+    label: Option<Word>,
+    symbols: Vec<Word>,
+    /// The words behind the one that closes the symbols.
+    rest: WordCursor<'a>,
 }
 
 impl<'a> Model for Statement<'a> {
     ghost use Rattle.mm_frame.specs.Item.{Item};
-    ghost use Rattle.mm_frame.specs.Spoken.{item_inside, IsCounted};
+    ghost use Rattle.mm_frame.specs.Spoken.{item_inside, IsSpoken};
 
     ghost Value = { Item };
 
     ghost view = { item_inside };
 
-    ghost invariant = { IsCounted };
+    ghost invariant = { IsSpoken };
 }
 
-fn is_plain(kind: WordKind) -> bool
+pub(crate) fn is_plain(kind: WordKind) -> bool
     ensures { result ≡ spoken.is_plain_kind kind }
 {
     match kind {
         WordKind::Plain => true,
         WordKind::Keyword(_) => false,
-    }
-}
-
-/// How many words stand before the first keyword.
-fn plain_count(words: &[Word]) -> usize
-    ensures within { result ≤ length words.now }
-    ensures value { result ≡ prefix_len (λ word. spoken.is_plain_kind word.kind) words.now }
-{
-    words.iter().take_while(|word| is_plain(word.kind)).count()
-}
-
-/// How many words stand at a place and behind it before the next keyword.
-fn plain_count_from(words: &[Word], from: usize) -> usize
-    ensures within { result ≤ length words.now }
-    ensures value { result ≡ prefix_len (λ word. spoken.is_plain_kind word.kind) (drop from words.now) }
-{
-    if from > words.len() {
-        0
-    } else {
-        plain_count(&words[from..])
     }
 }
 
@@ -85,47 +67,78 @@ fn symbols_from(kind: ItemKind) -> usize
 }
 
 /// The bytes of a word.
-fn bytes_of<'a>(text: &'a [u8], words: &[Word], n: usize) -> &'a [u8]
-    requires in_text { All (IsInside text.now) words.now }
-    requires within { n < length words.now }
-    ensures { option_map (λ token. token.bytes) (slice_get (tokens_of text.now words.now) n) ≡ Some result.now }
+pub(crate) fn bytes_of(text: &[u8], word: Word) -> &[u8]
+    requires { IsInside text.now word }
+    ensures { result.now ≡ bytes_in text.now word }
 {
-    let word = words[n];
     &text[word.start..word.end]
 }
 
+/// The first word of an item of this kind, where that is a label.
+fn read_label(kind: ItemKind, words: &mut WordCursor) -> Option<Word>
+    requires { 0 < length words.old.words }
+    ensures text { words.new.text ≡ words.old.text }
+    ensures label { TakesLabel (meant.is_labelled (spoken.kind_of kind)) words.old.words result words.new.words }
+    ensures within { IfSome result (IsInside words.old.text) }
+{
+    if is_labelled(kind) {
+        words.next_word()
+    } else {
+        None
+    }
+}
+
+/// The words before the next keyword; it is read, too.
+fn read_symbols(alloc: Global, words: &mut WordCursor) -> Result<Vec<Word>, AllocError>
+    ensures text { words.new.text ≡ words.old.text }
+    ensures symbols { IfOk result (λ symbols. symbols.items ≡ plain_words words.old.words) }
+    ensures rest { OnOk result (words.new.words ≡ drop (length (plain_words words.old.words) + 1) words.old.words) }
+    ensures within { IfOk result (λ symbols. All (IsInside words.old.text) symbols.items) }
+{
+    let mut symbols = Vec::new(alloc);
+    while let Some(word) = words.next_word() {
+        if !is_plain(word.kind) {
+            return Ok(symbols);
+        }
+        symbols.push(word)?;
+    }
+    Ok(symbols)
+}
+
 impl<'a> Statement<'a> {
-    /// What an item of the files says. The item's bytes are read once.
+    /// What an item of the files says. The item's bytes are read up to its proof.
     pub fn read(alloc: Global, files: &'a Files, item: &Item) -> Result<Self, AllocError>
         requires { CanBeRead files.now item.now }
         ensures says { IfOk result (Says files.now item.now) }
         ensures only { IfOk result (λ read. (said : meant.Item) → Says files.now item.now said → read ≡ said) }
     {
-        one_meaning();
         let text = &files.piece(item.key)[item.start..item.end];
-        match words(alloc, text) {
-            Ok(words) => Ok(Statement::new(item.kind, text, words)),
-            // an item is a text with words: memory is wanting
-            Err(_) => Err(AllocError),
-        }
+        Ok(Statement::new(alloc, item.kind, text, WordCursor::new(text))?)
     }
 
     /// The statement of this kind that has these words.
-    fn new(kind: ItemKind, text: &'a [u8], words: Vec<Word>) -> Self
-        requires in_text { All (IsInside text.now) words.items }
-        requires some { 0 < length words.items }
-        ensures { result ≡ spoken.item_of (spoken.kind_of kind) (tokens_of text.now words.items) }
+    fn new(
+        alloc: Global,
+        kind: ItemKind,
+        text: &'a [u8],
+        words: WordCursor<'a>,
+    ) -> Result<Self, AllocError>
+        requires text { words.text ≡ text.now }
+        requires some { 0 < length words.words }
+        requires few { length words.words ≤ 4294967295 }
+        ensures { IfOk result (λ new. new ≡ spoken.item_of (spoken.kind_of kind) (tokens_of text.now words.entry.words)) }
     {
-        let first = symbols_from(kind);
-        let symbols = plain_count_from(&words, first);
-        let proof = plain_count_from(&words, first + symbols + 1);
-        Statement {
+        let mut rest = words;
+        let label = read_label(kind, &mut rest);
+        let _keyword = rest.next_word();
+        let symbols = read_symbols(alloc, &mut rest)?;
+        Ok(Statement {
             kind,
             text,
-            words,
+            label,
             symbols,
-            proof,
-        }
+            rest,
+        })
     }
 
     /// What the item is. Only a `$f`, `$e`, `$a` or `$p` has a label.
@@ -141,10 +154,9 @@ impl<'a> Statement<'a> {
         ensures label { option_map (λ label. label.now) result ≡ self.now.label }
         ensures some { is_some result ≡ meant.is_labelled self.now.kind }
     {
-        if is_labelled(self.kind) {
-            Some(bytes_of(self.text, &self.words, 0))
-        } else {
-            None
+        match self.label {
+            Some(word) => Some(bytes_of(self.text, word)),
+            None => None,
         }
     }
 
@@ -152,7 +164,7 @@ impl<'a> Statement<'a> {
     pub fn symbol_count(&self) -> usize
         ensures { result ≡ length self.now.symbols }
     {
-        self.symbols
+        self.symbols.len()
     }
 
     /// The n-th symbol, counted from 0.
@@ -160,7 +172,7 @@ impl<'a> Statement<'a> {
         requires { n < length self.now.symbols }
         ensures { result.now ≡ slice_index_or self.now.symbols n [] }
     {
-        bytes_of(self.text, &self.words, symbols_from(self.kind) + n)
+        bytes_of(self.text, self.symbols[n])
     }
 
     /// The place of the n-th symbol, counted from 0, among all words of the statement, which are counted from 0 as
@@ -173,23 +185,13 @@ impl<'a> Statement<'a> {
         symbols_from(self.kind) + n
     }
 
-    /// How many words the proof has: none where there is no proof.
-    pub fn proof_count(&self) -> usize
-        ensures { result ≡ length self.now.proof }
+    /// The words of the proof, from the first one on: at most 4,294,967,295, and none where there is no proof. It takes
+    /// no memory.
+    pub fn proof(&self) -> ProofWords<'a>
+        ensures words { result ≡ self.now.proof }
+        ensures few { length result ≤ 4294967295 }
     {
-        self.proof
-    }
-
-    /// The n-th word of the proof, counted from 0.
-    pub fn proof_word(&self, n: usize) -> &'a [u8]
-        requires { n < length self.now.proof }
-        ensures { result.now ≡ slice_index_or self.now.proof n [] }
-    {
-        bytes_of(
-            self.text,
-            &self.words,
-            symbols_from(self.kind) + self.symbols + 1 + n,
-        )
+        ProofWords::new(self.text, self.rest.again())
     }
 
     /// The place of the n-th word of the proof, counted from 0, among all words of the statement, which are counted
@@ -198,6 +200,6 @@ impl<'a> Statement<'a> {
         requires { n < length self.now.proof }
         ensures { result ≡ spoken.symbols_from self.now.kind + length self.now.symbols + 1 + n }
     {
-        self.symbols + symbols_from(self.kind) + 1 + n
+        symbols_from(self.kind) + self.symbols.len() + 1 + n
     }
 }

@@ -112,9 +112,10 @@ fn words_of(alloc: Global, files: &Files, item: &Item) -> Result<Vec<u8>, AllocE
         words.extend_from_slice(statement.symbol(n))?;
     }
     words.extend_from_slice(b" =")?;
-    for n in 0..statement.proof_count() {
+    let mut proof = statement.proof();
+    while let Some(word) = proof.next_word() {
         words.extend_from_slice(b" ")?;
-        words.extend_from_slice(statement.proof_word(n))?;
+        words.extend_from_slice(word)?;
     }
     Ok(words)
 }
@@ -150,7 +151,8 @@ fn last_place(alloc: Global, files: &Files, item: &Item) -> Result<Option<usize>
     requires { CanBeRead files.now item.now }
 {
     let statement = Statement::read(alloc, files, item)?;
-    if statement.proof_count() == 2 && statement.kind() == ItemKind::Theorem {
+    let mut proof = statement.proof();
+    if proof.next_word().is_some() && proof.next_word().is_some() {
         Ok(Some(statement.proof_place(1)))
     } else {
         Ok(None)

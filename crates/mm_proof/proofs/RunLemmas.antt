@@ -1,8 +1,8 @@
 -- A proof that is run label by label.
-use Rattle.std.proofs.Common.{◌≡◌, ◌≢◌, ◌↔◌, ℕ, ◌+◌, ◌<◌, ◌≤◌, true, false, Bool, Some, List, [], ◌∷◌, ◌++◌, length, map, take, get_or, refl, sym, ◌∙◌, ap, subst, arith, append_assoc, inl, inr}
+use Rattle.std.proofs.Common.{◌≡◌, ◌≢◌, ◌↔◌, ℕ, ◌+◌, ◌<◌, ◌≤◌, true, false, Bool, Some, List, [], ◌∷◌, ◌++◌, length, map, take, drop, get_or, refl, sym, ◌∙◌, ap, subst, arith, append_assoc, inl, inr, zero-add}
 use Rattle.std.specs.Prelude.{slice_get, All, AllPairs, Contains}
 use Rattle.std.specs.Option.{option_map}
-use Rattle.std.proofs.lemmas.List.{append-nil, take_more, take_all, length-map, get_or_default}
+use Rattle.std.proofs.lemmas.List.{append-nil, take_more, take_all, drop_more, length-map, get_or_default}
 use Rattle.std.proofs.lemmas.List.Elements.{All-contains}
 use Rattle.std.proofs.lemmas.Option.{slice_get-map, slice_get-get_or, slice_get_within, get_or_from_slice_get}
 use Rattle.mm_frame.specs.Language.{Symbol, Mandatory, Frame, Assertion, Place, AreSameFrame, HasVariable}
@@ -11,6 +11,7 @@ use Rattle.mm_frame.specs.Item.{Item, item_at}
 use Rattle.mm_frame.specs.Framing.{place_of, statement_of}
 use Rattle.mm_proof.specs.Derivation.{Derives}
 use Rattle.mm_proof.specs.Expansion.{Step, Named, Expanded, expand_from}
+use Rattle.mm_proof.specs.Left.{AreLeft}
 use Rattle.mm_proof.specs.Reaches.{Reaches}
 use Rattle.mm_proof.specs.Steps.{Cites, Moves}
 use Rattle.mm_proof.proofs.Fronts.{reached_earlier}
@@ -112,6 +113,23 @@ derives_reaches place labels statement =
 -- the step that a word of a proof is
 pub step_at : (proof : List (List ℕ)) (k : ℕ) (label : List ℕ) → k < length proof → label ≡ get_or proof k [] → slice_get (steps_of proof) k ≡ Some (Named label)
 step_at proof k label within is = slice_get-map Named proof k ∙ ap (option_map Named) (slice_get-get_or proof k [] within ∙ ap Some (sym is))
+
+-- the label that is taken behind some words
+pub record Takes (proof new : List (List ℕ)) (k : ℕ) (label : List ℕ) : Type 0 where
+  pub step : slice_get (steps_of proof) k ≡ Some (Named label)
+  pub left : AreLeft proof new (k + 1)
+
+pub take_label : (proof left new : List (List ℕ)) (k : ℕ) (label : List ℕ) → AreLeft proof left k → left ≡ label ∷ new → Takes proof new k label
+take_label proof left new k label h e =
+    let within : k < length proof = omega (arith, h.count, ap length e) in
+    let split : label ∷ new ≡ get_or proof k [] ∷ drop (k + 1) proof = sym e ∙ h.are ∙ drop_more proof k [] within in
+    let is : label ≡ get_or proof k [] = cc in
+    let behind : new ≡ drop (k + 1) proof = cc in
+    record { step = step_at proof k label within is; left = record { are = behind; count = omega (arith, h.count, ap length e) } }
+
+-- before the first label
+pub first_left : (proof words : List (List ℕ)) → words ≡ proof → AreLeft proof words 0
+first_left proof words e = record { are = e; count = zero-add (length words) ∙ ap length e }
 
 -- all steps, once the words are passed
 pub all_steps : (proof : List (List ℕ)) (k : ℕ) → length proof ≤ k → take k (steps_of proof) ≡ steps_of proof

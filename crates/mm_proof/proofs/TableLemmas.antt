@@ -5,10 +5,11 @@ use Rattle.std.proofs.Math.ListN.{drop_of_length-le}
 use Rattle.std.proofs.lemmas.List.{append-nil, map-append}
 use Rattle.mm_proof.specs.Expansion.{Step, Named}
 use Rattle.mm_frame.specs.Base.{BaseView}
-use Rattle.mm_proof.specs.BaseLabels.{label_at, place_at}
+use Rattle.mm_proof.specs.BaseLabels.{label_at, place_at, AreActive}
 use Rattle.mm_proof.specs.Coded.{Tells, meant_steps, letters_give}
 use Rattle.mm_proof.specs.Decoding.{read_label, is_close, compressed_steps, word_spot}
-use Rattle.mm_proof.specs.Labels.{labels_at, AreActive, entry_step, entry_steps, IsEntry, AreEntries, Lists, IsListed, TellsWord}
+use Rattle.mm_proof.specs.Labels.{labels_at, entry_step, entry_steps, IsEntry, AreEntries, Lists, IsListed, TellsWord, Begins}
+use Rattle.mm_proof.specs.Left.{AreLeft}
 use Rattle.mm_proof.specs.LeftToRight.{list_on}
 use Rattle.mm_frame.specs.declared.base.Resolved.{Resolved}
 use Rattle.mm_frame.specs.declared.base.Resolved.TheVariants as answers
@@ -86,6 +87,10 @@ hypothesis_steps view (j ∷ numbers) = ap (λ (w : List Step). Named (label_at 
 pub hypothesis_entries : (view : BaseView) (i : ℕ) (numbers : List ℕ) → AreActive view i numbers → AreEntries view i (map answers.Hypothesis numbers)
 hypothesis_entries view i [] all = tt
 hypothesis_entries view i (j ∷ numbers) all = (all.0, hypothesis_entries view i numbers all.1)
+
+-- behind the `(`, with the mandatory hypotheses as entries
+pub list_begins : (view : BaseView) (i : ℕ) (numbers : List ℕ) (words behind : List (List ℕ)) (labels : List Resolved) → labels ≡ map answers.Hypothesis numbers → AreActive view i numbers → AreLeft words behind 1 → Begins view i (labels_at view numbers) words behind labels
+list_begins view i numbers words behind labels e active left = record { left = left; labels_are = rw e (hypothesis_steps view numbers); entries = rw e (hypothesis_entries view i numbers active) }
 
 -- the letters behind the list
 pub compressed_ok :

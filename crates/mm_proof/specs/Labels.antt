@@ -7,12 +7,15 @@ use Rattle.mm_proof.specs.declared.ProofNumber.{ProofNumber}
 use Rattle.mm_proof.specs.declared.step.Undecoded.{Undecoded}
 use Rattle.mm_proof.specs.declared.step.Undecoded.TheVariants as errors
 use Rattle.mm_frame.specs.Base.{BaseView}
+use Rattle.mm_frame.specs.Kept.{IsBase}
+use Rattle.mm_frame.specs.declared.base.Base.{Base}
 use Rattle.mm_frame.specs.Resolving.{Resolves}
 use Rattle.mm_proof.specs.BaseLabels.{label_at, place_at}
 use Rattle.mm_proof.specs.Expansion.{Step, Named, NotKnown}
 use Rattle.mm_proof.specs.Decoding.{word_spot, compressed_steps, letter_steps, in_order, each_word, read_word, is_close, is_compressed}
 use Rattle.mm_proof.specs.LeftToRight.{list_on, with_steps}
-use Rattle.mm_proof.specs.Coded.{meant_steps}
+use Rattle.mm_proof.specs.Coded.{Tells, meant_steps}
+use Rattle.mm_proof.specs.Left.{AreLeft}
 use Rattle.mm_proof.specs.declared.step.ProofStep.{ProofStep}
 
 -- the step that an entry of the table stands for: its label, or `?`
@@ -39,10 +42,6 @@ AreEntries base i labels = AllByRecursion (IsEntry base i) labels
 abbrev pub labels_at : BaseView → List ℕ → List (List ℕ)
 labels_at base numbers = map (label_at base) numbers
 
--- the items are hypotheses that are active at item i
-abbrev pub AreActive : BaseView → ℕ → List ℕ → Type 0
-AreActive base i numbers = AllByRecursion (λ j. Resolves base i (label_at base j) (answers.Hypothesis j)) numbers
-
 -- a fault that is told is that of a word
 abbrev pub TellsWord : Undecoded → ℕ → Result Step ProofNumber → Type 0
 TellsWord (errors.Fault fault) n read = (read ≡ Err fault.number) × (fault.spot ≡ word_spot n)
@@ -55,6 +54,21 @@ word_step word = if bytes_eq word (codes "?") then NotKnown else Named word
 -- what the table of a proof has: the mandatory hypotheses and the listed labels, or each word
 abbrev pub label_table : List (List ℕ) → List (List ℕ) → List Step
 label_table mandatory words = if is_compressed words then map Named (mandatory ++ before_first is_close (drop 1 words)) else map word_step words
+
+-- before the list: these words are left behind the `(`, and the entries are those of the mandatory hypotheses
+pub record Begins (base : BaseView) (i : ℕ) (mandatory words behind : List (List ℕ)) (labels : List Resolved) : Type 0 where
+  pub left : AreLeft words behind 1
+  pub labels_are : entry_steps base labels ≡ map Named mandatory
+  pub entries : AreEntries base i labels
+
+-- so it is with each such proof at an item of the base
+abbrev pub FromBegin : Base → ℕ → List (List ℕ) → List Resolved → (BaseView → List (List ℕ) → List (List ℕ) → Type 0) → Type 0
+FromBegin code i behind labels holds =
+    (base : BaseView) (mandatory words : List (List ℕ)) → IsBase base code → Begins base i mandatory words behind labels → holds base mandatory words
+
+-- a fault that is told is that of the compressed proof
+abbrev pub TellsListed : Undecoded → BaseView → ℕ → List (List ℕ) → List (List ℕ) → Type 0
+TellsListed e base i mandatory words = Tells e (compressed_steps (place_at base i) mandatory (drop 1 words) (word_spot (length words)))
 
 -- the labels that were listed before word n, and what the words from there on give
 pub record Lists (base : BaseView) (i : ℕ) (mandatory words : List (List ℕ)) (n : ℕ) (labels : List Resolved) : Type 0 where

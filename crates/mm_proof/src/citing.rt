@@ -72,7 +72,9 @@ fn cite(
     label: Resolved,
     word: usize,
 ) -> Result<(), AllocError>
-    ensures { OnOk result ((labels : List labels.Resolved) → words.new.items ++ item_cites (contains nat_eq left.new) (word + 1) labels ≡ words.old.items ++ item_cites (contains nat_eq left.old) word (label ∷ labels)) }
+    ensures { OnOk result ((labels : List labels.Resolved) →
+        words.new.items ++ item_cites (contains nat_eq left.new) (word + 1) labels
+        ≡ words.old.items ++ item_cites (contains nat_eq left.old) word (label ∷ labels)) }
 {
     if let Resolved::Assertion(j) = label {
         if take(left, j) {
@@ -91,7 +93,8 @@ fn cited(
     from: usize,
 ) -> Result<Vec<usize>, AllocError>
     requires { from ≤ 1 }
-    ensures { IfOk result (λ words. words.items ≡ item_cites (λ j. list_any (names_item decoding.now.labels.items j) decoding.now.steps.items) from (drop skip decoding.now.labels.items)) }
+    ensures { IfOk result (λ words. words.items
+        ≡ item_cites (λ j. list_any (names_item decoding.now.labels.items j) decoding.now.steps.items) from (drop skip decoding.now.labels.items)) }
 {
     let mut left = named(alloc, &decoding.labels, &decoding.steps)?;
     let mut words = Vec::new(alloc);
@@ -109,7 +112,10 @@ pub fn cites(
     mandatory: usize,
     statement: &Statement,
 ) -> Result<Vec<usize>, AllocError>
-    ensures { IfOk result (λ words. (view : BaseView) (i : ℕ) (numbers : List ℕ) → HasOwnLabels view → length numbers ≡ mandatory → AreEntries view i decoding.now.labels.items → entry_steps view decoding.now.labels.items ≡ label_table (labels_at view numbers) statement.now.proof → words.items ≡ cited_words (place_at view i) statement.now.proof (decoded_steps view decoding.now statement.now.proof).steps) }
+    ensures { IfOk result (λ words. (view : BaseView) (i : ℕ) (numbers : List ℕ) → HasOwnLabels view → length numbers ≡ mandatory →
+        AreEntries view i decoding.now.labels.items →
+        entry_steps view decoding.now.labels.items ≡ label_table (labels_at view numbers) statement.now.proof →
+        words.items ≡ cited_words (place_at view i) statement.now.proof (decoded_steps view decoding.now statement.now.proof).steps) }
 {
     if is_compressed(statement) {
         cited(alloc, decoding, mandatory, 1)

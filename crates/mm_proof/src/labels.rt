@@ -1,19 +1,18 @@
 //! The labels of a proof.
 
-ghost use Rattle.std.specs.Prelude.{◌≡◌, ◌<◌, ◌-◌, ◌^◌, ℕ, List, Ok, IfOk, IfErr, map, drop, length, codes};
-ghost use Rattle.mm_proof.specs.Expansion.{Named};
+ghost use Rattle.std.specs.Prelude.{◌≡◌, ◌≤◌, ◌+◌, ℕ, List, Ok, IfOk, IfErr, map, drop, length, codes};
 ghost use Rattle.mm_frame.specs.Base.{BaseView};
 ghost use Rattle.mm_frame.specs.Kept.{IsBase};
 ghost use Rattle.mm_frame.specs.Resolving.{Resolves};
 ghost use Rattle.mm_proof.specs.BaseLabels.{label_at, place_at};
-ghost use Rattle.mm_proof.specs.Decoding.{word_spot, compressed_steps, read_label as read_label_lem, is_close as is_close_lem};
-ghost use Rattle.mm_proof.specs.Coded.{Tells};
+ghost use Rattle.mm_proof.specs.Decoding.{word_spot, read_label as read_label_lem, is_close as is_close_lem};
 ghost use Rattle.mm_proof.specs.declared.step.Undecoded.TheVariants as errors;
-ghost use Rattle.mm_proof.specs.Labels.{TellsWord, IsListed, AreEntries, IsEntry, entry_step, entry_steps};
+ghost use Rattle.mm_proof.specs.Labels.{TellsWord, FromBegin, IsListed, TellsListed, IsEntry, entry_step};
+ghost use Rattle.mm_proof.specs.Left.{AreLeft};
 
 use crate::step::{ProofFault, Undecoded};
 use crate::{ProofNumber, Spot};
-use mm_frame::{Base, Resolved, Statement};
+use mm_frame::{Base, ProofWords, Resolved};
 
 /// A fault at a word.
 fn fault_at(number: ProofNumber, word: usize) -> Undecoded
@@ -47,23 +46,26 @@ fn is_close(word: &[u8]) -> bool
 }
 
 /// Reads the list of labels behind the `(` of a compressed proof, puts what they mean behind the `labels`, and gives the
-/// number of the first `)`. After an error some may have been put there.
+/// number of the first `)`; the words behind it are left. After an error some may have been put there.
 pub fn read_list(
     base: &Base,
     i: usize,
-    statement: &Statement,
+    words: &mut ProofWords,
     labels: &mut Vec<Resolved>,
 ) -> Result<usize, Undecoded>
-    ensures ok { IfOk result (λ n. (view : BaseView) (mandatory : List (List ℕ)) → IsBase view base.now → entry_steps view labels.old.items ≡ map Named mandatory → AreEntries view i labels.old.items → IsListed view i mandatory statement.now.proof n labels.new.items) }
-    ensures within { IfOk result (λ n. n < 2 ^ 64 - 1) }
-    ensures err { IfErr result (λ e. (view : BaseView) (mandatory : List (List ℕ)) → IsBase view base.now → entry_steps view labels.old.items ≡ map Named mandatory → AreEntries view i labels.old.items → Tells e (compressed_steps (place_at view i) mandatory (drop 1 statement.now.proof) (word_spot (length statement.now.proof)))) }
+    requires { length words.old ≤ 4294967295 }
+    ensures ok { IfOk result (λ n. FromBegin base.now i words.old labels.old.items (λ view mandatory all. IsListed view i mandatory all n labels.new.items)) }
+    ensures behind { IfOk result (λ n. (all : List (List ℕ)) → AreLeft all words.old 1 → AreLeft all words.new (n + 1)) }
+    ensures few { IfOk result (λ n. n + length words.new ≤ 4294967295) }
+    ensures err { IfErr result (λ e. FromBegin base.now i words.old labels.old.items (λ view mandatory all. TellsListed e view i mandatory all)) }
 {
-    for n in 1..statement.proof_count() {
-        let word = statement.proof_word(n);
+    let mut n = 1;
+    while let Some(word) = words.next_word() {
         if is_close(word) {
             return Ok(n);
         }
         labels.push(read_label(base, i, word, n)?)?;
+        n += 1;
     }
-    Err(fault_at(ProofNumber::P03, statement.proof_count()))
+    Err(fault_at(ProofNumber::P03, n))
 }

@@ -5,11 +5,11 @@ ghost use Rattle.mm_proof.specs.Expansion.{Step};
 ghost use Rattle.mm_proof.specs.Numbers as numbers;
 ghost use Rattle.mm_proof.specs.Decoding.{nameable, named as named_lem};
 ghost use Rattle.mm_proof.specs.LeftToRight.{read_behind, alone_behind, read_on};
-ghost use Rattle.mm_proof.specs.Coded.{Tells, meant, meant_or, meant_steps, letters_give};
+ghost use Rattle.mm_proof.specs.Coded.{Tells, meant, meant_or, meant_steps, LettersGive};
 
 use crate::step::{Action, ProofFault, ProofStep, Undecoded};
 use crate::{ProofNumber, Spot};
-use mm_frame::Statement;
+use mm_frame::ProofWords;
 use std::alloc::Global;
 
 /// Whether a byte is one of the digits `U` to `Y`.
@@ -30,7 +30,8 @@ fn with_digit(digits: usize, worth: usize) -> usize
 fn named(labels: usize, saves: usize, digits: usize, last: usize) -> Result<Action, ProofNumber>
     requires few { labels + saves < 2 ^ 64 - 1 }
     requires some { 0 < last }
-    ensures { (names : List Step) (n : ℕ) → length names ≡ labels → digits ≡ min n (2 ^ 64 - 1) → meant_or names result ≡ named_lem (slice_get (nameable names saves) (20 * n + last - 1)) }
+    ensures { (names : List Step) (n : ℕ) → length names ≡ labels → digits ≡ min n (2 ^ 64 - 1) →
+        meant_or names result ≡ named_lem (slice_get (nameable names saves) (20 * n + last - 1)) }
 {
     let value = digits.saturating_mul(20).saturating_add(last);
     if value <= labels {
@@ -56,7 +57,8 @@ fn alone(digits: usize, action: Action) -> Result<Action, ProofNumber>
 /// What a letter that is no digit does behind these digits.
 fn action(labels: usize, saves: usize, digits: usize, byte: u8) -> Result<Action, ProofNumber>
     requires few { labels + saves < 2 ^ 64 - 1 }
-    ensures { (names : List Step) (n : ℕ) → length names ≡ labels → digits ≡ min n (2 ^ 64 - 1) → meant_or names result ≡ read_behind (nameable names saves) n byte }
+    ensures { (names : List Step) (n : ℕ) → length names ≡ labels → digits ≡ min n (2 ^ 64 - 1) →
+        meant_or names result ≡ read_behind (nameable names saves) n byte }
 {
     match byte {
         b'A'..=b'T' => named(labels, saves, digits, usize::from(byte - b'@')),
@@ -147,24 +149,24 @@ impl LetterReader {
     }
 }
 
-/// The steps of the letters of a proof, which go from the word with the number `from` on, where numbers name this many
-/// labels and then the saves.
+/// The steps of the letters of a proof, which are the words that are left, from the word with the number `from` on, where
+/// numbers name this many labels and then the saves.
 pub fn read_letters(
     alloc: Global,
-    statement: &Statement,
+    words: &mut ProofWords,
     from: usize,
     labels: usize,
 ) -> Result<Vec<ProofStep>, Undecoded>
-    requires { labels < 2 ^ 63 }
-    ensures ok { IfOk result (λ steps. (names : List Step) → length names ≡ labels → letters_give names statement.now.proof from ≡ Ok (meant_steps names steps.items)) }
-    ensures err { IfErr result (λ e. (names : List Step) → length names ≡ labels → Tells e (letters_give names statement.now.proof from)) }
+    requires few { from + length words.old < 2 ^ 64 }
+    requires labels { labels < 2 ^ 63 }
+    ensures ok { IfOk result (λ steps. LettersGive labels words.old from (λ names given. given ≡ Ok (meant_steps names steps.items))) }
+    ensures err { IfErr result (λ e. LettersGive labels words.old from (λ names given. Tells e given)) }
 {
     let mut reader = LetterReader::new(alloc, labels);
-    for n in from..statement.proof_count() {
-        reader.read_word(n, statement.proof_word(n))?;
+    let mut n = from;
+    while let Some(word) = words.next_word() {
+        reader.read_word(n, word)?;
+        n += 1;
     }
-    reader.end(Spot {
-        word: statement.proof_count(),
-        letter: 0,
-    })
+    reader.end(Spot { word: n, letter: 0 })
 }

@@ -146,8 +146,8 @@ fn run<'a>(
 {
     mm_frame::places_have_frames();
     let mut stack = Vec::new(alloc);
-    for word in 0..statement.proof_count() {
-        let label = statement.proof_word(word);
+    let mut words = statement.proof();
+    while let Some(label) = words.next_word() {
         if !step(alloc, base, number, disjoint, label, &mut stack)? {
             return Ok(None);
         }

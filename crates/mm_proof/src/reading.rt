@@ -1,16 +1,17 @@
 //! Decoding: the steps of a proof, or its first fault.
 
-ghost use Rattle.std.specs.Prelude.{◌≡◌, ℕ, ◌+◌, List, Ok, IfOk, IfErr, map, drop, length, codes, bytes_eq, ◌∷◌, ◌++◌};
+ghost use Rattle.std.specs.Prelude.{◌≡◌, true, ℕ, ◌+◌, List, Ok, IfOk, IfErr, map, drop, length, codes, bytes_eq, ◌∷◌, ◌++◌};
 ghost use Rattle.std.specs.List.{before_first};
 ghost use Rattle.mm_proof.specs.Expansion.{Step, Named};
 ghost use Rattle.mm_frame.specs.Base.{BaseView};
 ghost use Rattle.mm_frame.specs.Kept.{IsBase};
-ghost use Rattle.mm_proof.specs.BaseLabels.{label_at, place_at};
-ghost use Rattle.mm_proof.specs.Decoding.{word_spot, read_word as read_word_lem, in_order, each_word, compressed_steps, decoding, is_close, is_compressed as is_compressed_lem};
+ghost use Rattle.mm_proof.specs.BaseLabels.{label_at, place_at, AreActive};
+ghost use Rattle.mm_proof.specs.Decoding.{word_spot, read_word as read_word_lem, compressed_steps, is_compressed as is_compressed_lem};
 ghost use Rattle.mm_frame.specs.declared.base.Resolved.TheVariants as answers;
 ghost use Rattle.mm_proof.specs.Coded.{Tells, meant, meant_steps};
-ghost use Rattle.mm_proof.specs.Decoded.{decoded_steps, TellsFault};
-ghost use Rattle.mm_proof.specs.Labels.{TellsWord, AreEntries, AreActive, IsEntry, entry_step, entry_steps, labels_at, label_table, word_step};
+ghost use Rattle.mm_proof.specs.Decoded.{decoded_steps, TellsFault, InViews, WhereActive, compressed_at, normal_at, decoding_of};
+ghost use Rattle.mm_proof.specs.Decoded.{steps_by, listed_table};
+ghost use Rattle.mm_proof.specs.Labels.{TellsWord, AreEntries, IsEntry, entry_step, entry_steps, labels_at, label_table, word_step};
 
 use crate::Spot;
 use crate::labels::{read_label, read_list};
@@ -47,14 +48,19 @@ fn decode_compressed(
     mandatory: &[usize],
     statement: &Statement,
 ) -> Result<Decoding, Undecoded>
+    requires { is_compressed_lem statement.now.proof ≡ true }
     ensures ok { IfOk result (λ d. (view : BaseView) → IsBase view base.now → AreActive view i mandatory.now → compressed_steps (place_at view i) (labels_at view mandatory.now) (drop 1 statement.now.proof) (word_spot (length statement.now.proof)) ≡ Ok (meant_steps (entry_steps view d.labels.items) d.steps.items)) }
-    ensures entries { IfOk result (λ d. (view : BaseView) → IsBase view base.now → AreActive view i mandatory.now → AreEntries view i d.labels.items) }
-    ensures table { IfOk result (λ d. (view : BaseView) → IsBase view base.now → AreActive view i mandatory.now → entry_steps view d.labels.items ≡ map Named (labels_at view mandatory.now ++ before_first is_close (drop 1 statement.now.proof))) }
-    ensures err { IfErr result (λ e. (view : BaseView) → IsBase view base.now → AreActive view i mandatory.now → Tells e (compressed_steps (place_at view i) (labels_at view mandatory.now) (drop 1 statement.now.proof) (word_spot (length statement.now.proof)))) }
+    ensures entries { IfOk result (λ d. WhereActive base.now i mandatory.now (λ view. AreEntries view i d.labels.items)) }
+    ensures table { IfOk result (λ d. WhereActive base.now i mandatory.now (λ view.
+        entry_steps view d.labels.items ≡ listed_table view mandatory.now statement.now.proof)) }
+    ensures err { IfErr result (λ e. WhereActive base.now i mandatory.now (λ view.
+        Tells e (compressed_at view i mandatory.now statement.now.proof))) }
 {
     let mut labels = hypotheses(alloc, mandatory)?;
-    let close = read_list(base, i, statement, &mut labels)?;
-    let steps = read_letters(alloc, statement, close + 1, labels.len())?;
+    let mut words = statement.proof();
+    let _open = words.next_word();
+    let close = read_list(base, i, &mut words, &mut labels)?;
+    let steps = read_letters(alloc, &mut words, close + 1, labels.len())?;
     Ok(Decoding { labels, steps })
 }
 
@@ -67,10 +73,11 @@ fn is_unknown(word: &[u8]) -> bool
 
 /// What the n-th word of a normal proof of the item with the number `i` names, and what it does.
 fn read_word(base: &Base, i: usize, word: &[u8], n: usize) -> Result<(Resolved, Action), Undecoded>
-    ensures ok { IfOk result (λ read. (view : BaseView) → IsBase view base.now → read_word_lem (place_at view i) word.now ≡ Ok (entry_step view read.0)) }
-    ensures action { IfOk result (λ read. (view : BaseView) (before after : List Step) → IsBase view base.now → length before ≡ n → meant (before ++ entry_step view read.0 ∷ after) read.1 ≡ entry_step view read.0) }
-    ensures entry { IfOk result (λ read. (view : BaseView) → IsBase view base.now → IsEntry view i read.0) }
-    ensures err { IfErr result (λ e. (view : BaseView) → IsBase view base.now → TellsWord e n (read_word_lem (place_at view i) word.now)) }
+    ensures ok { IfOk result (λ read. InViews base.now (λ view. read_word_lem (place_at view i) word.now ≡ Ok (entry_step view read.0))) }
+    ensures action { IfOk result (λ read. (view : BaseView) (before after : List Step) → IsBase view base.now → length before ≡ n →
+        meant (before ++ entry_step view read.0 ∷ after) read.1 ≡ entry_step view read.0) }
+    ensures entry { IfOk result (λ read. InViews base.now (λ view. IsEntry view i read.0)) }
+    ensures err { IfErr result (λ e. InViews base.now (λ view. TellsWord e n (read_word_lem (place_at view i) word.now))) }
 {
     if is_unknown(word) {
         Ok((Resolved::Unknown, Action::Unknown))
@@ -86,20 +93,23 @@ fn decode_normal(
     i: usize,
     statement: &Statement,
 ) -> Result<Decoding, Undecoded>
-    ensures ok { IfOk result (λ d. (view : BaseView) → IsBase view base.now → in_order (each_word (read_word_lem (place_at view i)) 0 statement.now.proof) ≡ Ok (meant_steps (entry_steps view d.labels.items) d.steps.items)) }
-    ensures entries { IfOk result (λ d. (view : BaseView) → IsBase view base.now → AreEntries view i d.labels.items) }
-    ensures table { IfOk result (λ d. (view : BaseView) → IsBase view base.now → entry_steps view d.labels.items ≡ map word_step statement.now.proof) }
-    ensures err { IfErr result (λ e. (view : BaseView) → IsBase view base.now → Tells e (in_order (each_word (read_word_lem (place_at view i)) 0 statement.now.proof))) }
+    ensures ok { IfOk result (λ d. InViews base.now (λ view. normal_at view i statement.now.proof ≡ Ok (steps_by view d))) }
+    ensures entries { IfOk result (λ d. InViews base.now (λ view. AreEntries view i d.labels.items)) }
+    ensures table { IfOk result (λ d. InViews base.now (λ view. entry_steps view d.labels.items ≡ map word_step statement.now.proof)) }
+    ensures err { IfErr result (λ e. InViews base.now (λ view. Tells e (normal_at view i statement.now.proof))) }
 {
     let mut labels = Vec::new(alloc);
     let mut steps = Vec::new(alloc);
-    for word in 0..statement.proof_count() {
-        let (label, action) = read_word(base, i, statement.proof_word(word), word)?;
+    let mut words = statement.proof();
+    let mut n = 0;
+    while let Some(word) = words.next_word() {
+        let (label, action) = read_word(base, i, word, n)?;
         labels.push(label)?;
         steps.push(ProofStep {
             action,
-            spot: Spot { word, letter: 0 },
+            spot: Spot { word: n, letter: 0 },
         })?;
+        n += 1;
     }
     Ok(Decoding { labels, steps })
 }
@@ -108,7 +118,11 @@ fn decode_normal(
 pub fn is_compressed(statement: &Statement) -> bool
     ensures { result ≡ is_compressed_lem statement.now.proof }
 {
-    statement.proof_count() > 0 && matches!(statement.proof_word(0), b"(")
+    let mut words = statement.proof();
+    match words.next_word() {
+        Some(word) => matches!(word, b"("),
+        None => false,
+    }
 }
 
 /// Decodes the proof of the item with the number `i`, whose mandatory hypotheses are the items with these numbers.
@@ -122,10 +136,13 @@ pub fn decode(
     mandatory: &[usize],
     statement: &Statement,
 ) -> Result<Decoding, Undecoded>
-    ensures ok { IfOk result (λ d. (view : BaseView) → IsBase view base.now → AreActive view i mandatory.now → decoding (place_at view i) (labels_at view mandatory.now) statement.now.proof ≡ Ok (decoded_steps view d statement.now.proof)) }
-    ensures entries { IfOk result (λ d. (view : BaseView) → IsBase view base.now → AreActive view i mandatory.now → AreEntries view i d.labels.items) }
-    ensures table { IfOk result (λ d. (view : BaseView) → IsBase view base.now → AreActive view i mandatory.now → entry_steps view d.labels.items ≡ label_table (labels_at view mandatory.now) statement.now.proof) }
-    ensures err { IfErr result (λ e. (view : BaseView) → IsBase view base.now → AreActive view i mandatory.now → TellsFault e (decoding (place_at view i) (labels_at view mandatory.now) statement.now.proof)) }
+    ensures ok { IfOk result (λ d. WhereActive base.now i mandatory.now (λ view.
+        decoding_of view i mandatory.now statement.now.proof ≡ Ok (decoded_steps view d statement.now.proof))) }
+    ensures entries { IfOk result (λ d. WhereActive base.now i mandatory.now (λ view. AreEntries view i d.labels.items)) }
+    ensures table { IfOk result (λ d. WhereActive base.now i mandatory.now (λ view.
+        entry_steps view d.labels.items ≡ label_table (labels_at view mandatory.now) statement.now.proof)) }
+    ensures err { IfErr result (λ e. WhereActive base.now i mandatory.now (λ view.
+        TellsFault e (decoding_of view i mandatory.now statement.now.proof))) }
 {
     if is_compressed(statement) {
         decode_compressed(alloc, base, i, mandatory, statement)

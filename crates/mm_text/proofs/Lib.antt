@@ -12,6 +12,7 @@ pub mod UnitDivisionLemmas
 pub mod LayoutLemmas
 pub mod PositionLemmas
 pub mod ReaderLemmas
+pub mod CursorLemmas
 pub mod PieceLemmas
 pub mod GrammarLemmas
 pub mod PieceUnitLemmas

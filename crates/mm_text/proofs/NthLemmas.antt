@@ -1,43 +1,37 @@
 -- The n-th word, found by reading on.
-use Rattle.std.proofs.Common.{◌≡◌, ◌≢◌, ℕ, suc, ◌-◌, List, [], ◌∷◌, Some, None, Ok, Err, refl, sym, ap, ◌∙◌, arith}
-use Rattle.std.specs.Prelude.{slice_get}
+use Rattle.std.proofs.Common.{◌≡◌, ℕ, zero, suc, ◌+◌, ◌<◌, ◌≤◌, List, [], ◌∷◌, Option, Some, None, Ok, Err, drop, length, refl, sym, ap, ◌∙◌, arith}
+use Rattle.std.specs.Prelude.{slice_get, MatchOption}
+use Rattle.std.proofs.lemmas.List.{drop-drop, length-drop}
+use Rattle.std.proofs.lemmas.Option.{slice_get_past}
 use Rattle.mm_text.specs.declared.word.Word.{Word}
-use Rattle.mm_text.specs.declared.fault.TextFault.{TextFault}
-use Rattle.mm_text.specs.Run.{runs}
-use Rattle.mm_text.specs.Reading.{HasWords}
-use Rattle.mm_text.specs.LeftToRight.{Read, read, cons_word}
-use Rattle.mm_text.proofs.ReadingLemmas.{read_words}
+use Rattle.mm_text.specs.LeftToRight.{Read, cons_word}
 
--- of the words that are still to be read, one is the n-th
-abbrev pub Left : List ℕ → ℕ → ℕ → Read → Type 0
-Left text left n r = (words : List Word) → HasWords text words → (rest : List Word) × (r ≡ Ok rest) × (slice_get rest left ≡ slice_get words n)
-
+-- what is read behind the first word
 pub first_word : (old new : Read) (word : Word) (rest : List Word) → old ≡ cons_word word new → old ≡ Ok rest → (more : List Word) × (rest ≡ word ∷ more) × (new ≡ Ok more)
 first_word old (Ok more) word rest e is = (more, cc, refl)
 first_word old (Err fault) word rest e is = absurd cc
 
-pub nth_init : (text : List ℕ) (n : ℕ) (r : Read) → r ≡ read None (runs text) → Left text n n r
-nth_init text n r e words h = (words, e ∙ read_words (runs text) words h.words_are, refl)
+-- the first of the words from a place on
+first_at : {X : Type 0} (xs : List X) (n : ℕ) → slice_get (drop n xs) 0 ≡ slice_get xs n
+first_at xs zero = refl
+first_at [] (suc n) = refl
+first_at (x ∷ xs) (suc n) = first_at xs n
 
-pub nth_here : (text : List ℕ) (left n : ℕ) (old new : Read) (word : Word) → Left text left n old → left ≡ 0 → old ≡ cons_word word new → (words : List Word) → HasWords text words → Some word ≡ slice_get words n
-nth_here text left n old new word before zero-is e words h =
-    let w = before words h in
-    let f = first_word old new word w.0 e w.1 in
-    ap (λ (rest : List Word). slice_get rest 0) (sym f.1) ∙ ap (slice_get w.0) (sym zero-is) ∙ w.2
+-- what is behind it
+behind_first : {X : Type 0} (xs : List X) (n : ℕ) (x : X) (rest : List X) → drop n xs ≡ x ∷ rest → drop (n + 1) xs ≡ rest
+behind_first xs n x rest e = sym (drop-drop 1 n xs) ∙ ap (drop 1) e
 
-pub nth_more : (text : List ℕ) (left n : ℕ) (old new : Read) (word : Word) → Left text left n old → left ≢ 0 → old ≡ cons_word word new → Left text (left - 1) n new
-nth_more text left n old new word before some e words h =
-    let w = before words h in
-    let f = first_word old new word w.0 e w.1 in
-    let is : suc (left - 1) ≡ left = omega arith in
-    (f.0, f.2, ap (λ (rest : List Word). slice_get rest (suc (left - 1))) (sym f.1) ∙ ap (slice_get w.0) is ∙ w.2)
+-- one more word is taken
+pub goes_on : (words left new : List Word) (n : ℕ) (word : Word) → left ≡ drop n words → left ≡ word ∷ new → new ≡ drop (n + 1) words
+goes_on words left new n word at e = sym (behind_first words n word new (sym at ∙ e))
 
-pub nth_none : (text : List ℕ) (left n : ℕ) (old : Read) → Left text left n old → old ≡ Ok [] → (words : List Word) → HasWords text words → None ≡ slice_get words n
-nth_none text left n old before e words h =
-    let w = before words h in
-    let empty : w.0 ≡ [] = let is : old ≡ Ok w.0 = w.1 in cc in
-    ap (λ (rest : List Word). slice_get rest left) (sym empty) ∙ w.2
+-- the word that a cursor gives behind n words
+pub nth_of : (words left new : List Word) (n : ℕ) (found : Option Word) → left ≡ drop n words → MatchOption found ((left ≡ []) × (new ≡ [])) (λ word. left ≡ word ∷ new) → found ≡ slice_get words n
+nth_of words left new n None at h = ap (λ (l : List Word). slice_get l 0) (sym h.0 ∙ at) ∙ first_at words n
+nth_of words left new n (Some word) at h = ap (λ (l : List Word). slice_get l 0) (sym h ∙ at) ∙ first_at words n
 
--- a text that has words meets no fault
-pub nth_fault : (text : List ℕ) (left n : ℕ) (old : Read) (fault : TextFault) → Left text left n old → old ≡ Err fault → (words : List Word) → ¬ HasWords text words
-nth_fault text left n old fault before e words h = let w = before words h in let is : old ≡ Ok w.0 = w.1 in cc
+-- where no word is left there is none behind
+pub nth_past : (words left : List Word) (n m : ℕ) → left ≡ drop n words → left ≡ [] → n < m → None ≡ slice_get words m
+nth_past words left n m at none less =
+    let past : length words ≤ m = omega (arith, length-drop n words, ap length (sym at ∙ none)) in
+    sym (slice_get_past words m past)

@@ -4,6 +4,8 @@ pub mod Spelling
 pub mod Reading
 pub mod LeftToRight
 pub mod Reader
+pub mod WordsLeft
+pub mod Cursor
 pub mod Place
 pub mod Unit
 pub mod UnitReading

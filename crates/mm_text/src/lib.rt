@@ -12,6 +12,7 @@
 //! into its statements.
 #![tactic(auto)]
 
+mod cursor;
 mod cutting;
 mod division;
 mod fault;
@@ -26,6 +27,7 @@ mod reading;
 mod spelling;
 mod word;
 
+pub use cursor::WordCursor;
 pub use cutting::{cut, ends_white};
 pub use division::parts;
 pub use fault::{TextError, TextFault, TextNumber};

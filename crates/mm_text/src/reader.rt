@@ -14,7 +14,7 @@ pub struct Span {
 }
 
 /// A text that was read up to the byte `from`.
-#[derive(Drop)]
+#[derive(Clone, Copy)]
 pub struct Reader<'a> {
     text: &'a [u8],
     from: usize,

@@ -6,6 +6,7 @@ ghost use Rattle.mm_text.specs.Run.{runs};
 ghost use Rattle.mm_text.specs.LeftToRight.{read, read_text, Gives};
 ghost use Rattle.mm_text.specs.Reading.{first_bad, HasWords, IsErrorOf, IsErrorIn, LiesIn, AreWithin};
 
+use crate::cursor::WordCursor;
 use crate::fault::{TextError, TextFault, TextNumber};
 use crate::reader::Reader;
 use crate::spelling::is_text_byte;
@@ -68,15 +69,9 @@ pub fn nth_word(text: &[u8], n: usize) -> Option<Word>
     ensures nth { (words : List Word) → HasWords text.now words → result ≡ slice_get words n }
     ensures within { IfSome result (LiesIn text.now) }
 {
-    let mut reader = Reader::new(text);
-    let mut left = n;
-    loop {
-        match reader.next_word() {
-            Ok(Some(word)) if left == 0 => return Some(word),
-            Ok(Some(_)) => left -= 1,
-            Ok(None) => return None,
-            // a text that has words has no fault
-            Err(_) => unreachable!(),
-        }
+    let mut cursor = WordCursor::new(text);
+    for _number in 0..n {
+        cursor.next_word()?;
     }
+    cursor.next_word()
 }

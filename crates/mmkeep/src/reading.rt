@@ -31,11 +31,13 @@ fn unread_in_proof(statement: &Statement) -> Option<usize>
     ensures value { result ≡ unread_step statement.now.proof }
     ensures within { IfSome result (λ n. n < length statement.now.proof) }
 {
-    for n in 0..statement.proof_count() {
-        let word = statement.proof_word(n);
+    let mut words = statement.proof();
+    let mut n = 0;
+    while let Some(word) = words.next_word() {
         if is_unknown(word) || (n == 0 && opens_list(word)) {
             return Some(n);
         }
+        n += 1;
     }
     None
 }

@@ -1,9 +1,16 @@
-use Rattle.std.proofs.Common.{◌≡◌, ℕ, List, map}
+use Rattle.std.proofs.Common.{◌≡◌, ◌+◌, ℕ, List, length}
 use Rattle.mm_frame.specs.Base.{BaseView}
 use Rattle.mm_frame.specs.Kept.{IsBase}
-use Rattle.mm_proof.specs.Expansion.{Named}
-use Rattle.mm_proof.specs.Labels.{Lists, AreEntries, entry_steps}
+use Rattle.mm_proof.specs.Labels.{Begins, Lists}
+use Rattle.mm_proof.specs.Left.{AreLeft}
 use Rattle.mm_proof.proofs.labels.read_list.Given as goal
 
-abbrev pub invariant-loop-n : goal.invariant-loop-n
-invariant-loop-n l = (view : BaseView) (mandatory : List (List ℕ)) → IsBase view l.base → entry_steps view l.initial.labels.items ≡ map Named mandatory → AreEntries view l.i l.initial.labels.items → Lists view l.i mandatory l.statement.proof l.n l.labels.items
+abbrev pub invariant-loop-word : goal.invariant-loop-word
+invariant-loop-word l = record {
+  count : l.n + length l.words ≡ 1 + length l.initial.words;
+  left : (all : List (List ℕ)) → AreLeft all l.initial.words 1 → AreLeft all l.words l.n;
+  lists : (view : BaseView) (mandatory all : List (List ℕ)) → IsBase view l.base → Begins view l.i mandatory all l.initial.words l.initial.labels.items → Lists view l.i mandatory all l.n l.labels.items;
+}
+
+abbrev pub decreases-loop-word : goal.decreases-loop-word
+decreases-loop-word l = length l.words

@@ -6,7 +6,15 @@ use Rattle.mm_proof.proofs.DecodeLemmas.{compressed_done, normal_done}
 use Rattle.mm_proof.proofs.reading.decode.Goals as goal
 
 pub returns-then-is_compressed-clause-ok : goal.returns-then-is_compressed-clause-ok
-returns-then-is_compressed-clause-ok c = if_ok _ _ c.decode_compressed.result (λ d says view is active. compressed_done (place_at view c.args.i) (labels_at view c.args.mandatory.now) c.args.statement.now.proof (entry_steps view d.labels.items) d.steps.items (sym c.if-is_compressed.ensures) (says view is active)) c.decode_compressed.ensures.ok
+returns-then-is_compressed-clause-ok c =
+    let words = c.args.statement.now.proof in
+    if_ok _ _ c.decode_compressed.result (λ d says view is active.
+    compressed_done (place_at view c.args.i) (labels_at view c.args.mandatory.now) words (entry_steps view d.labels.items) d.steps.items
+    (sym c.if-is_compressed.ensures) (says view is active)) c.decode_compressed.ensures.ok
 
 pub returns-else-is_compressed-clause-ok : goal.returns-else-is_compressed-clause-ok
-returns-else-is_compressed-clause-ok c = if_ok _ _ c.decode_normal.result (λ d says view is active. normal_done (place_at view c.args.i) (labels_at view c.args.mandatory.now) c.args.statement.now.proof (entry_steps view d.labels.items) d.steps.items (sym c.if-is_compressed.ensures) (says view is)) c.decode_normal.ensures.ok
+returns-else-is_compressed-clause-ok c =
+    let words = c.args.statement.now.proof in
+    if_ok _ _ c.decode_normal.result (λ d says view is active.
+    normal_done (place_at view c.args.i) (labels_at view c.args.mandatory.now) words (entry_steps view d.labels.items) d.steps.items
+    (sym c.if-is_compressed.ensures) (says view is)) c.decode_normal.ensures.ok

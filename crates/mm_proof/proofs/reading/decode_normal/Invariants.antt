@@ -1,7 +1,15 @@
+use Rattle.std.proofs.Common.{length}
 use Rattle.mm_frame.specs.Base.{BaseView}
 use Rattle.mm_frame.specs.Kept.{IsBase}
 use Rattle.mm_proof.specs.Labels.{Normal}
+use Rattle.mm_proof.specs.Left.{AreLeft}
 use Rattle.mm_proof.proofs.reading.decode_normal.Given as goal
 
 abbrev pub invariant-loop-word : goal.invariant-loop-word
-invariant-loop-word l = (view : BaseView) → IsBase view l.base → Normal view l.i l.statement.proof l.word l.labels.items l.steps.items
+invariant-loop-word l = record {
+  left : AreLeft l.statement.proof l.words l.n;
+  normal : (view : BaseView) → IsBase view l.base → Normal view l.i l.statement.proof l.n l.labels.items l.steps.items;
+}
+
+abbrev pub decreases-loop-word : goal.decreases-loop-word
+decreases-loop-word l = length l.words

@@ -18,32 +18,34 @@ slice_bounds-text-end c =
 abbrev IsTextOf : FilesView → store.Item → List ℕ → Type 0
 IsTextOf files item piece = (text : List ℕ) → IsLive files item.key text → piece ≡ text
 
-abbrev OneMeaning : Type 0
-OneMeaning = (text : List ℕ) (a b : List Word) → HasWords text a → HasWords text b → a ≡ b
-
--- the bytes of an item have the words that it can be read with
-module _ (files : FilesView) (item : store.Item) (piece : List ℕ) (words : List Word) (r : CanBeRead files item) (is : IsTextOf files item piece) (one : OneMeaning) (has : HasWords (slice_range piece item.start item.end) words) where
+module _ (files : FilesView) (item : store.Item) (piece : List ℕ) (r : CanBeRead files item) (is : IsTextOf files item piece) where
   same_bytes : slice_range piece item.start item.end ≡ slice_range r.text item.start item.end
   same_bytes = ap (λ text. slice_range text item.start item.end) (is r.text r.live)
 
-  same_words : r.words ≡ words
-  same_words = one (slice_range r.text item.start item.end) r.words words r.has_words (subst (λ bytes. HasWords bytes words) same_bytes has)
+  -- the bytes of an item have the words that it can be read with
+  has_words : HasWords (slice_range piece item.start item.end) r.words
+  has_words = subst (λ bytes. HasWords bytes r.words) (sym same_bytes) r.has_words
 
-  same_item : item_of (kind_of item.kind) (tokens_of (slice_range piece item.start item.end) words) ≡ item_of (kind_of item.kind) (tokens_of (slice_range r.text item.start item.end) r.words)
-  same_item = λ i. item_of (kind_of item.kind) (tokens_of (same_bytes i) (sym same_words i))
+  same_item : (words : List Word) → words ≡ r.words → item_of (kind_of item.kind) (tokens_of (slice_range piece item.start item.end) words) ≡ item_of (kind_of item.kind) (tokens_of (slice_range r.text item.start item.end) r.words)
+  same_item words same = λ i. item_of (kind_of item.kind) (tokens_of (same_bytes i) (same i))
 
-pub new-requires-clause-some : goal.new-requires-clause-some
-new-requires-clause-some c =
+pub new-requires : goal.new-requires
+new-requires c = (c.requires.words, has_words c.args.files.now c.args.item.now c.piece.result.now c.requires c.piece.ensures.text)
+
+pub new-requires-2-clause-some : goal.new-requires-2-clause-some
+new-requires-2-clause-some c =
     let r = c.requires in
-    let words = same_words c.args.files.now c.args.item.now c.piece.result.now c.in-Ok.words.items r c.piece.ensures.text c.one_meaning.ensures.words c.in-Ok.ensures.words in
-    subst (λ ws. 0 < length ws) words r.some_word
+    let words = c.new.ensures.only r.words (has_words c.args.files.now c.args.item.now c.piece.result.now r c.piece.ensures.text) in
+    subst (λ ws. 0 < length ws) (sym words) r.some_word
 
-pub returns-in-Ok-clause-says : goal.returns-in-Ok-clause-says
-returns-in-Ok-clause-says c = record {
-  read = c.requires;
-  is = c.new.ensures ∙ same_item c.args.files.now c.args.item.now c.piece.result.now c.in-Ok.words.items c.requires c.piece.ensures.text c.one_meaning.ensures.words c.in-Ok.ensures.words;
-}
+pub returns-clause-says : goal.returns-clause-says
+returns-clause-says c =
+    let r = c.requires in
+    let words = c.new.ensures.only r.words (has_words c.args.files.now c.args.item.now c.piece.result.now r c.piece.ensures.text) in
+    record { read = r; is = c.in_ok-new.ensures ∙ same_item c.args.files.now c.args.item.now c.piece.result.now r c.piece.ensures.text c.new.result.words words }
 
-pub returns-in-Ok-clause-only : goal.returns-in-Ok-clause-only
-returns-in-Ok-clause-only c said says =
-    c.new.ensures ∙ same_item c.args.files.now c.args.item.now c.piece.result.now c.in-Ok.words.items says.read c.piece.ensures.text c.one_meaning.ensures.words c.in-Ok.ensures.words ∙ sym says.is
+pub returns-clause-only : goal.returns-clause-only
+returns-clause-only c said says =
+    let r = says.read in
+    let words = c.new.ensures.only r.words (has_words c.args.files.now c.args.item.now c.piece.result.now r c.piece.ensures.text) in
+    c.in_ok-new.ensures ∙ same_item c.args.files.now c.args.item.now c.piece.result.now r c.piece.ensures.text c.new.result.words words ∙ sym says.is

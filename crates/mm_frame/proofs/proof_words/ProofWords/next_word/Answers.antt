@@ -1,0 +1,11 @@
+use Rattle.std.proofs.Common.{◌∷◌, sym, ◌∙◌, ap}
+use Rattle.mm_text.specs.WordsLeft.{WordsLeft}
+use Rattle.mm_frame.specs.PlainWords.{plain_bytes}
+use Rattle.mm_frame.proofs.SpokenLemmas.{proof_more}
+use Rattle.mm_frame.proofs.proof_words.ProofWords.next_word.Goals as goal
+
+pub returns : goal.returns
+returns c =
+    let text = c.self.inside.text.now in
+    let words = ap (λ (left : WordsLeft). left.words) (sym c.again-ahead.ensures) ∙ c.in_ok-word.ensures.word in
+    sym c.self.view_is ∙ proof_more text c.self.inside.cursor.words c.next_word.new.self.words c.in_ok-word.word words (sym c.if-not-is_plain.ensures) ∙ ap (λ bytes. bytes ∷ plain_bytes text c.next_word.new.self.words) (sym c.bytes_of.ensures)

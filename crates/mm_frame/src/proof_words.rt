@@ -1,0 +1,50 @@
+//! The words of a proof.
+
+ghost use Rattle.std.specs.Prelude.{◌≡◌, ◌∷◌, ◌≤◌, [], MatchOption, length};
+ghost use Rattle.mm_frame.specs.PlainWords.{plain_bytes};
+
+use crate::statement::{bytes_of, is_plain};
+use mm_text::WordCursor;
+use std::marker::Model;
+
+/// The words of a proof, one after another, from some word on. It takes no memory.
+#[derive(Drop)]
+pub struct ProofWords<'a> {
+    text: &'a [u8],
+    cursor: WordCursor<'a>,
+}
+
+impl<'a> Model for ProofWords<'a> {
+    ghost use Rattle.std.specs.Prelude.{ℕ, List};
+
+    ghost Value = { List (List ℕ) };
+
+    ghost use Rattle.mm_frame.specs.SpokenProof.{left_of, IsOver};
+
+    ghost view = { left_of };
+
+    ghost invariant = { IsOver };
+}
+
+impl<'a> ProofWords<'a> {
+    /// The words up to the next keyword.
+    pub(crate) fn new(text: &'a [u8], cursor: WordCursor<'a>) -> Self
+        requires { cursor.text ≡ text.now }
+        ensures { result ≡ plain_bytes text.now cursor.entry.words }
+    {
+        ProofWords { text, cursor }
+    }
+
+    /// Goes on by a word, and gives it; `None` where no word is left.
+    pub fn next_word(&mut self) -> Option<&'a [u8]>
+        ensures { MatchOption result ((self.old ≡ []) × (self.new ≡ [])) (λ word. self.old ≡ word.now ∷ self.new) }
+    {
+        let mut ahead = self.cursor.again();
+        let word = ahead.next_word()?;
+        if !is_plain(word.kind) {
+            return None;
+        }
+        self.cursor = ahead;
+        Some(bytes_of(self.text, word))
+    }
+}

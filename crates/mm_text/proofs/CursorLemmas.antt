@@ -1,0 +1,84 @@
+-- The words that are left to a cursor.
+use Rattle.std.proofs.Common.{◌≡◌, ℕ, zero, suc, ◌<◌, ◌≤◌, List, [], ◌∷◌, ◌++◌, Some, None, Ok, Err, length, get_or, refl, sym, ap, ◌∙◌, append_assoc, arith}
+use Rattle.std.specs.Prelude.{slice_get}
+use Rattle.mm_text.specs.declared.word.Word.{Word}
+use Rattle.mm_text.specs.declared.fault.TextFault.{TextFault}
+use Rattle.mm_text.specs.Reading.{HasWords, LiesIn, AreWithin}
+use Rattle.mm_text.specs.LeftToRight.{read}
+use Rattle.mm_text.specs.Run.{runs}
+use Rattle.mm_text.specs.Reader.{runs_at, TakesWord}
+use Rattle.mm_text.specs.Cursor.{words_read, words_from, AreLast}
+use Rattle.mm_text.proofs.ReadingLemmas.{read_words}
+use Rattle.mm_text.proofs.ReaderLemmas.{word_read}
+use Rattle.mm_text.proofs.NthLemmas.{first_word}
+use Rattle.mm_text.proofs.PositionLemmas.{are_within, nth_lies}
+
+-- before the first word all are left
+pub all_left : (text : List ℕ) (words : List Word) (from : ℕ) → HasWords text words → from ≡ 0 → words_from text from ≡ words
+all_left text words from has e = ap words_read (ap (λ n. read None (runs_at text n)) e ∙ read_words (runs text) words has.words_are)
+
+pub at_first : (text : List ℕ) (words : List Word) (from : ℕ) → HasWords text words → from ≡ 0 → AreLast text from
+at_first text words from has e =
+    let left = all_left text words from has e in
+    record {
+      whole = words;
+      front = [];
+      has_words = has;
+      divided = sym left;
+      no_fault = ap (λ n. read None (runs_at text n)) e ∙ read_words (runs text) words has.words_are ∙ ap Ok (sym left);
+    }
+
+-- a word is taken
+pub record Took (text : List ℕ) (from : ℕ) (word : Word) (to : ℕ) : Type 0 where
+  pub words : words_from text from ≡ word ∷ words_from text to
+  pub last : AreLast text to
+  pub lies : LiesIn text word
+
+pub one_taken : (text : List ℕ) (from : ℕ) (word : Word) (to : ℕ) → AreLast text from → TakesWord text from word to → Took text from word to
+one_taken text from word to at taken =
+    let first = first_word (read None (runs_at text from)) (read None (runs_at text to)) word (words_from text from) (word_read text from word to taken) at.no_fault in
+    let rest : words_from text to ≡ first.0 = ap words_read first.2 in
+    let words : words_from text from ≡ word ∷ words_from text to = first.1 ∙ ap (λ l. word ∷ l) (sym rest) in
+    let divided : at.whole ≡ at.front ++ word ∷ words_from text to = at.divided ∙ ap (λ l. at.front ++ l) words in
+    record {
+      words = words;
+      last = record {
+        whole = at.whole;
+        front = at.front ++ word ∷ [];
+        has_words = at.has_words;
+        divided = divided ∙ sym (append_assoc at.front (word ∷ []) (words_from text to));
+        no_fault = first.2 ∙ ap Ok (sym rest);
+      };
+      lies = nth_lies text at.whole (length at.front) (Some word) at.has_words (sym (ap (λ l. slice_get l (length at.front)) divided ∙ at_seam at.front word (words_from text to)));
+    } where
+      at_seam : (front : List Word) (word : Word) (more : List Word) → slice_get (front ++ word ∷ more) (length front) ≡ Some word
+      at_seam [] word more = refl
+      at_seam (x ∷ front) word more = at_seam front word more
+
+-- no word is left
+pub none_left : (text : List ℕ) (from : ℕ) → read None (runs_at text from) ≡ Ok [] → words_from text from ≡ []
+none_left text from e = ap words_read e
+
+-- a fault is not met
+pub no_fault : (text : List ℕ) (from : ℕ) (fault : TextFault) → AreLast text from → read None (runs_at text from) ≡ Err fault → ⊥
+no_fault text from fault at e = let f = at.no_fault in cc
+
+-- ---- a text has no more words than bytes
+
+-- the n-th word begins behind n bytes
+begins_behind : (text : List ℕ) (words : List Word) (d : Word) → AreWithin text words → (n : ℕ) → n < length words → n ≤ (get_or words n d).start
+begins_behind text words d within zero less = omega arith
+begins_behind text words d within (suc n) less =
+    let before = begins_behind text words d within n (omega arith) in
+    let lies : LiesIn text (get_or words n d) = within.each n d (omega arith) in
+    let rises = within.rising n (suc n) d (omega arith) less in
+    omega (arith, before, lies.some, rises)
+
+pub few_words : (text : List ℕ) (words : List Word) → HasWords text words → length words ≤ length text
+few_words text [] has = omega arith
+few_words text (word ∷ words) has =
+    let all = word ∷ words in
+    let within = are_within text all has in
+    let behind = begins_behind text all word within (length words) (omega arith) in
+    let lies : LiesIn text (get_or all (length words) word) = within.each (length words) word (omega arith) in
+    omega (arith, behind, lies.some, lies.within)

@@ -1,0 +1,17 @@
+use Rattle.std.proofs.Common.{◌≤◌, sym, ◌∙◌, ap, subst, length}
+use Rattle.mm_text.specs.Cursor.{words_from, AreLast}
+use Rattle.mm_text.specs.Reading.{HasWords}
+use Rattle.mm_text.proofs.CursorLemmas.{all_left, at_first, few_words}
+use Rattle.mm_text.proofs.cursor.WordCursor.new.Goals as goal
+
+pub invariant_of-result : goal.invariant_of-result
+invariant_of-result c = subst (λ text. AreLast text c.new.result.from) (sym c.new.ensures.text) (at_first c.args.text.now c.requires.0 c.new.result.from c.requires.1 c.new.ensures.from)
+
+pub returns-clause-only : goal.returns-clause-only
+returns-clause-only c words has = ap (λ text. words_from text c.new.result.from) c.new.ensures.text ∙ all_left c.args.text.now words c.new.result.from has c.new.ensures.from
+
+pub returns-clause-words : goal.returns-clause-words
+returns-clause-words c = subst (HasWords c.args.text.now) (sym (returns-clause-only c c.requires.0 c.requires.1)) c.requires.1
+
+pub returns-clause-few : goal.returns-clause-few
+returns-clause-few c = subst (λ words. length words ≤ length c.args.text.now) (sym (returns-clause-only c c.requires.0 c.requires.1)) (few_words c.args.text.now c.requires.0 c.requires.1)

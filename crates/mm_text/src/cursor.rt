@@ -1,0 +1,71 @@
+//! A cursor over the words of a text.
+
+ghost use Rattle.std.specs.Prelude.{◌≡◌, ◌≤◌, ◌∷◌, [], List, IfSome, MatchOption, length};
+ghost use Rattle.mm_text.specs.declared.word.Word.{Word};
+ghost use Rattle.mm_text.specs.Reading.{HasWords, LiesIn};
+
+use crate::reader::Reader;
+use crate::word::Word;
+use std::marker::Model;
+
+/// The words of a text that has no fault, one after another, from some word on.
+///
+/// It takes no memory, and each byte of the text is gone through once.
+#[derive(Drop)]
+pub struct WordCursor<'a> {
+    reader: Reader<'a>,
+}
+
+impl<'a> Model for WordCursor<'a> {
+    ghost use Rattle.mm_text.specs.WordsLeft.{WordsLeft};
+
+    ghost Value = { WordsLeft };
+
+    ghost use Rattle.mm_text.specs.Cursor.{left_of, IsOver};
+
+    ghost view = { left_of };
+
+    ghost invariant = { IsOver };
+}
+
+impl<'a> WordCursor<'a> {
+    /// A cursor before the first word of a text.
+    pub fn new(text: &'a [u8]) -> Self
+        requires { (words : List Word) × HasWords text.now words }
+        ensures text { result.text ≡ text.now }
+        ensures words { HasWords text.now result.words }
+        ensures only { (words : List Word) → HasWords text.now words → result.words ≡ words }
+        ensures few { length result.words ≤ length text.now }
+    {
+        WordCursor {
+            reader: Reader::new(text),
+        }
+    }
+
+    /// Another cursor before the same word.
+    pub fn again(&self) -> WordCursor<'a>
+        ensures { result ≡ self.now }
+    {
+        WordCursor {
+            reader: self.reader,
+        }
+    }
+
+    /// Goes on by a word, and gives it; `None` where no word is left.
+    pub fn next_word(&mut self) -> Option<Word>
+        ensures text { self.new.text ≡ self.old.text }
+        ensures word { MatchOption result ((self.old.words ≡ []) × (self.new.words ≡ [])) (λ word. self.old.words ≡ word ∷ self.new.words) }
+        ensures within { IfSome result (LiesIn self.old.text) }
+    {
+        let mut ahead = self.reader;
+        match ahead.next_word() {
+            Ok(Some(word)) => {
+                self.reader = ahead;
+                Some(word)
+            }
+            Ok(None) => None,
+            // a text that has words has no fault
+            Err(_) => None,
+        }
+    }
+}
