@@ -7,8 +7,7 @@ use Rattle.mm_frame.specs.Resolving.{IsCarrier, Resolves}
 use Rattle.mm_frame.specs.Framing.{mandatory_numbers}
 use Rattle.mm_frame.specs.declared.base.Resolved.TheVariants as answers
 use Rattle.mm_proof.proofs.Members.{Contains-here, contains_there}
-use Rattle.mm_proof.specs.BaseLabels.{label_at, HasOwnLabels}
-use Rattle.mm_proof.specs.Labels.{AreActive}
+use Rattle.mm_proof.specs.BaseLabels.{label_at, HasOwnLabels, AreActive}
 
 -- the label of a sound item
 own_label : frame.ItemsHaveLabels → (view : BaseView) → AreSaid view → (j : ℕ) → is_shown_at view j ≡ true → IsCarrier view (label_at view j) j

@@ -7,10 +7,9 @@ use Rattle.mm_frame.specs.Language.{Symbol, Place}
 use Rattle.mm_frame.specs.Laws as frame
 use Rattle.mm_frame.specs.Framing.{mandatory_numbers}
 use Rattle.mm_frame.specs.Typing.{HasFrames}
-use Rattle.mm_proof.specs.BaseLabels.{label_at, place_at}
+use Rattle.mm_proof.specs.BaseLabels.{label_at, place_at, AreActive}
 use Rattle.mm_proof.specs.Decoding.{decoding}
 use Rattle.mm_proof.specs.ItemLaws.{MeansHypothesis, IsDerivedAt}
-use Rattle.mm_proof.specs.Labels.{AreActive}
 use Rattle.mm_proof.specs.Machine.{IsUsable, AreAllKnown}
 use Rattle.mm_proof.specs.Verdict.{Decoded, StepsDerive, IsVerdict}
 use Rattle.mm_proof.specs.VerdictAt.{mandatory_labels, statement_at, decoding_at, IsVerdictAt, AreDoneIn, AreDoneAt}

@@ -5,10 +5,10 @@ use Rattle.std.proofs.Math.ListN.{drop_of_length-le}
 use Rattle.std.proofs.lemmas.List.{append-nil, map-append}
 use Rattle.mm_proof.specs.Expansion.{Step, Named}
 use Rattle.mm_frame.specs.Base.{BaseView}
-use Rattle.mm_proof.specs.BaseLabels.{label_at, place_at}
+use Rattle.mm_proof.specs.BaseLabels.{label_at, place_at, AreActive}
 use Rattle.mm_proof.specs.Coded.{Tells, meant_steps, letters_give}
 use Rattle.mm_proof.specs.Decoding.{read_label, is_close, compressed_steps, word_spot}
-use Rattle.mm_proof.specs.Labels.{labels_at, AreActive, entry_step, entry_steps, IsEntry, AreEntries, Lists, IsListed, TellsWord, Begins}
+use Rattle.mm_proof.specs.Labels.{labels_at, entry_step, entry_steps, IsEntry, AreEntries, Lists, IsListed, TellsWord, Begins}
 use Rattle.mm_proof.specs.Left.{AreLeft}
 use Rattle.mm_proof.specs.LeftToRight.{list_on}
 use Rattle.mm_frame.specs.declared.base.Resolved.{Resolved}

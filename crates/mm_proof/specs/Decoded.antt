@@ -4,11 +4,11 @@ use Rattle.std.specs.List.{before_first}
 use Rattle.mm_frame.specs.Base.{BaseView}
 use Rattle.mm_frame.specs.Kept.{IsBase}
 use Rattle.mm_frame.specs.declared.base.Base.{Base}
-use Rattle.mm_proof.specs.BaseLabels.{place_at}
+use Rattle.mm_proof.specs.BaseLabels.{place_at, AreActive}
 use Rattle.mm_proof.specs.Coded.{meant, meant_steps}
 use Rattle.mm_proof.specs.Decoding.{Steps, word_spot, read_word, in_order, each_word, is_close, compressed_steps, decoding}
 use Rattle.mm_proof.specs.Expansion.{Step, Named}
-use Rattle.mm_proof.specs.Labels.{AreActive, entry_steps, labels_at}
+use Rattle.mm_proof.specs.Labels.{entry_steps, labels_at}
 use Rattle.mm_proof.specs.Verdict.{Decoded}
 use Rattle.mm_proof.specs.declared.Spot.{Spot}
 use Rattle.mm_proof.specs.declared.reading.Decoding.{Decoding}

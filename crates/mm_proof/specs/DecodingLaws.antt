@@ -3,8 +3,7 @@ use Rattle.std.specs.Prelude.{◌≡◌, ℕ, ◌<◌, ◌≤◌, ◌↔◌, tru
 use Rattle.std.specs.List.{AllByRecursion, list_any}
 use Rattle.mm_frame.specs.Base.{BaseView, AreSaid, before, said_at}
 use Rattle.mm_frame.specs.Framing.{mandatory_numbers}
-use Rattle.mm_proof.specs.BaseLabels.{HasOwnLabels}
-use Rattle.mm_proof.specs.Labels.{AreActive}
+use Rattle.mm_proof.specs.BaseLabels.{HasOwnLabels, AreActive}
 use Rattle.mm_frame.specs.Language.{Place}
 use Rattle.mm_proof.specs.Expansion.{Step}
 use Rattle.mm_proof.specs.Machine.{IsUsable, AreDecoded}

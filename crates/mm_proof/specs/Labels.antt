@@ -42,10 +42,6 @@ AreEntries base i labels = AllByRecursion (IsEntry base i) labels
 abbrev pub labels_at : BaseView → List ℕ → List (List ℕ)
 labels_at base numbers = map (label_at base) numbers
 
--- the items are hypotheses that are active at item i
-abbrev pub AreActive : BaseView → ℕ → List ℕ → Type 0
-AreActive base i numbers = AllByRecursion (λ j. Resolves base i (label_at base j) (answers.Hypothesis j)) numbers
-
 -- a fault that is told is that of a word
 abbrev pub TellsWord : Undecoded → ℕ → Result Step ProofNumber → Type 0
 TellsWord (errors.Fault fault) n read = (read ≡ Err fault.number) × (fault.spot ≡ word_spot n)
@@ -81,7 +77,9 @@ pub record Lists (base : BaseView) (i : ℕ) (mandatory words : List (List ℕ))
   pub entries : AreEntries base i labels
   pub before : drop 1 words ≡ listed ++ drop n words
   pub open_yet : list_any is_close listed ≡ false
-  pub rest : compressed_steps (place_at base i) mandatory (drop 1 words) (word_spot (length words)) ≡ list_on (place_at base i) mandatory (word_spot (length words)) listed n (drop n words)
+  pub rest :
+      compressed_steps (place_at base i) mandatory (drop 1 words) (word_spot (length words))
+      ≡ list_on (place_at base i) mandatory (word_spot (length words)) listed n (drop n words)
 
 -- the labels that are listed before the `)`, which is word n, and what the letters give
 pub record IsListed (base : BaseView) (i : ℕ) (mandatory words : List (List ℕ)) (n : ℕ) (labels : List Resolved) : Type 0 where
@@ -90,11 +88,16 @@ pub record IsListed (base : BaseView) (i : ℕ) (mandatory words : List (List �
   pub entries : AreEntries base i labels
   pub within : n < length words
   pub whole : before_first is_close (drop 1 words) ≡ listed
-  pub rest : compressed_steps (place_at base i) mandatory (drop 1 words) (word_spot (length words)) ≡ letter_steps mandatory listed (n + 1) (drop (n + 1) words) (word_spot (length words))
+  pub rest :
+      compressed_steps (place_at base i) mandatory (drop 1 words) (word_spot (length words))
+      ≡ letter_steps mandatory listed (n + 1) (drop (n + 1) words) (word_spot (length words))
 
 -- what the words of a normal proof before word n gave, and what those from there on give, however many labels follow
 pub record Normal (base : BaseView) (i : ℕ) (words : List (List ℕ)) (n : ℕ) (labels : List Resolved) (steps : List ProofStep) : Type 0 where
   pub count : length labels ≡ n
   pub entries : AreEntries base i labels
   pub table : entry_steps base labels ≡ map word_step (take n words)
-  pub rest : (more : List Step) → with_steps (meant_steps (entry_steps base labels ++ more) steps) (in_order (each_word (read_word (place_at base i)) n (drop n words))) ≡ in_order (each_word (read_word (place_at base i)) 0 words)
+  pub rest :
+      (more : List Step) →
+      with_steps (meant_steps (entry_steps base labels ++ more) steps) (in_order (each_word (read_word (place_at base i)) n (drop n words)))
+      ≡ in_order (each_word (read_word (place_at base i)) 0 words)

@@ -1,17 +1,16 @@
 //! Decoding: the steps of a proof, or its first fault.
 
-ghost use Rattle.std.specs.Prelude.{◌≡◌, true, ℕ, ◌+◌, List, Ok, IfOk, IfErr, map, drop, length, codes, bytes_eq, ◌∷◌, ◌++◌};
-ghost use Rattle.std.specs.List.{before_first};
-ghost use Rattle.mm_proof.specs.Expansion.{Step, Named};
+ghost use Rattle.std.specs.Prelude.{◌≡◌, true, ℕ, ◌+◌, List, Ok, IfOk, IfErr, map, length, codes, bytes_eq, ◌∷◌, ◌++◌};
+ghost use Rattle.mm_proof.specs.Expansion.{Step};
 ghost use Rattle.mm_frame.specs.Base.{BaseView};
 ghost use Rattle.mm_frame.specs.Kept.{IsBase};
-ghost use Rattle.mm_proof.specs.BaseLabels.{label_at, place_at};
-ghost use Rattle.mm_proof.specs.Decoding.{word_spot, read_word as read_word_lem, compressed_steps, is_compressed as is_compressed_lem};
+ghost use Rattle.mm_proof.specs.BaseLabels.{place_at};
+ghost use Rattle.mm_proof.specs.Decoding.{read_word as read_word_lem, is_compressed as is_compressed_lem};
 ghost use Rattle.mm_frame.specs.declared.base.Resolved.TheVariants as answers;
-ghost use Rattle.mm_proof.specs.Coded.{Tells, meant, meant_steps};
+ghost use Rattle.mm_proof.specs.Coded.{Tells, meant};
 ghost use Rattle.mm_proof.specs.Decoded.{decoded_steps, TellsFault, InViews, WhereActive, compressed_at, normal_at, decoding_of};
 ghost use Rattle.mm_proof.specs.Decoded.{steps_by, listed_table};
-ghost use Rattle.mm_proof.specs.Labels.{TellsWord, AreEntries, AreActive, IsEntry, entry_step, entry_steps, labels_at, label_table, word_step};
+ghost use Rattle.mm_proof.specs.Labels.{TellsWord, AreEntries, IsEntry, entry_step, entry_steps, labels_at, label_table, word_step};
 
 use crate::Spot;
 use crate::labels::{read_label, read_list};
@@ -49,7 +48,8 @@ fn decode_compressed(
     statement: &Statement,
 ) -> Result<Decoding, Undecoded>
     requires { is_compressed_lem statement.now.proof ≡ true }
-    ensures ok { IfOk result (λ d. (view : BaseView) → IsBase view base.now → AreActive view i mandatory.now → compressed_steps (place_at view i) (labels_at view mandatory.now) (drop 1 statement.now.proof) (word_spot (length statement.now.proof)) ≡ Ok (meant_steps (entry_steps view d.labels.items) d.steps.items)) }
+    ensures ok { IfOk result (λ d. WhereActive base.now i mandatory.now (λ view.
+        compressed_at view i mandatory.now statement.now.proof ≡ Ok (steps_by view d))) }
     ensures entries { IfOk result (λ d. WhereActive base.now i mandatory.now (λ view. AreEntries view i d.labels.items)) }
     ensures table { IfOk result (λ d. WhereActive base.now i mandatory.now (λ view.
         entry_steps view d.labels.items ≡ listed_table view mandatory.now statement.now.proof)) }

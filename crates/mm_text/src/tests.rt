@@ -1,6 +1,6 @@
 use crate::{
-    Keyword, Part, PartKind, Place, TextError, TextFault, TextNumber, Word, WordKind, cut,
-    nth_word, parts, place, words,
+    Keyword, Part, PartKind, Place, TextError, TextFault, TextNumber, Word, WordCursor, WordKind,
+    cut, nth_word, parts, place, words,
 };
 use std::test::Fail;
 
@@ -34,6 +34,14 @@ fn finds_the_words_outside_comments(rt: HostRuntime) -> Result<(), Fail> {
     assert_eq!(rt; nth_word(text, 1), Some(wanted[1]));
     assert_eq!(rt; nth_word(text, 2), Some(wanted[2]));
     assert_eq!(rt; nth_word(text, 3), None);
+    let mut cursor = WordCursor::new(text);
+    assert_eq!(rt; cursor.next_word(), Some(wanted[0]));
+    let mut other = cursor.again();
+    assert_eq!(rt; cursor.next_word(), Some(wanted[1]));
+    assert_eq!(rt; cursor.next_word(), Some(wanted[2]));
+    assert_eq!(rt; cursor.next_word(), None);
+    assert_eq!(rt; cursor.next_word(), None);
+    assert_eq!(rt; other.next_word(), Some(wanted[1]));
     Ok(())
 }
 
