@@ -404,9 +404,11 @@ count_push : (test : Mark → Bool) (marks : List Mark) (mark : Mark) → count_
 count_push test marks mark = sum_by_push (λ m. cond (test m) 1 0) marks mark
 
 pub kept_moved : (blocks others : List ℕ) (ends more : List (Option ℕ)) (outer around : List ℕ) (current begun ended : ℕ) → others ≡ blocks → more ≡ ends → around ≡ outer → AreBlockEndsKept blocks ends outer current begun ended → AreBlockEndsKept others more around current begun ended
-kept_moved blocks others ends more outer around current begun ended a b d k = subst (λ w. AreBlockEndsKept w more around current begun ended) (sym a) (subst (λ w. AreBlockEndsKept blocks w around current begun ended) (sym b) (subst (λ w. AreBlockEndsKept blocks ends w current begun ended) (sym d) k))
+kept_moved blocks others ends more outer around current begun ended a b d k =
+    subst (λ w. AreBlockEndsKept w more around current begun ended) (sym a) (subst (λ w. AreBlockEndsKept blocks w around current begun ended) (sym b) (subst (λ w. AreBlockEndsKept blocks ends w current begun ended) (sym d) k))
 
-pub kept_entered : (blocks : List ℕ) (ends more : List (Option ℕ)) (outer : List ℕ) (current begun ended : ℕ) → ((block : ℕ) → end_of_block more block ≡ end_of_block ends block) → length ends ≤ length more → AreBlockEndsKept blocks ends outer current begun ended → AreBlockEndsKept blocks more outer current begun ended
+pub kept_entered : (blocks : List ℕ) (ends more : List (Option ℕ)) (outer : List ℕ) (current begun ended : ℕ) → ((block : ℕ) → end_of_block more block ≡ end_of_block ends block) → length ends ≤ length more → AreBlockEndsKept blocks ends outer current begun ended
+    → AreBlockEndsKept blocks more outer current begun ended
 kept_entered blocks ends more outer current begun ended h l k =
     let same = entered_marks ends more blocks h in
     record {
@@ -428,7 +430,8 @@ kept_passed blocks ends outer current begun ended k =
       ended_is = same_count closes marks _ Neither ended ended more k.ended_is (omega arith);
     }
 
-pub kept_begun : (blocks : List ℕ) (ends : List (Option ℕ)) (outer : List ℕ) (current next begun ended : ℕ) → current < length ends → next ≡ length ends → AreBlockEndsKept blocks ends outer current begun ended → AreBlockEndsKept (blocks ++ next ∷ []) ends (outer ++ current ∷ []) next (begun + 1) ended
+pub kept_begun : (blocks : List ℕ) (ends : List (Option ℕ)) (outer : List ℕ) (current next begun ended : ℕ) → current < length ends → next ≡ length ends → AreBlockEndsKept blocks ends outer current begun ended
+    → AreBlockEndsKept (blocks ++ next ∷ []) ends (outer ++ current ∷ []) next (begun + 1) ended
 kept_begun blocks ends outer current next begun_count ended l q k =
     let marks = marks_from ends 0 0 blocks in
     let more = begun_marks blocks ends outer current next marks l q k.are_blocks in

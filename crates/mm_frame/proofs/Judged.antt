@@ -7,7 +7,8 @@ use Rattle.mm_frame.specs.Language.Item.{Item, passed, is_constants, is_variable
 use Rattle.mm_frame.specs.Language.Scope.{is_inside}
 use Rattle.mm_frame.specs.declared.FrameNumber.{FrameNumber}
 use Rattle.mm_frame.specs.declared.FrameNumber.TheVariants.{F01, F02, F03, F04, F05, F06, F07, F08, F09, F10, F11, F12, F13, F14}
-use Rattle.mm_frame.specs.Language.Sound.{first_symbol, closing_word, passes, at_symbol, each, first, second, later, is_third, is_repeated, is_declared, is_active_symbol, is_label, is_no_constant, is_no_variable, is_no_active_symbol, is_untyped, is_typed, is_typed_otherwise, is_short, line_holds, StatementLineHolds, IsSound, row}
+use Rattle.mm_frame.specs.Language.Sound.{first_symbol, closing_word, passes, at_symbol, each, first, second, later, is_third, is_repeated, is_declared, is_active_symbol, is_label, is_no_constant, is_no_variable, is_no_active_symbol, is_untyped, is_typed, is_typed_otherwise, is_short, line_holds}
+use Rattle.mm_frame.specs.Language.Sound.{StatementLineHolds, IsSound, row}
 use Rattle.mm_frame.specs.Language.Sound.{IsStatementFault, numbers, number_at, fault_or, fault_from, fault, judged, sound_items_after, sound_items}
 use Rattle.mm_frame.proofs.Facts.{AreKept}
 

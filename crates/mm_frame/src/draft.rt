@@ -241,7 +241,8 @@ fn keep_pairs(
     ensures made { OnOk result ((before : List meant.Item) → AreSound before → AreSymbols before expressions.now
         → disjoints.now ≡ active_numbers is_disjoint_item before → AreMade before pair_lists.old → AreMade before pair_lists.new) }
     ensures pairs { OnOk result ((said : List meant.Item) (item : meant.Item) → AreSymbols (sound_items said) expressions.now
-        → disjoints.now ≡ active_numbers is_disjoint_item (sound_items said) → AreMade (sound_items said) pair_lists.old → proof ≡ is_told_proof (sound_items said) item
+        → disjoints.now ≡ active_numbers is_disjoint_item (sound_items said)
+        → AreMade (sound_items said) pair_lists.old → proof ≡ is_told_proof (sound_items said) item
         → AreRows (TellsPairs pair_lists.old) said pairs.old.items → AreRows (TellsPairs pair_lists.new) (said ++ item ∷ []) pairs.new.items) }
 {
     if !proof {

@@ -41,7 +41,8 @@ mod frame_tests;
 #[cfg(test)]
 mod tests;
 
-ghost use Rattle.mm_frame.specs.Language.Laws.{ActiveByBlocks, FaultIsFound, HasFaultOrIsSound, HasOneStatementFault, KeptNext, NeverFaultAndSound, PlacesHaveFrames, ReaderIsActive};
+ghost use Rattle.mm_frame.specs.Language.Laws.{ActiveByBlocks, FaultIsFound, HasFaultOrIsSound, HasOneStatementFault, KeptNext, NeverFaultAndSound};
+ghost use Rattle.mm_frame.specs.Language.Laws.{PlacesHaveFrames, ReaderIsActive};
 ghost use Rattle.mm_frame.specs.Language.Laws.{SoundHasNone, StaysByCounts};
 
 /// The number of a fault of a statement, or of a missing inclusion.

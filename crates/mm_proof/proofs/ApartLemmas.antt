@@ -166,15 +166,15 @@ none_passes test (y ∷ xs) x e (inr h) = none_passes test xs x (false_from_ne_t
 abbrev pub AreNames : List (List ℕ) → List Symbol → Type 0
 AreNames names symbols = (name : List ℕ) → (has names name ≡ true) ↔ HasVariable symbols (as_variable name)
 
-as_variable : (x : Symbol) → x.variable ≡ true → as_variable x.name ≡ x
-as_variable x v = λ i. record { name = x.name; variable = sym v i }
+is_its_variable : (x : Symbol) → x.variable ≡ true → as_variable x.name ≡ x
+is_its_variable x v = λ i. record { name = x.name; variable = sym v i }
 
 module _ (active : List (Symbol × Symbol)) (disjoint : Disjoint) (known : HasPairs active disjoint) (ones bs : List (List ℕ)) (xs ys : List Symbol) (names : AreNames ones xs) (others : AreNames bs ys) where
   name_in : (x : Symbol) → HasVariable xs x → In x.name ones
-  name_in x h = has_in ones x.name ((names x.name).1 (subst (HasVariable xs) (sym (as_variable x h.1)) h))
+  name_in x h = has_in ones x.name ((names x.name).1 (subst (HasVariable xs) (sym (is_its_variable x h.1)) h))
 
   other_in : (y : Symbol) → HasVariable ys y → In y.name bs
-  other_in y h = has_in bs y.name ((others y.name).1 (subst (HasVariable ys) (sym (as_variable y h.1)) h))
+  other_in y h = has_in bs y.name ((others y.name).1 (subst (HasVariable ys) (sym (is_its_variable y h.1)) h))
 
   pub clash_apart : clash disjoint ones bs ≡ true → AreNotApart active xs ys
   clash_apart e =
@@ -204,7 +204,7 @@ module _ (active : List (Symbol × Symbol)) (disjoint : Disjoint) (known : HasPa
         let t = test_at x y h k in
         let there = kept (bytes_eq x.name y.name) (knows_pair disjoint x.name y.name) t in
         let p = (known x.name y.name).0 there in
-        subst (λ w. ArePair active w y) (as_variable x h.1) (subst (λ w. ArePair active (as_variable x.name) w) (as_variable y k.1) p);
+        subst (λ w. ArePair active w y) (is_its_variable x h.1) (subst (λ w. ArePair active (as_variable x.name) w) (is_its_variable y k.1) p);
   }
     where
       test_at : (x y : Symbol) → HasVariable xs x → HasVariable ys y → (bytes_eq x.name y.name || not (knows_pair disjoint x.name y.name)) ≡ false

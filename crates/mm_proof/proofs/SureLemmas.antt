@@ -75,7 +75,8 @@ after_then place saves save (Saved n) more is rest = (is.1, rw is.0 at rest)
 after_then place saves save Save more is rest = rw is at rest
 after_then place saves save NotKnown more is rest = rw is at rest
 
-words_sure : (place : Setting) (read : List ℕ → Result Step ProofNumber) → ((word : List ℕ) (step : Step) → read word ≡ Ok step → IsWord place step) → (n : ℕ) (words : List (List ℕ)) (steps : List (Step × Spot)) → in_order (each_word read n words) ≡ Ok steps → AreDecodedAfter place 0 (step_list steps)
+words_sure : (place : Setting) (read : List ℕ → Result Step ProofNumber) → ((word : List ℕ) (step : Step) → read word ≡ Ok step → IsWord place step) → (n : ℕ) (words : List (List ℕ)) (steps : List (Step × Spot)) → in_order (each_word read n words) ≡ Ok steps
+    → AreDecodedAfter place 0 (step_list steps)
 words_sure place read each n [] steps e = let k : steps ≡ [] = cc in rw k tt
 words_sure place read each n (word ∷ words) steps e =
     let r = read_ok (word_spot n) (read word) (in_order (each_word read (n + 1) words)) steps e in

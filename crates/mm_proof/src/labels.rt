@@ -26,7 +26,8 @@ fn fault_at(number: ProofNumber, word: usize) -> Undecoded
 
 /// What the label that is the n-th word means at the item with the number `i`, where it can be used there.
 pub fn read_label(base: &Base, i: usize, label: &[u8], n: usize) -> Result<Resolved, Undecoded>
-    ensures ok { IfOk result (λ meaning. (view : BaseView) → IsBase view base.now → read_label_lem (setting_at view i) label.now ≡ Ok (entry_step view meaning)) }
+    ensures ok { IfOk result (λ meaning. (view : BaseView) → IsBase view base.now
+        → read_label_lem (setting_at view i) label.now ≡ Ok (entry_step view meaning)) }
     ensures entry { IfOk result (λ meaning. (view : BaseView) → IsBase view base.now → IsEntry view i meaning) }
     ensures err { IfErr result (λ e. (view : BaseView) → IsBase view base.now → TellsWord e n (read_label_lem (setting_at view i) label.now)) }
 {

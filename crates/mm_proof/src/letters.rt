@@ -103,7 +103,8 @@ impl LetterReader {
     /// Reads one letter.
     fn read(&mut self, byte: u8, spot: Spot) -> Result<(), Undecoded>
         ensures ok { OnOk result ((aim : Aim) (ls : List Letter) → Goes aim self.old (record { byte = byte; spot = spot } ∷ ls) → Goes aim self.new ls) }
-        ensures err { IfErr result (λ e. (aim : Aim) (ls : List Letter) → Goes aim self.old (record { byte = byte; spot = spot } ∷ ls) → TellsSteps e aim.total) }
+        ensures err { IfErr result (λ e. (aim : Aim) (ls : List Letter)
+            → Goes aim self.old (record { byte = byte; spot = spot } ∷ ls) → TellsSteps e aim.total) }
     {
         if is_digit(byte) {
             self.digits = with_digit(self.digits, usize::from(byte - b'T'));

@@ -245,8 +245,11 @@ later_stop text a b i j f g zs is =
     let more = longer f.front zs f.found g.found f.read (inl (subst (λ (rs : List Run). AreWords rs g.found) is g.read)) in
     let tokens : tokens_of text f.found ++ tokens_of text more.0 ≡ tokens_of text g.found = sym (map-append (token_of text) f.found more.0) ∙ ap (tokens_of text) (sym more.1) in
     let stop : units.StopsAtWord (tokens_of text f.found ++ tokens_of text more.0) b g.word = subst (λ (ts : List Token). units.StopsAtWord ts b g.word) (sym tokens) g.stop in
-    let one = one_stop (tokens_of text f.found ++ tokens_of text more.0) a b f.word g.word (stop_more (tokens_of text f.found) (tokens_of text more.0) a f.word f.stop) stop in
-    (one.0, f.place ∙ same_place (tokens_of text g.found) f.word g.word f.stop.token g.stop.token (subst (λ (ts : List Token). slice_get ts f.word ≡ Some f.stop.token) tokens (slice_get-front (tokens_of text f.found) (tokens_of text more.0) f.word f.stop.token f.stop.there)) g.stop.there one.1 ∙ sym g.place)
+    let one = one_stop (tokens_of text f.found ++ tokens_of text more.0) a b f.word g.word (stop_more (tokens_of text f.found) (tokens_of text more.0) a f.word f.stop) stop in (
+      one.0,
+      f.place ∙ same_place (tokens_of text g.found) f.word g.word f.stop.token g.stop.token (subst (λ (ts : List Token). slice_get ts f.word ≡ Some f.stop.token) tokens (slice_get-front (tokens_of text f.found) (tokens_of text more.0) f.word f.stop.token f.stop.there)) g.stop.there one.1
+          ∙ sym g.place,
+    )
 
 one_stop_of : (text : List ℕ) (a b : TextNumber) (i j : ℕ) → StopsUnits text a i → StopsUnits text b j → (a ≡ b) × (i ≡ j)
 one_stop_of text a b i j f g = by_cut (cut_twice f.front f.rest g.front g.rest (sym f.joined ∙ g.joined)) where

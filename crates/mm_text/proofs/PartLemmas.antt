@@ -53,9 +53,21 @@ emit_shape outside (Declaration keyword symbols end) kind tail (is, plain, ends)
   told word next same e = ap (λ (k : PartKind). made_part k keyword.start (token_end end)) (sym e ∙ ap (word_part parts.Constants) (sym same))
 
   by_keyword : (IsKeyword Constants keyword ⊎ (IsKeyword Variables keyword ⊎ IsKeyword Disjoint keyword)) → Emits kind (keyword ∷ (symbols ++ end ∷ [])) (shape_part (Declaration keyword symbols end) ∷ []) tail
-  by_keyword (inl is) = (parts.Constants, emit_by None kind (kinds.Keyword Constants) keyword ((symbols ++ end ∷ []) ++ tail) is ∙ emit_rest keyword.start parts.Constants symbols end tail plain ends ∙ ap (λ (p : Part). p ∷ emit None parts.Constants tail) (told (kinds.Keyword Constants) parts.Constants is refl))
-  by_keyword (inr (inl is)) = (parts.Variables, emit_by None kind (kinds.Keyword Variables) keyword ((symbols ++ end ∷ []) ++ tail) is ∙ emit_rest keyword.start parts.Variables symbols end tail plain ends ∙ ap (λ (p : Part). p ∷ emit None parts.Variables tail) (told (kinds.Keyword Variables) parts.Variables is refl))
-  by_keyword (inr (inr is)) = (parts.Disjoint, emit_by None kind (kinds.Keyword Disjoint) keyword ((symbols ++ end ∷ []) ++ tail) is ∙ emit_rest keyword.start parts.Disjoint symbols end tail plain ends ∙ ap (λ (p : Part). p ∷ emit None parts.Disjoint tail) (told (kinds.Keyword Disjoint) parts.Disjoint is refl))
+  by_keyword (inl is) = (
+    parts.Constants,
+    emit_by None kind (kinds.Keyword Constants) keyword ((symbols ++ end ∷ []) ++ tail) is ∙ emit_rest keyword.start parts.Constants symbols end tail plain ends
+        ∙ ap (λ (p : Part). p ∷ emit None parts.Constants tail) (told (kinds.Keyword Constants) parts.Constants is refl),
+  )
+  by_keyword (inr (inl is)) = (
+    parts.Variables,
+    emit_by None kind (kinds.Keyword Variables) keyword ((symbols ++ end ∷ []) ++ tail) is ∙ emit_rest keyword.start parts.Variables symbols end tail plain ends
+        ∙ ap (λ (p : Part). p ∷ emit None parts.Variables tail) (told (kinds.Keyword Variables) parts.Variables is refl),
+  )
+  by_keyword (inr (inr is)) = (
+    parts.Disjoint,
+    emit_by None kind (kinds.Keyword Disjoint) keyword ((symbols ++ end ∷ []) ++ tail) is ∙ emit_rest keyword.start parts.Disjoint symbols end tail plain ends
+        ∙ ap (λ (p : Part). p ∷ emit None parts.Disjoint tail) (told (kinds.Keyword Disjoint) parts.Disjoint is refl),
+  )
 emit_shape outside (Labelled label keyword symbols end) kind tail (labels, is, plain, ends) = by_keyword is where
   told : (word : WordKind) (next : PartKind) → keyword.kind ≡ word → word_part parts.Axiom word ≡ next → made_part next label.start (token_end end) ≡ shape_part (Labelled label keyword symbols end)
   told word next same e = ap (λ (k : PartKind). made_part k label.start (token_end end)) (sym e ∙ ap (word_part parts.Axiom) (sym same))
@@ -64,9 +76,21 @@ emit_shape outside (Labelled label keyword symbols end) kind tail (labels, is, p
   first = emit_by None kind kinds.Plain label (keyword ∷ ((symbols ++ end ∷ []) ++ tail)) labels.0
 
   by_keyword : (IsKeyword Floating keyword ⊎ (IsKeyword Essential keyword ⊎ IsKeyword Axiom keyword)) → Emits kind (label ∷ keyword ∷ (symbols ++ end ∷ [])) (shape_part (Labelled label keyword symbols end) ∷ []) tail
-  by_keyword (inl is) = (parts.Floating, first ∙ emit_by (Some label.start) kind (kinds.Keyword Floating) keyword ((symbols ++ end ∷ []) ++ tail) is ∙ emit_rest label.start parts.Floating symbols end tail plain ends ∙ ap (λ (p : Part). p ∷ emit None parts.Floating tail) (told (kinds.Keyword Floating) parts.Floating is refl))
-  by_keyword (inr (inl is)) = (parts.Essential, first ∙ emit_by (Some label.start) kind (kinds.Keyword Essential) keyword ((symbols ++ end ∷ []) ++ tail) is ∙ emit_rest label.start parts.Essential symbols end tail plain ends ∙ ap (λ (p : Part). p ∷ emit None parts.Essential tail) (told (kinds.Keyword Essential) parts.Essential is refl))
-  by_keyword (inr (inr is)) = (parts.Axiom, first ∙ emit_by (Some label.start) kind (kinds.Keyword Axiom) keyword ((symbols ++ end ∷ []) ++ tail) is ∙ emit_rest label.start parts.Axiom symbols end tail plain ends ∙ ap (λ (p : Part). p ∷ emit None parts.Axiom tail) (told (kinds.Keyword Axiom) parts.Axiom is refl))
+  by_keyword (inl is) = (
+    parts.Floating,
+    first ∙ emit_by (Some label.start) kind (kinds.Keyword Floating) keyword ((symbols ++ end ∷ []) ++ tail) is
+        ∙ emit_rest label.start parts.Floating symbols end tail plain ends ∙ ap (λ (p : Part). p ∷ emit None parts.Floating tail) (told (kinds.Keyword Floating) parts.Floating is refl),
+  )
+  by_keyword (inr (inl is)) = (
+    parts.Essential,
+    first ∙ emit_by (Some label.start) kind (kinds.Keyword Essential) keyword ((symbols ++ end ∷ []) ++ tail) is
+        ∙ emit_rest label.start parts.Essential symbols end tail plain ends ∙ ap (λ (p : Part). p ∷ emit None parts.Essential tail) (told (kinds.Keyword Essential) parts.Essential is refl),
+  )
+  by_keyword (inr (inr is)) = (
+    parts.Axiom,
+    first ∙ emit_by (Some label.start) kind (kinds.Keyword Axiom) keyword ((symbols ++ end ∷ []) ++ tail) is
+        ∙ emit_rest label.start parts.Axiom symbols end tail plain ends ∙ ap (λ (p : Part). p ∷ emit None parts.Axiom tail) (told (kinds.Keyword Axiom) parts.Axiom is refl),
+  )
 emit_shape outside (Provable label keyword symbols proof steps end) kind tail (labels, theorem, plain, proves, more, ends) = (
   parts.Theorem,
   emit_by None kind kinds.Plain label (keyword ∷ ((symbols ++ proof ∷ (steps ++ end ∷ [])) ++ tail)) labels.0

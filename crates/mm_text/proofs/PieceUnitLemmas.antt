@@ -290,7 +290,8 @@ module _ (text : List ℕ) (from to : ℕ) (since : List Run) (part : List Word)
       let long : length (slice_range text from to) ≡ to - from = length-take-le (to - from) (drop from text) (let all : length (drop from text) ≡ length text - from = length-drop from text in omega arith) in
       let end : end_of_words piece_words.0 ≡ length (slice_range text from to) = omega (arith, end_is, last, long) in
       let bytes : ended piece_bytes ≡ slice_range text from to ++ (take white (drop to text) ++ line_end piece_bytes) = ended_is piece_bytes ∙ ap (λ (bs : List ℕ). bs ++ line_end piece_bytes) halves ∙ append_assoc (slice_range text from to) (take white (drop to text)) (line_end piece_bytes) in
-      let behind : drop (end_of_words piece_words.0) (ended piece_bytes) ≡ take white (drop to text) ++ line_end piece_bytes = ap (λ (n : ℕ). drop n (ended piece_bytes)) end ∙ ap (drop (length (slice_range text from to))) bytes ∙ drop-append_seam (slice_range text from to) (take white (drop to text) ++ line_end piece_bytes) in
+      let behind : drop (end_of_words piece_words.0) (ended piece_bytes) ≡ take white (drop to text) ++ line_end piece_bytes = ap (λ (n : ℕ). drop n (ended piece_bytes)) end
+      ∙ ap (drop (length (slice_range text from to))) bytes ∙ drop-append_seam (slice_range text from to) (take white (drop to text) ++ line_end piece_bytes) in
       subst (λ (bs : List ℕ). AllPass is_white bs) (sym behind) (All-append (λ b. is_white b ≡ true) (take white (drop to text)) (line_end piece_bytes) (white_pass (take white (drop to text)) (prefix_white (drop to text))) (end_passes piece_bytes))
 
   pub piece_is : WholeRun (tokens_of text (part ++ word ∷ [])) → HasOne (tokens_of text (part ++ word ∷ [])) → IsPiece (ended piece_bytes)

@@ -118,7 +118,11 @@ module _ (text : List ℕ) (from at : ℕ) (span : Span) (to : ℕ) (h : Passing
     ends = run.ends;
   } where
     spelled : IsWord (run_of text span) (record { kind = kind; start = span.start; end = span.end })
-    spelled = record { kind = kind_spelled (run_of text span).bytes kind is; start = refl; end = let some : span.start < span.end = run.some in let long : length (run_of text span).bytes ≡ span.end - span.start = slice_length text span.start span.end (omega (arith, within, run.next)) in omega arith }
+    spelled = record {
+      kind = kind_spelled (run_of text span).bytes kind is;
+      start = refl;
+      end = let some : span.start < span.end = run.some in let long : length (run_of text span).bytes ≡ span.end - span.start = slice_length text span.start span.end (omega (arith, within, run.next)) in omega arith;
+    }
 
   pub pass_close : (run_of text span).bytes ≡ closing → FailsBehind (runs_at text from) [] T04 span.start
   pass_close closes = record { front = h.seen; run = run_of text span; rest = runs_at text to; joined = there; place = refl; refused = (h.reads, closes) }

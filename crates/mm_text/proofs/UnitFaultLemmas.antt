@@ -8,7 +8,8 @@ use Rattle.mm_text.specs.declared.word.WordKind.{WordKind}
 use Rattle.mm_text.specs.declared.word.WordKind.TheVariants as kinds
 use Rattle.mm_text.specs.declared.fault.TextNumber.{TextNumber}
 use Rattle.mm_text.specs.declared.fault.TextNumber.TheVariants.{T06, T07, T08, T09, T10, T11, T12}
-use Rattle.mm_text.specs.Language.Unit.{Token, IsKeyword, IsPlain, Shape, Declaration, Labelled, Provable, Inclusion, shape_tokens, IsShape, Units, Nothing, Simple, Block, unit_tokens, AreUnits, IsWhole, IsViable, a_block, MayBegin, EndsInInclusion, IsUnitNumber, StopsAtWord, EndsInUnit, EndsInBlock, IsUnitFault}
+use Rattle.mm_text.specs.Language.Unit.{Token, IsKeyword, IsPlain, Shape, Declaration, Labelled, Provable, Inclusion, shape_tokens, IsShape, Units, Nothing, Simple, Block, unit_tokens, AreUnits, IsWhole, IsViable, a_block, MayBegin, EndsInInclusion, IsUnitNumber, StopsAtWord, EndsInUnit}
+use Rattle.mm_text.specs.Language.Unit.{EndsInBlock, IsUnitFault}
 use Rattle.mm_text.specs.Code.UnitReading as m
 use Rattle.mm_text.specs.Code.BlockCounts.{is_start_word, is_end_word, starts, ends}
 use Rattle.mm_text.proofs.UnitReadingLemmas.{run-append, run-IsViable, run-not_viable, IsWhole-run, through_units, blocks, blocks_run, key, key-kind, whole_run, Completes, Closes}
@@ -143,7 +144,8 @@ inclusion_from front depth e = got (ends_at front m.Begin 0 depth e) where
 abbrev refused : TextNumber → m.UnitStep
 refused number = Err number
 
-six : (front : List Token) (token : Token) (phase : m.Phase) (depth : ℕ) → m.run m.Begin 0 front ≡ Ok (m.state_of phase depth) → ¬ ((phase ≡ m.Including) × ¬ IsPlain token) → ¬ IsKeyword InclusionStart token → ¬ ((phase ≡ m.Begin) × (IsKeyword BlockEnd token ⊎ IsPlain token)) → IsUnitNumber T06 front token
+six : (front : List Token) (token : Token) (phase : m.Phase) (depth : ℕ) → m.run m.Begin 0 front ≡ Ok (m.state_of phase depth) → ¬ ((phase ≡ m.Including) × ¬ IsPlain token) → ¬ IsKeyword InclusionStart token → ¬ ((phase ≡ m.Begin) × (IsKeyword BlockEnd token ⊎ IsPlain token))
+    → IsUnitNumber T06 front token
 six front token phase depth e f g h = (λ x. f (inclusion_phase front phase depth e x.0, x.1), g, λ x. h (may_begin_phase front phase depth e x.0, x.1))
 
 ten : (front : List Token) (token : Token) (phase : m.Phase) (depth : ℕ) → m.run m.Begin 0 front ≡ Ok (m.state_of phase depth) → phase ≢ m.Including → IsKeyword InclusionStart token → IsUnitNumber T10 front token

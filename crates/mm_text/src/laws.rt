@@ -10,7 +10,8 @@ ghost use Rattle.mm_text.specs.Language.Reading.{HasWords, IsWordsFault};
 ghost use Rattle.mm_text.specs.declared.fault.TextNumber.{TextNumber};
 ghost use Rattle.mm_text.specs.Language.Cut.{IsCut, IsFirstFault, end_of_words};
 ghost use Rattle.mm_text.specs.Language.Part.{HasUnits, part_bytes, parts_of, shape_part, IsReadable};
-ghost use Rattle.mm_text.specs.Language.Unit.{Token, spellings, Shape, shape_tokens, IsShape, Units, Nothing, Simple, unit_tokens, AreUnits, IsWhole, IsUnitFault};
+ghost use Rattle.mm_text.specs.Language.Unit.{Token, spellings, Shape, shape_tokens, IsShape, Units, Nothing, Simple, unit_tokens, AreUnits, IsWhole};
+ghost use Rattle.mm_text.specs.Language.Unit.{IsUnitFault};
 
 /// Each text has its words or its fault: one list of words or one fault, and never both.
 ///
@@ -44,7 +45,8 @@ pub fn one_unit_fault()
 /// A list of words is divided into units in one way at most.
 pub fn one_division()
     ensures units { (a b : Units) → AreUnits true a → AreUnits true b → unit_tokens a ≡ unit_tokens b → a ≡ b }
-    ensures shapes { (a b : List Shape) → AllByRecursion (IsShape true) a → AllByRecursion (IsShape true) b → flat_map shape_tokens a ≡ flat_map shape_tokens b → a ≡ b }
+    ensures shapes { (a b : List Shape) → AllByRecursion (IsShape true) a → AllByRecursion (IsShape true) b → flat_map shape_tokens a ≡ flat_map shape_tokens b
+        → a ≡ b }
 {}
 
 /// Each part of a text of whole units has a byte at least, lies in the text, and is a text with words by itself.

@@ -20,7 +20,7 @@ use Rattle.mm_store.specs.Language.Expansion.{IsExpansion}
 use Rattle.mm_store.specs.Language.Keyless.{keyless_piece, keyless_file, keyless_item}
 use Rattle.mm_frame.specs.Language.Base.{BaseView}
 use Rattle.mm_frame.specs.Language.Laws.{AreAlikeBases}
-use Rattle.mmkeep.specs.Code.Base.{IsWordOf}
+use Rattle.mmkeep.specs.Language.WordPlaces.{IsWordOf}
 use Rattle.mmkeep.specs.Language.Report.{Shown, IsWordAt, IsShown, start_of, spelled}
 use Rattle.mmkeep.specs.Language.Verified.{IsDatabase}
 

@@ -17,7 +17,7 @@ use Rattle.mm_frame.specs.Code.KeptBase.{IsBase}
 use Rattle.mm_frame.specs.declared.base.Base.{Base}
 use Rattle.mm_proof.specs.Code.OfFiles.{IsOf}
 use Rattle.mmkeep.specs.declared.fault.FirstError.TheVariants.{Later}
-use Rattle.mmkeep.specs.Code.Base.{IsWordOf, HasPlaceOf}
+use Rattle.mmkeep.specs.Language.WordPlaces.{IsWordOf, HasPlaceOf}
 use Rattle.mmkeep.specs.Language.FirstErrors.{IsVerifyError}
 use Rattle.mmkeep.specs.Language.Later.{AreRead, IsFirstUnread}
 use Rattle.mmkeep.specs.Language.Report.{Told, AreRightlyTold, counts, report}

@@ -6,3 +6,4 @@ pub mod Verified
 pub mod FirstErrors
 pub mod Asking
 pub mod Status
+pub mod WordPlaces

@@ -4,7 +4,7 @@ ghost use Rattle.std.specs.Prelude.{◌≡◌, ℕ, ◌<◌, IfOk, IfSome, Match
 ghost use Rattle.mm_store.specs.Language.FileFacts.{CanBeRead, StandsIn};
 ghost use Rattle.mm_frame.specs.Language.Base.{BaseView, said_at};
 ghost use Rattle.mm_proof.specs.Code.OfFiles.{IsOf, HasView, HasItemOf};
-ghost use Rattle.mmkeep.specs.Code.Base.{HasPlace, HasPlaceOf};
+ghost use Rattle.mmkeep.specs.Language.WordPlaces.{HasPlace, HasPlaceOf};
 ghost use Rattle.mmkeep.specs.Language.Later as later;
 ghost use Rattle.mmkeep.specs.Language.Later.{unread_step, unread_word, AreRead, IsFirstUnread};
 ghost use Rattle.mmkeep.specs.Language.Report as report;

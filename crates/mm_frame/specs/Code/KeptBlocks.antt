@@ -54,7 +54,8 @@ Stands stack behind block item (Some end) = StandsEnded behind item end
 
 -- the innermost block behind each item, the ends of the blocks and the open blocks are those of the marks
 pub record AreBlocks (blocks : List ℕ) (ends : List (Option ℕ)) (outer : List ℕ) (current : ℕ) (marks : List Mark) : Type 0 where
-  pub stand : (item block : ℕ) → slice_get blocks item ≡ Some block → Stands (outer ++ current ∷ []) (drop (suc item) marks) block item (end_of_block ends block)
+  pub stand : (item block : ℕ) → slice_get blocks item ≡ Some block
+      → Stands (outer ++ current ∷ []) (drop (suc item) marks) block item (end_of_block ends block)
   pub unended : (level block : ℕ) → slice_get (outer ++ current ∷ []) level ≡ Some block → end_of_block ends block ≡ None
   pub distinct : (one other block : ℕ) → slice_get (outer ++ current ∷ []) one ≡ Some block → slice_get (outer ++ current ∷ []) other ≡ Some block → one ≡ other
   pub numbered : (level block : ℕ) → slice_get outer level ≡ Some block → block < length ends

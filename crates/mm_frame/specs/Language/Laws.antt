@@ -21,7 +21,8 @@ PlacesHaveFrames = (items : List Item) (j : ℕ) → HasFrames (setting_of items
 
 -- A statement has one fault at most.
 abbrev pub HasOneStatementFault : Type 0
-HasOneStatementFault = (before : List Item) (item : Item) (w v : ℕ) (n m : FrameNumber) → IsStatementFault before item w n → IsStatementFault before item v m → (w ≡ v) × (n ≡ m)
+HasOneStatementFault = (before : List Item) (item : Item) (w v : ℕ) (n m : FrameNumber)
+    → IsStatementFault before item w n → IsStatementFault before item v m → (w ≡ v) × (n ≡ m)
 
 -- It has a fault, or is sound.
 abbrev pub HasFaultOrIsSound : Type 0

@@ -101,7 +101,8 @@ is_short _ count = false
 -- the fault of this number holds at this word for a statement behind these items
 abbrev pub line_holds : List Item → Item → ℕ → FrameNumber → Bool
 -- too few symbols, or a third one of a `$f`
-line_holds before item word F01 = (is_short item.kind (length item.symbols) && word == closing_word item) || (is_floating item.kind && at_symbol is_third item word)
+line_holds before item word F01 = (is_short item.kind (length item.symbols) && word == closing_word item)
+    || (is_floating item.kind && at_symbol is_third item word)
 -- a `$c` in a block
 line_holds before item word F02 = is_constants item.kind && (word == 0 && is_inside before)
 -- a symbol that stands earlier in the same `$c`, `$v` or `$d`

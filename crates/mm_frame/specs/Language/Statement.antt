@@ -11,7 +11,8 @@ use Rattle.mm_store.specs.declared.item.ItemKind.TheVariants as items
 use Rattle.mm_store.specs.Language.FilesView.{FilesView}
 use Rattle.mm_store.specs.Language.FileFacts.{CanBeRead}
 use Rattle.mm_store.specs.Language.Expansion.{IsExpansion}
-use Rattle.mm_frame.specs.Language.Item.{Kind, Constants, Variables, Disjoint, Floating, Essential, Axiom, Theorem, BlockStart, BlockEnd, Missing, Item, is_labelled}
+use Rattle.mm_frame.specs.Language.Item.{Kind, Constants, Variables, Disjoint, Floating, Essential, Axiom, Theorem, BlockStart, BlockEnd, Missing, Item}
+use Rattle.mm_frame.specs.Language.Item.{is_labelled}
 
 -- the kind of an item of the files
 abbrev pub kind_of : ItemKind → Kind
@@ -60,7 +61,12 @@ label_in kind tokens = if is_labelled kind then option_map (λ token. token.byte
 
 -- the item of this kind that these words are
 abbrev pub item_of : Kind → List Token → Item
-item_of kind tokens = record { kind = kind; label = label_in kind tokens; symbols = token_names (symbols_in kind tokens); proof = token_names (proof_in kind tokens) }
+item_of kind tokens = record {
+  kind = kind;
+  label = label_in kind tokens;
+  symbols = token_names (symbols_in kind tokens);
+  proof = token_names (proof_in kind tokens);
+}
 
 -- what an item of the files says by its words
 pub record Says (files : FilesView) (item : store.Item) (said : Item) : Type 0 where

@@ -32,7 +32,8 @@ CannotTake active frame entries = (given : Symbol → List Symbol) (result : Lis
 -- what a frame takes the entries to, or that it takes them to none
 abbrev pub TakesOrFails : List (Symbol × Symbol) → Frame → List (List Symbol) → Option (Vec (Bor NamedSymbol) Global) → Type 0
 TakesOrFails active frame entries found =
-    MatchOption found (CannotTake active frame entries) (λ result. (given : Symbol → List Symbol) × Takes active frame given entries (lent_symbols result.items))
+    MatchOption found (CannotTake active frame entries)
+    (λ result. (given : Symbol → List Symbol) × Takes active frame given entries (lent_symbols result.items))
 
 -- whether citing an assertion took one stack to the other, or cannot be done
 abbrev pub CitesOrFails : List (Symbol × Symbol) → Frame → List (List Symbol) → Bool → List (List Symbol) → Type 0

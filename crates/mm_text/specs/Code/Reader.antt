@@ -57,7 +57,8 @@ FailsInside runs start T03 at = MeetsMark runs at
 FailsInside runs start _ at = ⊥
 
 abbrev pub EndsComment : List ℕ → ℕ → ℕ → Result (Unit {0}) TextFault → ℕ → Type 0
-EndsComment text from start result to = MatchResult result (λ _. SkipsComment text from to) (λ fault. FailsInside (runs_at text from) start fault.number fault.at)
+EndsComment text from start result to = MatchResult result (λ _. SkipsComment text from to)
+    (λ fault. FailsInside (runs_at text from) start fault.number fault.at)
 
 -- the bytes of a word as a run
 abbrev pub run_between : List ℕ → ℕ → ℕ → Run
@@ -97,4 +98,5 @@ FailsBehind runs found number at = MeetsRun runs found number at
 
 -- a word is read; or only comments are left; or a fault is met
 abbrev pub GivesWord : List ℕ → ℕ → Result (Option Word) TextFault → ℕ → Type 0
-GivesWord text from result to = MatchResult result (λ o. MatchOption o (AreWords (runs_at text from) []) (λ word. TakesWord text from word to)) (λ fault. FailsBehind (runs_at text from) [] fault.number fault.at)
+GivesWord text from result to = MatchResult result (λ o. MatchOption o (AreWords (runs_at text from) [])
+    (λ word. TakesWord text from word to)) (λ fault. FailsBehind (runs_at text from) [] fault.number fault.at)

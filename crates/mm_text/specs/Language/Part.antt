@@ -5,11 +5,13 @@ use Rattle.mm_text.specs.declared.part.PartKind.{PartKind}
 use Rattle.mm_text.specs.declared.part.PartKind.TheVariants as parts
 use Rattle.mm_text.specs.declared.word.Word.{Word}
 use Rattle.mm_text.specs.declared.word.Keyword.{Keyword}
-use Rattle.mm_text.specs.declared.word.Keyword.TheVariants.{BlockStart, BlockEnd, Constants, Variables, Disjoint, Floating, Essential, Axiom, Theorem, InclusionStart}
+use Rattle.mm_text.specs.declared.word.Keyword.TheVariants.{BlockStart, BlockEnd, Constants, Variables, Disjoint, Floating, Essential, Axiom, Theorem}
+use Rattle.mm_text.specs.declared.word.Keyword.TheVariants.{InclusionStart}
 use Rattle.mm_text.specs.declared.word.WordKind.{WordKind}
 use Rattle.mm_text.specs.declared.word.WordKind.TheVariants as kinds
 use Rattle.mm_text.specs.Language.Reading.{HasWords}
-use Rattle.mm_text.specs.Language.Unit.{Token, tokens_of, Shape, Declaration, Labelled, Provable, Inclusion, Units, Nothing, Simple, Block, AreUnits, unit_tokens}
+use Rattle.mm_text.specs.Language.Unit.{Token, tokens_of, Shape, Declaration, Labelled, Provable, Inclusion, Units, Nothing, Simple, Block, AreUnits}
+use Rattle.mm_text.specs.Language.Unit.{unit_tokens}
 
 -- the words of the text are these units
 pub record HasUnits (text : List ℕ) (units : Units) : Type 0 where

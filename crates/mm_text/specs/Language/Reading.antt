@@ -2,7 +2,8 @@
 --
 -- A reading divides the runs of a text into words and comments. A text has the words of its reading. A text without
 -- a reading has a fault: at the first run with which no reading goes on, or at a comment that is not ended.
-use Rattle.std.specs.Prelude.{◌≡◌, ◌≢◌, ℕ, ◌<◌, ◌≤◌, ◌||◌, ◌&&◌, Bool, not, nat_le, List, [], ◌∷◌, ◌++◌, length, slice_range, Option, Some, None, All, AllPairs, Contains, position}
+use Rattle.std.specs.Prelude.{◌≡◌, ◌≢◌, ℕ, ◌<◌, ◌≤◌, ◌||◌, ◌&&◌, Bool, not, nat_le, List, [], ◌∷◌, ◌++◌, length, slice_range, Option, Some, None, All, AllPairs}
+use Rattle.std.specs.Prelude.{Contains, position}
 use Rattle.std.specs.List.{flat_map, AllByRecursion}
 use Rattle.mm_text.specs.declared.word.Word.{Word}
 use Rattle.mm_text.specs.declared.word.WordKind.{WordKind}

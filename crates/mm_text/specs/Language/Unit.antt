@@ -1,8 +1,10 @@
 -- Units: what a list of words may be, if it is whole.
-use Rattle.std.specs.Prelude.{◌≡◌, ℕ, ◌+◌, ◌<◌, ◌≤◌, ◌==◌, ◌||◌, ◌&&◌, Bool, true, false, nat_le, IsTrue, Some, List, [], ◌∷◌, ◌++◌, ◌⊎◌, length, take, drop, map, slice_get}
+use Rattle.std.specs.Prelude.{◌≡◌, ℕ, ◌+◌, ◌<◌, ◌≤◌, ◌==◌, ◌||◌, ◌&&◌, Bool, true, false, nat_le, IsTrue, Some, List, [], ◌∷◌, ◌++◌, ◌⊎◌, length, take, drop}
+use Rattle.std.specs.Prelude.{map, slice_get}
 use Rattle.std.specs.List.{AllByRecursion, list_all, slice_range}
 use Rattle.mm_text.specs.declared.word.Keyword.{Keyword}
-use Rattle.mm_text.specs.declared.word.Keyword.TheVariants.{BlockStart, BlockEnd, Constants, Variables, Floating, Essential, Disjoint, Axiom, Theorem, StatementEnd, ProofStart, InclusionStart, InclusionEnd}
+use Rattle.mm_text.specs.declared.word.Keyword.TheVariants.{BlockStart, BlockEnd, Constants, Variables, Floating, Essential, Disjoint, Axiom, Theorem}
+use Rattle.mm_text.specs.declared.word.Keyword.TheVariants.{StatementEnd, ProofStart, InclusionStart, InclusionEnd}
 use Rattle.mm_text.specs.declared.word.WordKind.{WordKind}
 use Rattle.mm_text.specs.declared.word.WordKind.TheVariants as kinds
 use Rattle.mm_text.specs.declared.word.Word.{Word}
@@ -57,9 +59,11 @@ abbrev pub IsShape : Bool → Shape → Type 0
 IsShape outside (Declaration keyword symbols end) =
     (IsKeyword Constants keyword ⊎ (IsKeyword Variables keyword ⊎ IsKeyword Disjoint keyword)) × AllByRecursion IsPlain symbols × IsKeyword StatementEnd end
 IsShape outside (Labelled label keyword symbols end) =
-    IsLabel label × (IsKeyword Floating keyword ⊎ (IsKeyword Essential keyword ⊎ IsKeyword Axiom keyword)) × AllByRecursion IsPlain symbols × IsKeyword StatementEnd end
+    IsLabel label × (IsKeyword Floating keyword ⊎ (IsKeyword Essential keyword ⊎ IsKeyword Axiom keyword))
+    × AllByRecursion IsPlain symbols × IsKeyword StatementEnd end
 IsShape outside (Provable label keyword symbols proof steps end) =
-    IsLabel label × IsKeyword Theorem keyword × AllByRecursion IsPlain symbols × IsKeyword ProofStart proof × AllByRecursion IsPlain steps × IsKeyword StatementEnd end
+    IsLabel label × IsKeyword Theorem keyword × AllByRecursion IsPlain symbols
+    × IsKeyword ProofStart proof × AllByRecursion IsPlain steps × IsKeyword StatementEnd end
 IsShape outside (Inclusion begin name end) =
     IsTrue outside × IsKeyword InclusionStart begin × IsPlain name × IsKeyword InclusionEnd end
 
@@ -105,7 +109,8 @@ IsUnitNumber T12 front token = EndsInInclusion front × ¬ IsPlain token
 IsUnitNumber T10 front token = ¬ EndsInInclusion front × IsKeyword InclusionStart token
 IsUnitNumber T09 front token = MayBegin front × IsKeyword BlockEnd token
 IsUnitNumber T11 front token = MayBegin front × IsPlain token
-IsUnitNumber T06 front token = ¬ (EndsInInclusion front × ¬ IsPlain token) × ¬ IsKeyword InclusionStart token × ¬ (MayBegin front × (IsKeyword BlockEnd token ⊎ IsPlain token))
+IsUnitNumber T06 front token = ¬ (EndsInInclusion front × ¬ IsPlain token) × ¬ IsKeyword InclusionStart token
+    × ¬ (MayBegin front × (IsKeyword BlockEnd token ⊎ IsPlain token))
 IsUnitNumber _ front token = ⊥
 
 -- word number `word` is the first that makes the list so far not viable

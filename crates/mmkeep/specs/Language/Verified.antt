@@ -5,7 +5,7 @@ use Rattle.mm_text.specs.Language.Place.{line_at, column_at}
 use Rattle.mm_store.specs.Language.FilesView.{FilesView, no_files, bytes_of}
 use Rattle.mm_store.specs.Language.FileFacts.{IsAdded}
 use Rattle.mm_frame.specs.Language.Base.{BaseView, IsOfFiles}
-use Rattle.mmkeep.specs.Code.Base.{IsWordOf}
+use Rattle.mmkeep.specs.Language.WordPlaces.{IsWordOf}
 use Rattle.mmkeep.specs.Language.Later.{AreRead, IsFirstUnread}
 use Rattle.mmkeep.specs.Language.Report.{Told, AreRightlyTold, lines, report}
 use Rattle.mmkeep.specs.Language.Stream.{AppendsPart}
