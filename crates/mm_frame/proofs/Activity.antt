@@ -2,9 +2,9 @@
 use Rattle.std.proofs.Common.{◌≡◌, ℕ, zero, suc, ◌+◌, ◌-◌, ◌≤◌, ◌<◌, ◌↔◌, Bool, true, false, cond, Some, List, [], ◌∷◌, take, drop, slice_get, count_by, refl, sym, ◌∙◌, ap, subst, arith, take-add, take-take}
 use native.Mathlib.Decide.{dec_lt}
 use Rattle.std.proofs.lemmas.List.Sums.{sum_by-cons, sum_by-append}
-use Rattle.mm_frame.specs.Item.{Item}
-use Rattle.mm_frame.specs.Scope.{Mark, Opens, Closes, Neither, mark_of, stays, opens, closes, is_start, is_end}
-use Rattle.mm_frame.specs.Numbered.{IsEven, IsEndOf, Holds, IsActive, between}
+use Rattle.mm_frame.specs.Language.Item.{Item}
+use Rattle.mm_frame.specs.Language.Scope.{Mark, Opens, Closes, Neither, mark_of, stays, opens, closes, is_start, is_end}
+use Rattle.mm_frame.specs.Language.Numbered.{IsEven, IsEndOf, HoldsItem, IsActive, between}
 use Rattle.mm_frame.proofs.Stack.{stays_by_counts}
 use Rattle.mm_frame.proofs.Heights.{IsHeight, EndsAt, Around, from_height, to_height}
 
@@ -176,7 +176,7 @@ active_by_blocks items i j x y h ei ej mx my l = (to_active, from_active)
     around : IsActive items i j → Around (height items) i j
     around a b c s f e d =
         let p = count_found is_start items b (let o = count_more is_end items b in omega arith) in
-        let w : Holds items b i = record { start = p.0; there = p.1; starts = p.2; behind = c; before_end = λ e d. f e (to_ends items h b e d) } in
+        let w : HoldsItem items b i = record { start = p.0; there = p.1; starts = p.2; behind = c; before_end = λ e d. f e (to_ends items h b e d) } in
         (a.blocks b w).before_end e (from_ends items h b e d)
 
     from_active : IsActive items i j → stays (between items i j) ≡ true

@@ -10,19 +10,19 @@ use Rattle.std.specs.Borrow.{Bor}
 use Rattle.std.specs.Prelude.{IfSome}
 use Rattle.mm_frame.specs.declared.FrameNumber.{FrameNumber}
 use Rattle.mm_frame.specs.declared.symbol.NamedSymbol.{NamedSymbol}
-use Rattle.mm_frame.specs.Item.{Kind, Essential, Axiom, Theorem, Missing, Item, passed, is_labelled, is_disjoint, is_assertion, is_essential, is_theorem, item_at}
-use Rattle.mm_frame.specs.Sound.{IsSound, AreSound, fault, judged, kept, kept_after}
-use Rattle.mm_frame.specs.Framing.{symbol, expression, frame}
-use Rattle.mm_frame.specs.Scope.{Mark, Closes, Neither, mark_of, closes, active_variables, active_numbers}
-use Rattle.mm_frame.specs.Named.{symbols_of, kept_pairs, variable_of}
-use Rattle.mm_frame.specs.KeptSymbols.{expression_kept, kept_or_none, is_read, AreSymbols, AreExpressions}
-use Rattle.mm_frame.specs.Tables.{IsSort}
-use Rattle.mm_frame.specs.Scoping.{taken}
-use Rattle.mm_frame.specs.Base.{BaseView, before, said_at, fault_by, told_fault, is_sound_at, expression_at, is_framed_at, frame_at}
-use Rattle.mm_frame.specs.Kept.{told_numbers, numbers_if, pairs_if}
-use Rattle.mm_frame.specs.Kept.{AreRows, TellsFrame, is_told_proof}
-use Rattle.mm_frame.specs.Language.{Symbol, AreSamePairs}
-use Rattle.mm_frame.specs.Paired.{pairs_in_order}
+use Rattle.mm_frame.specs.Language.Item.{Kind, Essential, Axiom, Theorem, Missing, Item, passed, is_labelled, is_disjoint, is_assertion, is_essential, is_theorem, item_at}
+use Rattle.mm_frame.specs.Language.Sound.{IsSound, AreSound, fault, judged, sound_items, sound_items_after}
+use Rattle.mm_frame.specs.Language.Framing.{symbol, expression, frame}
+use Rattle.mm_frame.specs.Language.Scope.{Mark, Closes, Neither, mark_of, closes, active_variables, active_numbers}
+use Rattle.mm_frame.specs.Code.CodeSymbols.{symbols_of, kept_pairs, as_variable}
+use Rattle.mm_frame.specs.Code.KeptSymbols.{expression_kept, kept_or_none, is_read, AreSymbols, AreExpressions}
+use Rattle.mm_frame.specs.Code.LastItems.{IsSort}
+use Rattle.mm_frame.specs.Code.KeptScope.{taken}
+use Rattle.mm_frame.specs.Language.Base.{BaseView, before, said_at, fault_by, told_fault, is_sound_at, expression_at, is_framed_at, frame_at}
+use Rattle.mm_frame.specs.Code.KeptBase.{told_numbers, numbers_if, pairs_if}
+use Rattle.mm_frame.specs.Code.KeptBase.{AreRows, TellsFrame, is_told_proof}
+use Rattle.mm_frame.specs.Language.Frame.{Symbol, AreSamePairs}
+use Rattle.mm_frame.specs.Code.PairOrder.{pairs_in_order}
 use Rattle.mm_frame.specs.declared.draft.Frame.{Frame}
 use Rattle.mm_frame.proofs.FramePairs.{same_pairs}
 use Rattle.mm_frame.proofs.Judged.{no_fault_sound, sound_found, passed_sound, kept_is_sound, kept_next, kept_after_append}
@@ -45,29 +45,29 @@ item_beyond (x ∷ xs) zero l = absurd (omega arith)
 item_beyond (x ∷ xs) (suc n) l = item_beyond xs n (omega arith)
 
 -- one more item, with its row
-pub rows_more : {X : Type 0} (tells : List Item → Item → X → Type 0) (said : List Item) (item : Item) (rows : List X) (row : X) → AreRows tells said rows → tells (kept said) item row → AreRows tells (said ++ item ∷ []) (rows ++ row ∷ [])
+pub rows_more : {X : Type 0} (tells : List Item → Item → X → Type 0) (said : List Item) (item : Item) (rows : List X) (row : X) → AreRows tells said rows → tells (sound_items said) item row → AreRows tells (said ++ item ∷ []) (rows ++ row ∷ [])
 rows_more {X} tells said item rows row a t = record {
   count = (let c = a.count in let p = length_push rows row in let q = length_push said item in omega arith);
   each = λ n x e. elim (get_cases rows row x n e) [
     | inl there ↦ (let c = a.count in let w = slice_get_within rows n x there in earlier n x (omega arith) (a.each n x there))
-    | inr last ↦ (let z : n ≡ length said = last.0 ∙ a.count in subst (λ k. tells (kept (take k (said ++ item ∷ []))) (item_at (said ++ item ∷ []) k) x) (sym z) (newest x last.1))
+    | inr last ↦ (let z : n ≡ length said = last.0 ∙ a.count in subst (λ k. tells (sound_items (take k (said ++ item ∷ []))) (item_at (said ++ item ∷ []) k) x) (sym z) (newest x last.1))
   ];
 }
   where
-    earlier : (n : ℕ) (x : X) → n < length said → tells (kept (take n said)) (item_at said n) x → tells (kept (take n (said ++ item ∷ []))) (item_at (said ++ item ∷ []) n) x
-    earlier n x l h = subst (λ w. tells (kept w) (item_at (said ++ item ∷ []) n) x) (sym (take-append-le n said (item ∷ []) (omega arith))) (subst (λ w. tells (kept (take n said)) w x) (sym (item_before said item n l)) h)
+    earlier : (n : ℕ) (x : X) → n < length said → tells (sound_items (take n said)) (item_at said n) x → tells (sound_items (take n (said ++ item ∷ []))) (item_at (said ++ item ∷ []) n) x
+    earlier n x l h = subst (λ w. tells (sound_items w) (item_at (said ++ item ∷ []) n) x) (sym (take-append-le n said (item ∷ []) (omega arith))) (subst (λ w. tells (sound_items (take n said)) w x) (sym (item_before said item n l)) h)
 
-    newest : (x : X) → row ≡ x → tells (kept (take (length said) (said ++ item ∷ []))) (item_at (said ++ item ∷ []) (length said)) x
-    newest x e = subst (λ w. tells (kept w) (item_at (said ++ item ∷ []) (length said)) x) (sym (take_between said item [])) (subst (λ w. tells (kept said) w x) (sym (item_between said item [])) (subst (λ w. tells (kept said) item w) e t))
+    newest : (x : X) → row ≡ x → tells (sound_items (take (length said) (said ++ item ∷ []))) (item_at (said ++ item ∷ []) (length said)) x
+    newest x e = subst (λ w. tells (sound_items w) (item_at (said ++ item ∷ []) (length said)) x) (sym (take_between said item [])) (subst (λ w. tells (sound_items said) w x) (sym (item_between said item [])) (subst (λ w. tells (sound_items said) item w) e t))
 
 -- what is kept is sound
-pub kept_are_sound : (said : List Item) → AreSound (kept said)
-kept_are_sound said = kept_sound (kept said) (kept_is_sound said)
+pub kept_are_sound : (said : List Item) → AreSound (sound_items said)
+kept_are_sound said = kept_sound (sound_items said) (kept_is_sound said)
 
 -- an item is kept as it is where no fault was found
-pub kept_taken : {X : Type 0} (told : X → ℕ × FrameNumber) (said : List Item) (item : Item) (found : Option X) → option_map told found ≡ fault (kept said) item → kept said ++ taken (is_none found) item ∷ [] ≡ kept (said ++ item ∷ [])
-kept_taken told said item None e = ap (λ o. kept said ++ judged item o ∷ []) e ∙ sym (kept_next said item)
-kept_taken told said item (Some f) e = ap (λ o. kept said ++ judged item o ∷ []) e ∙ sym (kept_next said item)
+pub kept_taken : {X : Type 0} (told : X → ℕ × FrameNumber) (said : List Item) (item : Item) (found : Option X) → option_map told found ≡ fault (sound_items said) item → sound_items said ++ taken (is_none found) item ∷ [] ≡ sound_items (said ++ item ∷ [])
+kept_taken told said item None e = ap (λ o. sound_items said ++ judged item o ∷ []) e ∙ sym (kept_next said item)
+kept_taken told said item (Some f) e = ap (λ o. sound_items said ++ judged item o ∷ []) e ∙ sym (kept_next said item)
 
 pub sound_found_none : {X : Type 0} (told : X → ℕ × FrameNumber) (before : List Item) (item : Item) (found : Option X) → option_map told found ≡ fault before item → is_none found ≡ true → IsSound before item
 sound_found_none told before item None e t = no_fault_sound before item (sym e)
@@ -117,47 +117,47 @@ symbols_taken before item symbols true h t = h refl t
 symbols_taken before item symbols false h t = absurd (false≢true t)
 
 -- where an item stands among what is kept
-kept_after_front : (before items : List Item) → (rest : List Item) × (kept_after before items ≡ before ++ rest) × (length rest ≡ length items)
+kept_after_front : (before items : List Item) → (rest : List Item) × (sound_items_after before items ≡ before ++ rest) × (length rest ≡ length items)
 kept_after_front before [] = ([], sym (append-nil before), refl)
 kept_after_front before (item ∷ items) =
     let one = judged item (fault before item) in
     let r = kept_after_front (before ++ one ∷ []) items in
     (one ∷ r.0, r.1 ∙ append_assoc before (one ∷ []) r.0, ap suc r.2)
 
-pub kept_count : (said : List Item) → length (kept said) ≡ length said
+pub kept_count : (said : List Item) → length (sound_items said) ≡ length said
 kept_count said = let r = kept_after_front [] said in ap length r.1 ∙ r.2
 
 pub record KeptAt (said : List Item) (i : ℕ) (item : Item) : Type 0 where
   pub rest : List Item
-  pub whole : kept said ≡ kept (take i said) ++ judged item (fault (kept (take i said)) item) ∷ rest
-  pub number : length (kept (take i said)) ≡ i
+  pub whole : sound_items said ≡ sound_items (take i said) ++ judged item (fault (sound_items (take i said)) item) ∷ rest
+  pub number : length (sound_items (take i said)) ≡ i
 
 pub kept_at : (said : List Item) (i : ℕ) (item : Item) → slice_get said i ≡ Some item → KeptAt said i item
 kept_at said i item e =
     let front = take i said in
     let back = drop (suc i) said in
-    let one = judged item (fault (kept front) item) in
-    let r = kept_after_front (kept front ++ one ∷ []) back in
+    let one = judged item (fault (sound_items front) item) in
+    let r = kept_after_front (sound_items front ++ one ∷ []) back in
     let w = slice_get_within said i item e in
     record {
       rest = r.0;
-      whole = ap kept (split_at said i item e) ∙ kept_after_append [] front (item ∷ back) ∙ r.1 ∙ append_assoc (kept front) (one ∷ []) r.0;
+      whole = ap sound_items (split_at said i item e) ∙ kept_after_append [] front (item ∷ back) ∙ r.1 ∙ append_assoc (sound_items front) (one ∷ []) r.0;
       number = kept_count front ∙ length-take-le i said (omega arith);
     }
 
-pub kept_front_at : (said : List Item) (i : ℕ) (item : Item) → slice_get said i ≡ Some item → take i (kept said) ≡ kept (take i said)
+pub kept_front_at : (said : List Item) (i : ℕ) (item : Item) → slice_get said i ≡ Some item → take i (sound_items said) ≡ sound_items (take i said)
 kept_front_at said i item e =
     let k = kept_at said i item e in
-    ap (take i) k.whole ∙ ap (λ n. take n (kept (take i said) ++ judged item (fault (kept (take i said)) item) ∷ k.rest)) (sym k.number) ∙ take_between (kept (take i said)) (judged item (fault (kept (take i said)) item)) k.rest
+    ap (take i) k.whole ∙ ap (λ n. take n (sound_items (take i said) ++ judged item (fault (sound_items (take i said)) item) ∷ k.rest)) (sym k.number) ∙ take_between (sound_items (take i said)) (judged item (fault (sound_items (take i said)) item)) k.rest
 
 pub get_between : (front : List Item) (item : Item) (back : List Item) → slice_get (front ++ item ∷ back) (length front) ≡ Some item
 get_between [] item back = refl
 get_between (x ∷ front) item back = get_between front item back
 
-pub kept_item_at : (said : List Item) (i : ℕ) (item : Item) → slice_get said i ≡ Some item → fault (kept (take i said)) item ≡ None → slice_get (kept said) i ≡ Some item
+pub kept_item_at : (said : List Item) (i : ℕ) (item : Item) → slice_get said i ≡ Some item → fault (sound_items (take i said)) item ≡ None → slice_get (sound_items said) i ≡ Some item
 kept_item_at said i item e f =
     let k = kept_at said i item e in
-    ap (λ n. slice_get (kept said) n) (sym k.number) ∙ ap (λ w. slice_get w (length (kept (take i said)))) (k.whole ∙ ap (λ o. kept (take i said) ++ judged item o ∷ k.rest) f) ∙ get_between (kept (take i said)) item k.rest
+    ap (λ n. slice_get (sound_items said) n) (sym k.number) ∙ ap (λ w. slice_get w (length (sound_items (take i said)))) (k.whole ∙ ap (λ o. sound_items (take i said) ++ judged item o ∷ k.rest) f) ∙ get_between (sound_items (take i said)) item k.rest
 
 -- where a label is told, no fault is told exactly for a sound item
 pub none_told : (kind : Kind) (f : Option (ℕ × FrameNumber)) → is_none (fault_by kind f) ≡ true → f ≡ None
@@ -187,7 +187,7 @@ labelled_there (x ∷ said) (suc i) e = labelled_there said i e
 pub expression_none : (base : BaseView) (i : ℕ) → (is_sound_at base i && is_labelled (said_at base i).kind) ≡ false → expression_at base i ≡ None
 expression_none base i e = ap (λ b. cond b (Some (expression (before base i) (said_at base i))) None) e
 
-pub expression_some : (base : BaseView) (i : ℕ) (expressions : List (Vec NamedSymbol Global)) → AreSymbols (kept base.said) expressions → (is_sound_at base i && is_labelled (said_at base i).kind) ≡ true → expression_at base i ≡ Some (symbols_of (expression_kept expressions i))
+pub expression_some : (base : BaseView) (i : ℕ) (expressions : List (Vec NamedSymbol Global)) → AreSymbols (sound_items base.said) expressions → (is_sound_at base i && is_labelled (said_at base i).kind) ≡ true → expression_at base i ≡ Some (symbols_of (expression_kept expressions i))
 expression_some base i expressions a e =
     let item = said_at base i in
     let parts = and_parts (is_sound_at base i) (is_labelled item.kind) e in
@@ -197,9 +197,9 @@ expression_some base i expressions a e =
     ap (λ b. cond b (Some (expression (before base i) item)) None) e ∙ ap Some (ap (λ w. expression w item) (sym (kept_front_at base.said i item there)) ∙ sym (a.each i item (kept_item_at base.said i item there sound) read))
 
 -- a sound `$d` is read as variables
-pub variables_read : (item : Item) (n : ℕ) (variables : List NamedSymbol) → length item.symbols ≤ n → symbols_of variables ≡ map variable_of (take n item.symbols) → (before : List Item) → IsSound before item → is_disjoint item.kind ≡ true → symbols_of variables ≡ expression before item
-variables_read item n variables l r before s t = r ∙ ap (map variable_of) (take_all n item.symbols l)
-    ∙ map_same variable_of (symbol before) item.symbols (λ name m. let v = in_has (active_variables before) name (disjoint_named before item name s t m) in λ i. record { name = name; variable = sym v i })
+pub variables_read : (item : Item) (n : ℕ) (variables : List NamedSymbol) → length item.symbols ≤ n → symbols_of variables ≡ map as_variable (take n item.symbols) → (before : List Item) → IsSound before item → is_disjoint item.kind ≡ true → symbols_of variables ≡ expression before item
+variables_read item n variables l r before s t = r ∙ ap (map as_variable) (take_all n item.symbols l)
+    ∙ map_same as_variable (symbol before) item.symbols (λ name m. let v = in_has (active_variables before) name (disjoint_named before item name s t m) in λ i. record { name = name; variable = sym v i })
 
 -- what is read of a `$f`, `$e`, `$a` or `$p` is its expression
 pub are_expressions : (before : List Item) (expressions : List (Vec NamedSymbol Global)) → AreSymbols before expressions → AreExpressions before expressions

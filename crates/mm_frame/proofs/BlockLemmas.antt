@@ -7,11 +7,11 @@ use Rattle.std.proofs.lemmas.List.{length_push, take-append-drop, drop-append-le
 use Rattle.std.proofs.lemmas.List.Sums.{sum_by_push, count_by-le-length}
 use Rattle.std.proofs.lemmas.Option.{slice_get_within, slice_get-get_or, same_Some}
 use native.Mathlib.Decide.{dec_lt}
-use Rattle.mm_frame.specs.Item.{Item}
-use Rattle.mm_frame.specs.Scope.{Mark, Opens, Closes, Neither, mark_of, closed_at, closed, is_zero, stays, opens, closes}
-use Rattle.mm_frame.specs.Blocks.{closed_by, stays_by, marks_of}
-use Rattle.mm_frame.specs.BlockEnds.{end_of}
-use Rattle.mm_frame.specs.BlockNumbers.{is_at, mark_between, marks_from, last_block, LeavesOpen, StandsOpen, StandsEnded, Stands, AreBlocks, AreKept}
+use Rattle.mm_frame.specs.Language.Item.{Item}
+use Rattle.mm_frame.specs.Language.Scope.{Mark, Opens, Closes, Neither, mark_of, closed_at, closed, is_zero, stays, opens, closes}
+use Rattle.mm_frame.specs.Code.BlockMarks.{closed_by, stays_by, marks_of}
+use Rattle.mm_frame.specs.Code.BlockEnds.{end_of_block}
+use Rattle.mm_frame.specs.Code.KeptBlocks.{is_at, mark_between, marks_from, last_block, LeavesOpen, StandsOpen, StandsEnded, Stands, AreBlocks, AreBlockEndsKept}
 use Rattle.mm_frame.proofs.Scopes.{closed_more}
 
 -- marks and items
@@ -45,7 +45,7 @@ each_more : {X : Type 0} (P : ℕ → X → Type 0) (xs : List X) (y : X) → ((
 each_more P xs y h k n x e = elim (get_cases xs y x n e) [ inl f ↦ h n x f | inr f ↦ subst (λ m. P m x) (sym f.0) (subst (λ z. P (length xs) z) f.1 k) ]
 
 -- ends
-end_of_past : (ends : List (Option ℕ)) (block : ℕ) → length ends ≤ block → end_of ends block ≡ None
+end_of_past : (ends : List (Option ℕ)) (block : ℕ) → length ends ≤ block → end_of_block ends block ≡ None
 end_of_past [] block l = refl
 end_of_past (end ∷ ends) zero l = absurd (omega arith)
 end_of_past (end ∷ ends) (suc block) l = end_of_past ends block (omega arith)
@@ -56,7 +56,7 @@ marks_push ends item before [] behind n q = (let e : item ≡ n = omega arith in
 marks_push ends item before (block ∷ blocks) behind n q = ap (λ w. mark_between ends item before block ∷ w) (marks_push ends (suc item) block blocks behind n (omega arith))
 
 -- ends behind the items say nothing of them
-marks_same : (ends more : List (Option ℕ)) (item before : ℕ) (blocks : List ℕ) → ((block n : ℕ) → n < item + length blocks → is_at (end_of more block) n ≡ is_at (end_of ends block) n) → marks_from more item before blocks ≡ marks_from ends item before blocks
+marks_same : (ends more : List (Option ℕ)) (item before : ℕ) (blocks : List ℕ) → ((block n : ℕ) → n < item + length blocks → is_at (end_of_block more block) n ≡ is_at (end_of_block ends block) n) → marks_from more item before blocks ≡ marks_from ends item before blocks
 marks_same ends more item before [] h = refl
 marks_same ends more item before (block ∷ blocks) h =
     ap (λ w. cond w Closes (cond (before == block) Neither Opens) ∷ marks_from more (suc item) block blocks) (h before item (omega arith)) ∙ ap (λ w. mark_between ends item before block ∷ w) (marks_same ends more (suc item) block blocks (λ b n l. h b n (omega arith)))
@@ -135,7 +135,7 @@ active_ended marks from at end l s =
     by_order (no a) = (let e = s.number in stays_before s.front s.rest (at - suc from) s.leaves (omega arith) ∙ sym (le-leb at end (omega arith)))
 
 -- an entry more among the ends
-entered : (blocks : List ℕ) (ends more : List (Option ℕ)) (outer : List ℕ) (current : ℕ) (marks : List Mark) → ((block : ℕ) → end_of more block ≡ end_of ends block) → length ends ≤ length more → AreBlocks blocks ends outer current marks → AreBlocks blocks more outer current marks
+entered : (blocks : List ℕ) (ends more : List (Option ℕ)) (outer : List ℕ) (current : ℕ) (marks : List Mark) → ((block : ℕ) → end_of_block more block ≡ end_of_block ends block) → length ends ≤ length more → AreBlocks blocks ends outer current marks → AreBlocks blocks more outer current marks
 entered blocks ends more outer current marks h l k = record {
   stand = λ item block there. subst (λ end. Stands (outer ++ current ∷ []) (drop (suc item) marks) block item end) (sym (h block)) (k.stand item block there);
   unended = λ level block there. h block ∙ k.unended level block there;
@@ -145,7 +145,7 @@ entered blocks ends more outer current marks h l k = record {
   last = k.last;
 }
 
-pub entered_marks : (ends more : List (Option ℕ)) (blocks : List ℕ) → ((block : ℕ) → end_of more block ≡ end_of ends block) → marks_from more 0 0 blocks ≡ marks_from ends 0 0 blocks
+pub entered_marks : (ends more : List (Option ℕ)) (blocks : List ℕ) → ((block : ℕ) → end_of_block more block ≡ end_of_block ends block) → marks_from more 0 0 blocks ≡ marks_from ends 0 0 blocks
 entered_marks ends more blocks h = marks_same ends more 0 0 blocks (λ block n l. ap (λ end. is_at end n) (h block))
 
 -- one more mark behind an item
@@ -173,16 +173,16 @@ stand_last outer behind block item end e q =
     })
 
 -- the blocks of all items, where those of the earlier ones are known
-stands_all : (blocks : List ℕ) (ends : List (Option ℕ)) (outer : List ℕ) (next : ℕ) (marks : List Mark) (mark : Mark) → length marks ≡ length blocks → end_of ends next ≡ None
-    → ((item block : ℕ) → slice_get blocks item ≡ Some block → Stands (outer ++ next ∷ []) (drop (suc item) marks ++ mark ∷ []) block item (end_of ends block)) → (item block : ℕ) → slice_get (blocks ++ next ∷ []) item ≡ Some block
-    → Stands (outer ++ next ∷ []) (drop (suc item) (marks ++ mark ∷ [])) block item (end_of ends block)
-stands_all blocks ends outer next marks mark count e h = each_more (λ item block. Stands (outer ++ next ∷ []) (drop (suc item) (marks ++ mark ∷ [])) block item (end_of ends block)) blocks next earlier
-    (stand_last outer (drop (suc (length blocks)) (marks ++ mark ∷ [])) next (length blocks) (end_of ends next) e (let p = length_push marks mark in drop_all (suc (length blocks)) (marks ++ mark ∷ []) (omega arith)))
+stands_all : (blocks : List ℕ) (ends : List (Option ℕ)) (outer : List ℕ) (next : ℕ) (marks : List Mark) (mark : Mark) → length marks ≡ length blocks → end_of_block ends next ≡ None
+    → ((item block : ℕ) → slice_get blocks item ≡ Some block → Stands (outer ++ next ∷ []) (drop (suc item) marks ++ mark ∷ []) block item (end_of_block ends block)) → (item block : ℕ) → slice_get (blocks ++ next ∷ []) item ≡ Some block
+    → Stands (outer ++ next ∷ []) (drop (suc item) (marks ++ mark ∷ [])) block item (end_of_block ends block)
+stands_all blocks ends outer next marks mark count e h = each_more (λ item block. Stands (outer ++ next ∷ []) (drop (suc item) (marks ++ mark ∷ [])) block item (end_of_block ends block)) blocks next earlier
+    (stand_last outer (drop (suc (length blocks)) (marks ++ mark ∷ [])) next (length blocks) (end_of_block ends next) e (let p = length_push marks mark in drop_all (suc (length blocks)) (marks ++ mark ∷ []) (omega arith)))
   where
-    earlier : (item block : ℕ) → slice_get blocks item ≡ Some block → Stands (outer ++ next ∷ []) (drop (suc item) (marks ++ mark ∷ [])) block item (end_of ends block)
+    earlier : (item block : ℕ) → slice_get blocks item ≡ Some block → Stands (outer ++ next ∷ []) (drop (suc item) (marks ++ mark ∷ [])) block item (end_of_block ends block)
     earlier item block there =
         let l = slice_get_within blocks item block there in
-        subst (λ behind. Stands (outer ++ next ∷ []) behind block item (end_of ends block)) (sym (drop-append-le (suc item) marks (mark ∷ []) (omega arith))) (h item block there)
+        subst (λ behind. Stands (outer ++ next ∷ []) behind block item (end_of_block ends block)) (sym (drop-append-le (suc item) marks (mark ∷ []) (omega arith))) (h item block there)
 
 -- no number stands twice in a list
 abbrev pub IsDistinct : List ℕ → Type 0
@@ -208,11 +208,11 @@ passed blocks ends outer current marks count k = record {
   last = last_push 0 blocks current;
 }
   where
-    earlier : (item block : ℕ) → slice_get blocks item ≡ Some block → Stands (outer ++ current ∷ []) (drop (suc item) marks ++ Neither ∷ []) block item (end_of ends block)
-    earlier item block there = stand_more (outer ++ current ∷ []) (outer ++ current ∷ []) (drop (suc item) marks) Neither block item (end_of ends block) (k.stand item block there)
+    earlier : (item block : ℕ) → slice_get blocks item ≡ Some block → Stands (outer ++ current ∷ []) (drop (suc item) marks ++ Neither ∷ []) block item (end_of_block ends block)
+    earlier item block there = stand_more (outer ++ current ∷ []) (outer ++ current ∷ []) (drop (suc item) marks) Neither block item (end_of_block ends block) (k.stand item block there)
         (λ s. record { level = s.level; there = s.there; leaves = leaves_neither (drop (suc item) marks) (length (outer ++ current ∷ []) - suc s.level) (length (outer ++ current ∷ []) - suc s.level) refl s.leaves })
 
-mark_neither : (ends : List (Option ℕ)) (item before current : ℕ) → before ≡ current → end_of ends current ≡ None → mark_between ends item before current ≡ Neither
+mark_neither : (ends : List (Option ℕ)) (item before current : ℕ) → before ≡ current → end_of_block ends current ≡ None → mark_between ends item before current ≡ Neither
 mark_neither ends item before current e z = subst (λ w. mark_between ends item w current ≡ Neither) (sym e) (ap (λ end. cond (is_at end item) Closes (cond (current == current) Neither Opens)) z ∙ ap (λ w. cond w Neither Opens) (eq-eqb current current refl))
 
 pub passed_marks : (blocks : List ℕ) (ends : List (Option ℕ)) (outer : List ℕ) (current : ℕ) (marks : List Mark) → AreBlocks blocks ends outer current marks → marks_from ends 0 0 (blocks ++ current ∷ []) ≡ marks_from ends 0 0 blocks ++ Neither ∷ []
@@ -224,7 +224,7 @@ begun : (blocks : List ℕ) (ends : List (Option ℕ)) (outer : List ℕ) (curre
     → AreBlocks (blocks ++ next ∷ []) ends (outer ++ current ∷ []) next (marks ++ Opens ∷ [])
 begun blocks ends outer current next marks count l q k = record {
   stand = stands_all blocks ends (outer ++ current ∷ []) next marks Opens count (end_of_past ends next (omega arith)) earlier;
-  unended = each_more (λ level block. end_of ends block ≡ None) (outer ++ current ∷ []) next k.unended (end_of_past ends next (omega arith));
+  unended = each_more (λ level block. end_of_block ends block ≡ None) (outer ++ current ∷ []) next k.unended (end_of_past ends next (omega arith));
   distinct = distinct_more (outer ++ current ∷ []) next k.distinct (λ level block there e. (let a = known level block there in absurd (omega arith)));
   numbered = known;
   newest = omega arith;
@@ -234,15 +234,15 @@ begun blocks ends outer current next marks count l q k = record {
     known : (level block : ℕ) → slice_get (outer ++ current ∷ []) level ≡ Some block → block < length ends
     known = each_more (λ level block. block < length ends) outer current k.numbered l
 
-    earlier : (item block : ℕ) → slice_get blocks item ≡ Some block → Stands ((outer ++ current ∷ []) ++ next ∷ []) (drop (suc item) marks ++ Opens ∷ []) block item (end_of ends block)
-    earlier item block there = stand_more (outer ++ current ∷ []) ((outer ++ current ∷ []) ++ next ∷ []) (drop (suc item) marks) Opens block item (end_of ends block) (k.stand item block there) (λ s. record {
+    earlier : (item block : ℕ) → slice_get blocks item ≡ Some block → Stands ((outer ++ current ∷ []) ++ next ∷ []) (drop (suc item) marks ++ Opens ∷ []) block item (end_of_block ends block)
+    earlier item block there = stand_more (outer ++ current ∷ []) ((outer ++ current ∷ []) ++ next ∷ []) (drop (suc item) marks) Opens block item (end_of_block ends block) (k.stand item block there) (λ s. record {
       level = s.level;
       there = get_front (outer ++ current ∷ []) next block s.level s.there;
       leaves = leaves_more (drop (suc item) marks) (length (outer ++ current ∷ []) - suc s.level) (length ((outer ++ current ∷ []) ++ next ∷ []) - suc s.level) (let w = slice_get_within (outer ++ current ∷ []) s.level block s.there in let p = length_push (outer ++ current ∷ []) next in omega arith)
           s.leaves;
     })
 
-mark_opens : (ends : List (Option ℕ)) (item before current next : ℕ) → before ≡ current → end_of ends current ≡ None → current ≢ next → mark_between ends item before next ≡ Opens
+mark_opens : (ends : List (Option ℕ)) (item before current next : ℕ) → before ≡ current → end_of_block ends current ≡ None → current ≢ next → mark_between ends item before next ≡ Opens
 mark_opens ends item before current next e z n = subst (λ w. mark_between ends item w next ≡ Opens) (sym e) (ap (λ end. cond (is_at end item) Closes (cond (current == next) Neither Opens)) z ∙ ap (λ w. cond w Neither Opens) (ne_eqb current next n))
 
 pub begun_marks : (blocks : List ℕ) (ends : List (Option ℕ)) (outer : List ℕ) (current next : ℕ) (marks : List Mark) → current < length ends → next ≡ length ends → AreBlocks blocks ends outer current marks → marks_from ends 0 0 (blocks ++ next ∷ []) ≡ marks_from ends 0 0 blocks ++ Opens ∷ []
@@ -280,10 +280,10 @@ stood_there outer rest next fresh level block (inr e) there = (let h = the_only 
 abbrev pub closing : List (Option ℕ) → ℕ → ℕ → List (Option ℕ)
 closing ends block item = set ends block (Some item)
 
-end_of_closed : (ends : List (Option ℕ)) (block item : ℕ) → block < length ends → end_of (closing ends block item) block ≡ Some item
+end_of_closed : (ends : List (Option ℕ)) (block item : ℕ) → block < length ends → end_of_block (closing ends block item) block ≡ Some item
 end_of_closed ends block item l = get_or-set_same ends block (Some item) None l
 
-end_of_other : (ends : List (Option ℕ)) (block item other : ℕ) → other ≢ block → end_of (closing ends block item) other ≡ end_of ends other
+end_of_other : (ends : List (Option ℕ)) (block item other : ℕ) → other ≢ block → end_of_block (closing ends block item) other ≡ end_of_block ends other
 end_of_other ends block item other n = get_or-set_other ends block other (Some item) None n
 
 same_or_not : (a b : ℕ) → (a ≡ b) ⊎ (a ≢ b)
@@ -294,7 +294,7 @@ same_or_not a b = elim (dec_lt a b) [
 
 -- an item that ends a block
 module _ (blocks : List ℕ) (ends : List (Option ℕ)) (outer rest : List ℕ) (current next : ℕ) (marks : List Mark) (l : current < length ends) (p : Popped outer rest next (length ends)) (k : AreBlocks blocks ends outer current marks) where
-  innermost : end_of ends current ≡ None
+  innermost : end_of_block ends current ≡ None
   innermost = k.unended (length outer) current (get_last outer current (length outer) refl)
 
   outer_apart : (level block : ℕ) → slice_get outer level ≡ Some block → block ≢ current
@@ -303,13 +303,13 @@ module _ (blocks : List ℕ) (ends : List (Option ℕ)) (outer rest : List ℕ) 
       let q = k.distinct level (length outer) block (get_front outer current block level there) (get_last outer current (length outer) refl ∙ ap Some (sym e)) in
       omega arith
 
-  outer_open : (level block : ℕ) → slice_get outer level ≡ Some block → end_of (closing ends current (length blocks)) block ≡ None
+  outer_open : (level block : ℕ) → slice_get outer level ≡ Some block → end_of_block (closing ends current (length blocks)) block ≡ None
   outer_open level block there = end_of_other ends current (length blocks) block (outer_apart level block there) ∙ k.unended level block (get_front outer current block level there)
 
-  fresh_open : (block : ℕ) → block ≡ length ends → end_of (closing ends current (length blocks)) block ≡ None
+  fresh_open : (block : ℕ) → block ≡ length ends → end_of_block (closing ends current (length blocks)) block ≡ None
   fresh_open block e = (let n = length-set ends current (Some (length blocks)) in end_of_past (closing ends current (length blocks)) block (omega arith))
 
-  ended_unended : (level block : ℕ) → slice_get (rest ++ next ∷ []) level ≡ Some block → end_of (closing ends current (length blocks)) block ≡ None
+  ended_unended : (level block : ℕ) → slice_get (rest ++ next ∷ []) level ≡ Some block → end_of_block (closing ends current (length blocks)) block ≡ None
   ended_unended level block there = elim (stood_there outer rest next (length ends) level block p there) [
     | inl h ↦ outer_open level block h
     | inr h ↦ fresh_open block (h.2)
@@ -342,14 +342,14 @@ module _ (blocks : List ℕ) (ends : List (Option ℕ)) (outer rest : List ℕ) 
       ]
 
   -- the block of an earlier item ended, or ends now, or is open
-  ended_block : (count : length marks ≡ length blocks) (item block : ℕ) (end : Option ℕ) → item < length blocks → end_of ends block ≡ end → Stands (outer ++ current ∷ []) (drop (suc item) marks) block item end
-      → Stands (rest ++ next ∷ []) (drop (suc item) marks ++ Closes ∷ []) block item (end_of (closing ends current (length blocks)) block)
+  ended_block : (count : length marks ≡ length blocks) (item block : ℕ) (end : Option ℕ) → item < length blocks → end_of_block ends block ≡ end → Stands (outer ++ current ∷ []) (drop (suc item) marks) block item end
+      → Stands (rest ++ next ∷ []) (drop (suc item) marks ++ Closes ∷ []) block item (end_of_block (closing ends current (length blocks)) block)
   ended_block count item block (Some end) w e s =
       let n : block ≢ current = λ q. (cc (innermost, e)) in
       subst (λ o. Stands (rest ++ next ∷ []) (drop (suc item) marks ++ Closes ∷ []) block item o) (sym (end_of_other ends current (length blocks) block n ∙ e)) (more_ended (drop (suc item) marks) Closes item end s)
   ended_block count item block None w e s = by_cases (get_cases outer current block s.level s.there)
     where
-      by_cases : ((slice_get outer s.level ≡ Some block) ⊎ ((s.level ≡ length outer) × (current ≡ block))) → Stands (rest ++ next ∷ []) (drop (suc item) marks ++ Closes ∷ []) block item (end_of (closing ends current (length blocks)) block)
+      by_cases : ((slice_get outer s.level ≡ Some block) ⊎ ((s.level ≡ length outer) × (current ≡ block))) → Stands (rest ++ next ∷ []) (drop (suc item) marks ++ Closes ∷ []) block item (end_of_block (closing ends current (length blocks)) block)
       by_cases (inl h) =
           let put = stays_put outer rest next (length ends) s.level block p h in
           let within = slice_get_within outer s.level block h in
@@ -365,7 +365,7 @@ module _ (blocks : List ℕ) (ends : List (Option ℕ)) (outer rest : List ℕ) 
           let at = h.0 in
           let q : length (outer ++ current ∷ []) - suc s.level ≡ 0 = omega arith in
           let behind = length-drop (suc item) marks in
-          subst (λ o. Stands (rest ++ next ∷ []) (drop (suc item) marks ++ Closes ∷ []) block item o) (sym (ap (λ b. end_of (closing ends current (length blocks)) b) (sym (h.1)) ∙ end_of_closed ends current (length blocks) l)) (record {
+          subst (λ o. Stands (rest ++ next ∷ []) (drop (suc item) marks ++ Closes ∷ []) block item o) (sym (ap (λ b. end_of_block (closing ends current (length blocks)) b) (sym (h.1)) ∙ end_of_closed ends current (length blocks) l)) (record {
             front = drop (suc item) marks;
             rest = [];
             parts = refl;
@@ -376,7 +376,7 @@ module _ (blocks : List ℕ) (ends : List (Option ℕ)) (outer rest : List ℕ) 
   ended : length marks ≡ length blocks → AreBlocks (blocks ++ next ∷ []) (closing ends current (length blocks)) rest next (marks ++ Closes ∷ [])
   ended count = record {
     stand = stands_all blocks (closing ends current (length blocks)) rest next marks Closes count (ended_unended (length rest) next (get_last rest next (length rest) refl))
-        (λ item block there. ended_block count item block (end_of ends block) (slice_get_within blocks item block there) refl (k.stand item block there));
+        (λ item block there. ended_block count item block (end_of_block ends block) (slice_get_within blocks item block there) refl (k.stand item block there));
     unended = ended_unended;
     distinct = ended_distinct;
     numbered = ended_numbered;
@@ -384,9 +384,9 @@ module _ (blocks : List ℕ) (ends : List (Option ℕ)) (outer rest : List ℕ) 
     last = last_push 0 blocks next;
   }
 
-  same_before : (block n : ℕ) → n < 0 + length blocks → is_at (end_of (closing ends current (length blocks)) block) n ≡ is_at (end_of ends block) n
+  same_before : (block n : ℕ) → n < 0 + length blocks → is_at (end_of_block (closing ends current (length blocks)) block) n ≡ is_at (end_of_block ends block) n
   same_before block n w = elim (same_or_not block current) [
-    | inl e ↦ ap (λ end. is_at end n) (ap (λ b. end_of (closing ends current (length blocks)) b) e ∙ end_of_closed ends current (length blocks) l) ∙ ne_eqb (length blocks) n (λ q. omega arith) ∙ ap (λ end. is_at end n) (sym (ap (λ b. end_of ends b) e ∙ innermost))
+    | inl e ↦ ap (λ end. is_at end n) (ap (λ b. end_of_block (closing ends current (length blocks)) b) e ∙ end_of_closed ends current (length blocks) l) ∙ ne_eqb (length blocks) n (λ q. omega arith) ∙ ap (λ end. is_at end n) (sym (ap (λ b. end_of_block ends b) e ∙ innermost))
     | inr e ↦ ap (λ end. is_at end n) (end_of_other ends current (length blocks) block e)
   ]
 
@@ -396,17 +396,19 @@ module _ (blocks : List ℕ) (ends : List (Option ℕ)) (outer rest : List ℕ) 
       ∙ ap (λ w. w ++ Closes ∷ []) (marks_same ends (closing ends current (length blocks)) 0 0 blocks same_before)
     where
       mark_closes : (before : ℕ) → before ≡ current → mark_between (closing ends current (length blocks)) (length blocks) before next ≡ Closes
-      mark_closes before e = ap (λ end. cond (is_at end (length blocks)) Closes (cond (before == next) Neither Opens)) (ap (λ b. end_of (closing ends current (length blocks)) b) e ∙ end_of_closed ends current (length blocks) l)
+      mark_closes before e = ap (λ end. cond (is_at end (length blocks)) Closes (cond (before == next) Neither Opens)) (ap (λ b. end_of_block (closing ends current (length blocks)) b) e ∙ end_of_closed ends current (length blocks) l)
           ∙ ap (λ w. cond w Closes (cond (before == next) Neither Opens)) (eq-eqb (length blocks) (length blocks) refl)
 
 -- counts of one more mark
 count_push : (test : Mark → Bool) (marks : List Mark) (mark : Mark) → count_by test (marks ++ mark ∷ []) ≡ count_by test marks + cond (test mark) 1 0
 count_push test marks mark = sum_by_push (λ m. cond (test m) 1 0) marks mark
 
-pub kept_moved : (blocks others : List ℕ) (ends more : List (Option ℕ)) (outer around : List ℕ) (current begun ended : ℕ) → others ≡ blocks → more ≡ ends → around ≡ outer → AreKept blocks ends outer current begun ended → AreKept others more around current begun ended
-kept_moved blocks others ends more outer around current begun ended a b d k = subst (λ w. AreKept w more around current begun ended) (sym a) (subst (λ w. AreKept blocks w around current begun ended) (sym b) (subst (λ w. AreKept blocks ends w current begun ended) (sym d) k))
+pub kept_moved : (blocks others : List ℕ) (ends more : List (Option ℕ)) (outer around : List ℕ) (current begun ended : ℕ) → others ≡ blocks → more ≡ ends → around ≡ outer → AreBlockEndsKept blocks ends outer current begun ended → AreBlockEndsKept others more around current begun ended
+kept_moved blocks others ends more outer around current begun ended a b d k =
+    subst (λ w. AreBlockEndsKept w more around current begun ended) (sym a) (subst (λ w. AreBlockEndsKept blocks w around current begun ended) (sym b) (subst (λ w. AreBlockEndsKept blocks ends w current begun ended) (sym d) k))
 
-pub kept_entered : (blocks : List ℕ) (ends more : List (Option ℕ)) (outer : List ℕ) (current begun ended : ℕ) → ((block : ℕ) → end_of more block ≡ end_of ends block) → length ends ≤ length more → AreKept blocks ends outer current begun ended → AreKept blocks more outer current begun ended
+pub kept_entered : (blocks : List ℕ) (ends more : List (Option ℕ)) (outer : List ℕ) (current begun ended : ℕ) → ((block : ℕ) → end_of_block more block ≡ end_of_block ends block) → length ends ≤ length more → AreBlockEndsKept blocks ends outer current begun ended
+    → AreBlockEndsKept blocks more outer current begun ended
 kept_entered blocks ends more outer current begun ended h l k =
     let same = entered_marks ends more blocks h in
     record {
@@ -418,7 +420,7 @@ kept_entered blocks ends more outer current begun ended h l k =
 same_count : (test : Mark → Bool) (marks more : List Mark) (mark : Mark) (n m : ℕ) → more ≡ marks ++ mark ∷ [] → n ≡ count_by test marks → m ≡ n + cond (test mark) 1 0 → m ≡ count_by test more
 same_count test marks more mark n m e q r = r ∙ ap (λ w. w + cond (test mark) 1 0) q ∙ sym (count_push test marks mark) ∙ ap (count_by test) (sym e)
 
-pub kept_passed : (blocks : List ℕ) (ends : List (Option ℕ)) (outer : List ℕ) (current begun ended : ℕ) → AreKept blocks ends outer current begun ended → AreKept (blocks ++ current ∷ []) ends outer current begun ended
+pub kept_passed : (blocks : List ℕ) (ends : List (Option ℕ)) (outer : List ℕ) (current begun ended : ℕ) → AreBlockEndsKept blocks ends outer current begun ended → AreBlockEndsKept (blocks ++ current ∷ []) ends outer current begun ended
 kept_passed blocks ends outer current begun ended k =
     let marks = marks_from ends 0 0 blocks in
     let more = passed_marks blocks ends outer current marks k.are_blocks in
@@ -428,7 +430,8 @@ kept_passed blocks ends outer current begun ended k =
       ended_is = same_count closes marks _ Neither ended ended more k.ended_is (omega arith);
     }
 
-pub kept_begun : (blocks : List ℕ) (ends : List (Option ℕ)) (outer : List ℕ) (current next begun ended : ℕ) → current < length ends → next ≡ length ends → AreKept blocks ends outer current begun ended → AreKept (blocks ++ next ∷ []) ends (outer ++ current ∷ []) next (begun + 1) ended
+pub kept_begun : (blocks : List ℕ) (ends : List (Option ℕ)) (outer : List ℕ) (current next begun ended : ℕ) → current < length ends → next ≡ length ends → AreBlockEndsKept blocks ends outer current begun ended
+    → AreBlockEndsKept (blocks ++ next ∷ []) ends (outer ++ current ∷ []) next (begun + 1) ended
 kept_begun blocks ends outer current next begun_count ended l q k =
     let marks = marks_from ends 0 0 blocks in
     let more = begun_marks blocks ends outer current next marks l q k.are_blocks in
@@ -438,8 +441,8 @@ kept_begun blocks ends outer current next begun_count ended l q k =
       ended_is = same_count closes marks _ Opens ended ended more k.ended_is (omega arith);
     }
 
-pub kept_ended : (blocks : List ℕ) (ends : List (Option ℕ)) (outer rest : List ℕ) (current next begun ended : ℕ) → current < length ends → Popped outer rest next (length ends) → AreKept blocks ends outer current begun ended
-    → AreKept (blocks ++ next ∷ []) (closing ends current (length blocks)) rest next begun (ended + 1)
+pub kept_ended : (blocks : List ℕ) (ends : List (Option ℕ)) (outer rest : List ℕ) (current next begun ended : ℕ) → current < length ends → Popped outer rest next (length ends) → AreBlockEndsKept blocks ends outer current begun ended
+    → AreBlockEndsKept (blocks ++ next ∷ []) (closing ends current (length blocks)) rest next begun (ended + 1)
 kept_ended blocks ends outer rest current next begun ended_count l p k =
     let marks = marks_from ends 0 0 blocks in
     let more = ended_marks blocks ends outer rest current next marks l p k.are_blocks in
@@ -488,14 +491,14 @@ pub before_none : (marks : List Mark) (from at end : ℕ) → end ≡ min at (le
 before_none marks from at end e l = let c = length-take at marks in ap stays_by (drop_all (suc from) (take at marks) (omega arith))
 
 -- an item whose block is open is active, and one whose block has ended is so up to the end
-pub is_active_open : (blocks : List ℕ) (ends : List (Option ℕ)) (outer : List ℕ) (current begun ended from at block : ℕ) → AreKept blocks ends outer current begun ended → from < length blocks → block ≡ get_or blocks from block → end_of ends block ≡ None
+pub is_active_open : (blocks : List ℕ) (ends : List (Option ℕ)) (outer : List ℕ) (current begun ended from at block : ℕ) → AreBlockEndsKept blocks ends outer current begun ended → from < length blocks → block ≡ get_or blocks from block → end_of_block ends block ≡ None
     → stays_by (slice_range (marks_from ends 0 0 blocks) (from + 1) at) ≡ true
 is_active_open blocks ends outer current begun ended from at block k l there e =
     let marks = marks_from ends 0 0 blocks in
     let s : StandsOpen (outer ++ current ∷ []) (drop (suc from) marks) block = subst (λ end. Stands (outer ++ current ∷ []) (drop (suc from) marks) block from end) e (k.are_blocks.stand from block (slice_get-get_or blocks from block l ∙ ap Some (sym there))) in
     active_open marks from at (length (outer ++ current ∷ []) - suc s.level) s.leaves
 
-pub is_active_ended : (blocks : List ℕ) (ends : List (Option ℕ)) (outer : List ℕ) (current begun ended from at block end : ℕ) → AreKept blocks ends outer current begun ended → from < at → from < length blocks → block ≡ get_or blocks from block → end_of ends block ≡ Some end
+pub is_active_ended : (blocks : List ℕ) (ends : List (Option ℕ)) (outer : List ℕ) (current begun ended from at block end : ℕ) → AreBlockEndsKept blocks ends outer current begun ended → from < at → from < length blocks → block ≡ get_or blocks from block → end_of_block ends block ≡ Some end
     → stays_by (slice_range (marks_from ends 0 0 blocks) (from + 1) at) ≡ leb at end
 is_active_ended blocks ends outer current begun ended from at block end k f l there e =
     let marks = marks_from ends 0 0 blocks in

@@ -5,11 +5,11 @@ use Rattle.std.proofs.lemmas.Bool.{false≢true}
 use Rattle.std.proofs.lemmas.Option.{get_or_from_slice_get, slice_get_within}
 use Rattle.std.proofs.Math.Seq.{get_or-append_seam, drop-nil}
 use Rattle.std.proofs.lemmas.List.{drop-append-le, drop-map, length_push, get_or_append_left}
-use Rattle.mm_frame.specs.Item.{Item}
-use Rattle.mm_frame.specs.Scope.{Mark, Neither, mark_of, closed_at, closed, is_zero, stays, active_numbers}
-use Rattle.mm_frame.specs.Blocks.{stays_by, marks_of}
-use Rattle.mm_frame.specs.Tables.{is_active_at, IsRising}
-use Rattle.mm_frame.specs.Pruned.{IsPruned}
+use Rattle.mm_frame.specs.Language.Item.{Item}
+use Rattle.mm_frame.specs.Language.Scope.{Mark, Neither, mark_of, closed_at, closed, is_zero, stays, active_numbers}
+use Rattle.mm_frame.specs.Code.BlockMarks.{stays_by, marks_of}
+use Rattle.mm_frame.specs.Code.LastItems.{is_active_at, IsRising}
+use Rattle.mm_frame.specs.Code.KeptActive.{IsPruned}
 use Rattle.mm_frame.proofs.Members.{In, in_contains, contains_in, in_left, in_right, in_cases, in_get}
 use Rattle.mm_frame.proofs.Scopes.{closed_none, stays_front}
 use Rattle.mm_frame.proofs.SoundItems.{split_at}

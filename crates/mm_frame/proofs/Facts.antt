@@ -1,10 +1,10 @@
 -- What soundness gives.
 use Rattle.std.proofs.Common.{◌≡◌, ℕ, suc, ◌+◌, ◌-◌, ◌≤◌, Bool, true, false, not, ◌&&◌, ltb, leb, ◌==◌, Some, List, [], ◌∷◌, ◌++◌, length, slice_get, refl, sym, ◌∙◌, subst, append_assoc, append-nil, arith, inl, inr, ◌⊎◌}
 use Rattle.std.proofs.lemmas.Bool.{false≢true, or_parts, or_cases, or_left, or_right, le-leb, lt-ltb}
-use Rattle.mm_frame.specs.Item.{Kind, Constants, Floating, Item, is_constants, is_variables, is_floating, is_expression, is_labelled, has}
-use Rattle.mm_frame.specs.Scope.{active, symbols_by, constants, variables, active_variables, typed}
+use Rattle.mm_frame.specs.Language.Item.{Kind, Constants, Floating, Item, is_constants, is_variables, is_floating, is_expression, is_labelled, has}
+use Rattle.mm_frame.specs.Language.Scope.{active, symbols_by, constants, variables, active_variables, typed}
 use Rattle.mm_frame.specs.declared.FrameNumber.TheVariants.{F01, F04, F08, F09, F10, F11, F12}
-use Rattle.mm_frame.specs.Sound.{first_symbol, closing_word, passes, at_symbol, each, first, second, later, is_third, is_declared, is_active_symbol, is_no_constant, is_no_variable, is_unknown, is_untyped, is_typed, is_short, IsSound}
+use Rattle.mm_frame.specs.Language.Sound.{first_symbol, closing_word, passes, at_symbol, each, first, second, later, is_third, is_declared, is_active_symbol, is_no_constant, is_no_variable, is_no_active_symbol, is_untyped, is_typed, is_short, IsSound}
 use Rattle.mm_frame.proofs.Members.{In, in_cases, in_get, has_in, in_has, from_symbols, to_symbols}
 use Rattle.mm_frame.proofs.Scopes.{active_in}
 
@@ -110,8 +110,8 @@ first_constant before item name s t g =
 
 pub known : (before : List Item) (item : Item) (k : ℕ) (name : List ℕ) → IsSound before item → is_expression item.kind ≡ true → slice_get item.symbols (suc k) ≡ Some name → In name (constants before) ⊎ In name (active_variables before)
 known before item k name s t g =
-    let f = no_symbol_of (is_expression item.kind) (later (is_unknown before)) item (λ word. s word F10) t (suc k) name g in
-    let b = not_not (is_active_symbol before name) (and_rest (ltb 0 (suc k)) (is_unknown before name) f (lt-ltb 0 (suc k) (omega arith))) in
+    let f = no_symbol_of (is_expression item.kind) (later (is_no_active_symbol before)) item (λ word. s word F10) t (suc k) name g in
+    let b = not_not (is_active_symbol before name) (and_rest (ltb 0 (suc k)) (is_no_active_symbol before name) f (lt-ltb 0 (suc k) (omega arith))) in
     elim (or_cases (has (constants before) name) (has (active_variables before) name) b) [ inl c ↦ inl (has_in (constants before) name c) | inr v ↦ inr (has_in (active_variables before) name v) ]
 
 pub typed_there : (before : List Item) (item : Item) (k : ℕ) (name : List ℕ) → IsSound before item → is_expression item.kind ≡ true → slice_get item.symbols (suc k) ≡ Some name → In name (active_variables before) → In name (typed before)

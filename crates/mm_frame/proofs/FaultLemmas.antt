@@ -7,15 +7,15 @@ use Rattle.std.proofs.lemmas.Bool.{false≢true, false_from_ne_true}
 use Rattle.std.proofs.Math.Seq.{take-suc}
 use Rattle.std.proofs.lemmas.Option.{slice_get-get_or}
 use Rattle.std.proofs.lemmas.List.Folds.{list_any-append}
-use Rattle.mm_frame.specs.Item.{Item, has}
-use Rattle.mm_frame.specs.Scope.{constants, active_variables, typed}
-use Rattle.mm_frame.specs.Sound.{first_symbol, closing_word, fault_or, fault, AreSound}
-use Rattle.mm_frame.specs.Scoping.{Holds}
+use Rattle.mm_frame.specs.Language.Item.{Item, has}
+use Rattle.mm_frame.specs.Language.Scope.{constants, active_variables, typed}
+use Rattle.mm_frame.specs.Language.Sound.{first_symbol, closing_word, fault_or, fault, AreSound}
+use Rattle.mm_frame.specs.Code.KeptScope.{ScopeHolds}
 use Rattle.mm_frame.specs.declared.scope.Scope.{Scope}
 use Rattle.mm_frame.specs.declared.FrameNumber.{FrameNumber}
 use Rattle.mm_frame.specs.declared.FrameNumber.TheVariants.{F10, F11}
-use Rattle.mm_frame.specs.Judging.{must_differ, front_fault, end_fault, first_fault, symbol_fault, symbols_fault, later_fault}
-use Rattle.mm_frame.specs.Seen.{HasSeen}
+use Rattle.mm_frame.specs.Code.FaultInOrder.{must_differ, front_fault, end_fault, first_fault, symbol_fault, symbols_fault, later_fault}
+use Rattle.mm_frame.specs.Code.SeenNames.{HasSeen}
 use Rattle.mm_frame.proofs.JudgingLemmas.{first_fault_at, fault_is}
 use Rattle.mm_frame.proofs.KnownLemmas.{has_one}
 use Rattle.mm_frame.proofs.Members.{has_in}
@@ -55,16 +55,16 @@ twice_not false = refl
 -- the symbols up to a number have no fault, and are those that were seen where they have to differ
 pub record Passes {S : Type 0} (scope : Scope) (item : Item) (n : ℕ) (seen : HashSet (Bor (List ℕ)) S) : Type 0 where
   pub sees : must_differ item.kind ≡ true → HasSeen (take n item.symbols) seen
-  pub rest : (before : List Item) → AreSound before → Holds before scope → symbols_fault before item ≡ first_fault (symbol_fault before item) (first_symbol item + n) n (drop n item.symbols)
+  pub rest : (before : List Item) → AreSound before → ScopeHolds before scope → symbols_fault before item ≡ first_fault (symbol_fault before item) (first_symbol item + n) n (drop n item.symbols)
 
 -- the first of the symbols that are left
-next_fault : {S : Type 0} {scope : Scope} (item : Item) (n : ℕ) (seen : HashSet (Bor (List ℕ)) S) → n < length item.symbols → Passes scope item n seen → (before : List Item) → AreSound before → Holds before scope
+next_fault : {S : Type 0} {scope : Scope} (item : Item) (n : ℕ) (seen : HashSet (Bor (List ℕ)) S) → n < length item.symbols → Passes scope item n seen → (before : List Item) → AreSound before → ScopeHolds before scope
     → symbols_fault before item ≡ fault_or (first_symbol item + n) (symbol_fault before item n (get_or item.symbols n [])) (first_fault (symbol_fault before item) (suc (first_symbol item + n)) (suc n) (drop (suc n) item.symbols))
 next_fault item n seen l p before h k = p.rest before h k ∙ first_fault_at (symbol_fault before item) (first_symbol item + n) n n (get_or item.symbols n []) item.symbols (slice_get-get_or item.symbols n [] l)
 
 -- a symbol with a fault
 pub fault_there : {S : Type 0} {scope : Scope} (item : Item) (n word : ℕ) (seen : HashSet (Bor (List ℕ)) S) (number : FrameNumber) → n < length item.symbols → word ≡ first_symbol item + n → Passes scope item n seen
-    → (before : List Item) → AreSound before → Holds before scope → Some number ≡ symbol_fault before item n (get_or item.symbols n [])
+    → (before : List Item) → AreSound before → ScopeHolds before scope → Some number ≡ symbol_fault before item n (get_or item.symbols n [])
     → ◌≡◌ {A = Option (ℕ × FrameNumber)} (Some (word, number)) (symbols_fault before item)
 fault_there item n word seen number l w p before h k f =
     (λ i. fault_or (w i) (f i) (first_fault (symbol_fault before item) (suc (first_symbol item + n)) (suc n) (drop (suc n) item.symbols))) ∙ sym (next_fault item n seen l p before h k)
@@ -72,7 +72,7 @@ fault_there item n word seen number l w p before h k f =
 -- a symbol with no fault
 pub passes_more : {S : Type 0} {scope : Scope} (item : Item) (n more : ℕ) (name : List ℕ) (old new : HashSet (Bor (List ℕ)) S) → more ≡ suc n → n < length item.symbols → name ≡ get_or item.symbols n [] → Passes scope item n old
     → (must_differ item.kind ≡ true → HasSeen (take n item.symbols ++ name ∷ []) new)
-    → ((before : List Item) → AreSound before → Holds before scope → None ≡ symbol_fault before item n (get_or item.symbols n []))
+    → ((before : List Item) → AreSound before → ScopeHolds before scope → None ≡ symbol_fault before item n (get_or item.symbols n []))
     → Passes scope item more new
 passes_more {scope = scope} item n more name old new m l e p seen none = record {
   sees = λ d. subst (λ names. HasSeen names new) (sym longer) (seen d);
@@ -82,7 +82,7 @@ passes_more {scope = scope} item n more name old new m l e p seen none = record 
     longer : take more item.symbols ≡ take n item.symbols ++ name ∷ []
     longer = ap (λ w. take w item.symbols) m ∙ take-suc item.symbols n [] l ∙ ap (λ x. take n item.symbols ++ x ∷ []) (sym e)
 
-    passed_by : (before : List Item) → AreSound before → Holds before scope
+    passed_by : (before : List Item) → AreSound before → ScopeHolds before scope
         → fault_or (first_symbol item + n) (symbol_fault before item n (get_or item.symbols n [])) (first_fault (symbol_fault before item) (suc (first_symbol item + n)) (suc n) (drop (suc n) item.symbols)) ≡ first_fault (symbol_fault before item) (first_symbol item + more) more
         (drop more item.symbols)
     passed_by before h k =

@@ -8,14 +8,14 @@ use Rattle.std.proofs.lemmas.List.{take-take}
 use Rattle.std.proofs.lemmas.List.Elements.{All-from_get_or}
 use Rattle.std.proofs.lemmas.Option.{none-some, slice_get_within, slice_get_cases, slice_get-get_or, get_or_from_slice_get}
 use Rattle.mm_store.specs.declared.item.Item as store
-use Rattle.mm_store.specs.FilesView.{FilesView}
+use Rattle.mm_store.specs.Language.FilesView.{FilesView}
 use Rattle.mm_frame.specs.declared.FrameNumber.{FrameNumber}
-use Rattle.mm_frame.specs.Item.{Kind, Floating, Essential, Missing, Item, passed, is_floating, is_essential, is_labelled, has, variable_of, item_at}
-use Rattle.mm_frame.specs.Sound.{fault, judged, kept}
-use Rattle.mm_frame.specs.Framing.{is_mandatory, mandatory_variables, expression, hypothesis, mandatory_numbers}
-use Rattle.mm_frame.specs.Statement.{kind_of, Says}
-use Rattle.mm_frame.specs.Base.{BaseView, before, said_at, fault_by, hypothesis_at, is_sound_at, is_shown_at, is_framed_at, IsMandatoryAt, AreHypotheses}
-use Rattle.mm_frame.specs.Kept.{numbers_if, hypotheses_at}
+use Rattle.mm_frame.specs.Language.Item.{Kind, Floating, Essential, Missing, Item, passed, is_floating, is_essential, is_labelled, has, variable_of, item_at}
+use Rattle.mm_frame.specs.Language.Sound.{fault, judged, sound_items}
+use Rattle.mm_frame.specs.Language.Framing.{is_mandatory, mandatory_variables, expression, hypothesis, mandatory_numbers}
+use Rattle.mm_frame.specs.Language.Statement.{kind_of, Says}
+use Rattle.mm_frame.specs.Language.Base.{BaseView, before, said_at, fault_by, hypothesis_at, is_sound_at, is_shown_at, is_framed_at, IsMandatoryAt, AreHypotheses}
+use Rattle.mm_frame.specs.Code.KeptBase.{numbers_if, hypotheses_at}
 use Rattle.mm_frame.proofs.Members.{In, in_contains, contains_in}
 use Rattle.mm_frame.proofs.Frames.{in_at}
 use Rattle.mm_frame.proofs.SoundItems.{map_same}
@@ -31,21 +31,21 @@ get_front (y ∷ ys) (suc i) zero x e = (omega arith, e)
 get_front (y ∷ ys) (suc i) (suc n) x e = let r = get_front ys i n x e in let l = r.0 in (omega arith, r.1)
 
 -- the front of what is kept is what is kept of the front
-pub kept_front : (said : List Item) (i : ℕ) → take i (kept said) ≡ kept (take i said)
+pub kept_front : (said : List Item) (i : ℕ) → take i (sound_items said) ≡ sound_items (take i said)
 kept_front said i = elim (slice_get_cases said i).1 [
   | inl there ↦ kept_front_at said i there.0 there.2
-  | inr past ↦ (let c = kept_count said in let p = past.0 in take_all i (kept said) (omega arith) ∙ ap kept (sym (take_all i said p)))
+  | inr past ↦ (let c = kept_count said in let p = past.0 in take_all i (sound_items said) (omega arith) ∙ ap sound_items (sym (take_all i said p)))
 ]
 
 -- what is kept at a number is what is said there, judged by the sound items before it
-pub kept_judged : (said : List Item) (n : ℕ) (x : Item) → slice_get (kept said) n ≡ Some x → x ≡ judged (item_at said n) (fault (kept (take n said)) (item_at said n))
+pub kept_judged : (said : List Item) (n : ℕ) (x : Item) → slice_get (sound_items said) n ≡ Some x → x ≡ judged (item_at said n) (fault (sound_items (take n said)) (item_at said n))
 kept_judged said n x e =
-    let w = slice_get_within (kept said) n x e in
+    let w = slice_get_within (sound_items said) n x e in
     let c = kept_count said in
     let item = item_at said n in
     let k = kept_at said n item (slice_get-get_or said n passed (omega arith)) in
-    let one = judged item (fault (kept (take n said)) item) in
-    let here : slice_get (kept said) n ≡ Some one = ap (λ m. slice_get (kept said) m) (sym k.number) ∙ ap (λ v. slice_get v (length (kept (take n said)))) k.whole ∙ get_between (kept (take n said)) one k.rest in
+    let one = judged item (fault (sound_items (take n said)) item) in
+    let here : slice_get (sound_items said) n ≡ Some one = ap (λ m. slice_get (sound_items said) m) (sym k.number) ∙ ap (λ v. slice_get v (length (sound_items (take n said)))) k.whole ∙ get_between (sound_items (take n said)) one k.rest in
     let q : Some x ≡ Some one = sym e ∙ here in
     cc
 
@@ -58,7 +58,7 @@ labelled_told Missing t = absurd (false≢true t)
 labelled_told _ t = refl
 
 -- what is kept and may have a label is what is said there, and is sound
-pub shown_kept : (base : BaseView) (n : ℕ) (x : Item) → slice_get (kept base.said) n ≡ Some x → is_labelled x.kind ≡ true → (x ≡ said_at base n) × (is_shown_at base n ≡ true)
+pub shown_kept : (base : BaseView) (n : ℕ) (x : Item) → slice_get (sound_items base.said) n ≡ Some x → is_labelled x.kind ≡ true → (x ≡ said_at base n) × (is_shown_at base n ≡ true)
 shown_kept base n x e t =
     let item = said_at base n in
     let j = judged_labelled item (fault (before base n) item) x (kept_judged base.said n x e) t in
@@ -83,12 +83,12 @@ mandatory_at base i n k =
     let mandatory = mandatory_variables front (said_at base i) in
     let r = from_active_number (is_mandatory mandatory) front n k in
     let x = r.0 in
-    let g = get_front (kept base.said) i n x (subst (λ w. slice_get w n ≡ Some x) (sym (kept_front base.said i)) r.1) in
+    let g = get_front (sound_items base.said) i n x (subst (λ w. slice_get w n ≡ Some x) (sym (kept_front base.said i)) r.1) in
     let l = g.0 in
     let t = hypothesis_labelled x.kind (has mandatory (variable_of x)) r.3 in
     let s = shown_kept base n x g.1 t in
     let there = get_or_from_slice_get front n x passed r.1 in
-    let place : take n front ≡ before base n = ap (take n) (sym (kept_front base.said i)) ∙ take-take n i (kept base.said) (omega arith) ∙ kept_front base.said n in
+    let place : take n front ≡ before base n = ap (take n) (sym (kept_front base.said i)) ∙ take-take n i (sound_items base.said) (omega arith) ∙ kept_front base.said n in
     let read = expression_at_number front (kept_are_sound (take i base.said)) n x r.1 r.2 t ∙ ap (λ w. expression w x) place in
     record {
       earlier = l;
@@ -97,7 +97,7 @@ mandatory_at base i n k =
     }
 
 -- a sound item with a label stands in the sound items
-pub shown_there : (base : BaseView) (j : ℕ) → is_shown_at base j ≡ true → slice_get (kept base.said) j ≡ Some (said_at base j)
+pub shown_there : (base : BaseView) (j : ℕ) → is_shown_at base j ≡ true → slice_get (sound_items base.said) j ≡ Some (said_at base j)
 shown_there base j s =
     let p = and_parts (is_sound_at base j) (is_labelled (said_at base j).kind) s in
     kept_item_at base.said j (said_at base j) (labelled_there base.said j p.1) (none_told (said_at base j).kind (fault (before base j) (said_at base j)) p.0)
@@ -111,7 +111,7 @@ front_get (y ∷ ys) (suc i) (suc n) x l e = front_get ys i n x (omega arith) e
 
 -- it stands among those before a later one
 pub shown_before : (base : BaseView) (i j : ℕ) → j < i → is_shown_at base j ≡ true → slice_get (before base i) j ≡ Some (said_at base j)
-shown_before base i j l s = subst (λ w. slice_get w j ≡ Some (said_at base j)) (kept_front base.said i) (front_get (kept base.said) i j (said_at base j) l (shown_there base j s))
+shown_before base i j l s = subst (λ w. slice_get w j ≡ Some (said_at base j)) (kept_front base.said i) (front_get (sound_items base.said) i j (said_at base j) l (shown_there base j s))
 
 -- the mandatory hypotheses are those with these numbers
 which_are : (base : BaseView) (i n : ℕ) → Contains (mandatory_numbers (before base i) (said_at base i)) n ↔ IsMandatoryAt base i n

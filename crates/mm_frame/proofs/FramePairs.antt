@@ -12,17 +12,17 @@ use Rattle.std.proofs.lemmas.Map.Views.{any-filter_same, list_any-from_Contains,
 use Rattle.std.proofs.lemmas.Option.{get_or_from_slice_get}
 use Rattle.std.proofs.lemmas.Slice.Eq.{bytes_eq-Decides}
 use Rattle.mm_frame.specs.declared.symbol.NamedSymbol.{NamedSymbol}
-use Rattle.mm_frame.specs.Language.{Symbol, Mandatory, ArePair, AreSamePairs}
-use Rattle.mm_frame.specs.Typing.{IsTyped}
-use Rattle.mm_frame.specs.Item.{Item, passed, is_disjoint, is_declaring, is_floating, is_essential, is_assertion, has, variable_of, item_at}
-use Rattle.mm_frame.specs.Scope.{active, active_numbers}
+use Rattle.mm_frame.specs.Language.Frame.{Symbol, Mandatory, ArePair, AreSamePairs}
+use Rattle.mm_frame.specs.Language.Typing.{IsTyped}
+use Rattle.mm_frame.specs.Language.Item.{Item, passed, is_disjoint, is_declaring, is_floating, is_essential, is_assertion, has, variable_of, item_at}
+use Rattle.mm_frame.specs.Language.Scope.{active, active_numbers}
 use Rattle.mm_frame.specs.declared.FrameNumber.TheVariants.{F03}
-use Rattle.mm_frame.specs.Sound.{is_repeated, IsSound, AreSound}
-use Rattle.mm_frame.specs.Framing.{symbol, expression, mandatory_variables, is_mandatory, hypothesis, mandatory_hypotheses, pairs_of, active_pairs, is_mandatory_pair, frame, mandatory_numbers}
-use Rattle.mm_frame.specs.Tables.{is_active_at, is_essential_item, IsRising}
-use Rattle.mm_frame.specs.Named.{symbols_of}
-use Rattle.mm_frame.specs.KeptSymbols.{expression_kept, AreExpressions}
-use Rattle.mm_frame.specs.Paired.{are_paired, typed_variables, pairs_in_order, is_among, float_variable, float_variables}
+use Rattle.mm_frame.specs.Language.Sound.{is_repeated, IsSound, AreSound}
+use Rattle.mm_frame.specs.Language.Framing.{symbol, expression, mandatory_variables, is_mandatory, hypothesis, mandatory_hypotheses, pairs_of, active_pairs, is_mandatory_pair, frame, mandatory_numbers}
+use Rattle.mm_frame.specs.Code.LastItems.{is_active_at, is_essential_item, IsRising}
+use Rattle.mm_frame.specs.Code.CodeSymbols.{symbols_of}
+use Rattle.mm_frame.specs.Code.KeptSymbols.{expression_kept, AreExpressions}
+use Rattle.mm_frame.specs.Code.PairOrder.{are_paired, typed_variables, pairs_in_order, is_among, float_variable, float_variables}
 use Rattle.mm_frame.proofs.Members.{In, in_contains, contains_in, in_left, in_right, in_cases, in_map, from_map, in_filter, from_filter, in_flat, from_flat, in_get, in_has}
 use Rattle.mm_frame.proofs.Scopes.{active_split}
 use Rattle.mm_frame.proofs.Facts.{and_both, no_symbol_of, float_two}

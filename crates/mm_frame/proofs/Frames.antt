@@ -3,12 +3,12 @@ use Rattle.std.proofs.Common.{◌≡◌, ◌≢◌, ℕ, zero, suc, ◌<◌, Boo
 use Rattle.std.specs.Prelude.{Contains, All, AllPairs}
 use Rattle.std.proofs.lemmas.Bool.{false≢true, true≢false, or_cases, or_right, and_from, false_from_ne_true}
 use Rattle.std.proofs.lemmas.List.Kept.{AllPairs-cons, AllPairs-filter}
-use Rattle.mm_frame.specs.Language.{Symbol, Mandatory, Frame, Hypothesis, Assertion, Inactive, HasVariable}
-use Rattle.mm_frame.specs.Typing.{IsTyped, IsTyping, IsFrame, HasFrames}
-use Rattle.mm_frame.specs.Item.{Kind, Floating, Essential, Axiom, Theorem, Item, is_constants, is_variables, is_disjoint, is_floating, is_essential, is_expression, is_labelled, is_assertion, has, labels_of, variable_of}
-use Rattle.mm_frame.specs.Scope.{Neither, mark_of, stays, active, symbols_by, constants, active_variables, typed, floats}
-use Rattle.mm_frame.specs.Sound.{IsSound, kept}
-use Rattle.mm_frame.specs.Framing.{symbol, expression, mandatory_variables, is_mandatory, hypothesis, mandatory_hypotheses, pairs_of, active_pairs, is_mandatory_pair, frame, meaning, resolve_from, place_of}
+use Rattle.mm_frame.specs.Language.Frame.{Symbol, Mandatory, Frame, Hypothesis, Assertion, Inactive, HasVariable}
+use Rattle.mm_frame.specs.Language.Typing.{IsTyped, IsTyping, IsFrame, HasFrames}
+use Rattle.mm_frame.specs.Language.Item.{Kind, Floating, Essential, Axiom, Theorem, Item, is_constants, is_variables, is_disjoint, is_floating, is_essential, is_expression, is_labelled, is_assertion, has, labels_of, variable_of}
+use Rattle.mm_frame.specs.Language.Scope.{Neither, mark_of, stays, active, symbols_by, constants, active_variables, typed, floats}
+use Rattle.mm_frame.specs.Language.Sound.{IsSound, sound_items}
+use Rattle.mm_frame.specs.Language.Framing.{symbol, expression, mandatory_variables, is_mandatory, hypothesis, mandatory_hypotheses, pairs_of, active_pairs, is_mandatory_pair, frame, meaning, resolve_from, setting_of}
 use Rattle.mm_frame.proofs.Members.{In, in_contains, contains_in, in_left, in_right, in_cases, in_map, from_map, in_filter, from_filter, from_flat, in_get, has_in, in_has, from_symbols, to_symbols}
 use Rattle.mm_frame.proofs.Scopes.{active_split, split_active, active_later, stays_front}
 use Rattle.mm_frame.proofs.Facts.{and_both, AreKept, sound_at, kept_front, not_constant, first_constant, known, typed_there, float_variable, float_new, float_two}
@@ -306,5 +306,5 @@ resolved : (whole front back : List Item) (label : List ℕ) (f : Frame) → Are
 resolved whole front [] label f k e = cc
 resolved whole front (item ∷ back) label f k e = resolved_at whole front item back label f (has (labels_of item) label) k e (λ h. resolved whole (front ++ item ∷ []) back label f (subst (λ w. AreKept [] w) (sym (append_assoc front (item ∷ []) back)) k) h)
 
-pub has_frames : (items : List Item) (j : ℕ) → HasFrames (place_of items j)
-has_frames items j label f e = resolved (kept (take j items)) [] (kept (take j items)) label f (kept_is_sound (take j items)) e
+pub has_frames : (items : List Item) (j : ℕ) → HasFrames (setting_of items j)
+has_frames items j label f e = resolved (sound_items (take j items)) [] (sound_items (take j items)) label f (kept_is_sound (take j items)) e

@@ -7,11 +7,11 @@ use Rattle.std.proofs.lemmas.Option.{get_or_from_slice_get, slice_get_within}
 use Rattle.std.proofs.lemmas.List.{length-take-le}
 use Rattle.std.proofs.lemmas.Simd.{map-map}
 use Rattle.std.proofs.lemmas.List.Kept.{AllPairs-cons}
-use Rattle.mm_frame.specs.Item.{Item, passed, is_floating, is_essential, is_expression, has, variable_of, item_at}
-use Rattle.mm_frame.specs.Scope.{Closes, mark_of, is_zero, stays, active, typed, active_numbers_from, active_numbers}
-use Rattle.mm_frame.specs.Sound.{IsSound, AreSound}
-use Rattle.mm_frame.specs.Framing.{mandatory_variables, is_mandatory, hypothesis, mandatory_hypotheses, mandatory_numbers}
-use Rattle.mm_frame.specs.Tables.{last_where, is_active_at, is_active_last, types, is_essential_item, IsHypothesisNumber, IsRising}
+use Rattle.mm_frame.specs.Language.Item.{Item, passed, is_floating, is_essential, is_expression, has, variable_of, item_at}
+use Rattle.mm_frame.specs.Language.Scope.{Closes, mark_of, is_zero, stays, active, typed, active_numbers_from, active_numbers}
+use Rattle.mm_frame.specs.Language.Sound.{IsSound, AreSound}
+use Rattle.mm_frame.specs.Language.Framing.{mandatory_variables, is_mandatory, hypothesis, mandatory_hypotheses, mandatory_numbers}
+use Rattle.mm_frame.specs.Code.LastItems.{last_where, is_active_at, is_active_last, types, is_essential_item, IsHypothesisNumber, IsRising}
 use Rattle.mm_frame.proofs.Members.{In, in_contains, contains_in, in_get, has_in, in_has}
 use Rattle.mm_frame.proofs.Scopes.{split_active, in_first, in_later, stays_front}
 use Rattle.mm_frame.proofs.Facts.{and_both, float_new}

@@ -3,12 +3,13 @@ use Rattle.std.proofs.Common.{◌≡◌, ℕ, zero, suc, pred, ◌+◌, ◌-◌,
 use native.Mathlib.Decide.{dec_lt}
 use Rattle.std.proofs.lemmas.Bool.{false≢true, and_right, and_left, or_from, ne_eqb}
 use Rattle.std.proofs.lemmas.Option.{slice_get_past}
-use Rattle.mm_frame.specs.Item.{Item, passed, is_constants, is_variables, is_disjoint, is_floating, is_declaring, is_expression, is_labelled}
-use Rattle.mm_frame.specs.Scope.{is_inside}
+use Rattle.mm_frame.specs.Language.Item.{Item, passed, is_constants, is_variables, is_disjoint, is_floating, is_declaring, is_expression, is_labelled}
+use Rattle.mm_frame.specs.Language.Scope.{is_inside}
 use Rattle.mm_frame.specs.declared.FrameNumber.{FrameNumber}
 use Rattle.mm_frame.specs.declared.FrameNumber.TheVariants.{F01, F02, F03, F04, F05, F06, F07, F08, F09, F10, F11, F12, F13, F14}
-use Rattle.mm_frame.specs.Sound.{first_symbol, closing_word, passes, at_symbol, each, first, second, later, is_third, is_repeated, is_declared, is_active_symbol, is_label, is_no_constant, is_no_variable, is_unknown, is_untyped, is_typed, is_typed_otherwise, is_short, line, LineHolds, IsSound, row}
-use Rattle.mm_frame.specs.Sound.{IsFault, numbers, number_at, fault_or, fault_from, fault, judged, kept_after, kept}
+use Rattle.mm_frame.specs.Language.Sound.{first_symbol, closing_word, passes, at_symbol, each, first, second, later, is_third, is_repeated, is_declared, is_active_symbol, is_label, is_no_constant, is_no_variable, is_no_active_symbol, is_untyped, is_typed, is_typed_otherwise, is_short, line_holds}
+use Rattle.mm_frame.specs.Language.Sound.{StatementLineHolds, IsSound, row}
+use Rattle.mm_frame.specs.Language.Sound.{IsStatementFault, numbers, number_at, fault_or, fault_from, fault, judged, sound_items_after, sound_items}
 use Rattle.mm_frame.proofs.Facts.{AreKept}
 
 -- no line holds behind the statement's words
@@ -19,7 +20,7 @@ past_symbols test item word l = and_right (leb (first_symbol item) word) (passes
 not_word : (x y : ℕ) → (x ≡ y → ⊥) → (x == y) ≡ false
 not_word x y n = ne_eqb x y n
 
-past_line : (before : List Item) (item : Item) (word : ℕ) (number : FrameNumber) → closing_word item < word → line before item word number ≡ false
+past_line : (before : List Item) (item : Item) (word : ℕ) (number : FrameNumber) → closing_word item < word → line_holds before item word number ≡ false
 past_line before item word F01 l = or_from _ _ (and_right (is_short item.kind (length item.symbols)) (word == closing_word item) (not_word word (closing_word item) (λ e. omega arith))) (and_right (is_floating item.kind) _ (past_symbols is_third item word l))
 past_line before item word F02 l = and_right (is_constants item.kind) _ (and_left (word == 0) (is_inside before) (not_word word 0 (λ e. omega arith)))
 past_line before item word F03 l = and_right (is_declaring item.kind || is_disjoint item.kind) _ (past_symbols (is_repeated item) item word l)
@@ -29,7 +30,7 @@ past_line before item word F06 l = and_left (word == 0) _ (not_word word 0 (λ e
 past_line before item word F07 l = and_left (word == 0) _ (not_word word 0 (λ e. omega arith))
 past_line before item word F08 l = and_right (is_labelled item.kind) _ (past_symbols (first (is_no_constant before)) item word l)
 past_line before item word F09 l = or_from _ _ (and_right (is_disjoint item.kind) _ (past_symbols (each (is_no_variable before)) item word l)) (and_right (is_floating item.kind) _ (past_symbols (second (is_no_variable before)) item word l))
-past_line before item word F10 l = and_right (is_expression item.kind) _ (past_symbols (later (is_unknown before)) item word l)
+past_line before item word F10 l = and_right (is_expression item.kind) _ (past_symbols (later (is_no_active_symbol before)) item word l)
 past_line before item word F11 l = and_right (is_expression item.kind) _ (past_symbols (later (is_untyped before)) item word l)
 past_line before item word F12 l = and_right (is_floating item.kind) _ (past_symbols (second (is_typed before)) item word l)
 past_line before item word F13 l = and_right (is_floating item.kind) _ (past_symbols (second (is_typed_otherwise before item)) item word l)
@@ -104,8 +105,8 @@ find_none : {X : Type 0} (p : X → Bool) (xs : List X) (j : ℕ) (x : X) → fi
 find_none p [] j x e s = cc
 find_none p (y ∷ ys) j x e s = none_at p y ys j x (p y) refl e s (λ k f g. find_none p ys k x f g)
 
-none_here : (before : List Item) (item : Item) (word : ℕ) (n : FrameNumber) → number_at before item word ≡ None → line before item word n ≡ false
-none_here before item word n e = find_none (λ number. line before item word number) numbers (pred (row n)) n e (number_there n)
+none_here : (before : List Item) (item : Item) (word : ℕ) (n : FrameNumber) → number_at before item word ≡ None → line_holds before item word n ≡ false
+none_here before item word n e = find_none (λ number. line_holds before item word number) numbers (pred (row n)) n e (number_there n)
 
 -- what a search among words says
 pub record IsLeast (before : List Item) (item : Item) (start word : ℕ) (n : FrameNumber) : Type 0 where
@@ -158,10 +159,10 @@ nowhere before item start (suc more) v e a b =
     ]
 
 -- the fault that is found is the fault
-pub found_fault : (before : List Item) (item : Item) (w : ℕ) (n : FrameNumber) → fault before item ≡ Some (w, n) → IsFault before item w n
+pub found_fault : (before : List Item) (item : Item) (w : ℕ) (n : FrameNumber) → fault before item ≡ Some (w, n) → IsStatementFault before item w n
 found_fault before item w n e =
     let i = (least_from before item 0 (closing_word item + 1) w n e).0 in
-    let f = find_first (λ number. line before item w number) numbers n i.found in
+    let f = find_first (λ number. line_holds before item w number) numbers n i.found in
     record {
       holds = f.good;
       least_word = λ other m h. elim (dec_lt other w) [
@@ -178,23 +179,23 @@ no_fault_sound before item e word number = elim (dec_lt (closing_word item) word
   | no g ↦ none_here before item word number (nowhere before item 0 (closing_word item + 1) word e (omega arith) (omega arith))
 ]
 
-pub one_fault : (before : List Item) (item : Item) (w v : ℕ) (n m : FrameNumber) → IsFault before item w n → IsFault before item v m → (w ≡ v) × (n ≡ m)
+pub one_fault : (before : List Item) (item : Item) (w v : ℕ) (n m : FrameNumber) → IsStatementFault before item w n → IsStatementFault before item v m → (w ≡ v) × (n ≡ m)
 one_fault before item w v n m a b =
     let x = a.least_word v m b.holds in
     let y = b.least_word w n a.holds in
     let same : w ≡ v = omega arith in
-    let p = a.lowest_number m (subst (λ k. LineHolds before item k m) (sym same) b.holds) in
-    let q = b.lowest_number n (subst (λ k. LineHolds before item k n) same a.holds) in
+    let p = a.lowest_number m (subst (λ k. StatementLineHolds before item k m) (sym same) b.holds) in
+    let q = b.lowest_number n (subst (λ k. StatementLineHolds before item k n) same a.holds) in
     (same, same_number n m (omega arith))
 
-pub fault_cases : (before : List Item) (item : Item) → ((w : ℕ) × (n : FrameNumber) × IsFault before item w n) ⊎ IsSound before item
+pub fault_cases : (before : List Item) (item : Item) → ((w : ℕ) × (n : FrameNumber) × IsStatementFault before item w n) ⊎ IsSound before item
 fault_cases before item = by_fault (fault before item) refl
   where
-    by_fault : (o : Option (ℕ × FrameNumber)) → fault before item ≡ o → ((w : ℕ) × (n : FrameNumber) × IsFault before item w n) ⊎ IsSound before item
+    by_fault : (o : Option (ℕ × FrameNumber)) → fault before item ≡ o → ((w : ℕ) × (n : FrameNumber) × IsStatementFault before item w n) ⊎ IsSound before item
     by_fault (Some at) e = inl (at.0, at.1, found_fault before item at.0 at.1 e)
     by_fault None e = inr (no_fault_sound before item e)
 
-pub fault_found : (before : List Item) (item : Item) (w : ℕ) (n : FrameNumber) → IsFault before item w n → fault before item ≡ Some (w, n)
+pub fault_found : (before : List Item) (item : Item) (w : ℕ) (n : FrameNumber) → IsStatementFault before item w n → fault before item ≡ Some (w, n)
 fault_found before item w n h = by_fault (fault before item) refl
   where
     by_fault : (o : Option (ℕ × FrameNumber)) → fault before item ≡ o → fault before item ≡ Some (w, n)
@@ -233,20 +234,20 @@ pub kept_more : (before front : List Item) (x : Item) → AreKept before front �
 kept_more before [] x k s = (subst (λ w. IsSound w x) (append-nil before) s, tt)
 kept_more before (y ∷ front) x k s = (k.0, kept_more (before ++ y ∷ []) front x k.1 (subst (λ w. IsSound w x) (sym (append_assoc before (y ∷ []) front)) s))
 
-kept_after_sound : (before items : List Item) → AreKept [] before → AreKept [] (kept_after before items)
+kept_after_sound : (before items : List Item) → AreKept [] before → AreKept [] (sound_items_after before items)
 kept_after_sound before [] k = k
 kept_after_sound before (item ∷ items) k = kept_after_sound (before ++ judged item (fault before item) ∷ []) items (kept_more [] before (judged item (fault before item)) k (judged_sound before item (fault before item) refl))
 
-pub kept_is_sound : (items : List Item) → AreKept [] (kept items)
+pub kept_is_sound : (items : List Item) → AreKept [] (sound_items items)
 kept_is_sound items = kept_after_sound [] items tt
 
 -- how the items are kept, from left to right
-pub kept_after_append : (before xs ys : List Item) → kept_after before (xs ++ ys) ≡ kept_after (kept_after before xs) ys
+pub kept_after_append : (before xs ys : List Item) → sound_items_after before (xs ++ ys) ≡ sound_items_after (sound_items_after before xs) ys
 kept_after_append before [] ys = refl
 kept_after_append before (x ∷ xs) ys = kept_after_append (before ++ judged x (fault before x) ∷ []) xs ys
 
-pub kept_next : (items : List Item) (item : Item) → kept (items ++ item ∷ []) ≡ kept items ++ judged item (fault (kept items) item) ∷ []
+pub kept_next : (items : List Item) (item : Item) → sound_items (items ++ item ∷ []) ≡ sound_items items ++ judged item (fault (sound_items items) item) ∷ []
 kept_next items item = kept_after_append [] items (item ∷ [])
 
-pub never_sound : (before : List Item) (item : Item) (w : ℕ) (n : FrameNumber) → IsFault before item w n → IsSound before item → ⊥
+pub never_sound : (before : List Item) (item : Item) (w : ℕ) (n : FrameNumber) → IsStatementFault before item w n → IsSound before item → ⊥
 never_sound before item w n f s = false≢true (sym (s w n) ∙ f.holds)

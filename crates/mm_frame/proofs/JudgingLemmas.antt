@@ -6,13 +6,14 @@ use Rattle.std.specs.List.{list_any}
 use Rattle.std.proofs.Math.Bool.{or-false}
 use Rattle.std.proofs.lemmas.Bool.{false≢true, and_left, and_right, le-leb, lt-ltb, eq-eqb, ne_eqb}
 use Rattle.std.proofs.lemmas.Option.{slice_get_past, slice_get_within}
-use Rattle.mm_frame.specs.Item.{Kind, Constants, Variables, Disjoint, Floating, Essential, Axiom, Theorem, BlockStart, BlockEnd, Missing, Passed, Item, is_constants, is_variables, is_disjoint, is_floating, is_declaring, is_expression, is_labelled, labels_of}
-use Rattle.mm_frame.specs.Scope.{is_inside}
+use Rattle.mm_frame.specs.Language.Item.{Kind, Constants, Variables, Disjoint, Floating, Essential, Axiom, Theorem, BlockStart, BlockEnd, Missing, Passed, Item, is_constants, is_variables, is_disjoint, is_floating, is_declaring, is_expression, is_labelled, labels_of}
+use Rattle.mm_frame.specs.Language.Scope.{is_inside}
 use Rattle.mm_frame.specs.declared.FrameNumber.{FrameNumber}
 use Rattle.mm_frame.specs.declared.FrameNumber.TheVariants.{F01, F02, F03, F04, F05, F06, F07, F08, F09, F10, F11, F12, F13, F14}
-use Rattle.mm_frame.specs.Sound.{first_symbol, closing_word, passes, at_symbol, each, first, second, later, is_third, is_repeated, is_declared, is_active_symbol, is_label, is_no_constant, is_no_variable, is_unknown, is_untyped, is_typed, is_typed_otherwise, is_short, numbers, number_at, fault_or}
-use Rattle.mm_frame.specs.Sound.{fault_from, fault}
-use Rattle.mm_frame.specs.Judging.{first_fault, typecode_fault, typed_fault, floating_fault, symbol_fault_of, labels_fault, front_fault, end_fault, symbols_fault, fault_by_kind}
+use Rattle.mm_frame.specs.Language.Sound.{first_symbol, closing_word, passes, at_symbol, each, first, second, later, is_third, is_repeated, is_declared, is_active_symbol, is_label, is_no_constant, is_no_variable, is_no_active_symbol, is_untyped, is_typed, is_typed_otherwise, is_short, numbers}
+use Rattle.mm_frame.specs.Language.Sound.{number_at, fault_or}
+use Rattle.mm_frame.specs.Language.Sound.{fault_from, fault}
+use Rattle.mm_frame.specs.Code.FaultInOrder.{first_fault, typecode_fault, typed_fault, floating_fault, symbol_fault_of, labels_fault, front_fault, end_fault, symbols_fault, fault_by_kind}
 
 -- what a line asks of a word: whether the statement ends there too early, whether it is word 0, and what its symbol passes
 abbrev line_of : Kind → List Item → Item → Bool → Bool → ((ℕ → List ℕ → Bool) → Bool) → FrameNumber → Bool
@@ -25,7 +26,7 @@ line_of kind before item ends starts at F06 = starts && list_any (is_label befor
 line_of kind before item ends starts at F07 = starts && list_any (is_declared before) (labels_of item)
 line_of kind before item ends starts at F08 = is_labelled kind && at (first (is_no_constant before))
 line_of kind before item ends starts at F09 = (is_disjoint kind && at (each (is_no_variable before))) || (is_floating kind && at (second (is_no_variable before)))
-line_of kind before item ends starts at F10 = is_expression kind && at (later (is_unknown before))
+line_of kind before item ends starts at F10 = is_expression kind && at (later (is_no_active_symbol before))
 line_of kind before item ends starts at F11 = is_expression kind && at (later (is_untyped before))
 line_of kind before item ends starts at F12 = is_floating kind && at (second (is_typed before))
 line_of kind before item ends starts at F13 = is_floating kind && at (second (is_typed_otherwise before item))
@@ -120,9 +121,9 @@ symbol_of Constants before item n name = λ i. cond (is_repeated item n name) (S
 symbol_of Variables before item n name = refl
 symbol_of Disjoint before item n name = λ i. cond (is_repeated item n name) (Some F03) (cond (or-false (is_no_variable before name) i) (Some F09) None)
 symbol_of Floating before item n name = third_is n (is_no_constant before name) (is_no_variable before name) (is_typed before name) (is_typed_otherwise before item name)
-symbol_of Essential before item n name = expression_is n (is_no_constant before name) (is_unknown before name) (is_untyped before name)
-symbol_of Axiom before item n name = expression_is n (is_no_constant before name) (is_unknown before name) (is_untyped before name)
-symbol_of Theorem before item n name = expression_is n (is_no_constant before name) (is_unknown before name) (is_untyped before name)
+symbol_of Essential before item n name = expression_is n (is_no_constant before name) (is_no_active_symbol before name) (is_untyped before name)
+symbol_of Axiom before item n name = expression_is n (is_no_constant before name) (is_no_active_symbol before name) (is_untyped before name)
+symbol_of Theorem before item n name = expression_is n (is_no_constant before name) (is_no_active_symbol before name) (is_untyped before name)
 symbol_of BlockStart before item n name = refl
 symbol_of BlockEnd before item n name = refl
 symbol_of Missing before item n name = refl

@@ -11,16 +11,16 @@ use Rattle.std.proofs.lemmas.List.Folds.{list_any-append}
 use Rattle.std.proofs.lemmas.Slice.Eq.{bytes_eq-Decides}
 use Rattle.mm_store.specs.declared.item.ItemKind.{ItemKind}
 use Rattle.mm_store.specs.declared.item.ItemKind.TheVariants as items
-use Rattle.mm_frame.specs.Statement.{kind_of}
+use Rattle.mm_frame.specs.Language.Statement.{kind_of}
 use Rattle.mm_frame.specs.declared.tables.Tables.{Tables}
 use Rattle.mm_frame.specs.declared.tables.Declared.{Declared}
 use Rattle.mm_frame.specs.declared.tables.Declared.TheVariants.{Constant, Variable}
-use Rattle.mm_frame.specs.Item.{Kind, Constants, Variables, Disjoint, Floating, Essential, Axiom, Theorem, BlockStart, BlockEnd, Missing, Passed, Item, passed, is_constants, is_variables, is_floating, is_labelled, has, labels_of}
-use Rattle.mm_frame.specs.Item as meant
-use Rattle.mm_frame.specs.Scope.{constants, variables, active}
-use Rattle.mm_frame.specs.Sound.{is_declared, IsSound, AreSound}
-use Rattle.mm_frame.specs.Tables.{last_where, declares_variable, types, carries}
-use Rattle.mm_frame.specs.Known.{table_name, table_label, variable_at, declared_in, variable_of, float_of, typed_by, Knows, Declares, Types, Carries}
+use Rattle.mm_frame.specs.Language.Item.{Kind, Constants, Variables, Disjoint, Floating, Essential, Axiom, Theorem, BlockStart, BlockEnd, Missing, Passed, Item, passed, is_constants, is_variables, is_floating, is_labelled, has, labels_of}
+use Rattle.mm_frame.specs.Language.Item as meant
+use Rattle.mm_frame.specs.Language.Scope.{constants, variables, active}
+use Rattle.mm_frame.specs.Language.Sound.{is_declared, IsSound, AreSound}
+use Rattle.mm_frame.specs.Code.LastItems.{last_where, declares_variable, types, carries}
+use Rattle.mm_frame.specs.Code.KeptTables.{table_name, table_label, variable_at, declared_in, variable_number, float_of, typed_by, Knows, Declares, Types, Carries}
 use Rattle.mm_frame.proofs.Members.{In, in_has, from_symbols, to_symbols, in_left}
 use Rattle.mm_frame.proofs.Scopes.{active_in}
 use Rattle.mm_frame.proofs.Facts.{and_both, float_variable, float_two}
@@ -115,10 +115,10 @@ constant_no_variable : (before : List Item) → AreSound before → (name : List
 constant_no_variable before h name t = without_number (last_where (declares_variable name) before) (sym (variable_last before name) ∙ constant_or_variable before h name t)
 
 -- what is told of the last `$v` and the last `$f` of a name
-pub variable_in : (before : List Item) → AreSound before → (name : List ℕ) → variable_of (declared_in before name) ≡ last_where (declares_variable name) before
+pub variable_in : (before : List Item) → AreSound before → (name : List ℕ) → variable_number (declared_in before name) ≡ last_where (declares_variable name) before
 variable_in before h name = by_test (has (constants before) name) (last_where (declares_variable name) before) (last_where (types name) before) (constant_no_variable before h name)
   where
-    by_test : (c : Bool) (v t : Option ℕ) → (c ≡ true → v ≡ None) → variable_of (cond c (Some Constant) (variable_at v t)) ≡ v
+    by_test : (c : Bool) (v t : Option ℕ) → (c ≡ true → v ≡ None) → variable_number (cond c (Some Constant) (variable_at v t)) ≡ v
     by_test true v t n = sym (n refl)
     by_test false None t n = refl
     by_test false (Some d) t n = refl

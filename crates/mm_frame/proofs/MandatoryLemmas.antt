@@ -13,17 +13,17 @@ use Rattle.std.proofs.lemmas.List.Sorted.{searched, IsPermutation-sym, Contains-
 use Rattle.std.proofs.lemmas.List.Filters.{dedup_is}
 use Rattle.std.proofs.lemmas.List.Kept.{Contains-dedup_nat, Contains-from_dedup, AllPairs-from_increasing}
 use Rattle.std.proofs.lemmas.Map.Keys.{IsStrictlyIncreasing-dedup}
-use Rattle.mm_frame.specs.Language.{Symbol}
-use Rattle.mm_frame.specs.Item.{Kind, Floating, Item, is_floating, is_essential, is_assertion, has}
-use Rattle.mm_frame.specs.Scope.{active, symbols_by, active_variables, active_numbers}
-use Rattle.mm_frame.specs.Sound.{AreSound, IsSound}
-use Rattle.mm_frame.specs.Framing.{symbol, expression, mandatory_variables, mandatory_numbers}
-use Rattle.mm_frame.specs.Tables.{last_where, types, is_active_at, is_essential_item, IsHypothesisNumber, IsRising}
+use Rattle.mm_frame.specs.Language.Frame.{Symbol}
+use Rattle.mm_frame.specs.Language.Item.{Kind, Floating, Item, is_floating, is_essential, is_assertion, has}
+use Rattle.mm_frame.specs.Language.Scope.{active, symbols_by, active_variables, active_numbers}
+use Rattle.mm_frame.specs.Language.Sound.{AreSound, IsSound}
+use Rattle.mm_frame.specs.Language.Framing.{symbol, expression, mandatory_variables, mandatory_numbers}
+use Rattle.mm_frame.specs.Code.LastItems.{last_where, types, is_active_at, is_essential_item, IsHypothesisNumber, IsRising}
 use Rattle.mm_frame.specs.declared.symbol.NamedSymbol.{NamedSymbol}
 use Rattle.mm_frame.specs.declared.tables.Tables.{Tables}
-use Rattle.mm_frame.specs.Known.{Knows, table_name, float_of}
-use Rattle.mm_frame.specs.Named.{symbol_of, symbols_of}
-use Rattle.mm_frame.specs.KeptSymbols.{expression_kept, AreExpressions, float_number, float_numbers}
+use Rattle.mm_frame.specs.Code.KeptTables.{Knows, table_name, float_of}
+use Rattle.mm_frame.specs.Code.CodeSymbols.{symbol_of, symbols_of}
+use Rattle.mm_frame.specs.Code.KeptSymbols.{expression_kept, AreExpressions, float_number, float_numbers}
 use Rattle.mm_frame.proofs.Members.{In, in_contains, contains_in, in_left, in_right, in_cases, in_map, from_map, in_get, in_filter, from_filter, in_flat, from_flat, from_symbols, to_symbols}
 use Rattle.mm_frame.proofs.Scopes.{active_split, split_active}
 use Rattle.mm_frame.proofs.Frames.{assertion_expression, essential_expression, expression_labelled, in_at}

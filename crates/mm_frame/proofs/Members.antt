@@ -3,8 +3,8 @@ use Rattle.std.proofs.Common.{◌≡◌, ℕ, zero, suc, ◌<◌, Bool, true, fa
 use Rattle.std.specs.Prelude.{Contains}
 use Rattle.std.proofs.lemmas.Bool.{or_cases, false≢true, or_left, or_right}
 use Rattle.std.proofs.lemmas.Slice.Eq.{bytes_eq-Decides}
-use Rattle.mm_frame.specs.Item.{Kind, Item, has}
-use Rattle.mm_frame.specs.Scope.{symbols_by}
+use Rattle.mm_frame.specs.Language.Item.{Kind, Item, has}
+use Rattle.mm_frame.specs.Language.Scope.{symbols_by}
 
 -- what std's word for this says of a longer list
 pub Contains-here : {X : Type 0} (x : X) (xs : List X) → Contains (x ∷ xs) x

@@ -1,15 +1,15 @@
 -- The expression of a sound statement, as the code makes and keeps it.
 use Rattle.std.proofs.Common.{◌≡◌, ℕ, zero, suc, ◌<◌, ◌≤◌, true, not, List, [], ◌∷◌, ◌++◌, length, map, take, slice_get, refl, sym, ◌∙◌, ap, arith, inl, inr, ◌⊎◌, take_all}
 use Rattle.std.proofs.lemmas.Bool.{false_from_ne_true}
-use Rattle.mm_frame.specs.Item.{Item, is_labelled, has}
-use Rattle.mm_frame.specs.Scope.{constants, active_variables}
-use Rattle.mm_frame.specs.Sound.{IsSound, AreSound}
-use Rattle.mm_frame.specs.Framing.{symbol, expression}
+use Rattle.mm_frame.specs.Language.Item.{Item, is_labelled, has}
+use Rattle.mm_frame.specs.Language.Scope.{constants, active_variables}
+use Rattle.mm_frame.specs.Language.Sound.{IsSound, AreSound}
+use Rattle.mm_frame.specs.Language.Framing.{symbol, expression}
 use Rattle.mm_frame.specs.declared.symbol.NamedSymbol.{NamedSymbol}
 use Rattle.mm_frame.specs.declared.tables.Tables.{Tables}
-use Rattle.mm_frame.specs.Known.{Knows}
-use Rattle.mm_frame.specs.Named.{symbols_of}
-use Rattle.mm_frame.specs.KeptSymbols.{by_constants}
+use Rattle.mm_frame.specs.Code.KeptTables.{Knows}
+use Rattle.mm_frame.specs.Code.CodeSymbols.{symbols_of}
+use Rattle.mm_frame.specs.Code.KeptSymbols.{by_constants}
 use Rattle.mm_frame.proofs.Members.{In, has_in, in_has}
 use Rattle.mm_frame.proofs.Facts.{not_constant}
 use Rattle.mm_frame.proofs.SoundItems.{map_same, named, sound_kept}

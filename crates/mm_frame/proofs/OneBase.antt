@@ -7,17 +7,17 @@ use Rattle.std.proofs.lemmas.List.Elements.{recursion_from_All}
 use Rattle.std.proofs.lemmas.Option.{slice_get-map, slice_get_within, get_or_from_slice_get, same_Some}
 use Rattle.std.proofs.lemmas.Simd.{map-map}
 use Rattle.mm_text.specs.declared.word.Word.{Word}
-use Rattle.mm_text.specs.Reading.{HasWords}
-use Rattle.mm_text.specs.Unit.{tokens_of}
+use Rattle.mm_text.specs.Language.Reading.{HasWords}
+use Rattle.mm_text.specs.Language.Unit.{tokens_of}
 use Rattle.mm_store.specs.declared.item.Item as store
-use Rattle.mm_store.specs.FilesView.{PieceView, FileView, FilesView, piece_texts}
-use Rattle.mm_store.specs.FileFacts.{CanBeRead, HaveOwnKeys, StandsIn}
-use Rattle.mm_store.specs.Expansion.{IsExpansion}
-use Rattle.mm_store.specs.Keyless.{keyless_piece, keyless_file, keyless_item}
-use Rattle.mm_frame.specs.Base.{BaseView, IsOfFiles}
-use Rattle.mm_frame.specs.Laws.{AreAlikeBases}
-use Rattle.mm_frame.specs.Item.{Item}
-use Rattle.mm_frame.specs.Statement.{Says, kind_of, item_of}
+use Rattle.mm_store.specs.Language.FilesView.{PieceView, FileView, FilesView, piece_texts}
+use Rattle.mm_store.specs.Language.FileFacts.{CanBeRead, HaveOwnKeys, StandsIn}
+use Rattle.mm_store.specs.Language.Expansion.{IsExpansion}
+use Rattle.mm_store.specs.Language.Keyless.{keyless_piece, keyless_file, keyless_item}
+use Rattle.mm_frame.specs.Language.Base.{BaseView, IsOfFiles}
+use Rattle.mm_frame.specs.Language.Laws.{AreAlikeBases}
+use Rattle.mm_frame.specs.Language.Item.{Item}
+use Rattle.mm_frame.specs.Language.Statement.{Says, kind_of, item_of}
 
 -- what is known of every text and of all files
 pub record ReadingLaws : Type 0 where

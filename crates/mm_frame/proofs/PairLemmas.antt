@@ -2,13 +2,13 @@
 use Rattle.std.proofs.Common.{◌≡◌, ℕ, suc, Bool, true, false, cond, Some, List, [], ◌∷◌, ◌++◌, map, filter, flat_map, take, drop, slice_get, refl, sym, ◌∙◌, ap, subst, inl, inr}
 use Rattle.std.proofs.lemmas.Bool.{false≢true, or_parts}
 use Rattle.std.proofs.lemmas.Option.{get_or_from_slice_get}
-use Rattle.mm_frame.specs.Language.{Symbol}
-use Rattle.mm_frame.specs.Item.{Kind, Disjoint, Item, passed, is_disjoint, is_labelled, has, item_at}
-use Rattle.mm_frame.specs.Scope.{Neither, mark_of, stays, active, active_variables, active_numbers}
+use Rattle.mm_frame.specs.Language.Frame.{Symbol}
+use Rattle.mm_frame.specs.Language.Item.{Kind, Disjoint, Item, passed, is_disjoint, is_labelled, has, item_at}
+use Rattle.mm_frame.specs.Language.Scope.{Neither, mark_of, stays, active, active_variables, active_numbers}
 use Rattle.mm_frame.specs.declared.FrameNumber.TheVariants.{F09}
-use Rattle.mm_frame.specs.Sound.{each, is_no_variable, IsSound, AreSound}
-use Rattle.mm_frame.specs.Framing.{symbol, expression, pairs_of, active_pairs}
-use Rattle.mm_frame.specs.Tables.{is_active_at, is_disjoint_item}
+use Rattle.mm_frame.specs.Language.Sound.{each, is_no_variable, IsSound, AreSound}
+use Rattle.mm_frame.specs.Language.Framing.{symbol, expression, pairs_of, active_pairs}
+use Rattle.mm_frame.specs.Code.LastItems.{is_active_at, is_disjoint_item}
 use Rattle.mm_frame.proofs.Members.{In, in_get, has_in, in_has}
 use Rattle.mm_frame.proofs.Facts.{not_not, no_symbol_of}
 use Rattle.mm_frame.proofs.Frames.{variables_later}

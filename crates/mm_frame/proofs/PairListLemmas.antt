@@ -9,16 +9,16 @@ use Rattle.std.proofs.lemmas.Option.{get_or_from_slice_get, slice_get_within, sl
 use Rattle.std.proofs.lemmas.List.{take-append-le, drop-append-le, take-append-drop}
 use Rattle.mm_frame.specs.declared.symbol.NamedSymbol.{NamedSymbol}
 use Rattle.mm_frame.specs.declared.pair_lists.PairLists.{PairLists}
-use Rattle.mm_frame.specs.Language.{Symbol}
-use Rattle.mm_frame.specs.Item.{Item, passed, is_labelled, is_disjoint}
-use Rattle.mm_frame.specs.Scope.{stays, active_numbers}
-use Rattle.mm_frame.specs.Sound.{AreSound, kept}
-use Rattle.mm_frame.specs.Framing.{expression, pairs_of, active_pairs}
-use Rattle.mm_frame.specs.Tables.{is_active_at, is_disjoint_item, IsRising}
-use Rattle.mm_frame.specs.Named.{symbols_of, kept_pairs}
-use Rattle.mm_frame.specs.KeptSymbols.{expression_kept, AreSymbols}
-use Rattle.mm_frame.specs.PairLists.{IsList, list_made, IsMadeFor, AreMade, KeepsLists, HasActivePairs}
-use Rattle.mm_frame.specs.Kept.{AreRows, TellsPairs, is_told_proof}
+use Rattle.mm_frame.specs.Language.Frame.{Symbol}
+use Rattle.mm_frame.specs.Language.Item.{Item, passed, is_labelled, is_disjoint}
+use Rattle.mm_frame.specs.Language.Scope.{stays, active_numbers}
+use Rattle.mm_frame.specs.Language.Sound.{AreSound, sound_items}
+use Rattle.mm_frame.specs.Language.Framing.{expression, pairs_of, active_pairs}
+use Rattle.mm_frame.specs.Code.LastItems.{is_active_at, is_disjoint_item, IsRising}
+use Rattle.mm_frame.specs.Code.CodeSymbols.{symbols_of, kept_pairs}
+use Rattle.mm_frame.specs.Code.KeptSymbols.{expression_kept, AreSymbols}
+use Rattle.mm_frame.specs.Code.KeptPairLists.{IsList, list_made, IsMadeFor, AreMade, KeepsLists, HasActivePairs}
+use Rattle.mm_frame.specs.Code.KeptBase.{AreRows, TellsPairs, is_told_proof}
 use Rattle.mm_frame.proofs.Members.{In, in_get, get_in}
 use Rattle.mm_frame.proofs.Scopes.{stays_join, stays_front}
 use Rattle.mm_frame.proofs.SoundItems.{sound_take}
@@ -216,10 +216,10 @@ new_list old new list k pairs e z is = ap (λ w. option_map (λ list. kept_pairs
 pairs_stay : (said : List Item) (old new : PairLists) (numbers : List (Option ℕ)) → KeepsLists old new → AreRows (TellsPairs old) said numbers → AreRows (TellsPairs new) said numbers
 pairs_stay said old new numbers keeps rows = record {
   count = rows.count;
-  each = λ n row e. let told = rows.each n row e in record { some = told.some; list = λ k q. list_stays old new k (active_pairs (kept (take n said))) keeps (told.list k q) };
+  each = λ n row e. let told = rows.each n row e in record { some = told.some; list = λ k q. list_stays old new k (active_pairs (sound_items (take n said))) keeps (told.list k q) };
 }
 
-pub pairs_more : (said : List Item) (item : Item) (old new : PairLists) (numbers : List (Option ℕ)) (number : Option ℕ) → KeepsLists old new → AreRows (TellsPairs old) said numbers → TellsPairs new (kept said) item number → AreRows (TellsPairs new) (said ++ item ∷ []) (numbers ++ number ∷ [])
+pub pairs_more : (said : List Item) (item : Item) (old new : PairLists) (numbers : List (Option ℕ)) (number : Option ℕ) → KeepsLists old new → AreRows (TellsPairs old) said numbers → TellsPairs new (sound_items said) item number → AreRows (TellsPairs new) (said ++ item ∷ []) (numbers ++ number ∷ [])
 pairs_more said item old new numbers number keeps rows told = rows_more (TellsPairs new) said item numbers number (pairs_stay said old new numbers keeps rows) told
 
 pub keeps_all : (lists : PairLists) → KeepsLists lists lists

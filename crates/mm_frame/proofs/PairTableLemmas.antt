@@ -11,16 +11,16 @@ use Rattle.std.proofs.lemmas.Option.{slice_get_within}
 use Rattle.std.proofs.lemmas.Slice.Eq.{bytes_eq-Decides}
 use Rattle.mm_frame.specs.declared.paired.PairTable.{PairTable}
 use Rattle.mm_frame.specs.declared.symbol.NamedSymbol.{NamedSymbol}
-use Rattle.mm_frame.specs.Named.{symbol_of, symbols_of}
-use Rattle.mm_frame.specs.Language.{Symbol}
-use Rattle.mm_frame.specs.Item.{Item, is_disjoint, has}
-use Rattle.mm_frame.specs.Scope.{Mark, closed, closed_at, is_zero, stays, active}
-use Rattle.mm_frame.specs.Blocks.{stays_by, marks_of}
-use Rattle.mm_frame.specs.Framing.{symbol, expression, pairs_of, active_pairs}
-use Rattle.mm_frame.specs.Tables.{is_active_at}
-use Rattle.mm_frame.specs.Paired.{are_paired}
-use Rattle.mm_frame.specs.Scoping.{taken}
-use Rattle.mm_frame.specs.PairTable.{value_in, number_in, pair_number, is_number_active, is_named, has_pair, number_next, TakesPairs, stand_in_order, IsPairAt, Outlasts, KnowsPairs}
+use Rattle.mm_frame.specs.Code.CodeSymbols.{symbol_of, symbols_of}
+use Rattle.mm_frame.specs.Language.Frame.{Symbol}
+use Rattle.mm_frame.specs.Language.Item.{Item, is_disjoint, has}
+use Rattle.mm_frame.specs.Language.Scope.{Mark, closed, closed_at, is_zero, stays, active}
+use Rattle.mm_frame.specs.Code.BlockMarks.{stays_by, marks_of}
+use Rattle.mm_frame.specs.Language.Framing.{symbol, expression, pairs_of, active_pairs}
+use Rattle.mm_frame.specs.Code.LastItems.{is_active_at}
+use Rattle.mm_frame.specs.Code.PairOrder.{are_paired}
+use Rattle.mm_frame.specs.Code.KeptScope.{taken}
+use Rattle.mm_frame.specs.Code.KeptPairTable.{value_in, number_in, pair_number, is_number_active, is_named, has_pair, number_next, TakesPairs, stand_in_order, IsPairAt, Outlasts, KnowsPairs}
 use Rattle.mm_frame.proofs.Members.{In}
 use Rattle.mm_frame.proofs.Scopes.{stays_front, stays_join}
 use Rattle.mm_frame.proofs.KnownLemmas.{written}

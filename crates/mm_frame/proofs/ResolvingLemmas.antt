@@ -6,16 +6,16 @@ use Rattle.std.proofs.lemmas.List.{take-take, drop-map, take-map, length-take-le
 use Rattle.std.proofs.lemmas.Option.{slice_get_within}
 use Rattle.std.proofs.lemmas.Slice.Eq.{bytes_eq-Decides}
 use Rattle.mm_frame.specs.declared.base.Resolved.TheVariants as answers
-use Rattle.mm_frame.specs.Language.{Hypothesis, Assertion, Inactive, Unknown}
-use Rattle.mm_frame.specs.Item.{Item, is_labelled, is_assertion, has, labels_of}
-use Rattle.mm_frame.specs.Scope.{Mark, mark_of, stays}
-use Rattle.mm_frame.specs.Blocks.{stays_by, marks_of}
-use Rattle.mm_frame.specs.Sound.{kept}
-use Rattle.mm_frame.specs.Framing.{expression, meaning, resolve}
-use Rattle.mm_frame.specs.Tables.{carries}
-use Rattle.mm_frame.specs.Base.{BaseView, before, said_at, is_sound_at, is_shown_at, is_framed_at, frame_at}
-use Rattle.mm_frame.specs.Kept.{find_in}
-use Rattle.mm_frame.specs.Resolving.{IsCarrier, IsLabelOf, Resolves}
+use Rattle.mm_frame.specs.Language.Frame.{Hypothesis, Assertion, Inactive, Unknown}
+use Rattle.mm_frame.specs.Language.Item.{Item, is_labelled, is_assertion, has, labels_of}
+use Rattle.mm_frame.specs.Language.Scope.{Mark, mark_of, stays}
+use Rattle.mm_frame.specs.Code.BlockMarks.{stays_by, marks_of}
+use Rattle.mm_frame.specs.Language.Sound.{sound_items}
+use Rattle.mm_frame.specs.Language.Framing.{expression, meaning, resolve}
+use Rattle.mm_frame.specs.Code.LastItems.{carries}
+use Rattle.mm_frame.specs.Language.Base.{BaseView, before, said_at, is_sound_at, is_shown_at, is_framed_at, frame_at}
+use Rattle.mm_frame.specs.Code.KeptBase.{find_in}
+use Rattle.mm_frame.specs.Language.Resolving.{IsCarrier, IsLabelOf, Resolves}
 use Rattle.mm_frame.proofs.Members.{in_get}
 use Rattle.mm_frame.proofs.SoundItems.{split_at, resolve_meaning, no_item_unknown}
 use Rattle.mm_frame.proofs.PairLemmas.{expression_at_number}
@@ -42,7 +42,7 @@ pub record IsFound (base : BaseView) (i : ℕ) (label : List ℕ) (j : ℕ) : Ty
   pub means : resolve (before base i) label ≡ meaning (before base i) (before base j) (said_at base j) (drop (suc j) (before base i))
 
 -- what carries a label among the sound items is sound, and has it
-pub carrier_at : (base : BaseView) (label : List ℕ) (n : ℕ) (x : Item) → slice_get (kept base.said) n ≡ Some x → carries label x ≡ true → IsCarrier base label n
+pub carrier_at : (base : BaseView) (label : List ℕ) (n : ℕ) (x : Item) → slice_get (sound_items base.said) n ≡ Some x → carries label x ≡ true → IsCarrier base label n
 carrier_at base label n x g t =
     let own = label_in (is_labelled x.kind) x.label label t in
     let s = shown_kept base n x g own.0 in
@@ -59,21 +59,21 @@ carried base label j c =
 -- it is the item that is found by its label
 pub carrier_found : (base : BaseView) (label : List ℕ) (j : ℕ) → IsCarrier base label j → find_in base label ≡ Some j
 carrier_found base label j c =
-    let items = kept base.said in
+    let items = sound_items base.said in
     let item = said_at base j in
     let there = shown_there base j c.shown in
     let w = slice_get_within items j item there in
     label_first items (kept_are_sound base.said) label (take j items) item (drop (suc j) items) (split_at items j item there) (carried base label j c) ∙ ap Some (length-take-le j items (omega arith))
 
 pub found_carrier : (base : BaseView) (label : List ℕ) (j : ℕ) → find_in base label ≡ Some j → IsCarrier base label j
-found_carrier base label j e = let r = last_there (carries label) (kept base.said) j e in carrier_at base label j r.0 r.1 r.2
+found_carrier base label j e = let r = last_there (carries label) (sound_items base.said) j e in carrier_at base label j r.0 r.1 r.2
 
 pub is_found : (base : BaseView) (i : ℕ) (label : List ℕ) (j : ℕ) → IsCarrier base label j → j < i → IsFound base i label j
 is_found base i label j c l =
     let whole = before base i in
     let item = said_at base j in
     let there = shown_before base i j l c.shown in
-    let front : take j whole ≡ before base j = ap (take j) (sym (kept_front base.said i)) ∙ take-take j i (kept base.said) (omega arith) ∙ kept_front base.said j in
+    let front : take j whole ≡ before base j = ap (take j) (sym (kept_front base.said i)) ∙ take-take j i (sound_items base.said) (omega arith) ∙ kept_front base.said j in
     record {
       labels = record { earlier = l; carrier = c };
       there = there;
@@ -96,15 +96,15 @@ hypothesis_means : (base : BaseView) (i : ℕ) (label : List ℕ) (j : ℕ) → 
 hypothesis_means base i label j f t = f.means ∙ ap (λ b. cond b (Assertion (frame_at base j)) (cond (stays (drop (suc j) (before base i))) (Hypothesis (expression (before base i) (said_at base j))) Inactive)) (no_assertion base j f.labels.carrier.shown t)
 
 -- activity by what the items do to the blocks
-pub active_by : (base : BaseView) (marks : List Mark) (i j : ℕ) → marks ≡ marks_of (kept base.said) → stays_by (drop (suc j) (take i marks)) ≡ stays (drop (suc j) (before base i))
+pub active_by : (base : BaseView) (marks : List Mark) (i j : ℕ) → marks ≡ marks_of (sound_items base.said) → stays_by (drop (suc j) (take i marks)) ≡ stays (drop (suc j) (before base i))
 active_by base marks i j m =
     ap (λ w. stays_by (drop (suc j) (take i w))) m
-    ∙ ap (λ w. stays_by (drop (suc j) w)) (take-map (λ (item : Item). mark_of item.kind) i (kept base.said))
-    ∙ ap stays_by (drop-map (λ (item : Item). mark_of item.kind) (suc j) (take i (kept base.said)))
-    ∙ sym (stays_of (drop (suc j) (take i (kept base.said))))
+    ∙ ap (λ w. stays_by (drop (suc j) w)) (take-map (λ (item : Item). mark_of item.kind) i (sound_items base.said))
+    ∙ ap stays_by (drop-map (λ (item : Item). mark_of item.kind) (suc j) (take i (sound_items base.said)))
+    ∙ sym (stays_of (drop (suc j) (take i (sound_items base.said))))
     ∙ ap (λ w. stays (drop (suc j) w)) (kept_front base.said i)
 
-pub active_means : (base : BaseView) (i : ℕ) (label : List ℕ) (j : ℕ) (marks : List Mark) → marks ≡ marks_of (kept base.said) → IsCarrier base label j → j < i → is_framed_at base j ≡ false → stays_by (drop (suc j) (take i marks)) ≡ true → Resolves base i label (answers.Hypothesis j)
+pub active_means : (base : BaseView) (i : ℕ) (label : List ℕ) (j : ℕ) (marks : List Mark) → marks ≡ marks_of (sound_items base.said) → IsCarrier base label j → j < i → is_framed_at base j ≡ false → stays_by (drop (suc j) (take i marks)) ≡ true → Resolves base i label (answers.Hypothesis j)
 active_means base i label j marks m e l t a =
     let f = is_found base i label j e l in
     let item = said_at base j in
@@ -113,23 +113,23 @@ active_means base i label j marks m e l t a =
     let read = expression_at_number (before base i) (kept_are_sound (take i base.said)) j item f.there s p.1 ∙ ap (λ w. expression w item) f.front in
     (f.labels, hypothesis_means base i label j f t ∙ ap (λ b. cond b (Hypothesis (expression (before base i) item)) Inactive) s ∙ ap Hypothesis read)
 
-pub inactive_means : (base : BaseView) (i : ℕ) (label : List ℕ) (j : ℕ) (marks : List Mark) → marks ≡ marks_of (kept base.said) → IsCarrier base label j → j < i → is_framed_at base j ≡ false → stays_by (drop (suc j) (take i marks)) ≡ false → Resolves base i label answers.Inactive
+pub inactive_means : (base : BaseView) (i : ℕ) (label : List ℕ) (j : ℕ) (marks : List Mark) → marks ≡ marks_of (sound_items base.said) → IsCarrier base label j → j < i → is_framed_at base j ≡ false → stays_by (drop (suc j) (take i marks)) ≡ false → Resolves base i label answers.Inactive
 inactive_means base i label j marks m e l t a =
     let f = is_found base i label j e l in
     let s = sym (active_by base marks i j m) ∙ a in
     hypothesis_means base i label j f t ∙ ap (λ b. cond b (Hypothesis (expression (before base i) (said_at base j))) Inactive) s
 
 -- no item before this one has the label
-none_before : (base : BaseView) (i : ℕ) (label : List ℕ) → ((n : ℕ) (x : Item) → n < i → slice_get (kept base.said) n ≡ Some x → carries label x ≡ true → ⊥) → resolve (before base i) label ≡ Unknown
+none_before : (base : BaseView) (i : ℕ) (label : List ℕ) → ((n : ℕ) (x : Item) → n < i → slice_get (sound_items base.said) n ≡ Some x → carries label x ≡ true → ⊥) → resolve (before base i) label ≡ Unknown
 none_before base i label h = no_item_unknown (before base i) label (λ x k. false_from_ne_true (carries label x) (λ t.
     let g = in_get x (before base i) k in
-    let r = get_front (kept base.said) i g.0 x (subst (λ w. slice_get w g.0 ≡ Some x) (sym (kept_front base.said i)) g.1) in
+    let r = get_front (sound_items base.said) i g.0 x (subst (λ w. slice_get w g.0 ≡ Some x) (sym (kept_front base.said i)) g.1) in
     h g.0 x r.0 r.1 t))
 
 -- the one sound item that has the label stands no earlier
 pub later_means : (base : BaseView) (i : ℕ) (label : List ℕ) (j : ℕ) → IsCarrier base label j → i ≤ j → Resolves base i label answers.Unknown
 later_means base i label j e l = none_before base i label (λ n x m g t.
-    let items = kept base.said in
+    let items = sound_items base.said in
     let w = slice_get_within items n x g in
     let z = length-take-le n items (omega arith) in
     let q : Some (length (take n items)) ≡ Some j = sym (label_first items (kept_are_sound base.said) label (take n items) x (drop (suc n) items) (split_at items n x g) t) ∙ carrier_found base label j e in

@@ -1,12 +1,12 @@
 -- The first five lines of the base, by computing.
 use Rattle.std.proofs.Common.{◌≡◌, ℕ, true, false, Some, None, List, [], ◌∷◌, ◌++◌, refl, codes}
-use Rattle.mm_frame.specs.Language.{Symbol, Hypothesis, Assertion, Unknown, Inactive}
-use Rattle.mm_frame.specs.Item.{Kind, Constants, Variables, Disjoint, Floating, Essential, Axiom, Theorem, BlockStart, BlockEnd, Item, has}
+use Rattle.mm_frame.specs.Language.Frame.{Symbol, Hypothesis, Assertion, Unknown, Inactive}
+use Rattle.mm_frame.specs.Language.Item.{Kind, Constants, Variables, Disjoint, Floating, Essential, Axiom, Theorem, BlockStart, BlockEnd, Item, has}
 use Rattle.mm_frame.specs.declared.FrameNumber.TheVariants.{F06, F08, F12}
-use Rattle.mm_frame.specs.Sound.{fault, kept}
-use Rattle.mm_frame.specs.Framing.{resolve, active_pairs, place_of, statement_of, mandatory_numbers}
-use Rattle.mm_frame.specs.Scope.{active_variables}
-use Rattle.mm_frame.specs.Tables.{last_where, is_active_last, declares_variable, types, carries}
+use Rattle.mm_frame.specs.Language.Sound.{fault, sound_items}
+use Rattle.mm_frame.specs.Language.Framing.{resolve, active_pairs, setting_of, statement_of, mandatory_numbers}
+use Rattle.mm_frame.specs.Language.Scope.{active_variables}
+use Rattle.mm_frame.specs.Code.LastItems.{last_where, is_active_last, declares_variable, types, carries}
 
 abbrev plain : Kind → List (List ℕ) → Item
 plain kind symbols = record { kind = kind; label = None; symbols = symbols; proof = [] }
@@ -45,7 +45,7 @@ abbrev variable : List ℕ → Symbol
 variable name = record { name = name; variable = true }
 
 -- all five are sound
-all_sound : kept five ≡ five
+all_sound : sound_items five ≡ five
 all_sound = refl
 
 -- what the labels mean behind them
@@ -74,7 +74,7 @@ typed_twice = refl
 abbrev block : List Item
 block = plain BlockStart [] ∷ labelled (codes "mi") Essential (turnstile ∷ p ∷ []) ∷ labelled (codes "ma") Essential (turnstile ∷ left ∷ p ∷ arrow ∷ q ∷ right ∷ []) ∷ labelled (codes "mp") Axiom (turnstile ∷ q ∷ []) ∷ plain BlockEnd [] ∷ []
 
-block_sound : kept (five ++ block) ≡ five ++ block
+block_sound : sound_items (five ++ block) ≡ five ++ block
 block_sound = refl
 
 mi_is : resolve (five ++ block) (codes "mi") ≡ Inactive
@@ -93,7 +93,7 @@ mp_is = refl
 abbrev with_w2 : List Item
 with_w2 = five ++ labelled (codes "w2") Theorem (wff ∷ left ∷ p ∷ arrow ∷ left ∷ p ∷ arrow ∷ q ∷ right ∷ right ∷ []) ∷ []
 
-w2_wi : (place_of with_w2 5).resolve (codes "wi") ≡ resolve five (codes "wi")
+w2_wi : (setting_of with_w2 5).resolve (codes "wi") ≡ resolve five (codes "wi")
 w2_wi = refl
 
 w2_states : statement_of with_w2 5 ≡ constant wff ∷ constant left ∷ variable p ∷ constant arrow ∷ constant left ∷ variable p ∷ constant arrow ∷ variable q ∷ constant right ∷ constant right ∷ []
@@ -103,7 +103,7 @@ w2_states = refl
 pairs_are : active_pairs (five ++ plain Disjoint (p ∷ q ∷ []) ∷ []) ≡ (variable p, variable q) ∷ []
 pairs_are = refl
 
-passed_over : resolve (kept (five ++ labelled (codes "bad") Axiom (wff ∷ codes "r" ∷ []) ∷ [])) (codes "bad") ≡ Unknown
+passed_over : resolve (sound_items (five ++ labelled (codes "bad") Axiom (wff ∷ codes "r" ∷ []) ∷ [])) (codes "bad") ≡ Unknown
 passed_over = refl
 
 label_taken : fault five (labelled (codes "wi") Axiom (wff ∷ p ∷ [])) ≡ Some (0, F06)

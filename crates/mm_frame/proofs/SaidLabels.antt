@@ -2,15 +2,15 @@
 use Rattle.std.proofs.Common.{◌≡◌, ℕ, zero, suc, true, cond, ◌&&◌, ◌==◌, Some, None, List, [], ◌∷◌, length, slice_range, refl, sym, ◌∙◌, ap}
 use Rattle.std.specs.List.{AllZip}
 use Rattle.std.proofs.lemmas.Bool.{false≢true, or_parts, and_parts, and_from, eq-eqb}
-use Rattle.mm_text.specs.Unit.{Token, tokens_of}
+use Rattle.mm_text.specs.Language.Unit.{Token, tokens_of}
 use Rattle.mm_store.specs.declared.item.Item as store
-use Rattle.mm_store.specs.FilesView.{FilesView}
+use Rattle.mm_store.specs.Language.FilesView.{FilesView}
 use Rattle.mm_frame.specs.declared.FrameNumber.TheVariants.{F01}
-use Rattle.mm_frame.specs.Item.{Kind, Floating, Essential, Axiom, Theorem, Item, is_floating, is_labelled}
-use Rattle.mm_frame.specs.Sound.{closing_word, at_symbol, is_third, is_short, fault, IsSound}
-use Rattle.mm_frame.specs.Statement.{kind_of, names, symbols_in, label_in, item_of, Says}
-use Rattle.mm_frame.specs.Item.{item_at}
-use Rattle.mm_frame.specs.Base.{BaseView, AreSaid, before, said_at, is_sound_at, is_shown_at}
+use Rattle.mm_frame.specs.Language.Item.{Kind, Floating, Essential, Axiom, Theorem, Item, is_floating, is_labelled}
+use Rattle.mm_frame.specs.Language.Sound.{closing_word, at_symbol, is_third, is_short, fault, IsSound}
+use Rattle.mm_frame.specs.Language.Statement.{kind_of, token_names, symbols_in, label_in, item_of, Says}
+use Rattle.mm_frame.specs.Language.Item.{item_at}
+use Rattle.mm_frame.specs.Language.Base.{BaseView, AreSaid, before, said_at, is_sound_at, is_shown_at}
 use Rattle.mm_frame.proofs.Judged.{no_fault_sound}
 use Rattle.mm_frame.proofs.BaseLemmas.{none_told}
 
@@ -29,7 +29,7 @@ has_symbols before item s t e =
     let short = ap (λ xs. is_short item.kind (length xs)) e ∙ short_kind item.kind t in
     false≢true (sym few ∙ and_from (is_short item.kind (length item.symbols)) (word == word) short (eq-eqb word word refl))
 
-no_words : (kind : Kind) → is_labelled kind ≡ true → names (symbols_in kind []) ≡ []
+no_words : (kind : Kind) → is_labelled kind ≡ true → token_names (symbols_in kind []) ≡ []
 no_words Floating t = refl
 no_words Essential t = refl
 no_words Axiom t = refl
@@ -37,7 +37,7 @@ no_words Theorem t = refl
 no_words _ t = absurd (false≢true t)
 
 -- where there are symbols there is a first word
-label_there : (kind : Kind) (tokens : List Token) → is_labelled kind ≡ true → (names (symbols_in kind tokens) ≡ [] → ⊥) → (label : List ℕ) × (label_in kind tokens ≡ Some label)
+label_there : (kind : Kind) (tokens : List Token) → is_labelled kind ≡ true → (token_names (symbols_in kind tokens) ≡ [] → ⊥) → (label : List ℕ) × (label_in kind tokens ≡ Some label)
 label_there kind [] t n = absurd (n (no_words kind t))
 label_there kind (token ∷ tokens) t n = (token.bytes, ap (λ b. cond b (Some token.bytes) None) t)
 

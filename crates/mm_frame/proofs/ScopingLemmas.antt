@@ -2,12 +2,12 @@
 use Rattle.std.proofs.Common.{◌≡◌, ℕ, suc, Bool, false, Option, Some, List, [], ◌∷◌, ◌++◌, length, drop, map, get_or, sym, ◌∙◌, ap, subst}
 use Rattle.std.proofs.Math.ListN.{get_or-map}
 use Rattle.std.proofs.lemmas.List.{map-append, drop-map, length-map}
-use Rattle.mm_frame.specs.Item.{Kind, Item, passed, typecode_of, item_at}
-use Rattle.mm_frame.specs.Scope.{Mark, mark_of}
-use Rattle.mm_frame.specs.Blocks.{stays_by, marks_of}
-use Rattle.mm_frame.specs.Tables.{is_active_last}
+use Rattle.mm_frame.specs.Language.Item.{Kind, Item, passed, typecode_of, item_at}
+use Rattle.mm_frame.specs.Language.Scope.{Mark, mark_of}
+use Rattle.mm_frame.specs.Code.BlockMarks.{stays_by, marks_of}
+use Rattle.mm_frame.specs.Code.LastItems.{is_active_last}
 use Rattle.mm_frame.specs.declared.scope.Scope.{Scope}
-use Rattle.mm_frame.specs.Scoping.{Holds, taken}
+use Rattle.mm_frame.specs.Code.KeptScope.{ScopeHolds, taken}
 use Rattle.mm_frame.proofs.BlockLemmas.{stays_of}
 
 -- whether the last item that passes some test is active
@@ -35,5 +35,5 @@ types_more now before item old new last t l e =
     ap (map now) e ∙ map-append now old (last ∷ []) ∙ (λ i. t i ++ l i ∷ []) ∙ sym (map-append typecode_of before (item ∷ []))
 
 -- an item that is not sound is passed over
-pub passed_over : {scope : Scope} (before : List Item) (item : Item) (sound : Bool) → sound ≡ false → Holds (before ++ passed ∷ []) scope → Holds (before ++ taken sound item ∷ []) scope
-passed_over {scope} before item sound e h = subst (λ b. Holds (before ++ taken b item ∷ []) scope) (sym e) h
+pub passed_over : {scope : Scope} (before : List Item) (item : Item) (sound : Bool) → sound ≡ false → ScopeHolds (before ++ passed ∷ []) scope → ScopeHolds (before ++ taken sound item ∷ []) scope
+passed_over {scope} before item sound e h = subst (λ b. ScopeHolds (before ++ taken b item ∷ []) scope) (sym e) h

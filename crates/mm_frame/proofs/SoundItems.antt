@@ -3,12 +3,12 @@ use Rattle.std.proofs.Common.{◌≡◌, ℕ, zero, suc, Bool, true, false, cond
 use Rattle.std.specs.List.{list_any}
 use Rattle.std.proofs.lemmas.Bool.{false≢true, or_left, or_right, false_from_ne_true}
 use Rattle.std.proofs.lemmas.List.{take-append-drop}
-use Rattle.mm_frame.specs.Language.{Unknown}
-use Rattle.mm_frame.specs.Item.{Kind, Floating, Essential, Axiom, Theorem, Item, is_floating, is_expression, is_labelled, has, labels_of}
-use Rattle.mm_frame.specs.Scope.{Neither, mark_of, stays, constants, labels, active_variables}
+use Rattle.mm_frame.specs.Language.Frame.{Unknown}
+use Rattle.mm_frame.specs.Language.Item.{Kind, Floating, Essential, Axiom, Theorem, Item, is_floating, is_expression, is_labelled, has, labels_of}
+use Rattle.mm_frame.specs.Language.Scope.{Neither, mark_of, stays, constants, labels, active_variables}
 use Rattle.mm_frame.specs.declared.FrameNumber.TheVariants.{F06}
-use Rattle.mm_frame.specs.Sound.{is_label, IsSound, AreSound}
-use Rattle.mm_frame.specs.Framing.{symbol, expression, meaning, resolve_from, resolve}
+use Rattle.mm_frame.specs.Language.Sound.{is_label, IsSound, AreSound}
+use Rattle.mm_frame.specs.Language.Framing.{symbol, expression, meaning, resolve_from, resolve}
 use Rattle.mm_frame.proofs.Members.{In, in_flat, in_get, has_in, in_has}
 use Rattle.mm_frame.proofs.Facts.{AreKept, sound_at, kept_front, not_constant, first_constant, known, float_variable, float_two}
 use Rattle.mm_frame.proofs.Judged.{kept_more}

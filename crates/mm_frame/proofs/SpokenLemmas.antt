@@ -6,10 +6,10 @@ use Rattle.std.specs.List.{prefix_len}
 use Rattle.std.proofs.lemmas.List.{drop-map, drop-drop, take-map, append-nil}
 use Rattle.std.proofs.lemmas.Simd.{map-map}
 use Rattle.mm_text.specs.declared.word.Word.{Word}
-use Rattle.mm_text.specs.Unit.{Token, token_of, tokens_of}
-use Rattle.mm_frame.specs.Item.{Kind, Item, is_labelled}
-use Rattle.mm_frame.specs.PlainWords.{TakesLabel, bytes_in, plain_words, plain_bytes}
-use Rattle.mm_frame.specs.Statement.{is_plain_kind, is_plain, names, plain_from, symbols_from, symbols_in, proof_in, label_in, item_of}
+use Rattle.mm_text.specs.Language.Unit.{Token, token_of, tokens_of}
+use Rattle.mm_frame.specs.Language.Item.{Kind, Item, is_labelled}
+use Rattle.mm_frame.specs.Code.PlainWords.{TakesLabel, bytes_in, plain_words, plain_bytes}
+use Rattle.mm_frame.specs.Language.Statement.{is_plain_kind, is_plain, token_names, plain_from, symbols_from, symbols_in, proof_in, label_in, item_of}
 
 prefix_len-map : {X Y : Type 0} (f : X → Y) (p : Y → Bool) (xs : List X) → prefix_len p (map f xs) ≡ prefix_len (λ x. p (f x)) xs
 prefix_len-map f p [] = refl
@@ -85,18 +85,18 @@ behind_one old new None h = h.1 ∙ ap (drop 1) (sym h.0)
 behind_one old new (Some word) h = ap (drop 1) (sym h)
 
 -- how plain words are spelled
-plain_names : (text : List ℕ) (words : List Word) → names (plain_from 0 (tokens_of text words)) ≡ plain_bytes text words
+plain_names : (text : List ℕ) (words : List Word) → token_names (plain_from 0 (tokens_of text words)) ≡ plain_bytes text words
 plain_names text words =
     let count = prefix_len-map (token_of text) is_plain words in
-    ap (λ n. names (take n (tokens_of text words))) count
-    ∙ ap names (take-map (token_of text) (prefix_len (λ (w : Word). is_plain_kind w.kind) words) words)
+    ap (λ n. token_names (take n (tokens_of text words))) count
+    ∙ ap token_names (take-map (token_of text) (prefix_len (λ (w : Word). is_plain_kind w.kind) words) words)
     ∙ map-map (λ (token : Token). token.bytes) (token_of text) (plain_words words)
 
 -- from a place on
-names_from : (text : List ℕ) (words : List Word) (from : ℕ) → names (plain_from from (tokens_of text words)) ≡ plain_bytes text (drop from words)
-names_from text words from = ap (λ tokens. names (plain_from 0 tokens)) (drop-map (token_of text) from words) ∙ plain_names text (drop from words)
+names_from : (text : List ℕ) (words : List Word) (from : ℕ) → token_names (plain_from from (tokens_of text words)) ≡ plain_bytes text (drop from words)
+names_from text words from = ap (λ tokens. token_names (plain_from 0 tokens)) (drop-map (token_of text) from words) ∙ plain_names text (drop from words)
 
-count_names : (tokens : List Token) → length (names tokens) ≡ length tokens
+count_names : (tokens : List Token) → length (token_names tokens) ≡ length tokens
 count_names [] = refl
 count_names (token ∷ tokens) = ap suc (count_names tokens)
 
@@ -130,10 +130,10 @@ pub item_read : (kind : Kind) (text : List ℕ) (words : List Word) (label : Opt
 item_read kind text words label symbols rest h =
     let from = symbols_from kind in
     let first : h.first ≡ drop from words = h.keyword ∙ behind_label (is_labelled kind) words h.behind label h.takes in
-    let spelled : map (bytes_in text) symbols ≡ names (symbols_in kind (tokens_of text words)) = ap (map (bytes_in text)) h.all.are ∙ ap (plain_bytes text) first ∙ sym (names_from text words from) in
+    let spelled : map (bytes_in text) symbols ≡ token_names (symbols_in kind (tokens_of text words)) = ap (map (bytes_in text)) h.all.are ∙ ap (plain_bytes text) first ∙ sym (names_from text words from) in
     let count : length (plain_words h.first) ≡ length (symbols_in kind (tokens_of text words)) = ap length (sym h.all.are) ∙ sym (count_bytes text symbols) ∙ ap length spelled ∙ count_names (symbols_in kind (tokens_of text words)) in
     let places : from + (length (plain_words h.first) + 1) ≡ from + length (symbols_in kind (tokens_of text words)) + 1 = omega (arith, count) in
     let behind : rest ≡ drop (from + length (symbols_in kind (tokens_of text words)) + 1) words = h.all.rest ∙ ap (drop (length (plain_words h.first) + 1)) first ∙ drop-drop (length (plain_words h.first) + 1) from words ∙ ap (λ k. drop k words) places in
-    let proof : plain_bytes text rest ≡ names (proof_in kind (tokens_of text words)) = ap (plain_bytes text) behind ∙ sym (names_from text words (from + length (symbols_in kind (tokens_of text words)) + 1)) in
+    let proof : plain_bytes text rest ≡ token_names (proof_in kind (tokens_of text words)) = ap (plain_bytes text) behind ∙ sym (names_from text words (from + length (symbols_in kind (tokens_of text words)) + 1)) in
     let labelled : option_map (bytes_in text) label ≡ label_in kind (tokens_of text words) = label_is (is_labelled kind) text words h.behind label h.takes in
     λ i. record { kind = kind; label = labelled i; symbols = spelled i; proof = proof i }

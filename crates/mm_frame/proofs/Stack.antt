@@ -1,9 +1,9 @@
 -- The stack of scopes, and activity by counts.
 use Rattle.std.proofs.Common.{◌≡◌, ℕ, zero, suc, pred, ◌+◌, ◌≤◌, ◌<◌, ◌↔◌, Bool, true, false, cond, List, [], ◌∷◌, ◌++◌, length, take, drop, count_by, refl, sym, ◌∙◌, ap, subst, append_assoc, append-nil, arith}
 use Rattle.std.proofs.lemmas.List.Sums.{sum_by-cons}
-use Rattle.mm_frame.specs.Item.{Item}
-use Rattle.mm_frame.specs.Scope.{Mark, Opens, Closes, Neither, mark_of, closed_at, closed, is_zero, stays, active, opens, closes, is_start, is_end}
-use Rattle.mm_frame.specs.ScopeStack.{all_of, turn, read, is_statement_mark, statements}
+use Rattle.mm_frame.specs.Language.Item.{Item}
+use Rattle.mm_frame.specs.Language.Scope.{Mark, Opens, Closes, Neither, mark_of, closed_at, closed, is_zero, stays, active, opens, closes, is_start, is_end}
+use Rattle.mm_frame.specs.Language.ScopeStack.{all_of, turn, read_scopes, is_statement_mark, statements}
 use Rattle.mm_frame.proofs.Scopes.{closed_none}
 
 -- staying by counts
@@ -59,8 +59,8 @@ read_put x zero scope scopes live e =
     ap (λ w. w ++ statements live) (sym (append_assoc (all_of scopes) scope (x ∷ []))) ∙ append_assoc (all_of scopes ++ scope) (x ∷ []) (statements live) ∙ ap (λ w. (all_of scopes ++ scope) ++ w) (sym (is_statement x live e))
 read_put x (suc c) scope scopes live e = refl
 
-read_at : (m : Mark) (x : Item) (xs : List Item) (scopes : List (List Item)) (c : ℕ) (live : List Item) → mark_of x.kind ≡ m → closed_at m c < length scopes → ((s : List (List Item)) → c < length s → all_of (read s xs) ≡ all_of (drop c s) ++ statements live)
-    → all_of (read (turn m x scopes) xs) ≡ all_of (drop (closed_at m c) scopes) ++ statements (cond (is_zero c) (x ∷ live) live)
+read_at : (m : Mark) (x : Item) (xs : List Item) (scopes : List (List Item)) (c : ℕ) (live : List Item) → mark_of x.kind ≡ m → closed_at m c < length scopes → ((s : List (List Item)) → c < length s → all_of (read_scopes s xs) ≡ all_of (drop c s) ++ statements live)
+    → all_of (read_scopes (turn m x scopes) xs) ≡ all_of (drop (closed_at m c) scopes) ++ statements (cond (is_zero c) (x ∷ live) live)
 read_at m x xs [] c live e l r = absurd (omega arith)
 read_at Opens x xs (scope ∷ scopes) c live e l r = r ([] ∷ scope ∷ scopes) (below c (scope ∷ scopes) l) ∙ read_opens x c (scope ∷ scopes) (statements live) ∙ ap (λ w. all_of (drop (pred c) (scope ∷ scopes)) ++ w) (sym (not_statement Opens x (is_zero c) live e refl))
   where
@@ -70,9 +70,9 @@ read_at Opens x xs (scope ∷ scopes) c live e l r = r ([] ∷ scope ∷ scopes)
 read_at Closes x xs (scope ∷ scopes) c live e l r = r scopes (omega arith) ∙ ap (λ w. all_of (drop c scopes) ++ w) (sym (not_statement Closes x (is_zero c) live e refl))
 read_at Neither x xs (scope ∷ scopes) c live e l r = r ((scope ++ x ∷ []) ∷ scopes) l ∙ read_put x c scope scopes live e
 
-pub read_active : (items : List Item) (scopes : List (List Item)) → closed items < length scopes → all_of (read scopes items) ≡ all_of (drop (closed items) scopes) ++ statements (active items)
+pub read_active : (items : List Item) (scopes : List (List Item)) → closed items < length scopes → all_of (read_scopes scopes items) ≡ all_of (drop (closed items) scopes) ++ statements (active items)
 read_active [] scopes l = sym (append-nil (all_of scopes))
 read_active (x ∷ xs) scopes l = read_at (mark_of x.kind) x xs scopes (closed xs) (active xs) refl l (λ s h. read_active xs s h)
 
-pub reader_active : (items : List Item) → closed items ≡ 0 → all_of (read ([] ∷ []) items) ≡ statements (active items)
+pub reader_active : (items : List Item) → closed items ≡ 0 → all_of (read_scopes ([] ∷ []) items) ≡ statements (active items)
 reader_active items z = read_active items ([] ∷ []) (omega arith) ∙ ap (λ c. all_of (drop c ([] ∷ [])) ++ statements (active items)) z

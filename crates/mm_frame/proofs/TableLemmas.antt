@@ -5,11 +5,11 @@ use Rattle.std.specs.List.{list_any}
 use Rattle.std.proofs.lemmas.Bool.{false≢true, or_parts, or_cases, or_left, or_right, and_from, false_from_ne_true}
 use Rattle.std.proofs.lemmas.Slice.Eq.{bytes_eq-Decides}
 use Rattle.std.proofs.lemmas.Grind.{flat_map-append}
-use Rattle.mm_frame.specs.Item.{Kind, Item, is_constants, is_variables, is_floating, has, labels_of, typecode_of, variable_of, item_at}
-use Rattle.mm_frame.specs.Scope.{Mark, Opens, Closes, Neither, mark_of, closed_at, closed, stays, active, symbols_by, constants, variables, labels, active_variables, floats, typed}
+use Rattle.mm_frame.specs.Language.Item.{Kind, Item, is_constants, is_variables, is_floating, has, labels_of, typecode_of, variable_of, item_at}
+use Rattle.mm_frame.specs.Language.Scope.{Mark, Opens, Closes, Neither, mark_of, closed_at, closed, stays, active, symbols_by, constants, variables, labels, active_variables, floats, typed}
 use Rattle.mm_frame.specs.declared.FrameNumber.TheVariants.{F04, F13}
-use Rattle.mm_frame.specs.Sound.{each, second, is_active_symbol, is_typed_otherwise, IsSound, AreSound}
-use Rattle.mm_frame.specs.Tables.{number_or_first, last_where, is_active_at, is_active_last, declares_variable, types, carries, is_otherwise_at}
+use Rattle.mm_frame.specs.Language.Sound.{each, second, is_active_symbol, is_typed_otherwise, IsSound, AreSound}
+use Rattle.mm_frame.specs.Code.LastItems.{number_or_first, last_where, is_active_at, is_active_last, declares_variable, types, carries, is_otherwise_at}
 use Rattle.mm_frame.proofs.Members.{In, in_right, in_cases, in_filter, from_filter, in_flat, from_flat, in_get, has_in, in_has, from_symbols, to_symbols}
 use Rattle.mm_frame.proofs.Scopes.{active_in, split_active, in_first, in_later, closed_join, stays_front}
 use Rattle.mm_frame.proofs.Facts.{and_both, no_symbol_of, apart, float_two, float_new}

@@ -1,10 +1,10 @@
 //! The active items of one sort, by their numbers.
 
 ghost use Rattle.std.specs.Prelude.{◌≡◌, ◌+◌, ℕ, Bool, true, false, List, [], ◌∷◌, ◌++◌, length, drop, OnOk, OnErr};
-ghost use Rattle.mm_frame.specs.Item as meant;
-ghost use Rattle.mm_frame.specs.Scope.{Neither, mark_of, active_numbers};
-ghost use Rattle.mm_frame.specs.Blocks.{stays_by, marks_of};
-ghost use Rattle.mm_frame.specs.Pruned.{IsPruned};
+ghost use Rattle.mm_frame.specs.Language.Item as meant;
+ghost use Rattle.mm_frame.specs.Language.Scope.{Neither, mark_of, active_numbers};
+ghost use Rattle.mm_frame.specs.Code.BlockMarks.{stays_by, marks_of};
+ghost use Rattle.mm_frame.specs.Code.KeptActive.{IsPruned};
 
 use crate::blocks::Blocks;
 use std::alloc::{AllocError, Global};
@@ -23,7 +23,7 @@ impl Model for ActiveNumbers {
 
     ghost Value = { List ℕ };
 
-    ghost use Rattle.mm_frame.specs.Pruned.{numbers_inside};
+    ghost use Rattle.mm_frame.specs.Code.KeptActive.{numbers_inside};
 
     ghost view = { numbers_inside };
 }

@@ -2,20 +2,20 @@
 
 ghost use Rattle.std.specs.Prelude.{◌≡◌, ◌<◌, ◌≤◌, ◌↔◌, ◌&&◌, is_none, is_some, Some, None, List, length, ℕ, IfSome, IfOk, IfErr, IsErrOf, slice_get};
 ghost use Rattle.std.specs.Option.{option_map};
-ghost use Rattle.mm_store.specs.FilesView.{number_of};
-ghost use Rattle.mm_store.specs.Answers.{IsExpansionError};
+ghost use Rattle.mm_store.specs.Language.FilesView.{number_of};
+ghost use Rattle.mm_store.specs.Language.Answers.{IsExpansionError};
 ghost use Rattle.mm_store.specs.declared.error.StoreError.TheVariants.{NoTop};
-ghost use Rattle.mm_frame.specs.Item.{is_labelled};
-ghost use Rattle.mm_frame.specs.Language.{AreSamePairs};
-ghost use Rattle.mm_frame.specs.Framing.{active_pairs, resolve};
-ghost use Rattle.mm_frame.specs.Base.{BaseView, IsOfFiles, before, said_at, is_proof_at, is_framed_at, is_sound_at, fault_at, expression_at, frame_at};
-ghost use Rattle.mm_frame.specs.Base.{AreHypotheses};
-ghost use Rattle.mm_frame.specs.Named.{symbols_of, kept_pairs};
-ghost use Rattle.mm_frame.specs.KeptSymbols.{expression_kept};
-ghost use Rattle.mm_frame.specs.Paired.{pairs_in_order};
-ghost use Rattle.mm_frame.specs.Item as meant;
-ghost use Rattle.mm_frame.specs.Statement.{kind_of};
-ghost use Rattle.mm_frame.specs.Resolving.{IsCarrier, IsMeaning, Resolves};
+ghost use Rattle.mm_frame.specs.Language.Item.{is_labelled};
+ghost use Rattle.mm_frame.specs.Language.Frame.{AreSamePairs};
+ghost use Rattle.mm_frame.specs.Language.Framing.{active_pairs, resolve};
+ghost use Rattle.mm_frame.specs.Language.Base.{BaseView, IsOfFiles, before, said_at, is_proof_at, is_framed_at, is_sound_at, fault_at, expression_at, frame_at};
+ghost use Rattle.mm_frame.specs.Language.Base.{AreHypotheses};
+ghost use Rattle.mm_frame.specs.Code.CodeSymbols.{symbols_of, kept_pairs};
+ghost use Rattle.mm_frame.specs.Code.KeptSymbols.{expression_kept};
+ghost use Rattle.mm_frame.specs.Code.PairOrder.{pairs_in_order};
+ghost use Rattle.mm_frame.specs.Language.Item as meant;
+ghost use Rattle.mm_frame.specs.Language.Statement.{kind_of};
+ghost use Rattle.mm_frame.specs.Language.Resolving.{IsCarrier, IsMeaning, Resolves};
 
 use crate::draft::{Draft, Frame, Parts, Row};
 use crate::judge::FrameFault;
@@ -80,7 +80,7 @@ fn is_shown_row(row: &Row) -> bool
 }
 
 impl Base {
-    ghost use Rattle.mm_frame.specs.Kept.{IsBase, TellsPairs, hypotheses_at, rows_of, expressions_of, frames_of};
+    ghost use Rattle.mm_frame.specs.Code.KeptBase.{IsBase, TellsPairs, hypotheses_at, rows_of, expressions_of, frames_of};
 
     /// Builds the base of the files from a top file on. `NoTop` comes where no file has the name `top`; any other
     /// error is `Memory`. It reads each item once, in time near linear in the texts and in the lists of active pairs,

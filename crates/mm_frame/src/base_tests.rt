@@ -1,8 +1,8 @@
 //! What a base answers of small databases.
 
 ghost use Rattle.std.specs.Prelude.{IfOk};
-ghost use Rattle.mm_frame.specs.Base.{BaseView};
-ghost use Rattle.mm_frame.specs.Kept.{IsBase};
+ghost use Rattle.mm_frame.specs.Language.Base.{BaseView};
+ghost use Rattle.mm_frame.specs.Code.KeptBase.{IsBase};
 
 use crate::frame_tests::stands_at;
 use crate::judge::FrameFault;

@@ -1,9 +1,9 @@
 //! Blocks: whether an item is active at a later one.
 
 ghost use Rattle.std.specs.Prelude.{◌≡◌, ℕ, suc, ◌+◌, ◌<◌, ◌≤◌, List, [], ◌∷◌, ◌++◌, length, take, drop, slice_range, OnOk, OnErr};
-ghost use Rattle.mm_frame.specs.Scope.{Opens, Closes, Neither};
-ghost use Rattle.mm_frame.specs.Blocks.{is_inside_by, stays_by};
-ghost use Rattle.mm_frame.specs.BlockEnds.{end_of};
+ghost use Rattle.mm_frame.specs.Language.Scope.{Opens, Closes, Neither};
+ghost use Rattle.mm_frame.specs.Code.BlockMarks.{is_inside_by, stays_by};
+ghost use Rattle.mm_frame.specs.Code.BlockEnds.{end_of_block};
 
 use std::alloc::{AllocError, Global};
 use std::marker::Model;
@@ -31,21 +31,21 @@ pub struct Blocks {
 
 impl Model for Blocks {
     ghost use Rattle.std.specs.Prelude.{List};
-    ghost use Rattle.mm_frame.specs.Scope.{Mark};
+    ghost use Rattle.mm_frame.specs.Language.Scope.{Mark};
 
     ghost Value = { List Mark };
 
-    ghost use Rattle.mm_frame.specs.BlockNumbers.{view_of, IsKept};
+    ghost use Rattle.mm_frame.specs.Code.KeptBlocks.{blocks_view, AreBlocksKept};
 
-    ghost view = { view_of };
+    ghost view = { blocks_view };
 
-    ghost invariant = { IsKept };
+    ghost invariant = { AreBlocksKept };
 }
 
 /// Gives a block an entry among the ends, where it has none yet.
 fn enter(ends: &mut Vec<Option<usize>>, block: usize) -> Result<(), AllocError>
     requires { block ≤ length ends.old.items }
-    ensures same { (other : ℕ) → end_of ends.new.items other ≡ end_of ends.old.items other }
+    ensures same { (other : ℕ) → end_of_block ends.new.items other ≡ end_of_block ends.old.items other }
     ensures longer { length ends.old.items ≤ length ends.new.items }
     ensures ok { OnOk result (block < length ends.new.items) }
     ensures err { OnErr result (ends.new.items ≡ ends.old.items) }
@@ -59,7 +59,7 @@ fn enter(ends: &mut Vec<Option<usize>>, block: usize) -> Result<(), AllocError>
 
 /// The item that ended a block; `None` where the block is open.
 fn end_of_block(ends: &[Option<usize>], block: usize) -> Option<usize>
-    ensures { result ≡ end_of ends.now block }
+    ensures { result ≡ end_of_block ends.now block }
 {
     ends.get(block).copied().unwrap_or(None)
 }

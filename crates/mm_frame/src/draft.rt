@@ -3,23 +3,23 @@
 ghost use Rattle.std.specs.Prelude.{◌≡◌, ◌∷◌, ◌++◌, Bool, List, [], true, IfOk, OnOk, All, is_some, length, ◌&&◌};
 ghost use Rattle.std.specs.Option.{option_map};
 ghost use Rattle.std.specs.List.{AllZip};
-ghost use Rattle.mm_store.specs.FileFacts.{CanBeRead};
-ghost use Rattle.mm_frame.specs.Item as meant;
-ghost use Rattle.mm_frame.specs.Statement.{Says, kind_of};
-ghost use Rattle.mm_frame.specs.Sound.{AreSound, IsSound, kept};
-ghost use Rattle.mm_frame.specs.Framing.{expression};
-ghost use Rattle.mm_frame.specs.Known.{Knows};
-ghost use Rattle.mm_frame.specs.Named.{symbols_of};
-ghost use Rattle.mm_frame.specs.KeptSymbols.{is_read, AreExpressions, AreSymbols};
-ghost use Rattle.mm_frame.specs.Scope.{closes, mark_of, active_numbers};
-ghost use Rattle.mm_frame.specs.Scoping.{taken};
-ghost use Rattle.mm_frame.specs.Blocks.{marks_of};
-ghost use Rattle.mm_frame.specs.Earlier.{IsFramed, KnowsEarlier};
-ghost use Rattle.mm_frame.specs.Tables.{is_essential_item, is_disjoint_item, IsSort};
-ghost use Rattle.mm_frame.specs.Base.{fault_by};
-ghost use Rattle.mm_frame.specs.PairLists.{AreMade};
-ghost use Rattle.mm_frame.specs.PairTable.{KnowsPairs};
-ghost use Rattle.mm_frame.specs.Kept.{AreRows, KeepsFrame, TellsPairs, is_told_proof};
+ghost use Rattle.mm_store.specs.Language.FileFacts.{CanBeRead};
+ghost use Rattle.mm_frame.specs.Language.Item as meant;
+ghost use Rattle.mm_frame.specs.Language.Statement.{Says, kind_of};
+ghost use Rattle.mm_frame.specs.Language.Sound.{AreSound, IsSound, sound_items};
+ghost use Rattle.mm_frame.specs.Language.Framing.{expression};
+ghost use Rattle.mm_frame.specs.Code.KeptTables.{Knows};
+ghost use Rattle.mm_frame.specs.Code.CodeSymbols.{symbols_of};
+ghost use Rattle.mm_frame.specs.Code.KeptSymbols.{is_read, AreExpressions, AreSymbols};
+ghost use Rattle.mm_frame.specs.Language.Scope.{closes, mark_of, active_numbers};
+ghost use Rattle.mm_frame.specs.Code.KeptScope.{taken};
+ghost use Rattle.mm_frame.specs.Code.BlockMarks.{marks_of};
+ghost use Rattle.mm_frame.specs.Code.KeptEarlier.{IsFramed, KnowsEarlier};
+ghost use Rattle.mm_frame.specs.Code.LastItems.{is_essential_item, is_disjoint_item, IsSort};
+ghost use Rattle.mm_frame.specs.Language.Base.{fault_by};
+ghost use Rattle.mm_frame.specs.Code.KeptPairLists.{AreMade};
+ghost use Rattle.mm_frame.specs.Code.KeptPairTable.{KnowsPairs};
+ghost use Rattle.mm_frame.specs.Code.KeptBase.{AreRows, KeepsFrame, TellsPairs, is_told_proof};
 
 use crate::FrameNumber;
 use crate::active::ActiveNumbers;
@@ -240,8 +240,9 @@ fn keep_pairs(
 ) -> Result<(), AllocError>
     ensures made { OnOk result ((before : List meant.Item) → AreSound before → AreSymbols before expressions.now
         → disjoints.now ≡ active_numbers is_disjoint_item before → AreMade before pair_lists.old → AreMade before pair_lists.new) }
-    ensures pairs { OnOk result ((said : List meant.Item) (item : meant.Item) → AreSymbols (kept said) expressions.now
-        → disjoints.now ≡ active_numbers is_disjoint_item (kept said) → AreMade (kept said) pair_lists.old → proof ≡ is_told_proof (kept said) item
+    ensures pairs { OnOk result ((said : List meant.Item) (item : meant.Item) → AreSymbols (sound_items said) expressions.now
+        → disjoints.now ≡ active_numbers is_disjoint_item (sound_items said)
+        → AreMade (sound_items said) pair_lists.old → proof ≡ is_told_proof (sound_items said) item
         → AreRows (TellsPairs pair_lists.old) said pairs.old.items → AreRows (TellsPairs pair_lists.new) (said ++ item ∷ []) pairs.new.items) }
 {
     if !proof {
@@ -274,7 +275,7 @@ fn follow_pairs(
 }
 
 impl<'a> Draft<'a> {
-    ghost use Rattle.mm_frame.specs.Kept.{IsDraft, AreParts};
+    ghost use Rattle.mm_frame.specs.Code.KeptBase.{IsDraft, AreParts};
 
     /// No items. It takes no memory.
     pub fn new(alloc: Global) -> Self
@@ -295,7 +296,7 @@ impl<'a> Draft<'a> {
 
     /// What is known of the items so far.
     fn earlier(&self) -> Earlier<'_>
-        ensures { (said : List meant.Item) → IsDraft said self.now → KnowsEarlier (kept said) result }
+        ensures { (said : List meant.Item) → IsDraft said self.now → KnowsEarlier (sound_items said) result }
     {
         Earlier {
             tables: self.scope.tables(),
@@ -314,7 +315,7 @@ impl<'a> Draft<'a> {
         framed: bool,
     ) -> Result<Option<Frame>, AllocError>
         ensures { IfOk result (λ frame. (said : List meant.Item) (item : meant.Item) → IsDraft said self.now
-            → (framed ≡ true → IsFramed (kept said) item own.now) → KeepsFrame framed (kept said) item frame) }
+            → (framed ≡ true → IsFramed (sound_items said) item own.now) → KeepsFrame framed (sound_items said) item frame) }
     {
         Ok(frame_of(alloc, &self.earlier(), own, framed)?)
     }

@@ -1,6 +1,6 @@
 //! The faults of statements of small databases.
 
-ghost use Rattle.mm_store.specs.FileFacts.{CanBeRead};
+ghost use Rattle.mm_store.specs.Language.FileFacts.{CanBeRead};
 
 use crate::judge::{FrameFault, fault_of};
 use crate::scope::Scope;

@@ -1,6 +1,6 @@
 //! Expressions, mandatory hypotheses and pairs of small databases, and when two assertions have the same frame.
 
-ghost use Rattle.mm_store.specs.FileFacts.{CanBeRead};
+ghost use Rattle.mm_store.specs.Language.FileFacts.{CanBeRead};
 
 use crate::base_tests::base_of;
 use crate::blocks::Blocks;

@@ -2,14 +2,14 @@
 
 ghost use Rattle.std.specs.Prelude.{◌≡◌, ◌<◌, ◌||◌, ◌∷◌, ◌++◌, ℕ, true, None, List, [], IfOk, length, slice_index_or};
 ghost use Rattle.std.specs.Option.{option_map};
-ghost use Rattle.mm_frame.specs.Item as meant;
-ghost use Rattle.mm_frame.specs.Item.{Item};
-ghost use Rattle.mm_frame.specs.Judging as judging;
-ghost use Rattle.mm_frame.specs.Sound as sound;
-ghost use Rattle.mm_frame.specs.Sound.{AreSound};
-ghost use Rattle.mm_frame.specs.Scoping.{Holds};
-ghost use Rattle.mm_frame.specs.Seen.{HasSeen};
-ghost use Rattle.mm_frame.specs.Statement.{kind_of};
+ghost use Rattle.mm_frame.specs.Language.Item as meant;
+ghost use Rattle.mm_frame.specs.Language.Item.{Item};
+ghost use Rattle.mm_frame.specs.Code.FaultInOrder as judging;
+ghost use Rattle.mm_frame.specs.Language.Sound as sound;
+ghost use Rattle.mm_frame.specs.Language.Sound.{AreSound};
+ghost use Rattle.mm_frame.specs.Code.KeptScope.{ScopeHolds};
+ghost use Rattle.mm_frame.specs.Code.SeenNames.{HasSeen};
+ghost use Rattle.mm_frame.specs.Language.Statement.{kind_of};
 
 use crate::FrameNumber;
 use crate::scope::Scope;
@@ -27,7 +27,7 @@ pub struct FrameFault {
 
 /// What is wrong with a label.
 fn label_fault(scope: &Scope, label: &[u8]) -> Option<FrameNumber>
-    ensures { (before : List Item) → AreSound before → Holds before scope.now → result ≡ judging.label_fault before label.now }
+    ensures { (before : List Item) → AreSound before → ScopeHolds before scope.now → result ≡ judging.label_fault before label.now }
 {
     if scope.is_label(label) {
         Some(FrameNumber::F06)
@@ -40,7 +40,7 @@ fn label_fault(scope: &Scope, label: &[u8]) -> Option<FrameNumber>
 
 /// What is wrong at the first word: a `$c` stands in a block, or the label is wrong.
 fn front_fault(scope: &Scope, statement: &Statement) -> Option<FrameNumber>
-    ensures { (before : List Item) → AreSound before → Holds before scope.now → result ≡ judging.front_fault before statement.now }
+    ensures { (before : List Item) → AreSound before → ScopeHolds before scope.now → result ≡ judging.front_fault before statement.now }
 {
     if matches!(statement.kind(), ItemKind::Constants) && scope.is_inside() {
         return Some(FrameNumber::F02);
@@ -51,9 +51,9 @@ fn front_fault(scope: &Scope, statement: &Statement) -> Option<FrameNumber>
 /// What is wrong with a symbol of a `$c` or `$v`, if it is known whether the symbol stands earlier in the same
 /// statement, and whether it is a symbol already that must not be declared again.
 fn declared_fault(scope: &Scope, name: &[u8], repeated: bool, declared: bool) -> Option<FrameNumber>
-    ensures constant { (before : List Item) (item : Item) (n : ℕ) → AreSound before → Holds before scope.now → repeated ≡ sound.is_repeated item n name.now
+    ensures constant { (before : List Item) (item : Item) (n : ℕ) → AreSound before → ScopeHolds before scope.now → repeated ≡ sound.is_repeated item n name.now
         → declared ≡ sound.is_declared before name.now → result ≡ judging.constant_fault before item n name.now }
-    ensures variable { (before : List Item) (item : Item) (n : ℕ) → AreSound before → Holds before scope.now → repeated ≡ sound.is_repeated item n name.now
+    ensures variable { (before : List Item) (item : Item) (n : ℕ) → AreSound before → ScopeHolds before scope.now → repeated ≡ sound.is_repeated item n name.now
         → declared ≡ sound.is_active_symbol before name.now → result ≡ judging.variable_fault before item n name.now }
 {
     if repeated {
@@ -69,7 +69,7 @@ fn declared_fault(scope: &Scope, name: &[u8], repeated: bool, declared: bool) ->
 
 /// What is wrong with a symbol of a `$d`, if it is known whether the symbol stands earlier in the same statement.
 fn disjoint_fault(scope: &Scope, name: &[u8], repeated: bool) -> Option<FrameNumber>
-    ensures { (before : List Item) (item : Item) (n : ℕ) → AreSound before → Holds before scope.now → repeated ≡ sound.is_repeated item n name.now
+    ensures { (before : List Item) (item : Item) (n : ℕ) → AreSound before → ScopeHolds before scope.now → repeated ≡ sound.is_repeated item n name.now
         → result ≡ judging.disjoint_fault before item n name.now }
 {
     if repeated {
@@ -83,7 +83,7 @@ fn disjoint_fault(scope: &Scope, name: &[u8], repeated: bool) -> Option<FrameNum
 
 /// What is wrong with a typecode.
 fn typecode_fault(scope: &Scope, name: &[u8]) -> Option<FrameNumber>
-    ensures { (before : List Item) → AreSound before → Holds before scope.now → result ≡ judging.typecode_fault before name.now }
+    ensures { (before : List Item) → AreSound before → ScopeHolds before scope.now → result ≡ judging.typecode_fault before name.now }
 {
     if !scope.is_constant(name) {
         return Some(FrameNumber::F08);
@@ -93,7 +93,7 @@ fn typecode_fault(scope: &Scope, name: &[u8]) -> Option<FrameNumber>
 
 /// What is wrong with the variable of a `$f` that gives it this typecode.
 fn typed_fault(scope: &Scope, name: &[u8], typecode: &[u8]) -> Option<FrameNumber>
-    ensures { (before : List Item) (item : Item) → AreSound before → Holds before scope.now → meant.typecode_of item ≡ typecode.now
+    ensures { (before : List Item) (item : Item) → AreSound before → ScopeHolds before scope.now → meant.typecode_of item ≡ typecode.now
         → result ≡ judging.typed_fault before item name.now }
 {
     if !scope.is_active_variable(name) {
@@ -110,7 +110,7 @@ fn typed_fault(scope: &Scope, name: &[u8], typecode: &[u8]) -> Option<FrameNumbe
 /// What is wrong with the n-th symbol of a `$f`, counted from 0.
 fn floating_fault(scope: &Scope, statement: &Statement, n: usize) -> Option<FrameNumber>
     requires { n < length statement.now.symbols }
-    ensures { (before : List Item) → AreSound before → Holds before scope.now
+    ensures { (before : List Item) → AreSound before → ScopeHolds before scope.now
         → result ≡ judging.floating_fault before statement.now n (slice_index_or statement.now.symbols n []) }
 {
     match n {
@@ -122,7 +122,7 @@ fn floating_fault(scope: &Scope, statement: &Statement, n: usize) -> Option<Fram
 
 /// What is wrong with a symbol behind a typecode.
 fn later_fault(scope: &Scope, name: &[u8]) -> Option<FrameNumber>
-    ensures { (before : List Item) → AreSound before → Holds before scope.now → result ≡ judging.later_fault before name.now }
+    ensures { (before : List Item) → AreSound before → ScopeHolds before scope.now → result ≡ judging.later_fault before name.now }
 {
     if scope.is_constant(name) {
         None
@@ -137,7 +137,7 @@ fn later_fault(scope: &Scope, name: &[u8]) -> Option<FrameNumber>
 
 /// What is wrong with the n-th symbol of a `$e`, `$a` or `$p`, counted from 0.
 fn expression_fault(scope: &Scope, n: usize, name: &[u8]) -> Option<FrameNumber>
-    ensures { (before : List Item) → AreSound before → Holds before scope.now → result ≡ judging.expression_fault before n name.now }
+    ensures { (before : List Item) → AreSound before → ScopeHolds before scope.now → result ≡ judging.expression_fault before n name.now }
 {
     if n == 0 {
         typecode_fault(scope, name)
@@ -165,7 +165,7 @@ fn symbol_fault(
     repeated: bool,
 ) -> Option<FrameNumber>
     requires { n < length statement.now.symbols }
-    ensures { (before : List Item) → AreSound before → Holds before scope.now
+    ensures { (before : List Item) → AreSound before → ScopeHolds before scope.now
         → (judging.must_differ statement.now.kind ≡ true → repeated ≡ sound.is_repeated statement.now n (slice_index_or statement.now.symbols n []))
         → result ≡ judging.symbol_fault before statement.now n (slice_index_or statement.now.symbols n []) }
 {
@@ -196,7 +196,7 @@ fn symbols_fault(
     scope: &Scope,
     statement: &Statement,
 ) -> Result<Option<FrameFault>, AllocError>
-    ensures { (before : List Item) → AreSound before → Holds before scope.now
+    ensures { (before : List Item) → AreSound before → ScopeHolds before scope.now
         → IfOk result (λ found. option_map (λ f. (f.word, f.number)) found ≡ judging.symbols_fault before statement.now) }
 {
     let differ = must_differ(statement.kind());
@@ -245,7 +245,7 @@ pub fn fault_of(
     scope: &Scope,
     statement: &Statement,
 ) -> Result<Option<FrameFault>, AllocError>
-    ensures { (before : List Item) → AreSound before → Holds before scope.now
+    ensures { (before : List Item) → AreSound before → ScopeHolds before scope.now
         → IfOk result (λ found. option_map (λ f. (f.word, f.number)) found ≡ sound.fault before statement.now) }
 {
     if let Some(number) = front_fault(scope, statement) {

@@ -41,8 +41,9 @@ mod frame_tests;
 #[cfg(test)]
 mod tests;
 
-ghost use Rattle.mm_frame.specs.Laws.{ActiveByBlocks, FaultIsFound, HasFaultOrIsSound, HasOneFault, KeptNext, NeverBoth, PlacesHaveFrames, ReaderIsActive};
-ghost use Rattle.mm_frame.specs.Laws.{SoundHasNone, StaysByCounts};
+ghost use Rattle.mm_frame.specs.Language.Laws.{ActiveByBlocks, FaultIsFound, HasFaultOrIsSound, HasOneStatementFault, KeptNext, NeverFaultAndSound};
+ghost use Rattle.mm_frame.specs.Language.Laws.{PlacesHaveFrames, ReaderIsActive};
+ghost use Rattle.mm_frame.specs.Language.Laws.{SoundHasNone, StaysByCounts};
 
 /// The number of a fault of a statement, or of a missing inclusion.
 #[derive(Clone, Copy, Debug, PartialEq, Eq)]
@@ -84,7 +85,7 @@ pub fn places_have_frames()
 
 /// A statement has one fault at most.
 pub fn has_one_fault()
-    ensures { HasOneFault }
+    ensures { HasOneStatementFault }
 {}
 
 /// A statement has a fault, or is sound.
@@ -94,7 +95,7 @@ pub fn has_fault_or_is_sound()
 
 /// A statement is never both at fault and sound.
 pub fn never_both()
-    ensures { NeverBoth }
+    ensures { NeverFaultAndSound }
 {}
 
 /// The fault that is computed is the fault.

@@ -2,16 +2,16 @@
 
 ghost use Rattle.std.specs.Prelude.{◌≡◌, ◌++◌, ◌∷◌, ℕ, List, [], OnOk, IfOk, map, filter};
 ghost use Rattle.std.specs.List.{flat_map};
-ghost use Rattle.mm_frame.specs.Item as meant;
-ghost use Rattle.mm_frame.specs.Framing.{pairs_of, active_pairs, frame, mandatory_numbers};
-ghost use Rattle.mm_frame.specs.Earlier.{IsFramed, KnowsEarlier};
-ghost use Rattle.mm_frame.specs.Blocks.{marks_of};
-ghost use Rattle.mm_frame.specs.Tables.{IsRising};
-ghost use Rattle.mm_frame.specs.Named.{symbol_of, kept_pairs};
-ghost use Rattle.mm_frame.specs.KeptSymbols.{symbols_lent, float_number, float_numbers, expression_kept};
-ghost use Rattle.mm_frame.specs.Paired as paired;
-ghost use Rattle.mm_frame.specs.Paired.{are_paired, pairs_in_order, float_variable, float_variables};
-ghost use Rattle.mm_frame.specs.PairTable.{KnowsPairs};
+ghost use Rattle.mm_frame.specs.Language.Item as meant;
+ghost use Rattle.mm_frame.specs.Language.Framing.{pairs_of, active_pairs, frame, mandatory_numbers};
+ghost use Rattle.mm_frame.specs.Code.KeptEarlier.{IsFramed, KnowsEarlier};
+ghost use Rattle.mm_frame.specs.Code.BlockMarks.{marks_of};
+ghost use Rattle.mm_frame.specs.Code.LastItems.{IsRising};
+ghost use Rattle.mm_frame.specs.Code.CodeSymbols.{symbol_of, kept_pairs};
+ghost use Rattle.mm_frame.specs.Code.KeptSymbols.{symbols_lent, float_number, float_numbers, expression_kept};
+ghost use Rattle.mm_frame.specs.Code.PairOrder as paired;
+ghost use Rattle.mm_frame.specs.Code.PairOrder.{are_paired, pairs_in_order, float_variable, float_variables};
+ghost use Rattle.mm_frame.specs.Code.KeptPairTable.{KnowsPairs};
 
 use crate::blocks::Blocks;
 use crate::paired::PairTable;

@@ -1,6 +1,6 @@
 //! Files have one base.
 
-ghost use Rattle.mm_frame.specs.Laws.{AlikeFilesSayTheSame, FilesHaveOneBase};
+ghost use Rattle.mm_frame.specs.Language.Laws.{AlikeFilesSayTheSame, FilesHaveOneBase};
 
 /// Files have one base from a top file on, and the keys of their pieces do not matter for what its items say.
 pub fn files_have_one_base()

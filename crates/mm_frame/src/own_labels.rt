@@ -1,6 +1,6 @@
 //! Each sound item has a label of its own, and mandatory hypotheses are found by theirs.
 
-ghost use Rattle.mm_frame.specs.Laws.{HasOwnLabels, ItemsHaveLabels, MandatoryMeans, MandatoryStandBefore};
+ghost use Rattle.mm_frame.specs.Language.Laws.{HasOwnLabels, ItemsHaveLabels, MandatoryMeans, MandatoryStandBefore};
 
 /// Each sound `$f`, `$e`, `$a` and `$p` has a label.
 pub fn items_have_labels()

@@ -2,14 +2,14 @@
 
 ghost use Rattle.std.specs.Prelude.{◌≡◌, ◌<◌, ◌+◌, ◌++◌, ◌∷◌, List, [], OnOk, IfOk, map};
 ghost use Rattle.std.specs.List.{flat_map};
-ghost use Rattle.mm_frame.specs.Item as meant;
-ghost use Rattle.mm_frame.specs.Sound.{AreSound};
-ghost use Rattle.mm_frame.specs.Framing.{pairs_of, active_pairs};
-ghost use Rattle.mm_frame.specs.Tables.{is_disjoint_item};
-ghost use Rattle.mm_frame.specs.Scope.{active_numbers};
-ghost use Rattle.mm_frame.specs.Named.{symbol_of, symbols_of, kept_pairs};
-ghost use Rattle.mm_frame.specs.KeptSymbols.{AreSymbols, expression_kept};
-ghost use Rattle.mm_frame.specs.PairLists.{HasActivePairs};
+ghost use Rattle.mm_frame.specs.Language.Item as meant;
+ghost use Rattle.mm_frame.specs.Language.Sound.{AreSound};
+ghost use Rattle.mm_frame.specs.Language.Framing.{pairs_of, active_pairs};
+ghost use Rattle.mm_frame.specs.Code.LastItems.{is_disjoint_item};
+ghost use Rattle.mm_frame.specs.Language.Scope.{active_numbers};
+ghost use Rattle.mm_frame.specs.Code.CodeSymbols.{symbol_of, symbols_of, kept_pairs};
+ghost use Rattle.mm_frame.specs.Code.KeptSymbols.{AreSymbols, expression_kept};
+ghost use Rattle.mm_frame.specs.Code.KeptPairLists.{HasActivePairs};
 
 use crate::symbol::{NamedSymbol, add_pair};
 use std::alloc::{AllocError, Global};
@@ -107,7 +107,7 @@ fn count_to_last(disjoints: &[usize], expressions: &[Vec<NamedSymbol>]) -> usize
 }
 
 impl PairLists {
-    ghost use Rattle.mm_frame.specs.PairLists.{AreMade, IsList, KeepsLists, list_kept, list_made};
+    ghost use Rattle.mm_frame.specs.Code.KeptPairLists.{AreMade, IsList, KeepsLists, list_kept, list_made};
 
     /// No lists. It takes no memory.
     pub fn new(alloc: Global) -> Self

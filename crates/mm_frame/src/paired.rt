@@ -1,12 +1,12 @@
 //! Which pairs of variables the active `$d` have, found by hash.
 
 ghost use Rattle.std.specs.Prelude.{◌≡◌, ◌∷◌, ◌++◌, ◌&&◌, if◌then◌else◌, ℕ, true, List, [], Some, None, OnOk, length, map, bytes_eq};
-ghost use Rattle.mm_frame.specs.Item as meant;
-ghost use Rattle.mm_frame.specs.Blocks.{marks_of};
-ghost use Rattle.mm_frame.specs.Framing.{expression, pairs_of, active_pairs};
-ghost use Rattle.mm_frame.specs.Named.{symbol_of, symbols_of, variable_of};
-ghost use Rattle.mm_frame.specs.Paired.{are_paired};
-ghost use Rattle.mm_frame.specs.PairTable.{value_in, is_number_active};
+ghost use Rattle.mm_frame.specs.Language.Item as meant;
+ghost use Rattle.mm_frame.specs.Code.BlockMarks.{marks_of};
+ghost use Rattle.mm_frame.specs.Language.Framing.{expression, pairs_of, active_pairs};
+ghost use Rattle.mm_frame.specs.Code.CodeSymbols.{symbol_of, symbols_of, as_variable};
+ghost use Rattle.mm_frame.specs.Code.PairOrder.{are_paired};
+ghost use Rattle.mm_frame.specs.Code.KeptPairTable.{value_in, is_number_active};
 
 use crate::blocks::Blocks;
 use crate::symbol::NamedSymbol;
@@ -36,7 +36,7 @@ fn keep(
 }
 
 impl PairTable {
-    ghost use Rattle.mm_frame.specs.PairTable.{pair_number, TakesPairs, KnowsPairs};
+    ghost use Rattle.mm_frame.specs.Code.KeptPairTable.{pair_number, TakesPairs, KnowsPairs};
 
     /// No `$d` is taken yet. Takes no memory.
     pub fn new(alloc: Global) -> Self
@@ -67,7 +67,7 @@ impl PairTable {
     /// Whether an active `$d` has the two names, in one order or the other.
     pub fn is_active_pair(&self, blocks: &Blocks, first: &[u8], second: &[u8]) -> bool
         ensures { (before : List meant.Item) → KnowsPairs before self.now → blocks.now ≡ marks_of before
-            → result ≡ are_paired (active_pairs before) (variable_of first.now, variable_of second.now) }
+            → result ≡ are_paired (active_pairs before) (as_variable first.now, as_variable second.now) }
     {
         self.is_active(blocks, first, second) || self.is_active(blocks, second, first)
     }

@@ -1,7 +1,7 @@
 //! The words of a proof.
 
 ghost use Rattle.std.specs.Prelude.{◌≡◌, ◌∷◌, ◌≤◌, [], MatchOption, length};
-ghost use Rattle.mm_frame.specs.PlainWords.{plain_bytes};
+ghost use Rattle.mm_frame.specs.Code.PlainWords.{plain_bytes};
 
 use crate::statement::{bytes_of, is_plain};
 use mm_text::WordCursor;
@@ -19,11 +19,11 @@ impl<'a> Model for ProofWords<'a> {
 
     ghost Value = { List (List ℕ) };
 
-    ghost use Rattle.mm_frame.specs.SpokenProof.{left_of, IsOver};
+    ghost use Rattle.mm_frame.specs.Code.SpokenProof.{proof_left_of, IsProofOver};
 
-    ghost view = { left_of };
+    ghost view = { proof_left_of };
 
-    ghost invariant = { IsOver };
+    ghost invariant = { IsProofOver };
 }
 
 impl<'a> ProofWords<'a> {

@@ -1,11 +1,11 @@
 //! Whether what two bases keep is the same.
 
 ghost use Rattle.std.specs.Prelude.{◌≡◌, ◌↔◌, IsTrue, true, All, map};
-ghost use Rattle.mm_frame.specs.Base.{BaseView, before, said_at, is_shown_at, is_framed_at, hypothesis_at, frame_at};
-ghost use Rattle.mm_frame.specs.Framing.{expression};
-ghost use Rattle.mm_frame.specs.Kept.{IsBase};
-ghost use Rattle.mm_frame.specs.Language.{AreSameFrame};
-ghost use Rattle.mm_frame.specs.Named.{symbols_of, pair_of, kept_pairs};
+ghost use Rattle.mm_frame.specs.Language.Base.{BaseView, before, said_at, is_shown_at, is_framed_at, hypothesis_at, frame_at};
+ghost use Rattle.mm_frame.specs.Language.Framing.{expression};
+ghost use Rattle.mm_frame.specs.Code.KeptBase.{IsBase};
+ghost use Rattle.mm_frame.specs.Language.Frame.{AreSameFrame};
+ghost use Rattle.mm_frame.specs.Code.CodeSymbols.{symbols_of, pair_of, kept_pairs};
 
 use crate::base::Base;
 use crate::symbol::NamedSymbol;

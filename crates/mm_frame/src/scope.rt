@@ -1,15 +1,15 @@
 //! What the sound items so far declare, and which of it is active.
 
 ghost use Rattle.std.specs.Prelude.{◌≡◌, true, List, [], ◌∷◌, ◌++◌, OnOk, slice_index_or};
-ghost use Rattle.mm_frame.specs.Item as meant;
-ghost use Rattle.mm_frame.specs.Scope as scopes;
-ghost use Rattle.mm_frame.specs.Scope.{mark_of};
-ghost use Rattle.mm_frame.specs.Statement.{kind_of};
-ghost use Rattle.mm_frame.specs.Sound as sound;
-ghost use Rattle.mm_frame.specs.Sound.{AreSound};
-ghost use Rattle.mm_frame.specs.Tables as numbered;
-ghost use Rattle.mm_frame.specs.Blocks.{marks_of};
-ghost use Rattle.mm_frame.specs.Known.{Knows};
+ghost use Rattle.mm_frame.specs.Language.Item as meant;
+ghost use Rattle.mm_frame.specs.Language.Scope as scopes;
+ghost use Rattle.mm_frame.specs.Language.Scope.{mark_of};
+ghost use Rattle.mm_frame.specs.Language.Statement.{kind_of};
+ghost use Rattle.mm_frame.specs.Language.Sound as sound;
+ghost use Rattle.mm_frame.specs.Language.Sound.{AreSound};
+ghost use Rattle.mm_frame.specs.Code.LastItems as numbered;
+ghost use Rattle.mm_frame.specs.Code.BlockMarks.{marks_of};
+ghost use Rattle.mm_frame.specs.Code.KeptTables.{Knows};
 
 use crate::blocks::Blocks;
 use crate::statement::Statement;
@@ -52,11 +52,11 @@ fn mark(blocks: &mut Blocks, kind: ItemKind) -> Result<(), AllocError>
 }
 
 impl<'a> Scope<'a> {
-    ghost use Rattle.mm_frame.specs.Scoping.{Holds, Takes, typecodes_of};
+    ghost use Rattle.mm_frame.specs.Code.KeptScope.{ScopeHolds, ScopeTakes, typecodes_of};
 
     /// No items. It takes no memory.
     pub fn new(alloc: Global) -> Self
-        ensures { Holds [] result }
+        ensures { ScopeHolds [] result }
     {
         Scope {
             tables: Tables::new(alloc),
@@ -67,35 +67,35 @@ impl<'a> Scope<'a> {
 
     /// Whether a block is open.
     pub fn is_inside(&self) -> bool
-        ensures { (before : List meant.Item) → AreSound before → Holds before self.now → result ≡ scopes.is_inside before }
+        ensures { (before : List meant.Item) → AreSound before → ScopeHolds before self.now → result ≡ scopes.is_inside before }
     {
         self.blocks.is_inside()
     }
 
     /// Whether a name is a constant.
     pub fn is_constant(&self, name: &[u8]) -> bool
-        ensures { (before : List meant.Item) → AreSound before → Holds before self.now → result ≡ meant.has (scopes.constants before) name.now }
+        ensures { (before : List meant.Item) → AreSound before → ScopeHolds before self.now → result ≡ meant.has (scopes.constants before) name.now }
     {
         self.tables.is_constant(name)
     }
 
     /// Whether a name is a constant or a variable, active or not.
     pub fn is_declared(&self, name: &[u8]) -> bool
-        ensures { (before : List meant.Item) → AreSound before → Holds before self.now → result ≡ sound.is_declared before name.now }
+        ensures { (before : List meant.Item) → AreSound before → ScopeHolds before self.now → result ≡ sound.is_declared before name.now }
     {
         self.tables.is_declared(name)
     }
 
     /// Whether an item, active or not, has this label.
     pub fn is_label(&self, label: &[u8]) -> bool
-        ensures { (before : List meant.Item) → AreSound before → Holds before self.now → result ≡ sound.is_label before label.now }
+        ensures { (before : List meant.Item) → AreSound before → ScopeHolds before self.now → result ≡ sound.is_label before label.now }
     {
         self.tables.is_label(label)
     }
 
     /// Whether a name is an active variable.
     pub fn is_active_variable(&self, name: &[u8]) -> bool
-        ensures { (before : List meant.Item) → AreSound before → Holds before self.now → result ≡ meant.has (scopes.active_variables before) name.now }
+        ensures { (before : List meant.Item) → AreSound before → ScopeHolds before self.now → result ≡ meant.has (scopes.active_variables before) name.now }
     {
         match self.tables.variable(name) {
             Some(number) => self.blocks.is_active_now(number),
@@ -105,21 +105,21 @@ impl<'a> Scope<'a> {
 
     /// Whether a name is a constant or an active variable.
     pub fn is_active_symbol(&self, name: &[u8]) -> bool
-        ensures { (before : List meant.Item) → AreSound before → Holds before self.now → result ≡ sound.is_active_symbol before name.now }
+        ensures { (before : List meant.Item) → AreSound before → ScopeHolds before self.now → result ≡ sound.is_active_symbol before name.now }
     {
         self.is_constant(name) || self.is_active_variable(name)
     }
 
     /// The number of the last `$f` of a variable, active or not.
     pub fn float(&self, name: &[u8]) -> Option<usize>
-        ensures { (before : List meant.Item) → AreSound before → Holds before self.now → result ≡ numbered.last_where (numbered.types name.now) before }
+        ensures { (before : List meant.Item) → AreSound before → ScopeHolds before self.now → result ≡ numbered.last_where (numbered.types name.now) before }
     {
         self.tables.float(name)
     }
 
     /// Whether an active `$f` types a name.
     pub fn is_typed(&self, name: &[u8]) -> bool
-        ensures { (before : List meant.Item) → AreSound before → Holds before self.now → result ≡ sound.is_typed before name.now }
+        ensures { (before : List meant.Item) → AreSound before → ScopeHolds before self.now → result ≡ sound.is_typed before name.now }
     {
         match self.float(name) {
             Some(number) => self.blocks.is_active_now(number),
@@ -136,7 +136,7 @@ impl<'a> Scope<'a> {
 
     /// Whether a `$f`, active or not, gives a name another typecode than this one.
     pub fn is_typed_otherwise(&self, name: &[u8], typecode: &[u8]) -> bool
-        ensures { (before : List meant.Item) (item : meant.Item) → AreSound before → Holds before self.now → meant.typecode_of item ≡ typecode.now
+        ensures { (before : List meant.Item) (item : meant.Item) → AreSound before → ScopeHolds before self.now → meant.typecode_of item ≡ typecode.now
             → result ≡ sound.is_typed_otherwise before item name.now }
     {
         match self.float(name) {
@@ -147,7 +147,7 @@ impl<'a> Scope<'a> {
 
     /// Takes a sound item.
     fn take(&mut self, alloc: Global, statement: &Statement<'a>) -> Result<(), AllocError>
-        ensures { OnOk result (Takes self.old statement.now true self.new) }
+        ensures { OnOk result (ScopeTakes self.old statement.now true self.new) }
     {
         self.tables.take(alloc, statement, self.typecodes.len())?;
         mark(&mut self.blocks, statement.kind())?;
@@ -163,7 +163,7 @@ impl<'a> Scope<'a> {
         statement: &Statement<'a>,
         sound: bool,
     ) -> Result<(), AllocError>
-        ensures { OnOk result (Takes self.old statement.now sound self.new) }
+        ensures { OnOk result (ScopeTakes self.old statement.now sound self.new) }
     {
         if sound {
             return self.take(alloc, statement);
@@ -189,7 +189,7 @@ impl<'a> Scope<'a> {
 
     /// What the sound items declare, and their blocks.
     pub fn tables_and_blocks(self) -> (Tables, Blocks)
-        ensures { (before : List meant.Item) → Holds before self.entry → Knows before result.0 × (result.1 ≡ marks_of before) }
+        ensures { (before : List meant.Item) → ScopeHolds before self.entry → Knows before result.0 × (result.1 ≡ marks_of before) }
     {
         (self.tables, self.blocks)
     }

@@ -2,13 +2,13 @@
 
 ghost use Rattle.std.specs.Prelude.{◌≡◌, ◌+◌, ◌<◌, ◌≤◌, [], false, None, All, IfOk, IfSome, OnOk, length, drop, is_some, slice_index_or};
 ghost use Rattle.std.specs.Option.{option_map};
-ghost use Rattle.mm_store.specs.FileFacts.{CanBeRead};
-ghost use Rattle.mm_frame.specs.Item as meant;
-ghost use Rattle.mm_frame.specs.Sound.{first_symbol};
-ghost use Rattle.mm_frame.specs.PlainWords.{IsInside, TakesLabel, bytes_in, plain_words};
-ghost use Rattle.mm_frame.specs.Statement as spoken;
-ghost use Rattle.mm_frame.specs.Statement.{Says};
-ghost use Rattle.mm_text.specs.Unit.{tokens_of};
+ghost use Rattle.mm_store.specs.Language.FileFacts.{CanBeRead};
+ghost use Rattle.mm_frame.specs.Language.Item as meant;
+ghost use Rattle.mm_frame.specs.Language.Sound.{first_symbol};
+ghost use Rattle.mm_frame.specs.Code.PlainWords.{LiesInText, TakesLabel, bytes_in, plain_words};
+ghost use Rattle.mm_frame.specs.Language.Statement as spoken;
+ghost use Rattle.mm_frame.specs.Language.Statement.{Says};
+ghost use Rattle.mm_text.specs.Language.Unit.{tokens_of};
 
 use crate::proof_words::ProofWords;
 use mm_store::{Files, Item, ItemKind};
@@ -31,8 +31,8 @@ pub struct Statement<'a> {
 }
 
 impl<'a> Model for Statement<'a> {
-    ghost use Rattle.mm_frame.specs.Item.{Item};
-    ghost use Rattle.mm_frame.specs.Spoken.{item_inside, IsSpoken};
+    ghost use Rattle.mm_frame.specs.Language.Item.{Item};
+    ghost use Rattle.mm_frame.specs.Code.KeptStatement.{item_inside, IsSpoken};
 
     ghost Value = { Item };
 
@@ -68,7 +68,7 @@ fn symbols_from(kind: ItemKind) -> usize
 
 /// The bytes of a word.
 pub(crate) fn bytes_of(text: &[u8], word: Word) -> &[u8]
-    requires { IsInside text.now word }
+    requires { LiesInText text.now word }
     ensures { result.now ≡ bytes_in text.now word }
 {
     &text[word.start..word.end]
@@ -79,7 +79,7 @@ fn read_label(kind: ItemKind, words: &mut WordCursor) -> Option<Word>
     requires { 0 < length words.old.words }
     ensures text { words.new.text ≡ words.old.text }
     ensures label { TakesLabel (meant.is_labelled (spoken.kind_of kind)) words.old.words result words.new.words }
-    ensures within { IfSome result (IsInside words.old.text) }
+    ensures within { IfSome result (LiesInText words.old.text) }
 {
     if is_labelled(kind) {
         words.next_word()
@@ -93,7 +93,7 @@ fn read_symbols(alloc: Global, words: &mut WordCursor) -> Result<Vec<Word>, Allo
     ensures text { words.new.text ≡ words.old.text }
     ensures symbols { IfOk result (λ symbols. symbols.items ≡ plain_words words.old.words) }
     ensures rest { OnOk result (words.new.words ≡ drop (length (plain_words words.old.words) + 1) words.old.words) }
-    ensures within { IfOk result (λ symbols. All (IsInside words.old.text) symbols.items) }
+    ensures within { IfOk result (λ symbols. All (LiesInText words.old.text) symbols.items) }
 {
     let mut symbols = Vec::new(alloc);
     while let Some(word) = words.next_word() {

@@ -1,12 +1,12 @@
 //! Symbols of expressions, as they are kept.
 
 ghost use Rattle.std.specs.Prelude.{◌≡◌, ◌↔◌, ◌++◌, ◌∷◌, [], IsTrue, IfOk, OnOk, OnErr, List, true};
-ghost use Rattle.mm_frame.specs.Item as meant;
-ghost use Rattle.mm_frame.specs.Sound.{AreSound, IsSound};
-ghost use Rattle.mm_frame.specs.Framing.{expression};
-ghost use Rattle.mm_frame.specs.Known.{Knows};
-ghost use Rattle.mm_frame.specs.Named.{symbol_of, symbols_of, kept_pairs, variable_of};
-ghost use Rattle.mm_frame.specs.KeptSymbols.{by_constants};
+ghost use Rattle.mm_frame.specs.Language.Item as meant;
+ghost use Rattle.mm_frame.specs.Language.Sound.{AreSound, IsSound};
+ghost use Rattle.mm_frame.specs.Language.Framing.{expression};
+ghost use Rattle.mm_frame.specs.Code.KeptTables.{Knows};
+ghost use Rattle.mm_frame.specs.Code.CodeSymbols.{symbol_of, symbols_of, kept_pairs, as_variable};
+ghost use Rattle.mm_frame.specs.Code.KeptSymbols.{by_constants};
 
 use crate::statement::Statement;
 use crate::tables::Tables;
@@ -84,7 +84,7 @@ pub fn expression_of(
 
 /// A name as a variable.
 fn variable_named(alloc: Global, name: &[u8]) -> Result<NamedSymbol, AllocError>
-    ensures { IfOk result (λ symbol. symbol_of symbol ≡ variable_of name.now) }
+    ensures { IfOk result (λ symbol. symbol_of symbol ≡ as_variable name.now) }
 {
     let name = Vec::from_slice(alloc, name)?;
     Ok(NamedSymbol {

@@ -1,10 +1,10 @@
 //! What the items so far declare, found by hash.
 
 ghost use Rattle.std.specs.Prelude.{◌≡◌, ◌<◌, ◌++◌, ◌∷◌, ◌||◌, ℕ, OnOk, List, [], Some, length, is_some, option_to_list, slice_index_or, bytes_eq};
-ghost use Rattle.mm_frame.specs.Item as meant;
-ghost use Rattle.mm_frame.specs.Scope.{constants};
-ghost use Rattle.mm_frame.specs.Sound as sound;
-ghost use Rattle.mm_frame.specs.Tables as numbered;
+ghost use Rattle.mm_frame.specs.Language.Item as meant;
+ghost use Rattle.mm_frame.specs.Language.Scope.{constants};
+ghost use Rattle.mm_frame.specs.Language.Sound as sound;
+ghost use Rattle.mm_frame.specs.Code.LastItems as numbered;
 
 use crate::statement::Statement;
 use mm_store::ItemKind;
@@ -33,7 +33,7 @@ pub struct Tables {
 }
 
 impl Tables {
-    ghost use Rattle.mm_frame.specs.Known.{table_name, table_label, variable_of, float_of, Knows, Declares, Types, Carries};
+    ghost use Rattle.mm_frame.specs.Code.KeptTables.{table_name, table_label, variable_number, float_of, Knows, Declares, Types, Carries};
 
     /// No item is taken yet. Takes no memory.
     pub fn new(alloc: Global) -> Self

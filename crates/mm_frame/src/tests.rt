@@ -1,6 +1,6 @@
 //! What the tables, the items and the blocks of small databases tell.
 
-ghost use Rattle.mm_store.specs.FileFacts.{CanBeRead};
+ghost use Rattle.mm_store.specs.Language.FileFacts.{CanBeRead};
 
 use crate::active::ActiveNumbers;
 use crate::blocks::Blocks;

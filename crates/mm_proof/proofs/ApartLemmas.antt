@@ -11,16 +11,16 @@ use Rattle.std.proofs.lemmas.List.{map-append, get_or-map, get_or_default, lengt
 use Rattle.std.proofs.lemmas.List.Elements.{Contains-push_cases, Contains-append_left, Contains-append_right}
 use Rattle.std.proofs.lemmas.List.Folds.{list_any_at}
 use Rattle.std.proofs.lemmas.Slice.Eq.{bytes_eq-Decides}
-use Rattle.mm_frame.specs.Item.{has}
-use Rattle.mm_frame.specs.Language.{Symbol, ArePair, AreSamePairs, HasVariable}
-use Rattle.mm_frame.specs.Named.{pair_of, variable_of}
-use Rattle.mm_frame.specs.Seen.{HasSeen}
+use Rattle.mm_frame.specs.Language.Item.{has}
+use Rattle.mm_frame.specs.Language.Frame.{Symbol, ArePair, AreSamePairs, HasVariable}
+use Rattle.mm_frame.specs.Code.CodeSymbols.{pair_of, as_variable}
+use Rattle.mm_frame.specs.Code.SeenNames.{HasSeen}
 use Rattle.mm_frame.specs.declared.symbol.NamedSymbol.{NamedSymbol}
 use Rattle.mm_proof.proofs.SeenLemmas.{and_both, In, in_has, has_in, in_contains, contains_in, Contains-here, sees_more}
-use Rattle.mm_proof.specs.Derivation.{AreApart}
+use Rattle.mm_proof.specs.Language.Derivation.{AreApart}
 use Rattle.mm_proof.specs.declared.apart.Disjoint.{Disjoint}
-use Rattle.mm_proof.specs.Apart.{has_order, has_pair, HasOrders, HasPairs, AreNotApart, names_of, clashes_with, clash}
-use Rattle.mm_proof.specs.Stack.{symbol_of, symbols_of}
+use Rattle.mm_proof.specs.Code.Apart.{has_order, knows_pair, HasOrders, HasPairs, AreNotApart, names_of, clashes_with, clash}
+use Rattle.mm_proof.specs.Code.Stack.{lent_symbol, lent_symbols}
 
 -- ---- pairs, one after another
 
@@ -40,11 +40,11 @@ orders_more pairs pair old new first second p h x y =
       λ t. elim (cases_Bool (bytes_eq a x && bytes_eq b y)) [
         | inl is ↦ (
             let names = both_names a b x y is in
-            let same : pair_of pair ≡ (variable_of x, variable_of y) = λ i. (record { name = names.0 i; variable = first i }, record { name = names.1 i; variable = second i }) in
-            Contains-append_right pairs (pair_of pair ∷ []) (variable_of x, variable_of y) (subst (λ q. Contains (pair_of pair ∷ []) q) same (Contains-here (pair_of pair) [])))
-        | inr not_is ↦ Contains-append_left pairs (pair_of pair ∷ []) (variable_of x, variable_of y) ((h x y).0 (sym (p x y ∙ ap (λ w. cond w true (has_order old x y)) not_is) ∙ t))
+            let same : pair_of pair ≡ (as_variable x, as_variable y) = λ i. (record { name = names.0 i; variable = first i }, record { name = names.1 i; variable = second i }) in
+            Contains-append_right pairs (pair_of pair ∷ []) (as_variable x, as_variable y) (subst (λ q. Contains (pair_of pair ∷ []) q) same (Contains-here (pair_of pair) [])))
+        | inr not_is ↦ Contains-append_left pairs (pair_of pair ∷ []) (as_variable x, as_variable y) ((h x y).0 (sym (p x y ∙ ap (λ w. cond w true (has_order old x y)) not_is) ∙ t))
       ],
-      λ c. p x y ∙ elim (Contains-push_cases pairs (pair_of pair) (variable_of x, variable_of y) c) [
+      λ c. p x y ∙ elim (Contains-push_cases pairs (pair_of pair) (as_variable x, as_variable y) c) [
         | inl d ↦ either (bytes_eq a x && bytes_eq b y) (has_order old x y) ((h x y).1 d)
         | inr e ↦ ap (λ w. cond w true (has_order old x y)) (names_both a b x y (ap (λ (q : Symbol × Symbol). q.0.name) e) (ap (λ (q : Symbol × Symbol). q.1.name) e))
       ],
@@ -57,8 +57,8 @@ orders_more pairs pair old new first second p h x y =
 -- a pair that is not of two variables is passed over
 pub orders_same : (pairs : List (Symbol × Symbol)) (pair : NamedSymbol × NamedSymbol) (old : Disjoint) → (pair.0.variable ≡ true → pair.1.variable ≡ true → ⊥) → HasOrders pairs old → HasOrders (pairs ++ pair_of pair ∷ []) old
 orders_same pairs pair old n h x y = (
-  λ t. Contains-append_left pairs (pair_of pair ∷ []) (variable_of x, variable_of y) ((h x y).0 t),
-  λ c. elim (Contains-push_cases pairs (pair_of pair) (variable_of x, variable_of y) c) [
+  λ t. Contains-append_left pairs (pair_of pair ∷ []) (as_variable x, as_variable y) ((h x y).0 t),
+  λ c. elim (Contains-push_cases pairs (pair_of pair) (as_variable x, as_variable y) c) [
     | inl d ↦ (h x y).1 d
     | inr e ↦ absurd (n (ap (λ (q : Symbol × Symbol). q.0.variable) e) (ap (λ (q : Symbol × Symbol). q.1.variable) e))
   ],
@@ -73,34 +73,34 @@ no_orders disjoint e x y = (
 -- the pairs are the same as the active ones
 pub pairs_known : (kept active : List (Symbol × Symbol)) (disjoint : Disjoint) → HasOrders kept disjoint → AreSamePairs kept active → HasPairs active disjoint
 pairs_known kept active disjoint h s x y = (
-  λ t. (s (variable_of x) (variable_of y)).0 (elim (or_cases (has_order disjoint x y) (has_order disjoint y x) t) [ inl a ↦ inl ((h x y).0 a) | inr b ↦ inr ((h y x).0 b) ]),
-  λ p. elim ((s (variable_of x) (variable_of y)).1 p) [ inl c ↦ or_left (has_order disjoint x y) (has_order disjoint y x) ((h x y).1 c) | inr c ↦ or_right (has_order disjoint x y) (has_order disjoint y x) ((h y x).1 c) ],
+  λ t. (s (as_variable x) (as_variable y)).0 (elim (or_cases (has_order disjoint x y) (has_order disjoint y x) t) [ inl a ↦ inl ((h x y).0 a) | inr b ↦ inr ((h y x).0 b) ]),
+  λ p. elim ((s (as_variable x) (as_variable y)).1 p) [ inl c ↦ or_left (has_order disjoint x y) (has_order disjoint y x) ((h x y).1 c) | inr c ↦ or_right (has_order disjoint x y) (has_order disjoint y x) ((h y x).1 c) ],
 )
 
 -- ---- the variables among some symbols
 
 pub record SoFar {S : Type 0} (names : List (List ℕ)) (seen : HashSet (Bor (List ℕ)) S) (symbols : List (Bor NamedSymbol)) : Type 0 where
   pub seen_is : HasSeen names seen
-  pub have : (name : List ℕ) → (has names name ≡ true) ↔ Contains (symbols_of symbols) (variable_of name)
+  pub have : (name : List ℕ) → (has names name ≡ true) ↔ Contains (lent_symbols symbols) (as_variable name)
 
-more_symbols : (symbols : List (Bor NamedSymbol)) (s : Bor NamedSymbol) → symbols_of (symbols ++ s ∷ []) ≡ symbols_of symbols ++ symbol_of s ∷ []
-more_symbols symbols s = map-append symbol_of symbols (s ∷ [])
+more_symbols : (symbols : List (Bor NamedSymbol)) (s : Bor NamedSymbol) → lent_symbols (symbols ++ s ∷ []) ≡ lent_symbols symbols ++ lent_symbol s ∷ []
+more_symbols symbols s = map-append lent_symbol symbols (s ∷ [])
 
-to_more : (symbols : List (Bor NamedSymbol)) (s : Bor NamedSymbol) (x : Symbol) → Contains (symbols_of symbols) x → Contains (symbols_of (symbols ++ s ∷ [])) x
-to_more symbols s x c = subst (λ w. Contains w x) (sym (more_symbols symbols s)) (Contains-append_left (symbols_of symbols) (symbol_of s ∷ []) x c)
+to_more : (symbols : List (Bor NamedSymbol)) (s : Bor NamedSymbol) (x : Symbol) → Contains (lent_symbols symbols) x → Contains (lent_symbols (symbols ++ s ∷ [])) x
+to_more symbols s x c = subst (λ w. Contains w x) (sym (more_symbols symbols s)) (Contains-append_left (lent_symbols symbols) (lent_symbol s ∷ []) x c)
 
-to_last : (symbols : List (Bor NamedSymbol)) (s : Bor NamedSymbol) (x : Symbol) → symbol_of s ≡ x → Contains (symbols_of (symbols ++ s ∷ [])) x
-to_last symbols s x e = subst (λ w. Contains w x) (sym (more_symbols symbols s)) (Contains-append_right (symbols_of symbols) (symbol_of s ∷ []) x (subst (λ w. Contains (symbol_of s ∷ []) w) e (Contains-here (symbol_of s) [])))
+to_last : (symbols : List (Bor NamedSymbol)) (s : Bor NamedSymbol) (x : Symbol) → lent_symbol s ≡ x → Contains (lent_symbols (symbols ++ s ∷ [])) x
+to_last symbols s x e = subst (λ w. Contains w x) (sym (more_symbols symbols s)) (Contains-append_right (lent_symbols symbols) (lent_symbol s ∷ []) x (subst (λ w. Contains (lent_symbol s ∷ []) w) e (Contains-here (lent_symbol s) [])))
 
-from_more : (symbols : List (Bor NamedSymbol)) (s : Bor NamedSymbol) (x : Symbol) → Contains (symbols_of (symbols ++ s ∷ [])) x → Contains (symbols_of symbols) x ⊎ (symbol_of s ≡ x)
-from_more symbols s x c = Contains-push_cases (symbols_of symbols) (symbol_of s) x (subst (λ w. Contains w x) (more_symbols symbols s) c)
+from_more : (symbols : List (Bor NamedSymbol)) (s : Bor NamedSymbol) (x : Symbol) → Contains (lent_symbols (symbols ++ s ∷ [])) x → Contains (lent_symbols symbols) x ⊎ (lent_symbol s ≡ x)
+from_more symbols s x c = Contains-push_cases (lent_symbols symbols) (lent_symbol s) x (subst (λ w. Contains w x) (more_symbols symbols s) c)
 
 pub so_far_constant : {S : Type 0} (names : List (List ℕ)) (seen : HashSet (Bor (List ℕ)) S) (symbols : List (Bor NamedSymbol)) (s : Bor NamedSymbol) → s.now.variable ≡ false → SoFar names seen symbols → SoFar names seen (symbols ++ s ∷ [])
 so_far_constant names seen symbols s f h = record {
   seen_is = h.seen_is;
   have = λ name. (
-    λ t. to_more symbols s (variable_of name) ((h.have name).0 t),
-    λ c. elim (from_more symbols s (variable_of name) c) [
+    λ t. to_more symbols s (as_variable name) ((h.have name).0 t),
+    λ c. elim (from_more symbols s (as_variable name) c) [
       | inl d ↦ (h.have name).1 d
       | inr e ↦ absurd (false≢true (sym f ∙ ap (λ (x : Symbol). x.variable) e))
     ],
@@ -113,8 +113,8 @@ pub so_far_old :
 so_far_old names old new symbols s t u h = record {
   seen_is = λ name. ap (λ keys. list_any (λ (key : Bor (List ℕ)). bytes_eq name key.now) keys) u ∙ h.seen_is name;
   have = λ name. (
-    λ t. to_more symbols s (variable_of name) ((h.have name).0 t),
-    λ c. elim (from_more symbols s (variable_of name) c) [
+    λ t. to_more symbols s (as_variable name) ((h.have name).0 t),
+    λ c. elim (from_more symbols s (as_variable name) c) [
       | inl d ↦ (h.have name).1 d
       | inr e ↦ ap (has names) (sym (ap (λ (x : Symbol). x.name) e)) ∙ sym (h.seen_is s.now.name.items) ∙ t
     ],
@@ -129,10 +129,10 @@ so_far_new names key old new symbols s v is u h = record {
   seen_is = sees_more names key old new h.seen_is u;
   have = λ name. (
     λ t. elim (Contains-push_cases names key.now name (in_contains name (names ++ key.now ∷ []) (has_in (names ++ key.now ∷ []) name t))) [
-      | inl c ↦ to_more symbols s (variable_of name) ((h.have name).0 (in_has names name (contains_in name names c)))
-      | inr e ↦ (let same : s.now.name.items ≡ name = sym is ∙ e in to_last symbols s (variable_of name) (λ i. record { name = same i; variable = v i }))
+      | inl c ↦ to_more symbols s (as_variable name) ((h.have name).0 (in_has names name (contains_in name names c)))
+      | inr e ↦ (let same : s.now.name.items ≡ name = sym is ∙ e in to_last symbols s (as_variable name) (λ i. record { name = same i; variable = v i }))
     ],
-    λ c. in_has (names ++ key.now ∷ []) name (contains_in name (names ++ key.now ∷ []) (elim (from_more symbols s (variable_of name) c) [
+    λ c. in_has (names ++ key.now ∷ []) name (contains_in name (names ++ key.now ∷ []) (elim (from_more symbols s (as_variable name) c) [
       | inl d ↦ Contains-append_left names (key.now ∷ []) name (in_contains name names (has_in names name ((h.have name).1 d)))
       | inr e ↦ (let same : key.now ≡ name = is ∙ ap (λ (x : Symbol). x.name) e in Contains-append_right names (key.now ∷ []) name (subst (λ w. Contains (key.now ∷ []) w) same (Contains-here key.now [])))
     ])),
@@ -164,33 +164,33 @@ none_passes test (y ∷ xs) x e (inl s) = subst (λ w. test w ≡ false) s (fals
 none_passes test (y ∷ xs) x e (inr h) = none_passes test xs x (false_from_ne_true (list_any test xs) (λ t. false≢true (sym e ∙ or_right (test y) (list_any test xs) t))) h
 
 abbrev pub AreNames : List (List ℕ) → List Symbol → Type 0
-AreNames names symbols = (name : List ℕ) → (has names name ≡ true) ↔ HasVariable symbols (variable_of name)
+AreNames names symbols = (name : List ℕ) → (has names name ≡ true) ↔ HasVariable symbols (as_variable name)
 
-as_variable : (x : Symbol) → x.variable ≡ true → variable_of x.name ≡ x
-as_variable x v = λ i. record { name = x.name; variable = sym v i }
+is_its_variable : (x : Symbol) → x.variable ≡ true → as_variable x.name ≡ x
+is_its_variable x v = λ i. record { name = x.name; variable = sym v i }
 
 module _ (active : List (Symbol × Symbol)) (disjoint : Disjoint) (known : HasPairs active disjoint) (ones bs : List (List ℕ)) (xs ys : List Symbol) (names : AreNames ones xs) (others : AreNames bs ys) where
   name_in : (x : Symbol) → HasVariable xs x → In x.name ones
-  name_in x h = has_in ones x.name ((names x.name).1 (subst (HasVariable xs) (sym (as_variable x h.1)) h))
+  name_in x h = has_in ones x.name ((names x.name).1 (subst (HasVariable xs) (sym (is_its_variable x h.1)) h))
 
   other_in : (y : Symbol) → HasVariable ys y → In y.name bs
-  other_in y h = has_in bs y.name ((others y.name).1 (subst (HasVariable ys) (sym (as_variable y h.1)) h))
+  other_in y h = has_in bs y.name ((others y.name).1 (subst (HasVariable ys) (sym (is_its_variable y h.1)) h))
 
   pub clash_apart : clash disjoint ones bs ≡ true → AreNotApart active xs ys
   clash_apart e =
       let a = some_passes (λ x. clashes_with disjoint x bs) ones e in
-      let b = some_passes (λ y. bytes_eq a.0 y || not (has_pair disjoint a.0 y)) bs a.2 in
+      let b = some_passes (λ y. bytes_eq a.0 y || not (knows_pair disjoint a.0 y)) bs a.2 in
       let x = (names a.0).0 (in_has ones a.0 a.1) in
       let y = (others b.0).0 (in_has bs b.0 b.1) in
       elim (cases_Bool (bytes_eq a.0 b.0)) [
-        | inl s ↦ inl (variable_of a.0, x, subst (λ w. HasVariable ys (variable_of w)) (sym ((bytes_eq-Decides a.0 b.0).0 s)) y)
+        | inl s ↦ inl (as_variable a.0, x, subst (λ w. HasVariable ys (as_variable w)) (sym ((bytes_eq-Decides a.0 b.0).0 s)) y)
         | inr d ↦ inr (
-          variable_of a.0,
-          variable_of b.0,
+          as_variable a.0,
+          as_variable b.0,
           x,
           y,
           (λ same. false≢true (sym d ∙ (bytes_eq-Decides a.0 b.0).1 (ap (λ (w : Symbol). w.name) same))),
-          (λ p. (let has_it = (known a.0 b.0).1 p in false≢true (sym (lost (bytes_eq a.0 b.0) (has_pair disjoint a.0 b.0) d has_it) ∙ b.2))),
+          (λ p. (let has_it = (known a.0 b.0).1 p in false≢true (sym (lost (bytes_eq a.0 b.0) (knows_pair disjoint a.0 b.0) d has_it) ∙ b.2))),
         )
       ]
     where
@@ -199,16 +199,16 @@ module _ (active : List (Symbol × Symbol)) (disjoint : Disjoint) (known : HasPa
 
   pub no_clash_apart : clash disjoint ones bs ≡ false → AreApart active xs ys
   no_clash_apart e = record {
-    unshared = λ s. (let t = test_at s.0 s.0 s.1 s.2 in false≢true (sym t ∙ or_left (bytes_eq s.0.name s.0.name) (not (has_pair disjoint s.0.name s.0.name)) ((bytes_eq-Decides s.0.name s.0.name).1 refl)));
+    unshared = λ s. (let t = test_at s.0 s.0 s.1 s.2 in false≢true (sym t ∙ or_left (bytes_eq s.0.name s.0.name) (not (knows_pair disjoint s.0.name s.0.name)) ((bytes_eq-Decides s.0.name s.0.name).1 refl)));
     paired = λ x y h k n.
         let t = test_at x y h k in
-        let there = kept (bytes_eq x.name y.name) (has_pair disjoint x.name y.name) t in
+        let there = kept (bytes_eq x.name y.name) (knows_pair disjoint x.name y.name) t in
         let p = (known x.name y.name).0 there in
-        subst (λ w. ArePair active w y) (as_variable x h.1) (subst (λ w. ArePair active (variable_of x.name) w) (as_variable y k.1) p);
+        subst (λ w. ArePair active w y) (is_its_variable x h.1) (subst (λ w. ArePair active (as_variable x.name) w) (is_its_variable y k.1) p);
   }
     where
-      test_at : (x y : Symbol) → HasVariable xs x → HasVariable ys y → (bytes_eq x.name y.name || not (has_pair disjoint x.name y.name)) ≡ false
-      test_at x y h k = none_passes (λ w. bytes_eq x.name w || not (has_pair disjoint x.name w)) bs y.name (none_passes (λ w. clashes_with disjoint w bs) ones x.name e (name_in x h)) (other_in y k)
+      test_at : (x y : Symbol) → HasVariable xs x → HasVariable ys y → (bytes_eq x.name y.name || not (knows_pair disjoint x.name y.name)) ≡ false
+      test_at x y h k = none_passes (λ w. bytes_eq x.name w || not (knows_pair disjoint x.name w)) bs y.name (none_passes (λ w. clashes_with disjoint w bs) ones x.name e (name_in x h)) (other_in y k)
 
       kept : (s h : Bool) → (s || not h) ≡ false → h ≡ true
       kept true h t = absurd (false≢true (sym t))

@@ -8,19 +8,19 @@ use Rattle.std.proofs.Math.Decide.{ℕ_discrete}
 use Rattle.std.proofs.lemmas.Bool.{true≢false}
 use Rattle.std.proofs.lemmas.List.{length-map, take-append-drop, take_rest, drop-map, take-map, map-append}
 use Rattle.std.proofs.lemmas.Option.{slice_get_within, same_Some}
-use Rattle.mm_frame.specs.Language.{Symbol, Mandatory, Frame}
-use Rattle.mm_frame.specs.Typing.{IsFrame}
-use Rattle.mm_proof.specs.Substitution.{substituted}
-use Rattle.mm_proof.specs.Derivation.{Takes, AreApart}
-use Rattle.mm_proof.specs.Faults.{CitingFails}
-use Rattle.mm_proof.specs.Steps.{Cites}
+use Rattle.mm_frame.specs.Language.Frame.{Symbol, Mandatory, Frame}
+use Rattle.mm_frame.specs.Language.Typing.{IsFrame}
+use Rattle.mm_proof.specs.Language.Substitution.{substituted}
+use Rattle.mm_proof.specs.Language.Derivation.{Takes, AreApart}
+use Rattle.mm_proof.specs.Language.Faults.{CitingFails}
+use Rattle.mm_proof.specs.Language.Steps.{Cites}
 use Rattle.mm_proof.specs.declared.ProofNumber.{ProofNumber}
 use Rattle.mm_proof.specs.declared.ProofNumber.TheVariants.{P08, P09, P10, P11, P12}
 use Rattle.mm_proof.proofs.Given.{all_match}
 use Rattle.mm_proof.proofs.Lines.{not_cited, entries_are}
-use Rattle.mm_proof.specs.Given.{FloatsMatch, AreTypings, AnyOtherTypecode, ExceedsLimit}
-use Rattle.mm_proof.specs.Stack.{symbol_of, symbols_of, stack_of, CannotTake, AnyOtherEssential}
-use Rattle.mm_proof.specs.Apart.{AreNotApart}
+use Rattle.mm_proof.specs.Code.Given.{FloatsMatch, AreTypings, AnyOtherTypecode, ExceedsLimit}
+use Rattle.mm_proof.specs.Code.Stack.{lent_symbol, lent_symbols, stack_of, CannotTake, AnyOtherEssential}
+use Rattle.mm_proof.specs.Code.Apart.{AreNotApart}
 use Rattle.mm_proof.proofs.PlaceLemmas.{any_zip_at, any_zip_place}
 
 -- ---- the `$e`
@@ -106,13 +106,13 @@ module _ (active : List (Symbol × Symbol)) (frame : Frame) (es : List (List Sym
   pub result_taken :
       (given : Symbol → List Symbol) → IsFrame frame → FloatsMatch given frame.hypotheses es → ¬ AnyOtherEssential given frame.hypotheses es →
       All (λ pair. AreApart active (given pair.0) (given pair.1)) frame.pairs → (found : Option (Vec (Bor NamedSymbol) Global)) →
-      MatchOption found (ExceedsLimit (substituted given frame.expression)) (λ symbols. (symbols_of symbols.items ≡ substituted given frame.expression) × (length symbols.items ≤ 1000000))
-      → MatchOption found (CannotTake active frame es) (λ result. (given : Symbol → List Symbol) × Takes active frame given es (symbols_of result.items))
+      MatchOption found (ExceedsLimit (substituted given frame.expression)) (λ symbols. (lent_symbols symbols.items ≡ substituted given frame.expression) × (length symbols.items ≤ 1000000))
+      → MatchOption found (CannotTake active frame es) (λ result. (given : Symbol → List Symbol) × Takes active frame given es (lent_symbols result.items))
   result_taken given is m e a None long = fails_long given is m long
-  result_taken given is m e a (Some symbols) s = (given, takes_all given (symbols_of symbols.items) m e a s.0 (short s.1))
+  result_taken given is m e a (Some symbols) s = (given, takes_all given (lent_symbols symbols.items) m e a s.0 (short s.1))
     where
-      short : length symbols.items ≤ 1000000 → length (symbols_of symbols.items) ≤ 1000000
-      short l = omega (arith, length-map symbols.items symbol_of)
+      short : length symbols.items ≤ 1000000 → length (lent_symbols symbols.items) ≤ 1000000
+      short l = omega (arith, length-map symbols.items lent_symbol)
 
 -- ---- the stack
 
@@ -126,10 +126,10 @@ cites_not active frame stack next n m = n m.given m.result (subst (λ es. Takes 
 
 pub taken_is : (stack read : List (Vec (Bor NamedSymbol) Global)) (n : ℕ) → read ≡ stack → stack_of (take (length read - n) (drop n read)) ≡ drop n (stack_of stack)
 taken_is stack read n e =
-    let f : Vec (Bor NamedSymbol) Global → List Symbol = λ v. symbols_of v.items in
+    let f : Vec (Bor NamedSymbol) Global → List Symbol = λ v. lent_symbols v.items in
     ap (map f) (take_rest read n) ∙ sym (drop-map f n read) ∙ ap (λ w. drop n (map f w)) e
 
-pub pushed_is : (stack below next : List (Vec (Bor NamedSymbol) Global)) (n : ℕ) (result : Vec (Bor NamedSymbol) Global) → below ≡ take n stack → next ≡ below ++ result ∷ [] → stack_of next ≡ take n (stack_of stack) ++ symbols_of result.items ∷ []
+pub pushed_is : (stack below next : List (Vec (Bor NamedSymbol) Global)) (n : ℕ) (result : Vec (Bor NamedSymbol) Global) → below ≡ take n stack → next ≡ below ++ result ∷ [] → stack_of next ≡ take n (stack_of stack) ++ lent_symbols result.items ∷ []
 pushed_is stack below next n result b e =
-    let f : Vec (Bor NamedSymbol) Global → List Symbol = λ v. symbols_of v.items in
-    ap (map f) e ∙ map-append f below (result ∷ []) ∙ ap (λ w. map f w ++ symbols_of result.items ∷ []) b ∙ ap (λ w. w ++ symbols_of result.items ∷ []) (sym (take-map f n stack))
+    let f : Vec (Bor NamedSymbol) Global → List Symbol = λ v. lent_symbols v.items in
+    ap (map f) e ∙ map-append f below (result ∷ []) ∙ ap (λ w. map f w ++ lent_symbols result.items ∷ []) b ∙ ap (λ w. w ++ lent_symbols result.items ∷ []) (sym (take-map f n stack))

@@ -4,11 +4,11 @@ use Rattle.std.specs.Prelude.{filter, bytes_eq, codes}
 use Rattle.std.specs.List.{AllZip, AllByRecursion, list_any, enumerate_from, before_first}
 use Rattle.std.proofs.lemmas.Bool.{cases_Bool, false≢true}
 use Rattle.std.proofs.lemmas.Slice.Eq.{bytes_eq-Decides}
-use Rattle.mm_frame.specs.Language.{Resolved, Hypothesis, Assertion, Inactive, Unknown, Place}
-use Rattle.mm_proof.specs.Expansion.{Step, Named, Saved, Save, NotKnown}
-use Rattle.mm_proof.specs.Citing.{label_words, firsts, is_assertion, names, is_cited, cites}
-use Rattle.mm_proof.specs.Decoding.{Steps, is_close, is_compressed, word_spot, steps_in, decoded, decoding}
-use Rattle.mm_proof.specs.View.{AreSameMeaning, IsSameLabel, labels_named, AreSameToDecode}
+use Rattle.mm_frame.specs.Language.Frame.{Resolved, Hypothesis, Assertion, Inactive, Unknown, Setting}
+use Rattle.mm_proof.specs.Language.Expansion.{Step, Named, Saved, Save, NotKnown}
+use Rattle.mm_proof.specs.Language.Citing.{label_words, firsts, means_assertion, names_assertion, is_cited, cites}
+use Rattle.mm_proof.specs.Language.Decoding.{Steps, is_close, is_compressed, word_spot, steps_in, decoded, decoding}
+use Rattle.mm_proof.specs.Language.View.{AreSameMeaning, IsSameLabel, labels_named, AreSameToDecode}
 use Rattle.mm_proof.specs.declared.Spot.{Spot}
 use Rattle.mm_proof.proofs.SameLemmas.{IsBoth, AreSame, steps_same}
 
@@ -45,8 +45,8 @@ words_all P words all = elim (cases_Bool (is_compressed words)) [
   | inr e ↦ rw e (labels_all P (λ word. not (bytes_eq word (codes "?"))) 0 words (rw e at all))
 ]
 
-module _ (p q : Place) where
-  assertion_same : (r o : Resolved) → AreSameMeaning r o → is_assertion r ≡ is_assertion o
+module _ (p q : Setting) where
+  assertion_same : (r o : Resolved) → AreSameMeaning r o → means_assertion r ≡ means_assertion o
   assertion_same (Hypothesis e) (Hypothesis f) s = refl
   assertion_same (Assertion e) (Assertion f) s = refl
   assertion_same Inactive Inactive s = refl
@@ -57,13 +57,13 @@ module _ (p q : Place) where
   assertion_same Unknown _ s = absurd s
 
   -- a label of no assertion is not this one, which is of one
-  pub other_label : (place : Place) (label a : List ℕ) → is_assertion (place.resolve label) ≡ true → is_assertion (place.resolve a) ≡ false → bytes_eq label a ≡ false
+  pub other_label : (place : Setting) (label a : List ℕ) → means_assertion (place.resolve label) ≡ true → means_assertion (place.resolve a) ≡ false → bytes_eq label a ≡ false
   other_label place label a is other = elim (cases_Bool (bytes_eq label a)) [
-    | inl e ↦ let same = (bytes_eq-Decides label a).0 e in absurd (false≢true (sym other ∙ ap (λ (w : List ℕ). is_assertion (place.resolve w)) (sym same) ∙ is))
+    | inl e ↦ let same = (bytes_eq-Decides label a).0 e in absurd (false≢true (sym other ∙ ap (λ (w : List ℕ). means_assertion (place.resolve w)) (sym same) ∙ is))
     | inr e ↦ e
   ]
 
-  name_same : (label : List ℕ) (s t : Step) → is_assertion (p.resolve label) ≡ true → is_assertion (q.resolve label) ≡ true → IsBoth p q s t → names label s ≡ names label t
+  name_same : (label : List ℕ) (s t : Step) → means_assertion (p.resolve label) ≡ true → means_assertion (q.resolve label) ≡ true → IsBoth p q s t → names_assertion label s ≡ names_assertion label t
   name_same label (Named a) (Named b) f g both = elim both.1 [
     | inl e ↦ ap (bytes_eq label) e
     | inr n ↦ other_label p label a f n.0 ∙ sym (other_label q label b g n.1)
@@ -77,16 +77,16 @@ module _ (p q : Place) where
   name_same label NotKnown _ f g both = absurd both.0
 
   any_same :
-      (label : List ℕ) (steps others : List (Step × Spot)) → is_assertion (p.resolve label) ≡ true → is_assertion (q.resolve label) ≡ true →
+      (label : List ℕ) (steps others : List (Step × Spot)) → means_assertion (p.resolve label) ≡ true → means_assertion (q.resolve label) ≡ true →
       AllZip (λ s t. IsBoth p q s.0 t.0 × (s.1 ≡ t.1)) steps others →
-      list_any (names label) (map (λ (s : Step × Spot). s.0) steps) ≡ list_any (names label) (map (λ (s : Step × Spot). s.0) others)
+      list_any (names_assertion label) (map (λ (s : Step × Spot). s.0) steps) ≡ list_any (names_assertion label) (map (λ (s : Step × Spot). s.0) others)
   any_same label [] [] f g all = refl
   any_same label [] (t ∷ others) f g all = absurd all
   any_same label (s ∷ steps) [] f g all = absurd all
   any_same label (s ∷ steps) (t ∷ others) f g all = rw (name_same label s.0 t.0 f g all.0.0, any_same label steps others f g all.1) refl
 
   cited_same : (label : List ℕ) (steps others : List (Step × Spot)) → AllZip (λ s t. IsBoth p q s.0 t.0 × (s.1 ≡ t.1)) steps others → IsSameLabel p q label → is_cited p (map (λ (s : Step × Spot). s.0) steps) label ≡ is_cited q (map (λ (s : Step × Spot). s.0) others) label
-  cited_same label steps others all s = elim (cases_Bool (is_assertion (q.resolve label))) [
+  cited_same label steps others all s = elim (cases_Bool (means_assertion (q.resolve label))) [
     | inl e ↦ let f = assertion_same (p.resolve label) (q.resolve label) s ∙ e in rw (f, e) (any_same label steps others f e all)
     | inr e ↦ rw (assertion_same (p.resolve label) (q.resolve label) s, e) refl
   ]

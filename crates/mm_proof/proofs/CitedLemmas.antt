@@ -4,16 +4,16 @@ use Rattle.std.specs.Prelude.{filter, bytes_eq, codes, nat_eq, slice_get, slice_
 use Rattle.std.specs.List.{list_any, enumerate_from, before_first}
 use Rattle.std.proofs.lemmas.Bool.{cases_Bool, false≢true}
 use Rattle.std.proofs.lemmas.Slice.Eq.{bytes_eq-Decides}
-use Rattle.mm_frame.specs.Base.{BaseView}
-use Rattle.mm_proof.specs.BaseLabels.{HasOwnLabels}
-use Rattle.mm_proof.specs.BaseLabels.{label_at, place_at}
-use Rattle.mm_frame.specs.Base.{is_shown_at}
-use Rattle.mm_proof.specs.Cited.{item_of, item_named, is_item, names_item, without, item_cites}
-use Rattle.mm_proof.specs.Citing.{firsts, is_assertion, names, is_cited, cited_words}
-use Rattle.mm_proof.specs.Coded.{meant}
-use Rattle.mm_proof.specs.Decoding.{is_close, is_compressed}
-use Rattle.mm_proof.specs.Expansion.{Step, Named, NotKnown}
-use Rattle.mm_proof.specs.Labels.{entry_step, entry_steps, IsEntry, AreEntries, labels_at, word_step, label_table}
+use Rattle.mm_frame.specs.Language.Base.{BaseView}
+use Rattle.mm_proof.specs.Language.BaseLabels.{NoLabelTwice}
+use Rattle.mm_proof.specs.Language.BaseLabels.{label_at, setting_at}
+use Rattle.mm_frame.specs.Language.Base.{is_shown_at}
+use Rattle.mm_proof.specs.Code.Cited.{cited_item, item_named, is_item, names_item, without, item_cites}
+use Rattle.mm_proof.specs.Language.Citing.{firsts, means_assertion, names_assertion, is_cited, cited_words}
+use Rattle.mm_proof.specs.Code.Coded.{meant}
+use Rattle.mm_proof.specs.Language.Decoding.{is_close, is_compressed}
+use Rattle.mm_proof.specs.Language.Expansion.{Step, Named, NotKnown}
+use Rattle.mm_proof.specs.Code.Labels.{entry_step, entry_steps, IsEntry, AreEntries, labels_at, word_step, label_table}
 use Rattle.mm_proof.proofs.CiteLemmas.{other_label}
 use Rattle.mm_frame.specs.declared.base.Resolved.{Resolved}
 use Rattle.mm_frame.specs.declared.base.Resolved.TheVariants as answers
@@ -78,7 +78,7 @@ module _ (view : BaseView) where
   Agrees P S (answers.Inactive ∷ labels) = Agrees P S labels
   Agrees P S (answers.Unknown ∷ labels) = Agrees P S labels
 
-  own_eq : HasOwnLabels view → (j k : ℕ) → is_shown_at view j ≡ true → is_shown_at view k ≡ true → bytes_eq (label_at view j) (label_at view k) ≡ nat_eq j k
+  own_eq : NoLabelTwice view → (j k : ℕ) → is_shown_at view j ≡ true → is_shown_at view k ≡ true → bytes_eq (label_at view j) (label_at view k) ≡ nat_eq j k
   own_eq own j k s t = elim (cases_Bool (nat_eq j k)) [
     | inl e ↦ let same : j ≡ k = eqb-true j k e in (bytes_eq-Decides (label_at view j) (label_at view k)).1 (ap (label_at view) same) ∙ sym e
     | inr e ↦ elim (cases_Bool (bytes_eq (label_at view j) (label_at view k))) [
@@ -87,7 +87,7 @@ module _ (view : BaseView) where
     ]
   ]
 
-  agrees_less : HasOwnLabels view → (P : List ℕ → Bool) (S : ℕ → Bool) (j : ℕ) (labels : List Resolved) → is_shown_at view j ≡ true → Agrees P S labels → Agrees (less P (label_at view j)) (without S j) labels
+  agrees_less : NoLabelTwice view → (P : List ℕ → Bool) (S : ℕ → Bool) (j : ℕ) (labels : List Resolved) → is_shown_at view j ≡ true → Agrees P S labels → Agrees (less P (label_at view j)) (without S j) labels
   agrees_less own P S j [] s a = tt
   agrees_less own P S j (answers.Assertion i ∷ labels) s a = (a.0, rw (a.1, own_eq own j i s a.0) refl, agrees_less own P S j labels s a.2)
   agrees_less own P S j (answers.Hypothesis i ∷ labels) s a = (rw a.0 refl, agrees_less own P S j labels s a.1)
@@ -95,7 +95,7 @@ module _ (view : BaseView) where
   agrees_less own P S j (answers.Unknown ∷ labels) s a = agrees_less own P S j labels s a
 
   -- the words of the entries
-  told_items : HasOwnLabels view → (P : List ℕ → Bool) (S : ℕ → Bool) (n : ℕ) (words : Words) (labels : List Resolved) → Aligned n words labels → Agrees P S labels → told P words ≡ item_cites S n labels
+  told_items : NoLabelTwice view → (P : List ℕ → Bool) (S : ℕ → Bool) (n : ℕ) (words : Words) (labels : List Resolved) → Aligned n words labels → Agrees P S labels → told P words ≡ item_cites S n labels
   told_items own P S n words [] e a = ap (told P) e
   told_items own P S n words (answers.Assertion j ∷ labels) e a = elim (cases_Bool (S j)) [
     | inl f ↦ rw f (ap (told P) e.1 ∙ told_yes P n (label_at view j) e.0 (a.1 ∙ f) ∙ ap (◌∷◌ n) (told_items own (less P (label_at view j)) (without S j) (n + 1) e.0 labels e.2 (agrees_less own P S j labels a.0 a.2)))
@@ -158,44 +158,44 @@ module _ (view : BaseView) where
   ]
 
   -- an entry is of no assertion
-  entry_none : (i j : ℕ) → IsEntry view i (answers.Hypothesis j) → is_assertion ((place_at view i).resolve (label_at view j)) ≡ false
+  entry_none : (i j : ℕ) → IsEntry view i (answers.Hypothesis j) → means_assertion ((setting_at view i).resolve (label_at view j)) ≡ false
   entry_none i j h = rw h.1 refl
 
-  entry_some : (i j : ℕ) → IsEntry view i (answers.Assertion j) → is_assertion ((place_at view i).resolve (label_at view j)) ≡ true
+  entry_some : (i j : ℕ) → IsEntry view i (answers.Assertion j) → means_assertion ((setting_at view i).resolve (label_at view j)) ≡ true
   entry_some i j h = rw h.2 refl
 
   -- a step names the label of an assertion where its entry is that assertion
   label_named :
-      HasOwnLabels view → (i j : ℕ) (labels : List Resolved) (k : ℕ) → AreEntries view i labels → is_shown_at view j ≡ true →
-      is_assertion ((place_at view i).resolve (label_at view j)) ≡ true →
-      names (label_at view j) (slice_index_or (entry_steps view labels) k NotKnown) ≡ is_item (item_of (slice_get labels k)) j
+      NoLabelTwice view → (i j : ℕ) (labels : List Resolved) (k : ℕ) → AreEntries view i labels → is_shown_at view j ≡ true →
+      means_assertion ((setting_at view i).resolve (label_at view j)) ≡ true →
+      names_assertion (label_at view j) (slice_index_or (entry_steps view labels) k NotKnown) ≡ is_item (cited_item (slice_get labels k)) j
   label_named own i j [] k all s a = refl
   label_named own i j (answers.Assertion m ∷ labels) zero all s a = own_eq own j m s all.0.0.carrier.shown ∙ eq_turned j m
-  label_named own i j (answers.Hypothesis m ∷ labels) zero all s a = other_label (place_at view i) (place_at view i) (place_at view i) (label_at view j) (label_at view m) a (entry_none i m all.0)
+  label_named own i j (answers.Hypothesis m ∷ labels) zero all s a = other_label (setting_at view i) (setting_at view i) (setting_at view i) (label_at view j) (label_at view m) a (entry_none i m all.0)
   label_named own i j (answers.Inactive ∷ labels) zero all s a = refl
   label_named own i j (answers.Unknown ∷ labels) zero all s a = refl
   label_named own i j (label ∷ labels) (suc k) all s a = label_named own i j labels k all.1 s a
 
   action_named :
-      HasOwnLabels view → (i j : ℕ) (labels : List Resolved) (action : Action) → AreEntries view i labels → is_shown_at view j ≡ true →
-      is_assertion ((place_at view i).resolve (label_at view j)) ≡ true →
-      names (label_at view j) (meant (entry_steps view labels) action) ≡ is_item (item_named labels action) j
+      NoLabelTwice view → (i j : ℕ) (labels : List Resolved) (action : Action) → AreEntries view i labels → is_shown_at view j ≡ true →
+      means_assertion ((setting_at view i).resolve (label_at view j)) ≡ true →
+      names_assertion (label_at view j) (meant (entry_steps view labels) action) ≡ is_item (item_named labels action) j
   action_named own i j labels (actions.Label k) all s a = label_named own i j labels k all s a
   action_named own i j labels (actions.Saved n) all s a = refl
   action_named own i j labels actions.Save all s a = refl
   action_named own i j labels actions.Unknown all s a = refl
 
   any_named :
-      HasOwnLabels view → (i j : ℕ) (labels : List Resolved) (steps : List ProofStep) → AreEntries view i labels → is_shown_at view j ≡ true →
-      is_assertion ((place_at view i).resolve (label_at view j)) ≡ true →
-      list_any (names (label_at view j)) (map (λ (step : ProofStep). meant (entry_steps view labels) step.action) steps) ≡ list_any (names_item labels j) steps
+      NoLabelTwice view → (i j : ℕ) (labels : List Resolved) (steps : List ProofStep) → AreEntries view i labels → is_shown_at view j ≡ true →
+      means_assertion ((setting_at view i).resolve (label_at view j)) ≡ true →
+      list_any (names_assertion (label_at view j)) (map (λ (step : ProofStep). meant (entry_steps view labels) step.action) steps) ≡ list_any (names_item labels j) steps
   any_named own i j labels [] all s a = refl
   any_named own i j labels (step ∷ steps) all s a = rw (action_named own i j labels step.action all s a, any_named own i j labels steps all s a) refl
 
   agree :
-      HasOwnLabels view → (i : ℕ) (labels : List Resolved) (steps : List ProofStep) (entries : List Resolved) → AreEntries view i labels →
+      NoLabelTwice view → (i : ℕ) (labels : List Resolved) (steps : List ProofStep) (entries : List Resolved) → AreEntries view i labels →
       AreEntries view i entries →
-      Agrees (is_cited (place_at view i) (map (λ (step : ProofStep). meant (entry_steps view labels) step.action) steps)) (λ j. list_any (names_item labels j) steps) entries
+      Agrees (is_cited (setting_at view i) (map (λ (step : ProofStep). meant (entry_steps view labels) step.action) steps)) (λ j. list_any (names_item labels j) steps) entries
   agree own i labels steps [] all some = tt
   agree own i labels steps (answers.Assertion j ∷ entries) all some = (some.0.0.carrier.shown, rw (entry_some i j some.0) (any_named own i j labels steps all some.0.0.carrier.shown (entry_some i j some.0)), agree own i labels steps entries all some.1)
   agree own i labels steps (answers.Hypothesis j ∷ entries) all some = (rw (entry_none i j some.0) refl, agree own i labels steps entries all some.1)
@@ -214,11 +214,11 @@ module _ (view : BaseView) where
 
   -- a compressed proof
   pub cites_compressed :
-      HasOwnLabels view → (i : ℕ) (numbers : List ℕ) (words : List (List ℕ)) (labels : List Resolved) (steps : List ProofStep) → is_compressed words ≡ true →
+      NoLabelTwice view → (i : ℕ) (numbers : List ℕ) (words : List (List ℕ)) (labels : List Resolved) (steps : List ProofStep) → is_compressed words ≡ true →
       AreEntries view i labels → entry_steps view labels ≡ label_table (labels_at view numbers) words →
-      item_cites (λ j. list_any (names_item labels j) steps) 1 (drop (length numbers) labels) ≡ cited_words (place_at view i) words (map (λ (step : ProofStep). meant (entry_steps view labels) step.action) steps)
+      item_cites (λ j. list_any (names_item labels j) steps) 1 (drop (length numbers) labels) ≡ cited_words (setting_at view i) words (map (λ (step : ProofStep). meant (entry_steps view labels) step.action) steps)
   cites_compressed own i numbers words labels steps is all table =
-      let P = is_cited (place_at view i) (map (λ (step : ProofStep). meant (entry_steps view labels) step.action) steps) in
+      let P = is_cited (setting_at view i) (map (λ (step : ProofStep). meant (entry_steps view labels) step.action) steps) in
       let listed = before_first is_close (drop 1 words) in
       let entries = behind_steps numbers labels listed (rw is at table) in
       let a = agree own i labels steps (drop (length numbers) labels) all (behind_entries i (length numbers) labels all) in
@@ -226,10 +226,10 @@ module _ (view : BaseView) where
 
   -- a normal proof
   pub cites_normal :
-      HasOwnLabels view → (i : ℕ) (mandatory words : List (List ℕ)) (labels : List Resolved) (steps : List ProofStep) → is_compressed words ≡ false →
+      NoLabelTwice view → (i : ℕ) (mandatory words : List (List ℕ)) (labels : List Resolved) (steps : List ProofStep) → is_compressed words ≡ false →
       AreEntries view i labels → entry_steps view labels ≡ label_table mandatory words →
-      item_cites (λ j. list_any (names_item labels j) steps) 0 (drop 0 labels) ≡ cited_words (place_at view i) words (map (λ (step : ProofStep). meant (entry_steps view labels) step.action) steps)
+      item_cites (λ j. list_any (names_item labels j) steps) 0 (drop 0 labels) ≡ cited_words (setting_at view i) words (map (λ (step : ProofStep). meant (entry_steps view labels) step.action) steps)
   cites_normal own i mandatory words labels steps is all table =
-      let P = is_cited (place_at view i) (map (λ (step : ProofStep). meant (entry_steps view labels) step.action) steps) in
+      let P = is_cited (setting_at view i) (map (λ (step : ProofStep). meant (entry_steps view labels) step.action) steps) in
       let a = agree own i labels steps labels all all in
       rw is (sym (told_items own P (λ j. list_any (names_item labels j) steps) 0 (known 0 words) labels (aligned_words 0 labels words (rw is at table)) a))

@@ -1,10 +1,10 @@
 -- The decoding that the code has.
 use Rattle.std.proofs.Common.{◌≡◌, ℕ, true, false, Ok, List, [], ◌∷◌, length, map, drop, refl, ap}
-use Rattle.mm_frame.specs.Language.{Place}
-use Rattle.mm_proof.specs.Expansion.{Step}
-use Rattle.mm_proof.specs.Coded.{meant, meant_steps}
-use Rattle.mm_proof.specs.Decoding.{in_order, each_word, read_word, compressed_steps, is_compressed, word_spot, decoded, decoding}
-use Rattle.mm_proof.specs.Verdict.{Decoded}
+use Rattle.mm_frame.specs.Language.Frame.{Setting}
+use Rattle.mm_proof.specs.Language.Expansion.{Step}
+use Rattle.mm_proof.specs.Code.Coded.{meant, meant_steps}
+use Rattle.mm_proof.specs.Language.Decoding.{in_order, each_word, read_word, compressed_steps, is_compressed, word_spot, decoded, decoding}
+use Rattle.mm_proof.specs.Language.Verdict.{Decoded}
 use Rattle.mm_proof.specs.declared.Spot.{Spot}
 use Rattle.mm_proof.specs.declared.step.ProofStep.{ProofStep}
 
@@ -23,13 +23,13 @@ decoded_is : (names : List Step) (steps : List ProofStep) (close : Spot) → dec
 decoded_is names steps close = rw (only_steps names steps, only_spots names steps) refl
 
 pub compressed_done :
-    (place : Place) (mandatory words : List (List ℕ)) (names : List Step) (steps : List ProofStep) → is_compressed words ≡ true →
+    (place : Setting) (mandatory words : List (List ℕ)) (names : List Step) (steps : List ProofStep) → is_compressed words ≡ true →
     compressed_steps place mandatory (drop 1 words) (word_spot (length words)) ≡ Ok (meant_steps names steps) →
     decoding place mandatory words ≡ Ok (made names steps (word_spot (length words)))
 compressed_done place mandatory words names steps is e = rw (is, e) (decoded_is names steps (word_spot (length words)))
 
 pub normal_done :
-    (place : Place) (mandatory words : List (List ℕ)) (names : List Step) (steps : List ProofStep) → is_compressed words ≡ false →
+    (place : Setting) (mandatory words : List (List ℕ)) (names : List Step) (steps : List ProofStep) → is_compressed words ≡ false →
     in_order (each_word (read_word place) 0 words) ≡ Ok (meant_steps names steps) →
     decoding place mandatory words ≡ Ok (made names steps (word_spot (length words)))
 normal_done place mandatory words names steps is e = rw (is, e) (decoded_is names steps (word_spot (length words)))

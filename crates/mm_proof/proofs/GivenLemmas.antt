@@ -7,16 +7,16 @@ use Rattle.std.proofs.lemmas.List.{append_cancel_left, append-nil, take_more, dr
 use Rattle.std.proofs.lemmas.Grind.{flat_map-append}
 use Rattle.std.proofs.lemmas.Option.{slice_get_within, get_or_from_slice_get, same_Some}
 use Rattle.std.proofs.lemmas.Slice.Eq.{bytes_eq-Decides}
-use Rattle.mm_frame.specs.Language.{Symbol, Mandatory}
-use Rattle.mm_frame.specs.Typing.{IsTyping}
-use Rattle.mm_frame.specs.Named.{symbol_of as named_symbol, symbols_of as named}
+use Rattle.mm_frame.specs.Language.Frame.{Symbol, Mandatory}
+use Rattle.mm_frame.specs.Language.Typing.{IsTyping}
+use Rattle.mm_frame.specs.Code.CodeSymbols.{symbol_of as named_symbol, symbols_of as named}
 use Rattle.mm_frame.specs.declared.symbol.NamedSymbol.{NamedSymbol}
-use Rattle.mm_proof.specs.Substitution.{substituted, replacement}
+use Rattle.mm_proof.specs.Language.Substitution.{substituted, replacement}
 use Rattle.mm_proof.proofs.Unique.{substituted-typing}
 use Rattle.std.specs.Borrow.{Bor}
 use Rattle.mm_proof.specs.declared.replacing.Given.{Given}
-use Rattle.mm_proof.specs.Stack.{symbol_of, symbols_of}
-use Rattle.mm_proof.specs.Given.{place_for, entry_at, given_for, given_by, FloatsMatch, AreTypings, StandsAt}
+use Rattle.mm_proof.specs.Code.Stack.{lent_symbol, lent_symbols}
+use Rattle.mm_proof.specs.Code.Given.{place_for, entry_at, given_for, given_by, FloatsMatch, AreTypings, HasSymbolsAt}
 use Rattle.mm_proof.proofs.PlaceLemmas.{all_zip}
 
 -- ---- an expression, symbol by symbol
@@ -47,7 +47,7 @@ pub record FitsSoFar (given : Symbol → List Symbol) (expression : List NamedSy
 
 pub fits_not :
     (given : Symbol → List Symbol) (expression : List NamedSymbol) (entry : List Symbol) (k at : ℕ) (d : NamedSymbol) → k < length expression →
-    FitsSoFar given expression entry k at → StandsAt (replacement given (named_symbol (get_or expression k d))) entry at None →
+    FitsSoFar given expression entry k at → HasSymbolsAt (replacement given (named_symbol (get_or expression k d))) entry at None →
     substituted given (named expression) ≢ entry
 fits_not given expression entry k at d l f s e =
     let front = substituted given (named (take k expression)) in
@@ -56,20 +56,20 @@ fits_not given expression entry k at d l f s e =
 
 -- ---- one symbol, or some, at a place
 
-pub stands_one : (symbol other : Symbol) (entry : List Symbol) (at : ℕ) → slice_get entry at ≡ Some other → other ≡ symbol → StandsAt (symbol ∷ []) entry at (Some (at + 1))
+pub stands_one : (symbol other : Symbol) (entry : List Symbol) (at : ℕ) → slice_get entry at ≡ Some other → other ≡ symbol → HasSymbolsAt (symbol ∷ []) entry at (Some (at + 1))
 stands_one symbol other entry at e same =
     let within = slice_get_within entry at other e in (
       omega arith,
       drop_more entry at symbol within ∙ ap (λ w. w ∷ drop (at + 1) entry) (get_or_from_slice_get entry at other symbol e ∙ same),
     )
 
-pub stands_not_one : (symbol other : Symbol) (entry : List Symbol) (at : ℕ) → slice_get entry at ≡ Some other → (other ≡ symbol → ⊥) → StandsAt (symbol ∷ []) entry at None
+pub stands_not_one : (symbol other : Symbol) (entry : List Symbol) (at : ℕ) → slice_get entry at ≡ Some other → (other ≡ symbol → ⊥) → HasSymbolsAt (symbol ∷ []) entry at None
 stands_not_one symbol other entry at e differ rest h =
     let within = slice_get_within entry at other e in
     let is : other ∷ drop (at + 1) entry ≡ symbol ∷ rest = sym (drop_more entry at symbol within ∙ ap (λ w. w ∷ drop (at + 1) entry) (get_or_from_slice_get entry at other symbol e)) ∙ h in
     differ (cc)
 
-pub stands_past : (symbol : Symbol) (entry : List Symbol) (at : ℕ) → length entry ≤ at → StandsAt (symbol ∷ []) entry at None
+pub stands_past : (symbol : Symbol) (entry : List Symbol) (at : ℕ) → length entry ≤ at → HasSymbolsAt (symbol ∷ []) entry at None
 stands_past symbol entry at l rest h = let none = drop_all at entry l in cc
 
 -- the part of some length at a place, and what is behind it
@@ -91,26 +91,26 @@ part_and_rest entry at n = sym (take-append-drop n (drop at entry)) ∙ ap (λ w
     drops (suc a) n [] = empty n ∙ sym (empty (suc a + n))
     drops (suc a) n (x ∷ xs) = drops a n xs ∙ ap (λ k. drop k (x ∷ xs)) (more a n)
 
-pub stands_same : (symbols entry : List Symbol) (at : ℕ) → at + length symbols ≤ length entry → symbols ≡ take (length symbols) (drop at entry) → StandsAt symbols entry at (Some (at + length symbols))
+pub stands_same : (symbols entry : List Symbol) (at : ℕ) → at + length symbols ≤ length entry → symbols ≡ take (length symbols) (drop at entry) → HasSymbolsAt symbols entry at (Some (at + length symbols))
 stands_same symbols entry at l e = (l, part_and_rest entry at (length symbols) ∙ ap (λ w. w ++ drop (at + length symbols) entry) (sym e))
 
-pub stands_not_same : (symbols entry : List Symbol) (at : ℕ) → (symbols ≡ take (length symbols) (drop at entry) → ⊥) → StandsAt symbols entry at None
+pub stands_not_same : (symbols entry : List Symbol) (at : ℕ) → (symbols ≡ take (length symbols) (drop at entry) → ⊥) → HasSymbolsAt symbols entry at None
 stands_not_same symbols entry at differ rest h = differ (sym (ap (take (length symbols)) h ∙ take_front symbols rest))
   where
     take_front : (xs ys : List Symbol) → take (length xs) (xs ++ ys) ≡ xs
     take_front [] ys = refl
     take_front (x ∷ xs) ys = ap (λ w. x ∷ w) (take_front xs ys)
 
-pub stands_short : (symbols entry : List Symbol) (at : ℕ) → at ≤ length entry → length entry - at < length symbols → StandsAt symbols entry at None
+pub stands_short : (symbols entry : List Symbol) (at : ℕ) → at ≤ length entry → length entry - at < length symbols → HasSymbolsAt symbols entry at None
 stands_short symbols entry at within l rest h =
     let count = ap length h in
     omega (arith, length-drop at entry, length-append symbols rest, count)
 
 -- a part of an entry, as it is kept
-pub part_is : (symbols entry : List (Bor NamedSymbol)) (at : ℕ) → symbols_of (take (at + length symbols - at) (drop at entry)) ≡ take (length (symbols_of symbols)) (drop at (symbols_of entry))
+pub part_is : (symbols entry : List (Bor NamedSymbol)) (at : ℕ) → lent_symbols (take (at + length symbols - at) (drop at entry)) ≡ take (length (lent_symbols symbols)) (drop at (lent_symbols entry))
 part_is symbols entry at =
-    let count : at + length symbols - at ≡ length (symbols_of symbols) = omega (arith, length-map symbols symbol_of) in
-    sym (take-map symbol_of (at + length symbols - at) (drop at entry)) ∙ (λ i. take (count i) (sym (drop-map symbol_of at entry) i))
+    let count : at + length symbols - at ≡ length (lent_symbols symbols) = omega (arith, length-map symbols lent_symbol) in
+    sym (take-map lent_symbol (at + length symbols - at) (drop at entry)) ∙ (λ i. take (count i) (sym (drop-map lent_symbol at entry) i))
 
 -- ---- what the entries of the `$f` give
 

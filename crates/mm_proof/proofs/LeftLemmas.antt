@@ -2,11 +2,11 @@
 use Rattle.std.proofs.Common.{◌≡◌, ℕ, ◌+◌, ◌<◌, List, [], ◌∷◌, Option, Some, None, true, get_or, length, drop, sym, ◌∙◌, ap, arith, zero-add}
 use Rattle.std.specs.Prelude.{MatchOption}
 use Rattle.std.proofs.lemmas.List.{drop_more}
-use Rattle.mm_proof.specs.Decoding.{is_compressed}
-use Rattle.mm_proof.specs.Expansion.{Step}
-use Rattle.mm_proof.specs.Left.{AreLeft}
-use Rattle.mm_proof.specs.Letters.{letters_from}
-use Rattle.mm_proof.specs.LeftToRight.{read_on}
+use Rattle.mm_proof.specs.Language.Decoding.{is_compressed}
+use Rattle.mm_proof.specs.Language.Expansion.{Step}
+use Rattle.mm_proof.specs.Code.Left.{AreLeft}
+use Rattle.mm_proof.specs.Language.Letters.{letters_from}
+use Rattle.mm_proof.specs.Code.LeftToRight.{read_on}
 use Rattle.mm_proof.proofs.JoinLemmas.{letters_are}
 use Rattle.mm_proof.proofs.ReaderLemmas.{aim_of}
 

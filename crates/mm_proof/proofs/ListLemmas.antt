@@ -5,17 +5,17 @@ use Rattle.std.proofs.lemmas.Bool.{cases_Bool}
 use Rattle.std.proofs.lemmas.List.{append-nil}
 use Rattle.std.proofs.lemmas.Slice.Eq.{bytes_eq-Decides}
 use Rattle.std.specs.Prelude.{codes}
-use Rattle.mm_frame.specs.Language.{Place}
-use Rattle.mm_proof.specs.Expansion.{Step}
-use Rattle.mm_proof.specs.Decoding.{Steps, read_first, in_order, each_word, read_label, is_close, if_read, letter_steps, compressed_steps, word_spot}
-use Rattle.mm_proof.specs.LeftToRight.{behind_label, list_on}
+use Rattle.mm_frame.specs.Language.Frame.{Setting}
+use Rattle.mm_proof.specs.Language.Expansion.{Step}
+use Rattle.mm_proof.specs.Language.Decoding.{Steps, read_first, in_order, each_word, read_label, is_close, if_read, letter_steps, compressed_steps, word_spot}
+use Rattle.mm_proof.specs.Code.LeftToRight.{behind_label, list_on}
 use Rattle.mm_proof.specs.declared.Spot.{Spot}
 use Rattle.mm_proof.specs.declared.ProofNumber.{ProofNumber}
 use Rattle.mm_proof.proofs.ReadOnLemmas.{compressed_is, or_false, parts}
 use Rattle.std.proofs.Math.Numerals.{one-add}
 
 -- the labels listed so far can be used, and none is a `)`
-abbrev AreListed : Place → ℕ → List (List ℕ) → Type 0
+abbrev AreListed : Setting → ℕ → List (List ℕ) → Type 0
 AreListed place n listed = ((steps : List (Step × Spot)) × (in_order (each_word (read_label place) n listed) ≡ Ok steps)) × (list_any is_close listed ≡ false)
 
 pub word_is : (word : List ℕ) → is_close word ≡ true → word ≡ codes ")"
@@ -31,7 +31,7 @@ rest_ok (Err number) spot rest steps e = cc
 
 -- one more label
 listed_more :
-    (place : Place) (n : ℕ) (listed : List (List ℕ)) (word : List ℕ) (step : Step) (steps : List (Step × Spot)) →
+    (place : Setting) (n : ℕ) (listed : List (List ℕ)) (word : List ℕ) (step : Step) (steps : List (Step × Spot)) →
     in_order (each_word (read_label place) n listed) ≡ Ok steps → read_label place word ≡ Ok step →
     (more : List (Step × Spot)) × (in_order (each_word (read_label place) n (listed ++ word ∷ [])) ≡ Ok more)
 listed_more place n [] word step steps e f = ((step, word_spot n) ∷ [], rw f refl)
@@ -42,7 +42,7 @@ listed_more place n (first ∷ listed) word step steps e f =
 
 -- a label that cannot be used
 fails_at :
-    (place : Place) (n : ℕ) (listed : List (List ℕ)) (word : List ℕ) (words : List (List ℕ)) (number : ProofNumber) (steps : List (Step × Spot)) →
+    (place : Setting) (n : ℕ) (listed : List (List ℕ)) (word : List ℕ) (words : List (List ℕ)) (number : ProofNumber) (steps : List (Step × Spot)) →
     in_order (each_word (read_label place) n listed) ≡ Ok steps → read_label place word ≡ Err number →
     in_order (each_word (read_label place) n (listed ++ word ∷ words)) ≡ Err (record { number = number; spot = word_spot (n + length listed) })
 fails_at place n [] word words number steps e f = let k : n ≡ n + 0 = omega arith in rw f (ap (λ (w : ℕ). Err (record { number = number; spot = word_spot w })) k)
@@ -73,16 +73,16 @@ length_one : (listed : List (List ℕ)) (word : List ℕ) → 1 + length (listed
 length_one [] word = omega arith
 length_one (first ∷ listed) word = let e = length_one listed word in omega arith
 
-abbrev Joined : Place → List (List ℕ) → Spot → List (List ℕ) → List (List ℕ) → Type 0
+abbrev Joined : Setting → List (List ℕ) → Spot → List (List ℕ) → List (List ℕ) → Type 0
 Joined place mandatory close listed words = compressed_steps place mandatory (listed ++ words) close ≡ list_on place mandatory close listed (1 + length listed) words
 
-at_end : (place : Place) (mandatory : List (List ℕ)) (close : Spot) (listed : List (List ℕ)) → AreListed place 1 listed → Joined place mandatory close listed []
+at_end : (place : Setting) (mandatory : List (List ℕ)) (close : Spot) (listed : List (List ℕ)) → AreListed place 1 listed → Joined place mandatory close listed []
 at_end place mandatory close listed are =
     ap (λ (w : List (List ℕ)). parts place mandatory close w (list_any is_close (listed ++ [])) (after_first is_close (listed ++ []))) (before_end listed are.1)
     ∙ ap (λ (w : Bool). parts place mandatory close listed w (after_first is_close (listed ++ []))) (none_end listed are.1)
     ∙ rw are.0.1 refl
 
-at_close : (place : Place) (mandatory : List (List ℕ)) (close : Spot) (listed words : List (List ℕ)) → AreListed place 1 listed → compressed_steps place mandatory (listed ++ codes ")" ∷ words) close ≡ letter_steps mandatory listed (1 + length listed + 1) words close
+at_close : (place : Setting) (mandatory : List (List ℕ)) (close : Spot) (listed words : List (List ℕ)) → AreListed place 1 listed → compressed_steps place mandatory (listed ++ codes ")" ∷ words) close ≡ letter_steps mandatory listed (1 + length listed + 1) words close
 at_close place mandatory close listed words are =
     let k : length listed + 2 ≡ 1 + length listed + 1 = omega arith in
     compressed_is place mandatory close listed words are.1
@@ -90,7 +90,7 @@ at_close place mandatory close listed words are =
     ∙ ap (λ (w : ℕ). letter_steps mandatory listed w words close) k
 
 at_fault :
-    (place : Place) (mandatory : List (List ℕ)) (close : Spot) (listed : List (List ℕ)) (word : List ℕ) (words : List (List ℕ)) (number : ProofNumber) →
+    (place : Setting) (mandatory : List (List ℕ)) (close : Spot) (listed : List (List ℕ)) (word : List ℕ) (words : List (List ℕ)) (number : ProofNumber) →
     AreListed place 1 listed → is_close word ≡ false → read_label place word ≡ Err number →
     compressed_steps place mandatory (listed ++ word ∷ words) close ≡ Err (record { number = number; spot = word_spot (1 + length listed) })
 at_fault place mandatory close listed word words number are other fails =
@@ -98,7 +98,7 @@ at_fault place mandatory close listed word words number are other fails =
     ∙ rw (fails_at place 1 listed word (before_first is_close words) number are.0.0 are.0.1 fails) refl
 
 by_label :
-    (place : Place) (mandatory : List (List ℕ)) (close : Spot) (listed : List (List ℕ)) (word : List ℕ) (words : List (List ℕ)) (r : Result Step ProofNumber) →
+    (place : Setting) (mandatory : List (List ℕ)) (close : Spot) (listed : List (List ℕ)) (word : List ℕ) (words : List (List ℕ)) (r : Result Step ProofNumber) →
     read_label place word ≡ r → AreListed place 1 listed → is_close word ≡ false →
     (AreListed place 1 (listed ++ word ∷ []) → Joined place mandatory close (listed ++ word ∷ []) words) →
     compressed_steps place mandatory (listed ++ word ∷ words) close ≡ behind_label (1 + length listed) r (list_on place mandatory close (listed ++ word ∷ []) (1 + length listed + 1) words)
@@ -108,7 +108,7 @@ by_label place mandatory close listed word words (Ok step) e are other rest =
     ∙ ap (λ (w : ℕ). list_on place mandatory close (listed ++ word ∷ []) w words) (length_one listed word)
 by_label place mandatory close listed word words (Err number) e are other rest = at_fault place mandatory close listed word words number are other e
 
-list_joined : (place : Place) (mandatory : List (List ℕ)) (close : Spot) (listed words : List (List ℕ)) → AreListed place 1 listed → Joined place mandatory close listed words
+list_joined : (place : Setting) (mandatory : List (List ℕ)) (close : Spot) (listed words : List (List ℕ)) → AreListed place 1 listed → Joined place mandatory close listed words
 list_joined place mandatory close listed [] are = at_end place mandatory close listed are
 list_joined place mandatory close listed (word ∷ words) are = elim (cases_Bool (is_close word)) [
   | inl e ↦ rw e (ap (λ (w : List ℕ). compressed_steps place mandatory (listed ++ w ∷ words) close) (word_is word e) ∙ at_close place mandatory close listed words are)
@@ -116,5 +116,5 @@ list_joined place mandatory close listed (word ∷ words) are = elim (cases_Bool
 ]
 
 -- the list from its beginning
-pub list_is : (place : Place) (mandatory : List (List ℕ)) (close : Spot) (words : List (List ℕ)) → compressed_steps place mandatory words close ≡ list_on place mandatory close [] 1 words
+pub list_is : (place : Setting) (mandatory : List (List ℕ)) (close : Spot) (words : List (List ℕ)) → compressed_steps place mandatory words close ≡ list_on place mandatory close [] 1 words
 list_is place mandatory close words = list_joined place mandatory close [] words (([], refl), refl)

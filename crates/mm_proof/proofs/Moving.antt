@@ -5,17 +5,17 @@ use Rattle.std.specs.List.{AllZip}
 use Rattle.std.specs.Ordering.{int_eq}
 use Rattle.std.proofs.lemmas.List.Elements.{All-contains}
 use Rattle.std.proofs.lemmas.List.{get_or_default}
-use Rattle.mm_frame.specs.Language.{Symbol, Mandatory, Frame, Resolved, Hypothesis, Assertion, Inactive, Unknown, Place, ArePair, AreSamePairs, AreSameFrame}
-use Rattle.mm_proof.specs.Substitution.{substituted}
-use Rattle.mm_proof.specs.Derivation.{Derives, DeriveInOrder, by_hypothesis, by_assertion, nothing, first_then, Takes, AreApart, ShareVariable}
-use Rattle.mm_proof.specs.Expansion.{Step, Named, Saved, Save, NotKnown, Expanded, expand_one, expand_from, expansion, last_part, or_else, weight, taken_by, with_saved, with_again}
-use Rattle.mm_proof.specs.Faults.{LackPair, CitingFails, LabelFails, LineHolds}
-use Rattle.mm_proof.specs.Reaches.{Reaches, IsFault}
-use Rattle.mm_proof.specs.Machine.{AreAllKnown}
-use Rattle.mm_proof.specs.Run.{run_part}
+use Rattle.mm_frame.specs.Language.Frame.{Symbol, Mandatory, Frame, Resolved, Hypothesis, Assertion, Inactive, Unknown, Setting, ArePair, AreSamePairs, AreSameFrame}
+use Rattle.mm_proof.specs.Language.Substitution.{substituted}
+use Rattle.mm_proof.specs.Language.Derivation.{Derives, DeriveInOrder, by_hypothesis, by_assertion, nothing, first_then, Takes, AreApart, ShareVariable}
+use Rattle.mm_proof.specs.Language.Expansion.{Step, Named, Saved, Save, NotKnown, Expanded, expand_one, expand_from, expansion, last_part, or_else, weight, taken_by, with_saved, with_again}
+use Rattle.mm_proof.specs.Language.Faults.{LackPair, CitingFails, LabelFails, StepLineHolds}
+use Rattle.mm_proof.specs.Language.Reaches.{Reaches, IsStepFault}
+use Rattle.mm_proof.specs.Language.Machine.{AreAllKnown}
+use Rattle.mm_proof.specs.Language.Run.{run_part}
 use Rattle.mm_proof.proofs.Part.{part_same}
-use Rattle.mm_proof.specs.Verdict.{Decoded, IsFirstUnknown, IsWrongBy, IsVerdictOnSteps}
-use Rattle.mm_proof.specs.View.{AreSameMeaning, IsSameStep, IsSameProof}
+use Rattle.mm_proof.specs.Language.Verdict.{Decoded, IsFirstUnknown, IsWrongBy, IsVerdictOnSteps}
+use Rattle.mm_proof.specs.Language.View.{AreSameMeaning, IsSameStep, IsSameProof}
 use Rattle.mm_proof.specs.declared.Spot.{Spot}
 use Rattle.mm_proof.specs.declared.ProofNumber.{ProofNumber}
 use Rattle.mm_proof.specs.declared.ProofNumber.TheVariants.{P07, P08, P09, P10, P11, P12, P14, P15}
@@ -23,7 +23,7 @@ use Rattle.mm_proof.specs.declared.Verdict.{Verdict}
 use Rattle.mm_proof.specs.declared.Verdict.TheVariants.{Proved, Incomplete, Wrong}
 
 -- the lists of labels mean the same, one by one
-abbrev pub AreSameLabels : Place → Place → List (List ℕ) → List (List ℕ) → Type 0
+abbrev pub AreSameLabels : Setting → Setting → List (List ℕ) → List (List ℕ) → Type 0
 AreSameLabels p q xs ys = AllZip (λ a b. AreSameMeaning (p.resolve a) (q.resolve b)) xs ys
 
 -- a list beside two joined ones, cut
@@ -76,7 +76,7 @@ meaning_back Inactive Inactive m = m
 meaning_back Unknown Unknown m = m
 meaning_back _ _ m = absurd m
 
-step_back : (p q : Place) (a b : Step) → IsSameStep p q a b → IsSameStep q p b a
+step_back : (p q : Setting) (a b : Step) → IsSameStep p q a b → IsSameStep q p b a
 step_back p q (Named a) (Named b) s = meaning_back (p.resolve a) (q.resolve b) s
 step_back p q (Saved n) (Saved m) s = sym s
 step_back p q Save Save s = s
@@ -133,7 +133,7 @@ same_assertion (Assertion f) _ a m is = absurd m
 
 mutual
   -- what a list derives, a list of the same meaning derives
-  pub derived_moved : (p q : Place) → AreSamePairs p.active q.active → {labels : List (List ℕ)} {e : List Symbol} → Derives p labels e → (others : List (List ℕ)) → AreSameLabels p q labels others → Derives q others e
+  pub derived_moved : (p q : Setting) → AreSamePairs p.active q.active → {labels : List (List ℕ)} {e : List Symbol} → Derives p labels e → (others : List (List ℕ)) → AreSameLabels p q labels others → Derives q others e
   derived_moved p q s (by_hypothesis {label = label} {e = e} is) others m =
       let z = alone_beside (λ a b. AreSameMeaning (p.resolve a) (q.resolve b)) label others m in
       subst (λ l. Derives q l e) (sym z.1) (by_hypothesis (same_hypothesis (p.resolve label) (q.resolve z.0) e z.2 is))
@@ -143,7 +143,7 @@ mutual
       let f = same_assertion (p.resolve label) (q.resolve z.0) frame z.2 is in
       subst (λ l. Derives q l result) (sym (b.whole ∙ ap (λ w. b.front ++ w) z.1)) (by_assertion (joined_moved p q s d b.front b.of_front) f.1 (takes_moved p.active q.active frame f.0 given entries result s f.2 t))
 
-  pub joined_moved : (p q : Place) → AreSamePairs p.active q.active → {labels : List (List ℕ)} {es : List (List Symbol)} → DeriveInOrder p labels es → (others : List (List ℕ)) → AreSameLabels p q labels others → DeriveInOrder q others es
+  pub joined_moved : (p q : Setting) → AreSamePairs p.active q.active → {labels : List (List ℕ)} {es : List (List Symbol)} → DeriveInOrder p labels es → (others : List (List ℕ)) → AreSameLabels p q labels others → DeriveInOrder q others es
   joined_moved p q s nothing [] m = nothing
   joined_moved p q s nothing (z ∷ zs) m = absurd m
   joined_moved p q s (first_then {first = first} {rest = rest} {e = e} {es = es} h t) others m =
@@ -188,7 +188,7 @@ same_taken Inactive Inactive m = refl
 same_taken Unknown Unknown m = refl
 same_taken _ _ m = absurd m
 
-same_weight : (p q : Place) (xs ys : List (List ℕ)) → AreSameLabels p q xs ys → weight p xs ≡ weight q ys
+same_weight : (p q : Setting) (xs ys : List (List ℕ)) → AreSameLabels p q xs ys → weight p xs ≡ weight q ys
 same_weight p q [] [] a = refl
 same_weight p q [] (y ∷ ys) a = absurd a
 same_weight p q (x ∷ xs) [] a = absurd a
@@ -197,7 +197,7 @@ same_weight p q (x ∷ xs) (y ∷ ys) a =
     let w = same_weight p q xs ys a.1 in
     cc
 
-same_part : (p q : Place) (xs ys : List (List ℕ)) → AreSameLabels p q xs ys → BothOrNone (AreSameLabels p q) (last_part p xs) (last_part q ys)
+same_part : (p q : Setting) (xs ys : List (List ℕ)) → AreSameLabels p q xs ys → BothOrNone (AreSameLabels p q) (last_part p xs) (last_part q ys)
 same_part p q [] [] a = tt
 same_part p q [] (y ∷ ys) a = absurd a
 same_part p q (x ∷ xs) [] a = absurd a
@@ -205,30 +205,30 @@ same_part p q (x ∷ xs) (y ∷ ys) a =
     either_there (AreSameLabels p q) (last_part p xs) _ (last_part q ys) _ (same_part p q xs ys a.1)
     (tested (AreSameLabels p q) (int_eq (weight p (x ∷ xs)) (pos 1)) (int_eq (weight q (y ∷ ys)) (pos 1)) (x ∷ xs) (y ∷ ys) (ap (λ w. int_eq w (pos 1)) (same_weight p q (x ∷ xs) (y ∷ ys) a)) a)
 
-pub record AreSameExpanded (p q : Place) (x y : Expanded) : Type 0 where
+pub record AreSameExpanded (p q : Setting) (x y : Expanded) : Type 0 where
   pub labels : AreSameLabels p q x.labels y.labels
   pub saved : AllZip (AreSameLabels p q) x.saved y.saved
 
-same_save : (p q : Place) (x y : Expanded) (o r : Option (List (List ℕ))) → AreSameExpanded p q x y → BothOrNone (AreSameLabels p q) o r → BothOrNone (AreSameExpanded p q) (with_saved x o) (with_saved y r)
+same_save : (p q : Setting) (x y : Expanded) (o r : Option (List (List ℕ))) → AreSameExpanded p q x y → BothOrNone (AreSameLabels p q) o r → BothOrNone (AreSameExpanded p q) (with_saved x o) (with_saved y r)
 same_save p q x y None None s b = tt
 same_save p q x y (Some a) (Some c) s b = record { labels = s.labels; saved = both_joined (AreSameLabels p q) x.saved (a ∷ []) y.saved (c ∷ []) s.saved (b, tt) }
 same_save p q x y None (Some c) s b = absurd b
 same_save p q x y (Some a) None s b = absurd b
 
-same_again : (p q : Place) (x y : Expanded) (o r : Option (List (List ℕ))) → AreSameExpanded p q x y → BothOrNone (AreSameLabels p q) o r → BothOrNone (AreSameExpanded p q) (with_again x o) (with_again y r)
+same_again : (p q : Setting) (x y : Expanded) (o r : Option (List (List ℕ))) → AreSameExpanded p q x y → BothOrNone (AreSameLabels p q) o r → BothOrNone (AreSameExpanded p q) (with_again x o) (with_again y r)
 same_again p q x y None None s b = tt
 same_again p q x y (Some a) (Some c) s b = record { labels = both_joined (λ a b. AreSameMeaning (p.resolve a) (q.resolve b)) x.labels a y.labels c s.labels b; saved = s.saved }
 same_again p q x y None (Some c) s b = absurd b
 same_again p q x y (Some a) None s b = absurd b
 
-same_one : (p q : Place) (x y : Expanded) (a b : Step) → AreSameExpanded p q x y → IsSameStep p q a b → BothOrNone (AreSameExpanded p q) (expand_one p x a) (expand_one q y b)
+same_one : (p q : Setting) (x y : Expanded) (a b : Step) → AreSameExpanded p q x y → IsSameStep p q a b → BothOrNone (AreSameExpanded p q) (expand_one p x a) (expand_one q y b)
 same_one p q x y (Named a) (Named b) s m = record { labels = both_joined (λ a b. AreSameMeaning (p.resolve a) (q.resolve b)) x.labels (a ∷ []) y.labels (b ∷ []) s.labels (m, tt); saved = s.saved }
 same_one p q x y (Saved n) (Saved k) s m = same_again p q x y (slice_get x.saved n) (slice_get y.saved k) s (subst (λ j. BothOrNone (AreSameLabels p q) (slice_get x.saved n) (slice_get y.saved j)) m (found_beside (AreSameLabels p q) x.saved y.saved n s.saved))
 same_one p q x y Save Save s m = same_save p q x y (last_part p x.labels) (last_part q y.labels) s (same_part p q x.labels y.labels s.labels)
 same_one p q x y NotKnown NotKnown s m = tt
 same_one p q x y _ _ s m = absurd m
 
-same_from : (p q : Place) (o r : Option Expanded) (xs ys : List Step) → BothOrNone (AreSameExpanded p q) o r → AllZip (IsSameStep p q) xs ys → BothOrNone (AreSameExpanded p q) (expand_from p o xs) (expand_from q r ys)
+same_from : (p q : Setting) (o r : Option Expanded) (xs ys : List Step) → BothOrNone (AreSameExpanded p q) o r → AllZip (IsSameStep p q) xs ys → BothOrNone (AreSameExpanded p q) (expand_from p o xs) (expand_from q r ys)
 same_from p q o r [] [] s a = s
 same_from p q o r [] (y ∷ ys) s a = absurd a
 same_from p q o r (x ∷ xs) [] s a = absurd a
@@ -237,12 +237,12 @@ same_from p q (Some v) (Some w) (x ∷ xs) (y ∷ ys) s a = same_from p q (expan
 same_from p q None (Some w) (x ∷ xs) (y ∷ ys) s a = absurd s
 same_from p q (Some v) None (x ∷ xs) (y ∷ ys) s a = absurd s
 
-expansion_moved : (p q : Place) (xs ys : List Step) (x : Expanded) → AllZip (IsSameStep p q) xs ys → expansion p xs ≡ Some x → (y : Expanded) × (expansion q ys ≡ Some y) × AreSameExpanded p q x y
+expansion_moved : (p q : Setting) (xs ys : List Step) (x : Expanded) → AllZip (IsSameStep p q) xs ys → expansion p xs ≡ Some x → (y : Expanded) × (expansion q ys ≡ Some y) × AreSameExpanded p q x y
 expansion_moved p q xs ys x a e =
     let start : Expanded = record { labels = []; saved = [] } in
     there (AreSameExpanded p q) x (expansion p xs) (expansion q ys) e (same_from p q (Some start) (Some start) xs ys (record { labels = tt; saved = tt }) a)
 
-pub reached_moved : (p q : Place) → AreSamePairs p.active q.active → (xs ys : List Step) (stack : List (List Symbol)) → AllZip (IsSameStep p q) xs ys → Reaches p xs stack → Reaches q ys stack
+pub reached_moved : (p q : Setting) → AreSamePairs p.active q.active → (xs ys : List Step) (stack : List (List Symbol)) → AllZip (IsSameStep p q) xs ys → Reaches p xs stack → Reaches q ys stack
 reached_moved p q s xs ys stack a r =
     let y = expansion_moved p q xs ys r.expanded a r.expands in
     record { expanded = y.0; expands = y.1; in_order = joined_moved p q s r.in_order y.0.labels y.2.labels }
@@ -285,7 +285,7 @@ label_moved active others Inactive t stack number s m c = absurd c
 label_moved active others Unknown t stack number s m c = absurd c
 label_moved active others (Assertion a) _ stack number s m c = absurd m
 
-line_moved : (p q : Place) (a b : Step) (stack : List (List Symbol)) (number : ProofNumber) → AreSamePairs p.active q.active → IsSameStep p q a b → LineHolds p a stack number → LineHolds q b stack number
+line_moved : (p q : Setting) (a b : Step) (stack : List (List Symbol)) (number : ProofNumber) → AreSamePairs p.active q.active → IsSameStep p q a b → StepLineHolds p a stack number → StepLineHolds q b stack number
 line_moved p q (Named a) (Named b) stack number s m c = label_moved p.active q.active (p.resolve a) (q.resolve b) stack number s m c
 line_moved p q Save Save stack number s m c = c
 line_moved p q (Saved n) b stack number s m c = absurd c
@@ -296,10 +296,10 @@ line_moved p q Save _ stack number s m c = absurd m
 pairs_back : (pairs others : List (Symbol × Symbol)) → AreSamePairs pairs others → AreSamePairs others pairs
 pairs_back pairs others s = λ x y. ((s x y).1, (s x y).0)
 
-steps_back : (p q : Place) (xs ys : List Step) → AllZip (IsSameStep p q) xs ys → AllZip (IsSameStep q p) ys xs
+steps_back : (p q : Setting) (xs ys : List Step) → AllZip (IsSameStep p q) xs ys → AllZip (IsSameStep q p) ys xs
 steps_back p q xs ys a = flipped (IsSameStep p q) (IsSameStep q p) xs ys (step_back p q) a
 
-fault_moved : (p q : Place) → AreSamePairs p.active q.active → (xs ys : List Step) (n : ℕ) (number : ProofNumber) → AllZip (IsSameStep p q) xs ys → IsFault p xs n number → IsFault q ys n number
+fault_moved : (p q : Setting) → AreSamePairs p.active q.active → (xs ys : List Step) (n : ℕ) (number : ProofNumber) → AllZip (IsSameStep p q) xs ys → IsStepFault p xs n number → IsStepFault q ys n number
 fault_moved p q s xs ys n number a f =
     let z = there (IsSameStep p q) f.step (slice_get xs n) (slice_get ys n) f.at_fault (found_beside (IsSameStep p q) xs ys n a) in
     let back = pairs_back p.active q.active s in
@@ -315,7 +315,7 @@ fault_moved p q s xs ys n number a f =
       };
     }
 
-known_moved : (p q : Place) (xs ys : List Step) → AllZip (IsSameStep p q) xs ys → AreAllKnown xs → AreAllKnown ys
+known_moved : (p q : Setting) (xs ys : List Step) → AllZip (IsSameStep p q) xs ys → AreAllKnown xs → AreAllKnown ys
 known_moved p q [] [] a k = k
 known_moved p q [] (y ∷ ys) a k = absurd a
 known_moved p q (x ∷ xs) [] a k = absurd a
@@ -330,7 +330,7 @@ known_moved p q (x ∷ xs) (y ∷ ys) a k = (one x y a.0 k.0, known_moved p q xs
     one x (Saved n) s k e = cc
     one x Save s k e = cc
 
-unknown_at : (p q : Place) (x y : Option Step) → BothOrNone (IsSameStep p q) x y → x ≡ Some NotKnown → y ≡ Some NotKnown
+unknown_at : (p q : Setting) (x y : Option Step) → BothOrNone (IsSameStep p q) x y → x ≡ Some NotKnown → y ≡ Some NotKnown
 unknown_at p q (Some NotKnown) (Some NotKnown) b e = refl
 unknown_at p q (Some (Named a)) y b e = cc
 unknown_at p q (Some (Saved n)) y b e = cc
@@ -338,13 +338,13 @@ unknown_at p q (Some Save) y b e = cc
 unknown_at p q None y b e = cc
 unknown_at p q (Some NotKnown) _ b e = absurd b
 
-first_unknown_moved : (p q : Place) (xs ys : List Step) (n : ℕ) → AllZip (IsSameStep p q) xs ys → IsFirstUnknown xs n → IsFirstUnknown ys n
+first_unknown_moved : (p q : Setting) (xs ys : List Step) (n : ℕ) → AllZip (IsSameStep p q) xs ys → IsFirstUnknown xs n → IsFirstUnknown ys n
 first_unknown_moved p q xs ys n a f = (
   unknown_at p q (slice_get xs n) (slice_get ys n) (found_beside (IsSameStep p q) xs ys n a) f.0,
   λ k l e. f.1 k l (unknown_at q p (slice_get ys k) (slice_get xs k) (found_beside (IsSameStep q p) ys xs k (steps_back p q xs ys a)) e),
 )
 
-wrong_moved : (p q : Place) (statement : List Symbol) (c d : Decoded) (number : ProofNumber) (spot : Spot) → IsSameProof p q c d → IsWrongBy p statement c number spot → IsWrongBy q statement d number spot
+wrong_moved : (p q : Setting) (statement : List Symbol) (c d : Decoded) (number : ProofNumber) (spot : Spot) → IsSameProof p q c d → IsWrongBy p statement c number spot → IsWrongBy q statement d number spot
 wrong_moved p q statement c d P14 spot s w = (known_moved p q c.steps d.steps s.steps w.0, w.1, reached_moved p q s.active c.steps d.steps w.1 s.steps w.2, w.3, w.4 ∙ s.close)
 wrong_moved p q statement c d P15 spot s w = (known_moved p q c.steps d.steps s.steps w.0, w.1, reached_moved p q s.active c.steps d.steps (w.1 ∷ []) s.steps w.2, w.3, w.4 ∙ s.close)
 wrong_moved p q statement c d number spot s w = (
@@ -354,7 +354,7 @@ wrong_moved p q statement c d number spot s w = (
 )
 
 -- the same proof has the same verdict
-pub verdict_moved : (p q : Place) (statement : List Symbol) (c d : Decoded) (v : Verdict) → IsSameProof p q c d → IsVerdictOnSteps p statement c v → IsVerdictOnSteps q statement d v
+pub verdict_moved : (p q : Setting) (statement : List Symbol) (c d : Decoded) (v : Verdict) → IsSameProof p q c d → IsVerdictOnSteps p statement c v → IsVerdictOnSteps q statement d v
 verdict_moved p q statement c d Proved s v = (known_moved p q c.steps d.steps s.steps v.0, reached_moved p q s.active c.steps d.steps (statement ∷ []) s.steps v.1)
 verdict_moved p q statement c d (Incomplete spot) s v = (
   v.0,

@@ -3,8 +3,8 @@ use Rattle.std.proofs.Common.{◌≡◌, ℕ, zero, suc, ◌+◌, ◌-◌, ◌*�
 use Rattle.std.specs.List.{AllByRecursion}
 use Rattle.std.proofs.Math.Nat.{pow-succ'}
 use Rattle.std.proofs.lemmas.Bool.{and_parts, leb-true, le-leb}
-use Rattle.mm_proof.specs.Numbers.{in_base_five, is_digit, is_last, digit_worth, number_of}
-use Rattle.mm_proof.specs.DecodingLaws.{IsNumber}
+use Rattle.mm_proof.specs.Language.Numbers.{in_base_five, is_digit, is_last, digit_worth, value_of}
+use Rattle.mm_proof.specs.Language.DecodingLaws.{IsWrittenNumber}
 
 length_more : (ds : List ℕ) (d : ℕ) → length (ds ++ d ∷ []) ≡ suc (length ds)
 length_more [] d = refl
@@ -130,7 +130,7 @@ same_digits (x ∷ ds) (y ∷ es) a b e =
     let there : ds ≡ es = same_digits ds es a.1 b.1 rest in
     cc
 
-pub numbers_apart : (ds es : List ℕ) (a b : ℕ) → IsNumber ds a → IsNumber es b → number_of ds a ≡ number_of es b → (ds ≡ es) × (a ≡ b)
+pub numbers_apart : (ds es : List ℕ) (a b : ℕ) → IsWrittenNumber ds a → IsWrittenNumber es b → value_of ds a ≡ value_of es b → (ds ≡ es) × (a ≡ b)
 numbers_apart ds es a b m n same =
     let p = last_is a m.1 in
     let q = last_is b n.1 in
@@ -155,7 +155,7 @@ last_spelled a few = rw (le-leb 65 (a + 65) (omega arith), le-leb (a + 65) 84 (o
 spelled_number : (n q : ℕ) (ds : List ℕ) → 1 ≤ n → q ≡ (n - 1) / 20 → in_base_five ds ≡ q → 20 * in_base_five ds + ((n - 1) % 20 + 65 - 64) ≡ n
 spelled_number n q ds some is e = omega arith
 
-pub each_written : (n : ℕ) → 1 ≤ n → (ds : List ℕ) × (a : ℕ) × IsNumber ds a × (number_of ds a ≡ n)
+pub each_written : (n : ℕ) → 1 ≤ n → (ds : List ℕ) × (a : ℕ) × IsWrittenNumber ds a × (value_of ds a ≡ n)
 each_written n some =
     let w = written ((n - 1) / 20) in
     let less : (n - 1) % 20 < 20 = omega arith in

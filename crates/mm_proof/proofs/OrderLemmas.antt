@@ -2,9 +2,9 @@
 use Rattle.std.proofs.Common.{◌≡◌, Result, Ok, Err, List, [], ◌∷◌, ◌++◌, refl, ap}
 use Rattle.std.specs.Prelude.{◌↔◌}
 use Rattle.std.specs.List.{AllByRecursion}
-use Rattle.mm_proof.specs.Expansion.{Step}
-use Rattle.mm_proof.specs.Decoding.{Reading, Steps, with_step, read_first, in_order}
-use Rattle.mm_proof.specs.DecodingLaws.{IsRead, IsFirstFault}
+use Rattle.mm_proof.specs.Language.Expansion.{Step}
+use Rattle.mm_proof.specs.Language.Decoding.{Reading, Steps, with_step, read_first, in_order}
+use Rattle.mm_proof.specs.Language.DecodingLaws.{ReadsStep, IsFirstDecodingFault}
 use Rattle.mm_proof.specs.declared.Spot.{Spot}
 use Rattle.mm_proof.specs.declared.ProofNumber.{ProofNumber}
 use Rattle.mm_proof.specs.declared.step.ProofFault.{ProofFault}
@@ -25,26 +25,26 @@ with_err : (step : Step) (spot : Spot) (rest : Steps) (fault : ProofFault) → w
 with_err step spot (Ok more) fault e = cc
 with_err step spot (Err other) fault e = e
 
-further : (reading : Reading) (readings : List Reading) (fault : ProofFault) → IsRead reading → IsFirstFault readings fault → IsFirstFault (reading ∷ readings) fault
+further : (reading : Reading) (readings : List Reading) (fault : ProofFault) → ReadsStep reading → IsFirstDecodingFault readings fault → IsFirstDecodingFault (reading ∷ readings) fault
 further reading readings fault is f = record { front = reading ∷ f.front; back = f.back; whole = ap (λ (w : List Reading). reading ∷ w) f.whole; before = (is, f.before) }
 
 -- what is told of a fault that is read first
 told_here : (number : ProofNumber) (spot : Spot) (fault : ProofFault) → ◌≡◌ {A = Steps} (Err (record { number = number; spot = spot })) (Err fault) → record { number = number; spot = spot } ≡ fault
 told_here number spot fault e = cc
 
-found : (spot : Spot) (r : Result Step ProofNumber) (readings : List Reading) (fault : ProofFault) → (in_order readings ≡ Err fault → IsFirstFault readings fault) → read_first spot r (in_order readings) ≡ Err fault → IsFirstFault (record { spot = spot; step = r } ∷ readings) fault
+found : (spot : Spot) (r : Result Step ProofNumber) (readings : List Reading) (fault : ProofFault) → (in_order readings ≡ Err fault → IsFirstDecodingFault readings fault) → read_first spot r (in_order readings) ≡ Err fault → IsFirstDecodingFault (record { spot = spot; step = r } ∷ readings) fault
 found spot (Ok step) readings fault rest e = further (record { spot = spot; step = Ok step }) readings fault (step, refl) (rest (with_err step spot (in_order readings) fault e))
 found spot (Err number) readings fault rest e =
     let same = told_here number spot fault e in
     record { front = []; back = readings; whole = ap (λ (w : ProofFault). record { spot = w.spot; step = Err w.number } ∷ readings) same; before = tt }
 
-fault_found : (readings : List Reading) (fault : ProofFault) → in_order readings ≡ Err fault → IsFirstFault readings fault
+fault_found : (readings : List Reading) (fault : ProofFault) → in_order readings ≡ Err fault → IsFirstDecodingFault readings fault
 fault_found [] fault e = cc
 fault_found (reading ∷ readings) fault e = found reading.spot reading.step readings fault (fault_found readings fault) e
 
-passed : (front back : List Reading) (fault : ProofFault) → AllByRecursion IsRead front → in_order (front ++ record { spot = fault.spot; step = Err fault.number } ∷ back) ≡ Err fault
+passed : (front back : List Reading) (fault : ProofFault) → AllByRecursion ReadsStep front → in_order (front ++ record { spot = fault.spot; step = Err fault.number } ∷ back) ≡ Err fault
 passed [] back fault all = refl
 passed (reading ∷ front) back fault all = rw (all.0.1, passed front back fault all.1) refl
 
-pub first_fault : (readings : List Reading) (fault : ProofFault) → (in_order readings ≡ Err fault) ↔ IsFirstFault readings fault
+pub first_fault : (readings : List Reading) (fault : ProofFault) → (in_order readings ≡ Err fault) ↔ IsFirstDecodingFault readings fault
 first_fault readings fault = (fault_found readings fault, λ f. rw f.whole (passed f.front f.back fault f.before))

@@ -4,11 +4,11 @@ use Rattle.std.specs.Prelude.{slice_get}
 use Rattle.std.specs.List.{AllZip}
 use Rattle.std.proofs.Math.Numerals.{one-add}
 use Rattle.std.proofs.lemmas.Bool.{cases_Bool}
-use Rattle.mm_frame.specs.Language.{Place}
-use Rattle.mm_proof.specs.Expansion.{Step, Named, Saved, Save, NotKnown}
-use Rattle.mm_proof.specs.Machine.{AreAllKnown}
-use Rattle.mm_proof.specs.Run.{is_unknown, run_part}
-use Rattle.mm_proof.specs.View.{IsSameStep}
+use Rattle.mm_frame.specs.Language.Frame.{Setting}
+use Rattle.mm_proof.specs.Language.Expansion.{Step, Named, Saved, Save, NotKnown}
+use Rattle.mm_proof.specs.Language.Machine.{AreAllKnown}
+use Rattle.mm_proof.specs.Language.Run.{is_unknown, run_part}
+use Rattle.mm_proof.specs.Language.View.{IsSameStep}
 use Rattle.mm_proof.proofs.Threaded.{AreDecodedAfter}
 
 -- a known step
@@ -24,7 +24,7 @@ one_known (Saved n) k e = cc
 one_known Save k e = cc
 one_known NotKnown k e = cc
 
-same_one : (p q : Place) (x y : Step) → IsSameStep p q x y → is_unknown x ≡ is_unknown y
+same_one : (p q : Setting) (x y : Step) → IsSameStep p q x y → is_unknown x ≡ is_unknown y
 same_one p q (Named a) (Named b) s = refl
 same_one p q (Saved n) (Saved m) s = refl
 same_one p q Save Save s = refl
@@ -67,7 +67,7 @@ part_front (y ∷ steps) n x e = elim (cases_Bool (is_unknown y)) [
     front_one y steps (suc n) x rest e = rest n x e
 
 -- decoding has made sure of it
-pub part_decoded : (place : Place) (saves : ℕ) (steps : List Step) → AreDecodedAfter place saves steps → AreDecodedAfter place saves (run_part steps)
+pub part_decoded : (place : Setting) (saves : ℕ) (steps : List Step) → AreDecodedAfter place saves steps → AreDecodedAfter place saves (run_part steps)
 part_decoded place saves [] d = tt
 part_decoded place saves (Named label ∷ steps) d = rw (part_one (Named label) steps refl) (d.0, part_decoded place saves steps d.1)
 part_decoded place saves (Saved n ∷ steps) d = rw (part_one (Saved n) steps refl) (d.0, part_decoded place saves steps d.1)
@@ -75,7 +75,7 @@ part_decoded place saves (Save ∷ steps) d = rw (part_one Save steps refl) (par
 part_decoded place saves (NotKnown ∷ steps) d = tt
 
 -- proofs that mean the same run the same
-pub part_same : (p q : Place) (xs ys : List Step) → AllZip (IsSameStep p q) xs ys → AllZip (IsSameStep p q) (run_part xs) (run_part ys)
+pub part_same : (p q : Setting) (xs ys : List Step) → AllZip (IsSameStep p q) xs ys → AllZip (IsSameStep p q) (run_part xs) (run_part ys)
 part_same p q [] [] a = tt
 part_same p q [] (y ∷ ys) a = absurd a
 part_same p q (x ∷ xs) [] a = absurd a

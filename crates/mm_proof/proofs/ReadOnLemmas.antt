@@ -4,12 +4,12 @@ use Rattle.std.specs.Prelude.{flat_map, codes}
 use Rattle.std.specs.List.{list_any, prefix_len, enumerate_from, before_first, after_first}
 use Rattle.std.proofs.lemmas.Bool.{cases_Bool}
 use Rattle.std.proofs.lemmas.List.{map-append}
-use Rattle.mm_frame.specs.Language.{Place}
-use Rattle.mm_proof.specs.Expansion.{Step, Named, Save, NotKnown}
-use Rattle.mm_proof.specs.Numbers.{is_digit}
-use Rattle.mm_proof.specs.Letters.{Letter, Group, letters_in, letters_from, cut_group, groups_behind, groups}
-use Rattle.mm_proof.specs.Decoding.{Steps, with_step, read_first, in_order, alone, nameable, read_letter, each_group, is_close, compressed_steps, letter_steps, if_read, each_word, read_label, decoded, decoding, word_spot}
-use Rattle.mm_proof.specs.DecodingLaws.{without_spots, compressed_words}
+use Rattle.mm_frame.specs.Language.Frame.{Setting}
+use Rattle.mm_proof.specs.Language.Expansion.{Step, Named, Save, NotKnown}
+use Rattle.mm_proof.specs.Language.Numbers.{is_digit}
+use Rattle.mm_proof.specs.Language.Letters.{Letter, Group, letters_in, letters_from, cut_group, groups_behind, groups}
+use Rattle.mm_proof.specs.Language.Decoding.{Steps, with_step, read_first, in_order, alone, nameable, read_letter, each_group, is_close, compressed_steps, letter_steps, if_read, each_word, read_label, decoded, decoding, word_spot}
+use Rattle.mm_proof.specs.Language.DecodingLaws.{without_spots, compressed_words}
 use Rattle.mm_proof.specs.declared.Spot.{Spot}
 use Rattle.mm_proof.specs.declared.ProofNumber.{ProofNumber}
 use Rattle.mm_proof.specs.declared.ProofNumber.TheVariants.{P03}
@@ -108,12 +108,12 @@ pub has_close : (listed words : List (List ℕ)) → list_any is_close (listed +
 has_close [] words = refl
 has_close (word ∷ listed) words = elim (is_close word) as (λ b. (b || list_any is_close (listed ++ codes ")" ∷ words)) ≡ true) [ true ↦ refl | false ↦ has_close listed words ]
 
-abbrev pub parts : Place → List (List ℕ) → Spot → List (List ℕ) → Bool → List (List ℕ) → Steps
+abbrev pub parts : Setting → List (List ℕ) → Spot → List (List ℕ) → Bool → List (List ℕ) → Steps
 parts place mandatory close listed has rest = if_read (in_order (each_word (read_label place) 1 listed)) (cond has (letter_steps mandatory listed (length listed + 2) rest close) (Err (record { number = P03; spot = close })))
 
 -- a compressed proof with its list
 pub compressed_is :
-    (place : Place) (mandatory : List (List ℕ)) (close : Spot) (listed words : List (List ℕ)) → list_any is_close listed ≡ false →
+    (place : Setting) (mandatory : List (List ℕ)) (close : Spot) (listed words : List (List ℕ)) → list_any is_close listed ≡ false →
     compressed_steps place mandatory (listed ++ codes ")" ∷ words) close ≡ if_read (in_order (each_word (read_label place) 1 listed)) (letter_steps mandatory listed (length listed + 2) words close)
 compressed_is place mandatory close listed words e =
     ap (λ (w : List (List ℕ)). parts place mandatory close w (list_any is_close (listed ++ codes ")" ∷ words)) (after_first is_close (listed ++ codes ")" ∷ words))) (before_close listed words e)
@@ -136,7 +136,7 @@ abbrev close_of : List (List ℕ) → List (List ℕ) → Spot
 close_of listed words = word_spot (length (compressed_words listed words))
 
 told_words :
-    (place : Place) (mandatory listed words : List (List ℕ)) → list_any is_close listed ≡ false →
+    (place : Setting) (mandatory listed words : List (List ℕ)) → list_any is_close listed ≡ false →
     without_spots (decoding place mandatory (compressed_words listed words))
     ≡ told (if_read (in_order (each_word (read_label place) 1 listed)) (letter_steps mandatory listed (length listed + 2) words (close_of listed words)))
 told_words place mandatory listed words e =
@@ -144,7 +144,7 @@ told_words place mandatory listed words e =
     ∙ ap told (compressed_is place mandatory (close_of listed words) listed words e)
 
 pub reads_on :
-    (place : Place) (mandatory listed some others : List (List ℕ)) →
+    (place : Setting) (mandatory listed some others : List (List ℕ)) →
     list_any is_close listed ≡ false → flat_map (λ word. word) some ≡ flat_map (λ word. word) others →
     without_spots (decoding place mandatory (compressed_words listed some)) ≡ without_spots (decoding place mandatory (compressed_words listed others))
 reads_on place mandatory listed some others e f =

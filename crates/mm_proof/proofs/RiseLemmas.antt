@@ -3,11 +3,11 @@ use Rattle.std.proofs.Common.{ℕ, ◌+◌, ◌<◌, Bool, not, Result, Ok, Err,
 use Rattle.std.specs.Prelude.{filter, bytes_eq, codes}
 use Rattle.std.specs.List.{AllByRecursion, enumerate_from, before_first}
 use Rattle.std.proofs.lemmas.Bool.{cases_Bool}
-use Rattle.mm_proof.specs.Citing.{label_words, firsts, is_cited, cites}
-use Rattle.mm_proof.specs.Decoding.{is_close, is_compressed}
-use Rattle.mm_frame.specs.Language.{Place}
-use Rattle.mm_proof.specs.DecodingLaws.{Rise}
-use Rattle.mm_proof.specs.Verdict.{Decoded}
+use Rattle.mm_proof.specs.Language.Citing.{label_words, firsts, is_cited, cites}
+use Rattle.mm_proof.specs.Language.Decoding.{is_close, is_compressed}
+use Rattle.mm_frame.specs.Language.Frame.{Setting}
+use Rattle.mm_proof.specs.Language.DecodingLaws.{Rise}
+use Rattle.mm_proof.specs.Language.Verdict.{Decoded}
 use Rattle.mm_proof.specs.declared.step.ProofFault.{ProofFault}
 use Rattle.mm_proof.proofs.CiteLemmas.{kept_all}
 
@@ -55,6 +55,6 @@ labels_rise words = elim (cases_Bool (is_compressed words)) [
   | inr e ↦ rw e (kept (λ (w : ℕ × List ℕ). not (bytes_eq w.1 (codes "?"))) (enumerate_from 0 words) (numbered 0 words))
 ]
 
-pub rises : (place : Place) (words : List (List ℕ)) (decoding : Result Decoded ProofFault) → Rise (cites place words decoding)
+pub rises : (place : Setting) (words : List (List ℕ)) (decoding : Result Decoded ProofFault) → Rise (cites place words decoding)
 rises place words (Ok d) = only_numbers (filter (λ (w : ℕ × List ℕ). is_cited place d.steps w.1) (firsts (label_words words))) (kept (λ (w : ℕ × List ℕ). is_cited place d.steps w.1) (firsts (label_words words)) (firsts_rise (label_words words) (labels_rise words)))
 rises place words (Err fault) = tt

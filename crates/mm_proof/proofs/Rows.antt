@@ -1,12 +1,12 @@
 -- The table of numbers, and worked proofs, by computing.
 use Rattle.std.proofs.Common.{◌≡◌, ℕ, if◌then◌else◌, Ok, Err, List, [], ◌∷◌, ◌++◌, refl}
 use Rattle.std.specs.Prelude.{codes, bytes_eq, replicate, Result}
-use Rattle.mm_frame.specs.Language.{Resolved, Hypothesis, Assertion, Inactive, Unknown, Place}
-use Rattle.mm_proof.specs.Expansion.{Step, Named, Saved, Save, NotKnown}
-use Rattle.mm_proof.specs.Decoding.{decoding}
-use Rattle.mm_proof.specs.Citing.{cites}
-use Rattle.mm_proof.specs.Run.{run_part}
-use Rattle.mm_proof.specs.Verdict.{Decoded}
+use Rattle.mm_frame.specs.Language.Frame.{Resolved, Hypothesis, Assertion, Inactive, Unknown, Setting}
+use Rattle.mm_proof.specs.Language.Expansion.{Step, Named, Saved, Save, NotKnown}
+use Rattle.mm_proof.specs.Language.Decoding.{decoding}
+use Rattle.mm_proof.specs.Language.Citing.{cites}
+use Rattle.mm_proof.specs.Language.Run.{run_part}
+use Rattle.mm_proof.specs.Language.Verdict.{Decoded}
 use Rattle.mm_proof.specs.declared.Spot.{Spot}
 use Rattle.mm_proof.specs.declared.ProofNumber.TheVariants.{P01, P02, P03, P04, P05, P06}
 use Rattle.mm_proof.specs.declared.step.ProofFault.{ProofFault}
@@ -19,7 +19,7 @@ meaning label =
     else if bytes_eq label (codes "old") then Inactive
     else Unknown
 
-here : Place
+here : Setting
 unfolding meaning
 here = record { resolve = meaning; active = [] }
 

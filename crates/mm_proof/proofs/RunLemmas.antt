@@ -5,27 +5,27 @@ use Rattle.std.specs.Option.{option_map}
 use Rattle.std.proofs.lemmas.List.{append-nil, take_more, take_all, drop_more, length-map, get_or_default}
 use Rattle.std.proofs.lemmas.List.Elements.{All-contains}
 use Rattle.std.proofs.lemmas.Option.{slice_get-map, slice_get-get_or, slice_get_within, get_or_from_slice_get}
-use Rattle.mm_frame.specs.Language.{Symbol, Mandatory, Frame, Assertion, Place, AreSameFrame, HasVariable}
-use Rattle.mm_frame.specs.Typing.{IsTyped, IsTyping, IsFrame, HasFrames}
-use Rattle.mm_frame.specs.Item.{Item, item_at}
-use Rattle.mm_frame.specs.Framing.{place_of, statement_of}
-use Rattle.mm_proof.specs.Derivation.{Derives}
-use Rattle.mm_proof.specs.Expansion.{Step, Named, Expanded, expand_from}
-use Rattle.mm_proof.specs.Left.{AreLeft}
-use Rattle.mm_proof.specs.Reaches.{Reaches}
-use Rattle.mm_proof.specs.Steps.{Cites, Moves}
+use Rattle.mm_frame.specs.Language.Frame.{Symbol, Mandatory, Frame, Assertion, Setting, AreSameFrame, HasVariable}
+use Rattle.mm_frame.specs.Language.Typing.{IsTyped, IsTyping, IsFrame, HasFrames}
+use Rattle.mm_frame.specs.Language.Item.{Item, item_at}
+use Rattle.mm_frame.specs.Language.Framing.{setting_of, statement_of}
+use Rattle.mm_proof.specs.Language.Derivation.{Derives}
+use Rattle.mm_proof.specs.Language.Expansion.{Step, Named, Expanded, expand_from}
+use Rattle.mm_proof.specs.Code.Left.{AreLeft}
+use Rattle.mm_proof.specs.Language.Reaches.{Reaches}
+use Rattle.mm_proof.specs.Language.Steps.{Cites, Moves}
 use Rattle.mm_proof.proofs.Fronts.{reached_earlier}
 use Rattle.mm_proof.proofs.Judging.{derived_reached}
 use Rattle.mm_proof.proofs.Moving.{takes_moved, frame_back}
 use Rattle.mm_proof.proofs.Reaching.{Follows, follows_on, goes}
 use Rattle.mm_proof.proofs.Running.{same_reached}
-use Rattle.mm_proof.specs.Proved.{IsProved}
-use Rattle.mm_proof.specs.StackRuns.{StepsOrFails, steps_of}
-use Rattle.mm_proof.specs.Stack.{CitesOrFails}
+use Rattle.mm_proof.specs.Language.Proved.{IsProved}
+use Rattle.mm_proof.specs.Code.StackRuns.{StepsOrFails, steps_of}
+use Rattle.mm_proof.specs.Code.Stack.{CitesOrFails}
 use Rattle.std.proofs.lemmas.Bool.{false≢true, and_from}
 use Rattle.mm_proof.proofs.SeenLemmas.{and_both}
-use Rattle.mm_frame.specs.Base.{BaseView, said_at, is_sound_at, is_shown_at, is_framed_at, is_proof_at}
-use Rattle.mm_frame.specs.Item.{Kind, Axiom, Theorem, is_theorem, is_assertion, is_labelled}
+use Rattle.mm_frame.specs.Language.Base.{BaseView, said_at, is_sound_at, is_shown_at, is_framed_at, is_proof_at}
+use Rattle.mm_frame.specs.Language.Item.{Kind, Axiom, Theorem, is_theorem, is_assertion, is_labelled}
 
 -- ---- an assertion whose frame is the same
 
@@ -61,7 +61,7 @@ cited_moved active f g old false new s c = λ next m. c next (cites_moved active
 
 -- ---- one step
 
-pub steps_cited : (place : Place) (label : List ℕ) (frame : Frame) (old : List (List Symbol)) (done : Bool) (new : List (List Symbol)) → place.resolve label ≡ Assertion frame → CitesOrFails place.active frame old done new → StepsOrFails place label old done new
+pub steps_cited : (place : Setting) (label : List ℕ) (frame : Frame) (old : List (List Symbol)) (done : Bool) (new : List (List Symbol)) → place.resolve label ≡ Assertion frame → CitesOrFails place.active frame old done new → StepsOrFails place label old done new
 steps_cited place label frame old true new e c = subst (λ r. Moves place.active r old new) (sym e) c
 steps_cited place label frame old false new e c = λ next m. c next (subst (λ r. Moves place.active r old next) e m)
 
@@ -72,7 +72,7 @@ next_steps steps k label e =
 
 -- the machine goes on by a label
 pub goes_on :
-    (place : Place) (steps : List Step) (k : ℕ) (label : List ℕ) (stack next : List (List Symbol)) → slice_get steps k ≡ Some (Named label) →
+    (place : Setting) (steps : List Step) (k : ℕ) (label : List ℕ) (stack next : List (List Symbol)) → slice_get steps k ≡ Some (Named label) →
     Follows place (take k steps) (record { stack = stack; saved = [] }) → Moves place.active (place.resolve label) stack next →
     Follows place (take (k + 1) steps) (record { stack = next; saved = [] })
 goes_on place steps k label stack next e f m =
@@ -80,7 +80,7 @@ goes_on place steps k label stack next e f m =
 
 -- where a label moves to no stack, the steps reach nothing
 pub stops :
-    (place : Place) → HasFrames place → (steps : List Step) (k : ℕ) (label : List ℕ) (stack next : List (List Symbol)) →
+    (place : Setting) → HasFrames place → (steps : List Step) (k : ℕ) (label : List ℕ) (stack next : List (List Symbol)) →
     slice_get steps k ≡ Some (Named label) → Follows place (take k steps) (record { stack = stack; saved = [] }) →
     ((other : List (List Symbol)) → ¬ Moves place.active (place.resolve label) stack other) → Reaches place steps next → ⊥
 stops place is steps k label stack next e f n r =
@@ -93,12 +93,12 @@ stops place is steps k label stack next e f n r =
 -- ---- all labels of a proof
 
 -- labels stand for themselves
-expands_to : (place : Place) (so_far : List (List ℕ)) (labels : List (List ℕ)) → expand_from place (Some (record { labels = so_far; saved = [] })) (map Named labels) ≡ Some (record { labels = so_far ++ labels; saved = [] })
+expands_to : (place : Setting) (so_far : List (List ℕ)) (labels : List (List ℕ)) → expand_from place (Some (record { labels = so_far; saved = [] })) (map Named labels) ≡ Some (record { labels = so_far ++ labels; saved = [] })
 expands_to place so_far [] = let e = append-nil so_far in λ i. Some (record { labels = sym e i; saved = [] })
 expands_to place so_far (label ∷ labels) = expands_to place (so_far ++ label ∷ []) labels ∙ (let e = append_assoc so_far (label ∷ []) labels in λ i. Some (record { labels = e i; saved = [] }))
 
 -- what labels derive is what they reach alone
-pub derives_reaches : (place : Place) (labels : List (List ℕ)) (statement : List Symbol) → Derives place labels statement ↔ Reaches place (map Named labels) (statement ∷ [])
+pub derives_reaches : (place : Setting) (labels : List (List ℕ)) (statement : List Symbol) → Derives place labels statement ↔ Reaches place (map Named labels) (statement ∷ [])
 derives_reaches place labels statement =
     let both = derived_reached place (map Named labels) statement in (
       λ d. both.0 (record { labels = labels; saved = [] }, expands_to place [] labels, d),
@@ -136,16 +136,16 @@ pub all_steps : (proof : List (List ℕ)) (k : ℕ) → length proof ≤ k → t
 all_steps proof k high = take_all k (steps_of proof) (omega (arith, length-map proof Named))
 
 -- a proof that reaches one expression is one of that expression alone
-pub proved_where : (items : List Item) (n : ℕ) → HasFrames (place_of items n) → (stack : List (List Symbol)) (e : List Symbol) → Reaches (place_of items n) (steps_of (item_at items n).proof) stack → stack ≡ e ∷ [] → (e ≡ statement_of items n) ↔ IsProved items n
+pub proved_where : (items : List Item) (n : ℕ) → HasFrames (setting_of items n) → (stack : List (List Symbol)) (e : List Symbol) → Reaches (setting_of items n) (steps_of (item_at items n).proof) stack → stack ≡ e ∷ [] → (e ≡ statement_of items n) ↔ IsProved items n
 proved_where items n frames stack e r one =
-    let both = derives_reaches (place_of items n) (item_at items n).proof (statement_of items n) in (
-      λ same. both.1 (subst (Reaches (place_of items n) (steps_of (item_at items n).proof)) (one ∙ ap (λ w. w ∷ []) same) r),
-      λ p. (let whole = sym one ∙ same_reached (place_of items n) frames (steps_of (item_at items n).proof) stack (statement_of items n ∷ []) r (both.0 p) in (cc)),
+    let both = derives_reaches (setting_of items n) (item_at items n).proof (statement_of items n) in (
+      λ same. both.1 (subst (Reaches (setting_of items n) (steps_of (item_at items n).proof)) (one ∙ ap (λ w. w ∷ []) same) r),
+      λ p. (let whole = sym one ∙ same_reached (setting_of items n) frames (steps_of (item_at items n).proof) stack (statement_of items n ∷ []) r (both.0 p) in (cc)),
     )
 
 -- and where it reaches no one expression, it is of none
-pub not_proved : (items : List Item) (n : ℕ) → HasFrames (place_of items n) → (stack : List (List Symbol)) → Reaches (place_of items n) (steps_of (item_at items n).proof) stack → length stack ≢ 1 → ¬ IsProved items n
-not_proved items n frames stack r l p = l (ap length (same_reached (place_of items n) frames (steps_of (item_at items n).proof) stack (statement_of items n ∷ []) r ((derives_reaches (place_of items n) (item_at items n).proof (statement_of items n)).0 p)))
+pub not_proved : (items : List Item) (n : ℕ) → HasFrames (setting_of items n) → (stack : List (List Symbol)) → Reaches (setting_of items n) (steps_of (item_at items n).proof) stack → length stack ≢ 1 → ¬ IsProved items n
+not_proved items n frames stack r l p = l (ap length (same_reached (setting_of items n) frames (steps_of (item_at items n).proof) stack (statement_of items n ∷ []) r ((derives_reaches (setting_of items n) (item_at items n).proof (statement_of items n)).0 p)))
 
 -- the one element
 pub only_one : {X Y : Type 0} (f : X → Y) (xs : List X) (d : X) → length xs ≡ 1 → map f xs ≡ f (get_or xs 0 d) ∷ []

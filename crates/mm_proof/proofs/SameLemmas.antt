@@ -3,20 +3,21 @@ use Rattle.std.proofs.Common.{◌≡◌, ℕ, zero, suc, ◌+◌, ◌-◌, false
 use Rattle.std.specs.Prelude.{slice_get, filter, bytes_eq, codes}
 use Rattle.std.specs.List.{AllZip, AllByRecursion, range_with_len, before_first, list_any, after_first}
 use Rattle.std.proofs.lemmas.Bool.{cases_Bool}
-use Rattle.mm_frame.specs.Language.{Resolved, Hypothesis, Assertion, Inactive, Unknown, Place, AreSamePairs}
-use Rattle.mm_proof.specs.Expansion.{Step, Named, Saved, Save, NotKnown}
-use Rattle.mm_proof.specs.Numbers.{is_last, number_of}
-use Rattle.mm_proof.specs.Letters.{Letter, Group, groups, letters_from}
-use Rattle.mm_proof.specs.Decoding.{Steps, with_step, read_first, in_order, usable, read_label, read_word, each_word, nameable, named, alone, read_letter, read_group, group_spot, is_save, each_group, is_close, is_compressed, compressed_steps, steps_in, word_spot, decoded, decoding, if_read}
-use Rattle.mm_proof.specs.Citing.{is_assertion}
-use Rattle.mm_proof.specs.View.{AreSameMeaning, IsSameHypothesis, IsSameStep, IsSameDecoding, IsSameLabel, AreSameToDecode}
+use Rattle.mm_frame.specs.Language.Frame.{Resolved, Hypothesis, Assertion, Inactive, Unknown, Setting, AreSamePairs}
+use Rattle.mm_proof.specs.Language.Expansion.{Step, Named, Saved, Save, NotKnown}
+use Rattle.mm_proof.specs.Language.Numbers.{is_last, value_of}
+use Rattle.mm_proof.specs.Language.Letters.{Letter, Group, groups, letters_from}
+use Rattle.mm_proof.specs.Language.Decoding.{Steps, with_step, read_first, in_order, usable, read_label, read_word, each_word, nameable, named, alone, read_letter, read_group, group_spot, is_save_letter, each_group, is_close, is_compressed, compressed_steps, steps_in, word_spot, decoded, decoding}
+use Rattle.mm_proof.specs.Language.Decoding.{if_read}
+use Rattle.mm_proof.specs.Language.Citing.{means_assertion}
+use Rattle.mm_proof.specs.Language.View.{AreSameMeaning, IsSameHypothesis, IsSameStep, IsSameDecoding, IsSameLabel, AreSameToDecode}
 use Rattle.mm_proof.specs.declared.Spot.{Spot}
 use Rattle.mm_proof.specs.declared.ProofNumber.{ProofNumber}
 
-module _ (p q : Place) where
+module _ (p q : Setting) where
   -- the same label, or two that are of no assertion
   abbrev pub IsLike : Step → Step → Type 0
-  IsLike (Named a) (Named b) = (a ≡ b) ⊎ ((is_assertion (p.resolve a) ≡ false) × (is_assertion (q.resolve b) ≡ false))
+  IsLike (Named a) (Named b) = (a ≡ b) ⊎ ((means_assertion (p.resolve a) ≡ false) × (means_assertion (q.resolve b) ≡ false))
   IsLike _ _ = Unit {0}
 
   -- the same step, by a like label
@@ -98,7 +99,7 @@ module _ (p q : Place) where
 
   letter_same : (labels others : List Step) (saves : ℕ) (digits : List Letter) (byte : ℕ) → AllZip IsBoth labels others → IsSameResult (read_letter (nameable labels saves) digits byte) (read_letter (nameable others saves) digits byte)
   letter_same labels others saves digits byte all = elim (cases_Bool (is_last byte)) [
-    | inl e ↦ rw e (named_same _ _ (named_at labels others saves (number_of (map (λ digit. digit.byte) digits) byte - 1) all))
+    | inl e ↦ rw e (named_same _ _ (named_at labels others saves (value_of (map (λ digit. digit.byte) digits) byte - 1) all))
     | inr e ↦ elim (cases_Bool (byte == 90)) [
       | inl f ↦ rw (e, f) (alone_same digits Save (tt, tt))
       | inr f ↦ elim (cases_Bool (byte == 63)) [
@@ -117,7 +118,7 @@ module _ (p q : Place) where
   groups_same labels others close saves (g ∷ gs) all =
       first_same (group_spot close g.last) (read_group (nameable labels saves) g.digits g.last) (read_group (nameable others saves) g.digits g.last) _ _
       (group_same labels others saves g.digits g.last all)
-      (groups_same labels others close (cond (is_save g.last) (saves + 1) saves) gs all)
+      (groups_same labels others close (cond (is_save_letter g.last) (saves + 1) saves) gs all)
 
   hypothesis_both : (a b : List ℕ) → IsSameHypothesis p q a b → IsBoth (Named a) (Named b)
   hypothesis_both a b h = (rw (h.1, h.2) refl, inr (rw h.1 refl, rw h.2 refl))

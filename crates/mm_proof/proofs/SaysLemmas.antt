@@ -3,14 +3,14 @@ use Rattle.std.proofs.Common.{◌≡◌, ℕ, zero, suc, Some, List, [], ◌∷�
 use Rattle.std.specs.List.{AllZip}
 use Rattle.std.proofs.lemmas.Option.{get_or_from_slice_get}
 use Rattle.mm_store.specs.declared.item.Item as store
-use Rattle.mm_store.specs.FilesView.{FilesView}
-use Rattle.mm_store.specs.FileFacts.{CanBeRead}
-use Rattle.mm_frame.specs.Base.{BaseView, said_at}
-use Rattle.mm_frame.specs.Item.{passed}
-use Rattle.mm_frame.specs.Kept.{IsBase, HasItem}
-use Rattle.mm_frame.specs.Statement.{Says}
+use Rattle.mm_store.specs.Language.FilesView.{FilesView}
+use Rattle.mm_store.specs.Language.FileFacts.{CanBeRead}
+use Rattle.mm_frame.specs.Language.Base.{BaseView, said_at}
+use Rattle.mm_frame.specs.Language.Item.{passed}
+use Rattle.mm_frame.specs.Code.KeptBase.{IsBase, HasItem}
+use Rattle.mm_frame.specs.Language.Statement.{Says}
 use Rattle.mm_frame.specs.declared.base.Base.{Base}
-use Rattle.mm_proof.specs.OfFiles.{IsOf, HasItemOf}
+use Rattle.mm_proof.specs.Code.OfFiles.{IsOf, HasItemOf}
 
 -- the element of the one list with that of the other
 zip_found : {A B : Type 0} (R : A → B → Type 0) (xs : List A) (ys : List B) (i : ℕ) (x : A) → AllZip R xs ys → slice_get xs i ≡ Some x → (y : B) × (slice_get ys i ≡ Some y) × R x y

@@ -7,8 +7,8 @@ use Rattle.std.specs.HashSet.{HashSet, Updates}
 use Rattle.std.proofs.lemmas.Bool.{false≢true, or_cases, or_left, or_right}
 use Rattle.std.proofs.lemmas.List.Folds.{list_any-append}
 use Rattle.std.proofs.lemmas.Slice.Eq.{bytes_eq-Decides}
-use Rattle.mm_frame.specs.Item.{has}
-use Rattle.mm_frame.specs.Seen.{HasSeen}
+use Rattle.mm_frame.specs.Language.Item.{has}
+use Rattle.mm_frame.specs.Code.SeenNames.{HasSeen}
 
 pub and_both : (x y : Bool) → (x && y) ≡ true → (x ≡ true) × (y ≡ true)
 and_both true y h = (refl, h)

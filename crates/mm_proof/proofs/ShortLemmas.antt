@@ -4,12 +4,12 @@ use Rattle.std.specs.Prelude.{flat_map}
 use Rattle.std.specs.List.{AllByRecursion, list_any, before_first, after_first}
 use Rattle.std.proofs.lemmas.Bool.{cases_Bool}
 use Rattle.std.proofs.lemmas.List.{length-map, length-append}
-use Rattle.mm_proof.specs.Decoding.{Reading, in_order, each_word, read_label, read_word, each_group, is_save, is_close, is_compressed, compressed_steps, letter_steps, steps_in, word_spot, decoding}
-use Rattle.mm_proof.specs.Expansion.{Step, Named}
-use Rattle.mm_frame.specs.Language.{Place}
-use Rattle.mm_proof.specs.Letters.{Letter, Group, cut_group, groups_behind, groups, letters_from}
-use Rattle.mm_proof.specs.Numbers.{is_digit}
-use Rattle.mm_proof.specs.Verdict.{Decoded}
+use Rattle.mm_proof.specs.Language.Decoding.{Reading, in_order, each_word, read_label, read_word, each_group, is_save_letter, is_close, is_compressed, compressed_steps, letter_steps, steps_in, word_spot, decoding}
+use Rattle.mm_proof.specs.Language.Expansion.{Step, Named}
+use Rattle.mm_frame.specs.Language.Frame.{Setting}
+use Rattle.mm_proof.specs.Language.Letters.{Letter, Group, cut_group, groups_behind, groups, letters_from}
+use Rattle.mm_proof.specs.Language.Numbers.{is_digit}
+use Rattle.mm_proof.specs.Language.Verdict.{Decoded}
 use Rattle.mm_proof.specs.declared.Spot.{Spot}
 use Rattle.mm_proof.specs.declared.ProofNumber.{ProofNumber}
 use Rattle.mm_proof.proofs.OrderLemmas.{read_ok}
@@ -32,7 +32,7 @@ words_length read n (word ∷ words) = ap suc (words_length read (n + 1) words)
 
 groups_length : (labels : List Step) (close : Spot) (saves : ℕ) (gs : List Group) → length (each_group labels close saves gs) ≡ length gs
 groups_length labels close saves [] = refl
-groups_length labels close saves (g ∷ gs) = ap suc (groups_length labels close (cond (is_save g.last) (saves + 1) saves) gs)
+groups_length labels close saves (g ∷ gs) = ap suc (groups_length labels close (cond (is_save_letter g.last) (saves + 1) saves) gs)
 
 cut_short : (ds : List Letter) → length (cut_group ds) ≤ length ds
 cut_short [] = omega arith
@@ -66,7 +66,7 @@ letters_short mandatory listed n words close steps e =
     let d = letters_length n words in
     omega arith
 
-compressed_short : (place : Place) (mandatory words : List (List ℕ)) (close : Spot) (steps : List (Step × Spot)) → compressed_steps place mandatory words close ≡ Ok steps → length steps ≤ bytes_of words
+compressed_short : (place : Setting) (mandatory words : List (List ℕ)) (close : Spot) (steps : List (Step × Spot)) → compressed_steps place mandatory words close ≡ Ok steps → length steps ≤ bytes_of words
 compressed_short place mandatory words close steps e =
     let r = read_behind (in_order (each_word (read_label place) 1 (before_first is_close words))) _ steps e in
     elim (cases_Bool (list_any is_close words)) [
@@ -77,7 +77,7 @@ compressed_short place mandatory words close steps e =
       | inr none ↦ let bad = rw none at r.1 in cc
     ]
 
-steps_short : (place : Place) (mandatory words : List (List ℕ)) (close : Spot) (steps : List (Step × Spot)) → AllByRecursion (λ word. 0 < length word) words → steps_in place mandatory words close ≡ Ok steps → length steps ≤ bytes_of words
+steps_short : (place : Setting) (mandatory words : List (List ℕ)) (close : Spot) (steps : List (Step × Spot)) → AllByRecursion (λ word. 0 < length word) words → steps_in place mandatory words close ≡ Ok steps → length steps ≤ bytes_of words
 steps_short place mandatory words close steps all e = elim (cases_Bool (is_compressed words)) [
   | inl is ↦ let s = compressed_short place mandatory (drop 1 words) close steps (rw is at e) in let t = behind_short 1 words in omega arith
   | inr normal ↦
@@ -87,7 +87,7 @@ steps_short place mandatory words close steps all e = elim (cases_Bool (is_compr
       omega arith
 ]
 
-pub decodes_short : (place : Place) (mandatory words : List (List ℕ)) (d : Decoded) → AllByRecursion (λ word. 0 < length word) words → decoding place mandatory words ≡ Ok d → length d.steps ≤ length (flat_map (λ word. word) words)
+pub decodes_short : (place : Setting) (mandatory words : List (List ℕ)) (d : Decoded) → AllByRecursion (λ word. 0 < length word) words → decoding place mandatory words ≡ Ok d → length d.steps ≤ length (flat_map (λ word. word) words)
 decodes_short place mandatory words d all e =
     let s = decoded_ok (word_spot (length words)) (steps_in place mandatory words (word_spot (length words))) d e in
     let t = steps_short place mandatory words (word_spot (length words)) s.0 all s.1 in

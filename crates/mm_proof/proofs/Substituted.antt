@@ -1,10 +1,10 @@
 -- Of a substitution only what it gives for the mandatory variables counts.
 use Rattle.std.proofs.Common.{◌≡◌, List, [], ◌∷◌, map, get_or, refl, sym, ◌∙◌, subst}
 use Rattle.std.specs.Prelude.{Contains}
-use Rattle.mm_frame.specs.Language.{Symbol, Mandatory, Frame}
-use Rattle.mm_frame.specs.Typing.{IsTyped, IsFrame}
-use Rattle.mm_proof.specs.Substitution.{substituted}
-use Rattle.mm_proof.specs.Derivation.{AreApart, Takes}
+use Rattle.mm_frame.specs.Language.Frame.{Symbol, Mandatory, Frame}
+use Rattle.mm_frame.specs.Language.Typing.{IsTyped, IsFrame}
+use Rattle.mm_proof.specs.Language.Substitution.{substituted}
+use Rattle.mm_proof.specs.Language.Derivation.{AreApart, Takes}
 use Rattle.mm_proof.proofs.Members.{Contains-here, contains_there}
 use Rattle.mm_proof.proofs.Unique.{same_substituted}
 

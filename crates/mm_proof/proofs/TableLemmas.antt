@@ -3,14 +3,14 @@ use Rattle.std.proofs.Common.{◌≡◌, ℕ, ◌+◌, ◌<◌, ◌≤◌, true,
 use Rattle.std.specs.List.{before_first}
 use Rattle.std.proofs.Math.ListN.{drop_of_length-le}
 use Rattle.std.proofs.lemmas.List.{append-nil, map-append}
-use Rattle.mm_proof.specs.Expansion.{Step, Named}
-use Rattle.mm_frame.specs.Base.{BaseView}
-use Rattle.mm_proof.specs.BaseLabels.{label_at, place_at, AreActive}
-use Rattle.mm_proof.specs.Coded.{Tells, meant_steps, letters_give}
-use Rattle.mm_proof.specs.Decoding.{read_label, is_close, compressed_steps, word_spot}
-use Rattle.mm_proof.specs.Labels.{labels_at, entry_step, entry_steps, IsEntry, AreEntries, Lists, IsListed, TellsWord, Begins}
-use Rattle.mm_proof.specs.Left.{AreLeft}
-use Rattle.mm_proof.specs.LeftToRight.{list_on}
+use Rattle.mm_proof.specs.Language.Expansion.{Step, Named}
+use Rattle.mm_frame.specs.Language.Base.{BaseView}
+use Rattle.mm_proof.specs.Language.BaseLabels.{label_at, setting_at, AreActive}
+use Rattle.mm_proof.specs.Code.Coded.{TellsSteps, meant_steps, letters_give}
+use Rattle.mm_proof.specs.Language.Decoding.{read_label, is_close, compressed_steps, word_spot}
+use Rattle.mm_proof.specs.Code.Labels.{labels_at, entry_step, entry_steps, IsEntry, AreEntries, Lists, IsListed, TellsWord, Begins}
+use Rattle.mm_proof.specs.Code.Left.{AreLeft}
+use Rattle.mm_proof.specs.Code.LeftToRight.{list_on}
 use Rattle.mm_frame.specs.declared.base.Resolved.{Resolved}
 use Rattle.mm_frame.specs.declared.base.Resolved.TheVariants as answers
 use Rattle.mm_proof.specs.declared.step.ProofStep.{ProofStep}
@@ -34,7 +34,7 @@ starts view i mandatory words labels e all = record {
   entries = all;
   before = refl;
   open_yet = refl;
-  rest = list_is (place_at view i) mandatory (word_spot (length words)) (drop 1 words);
+  rest = list_is (setting_at view i) mandatory (word_spot (length words)) (drop 1 words);
 }
 
 module _ (view : BaseView) (i : ℕ) (mandatory words : List (List ℕ)) (n : ℕ) (labels : List Resolved) (lists : Lists view i mandatory words n labels) where
@@ -43,8 +43,8 @@ module _ (view : BaseView) (i : ℕ) (mandatory words : List (List ℕ)) (n : �
   by_next word less is = lists.before ∙ ap (λ (w : List (List ℕ)). lists.listed ++ w) (next_is words n [] less ∙ ap (λ (w : List ℕ). w ∷ drop (n + 1) words) (sym is))
 
   -- what the words from there on give, by the first of them
-  by_word : (word : List ℕ) → n < length words → word ≡ get_or words n [] → compressed_steps (place_at view i) mandatory (drop 1 words) (word_spot (length words)) ≡ list_on (place_at view i) mandatory (word_spot (length words)) lists.listed n (word ∷ drop (n + 1) words)
-  by_word word less is = lists.rest ∙ ap (list_on (place_at view i) mandatory (word_spot (length words)) lists.listed n) (next_is words n [] less ∙ ap (λ (w : List ℕ). w ∷ drop (n + 1) words) (sym is))
+  by_word : (word : List ℕ) → n < length words → word ≡ get_or words n [] → compressed_steps (setting_at view i) mandatory (drop 1 words) (word_spot (length words)) ≡ list_on (setting_at view i) mandatory (word_spot (length words)) lists.listed n (word ∷ drop (n + 1) words)
+  by_word word less is = lists.rest ∙ ap (list_on (setting_at view i) mandatory (word_spot (length words)) lists.listed n) (next_is words n [] less ∙ ap (λ (w : List ℕ). w ∷ drop (n + 1) words) (sym is))
 
   -- at the `)`
   pub ends : (word : List ℕ) → n < length words → word ≡ get_or words n [] → is_close word ≡ true → IsListed view i mandatory words n labels
@@ -58,9 +58,9 @@ module _ (view : BaseView) (i : ℕ) (mandatory words : List (List ℕ)) (n : �
   }
 
   -- at a label that can be used
-  pub goes_on : (word : List ℕ) (meaning : Resolved) → n < length words → word ≡ get_or words n [] → is_close word ≡ false → read_label (place_at view i) word ≡ Ok (entry_step view meaning) → IsEntry view i meaning → Lists view i mandatory words (n + 1) (labels ++ meaning ∷ [])
+  pub goes_on : (word : List ℕ) (meaning : Resolved) → n < length words → word ≡ get_or words n [] → is_close word ≡ false → read_label (setting_at view i) word ≡ Ok (entry_step view meaning) → IsEntry view i meaning → Lists view i mandatory words (n + 1) (labels ++ meaning ∷ [])
   goes_on word meaning less is other read entry =
-      let named = (usable_is word ((place_at view i).resolve word) (entry_step view meaning) read).0 in
+      let named = (usable_is word ((setting_at view i).resolve word) (entry_step view meaning) read).0 in
       record {
         listed = lists.listed ++ word ∷ [];
         labels_are = map-append (entry_step view) labels (meaning ∷ []) ∙ rw (lists.labels_are, named, ← append_assoc) (sym (map-append Named (mandatory ++ lists.listed) (word ∷ [])));
@@ -71,13 +71,13 @@ module _ (view : BaseView) (i : ℕ) (mandatory words : List (List ℕ)) (n : �
       }
 
   -- at a label that cannot be used
-  pub fails : (word : List ℕ) (e : Undecoded) → n < length words → word ≡ get_or words n [] → is_close word ≡ false → TellsWord e n (read_label (place_at view i) word) → Tells e (compressed_steps (place_at view i) mandatory (drop 1 words) (word_spot (length words)))
+  pub fails : (word : List ℕ) (e : Undecoded) → n < length words → word ≡ get_or words n [] → is_close word ≡ false → TellsWord e n (read_label (setting_at view i) word) → TellsSteps e (compressed_steps (setting_at view i) mandatory (drop 1 words) (word_spot (length words)))
   fails word (errors.Fault fault) less is other tells = by_word word less is ∙ rw (other, tells.0, tells.1) refl
   fails word errors.Memory less is other tells = tt
 
   -- at the end
-  pub stops : length words ≤ n → compressed_steps (place_at view i) mandatory (drop 1 words) (word_spot (length words)) ≡ Err (record { number = P03; spot = word_spot (length words) })
-  stops past = lists.rest ∙ ap (list_on (place_at view i) mandatory (word_spot (length words)) lists.listed n) (drop_of_length-le words past)
+  pub stops : length words ≤ n → compressed_steps (setting_at view i) mandatory (drop 1 words) (word_spot (length words)) ≡ Err (record { number = P03; spot = word_spot (length words) })
+  stops past = lists.rest ∙ ap (list_on (setting_at view i) mandatory (word_spot (length words)) lists.listed n) (drop_of_length-le words past)
 
 -- the mandatory hypotheses as entries
 pub hypothesis_steps : (view : BaseView) (numbers : List ℕ) → entry_steps view (map answers.Hypothesis numbers) ≡ map Named (labels_at view numbers)
@@ -96,14 +96,14 @@ list_begins view i numbers words behind labels e active left = record { left = l
 pub compressed_ok :
     (view : BaseView) (i : ℕ) (mandatory words : List (List ℕ)) (n : ℕ) (labels : List Resolved) (steps : List ProofStep) →
     IsListed view i mandatory words n labels → letters_give (entry_steps view labels) words (n + 1) ≡ Ok (meant_steps (entry_steps view labels) steps) →
-    compressed_steps (place_at view i) mandatory (drop 1 words) (word_spot (length words)) ≡ Ok (meant_steps (entry_steps view labels) steps)
+    compressed_steps (setting_at view i) mandatory (drop 1 words) (word_spot (length words)) ≡ Ok (meant_steps (entry_steps view labels) steps)
 compressed_ok view i mandatory words n labels steps listed e = listed.rest ∙ ap (λ (names : List Step). letters_give names words (n + 1)) (sym listed.labels_are) ∙ e
 
 pub compressed_err :
     (view : BaseView) (i : ℕ) (mandatory words : List (List ℕ)) (n : ℕ) (labels : List Resolved) (e : Undecoded) → IsListed view i mandatory words n labels →
-    Tells e (letters_give (entry_steps view labels) words (n + 1)) →
-    Tells e (compressed_steps (place_at view i) mandatory (drop 1 words) (word_spot (length words)))
-compressed_err view i mandatory words n labels e listed tells = subst (Tells e) (sym (listed.rest ∙ ap (λ (names : List Step). letters_give names words (n + 1)) (sym listed.labels_are))) tells
+    TellsSteps e (letters_give (entry_steps view labels) words (n + 1)) →
+    TellsSteps e (compressed_steps (setting_at view i) mandatory (drop 1 words) (word_spot (length words)))
+compressed_err view i mandatory words n labels e listed tells = subst (TellsSteps e) (sym (listed.rest ∙ ap (λ (names : List Step). letters_give names words (n + 1)) (sym listed.labels_are))) tells
 
 -- the table of a compressed proof
 pub compressed_table : (view : BaseView) (i : ℕ) (mandatory words : List (List ℕ)) (n : ℕ) (labels : List Resolved) → IsListed view i mandatory words n labels → entry_steps view labels ≡ map Named (mandatory ++ before_first is_close (drop 1 words))

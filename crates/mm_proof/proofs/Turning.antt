@@ -4,14 +4,14 @@ use Rattle.std.specs.Prelude.{slice_get, Contains, All, Any}
 use Rattle.std.proofs.lemmas.List.{take-append-drop, length-drop, get_or_default}
 use native.Mathlib.Decide.{dec_lt}
 use mathlib.Core.Bool.{Bool-discrete}
-use Rattle.mm_frame.specs.Language.{Symbol, Frame, Resolved, Hypothesis, Assertion, Inactive, Unknown, Place}
-use Rattle.mm_proof.specs.Substitution.{substituted}
-use Rattle.mm_proof.specs.Derivation.{ShareVariable, AreApart}
-use Rattle.mm_frame.specs.Typing.{IsFrame, HasFrames}
-use Rattle.mm_proof.specs.Steps.{Cites, Moves}
-use Rattle.mm_proof.specs.Expansion.{Step, Named, Saved, Save, NotKnown}
-use Rattle.mm_proof.specs.Faults.{AnyZip, entries_for, LackPair, CitingFails, LabelFails, SaveFails, LineHolds, row_of, IsLowest}
-use Rattle.mm_proof.specs.Machine.{State, Turns, IsUsable, IsReady}
+use Rattle.mm_frame.specs.Language.Frame.{Symbol, Frame, Resolved, Hypothesis, Assertion, Inactive, Unknown, Setting}
+use Rattle.mm_proof.specs.Language.Substitution.{substituted}
+use Rattle.mm_proof.specs.Language.Derivation.{ShareVariable, AreApart}
+use Rattle.mm_frame.specs.Language.Typing.{IsFrame, HasFrames}
+use Rattle.mm_proof.specs.Language.Steps.{Cites, Moves}
+use Rattle.mm_proof.specs.Language.Expansion.{Step, Named, Saved, Save, NotKnown}
+use Rattle.mm_proof.specs.Language.Faults.{AnyZip, entries_for, LackPair, CitingFails, LabelFails, SaveFails, StepLineHolds, row_of, IsLowest}
+use Rattle.mm_proof.specs.Language.Machine.{State, Turns, IsUsable, IsReady}
 use Rattle.mm_proof.specs.declared.ProofNumber.{ProofNumber}
 use Rattle.mm_proof.specs.declared.ProofNumber.TheVariants.{P01, P02, P03, P04, P05, P06, P07, P08, P09, P10, P11, P12, P13, P14, P15}
 use Rattle.mm_proof.proofs.Members.{Contains-here, contains_there}
@@ -209,14 +209,14 @@ saved_top s [] = Err P13
 saved_top s (x ∷ xs) = let l = last_entry x xs in Ok (record s { saved = s.saved ++ l.1 ∷ [] })
 
 -- one step of the plain machine
-pub turn : Place → State → Step → Result State ProofNumber
+pub turn : Setting → State → Step → Result State ProofNumber
 turn place s (Named label) = with_stack s (label_turn place.active (place.resolve label) s.stack)
 turn place s (Saved n) = pushed s (slice_get s.saved n)
 turn place s Save = saved_top s s.stack
 turn place s NotKnown = Err P01
 
 label_says :
-    (place : Place) → HasFrames place → (label : List ℕ) (r : Resolved) (s : State) → place.resolve label ≡ r → IsUsable r →
+    (place : Setting) → HasFrames place → (label : List ℕ) (r : Resolved) (s : State) → place.resolve label ≡ r → IsUsable r →
     Says (λ (after : State). Moves place.active r s.stack after.stack × (after.saved ≡ s.saved)) (LabelFails place.active r s.stack) (with_stack s (label_turn place.active r s.stack))
 unfolding with_stack label_turn
 label_says place is label (Hypothesis e) s at u = (refl, refl)
@@ -228,12 +228,12 @@ label_says place is label (Assertion frame) s at u = answer (cite place.active f
 label_says place is label Inactive s at u = absurd u
 label_says place is label Unknown s at u = absurd u
 
-saved_says : (place : Place) (s : State) (n : ℕ) (o : Option (List Symbol)) → slice_get s.saved n ≡ o → n < length s.saved → Says (λ after. Turns place (Saved n) s after) (LineHolds place (Saved n) s.stack) (pushed s o)
+saved_says : (place : Setting) (s : State) (n : ℕ) (o : Option (List Symbol)) → slice_get s.saved n ≡ o → n < length s.saved → Says (λ after. Turns place (Saved n) s after) (StepLineHolds place (Saved n) s.stack) (pushed s o)
 unfolding pushed
 saved_says place s n (Some e) at l = (e, at, refl, refl)
 saved_says place s n None at l = absurd (let f = slice_get-get_or s.saved n [] l in (cc))
 
-save_says : (place : Place) (s : State) (stack : List (List Symbol)) → s.stack ≡ stack → Says (λ after. Turns place Save s after) (SaveFails stack) (saved_top s stack)
+save_says : (place : Setting) (s : State) (stack : List (List Symbol)) → s.stack ≡ stack → Says (λ after. Turns place Save s after) (SaveFails stack) (saved_top s stack)
 unfolding saved_top
 save_says place s [] e = (refl, least)
   where
@@ -243,7 +243,7 @@ save_says place s [] e = (refl, least)
 save_says place s (x ∷ xs) e = let l = last_entry x xs in (l.0, l.1, e ∙ l.2, refl, refl)
 
 -- each answer of the machine is right
-pub turn_says : (place : Place) → HasFrames place → (s : State) (step : Step) → IsReady place s step → Says (λ after. Turns place step s after) (LineHolds place step s.stack) (turn place s step)
+pub turn_says : (place : Setting) → HasFrames place → (s : State) (step : Step) → IsReady place s step → Says (λ after. Turns place step s after) (StepLineHolds place step s.stack) (turn place s step)
 unfolding turn
 turn_says place is s (Named label) r = label_says place is label (place.resolve label) s refl r
 turn_says place is s (Saved n) r = saved_says place s n (slice_get s.saved n) refl r
@@ -251,7 +251,7 @@ turn_says place is s Save r = save_says place s s.stack refl
 turn_says place is s NotKnown r = absurd r
 
 -- where a line holds, the machine has no turn
-pub no_turn : (place : Place) → HasFrames place → (s after : State) (step : Step) (number : ProofNumber) → LineHolds place step s.stack number → Turns place step s after → ⊥
+pub no_turn : (place : Setting) → HasFrames place → (s after : State) (step : Step) (number : ProofNumber) → StepLineHolds place step s.stack number → Turns place step s after → ⊥
 no_turn place is s after (Named label) number h t = label_none (place.resolve label) refl h t.0
   where
     label_none : (r : Resolved) → place.resolve label ≡ r → LabelFails place.active r s.stack number → Moves place.active r s.stack after.stack → ⊥
@@ -267,12 +267,12 @@ no_turn place is s after Save _ h t = h
 no_turn place is s after NotKnown number h t = h
 
 -- a step has a turn, or a lowest line
-answer_of : (place : Place) (s : State) (step : Step) (r : Result State ProofNumber) → Says (λ after. Turns place step s after) (LineHolds place step s.stack) r → ((after : State) × Turns place step s after) ⊎ ((number : ProofNumber) × IsLowest place step s.stack number)
+answer_of : (place : Setting) (s : State) (step : Step) (r : Result State ProofNumber) → Says (λ after. Turns place step s after) (StepLineHolds place step s.stack) r → ((after : State) × Turns place step s after) ⊎ ((number : ProofNumber) × IsLowest place step s.stack number)
 answer_of place s step (Ok after) p = inl (after, p)
 answer_of place s step (Err number) p = inr (number, record { holds = p.0; lowest = p.1 })
 
-pub turns_or_fails : (place : Place) → HasFrames place → (s : State) (step : Step) → IsReady place s step → ((after : State) × Turns place step s after) ⊎ ((number : ProofNumber) × IsLowest place step s.stack number)
+pub turns_or_fails : (place : Setting) → HasFrames place → (s : State) (step : Step) → IsReady place s step → ((after : State) × Turns place step s after) ⊎ ((number : ProofNumber) × IsLowest place step s.stack number)
 turns_or_fails place is s step r = answer_of place s step (turn place s step) (turn_says place is s step r)
 
-pub not_both : (place : Place) → HasFrames place → (s after : State) (step : Step) (number : ProofNumber) → Turns place step s after → LineHolds place step s.stack number → ⊥
+pub not_both : (place : Setting) → HasFrames place → (s after : State) (step : Step) (number : ProofNumber) → Turns place step s after → StepLineHolds place step s.stack number → ⊥
 not_both place is s after step number t h = no_turn place is s after step number h t

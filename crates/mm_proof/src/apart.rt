@@ -2,12 +2,12 @@
 
 ghost use Rattle.std.specs.Prelude.{◌≡◌, ◌↔◌, ◌++◌, ◌∷◌, [], List, ℕ, true, All, Any, IfOk, OnOk, IsTrue, MatchBool, map, not, ◌||◌, bytes_eq};
 ghost use Rattle.std.specs.List.{list_any};
-ghost use Rattle.mm_frame.specs.Item.{has};
-ghost use Rattle.mm_frame.specs.Language.{Symbol, HasVariable};
-ghost use Rattle.mm_frame.specs.Named.{pair_of, kept_pairs, variable_of};
-ghost use Rattle.mm_proof.specs.Stack.{symbols_of, stack_of};
-ghost use Rattle.mm_proof.specs.Apart.{HasOrders, HasPairs, KeepsPair, LosesPair, names_of, clashes_with, clash};
-ghost use Rattle.mm_proof.specs.Given.{given_by};
+ghost use Rattle.mm_frame.specs.Language.Item.{has};
+ghost use Rattle.mm_frame.specs.Language.Frame.{Symbol, HasVariable};
+ghost use Rattle.mm_frame.specs.Code.CodeSymbols.{pair_of, kept_pairs, as_variable};
+ghost use Rattle.mm_proof.specs.Code.Stack.{lent_symbols, stack_of};
+ghost use Rattle.mm_proof.specs.Code.Apart.{HasOrders, HasPairs, KeepsPair, LosesPair, names_of, clashes_with, clash};
+ghost use Rattle.mm_proof.specs.Code.Given.{given_by};
 
 use crate::replacing::Given;
 use mm_frame::NamedSymbol;
@@ -22,7 +22,7 @@ pub struct Disjoint<'a> {
 
 /// The names of the variables among some symbols, each once.
 fn variables<'a>(alloc: Global, symbols: &[&'a NamedSymbol]) -> Result<Vec<&'a [u8]>, AllocError>
-    ensures { IfOk result (λ names. (name : List ℕ) → (has (names_of names.items) name ≡ true) ↔ HasVariable (symbols_of symbols.now) (variable_of name)) }
+    ensures { IfOk result (λ names. (name : List ℕ) → (has (names_of names.items) name ≡ true) ↔ HasVariable (lent_symbols symbols.now) (as_variable name)) }
 {
     let mut seen = HashSet::new(alloc);
     let mut names = Vec::new(alloc);
@@ -35,7 +35,7 @@ fn variables<'a>(alloc: Global, symbols: &[&'a NamedSymbol]) -> Result<Vec<&'a [
 }
 
 impl<'a> Disjoint<'a> {
-    ghost use Rattle.mm_proof.specs.Apart.{has_pair};
+    ghost use Rattle.mm_proof.specs.Code.Apart.{knows_pair};
 
     fn new(alloc: Global) -> Disjoint<'a>
         ensures { HasOrders [] result }
@@ -72,7 +72,7 @@ impl<'a> Disjoint<'a> {
 
     /// Whether two variables are one of the pairs, in one order or the other.
     fn has(&self, x: &'a [u8], y: &'a [u8]) -> bool
-        ensures { result ≡ has_pair self.now x.now y.now }
+        ensures { result ≡ knows_pair self.now x.now y.now }
     {
         self.pairs.contains(&(x, y)) || self.pairs.contains(&(y, x))
     }

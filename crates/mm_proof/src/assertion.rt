@@ -1,12 +1,12 @@
 //! What citing an assertion needs.
 
 ghost use Rattle.std.specs.Prelude.{◌≡◌, ◌<◌, true, All, IfOk, length, map};
-ghost use Rattle.mm_frame.specs.Named.{kept_pairs, symbols_of as named};
-ghost use Rattle.mm_frame.specs.Base.{BaseView, before, is_shown_at, is_framed_at, is_proof_at, hypothesis_at, frame_at};
-ghost use Rattle.mm_frame.specs.Framing.{active_pairs};
-ghost use Rattle.mm_frame.specs.Kept.{IsBase, HasItem};
-ghost use Rattle.mm_frame.specs.Language.{AreSameFrame, AreSamePairs};
-ghost use Rattle.mm_proof.specs.CitedFrame.{mandatory_of, frame_of};
+ghost use Rattle.mm_frame.specs.Code.CodeSymbols.{kept_pairs, symbols_of as named};
+ghost use Rattle.mm_frame.specs.Language.Base.{BaseView, before, is_shown_at, is_framed_at, is_proof_at, hypothesis_at, frame_at};
+ghost use Rattle.mm_frame.specs.Language.Framing.{active_pairs};
+ghost use Rattle.mm_frame.specs.Code.KeptBase.{IsBase, HasItem};
+ghost use Rattle.mm_frame.specs.Language.Frame.{AreSameFrame, AreSamePairs};
+ghost use Rattle.mm_proof.specs.Code.CitedFrame.{mandatory_of, frame_of};
 
 use mm_frame::{Base, ItemKind, NamedSymbol};
 use std::alloc::{AllocError, Global};

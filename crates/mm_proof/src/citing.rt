@@ -3,15 +3,15 @@
 ghost use Rattle.std.specs.Prelude.{◌≡◌, ◌≤◌, ℕ, ◌+◌, ◌++◌, ◌∷◌, ◌||◌, ◌&&◌, not, nat_eq, List, IfOk, OnOk, drop, length};
 ghost use Rattle.std.specs.HashSet.{contains};
 ghost use Rattle.std.specs.List.{list_any};
-ghost use Rattle.mm_proof.specs.Cited.{item_named, names_item, item_cites, without};
+ghost use Rattle.mm_proof.specs.Code.Cited.{item_named, names_item, item_cites, without};
 ghost use Rattle.mm_frame.specs.declared.base.Resolved as labels;
-ghost use Rattle.mm_frame.specs.Base.{BaseView};
-ghost use Rattle.mm_proof.specs.BaseLabels.{HasOwnLabels};
-ghost use Rattle.mm_proof.specs.BaseLabels.{label_at, place_at};
-ghost use Rattle.mm_frame.specs.Base.{is_shown_at};
-ghost use Rattle.mm_proof.specs.Citing.{cited_words};
-ghost use Rattle.mm_proof.specs.Decoded.{decoded_steps};
-ghost use Rattle.mm_proof.specs.Labels.{AreEntries, entry_steps, label_table, labels_at};
+ghost use Rattle.mm_frame.specs.Language.Base.{BaseView};
+ghost use Rattle.mm_proof.specs.Language.BaseLabels.{NoLabelTwice};
+ghost use Rattle.mm_proof.specs.Language.BaseLabels.{label_at, setting_at};
+ghost use Rattle.mm_frame.specs.Language.Base.{is_shown_at};
+ghost use Rattle.mm_proof.specs.Language.Citing.{cited_words};
+ghost use Rattle.mm_proof.specs.Code.Decoded.{decoded_steps};
+ghost use Rattle.mm_proof.specs.Code.Labels.{AreEntries, entry_steps, label_table, labels_at};
 
 use crate::reading::{Decoding, is_compressed};
 use crate::step::{Action, ProofStep};
@@ -112,10 +112,10 @@ pub fn cites(
     mandatory: usize,
     statement: &Statement,
 ) -> Result<Vec<usize>, AllocError>
-    ensures { IfOk result (λ words. (view : BaseView) (i : ℕ) (numbers : List ℕ) → HasOwnLabels view → length numbers ≡ mandatory →
+    ensures { IfOk result (λ words. (view : BaseView) (i : ℕ) (numbers : List ℕ) → NoLabelTwice view → length numbers ≡ mandatory →
         AreEntries view i decoding.now.labels.items →
         entry_steps view decoding.now.labels.items ≡ label_table (labels_at view numbers) statement.now.proof →
-        words.items ≡ cited_words (place_at view i) statement.now.proof (decoded_steps view decoding.now statement.now.proof).steps) }
+        words.items ≡ cited_words (setting_at view i) statement.now.proof (decoded_steps view decoding.now statement.now.proof).steps) }
 {
     if is_compressed(statement) {
         cited(alloc, decoding, mandatory, 1)

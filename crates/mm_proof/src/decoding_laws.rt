@@ -1,8 +1,8 @@
 //! The laws of decoding.
 
-ghost use Rattle.mm_proof.specs.DecodingLaws.{LabelsAreOwn, MandatoryAreActive};
-ghost use Rattle.mm_proof.specs.DecodingLaws.{HasNumberTable, NumbersAreApart, EachIsWritten, HasOneDivision};
-ghost use Rattle.mm_proof.specs.DecodingLaws.{TellsFirstFault, LettersReadOn, DecodesShort, DecodesSurely, CitesRise, SameCitesSame, SameDecodesSame};
+ghost use Rattle.mm_proof.specs.Language.DecodingLaws.{LabelsAreOwn, MandatoryAreActive};
+ghost use Rattle.mm_proof.specs.Language.DecodingLaws.{HasNumberTable, NumbersAreApart, EachIsWritten, HasOneDivision};
+ghost use Rattle.mm_proof.specs.Language.DecodingLaws.{TellsFirstFault, LettersReadOn, DecodesShort, DecodesSurely, CitesRise, SameCitesSame, SameDecodesSame};
 
 use mm_frame::{has_own_labels, items_have_labels, mandatory_means, mandatory_stand_before};
 

@@ -1,6 +1,6 @@
 //! The laws of the proofs of items.
 
-ghost use Rattle.mm_proof.specs.ItemLaws.{MandatoryLabelsMean, HasOneVerdictAt, HasVerdictAt, ProvedIsDerivedAt, HasOneCountAt, HasCountAt};
+ghost use Rattle.mm_proof.specs.Language.ItemLaws.{MandatoryLabelsMean, HasOneVerdictAt, HasVerdictAt, ProvedIsDerivedAt, HasOneCountAt, HasCountAt};
 
 use mm_frame::{items_have_labels, mandatory_means, mandatory_stand_before, places_have_frames};
 

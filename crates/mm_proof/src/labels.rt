@@ -1,14 +1,14 @@
 //! The labels of a proof.
 
 ghost use Rattle.std.specs.Prelude.{◌≡◌, ◌≤◌, ◌+◌, ℕ, List, Ok, IfOk, IfErr, map, drop, length, codes};
-ghost use Rattle.mm_frame.specs.Base.{BaseView};
-ghost use Rattle.mm_frame.specs.Kept.{IsBase};
-ghost use Rattle.mm_frame.specs.Resolving.{Resolves};
-ghost use Rattle.mm_proof.specs.BaseLabels.{label_at, place_at};
-ghost use Rattle.mm_proof.specs.Decoding.{word_spot, read_label as read_label_lem, is_close as is_close_lem};
+ghost use Rattle.mm_frame.specs.Language.Base.{BaseView};
+ghost use Rattle.mm_frame.specs.Code.KeptBase.{IsBase};
+ghost use Rattle.mm_frame.specs.Language.Resolving.{Resolves};
+ghost use Rattle.mm_proof.specs.Language.BaseLabels.{label_at, setting_at};
+ghost use Rattle.mm_proof.specs.Language.Decoding.{word_spot, read_label as read_label_lem, is_close as is_close_lem};
 ghost use Rattle.mm_proof.specs.declared.step.Undecoded.TheVariants as errors;
-ghost use Rattle.mm_proof.specs.Labels.{TellsWord, FromBegin, IsListed, TellsListed, IsEntry, entry_step};
-ghost use Rattle.mm_proof.specs.Left.{AreLeft};
+ghost use Rattle.mm_proof.specs.Code.Labels.{TellsWord, FromBegin, IsListed, TellsListed, IsEntry, entry_step};
+ghost use Rattle.mm_proof.specs.Code.Left.{AreLeft};
 
 use crate::step::{ProofFault, Undecoded};
 use crate::{ProofNumber, Spot};
@@ -26,9 +26,10 @@ fn fault_at(number: ProofNumber, word: usize) -> Undecoded
 
 /// What the label that is the n-th word means at the item with the number `i`, where it can be used there.
 pub fn read_label(base: &Base, i: usize, label: &[u8], n: usize) -> Result<Resolved, Undecoded>
-    ensures ok { IfOk result (λ meaning. (view : BaseView) → IsBase view base.now → read_label_lem (place_at view i) label.now ≡ Ok (entry_step view meaning)) }
+    ensures ok { IfOk result (λ meaning. (view : BaseView) → IsBase view base.now
+        → read_label_lem (setting_at view i) label.now ≡ Ok (entry_step view meaning)) }
     ensures entry { IfOk result (λ meaning. (view : BaseView) → IsBase view base.now → IsEntry view i meaning) }
-    ensures err { IfErr result (λ e. (view : BaseView) → IsBase view base.now → TellsWord e n (read_label_lem (place_at view i) label.now)) }
+    ensures err { IfErr result (λ e. (view : BaseView) → IsBase view base.now → TellsWord e n (read_label_lem (setting_at view i) label.now)) }
 {
     match base.resolve(label, i) {
         Resolved::Hypothesis(j) => Ok(Resolved::Hypothesis(j)),

@@ -1,11 +1,11 @@
 //! The letters of a compressed proof, read in one pass.
 
 ghost use Rattle.std.specs.Prelude.{◌≡◌, ℕ, ◌+◌, ◌-◌, ◌*◌, ◌^◌, ◌<◌, ◌≤◌, min, length, List, slice_get, IfOk, IfErr, Ok};
-ghost use Rattle.mm_proof.specs.Expansion.{Step};
-ghost use Rattle.mm_proof.specs.Numbers as numbers;
-ghost use Rattle.mm_proof.specs.Decoding.{nameable, named as named_lem};
-ghost use Rattle.mm_proof.specs.LeftToRight.{read_behind, alone_behind, read_on};
-ghost use Rattle.mm_proof.specs.Coded.{Tells, meant, meant_or, meant_steps, LettersGive};
+ghost use Rattle.mm_proof.specs.Language.Expansion.{Step};
+ghost use Rattle.mm_proof.specs.Language.Numbers as numbers;
+ghost use Rattle.mm_proof.specs.Language.Decoding.{nameable, named as named_lem};
+ghost use Rattle.mm_proof.specs.Code.LeftToRight.{read_behind, alone_behind, read_on};
+ghost use Rattle.mm_proof.specs.Code.Coded.{TellsSteps, meant, meant_or, meant_steps, LettersGive};
 
 use crate::step::{Action, ProofFault, ProofStep, Undecoded};
 use crate::{ProofNumber, Spot};
@@ -84,8 +84,8 @@ pub struct LetterReader {
 
 impl LetterReader {
     ghost use Rattle.std.specs.Prelude.{[], ◌∷◌, ◌++◌, OnOk};
-    ghost use Rattle.mm_proof.specs.Letters.{Letter, letters_in};
-    ghost use Rattle.mm_proof.specs.Reader.{Aim, Goes};
+    ghost use Rattle.mm_proof.specs.Language.Letters.{Letter, letters_in};
+    ghost use Rattle.mm_proof.specs.Code.Reader.{Aim, Goes};
 
     /// A reader before the first letter, where numbers name this many labels.
     fn new(alloc: Global, labels: usize) -> Self
@@ -103,7 +103,8 @@ impl LetterReader {
     /// Reads one letter.
     fn read(&mut self, byte: u8, spot: Spot) -> Result<(), Undecoded>
         ensures ok { OnOk result ((aim : Aim) (ls : List Letter) → Goes aim self.old (record { byte = byte; spot = spot } ∷ ls) → Goes aim self.new ls) }
-        ensures err { IfErr result (λ e. (aim : Aim) (ls : List Letter) → Goes aim self.old (record { byte = byte; spot = spot } ∷ ls) → Tells e aim.total) }
+        ensures err { IfErr result (λ e. (aim : Aim) (ls : List Letter)
+            → Goes aim self.old (record { byte = byte; spot = spot } ∷ ls) → TellsSteps e aim.total) }
     {
         if is_digit(byte) {
             self.digits = with_digit(self.digits, usize::from(byte - b'T'));
@@ -125,7 +126,7 @@ impl LetterReader {
     /// Reads the letters of the word with this number.
     fn read_word(&mut self, n: usize, word: &[u8]) -> Result<(), Undecoded>
         ensures ok { OnOk result ((aim : Aim) (ls : List Letter) → Goes aim self.old (letters_in (n, word.now) ++ ls) → Goes aim self.new ls) }
-        ensures err { IfErr result (λ e. (aim : Aim) (ls : List Letter) → Goes aim self.old (letters_in (n, word.now) ++ ls) → Tells e aim.total) }
+        ensures err { IfErr result (λ e. (aim : Aim) (ls : List Letter) → Goes aim self.old (letters_in (n, word.now) ++ ls) → TellsSteps e aim.total) }
     {
         for (letter, byte) in word.iter().enumerate() {
             self.read(*byte, Spot { word: n, letter })?;
@@ -136,7 +137,7 @@ impl LetterReader {
     /// The steps, or the fault of digits that no letter follows.
     fn end(self, close: Spot) -> Result<Vec<ProofStep>, Undecoded>
         ensures ok { IfOk result (λ steps. (aim : Aim) → aim.close ≡ close → Goes aim self [] → aim.total ≡ Ok (meant_steps aim.names steps.items)) }
-        ensures err { IfErr result (λ e. (aim : Aim) → aim.close ≡ close → Goes aim self [] → Tells e aim.total) }
+        ensures err { IfErr result (λ e. (aim : Aim) → aim.close ≡ close → Goes aim self [] → TellsSteps e aim.total) }
     {
         if self.digits == 0 {
             Ok(self.steps)
@@ -160,7 +161,7 @@ pub fn read_letters(
     requires few { from + length words.old < 2 ^ 64 }
     requires labels { labels < 2 ^ 63 }
     ensures ok { IfOk result (λ steps. LettersGive labels words.old from (λ names given. given ≡ Ok (meant_steps names steps.items))) }
-    ensures err { IfErr result (λ e. LettersGive labels words.old from (λ names given. Tells e given)) }
+    ensures err { IfErr result (λ e. LettersGive labels words.old from (λ names given. TellsSteps e given)) }
 {
     let mut reader = LetterReader::new(alloc, labels);
     let mut n = from;

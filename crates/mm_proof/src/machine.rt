@@ -1,20 +1,20 @@
 //! The machine that runs a proof.
 
 ghost use Rattle.std.specs.Prelude.{◌≡◌, ◌↔◌, ◌<◌, List, true, false, IsTrue, IfOk, MatchBool, OnOk, length, map};
-ghost use Rattle.mm_frame.specs.Base.{BaseView, before, said_at, is_shown_at, is_proof_at};
-ghost use Rattle.mm_frame.specs.Framing.{place, active_pairs};
-ghost use Rattle.mm_frame.specs.Kept.{IsBase, HasItem};
-ghost use Rattle.mm_frame.specs.Named.{symbols_of as named};
-ghost use Rattle.mm_frame.specs.Language.{Symbol};
-ghost use Rattle.mm_frame.specs.Sound.{AreSound};
-ghost use Rattle.mm_frame.specs.Typing.{IsFrame};
-ghost use Rattle.mm_proof.specs.Apart.{HasPairs, KnowsActive};
-ghost use Rattle.mm_proof.specs.CitedFrame.{mandatory_of, frame_of};
-ghost use Rattle.mm_proof.specs.Given.{given_by};
-ghost use Rattle.mm_proof.specs.OfFiles.{IsOf, HasItemOf};
-ghost use Rattle.mm_proof.specs.Proved.{IsProved};
-ghost use Rattle.mm_proof.specs.StackRuns.{StepsOrFails, ReachesOrFails};
-ghost use Rattle.mm_proof.specs.Stack.{symbols_of, stack_of, TakesOrFails, CitesOrFails, AnyOtherEssential};
+ghost use Rattle.mm_frame.specs.Language.Base.{BaseView, before, said_at, is_shown_at, is_proof_at};
+ghost use Rattle.mm_frame.specs.Language.Framing.{setting, active_pairs};
+ghost use Rattle.mm_frame.specs.Code.KeptBase.{IsBase, HasItem};
+ghost use Rattle.mm_frame.specs.Code.CodeSymbols.{symbols_of as named};
+ghost use Rattle.mm_frame.specs.Language.Frame.{Symbol};
+ghost use Rattle.mm_frame.specs.Language.Sound.{AreSound};
+ghost use Rattle.mm_frame.specs.Language.Typing.{IsFrame};
+ghost use Rattle.mm_proof.specs.Code.Apart.{HasPairs, KnowsActive};
+ghost use Rattle.mm_proof.specs.Code.CitedFrame.{mandatory_of, frame_of};
+ghost use Rattle.mm_proof.specs.Code.Given.{given_by};
+ghost use Rattle.mm_proof.specs.Code.OfFiles.{IsOf, HasItemOf};
+ghost use Rattle.mm_proof.specs.Language.Proved.{IsProved};
+ghost use Rattle.mm_proof.specs.Code.StackRuns.{StepsOrFails, ReachesOrFails};
+ghost use Rattle.mm_proof.specs.Code.Stack.{lent_symbols, stack_of, TakesOrFails, CitesOrFails, AnyOtherEssential};
 
 use crate::apart::Disjoint;
 use crate::assertion::{Cited, Hypothesis, active, assertion_of, expression};
@@ -96,7 +96,7 @@ fn entry<'a>(
     alloc: Global,
     expression: &'a [NamedSymbol],
 ) -> Result<Vec<&'a NamedSymbol>, AllocError>
-    ensures { IfOk result (λ entry. symbols_of entry.items ≡ named expression.now) }
+    ensures { IfOk result (λ entry. lent_symbols entry.items ≡ named expression.now) }
 {
     let mut symbols = Vec::new(alloc);
     for symbol in expression {
@@ -116,7 +116,7 @@ fn step<'a>(
 ) -> Result<bool, AllocError>
     requires { HasItem base.now number }
     ensures { IfOk result (λ done. (view : BaseView) → IsBase view base.now → KnowsActive view number disjoint.now →
-        StepsOrFails (place (before view number)) label.now (stack_of stack.old.items) done (stack_of stack.new.items)) }
+        StepsOrFails (setting (before view number)) label.now (stack_of stack.old.items) done (stack_of stack.new.items)) }
 {
     mm_frame::places_have_frames();
     match base.resolve(label, number) {
@@ -142,7 +142,7 @@ fn run<'a>(
 ) -> Result<Option<Vec<Vec<&'a NamedSymbol>>>, AllocError>
     requires { HasItem base.now number }
     ensures { IfOk result (λ found. (view : BaseView) → IsBase view base.now → KnowsActive view number disjoint.now →
-        ReachesOrFails (place (before view number)) statement.now.proof found) }
+        ReachesOrFails (setting (before view number)) statement.now.proof found) }
 {
     mm_frame::places_have_frames();
     let mut stack = Vec::new(alloc);

@@ -1,16 +1,16 @@
 //! Decoding: the steps of a proof, or its first fault.
 
 ghost use Rattle.std.specs.Prelude.{◌≡◌, true, ℕ, ◌+◌, List, Ok, IfOk, IfErr, map, length, codes, bytes_eq, ◌∷◌, ◌++◌};
-ghost use Rattle.mm_proof.specs.Expansion.{Step};
-ghost use Rattle.mm_frame.specs.Base.{BaseView};
-ghost use Rattle.mm_frame.specs.Kept.{IsBase};
-ghost use Rattle.mm_proof.specs.BaseLabels.{place_at};
-ghost use Rattle.mm_proof.specs.Decoding.{read_word as read_word_lem, is_compressed as is_compressed_lem};
+ghost use Rattle.mm_proof.specs.Language.Expansion.{Step};
+ghost use Rattle.mm_frame.specs.Language.Base.{BaseView};
+ghost use Rattle.mm_frame.specs.Code.KeptBase.{IsBase};
+ghost use Rattle.mm_proof.specs.Language.BaseLabels.{setting_at};
+ghost use Rattle.mm_proof.specs.Language.Decoding.{read_word as read_word_lem, is_compressed as is_compressed_lem};
 ghost use Rattle.mm_frame.specs.declared.base.Resolved.TheVariants as answers;
-ghost use Rattle.mm_proof.specs.Coded.{Tells, meant};
-ghost use Rattle.mm_proof.specs.Decoded.{decoded_steps, TellsFault, InViews, WhereActive, compressed_at, normal_at, decoding_of};
-ghost use Rattle.mm_proof.specs.Decoded.{steps_by, listed_table};
-ghost use Rattle.mm_proof.specs.Labels.{TellsWord, AreEntries, IsEntry, entry_step, entry_steps, labels_at, label_table, word_step};
+ghost use Rattle.mm_proof.specs.Code.Coded.{TellsSteps, meant};
+ghost use Rattle.mm_proof.specs.Code.Decoded.{decoded_steps, TellsFault, InViews, WhereActive, compressed_at, normal_at, decoding_of};
+ghost use Rattle.mm_proof.specs.Code.Decoded.{steps_by, listed_table};
+ghost use Rattle.mm_proof.specs.Code.Labels.{TellsWord, AreEntries, IsEntry, entry_step, entry_steps, labels_at, label_table, word_step};
 
 use crate::Spot;
 use crate::labels::{read_label, read_list};
@@ -54,7 +54,7 @@ fn decode_compressed(
     ensures table { IfOk result (λ d. WhereActive base.now i mandatory.now (λ view.
         entry_steps view d.labels.items ≡ listed_table view mandatory.now statement.now.proof)) }
     ensures err { IfErr result (λ e. WhereActive base.now i mandatory.now (λ view.
-        Tells e (compressed_at view i mandatory.now statement.now.proof))) }
+        TellsSteps e (compressed_at view i mandatory.now statement.now.proof))) }
 {
     let mut labels = hypotheses(alloc, mandatory)?;
     let mut words = statement.proof();
@@ -73,11 +73,11 @@ fn is_unknown(word: &[u8]) -> bool
 
 /// What the n-th word of a normal proof of the item with the number `i` names, and what it does.
 fn read_word(base: &Base, i: usize, word: &[u8], n: usize) -> Result<(Resolved, Action), Undecoded>
-    ensures ok { IfOk result (λ read. InViews base.now (λ view. read_word_lem (place_at view i) word.now ≡ Ok (entry_step view read.0))) }
+    ensures ok { IfOk result (λ read. InViews base.now (λ view. read_word_lem (setting_at view i) word.now ≡ Ok (entry_step view read.0))) }
     ensures action { IfOk result (λ read. (view : BaseView) (before after : List Step) → IsBase view base.now → length before ≡ n →
         meant (before ++ entry_step view read.0 ∷ after) read.1 ≡ entry_step view read.0) }
     ensures entry { IfOk result (λ read. InViews base.now (λ view. IsEntry view i read.0)) }
-    ensures err { IfErr result (λ e. InViews base.now (λ view. TellsWord e n (read_word_lem (place_at view i) word.now))) }
+    ensures err { IfErr result (λ e. InViews base.now (λ view. TellsWord e n (read_word_lem (setting_at view i) word.now))) }
 {
     if is_unknown(word) {
         Ok((Resolved::Unknown, Action::Unknown))
@@ -96,7 +96,7 @@ fn decode_normal(
     ensures ok { IfOk result (λ d. InViews base.now (λ view. normal_at view i statement.now.proof ≡ Ok (steps_by view d))) }
     ensures entries { IfOk result (λ d. InViews base.now (λ view. AreEntries view i d.labels.items)) }
     ensures table { IfOk result (λ d. InViews base.now (λ view. entry_steps view d.labels.items ≡ map word_step statement.now.proof)) }
-    ensures err { IfErr result (λ e. InViews base.now (λ view. Tells e (normal_at view i statement.now.proof))) }
+    ensures err { IfErr result (λ e. InViews base.now (λ view. TellsSteps e (normal_at view i statement.now.proof))) }
 {
     let mut labels = Vec::new(alloc);
     let mut steps = Vec::new(alloc);

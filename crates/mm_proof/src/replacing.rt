@@ -2,12 +2,12 @@
 
 ghost use Rattle.std.specs.Prelude.{◌≡◌, ◌↔◌, ◌++◌, ◌∷◌, [], ◌≤◌, ℕ, List, IsTrue, IfOk, OnOk, None, Some};
 ghost use Rattle.std.specs.Prelude.{drop, length, map, slice_get, unwrap_or, if◌then◌else◌, bytes_eq};
-ghost use Rattle.mm_frame.specs.Language.{Symbol};
-ghost use Rattle.mm_frame.specs.Named.{symbol_of as named_symbol, symbols_of as named};
-ghost use Rattle.mm_proof.specs.Substitution.{substituted as put_in, replacement};
-ghost use Rattle.mm_proof.specs.CitedFrame.{mandatory_of};
-ghost use Rattle.mm_proof.specs.Given.{StandsAt};
-ghost use Rattle.mm_proof.specs.Stack.{symbols_of, stack_of};
+ghost use Rattle.mm_frame.specs.Language.Frame.{Symbol};
+ghost use Rattle.mm_frame.specs.Code.CodeSymbols.{symbol_of as named_symbol, symbols_of as named};
+ghost use Rattle.mm_proof.specs.Language.Substitution.{substituted as put_in, replacement};
+ghost use Rattle.mm_proof.specs.Code.CitedFrame.{mandatory_of};
+ghost use Rattle.mm_proof.specs.Code.Given.{HasSymbolsAt};
+ghost use Rattle.mm_proof.specs.Code.Stack.{lent_symbols, stack_of};
 
 use crate::assertion::Hypothesis;
 use crate::compare::are_same;
@@ -26,14 +26,14 @@ pub struct Given<'a> {
 
 /// The symbols behind the typecode.
 fn behind_typecode<'s, 'a>(entry: &'s [&'a NamedSymbol]) -> &'s [&'a NamedSymbol]
-    ensures { symbols_of result.now ≡ drop 1 (symbols_of entry.now) }
+    ensures { lent_symbols result.now ≡ drop 1 (lent_symbols entry.now) }
 {
     if entry.is_empty() { entry } else { &entry[1..] }
 }
 
 /// Whether an entry has the typecode of a hypothesis.
 fn has_typecode(hypothesis: &[NamedSymbol], entry: &[&NamedSymbol]) -> bool
-    ensures { IsTrue result ↔ (slice_get (named hypothesis.now) 0 ≡ slice_get (symbols_of entry.now) 0) }
+    ensures { IsTrue result ↔ (slice_get (named hypothesis.now) 0 ≡ slice_get (lent_symbols entry.now) 0) }
 {
     match (hypothesis.first(), entry.first()) {
         (Some(typecode), Some(symbol)) => typecode.same(symbol),
@@ -53,7 +53,7 @@ fn variable_of(hypothesis: &[NamedSymbol]) -> &[u8]
 }
 
 impl<'a> Given<'a> {
-    ghost use Rattle.mm_proof.specs.Given.{place_for, given_for, given_by, FindsGiven, SubstitutedOrLong};
+    ghost use Rattle.mm_proof.specs.Code.Given.{place_for, given_for, given_by, FindsGiven, SubstitutedOrLong};
 
     /// Nothing is given for any variable.
     fn new(alloc: Global) -> Given<'a>
@@ -106,7 +106,7 @@ impl<'a> Given<'a> {
 
     /// What is given for a variable: the entry of its `$f` without the typecode.
     pub fn of<'s>(&self, taken: &'s [Vec<&'a NamedSymbol>], name: &[u8]) -> &'s [&'a NamedSymbol]
-        ensures { symbols_of result.now ≡ given_for self.now (stack_of taken.now) name.now }
+        ensures { lent_symbols result.now ≡ given_for self.now (stack_of taken.now) name.now }
     {
         let place = self.place(taken.len(), name);
         if place >= taken.len() {
@@ -122,8 +122,8 @@ impl<'a> Given<'a> {
         symbol: &'a NamedSymbol,
         symbols: &mut Vec<&'a NamedSymbol>,
     ) -> Result<(), AllocError>
-        ensures { OnOk result (symbols_of symbols.new.items
-            ≡ symbols_of symbols.old.items ++ replacement (given_by self.now (stack_of taken.now)) (named_symbol symbol.now)) }
+        ensures { OnOk result (lent_symbols symbols.new.items
+            ≡ lent_symbols symbols.old.items ++ replacement (given_by self.now (stack_of taken.now)) (named_symbol symbol.now)) }
     {
         if symbol.variable {
             symbols.extend_from_slice(self.of(taken, &symbol.name))
@@ -161,7 +161,7 @@ impl<'a> Given<'a> {
         at: usize,
     ) -> Option<usize>
         requires { at ≤ length entry.now }
-        ensures { StandsAt (replacement (given_by self.now (stack_of taken.now)) (named_symbol symbol.now)) (symbols_of entry.now) at result }
+        ensures { HasSymbolsAt (replacement (given_by self.now (stack_of taken.now)) (named_symbol symbol.now)) (lent_symbols entry.now) at result }
     {
         if symbol.variable {
             behind_symbols(self.of(taken, &symbol.name), entry, at)
@@ -177,7 +177,7 @@ impl<'a> Given<'a> {
         expression: &[NamedSymbol],
         entry: &[&'a NamedSymbol],
     ) -> bool
-        ensures { IsTrue result ↔ (put_in (given_by self.now (stack_of taken.now)) (named expression.now) ≡ symbols_of entry.now) }
+        ensures { IsTrue result ↔ (put_in (given_by self.now (stack_of taken.now)) (named expression.now) ≡ lent_symbols entry.now) }
     {
         let mut at = 0;
         for symbol in expression {
@@ -193,7 +193,7 @@ impl<'a> Given<'a> {
 /// The place behind a symbol, where it stands at this place.
 fn behind_symbol(symbol: &NamedSymbol, entry: &[&NamedSymbol], at: usize) -> Option<usize>
     requires { at ≤ length entry.now }
-    ensures { StandsAt (named_symbol symbol.now ∷ []) (symbols_of entry.now) at result }
+    ensures { HasSymbolsAt (named_symbol symbol.now ∷ []) (lent_symbols entry.now) at result }
 {
     if at < entry.len() && entry[at].same(symbol) {
         Some(at + 1)
@@ -205,7 +205,7 @@ fn behind_symbol(symbol: &NamedSymbol, entry: &[&NamedSymbol], at: usize) -> Opt
 /// The place behind some symbols, where they stand at this place.
 fn behind_symbols(symbols: &[&NamedSymbol], entry: &[&NamedSymbol], at: usize) -> Option<usize>
     requires { at ≤ length entry.now }
-    ensures { StandsAt (symbols_of symbols.now) (symbols_of entry.now) at result }
+    ensures { HasSymbolsAt (lent_symbols symbols.now) (lent_symbols entry.now) at result }
 {
     let count = symbols.len();
     if entry.len() - at >= count && are_same(symbols, &entry[at..at + count]) {

@@ -9,11 +9,11 @@ use Rattle.std.proofs.lemmas.Option.{slice_get-map, slice_get_within, get_or_fro
 use Rattle.mm_store.specs.declared.files.PieceKey.{PieceKey}
 use Rattle.mm_store.specs.declared.files.FileText.{FileText}
 use Rattle.mm_store.specs.declared.piece_text.PieceText.{PieceText}
-use Rattle.mm_store.specs.FilesView.{PieceView, FileView, FilesView, piece_texts, text_of, bytes_of}
-use Rattle.mm_store.specs.FileFacts.{IsByte, IsLive, piece_offset}
-use Rattle.mm_store.specs.Inside.{text_at, file_of, files_of}
+use Rattle.mm_store.specs.Language.FilesView.{PieceView, FileView, FilesView, piece_texts, text_of, bytes_of}
+use Rattle.mm_store.specs.Language.FileFacts.{IsByte, IsLive, piece_offset}
+use Rattle.mm_store.specs.Code.Inside.{text_at, file_of, files_of}
 use Rattle.mm_store.specs.declared.start.Start.{Start}
-use Rattle.mm_store.specs.Lines.{AreStarts, IsStart, bytes_before}
+use Rattle.mm_store.specs.Code.Lines.{AreStarts, IsStart, bytes_before}
 use Rattle.mm_store.proofs.FilesLemmas.{texts_are, file_small}
 use Rattle.mm_store.proofs.PlaceLemmas.{before_byte, within_joined}
 

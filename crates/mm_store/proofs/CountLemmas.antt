@@ -3,14 +3,14 @@ use Rattle.std.proofs.Common.{◌≡◌, ℕ, suc, ◌+◌, ◌<◌, ◌≤◌, 
 use Rattle.std.specs.List.{flat_map, concat}
 use Rattle.std.proofs.lemmas.List.{length-map}
 use Rattle.mm_text.specs.declared.word.Word.{Word}
-use Rattle.mm_text.specs.Run.{Run, runs, runs_from, with_front, is_white, ends_run}
-use Rattle.mm_text.specs.Reading as reading
-use Rattle.mm_text.specs.Reading.{Single, Comment, part_words, part_runs, HasWords}
-use Rattle.mm_text.specs.Unit.{Shape, Declaration, Labelled, Provable, Inclusion, Units, Nothing, Simple, Block, shape_tokens, unit_tokens, token_of}
+use Rattle.mm_text.specs.Language.Run.{Run, runs, runs_from, with_front, is_white, ends_run}
+use Rattle.mm_text.specs.Language.Reading as reading
+use Rattle.mm_text.specs.Language.Reading.{Single, Comment, segment_words, segment_runs, HasWords}
+use Rattle.mm_text.specs.Language.Unit.{Shape, Declaration, Labelled, Provable, Inclusion, Units, Nothing, Simple, Block, shape_tokens, unit_tokens, token_of}
 use Rattle.mm_text.specs.declared.part.PartKind.TheVariants.{BlockEnd}
-use Rattle.mm_text.specs.Part.{part, parts_of}
-use Rattle.mm_store.specs.FilesView.{PieceView, piece_texts}
-use Rattle.mm_store.specs.Expansion.{Placed, named_parts, placed_part, ArePartsOf, ArePlaced}
+use Rattle.mm_text.specs.Language.Part.{part, parts_of}
+use Rattle.mm_store.specs.Language.FilesView.{PieceView, piece_texts}
+use Rattle.mm_store.specs.Language.Expansion.{Placed, named_parts, placed_part, ArePartsOf, ArePlaced}
 use Rattle.mm_store.proofs.NameLemmas.{named_are}
 
 front_count : (at b : ℕ) (runs : List Run) → length (with_front at b runs) ≡ length runs
@@ -26,11 +26,11 @@ runs_few : (at : ℕ) (bytes : List ℕ) → length (runs_from at bytes) ≤ len
 runs_few at [] = omega arith
 runs_few at (b ∷ bytes) = run_count (is_white b) (ends_run bytes) at b (length bytes) (record { start = at; bytes = b ∷ [] }) (runs_from (at + 1) bytes) (runs_few (at + 1) bytes)
 
-words_in_parts : (parts : List reading.Part) → length (flat_map part_words parts) ≤ length (flat_map part_runs parts)
+words_in_parts : (parts : List reading.Segment) → length (flat_map segment_words parts) ≤ length (flat_map segment_runs parts)
 words_in_parts [] = omega arith
 words_in_parts (Single run word ∷ parts) = omega (arith, words_in_parts parts)
 words_in_parts (Comment first inside last ∷ parts) =
-    omega (arith, words_in_parts parts, length-append (first ∷ (inside ++ last ∷ [])) (flat_map part_runs parts))
+    omega (arith, words_in_parts parts, length-append (first ∷ (inside ++ last ∷ [])) (flat_map segment_runs parts))
 
 words_few : (text : List ℕ) (words : List Word) → HasWords text words → length words ≤ length text
 words_few text words has =

@@ -3,11 +3,11 @@ use Rattle.std.proofs.Common.{◌≡◌, ℕ, ◌+◌, true, List, [], ◌∷◌
 use Rattle.std.specs.Prelude.{slice_get}
 use Rattle.std.proofs.lemmas.Option.{none-some, same_Some}
 use Rattle.mm_text.specs.declared.word.Word.{Word}
-use Rattle.mm_text.specs.Reading.{HasWords}
-use Rattle.mm_text.specs.Unit.{Units, AreUnits, unit_tokens, tokens_of}
+use Rattle.mm_text.specs.Language.Reading.{HasWords}
+use Rattle.mm_text.specs.Language.Unit.{Units, AreUnits, unit_tokens, tokens_of}
 use Rattle.mm_store.specs.declared.item.Item.{Item}
-use Rattle.mm_store.specs.FilesView.{PieceView, FileView, number_of}
-use Rattle.mm_store.specs.Expansion.{Placed, IsInclusion, item_of, named_parts, placed_part, ArePartsOf, ArePlaced, Expands, nothing, own, again, missing, included, IsExpansion}
+use Rattle.mm_store.specs.Language.FilesView.{PieceView, FileView, number_of}
+use Rattle.mm_store.specs.Language.Expansion.{Placed, IsInclusion, placed_item, named_parts, placed_part, ArePartsOf, ArePlaced, Expands, nothing, own, again, missing, included, IsExpansion}
 
 abbrev pub OneReading : Type 0
 OneReading = (text : List ℕ) (a b : List Word) → HasWords text a → HasWords text b → a ≡ b
@@ -19,7 +19,7 @@ OneDivision = (a b : Units) → AreUnits true a → AreUnits true b → unit_tok
 pub record Own (files : List FileView) (part : Placed) (parts : List Placed) (names : List (List ℕ)) (items : List Item) (after : List (List ℕ)) : Type 0 where
   pub is_own : ¬ IsInclusion part
   pub rest : List Item
-  pub is : items ≡ item_of part ∷ rest
+  pub is : items ≡ placed_item part ∷ rest
   pub later : Expands files parts names rest after
 
 pub record Again (files : List FileView) (part : Placed) (parts : List Placed) (names : List (List ℕ)) (items : List Item) (after : List (List ℕ)) : Type 0 where
@@ -32,7 +32,7 @@ pub record Lost (files : List FileView) (part : Placed) (parts : List Placed) (n
   pub new : ¬ Contains names part.name
   pub none : number_of files part.name ≡ None
   pub rest : List Item
-  pub is : items ≡ item_of part ∷ rest
+  pub is : items ≡ placed_item part ∷ rest
   pub later : Expands files parts (names ++ part.name ∷ []) rest after
 
 pub record Taken (files : List FileView) (part : Placed) (parts : List Placed) (names : List (List ℕ)) (items : List Item) (after : List (List ℕ)) : Type 0 where
@@ -67,8 +67,8 @@ way (included {inner = inner} {between = between} {gained = gained} {items = ite
 abbrev One : List FileView → List Placed → List (List ℕ) → List Item → List (List ℕ) → Type 0
 One files parts names items after = (b : List Item) (y : List (List ℕ)) → Expands files parts names b y → (items ≡ b) × (after ≡ y)
 
-own_one : {files : List FileView} {part : Placed} {parts : List Placed} {names after y : List (List ℕ)} {items b : List Item} → ¬ IsInclusion part → One files parts names items after → Way files (part ∷ parts) names b y → (item_of part ∷ items ≡ b) × (after ≡ y)
-own_one {part = part} {y = y} not one (inl (inl o)) = (let r = one o.rest y o.later in (ap (λ l. item_of part ∷ l) r.0 ∙ sym o.is, r.1))
+own_one : {files : List FileView} {part : Placed} {parts : List Placed} {names after y : List (List ℕ)} {items b : List Item} → ¬ IsInclusion part → One files parts names items after → Way files (part ∷ parts) names b y → (placed_item part ∷ items ≡ b) × (after ≡ y)
+own_one {part = part} {y = y} not one (inl (inl o)) = (let r = one o.rest y o.later in (ap (λ l. placed_item part ∷ l) r.0 ∙ sym o.is, r.1))
 own_one not one (inl (inr g)) = absurd (not g.is_inclusion)
 own_one not one (inr (inl l)) = absurd (not l.is_inclusion)
 own_one not one (inr (inr t)) = absurd (not t.is_inclusion)
@@ -80,10 +80,10 @@ again_one is old one (inr (inl l)) = absurd (l.new old)
 again_one is old one (inr (inr t)) = absurd (t.new old)
 
 missing_one : {files : List FileView} {part : Placed} {parts : List Placed} {names after y : List (List ℕ)} {items b : List Item} → IsInclusion part → ¬ Contains names part.name
-    → number_of files part.name ≡ None → One files parts (names ++ part.name ∷ []) items after → Way files (part ∷ parts) names b y → (item_of part ∷ items ≡ b) × (after ≡ y)
+    → number_of files part.name ≡ None → One files parts (names ++ part.name ∷ []) items after → Way files (part ∷ parts) names b y → (placed_item part ∷ items ≡ b) × (after ≡ y)
 missing_one is new none one (inl (inl o)) = absurd (o.is_own is)
 missing_one is new none one (inl (inr g)) = absurd (new g.known)
-missing_one {part = part} {y = y} is new none one (inr (inl l)) = (let r = one l.rest y l.later in (ap (λ rest. item_of part ∷ rest) r.0 ∙ sym l.is, r.1))
+missing_one {part = part} {y = y} is new none one (inr (inl l)) = (let r = one l.rest y l.later in (ap (λ rest. placed_item part ∷ rest) r.0 ∙ sym l.is, r.1))
 missing_one is new none one (inr (inr t)) = absurd (none-some t.number (sym none ∙ t.is_number))
 
 module _ (one_reading : OneReading) (one_division : OneDivision) where

@@ -12,9 +12,9 @@ use Rattle.std.proofs.lemmas.Option.{slice_get-map, slice_get-get_or, same_Some,
 use Rattle.mm_store.specs.declared.files.PieceKey.{PieceKey}
 use Rattle.mm_store.specs.declared.files.FileText.{FileText}
 use Rattle.mm_store.specs.declared.piece_text.PieceText.{PieceText}
-use Rattle.mm_store.specs.FilesView.{piece_texts, text_of, bytes_of, number_of, find_file, file_at}
-use Rattle.mm_store.specs.FileFacts.{IsLive}
-use Rattle.mm_store.specs.Inside.{text_at, text_under, piece_of, file_of, files_of, IsFileKept}
+use Rattle.mm_store.specs.Language.FilesView.{piece_texts, text_of, bytes_of, number_of, find_file, file_at}
+use Rattle.mm_store.specs.Language.FileFacts.{IsLive}
+use Rattle.mm_store.specs.Code.Inside.{text_at, text_under, piece_of, file_of, files_of, IsFileKept}
 
 -- what holds of each element holds of the one at a place
 pub kept_at : {X : Type 0} (P : X → Type 0) (xs : List X) (n : ℕ) (x : X) → slice_get xs n ≡ Some x → AllByRecursion P xs → P x

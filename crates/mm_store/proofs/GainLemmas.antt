@@ -15,10 +15,10 @@ use Rattle.mm_store.specs.declared.item.Item.{Item}
 use Rattle.std.proofs.lemmas.Option.{none-some}
 use Rattle.mm_store.specs.declared.files.PieceKey.{PieceKey}
 use Rattle.mm_store.specs.declared.piece_text.PieceText.{PieceText}
-use Rattle.mm_store.specs.Inside.{piece_of, text_at}
-use Rattle.mm_store.specs.FilesView.{PieceView, FileView, number_of}
-use Rattle.mm_store.specs.Expansion.{Placed, IsInclusion, item_of, ArePartsOf, ArePlaced, Expands, nothing, own, again, missing, included}
-use Rattle.mm_store.specs.Gains.{Takes, Gains, PieceGains, FileGains, HaveOnly}
+use Rattle.mm_store.specs.Code.Inside.{piece_of, text_at}
+use Rattle.mm_store.specs.Language.FilesView.{PieceView, FileView, number_of}
+use Rattle.mm_store.specs.Language.Expansion.{Placed, IsInclusion, placed_item, ArePartsOf, ArePlaced, Expands, nothing, own, again, missing, included}
+use Rattle.mm_store.specs.Code.Gains.{TakesName, Gains, PieceGains, FileGains, HaveOnly}
 
 one_is : (y name : List ℕ) (k : ℕ) → k < 1 → get_or (y ∷ []) k name ≡ name → y ≡ name
 one_is y name zero h e = e
@@ -50,22 +50,22 @@ inserted names key name is new =
     ap (λ b. map (λ key. key.items) (if b then names else names ++ key ∷ [])) none ∙ map_push (λ key. key.items) names key ∙ ap (λ n. map (λ key. key.items) names ++ n ∷ []) is
 
 -- one part
-pub gains_own : (part : Placed) (names : List (List ℕ)) (items : List Item) → ¬ IsInclusion part → Gains (part ∷ []) names items names (items ++ item_of part ∷ [])
-gains_own part names items not = record { gained = item_of part ∷ []; more = refl; few = omega arith; grows = λ name h. h; expands = λ files only. own not nothing }
+pub gains_own : (part : Placed) (names : List (List ℕ)) (items : List Item) → ¬ IsInclusion part → Gains (part ∷ []) names items names (items ++ placed_item part ∷ [])
+gains_own part names items not = record { gained = placed_item part ∷ []; more = refl; few = omega arith; grows = λ name h. h; expands = λ files only. own not nothing }
 
-pub gains_missing : (part : Placed) (names : List (List ℕ)) (items : List Item) → IsInclusion part → ¬ Contains names part.name → Gains (part ∷ []) names items (names ++ part.name ∷ []) (items ++ item_of part ∷ [])
-gains_missing part names items is new = record { gained = item_of part ∷ []; more = refl; few = omega arith; grows = λ name h. Contains-append_left names (part.name ∷ []) name h; expands = λ files only. missing is new (only part.name new) nothing }
+pub gains_missing : (part : Placed) (names : List (List ℕ)) (items : List Item) → IsInclusion part → ¬ Contains names part.name → Gains (part ∷ []) names items (names ++ part.name ∷ []) (items ++ placed_item part ∷ [])
+gains_missing part names items is new = record { gained = placed_item part ∷ []; more = refl; few = omega arith; grows = λ name h. Contains-append_left names (part.name ∷ []) name h; expands = λ files only. missing is new (only part.name new) nothing }
 
 pub gains_again : (part : Placed) (names : List (List ℕ)) (items : List Item) → IsInclusion part → Contains names part.name → Gains (part ∷ []) names items names items
 gains_again part names items is old = record { gained = []; more = sym (append-nil items); few = omega arith; grows = λ name h. h; expands = λ files only. again is old nothing }
 
 -- an inclusion whose name was taken into the set, or was there
-pub gains_first : (part : Placed) (names : List (List ℕ)) (items : List Item) (name : List ℕ) (first : Bool) (after : List (List ℕ)) → IsInclusion part → name ≡ part.name → first ≡ true → Takes names name first after → Gains (part ∷ []) names items after (items ++ item_of part ∷ [])
+pub gains_first : (part : Placed) (names : List (List ℕ)) (items : List Item) (name : List ℕ) (first : Bool) (after : List (List ℕ)) → IsInclusion part → name ≡ part.name → first ≡ true → TakesName names name first after → Gains (part ∷ []) names items after (items ++ placed_item part ∷ [])
 gains_first part names items name true after is same e takes =
-    subst (λ after. Gains (part ∷ []) names items after (items ++ item_of part ∷ [])) (sym (takes.1 ∙ ap (λ n. names ++ n ∷ []) same)) (gains_missing part names items is (λ old. takes.0 (subst (Contains names) (sym same) old)))
+    subst (λ after. Gains (part ∷ []) names items after (items ++ placed_item part ∷ [])) (sym (takes.1 ∙ ap (λ n. names ++ n ∷ []) same)) (gains_missing part names items is (λ old. takes.0 (subst (Contains names) (sym same) old)))
 gains_first part names items name false after is same e takes = absurd (false≢true e)
 
-pub gains_later : (part : Placed) (names : List (List ℕ)) (items : List Item) (name : List ℕ) (first : Bool) (after : List (List ℕ)) → IsInclusion part → name ≡ part.name → first ≡ false → Takes names name first after → Gains (part ∷ []) names items after items
+pub gains_later : (part : Placed) (names : List (List ℕ)) (items : List Item) (name : List ℕ) (first : Bool) (after : List (List ℕ)) → IsInclusion part → name ≡ part.name → first ≡ false → TakesName names name first after → Gains (part ∷ []) names items after items
 gains_later part names items name true after is same e takes = absurd (false≢true (sym e))
 gains_later part names items name false after is same e takes =
     subst (λ after. Gains (part ∷ []) names items after items) (sym takes.1) (gains_again part names items is (subst (Contains names) same takes.0))

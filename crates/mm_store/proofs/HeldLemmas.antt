@@ -6,9 +6,9 @@ use Rattle.std.proofs.lemmas.List.Elements.{recursion_from_All}
 use Rattle.std.proofs.lemmas.Option.{slice_get_within, get_or_from_slice_get}
 use Rattle.mm_store.specs.declared.files.FileText.{FileText}
 use Rattle.mm_store.specs.declared.piece_text.PieceText.{PieceText}
-use Rattle.mm_store.specs.FilesView.{PieceView, FileView}
-use Rattle.mm_store.specs.FileFacts.{HaveOwnKeys}
-use Rattle.mm_store.specs.Inside.{IsFileKept, IsPieceKept, HoldsUnit, files_of, file_of, piece_of, text_under}
+use Rattle.mm_store.specs.Language.FilesView.{PieceView, FileView}
+use Rattle.mm_store.specs.Language.FileFacts.{HaveOwnKeys}
+use Rattle.mm_store.specs.Code.Inside.{IsFileKept, IsPieceKept, HoldsUnit, files_of, file_of, piece_of, text_under}
 use Rattle.mm_store.proofs.FilesLemmas.{kept_at, live_is, there_from_map}
 use Rattle.mm_store.proofs.NameLemmas.{HoldUnits}
 

@@ -4,8 +4,8 @@ use Rattle.std.specs.Prelude.{AllPairs, slice_get}
 use Rattle.std.proofs.lemmas.Bool.{cases_order}
 use Rattle.std.proofs.lemmas.Option.{get_or_from_slice_get, same_Some, slice_get_within}
 use Rattle.mm_store.specs.declared.files.PieceKey.{PieceKey}
-use Rattle.mm_store.specs.FilesView.{PieceView, FileView, FilesView, no_files}
-use Rattle.mm_store.specs.FileFacts.{IsAdded, IsLive}
+use Rattle.mm_store.specs.Language.FilesView.{PieceView, FileView, FilesView, no_files}
+use Rattle.mm_store.specs.Language.FileFacts.{IsAdded, IsLive}
 
 -- the one file
 only_file : (file found : FileView) (n : ℕ) → slice_get (file ∷ []) n ≡ Some found → found ≡ file

@@ -6,12 +6,12 @@ use Rattle.std.specs.Option.{option_map}
 use Rattle.std.proofs.lemmas.List.{length-map, map-append}
 use Rattle.std.proofs.lemmas.Option.{slice_get-map}
 use Rattle.std.proofs.lemmas.Simd.{map-map}
-use Rattle.mm_text.specs.Cut.{IsCut}
+use Rattle.mm_text.specs.Language.Cut.{IsCut}
 use Rattle.mm_store.specs.declared.item.Item.{Item}
-use Rattle.mm_store.specs.FilesView.{PieceView, FileView, FilesView, number_of, piece_texts}
-use Rattle.mm_store.specs.FileFacts.{IsAdded}
-use Rattle.mm_store.specs.Expansion.{Placed, named_parts, placed_part, ArePartsOf, ArePlaced, Expands, nothing, own, again, missing, included, IsExpansion}
-use Rattle.mm_store.specs.Keyless.{one_key, keyless_piece, keyless_file, keyless_placed, keyless_item}
+use Rattle.mm_store.specs.Language.FilesView.{PieceView, FileView, FilesView, number_of, piece_texts}
+use Rattle.mm_store.specs.Language.FileFacts.{IsAdded}
+use Rattle.mm_store.specs.Language.Expansion.{Placed, named_parts, placed_part, ArePartsOf, ArePlaced, Expands, nothing, own, again, missing, included, IsExpansion}
+use Rattle.mm_store.specs.Language.Keyless.{one_key, keyless_piece, keyless_file, keyless_placed, keyless_item}
 use Rattle.mm_store.proofs.ExpansionLemmas.{OneReading, OneDivision, expansion_one}
 
 before_map : {X Y : Type 0} (test : Y → Bool) (f : X → Y) (xs : List X) → position_or_len test (map f xs) ≡ position_or_len (λ x. test (f x)) xs

@@ -10,17 +10,17 @@ use Rattle.mm_text.specs.declared.word.Word.{Word}
 use Rattle.mm_text.specs.declared.word.Keyword.TheVariants.{Constants, Variables, Disjoint, Floating, Essential, Axiom}
 use Rattle.mm_text.specs.declared.part.PartKind.{PartKind}
 use Rattle.mm_text.specs.declared.part.PartKind.TheVariants as parts
-use Rattle.mm_text.specs.Reading.{HasWords}
-use Rattle.mm_text.specs.Unit.{Token, IsKeyword, Shape, Declaration, Labelled, Provable, Inclusion, shape_tokens, IsShape, Units, Nothing, Simple, Block, AreUnits, spellings, tokens_of}
-use Rattle.mm_text.specs.Part.{HasUnits, part, part_bytes, parts_of, shape_part, word_part}
-use Rattle.mm_text.specs.Cut.{IsOne}
+use Rattle.mm_text.specs.Language.Reading.{HasWords}
+use Rattle.mm_text.specs.Language.Unit.{Token, IsKeyword, Shape, Declaration, Labelled, Provable, Inclusion, shape_tokens, IsShape, Units, Nothing, Simple, Block, AreUnits, spellings, tokens_of}
+use Rattle.mm_text.specs.Language.Part.{HasUnits, part, part_bytes, parts_of, shape_part, word_part}
+use Rattle.mm_text.specs.Language.Cut.{IsOne}
 use Rattle.mm_store.specs.declared.item.Item.{Item}
 use Rattle.mm_store.specs.declared.item.ItemKind.TheVariants as items
-use Rattle.mm_store.specs.FilesView.{PieceView, FileView, FilesView, number_of}
-use Rattle.mm_store.specs.FileFacts.{HaveOwnKeys, IsLive, NamesNoFile, second_word}
-use Rattle.mm_store.specs.Expansion.{Named, Placed, IsInclusion, included_name, item_kind, item_of, nameless, named_parts, placed_part, ArePlaced, Expands, nothing, own, again, missing, included, IsExpansion}
-use Rattle.mm_store.specs.Gains.{IsNamed}
-use Rattle.mm_store.specs.Inside.{HoldsUnit}
+use Rattle.mm_store.specs.Language.FilesView.{PieceView, FileView, FilesView, number_of}
+use Rattle.mm_store.specs.Language.FileFacts.{HaveOwnKeys, IsLive, NamesNoFile, second_word}
+use Rattle.mm_store.specs.Language.Expansion.{Named, Placed, IsInclusion, included_name, item_kind, placed_item, nameless, named_parts, placed_part, ArePlaced, Expands, nothing, own, again, missing, included, IsExpansion}
+use Rattle.mm_store.specs.Code.Gains.{IsNamed}
+use Rattle.mm_store.specs.Code.Inside.{HoldsUnit}
 use Rattle.mm_store.proofs.ExpansionLemmas.{OneReading, OneDivision}
 
 -- the named parts are the parts
@@ -104,7 +104,7 @@ piece_tied files file number n piece [] h there here = tt
 piece_tied files file number n piece (part ∷ named) h there here =
     (record { text = piece.text; live = record { number = number; file = file; there = there; piece = n; is_piece = here }; named = h.0 }, piece_tied files file number n piece named h.1 there here)
 
-item_tied : (files : List FileView) (part : Placed) → HaveOwnKeys (record { files = files }) → IsInclusion part → number_of files part.name ≡ None → Tied files part → NamesNoFile (record { files = files }) (item_of part)
+item_tied : (files : List FileView) (part : Placed) → HaveOwnKeys (record { files = files }) → IsInclusion part → number_of files part.name ≡ None → Tied files part → NamesNoFile (record { files = files }) (placed_item part)
 item_tied files part own_keys is none tied kind text words live has =
     let same : tied.text ≡ text = own_keys part.key tied.text text tied.live live in
     let own : HasWords (part_bytes tied.text part.part) words = subst (λ text. HasWords (part_bytes text part.part) words) (sym same) has in

@@ -7,14 +7,14 @@ use Rattle.indexmap.specs.IndexMap.{insert_entry}
 use Rattle.std.proofs.lemmas.List.Elements.{All-nil, All-cons, All-append}
 use Rattle.std.proofs.lemmas.List.FromFn.{length-map-range_with_len, get_or-map-range_with_len}
 use Rattle.std.proofs.lemmas.Option.{slice_get-get_or, none-some}
-use Rattle.mm_text.specs.Reading.{HasWords}
-use Rattle.mm_text.specs.Cut.{ArePieces, IsPiece}
+use Rattle.mm_text.specs.Language.Reading.{HasWords}
+use Rattle.mm_text.specs.Language.Cut.{ArePieces, IsPiece}
 use Rattle.mm_store.specs.declared.files.FileText.{FileText}
 use Rattle.mm_store.specs.declared.piece_text.PieceText.{PieceText}
-use Rattle.mm_store.specs.FilesView.{FilesView, no_files, piece_texts, text_of}
-use Rattle.mm_store.specs.FileFacts.{AreFresh}
-use Rattle.mm_store.specs.Inside.{text_at, text_under, piece_of, file_of, files_of, key_of, keys_from, keys_of_files, AreKept, CanBeKept, HoldsUnit, IsFileKept, IsPieceKept}
-use Rattle.mm_store.specs.Lines.{AreStarts}
+use Rattle.mm_store.specs.Language.FilesView.{FilesView, no_files, piece_texts, text_of}
+use Rattle.mm_store.specs.Language.FileFacts.{AreFresh}
+use Rattle.mm_store.specs.Code.Inside.{text_at, text_under, piece_of, file_of, files_of, key_of, keys_from, keys_of_files, AreKept, CanBeKept, HoldsUnit, IsFileKept, IsPieceKept}
+use Rattle.mm_store.specs.Code.Lines.{AreStarts}
 use Rattle.mm_store.proofs.FilesLemmas.{texts_are}
 
 pub ok_items : {T E X : Type 0} (r : Result T E) (x : T) (a b c : List X) → r ≡ Ok x → a ≡ (if is_ok r then b else c) → a ≡ b

@@ -4,8 +4,8 @@ use Rattle.std.specs.List.{concat}
 use Rattle.std.specs.Option.{option_map}
 use Rattle.std.proofs.lemmas.List.{take-map}
 use Rattle.std.proofs.lemmas.Option.{slice_get-map, same_Some}
-use Rattle.mm_store.specs.FilesView.{PieceView, FilesView, piece_texts}
-use Rattle.mm_store.specs.FileFacts.{IsByte, piece_offset}
+use Rattle.mm_store.specs.Language.FilesView.{PieceView, FilesView, piece_texts}
+use Rattle.mm_store.specs.Language.FileFacts.{IsByte, piece_offset}
 
 -- a text, behind those before it, lies in all of them joined
 lies_in_joined : (texts : List (List ℕ)) (n : ℕ) (text : List ℕ) → slice_get texts n ≡ Some text → length (concat (take n texts)) + length text ≤ length (concat texts)

@@ -10,10 +10,10 @@ use Rattle.std.proofs.lemmas.List.Folds.{prefix_len-append, concat-append}
 use Rattle.std.proofs.lemmas.Option.{get_or_from_slice_get, slice_get_within, slice_get-map}
 use Rattle.std.specs.Option.{option_map}
 use Rattle.std.proofs.Math.Seq.{take-append-add}
-use Rattle.mm_text.specs.Place.{is_line_feed}
-use Rattle.mm_store.specs.FilesView.{PieceView, FileView, piece_texts, text_of}
-use Rattle.mm_store.specs.FileFacts.{piece_offset}
-use Rattle.mm_store.specs.Lines.{bytes_before}
+use Rattle.mm_text.specs.Language.Place.{is_line_feed}
+use Rattle.mm_store.specs.Language.FilesView.{PieceView, FileView, piece_texts, text_of}
+use Rattle.mm_store.specs.Language.FileFacts.{piece_offset}
+use Rattle.mm_store.specs.Code.Lines.{bytes_before}
 
 abbrev is_other : ℕ → Bool
 is_other b = not (is_line_feed b)

@@ -3,8 +3,8 @@ use Rattle.std.proofs.Common.{◌≡◌, ℕ, zero, suc, ◌<◌, List, [], ◌�
 use Rattle.mm_text.specs.declared.part.PartKind.{PartKind}
 use Rattle.mm_text.specs.declared.part.PartKind.TheVariants.{Inclusion, Axiom}
 use Rattle.mm_store.specs.declared.item.Item.{Item}
-use Rattle.mm_store.specs.FilesView.{FileView}
-use Rattle.mm_store.specs.Expansion.{Placed, item_of, Expands, nothing, own, again, missing, included}
+use Rattle.mm_store.specs.Language.FilesView.{FileView}
+use Rattle.mm_store.specs.Language.Expansion.{Placed, placed_item, Expands, nothing, own, again, missing, included}
 
 abbrev named : ℕ → List ℕ
 named byte = byte ∷ []
@@ -47,7 +47,7 @@ abbrev given : List Placed
 given = part Inclusion 0 2 ∷ part Inclusion 1 2 ∷ part Inclusion 2 3 ∷ part Inclusion 3 3 ∷ part Inclusion 4 1 ∷ part Axiom 5 4 ∷ []
 
 abbrev wanted : List Item
-wanted = item_of (part Inclusion 2 3) ∷ item_of (part Axiom 5 4) ∷ []
+wanted = placed_item (part Inclusion 2 3) ∷ placed_item (part Axiom 5 4) ∷ []
 
 pub row : Expands files given at_first wanted at_last
 row =

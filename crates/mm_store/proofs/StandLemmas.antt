@@ -5,12 +5,12 @@ use Rattle.std.specs.List.{AllByRecursion}
 use Rattle.std.proofs.lemmas.List.{get_or_at}
 use Rattle.std.proofs.lemmas.List.Elements.{All-from_recursion, recursion_from_All}
 use Rattle.std.proofs.lemmas.Option.{slice_get-get_or}
-use Rattle.mm_text.specs.Unit.{Units}
-use Rattle.mm_text.specs.Part.{HasUnits, IsReadable, parts_of}
+use Rattle.mm_text.specs.Language.Unit.{Units}
+use Rattle.mm_text.specs.Language.Part.{HasUnits, IsReadable, parts_of}
 use Rattle.mm_store.specs.declared.item.Item.{Item}
-use Rattle.mm_store.specs.FilesView.{PieceView, FileView, FilesView, text_of}
-use Rattle.mm_store.specs.FileFacts.{CanBeRead, StandsIn, IsLive, IsByte, piece_offset}
-use Rattle.mm_store.specs.Expansion.{Placed, item_of, Named, named_parts, placed_part, ArePlaced, Expands, nothing, own, again, missing, included, IsExpansion}
+use Rattle.mm_store.specs.Language.FilesView.{PieceView, FileView, FilesView, text_of}
+use Rattle.mm_store.specs.Language.FileFacts.{CanBeRead, StandsIn, IsLive, IsByte, piece_offset}
+use Rattle.mm_store.specs.Language.Expansion.{Placed, placed_item, Named, named_parts, placed_part, ArePlaced, Expands, nothing, own, again, missing, included, IsExpansion}
 use Rattle.mm_store.proofs.NameLemmas.{all_and, all_mapped, named_are}
 
 abbrev pub PartsAreTexts : Type 0
@@ -28,7 +28,7 @@ record Found (files : FilesView) (item : Item) : Type 0 where
   pub read : CanBeRead files item
   pub stands : StandsIn files item
 
-found : (files : List FileView) (part : Placed) → Stands files part → Found (record { files = files }) (item_of part)
+found : (files : List FileView) (part : Placed) → Stands files part → Found (record { files = files }) (placed_item part)
 found files part h =
     let live : IsLive (record { files = files }) part.key h.text = record { number = part.file; file = h.file; there = h.there; piece = part.piece; is_piece = h.is_piece } in
     record {

@@ -41,7 +41,7 @@ impl<T: Drop> From<AllocFailed<T>> for StoreError {
 }
 
 impl From<TextError> for StoreError {
-    ghost use Rattle.mm_store.specs.Answers.{store_error_of};
+    ghost use Rattle.mm_store.specs.Language.Answers.{store_error_of};
 
     ghost from_gives = { λ e s. s ≡ store_error_of e };
 

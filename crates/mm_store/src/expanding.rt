@@ -3,12 +3,12 @@
 ghost use Rattle.std.specs.Prelude.{◌≡◌, ℕ, ◌<◌, ◌↔◌, IsTrue, List, [], ◌∷◌, All, IfOk, OnOk, map, length};
 ghost use Rattle.mm_text.specs.declared.word.Word.{Word};
 ghost use Rattle.mm_text.specs.declared.part.PartKind.TheVariants.{Inclusion};
-ghost use Rattle.mm_text.specs.Reading.{HasWords};
-ghost use Rattle.mm_text.specs.Part.{IsReadable};
-ghost use Rattle.mm_store.specs.FileFacts.{second_word};
-ghost use Rattle.mm_store.specs.Expansion.{item_kind, item_of, placed_part};
-ghost use Rattle.mm_store.specs.Gains.{names_in, IsNamed, Takes, Gains, PieceGains, FileGains};
-ghost use Rattle.mm_store.specs.Inside.{HoldsUnit, IsDivided, IsPieceKept, piece_of};
+ghost use Rattle.mm_text.specs.Language.Reading.{HasWords};
+ghost use Rattle.mm_text.specs.Language.Part.{IsReadable};
+ghost use Rattle.mm_store.specs.Language.FileFacts.{second_word};
+ghost use Rattle.mm_store.specs.Language.Expansion.{item_kind, placed_item, placed_part};
+ghost use Rattle.mm_store.specs.Code.Gains.{names_in, IsNamed, TakesName, Gains, PieceGains, FileGains};
+ghost use Rattle.mm_store.specs.Code.Inside.{HoldsUnit, HasParts, IsPieceKept, piece_of};
 
 use crate::files::PieceKey;
 use crate::item::{Item, ItemKind};
@@ -49,7 +49,7 @@ fn is_inclusion(kind: PartKind) -> bool
 }
 
 fn item_of(origin: Origin, part: Part) -> Item
-    ensures { (name : List ℕ) → result ≡ item_of (placed_part origin.file origin.piece origin.key (record { part = part; name = name })) }
+    ensures { (name : List ℕ) → result ≡ placed_item (placed_part origin.file origin.piece origin.key (record { part = part; name = name })) }
 {
     Item {
         kind: item_kind(part.kind),
@@ -74,7 +74,7 @@ fn second_word(text: &[u8]) -> &[u8]
 
 /// Puts a name into the set, and says whether it was not there.
 fn take_name(alloc: Global, name: &[u8], names: &mut IndexSet<Vec<u8>>) -> Result<bool, AllocError>
-    ensures { IfOk result (λ first. Takes (names_in names.old) name.now first (names_in names.new)) }
+    ensures { IfOk result (λ first. TakesName (names_in names.old) name.now first (names_in names.new)) }
 {
     if names.contains(name) {
         return Ok(false);
@@ -118,7 +118,7 @@ fn expand_piece(
     items: &mut Vec<Item>,
 ) -> Result<(), AllocError>
     requires unit { HoldsUnit text.now }
-    requires divided { IsDivided text.now parts.now }
+    requires divided { HasParts text.now parts.now }
     ensures { OnOk result
         (PieceGains origin.file origin.piece (record { key = origin.key; text = text.now })
         (names_in names.old) items.old.items (names_in names.new) items.new.items) }

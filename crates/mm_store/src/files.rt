@@ -4,15 +4,15 @@ ghost use Rattle.std.specs.Prelude.{◌≡◌, ℕ, ◌+◌, ◌<◌, ◌≤◌,
 ghost use Rattle.std.specs.Prelude.{◌++◌, List, Some, None, IfOk, IfErr, OnOk, OnErr, IsErrOf, All, length, map, slice_get, slice_index_or, []};
 ghost use Rattle.std.specs.Option.{option_map};
 ghost use Rattle.std.specs.List.{concat};
-ghost use Rattle.mm_text.specs.Cut.{ArePieces};
-ghost use Rattle.mm_text.specs.Place.{line_at, column_at};
+ghost use Rattle.mm_text.specs.Language.Cut.{ArePieces};
+ghost use Rattle.mm_text.specs.Language.Place.{line_at, column_at};
 ghost use Rattle.mm_store.specs.declared.error.StoreError.TheVariants.{NoTop};
-ghost use Rattle.mm_store.specs.FilesView.{no_files, bytes_of, find_file, number_of, text_of};
-ghost use Rattle.mm_store.specs.FileFacts.{CanBeRead, HaveOwnKeys, IsAdded, IsByte, IsLive, NamesNoFile, StandsIn, StandsLast};
-ghost use Rattle.mm_store.specs.Answers.{IsAddError, IsAddErrorIn, IsExpansionError};
-ghost use Rattle.mm_store.specs.Expansion.{IsExpansion};
-ghost use Rattle.mm_store.specs.Inside.{IsFileKept, IsPieceKept, keys_from, text_at};
-ghost use Rattle.mm_store.specs.Lines.{AreLines, AreStarts, bytes_before};
+ghost use Rattle.mm_store.specs.Language.FilesView.{no_files, bytes_of, find_file, number_of, text_of};
+ghost use Rattle.mm_store.specs.Language.FileFacts.{CanBeRead, HaveOwnKeys, IsAdded, IsByte, IsLive, NamesNoFile, StandsIn, StandsLast};
+ghost use Rattle.mm_store.specs.Language.Answers.{IsAddError, IsAddErrorIn, IsExpansionError};
+ghost use Rattle.mm_store.specs.Language.Expansion.{IsExpansion};
+ghost use Rattle.mm_store.specs.Code.Inside.{IsFileKept, IsPieceKept, keys_from, text_at};
+ghost use Rattle.mm_store.specs.Code.Lines.{AreLines, AreStarts, bytes_before};
 
 use crate::error::StoreError;
 use crate::expanding::expand_file;
@@ -52,11 +52,11 @@ pub struct Files {
 }
 
 impl Model for Files {
-    ghost use Rattle.mm_store.specs.FilesView.{FilesView};
+    ghost use Rattle.mm_store.specs.Language.FilesView.{FilesView};
 
     ghost Value = { FilesView };
 
-    ghost use Rattle.mm_store.specs.Inside.{view_of, IsKept};
+    ghost use Rattle.mm_store.specs.Code.Inside.{view_of, IsKept};
 
     ghost view = { view_of };
 

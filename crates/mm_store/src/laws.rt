@@ -2,10 +2,10 @@
 
 ghost use Rattle.std.specs.Prelude.{◌≡◌, ◌≤◌, ℕ, All, List, length, map};
 ghost use Rattle.mm_store.specs.declared.item.Item.{Item};
-ghost use Rattle.mm_store.specs.FilesView.{FileView, FilesView, no_files};
-ghost use Rattle.mm_store.specs.FileFacts.{CanBeRead, HaveOwnKeys, IsAdded, IsByte, StandsIn};
-ghost use Rattle.mm_store.specs.Expansion.{IsExpansion};
-ghost use Rattle.mm_store.specs.Keyless.{keyless_file, keyless_item};
+ghost use Rattle.mm_store.specs.Language.FilesView.{FileView, FilesView, no_files};
+ghost use Rattle.mm_store.specs.Language.FileFacts.{CanBeRead, HaveOwnKeys, IsAdded, IsByte, StandsIn};
+ghost use Rattle.mm_store.specs.Language.Expansion.{IsExpansion};
+ghost use Rattle.mm_store.specs.Language.Keyless.{keyless_file, keyless_item};
 
 /// Files give one list of items at most from a top file on.
 pub fn one_expansion()

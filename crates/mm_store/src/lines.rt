@@ -1,7 +1,7 @@
 //! Line feeds, counted once for each kilobyte of a text.
 
 ghost use Rattle.std.specs.Prelude.{◌≡◌, ℕ, ◌+◌, ◌≤◌, ◌++◌, List, [], IfOk, length, take};
-ghost use Rattle.mm_store.specs.Lines.{AreLines, AreMarks, Follow};
+ghost use Rattle.mm_store.specs.Code.Lines.{AreLines, AreMarks, Follow};
 
 use mm_text::{Place, place};
 use std::alloc::{AllocError, Global};

@@ -1,7 +1,7 @@
 //! The texts of pieces, as they are kept.
 
 ghost use Rattle.std.specs.Prelude.{◌≡◌, All, IfOk, map};
-ghost use Rattle.mm_store.specs.Inside.{CanBeKept, IsPieceKept};
+ghost use Rattle.mm_store.specs.Code.Inside.{CanBeKept, IsPieceKept};
 
 use crate::lines::{Lines, marks};
 use mm_text::{Part, parts};

@@ -1,7 +1,7 @@
 //! How many bytes the files may have.
 
 ghost use Rattle.std.specs.Prelude.{◌≡◌, ◌+◌, ◌≤◌, ◌↔◌, IsTrue, length};
-ghost use Rattle.mm_text.specs.Cut.{ended};
+ghost use Rattle.mm_text.specs.Language.Cut.{ended};
 
 use mm_text::ends_white;
 

@@ -2,8 +2,8 @@
 
 ghost use Rattle.std.specs.Prelude.{◌≡◌, ℕ, ◌++◌, ◌≤◌, List, All, IfOk, length, map};
 ghost use Rattle.std.specs.List.{concat};
-ghost use Rattle.mm_store.specs.Lines.{AreStarts, IsStart, StaysSmall};
-ghost use Rattle.mm_store.specs.Inside.{IsPieceKept};
+ghost use Rattle.mm_store.specs.Code.Lines.{AreStarts, IsStart, StaysSmall};
+ghost use Rattle.mm_store.specs.Code.Inside.{IsPieceKept};
 
 use crate::lines::{Lines, lines_before};
 use crate::piece_text::PieceText;

@@ -1,4 +1,4 @@
-ghost use Rattle.mm_store.specs.FileFacts.{CanBeRead, StandsIn};
+ghost use Rattle.mm_store.specs.Language.FileFacts.{CanBeRead, StandsIn};
 
 use crate::{Files, Item, ItemKind, Place, StoreError, TextFault, TextNumber, fits, place};
 use std::alloc::{AllocError, Global};

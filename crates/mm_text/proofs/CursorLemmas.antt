@@ -3,11 +3,11 @@ use Rattle.std.proofs.Common.{◌≡◌, ℕ, zero, suc, ◌<◌, ◌≤◌, Lis
 use Rattle.std.specs.Prelude.{slice_get}
 use Rattle.mm_text.specs.declared.word.Word.{Word}
 use Rattle.mm_text.specs.declared.fault.TextFault.{TextFault}
-use Rattle.mm_text.specs.Reading.{HasWords, LiesIn, AreWithin}
-use Rattle.mm_text.specs.LeftToRight.{read}
-use Rattle.mm_text.specs.Run.{runs}
-use Rattle.mm_text.specs.Reader.{runs_at, TakesWord}
-use Rattle.mm_text.specs.Cursor.{words_read, words_from, AreLast}
+use Rattle.mm_text.specs.Language.Reading.{HasWords, LiesIn, AreWithin}
+use Rattle.mm_text.specs.Code.LeftToRight.{read_runs}
+use Rattle.mm_text.specs.Language.Run.{runs}
+use Rattle.mm_text.specs.Code.Reader.{runs_at, TakesWord}
+use Rattle.mm_text.specs.Code.Cursor.{words_read, words_from, AreLast}
 use Rattle.mm_text.proofs.ReadingLemmas.{read_words}
 use Rattle.mm_text.proofs.ReaderLemmas.{word_read}
 use Rattle.mm_text.proofs.NthLemmas.{first_word}
@@ -15,7 +15,7 @@ use Rattle.mm_text.proofs.PositionLemmas.{are_within, nth_lies}
 
 -- before the first word all are left
 pub all_left : (text : List ℕ) (words : List Word) (from : ℕ) → HasWords text words → from ≡ 0 → words_from text from ≡ words
-all_left text words from has e = ap words_read (ap (λ n. read None (runs_at text n)) e ∙ read_words (runs text) words has.words_are)
+all_left text words from has e = ap words_read (ap (λ n. read_runs None (runs_at text n)) e ∙ read_words (runs text) words has.words_are)
 
 pub at_first : (text : List ℕ) (words : List Word) (from : ℕ) → HasWords text words → from ≡ 0 → AreLast text from
 at_first text words from has e =
@@ -25,7 +25,7 @@ at_first text words from has e =
       front = [];
       has_words = has;
       divided = sym left;
-      no_fault = ap (λ n. read None (runs_at text n)) e ∙ read_words (runs text) words has.words_are ∙ ap Ok (sym left);
+      no_fault = ap (λ n. read_runs None (runs_at text n)) e ∙ read_words (runs text) words has.words_are ∙ ap Ok (sym left);
     }
 
 -- a word is taken
@@ -36,7 +36,7 @@ pub record Took (text : List ℕ) (from : ℕ) (word : Word) (to : ℕ) : Type 0
 
 pub one_taken : (text : List ℕ) (from : ℕ) (word : Word) (to : ℕ) → AreLast text from → TakesWord text from word to → Took text from word to
 one_taken text from word to at taken =
-    let first = first_word (read None (runs_at text from)) (read None (runs_at text to)) word (words_from text from) (word_read text from word to taken) at.no_fault in
+    let first = first_word (read_runs None (runs_at text from)) (read_runs None (runs_at text to)) word (words_from text from) (word_read text from word to taken) at.no_fault in
     let rest : words_from text to ≡ first.0 = ap words_read first.2 in
     let words : words_from text from ≡ word ∷ words_from text to = first.1 ∙ ap (λ l. word ∷ l) (sym rest) in
     let divided : at.whole ≡ at.front ++ word ∷ words_from text to = at.divided ∙ ap (λ l. at.front ++ l) words in
@@ -56,11 +56,11 @@ one_taken text from word to at taken =
       at_seam (x ∷ front) word more = at_seam front word more
 
 -- no word is left
-pub none_left : (text : List ℕ) (from : ℕ) → read None (runs_at text from) ≡ Ok [] → words_from text from ≡ []
+pub none_left : (text : List ℕ) (from : ℕ) → read_runs None (runs_at text from) ≡ Ok [] → words_from text from ≡ []
 none_left text from e = ap words_read e
 
 -- a fault is not met
-pub no_fault : (text : List ℕ) (from : ℕ) (fault : TextFault) → AreLast text from → read None (runs_at text from) ≡ Err fault → ⊥
+pub no_fault : (text : List ℕ) (from : ℕ) (fault : TextFault) → AreLast text from → read_runs None (runs_at text from) ≡ Err fault → ⊥
 no_fault text from fault at e = let f = at.no_fault in cc
 
 -- ---- a text has no more words than bytes

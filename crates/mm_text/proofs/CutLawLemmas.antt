@@ -10,13 +10,13 @@ use Rattle.mm_text.specs.declared.word.Word.{Word}
 use Rattle.mm_text.specs.declared.fault.TextFault.{TextFault}
 use Rattle.mm_text.specs.declared.fault.TextNumber.{TextNumber}
 use Rattle.mm_text.specs.declared.fault.TextNumber.TheVariants.{T01, T02, T03, T04, T05, T06, T07, T08, T09, T10, T11, T12}
-use Rattle.mm_text.specs.Run.{Run, runs, runs_from, is_white, ends_run}
-use Rattle.mm_text.specs.Reading.{is_allowed, first_bad, AreWords, HasWords, CanGoOn, IsFaultAt}
-use Rattle.mm_text.specs.Unit as units
-use Rattle.mm_text.specs.Unit.{Token, token_of, tokens_of, Shape, shape_tokens, Units, Nothing, Simple, Block, unit_tokens, AreUnits, IsViable, IsUnitFault, EndsInUnit, EndsInBlock}
-use Rattle.mm_text.specs.UnitReading as m
-use Rattle.mm_text.specs.LeftToRight.{Read, read, with_words, fault_at, read_text}
-use Rattle.mm_text.specs.Cut.{ends_white, ended, IsOne, end_of, IsPiece, BeginsSolid, ArePieces, IsCut, HoldWords, StopsWords, StopsUnits, IsFirstFaultAt, IsFirstFault}
+use Rattle.mm_text.specs.Language.Run.{Run, runs, runs_from, is_white, ends_run}
+use Rattle.mm_text.specs.Language.Reading.{is_allowed, first_bad, AreWords, HasWords, AreViableRuns, IsWordsFaultAt}
+use Rattle.mm_text.specs.Language.Unit as units
+use Rattle.mm_text.specs.Language.Unit.{Token, token_of, tokens_of, Shape, shape_tokens, Units, Nothing, Simple, Block, unit_tokens, AreUnits, IsViable, IsUnitFault, EndsInUnit, EndsInBlock}
+use Rattle.mm_text.specs.Code.UnitReading as m
+use Rattle.mm_text.specs.Code.LeftToRight.{Read, read_runs, with_words, words_fault_at, read_text}
+use Rattle.mm_text.specs.Language.Cut.{ends_white, ended, IsOne, end_of_words, IsPiece, BeginsSolid, ArePieces, IsCut, HoldWords, StopsWords, StopsUnits, IsFirstFaultAt, IsFirstFault}
 use Rattle.mm_text.proofs.ReadingLemmas.{closer, closer_closes, close_step, read_whole, read_words, same_words, text_words, text_fault}
 use Rattle.mm_text.proofs.ReaderLemmas.{in_comment, words-append}
 use Rattle.mm_text.proofs.PositionLemmas.{Lying, words_lie}
@@ -98,11 +98,11 @@ cut_units text pieces tail h = record {
 -- ---- words of the beginning
 
 more_found : (front zs : List Run) (found later : List Word) → AreWords front found → AreWords (front ++ zs) later → (us : List Word) × (later ≡ found ++ us)
-more_found front zs found later f g = by_read (read None zs) refl where
-  all : with_words found (read None zs) ≡ Ok later
+more_found front zs found later f g = by_read (read_runs None zs) refl where
+  all : with_words found (read_runs None zs) ≡ Ok later
   all = sym (read_whole front found f zs) ∙ read_words (front ++ zs) later g
 
-  by_read : (r : Read) → read None zs ≡ r → (us : List Word) × (later ≡ found ++ us)
+  by_read : (r : Read) → read_runs None zs ≡ r → (us : List Word) × (later ≡ found ++ us)
   by_read (Ok us) is = (us, let e : Ok later ≡ Ok (found ++ us) = sym all ∙ ap (with_words found) is in cc)
   by_read (Err fault) is = absurd (let e : Ok later ≡ Err fault = sym all ∙ ap (with_words found) is in cc)
 
@@ -120,14 +120,14 @@ not_viable_more text number at h us viable =
 
 record MeetsWords (text : List ℕ) (number : TextNumber) (at : ℕ) : Type 0 where
   allowed : first_bad text ≡ None
-  fault : IsFaultAt text number at
+  fault : IsWordsFaultAt text number at
   front : List Run
   rest : List Run
   joined : runs text ≡ front ++ rest
   found : List Word
   held : HoldWords front found
   viable : IsViable (tokens_of text found)
-  stuck : (run : Run) (more : List Run) → rest ≡ run ∷ more → ¬ CanGoOn (front ++ run ∷ [])
+  stuck : (run : Run) (more : List Run) → rest ≡ run ∷ more → ¬ AreViableRuns (front ++ run ∷ [])
 
 record EndsEarly (text : List ℕ) (number : TextNumber) (at : ℕ) : Type 0 where
   found : List Word
@@ -148,7 +148,7 @@ HasBadByte text number at = (number ≡ T01) × (first_bad text ≡ Some at)
 abbrev Sorted : List ℕ → TextNumber → ℕ → Type 0
 Sorted text number at = (HasBadByte text number at) ⊎ ((MeetsWords text number at) ⊎ ((MeetsUnits text number at) ⊎ (EndsEarly text number at)))
 
-meets : (text : List ℕ) (number : TextNumber) (at : ℕ) → first_bad text ≡ None → IsFaultAt text number at → StopsWords text number at → MeetsWords text number at
+meets : (text : List ℕ) (number : TextNumber) (at : ℕ) → first_bad text ≡ None → IsWordsFaultAt text number at → StopsWords text number at → MeetsWords text number at
 meets text number at allowed fault h = record {
   allowed = allowed;
   fault = fault;
@@ -158,7 +158,7 @@ meets text number at allowed fault h = record {
   found = h.found;
   held = h.read;
   viable = h.viable;
-  stuck = λ run more e. (let same : h.stop.run ≡ run = cc in subst (λ (r : Run). ¬ CanGoOn (h.stop.front ++ r ∷ [])) same h.stop.stops);
+  stuck = λ run more e. (let same : h.stop.run ≡ run = cc in subst (λ (r : Run). ¬ AreViableRuns (h.stop.front ++ r ∷ [])) same h.stop.stops);
 }
 
 sorted : (text : List ℕ) (number : TextNumber) (at : ℕ) → IsFirstFaultAt text number at → Sorted text number at
@@ -190,8 +190,8 @@ sorted text T12 at h = inr (inr (inl h))
 bad_alone : (text : List ℕ) (number : TextNumber) (at : ℕ) → HasBadByte text number at → first_bad text ≡ None → ⊥
 bad_alone text number at h allowed = let bad : first_bad text ≡ Some at = h.1 in cc
 
-words_apart : (text : List ℕ) (number : TextNumber) (at : ℕ) (found : List Word) → IsFaultAt text number at → HasWords text found → ⊥
-words_apart text number at found f g = let x : read_text text ≡ Err (fault_at number at) = text_fault text number at f in let y : read_text text ≡ Ok found = text_words text found g in cc
+words_apart : (text : List ℕ) (number : TextNumber) (at : ℕ) (found : List Word) → IsWordsFaultAt text number at → HasWords text found → ⊥
+words_apart text number at found f g = let x : read_text text ≡ Err (words_fault_at number at) = text_fault text number at f in let y : read_text text ≡ Ok found = text_words text found g in cc
 
 -- words of the whole text go on behind those that stop
 units_apart : (text : List ℕ) (number : TextNumber) (at : ℕ) (found : List Word) → StopsUnits text number at → HasWords text found → ¬ IsViable (tokens_of text found)
@@ -223,7 +223,7 @@ slice_get-front [] b n token e = absurd cc
 slice_get-front (x ∷ a) b zero token e = e
 slice_get-front (x ∷ a) b (suc n) token e = slice_get-front a b n token e
 
-stop_more : (a b : List Token) (number : TextNumber) (word : ℕ) (h : units.StopsAt a number word) → units.StopsAt (a ++ b) number word
+stop_more : (a b : List Token) (number : TextNumber) (word : ℕ) (h : units.StopsAtWord a number word) → units.StopsAtWord (a ++ b) number word
 stop_more a b number word h =
     let within : word < length a = slice_get_within a word h.token h.there in
     let front : take word a ≡ take word (a ++ b) = sym (take-append-le word a b (omega arith)) in
@@ -233,7 +233,7 @@ stop_more a b number word h =
       there = slice_get-front a b word h.token h.there;
       goes_on = subst (λ (ts : List Token). IsViable ts) front h.goes_on;
       stops = subst (λ (ts : List Token). ¬ IsViable ts) next h.stops;
-      is_number = subst (λ (ts : List Token). units.IsNumber number ts h.token) front h.is_number;
+      is_number = subst (λ (ts : List Token). units.IsUnitNumber number ts h.token) front h.is_number;
     }
 
 same_place : (tokens : List Token) (v w : ℕ) (a b : Token) → slice_get tokens v ≡ Some a → slice_get tokens w ≡ Some b → v ≡ w → a.start ≡ b.start
@@ -244,9 +244,12 @@ later_stop : (text : List ℕ) (a b : TextNumber) (i j : ℕ) (f : StopsUnits te
 later_stop text a b i j f g zs is =
     let more = longer f.front zs f.found g.found f.read (inl (subst (λ (rs : List Run). AreWords rs g.found) is g.read)) in
     let tokens : tokens_of text f.found ++ tokens_of text more.0 ≡ tokens_of text g.found = sym (map-append (token_of text) f.found more.0) ∙ ap (tokens_of text) (sym more.1) in
-    let stop : units.StopsAt (tokens_of text f.found ++ tokens_of text more.0) b g.word = subst (λ (ts : List Token). units.StopsAt ts b g.word) (sym tokens) g.stop in
-    let one = one_stop (tokens_of text f.found ++ tokens_of text more.0) a b f.word g.word (stop_more (tokens_of text f.found) (tokens_of text more.0) a f.word f.stop) stop in
-    (one.0, f.place ∙ same_place (tokens_of text g.found) f.word g.word f.stop.token g.stop.token (subst (λ (ts : List Token). slice_get ts f.word ≡ Some f.stop.token) tokens (slice_get-front (tokens_of text f.found) (tokens_of text more.0) f.word f.stop.token f.stop.there)) g.stop.there one.1 ∙ sym g.place)
+    let stop : units.StopsAtWord (tokens_of text f.found ++ tokens_of text more.0) b g.word = subst (λ (ts : List Token). units.StopsAtWord ts b g.word) (sym tokens) g.stop in
+    let one = one_stop (tokens_of text f.found ++ tokens_of text more.0) a b f.word g.word (stop_more (tokens_of text f.found) (tokens_of text more.0) a f.word f.stop) stop in (
+      one.0,
+      f.place ∙ same_place (tokens_of text g.found) f.word g.word f.stop.token g.stop.token (subst (λ (ts : List Token). slice_get ts f.word ≡ Some f.stop.token) tokens (slice_get-front (tokens_of text f.found) (tokens_of text more.0) f.word f.stop.token f.stop.there)) g.stop.there one.1
+          ∙ sym g.place,
+    )
 
 one_stop_of : (text : List ℕ) (a b : TextNumber) (i j : ℕ) → StopsUnits text a i → StopsUnits text b j → (a ≡ b) × (i ≡ j)
 one_stop_of text a b i j f g = by_cut (cut_twice f.front f.rest g.front g.rest (sym f.joined ∙ g.joined)) where
@@ -260,11 +263,11 @@ one_end text a b i j f g =
     let one = one_unit_fault (tokens_of text f.found) a b f.word g.word f.fault (subst (λ (ts : List Token). IsUnitFault ts b g.word) tokens g.fault) in
     (one.0, f.place ∙ same_place (tokens_of text f.found) f.word g.word f.token g.token f.there (subst (λ (ts : List Token). slice_get ts g.word ≡ Some g.token) tokens g.there) one.1 ∙ sym g.place)
 
-one_word_fault : (text : List ℕ) (a b : TextNumber) (i j : ℕ) → IsFaultAt text a i → IsFaultAt text b j → (a ≡ b) × (i ≡ j)
+one_word_fault : (text : List ℕ) (a b : TextNumber) (i j : ℕ) → IsWordsFaultAt text a i → IsWordsFaultAt text b j → (a ≡ b) × (i ≡ j)
 one_word_fault text a b i j f g =
-    let x : read_text text ≡ Err (fault_at a i) = text_fault text a i f in
-    let y : read_text text ≡ Err (fault_at b j) = text_fault text b j g in
-    let same : fault_at a i ≡ fault_at b j = cc in
+    let x : read_text text ≡ Err (words_fault_at a i) = text_fault text a i f in
+    let y : read_text text ≡ Err (words_fault_at b j) = text_fault text b j g in
+    let same : words_fault_at a i ≡ words_fault_at b j = cc in
     (ap (λ (t : TextFault). t.number) same, ap (λ (t : TextFault). t.at) same)
 
 one_bad : (text : List ℕ) (a b : TextNumber) (i j : ℕ) → HasBadByte text a i → HasBadByte text b j → (a ≡ b) × (i ≡ j)
@@ -291,7 +294,7 @@ same_fault text a b i j (inr (inr (inr f))) (inr (inr (inr g))) = one_end text a
 pub one_first_fault : (text : List ℕ) (a b : TextFault) → IsFirstFault text a → IsFirstFault text b → a ≡ b
 one_first_fault text a b f g =
     let same = same_fault text a.number b.number a.at b.at (sorted text a.number a.at f) (sorted text b.number b.at g) in
-    ap (λ (n : TextNumber). fault_at n a.at) same.0 ∙ ap (fault_at b.number) same.1
+    ap (λ (n : TextNumber). words_fault_at n a.at) same.0 ∙ ap (words_fault_at b.number) same.1
 
 pub cut_has_no_fault : (text : List ℕ) (pieces : List (List ℕ)) (tail : List ℕ) (fault : TextFault) → IsCut text pieces tail → IsFirstFault text fault → ⊥
 cut_has_no_fault text pieces tail fault f g = none (sorted text fault.number fault.at g) where
@@ -329,7 +332,7 @@ one_piece_more u v more f g one_u one_v e = by_unit u f one_u e where
       ap (λ (ts : List Token). begin ∷ (unit_tokens inner ++ end ∷ ts)) later.2 ∙ ap (λ (ts : List Token). begin ∷ ts) (sym (append_assoc (unit_tokens inner) (end ∷ []) more)) ∙ ap (λ (w : Units). (begin ∷ (unit_tokens inner ++ end ∷ unit_tokens w)) ++ more) (sym one) ∙ same in
       nothing (subst IsOne (sym (one_division (Block begin inner end later.0) v (are.0, are.1, are.2, later.1) g tokens)) one_v)
 
-end_within : (text : List ℕ) (at : ℕ) (ws : List Word) → Lying text at ws → end_of ws ≤ length text
+end_within : (text : List ℕ) (at : ℕ) (ws : List Word) → Lying text at ws → end_of_words ws ≤ length text
 end_within text at [] h = omega arith
 end_within text at (w ∷ []) h = h.1.within
 end_within text at (w ∷ v ∷ ws) h = end_within text (w.end + 1) (v ∷ ws) h.2
@@ -348,7 +351,7 @@ no_words_left text (w ∷ us) e = absurd cc
 -- a piece is no longer than another that begins with it, where that is not followed by white space
 no_longer : (p zs rest : List ℕ) → IsPiece p → IsPiece (p ++ zs) → BeginsSolid (zs ++ rest) → zs ≡ []
 no_longer p [] rest f g solid = refl
-no_longer p (z ∷ zs) rest f g solid = absurd (false≢true (sym solid ∙ passes_at (drop (end_of f.words) p) zs z white)) where
+no_longer p (z ∷ zs) rest f g solid = absurd (false≢true (sym solid ∙ passes_at (drop (end_of_words f.words) p) zs z white)) where
   more : (us : List Word) × (g.words ≡ f.words ++ us)
   more = more_found (runs p) (map (shift_run (length p)) (runs (z ∷ zs))) f.words g.words f.has_words.words_are (subst (λ (rs : List Run). AreWords rs g.words) (runs_joined p (z ∷ zs) f.ends) g.has_words.words_are)
 
@@ -362,8 +365,8 @@ no_longer p (z ∷ zs) rest f g solid = absurd (false≢true (sym solid ∙ pass
   same : g.words ≡ f.words
   same = more.1 ∙ ap (λ (us : List Word). f.words ++ us) (no_words_left (p ++ z ∷ zs) more.0 (one_piece_more f.units g.units (tokens_of (p ++ z ∷ zs) more.0) f.are_units g.are_units f.one g.one tokens)) ∙ append-nil f.words
 
-  white : AllPass is_white (drop (end_of f.words) p ++ z ∷ zs)
-  white = subst (λ (bs : List ℕ). AllPass is_white bs) (ap (λ (ws : List Word). drop (end_of ws) (p ++ z ∷ zs)) same ∙ drop-append-le (end_of f.words) p (z ∷ zs) (end_within p 0 f.words lie)) g.white
+  white : AllPass is_white (drop (end_of_words f.words) p ++ z ∷ zs)
+  white = subst (λ (bs : List ℕ). AllPass is_white bs) (ap (λ (ws : List Word). drop (end_of_words ws) (p ++ z ∷ zs)) same ∙ drop-append-le (end_of_words f.words) p (z ∷ zs) (end_within p 0 f.words lie)) g.white
 
 -- a text with a unit has words
 piece_no_tail : (piece rest tail : List ℕ) (found : List Word) → IsPiece piece → HasWords rest found → HasWords tail [] → tail ≡ piece ++ rest → ⊥

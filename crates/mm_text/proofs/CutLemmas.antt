@@ -8,13 +8,13 @@ use Rattle.std.proofs.lemmas.List.Folds.{concat-append}
 use Rattle.mm_text.specs.declared.word.Word.{Word}
 use Rattle.mm_text.specs.declared.fault.TextNumber.{TextNumber}
 use Rattle.mm_text.specs.declared.fault.TextNumber.TheVariants.{T07, T08}
-use Rattle.mm_text.specs.Run.{Run, runs, runs_from, is_white}
-use Rattle.mm_text.specs.Reading.{AreWords, HasWords, LiesIn, first_bad}
-use Rattle.mm_text.specs.Unit.{Token, token_of, tokens_of}
-use Rattle.mm_text.specs.UnitReading as m
-use Rattle.mm_text.specs.Grammar.{first_behind, blocks_behind}
-use Rattle.mm_text.specs.Reader.{runs_at, TakesWord, FailsBehind}
-use Rattle.mm_text.specs.Cut.{ended, IsPiece, BeginsSolid, ArePieces, IsCut, IsFirstFaultAt}
+use Rattle.mm_text.specs.Language.Run.{Run, runs, runs_from, is_white}
+use Rattle.mm_text.specs.Language.Reading.{AreWords, HasWords, LiesIn, first_bad}
+use Rattle.mm_text.specs.Language.Unit.{Token, token_of, tokens_of}
+use Rattle.mm_text.specs.Code.UnitReading as m
+use Rattle.mm_text.specs.Code.Grammar.{first_behind, blocks_behind}
+use Rattle.mm_text.specs.Code.Reader.{runs_at, TakesWord, FailsBehind}
+use Rattle.mm_text.specs.Language.Cut.{ended, IsPiece, BeginsSolid, ArePieces, IsCut, IsFirstFaultAt}
 use Rattle.mm_text.proofs.LayoutLemmas.{laid_out}
 use Rattle.mm_text.proofs.PositionLemmas.{Standing, standing_front, Lying, runs_stand, parts_lie}
 use Rattle.mm_text.proofs.ReadingLemmas.{none_read}
@@ -88,7 +88,7 @@ progress_start text first = record {
   gathers = gathers_none text;
 }
 
-abbrev ok_step : m.Phase → ℕ → m.Step
+abbrev ok_step : m.Phase → ℕ → m.UnitStep
 ok_step phase depth = Ok (phase, depth)
 
 no_blocks : (blocks : List ℕ) → length blocks ≡ 0 → blocks ≡ []

@@ -9,20 +9,20 @@ use Rattle.mm_text.specs.declared.fault.TextError.{TextError}
 use Rattle.mm_text.specs.declared.fault.TextError.TheVariants as errors
 use Rattle.mm_text.specs.declared.fault.TextNumber.{TextNumber}
 use Rattle.mm_text.specs.declared.fault.TextNumber.TheVariants.{T07, T08}
-use Rattle.mm_text.specs.Run.{is_white}
-use Rattle.mm_text.specs.Reading.{AreWords, first_bad}
-use Rattle.mm_text.specs.Unit.{token_of}
-use Rattle.mm_text.specs.UnitReading as m
-use Rattle.mm_text.specs.Grammar.{phase_of, first_behind, blocks_behind, TakesUnit, Takes, EndsWith}
-use Rattle.mm_text.specs.Reader.{runs_at, TakesWord}
-use Rattle.mm_text.specs.Cut.{ended, IsCut, IsFirstFaultAt, IsCutError}
+use Rattle.mm_text.specs.Language.Run.{is_white}
+use Rattle.mm_text.specs.Language.Reading.{AreWords, first_bad}
+use Rattle.mm_text.specs.Language.Unit.{token_of}
+use Rattle.mm_text.specs.Code.UnitReading as m
+use Rattle.mm_text.specs.Code.Grammar.{phase_of, first_behind, blocks_behind, TakesUnit, GrammarTakes, EndsWith}
+use Rattle.mm_text.specs.Code.Reader.{runs_at, TakesWord}
+use Rattle.mm_text.specs.Language.Cut.{ended, IsCut, IsFirstFaultAt, IsCutError}
 use Rattle.mm_text.proofs.CutLemmas.{Progress, word_lies, units_fault, unit_end, block_end, cut_end, progress_more, progress_piece}
 
-step_to : (step : m.Step) (next : m.Phase) → phase_of step ≡ Ok next → (depth : ℕ) × (step ≡ Ok (m.state_of next depth))
+step_to : (step : m.UnitStep) (next : m.Phase) → phase_of step ≡ Ok next → (depth : ℕ) × (step ≡ Ok (m.state_of next depth))
 step_to (Ok s) next e = let same : s.0 ≡ next = cc in (s.1, ap (λ (p : m.Phase). Ok (m.state_of p s.1)) same)
 step_to (Err number) next e = absurd cc
 
-step_refused : (step : m.Step) (number : TextNumber) → phase_of step ≡ Err number → step ≡ Err number
+step_refused : (step : m.UnitStep) (number : TextNumber) → phase_of step ≡ Err number → step ≡ Err number
 step_refused (Ok s) number e = absurd cc
 step_refused (Err other) number e = let same : other ≡ number = cc in ap (λ (n : TextNumber). Err n) same
 
@@ -48,7 +48,7 @@ module _ (text : List ℕ) (pieces : List (List ℕ)) (from at : ℕ) (g : Gramm
       told : phase_of (m.next g.phase (length g.blocks.items) word.kind could) ≡ phase_of (m.next g.phase (length g.blocks.items) word.kind (m.could_label (token_of text word)))
       told = ap (λ (b : Bool). phase_of (m.next g.phase (length g.blocks.items) word.kind b)) label
 
-      pub refused : (e : TextError) → first_bad text ≡ None → Takes g word could (Err e) new → IsCutError text e
+      pub refused : (e : TextError) → first_bad text ≡ None → GrammarTakes g word could (Err e) new → IsCutError text e
       refused errors.Memory allowed fails = tt
       refused (errors.Fault fault) allowed fails =
           subst (λ (n : ℕ). IsFirstFaultAt text fault.number n) (sym fails.at) (units_fault text pieces from at g.phase g.first g.blocks.items h word to taken fault.number allowed

@@ -12,15 +12,15 @@ use Rattle.mm_text.specs.declared.word.WordKind.{WordKind}
 use Rattle.mm_text.specs.declared.fault.TextFault.{TextFault}
 use Rattle.mm_text.specs.declared.fault.TextNumber.{TextNumber}
 use Rattle.mm_text.specs.declared.fault.TextNumber.TheVariants.{T01, T02, T03, T04, T05, T07, T08}
-use Rattle.mm_text.specs.Run.{is_white, is_solid}
-use Rattle.mm_text.specs.Spelling.{opening, closing}
-use Rattle.mm_text.specs.Reading.{AreWords, first_bad}
-use Rattle.mm_text.specs.Unit.{token_of}
-use Rattle.mm_text.specs.UnitReading as m
-use Rattle.mm_text.specs.LeftToRight.{kind_of, holds_mark, fault_at}
-use Rattle.mm_text.specs.Grammar.{first_behind, blocks_behind}
-use Rattle.mm_text.specs.Reader.{runs_at, TakesSpan, SkipsComment, FailsInside, TakesWord, FailsBehind}
-use Rattle.mm_text.specs.Cut.{ended, IsCut, IsFirstFault}
+use Rattle.mm_text.specs.Language.Run.{is_white, is_solid}
+use Rattle.mm_text.specs.Language.Spelling.{opening, closing}
+use Rattle.mm_text.specs.Language.Reading.{AreWords, first_bad}
+use Rattle.mm_text.specs.Language.Unit.{token_of}
+use Rattle.mm_text.specs.Code.UnitReading as m
+use Rattle.mm_text.specs.Code.LeftToRight.{word_kind, holds_mark, words_fault_at}
+use Rattle.mm_text.specs.Code.Grammar.{first_behind, blocks_behind}
+use Rattle.mm_text.specs.Code.Reader.{runs_at, TakesSpan, SkipsComment, FailsInside, TakesWord, FailsBehind}
+use Rattle.mm_text.specs.Language.Cut.{ended, IsCut, IsFirstFault}
 use Rattle.mm_text.proofs.KindLemmas.{mark_stands, stands_mark}
 use Rattle.mm_text.proofs.RunLemmas.{no_run, next_run, run_here, run_ends}
 use Rattle.mm_text.proofs.ReadingLemmas.{is_from, not_from}
@@ -87,7 +87,7 @@ Given text from = ((word : Word) × (to : ℕ) × TakesWord text from word to ×
 word_step : (text : List ℕ) (from at : ℕ) → from ≤ at → Passing text from at → ((to : ℕ) → at < to → to ≤ length text → Passing text from to → Given text from) → Given text from
 word_step text from at le h go = by_run (run_at text at) where
   by_kind : (span : Span) (to : ℕ) → TakesSpan text at span to → to ≤ length text → (slice_range text span.start span.end ≢ opening) → (slice_range text span.start span.end ≢ closing)
-      → (kind : Option WordKind) → kind_of (slice_range text span.start span.end) ≡ kind → Given text from
+      → (kind : Option WordKind) → word_kind (slice_range text span.start span.end) ≡ kind → Given text from
   by_kind span to run within no_open no_close (Some kind) is = inl (record { kind = kind; start = span.start; end = span.end }, to, pass_word text from at span to h run kind is within le, within)
   by_kind span to run within no_open no_close None is = inr (inr (T05, span.start, pass_dollar text from at span to h run no_open no_close is))
 
@@ -103,7 +103,7 @@ word_step text from at le h go = by_run (run_at text at) where
         | inr no_open ↦ elim (cases_Bool (bytes_eq (slice_range text span.start span.end) closing)) [
           | inl closes ↦ inr (inr (T04, span.start, pass_close text from at span to h run (is_from (slice_range text span.start span.end) closing closes)))
           | inr no_close ↦
-              by_kind span to run within (not_from (slice_range text span.start span.end) opening no_open) (not_from (slice_range text span.start span.end) closing no_close) (kind_of (slice_range text span.start span.end)) refl
+              by_kind span to run within (not_from (slice_range text span.start span.end) opening no_open) (not_from (slice_range text span.start span.end) closing no_close) (word_kind (slice_range text span.start span.end)) refl
         ]
       ]
 
@@ -127,11 +127,11 @@ module _ (text : List ℕ) (allowed : first_bad text ≡ None) where
       by_blocks is [] e = inl (pieces, ended (drop from text), cut_end text pieces from at phase first blocks h allowed none is e)
       by_blocks is (b ∷ bs) e =
           let last = last_of blocks (let some : length blocks ≡ length (b ∷ bs) = ap length e in omega arith) in
-          inr (fault_at T08 last.0, block_end text pieces from at phase first blocks h (take (length blocks - 1) blocks) last.0 allowed none is last.1)
+          inr (words_fault_at T08 last.0, block_end text pieces from at phase first blocks h (take (length blocks - 1) blocks) last.0 allowed none is last.1)
 
       by_phase : (phase ≡ m.Begin) ⊎ (phase ≢ m.Begin) → CutOrFault text
       by_phase (inl is) = by_blocks is blocks refl
-      by_phase (inr other) = inr (fault_at T07 first, unit_end text pieces from at phase first blocks h allowed none other)
+      by_phase (inr other) = inr (words_fault_at T07 first, unit_end text pieces from at phase first blocks h allowed none other)
 
     at_word : (word : Word) (to : ℕ) → TakesWord text at word to → to ≤ length text → CutOrFault text
     at_word word to taken within = by_step (m.next phase (length blocks) word.kind (m.could_label (token_of text word))) refl where
@@ -147,16 +147,16 @@ module _ (text : List ℕ) (allowed : first_bad text ≡ None) where
       by_whole next depth e (inr other) bs is =
           go pieces from to next (first_behind phase first word.start) (blocks_behind word.kind blocks word.start) onward within (progress_more text pieces from at phase first blocks h word to taken next depth e (λ whole. other whole.0))
 
-      by_step : (step : m.Step) → m.next phase (length blocks) word.kind (m.could_label (token_of text word)) ≡ step → CutOrFault text
+      by_step : (step : m.UnitStep) → m.next phase (length blocks) word.kind (m.could_label (token_of text word)) ≡ step → CutOrFault text
       by_step (Ok s) e = by_whole s.0 s.1 e (is_begin s.0) (blocks_behind word.kind blocks word.start) refl
-      by_step (Err number) e = inr (fault_at number word.start, units_fault text pieces from at phase first blocks h word to taken number allowed e)
+      by_step (Err number) e = inr (words_fault_at number word.start, units_fault text pieces from at phase first blocks h word to taken number allowed e)
 
     walk_step : CutOrFault text
     walk_step = by_given (word_from (length text) text at at (omega arith) (omega arith) (pass_none text at)) where
       by_given : Given text at → CutOrFault text
       by_given (inl (word, to, taken, within)) = at_word word to taken within
       by_given (inr (inl none)) = at_end none
-      by_given (inr (inr (number, place, fails))) = inr (fault_at number place, words_fault text pieces from at phase first blocks h number place allowed fails)
+      by_given (inr (inr (number, place, fails))) = inr (words_fault_at number place, words_fault text pieces from at phase first blocks h number place allowed fails)
 
   walk : (fuel : ℕ) (pieces : List (List ℕ)) (from at : ℕ) (phase : m.Phase) (first : ℕ) (blocks : List ℕ) → length text ≤ at + fuel → Progress text pieces from at phase first blocks → CutOrFault text
   walk zero pieces from at phase first blocks enough h = walk_step pieces from at phase first blocks h (λ ps f to p k bs more within g. absurd (omega arith))
@@ -166,4 +166,4 @@ pub cut_or_fault : (text : List ℕ) → CutOrFault text
 cut_or_fault text = by_byte (first_bad text) refl where
   by_byte : (o : Option ℕ) → first_bad text ≡ o → CutOrFault text
   by_byte None e = walk text e (length text) [] 0 0 m.Begin 0 [] (omega arith) (progress_start text 0)
-  by_byte (Some at) e = inr (fault_at T01 at, e)
+  by_byte (Some at) e = inr (words_fault_at T01 at, e)

@@ -9,13 +9,13 @@ use Rattle.mm_text.specs.declared.word.WordKind.TheVariants as kinds
 use Rattle.mm_text.specs.declared.word.Keyword.TheVariants.{BlockStart, BlockEnd}
 use Rattle.mm_text.specs.declared.fault.TextNumber.{TextNumber}
 use Rattle.mm_text.specs.declared.fault.TextNumber.TheVariants.{T06, T09, T10, T11, T12}
-use Rattle.mm_text.specs.Run.{Run, runs}
-use Rattle.mm_text.specs.Reading.{AreWords, first_bad}
-use Rattle.mm_text.specs.Unit.{Token, IsKeyword, EndsInUnit, EndsInBlock, token_of, tokens_of}
-use Rattle.mm_text.specs.UnitReading as m
-use Rattle.mm_text.specs.Grammar.{first_behind, blocks_behind}
-use Rattle.mm_text.specs.BlockCounts.{is_start, is_end, starts, ends}
-use Rattle.mm_text.specs.Cut.{StopsUnits, IsFirstFaultAt}
+use Rattle.mm_text.specs.Language.Run.{Run, runs}
+use Rattle.mm_text.specs.Language.Reading.{AreWords, first_bad}
+use Rattle.mm_text.specs.Language.Unit.{Token, IsKeyword, EndsInUnit, EndsInBlock, token_of, tokens_of}
+use Rattle.mm_text.specs.Code.UnitReading as m
+use Rattle.mm_text.specs.Code.Grammar.{first_behind, blocks_behind}
+use Rattle.mm_text.specs.Code.BlockCounts.{is_start_word, is_end_word, starts, ends}
+use Rattle.mm_text.specs.Language.Cut.{StopsUnits, IsFirstFaultAt}
 use Rattle.mm_text.proofs.UnitFaultLemmas.{run_push, stop_at, ends_in_unit, ends_in_block, Covered, covered-append, covered_drop, starts-append, ends-append, start_counts, end_counts}
 use Rattle.mm_text.proofs.UnitScanLemmas.{Counts, step_counts, is_begin, slice_get_at}
 
@@ -44,7 +44,7 @@ Opens tokens (start ∷ blocks) = OpensAt tokens start (λ inner. Opens inner bl
 closed_none : IsClosed []
 closed_none = (refl, tt)
 
-closed_more : (tokens : List Token) (token : Token) → IsClosed tokens → is_start token.kind ≡ 0 → is_end token.kind ≡ 0 → IsClosed (tokens ++ token ∷ [])
+closed_more : (tokens : List Token) (token : Token) → IsClosed tokens → is_start_word token.kind ≡ 0 → is_end_word token.kind ≡ 0 → IsClosed (tokens ++ token ∷ [])
 closed_more tokens token h no_start no_end =
     let start : starts (tokens ++ token ∷ []) ≡ starts tokens + starts (token ∷ []) = starts-append tokens (token ∷ []) in
     let end : ends (tokens ++ token ∷ []) ≡ ends tokens + ends (token ∷ []) = ends-append tokens (token ∷ []) in
@@ -53,8 +53,8 @@ closed_more tokens token h no_start no_end =
 
 closed_block : (before inner : List Token) (begin end : Token) → IsClosed before → IsClosed inner → IsKeyword BlockStart begin → IsKeyword BlockEnd end → IsClosed (before ++ begin ∷ (inner ++ end ∷ []))
 closed_block before inner begin end f g opens closes =
-    let one : (is_start begin.kind ≡ 1) × (is_end begin.kind ≡ 0) = start_counts begin opens in
-    let two : (is_start end.kind ≡ 0) × (is_end end.kind ≡ 1) = end_counts end closes in
+    let one : (is_start_word begin.kind ≡ 1) × (is_end_word begin.kind ≡ 0) = start_counts begin opens in
+    let two : (is_start_word end.kind ≡ 0) × (is_end_word end.kind ≡ 1) = end_counts end closes in
     let a : starts (before ++ begin ∷ (inner ++ end ∷ [])) ≡ starts before + starts (begin ∷ (inner ++ end ∷ [])) = starts-append before (begin ∷ (inner ++ end ∷ [])) in
     let b : ends (before ++ begin ∷ (inner ++ end ∷ [])) ≡ ends before + ends (begin ∷ (inner ++ end ∷ [])) = ends-append before (begin ∷ (inner ++ end ∷ [])) in
     let c : starts (inner ++ end ∷ []) ≡ starts inner + starts (end ∷ []) = starts-append inner (end ∷ []) in
@@ -68,7 +68,7 @@ closed_block before inner begin end f g opens closes =
 behind : (tokens before inner : List Token) (begin token : Token) → tokens ≡ before ++ begin ∷ inner → tokens ++ token ∷ [] ≡ before ++ begin ∷ (inner ++ token ∷ [])
 behind tokens before inner begin token joined = ap (λ (ts : List Token). ts ++ token ∷ []) joined ∙ append_assoc before (begin ∷ inner) (token ∷ [])
 
-opens_more : (blocks : List ℕ) (tokens : List Token) (token : Token) → Opens tokens blocks → is_start token.kind ≡ 0 → is_end token.kind ≡ 0 → Opens (tokens ++ token ∷ []) blocks
+opens_more : (blocks : List ℕ) (tokens : List Token) (token : Token) → Opens tokens blocks → is_start_word token.kind ≡ 0 → is_end_word token.kind ≡ 0 → Opens (tokens ++ token ∷ []) blocks
 opens_more [] tokens token h no_start no_end = closed_more tokens token h no_start no_end
 opens_more (start ∷ blocks) tokens token h no_start no_end = record {
   before = h.before;
@@ -162,17 +162,17 @@ last_of (x ∷ y ∷ xs) some =
     (more.0, ap (λ (ys : List ℕ). x ∷ ys) more.1 ∙ ap (λ (n : ℕ). take n (x ∷ y ∷ xs) ++ more.0 ∷ []) (sym same))
 
 -- the machine counts the open blocks
-blocks_count : (kind : WordKind) (blocks : List ℕ) (start depth : ℕ) → length blocks + is_start kind ≡ depth + is_end kind → length (blocks_behind kind blocks start) ≡ depth
+blocks_count : (kind : WordKind) (blocks : List ℕ) (start depth : ℕ) → length blocks + is_start_word kind ≡ depth + is_end_word kind → length (blocks_behind kind blocks start) ≡ depth
 blocks_count (kinds.Keyword BlockStart) blocks start depth e = let long : length (blocks ++ start ∷ []) ≡ length blocks + 1 = length-append blocks (start ∷ []) in omega arith
 blocks_count (kinds.Keyword BlockEnd) blocks start depth e = let short : length (take (length blocks - 1) blocks) ≡ length blocks - 1 = length-take-le (length blocks - 1) blocks (omega arith) in omega arith
 blocks_count _ blocks start depth e = omega arith
 
-blocks_more : (kind : WordKind) (blocks : List ℕ) (tokens : List Token) (token : Token) (depth : ℕ) → token.kind ≡ kind → length blocks + is_start kind ≡ depth + is_end kind → Opens tokens blocks → Opens (tokens ++ token ∷ []) (blocks_behind kind blocks token.start)
+blocks_more : (kind : WordKind) (blocks : List ℕ) (tokens : List Token) (token : Token) (depth : ℕ) → token.kind ≡ kind → length blocks + is_start_word kind ≡ depth + is_end_word kind → Opens tokens blocks → Opens (tokens ++ token ∷ []) (blocks_behind kind blocks token.start)
 blocks_more (kinds.Keyword BlockStart) blocks tokens token depth is e h = opens_start blocks tokens token h is
 blocks_more (kinds.Keyword BlockEnd) blocks tokens token depth is e h =
     let last = last_of blocks (omega arith) in
     opens_end (take (length blocks - 1) blocks) last.0 tokens token (subst (λ (bs : List ℕ). Opens tokens bs) last.1 h) is
-blocks_more _ blocks tokens token depth is e h = opens_more blocks tokens token h (ap is_start is) (ap is_end is)
+blocks_more _ blocks tokens token depth is e h = opens_more blocks tokens token h (ap is_start_word is) (ap is_end_word is)
 
 -- ---- one more word
 
@@ -187,8 +187,8 @@ module _ (tokens : List Token) (phase : m.Phase) (first : ℕ) (blocks : List �
     all : m.run m.Begin 0 (tokens ++ token ∷ []) ≡ Ok (m.state_of next depth)
     all = run_push tokens token phase (length blocks) h.state ∙ e
 
-    counts : length blocks + is_start token.kind ≡ depth + is_end token.kind
-    counts = subst (λ (s : m.Step). Counts (length blocks) token.kind s) e (step_counts phase (length blocks) token.kind (m.could_label token))
+    counts : length blocks + is_start_word token.kind ≡ depth + is_end_word token.kind
+    counts = subst (λ (s : m.UnitStep). Counts (length blocks) token.kind s) e (step_counts phase (length blocks) token.kind (m.could_label token))
 
     long : length (tokens ++ token ∷ []) ≡ length tokens + 1
     long = length-append tokens (token ∷ [])

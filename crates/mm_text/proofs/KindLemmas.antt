@@ -7,8 +7,8 @@ use Rattle.mm_text.specs.declared.word.Keyword.{Keyword}
 use Rattle.mm_text.specs.declared.word.Keyword.TheVariants.{BlockStart, BlockEnd, Constants, Variables, Floating, Essential, Disjoint, Axiom, Theorem, StatementEnd, ProofStart, InclusionStart, InclusionEnd}
 use Rattle.mm_text.specs.declared.word.WordKind.{WordKind}
 use Rattle.mm_text.specs.declared.word.WordKind.TheVariants as kinds
-use Rattle.mm_text.specs.Spelling.{spelling, IsSpelled, HoldsMark, StandsAt, opening, closing}
-use Rattle.mm_text.specs.LeftToRight.{keyword_at, plain_unless, kind_of, is_mark, holds_mark}
+use Rattle.mm_text.specs.Language.Spelling.{spelling, IsSpelled, HoldsMark, HasBytesAt, opening, closing}
+use Rattle.mm_text.specs.Code.LeftToRight.{keyword_at, plain_unless, word_kind, is_mark, holds_mark}
 
 -- ---- a `$` somewhere
 
@@ -46,7 +46,7 @@ keyword_is b k =
     (pick b 101 Essential k _ refl (pick b 100 Disjoint k _ refl (pick b 97 Axiom k _ refl (pick b 112 Theorem k _ refl (pick b 46 StatementEnd k _ refl
     (pick b 61 ProofStart k _ refl (pick b 91 InclusionStart k _ refl (pick b 93 InclusionEnd k None refl (λ e. absurd cc)))))))))))))
 
-kind_of-keyword : (k : Keyword) → kind_of (spelling k) ≡ Some (kinds.Keyword k)
+kind_of-keyword : (k : Keyword) → word_kind (spelling k) ≡ Some (kinds.Keyword k)
 kind_of-keyword BlockStart = refl
 kind_of-keyword BlockEnd = refl
 kind_of-keyword Constants = refl
@@ -72,7 +72,7 @@ plain_is bytes kind e =
           subst (λ (k : WordKind). IsSpelled k bytes) is (λ h. false≢true (sym none ∙ contains_any bytes h))
     ]
 
-pair_other : (a b : ℕ) → eqb a 36 ≡ false → kind_of (a ∷ b ∷ []) ≡ plain_unless (list_any (λ c. c == 36) (a ∷ b ∷ []))
+pair_other : (a b : ℕ) → eqb a 36 ≡ false → word_kind (a ∷ b ∷ []) ≡ plain_unless (list_any (λ c. c == 36) (a ∷ b ∷ []))
 pair_other a b other = cond-false (eqb a 36) (option_map kinds.Keyword (keyword_at b)) (plain_unless (list_any (λ c. c == 36) (a ∷ b ∷ []))) other
 
 keyword_spelled : (b : ℕ) (found : Option Keyword) (kind : WordKind) → keyword_at b ≡ found → option_map kinds.Keyword found ≡ Some kind → IsSpelled kind (36 ∷ b ∷ [])
@@ -82,7 +82,7 @@ keyword_spelled b (Some k) kind is e =
     subst (λ (v : WordKind). IsSpelled v (36 ∷ b ∷ [])) same (keyword_is b k is)
 
 -- a kind is found exactly where the bytes spell it
-pub kind_spelled : (bytes : List ℕ) (kind : WordKind) → kind_of bytes ≡ Some kind → IsSpelled kind bytes
+pub kind_spelled : (bytes : List ℕ) (kind : WordKind) → word_kind bytes ≡ Some kind → IsSpelled kind bytes
 kind_spelled [] kind e = plain_is [] kind e
 kind_spelled (a ∷ []) kind e = plain_is (a ∷ []) kind e
 kind_spelled (a ∷ b ∷ []) kind e =
@@ -95,8 +95,8 @@ kind_spelled (a ∷ b ∷ c ∷ bytes) kind e = plain_is (a ∷ b ∷ c ∷ byte
 plain_kind : (bytes : List ℕ) → ¬ Contains bytes 36 → plain_unless (list_any (λ c. c == 36) bytes) ≡ Some kinds.Plain
 plain_kind bytes none = ap plain_unless (none_any bytes none)
 
-pub spelled_kind : (kind : WordKind) (bytes : List ℕ) → IsSpelled kind bytes → kind_of bytes ≡ Some kind
-spelled_kind (kinds.Keyword k) bytes e = ap kind_of e ∙ kind_of-keyword k
+pub spelled_kind : (kind : WordKind) (bytes : List ℕ) → IsSpelled kind bytes → word_kind bytes ≡ Some kind
+spelled_kind (kinds.Keyword k) bytes e = ap word_kind e ∙ kind_of-keyword k
 spelled_kind kinds.Plain [] none = plain_kind [] none
 spelled_kind kinds.Plain (a ∷ []) none = plain_kind (a ∷ []) none
 spelled_kind kinds.Plain (a ∷ b ∷ []) none =
@@ -111,7 +111,7 @@ plain_none bytes e =
       | inr none ↦ absurd (let e' : plain_unless false ≡ None = rw none at e in cc)
     ]
 
-pub no_kind : (bytes : List ℕ) → kind_of bytes ≡ None → Contains bytes 36
+pub no_kind : (bytes : List ℕ) → word_kind bytes ≡ None → Contains bytes 36
 no_kind [] e = plain_none [] e
 no_kind (a ∷ []) e = plain_none (a ∷ []) e
 no_kind (a ∷ b ∷ []) e =
@@ -123,7 +123,7 @@ no_kind (a ∷ b ∷ c ∷ bytes) e = plain_none (a ∷ b ∷ c ∷ bytes) e
 
 -- ---- marks
 
-mark_is : (a b : ℕ) (bytes : List ℕ) → is_mark a b ≡ true → StandsAt (a ∷ b ∷ bytes) opening 0 ⊎ StandsAt (a ∷ b ∷ bytes) closing 0
+mark_is : (a b : ℕ) (bytes : List ℕ) → is_mark a b ≡ true → HasBytesAt (a ∷ b ∷ bytes) opening 0 ⊎ HasBytesAt (a ∷ b ∷ bytes) closing 0
 mark_is a b bytes e =
     let parts = and_parts (eqb a 36) (eqb b 40 || eqb b 41) e in
     elim (or_cases (eqb b 40) (eqb b 41) parts.1) [
@@ -140,7 +140,7 @@ mark_stands (a ∷ b ∷ bytes) e =
       | inr later ↦ let w = mark_stands (b ∷ bytes) later in (suc w.0, w.1)
     ]
 
-stands_at : (bytes : List ℕ) (k : ℕ) → StandsAt bytes opening k ⊎ StandsAt bytes closing k → holds_mark bytes ≡ true
+stands_at : (bytes : List ℕ) (k : ℕ) → HasBytesAt bytes opening k ⊎ HasBytesAt bytes closing k → holds_mark bytes ≡ true
 stands_at [] zero (inl e) = absurd cc
 stands_at [] zero (inr e) = absurd cc
 stands_at [] (suc k) (inl e) = absurd cc

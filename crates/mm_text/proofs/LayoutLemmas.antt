@@ -3,8 +3,8 @@ use Rattle.std.proofs.Common.{◌≡◌, ℕ, ◌+◌, ◌<◌, true, false, Lis
 use Rattle.std.proofs.lemmas.List.{append-nil}
 use Rattle.std.specs.List.{AllByRecursion}
 use Rattle.std.proofs.lemmas.Bool.{cases_Bool, false≢true}
-use Rattle.mm_text.specs.Run.{Run, is_white, ends_run, with_front, runs_from}
-use Rattle.mm_text.specs.Layout.{IsGap, IsLaidOut}
+use Rattle.mm_text.specs.Language.Run.{Run, is_white, ends_run, with_front, runs_from}
+use Rattle.mm_text.specs.Language.Layout.{IsGap, IsLaidOut}
 
 gap_more : (at b : ℕ) (bytes : List ℕ) (runs : List Run) → is_white b ≡ true → IsLaidOut (at + 1) bytes runs → IsLaidOut at (b ∷ bytes) runs
 gap_more at b bytes [] white h = (white, h)

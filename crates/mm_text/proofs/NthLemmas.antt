@@ -4,7 +4,7 @@ use Rattle.std.specs.Prelude.{slice_get, MatchOption}
 use Rattle.std.proofs.lemmas.List.{drop-drop, length-drop}
 use Rattle.std.proofs.lemmas.Option.{slice_get_past}
 use Rattle.mm_text.specs.declared.word.Word.{Word}
-use Rattle.mm_text.specs.LeftToRight.{Read, cons_word}
+use Rattle.mm_text.specs.Code.LeftToRight.{Read, cons_word}
 
 -- what is read behind the first word
 pub first_word : (old new : Read) (word : Word) (rest : List Word) → old ≡ cons_word word new → old ≡ Ok rest → (more : List Word) × (rest ≡ word ∷ more) × (new ≡ Ok more)

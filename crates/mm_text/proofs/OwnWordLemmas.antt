@@ -3,13 +3,13 @@ use Rattle.std.proofs.Common.{◌≡◌, ℕ, zero, suc, ◌+◌, ◌-◌, ◌<�
 use Rattle.std.specs.Prelude.{slice_range}
 use Rattle.std.proofs.lemmas.List.{append-nil, length-append, take-append-drop}
 use Rattle.mm_text.specs.declared.word.Word.{Word}
-use Rattle.mm_text.specs.Run.{runs, ends_run}
-use Rattle.mm_text.specs.Reading.{HasWords, LiesIn}
-use Rattle.mm_text.specs.Unit.{Token, token_of, tokens_of, spellings, Shape, Declaration, Labelled, Provable, Inclusion, shape_tokens, Nothing, Simple}
-use Rattle.mm_text.specs.Part.{HasUnits, token_end, shape_part}
-use Rattle.mm_text.specs.Cut.{end_of}
-use Rattle.mm_text.specs.LeftToRight.{read, fault_at}
-use Rattle.mm_text.specs.Reader.{runs_at, TakesWord}
+use Rattle.mm_text.specs.Language.Run.{runs, ends_run}
+use Rattle.mm_text.specs.Language.Reading.{HasWords, LiesIn}
+use Rattle.mm_text.specs.Language.Unit.{Token, token_of, tokens_of, spellings, Shape, Declaration, Labelled, Provable, Inclusion, shape_tokens, Nothing, Simple}
+use Rattle.mm_text.specs.Language.Part.{HasUnits, token_end, shape_part}
+use Rattle.mm_text.specs.Language.Cut.{end_of_words}
+use Rattle.mm_text.specs.Code.LeftToRight.{read_runs, words_fault_at}
+use Rattle.mm_text.specs.Code.Reader.{runs_at, TakesWord}
 use Rattle.mm_text.proofs.ReadingLemmas.{read_words, same_words}
 use Rattle.mm_text.proofs.ReaderLemmas.{pass_none, slice_length, word_read, fails_read}
 use Rattle.mm_text.proofs.PieceLemmas.{shift_word}
@@ -19,7 +19,7 @@ use Rattle.mm_text.proofs.CutWalkLemmas.{Given, word_from}
 use Rattle.mm_text.proofs.NthLemmas.{first_word}
 use Rattle.mm_text.proofs.PartLemmas.{Begun, begun_first, begun_more, begun_words}
 
-end_behind : (words : List Word) (word : Word) → end_of (words ++ word ∷ []) ≡ word.end
+end_behind : (words : List Word) (word : Word) → end_of_words (words ++ word ∷ []) ≡ word.end
 end_behind [] word = refl
 end_behind (w ∷ []) word = refl
 end_behind (w ∷ v ∷ words) word = end_behind (v ∷ words) word
@@ -31,15 +31,15 @@ bytes_bare (token ∷ tokens) = ap (λ bs. token.bytes ∷ bs) (bytes_bare token
 module _ (text : List ℕ) (all : List Word) (has : HasWords text all) (from : ℕ) where
   -- the bytes from this one to the end of the last word have these words
   abbrev pub Alone : Type 0
-  Alone = (own : List Word) × HasWords (slice_range text from (end_of all)) own × (spellings (slice_range text from (end_of all)) own ≡ spellings text all)
+  Alone = (own : List Word) × HasWords (slice_range text from (end_of_words all)) own × (spellings (slice_range text from (end_of_words all)) own ≡ spellings text all)
 
   -- the words up to a byte, which is the end of the last of them
   record UpTo (at : ℕ) : Type 0 where
     pub begun : Begun text from at
     pub rest : List Word
-    pub reads : read None (runs_at text at) ≡ Ok rest
+    pub reads : read_runs None (runs_at text at) ≡ Ok rest
     pub joined : all ≡ begun.words ++ rest
-    pub last : at ≡ end_of begun.words
+    pub last : at ≡ end_of_words begun.words
     pub ends : ends_run (drop at text) ≡ true
     pub within : at ≤ length text
 
@@ -47,7 +47,7 @@ module _ (text : List ℕ) (all : List Word) (has : HasWords text all) (from : �
   found at h none =
       let own = begun_words text from at has.allowed h.within h.begun h.ends in
       let whole : all ≡ h.begun.words = h.joined ∙ ap (λ rest. h.begun.words ++ rest) none ∙ append-nil h.begun.words in
-      let end : at ≡ end_of all = h.last ∙ ap end_of (sym whole) in
+      let end : at ≡ end_of_words all = h.last ∙ ap end_of_words (sym whole) in
       let part = slice_range text from at in
       let same : spellings part own.0 ≡ spellings text all =
       sym (bytes_bare (tokens_of part own.0))
@@ -58,7 +58,7 @@ module _ (text : List ℕ) (all : List Word) (has : HasWords text all) (from : �
 
   next : (at : ℕ) (h : UpTo at) (word : Word) (to : ℕ) → TakesWord text at word to → to ≤ length text → UpTo to
   next at h word to taken within =
-      let f = first_word (read None (runs_at text at)) (read None (runs_at text to)) word h.rest (word_read text at word to taken) h.reads in
+      let f = first_word (read_runs None (runs_at text at)) (read_runs None (runs_at text to)) word h.rest (word_read text at word to taken) h.reads in
       record {
         begun = begun_more text from at word to h.begun taken;
         rest = f.0;
@@ -74,7 +74,7 @@ module _ (text : List ℕ) (all : List Word) (has : HasWords text all) (from : �
     by_given : Given text at → Alone
     by_given (inl (word, to, taken, within)) = go to (omega (arith, taken.begins, taken.some, taken.next)) within (next at h word to taken within)
     by_given (inr (inl none)) = found at h (let a : Ok h.rest ≡ Ok [] = sym h.reads ∙ read_words (runs_at text at) [] none in cc)
-    by_given (inr (inr (number, place, fails))) = absurd (let a : Ok h.rest ≡ Err (fault_at number place) = sym h.reads ∙ fails_read (runs_at text at) [] number place fails in cc)
+    by_given (inr (inr (number, place, fails))) = absurd (let a : Ok h.rest ≡ Err (words_fault_at number place) = sym h.reads ∙ fails_read (runs_at text at) [] number place fails in cc)
 
   walk : (fuel : ℕ) (at : ℕ) → length text ≤ at + fuel → UpTo at → Alone
   walk zero at enough h = walk_step at h (λ to more within g. absurd (omega arith))
@@ -83,7 +83,7 @@ module _ (text : List ℕ) (all : List Word) (has : HasWords text all) (from : �
 alone_from : (text : List ℕ) (first : Word) (more : List Word) (has : HasWords text (first ∷ more)) (word : Word) (to : ℕ) → TakesWord text 0 word to → to ≤ length text → Alone text (first ∷ more) has first.start
 alone_from text first more has word to taken within =
     let all = first ∷ more in
-    let f = first_word (read None (runs_at text 0)) (read None (runs_at text to)) word all (word_read text 0 word to taken) (read_words (runs text) all has.words_are) in
+    let f = first_word (read_runs None (runs_at text 0)) (read_runs None (runs_at text to)) word all (word_read text 0 word to taken) (read_words (runs text) all has.words_are) in
     let same : word.start ≡ first.start = (let e : word ≡ first = cc in ap (λ (w : Word). w.start) e) in
     subst (Alone text all has) same (walk text all has word.start (length text) to (omega arith) (record {
       begun = begun_first text 0 word to taken;
@@ -97,19 +97,19 @@ alone_from text first more has word to taken within =
 
 pub alone : (text : List ℕ) (first : Word) (more : List Word) (has : HasWords text (first ∷ more)) → Alone text (first ∷ more) has first.start
 alone text first more has = by_given (word_from (length text) text 0 0 (omega arith) (omega arith) (pass_none text 0)) where
-  read_all : read None (runs text) ≡ Ok (first ∷ more)
+  read_all : read_runs None (runs text) ≡ Ok (first ∷ more)
   read_all = read_words (runs text) (first ∷ more) has.words_are
 
   by_given : Given text 0 → Alone text (first ∷ more) has first.start
   by_given (inl (word, to, taken, within)) = alone_from text first more has word to taken within
   by_given (inr (inl none)) = absurd (let a : Ok (first ∷ more) ≡ Ok [] = sym read_all ∙ read_words (runs_at text 0) [] none in cc)
-  by_given (inr (inr (number, place, fails))) = absurd (let a : Ok (first ∷ more) ≡ Err (fault_at number place) = sym read_all ∙ fails_read (runs_at text 0) [] number place fails in cc)
+  by_given (inr (inr (number, place, fails))) = absurd (let a : Ok (first ∷ more) ≡ Err (words_fault_at number place) = sym read_all ∙ fails_read (runs_at text 0) [] number place fails in cc)
 
-pub own_alone : (text : List ℕ) (first : Word) (more own : List Word) → HasWords text (first ∷ more) → HasWords (slice_range text first.start (end_of (first ∷ more))) own
-    → spellings (slice_range text first.start (end_of (first ∷ more))) own ≡ spellings text (first ∷ more)
+pub own_alone : (text : List ℕ) (first : Word) (more own : List Word) → HasWords text (first ∷ more) → HasWords (slice_range text first.start (end_of_words (first ∷ more))) own
+    → spellings (slice_range text first.start (end_of_words (first ∷ more))) own ≡ spellings text (first ∷ more)
 own_alone text first more own has are =
     let found = alone text first more has in
-    let part = slice_range text first.start (end_of (first ∷ more)) in
+    let part = slice_range text first.start (end_of_words (first ∷ more)) in
     ap (spellings part) (same_words (runs part) own found.0 are.words_are found.1.words_are) ∙ found.2
 
 -- ---- a statement that is alone in its text
@@ -117,7 +117,7 @@ own_alone text first more own has are =
 word_end : (text : List ℕ) (word : Word) → LiesIn text word → token_end (token_of text word) ≡ word.end
 word_end text word lies = omega (arith, slice_length text word.start word.end lies.within, lies.some)
 
-last_end : (text : List ℕ) (front : List Token) (last : Token) (words : List Word) (at : ℕ) → Lying text at words → front ++ last ∷ [] ≡ tokens_of text words → token_end last ≡ end_of words
+last_end : (text : List ℕ) (front : List Token) (last : Token) (words : List Word) (at : ℕ) → Lying text at words → front ++ last ∷ [] ≡ tokens_of text words → token_end last ≡ end_of_words words
 last_end text front last [] at lie e = absurd (omega (arith, ap length e, length-append front (last ∷ [])))
 last_end text [] last (word ∷ []) at lie e = let same : last ≡ token_of text word = cc in ap token_end same ∙ word_end text word lie.1
 last_end text [] last (word ∷ next ∷ words) at lie e = absurd (omega (arith, ap length e))
@@ -165,6 +165,6 @@ statement_alone text shape own units are = by units.words units.has_words (sym (
       let all : ends.first ∷ ends.more ≡ tokens_of text (word ∷ words) = sym ends.begins ∙ tokens in
       let first : ends.first ≡ token_of text word = cc in
       let start : (shape_part shape).start ≡ word.start = ends.start ∙ ap (λ (token : Token). token.start) first in
-      let end : (shape_part shape).end ≡ end_of (word ∷ words) = ends.end ∙ last_end text ends.front ends.last (word ∷ words) 0 (words_lie text (word ∷ words) has) (sym ends.closes ∙ tokens) in
-      let part : slice_range text (shape_part shape).start (shape_part shape).end ≡ slice_range text word.start (end_of (word ∷ words)) = ap (λ n. slice_range text n (shape_part shape).end) start ∙ ap (slice_range text word.start) end in
+      let end : (shape_part shape).end ≡ end_of_words (word ∷ words) = ends.end ∙ last_end text ends.front ends.last (word ∷ words) 0 (words_lie text (word ∷ words) has) (sym ends.closes ∙ tokens) in
+      let part : slice_range text (shape_part shape).start (shape_part shape).end ≡ slice_range text word.start (end_of_words (word ∷ words)) = ap (λ n. slice_range text n (shape_part shape).end) start ∙ ap (slice_range text word.start) end in
       ap (λ bytes. spellings bytes own) part ∙ own_alone text word words own has (subst (λ bytes. HasWords bytes own) part are) ∙ ap (map (λ token. token.bytes)) (sym tokens)

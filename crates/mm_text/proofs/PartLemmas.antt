@@ -12,14 +12,14 @@ use Rattle.mm_text.specs.declared.word.WordKind.{WordKind}
 use Rattle.mm_text.specs.declared.word.WordKind.TheVariants as kinds
 use Rattle.mm_text.specs.declared.word.Keyword.TheVariants.{BlockStart, BlockEnd, Constants, Variables, Disjoint, Floating, Essential, Axiom, Theorem, StatementEnd, ProofStart, InclusionStart, InclusionEnd}
 use Rattle.mm_text.specs.declared.fault.TextNumber.{TextNumber}
-use Rattle.mm_text.specs.Run.{Run, runs, runs_from, ends_run}
-use Rattle.mm_text.specs.Reading.{first_bad, AreWords, HasWords}
-use Rattle.mm_text.specs.Unit.{Token, token_of, tokens_of, IsKeyword, IsPlain, Shape, Declaration, Labelled, Provable, Inclusion, shape_tokens, IsShape, Units, Nothing, Simple, Block, unit_tokens, AreUnits}
-use Rattle.mm_text.specs.LeftToRight.{Read, read, fault_at}
-use Rattle.mm_text.specs.Reader.{runs_at, run_between, TakesWord, FailsBehind}
-use Rattle.mm_text.specs.Cut.{ends_white, IsPiece, ArePieces}
-use Rattle.mm_text.specs.Part.{HasUnits, token_end, part, word_part, shape_part, parts_of, IsReadable}
-use Rattle.mm_text.specs.PartReading.{ends_part, emit_word, emit}
+use Rattle.mm_text.specs.Language.Run.{Run, runs, runs_from, ends_run}
+use Rattle.mm_text.specs.Language.Reading.{first_bad, AreWords, HasWords}
+use Rattle.mm_text.specs.Language.Unit.{Token, token_of, tokens_of, IsKeyword, IsPlain, Shape, Declaration, Labelled, Provable, Inclusion, shape_tokens, IsShape, Units, Nothing, Simple, Block, unit_tokens, AreUnits}
+use Rattle.mm_text.specs.Code.LeftToRight.{Read, read_runs, words_fault_at}
+use Rattle.mm_text.specs.Code.Reader.{runs_at, run_between, TakesWord, FailsBehind}
+use Rattle.mm_text.specs.Language.Cut.{ends_white, IsPiece, ArePieces}
+use Rattle.mm_text.specs.Language.Part.{HasUnits, token_end, part, word_part, shape_part, parts_of, IsReadable}
+use Rattle.mm_text.specs.Code.PartReading.{ends_part, emit_word, emit}
 use Rattle.mm_text.proofs.ReadingLemmas.{none_read, word_step, read_words}
 use Rattle.mm_text.proofs.ReaderLemmas.{words-append, slice_length, word_read, fails_read}
 use Rattle.mm_text.proofs.PieceLemmas.{Seam, runs-append, shift_run, shift_word, runs-shift, words_unshift}
@@ -53,9 +53,21 @@ emit_shape outside (Declaration keyword symbols end) kind tail (is, plain, ends)
   told word next same e = ap (λ (k : PartKind). made_part k keyword.start (token_end end)) (sym e ∙ ap (word_part parts.Constants) (sym same))
 
   by_keyword : (IsKeyword Constants keyword ⊎ (IsKeyword Variables keyword ⊎ IsKeyword Disjoint keyword)) → Emits kind (keyword ∷ (symbols ++ end ∷ [])) (shape_part (Declaration keyword symbols end) ∷ []) tail
-  by_keyword (inl is) = (parts.Constants, emit_by None kind (kinds.Keyword Constants) keyword ((symbols ++ end ∷ []) ++ tail) is ∙ emit_rest keyword.start parts.Constants symbols end tail plain ends ∙ ap (λ (p : Part). p ∷ emit None parts.Constants tail) (told (kinds.Keyword Constants) parts.Constants is refl))
-  by_keyword (inr (inl is)) = (parts.Variables, emit_by None kind (kinds.Keyword Variables) keyword ((symbols ++ end ∷ []) ++ tail) is ∙ emit_rest keyword.start parts.Variables symbols end tail plain ends ∙ ap (λ (p : Part). p ∷ emit None parts.Variables tail) (told (kinds.Keyword Variables) parts.Variables is refl))
-  by_keyword (inr (inr is)) = (parts.Disjoint, emit_by None kind (kinds.Keyword Disjoint) keyword ((symbols ++ end ∷ []) ++ tail) is ∙ emit_rest keyword.start parts.Disjoint symbols end tail plain ends ∙ ap (λ (p : Part). p ∷ emit None parts.Disjoint tail) (told (kinds.Keyword Disjoint) parts.Disjoint is refl))
+  by_keyword (inl is) = (
+    parts.Constants,
+    emit_by None kind (kinds.Keyword Constants) keyword ((symbols ++ end ∷ []) ++ tail) is ∙ emit_rest keyword.start parts.Constants symbols end tail plain ends
+        ∙ ap (λ (p : Part). p ∷ emit None parts.Constants tail) (told (kinds.Keyword Constants) parts.Constants is refl),
+  )
+  by_keyword (inr (inl is)) = (
+    parts.Variables,
+    emit_by None kind (kinds.Keyword Variables) keyword ((symbols ++ end ∷ []) ++ tail) is ∙ emit_rest keyword.start parts.Variables symbols end tail plain ends
+        ∙ ap (λ (p : Part). p ∷ emit None parts.Variables tail) (told (kinds.Keyword Variables) parts.Variables is refl),
+  )
+  by_keyword (inr (inr is)) = (
+    parts.Disjoint,
+    emit_by None kind (kinds.Keyword Disjoint) keyword ((symbols ++ end ∷ []) ++ tail) is ∙ emit_rest keyword.start parts.Disjoint symbols end tail plain ends
+        ∙ ap (λ (p : Part). p ∷ emit None parts.Disjoint tail) (told (kinds.Keyword Disjoint) parts.Disjoint is refl),
+  )
 emit_shape outside (Labelled label keyword symbols end) kind tail (labels, is, plain, ends) = by_keyword is where
   told : (word : WordKind) (next : PartKind) → keyword.kind ≡ word → word_part parts.Axiom word ≡ next → made_part next label.start (token_end end) ≡ shape_part (Labelled label keyword symbols end)
   told word next same e = ap (λ (k : PartKind). made_part k label.start (token_end end)) (sym e ∙ ap (word_part parts.Axiom) (sym same))
@@ -64,9 +76,21 @@ emit_shape outside (Labelled label keyword symbols end) kind tail (labels, is, p
   first = emit_by None kind kinds.Plain label (keyword ∷ ((symbols ++ end ∷ []) ++ tail)) labels.0
 
   by_keyword : (IsKeyword Floating keyword ⊎ (IsKeyword Essential keyword ⊎ IsKeyword Axiom keyword)) → Emits kind (label ∷ keyword ∷ (symbols ++ end ∷ [])) (shape_part (Labelled label keyword symbols end) ∷ []) tail
-  by_keyword (inl is) = (parts.Floating, first ∙ emit_by (Some label.start) kind (kinds.Keyword Floating) keyword ((symbols ++ end ∷ []) ++ tail) is ∙ emit_rest label.start parts.Floating symbols end tail plain ends ∙ ap (λ (p : Part). p ∷ emit None parts.Floating tail) (told (kinds.Keyword Floating) parts.Floating is refl))
-  by_keyword (inr (inl is)) = (parts.Essential, first ∙ emit_by (Some label.start) kind (kinds.Keyword Essential) keyword ((symbols ++ end ∷ []) ++ tail) is ∙ emit_rest label.start parts.Essential symbols end tail plain ends ∙ ap (λ (p : Part). p ∷ emit None parts.Essential tail) (told (kinds.Keyword Essential) parts.Essential is refl))
-  by_keyword (inr (inr is)) = (parts.Axiom, first ∙ emit_by (Some label.start) kind (kinds.Keyword Axiom) keyword ((symbols ++ end ∷ []) ++ tail) is ∙ emit_rest label.start parts.Axiom symbols end tail plain ends ∙ ap (λ (p : Part). p ∷ emit None parts.Axiom tail) (told (kinds.Keyword Axiom) parts.Axiom is refl))
+  by_keyword (inl is) = (
+    parts.Floating,
+    first ∙ emit_by (Some label.start) kind (kinds.Keyword Floating) keyword ((symbols ++ end ∷ []) ++ tail) is
+        ∙ emit_rest label.start parts.Floating symbols end tail plain ends ∙ ap (λ (p : Part). p ∷ emit None parts.Floating tail) (told (kinds.Keyword Floating) parts.Floating is refl),
+  )
+  by_keyword (inr (inl is)) = (
+    parts.Essential,
+    first ∙ emit_by (Some label.start) kind (kinds.Keyword Essential) keyword ((symbols ++ end ∷ []) ++ tail) is
+        ∙ emit_rest label.start parts.Essential symbols end tail plain ends ∙ ap (λ (p : Part). p ∷ emit None parts.Essential tail) (told (kinds.Keyword Essential) parts.Essential is refl),
+  )
+  by_keyword (inr (inr is)) = (
+    parts.Axiom,
+    first ∙ emit_by (Some label.start) kind (kinds.Keyword Axiom) keyword ((symbols ++ end ∷ []) ++ tail) is
+        ∙ emit_rest label.start parts.Axiom symbols end tail plain ends ∙ ap (λ (p : Part). p ∷ emit None parts.Axiom tail) (told (kinds.Keyword Axiom) parts.Axiom is refl),
+  )
 emit_shape outside (Provable label keyword symbols proof steps end) kind tail (labels, theorem, plain, proves, more, ends) = (
   parts.Theorem,
   emit_by None kind kinds.Plain label (keyword ∷ ((symbols ++ proof ∷ (steps ++ end ∷ [])) ++ tail)) labels.0
@@ -160,7 +184,7 @@ begun_words text start to allowed most h ends = (words.0, record { allowed = all
 
 pub record Divides (text : List ℕ) (found : List Part) (first : Option ℕ) (kind : PartKind) (at : ℕ) : Type 0 where
   pub allowed : first_bad text ≡ None
-  pub rest : Left text found first kind (read None (runs_at text at))
+  pub rest : Left text found first kind (read_runs None (runs_at text at))
   pub readable : All (IsReadable text) found
   pub begun : (start : ℕ) → first ≡ Some start → Begun text start at
 
@@ -176,14 +200,14 @@ module _ (text : List ℕ) (found : List Part) (first : Option ℕ) (kind : Part
   pub divides_end : AreWords (runs_at text at) [] → (units : Units) → HasUnits text units → found ≡ parts_of units
   divides_end none units has =
       let left = h.rest units has in
-      let empty : left.0 ≡ [] = let a : read None (runs_at text at) ≡ Ok left.0 = left.1 in let b : read None (runs_at text at) ≡ Ok [] = read_words (runs_at text at) [] none in cc in
+      let empty : left.0 ≡ [] = let a : read_runs None (runs_at text at) ≡ Ok left.0 = left.1 in let b : read_runs None (runs_at text at) ≡ Ok [] = read_words (runs_at text at) [] none in cc in
       sym (append-nil found) ∙ ap (λ (ws : List Word). found ++ emit first kind (tokens_of text ws)) (sym empty) ∙ left.2
 
   pub divides_fault : (number : TextNumber) (place : ℕ) → FailsBehind (runs_at text at) [] number place → (units : Units) → ¬ HasUnits text units
   divides_fault number place fails units has =
       let left = h.rest units has in
-      let a : read None (runs_at text at) ≡ Ok left.0 = left.1 in
-      let b : read None (runs_at text at) ≡ Err (fault_at number place) = fails_read (runs_at text at) [] number place fails in
+      let a : read_runs None (runs_at text at) ≡ Ok left.0 = left.1 in
+      let b : read_runs None (runs_at text at) ≡ Err (words_fault_at number place) = fails_read (runs_at text at) [] number place fails in
       cc
 
   module _ (word : Word) (to : ℕ) (taken : TakesWord text at word to) (most : to ≤ length text) where
@@ -192,10 +216,10 @@ module _ (text : List ℕ) (found : List Part) (first : Option ℕ) (kind : Part
 
     -- the rest, whose first word is this
     after_word : (units : Units) → HasUnits text units
-        → (more : List Word) × (read None (runs_at text to) ≡ Ok more) × (found ++ emit_word first kind word.kind (token_of text word) (λ f k. emit f k (tokens_of text more)) ≡ parts_of units)
+        → (more : List Word) × (read_runs None (runs_at text to) ≡ Ok more) × (found ++ emit_word first kind word.kind (token_of text word) (λ f k. emit f k (tokens_of text more)) ≡ parts_of units)
     after_word units has =
         let left = h.rest units has in
-        let next = first_word (read None (runs_at text at)) (read None (runs_at text to)) word left.0 (word_read text at word to taken) left.1 in
+        let next = first_word (read_runs None (runs_at text at)) (read_runs None (runs_at text to)) word left.0 (word_read text at word to taken) left.1 in
         (next.0, next.2, ap (λ (ws : List Word). found ++ emit first kind (tokens_of text ws)) (sym next.1) ∙ left.2)
 
     end_is : token_end (token_of text word) ≡ word.end

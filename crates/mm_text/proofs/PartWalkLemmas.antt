@@ -4,9 +4,9 @@ use Rattle.std.proofs.lemmas.Bool.{cases_Bool}
 use Rattle.mm_text.specs.declared.part.Part.{Part}
 use Rattle.mm_text.specs.declared.part.PartKind.{PartKind}
 use Rattle.mm_text.specs.declared.part.PartKind.TheVariants as parts
-use Rattle.mm_text.specs.Unit.{Units}
-use Rattle.mm_text.specs.Part.{HasUnits, parts_of, IsReadable}
-use Rattle.mm_text.specs.PartReading.{ends_part}
+use Rattle.mm_text.specs.Language.Unit.{Units}
+use Rattle.mm_text.specs.Language.Part.{HasUnits, parts_of, IsReadable}
+use Rattle.mm_text.specs.Code.PartReading.{ends_part}
 use Rattle.mm_text.proofs.ReaderLemmas.{pass_none}
 use Rattle.mm_text.proofs.CutWalkLemmas.{Given, word_from}
 use Rattle.mm_text.proofs.PartLemmas.{Divides, divides_start, divides_end, divides_fault, divides_part, divides_more}

@@ -7,11 +7,11 @@ use Rattle.std.proofs.lemmas.List.{append-nil}
 use Rattle.mm_text.specs.declared.word.Word.{Word}
 use Rattle.mm_text.specs.declared.word.WordKind.{WordKind}
 use Rattle.mm_text.specs.declared.fault.TextFault.{TextFault}
-use Rattle.mm_text.specs.Run.{Run, runs_from, is_white, ends_run, with_front}
-use Rattle.mm_text.specs.Spelling.{opening, closing}
-use Rattle.mm_text.specs.Reading.{AreWords}
-use Rattle.mm_text.specs.Cut.{ends_white, ended}
-use Rattle.mm_text.specs.LeftToRight.{Read, read, kind_of, alone, holds_mark, word_at}
+use Rattle.mm_text.specs.Language.Run.{Run, runs_from, is_white, ends_run, with_front}
+use Rattle.mm_text.specs.Language.Spelling.{opening, closing}
+use Rattle.mm_text.specs.Language.Reading.{AreWords}
+use Rattle.mm_text.specs.Language.Cut.{ends_white, ended}
+use Rattle.mm_text.specs.Code.LeftToRight.{Read, read_runs, word_kind, word_alone, holds_mark, word_at}
 use Rattle.mm_text.proofs.LayoutLemmas.{front_step}
 use Rattle.mm_text.proofs.ReadLemmas.{inside_end, inside_mark, inside_more, outside_open, outside_close, outside_word}
 use Rattle.mm_text.proofs.ReadingLemmas.{read_words, words_from_read, is_from, not_from}
@@ -115,12 +115,12 @@ word_at-shift : (k : ℕ) (run : Run) (kind : WordKind) → word_at (shift_run k
 unfolding word_there
 word_at-shift k run kind = let same : k + run.start + length run.bytes ≡ k + (run.start + length run.bytes) = omega arith in ap (word_there kind (k + run.start)) same
 
-alone-shift : (k : ℕ) (run : Run) (kind : Option WordKind) (r : Read) → alone (shift_run k run) kind (shift_read k r) ≡ shift_read k (alone run kind r)
+alone-shift : (k : ℕ) (run : Run) (kind : Option WordKind) (r : Read) → word_alone (shift_run k run) kind (shift_read k r) ≡ shift_read k (word_alone run kind r)
 alone-shift k run None r = refl
 alone-shift k run (Some kind) (Ok words) = ap (λ (w : Word). Ok (w ∷ map (shift_word k) words)) (word_at-shift k run kind)
 alone-shift k run (Some kind) (Err fault) = refl
 
-pub read-shift : (k : ℕ) (state : Option ℕ) (rs : List Run) → read (shift_state k state) (map (shift_run k) rs) ≡ shift_read k (read state rs)
+pub read-shift : (k : ℕ) (state : Option ℕ) (rs : List Run) → read_runs (shift_state k state) (map (shift_run k) rs) ≡ shift_read k (read_runs state rs)
 read-shift k None [] = refl
 read-shift k (Some start) [] = refl
 read-shift k None (run ∷ rs) =
@@ -131,7 +131,7 @@ read-shift k None (run ∷ rs) =
         | inr no_close ↦
             let a = not_from run.bytes opening no_open in
             let b = not_from run.bytes closing no_close in
-            outside_word (shift_run k run) (map (shift_run k) rs) a b ∙ ap (alone (shift_run k run) (kind_of run.bytes)) (read-shift k None rs) ∙ alone-shift k run (kind_of run.bytes) (read None rs) ∙ ap (shift_read k) (sym (outside_word run rs a b))
+            outside_word (shift_run k run) (map (shift_run k) rs) a b ∙ ap (word_alone (shift_run k run) (word_kind run.bytes)) (read-shift k None rs) ∙ alone-shift k run (word_kind run.bytes) (read_runs None rs) ∙ ap (shift_read k) (sym (outside_word run rs a b))
       ]
     ]
 read-shift k (Some start) (run ∷ rs) =
@@ -149,11 +149,11 @@ pub words-shift : (k : ℕ) (rs : List Run) (ws : List Word) → AreWords rs ws 
 words-shift k rs ws h = words_from_read (map (shift_run k) rs) (map (shift_word k) ws) (read-shift k None rs ∙ ap (shift_read k) (read_words rs ws h))
 
 pub words_unshift : (k : ℕ) (rs : List Run) (vs : List Word) → AreWords (map (shift_run k) rs) vs → (ws : List Word) × AreWords rs ws × (vs ≡ map (shift_word k) ws)
-words_unshift k rs vs h = by_read (read None rs) refl where
-  all : shift_read k (read None rs) ≡ Ok vs
+words_unshift k rs vs h = by_read (read_runs None rs) refl where
+  all : shift_read k (read_runs None rs) ≡ Ok vs
   all = sym (read-shift k None rs) ∙ read_words (map (shift_run k) rs) vs h
 
-  by_read : (r : Read) → read None rs ≡ r → (ws : List Word) × AreWords rs ws × (vs ≡ map (shift_word k) ws)
+  by_read : (r : Read) → read_runs None rs ≡ r → (ws : List Word) × AreWords rs ws × (vs ≡ map (shift_word k) ws)
   by_read (Ok ws) is = (ws, words_from_read rs ws is, let e : Ok (map (shift_word k) ws) ≡ Ok vs = sym (ap (shift_read k) is) ∙ all in cc)
   by_read (Err fault) is = absurd (let e : Err (shift_fault k fault) ≡ Ok vs = sym (ap (shift_read k) is) ∙ all in cc)
 

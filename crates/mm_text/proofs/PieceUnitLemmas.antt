@@ -10,12 +10,12 @@ use Rattle.std.proofs.lemmas.List.Quantifiers.{position-Some}
 use Rattle.std.proofs.lemmas.List.Sums.{fails_before_first, prefix_len-le-length}
 use Rattle.mm_text.specs.declared.word.Word.{Word}
 use Rattle.mm_text.specs.declared.word.WordKind.{WordKind}
-use Rattle.mm_text.specs.Run.{Run, runs, runs_from, is_white, ends_run}
-use Rattle.mm_text.specs.Reading.{is_allowed, first_bad, AreWords, HasWords}
-use Rattle.mm_text.specs.Unit.{Token, token_of, tokens_of, Shape, Declaration, Labelled, Provable, Inclusion, shape_tokens, Units, Nothing, Simple, Block, unit_tokens, AreUnits}
-use Rattle.mm_text.specs.UnitReading as m
-use Rattle.mm_text.specs.Cut.{ends_white, ended, IsOne, end_of, IsPiece, BeginsSolid}
-use Rattle.mm_text.specs.Reader.{runs_at}
+use Rattle.mm_text.specs.Language.Run.{Run, runs, runs_from, is_white, ends_run}
+use Rattle.mm_text.specs.Language.Reading.{is_allowed, first_bad, AreWords, HasWords}
+use Rattle.mm_text.specs.Language.Unit.{Token, token_of, tokens_of, Shape, Declaration, Labelled, Provable, Inclusion, shape_tokens, Units, Nothing, Simple, Block, unit_tokens, AreUnits}
+use Rattle.mm_text.specs.Code.UnitReading as m
+use Rattle.mm_text.specs.Language.Cut.{ends_white, ended, IsOne, end_of_words, IsPiece, BeginsSolid}
+use Rattle.mm_text.specs.Code.Reader.{runs_at}
 use Rattle.mm_text.proofs.RunLemmas.{skip_white}
 use Rattle.mm_text.proofs.PositionLemmas.{Lying, words_lie, none_bad, passes}
 use Rattle.mm_text.proofs.UnitReadingLemmas.{IsWhole-run, run-IsWhole}
@@ -147,7 +147,7 @@ tokens-front part rest (w ∷ ws) at h =
     let some : w.start < w.end = h.1.some in
     ap (λ (bs : List ℕ). made_token w.kind bs w.start ∷ tokens_of (part ++ rest) ws) (slice_front w.start w.end part rest (omega arith) h.1.within) ∙ ap (λ (ts : List Token). token_of part w ∷ ts) (tokens-front part rest ws (w.end + 1) h.2)
 
-after_same : (step : m.Step) (a b : List Token) → ((phase : m.Phase) (depth : ℕ) → m.run phase depth a ≡ m.run phase depth b) → m.after step (λ p d. m.run p d a) ≡ m.after step (λ p d. m.run p d b)
+after_same : (step : m.UnitStep) (a b : List Token) → ((phase : m.Phase) (depth : ℕ) → m.run phase depth a ≡ m.run phase depth b) → m.after step (λ p d. m.run p d a) ≡ m.after step (λ p d. m.run p d b)
 after_same (Ok s) a b same = same s.0 s.1
 after_same (Err number) a b same = refl
 
@@ -203,19 +203,19 @@ is_one tokens (Block begin inner end later) h e some one =
 
 -- ---- where the last word ends
 
-ends_at_last : (part : List Word) (word : Word) → end_of (part ++ word ∷ []) ≡ word.end
+ends_at_last : (part : List Word) (word : Word) → end_of_words (part ++ word ∷ []) ≡ word.end
 ends_at_last [] word = refl
 ends_at_last (w ∷ []) word = refl
 ends_at_last (w ∷ v ∷ part) word = ends_at_last (v ∷ part) word
 
-end_shift : (k : ℕ) (w : Word) (ws : List Word) → end_of (map (shift_word k) (w ∷ ws)) ≡ k + end_of (w ∷ ws)
+end_shift : (k : ℕ) (w : Word) (ws : List Word) → end_of_words (map (shift_word k) (w ∷ ws)) ≡ k + end_of_words (w ∷ ws)
 end_shift k w [] = refl
 end_shift k w (v ∷ ws) = end_shift k v ws
 
-pub last_end : (k : ℕ) (ws part : List Word) (word : Word) → part ++ word ∷ [] ≡ map (shift_word k) ws → k + end_of ws ≡ word.end
+pub last_end : (k : ℕ) (ws part : List Word) (word : Word) → part ++ word ∷ [] ≡ map (shift_word k) ws → k + end_of_words ws ≡ word.end
 last_end k [] [] word e = absurd cc
 last_end k [] (v ∷ part) word e = absurd cc
-last_end k (w ∷ ws) part word e = sym (end_shift k w ws) ∙ ap end_of (sym e) ∙ ends_at_last part word
+last_end k (w ∷ ws) part word e = sym (end_shift k w ws) ∙ ap end_of_words (sym e) ∙ ends_at_last part word
 
 -- ---- a piece
 
@@ -284,13 +284,14 @@ module _ (text : List ℕ) (from to : ℕ) (since : List Run) (part : List Word)
       ap (map bare) (ap (λ (bs : List ℕ). tokens_of bs piece_words.0) (ended_is piece_bytes) ∙ tokens-front piece_bytes (line_end piece_bytes) piece_words.0 0 lie)
       ∙ sym (tokens-shift text piece_bytes (drop (to + white) text) from piece_joined piece_words.0 0 lie) ∙ ap (λ (ws : List Word). map bare (tokens_of text ws)) (sym piece_words.2)
 
-  white_behind : AllPass is_white (drop (end_of piece_words.0) (ended piece_bytes))
+  white_behind : AllPass is_white (drop (end_of_words piece_words.0) (ended piece_bytes))
   white_behind =
-      let last : from + end_of piece_words.0 ≡ word.end = last_end from piece_words.0 part word piece_words.2 in
+      let last : from + end_of_words piece_words.0 ≡ word.end = last_end from piece_words.0 part word piece_words.2 in
       let long : length (slice_range text from to) ≡ to - from = length-take-le (to - from) (drop from text) (let all : length (drop from text) ≡ length text - from = length-drop from text in omega arith) in
-      let end : end_of piece_words.0 ≡ length (slice_range text from to) = omega (arith, end_is, last, long) in
+      let end : end_of_words piece_words.0 ≡ length (slice_range text from to) = omega (arith, end_is, last, long) in
       let bytes : ended piece_bytes ≡ slice_range text from to ++ (take white (drop to text) ++ line_end piece_bytes) = ended_is piece_bytes ∙ ap (λ (bs : List ℕ). bs ++ line_end piece_bytes) halves ∙ append_assoc (slice_range text from to) (take white (drop to text)) (line_end piece_bytes) in
-      let behind : drop (end_of piece_words.0) (ended piece_bytes) ≡ take white (drop to text) ++ line_end piece_bytes = ap (λ (n : ℕ). drop n (ended piece_bytes)) end ∙ ap (drop (length (slice_range text from to))) bytes ∙ drop-append_seam (slice_range text from to) (take white (drop to text) ++ line_end piece_bytes) in
+      let behind : drop (end_of_words piece_words.0) (ended piece_bytes) ≡ take white (drop to text) ++ line_end piece_bytes = ap (λ (n : ℕ). drop n (ended piece_bytes)) end
+      ∙ ap (drop (length (slice_range text from to))) bytes ∙ drop-append_seam (slice_range text from to) (take white (drop to text) ++ line_end piece_bytes) in
       subst (λ (bs : List ℕ). AllPass is_white bs) (sym behind) (All-append (λ b. is_white b ≡ true) (take white (drop to text)) (line_end piece_bytes) (white_pass (take white (drop to text)) (prefix_white (drop to text))) (end_passes piece_bytes))
 
   pub piece_is : WholeRun (tokens_of text (part ++ word ∷ [])) → HasOne (tokens_of text (part ++ word ∷ [])) → IsPiece (ended piece_bytes)

@@ -16,12 +16,12 @@ use Rattle.mm_text.specs.declared.fault.TextError.{TextError}
 use Rattle.mm_text.specs.declared.fault.TextError.TheVariants as errors
 use Rattle.mm_text.specs.declared.fault.TextNumber.{TextNumber}
 use Rattle.mm_text.specs.declared.fault.TextNumber.TheVariants.{T01, T02, T03, T04, T05, T06, T07, T08, T09, T10, T11, T12}
-use Rattle.mm_text.specs.Run.{Run, is_white, ends_run, runs}
-use Rattle.mm_text.specs.Layout.{IsLaidOut}
-use Rattle.mm_text.specs.Spelling.{IsSpelled, IsWord}
-use Rattle.mm_text.specs.Reading.{is_allowed, first_bad, Part, Single, Comment, part_runs, part_words, IsPart, AreWords, HasWords, LiesIn, AreWithin, StopsAt, EndsOpen, IsFaultAt, IsFault, IsErrorIn}
-use Rattle.mm_text.specs.Unit.{Token, token_of, tokens_of, EndsInUnit, EndsInBlock}
-use Rattle.mm_text.specs.Cut.{StopsUnits, EndsUnits, IsFirstFaultAt, IsFirstFault, IsCutError}
+use Rattle.mm_text.specs.Language.Run.{Run, is_white, ends_run, runs}
+use Rattle.mm_text.specs.Language.Layout.{IsLaidOut}
+use Rattle.mm_text.specs.Language.Spelling.{IsSpelled, IsWord}
+use Rattle.mm_text.specs.Language.Reading.{is_allowed, first_bad, Segment, Single, Comment, segment_runs, segment_words, IsSegment, AreWords, HasWords, LiesIn, AreWithin, StopsAtRun, EndsOpen, IsWordsFaultAt, IsWordsFault, IsTextErrorIn}
+use Rattle.mm_text.specs.Language.Unit.{Token, token_of, tokens_of, EndsInUnit, EndsInBlock}
+use Rattle.mm_text.specs.Language.Cut.{StopsUnits, EndsUnits, IsFirstFaultAt, IsFirstFault, IsCutError}
 use Rattle.mm_text.proofs.LayoutLemmas.{laid_out}
 
 -- ---- runs
@@ -110,14 +110,14 @@ word_lies text at run word is h =
       spelled = subst (IsSpelled word.kind) (sym (from ∙ h.bytes_are)) is.kind;
     }
 
-pub parts_lie : (text : List ℕ) (at : ℕ) (parts : List Part) → AllByRecursion IsPart parts → Standing text at (flat_map part_runs parts) → Lying text at (flat_map part_words parts)
+pub parts_lie : (text : List ℕ) (at : ℕ) (parts : List Segment) → AllByRecursion IsSegment parts → Standing text at (flat_map segment_runs parts) → Lying text at (flat_map segment_words parts)
 parts_lie text at [] each h = tt
 parts_lie text at (Single run word ∷ parts) each h = (
   omega (arith, each.0.start, h.0.behind),
   word_lies text at run word each.0 h.0,
-  parts_lie text (word.end + 1) parts each.1 (at_or_before text (word.end + 1) (run.start + length run.bytes + 1) (flat_map part_runs parts) (λ x. omega (arith, each.0.end)) h.1),
+  parts_lie text (word.end + 1) parts each.1 (at_or_before text (word.end + 1) (run.start + length run.bytes + 1) (flat_map segment_runs parts) (λ x. omega (arith, each.0.end)) h.1),
 )
-parts_lie text at (Comment first inside last ∷ parts) each h = parts_lie text at parts each.1 (skip text at (first ∷ (inside ++ last ∷ [])) (flat_map part_runs parts) h)
+parts_lie text at (Comment first inside last ∷ parts) each h = parts_lie text at parts each.1 (skip text at (first ∷ (inside ++ last ∷ [])) (flat_map segment_runs parts) h)
 
 each_lies : (text : List ℕ) (at : ℕ) (words : List Word) → Lying text at words → All (LiesIn text) words
 each_lies text at [] h = All-nil (LiesIn text)
@@ -200,19 +200,19 @@ run_begins text front rest run joined =
     let here = skip text 0 front (run ∷ rest) (subst (Standing text 0) joined (text_stands text)) in
     omega (arith, here.0.some, here.0.within)
 
-stop_lies : (text : List ℕ) (number : TextNumber) (at : ℕ) → StopsAt (runs text) number at → at < length text
+stop_lies : (text : List ℕ) (number : TextNumber) (at : ℕ) → StopsAtRun (runs text) number at → at < length text
 stop_lies text number at h = let begins = run_begins text h.front h.rest h.run h.joined in omega (arith, h.place)
 
 open_lies : (text : List ℕ) (at : ℕ) → EndsOpen (runs text) at → at < length text
 open_lies text at h = let begins = run_begins text h.open_comment.front h.open_comment.inside h.first h.open_comment.joined in omega (arith, h.place)
 
-fault_at_lies : (text : List ℕ) (number : TextNumber) (at : ℕ) → IsFaultAt text number at → at < length text
+fault_at_lies : (text : List ℕ) (number : TextNumber) (at : ℕ) → IsWordsFaultAt text number at → at < length text
 fault_at_lies text T01 at h = (position-Some (λ b. not (is_allowed b)) text at 0 h).0
 fault_at_lies text T02 at h = open_lies text at h.1
 fault_at_lies text number at h = stop_lies text number at h.1
 
 -- the fault of a text is at one of its bytes
-pub fault_lies : (text : List ℕ) (fault : TextFault) → IsFault text fault → fault.at < length text
+pub fault_lies : (text : List ℕ) (fault : TextFault) → IsWordsFault text fault → fault.at < length text
 fault_lies text fault h = fault_at_lies text fault.number fault.at h
 
 -- ---- first faults
@@ -257,7 +257,7 @@ pub first_fault_lies : (text : List ℕ) (fault : TextFault) → IsFirstFault te
 first_fault_lies text fault h = first_fault_at_lies text fault.number fault.at h
 
 -- so an error of `cut` is told at one of them
-pub cut_error_lies : {X : Type 0} (text : List ℕ) (r : Result X TextError) → IfErr r (IsCutError text) → IfErr r (IsErrorIn text)
+pub cut_error_lies : {X : Type 0} (text : List ℕ) (r : Result X TextError) → IfErr r (IsCutError text) → IfErr r (IsTextErrorIn text)
 cut_error_lies text (Ok x) h = tt
 cut_error_lies text (Err errors.Memory) h = tt
 cut_error_lies text (Err (errors.Fault fault)) h = first_fault_lies text fault h

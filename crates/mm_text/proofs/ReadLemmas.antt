@@ -4,10 +4,10 @@ use Rattle.std.proofs.lemmas.Bool.{false_from_ne_true}
 use Rattle.std.proofs.lemmas.Slice.Eq.{bytes_eq-Decides}
 use Rattle.std.specs.Str.{bytes_eq}
 use Rattle.mm_text.specs.declared.fault.TextNumber.TheVariants.{T03, T04}
-use Rattle.mm_text.specs.Run.{Run}
-use Rattle.mm_text.specs.Spelling.{opening, closing}
+use Rattle.mm_text.specs.Language.Run.{Run}
+use Rattle.mm_text.specs.Language.Spelling.{opening, closing}
 use Rattle.mm_text.specs.declared.word.Word.{Word}
-use Rattle.mm_text.specs.LeftToRight.{read, Read, with_words, cons_word, holds_mark, fault_at, kind_of, alone}
+use Rattle.mm_text.specs.Code.LeftToRight.{read_runs, Read, with_words, cons_word, holds_mark, words_fault_at, word_kind, word_alone}
 
 pub same_bytes : (bytes part : List ℕ) → bytes ≡ part → bytes_eq bytes part ≡ true
 same_bytes bytes part e = (bytes_eq-Decides bytes part).1 e
@@ -16,23 +16,23 @@ pub other_bytes : (bytes part : List ℕ) → bytes ≢ part → bytes_eq bytes 
 other_bytes bytes part ne = false_from_ne_true (bytes_eq bytes part) (λ e. ne ((bytes_eq-Decides bytes part).0 e))
 
 -- inside a comment
-pub inside_end : (start : ℕ) (run : Run) (runs : List Run) → run.bytes ≡ closing → read (Some start) (run ∷ runs) ≡ read None runs
+pub inside_end : (start : ℕ) (run : Run) (runs : List Run) → run.bytes ≡ closing → read_runs (Some start) (run ∷ runs) ≡ read_runs None runs
 inside_end start run runs e = rw (same_bytes run.bytes closing e) refl
 
-pub inside_mark : (start : ℕ) (run : Run) (runs : List Run) → run.bytes ≢ closing → holds_mark run.bytes ≡ true → read (Some start) (run ∷ runs) ≡ Err (fault_at T03 run.start)
+pub inside_mark : (start : ℕ) (run : Run) (runs : List Run) → run.bytes ≢ closing → holds_mark run.bytes ≡ true → read_runs (Some start) (run ∷ runs) ≡ Err (words_fault_at T03 run.start)
 inside_mark start run runs ne mark = rw (other_bytes run.bytes closing ne, mark) refl
 
-pub inside_more : (start : ℕ) (run : Run) (runs : List Run) → run.bytes ≢ closing → holds_mark run.bytes ≡ false → read (Some start) (run ∷ runs) ≡ read (Some start) runs
+pub inside_more : (start : ℕ) (run : Run) (runs : List Run) → run.bytes ≢ closing → holds_mark run.bytes ≡ false → read_runs (Some start) (run ∷ runs) ≡ read_runs (Some start) runs
 inside_more start run runs ne no_mark = rw (other_bytes run.bytes closing ne, no_mark) refl
 
 -- outside comments
-pub outside_open : (run : Run) (runs : List Run) → run.bytes ≡ opening → read None (run ∷ runs) ≡ read (Some run.start) runs
+pub outside_open : (run : Run) (runs : List Run) → run.bytes ≡ opening → read_runs None (run ∷ runs) ≡ read_runs (Some run.start) runs
 outside_open run runs e = rw (same_bytes run.bytes opening e) refl
 
-pub outside_close : (run : Run) (runs : List Run) → run.bytes ≡ closing → read None (run ∷ runs) ≡ Err (fault_at T04 run.start)
+pub outside_close : (run : Run) (runs : List Run) → run.bytes ≡ closing → read_runs None (run ∷ runs) ≡ Err (words_fault_at T04 run.start)
 outside_close run runs e = rw (e) refl
 
-pub outside_word : (run : Run) (runs : List Run) → run.bytes ≢ opening → run.bytes ≢ closing → read None (run ∷ runs) ≡ alone run (kind_of run.bytes) (read None runs)
+pub outside_word : (run : Run) (runs : List Run) → run.bytes ≢ opening → run.bytes ≢ closing → read_runs None (run ∷ runs) ≡ word_alone run (word_kind run.bytes) (read_runs None runs)
 outside_word run runs no_open no_close = rw (other_bytes run.bytes opening no_open, other_bytes run.bytes closing no_close) refl
 
 -- one more word is read

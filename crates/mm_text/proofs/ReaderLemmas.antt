@@ -7,14 +7,14 @@ use Rattle.mm_text.specs.declared.word.Word.{Word}
 use Rattle.mm_text.specs.declared.word.WordKind.{WordKind}
 use Rattle.mm_text.specs.declared.fault.TextNumber.{TextNumber}
 use Rattle.mm_text.specs.declared.fault.TextNumber.TheVariants.{T02, T03, T04, T05}
-use Rattle.mm_text.specs.Run.{Run, runs}
-use Rattle.mm_text.specs.Spelling.{IsWord, HoldsMark, opening, closing}
-use Rattle.mm_text.specs.Reading as words
-use Rattle.mm_text.specs.Reading.{part_runs, part_words, IsInside, IsPart, AreWords, EndsOpen, first_bad}
-use Rattle.mm_text.specs.Cut.{EndsInComment, HoldWords, StopsWords, IsFirstFaultAt}
-use Rattle.mm_text.specs.Unit.{tokens_of, IsViable}
-use Rattle.mm_text.specs.LeftToRight.{Read, read, cons_word, with_words, kind_of, alone, fault_at}
-use Rattle.mm_text.specs.Reader.{runs_at, run_of, TakesSpan, SkipsComment, FailsInside, TakesWord, IsRefused, MeetsRun, FailsBehind}
+use Rattle.mm_text.specs.Language.Run.{Run, runs}
+use Rattle.mm_text.specs.Language.Spelling.{IsWord, HoldsMark, opening, closing}
+use Rattle.mm_text.specs.Language.Reading as words
+use Rattle.mm_text.specs.Language.Reading.{segment_runs, segment_words, HoldNoMarks, IsSegment, AreWords, EndsOpen, first_bad}
+use Rattle.mm_text.specs.Language.Cut.{EndsInComment, HoldWords, StopsWords, IsFirstFaultAt}
+use Rattle.mm_text.specs.Language.Unit.{tokens_of, IsViable}
+use Rattle.mm_text.specs.Code.LeftToRight.{Read, read_runs, cons_word, with_words, word_kind, word_alone, words_fault_at}
+use Rattle.mm_text.specs.Code.Reader.{runs_at, run_of, TakesSpan, SkipsComment, FailsInside, TakesWord, IsRefused, MeetsRun, FailsBehind}
 use Rattle.mm_text.proofs.KindLemmas.{kind_spelled, spelled_kind, no_kind, stands_mark}
 use Rattle.mm_text.proofs.ReadLemmas.{inside_mark, outside_close, outside_word}
 use Rattle.mm_text.proofs.ReadingLemmas.{none_read, all_append, InComment, Behind, word_step, read_whole, stops, is_whole, goes_on, is_open, not_whole, stop_fault, open_fault}
@@ -25,10 +25,10 @@ pub words-append : (a b : List Run) (ws vs : List Word) → AreWords a ws → Ar
 words-append a b ws vs f g = record {
   parts = f.parts ++ g.parts;
   reading = record {
-    each = all_append IsPart f.parts g.parts f.reading.each g.reading.each;
-    joined = let e = flat_map-append part_runs f.parts g.parts in cc (e, f.reading.joined, g.reading.joined);
+    each = all_append IsSegment f.parts g.parts f.reading.each g.reading.each;
+    joined = let e = flat_map-append segment_runs f.parts g.parts in cc (e, f.reading.joined, g.reading.joined);
   };
-  singles = let e = flat_map-append part_words f.parts g.parts in cc (e, f.singles, g.singles);
+  singles = let e = flat_map-append segment_words f.parts g.parts in cc (e, f.singles, g.singles);
 }
 
 pub comment-append : (a b : List Run) (ws vs : List Word) → AreWords a ws → EndsInComment b vs → EndsInComment (a ++ b) (ws ++ vs)
@@ -47,7 +47,7 @@ comment-append a b ws vs f g = record {
 pub record Skipping (text : List ℕ) (from to : ℕ) : Type 0 where
   pub inside : List Run
   pub joined : runs_at text from ≡ inside ++ runs_at text to
-  pub no_marks : IsInside inside
+  pub no_marks : HoldNoMarks inside
 
 pub skip_none : (text : List ℕ) (from : ℕ) → Skipping text from from
 skip_none text from = record { inside = []; joined = refl; no_marks = tt }
@@ -81,7 +81,7 @@ module _ (text : List ℕ) (from at : ℕ) (span : Span) (to : ℕ) (h : Skippin
 pub skip_open : (text : List ℕ) (from at start : ℕ) → Skipping text from at → runs_at text at ≡ [] → FailsInside (runs_at text from) start T02 start
 skip_open text from at start h none =
     let all : h.inside ≡ runs_at text from = sym (append-nil h.inside) ∙ sym (h.joined ∙ ap (λ (rs : List Run). h.inside ++ rs) none) in
-    (subst (λ (rs : List Run). IsInside rs) all h.no_marks, refl)
+    (subst (λ (rs : List Run). HoldNoMarks rs) all h.no_marks, refl)
 
 -- ---- outside comments
 
@@ -105,7 +105,7 @@ module _ (text : List ℕ) (from at : ℕ) (span : Span) (to : ℕ) (h : Passing
   there : runs_at text from ≡ h.seen ++ run_of text span ∷ runs_at text to
   there = h.joined ∙ ap (λ (rs : List Run). h.seen ++ rs) run.run
 
-  pub pass_word : (kind : WordKind) → kind_of (run_of text span).bytes ≡ Some kind → to ≤ length text → from ≤ at → TakesWord text from (record { kind = kind; start = span.start; end = span.end }) to
+  pub pass_word : (kind : WordKind) → word_kind (run_of text span).bytes ≡ Some kind → to ≤ length text → from ≤ at → TakesWord text from (record { kind = kind; start = span.start; end = span.end }) to
   pass_word kind is within le = record {
     taken = h.seen ++ run_of text span ∷ [];
     joined = there ∙ sym (append_assoc h.seen (run_of text span ∷ []) (runs_at text to));
@@ -118,12 +118,16 @@ module _ (text : List ℕ) (from at : ℕ) (span : Span) (to : ℕ) (h : Passing
     ends = run.ends;
   } where
     spelled : IsWord (run_of text span) (record { kind = kind; start = span.start; end = span.end })
-    spelled = record { kind = kind_spelled (run_of text span).bytes kind is; start = refl; end = let some : span.start < span.end = run.some in let long : length (run_of text span).bytes ≡ span.end - span.start = slice_length text span.start span.end (omega (arith, within, run.next)) in omega arith }
+    spelled = record {
+      kind = kind_spelled (run_of text span).bytes kind is;
+      start = refl;
+      end = let some : span.start < span.end = run.some in let long : length (run_of text span).bytes ≡ span.end - span.start = slice_length text span.start span.end (omega (arith, within, run.next)) in omega arith;
+    }
 
   pub pass_close : (run_of text span).bytes ≡ closing → FailsBehind (runs_at text from) [] T04 span.start
   pass_close closes = record { front = h.seen; run = run_of text span; rest = runs_at text to; joined = there; place = refl; refused = (h.reads, closes) }
 
-  pub pass_dollar : (run_of text span).bytes ≢ opening → (run_of text span).bytes ≢ closing → kind_of (run_of text span).bytes ≡ None → FailsBehind (runs_at text from) [] T05 span.start
+  pub pass_dollar : (run_of text span).bytes ≢ opening → (run_of text span).bytes ≢ closing → word_kind (run_of text span).bytes ≡ None → FailsBehind (runs_at text from) [] T05 span.start
   pass_dollar no_open no_close none = record { front = h.seen; run = run_of text span; rest = runs_at text to; joined = there; place = refl; refused = (h.reads, no_open, no_close, none) }
 
   pub pass_comment : (end : ℕ) → (run_of text span).bytes ≡ opening → SkipsComment text to end → Passing text from end
@@ -155,8 +159,8 @@ one_word : (word : Word) (r : Read) → with_words (word ∷ []) r ≡ cons_word
 one_word word (Ok words) = refl
 one_word word (Err fault) = refl
 
-pub word_read : (text : List ℕ) (from : ℕ) (word : Word) (to : ℕ) → TakesWord text from word to → read None (runs_at text from) ≡ cons_word word (read None (runs_at text to))
-word_read text from word to h = ap (read None) h.joined ∙ read_whole h.taken (word ∷ []) h.reads (runs_at text to) ∙ one_word word (read None (runs_at text to))
+pub word_read : (text : List ℕ) (from : ℕ) (word : Word) (to : ℕ) → TakesWord text from word to → read_runs None (runs_at text from) ≡ cons_word word (read_runs None (runs_at text to))
+word_read text from word to h = ap (read_runs None) h.joined ∙ read_whole h.taken (word ∷ []) h.reads (runs_at text to) ∙ one_word word (read_runs None (runs_at text to))
 
 -- ---- faults
 
@@ -167,8 +171,8 @@ in_comment runs found h = record { front = h.front; first = h.first; inside = h.
 record Refusal (number : TextNumber) (front : List Run) (found : List Word) (run : Run) : Type 0 where
   state : Option ℕ
   behind : Behind state front found
-  fails : (tail : List Run) → read state (run ∷ tail) ≡ Err (fault_at number run.start)
-  is_number : words.IsNumber number front run
+  fails : (tail : List Run) → read_runs state (run ∷ tail) ≡ Err (words_fault_at number run.start)
+  is_number : words.IsRunNumber number front run
 
 refusal : (number : TextNumber) (front : List Run) (found : List Word) (run : Run) → IsRefused number front found run → Refusal number front found run
 unfolding in_comment
@@ -182,12 +186,12 @@ refusal T04 front found run h = record { state = None; behind = h.0; fails = λ 
 refusal T05 front found run h = record {
   state = None;
   behind = h.0;
-  fails = λ tail. outside_word run tail h.1 h.2 ∙ ap (λ (k : Option WordKind). alone run k (read None tail)) h.3;
-  is_number = (is_whole front found h.0, no_kind run.bytes h.3, h.2, λ kind spelled. (let is : kind_of run.bytes ≡ Some kind = spelled_kind kind run.bytes spelled in let none : kind_of run.bytes ≡ None = h.3 in cc));
+  fails = λ tail. outside_word run tail h.1 h.2 ∙ ap (λ (k : Option WordKind). word_alone run k (read_runs None tail)) h.3;
+  is_number = (is_whole front found h.0, no_kind run.bytes h.3, h.2, λ kind spelled. (let is : word_kind run.bytes ≡ Some kind = spelled_kind kind run.bytes spelled in let none : word_kind run.bytes ≡ None = h.3 in cc));
 }
 refusal _ front found run h = absurd h
 
-abbrev stop_of : (runs : List Run) (found : List Word) (number : TextNumber) (at : ℕ) → MeetsRun runs found number at → words.StopsAt runs number at
+abbrev stop_of : (runs : List Run) (found : List Word) (number : TextNumber) (at : ℕ) → MeetsRun runs found number at → words.StopsAtRun runs number at
 stop_of runs found number at h = record {
   front = h.front;
   run = h.run;
@@ -195,7 +199,7 @@ stop_of runs found number at h = record {
   joined = h.joined;
   place = h.place;
   goes_on = goes_on (refusal number h.front found h.run h.refused).state h.front found (refusal number h.front found h.run h.refused).behind;
-  stops = stops (refusal number h.front found h.run h.refused).state h.front found h.run (fault_at number h.run.start) (refusal number h.front found h.run h.refused).behind (refusal number h.front found h.run h.refused).fails;
+  stops = stops (refusal number h.front found h.run h.refused).state h.front found h.run (words_fault_at number h.run.start) (refusal number h.front found h.run h.refused).behind (refusal number h.front found h.run h.refused).fails;
   is_number = (refusal number h.front found h.run h.refused).is_number;
 }
 
@@ -209,7 +213,7 @@ ends_open runs found at h place = record {
   not_whole = not_whole h.first.start runs found (in_comment runs found h);
 }
 
-pub fails_read : (runs : List Run) (found : List Word) (number : TextNumber) (at : ℕ) → FailsBehind runs found number at → read None runs ≡ Err (fault_at number at)
+pub fails_read : (runs : List Run) (found : List Word) (number : TextNumber) (at : ℕ) → FailsBehind runs found number at → read_runs None runs ≡ Err (words_fault_at number at)
 fails_read runs found T02 at h = open_fault runs at (ends_open runs found at h.0 h.1)
 fails_read runs found number at h = stop_fault number runs at (stop_of runs found number at h)
 

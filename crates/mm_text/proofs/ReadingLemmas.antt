@@ -11,10 +11,10 @@ use Rattle.mm_text.specs.declared.word.WordKind.{WordKind}
 use Rattle.mm_text.specs.declared.fault.TextFault.{TextFault}
 use Rattle.mm_text.specs.declared.fault.TextNumber.{TextNumber}
 use Rattle.mm_text.specs.declared.fault.TextNumber.TheVariants.{T01, T02, T03, T04, T05}
-use Rattle.mm_text.specs.Run.{Run, runs}
-use Rattle.mm_text.specs.Spelling.{IsWord, IsSpelled, HoldsMark, opening, closing}
-use Rattle.mm_text.specs.Reading.{Part, Single, Comment, part_runs, part_words, IsInside, IsPart, IsReading, AreWords, IsWhole, CanGoOn, IsOpen, StopsAt, EndsOpen, IsRunFault, first_bad, HasWords, IsFault, IsFaultAt}
-use Rattle.mm_text.specs.LeftToRight.{Read, read, kind_of, alone, word_at, fault_at, cons_word, with_words, holds_mark, checked, read_text}
+use Rattle.mm_text.specs.Language.Run.{Run, runs}
+use Rattle.mm_text.specs.Language.Spelling.{IsWord, IsSpelled, HoldsMark, opening, closing}
+use Rattle.mm_text.specs.Language.Reading.{Segment, Single, Comment, segment_runs, segment_words, HoldNoMarks, IsSegment, IsReading, AreWords, HaveReading, AreViableRuns, IsOpen, StopsAtRun, EndsOpen, IsRunFault, first_bad, HasWords, IsWordsFault, IsWordsFaultAt}
+use Rattle.mm_text.specs.Code.LeftToRight.{Read, read_runs, word_kind, word_alone, word_at, words_fault_at, cons_word, with_words, holds_mark, checked, read_text}
 use Rattle.mm_text.proofs.KindLemmas.{kind_spelled, spelled_kind, no_kind, mark_stands, stands_mark}
 use Rattle.mm_text.proofs.ReadLemmas.{inside_end, inside_mark, inside_more, outside_open, outside_close, outside_word}
 
@@ -33,20 +33,20 @@ pub record InComment (start : ℕ) (seen : List Run) (words : List Word) : Type 
   pub before : AreWords front words
   pub begins : first.start ≡ start
   pub opened : first.bytes ≡ opening
-  pub no_marks : IsInside inside
+  pub no_marks : HoldNoMarks inside
 
 abbrev pub Behind : Option ℕ → List Run → List Word → Type 0
 Behind None seen words = AreWords seen words
 Behind (Some start) seen words = InComment start seen words
 
-pub with_part : (seen : List Run) (words : List Word) (part : Part) → AreWords seen words → IsPart part → AreWords (seen ++ part_runs part) (words ++ part_words part)
+pub with_part : (seen : List Run) (words : List Word) (part : Segment) → AreWords seen words → IsSegment part → AreWords (seen ++ segment_runs part) (words ++ segment_words part)
 with_part seen words part h is = record {
   parts = h.parts ++ part ∷ [];
   reading = record {
-    each = all_append IsPart h.parts (part ∷ []) h.reading.each (is, tt);
-    joined = flat_map-append part_runs h.parts (part ∷ []) ∙ ap (λ (rs : List Run). rs ++ (part_runs part ++ [])) h.reading.joined ∙ ap (λ (rs : List Run). seen ++ rs) (append-nil (part_runs part));
+    each = all_append IsSegment h.parts (part ∷ []) h.reading.each (is, tt);
+    joined = flat_map-append segment_runs h.parts (part ∷ []) ∙ ap (λ (rs : List Run). rs ++ (segment_runs part ++ [])) h.reading.joined ∙ ap (λ (rs : List Run). seen ++ rs) (append-nil (segment_runs part));
   };
-  singles = flat_map-append part_words h.parts (part ∷ []) ∙ ap (λ (ws : List Word). ws ++ (part_words part ++ [])) h.singles ∙ ap (λ (ws : List Word). words ++ ws) (append-nil (part_words part));
+  singles = flat_map-append segment_words h.parts (part ∷ []) ∙ ap (λ (ws : List Word). ws ++ (segment_words part ++ [])) h.singles ∙ ap (λ (ws : List Word). words ++ ws) (append-nil (segment_words part));
 }
 
 pub word_step : (seen : List Run) (words : List Word) (run : Run) (word : Word) → AreWords seen words → IsWord run word → AreWords (seen ++ run ∷ []) (words ++ word ∷ [])
@@ -84,16 +84,16 @@ word_is run word is =
     ap (λ (s : ℕ). made_word word.kind s (run.start + length run.bytes)) (sym is.start) ∙ ap (λ (e : ℕ). made_word word.kind word.start e) (sym is.end)
 
 not_opening : (kind : WordKind) (bytes : List ℕ) → IsSpelled kind bytes → bytes ≢ opening
-not_opening kind bytes is e = let found : kind_of opening ≡ Some kind = ap kind_of (sym e) ∙ spelled_kind kind bytes is in cc
+not_opening kind bytes is e = let found : word_kind opening ≡ Some kind = ap word_kind (sym e) ∙ spelled_kind kind bytes is in cc
 
 not_closing : (kind : WordKind) (bytes : List ℕ) → IsSpelled kind bytes → bytes ≢ closing
-not_closing kind bytes is e = let found : kind_of closing ≡ Some kind = ap kind_of (sym e) ∙ spelled_kind kind bytes is in cc
+not_closing kind bytes is e = let found : word_kind closing ≡ Some kind = ap word_kind (sym e) ∙ spelled_kind kind bytes is in cc
 
-read_word : (run : Run) (word : Word) (tail : List Run) → IsWord run word → read None (run ∷ tail) ≡ cons_word word (read None tail)
+read_word : (run : Run) (word : Word) (tail : List Run) → IsWord run word → read_runs None (run ∷ tail) ≡ cons_word word (read_runs None tail)
 read_word run word tail is =
     outside_word run tail (not_opening word.kind run.bytes is.kind) (not_closing word.kind run.bytes is.kind)
-    ∙ ap (λ (k : Option WordKind). alone run k (read None tail)) (spelled_kind word.kind run.bytes is.kind)
-    ∙ ap (λ (w : Word). cons_word w (read None tail)) (word_is run word is)
+    ∙ ap (λ (k : Option WordKind). word_alone run k (read_runs None tail)) (spelled_kind word.kind run.bytes is.kind)
+    ∙ ap (λ (w : Word). cons_word w (read_runs None tail)) (word_is run word is)
 
 no_mark_is : (bytes : List ℕ) → ¬ HoldsMark bytes → holds_mark bytes ≡ false
 no_mark_is bytes no_mark = elim (cases_Bool (holds_mark bytes)) [ inl e ↦ absurd (no_mark (mark_stands bytes e)) | inr e ↦ e ]
@@ -101,7 +101,7 @@ no_mark_is bytes no_mark = elim (cases_Bool (holds_mark bytes)) [ inl e ↦ absu
 closing_marks : (bytes : List ℕ) → bytes ≡ closing → HoldsMark bytes
 closing_marks bytes e = mark_stands bytes (ap holds_mark e)
 
-read_inside : (start : ℕ) (inside tail : List Run) → IsInside inside → read (Some start) (inside ++ tail) ≡ read (Some start) tail
+read_inside : (start : ℕ) (inside tail : List Run) → HoldNoMarks inside → read_runs (Some start) (inside ++ tail) ≡ read_runs (Some start) tail
 read_inside start [] tail h = refl
 read_inside start (run ∷ inside) tail h =
     inside_more start run (inside ++ tail) (λ e. h.0 (closing_marks run.bytes e)) (no_mark_is run.bytes h.0) ∙ read_inside start inside tail h.1
@@ -114,51 +114,51 @@ with_cons : (word : Word) (words : List Word) (r : Read) → cons_word word (wit
 with_cons word words (Ok more) = refl
 with_cons word words (Err fault) = refl
 
-read_parts : (parts : List Part) → AllByRecursion IsPart parts → (tail : List Run) → read None (flat_map part_runs parts ++ tail) ≡ with_words (flat_map part_words parts) (read None tail)
-read_parts [] each tail = sym (with_none (read None tail))
+read_parts : (parts : List Segment) → AllByRecursion IsSegment parts → (tail : List Run) → read_runs None (flat_map segment_runs parts ++ tail) ≡ with_words (flat_map segment_words parts) (read_runs None tail)
+read_parts [] each tail = sym (with_none (read_runs None tail))
 read_parts (Single run word ∷ parts) each tail =
-    read_word run word (flat_map part_runs parts ++ tail) each.0 ∙ ap (cons_word word) (read_parts parts each.1 tail) ∙ with_cons word (flat_map part_words parts) (read None tail)
+    read_word run word (flat_map segment_runs parts ++ tail) each.0 ∙ ap (cons_word word) (read_parts parts each.1 tail) ∙ with_cons word (flat_map segment_words parts) (read_runs None tail)
 read_parts (Comment first inside last ∷ parts) each tail =
-    ap (read None) (ap (λ (rs : List Run). first ∷ rs) (append_assoc (inside ++ last ∷ []) (flat_map part_runs parts) tail ∙ append_assoc inside (last ∷ []) (flat_map part_runs parts ++ tail)))
-    ∙ outside_open first (inside ++ last ∷ (flat_map part_runs parts ++ tail)) each.0.opened
-    ∙ read_inside first.start inside (last ∷ (flat_map part_runs parts ++ tail)) each.0.no_marks
-    ∙ inside_end first.start last (flat_map part_runs parts ++ tail) each.0.closed
+    ap (read_runs None) (ap (λ (rs : List Run). first ∷ rs) (append_assoc (inside ++ last ∷ []) (flat_map segment_runs parts) tail ∙ append_assoc inside (last ∷ []) (flat_map segment_runs parts ++ tail)))
+    ∙ outside_open first (inside ++ last ∷ (flat_map segment_runs parts ++ tail)) each.0.opened
+    ∙ read_inside first.start inside (last ∷ (flat_map segment_runs parts ++ tail)) each.0.no_marks
+    ∙ inside_end first.start last (flat_map segment_runs parts ++ tail) each.0.closed
     ∙ read_parts parts each.1 tail
 
-pub read_whole : (seen : List Run) (words : List Word) → AreWords seen words → (tail : List Run) → read None (seen ++ tail) ≡ with_words words (read None tail)
+pub read_whole : (seen : List Run) (words : List Word) → AreWords seen words → (tail : List Run) → read_runs None (seen ++ tail) ≡ with_words words (read_runs None tail)
 read_whole seen words h tail =
-    ap (λ (rs : List Run). read None (rs ++ tail)) (sym h.reading.joined) ∙ read_parts h.parts h.reading.each tail ∙ ap (λ (ws : List Word). with_words ws (read None tail)) h.singles
+    ap (λ (rs : List Run). read_runs None (rs ++ tail)) (sym h.reading.joined) ∙ read_parts h.parts h.reading.each tail ∙ ap (λ (ws : List Word). with_words ws (read_runs None tail)) h.singles
 
-read_behind : (state : Option ℕ) (seen : List Run) (words : List Word) → Behind state seen words → (tail : List Run) → read None (seen ++ tail) ≡ with_words words (read state tail)
+read_behind : (state : Option ℕ) (seen : List Run) (words : List Word) → Behind state seen words → (tail : List Run) → read_runs None (seen ++ tail) ≡ with_words words (read_runs state tail)
 read_behind None seen words h tail = read_whole seen words h tail
 read_behind (Some start) seen words h tail =
-    ap (λ (rs : List Run). read None (rs ++ tail)) h.joined ∙ ap (read None) (append_assoc h.front (h.first ∷ h.inside) tail)
+    ap (λ (rs : List Run). read_runs None (rs ++ tail)) h.joined ∙ ap (read_runs None) (append_assoc h.front (h.first ∷ h.inside) tail)
     ∙ read_whole h.front words h.before (h.first ∷ (h.inside ++ tail))
-    ∙ ap (with_words words) (outside_open h.first (h.inside ++ tail) h.opened ∙ read_inside h.first.start h.inside tail h.no_marks ∙ ap (λ (s : ℕ). read (Some s) tail) h.begins)
+    ∙ ap (with_words words) (outside_open h.first (h.inside ++ tail) h.opened ∙ read_inside h.first.start h.inside tail h.no_marks ∙ ap (λ (s : ℕ). read_runs (Some s) tail) h.begins)
 
 -- runs that are read as words give these
-pub read_words : (runs : List Run) (words : List Word) → AreWords runs words → read None runs ≡ Ok words
-read_words runs words h = ap (read None) (sym (append-nil runs)) ∙ read_behind None runs words h [] ∙ ap Ok (append-nil words)
+pub read_words : (runs : List Run) (words : List Word) → AreWords runs words → read_runs None runs ≡ Ok words
+read_words runs words h = ap (read_runs None) (sym (append-nil runs)) ∙ read_behind None runs words h [] ∙ ap Ok (append-nil words)
 
 -- so there is one list of words at most
 pub same_words : (runs : List Run) (a b : List Word) → AreWords runs a → AreWords runs b → a ≡ b
-same_words runs a b f g = let e : read None runs ≡ Ok a = read_words runs a f in let e' : read None runs ≡ Ok b = read_words runs b g in cc
+same_words runs a b f g = let e : read_runs None runs ≡ Ok a = read_words runs a f in let e' : read_runs None runs ≡ Ok b = read_words runs b g in cc
 
 -- ---- where no reading goes on
 
-pub whole_words : (runs : List Run) (parts : List Part) → IsReading runs parts → AreWords runs (flat_map part_words parts)
+pub whole_words : (runs : List Run) (parts : List Segment) → IsReading runs parts → AreWords runs (flat_map segment_words parts)
 whole_words runs parts h = record { parts = parts; reading = h; singles = refl }
 
 err_with : (words : List Word) (fault : TextFault) (r : Read) → r ≡ Err fault → with_words words r ≡ Err fault
 err_with words fault r e = ap (with_words words) e
 
-pub stops : (state : Option ℕ) (seen : List Run) (words : List Word) (run : Run) (fault : TextFault) → Behind state seen words → ((tail : List Run) → read state (run ∷ tail) ≡ Err fault) → ¬ CanGoOn (seen ++ run ∷ [])
+pub stops : (state : Option ℕ) (seen : List Run) (words : List Word) (run : Run) (fault : TextFault) → Behind state seen words → ((tail : List Run) → read_runs state (run ∷ tail) ≡ Err fault) → ¬ AreViableRuns (seen ++ run ∷ [])
 stops state seen words run fault h fails goes =
-    let all : read None ((seen ++ run ∷ []) ++ goes.0) ≡ Ok (flat_map part_words goes.1.0) = read_words ((seen ++ run ∷ []) ++ goes.0) (flat_map part_words goes.1.0) (whole_words ((seen ++ run ∷ []) ++ goes.0) goes.1.0 goes.1.1) in
-    let none : read None ((seen ++ run ∷ []) ++ goes.0) ≡ Err fault = ap (read None) (append_assoc seen (run ∷ []) goes.0) ∙ read_behind state seen words h (run ∷ goes.0) ∙ err_with words fault (read state (run ∷ goes.0)) (fails goes.0) in
+    let all : read_runs None ((seen ++ run ∷ []) ++ goes.0) ≡ Ok (flat_map segment_words goes.1.0) = read_words ((seen ++ run ∷ []) ++ goes.0) (flat_map segment_words goes.1.0) (whole_words ((seen ++ run ∷ []) ++ goes.0) goes.1.0 goes.1.1) in
+    let none : read_runs None ((seen ++ run ∷ []) ++ goes.0) ≡ Err fault = ap (read_runs None) (append_assoc seen (run ∷ []) goes.0) ∙ read_behind state seen words h (run ∷ goes.0) ∙ err_with words fault (read_runs state (run ∷ goes.0)) (fails goes.0) in
     cc
 
-pub is_whole : (seen : List Run) (words : List Word) → AreWords seen words → IsWhole seen
+pub is_whole : (seen : List Run) (words : List Word) → AreWords seen words → HaveReading seen
 is_whole seen words h = (h.parts, h.reading)
 
 pub closer : Run
@@ -168,17 +168,17 @@ pub closer_closes : closer.bytes ≡ closing
 unfolding closer
 closer_closes = refl
 
-pub goes_on : (state : Option ℕ) (seen : List Run) (words : List Word) → Behind state seen words → CanGoOn seen
-goes_on None seen words h = ([], subst IsWhole (sym (append-nil seen)) (is_whole seen words h))
+pub goes_on : (state : Option ℕ) (seen : List Run) (words : List Word) → Behind state seen words → AreViableRuns seen
+goes_on None seen words h = ([], subst HaveReading (sym (append-nil seen)) (is_whole seen words h))
 goes_on (Some start) seen words h = (closer ∷ [], is_whole (seen ++ closer ∷ []) words (close_step start seen words closer h closer_closes))
 
 pub is_open : (start : ℕ) (seen : List Run) (words : List Word) (h : InComment start seen words) → IsOpen seen h.first
 is_open start seen words h = record { front = h.front; inside = h.inside; joined = h.joined; before = is_whole h.front words h.before; opened = h.opened; no_marks = h.no_marks }
 
-pub not_whole : (start : ℕ) (seen : List Run) (words : List Word) → InComment start seen words → ¬ IsWhole seen
+pub not_whole : (start : ℕ) (seen : List Run) (words : List Word) → InComment start seen words → ¬ HaveReading seen
 not_whole start seen words h whole =
-    let all : read None seen ≡ Ok (flat_map part_words whole.0) = read_words seen (flat_map part_words whole.0) (whole_words seen whole.0 whole.1) in
-    let none : read None seen ≡ Err (fault_at T02 start) = ap (read None) (sym (append-nil seen)) ∙ read_behind (Some start) seen words h [] in
+    let all : read_runs None seen ≡ Ok (flat_map segment_words whole.0) = read_words seen (flat_map segment_words whole.0) (whole_words seen whole.0 whole.1) in
+    let none : read_runs None seen ≡ Err (words_fault_at T02 start) = ap (read_runs None) (sym (append-nil seen)) ∙ read_behind (Some start) seen words h [] in
     cc
 
 -- ---- what is read
@@ -198,23 +198,23 @@ at_fault : (runs : List Run) (words : List Word) (fault : TextFault) (r : Read) 
 at_fault runs words fault r e h = subst (λ (v : Read). Outcome runs words v) (sym e) h
 
 -- a run that stands alone
-alone_is : (seen : List Run) (words : List Word) (run : Run) (runs : List Run) (kind : Option WordKind) → AreWords seen words → run.bytes ≢ opening → run.bytes ≢ closing → kind_of run.bytes ≡ kind
-    → ((word : Word) → IsWord run word → Outcome ((seen ++ run ∷ []) ++ runs) (words ++ word ∷ []) (read None runs)) → Outcome (seen ++ run ∷ runs) words (read None (run ∷ runs))
+alone_is : (seen : List Run) (words : List Word) (run : Run) (runs : List Run) (kind : Option WordKind) → AreWords seen words → run.bytes ≢ opening → run.bytes ≢ closing → word_kind run.bytes ≡ kind
+    → ((word : Word) → IsWord run word → Outcome ((seen ++ run ∷ []) ++ runs) (words ++ word ∷ []) (read_runs None runs)) → Outcome (seen ++ run ∷ runs) words (read_runs None (run ∷ runs))
 alone_is seen words run runs (Some kind) h no_open no_close is later =
     let word : IsWord run (word_at run kind) = record { kind = kind_spelled run.bytes kind is; start = refl; end = refl } in
-    moved seen run runs words (cons_word (word_at run kind) (read None runs)) (read None (run ∷ runs)) (outside_word run runs no_open no_close ∙ ap (λ (k : Option WordKind). alone run k (read None runs)) is)
-    (one_word ((seen ++ run ∷ []) ++ runs) words (word_at run kind) (read None runs) (later (word_at run kind) word))
+    moved seen run runs words (cons_word (word_at run kind) (read_runs None runs)) (read_runs None (run ∷ runs)) (outside_word run runs no_open no_close ∙ ap (λ (k : Option WordKind). word_alone run k (read_runs None runs)) is)
+    (one_word ((seen ++ run ∷ []) ++ runs) words (word_at run kind) (read_runs None runs) (later (word_at run kind) word))
 alone_is seen words run runs None h no_open no_close is later =
-    let fails : (tail : List Run) → read None (run ∷ tail) ≡ Err (fault_at T05 run.start) = λ tail. outside_word run tail no_open no_close ∙ ap (λ (k : Option WordKind). alone run k (read None tail)) is in
-    at_fault (seen ++ run ∷ runs) words (fault_at T05 run.start) (read None (run ∷ runs)) (fails runs) (record {
+    let fails : (tail : List Run) → read_runs None (run ∷ tail) ≡ Err (words_fault_at T05 run.start) = λ tail. outside_word run tail no_open no_close ∙ ap (λ (k : Option WordKind). word_alone run k (read_runs None tail)) is in
+    at_fault (seen ++ run ∷ runs) words (words_fault_at T05 run.start) (read_runs None (run ∷ runs)) (fails runs) (record {
       front = seen;
       run = run;
       rest = runs;
       joined = refl;
       place = refl;
       goes_on = goes_on None seen words h;
-      stops = stops None seen words run (fault_at T05 run.start) h fails;
-      is_number = (is_whole seen words h, no_kind run.bytes is, no_close, λ kind spelled. (let found : kind_of run.bytes ≡ Some kind = spelled_kind kind run.bytes spelled in cc));
+      stops = stops None seen words run (words_fault_at T05 run.start) h fails;
+      is_number = (is_whole seen words h, no_kind run.bytes is, no_close, λ kind spelled. (let found : word_kind run.bytes ≡ Some kind = spelled_kind kind run.bytes spelled in cc));
     })
 
 pub not_from : (bytes part : List ℕ) → bytes_eq bytes part ≡ false → bytes ≢ part
@@ -223,7 +223,7 @@ not_from bytes part e is = false≢true (sym e ∙ (bytes_eq-Decides bytes part)
 pub is_from : (bytes part : List ℕ) → bytes_eq bytes part ≡ true → bytes ≡ part
 is_from bytes part e = (bytes_eq-Decides bytes part).0 e
 
-outcome : (state : Option ℕ) (runs : List Run) (seen : List Run) (words : List Word) → Behind state seen words → Outcome (seen ++ runs) words (read state runs)
+outcome : (state : Option ℕ) (runs : List Run) (seen : List Run) (words : List Word) → Behind state seen words → Outcome (seen ++ runs) words (read_runs state runs)
 outcome None [] seen words h = subst (λ (ws : List Word). AreWords (seen ++ []) ws) (sym (append-nil words)) (subst (λ (rs : List Run). AreWords rs words) (sym (append-nil seen)) h)
 outcome (Some start) [] seen words h = subst (λ (rs : List Run). EndsOpen rs start) (sym (append-nil seen)) (record {
   first = h.first;
@@ -236,21 +236,21 @@ outcome None (run ∷ runs) seen words h =
     elim (cases_Bool (bytes_eq run.bytes opening)) [
       | inl opens ↦
           let is = is_from run.bytes opening opens in
-          moved seen run runs words (read (Some run.start) runs) (read None (run ∷ runs)) (outside_open run runs is) (outcome (Some run.start) runs (seen ++ run ∷ []) words (open_step seen words run h is))
+          moved seen run runs words (read_runs (Some run.start) runs) (read_runs None (run ∷ runs)) (outside_open run runs is) (outcome (Some run.start) runs (seen ++ run ∷ []) words (open_step seen words run h is))
       | inr no_open ↦ elim (cases_Bool (bytes_eq run.bytes closing)) [
         | inl closes ↦
             let is = is_from run.bytes closing closes in
-            at_fault (seen ++ run ∷ runs) words (fault_at T04 run.start) (read None (run ∷ runs)) (outside_close run runs is) (record {
+            at_fault (seen ++ run ∷ runs) words (words_fault_at T04 run.start) (read_runs None (run ∷ runs)) (outside_close run runs is) (record {
               front = seen;
               run = run;
               rest = runs;
               joined = refl;
               place = refl;
               goes_on = goes_on None seen words h;
-              stops = stops None seen words run (fault_at T04 run.start) h (λ tail. outside_close run tail is);
+              stops = stops None seen words run (words_fault_at T04 run.start) h (λ tail. outside_close run tail is);
               is_number = (is_whole seen words h, is);
             })
-        | inr no_close ↦ alone_is seen words run runs (kind_of run.bytes) h (not_from run.bytes opening no_open) (not_from run.bytes closing no_close) refl
+        | inr no_close ↦ alone_is seen words run runs (word_kind run.bytes) h (not_from run.bytes opening no_open) (not_from run.bytes closing no_close) refl
             (λ word is. outcome None runs (seen ++ run ∷ []) (words ++ word ∷ []) (word_step seen words run word h is))
       ]
     ]
@@ -258,23 +258,23 @@ outcome (Some start) (run ∷ runs) seen words h =
     elim (cases_Bool (bytes_eq run.bytes closing)) [
       | inl closes ↦
           let is = is_from run.bytes closing closes in
-          moved seen run runs words (read None runs) (read (Some start) (run ∷ runs)) (inside_end start run runs is) (outcome None runs (seen ++ run ∷ []) words (close_step start seen words run h is))
+          moved seen run runs words (read_runs None runs) (read_runs (Some start) (run ∷ runs)) (inside_end start run runs is) (outcome None runs (seen ++ run ∷ []) words (close_step start seen words run h is))
       | inr no_close ↦ elim (cases_Bool (holds_mark run.bytes)) [
         | inl mark ↦
             let differs = not_from run.bytes closing no_close in
-            at_fault (seen ++ run ∷ runs) words (fault_at T03 run.start) (read (Some start) (run ∷ runs)) (inside_mark start run runs differs mark) (record {
+            at_fault (seen ++ run ∷ runs) words (words_fault_at T03 run.start) (read_runs (Some start) (run ∷ runs)) (inside_mark start run runs differs mark) (record {
               front = seen;
               run = run;
               rest = runs;
               joined = refl;
               place = refl;
               goes_on = goes_on (Some start) seen words h;
-              stops = stops (Some start) seen words run (fault_at T03 run.start) h (λ tail. inside_mark start run tail differs mark);
+              stops = stops (Some start) seen words run (words_fault_at T03 run.start) h (λ tail. inside_mark start run tail differs mark);
               is_number = (h.first, is_open start seen words h, mark_stands run.bytes mark, differs);
             })
         | inr no_mark ↦
             let differs = not_from run.bytes closing no_close in
-            moved seen run runs words (read (Some start) runs) (read (Some start) (run ∷ runs)) (inside_more start run runs differs no_mark)
+            moved seen run runs words (read_runs (Some start) runs) (read_runs (Some start) (run ∷ runs)) (inside_more start run runs differs no_mark)
             (outcome (Some start) runs (seen ++ run ∷ []) words (more_step start seen words run h (λ marked. false≢true (sym no_mark ∙ stands_mark run.bytes marked))))
       ]
     ]
@@ -283,17 +283,17 @@ pub none_read : AreWords [] []
 none_read = record { parts = []; reading = record { each = tt; joined = refl }; singles = refl }
 
 -- what is read from all the runs
-pub words_from_read : (runs : List Run) (words : List Word) → read None runs ≡ Ok words → AreWords runs words
+pub words_from_read : (runs : List Run) (words : List Word) → read_runs None runs ≡ Ok words → AreWords runs words
 words_from_read runs words e = subst (λ (r : Read). Outcome runs [] r) e (outcome None runs [] [] none_read)
 
-pub fault_from_read : (runs : List Run) (fault : TextFault) → read None runs ≡ Err fault → IsRunFault runs fault.number fault.at
+pub fault_from_read : (runs : List Run) (fault : TextFault) → read_runs None runs ≡ Err fault → IsRunFault runs fault.number fault.at
 fault_from_read runs fault e = subst (λ (r : Read). Outcome runs [] r) e (outcome None runs [] [] none_read)
 
 -- ---- a fault is what is read
 
 open_read : (runs : List Run) (first : Run) (h : IsOpen runs first) → (words : List Word) × InComment first.start runs words
 open_read runs first h = (
-  flat_map part_words h.before.0,
+  flat_map segment_words h.before.0,
   record {
     front = h.front;
     first = first;
@@ -306,63 +306,63 @@ open_read runs first h = (
   },
 )
 
-split_read : (runs front : List Run) (run : Run) (rest : List Run) (state : Option ℕ) (words : List Word) (fault : TextFault) → runs ≡ front ++ run ∷ rest → Behind state front words → read state (run ∷ rest) ≡ Err fault → read None runs ≡ Err fault
+split_read : (runs front : List Run) (run : Run) (rest : List Run) (state : Option ℕ) (words : List Word) (fault : TextFault) → runs ≡ front ++ run ∷ rest → Behind state front words → read_runs state (run ∷ rest) ≡ Err fault → read_runs None runs ≡ Err fault
 split_read runs front run rest state words fault joined h e =
-    ap (read None) joined ∙ read_behind state front words h (run ∷ rest) ∙ err_with words fault (read state (run ∷ rest)) e
+    ap (read_runs None) joined ∙ read_behind state front words h (run ∷ rest) ∙ err_with words fault (read_runs state (run ∷ rest)) e
 
-placed : (number : TextNumber) (runs : List Run) (start at : ℕ) → at ≡ start → read None runs ≡ Err (fault_at number start) → read None runs ≡ Err (fault_at number at)
-placed number runs start at e h = h ∙ ap (λ (k : ℕ). Err (fault_at number k)) (sym e)
+placed : (number : TextNumber) (runs : List Run) (start at : ℕ) → at ≡ start → read_runs None runs ≡ Err (words_fault_at number start) → read_runs None runs ≡ Err (words_fault_at number at)
+placed number runs start at e h = h ∙ ap (λ (k : ℕ). Err (words_fault_at number k)) (sym e)
 
-pub open_fault : (runs : List Run) (at : ℕ) → EndsOpen runs at → read None runs ≡ Err (fault_at T02 at)
+pub open_fault : (runs : List Run) (at : ℕ) → EndsOpen runs at → read_runs None runs ≡ Err (words_fault_at T02 at)
 open_fault runs at h =
     let inside = open_read runs h.first h.open_comment in
-    placed T02 runs h.first.start at h.place (ap (read None) (sym (append-nil runs)) ∙ read_behind (Some h.first.start) runs inside.0 inside.1 [])
+    placed T02 runs h.first.start at h.place (ap (read_runs None) (sym (append-nil runs)) ∙ read_behind (Some h.first.start) runs inside.0 inside.1 [])
 
-no_kind_found : (run : Run) (found : Option WordKind) → kind_of run.bytes ≡ found → ((kind : WordKind) → ¬ IsSpelled kind run.bytes) → found ≡ None
+no_kind_found : (run : Run) (found : Option WordKind) → word_kind run.bytes ≡ found → ((kind : WordKind) → ¬ IsSpelled kind run.bytes) → found ≡ None
 no_kind_found run None e none = refl
 no_kind_found run (Some kind) e none = absurd (none kind (kind_spelled run.bytes kind e))
 
-pub stop_fault : (number : TextNumber) (runs : List Run) (at : ℕ) → StopsAt runs number at → read None runs ≡ Err (fault_at number at)
+pub stop_fault : (number : TextNumber) (runs : List Run) (at : ℕ) → StopsAtRun runs number at → read_runs None runs ≡ Err (words_fault_at number at)
 stop_fault T03 runs at h =
     let inside = open_read h.front h.is_number.0 h.is_number.1 in
-    placed T03 runs h.run.start at h.place (split_read runs h.front h.run h.rest (Some h.is_number.0.start) inside.0 (fault_at T03 h.run.start) h.joined inside.1
+    placed T03 runs h.run.start at h.place (split_read runs h.front h.run h.rest (Some h.is_number.0.start) inside.0 (words_fault_at T03 h.run.start) h.joined inside.1
     (inside_mark h.is_number.0.start h.run h.rest h.is_number.3 (stands_mark h.run.bytes h.is_number.2)))
 stop_fault T04 runs at h =
     let before = whole_words h.front h.is_number.0.0 h.is_number.0.1 in
-    placed T04 runs h.run.start at h.place (split_read runs h.front h.run h.rest None (flat_map part_words h.is_number.0.0) (fault_at T04 h.run.start) h.joined before (outside_close h.run h.rest h.is_number.1))
+    placed T04 runs h.run.start at h.place (split_read runs h.front h.run h.rest None (flat_map segment_words h.is_number.0.0) (words_fault_at T04 h.run.start) h.joined before (outside_close h.run h.rest h.is_number.1))
 stop_fault T05 runs at h =
     let before = whole_words h.front h.is_number.0.0 h.is_number.0.1 in
-    let words = flat_map part_words h.is_number.0.0 in
+    let words = flat_map segment_words h.is_number.0.0 in
     let no_open : h.run.bytes ≢ opening = λ opens. h.stops (goes_on (Some h.run.start) (h.front ++ h.run ∷ []) words (open_step h.front words h.run before opens)) in
-    let none : kind_of h.run.bytes ≡ None = no_kind_found h.run (kind_of h.run.bytes) refl h.is_number.3 in
-    placed T05 runs h.run.start at h.place (split_read runs h.front h.run h.rest None words (fault_at T05 h.run.start) h.joined before
-    (outside_word h.run h.rest no_open h.is_number.2 ∙ ap (λ (k : Option WordKind). alone h.run k (read None h.rest)) none))
+    let none : word_kind h.run.bytes ≡ None = no_kind_found h.run (word_kind h.run.bytes) refl h.is_number.3 in
+    placed T05 runs h.run.start at h.place (split_read runs h.front h.run h.rest None words (words_fault_at T05 h.run.start) h.joined before
+    (outside_word h.run h.rest no_open h.is_number.2 ∙ ap (λ (k : Option WordKind). word_alone h.run k (read_runs None h.rest)) none))
 stop_fault number runs at h = absurd h.is_number
 
 -- ---- whole texts
 
 pub text_words : (text : List ℕ) (words : List Word) → HasWords text words → read_text text ≡ Ok words
-text_words text words h = ap (λ (o : Option ℕ). checked o (read None (runs text))) h.allowed ∙ read_words (runs text) words h.words_are
+text_words text words h = ap (λ (o : Option ℕ). checked o (read_runs None (runs text))) h.allowed ∙ read_words (runs text) words h.words_are
 
-pub text_fault : (text : List ℕ) (number : TextNumber) (at : ℕ) → IsFaultAt text number at → read_text text ≡ Err (fault_at number at)
-text_fault text T01 at h = ap (λ (o : Option ℕ). checked o (read None (runs text))) h
-text_fault text T02 at h = ap (λ (o : Option ℕ). checked o (read None (runs text))) h.0 ∙ open_fault (runs text) at h.1
-text_fault text number at h = ap (λ (o : Option ℕ). checked o (read None (runs text))) h.0 ∙ stop_fault number (runs text) at h.1
+pub text_fault : (text : List ℕ) (number : TextNumber) (at : ℕ) → IsWordsFaultAt text number at → read_text text ≡ Err (words_fault_at number at)
+text_fault text T01 at h = ap (λ (o : Option ℕ). checked o (read_runs None (runs text))) h
+text_fault text T02 at h = ap (λ (o : Option ℕ). checked o (read_runs None (runs text))) h.0 ∙ open_fault (runs text) at h.1
+text_fault text number at h = ap (λ (o : Option ℕ). checked o (read_runs None (runs text))) h.0 ∙ stop_fault number (runs text) at h.1
 
-run_fault : (text : List ℕ) (number : TextNumber) (at : ℕ) → first_bad text ≡ None → IsRunFault (runs text) number at → IsFaultAt text number at
+run_fault : (text : List ℕ) (number : TextNumber) (at : ℕ) → first_bad text ≡ None → IsRunFault (runs text) number at → IsWordsFaultAt text number at
 run_fault text T01 at allowed h = absurd h.is_number
 run_fault text number at allowed h = (allowed, h)
 
-checked_words : (text : List ℕ) (bad : Option ℕ) (words : List Word) → first_bad text ≡ bad → checked bad (read None (runs text)) ≡ Ok words → HasWords text words
+checked_words : (text : List ℕ) (bad : Option ℕ) (words : List Word) → first_bad text ≡ bad → checked bad (read_runs None (runs text)) ≡ Ok words → HasWords text words
 checked_words text None words is e = record { allowed = is; words_are = words_from_read (runs text) words e }
 checked_words text (Some at) words is e = absurd cc
 
-checked_fault : (text : List ℕ) (bad : Option ℕ) (fault : TextFault) → first_bad text ≡ bad → checked bad (read None (runs text)) ≡ Err fault → IsFault text fault
+checked_fault : (text : List ℕ) (bad : Option ℕ) (fault : TextFault) → first_bad text ≡ bad → checked bad (read_runs None (runs text)) ≡ Err fault → IsWordsFault text fault
 checked_fault text None fault is e = run_fault text fault.number fault.at is (fault_from_read (runs text) fault e)
-checked_fault text (Some at) fault is e = let same : fault_at T01 at ≡ fault = cc in subst (IsFault text) same is
+checked_fault text (Some at) fault is e = let same : words_fault_at T01 at ≡ fault = cc in subst (IsWordsFault text) same is
 
 pub words_of_text : (text : List ℕ) (words : List Word) → read_text text ≡ Ok words → HasWords text words
 words_of_text text words e = checked_words text (first_bad text) words refl e
 
-pub fault_of_text : (text : List ℕ) (fault : TextFault) → read_text text ≡ Err fault → IsFault text fault
+pub fault_of_text : (text : List ℕ) (fault : TextFault) → read_text text ≡ Err fault → IsWordsFault text fault
 fault_of_text text fault e = checked_fault text (first_bad text) fault refl e

@@ -5,8 +5,8 @@ use Rattle.std.proofs.lemmas.List.{append-nil}
 use Rattle.mm_text.specs.declared.word.Keyword.{Keyword}
 use Rattle.mm_text.specs.declared.word.Keyword.TheVariants.{BlockStart, BlockEnd, Constants, Variables, Floating, Essential, Disjoint, Axiom, Theorem, StatementEnd, ProofStart, InclusionStart}
 use Rattle.mm_text.specs.declared.word.WordKind.TheVariants as kinds
-use Rattle.mm_text.specs.Unit.{Token, IsKeyword, IsPlain, Shape, Declaration, Labelled, Provable, Inclusion, shape_tokens, IsShape, Units, Nothing, Simple, Block, unit_tokens, AreUnits}
-use Rattle.mm_text.specs.BlockCounts.{is_start, is_end}
+use Rattle.mm_text.specs.Language.Unit.{Token, IsKeyword, IsPlain, Shape, Declaration, Labelled, Provable, Inclusion, shape_tokens, IsShape, Units, Nothing, Simple, Block, unit_tokens, AreUnits}
+use Rattle.mm_text.specs.Code.BlockCounts.{is_start_word, is_end_word}
 use Rattle.mm_text.proofs.UnitFaultLemmas.{IsInner, inner_shape, start_counts, end_counts}
 
 -- ---- the machine over shapes and plain words
@@ -128,8 +128,8 @@ no_shape_there o shape tail s is stops e =
     let head = shape_head o shape is in
     let same : s ≡ head.0 ∷ (head.1 ++ tail) = e ∙ ap (λ (ts : List Token). ts ++ tail) head.2 in
     let end : IsKeyword BlockEnd head.0 = subst (λ (ts : List Token). Stops ts) same stops in
-    let one : (is_start head.0.kind ≡ 0) × (is_end head.0.kind ≡ 1) = end_counts head.0 end in
-    let none : is_end head.0.kind ≡ 0 = head.3.1 in
+    let one : (is_start_word head.0.kind ≡ 0) × (is_end_word head.0.kind ≡ 1) = end_counts head.0 end in
+    let none : is_end_word head.0.kind ≡ 0 = head.3.1 in
     omega arith
 
 no_block_there : (begin : Token) (tail s : List Token) → IsKeyword BlockStart begin → Stops s → s ≡ begin ∷ tail → ⊥
@@ -143,9 +143,9 @@ not_both o shape begin s t is starts e =
     let head = shape_head o shape is in
     let both : head.0 ∷ (head.1 ++ s) ≡ begin ∷ t = sym (ap (λ (ts : List Token). ts ++ s) head.2) ∙ e in
     let same : head.0 ≡ begin = cc in
-    let one : is_start begin.kind ≡ 1 = (start_counts begin starts).0 in
-    let none : is_start head.0.kind ≡ 0 = head.3.0 in
-    let here : is_start head.0.kind ≡ is_start begin.kind = ap (λ (t : Token). is_start t.kind) same in
+    let one : is_start_word begin.kind ≡ 1 = (start_counts begin starts).0 in
+    let none : is_start_word head.0.kind ≡ 0 = head.3.0 in
+    let here : is_start_word head.0.kind ≡ is_start_word begin.kind = ap (λ (t : Token). is_start_word t.kind) same in
     omega arith
 
 one_units : (o : Bool) (a b : Units) (s t : List Token) → AreUnits o a → AreUnits o b → Stops s → Stops t → unit_tokens a ++ s ≡ unit_tokens b ++ t → (a ≡ b) × (s ≡ t)

@@ -8,9 +8,10 @@ use Rattle.mm_text.specs.declared.word.WordKind.{WordKind}
 use Rattle.mm_text.specs.declared.word.WordKind.TheVariants as kinds
 use Rattle.mm_text.specs.declared.fault.TextNumber.{TextNumber}
 use Rattle.mm_text.specs.declared.fault.TextNumber.TheVariants.{T06, T07, T08, T09, T10, T11, T12}
-use Rattle.mm_text.specs.Unit.{Token, IsKeyword, IsPlain, Shape, Declaration, Labelled, Provable, Inclusion, shape_tokens, IsShape, Units, Nothing, Simple, Block, unit_tokens, AreUnits, IsWhole, IsViable, a_block, MayBegin, EndsInInclusion, IsNumber, StopsAt, EndsInUnit, EndsInBlock, IsUnitFault}
-use Rattle.mm_text.specs.UnitReading as m
-use Rattle.mm_text.specs.BlockCounts.{is_start, is_end, starts, ends}
+use Rattle.mm_text.specs.Language.Unit.{Token, IsKeyword, IsPlain, Shape, Declaration, Labelled, Provable, Inclusion, shape_tokens, IsShape, Units, Nothing, Simple, Block, unit_tokens, AreUnits, IsWhole, IsViable, a_block, MayBegin, EndsInInclusion, IsUnitNumber, StopsAtWord, EndsInUnit}
+use Rattle.mm_text.specs.Language.Unit.{EndsInBlock, IsUnitFault}
+use Rattle.mm_text.specs.Code.UnitReading as m
+use Rattle.mm_text.specs.Code.BlockCounts.{is_start_word, is_end_word, starts, ends}
 use Rattle.mm_text.proofs.UnitReadingLemmas.{run-append, run-IsViable, run-not_viable, IsWhole-run, through_units, blocks, blocks_run, key, key-kind, whole_run, Completes, Closes}
 
 -- ---- a prefix of a viable list is viable
@@ -23,13 +24,13 @@ viable_take tokens k h = viable_front (take k tokens) (drop k tokens) (subst (λ
 
 pub viable_run : (tokens : List Token) → IsViable tokens → (s : m.Phase × ℕ) × (m.run m.Begin 0 tokens ≡ Ok s)
 viable_run tokens h = by_step (m.run m.Begin 0 tokens) refl where
-  by_step : (step : m.Step) → m.run m.Begin 0 tokens ≡ step → (s : m.Phase × ℕ) × (m.run m.Begin 0 tokens ≡ Ok s)
+  by_step : (step : m.UnitStep) → m.run m.Begin 0 tokens ≡ step → (s : m.Phase × ℕ) × (m.run m.Begin 0 tokens ≡ Ok s)
   by_step (Ok s) e = (s, e)
   by_step (Err number) e = absurd (run-not_viable tokens number e h)
 
 -- ---- one more word
 
-alone : (step : m.Step) → m.after step (λ p d. m.run p d []) ≡ step
+alone : (step : m.UnitStep) → m.after step (λ p d. m.run p d []) ≡ step
 alone (Ok s) = refl
 alone (Err number) = refl
 
@@ -92,7 +93,7 @@ inclusion_phase front phase depth e (before, begin, joined, is) =
     let step : m.next first.0.0 first.0.1 begin.kind (m.could_label begin) ≡ Ok (phase, depth) = sym (run_push before begin first.0.0 first.0.1 first.1) ∙ all in
     including_only first.0.0 first.0.1 (m.could_label begin) (phase, depth) (ap (λ (k : WordKind). m.next first.0.0 first.0.1 k (m.could_label begin)) (sym is) ∙ step)
 
-abbrev pub reached : m.Step → m.Phase
+abbrev pub reached : m.UnitStep → m.Phase
 reached (Ok s) = s.0
 reached (Err number) = m.Begin
 
@@ -128,7 +129,7 @@ ends_at (token ∷ front) phase depth d e = inr (by_step (λ p q h. ends_at fron
   onto s is (inr (before, begin, joined, begins)) = (token ∷ before, begin, ap (λ (ts : List Token). token ∷ ts) joined, begins)
 
   by_step : ((p : m.Phase) (q : ℕ) → m.run p q front ≡ Ok (m.state_of m.Including d) → ((front ≡ []) × (p ≡ m.Including)) ⊎ EndsInInclusion front)
-      → (step : m.Step) → m.next phase depth token.kind (m.could_label token) ≡ step → m.after step (λ p d. m.run p d front) ≡ Ok (m.state_of m.Including d) → EndsInInclusion (token ∷ front)
+      → (step : m.UnitStep) → m.next phase depth token.kind (m.could_label token) ≡ step → m.after step (λ p d. m.run p d front) ≡ Ok (m.state_of m.Including d) → EndsInInclusion (token ∷ front)
   by_step more (Ok s) is e = onto s is (more s.0 s.1 e)
   by_step more (Err number) is e = absurd cc
 
@@ -140,26 +141,27 @@ inclusion_from front depth e = got (ends_at front m.Begin 0 depth e) where
 
 -- ---- the number of the word that stops
 
-abbrev refused : TextNumber → m.Step
+abbrev refused : TextNumber → m.UnitStep
 refused number = Err number
 
-six : (front : List Token) (token : Token) (phase : m.Phase) (depth : ℕ) → m.run m.Begin 0 front ≡ Ok (m.state_of phase depth) → ¬ ((phase ≡ m.Including) × ¬ IsPlain token) → ¬ IsKeyword InclusionStart token → ¬ ((phase ≡ m.Begin) × (IsKeyword BlockEnd token ⊎ IsPlain token)) → IsNumber T06 front token
+six : (front : List Token) (token : Token) (phase : m.Phase) (depth : ℕ) → m.run m.Begin 0 front ≡ Ok (m.state_of phase depth) → ¬ ((phase ≡ m.Including) × ¬ IsPlain token) → ¬ IsKeyword InclusionStart token → ¬ ((phase ≡ m.Begin) × (IsKeyword BlockEnd token ⊎ IsPlain token))
+    → IsUnitNumber T06 front token
 six front token phase depth e f g h = (λ x. f (inclusion_phase front phase depth e x.0, x.1), g, λ x. h (may_begin_phase front phase depth e x.0, x.1))
 
-ten : (front : List Token) (token : Token) (phase : m.Phase) (depth : ℕ) → m.run m.Begin 0 front ≡ Ok (m.state_of phase depth) → phase ≢ m.Including → IsKeyword InclusionStart token → IsNumber T10 front token
+ten : (front : List Token) (token : Token) (phase : m.Phase) (depth : ℕ) → m.run m.Begin 0 front ≡ Ok (m.state_of phase depth) → phase ≢ m.Including → IsKeyword InclusionStart token → IsUnitNumber T10 front token
 ten front token phase depth e f is = (λ x. f (inclusion_phase front phase depth e x), is)
 
 neither : (token : Token) (k : Keyword) → IsKeyword k token → k ≢ BlockEnd → ¬ (IsKeyword BlockEnd token ⊎ IsPlain token)
 neither token k is other (inl end) = other (let same : kinds.Keyword k ≡ kinds.Keyword BlockEnd = cc in cc)
 neither token k is other (inr plain) = cc
 
-inside : (front : List Token) (token : Token) (phase : m.Phase) (depth : ℕ) → m.run m.Begin 0 front ≡ Ok (m.state_of phase depth) → phase ≢ m.Including → phase ≢ m.Begin → ¬ IsKeyword InclusionStart token → IsNumber T06 front token
+inside : (front : List Token) (token : Token) (phase : m.Phase) (depth : ℕ) → m.run m.Begin 0 front ≡ Ok (m.state_of phase depth) → phase ≢ m.Including → phase ≢ m.Begin → ¬ IsKeyword InclusionStart token → IsUnitNumber T06 front token
 inside front token phase depth e f g h = six front token phase depth e (λ x. f x.0) h (λ x. g x.0)
 
-numbered : (a number : TextNumber) (front : List Token) (token : Token) → refused a ≡ refused number → IsNumber a front token → IsNumber number front token
-numbered a number front token e h = let same : a ≡ number = cc in subst (λ (n : TextNumber). IsNumber n front token) same h
+numbered : (a number : TextNumber) (front : List Token) (token : Token) → refused a ≡ refused number → IsUnitNumber a front token → IsUnitNumber number front token
+numbered a number front token e h = let same : a ≡ number = cc in subst (λ (n : TextNumber). IsUnitNumber n front token) same h
 
-pub number_of : (phase : m.Phase) (depth : ℕ) (kind : WordKind) (b : Bool) (front : List Token) (token : Token) (number : TextNumber) → m.run m.Begin 0 front ≡ Ok (m.state_of phase depth) → token.kind ≡ kind → m.next phase depth kind b ≡ Err number → IsNumber number front token
+pub number_of : (phase : m.Phase) (depth : ℕ) (kind : WordKind) (b : Bool) (front : List Token) (token : Token) (number : TextNumber) → m.run m.Begin 0 front ≡ Ok (m.state_of phase depth) → token.kind ≡ kind → m.next phase depth kind b ≡ Err number → IsUnitNumber number front token
 number_of m.Begin depth kinds.Plain true front token number e is stops = absurd cc
 number_of m.Begin depth kinds.Plain false front token number e is stops = numbered T11 number front token stops (may_begin_from front depth e, is)
 number_of m.Begin zero (kinds.Keyword BlockEnd) b front token number e is stops = numbered T09 number front token stops (may_begin_from front 0 e, is)
@@ -194,13 +196,13 @@ number_of m.Named depth (kinds.Keyword InclusionEnd) b front token number e is s
 number_of m.Named depth (kinds.Keyword k) b front token number e is stops = numbered T06 number front token stops (inside front token m.Named depth e (λ x. cc) (λ x. cc) (λ x. cc))
 
 -- a word that stops, with any number that it may have
-pub stops_fault : (tokens : List Token) (number : TextNumber) (word : ℕ) → StopsAt tokens number word → IsUnitFault tokens number word
+pub stops_fault : (tokens : List Token) (number : TextNumber) (word : ℕ) → StopsAtWord tokens number word → IsUnitFault tokens number word
 stops_fault tokens T07 word h = absurd h.is_number
 stops_fault tokens T08 word h = absurd h.is_number
 stops_fault tokens _ word h = h
 
 abbrev pub stop_at : (tokens : List Token) (word : ℕ) (token : Token) (phase : m.Phase) (depth : ℕ) (number : TextNumber) → slice_get tokens word ≡ Some token → m.run m.Begin 0 (take word tokens) ≡ Ok (m.state_of phase depth)
-    → m.next phase depth token.kind (m.could_label token) ≡ Err number → StopsAt tokens number word
+    → m.next phase depth token.kind (m.could_label token) ≡ Err number → StopsAtWord tokens number word
 stop_at tokens word token phase depth number there e stops = record {
   token = token;
   there = there;
@@ -227,7 +229,7 @@ ends_in_unit tokens word depth within e later = record {
 -- ---- one fault at most
 
 -- behind the same words, the same word has one number
-pub same_number : (front : List Token) (token : Token) (a b : TextNumber) → ¬ (MayBegin front × EndsInInclusion front) → IsNumber a front token → IsNumber b front token → a ≡ b
+pub same_number : (front : List Token) (token : Token) (a b : TextNumber) → ¬ (MayBegin front × EndsInInclusion front) → IsUnitNumber a front token → IsUnitNumber b front token → a ≡ b
 same_number front token T12 T12 apart f g = refl
 same_number front token T12 T10 apart f g = absurd (g.0 f.0)
 same_number front token T12 T09 apart f g = absurd (apart (g.0, f.0))
@@ -268,23 +270,23 @@ apart_at front h (begins, ends) =
     let z : m.Begin ≡ m.Including = sym x ∙ y in
     cc
 
-not_viable_later : (tokens : List Token) (number : TextNumber) (word n : ℕ) → StopsAt tokens number word → word < n → ¬ IsViable (take n tokens)
+not_viable_later : (tokens : List Token) (number : TextNumber) (word n : ℕ) → StopsAtWord tokens number word → word < n → ¬ IsViable (take n tokens)
 not_viable_later tokens number word n h l viable = h.stops (subst (λ (ts : List Token). IsViable ts) (take-take (word + 1) n tokens (omega arith)) (viable_take (take n tokens) (word + 1) viable))
 
-pub not_viable_all : (tokens : List Token) (number : TextNumber) (word : ℕ) → StopsAt tokens number word → ¬ IsViable tokens
+pub not_viable_all : (tokens : List Token) (number : TextNumber) (word : ℕ) → StopsAtWord tokens number word → ¬ IsViable tokens
 not_viable_all tokens number word h viable = h.stops (viable_take tokens (word + 1) viable)
 
 by_order : (v w : ℕ) → ¬ (v < w) → ¬ (w < v) → v ≡ w
 by_order v w f g = omega arith
 
-pub one_stop : (tokens : List Token) (a b : TextNumber) (v w : ℕ) → StopsAt tokens a v → StopsAt tokens b w → (a ≡ b) × (v ≡ w)
+pub one_stop : (tokens : List Token) (a b : TextNumber) (v w : ℕ) → StopsAtWord tokens a v → StopsAtWord tokens b w → (a ≡ b) × (v ≡ w)
 one_stop tokens a b v w f g =
     let place : v ≡ w = by_order v w (λ l. not_viable_later tokens a v w f l g.goes_on) (λ l. not_viable_later tokens b w v g l f.goes_on) in
-    let h : StopsAt tokens b v = subst (λ (n : ℕ). StopsAt tokens b n) (sym place) g in
+    let h : StopsAtWord tokens b v = subst (λ (n : ℕ). StopsAtWord tokens b n) (sym place) g in
     let x : slice_get tokens v ≡ Some f.token = f.there in
     let y : slice_get tokens v ≡ Some h.token = h.there in
     let token : h.token ≡ f.token = cc in
-    (same_number (take v tokens) f.token a b (apart_at (take v tokens) f.goes_on) f.is_number (subst (λ (t : Token). IsNumber b (take v tokens) t) token h.is_number), place)
+    (same_number (take v tokens) f.token a b (apart_at (take v tokens) f.goes_on) f.is_number (subst (λ (t : Token). IsUnitNumber b (take v tokens) t) token h.is_number), place)
 
 not_all : (tokens : List Token) (word : ℕ) → EndsInUnit tokens word → ¬ MayBegin tokens
 not_all tokens word h begins = h.unfinished (length tokens) h.within (omega arith) (subst (λ (ts : List Token). MayBegin ts) (sym (take_all (length tokens) tokens (omega arith))) begins)
@@ -304,10 +306,10 @@ ends-append (x ∷ xs) ys = let more : ends (xs ++ ys) ≡ ends xs + ends ys = e
 
 -- neither `${` nor `$}`
 abbrev pub IsInner : Token → Type 0
-IsInner token = (is_start token.kind ≡ 0) × (is_end token.kind ≡ 0)
+IsInner token = (is_start_word token.kind ≡ 0) × (is_end_word token.kind ≡ 0)
 
-pub inner_kind : (token : Token) (kind : WordKind) → token.kind ≡ kind → is_start kind ≡ 0 → is_end kind ≡ 0 → IsInner token
-inner_kind token kind is f g = (ap is_start is ∙ f, ap is_end is ∙ g)
+pub inner_kind : (token : Token) (kind : WordKind) → token.kind ≡ kind → is_start_word kind ≡ 0 → is_end_word kind ≡ 0 → IsInner token
+inner_kind token kind is f g = (ap is_start_word is ∙ f, ap is_end_word is ∙ g)
 
 pub inner_symbols : (symbols tail : List Token) → AllByRecursion IsPlain symbols → AllByRecursion IsInner tail → AllByRecursion IsInner (symbols ++ tail)
 inner_symbols [] tail f g = g
@@ -358,14 +360,14 @@ covered_inner [] ys f g = g
 covered_inner (x ∷ xs) ys f g =
     let more : Covered (xs ++ ys) = covered_inner xs ys f.1 g in
     let rest : starts (xs ++ ys) ≤ ends (xs ++ ys) = covered_all (xs ++ ys) more in
-    let none : is_start x.kind ≡ 0 = f.0.0 in
+    let none : is_start_word x.kind ≡ 0 = f.0.0 in
     (omega arith, more)
 
 pub covered-append : (xs ys : List Token) → Covered xs → Covered ys → Covered (xs ++ ys)
 covered-append [] ys f g = g
 covered-append (x ∷ xs) ys f g =
     let more : Covered (xs ++ ys) = covered-append xs ys f.1 g in
-    let first : is_start x.kind + starts xs ≤ is_end x.kind + ends xs = f.0 in
+    let first : is_start_word x.kind + starts xs ≤ is_end_word x.kind + ends xs = f.0 in
     let rest : starts ys ≤ ends ys = covered_all ys g in
     let all : starts (xs ++ ys) ≡ starts xs + starts ys = starts-append xs ys in
     let same : ends (xs ++ ys) ≡ ends xs + ends ys = ends-append xs ys in
@@ -375,8 +377,8 @@ inner_counts : (xs : List Token) → AllByRecursion IsInner xs → (starts xs �
 inner_counts [] h = (refl, refl)
 inner_counts (x ∷ xs) h =
     let more : (starts xs ≡ 0) × (ends xs ≡ 0) = inner_counts xs h.1 in
-    let start : is_start x.kind ≡ 0 = h.0.0 in
-    let end : is_end x.kind ≡ 0 = h.0.1 in
+    let start : is_start_word x.kind ≡ 0 = h.0.0 in
+    let end : is_end_word x.kind ≡ 0 = h.0.1 in
     (omega arith, omega arith)
 
 balanced_shape : (outside : Bool) (shape : Shape) (tail : List Token) → IsShape outside shape → starts tail ≡ ends tail → starts (shape_tokens shape ++ tail) ≡ ends (shape_tokens shape ++ tail)
@@ -386,11 +388,11 @@ balanced_shape outside shape tail is more =
     let end : ends (shape_tokens shape ++ tail) ≡ ends (shape_tokens shape) + ends tail = ends-append (shape_tokens shape) tail in
     omega arith
 
-pub start_counts : (token : Token) → IsKeyword BlockStart token → (is_start token.kind ≡ 1) × (is_end token.kind ≡ 0)
-start_counts token is = (ap is_start is, ap is_end is)
+pub start_counts : (token : Token) → IsKeyword BlockStart token → (is_start_word token.kind ≡ 1) × (is_end_word token.kind ≡ 0)
+start_counts token is = (ap is_start_word is, ap is_end_word is)
 
-pub end_counts : (token : Token) → IsKeyword BlockEnd token → (is_start token.kind ≡ 0) × (is_end token.kind ≡ 1)
-end_counts token is = (ap is_start is, ap is_end is)
+pub end_counts : (token : Token) → IsKeyword BlockEnd token → (is_start_word token.kind ≡ 0) × (is_end_word token.kind ≡ 1)
+end_counts token is = (ap is_start_word is, ap is_end_word is)
 
 pub balanced : (outside : Bool) (units : Units) → AreUnits outside units → starts (unit_tokens units) ≡ ends (unit_tokens units)
 balanced outside Nothing h = refl
@@ -398,8 +400,8 @@ balanced outside (Simple shape later) h = balanced_shape outside shape (unit_tok
 balanced outside (Block begin inner end later) h =
     let x : starts (unit_tokens inner) ≡ ends (unit_tokens inner) = balanced false inner h.1 in
     let y : starts (unit_tokens later) ≡ ends (unit_tokens later) = balanced outside later h.3 in
-    let first : (is_start begin.kind ≡ 1) × (is_end begin.kind ≡ 0) = start_counts begin h.0 in
-    let last : (is_start end.kind ≡ 0) × (is_end end.kind ≡ 1) = end_counts end h.2 in
+    let first : (is_start_word begin.kind ≡ 1) × (is_end_word begin.kind ≡ 0) = start_counts begin h.0 in
+    let last : (is_start_word end.kind ≡ 0) × (is_end_word end.kind ≡ 1) = end_counts end h.2 in
     let start : starts (unit_tokens inner ++ end ∷ unit_tokens later) ≡ starts (unit_tokens inner) + starts (end ∷ unit_tokens later) = starts-append (unit_tokens inner) (end ∷ unit_tokens later) in
     let ended : ends (unit_tokens inner ++ end ∷ unit_tokens later) ≡ ends (unit_tokens inner) + ends (end ∷ unit_tokens later) = ends-append (unit_tokens inner) (end ∷ unit_tokens later) in
     omega arith
@@ -414,7 +416,7 @@ covered outside (Block begin inner end later) h = (
   last : starts (end ∷ unit_tokens later) ≤ ends (end ∷ unit_tokens later)
   last =
       let y : starts (unit_tokens later) ≡ ends (unit_tokens later) = balanced outside later h.3 in
-      let none : (is_start end.kind ≡ 0) × (is_end end.kind ≡ 1) = end_counts end h.2 in
+      let none : (is_start_word end.kind ≡ 0) × (is_end_word end.kind ≡ 1) = end_counts end h.2 in
       omega arith
 
 -- ---- a block that is not closed
@@ -428,7 +430,7 @@ pub drop_next : (tokens : List Token) (word : ℕ) (token : Token) → slice_get
 drop_next tokens word token e = let one : suc word ≡ word + 1 = omega arith in drop_push tokens word token e ∙ ap (λ (n : ℕ). token ∷ drop n tokens) one
 
 -- the counts at one word more, for a scan from the end
-pub counts_next : (tokens : List Token) (word : ℕ) (token : Token) → slice_get tokens word ≡ Some token → (starts (drop word tokens) ≡ is_start token.kind + starts (drop (word + 1) tokens)) × (ends (drop word tokens) ≡ is_end token.kind + ends (drop (word + 1) tokens))
+pub counts_next : (tokens : List Token) (word : ℕ) (token : Token) → slice_get tokens word ≡ Some token → (starts (drop word tokens) ≡ is_start_word token.kind + starts (drop (word + 1) tokens)) × (ends (drop word tokens) ≡ is_end_word token.kind + ends (drop (word + 1) tokens))
 counts_next tokens word token e = (ap starts (drop_next tokens word token e), ap ends (drop_next tokens word token e))
 
 one_open : (tokens : List Token) (v w : ℕ) → EndsInBlock tokens v → EndsInBlock tokens w → ¬ (v < w)
@@ -436,8 +438,8 @@ one_open tokens v w f g l =
     let place : v + 1 + (w - (v + 1)) ≡ w = omega arith in
     let there : drop (w - (v + 1)) (unit_tokens f.inner) ≡ drop w tokens = ap (drop (w - (v + 1))) (sym f.behind) ∙ drop-drop (w - (v + 1)) (v + 1) tokens ∙ ap (λ (n : ℕ). drop n tokens) place in
     let inside : starts (drop w tokens) ≤ ends (drop w tokens) = subst (λ (ts : List Token). starts ts ≤ ends ts) there (covered_drop (unit_tokens f.inner) (w - (v + 1)) (covered false f.inner f.inside)) in
-    let more : (starts (drop w tokens) ≡ is_start g.begin.kind + starts (drop (w + 1) tokens)) × (ends (drop w tokens) ≡ is_end g.begin.kind + ends (drop (w + 1) tokens)) = counts_next tokens w g.begin g.there in
-    let first : (is_start g.begin.kind ≡ 1) × (is_end g.begin.kind ≡ 0) = start_counts g.begin g.opens in
+    let more : (starts (drop w tokens) ≡ is_start_word g.begin.kind + starts (drop (w + 1) tokens)) × (ends (drop w tokens) ≡ is_end_word g.begin.kind + ends (drop (w + 1) tokens)) = counts_next tokens w g.begin g.there in
+    let first : (is_start_word g.begin.kind ≡ 1) × (is_end_word g.begin.kind ≡ 0) = start_counts g.begin g.opens in
     let even : starts (drop (w + 1) tokens) ≡ ends (drop (w + 1) tokens) = subst (λ (ts : List Token). starts ts ≡ ends ts) (sym g.behind) (balanced false g.inner g.inside) in
     omega arith
 
@@ -464,7 +466,7 @@ block_viable tokens word h = viable_front tokens (a_block ∷ []) (block_begins 
 
 -- a fault is of one of three kinds
 abbrev Sorted : List Token → TextNumber → ℕ → Type 0
-Sorted tokens number word = (StopsAt tokens number word) ⊎ (((number ≡ T07) × EndsInUnit tokens word) ⊎ ((number ≡ T08) × EndsInBlock tokens word))
+Sorted tokens number word = (StopsAtWord tokens number word) ⊎ (((number ≡ T07) × EndsInUnit tokens word) ⊎ ((number ≡ T08) × EndsInBlock tokens word))
 
 sorted : (tokens : List Token) (number : TextNumber) (word : ℕ) → IsUnitFault tokens number word → Sorted tokens number word
 sorted tokens T07 word h = inr (inl (refl, h))
@@ -516,7 +518,7 @@ cut_twice {X = X} (x ∷ xs) ys (u ∷ us) vs e = more (cut_twice xs ys us vs (l
 starts-blocks : (depth : ℕ) → starts (blocks depth) ≡ 0
 unfolding blocks
 starts-blocks zero = refl
-starts-blocks (suc depth) = let more : starts (blocks depth) ≡ 0 = starts-blocks depth in let end : is_start (key BlockEnd).kind ≡ 0 = ap is_start (key-kind BlockEnd) in omega arith
+starts-blocks (suc depth) = let more : starts (blocks depth) ≡ 0 = starts-blocks depth in let end : is_start_word (key BlockEnd).kind ≡ 0 = ap is_start_word (key-kind BlockEnd) in omega arith
 
 -- `$}` for as many blocks, and then no words, or a first one that is `$}`
 first_end : (depth : ℕ) (z : Token) (zs later : List Token) → (z ∷ zs) ++ later ≡ blocks depth → IsKeyword BlockEnd z
@@ -528,7 +530,7 @@ parted : (us zs : List Token) (z : Token) → IsKeyword BlockEnd z → (starts (
 parted us zs z is =
     let start : starts (us ++ z ∷ zs) ≡ starts us + starts (z ∷ zs) = starts-append us (z ∷ zs) in
     let end : ends (us ++ z ∷ zs) ≡ ends us + ends (z ∷ zs) = ends-append us (z ∷ zs) in
-    let one : (is_start z.kind ≡ 0) × (is_end z.kind ≡ 1) = end_counts z is in
+    let one : (is_start_word z.kind ≡ 0) × (is_end_word z.kind ≡ 1) = end_counts z is in
     (omega arith, omega arith)
 
 covered_behind : (us ys : List Token) → Covered (us ++ ys) → Covered ys
@@ -552,7 +554,7 @@ shorter xs us zs later z d joined rest even inside =
     let end : ends us ≡ ends (xs ++ z ∷ zs) = ap ends joined in
     let none : starts ((z ∷ zs) ++ later) ≡ 0 = ap starts rest ∙ starts-blocks d in
     let all : starts ((z ∷ zs) ++ later) ≡ starts (z ∷ zs) + starts later = starts-append (z ∷ zs) later in
-    let z_start : is_start z.kind ≡ 0 = (end_counts z is).0 in
+    let z_start : is_start_word z.kind ≡ 0 = (end_counts z is).0 in
     omega arith
 
 pub closed_units : (xs : List Token) (depth d : ℕ) → m.run m.Begin (suc depth) xs ≡ Ok (m.state_of m.Begin d) → starts xs ≡ ends xs → Covered xs → (inner : Units) × AreUnits false inner × (xs ≡ unit_tokens inner)

@@ -8,8 +8,8 @@ use Rattle.mm_text.specs.declared.word.Keyword.TheVariants.{BlockStart, BlockEnd
 use Rattle.mm_text.specs.declared.word.WordKind.{WordKind}
 use Rattle.mm_text.specs.declared.word.WordKind.TheVariants as kinds
 use Rattle.mm_text.specs.declared.fault.TextNumber.{TextNumber}
-use Rattle.mm_text.specs.Unit.{Token, IsKeyword, IsPlain, IsLabel, Shape, Declaration, Labelled, Provable, Inclusion, shape_tokens, IsShape, Units, Nothing, Simple, Block, unit_tokens, AreUnits, IsWhole, IsViable}
-use Rattle.mm_text.specs.UnitReading as m
+use Rattle.mm_text.specs.Language.Unit.{Token, IsKeyword, IsPlain, IsLabel, Shape, Declaration, Labelled, Provable, Inclusion, shape_tokens, IsShape, Units, Nothing, Simple, Block, unit_tokens, AreUnits, IsWhole, IsViable}
+use Rattle.mm_text.specs.Code.UnitReading as m
 
 abbrev pub outside : ℕ → Bool
 outside zero = true
@@ -17,7 +17,7 @@ outside (suc depth) = false
 
 pub step_by : (phase : m.Phase) (depth : ℕ) (token : Token) (tokens : List Token) (kind : WordKind) (next : m.Phase × ℕ) → token.kind ≡ kind → m.next phase depth kind (m.could_label token) ≡ Ok next → m.run phase depth (token ∷ tokens) ≡ m.run next.0 next.1 tokens
 step_by phase depth token tokens kind next is e =
-    ap (λ (k : WordKind). m.after (m.next phase depth k (m.could_label token)) (λ phase depth. m.run phase depth tokens)) is ∙ ap (λ (s : m.Step). m.after s (λ phase depth. m.run phase depth tokens)) e
+    ap (λ (k : WordKind). m.after (m.next phase depth k (m.could_label token)) (λ phase depth. m.run phase depth tokens)) is ∙ ap (λ (s : m.UnitStep). m.after s (λ phase depth. m.run phase depth tokens)) e
 
 -- ---- a whole list goes through
 
@@ -265,7 +265,7 @@ completed m.Including depth = (
 )
 completed m.Named depth = (key InclusionEnd ∷ blocks depth, named_run depth)
 
-after_ok : (step : m.Step) (more : List Token) (front : List Token) (s : m.Phase × ℕ) → m.after step (λ p d. m.run p d front) ≡ Ok s → ((p : m.Phase) (d : ℕ) → m.run p d front ≡ Ok s → m.run p d (front ++ more) ≡ m.run s.0 s.1 more)
+after_ok : (step : m.UnitStep) (more : List Token) (front : List Token) (s : m.Phase × ℕ) → m.after step (λ p d. m.run p d front) ≡ Ok s → ((p : m.Phase) (d : ℕ) → m.run p d front ≡ Ok s → m.run p d (front ++ more) ≡ m.run s.0 s.1 more)
     → m.after step (λ p d. m.run p d (front ++ more)) ≡ m.run s.0 s.1 more
 after_ok (Ok state) more front s e later = later state.0 state.1 e
 after_ok (Err number) more front s e later = absurd cc
@@ -276,7 +276,7 @@ run-append [] more phase depth s e =
     ap (λ (s : m.Phase × ℕ). m.run s.0 s.1 more) same
 run-append (token ∷ front) more phase depth s e = after_ok (m.next phase depth token.kind (m.could_label token)) more front s e (λ p d h. run-append front more p d s h)
 
-after_err : (step : m.Step) (more : List Token) (front : List Token) (number : TextNumber) → m.after step (λ p d. m.run p d front) ≡ Err number → ((p : m.Phase) (d : ℕ) → m.run p d front ≡ Err number → m.run p d (front ++ more) ≡ Err number)
+after_err : (step : m.UnitStep) (more : List Token) (front : List Token) (number : TextNumber) → m.after step (λ p d. m.run p d front) ≡ Err number → ((p : m.Phase) (d : ℕ) → m.run p d front ≡ Err number → m.run p d (front ++ more) ≡ Err number)
     → m.after step (λ p d. m.run p d (front ++ more)) ≡ Err number
 after_err (Ok state) more front number e later = later state.0 state.1 e
 after_err (Err other) more front number e later = e

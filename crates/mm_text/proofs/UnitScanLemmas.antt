@@ -7,17 +7,17 @@ use Rattle.mm_text.specs.declared.word.WordKind.{WordKind}
 use Rattle.mm_text.specs.declared.word.WordKind.TheVariants as kinds
 use Rattle.mm_text.specs.declared.fault.TextNumber.{TextNumber}
 use Rattle.mm_text.specs.declared.fault.TextNumber.TheVariants.{T07, T08}
-use Rattle.mm_text.specs.Unit.{Token, IsKeyword, IsWhole, IsViable, IsUnitFault}
-use Rattle.mm_text.specs.UnitReading as m
-use Rattle.mm_text.specs.BlockCounts.{is_start, is_end, starts, ends}
+use Rattle.mm_text.specs.Language.Unit.{Token, IsKeyword, IsWhole, IsViable, IsUnitFault}
+use Rattle.mm_text.specs.Code.UnitReading as m
+use Rattle.mm_text.specs.Code.BlockCounts.{is_start_word, is_end_word, starts, ends}
 use Rattle.mm_text.proofs.UnitReadingLemmas.{run-IsViable, run-IsWhole}
 use Rattle.mm_text.proofs.UnitFaultLemmas.{viable_take, viable_run, run_push, may_begin_from, may_begin_phase, stops_at, ends_in_unit, start_counts, end_counts, counts_next, ends_in_block}
 
 -- ---- every list is whole or has a fault
 
 -- the machine counts the open blocks
-abbrev pub Counts : ℕ → WordKind → m.Step → Type 0
-Counts depth kind (Ok s) = depth + is_start kind ≡ s.1 + is_end kind
+abbrev pub Counts : ℕ → WordKind → m.UnitStep → Type 0
+Counts depth kind (Ok s) = depth + is_start_word kind ≡ s.1 + is_end_word kind
 Counts depth kind (Err number) = Unit {0}
 
 pub step_counts : (phase : m.Phase) (depth : ℕ) (kind : WordKind) (b : Bool) → Counts depth kind (m.next phase depth kind b)
@@ -56,8 +56,8 @@ run_counts [] phase depth s e =
     let last : depth ≡ s.1 = ap (λ (s : m.Phase × ℕ). s.1) same in
     omega arith
 run_counts (token ∷ tokens) phase depth s e = by_step (λ p d h. run_counts tokens p d s h) (m.next phase depth token.kind (m.could_label token)) (step_counts phase depth token.kind (m.could_label token)) e where
-  by_step : ((p : m.Phase) (d : ℕ) → m.run p d tokens ≡ Ok s → d + starts tokens ≡ s.1 + ends tokens) → (step : m.Step) → Counts depth token.kind step → m.after step (λ p d. m.run p d tokens) ≡ Ok s → depth + starts (token ∷ tokens) ≡ s.1 + ends (token ∷ tokens)
-  by_step more (Ok t) first e = let rest : t.1 + starts tokens ≡ s.1 + ends tokens = more t.0 t.1 e in let here : depth + is_start token.kind ≡ t.1 + is_end token.kind = first in omega arith
+  by_step : ((p : m.Phase) (d : ℕ) → m.run p d tokens ≡ Ok s → d + starts tokens ≡ s.1 + ends tokens) → (step : m.UnitStep) → Counts depth token.kind step → m.after step (λ p d. m.run p d tokens) ≡ Ok s → depth + starts (token ∷ tokens) ≡ s.1 + ends (token ∷ tokens)
+  by_step more (Ok t) first e = let rest : t.1 + starts tokens ≡ s.1 + ends tokens = more t.0 t.1 e in let here : depth + is_start_word token.kind ≡ t.1 + is_end_word token.kind = first in omega arith
   by_step more (Err number) first e = absurd cc
 
 -- from word number `from` on stand `level` more `$}` than `${`, and from no later word on more `${` than `$}`
@@ -77,9 +77,9 @@ scan_none tokens = record { even = even; fewer = fewer } where
   fewer n l = let none : drop n tokens ≡ [] = past n l in rw none (omega arith)
 
 -- one word more at the front
-scan_more : (tokens : List Token) (word level next : ℕ) (token : Token) → slice_get tokens word ≡ Some token → next + is_start token.kind ≡ level + is_end token.kind → Scan tokens (word + 1) level → Scan tokens word next
+scan_more : (tokens : List Token) (word level next : ℕ) (token : Token) → slice_get tokens word ≡ Some token → next + is_start_word token.kind ≡ level + is_end_word token.kind → Scan tokens (word + 1) level → Scan tokens word next
 scan_more tokens word level next token there step h = record { even = even; fewer = fewer } where
-  more : (starts (drop word tokens) ≡ is_start token.kind + starts (drop (word + 1) tokens)) × (ends (drop word tokens) ≡ is_end token.kind + ends (drop (word + 1) tokens))
+  more : (starts (drop word tokens) ≡ is_start_word token.kind + starts (drop (word + 1) tokens)) × (ends (drop word tokens) ≡ is_end_word token.kind + ends (drop (word + 1) tokens))
   more = counts_next tokens word token there
 
   behind : level + starts (drop (word + 1) tokens) ≡ ends (drop (word + 1) tokens)
@@ -95,18 +95,18 @@ scan_more tokens word level next token there step h = record { even = even; fewe
   fewer n l = ⊎_elim (λ less. h.fewer n (omega arith)) (λ most. here n (omega arith)) (cases_lt word n)
 
 pub scan_end : (tokens : List Token) (word level : ℕ) (token : Token) → slice_get tokens word ≡ Some token → IsKeyword BlockEnd token → Scan tokens (word + 1) level → Scan tokens word (level + 1)
-scan_end tokens word level token there is h = let counts : (is_start token.kind ≡ 0) × (is_end token.kind ≡ 1) = end_counts token is in scan_more tokens word level (level + 1) token there (omega arith) h
+scan_end tokens word level token there is h = let counts : (is_start_word token.kind ≡ 0) × (is_end_word token.kind ≡ 1) = end_counts token is in scan_more tokens word level (level + 1) token there (omega arith) h
 
 pub scan_start : (tokens : List Token) (word level : ℕ) (token : Token) → slice_get tokens word ≡ Some token → IsKeyword BlockStart token → 0 < level → Scan tokens (word + 1) level → Scan tokens word (level - 1)
-scan_start tokens word level token there is some h = let counts : (is_start token.kind ≡ 1) × (is_end token.kind ≡ 0) = start_counts token is in scan_more tokens word level (level - 1) token there (omega arith) h
+scan_start tokens word level token there is some h = let counts : (is_start_word token.kind ≡ 1) × (is_end_word token.kind ≡ 0) = start_counts token is in scan_more tokens word level (level - 1) token there (omega arith) h
 
-other_counts : (token : Token) (kind : WordKind) → token.kind ≡ kind → ¬ IsKeyword BlockStart token → ¬ IsKeyword BlockEnd token → (is_start kind ≡ 0) × (is_end kind ≡ 0)
+other_counts : (token : Token) (kind : WordKind) → token.kind ≡ kind → ¬ IsKeyword BlockStart token → ¬ IsKeyword BlockEnd token → (is_start_word kind ≡ 0) × (is_end_word kind ≡ 0)
 other_counts token (kinds.Keyword BlockStart) is f g = absurd (f is)
 other_counts token (kinds.Keyword BlockEnd) is f g = absurd (g is)
 other_counts token _ is f g = (refl, refl)
 
 pub scan_other : (tokens : List Token) (word level : ℕ) (token : Token) → slice_get tokens word ≡ Some token → ¬ IsKeyword BlockStart token → ¬ IsKeyword BlockEnd token → Scan tokens (word + 1) level → Scan tokens word level
-scan_other tokens word level token there f g h = let counts : (is_start token.kind ≡ 0) × (is_end token.kind ≡ 0) = other_counts token token.kind refl f g in scan_more tokens word level level token there (omega arith) h
+scan_other tokens word level token there f g h = let counts : (is_start_word token.kind ≡ 0) × (is_end_word token.kind ≡ 0) = other_counts token token.kind refl f g in scan_more tokens word level level token there (omega arith) h
 
 -- the scan stops at a `${` that nothing behind it closes
 pub scan_found : (tokens : List Token) (word d : ℕ) (token : Token) → m.run m.Begin 0 tokens ≡ Ok (m.state_of m.Begin d) → slice_get tokens word ≡ Some token → IsKeyword BlockStart token → Scan tokens (word + 1) 0 → IsUnitFault tokens T08 word
@@ -164,7 +164,7 @@ stop_from [] front phase depth number e f = absurd cc
 stop_from (token ∷ rest) front phase depth number e f =
     by_step (λ s is h. stop_from rest (front ++ token ∷ []) s.0 s.1 number (run_push front token phase depth e ∙ is) h) (m.next phase depth token.kind (m.could_label token)) refl f where
       by_step : ((s : m.Phase × ℕ) → m.next phase depth token.kind (m.could_label token) ≡ Ok s → m.run s.0 s.1 rest ≡ Err number → (word : ℕ) × IsUnitFault ((front ++ token ∷ []) ++ rest) number word)
-          → (step : m.Step) → m.next phase depth token.kind (m.could_label token) ≡ step → m.after step (λ p d. m.run p d rest) ≡ Err number → (word : ℕ) × IsUnitFault (front ++ token ∷ rest) number word
+          → (step : m.UnitStep) → m.next phase depth token.kind (m.could_label token) ≡ step → m.after step (λ p d. m.run p d rest) ≡ Err number → (word : ℕ) × IsUnitFault (front ++ token ∷ rest) number word
       by_step more (Ok s) is h = subst (λ (ts : List Token). HasFault ts number) (append_assoc front (token ∷ []) rest) (more s is h)
       by_step more (Err other) is h = (
         length front,
@@ -242,6 +242,6 @@ whole_or_fault tokens = by_run (m.run m.Begin 0 tokens) refl where
   by_state m.Including depth e = open_at m.Including depth e (λ e. cc)
   by_state m.Named depth e = open_at m.Named depth e (λ e. cc)
 
-  by_run : (step : m.Step) → m.run m.Begin 0 tokens ≡ step → IsWhole tokens ⊎ ((number : TextNumber) × (word : ℕ) × IsUnitFault tokens number word)
+  by_run : (step : m.UnitStep) → m.run m.Begin 0 tokens ≡ step → IsWhole tokens ⊎ ((number : TextNumber) × (word : ℕ) × IsUnitFault tokens number word)
   by_run (Ok s) e = by_state s.0 s.1 e
   by_run (Err number) e = let fault : (word : ℕ) × IsUnitFault tokens number word = stop_from tokens [] m.Begin 0 number refl e in inr (number, fault.0, fault.1)

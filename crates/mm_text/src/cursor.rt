@@ -2,7 +2,7 @@
 
 ghost use Rattle.std.specs.Prelude.{◌≡◌, ◌≤◌, ◌∷◌, [], List, IfSome, MatchOption, length};
 ghost use Rattle.mm_text.specs.declared.word.Word.{Word};
-ghost use Rattle.mm_text.specs.Reading.{HasWords, LiesIn};
+ghost use Rattle.mm_text.specs.Language.Reading.{HasWords, LiesIn};
 
 use crate::reader::Reader;
 use crate::word::Word;
@@ -17,11 +17,11 @@ pub struct WordCursor<'a> {
 }
 
 impl<'a> Model for WordCursor<'a> {
-    ghost use Rattle.mm_text.specs.WordsLeft.{WordsLeft};
+    ghost use Rattle.mm_text.specs.Code.WordsLeft.{WordsLeft};
 
     ghost Value = { WordsLeft };
 
-    ghost use Rattle.mm_text.specs.Cursor.{left_of, IsOver};
+    ghost use Rattle.mm_text.specs.Code.Cursor.{left_of, IsOver};
 
     ghost view = { left_of };
 

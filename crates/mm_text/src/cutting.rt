@@ -1,11 +1,11 @@
 //! The cut of a text into pieces.
 
 ghost use Rattle.std.specs.Prelude.{◌≡◌, IfOk, IfErr, All, map};
-ghost use Rattle.mm_text.specs.Reading.{IsErrorIn};
-ghost use Rattle.mm_text.specs.Unit.{Units};
-ghost use Rattle.mm_text.specs.Part.{HasUnits};
-ghost use Rattle.mm_text.specs.Cut as pieces;
-ghost use Rattle.mm_text.specs.Cut.{ended, IsCut, IsCutError};
+ghost use Rattle.mm_text.specs.Language.Reading.{IsTextErrorIn};
+ghost use Rattle.mm_text.specs.Language.Unit.{Units};
+ghost use Rattle.mm_text.specs.Language.Part.{HasUnits};
+ghost use Rattle.mm_text.specs.Language.Cut as pieces;
+ghost use Rattle.mm_text.specs.Language.Cut.{ended, IsCut, IsCutError};
 
 use crate::fault::{TextError, TextFault, TextNumber};
 use crate::grammar::Grammar;
@@ -51,7 +51,7 @@ pub fn cut(alloc: Global, text: &[u8]) -> Result<Cut, TextError>
     ensures fault { IfErr result (IsCutError text.now) }
 
     // These follow: the fault lies in the text, and the words of each piece are whole units, as `parts` requires.
-    ensures fault_within { IfErr result (IsErrorIn text.now) }
+    ensures fault_within { IfErr result (IsTextErrorIn text.now) }
     ensures units { IfOk result (λ found. All (λ piece. (units : Units) × HasUnits piece.items units) found.pieces.items) }
 {
     if let Some(at) = first_bad_byte(text) {

@@ -1,9 +1,9 @@
 //! The division of units into parts.
 
 ghost use Rattle.std.specs.Prelude.{◌≡◌, IfOk, All};
-ghost use Rattle.mm_text.specs.Unit.{Units};
-ghost use Rattle.mm_text.specs.Part.{HasUnits, parts_of, word_part, IsReadable};
-ghost use Rattle.mm_text.specs.PartReading as reading;
+ghost use Rattle.mm_text.specs.Language.Unit.{Units};
+ghost use Rattle.mm_text.specs.Language.Part.{HasUnits, parts_of, word_part, IsReadable};
+ghost use Rattle.mm_text.specs.Code.PartReading as reading;
 
 use crate::part::{Part, PartKind};
 use crate::reader::Reader;

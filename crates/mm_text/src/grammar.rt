@@ -3,8 +3,8 @@
 ghost use Rattle.std.specs.Prelude.{◌≡◌, ◌↔◌, ℕ, Bool, IsTrue, []};
 ghost use Rattle.mm_text.specs.declared.grammar.Phase.TheVariants as phases;
 ghost use Rattle.mm_text.specs.declared.word.WordKind.TheVariants as kinds;
-ghost use Rattle.mm_text.specs.UnitReading.{next};
-ghost use Rattle.mm_text.specs.Grammar.{phase_of, level, Takes, EndsAs};
+ghost use Rattle.mm_text.specs.Code.UnitReading.{next};
+ghost use Rattle.mm_text.specs.Code.Grammar.{phase_of, level, GrammarTakes, EndsAs};
 
 use crate::fault::{TextError, TextFault, TextNumber};
 use crate::word::{Keyword, Word, WordKind};
@@ -59,7 +59,7 @@ impl Grammar {
 
     /// Reads one more word, or tells why no unit has it at this place.
     pub fn take(&mut self, word: &Word, could_label: bool) -> Result<(), TextError>
-        ensures { Takes self.old word.now could_label result self.new }
+        ensures { GrammarTakes self.old word.now could_label result self.new }
     {
         let outside = self.blocks.is_empty();
         let next = match behind(self.phase, outside, word.kind, could_label) {

@@ -4,23 +4,24 @@ ghost use Rattle.std.specs.Prelude.{◌≡◌, ◌⊎◌, ℕ, true, All, List, 
 ghost use Rattle.std.specs.List.{AllByRecursion, flat_map};
 ghost use Rattle.mm_text.specs.declared.word.Word.{Word};
 ghost use Rattle.mm_text.specs.declared.fault.TextFault.{TextFault};
-ghost use Rattle.mm_text.specs.Run.{Run, runs};
-ghost use Rattle.mm_text.specs.Layout.{IsLaidOut};
-ghost use Rattle.mm_text.specs.Reading.{HasWords, IsFault};
+ghost use Rattle.mm_text.specs.Language.Run.{Run, runs};
+ghost use Rattle.mm_text.specs.Language.Layout.{IsLaidOut};
+ghost use Rattle.mm_text.specs.Language.Reading.{HasWords, IsWordsFault};
 ghost use Rattle.mm_text.specs.declared.fault.TextNumber.{TextNumber};
-ghost use Rattle.mm_text.specs.Cut.{IsCut, IsFirstFault, end_of};
-ghost use Rattle.mm_text.specs.Part.{HasUnits, part_bytes, parts_of, shape_part, IsReadable};
-ghost use Rattle.mm_text.specs.Unit.{Token, spellings, Shape, shape_tokens, IsShape, Units, Nothing, Simple, unit_tokens, AreUnits, IsWhole, IsUnitFault};
+ghost use Rattle.mm_text.specs.Language.Cut.{IsCut, IsFirstFault, end_of_words};
+ghost use Rattle.mm_text.specs.Language.Part.{HasUnits, part_bytes, parts_of, shape_part, IsReadable};
+ghost use Rattle.mm_text.specs.Language.Unit.{Token, spellings, Shape, shape_tokens, IsShape, Units, Nothing, Simple, unit_tokens, AreUnits, IsWhole};
+ghost use Rattle.mm_text.specs.Language.Unit.{IsUnitFault};
 
 /// Each text has its words or its fault: one list of words or one fault, and never both.
 ///
 /// So `words` finds the words of each text that has them, and tells the fault only of a text that has none,
 /// unless memory runs out.
 pub fn one_meaning()
-    ensures some { (text : List ℕ) → ((words : List Word) × HasWords text words) ⊎ ((fault : TextFault) × IsFault text fault) }
+    ensures some { (text : List ℕ) → ((words : List Word) × HasWords text words) ⊎ ((fault : TextFault) × IsWordsFault text fault) }
     ensures words { (text : List ℕ) (a b : List Word) → HasWords text a → HasWords text b → a ≡ b }
-    ensures fault { (text : List ℕ) (a b : TextFault) → IsFault text a → IsFault text b → a ≡ b }
-    ensures not_both { (text : List ℕ) (words : List Word) (fault : TextFault) → HasWords text words → ¬ IsFault text fault }
+    ensures fault { (text : List ℕ) (a b : TextFault) → IsWordsFault text a → IsWordsFault text b → a ≡ b }
+    ensures not_both { (text : List ℕ) (words : List Word) (fault : TextFault) → HasWords text words → ¬ IsWordsFault text fault }
 {}
 
 /// A text is laid out in one way: white space, a longest sequence of bytes without white space, white space,
@@ -44,7 +45,8 @@ pub fn one_unit_fault()
 /// A list of words is divided into units in one way at most.
 pub fn one_division()
     ensures units { (a b : Units) → AreUnits true a → AreUnits true b → unit_tokens a ≡ unit_tokens b → a ≡ b }
-    ensures shapes { (a b : List Shape) → AllByRecursion (IsShape true) a → AllByRecursion (IsShape true) b → flat_map shape_tokens a ≡ flat_map shape_tokens b → a ≡ b }
+    ensures shapes { (a b : List Shape) → AllByRecursion (IsShape true) a → AllByRecursion (IsShape true) b → flat_map shape_tokens a ≡ flat_map shape_tokens b
+        → a ≡ b }
 {}
 
 /// Each part of a text of whole units has a byte at least, lies in the text, and is a text with words by itself.
@@ -57,8 +59,8 @@ pub fn parts_are_texts()
 /// So the bytes of a statement or an inclusion that is the one unit of a text have its words, and no others.
 pub fn words_stand_alone()
     ensures words { (text : List ℕ) (first : Word) (more own : List Word) → HasWords text (first ∷ more)
-        → HasWords (slice_range text first.start (end_of (first ∷ more))) own
-        → spellings (slice_range text first.start (end_of (first ∷ more))) own ≡ spellings text (first ∷ more) }
+        → HasWords (slice_range text first.start (end_of_words (first ∷ more))) own
+        → spellings (slice_range text first.start (end_of_words (first ∷ more))) own ≡ spellings text (first ∷ more) }
     ensures statement { (text : List ℕ) (shape : Shape) (own : List Word) → HasUnits text (Simple shape Nothing)
         → HasWords (part_bytes text (shape_part shape)) own
         → spellings (part_bytes text (shape_part shape)) own ≡ map (λ token. token.bytes) (shape_tokens shape) }

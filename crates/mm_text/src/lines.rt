@@ -1,7 +1,7 @@
 //! Lines and columns of bytes.
 
 ghost use Rattle.std.specs.Prelude.{◌≡◌, ◌≤◌, length};
-ghost use Rattle.mm_text.specs.Place.{line_at, column_at};
+ghost use Rattle.mm_text.specs.Language.Place.{line_at, column_at};
 
 use crate::location::Place;
 use memchr::{memchr_iter, memrchr};

@@ -23,7 +23,7 @@ pub struct Reader<'a> {
 
 impl<'a> Reader<'a> {
     ghost use Rattle.std.specs.Prelude.{◌≡◌, MatchOption};
-    ghost use Rattle.mm_text.specs.Reader.{TakesRun, EndsComment, GivesWord};
+    ghost use Rattle.mm_text.specs.Code.Reader.{TakesRun, EndsComment, GivesWord};
 
     /// A reader at the beginning of a text.
     pub fn new(text: &'a [u8]) -> Self

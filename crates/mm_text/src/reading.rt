@@ -2,9 +2,9 @@
 
 ghost use Rattle.std.specs.Prelude.{◌≡◌, ◌<◌, List, None, IfOk, IfErr, IfSome, OnOk, All, slice_get};
 ghost use Rattle.mm_text.specs.declared.word.Word.{Word};
-ghost use Rattle.mm_text.specs.Run.{runs};
-ghost use Rattle.mm_text.specs.LeftToRight.{read, read_text, Gives};
-ghost use Rattle.mm_text.specs.Reading.{first_bad, HasWords, IsErrorOf, IsErrorIn, LiesIn, AreWithin};
+ghost use Rattle.mm_text.specs.Language.Run.{runs};
+ghost use Rattle.mm_text.specs.Code.LeftToRight.{read_runs, read_text, Gives};
+ghost use Rattle.mm_text.specs.Language.Reading.{first_bad, HasWords, IsWordsError, IsTextErrorIn, LiesIn, AreWithin};
 
 use crate::cursor::WordCursor;
 use crate::fault::{TextError, TextFault, TextNumber};
@@ -20,7 +20,7 @@ pub fn first_bad_byte(text: &[u8]) -> Option<usize>
 }
 
 fn read_words(alloc: Global, text: &[u8]) -> Result<Vec<Word>, TextError>
-    ensures { Gives result (read None (runs text.now)) }
+    ensures { Gives result (read_runs None (runs text.now)) }
 {
     let mut words = Vec::new(alloc);
     let mut reader = Reader::new(text);
@@ -50,10 +50,10 @@ fn read_all(alloc: Global, text: &[u8]) -> Result<Vec<Word>, TextError>
 /// its words.
 pub fn words(alloc: Global, text: &[u8]) -> Result<Vec<Word>, TextError>
     ensures words { IfOk result (λ found. HasWords text.now found.items) }
-    ensures fault { IfErr result (IsErrorOf text.now) }
+    ensures fault { IfErr result (IsWordsError text.now) }
 
     // These follow: where the fault and the words lie, and that every byte is ASCII.
-    ensures fault_within { IfErr result (IsErrorIn text.now) }
+    ensures fault_within { IfErr result (IsTextErrorIn text.now) }
     ensures within { IfOk result (λ found. AreWithin text.now found.items) }
     ensures ascii { OnOk result (All (λ byte. byte < 127) text.now) }
 {

@@ -2,16 +2,16 @@
 
 ghost use Rattle.std.specs.Prelude.{◌≡◌, ◌≤◌, ◌↔◌, IsTrue, length};
 ghost use Rattle.std.specs.List.{list_all, prefix_len};
-ghost use Rattle.mm_text.specs.Unit as labels;
-ghost use Rattle.mm_text.specs.Run.{is_white, is_solid};
-ghost use Rattle.mm_text.specs.Reading.{is_allowed};
-ghost use Rattle.mm_text.specs.Spelling.{opening, closing};
-ghost use Rattle.mm_text.specs.LeftToRight.{keyword_at, kind_of, is_mark, holds_mark};
+ghost use Rattle.mm_text.specs.Language.Unit as labels;
+ghost use Rattle.mm_text.specs.Language.Run.{is_white, is_solid};
+ghost use Rattle.mm_text.specs.Language.Reading.{is_allowed};
+ghost use Rattle.mm_text.specs.Language.Spelling.{opening, closing};
+ghost use Rattle.mm_text.specs.Code.LeftToRight.{keyword_at, word_kind, is_mark, holds_mark};
 
 use crate::word::{Keyword, WordKind};
 
 /// Whether a byte is a space, a tab, a carriage return, a line feed or a form feed.
-#[tactic(auto, unfolding(crate::specs::Run::is_white))]
+#[tactic(auto, unfolding(crate::specs::Language::Run::is_white))]
 pub fn is_white_space(byte: u8) -> bool
     ensures { result ≡ is_white byte }
 {
@@ -19,7 +19,7 @@ pub fn is_white_space(byte: u8) -> bool
 }
 
 /// Whether a text may hold this byte.
-#[tactic(auto, unfolding(crate::specs::Reading::is_allowed))]
+#[tactic(auto, unfolding(crate::specs::Language::Reading::is_allowed))]
 pub fn is_text_byte(byte: u8) -> bool
     ensures { result ≡ is_allowed byte }
 {
@@ -72,7 +72,7 @@ fn keyword_of(byte: u8) -> Option<Keyword>
 
 /// What kind of word a run outside comments is: `None` where it has a `$` and is no keyword.
 pub fn kind(run: &[u8]) -> Option<WordKind>
-    ensures { result ≡ kind_of run.now }
+    ensures { result ≡ word_kind run.now }
 {
     match run {
         [b'$', byte] => keyword_of(*byte).map(WordKind::Keyword),
@@ -120,7 +120,7 @@ pub fn has_mark(run: &[u8]) -> bool
 }
 
 /// Whether a label may have this byte: a letter, a digit, `-`, `_` or `.`.
-#[tactic(auto, unfolding(crate::specs::Unit::is_label_byte))]
+#[tactic(auto, unfolding(crate::specs::Language::Unit::is_label_byte))]
 fn is_label_byte(byte: u8) -> bool
     ensures { result ≡ labels.is_label_byte byte }
 {

@@ -279,7 +279,12 @@ fn divides_pieces(rt: HostRuntime) -> Result<(), Fail> {
 
 /// The statements of the book's demonstration database.
 const DEMO: &[u8] =
-    b"$c 0 + = -> ( ) term wff |- $.\n$v t r s P Q $.\ntt $f term t $.\ntr $f term r $.\nts $f term s $.\nwp $f wff P $.\nwq $f wff Q $.\ntze $a term 0 $.\ntpl $a term ( t + r ) $.\nweq $a wff t = r $.\nwim $a wff ( P -> Q ) $.\na1 $a |- ( t = r -> ( t = s -> r = s ) ) $.\na2 $a |- ( t + 0 ) = t $.\n${\nmin $e |- P $.\nmaj $e |- ( P -> Q ) $.\nmp $a |- Q $.\n$}\nth1 $p |- t = t $=\ntt tze tpl tt weq tt tt weq tt a2 tt tze tpl\ntt weq tt tze tpl tt weq tt tt weq wim tt a2\ntt tze tpl tt tt a1 mp mp\n$.\n";
+    b"$c 0 + = -> ( ) term wff |- $.\n$v t r s P Q $.\ntt $f term t $.\ntr $f term r $.\nts $f term s $.\n\
+        wp $f wff P $.\nwq $f wff Q $.\ntze $a term 0 $.\ntpl $a term ( t + r ) $.\nweq $a wff t = r $.\n\
+        wim $a wff ( P -> Q ) $.\na1 $a |- ( t = r -> ( t = s -> r = s ) ) $.\na2 $a |- ( t + 0 ) = t $.\n${\n\
+        min $e |- P $.\nmaj $e |- ( P -> Q ) $.\nmp $a |- Q $.\n$}\nth1 $p |- t = t $=\n\
+        tt tze tpl tt weq tt tt weq tt a2 tt tze tpl\ntt weq tt tze tpl tt weq tt tt weq wim tt a2\n\
+        tt tze tpl tt tt a1 mp mp\n$.\n";
 
 /// Each beginning of a database: accepted where a unit may begin outside, else at fault in a word that is cut, a
 /// unit or a block.

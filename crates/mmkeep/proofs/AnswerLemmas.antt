@@ -4,23 +4,23 @@ use Rattle.std.specs.List.{AllByRecursion}
 use Rattle.std.proofs.lemmas.Option.{slice_get-get_or, none-some, same_Some}
 use Rattle.mm_text.specs.declared.fault.TextFault.{TextFault}
 use Rattle.mm_text.specs.declared.location.Place.{Place}
-use Rattle.mm_text.specs.Cut.{IsFirstFault}
-use Rattle.mm_text.specs.Place.{line_at, column_at}
-use Rattle.mm_store.specs.FilesView.{FilesView, no_files}
+use Rattle.mm_text.specs.Language.Cut.{IsFirstFault}
+use Rattle.mm_text.specs.Language.Place.{line_at, column_at}
+use Rattle.mm_store.specs.Language.FilesView.{FilesView, no_files}
 use Rattle.mm_store.specs.declared.error.StoreError.{StoreError}
 use Rattle.mm_store.specs.declared.error.StoreError.TheVariants.{TooMany}
-use Rattle.mm_store.specs.Answers.{HasTooMany}
-use Rattle.mm_frame.specs.Base.{BaseView, told_fault, fault_at, is_sound_at, said_at}
-use Rattle.mm_frame.specs.Item.{Kind, Axiom, Theorem, Item, is_assertion, is_theorem, item_at}
-use Rattle.mm_frame.specs.Sound.{kept}
+use Rattle.mm_store.specs.Language.Answers.{HasTooMany}
+use Rattle.mm_frame.specs.Language.Base.{BaseView, told_fault, fault_at, is_sound_at, said_at}
+use Rattle.mm_frame.specs.Language.Item.{Kind, Axiom, Theorem, Item, is_assertion, is_theorem, item_at}
+use Rattle.mm_frame.specs.Language.Sound.{sound_items}
 use Rattle.mm_frame.specs.declared.FrameNumber.{FrameNumber}
 use Rattle.mmkeep.specs.declared.fault.FirstError.{FirstError}
 use Rattle.mmkeep.specs.declared.fault.FirstError.TheVariants.{Text, Store, Later, Write}
-use Rattle.mmkeep.specs.FirstErrors.{IsAnswerToText, IsToldOfText}
-use Rattle.mmkeep.specs.Later.{unread_word, IsRead, AreRead, IsFirstUnread}
-use Rattle.mm_proof.specs.Proved.{IsProved}
-use Rattle.mmkeep.specs.Report.{Shown, Told, Quiet, AnAxiom, Proved, Wrong, Fault, IsRightlyTold, IsFaultOf, AreRightlyTold, lines, report}
-use Rattle.mmkeep.specs.Verified.{IsReport, IsUnreadAt, IsPlaceIn}
+use Rattle.mmkeep.specs.Language.FirstErrors.{IsAnswerToText, IsToldOfText}
+use Rattle.mmkeep.specs.Language.Later.{unread_word, IsRead, AreRead, IsFirstUnread}
+use Rattle.mm_proof.specs.Language.Proved.{IsProved}
+use Rattle.mmkeep.specs.Language.Report.{Shown, Told, Quiet, AnAxiom, Proved, Wrong, Fault, IsRightlyTold, IsFaultOf, AreRightlyTold, lines, report}
+use Rattle.mmkeep.specs.Language.Verified.{IsReport, IsUnreadAt, IsPlaceIn}
 use Rattle.mmkeep.proofs.DatabaseLemmas.{Laws, Database, same_items, same_place, same_shown_word, database_or_fault, database_or_too_many}
 
 -- ---- the first item that is not read
@@ -159,7 +159,7 @@ told_class files view n (Fault number shown) f = fault_class (fault_at view n) (
 -- of two databases of one text
 
 same_fault_at : {name text : List ℕ} → Laws → (a b : Database name text) (n : ℕ) → fault_at a.view n ≡ fault_at b.view n
-same_fault_at laws a b n = ap (λ items. told_fault (kept (take n items)) (item_at items n)) (same_items laws a b)
+same_fault_at laws a b n = ap (λ items. told_fault (sound_items (take n items)) (item_at items n)) (same_items laws a b)
 
 same_class : {name text : List ℕ} → Laws → (a b : Database name text) (n : ℕ) (one other : Told) → IsRightlyTold a.files a.view n one → IsRightlyTold b.files b.view n other → class_told one ≡ class_told other
 same_class laws a b n one other f g =

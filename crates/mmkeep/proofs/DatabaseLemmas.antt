@@ -9,20 +9,20 @@ use Rattle.std.proofs.lemmas.Option.{slice_get-map, slice_get_within, get_or_fro
 use Rattle.std.proofs.lemmas.Simd.{map-map}
 use Rattle.mm_text.specs.declared.word.Word.{Word}
 use Rattle.mm_text.specs.declared.fault.TextFault.{TextFault}
-use Rattle.mm_text.specs.Reading.{HasWords}
-use Rattle.mm_text.specs.Cut.{IsCut, IsFirstFault, ended}
-use Rattle.mm_text.specs.Place.{line_at, column_at}
+use Rattle.mm_text.specs.Language.Reading.{HasWords}
+use Rattle.mm_text.specs.Language.Cut.{IsCut, IsFirstFault, ended}
+use Rattle.mm_text.specs.Language.Place.{line_at, column_at}
 use Rattle.mm_store.specs.declared.item.Item as store
-use Rattle.mm_store.specs.FilesView.{PieceView, FileView, FilesView, no_files, piece_texts, text_of, bytes_of}
-use Rattle.mm_store.specs.FileFacts.{CanBeRead, HaveOwnKeys, IsAdded, StandsIn, piece_offset}
-use Rattle.mm_store.specs.Answers.{HasTooMany}
-use Rattle.mm_store.specs.Expansion.{IsExpansion}
-use Rattle.mm_store.specs.Keyless.{keyless_piece, keyless_file, keyless_item}
-use Rattle.mm_frame.specs.Base.{BaseView}
-use Rattle.mm_frame.specs.Laws.{AreAlikeBases}
-use Rattle.mmkeep.specs.Base.{IsWordOf}
-use Rattle.mmkeep.specs.Report.{Shown, IsWordAt, IsShown, start_of, spelled}
-use Rattle.mmkeep.specs.Verified.{IsDatabase}
+use Rattle.mm_store.specs.Language.FilesView.{PieceView, FileView, FilesView, no_files, piece_texts, text_of, bytes_of}
+use Rattle.mm_store.specs.Language.FileFacts.{CanBeRead, HaveOwnKeys, IsAdded, StandsIn, piece_offset}
+use Rattle.mm_store.specs.Language.Answers.{HasTooMany}
+use Rattle.mm_store.specs.Language.Expansion.{IsExpansion}
+use Rattle.mm_store.specs.Language.Keyless.{keyless_piece, keyless_file, keyless_item}
+use Rattle.mm_frame.specs.Language.Base.{BaseView}
+use Rattle.mm_frame.specs.Language.Laws.{AreAlikeBases}
+use Rattle.mmkeep.specs.Language.WordPlaces.{IsWordOf}
+use Rattle.mmkeep.specs.Language.Report.{Shown, IsWordAt, IsShown, start_of, spelled}
+use Rattle.mmkeep.specs.Language.Verified.{IsDatabase}
 
 -- what is known of every text and of all files
 pub record Laws : Type 0 where

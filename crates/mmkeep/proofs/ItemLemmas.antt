@@ -2,15 +2,15 @@
 use Rattle.std.proofs.Common.{◌≡◌, ◌⊎◌, ℕ, zero, suc, ◌+◌, Some, List, [], ◌∷◌, ◌++◌, inl, inr, length-append, length, slice_get, refl, sym, ◌∙◌, ap, subst}
 use Rattle.std.proofs.lemmas.Option.{get_or_from_slice_get, same_Some, slice_get_within}
 use Rattle.mm_store.specs.declared.item.Item as store
-use Rattle.mm_store.specs.FilesView.{FilesView}
-use Rattle.mm_store.specs.FileFacts.{CanBeRead, StandsIn}
-use Rattle.mm_frame.specs.Base.{BaseView, said_at}
-use Rattle.mm_frame.specs.Item.{passed}
-use Rattle.mm_frame.specs.Kept.{IsBase}
-use Rattle.mm_frame.specs.Statement.{Says}
+use Rattle.mm_store.specs.Language.FilesView.{FilesView}
+use Rattle.mm_store.specs.Language.FileFacts.{CanBeRead, StandsIn}
+use Rattle.mm_frame.specs.Language.Base.{BaseView, said_at}
+use Rattle.mm_frame.specs.Language.Item.{passed}
+use Rattle.mm_frame.specs.Code.KeptBase.{IsBase}
+use Rattle.mm_frame.specs.Language.Statement.{Says}
 use Rattle.mm_frame.specs.declared.base.Base.{Base}
-use Rattle.mm_proof.specs.OfFiles.{IsOf, HasItemOf}
-use Rattle.mmkeep.specs.Report.{Told, IsRightlyTold}
+use Rattle.mm_proof.specs.Code.OfFiles.{IsOf, HasItemOf}
+use Rattle.mmkeep.specs.Language.Report.{Told, IsRightlyTold}
 use Rattle.mmkeep.proofs.PlaceLemmas.{zip_found}
 
 -- what it says

@@ -3,11 +3,11 @@ use Rattle.std.proofs.Common.{◌≤◌, ◌≡◌, ℕ, ◌+◌, ◌-◌, ◌<�
 use Rattle.std.specs.Prelude.{slice_range, IfSome}
 use Rattle.std.proofs.lemmas.List.{length-take-le, length-drop}
 use Rattle.mm_text.specs.declared.word.Word.{Word}
-use Rattle.mm_text.specs.Reading.{HasWords, LiesIn}
+use Rattle.mm_text.specs.Language.Reading.{HasWords, LiesIn}
 use Rattle.mm_store.specs.declared.item.Item as store
-use Rattle.mm_store.specs.FilesView.{FilesView, text_of}
-use Rattle.mm_store.specs.FileFacts.{CanBeRead, StandsIn, IsByte, IsLive, piece_offset}
-use Rattle.mmkeep.specs.Report.{start_of}
+use Rattle.mm_store.specs.Language.FilesView.{FilesView, text_of}
+use Rattle.mm_store.specs.Language.FileFacts.{CanBeRead, StandsIn, IsByte, IsLive, piece_offset}
+use Rattle.mmkeep.specs.Language.Report.{start_of}
 
 -- ---- the byte of a word
 

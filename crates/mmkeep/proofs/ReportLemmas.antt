@@ -3,9 +3,9 @@ use Rattle.std.proofs.Common.{◌≡◌, ℕ, Bool, false, Option, Result, cond,
 use Rattle.std.proofs.lemmas.List.Sums.{sum_by-cons}
 use Rattle.std.proofs.lemmas.List.{append-nil, take_more, length-take, length-take-le, length-map, get_or-map, take-append-drop}
 use Rattle.std.specs.Io.KnownBytes.{Appends}
-use Rattle.mm_frame.specs.Item.{Item, passed}
-use Rattle.mm_frame.specs.Base.{BaseView, said_at}
-use Rattle.mm_frame.specs.Kept.{IsBase}
+use Rattle.mm_frame.specs.Language.Item.{Item, passed}
+use Rattle.mm_frame.specs.Language.Base.{BaseView, said_at}
+use Rattle.mm_frame.specs.Code.KeptBase.{IsBase}
 use Rattle.mm_frame.specs.declared.base.Base.{Base}
 use Rattle.mm_frame.specs.declared.FrameNumber.{FrameNumber}
 use Rattle.mmkeep.specs.declared.finding.Finding.{Finding}
@@ -13,10 +13,10 @@ use Rattle.mmkeep.specs.declared.finding.Finding.TheVariants as code
 use Rattle.std.specs.Prelude.{IsErr, count_by, codes, decimal}
 use Rattle.mmkeep.specs.declared.stream.Writing.{Writing}
 use Rattle.mmkeep.specs.declared.tally.Tally.{Tally}
-use Rattle.mmkeep.specs.Findings.{AreOfEach, counted, told, told_all}
-use Rattle.mmkeep.specs.Report.{Told, Quiet, AnAxiom, Proved, Wrong, Fault, Counts, counts, line, lines, fault_line, code_of}
-use Rattle.mmkeep.specs.Report.{is_wrong, is_fault, summary, report}
-use Rattle.mmkeep.specs.Stream.{Stops, Writes, written}
+use Rattle.mmkeep.specs.Code.Findings.{AreOfEach, counted, told, told_all}
+use Rattle.mmkeep.specs.Language.Report.{Told, Quiet, AnAxiom, Proved, Wrong, Fault, Counts, counts, item_line, lines, fault_line, code_of}
+use Rattle.mmkeep.specs.Language.Report.{is_wrong, is_fault, summary, report}
+use Rattle.mmkeep.specs.Language.Stream.{Stops, Writes, written}
 use Rattle.mmkeep.proofs.StreamLemmas.{stops_front, stops_behind, writes_behind, writes_stop}
 
 -- ---- lines
@@ -26,11 +26,11 @@ lines_join : (file : List ℕ) (items more : List Item) (all others : List Told)
 lines_join file [] more [] others e = refl
 lines_join file [] more (y ∷ ys) others e = cc
 lines_join file (x ∷ xs) more [] others e = cc
-lines_join file (x ∷ xs) more (y ∷ ys) others e = ap (λ bytes. line file x y ++ bytes) (lines_join file xs more ys others (cc)) ∙ sym (append_assoc (line file x y) (lines file xs ys) (lines file more others))
+lines_join file (x ∷ xs) more (y ∷ ys) others e = ap (λ bytes. item_line file x y ++ bytes) (lines_join file xs more ys others (cc)) ∙ sym (append_assoc (item_line file x y) (lines file xs ys) (lines file more others))
 
 -- one more item has its line behind the others'
-lines_push : (file : List ℕ) (items : List Item) (all : List Told) (item : Item) (one : Told) → length all ≡ length items → lines file (items ++ item ∷ []) (all ++ one ∷ []) ≡ lines file items all ++ line file item one
-lines_push file items all item one e = lines_join file items (item ∷ []) all (one ∷ []) e ∙ ap (λ bytes. lines file items all ++ bytes) (append-nil (line file item one))
+lines_push : (file : List ℕ) (items : List Item) (all : List Told) (item : Item) (one : Told) → length all ≡ length items → lines file (items ++ item ∷ []) (all ++ one ∷ []) ≡ lines file items all ++ item_line file item one
+lines_push file items all item one e = lines_join file items (item ∷ []) all (one ∷ []) e ∙ ap (λ bytes. lines file items all ++ bytes) (append-nil (item_line file item one))
 
 -- the lines of the first items, and then those of the others
 lines_split : (file : List ℕ) (items : List Item) (all : List Told) (i : ℕ) → length all ≡ length items → lines file (take i items) (take i all) ++ lines file (drop i items) (drop i all) ≡ lines file items all
@@ -38,7 +38,7 @@ lines_split file items all i e =
     let lengths : length (take i all) ≡ length (take i items) = length-take i all ∙ ap (λ (n : ℕ). min i n) e ∙ sym (length-take i items) in
     sym (lines_join file (take i items) (drop i items) (take i all) (drop i all) lengths) ∙ ap (λ (xs : List Item). lines file xs (take i all ++ drop i all)) (take-append-drop i items) ∙ ap (lines file items) (take-append-drop i all)
 
-lines_step : (file : List ℕ) (items : List Item) (all : List Told) (i : ℕ) (x : Item) (y : Told) → length all ≡ length items → i < length all → lines file (take (i + 1) items) (take (i + 1) all) ≡ lines file (take i items) (take i all) ++ line file (get_or items i x) (get_or all i y)
+lines_step : (file : List ℕ) (items : List Item) (all : List Told) (i : ℕ) (x : Item) (y : Told) → length all ≡ length items → i < length all → lines file (take (i + 1) items) (take (i + 1) all) ≡ lines file (take i items) (take i all) ++ item_line file (get_or items i x) (get_or all i y)
 lines_step file items all i x y e l =
     let in_items : i < length items = omega arith in
     let lengths : length (take i all) ≡ length (take i items) = length-take-le i all (omega arith) ∙ sym (length-take-le i items (omega arith)) in
@@ -46,15 +46,15 @@ lines_step file items all i x y e l =
 
 -- one more item has its line, which tells its finding
 pub lines_more : (file : List ℕ) (items : List Item) (findings : List Finding) (i : ℕ) (x : Item) (y : Finding) → length findings ≡ length items → i < length findings
-    → lines file (take (i + 1) items) (take (i + 1) (told_all findings)) ≡ lines file (take i items) (take i (told_all findings)) ++ line file (get_or items i x) (told (get_or findings i y))
+    → lines file (take (i + 1) items) (take (i + 1) (told_all findings)) ≡ lines file (take i items) (take i (told_all findings)) ++ item_line file (get_or items i x) (told (get_or findings i y))
 lines_more file items findings i x y e l =
     let count : length (told_all findings) ≡ length findings = length-map findings told in
     let one : get_or (told_all findings) i (told y) ≡ told (get_or findings i y) = get_or-map told findings i y (told y) l in
-    lines_step file items (told_all findings) i x (told y) (count ∙ e) (omega arith) ∙ ap (λ (t : Told). lines file (take i items) (take i (told_all findings)) ++ line file (get_or items i x) t) one
+    lines_step file items (told_all findings) i x (told y) (count ∙ e) (omega arith) ∙ ap (λ (t : Told). lines file (take i items) (take i (told_all findings)) ++ item_line file (get_or items i x) t) one
 
 -- the lines of the items before one, its own, and those of the items behind it
 pub lines_at : (file : List ℕ) (items : List Item) (findings : List Finding) (i : ℕ) (x : Item) (y : Finding) → length findings ≡ length items → i < length findings
-    → lines file items (told_all findings) ≡ lines file (take i items) (take i (told_all findings)) ++ line file (get_or items i x) (told (get_or findings i y)) ++ lines file (drop (i + 1) items) (drop (i + 1) (told_all findings))
+    → lines file items (told_all findings) ≡ lines file (take i items) (take i (told_all findings)) ++ item_line file (get_or items i x) (told (get_or findings i y)) ++ lines file (drop (i + 1) items) (drop (i + 1) (told_all findings))
 lines_at file items findings i x y e l =
     sym (lines_split file items (told_all findings) (i + 1) (length-map findings told ∙ e)) ∙ ap (λ bytes. bytes ++ lines file (drop (i + 1) items) (drop (i + 1) (told_all findings))) (lines_more file items findings i x y e l)
 
@@ -136,7 +136,7 @@ module _ {W : Type 0} (contents : W → Option (List ℕ)) (file : List ℕ) (ba
   -- a write that fails in one line, behind those before it, fails in the lines
   pub lines_stop : {T E : Type 0} (a b c : Writing W) (r : Result T E) (i : ℕ) → i < length findings → IsErr r
       → ForEach (λ view. Appends (written contents a) (written contents b) (lines file (take i view.said) (take i (told_all findings))))
-      → ((view : BaseView) → IsBase view base → Stops contents b c (line file (said_at view i) (told (get_or findings i code.Quiet))))
+      → ((view : BaseView) → IsBase view base → Stops contents b c (item_line file (said_at view i) (told (get_or findings i code.Quiet))))
       → ForEach (λ view. Writes contents a c r (lines file view.said (told_all findings)))
   lines_stop a b c r i within failed before here view is =
       rw (lines_at file view.said findings i passed code.Quiet is.count within)

@@ -6,7 +6,7 @@ use Rattle.std.proofs.KnownBytes.{Appends-trans}
 use Rattle.std.proofs.Math.Seq.{take-append-add}
 use Rattle.std.proofs.lemmas.List.{take-append-le, take_min}
 use Rattle.mmkeep.specs.declared.stream.Writing.{Writing}
-use Rattle.mmkeep.specs.Stream.{AppendsPart, Stops, Writes, written}
+use Rattle.mmkeep.specs.Language.Stream.{AppendsPart, Stops, Writes, written}
 
 -- a part of the first bytes
 part_front : (a b : Option (List ℕ)) (xs ys : List ℕ) → AppendsPart a b xs → AppendsPart a b (xs ++ ys)

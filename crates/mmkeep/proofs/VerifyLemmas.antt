@@ -6,22 +6,22 @@ use Rattle.std.proofs.Common.{eq-eqb}
 use Rattle.std.proofs.lemmas.Bool.{cases_Bool, eqb-true, and_from, false≢true}
 use Rattle.std.proofs.lemmas.List.{take-append-le}
 use Rattle.mm_text.specs.declared.location.Place.{Place}
-use Rattle.mm_text.specs.Cut.{ends_white, ended}
-use Rattle.mm_text.specs.Place.{is_line_feed}
-use Rattle.mm_store.specs.FilesView.{FileView, FilesView, no_files, bytes_of, text_of}
-use Rattle.mm_store.specs.FileFacts.{IsAdded, StandsIn}
-use Rattle.mm_store.specs.Expansion.{IsExpansion}
+use Rattle.mm_text.specs.Language.Cut.{ends_white, ended}
+use Rattle.mm_text.specs.Language.Place.{is_line_feed}
+use Rattle.mm_store.specs.Language.FilesView.{FileView, FilesView, no_files, bytes_of, text_of}
+use Rattle.mm_store.specs.Language.FileFacts.{IsAdded, StandsIn}
+use Rattle.mm_store.specs.Language.Expansion.{IsExpansion}
 use Rattle.mm_store.specs.declared.item.Item as store
-use Rattle.mm_frame.specs.Base.{BaseView, IsOfFiles}
-use Rattle.mm_frame.specs.Kept.{IsBase}
+use Rattle.mm_frame.specs.Language.Base.{BaseView, IsOfFiles}
+use Rattle.mm_frame.specs.Code.KeptBase.{IsBase}
 use Rattle.mm_frame.specs.declared.base.Base.{Base}
-use Rattle.mm_proof.specs.OfFiles.{IsOf}
+use Rattle.mm_proof.specs.Code.OfFiles.{IsOf}
 use Rattle.mmkeep.specs.declared.fault.FirstError.TheVariants.{Later}
-use Rattle.mmkeep.specs.Base.{IsWordOf, HasPlaceOf}
-use Rattle.mmkeep.specs.FirstErrors.{IsErrorOf}
-use Rattle.mmkeep.specs.Later.{AreRead, IsFirstUnread}
-use Rattle.mmkeep.specs.Report.{Told, AreRightlyTold, counts, report}
-use Rattle.mmkeep.specs.Verified.{IsDatabase, IsReport, IsPlaceIn}
+use Rattle.mmkeep.specs.Language.WordPlaces.{IsWordOf, HasPlaceOf}
+use Rattle.mmkeep.specs.Language.FirstErrors.{IsVerifyError}
+use Rattle.mmkeep.specs.Language.Later.{AreRead, IsFirstUnread}
+use Rattle.mmkeep.specs.Language.Report.{Told, AreRightlyTold, counts, report}
+use Rattle.mmkeep.specs.Language.Verified.{IsDatabase, IsReport, IsPlaceIn}
 use Rattle.mmkeep.proofs.ReportLemmas.{no_lines, some_line}
 
 and_both : (x y : Bool) → (x && y) ≡ true → (x ≡ true) × (y ≡ true)
@@ -86,7 +86,7 @@ module _ (name text : List ℕ) (files : FilesView) (view : BaseView) (database 
       )
 
   -- the first word that is not read yet
-  pub unread_at : (n word : ℕ) (place : Place) → IsFirstUnread view.said n word → HasPlaceOf files view n word place → IsErrorOf name text (Later place)
+  pub unread_at : (n word : ℕ) (place : Place) → IsFirstUnread view.said n word → HasPlaceOf files view n word place → IsVerifyError name text (Later place)
   unread_at n word place unread h =
       let there = place_in n word place h in
       (there.0, record { files = files; view = view; database = database; n = n; word = word; unread = unread; place = there.1 }, there.2)

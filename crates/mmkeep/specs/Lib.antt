@@ -1,9 +1,2 @@
-pub mod Later
-pub mod Stream
-pub mod Report
-pub mod Findings
-pub mod Base
-pub mod Verified
-pub mod FirstErrors
-pub mod Asking
-pub mod Status
+pub mod Language
+pub mod Code

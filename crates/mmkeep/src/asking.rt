@@ -1,7 +1,7 @@
 //! Which words are a command.
 
 ghost use Rattle.std.specs.Prelude.{◌≡◌, List, ℕ, Some, None, IfSome, map};
-ghost use Rattle.mmkeep.specs.Asking.{verify_words, words_of, said};
+ghost use Rattle.mmkeep.specs.Language.Asking.{verify_words, words_of, said};
 
 use crate::arguments::Command;
 

@@ -1,13 +1,13 @@
 //! What is found of each item of a file.
 
 ghost use Rattle.std.specs.Prelude.{◌≡◌, true, IfOk, IfSome};
-ghost use Rattle.mm_text.specs.Reading.{LiesIn};
-ghost use Rattle.mm_store.specs.FileFacts.{CanBeRead, StandsIn};
-ghost use Rattle.mm_frame.specs.Base.{BaseView, is_proof_at};
-ghost use Rattle.mm_proof.specs.OfFiles.{IsOf, HasView, HasItemOf};
-ghost use Rattle.mmkeep.specs.Report as report;
-ghost use Rattle.mmkeep.specs.Findings.{told, told_all};
-ghost use Rattle.mmkeep.specs.Report.{IsShown, IsRightlyTold, AreRightlyTold, TellsFaultAt};
+ghost use Rattle.mm_text.specs.Language.Reading.{LiesIn};
+ghost use Rattle.mm_store.specs.Language.FileFacts.{CanBeRead, StandsIn};
+ghost use Rattle.mm_frame.specs.Language.Base.{BaseView, is_proof_at};
+ghost use Rattle.mm_proof.specs.Code.OfFiles.{IsOf, HasView, HasItemOf};
+ghost use Rattle.mmkeep.specs.Language.Report as report;
+ghost use Rattle.mmkeep.specs.Code.Findings.{told, told_all};
+ghost use Rattle.mmkeep.specs.Language.Report.{IsShown, IsRightlyTold, AreRightlyTold, TellsFaultAt};
 
 use crate::finding::Finding;
 use crate::reading::start_of;

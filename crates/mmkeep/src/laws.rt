@@ -2,8 +2,8 @@
 
 ghost use Rattle.std.specs.Prelude.{◌≡◌, ℕ, Bool, List};
 ghost use Rattle.mmkeep.specs.declared.fault.FirstError.{FirstError};
-ghost use Rattle.mmkeep.specs.FirstErrors.{IsToldOfText};
-ghost use Rattle.mmkeep.specs.Verified.{IsReport};
+ghost use Rattle.mmkeep.specs.Language.FirstErrors.{IsToldOfText};
+ghost use Rattle.mmkeep.specs.Language.Verified.{IsReport};
 
 /// A text has one report at most, or one error that is told of it; and never both.
 ///

@@ -1,7 +1,7 @@
 //! How the program ends.
 
 ghost use Rattle.std.specs.Prelude.{◌≡◌};
-ghost use Rattle.mmkeep.specs.Status.{status_of};
+ghost use Rattle.mmkeep.specs.Language.Status.{status_of};
 
 /// What came of a run.
 #[derive(Clone, Copy, Debug, PartialEq, Eq)]

@@ -1,7 +1,7 @@
 //! The program: the words of the command line, the file, the report and the standard error lines.
 
 ghost use Rattle.std.specs.Prelude.{ℕ, List};
-ghost use Rattle.mmkeep.specs.FirstErrors.{IsAnswerOf, IsError};
+ghost use Rattle.mmkeep.specs.Language.FirstErrors.{IsAnswerOf, IsError};
 
 use crate::arguments::Command;
 use crate::asking::command;

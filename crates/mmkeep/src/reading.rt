@@ -1,13 +1,13 @@
 //! The first word of a file that is not read yet.
 
 ghost use Rattle.std.specs.Prelude.{◌≡◌, ℕ, ◌<◌, IfOk, IfSome, MatchOption, length};
-ghost use Rattle.mm_store.specs.FileFacts.{CanBeRead, StandsIn};
-ghost use Rattle.mm_frame.specs.Base.{BaseView, said_at};
-ghost use Rattle.mm_proof.specs.OfFiles.{IsOf, HasView, HasItemOf};
-ghost use Rattle.mmkeep.specs.Base.{HasPlace, HasPlaceOf};
-ghost use Rattle.mmkeep.specs.Later as later;
-ghost use Rattle.mmkeep.specs.Later.{unread_step, unread_word, AreRead, IsFirstUnread};
-ghost use Rattle.mmkeep.specs.Report as report;
+ghost use Rattle.mm_store.specs.Language.FileFacts.{CanBeRead, StandsIn};
+ghost use Rattle.mm_frame.specs.Language.Base.{BaseView, said_at};
+ghost use Rattle.mm_proof.specs.Code.OfFiles.{IsOf, HasView, HasItemOf};
+ghost use Rattle.mmkeep.specs.Language.WordPlaces.{HasPlace, HasPlaceOf};
+ghost use Rattle.mmkeep.specs.Language.Later as later;
+ghost use Rattle.mmkeep.specs.Language.Later.{unread_step, unread_word, AreRead, IsFirstUnread};
+ghost use Rattle.mmkeep.specs.Language.Report as report;
 
 use mm_frame::{Base, Files, Item, ItemKind, Place, Statement, nth_word};
 use mm_text::Word;
@@ -20,7 +20,7 @@ fn opens_list(word: &[u8]) -> bool
 }
 
 fn is_unknown(word: &[u8]) -> bool
-    ensures { result ≡ later.is_unknown word.now }
+    ensures { result ≡ later.is_unknown_word word.now }
 {
     matches!(word, b"?")
 }

@@ -1,11 +1,11 @@
 //! The report of a file.
 
 ghost use Rattle.std.specs.Prelude.{◌≡◌, ◌+◌, ◌<◌, ◌++◌, ◌^◌, codes, decimal};
-ghost use Rattle.mm_frame.specs.Base.{BaseView, said_at};
-ghost use Rattle.mm_frame.specs.Kept.{IsBase};
-ghost use Rattle.mmkeep.specs.Findings.{AreOfEach, counted, told, told_all};
-ghost use Rattle.mmkeep.specs.Report.{code_of, fault_line, line, lines, summary, report};
-ghost use Rattle.mmkeep.specs.Stream.{Writes};
+ghost use Rattle.mm_frame.specs.Language.Base.{BaseView, said_at};
+ghost use Rattle.mm_frame.specs.Code.KeptBase.{IsBase};
+ghost use Rattle.mmkeep.specs.Code.Findings.{AreOfEach, counted, told, told_all};
+ghost use Rattle.mmkeep.specs.Language.Report.{code_of, fault_line, item_line, lines, summary, report};
+ghost use Rattle.mmkeep.specs.Language.Stream.{Writes};
 
 use crate::finding::Finding;
 use crate::stream::{WriteFailed, Writing};
@@ -121,7 +121,7 @@ fn write_line<W: Write>(
     finding: &Finding,
     to: &mut Writing<W>,
 ) -> Result<(), WriteFailed>
-    ensures { (view : BaseView) → IsBase view base.now → Writes W.contents to.old to.new result (line file.now (said_at view number) (told finding.now)) }
+    ensures { (view : BaseView) → IsBase view base.now → Writes W.contents to.old to.new result (item_line file.now (said_at view number) (told finding.now)) }
 {
     match *finding {
         Finding::Wrong => write_wrong(base.label(number).unwrap_or(&[]), to),

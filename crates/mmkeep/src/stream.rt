@@ -16,7 +16,7 @@ pub struct Writing<W: Write> {
 }
 
 impl<W: Write> Writing<W> {
-    ghost use Rattle.mmkeep.specs.Stream.{written, has_failed, Writes};
+    ghost use Rattle.mmkeep.specs.Language.Stream.{written, has_failed, Writes};
 
     /// A writer that has not failed.
     pub fn new(inner: W) -> Writing<W>

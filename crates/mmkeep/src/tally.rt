@@ -1,8 +1,8 @@
 //! How many findings there are of each kind that a summary counts.
 
 ghost use Rattle.std.specs.Prelude.{◌≡◌, ◌==◌, ◌&&◌, ◌+◌, ◌<◌, ◌≤◌, ◌^◌, length, count_by};
-ghost use Rattle.mmkeep.specs.Findings.{counted, told, told_all};
-ghost use Rattle.mmkeep.specs.Report.{counts, is_axiom, is_proved, is_wrong, is_fault};
+ghost use Rattle.mmkeep.specs.Code.Findings.{counted, told, told_all};
+ghost use Rattle.mmkeep.specs.Language.Report.{counts, is_axiom, is_proved, is_wrong, is_fault};
 
 use crate::finding::Finding;
 

@@ -27,11 +27,17 @@ const APART: &[u8] =
 
 /// The statements of the demonstration database of the Metamath book.
 const DEMO: &[u8] =
-    b"$c 0 + = -> ( ) term wff |- $.\n$v t r s P Q $.\ntt $f term t $.\ntr $f term r $.\nts $f term s $.\nwp $f wff P $.\nwq $f wff Q $.\ntze $a term 0 $.\ntpl $a term ( t + r ) $.\nweq $a wff t = r $.\nwim $a wff ( P -> Q ) $.\na1 $a |- ( t = r -> ( t = s -> r = s ) ) $.\na2 $a |- ( t + 0 ) = t $.\n${\nmin $e |- P $.\nmaj $e |- ( P -> Q ) $.\nmp $a |- Q $.\n$}\nth1 $p |- t = t $=\ntt tze tpl tt weq tt tt weq tt a2 tt tze tpl\ntt weq tt tze tpl tt weq tt tt weq wim tt a2\ntt tze tpl tt tt a1 mp mp\n$.\n";
+    b"$c 0 + = -> ( ) term wff |- $.\n$v t r s P Q $.\ntt $f term t $.\ntr $f term r $.\nts $f term s $.\n\
+        wp $f wff P $.\nwq $f wff Q $.\ntze $a term 0 $.\ntpl $a term ( t + r ) $.\nweq $a wff t = r $.\n\
+        wim $a wff ( P -> Q ) $.\na1 $a |- ( t = r -> ( t = s -> r = s ) ) $.\na2 $a |- ( t + 0 ) = t $.\n${\n\
+        min $e |- P $.\nmaj $e |- ( P -> Q ) $.\nmp $a |- Q $.\n$}\nth1 $p |- t = t $=\n\
+        tt tze tpl tt weq tt tt weq tt a2 tt tze tpl\ntt weq tt tze tpl tt weq tt tt weq wim tt a2\n\
+        tt tze tpl tt tt a1 mp mp\n$.\n";
 
 /// Ten lines with eight faults; the ninth is sound, because the eighth takes no label.
 const FAULTS: &[u8] =
-    b"$c wff |- wff $.\n$c wff |- $.\n${ $c k $. $v x $. wx $f wff x $. $}\n$c x $.\nwx $a wff $.\n${ $v x $. vx $f |- x $. $}\nx $a wff $.\na $a wff y $.\n$v a $.\n$c $.\n";
+    b"$c wff |- wff $.\n$c wff |- $.\n${ $c k $. $v x $. wx $f wff x $. $}\n$c x $.\nwx $a wff $.\n\
+        ${ $v x $. vx $f |- x $. $}\nx $a wff $.\na $a wff y $.\n$v a $.\n$c $.\n";
 
 /// Some lines and more behind them.
 fn joined(rt: &(impl AllocGlobal + Abort), first: &[u8], behind: &[u8]) -> Result<Vec<u8>, Fail> {
@@ -116,7 +122,9 @@ fn reports_faults(rt: HostRuntime) -> Result<(), Fail> {
         (
             b"f.mm",
             FAULTS,
-            b"fault f.mm:1:11 F03 wff\nfault f.mm:3:4 F02 $c\nfault f.mm:4:4 F04 x\nfault f.mm:5:1 F06 wx\nfault f.mm:6:21 F13 x\nfault f.mm:7:1 F07 x\nfault f.mm:8:10 F10 y\nfault f.mm:10:4 F01 $.\naxioms 0 theorems 0 proved 0 incomplete 0 wrong 0 faults 8\n",
+            b"fault f.mm:1:11 F03 wff\nfault f.mm:3:4 F02 $c\nfault f.mm:4:4 F04 x\nfault f.mm:5:1 F06 wx\n\
+                fault f.mm:6:21 F13 x\nfault f.mm:7:1 F07 x\nfault f.mm:8:10 F10 y\nfault f.mm:10:4 F01 $.\n\
+                axioms 0 theorems 0 proved 0 incomplete 0 wrong 0 faults 8\n",
         ),
         (
             b"t.mm",
@@ -606,7 +614,8 @@ fn tells_faults(rt: HostRuntime) -> Result<(), Fail> {
 #[test]
 fn passes_over_comments(rt: HostRuntime) -> Result<(), Fail> {
     let text =
-        b"$c $( x $) wff -> ( ) $. $( x $)\n$v p $( x $) q $. wp $( x $) $f wff p $.\nwq $f $( x $) wff q $.\nwi $a wff ( p -> q $( x $) ) $.\nt $p wff ( p -> q ) $= $( x $) wp wq $( x $) wi $. $( x $)";
+        b"$c $( x $) wff -> ( ) $. $( x $)\n$v p $( x $) q $. wp $( x $) $f wff p $.\nwq $f $( x $) wff q $.\n\
+            wi $a wff ( p -> q $( x $) ) $.\nt $p wff ( p -> q ) $= $( x $) wp wq $( x $) wi $. $( x $)";
     reports(
         &rt,
         text,

@@ -2,11 +2,11 @@
 
 ghost use Rattle.std.specs.Prelude.{◌≡◌, ◌≢◌, ◌≤◌, ℕ, List, true, IfOk, IfErr};
 ghost use Rattle.std.specs.Io.KnownBytes.{Appends};
-ghost use Rattle.mm_store.specs.FilesView.{no_files, bytes_of};
-ghost use Rattle.mm_store.specs.FileFacts.{IsAdded};
-ghost use Rattle.mmkeep.specs.FirstErrors.{IsErrorOf};
-ghost use Rattle.mmkeep.specs.Stream.{written, has_failed};
-ghost use Rattle.mmkeep.specs.Verified.{IsReport, BeginsReport};
+ghost use Rattle.mm_store.specs.Language.FilesView.{no_files, bytes_of};
+ghost use Rattle.mm_store.specs.Language.FileFacts.{IsAdded};
+ghost use Rattle.mmkeep.specs.Language.FirstErrors.{IsVerifyError};
+ghost use Rattle.mmkeep.specs.Language.Stream.{written, has_failed};
+ghost use Rattle.mmkeep.specs.Language.Verified.{IsReport, BeginsReport};
 
 use crate::fault::FirstError;
 use crate::judgement::findings;
@@ -22,7 +22,7 @@ use std::io::Write;
 fn only_file(alloc: Global, name: &[u8], text: Vec<u8>) -> Result<Files, FirstError>
     ensures added { IfOk result (λ files. IsAdded no_files files name.now text.items) }
     ensures within { IfOk result (λ files. bytes_of files.files ≤ 4294967295) }
-    ensures error { IfErr result (IsErrorOf name.now text.items) }
+    ensures error { IfErr result (IsVerifyError name.now text.items) }
     ensures write { result ≢ Err FirstError.Write }
 {
     let mut files = Files::new(alloc);
@@ -51,7 +51,7 @@ pub fn verify_one<W: Write>(
         × Appends (written W.contents writing.old) (written W.contents writing.new) bytes) }
 
     // Each error comes only where the text has it, is told with its place, and then nothing was written.
-    ensures error { IfErr result (IsErrorOf name.now text.items) }
+    ensures error { IfErr result (IsVerifyError name.now text.items) }
     ensures unwritten { IfErr result (λ error. error ≢ FirstError.Write → writing.new ≡ writing.old) }
     ensures write { result ≡ Err FirstError.Write → has_failed writing.new ≡ true }
 

@@ -1,6 +1,6 @@
 use Rattle.std.proofs.Common.{◌∙◌, ap, sym}
-use Rattle.mm_frame.specs.Item.{Kind}
-use Rattle.mm_frame.specs.Scope.{closes, mark_of}
+use Rattle.mm_frame.specs.Language.Item.{Kind}
+use Rattle.mm_frame.specs.Language.Scope.{closes, mark_of}
 use Rattle.mm_frame.proofs.BaseLemmas.{numbers_passed, numbers_other}
 use Rattle.mm_frame.proofs.draft.follow.Goals as goal
 

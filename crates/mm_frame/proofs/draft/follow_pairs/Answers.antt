@@ -1,6 +1,6 @@
 use Rattle.std.proofs.Common.{◌∙◌, ap, sym}
 use Rattle.std.proofs.lemmas.Bool.{false≢true}
-use Rattle.mm_frame.specs.Item.{is_disjoint}
+use Rattle.mm_frame.specs.Language.Item.{is_disjoint}
 use Rattle.mm_frame.proofs.PairTableLemmas.{pairs_passed}
 use Rattle.mm_frame.proofs.draft.follow_pairs.Goals.{else-sound-via-then-sound+else-is_disjoint, else-sound-via-else-sound}
 use Rattle.mm_frame.proofs.draft.follow_pairs.Goals as goal

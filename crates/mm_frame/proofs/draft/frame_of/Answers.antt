@@ -1,5 +1,5 @@
 use Rattle.std.proofs.Common.{Some, ◌∙◌, ap, sym}
-use Rattle.mm_frame.specs.Kept.{numbers_if, pairs_if}
+use Rattle.mm_frame.specs.Code.KeptBase.{numbers_if, pairs_if}
 use Rattle.mm_frame.proofs.draft.frame_of.Goals as goal
 
 pub returns : goal.returns

@@ -1,6 +1,6 @@
 use Rattle.std.proofs.Common.{◌≡◌, ◌<◌, ◌+◌, suc, length, take, sym, ◌∙◌, ap, arith}
-use Rattle.mm_frame.specs.Item.{has}
-use Rattle.mm_frame.specs.Judging.{must_differ}
+use Rattle.mm_frame.specs.Language.Item.{has}
+use Rattle.mm_frame.specs.Code.FaultInOrder.{must_differ}
 use Rattle.mm_frame.proofs.FaultLemmas.{fault_there, passes_more}
 use Rattle.mm_frame.proofs.judge.symbols_fault.Goals as goal
 

@@ -2,10 +2,10 @@ use Rattle.std.proofs.Common.{◌+◌, ◌++◌, ◌≡◌, filter, subst}
 use Rattle.std.specs.Borrow.{Bor}
 use Rattle.std.proofs.lemmas.List.{take_rest}
 use Rattle.mm_frame.specs.declared.symbol.NamedSymbol.{NamedSymbol}
-use Rattle.mm_frame.specs.Framing.{active_pairs, pairs_of}
-use Rattle.mm_frame.specs.Named.{symbol_of, kept_pairs}
-use Rattle.mm_frame.specs.KeptSymbols.{symbols_lent}
-use Rattle.mm_frame.specs.Paired.{are_paired}
+use Rattle.mm_frame.specs.Language.Framing.{active_pairs, pairs_of}
+use Rattle.mm_frame.specs.Code.CodeSymbols.{symbol_of, kept_pairs}
+use Rattle.mm_frame.specs.Code.KeptSymbols.{symbols_lent}
+use Rattle.mm_frame.specs.Code.PairOrder.{are_paired}
 use Rattle.mm_frame.proofs.PairTableLemmas.{pairs_with}
 use Rattle.mm_frame.proofs.FramePairs.{among_more}
 use Rattle.mm_frame.proofs.mandatory.active_among.Goals as goal

@@ -1,11 +1,11 @@
 use Rattle.std.proofs.Common.{◌≡◌, ◌++◌, List, filter, drop}
-use Rattle.mm_frame.specs.Item.{Item}
-use Rattle.mm_frame.specs.Blocks.{marks_of}
-use Rattle.mm_frame.specs.Framing.{pairs_of, active_pairs}
-use Rattle.mm_frame.specs.Named.{kept_pairs}
-use Rattle.mm_frame.specs.KeptSymbols.{symbols_lent}
-use Rattle.mm_frame.specs.Paired.{are_paired}
-use Rattle.mm_frame.specs.PairTable.{KnowsPairs}
+use Rattle.mm_frame.specs.Language.Item.{Item}
+use Rattle.mm_frame.specs.Code.BlockMarks.{marks_of}
+use Rattle.mm_frame.specs.Language.Framing.{pairs_of, active_pairs}
+use Rattle.mm_frame.specs.Code.CodeSymbols.{kept_pairs}
+use Rattle.mm_frame.specs.Code.KeptSymbols.{symbols_lent}
+use Rattle.mm_frame.specs.Code.PairOrder.{are_paired}
+use Rattle.mm_frame.specs.Code.KeptPairTable.{KnowsPairs}
 use Rattle.mm_frame.proofs.mandatory.active_among.Given as goal
 
 abbrev pub invariant-loop-n : goal.invariant-loop-n

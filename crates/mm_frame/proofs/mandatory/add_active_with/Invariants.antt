@@ -1,11 +1,11 @@
 use Rattle.std.proofs.Common.{◌≡◌, ◌++◌, List, filter, take}
-use Rattle.mm_frame.specs.Item.{Item}
-use Rattle.mm_frame.specs.Blocks.{marks_of}
-use Rattle.mm_frame.specs.Framing.{active_pairs}
-use Rattle.mm_frame.specs.Named.{symbol_of, kept_pairs}
-use Rattle.mm_frame.specs.KeptSymbols.{symbols_lent}
-use Rattle.mm_frame.specs.Paired.{are_paired}
-use Rattle.mm_frame.specs.PairTable.{KnowsPairs}
+use Rattle.mm_frame.specs.Language.Item.{Item}
+use Rattle.mm_frame.specs.Code.BlockMarks.{marks_of}
+use Rattle.mm_frame.specs.Language.Framing.{active_pairs}
+use Rattle.mm_frame.specs.Code.CodeSymbols.{symbol_of, kept_pairs}
+use Rattle.mm_frame.specs.Code.KeptSymbols.{symbols_lent}
+use Rattle.mm_frame.specs.Code.PairOrder.{are_paired}
+use Rattle.mm_frame.specs.Code.KeptPairTable.{KnowsPairs}
 use Rattle.mm_frame.proofs.PairTableLemmas.{pairs_with}
 use Rattle.mm_frame.proofs.mandatory.add_active_with.Given as goal
 

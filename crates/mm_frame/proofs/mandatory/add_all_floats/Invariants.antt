@@ -1,5 +1,5 @@
 use Rattle.std.proofs.Common.{◌≡◌, ◌++◌, take, flat_map}
-use Rattle.mm_frame.specs.KeptSymbols.{float_numbers, expression_kept}
+use Rattle.mm_frame.specs.Code.KeptSymbols.{float_numbers, expression_kept}
 use Rattle.mm_frame.proofs.mandatory.add_all_floats.Given as goal
 
 abbrev pub invariant-loop-number : goal.invariant-loop-number

@@ -1,5 +1,5 @@
 use Rattle.std.proofs.Common.{◌≡◌, ◌++◌, take}
-use Rattle.mm_frame.specs.KeptSymbols.{float_numbers}
+use Rattle.mm_frame.specs.Code.KeptSymbols.{float_numbers}
 use Rattle.mm_frame.proofs.mandatory.add_floats.Given as goal
 
 abbrev pub invariant-loop-symbol : goal.invariant-loop-symbol

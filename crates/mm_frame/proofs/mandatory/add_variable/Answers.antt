@@ -1,4 +1,4 @@
-use Rattle.mm_frame.specs.KeptSymbols.{symbols_lent}
+use Rattle.mm_frame.specs.Code.KeptSymbols.{symbols_lent}
 use Rattle.mm_frame.proofs.FramePairs.{nothing_second}
 use Rattle.mm_frame.proofs.mandatory.add_variable.Goals as goal
 

@@ -1,5 +1,5 @@
 use Rattle.std.proofs.Common.{◌∙◌, ap, ◌++◌, flat_map}
-use Rattle.mm_frame.specs.KeptSymbols.{float_numbers, expression_kept}
+use Rattle.mm_frame.specs.Code.KeptSymbols.{float_numbers, expression_kept}
 use Rattle.mm_frame.proofs.MandatoryLemmas.{hypotheses_sorted}
 use Rattle.mm_frame.proofs.mandatory.hypotheses.Goals as goal
 

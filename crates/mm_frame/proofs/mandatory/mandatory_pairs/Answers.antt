@@ -1,9 +1,9 @@
 use Rattle.std.proofs.Common.{◌∙◌, ap, sym, subst, filter}
 use Rattle.std.proofs.lemmas.Result.{IfOk-weaker}
-use Rattle.mm_frame.specs.Framing.{pairs_of, active_pairs}
-use Rattle.mm_frame.specs.Tables.{is_essential_item, IsRising}
-use Rattle.mm_frame.specs.KeptSymbols.{symbols_lent}
-use Rattle.mm_frame.specs.Paired.{are_paired}
+use Rattle.mm_frame.specs.Language.Framing.{pairs_of, active_pairs}
+use Rattle.mm_frame.specs.Code.LastItems.{is_essential_item, IsRising}
+use Rattle.mm_frame.specs.Code.KeptSymbols.{symbols_lent}
+use Rattle.mm_frame.specs.Code.PairOrder.{are_paired}
 use Rattle.mm_frame.proofs.HypothesisNumbers.{active_numbers_rise}
 use Rattle.mm_frame.proofs.FramePairs.{variables_are, active_in_order}
 use Rattle.mm_frame.proofs.mandatory.mandatory_pairs.Goals as goal

@@ -1,5 +1,5 @@
 use Rattle.std.proofs.Common.{◌∙◌, ◌++◌, ap, sym, get_or}
-use Rattle.mm_frame.specs.Paired.{float_variable}
+use Rattle.mm_frame.specs.Code.PairOrder.{float_variable}
 use Rattle.mm_frame.proofs.FramePairs.{variables_more}
 use Rattle.mm_frame.proofs.mandatory.variables_typed.Goals as goal
 

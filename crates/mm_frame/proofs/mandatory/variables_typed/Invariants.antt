@@ -1,7 +1,7 @@
 use Rattle.std.proofs.Common.{◌≡◌, take}
-use Rattle.mm_frame.specs.KeptSymbols.{symbols_lent}
-use Rattle.mm_frame.specs.Tables.{IsRising}
-use Rattle.mm_frame.specs.Paired.{float_variables}
+use Rattle.mm_frame.specs.Code.KeptSymbols.{symbols_lent}
+use Rattle.mm_frame.specs.Code.LastItems.{IsRising}
+use Rattle.mm_frame.specs.Code.PairOrder.{float_variables}
 use Rattle.mm_frame.proofs.mandatory.variables_typed.Given as goal
 
 abbrev pub invariant-loop-number : goal.invariant-loop-number

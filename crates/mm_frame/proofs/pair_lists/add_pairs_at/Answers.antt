@@ -1,8 +1,8 @@
 use Rattle.std.proofs.Common.{◌++◌, append-nil, sym, ap, ◌∙◌}
 use Rattle.std.proofs.lemmas.Option.{slice_get_past}
-use Rattle.mm_frame.specs.Framing.{pairs_of}
-use Rattle.mm_frame.specs.Named.{symbols_of, kept_pairs}
-use Rattle.mm_frame.specs.KeptSymbols.{kept_or_none}
+use Rattle.mm_frame.specs.Language.Framing.{pairs_of}
+use Rattle.mm_frame.specs.Code.CodeSymbols.{symbols_of, kept_pairs}
+use Rattle.mm_frame.specs.Code.KeptSymbols.{kept_or_none}
 use Rattle.mm_frame.proofs.pair_lists.add_pairs_at.Goals as goal
 
 pub returns-in-None : goal.returns-in-None

@@ -1,6 +1,6 @@
 use Rattle.std.proofs.Common.{◌≡◌, ◌++◌, length}
-use Rattle.mm_frame.specs.Framing.{pairs_of}
-use Rattle.mm_frame.specs.Named.{symbols_of, kept_pairs}
+use Rattle.mm_frame.specs.Language.Framing.{pairs_of}
+use Rattle.mm_frame.specs.Code.CodeSymbols.{symbols_of, kept_pairs}
 use Rattle.mm_frame.proofs.pair_lists.add_pairs_of.Given as goal
 
 abbrev pub invariant-loop-first : goal.invariant-loop-first

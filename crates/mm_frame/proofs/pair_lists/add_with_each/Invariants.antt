@@ -1,5 +1,5 @@
 use Rattle.std.proofs.Common.{◌≡◌, ◌++◌, map, take}
-use Rattle.mm_frame.specs.Named.{symbol_of, symbols_of, kept_pairs}
+use Rattle.mm_frame.specs.Code.CodeSymbols.{symbol_of, symbols_of, kept_pairs}
 use Rattle.mm_frame.proofs.pair_lists.add_with_each.Given as goal
 
 abbrev pub invariant-loop-other : goal.invariant-loop-other

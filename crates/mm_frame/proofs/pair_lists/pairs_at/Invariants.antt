@@ -1,7 +1,7 @@
 use Rattle.std.proofs.Common.{◌≡◌, take, flat_map}
-use Rattle.mm_frame.specs.Framing.{pairs_of}
-use Rattle.mm_frame.specs.Named.{symbols_of, kept_pairs}
-use Rattle.mm_frame.specs.KeptSymbols.{expression_kept}
+use Rattle.mm_frame.specs.Language.Framing.{pairs_of}
+use Rattle.mm_frame.specs.Code.CodeSymbols.{symbols_of, kept_pairs}
+use Rattle.mm_frame.specs.Code.KeptSymbols.{expression_kept}
 use Rattle.mm_frame.proofs.pair_lists.pairs_at.Given as goal
 
 abbrev pub invariant-loop-number : goal.invariant-loop-number

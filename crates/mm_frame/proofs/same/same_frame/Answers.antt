@@ -1,7 +1,7 @@
 use Rattle.std.proofs.Common.{IsTrue, ◌&&◌, ◌↔◌, ◌∙◌, ap, sym, subst}
-use Rattle.mm_frame.specs.Base.{frame_at}
-use Rattle.mm_frame.specs.Language.{AreSameFrame}
-use Rattle.mm_frame.specs.Named.{kept_pairs}
+use Rattle.mm_frame.specs.Language.Base.{frame_at}
+use Rattle.mm_frame.specs.Language.Frame.{AreSameFrame}
+use Rattle.mm_frame.specs.Code.CodeSymbols.{kept_pairs}
 use Rattle.mm_frame.proofs.BaseLemmas.{framed_in_order}
 use Rattle.mm_frame.proofs.SameFrames.{same_by_parts}
 use Rattle.mm_frame.proofs.same.same_frame.Goals as goal

@@ -1,4 +1,4 @@
-use Rattle.mm_frame.specs.Named.{pair_of}
+use Rattle.mm_frame.specs.Code.CodeSymbols.{pair_of}
 use Rattle.mm_frame.proofs.SameLemmas.{AreSameTo}
 use Rattle.mm_frame.proofs.same.same_pairs.Given as goal
 

@@ -1,7 +1,7 @@
 use Rattle.std.proofs.Common.{length, refl, ◌∙◌, sym, arith}
 use Rattle.std.proofs.lemmas.Bool.{false≢true}
 use Rattle.std.proofs.lemmas.Option.{slice_get_read}
-use Rattle.mm_frame.specs.Named.{symbol_of}
+use Rattle.mm_frame.specs.Code.CodeSymbols.{symbol_of}
 use Rattle.mm_frame.proofs.SameLemmas.{same_more, same_whole, same_each, same_long}
 use Rattle.mm_frame.proofs.same.same_symbols.Goals as goal
 

@@ -1,4 +1,4 @@
-use Rattle.mm_frame.specs.Named.{symbol_of}
+use Rattle.mm_frame.specs.Code.CodeSymbols.{symbol_of}
 use Rattle.mm_frame.proofs.SameLemmas.{AreSameTo}
 use Rattle.mm_frame.proofs.same.same_symbols.Given as goal
 

@@ -1,8 +1,8 @@
 use Rattle.std.proofs.Common.{sym, ◌∙◌, subst, arith}
 use Rattle.std.specs.Prelude.{All}
 use Rattle.std.proofs.lemmas.List.Elements.{All-push}
-use Rattle.mm_text.specs.Reading.{LiesIn}
-use Rattle.mm_frame.specs.PlainWords.{IsInside}
+use Rattle.mm_text.specs.Language.Reading.{LiesIn}
+use Rattle.mm_frame.specs.Code.PlainWords.{LiesInText}
 use Rattle.mm_frame.proofs.SpokenLemmas.{Symbols, symbols_more, symbols_closed}
 use Rattle.mm_frame.proofs.statement.read_symbols.Goals as goal
 
@@ -19,9 +19,9 @@ loop-word-preserved c =
     let word = c.in-Some.word in
     let more = symbols_more words.words c.loop-word.words.words c.next_word.new.self.words symbols word c.loop-word.invariant.symbols c.in-Some.ensures.word (sym c.if-not-is_plain.ensures) in
     let lies : LiesIn words.text word = subst (λ text. LiesIn text word) c.loop-word.invariant.text c.in-Some.ensures.within in
-    let inside : IsInside words.text word = (omega (arith, lies.some), lies.within) in
+    let inside : LiesInText words.text word = (omega (arith, lies.some), lies.within) in
     record {
       text = c.in-Some.ensures.text ∙ c.loop-word.invariant.text;
       symbols = subst (Symbols words.words c.next_word.new.self.words) (sym c.in_ok-push.ensures.items) more;
-      within = subst (All (IsInside words.text)) (sym c.in_ok-push.ensures.items) (All-push (IsInside words.text) symbols word c.loop-word.invariant.within inside);
+      within = subst (All (LiesInText words.text)) (sym c.in_ok-push.ensures.items) (All-push (LiesInText words.text) symbols word c.loop-word.invariant.within inside);
     }

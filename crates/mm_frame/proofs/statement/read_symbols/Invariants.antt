@@ -1,6 +1,6 @@
 use Rattle.std.proofs.Common.{◌≡◌, length}
 use Rattle.std.specs.Prelude.{All}
-use Rattle.mm_frame.specs.PlainWords.{IsInside}
+use Rattle.mm_frame.specs.Code.PlainWords.{LiesInText}
 use Rattle.mm_frame.proofs.SpokenLemmas.{Symbols}
 use Rattle.mm_frame.proofs.statement.read_symbols.Given as goal
 
@@ -8,7 +8,7 @@ abbrev pub invariant-loop-word : goal.invariant-loop-word
 invariant-loop-word l = record {
   text : l.words.text ≡ l.initial.words.text;
   symbols : Symbols l.initial.words.words l.words.words l.symbols.items;
-  within : All (IsInside l.initial.words.text) l.symbols.items;
+  within : All (LiesInText l.initial.words.text) l.symbols.items;
 }
 
 abbrev pub decreases-loop-word : goal.decreases-loop-word

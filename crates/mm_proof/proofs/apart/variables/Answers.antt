@@ -4,7 +4,7 @@ use Rattle.std.specs.Global.{Global}
 use Rattle.std.specs.HashSet.{contains_by, IsUnchanged}
 use Rattle.std.proofs.lemmas.Bool.{false≢true}
 use Rattle.std.proofs.lemmas.List.{take_more, take_all, map-append}
-use Rattle.mm_proof.specs.Apart.{names_of}
+use Rattle.mm_proof.specs.Code.Apart.{names_of}
 use Rattle.mm_proof.proofs.ApartLemmas.{SoFar, so_far_constant, so_far_old, so_far_new}
 use Rattle.mm_proof.proofs.apart.variables.Goals as goal
 use Rattle.mm_proof.proofs.apart.variables.Goals.{then-symbol+in_ok-insert+then-branch+in_ok-push, else-symbol, else-symbol-via-then-symbol+in_ok-insert+else-branch, else-symbol-via-else-symbol}

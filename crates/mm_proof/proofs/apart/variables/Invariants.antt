@@ -1,5 +1,5 @@
 use Rattle.std.proofs.Common.{take}
-use Rattle.mm_proof.specs.Apart.{names_of}
+use Rattle.mm_proof.specs.Code.Apart.{names_of}
 use Rattle.mm_proof.proofs.ApartLemmas.{SoFar}
 use Rattle.mm_proof.proofs.apart.variables.Given as goal
 

@@ -2,10 +2,10 @@ use Rattle.std.proofs.Common.{◌≡◌, true, Option, None, Some, List, sym, �
 use Rattle.std.specs.Prelude.{is_some, IfSome, unwrap_or}
 use Rattle.std.specs.Borrow.{Bor}
 use Rattle.std.proofs.lemmas.Bool.{false≢true}
-use Rattle.mm_frame.specs.Language.{Symbol, AreSamePairs}
-use Rattle.mm_frame.specs.Base.{before}
-use Rattle.mm_frame.specs.Framing.{active_pairs}
-use Rattle.mm_frame.specs.Named.{kept_pairs}
+use Rattle.mm_frame.specs.Language.Frame.{Symbol, AreSamePairs}
+use Rattle.mm_frame.specs.Language.Base.{before}
+use Rattle.mm_frame.specs.Language.Framing.{active_pairs}
+use Rattle.mm_frame.specs.Code.CodeSymbols.{kept_pairs}
 use Rattle.mm_frame.specs.declared.symbol.NamedSymbol.{NamedSymbol}
 use Rattle.mm_proof.proofs.assertion.active.Goals as goal
 

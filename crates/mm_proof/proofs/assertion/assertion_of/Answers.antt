@@ -1,8 +1,8 @@
 use Rattle.std.proofs.Common.{◌≡◌, ℕ, true, List, map, sym, ◌∙◌, ap, subst}
 use Rattle.std.specs.Prelude.{All}
-use Rattle.mm_frame.specs.Language.{AreSamePairs}
-use Rattle.mm_frame.specs.Base.{is_shown_at, hypothesis_at, frame_at}
-use Rattle.mm_frame.specs.Named.{kept_pairs}
+use Rattle.mm_frame.specs.Language.Frame.{AreSamePairs}
+use Rattle.mm_frame.specs.Language.Base.{is_shown_at, hypothesis_at, frame_at}
+use Rattle.mm_frame.specs.Code.CodeSymbols.{kept_pairs}
 use Rattle.mm_frame.specs.declared.symbol.NamedSymbol.{NamedSymbol}
 use Rattle.mm_proof.proofs.RunLemmas.{shown_framed}
 use Rattle.mm_proof.proofs.assertion.assertion_of.Goals as goal

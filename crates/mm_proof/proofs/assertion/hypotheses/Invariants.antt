@@ -1,8 +1,8 @@
 use Rattle.std.proofs.Common.{◌≡◌, true, map, take}
 use Rattle.std.specs.Prelude.{All}
-use Rattle.mm_frame.specs.Base.{BaseView, is_shown_at, hypothesis_at}
-use Rattle.mm_frame.specs.Kept.{IsBase}
-use Rattle.mm_proof.specs.CitedFrame.{mandatory_of}
+use Rattle.mm_frame.specs.Language.Base.{BaseView, is_shown_at, hypothesis_at}
+use Rattle.mm_frame.specs.Code.KeptBase.{IsBase}
+use Rattle.mm_proof.specs.Code.CitedFrame.{mandatory_of}
 use Rattle.mm_proof.proofs.assertion.hypotheses.Given as goal
 
 abbrev pub invariant-loop-number : goal.invariant-loop-number

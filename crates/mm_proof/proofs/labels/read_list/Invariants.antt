@@ -1,8 +1,8 @@
 use Rattle.std.proofs.Common.{◌≡◌, ◌+◌, ℕ, List, length}
-use Rattle.mm_frame.specs.Base.{BaseView}
-use Rattle.mm_frame.specs.Kept.{IsBase}
-use Rattle.mm_proof.specs.Labels.{Begins, Lists}
-use Rattle.mm_proof.specs.Left.{AreLeft}
+use Rattle.mm_frame.specs.Language.Base.{BaseView}
+use Rattle.mm_frame.specs.Code.KeptBase.{IsBase}
+use Rattle.mm_proof.specs.Code.Labels.{Begins, Lists}
+use Rattle.mm_proof.specs.Code.Left.{AreLeft}
 use Rattle.mm_proof.proofs.labels.read_list.Given as goal
 
 abbrev pub invariant-loop-word : goal.invariant-loop-word

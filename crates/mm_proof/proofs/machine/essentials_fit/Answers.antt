@@ -1,11 +1,11 @@
 use Rattle.std.proofs.Common.{◌≢◌, map, sym, ◌∙◌, ap, arith}
 use Rattle.std.proofs.lemmas.Bool.{false≢true}
 use Rattle.std.proofs.lemmas.List.{length-map}
-use Rattle.mm_frame.specs.Named.{symbols_of as named}
-use Rattle.mm_proof.specs.Substitution.{substituted}
-use Rattle.mm_proof.specs.CitedFrame.{mandatory_of}
-use Rattle.mm_proof.specs.Given.{given_by}
-use Rattle.mm_proof.specs.Stack.{symbols_of, stack_of}
+use Rattle.mm_frame.specs.Code.CodeSymbols.{symbols_of as named}
+use Rattle.mm_proof.specs.Language.Substitution.{substituted}
+use Rattle.mm_proof.specs.Code.CitedFrame.{mandatory_of}
+use Rattle.mm_proof.specs.Code.Given.{given_by}
+use Rattle.mm_proof.specs.Code.Stack.{lent_symbols, stack_of}
 use Rattle.mm_proof.proofs.PlaceLemmas.{read_at}
 use Rattle.mm_proof.proofs.AssertionLemmas.{essentials_more, essentials_past, essentials_all, other_essential}
 use Rattle.mm_proof.proofs.machine.essentials_fit.Goals as goal
@@ -16,10 +16,10 @@ returns-then-not-fits c =
     let h = c.index-hypotheses-place.result in
     let e = c.index-taken-place.result in
     let given = given_by c.args.given.now (stack_of c.args.taken.now) in
-    let differ : substituted given (named h.expression.now) ≢ symbols_of e.items = λ same. false≢true (sym c.if-not-fits.true ∙ c.fits.ensures.1 (same ∙ ap symbols_of (sym c.deref.ensures.value))) in
-    other_essential given (map mandatory_of c.args.hypotheses.now) (stack_of c.args.taken.now) c.loop-place.place (mandatory_of h) (symbols_of e.items)
+    let differ : substituted given (named h.expression.now) ≢ lent_symbols e.items = λ same. false≢true (sym c.if-not-fits.true ∙ c.fits.ensures.1 (same ∙ ap lent_symbols (sym c.deref.ensures.value))) in
+    other_essential given (map mandatory_of c.args.hypotheses.now) (stack_of c.args.taken.now) c.loop-place.place (mandatory_of h) (lent_symbols e.items)
     (read_at mandatory_of c.args.hypotheses.now c.loop-place.place h c.loop-place-test.true c.index-hypotheses-place.is)
-    (read_at (λ v. symbols_of v.items) c.args.taken.now c.loop-place.place e (omega (arith, c.loop-place-test.true, c.requires)) c.index-taken-place.is)
+    (read_at (λ v. lent_symbols v.items) c.args.taken.now c.loop-place.place e (omega (arith, c.loop-place-test.true, c.requires)) c.index-taken-place.is)
     c.if-not-hypothesis.true differ
 
 pub loop-place-preserved : goal.loop-place-preserved
@@ -32,9 +32,9 @@ loop-place-preserved c =
     elim c.else-not-hypothesis.branch [
       | else-not-hypothesis-via-then-not-hypothesis+else-not-fits w ↦ (
           let e = w.index-taken-place.result in
-          essentials_more given hs es c.loop-place.place (mandatory_of h) (symbols_of e.items) there
-          (read_at (λ v. symbols_of v.items) c.args.taken.now c.loop-place.place e (omega (arith, c.loop-place-test.true, c.requires)) w.index-taken-place.is)
-          (λ _. w.fits.ensures.0 w.if-not-fits.false ∙ ap symbols_of w.deref.ensures.value) c.loop-place.invariant)
+          essentials_more given hs es c.loop-place.place (mandatory_of h) (lent_symbols e.items) there
+          (read_at (λ v. lent_symbols v.items) c.args.taken.now c.loop-place.place e (omega (arith, c.loop-place-test.true, c.requires)) w.index-taken-place.is)
+          (λ _. w.fits.ensures.0 w.if-not-fits.false ∙ ap lent_symbols w.deref.ensures.value) c.loop-place.invariant)
       | else-not-hypothesis-via-else-not-hypothesis w ↦ essentials_past given hs es c.loop-place.place (mandatory_of h) there w.if-not-hypothesis.false c.loop-place.invariant
     ]
 

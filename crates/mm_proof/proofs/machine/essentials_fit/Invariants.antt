@@ -1,7 +1,7 @@
 use Rattle.std.proofs.Common.{map}
-use Rattle.mm_proof.specs.CitedFrame.{mandatory_of}
-use Rattle.mm_proof.specs.Given.{given_by}
-use Rattle.mm_proof.specs.Stack.{stack_of}
+use Rattle.mm_proof.specs.Code.CitedFrame.{mandatory_of}
+use Rattle.mm_proof.specs.Code.Given.{given_by}
+use Rattle.mm_proof.specs.Code.Stack.{stack_of}
 use Rattle.mm_proof.proofs.AssertionLemmas.{EssentialsFit}
 use Rattle.mm_proof.proofs.machine.essentials_fit.Given as goal
 

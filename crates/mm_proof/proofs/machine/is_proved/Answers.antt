@@ -1,6 +1,6 @@
 use Rattle.std.proofs.Common.{sym}
 use Rattle.std.proofs.lemmas.Result.{IfOk-weaker}
-use Rattle.mm_frame.specs.Base.{said_at}
+use Rattle.mm_frame.specs.Language.Base.{said_at}
 use Rattle.mm_proof.proofs.SaysLemmas.{read_at, says_at}
 use Rattle.mm_proof.proofs.machine.is_proved.Goals as goal
 

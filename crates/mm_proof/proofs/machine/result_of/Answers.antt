@@ -3,9 +3,9 @@ use Rattle.std.specs.Prelude.{MatchBool}
 use Rattle.std.proofs.lemmas.Bool.{false≢true, true≢false}
 use Rattle.std.proofs.lemmas.List.{length-map}
 use Rattle.mm_proof.specs.declared.assertion.Hypothesis.{Hypothesis}
-use Rattle.mm_proof.specs.CitedFrame.{mandatory_of, frame_of}
-use Rattle.mm_proof.specs.Given.{given_by, FindsGiven, FloatsMatch}
-use Rattle.mm_proof.specs.Stack.{symbols_of, stack_of, AnyOtherEssential}
+use Rattle.mm_proof.specs.Code.CitedFrame.{mandatory_of, frame_of}
+use Rattle.mm_proof.specs.Code.Given.{given_by, FindsGiven, FloatsMatch}
+use Rattle.mm_proof.specs.Code.Stack.{lent_symbols, stack_of, AnyOtherEssential}
 use Rattle.mm_proof.proofs.AssertionLemmas.{typings_of, fails_typecode, fails_essential, fails_apart, result_taken}
 use Rattle.mm_proof.proofs.machine.result_of.Goals as goal
 
@@ -14,7 +14,7 @@ returns-in_default c active known is =
     let hs = map mandatory_of c.args.cited.now.hypotheses.items in
     let es = stack_of c.args.taken.now in
     let frame = frame_of c.args.cited.now in
-    let count : length es ≡ length hs = omega (arith, c.requires, length-map c.args.cited.now.hypotheses.items mandatory_of, length-map c.args.taken.now (λ v. symbols_of v.items)) in
+    let count : length es ≡ length hs = omega (arith, c.requires, length-map c.args.cited.now.hypotheses.items mandatory_of, length-map c.args.taken.now (λ v. lent_symbols v.items)) in
     let found = subst (λ (xs : List Hypothesis). FindsGiven (map mandatory_of xs) es c.in_ok-given.field-0) c.deref.ensures.value c.in_ok-given.ensures in
     fails_typecode active frame es count is (subst (λ o. FindsGiven hs es o) c.in_default.is found (typings_of frame is))
 
@@ -23,7 +23,7 @@ returns-then-not-essentials_fit c active known is =
     let hs = map mandatory_of c.args.cited.now.hypotheses.items in
     let es = stack_of c.args.taken.now in
     let frame = frame_of c.args.cited.now in
-    let count : length es ≡ length hs = omega (arith, c.requires, length-map c.args.cited.now.hypotheses.items mandatory_of, length-map c.args.taken.now (λ v. symbols_of v.items)) in
+    let count : length es ≡ length hs = omega (arith, c.requires, length-map c.args.cited.now.hypotheses.items mandatory_of, length-map c.args.taken.now (λ v. lent_symbols v.items)) in
     let found = subst (λ (xs : List Hypothesis). FindsGiven (map mandatory_of xs) es c.in_ok-given.field-0) c.deref.ensures.value c.in_ok-given.ensures in
     let given = given_by c.in-Some.given es in
     let matches : FloatsMatch given hs es = subst (λ o. FindsGiven hs es o) c.in-Some.is found (typings_of frame is) in
@@ -35,7 +35,7 @@ returns-then-not-branch c active known is =
     let hs = map mandatory_of c.args.cited.now.hypotheses.items in
     let es = stack_of c.args.taken.now in
     let frame = frame_of c.args.cited.now in
-    let count : length es ≡ length hs = omega (arith, c.requires, length-map c.args.cited.now.hypotheses.items mandatory_of, length-map c.args.taken.now (λ v. symbols_of v.items)) in
+    let count : length es ≡ length hs = omega (arith, c.requires, length-map c.args.cited.now.hypotheses.items mandatory_of, length-map c.args.taken.now (λ v. lent_symbols v.items)) in
     let found = subst (λ (xs : List Hypothesis). FindsGiven (map mandatory_of xs) es c.in_ok-given.field-0) c.deref.ensures.value c.in_ok-given.ensures in
     let given = given_by c.in-Some.given es in
     let matches : FloatsMatch given hs es = subst (λ o. FindsGiven hs es o) c.in-Some.is found (typings_of frame is) in
@@ -50,7 +50,7 @@ returns c active known is =
     let hs = map mandatory_of c.args.cited.now.hypotheses.items in
     let es = stack_of c.args.taken.now in
     let frame = frame_of c.args.cited.now in
-    let count : length es ≡ length hs = omega (arith, c.requires, length-map c.args.cited.now.hypotheses.items mandatory_of, length-map c.args.taken.now (λ v. symbols_of v.items)) in
+    let count : length es ≡ length hs = omega (arith, c.requires, length-map c.args.cited.now.hypotheses.items mandatory_of, length-map c.args.taken.now (λ v. lent_symbols v.items)) in
     let found = subst (λ (xs : List Hypothesis). FindsGiven (map mandatory_of xs) es c.in_ok-given.field-0) c.deref.ensures.value c.in_ok-given.ensures in
     let given = given_by c.in-Some.given es in
     let matches : FloatsMatch given hs es = subst (λ o. FindsGiven hs es o) c.in-Some.is found (typings_of frame is) in

@@ -1,10 +1,10 @@
 use Rattle.std.proofs.Common.{[], ◌+◌, take, length, sym, ap, subst, arith}
-use Rattle.mm_frame.specs.Base.{before}
-use Rattle.mm_frame.specs.Framing.{place}
-use Rattle.mm_proof.specs.Reaches.{Reaches}
+use Rattle.mm_frame.specs.Language.Base.{before}
+use Rattle.mm_frame.specs.Language.Framing.{setting}
+use Rattle.mm_proof.specs.Language.Reaches.{Reaches}
 use Rattle.mm_proof.proofs.Reaching.{Follows, at_start, reached}
-use Rattle.mm_proof.specs.StackRuns.{StepsOrFails, steps_of}
-use Rattle.mm_proof.specs.Stack.{stack_of}
+use Rattle.mm_proof.specs.Code.StackRuns.{StepsOrFails, steps_of}
+use Rattle.mm_proof.specs.Code.Stack.{stack_of}
 use Rattle.mm_proof.proofs.RunLemmas.{goes_on, stops, take_label, all_steps, first_left}
 use Rattle.mm_proof.proofs.machine.run.Goals as goal
 
@@ -13,13 +13,13 @@ loop-label-init c = (
   0,
   first_left c.args.statement.now.proof c.proof-words.result c.proof-words.ensures.words,
   λ view is known.
-      let here = place (before view c.args.number) in
+      let here = setting (before view c.args.number) in
       subst (λ s. Follows here [] (record { stack = stack_of s; saved = [] })) (sym c.new-stack.ensures.items) (at_start here),
 )
 
 pub returns-then-not-branch : goal.returns-then-not-branch
 returns-then-not-branch c view is known next =
-    let here = place (before view c.args.number) in
+    let here = setting (before view c.args.number) in
     let proof = c.args.statement.now.proof in
     let label = c.in-Some.label.now in
     let stack = stack_of c.loop-label.stack.items in
@@ -40,14 +40,14 @@ loop-label-preserved c =
       done + 1,
       took.left,
       λ view is known.
-          let here = place (before view c.args.number) in
+          let here = setting (before view c.args.number) in
           let moves = subst (λ w. StepsOrFails here label stack w next) c.if-not-branch.false (c.in_ok-step.ensures view is known) in
           goes_on here (steps_of proof) done label stack next took.step (c.loop-label.invariant.2 view is known) moves,
     )
 
 pub returns : goal.returns
 returns c view is known =
-    let here = place (before view c.args.number) in
+    let here = setting (before view c.args.number) in
     let proof = c.args.statement.now.proof in
     let done = c.loop-label.invariant.0 in
     subst (λ k. Reaches here k (stack_of c.loop-label.stack.items))

@@ -1,15 +1,15 @@
-use Rattle.mm_frame.specs.Base.{before, frame_at}
-use Rattle.mm_frame.specs.Framing.{place}
-use Rattle.mm_frame.specs.Typing.{IsFrame}
-use Rattle.mm_proof.specs.CitedFrame.{frame_of}
-use Rattle.mm_proof.specs.Stack.{stack_of}
+use Rattle.mm_frame.specs.Language.Base.{before, frame_at}
+use Rattle.mm_frame.specs.Language.Framing.{setting}
+use Rattle.mm_frame.specs.Language.Typing.{IsFrame}
+use Rattle.mm_proof.specs.Code.CitedFrame.{frame_of}
+use Rattle.mm_proof.specs.Code.Stack.{stack_of}
 use Rattle.mm_proof.proofs.RunLemmas.{frame_moved, cited_moved, steps_cited}
 use Rattle.mm_proof.proofs.machine.step.Goals as goal
 
 pub returns-in_ok-cite-in-Assertion : goal.returns-in_ok-cite-in-Assertion
 returns-in_ok-cite-in-Assertion c view is known =
     let meaning = c.in-Assertion.ensures view is in
-    let here = place (before view c.args.number) in
+    let here = setting (before view c.args.number) in
     let frame = frame_at view c.in-Assertion.assertion in
     let cited = c.in_ok-cited-in-Assertion.cited in
     let same = c.in_ok-cited-in-Assertion.ensures view is meaning.1 in

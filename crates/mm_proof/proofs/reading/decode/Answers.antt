@@ -1,6 +1,6 @@
-use Rattle.mm_proof.specs.BaseLabels.{place_at}
+use Rattle.mm_proof.specs.Language.BaseLabels.{setting_at}
 use Rattle.std.proofs.Common.{sym}
-use Rattle.mm_proof.specs.Labels.{labels_at, entry_steps}
+use Rattle.mm_proof.specs.Code.Labels.{labels_at, entry_steps}
 use Rattle.mm_proof.proofs.ReaderLemmas.{if_ok}
 use Rattle.mm_proof.proofs.DecodeLemmas.{compressed_done, normal_done}
 use Rattle.mm_proof.proofs.reading.decode.Goals as goal
@@ -9,12 +9,12 @@ pub returns-then-is_compressed-clause-ok : goal.returns-then-is_compressed-claus
 returns-then-is_compressed-clause-ok c =
     let words = c.args.statement.now.proof in
     if_ok _ _ c.decode_compressed.result (λ d says view is active.
-    compressed_done (place_at view c.args.i) (labels_at view c.args.mandatory.now) words (entry_steps view d.labels.items) d.steps.items
+    compressed_done (setting_at view c.args.i) (labels_at view c.args.mandatory.now) words (entry_steps view d.labels.items) d.steps.items
     (sym c.if-is_compressed.ensures) (says view is active)) c.decode_compressed.ensures.ok
 
 pub returns-else-is_compressed-clause-ok : goal.returns-else-is_compressed-clause-ok
 returns-else-is_compressed-clause-ok c =
     let words = c.args.statement.now.proof in
     if_ok _ _ c.decode_normal.result (λ d says view is active.
-    normal_done (place_at view c.args.i) (labels_at view c.args.mandatory.now) words (entry_steps view d.labels.items) d.steps.items
+    normal_done (setting_at view c.args.i) (labels_at view c.args.mandatory.now) words (entry_steps view d.labels.items) d.steps.items
     (sym c.if-is_compressed.ensures) (says view is)) c.decode_normal.ensures.ok

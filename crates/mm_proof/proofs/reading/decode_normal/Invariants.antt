@@ -1,8 +1,8 @@
 use Rattle.std.proofs.Common.{length}
-use Rattle.mm_frame.specs.Base.{BaseView}
-use Rattle.mm_frame.specs.Kept.{IsBase}
-use Rattle.mm_proof.specs.Labels.{Normal}
-use Rattle.mm_proof.specs.Left.{AreLeft}
+use Rattle.mm_frame.specs.Language.Base.{BaseView}
+use Rattle.mm_frame.specs.Code.KeptBase.{IsBase}
+use Rattle.mm_proof.specs.Code.Labels.{Normal}
+use Rattle.mm_proof.specs.Code.Left.{AreLeft}
 use Rattle.mm_proof.proofs.reading.decode_normal.Given as goal
 
 abbrev pub invariant-loop-word : goal.invariant-loop-word

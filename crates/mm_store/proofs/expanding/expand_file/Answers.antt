@@ -1,7 +1,7 @@
 use Rattle.std.proofs.Common.{sym, ◌∙◌, subst, [], ◌∷◌}
-use Rattle.mm_text.specs.Part.{HasUnits}
-use Rattle.mm_store.specs.Inside.{HoldsUnit, IsPieceKept}
-use Rattle.mm_store.specs.Gains.{FileGains, names_in}
+use Rattle.mm_text.specs.Language.Part.{HasUnits}
+use Rattle.mm_store.specs.Code.Inside.{HoldsUnit, IsPieceKept}
+use Rattle.mm_store.specs.Code.Gains.{FileGains, names_in}
 use Rattle.mm_store.proofs.FilesLemmas.{text_read}
 use Rattle.mm_store.proofs.GainLemmas.{file_gains_none, next_of_file, one_name}
 use Rattle.mm_store.proofs.expanding.expand_file.Goals as goal

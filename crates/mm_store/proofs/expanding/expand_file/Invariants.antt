@@ -1,6 +1,6 @@
 use Rattle.std.proofs.Common.{[], ◌∷◌, map, take}
-use Rattle.mm_store.specs.Gains.{FileGains, names_in}
-use Rattle.mm_store.specs.Inside.{piece_of}
+use Rattle.mm_store.specs.Code.Gains.{FileGains, names_in}
+use Rattle.mm_store.specs.Code.Inside.{piece_of}
 use Rattle.mm_store.proofs.expanding.expand_file.Given as goal
 
 abbrev pub invariant-loop-piece : goal.invariant-loop-piece

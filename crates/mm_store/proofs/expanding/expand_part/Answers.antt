@@ -1,7 +1,7 @@
 use Rattle.std.proofs.Common.{sym, ◌∙◌, ap, subst, ◌∷◌, [], ◌++◌}
 use Rattle.std.proofs.lemmas.Bool.{false≢true}
-use Rattle.mm_store.specs.Expansion.{placed_part, item_of}
-use Rattle.mm_store.specs.Gains.{Gains, names_in}
+use Rattle.mm_store.specs.Language.Expansion.{placed_part, placed_item}
+use Rattle.mm_store.specs.Code.Gains.{Gains, names_in}
 use Rattle.mm_store.proofs.GainLemmas.{gains_own, gains_first, gains_later}
 use Rattle.mm_store.proofs.expanding.expand_part.Goals as goal
 use Rattle.mm_store.proofs.expanding.expand_part.Goals.{then-is_inclusion+in_ok-take_name+else-not-branch, else-is_inclusion}
@@ -23,8 +23,8 @@ returns c name named =
       | then-is_inclusion+in_ok-take_name+else-not-branch w ↦
           let is = c.is_inclusion.ensures.0 w.if-is_inclusion.true in
           let same = w.second_word-name.ensures c.requires.words c.requires.has_words ∙ sym (named is c.requires.words c.requires.has_words) in
-          subst (λ after. Gains (part ∷ []) names items (names_in after) (items ++ item_of part ∷ [])) (sym w.names-is)
+          subst (λ after. Gains (part ∷ []) names items (names_in after) (items ++ placed_item part ∷ [])) (sym w.names-is)
           (gains_first part names items w.second_word-name.result.now w.in_ok-take_name.field-0 (names_in w.take_name.new.names) is same w.if-not-branch.false w.in_ok-take_name.ensures)
       | else-is_inclusion w ↦
-          subst (λ after. Gains (part ∷ []) names items (names_in after) (items ++ item_of part ∷ [])) (sym w.names-is) (gains_own part names items (λ is. false≢true (sym w.if-is_inclusion.false ∙ c.is_inclusion.ensures.1 is)))
+          subst (λ after. Gains (part ∷ []) names items (names_in after) (items ++ placed_item part ∷ [])) (sym w.names-is) (gains_own part names items (λ is. false≢true (sym w.if-is_inclusion.false ∙ c.is_inclusion.ensures.1 is)))
     ])

@@ -4,9 +4,9 @@ use Rattle.std.proofs.lemmas.List.{map_more, take_all, length-map, get_or-map}
 use Rattle.std.proofs.lemmas.List.Elements.{All-from_recursion}
 use Rattle.mm_text.specs.declared.part.Part.{Part}
 use Rattle.mm_text.specs.declared.part.PartKind.TheVariants.{Constants}
-use Rattle.mm_text.specs.Part.{HasUnits, IsReadable}
-use Rattle.mm_store.specs.Expansion.{Named, named_parts, placed_part}
-use Rattle.mm_store.specs.Gains.{Gains, IsNamed, names_in}
+use Rattle.mm_text.specs.Language.Part.{HasUnits, IsReadable}
+use Rattle.mm_store.specs.Language.Expansion.{Named, named_parts, placed_part}
+use Rattle.mm_store.specs.Code.Gains.{Gains, IsNamed, names_in}
 use Rattle.mm_store.proofs.GainLemmas.{gains_nothing, gains_joined}
 use Rattle.mm_store.proofs.NameLemmas.{all_named, named_are}
 use Rattle.mm_store.proofs.expanding.expand_piece.Goals as goal

@@ -1,9 +1,9 @@
 use Rattle.std.proofs.Common.{map, take}
-use Rattle.mm_text.specs.Unit.{Units}
-use Rattle.mm_text.specs.Part.{HasUnits}
-use Rattle.mm_text.specs.Cut.{IsOne}
-use Rattle.mm_store.specs.Expansion.{named_parts, placed_part}
-use Rattle.mm_store.specs.Gains.{Gains, names_in}
+use Rattle.mm_text.specs.Language.Unit.{Units}
+use Rattle.mm_text.specs.Language.Part.{HasUnits}
+use Rattle.mm_text.specs.Language.Cut.{IsOne}
+use Rattle.mm_store.specs.Language.Expansion.{named_parts, placed_part}
+use Rattle.mm_store.specs.Code.Gains.{Gains, names_in}
 use Rattle.mm_store.proofs.expanding.expand_piece.Given as goal
 
 abbrev pub invariant-loop-part : goal.invariant-loop-part

@@ -1,6 +1,6 @@
 use Rattle.std.proofs.Common.{sym, ◌∙◌, ap, subst, ◌<◌, ◌++◌, length, map, take, get_or, ◌≡◌, ◌+◌}
 use Rattle.std.specs.List.{concat}
-use Rattle.mm_store.specs.Inside.{text_at}
+use Rattle.mm_store.specs.Code.Inside.{text_at}
 use Rattle.std.specs.Prelude.{All}
 use Rattle.mm_store.specs.declared.piece_text.PieceText.{PieceText}
 use Rattle.mm_store.proofs.FilesLemmas.{text_read, concat_more}

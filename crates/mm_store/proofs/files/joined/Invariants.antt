@@ -1,6 +1,6 @@
 use Rattle.std.proofs.Common.{◌≡◌, map, take}
 use Rattle.std.specs.List.{concat}
-use Rattle.mm_store.specs.Inside.{text_at}
+use Rattle.mm_store.specs.Code.Inside.{text_at}
 use Rattle.mm_store.proofs.files.joined.Given as goal
 
 abbrev pub invariant-loop-key : goal.invariant-loop-key

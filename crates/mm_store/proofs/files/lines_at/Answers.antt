@@ -1,8 +1,8 @@
 use Rattle.std.proofs.Common.{◌<◌, ◌++◌, length, map, take, sym, ap, ◌∙◌, subst, arith}
 use Rattle.std.specs.List.{concat}
 use Rattle.std.proofs.lemmas.List.{length-map, length-take}
-use Rattle.mm_store.specs.Inside.{text_at}
-use Rattle.mm_store.specs.Lines.{AreLines}
+use Rattle.mm_store.specs.Code.Inside.{text_at}
+use Rattle.mm_store.specs.Code.Lines.{AreLines}
 use Rattle.mm_store.proofs.FilesLemmas.{piece_read}
 use Rattle.mm_store.proofs.PlaceLemmas.{piece_within}
 use Rattle.mm_store.proofs.ByteLemmas.{start_read}

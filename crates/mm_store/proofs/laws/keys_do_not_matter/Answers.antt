@@ -1,5 +1,5 @@
 use Rattle.std.proofs.Common.{refl}
-use Rattle.mm_store.specs.FilesView.{no_files}
+use Rattle.mm_store.specs.Language.FilesView.{no_files}
 use Rattle.mm_store.proofs.KeylessLemmas.{same_items, same_files}
 use Rattle.mm_store.proofs.laws.keys_do_not_matter.Goals as goal
 

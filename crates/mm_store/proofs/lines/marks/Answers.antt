@@ -1,7 +1,7 @@
 use Rattle.std.proofs.Common.{◌≡◌, ℕ, ◌+◌, ◌-◌, ◌*◌, ◌<◌, [], ◌∷◌, ◌++◌, length, take, drop, get_or, sym, ap, ◌∙◌, subst, arith, length-append}
 use Rattle.std.proofs.Math.Seq.{take-add}
 use Rattle.mm_store.specs.declared.lines.Lines.{Lines}
-use Rattle.mm_store.specs.Lines.{AreLines}
+use Rattle.mm_store.specs.Code.Lines.{AreLines}
 use Rattle.mm_store.proofs.PlaceLemmas.{each_more}
 use Rattle.mm_store.proofs.lines.marks.Goals as goal
 

@@ -3,7 +3,7 @@ use Rattle.std.specs.Vec.Iter.{into_iter_items}
 use Rattle.std.proofs.lemmas.List.{map-append}
 use Rattle.std.proofs.lemmas.List.Elements.{All-nil, All-cons, All-append}
 use Rattle.mm_store.specs.declared.piece_text.PieceText.{PieceText}
-use Rattle.mm_store.specs.Inside.{IsPieceKept}
+use Rattle.mm_store.specs.Code.Inside.{IsPieceKept}
 use Rattle.mm_store.proofs.piece_text.kept_pieces.Goals as goal
 
 pub loop-text-preserved : goal.loop-text-preserved

@@ -3,7 +3,7 @@ use Rattle.std.specs.List.{concat}
 use Rattle.std.proofs.lemmas.List.{length-map, get_or-map}
 use Rattle.mm_store.specs.declared.piece_text.PieceText.{PieceText}
 use Rattle.mm_store.specs.declared.start.Start.{Start}
-use Rattle.mm_store.specs.Lines.{IsStart}
+use Rattle.mm_store.specs.Code.Lines.{IsStart}
 use Rattle.mm_store.proofs.PlaceLemmas.{each_more, concat_one, piece_within}
 use Rattle.mm_store.proofs.start.starts.Goals as goal
 

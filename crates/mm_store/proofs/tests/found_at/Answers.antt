@@ -1,6 +1,6 @@
 use Rattle.std.proofs.Common.{◌+◌, arith}
-use Rattle.mm_store.specs.FilesView.{text_of}
-use Rattle.mm_store.specs.FileFacts.{piece_offset}
+use Rattle.mm_store.specs.Language.FilesView.{text_of}
+use Rattle.mm_store.specs.Language.FileFacts.{piece_offset}
 use Rattle.mm_store.proofs.StandLemmas.{stands_byte}
 use Rattle.mm_store.proofs.tests.found_at.Goals as goal
 

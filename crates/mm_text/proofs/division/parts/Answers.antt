@@ -1,5 +1,5 @@
 use Rattle.std.proofs.Common.{◌≡◌, ◌≤◌, true, false, length, sym, ◌∙◌}
-use Rattle.mm_text.specs.PartReading.{ends_part}
+use Rattle.mm_text.specs.Code.PartReading.{ends_part}
 use Rattle.mm_text.proofs.PartLemmas.{divides_start, divides_end, divides_fault, divides_part, divides_more}
 use Rattle.mm_text.proofs.division.parts.Goals as goal
 

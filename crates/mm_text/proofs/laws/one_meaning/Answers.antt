@@ -1,12 +1,12 @@
 use Rattle.std.proofs.Common.{◌≡◌, ℕ, List, ◌⊎◌, inl, inr, Ok, Err, refl}
 use Rattle.mm_text.specs.declared.word.Word.{Word}
 use Rattle.mm_text.specs.declared.fault.TextFault.{TextFault}
-use Rattle.mm_text.specs.Reading.{HasWords, IsFault}
-use Rattle.mm_text.specs.LeftToRight.{Read, read_text}
+use Rattle.mm_text.specs.Language.Reading.{HasWords, IsWordsFault}
+use Rattle.mm_text.specs.Code.LeftToRight.{Read, read_text}
 use Rattle.mm_text.proofs.ReadingLemmas.{text_words, text_fault, words_of_text, fault_of_text}
 use Rattle.mm_text.proofs.laws.one_meaning.Goals as goal
 
-read_as : (text : List ℕ) (r : Read) → read_text text ≡ r → ((words : List Word) × HasWords text words) ⊎ ((fault : TextFault) × IsFault text fault)
+read_as : (text : List ℕ) (r : Read) → read_text text ≡ r → ((words : List Word) × HasWords text words) ⊎ ((fault : TextFault) × IsWordsFault text fault)
 read_as text (Ok words) is = inl (words, words_of_text text words is)
 read_as text (Err fault) is = inr (fault, fault_of_text text fault is)
 

@@ -3,8 +3,8 @@ use Rattle.std.specs.Global.{Global}
 use Rattle.mm_text.specs.declared.word.Word.{Word}
 use Rattle.mm_text.specs.declared.fault.TextError.{TextError}
 use Rattle.mm_text.specs.declared.fault.TextError.TheVariants as errors
-use Rattle.mm_text.specs.Reading.{HasWords, IsErrorOf, IsErrorIn, AreWithin}
-use Rattle.mm_text.specs.LeftToRight.{Gives, read_text}
+use Rattle.mm_text.specs.Language.Reading.{HasWords, IsWordsError, IsTextErrorIn, AreWithin}
+use Rattle.mm_text.specs.Code.LeftToRight.{Gives, read_text}
 use Rattle.mm_text.proofs.ReadingLemmas.{words_of_text, fault_of_text}
 use Rattle.mm_text.proofs.PositionLemmas.{are_within, all_below, fault_lies}
 use Rattle.mm_text.proofs.reading.words.Goals as goal
@@ -13,7 +13,7 @@ given_words : (text : List ℕ) (r : Result (Vec Word Global) TextError) → Giv
 given_words text (Ok v) h = words_of_text text v.items h
 given_words text (Err e) h = tt
 
-given_fault : (text : List ℕ) (r : Result (Vec Word Global) TextError) → Gives r (read_text text) → IfErr r (IsErrorOf text)
+given_fault : (text : List ℕ) (r : Result (Vec Word Global) TextError) → Gives r (read_text text) → IfErr r (IsWordsError text)
 given_fault text (Ok v) h = tt
 given_fault text (Err errors.Memory) h = tt
 given_fault text (Err (errors.Fault fault)) h = fault_of_text text fault h
@@ -38,7 +38,7 @@ returns-clause-within c = given_within c.args.text.now c.read_all.result (return
 pub returns-clause-ascii : goal.returns-clause-ascii
 returns-clause-ascii c = given_ascii c.args.text.now c.read_all.result (returns-clause-words c)
 
-given_place : (text : List ℕ) (r : Result (Vec Word Global) TextError) → IfErr r (IsErrorOf text) → IfErr r (IsErrorIn text)
+given_place : (text : List ℕ) (r : Result (Vec Word Global) TextError) → IfErr r (IsWordsError text) → IfErr r (IsTextErrorIn text)
 given_place text (Ok v) h = tt
 given_place text (Err errors.Memory) h = tt
 given_place text (Err (errors.Fault fault)) h = fault_lies text fault h

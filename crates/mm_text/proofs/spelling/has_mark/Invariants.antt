@@ -1,5 +1,5 @@
 use Rattle.std.proofs.Common.{◌≡◌, ◌-◌, drop}
-use Rattle.mm_text.specs.LeftToRight.{holds_mark}
+use Rattle.mm_text.specs.Code.LeftToRight.{holds_mark}
 use Rattle.mm_text.proofs.spelling.has_mark.Given as goal
 
 abbrev pub invariant-loop-i : goal.invariant-loop-i

@@ -2,7 +2,7 @@ use Rattle.std.proofs.Common.{◌≡◌, ℕ, List, [], ◌∷◌, length, get_o
 use Rattle.std.specs.Prelude.{codes}
 use Rattle.std.proofs.lemmas.Slice.Eq.{bytes_eq-Decides}
 use Rattle.std.specs.Borrow.{Bor}
-use Rattle.mmkeep.specs.Asking.{said, verify_words}
+use Rattle.mmkeep.specs.Language.Asking.{said, verify_words}
 use Rattle.mmkeep.proofs.asking.command.Goals as goal
 
 said_two : (words : List (Bor (List ℕ))) (d : Bor (List ℕ)) → length words ≡ 2 → (get_or words 0 d).now ≡ codes "verify" → said words ≡ verify_words (get_or words 1 d).now

@@ -1,6 +1,6 @@
 use Rattle.std.proofs.Common.{◌+◌, [], ◌∷◌, sym, ◌∙◌, ap, subst}
 use Rattle.std.proofs.lemmas.List.{map-append}
-use Rattle.mmkeep.specs.Findings.{told, told_all}
+use Rattle.mmkeep.specs.Code.Findings.{told, told_all}
 use Rattle.mmkeep.proofs.ItemLemmas.{ToldUpTo, told_more}
 use Rattle.mmkeep.proofs.judgement.findings.Goals as goal
 

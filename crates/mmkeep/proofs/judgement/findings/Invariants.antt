@@ -1,6 +1,6 @@
-use Rattle.mm_frame.specs.Base.{BaseView}
-use Rattle.mm_proof.specs.OfFiles.{IsOf}
-use Rattle.mmkeep.specs.Findings.{told_all}
+use Rattle.mm_frame.specs.Language.Base.{BaseView}
+use Rattle.mm_proof.specs.Code.OfFiles.{IsOf}
+use Rattle.mmkeep.specs.Code.Findings.{told_all}
 use Rattle.mmkeep.proofs.ItemLemmas.{ToldUpTo}
 use Rattle.mmkeep.proofs.judgement.findings.Given as goal
 

@@ -1,7 +1,7 @@
 use Rattle.std.proofs.Common.{◌+◌, ◌∙◌, ap, subst, slice_range, arith}
-use Rattle.mm_store.specs.FilesView.{text_of}
-use Rattle.mm_store.specs.FileFacts.{IsByte, piece_offset}
-use Rattle.mmkeep.specs.Report.{start_of, spelled}
+use Rattle.mm_store.specs.Language.FilesView.{text_of}
+use Rattle.mm_store.specs.Language.FileFacts.{IsByte, piece_offset}
+use Rattle.mmkeep.specs.Language.Report.{start_of, spelled}
 use Rattle.mmkeep.proofs.ReadingLemmas.{item_text, item_within, item_words, start_within, word_is_byte}
 use Rattle.mmkeep.proofs.judgement.spot_of.Goals as goal
 

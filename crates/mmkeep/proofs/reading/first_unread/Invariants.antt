@@ -1,7 +1,7 @@
 use Rattle.std.proofs.Common.{take}
-use Rattle.mm_frame.specs.Base.{BaseView}
-use Rattle.mm_proof.specs.OfFiles.{IsOf}
-use Rattle.mmkeep.specs.Later.{AreRead}
+use Rattle.mm_frame.specs.Language.Base.{BaseView}
+use Rattle.mm_proof.specs.Code.OfFiles.{IsOf}
+use Rattle.mmkeep.specs.Language.Later.{AreRead}
 use Rattle.mmkeep.proofs.reading.first_unread.Given as goal
 
 abbrev pub invariant-loop-number : goal.invariant-loop-number

@@ -1,5 +1,5 @@
 use Rattle.std.proofs.Common.{◌≡◌, ◌+◌, length}
-use Rattle.mmkeep.specs.Later.{unread_step, unread_from}
+use Rattle.mmkeep.specs.Language.Later.{unread_step, unread_from}
 use Rattle.mmkeep.proofs.reading.unread_in_proof.Given as goal
 
 abbrev pub invariant-loop-word : goal.invariant-loop-word

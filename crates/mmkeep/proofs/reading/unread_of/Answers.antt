@@ -1,6 +1,6 @@
 use Rattle.std.proofs.Common.{◌∙◌, ap}
-use Rattle.mm_frame.specs.Base.{said_at}
-use Rattle.mmkeep.specs.Later.{unread_word}
+use Rattle.mm_frame.specs.Language.Base.{said_at}
+use Rattle.mmkeep.specs.Language.Later.{unread_word}
 use Rattle.mmkeep.proofs.ItemLemmas.{read_at, says_at}
 use Rattle.mmkeep.proofs.reading.unread_of.Goals as goal
 

@@ -1,5 +1,5 @@
 use Rattle.std.proofs.KnownBytes.{Appends-trans}
-use Rattle.mm_frame.specs.Item.{passed}
+use Rattle.mm_frame.specs.Language.Item.{passed}
 use Rattle.mmkeep.specs.declared.finding.Finding.TheVariants.{Quiet}
 use Rattle.mmkeep.proofs.ReportLemmas.{lines_more, lines_stop}
 use Rattle.mmkeep.proofs.report.write_lines.Goals as goal

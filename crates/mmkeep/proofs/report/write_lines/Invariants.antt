@@ -1,9 +1,9 @@
 use Rattle.std.proofs.Common.{take}
 use Rattle.std.specs.Io.KnownBytes.{Appends}
-use Rattle.mm_frame.specs.Base.{BaseView}
-use Rattle.mmkeep.specs.Findings.{AreOfEach, told_all}
-use Rattle.mmkeep.specs.Report.{lines}
-use Rattle.mmkeep.specs.Stream.{written}
+use Rattle.mm_frame.specs.Language.Base.{BaseView}
+use Rattle.mmkeep.specs.Code.Findings.{AreOfEach, told_all}
+use Rattle.mmkeep.specs.Language.Report.{lines}
+use Rattle.mmkeep.specs.Language.Stream.{written}
 use Rattle.mmkeep.proofs.report.write_lines.Given as goal
 
 abbrev pub invariant-loop-number : goal.invariant-loop-number

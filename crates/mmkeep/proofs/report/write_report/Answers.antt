@@ -1,4 +1,4 @@
-use Rattle.mmkeep.specs.Findings.{counted}
+use Rattle.mmkeep.specs.Code.Findings.{counted}
 use Rattle.mmkeep.proofs.ReportLemmas.{report_stop, report_then}
 use Rattle.mmkeep.proofs.report.write_report.Goals as goal
 

@@ -4,9 +4,9 @@ use Rattle.std.specs.Io.KnownBytes.{Appends}
 use Rattle.std.proofs.lemmas.List.{length-map}
 use Rattle.std.proofs.lemmas.Option.{slice_get_within}
 use Rattle.mmkeep.specs.declared.finding.Finding.{Finding}
-use Rattle.mmkeep.specs.Findings.{AreOfEach, told, told_all}
-use Rattle.mmkeep.specs.Report.{counts, report}
-use Rattle.mmkeep.specs.Stream.{AppendsPart}
+use Rattle.mmkeep.specs.Code.Findings.{AreOfEach, told, told_all}
+use Rattle.mmkeep.specs.Language.Report.{counts, report}
+use Rattle.mmkeep.specs.Language.Stream.{AppendsPart}
 use Rattle.mmkeep.proofs.PlaceLemmas.{from_some, from_none}
 use Rattle.mmkeep.proofs.VerifyLemmas.{database_of, view_of, unread_at, report_is, clean_counts, IsClean}
 use Rattle.mmkeep.proofs.verify.verify_one.Goals as goal

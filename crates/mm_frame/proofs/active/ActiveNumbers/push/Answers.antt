@@ -1,5 +1,5 @@
 use Rattle.std.proofs.Common.{◌++◌, ◌∷◌, [], ◌∙◌, ap, sym}
-use Rattle.mm_frame.specs.Scope.{active_numbers}
+use Rattle.mm_frame.specs.Language.Scope.{active_numbers}
 use Rattle.mm_frame.proofs.EndLemmas.{active_numbers_passed}
 use Rattle.mm_frame.proofs.active.ActiveNumbers.push.Goals as goal
 

@@ -1,7 +1,7 @@
 use Rattle.std.proofs.Common.{refl, sym, subst, arith}
 use Rattle.std.specs.List.{AllZip}
 use Rattle.std.proofs.lemmas.Slice.Zip.{AllZip-long}
-use Rattle.mm_frame.specs.Statement.{Says}
+use Rattle.mm_frame.specs.Language.Statement.{Says}
 use Rattle.mm_frame.proofs.FrameNumbers.{kinds_said}
 use Rattle.mm_frame.proofs.base.Base.build.Goals as goal
 

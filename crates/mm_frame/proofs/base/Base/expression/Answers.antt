@@ -1,6 +1,6 @@
 use Rattle.std.proofs.Common.{Some, ◌∙◌, ap, sym}
-use Rattle.mm_frame.specs.Named.{symbols_of}
-use Rattle.mm_frame.specs.Kept.{expressions_of}
+use Rattle.mm_frame.specs.Code.CodeSymbols.{symbols_of}
+use Rattle.mm_frame.specs.Code.KeptBase.{expressions_of}
 use Rattle.mm_frame.proofs.BaseLemmas.{expression_some, expression_none}
 use Rattle.mm_frame.proofs.base.Base.expression.Goals as goal
 

@@ -1,4 +1,4 @@
-use Rattle.mm_frame.specs.Named.{kept_pairs}
+use Rattle.mm_frame.specs.Code.CodeSymbols.{kept_pairs}
 use Rattle.mm_frame.proofs.BaseLemmas.{ordered_pairs}
 use Rattle.mm_frame.proofs.FrameNumbers.{frame_means, framed_some}
 use Rattle.mm_frame.proofs.base.Base.frame.Goals as goal

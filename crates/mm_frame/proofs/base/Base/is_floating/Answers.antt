@@ -1,6 +1,6 @@
 use Rattle.std.proofs.Common.{slice_get, ◌∙◌, ap, sym}
 use Rattle.std.specs.Option.{option_map}
-use Rattle.mm_frame.specs.Item.{Item, is_floating}
+use Rattle.mm_frame.specs.Language.Item.{Item, is_floating}
 use Rattle.mm_frame.proofs.BaseLemmas.{item_beyond}
 use Rattle.mm_frame.proofs.FrameNumbers.{kind_at, none_past}
 use Rattle.mm_frame.proofs.base.Base.is_floating.Goals as goal

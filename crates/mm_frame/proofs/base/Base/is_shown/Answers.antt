@@ -1,6 +1,6 @@
 use Rattle.std.proofs.Common.{◌∙◌, ap, sym, is_none, is_some}
 use Rattle.std.specs.Option.{option_map}
-use Rattle.mm_frame.specs.Kept.{Tells, rows_of}
+use Rattle.mm_frame.specs.Code.KeptBase.{TellsRow, rows_of}
 use Rattle.mm_frame.proofs.BaseLemmas.{row_none, shown_is, not_shown, is_none_map}
 use Rattle.mm_frame.proofs.base.Base.is_shown.Goals as goal
 
@@ -11,4 +11,4 @@ returns-in-Some c base is =
     c.is_shown_row.ensures ∙ shown_is base c.args.i (is_none row.fault) (is_some row.label) (sym (is_none_map (λ fault. (fault.word, fault.number)) row.fault) ∙ ap is_none told.fault) told.labelled
 
 pub returns-in-None : goal.returns-in-None
-returns-in-None c base is = not_shown base c.args.i (row_none Tells base.said (rows_of c.args.self.now) c.args.i is.parts.rows (sym c.row.ensures ∙ ap (option_map (λ row. row.now)) c.in-None.is))
+returns-in-None c base is = not_shown base c.args.i (row_none TellsRow base.said (rows_of c.args.self.now) c.args.i is.parts.rows (sym c.row.ensures ∙ ap (option_map (λ row. row.now)) c.in-None.is))

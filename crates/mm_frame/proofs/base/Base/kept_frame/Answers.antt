@@ -1,7 +1,7 @@
 use Rattle.std.proofs.Common.{◌∙◌, ap, sym}
 use Rattle.std.specs.Option.{option_map}
-use Rattle.mm_frame.specs.Base.{before}
-use Rattle.mm_frame.specs.Kept.{TellsFrame, frames_of}
+use Rattle.mm_frame.specs.Language.Base.{before}
+use Rattle.mm_frame.specs.Code.KeptBase.{TellsFrame, frames_of}
 use Rattle.mm_frame.proofs.BaseLemmas.{row_none, frame_beyond, frame_numbers, frame_order}
 use Rattle.mm_frame.proofs.base.Base.kept_frame.Goals as goal
 

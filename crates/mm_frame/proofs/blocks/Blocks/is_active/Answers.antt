@@ -1,6 +1,6 @@
 use Rattle.std.proofs.Common.{◌<◌, ◌+◌, length, sym, ◌∙◌, ap, arith, slice_range}
-use Rattle.mm_frame.specs.Blocks.{stays_by}
-use Rattle.mm_frame.specs.BlockEnds.{end_of}
+use Rattle.mm_frame.specs.Code.BlockMarks.{stays_by}
+use Rattle.mm_frame.specs.Code.BlockEnds.{end_of_block}
 use Rattle.mm_frame.proofs.BlockLemmas.{items_within, is_active_open, is_active_ended}
 use Rattle.mm_frame.proofs.blocks.Blocks.is_active.Goals as goal
 
@@ -14,7 +14,7 @@ returns-in-None c =
     let inside = c.self.inside in
     let block = c.index.result.now in
     let in_range : c.args.from < length inside.block_of.items = omega (arith, items_within inside.ends.items inside.block_of.items c.args.self.now c.args.at c.self.view_is c.requires.within) in
-    let open_block = ap (λ ends. end_of ends block) (sym c.deref.ensures.value) ∙ sym c.end_of_block.ensures ∙ c.in-None.is in
+    let open_block = ap (λ ends. end_of_block ends block) (sym c.deref.ensures.value) ∙ sym c.end_of_block.ensures ∙ c.in-None.is in
     sym (ap (λ marks. stays_by (slice_range marks (c.args.from + 1) c.args.at)) (sym c.self.view_is) ∙ is_active_open inside.block_of.items inside.ends.items inside.outer.items inside.current inside.begun inside.ended c.args.from c.args.at block c.self.invariant in_range c.index.ensures open_block)
 
 pub returns-in-Some : goal.returns-in-Some
@@ -22,6 +22,6 @@ returns-in-Some c =
     let inside = c.self.inside in
     let block = c.index.result.now in
     let in_range : c.args.from < length inside.block_of.items = omega (arith, items_within inside.ends.items inside.block_of.items c.args.self.now c.args.at c.self.view_is c.requires.within) in
-    let ended_block = ap (λ ends. end_of ends block) (sym c.deref.ensures.value) ∙ sym c.end_of_block.ensures ∙ c.in-Some.is in
+    let ended_block = ap (λ ends. end_of_block ends block) (sym c.deref.ensures.value) ∙ sym c.end_of_block.ensures ∙ c.in-Some.is in
     sym (ap (λ marks. stays_by (slice_range marks (c.args.from + 1) c.args.at)) (sym c.self.view_is)
     ∙ is_active_ended inside.block_of.items inside.ends.items inside.outer.items inside.current inside.begun inside.ended c.args.from c.args.at block c.in-Some.end c.self.invariant c.requires.earlier in_range c.index.ensures ended_block)

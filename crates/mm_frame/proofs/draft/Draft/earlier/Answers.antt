@@ -1,13 +1,13 @@
 use Rattle.std.proofs.Common.{◌∙◌, sym, subst}
-use Rattle.mm_frame.specs.Known.{Knows}
-use Rattle.mm_frame.specs.KeptSymbols.{AreSymbols}
-use Rattle.mm_frame.specs.Sound.{kept}
+use Rattle.mm_frame.specs.Code.KeptTables.{Knows}
+use Rattle.mm_frame.specs.Code.KeptSymbols.{AreSymbols}
+use Rattle.mm_frame.specs.Language.Sound.{sound_items}
 use Rattle.mm_frame.proofs.BaseLemmas.{kept_are_sound, are_expressions}
 use Rattle.mm_frame.proofs.draft.Draft.earlier.Goals as goal
 
 pub returns : goal.returns
 returns c said d =
-    let before = kept said in
+    let before = sound_items said in
     record {
       sound = kept_are_sound said;
       known = subst (λ w. Knows before w) (sym c.tables.ensures) d.scope.knows;

@@ -1,6 +1,6 @@
 use Rattle.std.proofs.Common.{◌≡◌, ◌∷◌, ◌++◌, [], suc, ◌+◌, take, take_all, subst, arith}
 use Rattle.std.specs.List.{AllZip}
-use Rattle.mm_frame.specs.Statement.{Says}
+use Rattle.mm_frame.specs.Language.Statement.{Says}
 use Rattle.mm_frame.proofs.BaseLemmas.{zip_more}
 use Rattle.mm_frame.proofs.draft.Draft.read_all.Goals as goal
 

@@ -1,8 +1,8 @@
 use Rattle.std.proofs.Common.{List, take}
 use Rattle.std.specs.List.{AllZip}
-use Rattle.mm_frame.specs.Item as meant
-use Rattle.mm_frame.specs.Statement.{Says}
-use Rattle.mm_frame.specs.Kept.{IsDraft}
+use Rattle.mm_frame.specs.Language.Item as meant
+use Rattle.mm_frame.specs.Language.Statement.{Says}
+use Rattle.mm_frame.specs.Code.KeptBase.{IsDraft}
 use Rattle.mm_frame.proofs.draft.Draft.read_all.Given as goal
 
 abbrev pub invariant-loop-item : goal.invariant-loop-item

@@ -1,6 +1,6 @@
 use Rattle.std.proofs.Common.{◌≡◌, ◌∷◌, [], length, ◌∙◌, arith}
 use Rattle.mm_frame.specs.declared.pair_lists.PairLists.{PairLists}
-use Rattle.mm_frame.specs.PairLists.{KeepsLists}
+use Rattle.mm_frame.specs.Code.KeptPairLists.{KeepsLists}
 use Rattle.mm_frame.proofs.PairListLemmas.{made_one_more, pairs_kept, new_list}
 use Rattle.mm_frame.proofs.pair_lists.PairLists.list_of.Goals as goal
 

@@ -1,6 +1,6 @@
 use Rattle.std.proofs.Common.{ℕ, List, ◌∙◌, sym, ap, cond, Some, bytes_eq}
 use Rattle.std.specs.Map.{lookup}
-use Rattle.mm_frame.specs.PairTable.{number_in}
+use Rattle.mm_frame.specs.Code.KeptPairTable.{number_in}
 use Rattle.mm_frame.proofs.PairTableLemmas.{written_at, pair_written}
 use Rattle.mm_frame.proofs.paired.PairTable.begin.Goals as goal
 

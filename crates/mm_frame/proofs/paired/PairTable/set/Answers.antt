@@ -1,6 +1,6 @@
 use Rattle.std.proofs.Common.{rules, ◌∙◌, refl, ap, cond, Some, bytes_eq}
 use Rattle.std.proofs.lemmas.Result.{on_ok_weaker}
-use Rattle.mm_frame.specs.PairTable.{number_in}
+use Rattle.mm_frame.specs.Code.KeptPairTable.{number_in}
 use Rattle.mm_frame.proofs.PairTableLemmas.{written_at, pair_written}
 use Rattle.mm_frame.proofs.paired.PairTable.set.Goals as goal
 

@@ -1,5 +1,5 @@
 use Rattle.std.proofs.lemmas.Result.{on_ok_weaker}
-use Rattle.mm_frame.specs.Named.{symbols_of}
+use Rattle.mm_frame.specs.Code.CodeSymbols.{symbols_of}
 use Rattle.mm_frame.proofs.PairTableLemmas.{pairs_taken}
 use Rattle.mm_frame.proofs.paired.PairTable.take.Goals as goal
 

@@ -1,8 +1,8 @@
 use Rattle.std.proofs.Common.{◌+◌, ◌++◌, ◌∙◌, ap, drop, subst, sym, append_assoc}
-use Rattle.mm_frame.specs.Framing.{pairs_of}
-use Rattle.mm_frame.specs.Named.{symbol_of, symbols_of}
+use Rattle.mm_frame.specs.Language.Framing.{pairs_of}
+use Rattle.mm_frame.specs.Code.CodeSymbols.{symbol_of, symbols_of}
 use Rattle.std.proofs.lemmas.List.{take_rest}
-use Rattle.mm_frame.specs.PairTable.{TakesPairs}
+use Rattle.mm_frame.specs.Code.KeptPairTable.{TakesPairs}
 use Rattle.mm_frame.proofs.PairTableLemmas.{all_more, takes_more, pairs_with}
 use Rattle.mm_frame.proofs.paired.PairTable.take_all.Goals as goal
 

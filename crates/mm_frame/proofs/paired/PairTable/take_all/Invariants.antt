@@ -1,8 +1,8 @@
 use Rattle.std.proofs.Common.{◌≡◌, ◌++◌, List, drop}
-use Rattle.mm_frame.specs.Language.{Symbol}
-use Rattle.mm_frame.specs.Framing.{pairs_of}
-use Rattle.mm_frame.specs.Named.{symbols_of}
-use Rattle.mm_frame.specs.PairTable.{TakesPairs}
+use Rattle.mm_frame.specs.Language.Frame.{Symbol}
+use Rattle.mm_frame.specs.Language.Framing.{pairs_of}
+use Rattle.mm_frame.specs.Code.CodeSymbols.{symbols_of}
+use Rattle.mm_frame.specs.Code.KeptPairTable.{TakesPairs}
 use Rattle.mm_frame.proofs.paired.PairTable.take_all.Given as goal
 
 abbrev pub invariant-loop-n : goal.invariant-loop-n

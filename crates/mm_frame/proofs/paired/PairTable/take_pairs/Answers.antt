@@ -1,4 +1,4 @@
-use Rattle.mm_frame.specs.Named.{symbol_of}
+use Rattle.mm_frame.specs.Code.CodeSymbols.{symbol_of}
 use Rattle.mm_frame.proofs.PairTableLemmas.{row_more}
 use Rattle.mm_frame.proofs.paired.PairTable.take_pairs.Goals as goal
 

@@ -1,6 +1,6 @@
 use Rattle.std.proofs.Common.{map, take}
-use Rattle.mm_frame.specs.Named.{symbol_of, symbols_of}
-use Rattle.mm_frame.specs.PairTable.{TakesPairs}
+use Rattle.mm_frame.specs.Code.CodeSymbols.{symbol_of, symbols_of}
+use Rattle.mm_frame.specs.Code.KeptPairTable.{TakesPairs}
 use Rattle.mm_frame.proofs.paired.PairTable.take_pairs.Given as goal
 
 abbrev pub invariant-loop-second : goal.invariant-loop-second

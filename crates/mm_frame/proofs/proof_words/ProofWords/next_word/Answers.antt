@@ -1,6 +1,6 @@
 use Rattle.std.proofs.Common.{◌∷◌, sym, ◌∙◌, ap}
-use Rattle.mm_text.specs.WordsLeft.{WordsLeft}
-use Rattle.mm_frame.specs.PlainWords.{plain_bytes}
+use Rattle.mm_text.specs.Code.WordsLeft.{WordsLeft}
+use Rattle.mm_frame.specs.Code.PlainWords.{plain_bytes}
 use Rattle.mm_frame.proofs.SpokenLemmas.{proof_more}
 use Rattle.mm_frame.proofs.proof_words.ProofWords.next_word.Goals as goal
 

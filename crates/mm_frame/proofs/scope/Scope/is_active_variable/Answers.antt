@@ -1,5 +1,5 @@
 use Rattle.std.proofs.Common.{sym, ◌∙◌, ap}
-use Rattle.mm_frame.specs.Tables.{last_where, declares_variable, is_active_last}
+use Rattle.mm_frame.specs.Code.LastItems.{last_where, declares_variable, is_active_last}
 use Rattle.mm_frame.proofs.TableLemmas.{active_variable_last}
 use Rattle.mm_frame.proofs.ScopingLemmas.{active_by_marks}
 use Rattle.mm_frame.proofs.scope.Scope.is_active_variable.Goals as goal

@@ -1,5 +1,5 @@
 use Rattle.std.proofs.Common.{refl}
-use Rattle.mm_frame.specs.Item.{Passed, passed}
+use Rattle.mm_frame.specs.Language.Item.{Passed, passed}
 use Rattle.mm_frame.proofs.KnownLemmas.{knows_passed}
 use Rattle.mm_frame.proofs.ScopingLemmas.{passed_over, marks_more, types_more}
 use Rattle.mm_frame.proofs.scope.Scope.next.Goals as goal

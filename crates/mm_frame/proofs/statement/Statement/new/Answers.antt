@@ -1,4 +1,4 @@
-use Rattle.mm_frame.specs.Statement.{kind_of}
+use Rattle.mm_frame.specs.Language.Statement.{kind_of}
 use Rattle.mm_frame.proofs.SpokenLemmas.{Reads, behind_one, item_read}
 use Rattle.mm_frame.proofs.statement.Statement.new.Goals as goal
 

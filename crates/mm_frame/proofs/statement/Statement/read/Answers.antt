@@ -1,12 +1,12 @@
 use Rattle.std.proofs.Common.{◌≡◌, ◌<◌, List, ℕ, length, ◌∙◌, ap, sym, subst, arith}
 use Rattle.std.specs.Prelude.{slice_range}
 use Rattle.mm_text.specs.declared.word.Word.{Word}
-use Rattle.mm_text.specs.Reading.{HasWords}
-use Rattle.mm_text.specs.Unit.{tokens_of}
+use Rattle.mm_text.specs.Language.Reading.{HasWords}
+use Rattle.mm_text.specs.Language.Unit.{tokens_of}
 use Rattle.mm_store.specs.declared.item.Item as store
-use Rattle.mm_store.specs.FilesView.{FilesView}
-use Rattle.mm_store.specs.FileFacts.{CanBeRead, IsLive}
-use Rattle.mm_frame.specs.Statement.{kind_of, item_of}
+use Rattle.mm_store.specs.Language.FilesView.{FilesView}
+use Rattle.mm_store.specs.Language.FileFacts.{CanBeRead, IsLive}
+use Rattle.mm_frame.specs.Language.Statement.{kind_of, item_of}
 use Rattle.mm_frame.proofs.statement.Statement.read.Goals as goal
 
 pub slice_bounds-text-end : goal.slice_bounds-text-end

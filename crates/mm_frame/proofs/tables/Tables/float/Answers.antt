@@ -1,5 +1,5 @@
 use Rattle.std.proofs.Common.{◌∙◌, ap, sym, Some}
-use Rattle.mm_frame.specs.Known.{float_of}
+use Rattle.mm_frame.specs.Code.KeptTables.{float_of}
 use Rattle.mm_frame.proofs.KnownLemmas.{float_in}
 use Rattle.mm_frame.proofs.tables.Tables.float.Goals as goal
 

@@ -1,6 +1,6 @@
 use Rattle.std.proofs.Common.{take}
 use Rattle.mm_frame.specs.declared.tables.Declared.TheVariants.{Constant}
-use Rattle.mm_frame.specs.Known.{Declares}
+use Rattle.mm_frame.specs.Code.KeptTables.{Declares}
 use Rattle.mm_frame.proofs.tables.Tables.take_constants.Given as goal
 
 abbrev pub invariant-loop-n : goal.invariant-loop-n

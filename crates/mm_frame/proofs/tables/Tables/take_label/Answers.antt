@@ -1,7 +1,7 @@
 use Rattle.std.proofs.Common.{cond, Some, ◌∙◌, ap, refl}
 use Rattle.std.specs.Prelude.{option_to_list}
-use Rattle.mm_frame.specs.Item.{has}
-use Rattle.mm_frame.specs.Known.{table_label}
+use Rattle.mm_frame.specs.Language.Item.{has}
+use Rattle.mm_frame.specs.Code.KeptTables.{table_label}
 use Rattle.mm_frame.proofs.KnownLemmas.{inserted}
 use Rattle.mm_frame.proofs.tables.Tables.take_label.Goals as goal
 

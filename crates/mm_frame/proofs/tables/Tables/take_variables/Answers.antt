@@ -1,6 +1,6 @@
 use Rattle.std.proofs.Common.{◌+◌, ap, refl, arith}
 use Rattle.mm_frame.specs.declared.tables.Declared.TheVariants.{Variable}
-use Rattle.mm_frame.specs.Known.{float_of}
+use Rattle.mm_frame.specs.Code.KeptTables.{float_of}
 use Rattle.mm_frame.proofs.KnownLemmas.{declares_more}
 use Rattle.mm_frame.proofs.tables.Tables.take_variables.Goals as goal
 

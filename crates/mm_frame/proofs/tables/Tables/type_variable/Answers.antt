@@ -1,6 +1,6 @@
 use Rattle.std.proofs.Common.{rules, Some, sym, ◌∙◌, ap, refl}
 use Rattle.mm_frame.specs.declared.tables.Declared.TheVariants.{Variable}
-use Rattle.mm_frame.specs.Known.{typed_by}
+use Rattle.mm_frame.specs.Code.KeptTables.{typed_by}
 use Rattle.mm_frame.proofs.KnownLemmas.{written_as}
 use Rattle.mm_frame.proofs.tables.Tables.type_variable.Goals as goal
 

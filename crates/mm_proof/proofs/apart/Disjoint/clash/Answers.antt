@@ -1,5 +1,5 @@
 use Rattle.std.proofs.Common.{sym, ◌∙◌}
-use Rattle.mm_proof.specs.Apart.{names_of, clashes_with}
+use Rattle.mm_proof.specs.Code.Apart.{names_of, clashes_with}
 use Rattle.mm_proof.proofs.ApartLemmas.{passes_in}
 use Rattle.mm_proof.proofs.apart.Disjoint.clash.Goals as goal
 

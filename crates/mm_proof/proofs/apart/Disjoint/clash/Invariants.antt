@@ -1,5 +1,5 @@
 use Rattle.std.proofs.Common.{◌≡◌, false, take}
-use Rattle.mm_proof.specs.Apart.{names_of, clash}
+use Rattle.mm_proof.specs.Code.Apart.{names_of, clash}
 use Rattle.mm_proof.proofs.apart.Disjoint.clash.Given as goal
 
 abbrev pub invariant-loop-i : goal.invariant-loop-i

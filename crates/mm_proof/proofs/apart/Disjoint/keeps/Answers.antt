@@ -1,9 +1,9 @@
 use Rattle.std.proofs.Common.{◌≡◌, sym, ◌∙◌, ap, subst, arith, true, false}
 use Rattle.std.proofs.lemmas.List.{length-map}
-use Rattle.mm_frame.specs.Named.{pair_of, kept_pairs, symbol_of as named_symbol}
-use Rattle.mm_proof.specs.Given.{given_by}
-use Rattle.mm_proof.specs.Stack.{stack_of}
-use Rattle.mm_proof.specs.Apart.{names_of, clash}
+use Rattle.mm_frame.specs.Code.CodeSymbols.{pair_of, kept_pairs, symbol_of as named_symbol}
+use Rattle.mm_proof.specs.Code.Given.{given_by}
+use Rattle.mm_proof.specs.Code.Stack.{stack_of}
+use Rattle.mm_proof.specs.Code.Apart.{names_of, clash}
 use Rattle.mm_proof.proofs.PlaceLemmas.{read_at}
 use Rattle.mm_proof.proofs.ApartLemmas.{AreNames, apart_more, apart_all, apart_not, clash_apart, no_clash_apart}
 use Rattle.mm_proof.proofs.apart.Disjoint.keeps.Goals as goal

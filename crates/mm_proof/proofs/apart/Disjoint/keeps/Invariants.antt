@@ -1,9 +1,9 @@
 use Rattle.std.proofs.Common.{List}
-use Rattle.mm_frame.specs.Language.{Symbol}
-use Rattle.mm_frame.specs.Named.{kept_pairs}
-use Rattle.mm_proof.specs.Given.{given_by}
-use Rattle.mm_proof.specs.Stack.{stack_of}
-use Rattle.mm_proof.specs.Apart.{HasPairs}
+use Rattle.mm_frame.specs.Language.Frame.{Symbol}
+use Rattle.mm_frame.specs.Code.CodeSymbols.{kept_pairs}
+use Rattle.mm_proof.specs.Code.Given.{given_by}
+use Rattle.mm_proof.specs.Code.Stack.{stack_of}
+use Rattle.mm_proof.specs.Code.Apart.{HasPairs}
 use Rattle.mm_proof.proofs.ApartLemmas.{ApartUpTo}
 use Rattle.mm_proof.proofs.apart.Disjoint.keeps.Given as goal
 

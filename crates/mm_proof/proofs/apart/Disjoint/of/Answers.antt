@@ -1,7 +1,7 @@
 use Rattle.std.proofs.Common.{◌++◌, [], ◌∷◌, take, sym, ◌∙◌, ap, subst}
 use Rattle.std.proofs.lemmas.List.{map_more, take_all}
-use Rattle.mm_frame.specs.Named.{pair_of, kept_pairs}
-use Rattle.mm_proof.specs.Apart.{HasOrders}
+use Rattle.mm_frame.specs.Code.CodeSymbols.{pair_of, kept_pairs}
+use Rattle.mm_proof.specs.Code.Apart.{HasOrders}
 use Rattle.mm_proof.proofs.apart.Disjoint.of.Goals as goal
 
 pub loop-pair-preserved : goal.loop-pair-preserved

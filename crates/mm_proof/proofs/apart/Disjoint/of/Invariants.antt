@@ -1,6 +1,6 @@
 use Rattle.std.proofs.Common.{take}
-use Rattle.mm_frame.specs.Named.{kept_pairs}
-use Rattle.mm_proof.specs.Apart.{HasOrders}
+use Rattle.mm_frame.specs.Code.CodeSymbols.{kept_pairs}
+use Rattle.mm_proof.specs.Code.Apart.{HasOrders}
 use Rattle.mm_proof.proofs.apart.Disjoint.of.Given as goal
 
 abbrev pub invariant-loop-pair : goal.invariant-loop-pair

@@ -1,7 +1,7 @@
 use Rattle.std.proofs.Common.{map}
-use Rattle.mm_proof.specs.CitedFrame.{mandatory_of}
-use Rattle.mm_proof.specs.Stack.{stack_of}
-use Rattle.mm_proof.specs.Given.{given_by, AreTypings}
+use Rattle.mm_proof.specs.Code.CitedFrame.{mandatory_of}
+use Rattle.mm_proof.specs.Code.Stack.{stack_of}
+use Rattle.mm_proof.specs.Code.Given.{given_by, AreTypings}
 use Rattle.mm_proof.proofs.GivenLemmas.{MatchesUpTo}
 use Rattle.mm_proof.proofs.replacing.Given.find.Given as goal
 

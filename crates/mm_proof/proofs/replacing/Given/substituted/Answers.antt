@@ -1,9 +1,9 @@
 use Rattle.std.proofs.Common.{◌+◌, ◌++◌, length, get_or, take, drop, sym, ◌∙◌, ap, arith, length-append, append_assoc}
 use Rattle.std.proofs.lemmas.List.{length-map}
-use Rattle.mm_frame.specs.Named.{symbol_of as named_symbol, symbols_of as named}
-use Rattle.mm_proof.specs.Substitution.{substituted as put_in, replacement}
-use Rattle.mm_proof.specs.Given.{given_by}
-use Rattle.mm_proof.specs.Stack.{symbol_of, symbols_of, stack_of}
+use Rattle.mm_frame.specs.Code.CodeSymbols.{symbol_of as named_symbol, symbols_of as named}
+use Rattle.mm_proof.specs.Language.Substitution.{substituted as put_in, replacement}
+use Rattle.mm_proof.specs.Code.Given.{given_by}
+use Rattle.mm_proof.specs.Code.Stack.{lent_symbol, lent_symbols, stack_of}
 use Rattle.mm_proof.proofs.GivenLemmas.{put_rest}
 use Rattle.mm_proof.proofs.replacing.Given.substituted.Goals as goal
 
@@ -19,4 +19,4 @@ returns-then-len-gt-LONGEST_RESULT c =
     let whole = put_rest given expression k s c.loop-symbol-test.true ∙ sym (append_assoc front (replacement given (named_symbol (get_or expression k s))) rest) ∙ ap (λ w. w ++ rest) (sym so_far) in
     let count = ap length whole in
     let many = c.if-len-gt-LONGEST_RESULT.true in
-    omega (arith, length-append (symbols_of c.put_symbol.new.symbols.items) rest, length-map c.put_symbol.new.symbols.items symbol_of, c.len.ensures, count)
+    omega (arith, length-append (lent_symbols c.put_symbol.new.symbols.items) rest, length-map c.put_symbol.new.symbols.items lent_symbol, c.len.ensures, count)

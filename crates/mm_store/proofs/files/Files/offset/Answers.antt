@@ -4,7 +4,7 @@ use Rattle.std.specs.Option.{option_map}
 use Rattle.std.specs.Global.{Global}
 use Rattle.std.specs.Map.Iter.{deref_pair}
 use Rattle.mm_store.specs.declared.files.FileText.{FileText}
-use Rattle.mm_store.specs.Inside.{IsFileKept, text_at}
+use Rattle.mm_store.specs.Code.Inside.{IsFileKept, text_at}
 use Rattle.mm_store.proofs.ByteLemmas.{byte_in, offset_in, small_in, start_read}
 use Rattle.mm_store.proofs.FilesLemmas.{kept_at}
 use Rattle.mm_store.proofs.PlaceLemmas.{piece_within}

@@ -1,5 +1,5 @@
 use Rattle.std.proofs.Common.{sym, ◌∙◌, subst}
-use Rattle.mm_store.specs.FileFacts.{IsLive}
+use Rattle.mm_store.specs.Language.FileFacts.{IsLive}
 use Rattle.mm_store.proofs.FilesLemmas.{live_is}
 use Rattle.mm_store.proofs.files.Files.own_keys.Goals as goal
 

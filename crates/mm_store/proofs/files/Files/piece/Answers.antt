@@ -1,7 +1,7 @@
 use Rattle.std.proofs.Common.{sym, ◌∙◌, subst, ap, length, arith}
-use Rattle.mm_store.specs.FileFacts.{IsLive}
+use Rattle.mm_store.specs.Language.FileFacts.{IsLive}
 use Rattle.mm_store.proofs.FilesLemmas.{live_is, text_read}
-use Rattle.mm_store.specs.Inside.{files_of}
+use Rattle.mm_store.specs.Code.Inside.{files_of}
 use Rattle.mm_store.proofs.ByteLemmas.{live_small}
 use Rattle.mm_store.proofs.files.Files.piece.Goals as goal
 

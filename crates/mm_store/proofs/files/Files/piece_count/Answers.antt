@@ -1,8 +1,8 @@
 use Rattle.std.proofs.Common.{Some, sym, ◌∙◌, ap, length}
 use Rattle.std.proofs.lemmas.List.{length-map}
 use Rattle.std.specs.Option.{option_map}
-use Rattle.mm_store.specs.FilesView.{find_file}
-use Rattle.mm_store.specs.Inside.{piece_of}
+use Rattle.mm_store.specs.Language.FilesView.{find_file}
+use Rattle.mm_store.specs.Code.Inside.{piece_of}
 use Rattle.mm_store.proofs.FilesLemmas.{found_is, none_is}
 use Rattle.mm_store.proofs.files.Files.piece_count.Goals as goal
 

@@ -5,9 +5,9 @@ use Rattle.std.specs.Option.{option_map}
 use Rattle.std.specs.Global.{Global}
 use Rattle.std.specs.Map.Iter.{deref_pair}
 use Rattle.std.proofs.lemmas.List.{length-map}
-use Rattle.mm_text.specs.Place.{is_line_feed}
+use Rattle.mm_text.specs.Language.Place.{is_line_feed}
 use Rattle.mm_store.specs.declared.files.FileText.{FileText}
-use Rattle.mm_store.specs.Inside.{text_at}
+use Rattle.mm_store.specs.Code.Inside.{text_at}
 use Rattle.mm_store.proofs.ByteLemmas.{byte_in, small_in}
 use Rattle.mm_store.proofs.files.Files.place.Goals as goal
 

@@ -3,12 +3,12 @@ use Rattle.std.specs.List.{concat}
 use Rattle.std.specs.Str.{bytes_eq}
 use Rattle.std.specs.Prelude.{All, List, Vec, ℕ}
 use Rattle.std.specs.Global.{Global}
-use Rattle.mm_text.specs.Reading.{HasWords}
+use Rattle.mm_text.specs.Language.Reading.{HasWords}
 use Rattle.mm_store.specs.declared.files.FileText.{FileText}
 use Rattle.mm_store.specs.declared.piece_text.PieceText.{PieceText}
-use Rattle.mm_store.specs.FilesView.{FilesView, bytes_of}
-use Rattle.mm_store.specs.Inside.{AreKept, IsPieceKept, file_of, files_of, keys_of_files, keys_from}
-use Rattle.mm_store.specs.Lines.{AreStarts}
+use Rattle.mm_store.specs.Language.FilesView.{FilesView, bytes_of}
+use Rattle.mm_store.specs.Code.Inside.{AreKept, IsPieceKept, file_of, files_of, keys_of_files, keys_from}
+use Rattle.mm_store.specs.Code.Lines.{AreStarts}
 use Rattle.mm_store.proofs.NewFileLemmas.{can_be_kept, file_added, fresh_pieces, new_texts, no_entries, ok_items, one_entry, tail_of}
 use Rattle.mm_store.proofs.files.Files.put_last.Goals as goal
 

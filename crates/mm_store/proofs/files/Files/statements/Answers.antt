@@ -5,13 +5,13 @@ use Rattle.std.proofs.lemmas.Option.{none-some, slice_get-map}
 use Rattle.std.specs.Prelude.{Vec, ℕ}
 use Rattle.std.specs.Global.{Global}
 use Rattle.mm_store.specs.declared.files.FileText.{FileText}
-use Rattle.mm_store.specs.FilesView.{FilesView, number_of, bytes_of}
-use Rattle.mm_store.specs.Inside.{piece_of, file_of, files_of}
-use Rattle.mm_store.specs.Expansion.{IsExpansion}
-use Rattle.mm_store.specs.Gains.{FileGains}
+use Rattle.mm_store.specs.Language.FilesView.{FilesView, number_of, bytes_of}
+use Rattle.mm_store.specs.Code.Inside.{piece_of, file_of, files_of}
+use Rattle.mm_store.specs.Language.Expansion.{IsExpansion}
+use Rattle.mm_store.specs.Code.Gains.{FileGains}
 use Rattle.mm_store.proofs.FilesLemmas.{number_is, file_small}
 use Rattle.mm_store.proofs.GainLemmas.{only_top, not_no_top}
-use Rattle.mm_store.specs.FileFacts.{HaveOwnKeys}
+use Rattle.mm_store.specs.Language.FileFacts.{HaveOwnKeys}
 use Rattle.mm_store.proofs.NameLemmas.{HoldUnits, expansion_names}
 use Rattle.mm_store.proofs.HeldLemmas.{keys_held, units_held}
 use Rattle.mm_store.proofs.StandLemmas.{expansion_read, expansion_stands}

@@ -1,8 +1,8 @@
 use Rattle.std.proofs.Common.{Some, sym, ◌∙◌, ap, map, ◌++◌}
 use Rattle.std.specs.List.{concat}
 use Rattle.std.specs.Option.{option_map}
-use Rattle.mm_store.specs.FilesView.{find_file, text_of}
-use Rattle.mm_store.specs.Inside.{text_at}
+use Rattle.mm_store.specs.Language.FilesView.{find_file, text_of}
+use Rattle.mm_store.specs.Code.Inside.{text_at}
 use Rattle.mm_store.proofs.FilesLemmas.{found_is, none_is, texts_are}
 use Rattle.mm_store.proofs.files.Files.text.Goals as goal
 

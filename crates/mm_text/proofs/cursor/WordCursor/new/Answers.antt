@@ -1,6 +1,6 @@
 use Rattle.std.proofs.Common.{◌≤◌, sym, ◌∙◌, ap, subst, length}
-use Rattle.mm_text.specs.Cursor.{words_from, AreLast}
-use Rattle.mm_text.specs.Reading.{HasWords}
+use Rattle.mm_text.specs.Code.Cursor.{words_from, AreLast}
+use Rattle.mm_text.specs.Language.Reading.{HasWords}
 use Rattle.mm_text.proofs.CursorLemmas.{all_left, at_first, few_words}
 use Rattle.mm_text.proofs.cursor.WordCursor.new.Goals as goal
 

@@ -1,8 +1,8 @@
 use Rattle.std.proofs.Common.{◌≡◌, ◌≤◌, length, slice_range, sym, ◌∙◌, Some, arith}
 use Rattle.std.proofs.lemmas.Result.{err_from_is_err_and}
-use Rattle.mm_text.specs.Spelling.{opening}
-use Rattle.mm_text.specs.LeftToRight.{kind_of}
-use Rattle.mm_text.specs.Reader.{runs_at, TakesSpan, SkipsComment, FailsInside}
+use Rattle.mm_text.specs.Language.Spelling.{opening}
+use Rattle.mm_text.specs.Code.LeftToRight.{word_kind}
+use Rattle.mm_text.specs.Code.Reader.{runs_at, TakesSpan, SkipsComment, FailsInside}
 use Rattle.mm_text.proofs.ReaderLemmas.{pass_word, pass_comment, pass_fails}
 use Rattle.mm_text.proofs.reader.Reader.next_word.Goals as goal
 
@@ -31,7 +31,7 @@ loop-span-preserved c =
 pub returns-in-Some-kind-clause-word : goal.returns-in-Some-kind-clause-word
 returns-in-Some-kind-clause-word c =
     let same = c.next_run.ensures.text ∙ c.loop-span.invariant.text in
-    let is : kind_of (slice_range c.next_run.new.self.text.now c.in-Some.span.start c.in-Some.span.end) ≡ Some c.in-Some-kind.kind = sym c.kind.ensures ∙ c.in-Some-kind.is in
+    let is : word_kind (slice_range c.next_run.new.self.text.now c.in-Some.span.start c.in-Some.span.end) ≡ Some c.in-Some-kind.kind = sym c.kind.ensures ∙ c.in-Some-kind.is in
     let run : TakesSpan c.loop-span.self.text.now c.loop-span.self.from c.in-Some.span c.next_run.new.self.from = c.in-Some.ensures.run in
     let within : c.next_run.new.self.from ≤ length c.next_run.new.self.text.now = c.next_run.new.self.in_text in
     pass_word c.args.self.now.text.now c.args.self.now.from c.loop-span.self.from c.in-Some.span c.next_run.new.self.from c.loop-span.invariant.passes (rw c.loop-span.invariant.text at run) c.in-Some-kind.kind (rw same at is) (rw same at within) c.loop-span.invariant.forward

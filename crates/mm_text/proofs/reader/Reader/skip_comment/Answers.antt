@@ -1,6 +1,6 @@
 use Rattle.std.proofs.Common.{◌≢◌, rules, slice_range, sym, ◌∙◌}
 use Rattle.std.proofs.lemmas.Bool.{false≢true}
-use Rattle.mm_text.specs.Spelling.{HoldsMark, closing}
+use Rattle.mm_text.specs.Language.Spelling.{HoldsMark, closing}
 use Rattle.mm_text.proofs.KindLemmas.{mark_stands, stands_mark}
 use Rattle.mm_text.proofs.ReaderLemmas.{skip_more, skip_fault}
 use Rattle.mm_text.proofs.reader.Reader.skip_comment.Goals as goal

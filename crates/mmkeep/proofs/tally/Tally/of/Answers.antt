@@ -1,5 +1,5 @@
 use Rattle.std.proofs.Common.{◌∙◌}
-use Rattle.mmkeep.specs.Report.{is_axiom, is_proved, is_wrong, is_fault}
+use Rattle.mmkeep.specs.Language.Report.{is_axiom, is_proved, is_wrong, is_fault}
 use Rattle.mmkeep.proofs.ReportLemmas.{count_told}
 use Rattle.mmkeep.proofs.tally.Tally.of.Goals as goal
 

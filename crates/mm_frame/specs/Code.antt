@@ -1,0 +1,20 @@
+-- What the code keeps: private contracts and loop invariants cite it.
+pub mod BlockMarks
+pub mod BlockEnds
+pub mod KeptBlocks
+pub mod LastItems
+pub mod FaultInOrder
+pub mod KeptTables
+pub mod PlainWords
+pub mod KeptStatement
+pub mod SpokenProof
+pub mod KeptScope
+pub mod SeenNames
+pub mod CodeSymbols
+pub mod KeptSymbols
+pub mod KeptEarlier
+pub mod KeptActive
+pub mod KeptPairLists
+pub mod KeptBase
+pub mod PairOrder
+pub mod KeptPairTable

@@ -1,0 +1,15 @@
+-- What is left of the numbers of active items behind the end of a block.
+use Rattle.std.specs.Prelude.{◌≡◌, ℕ, ◌+◌, true, false, List, [], ◌∷◌, ◌++◌, drop, Contains}
+use Rattle.mm_frame.specs.Language.Scope.{Mark}
+use Rattle.mm_frame.specs.Code.BlockMarks.{stays_by}
+use Rattle.mm_frame.specs.declared.active.ActiveNumbers.TheInside.{Inside}
+
+abbrev pub numbers_inside : Inside → List ℕ
+numbers_inside inside = inside.numbers.items
+
+-- what went stood last and is active no more, and the last number that is left is that of an active item
+pub record IsPruned (marks : List Mark) (old new : List ℕ) : Type 0 where
+  pub gone : List ℕ
+  pub parts : old ≡ new ++ gone
+  pub ended : (n : ℕ) → Contains gone n → stays_by (drop (n + 1) marks) ≡ false
+  pub last : (front : List ℕ) (n : ℕ) → new ≡ front ++ n ∷ [] → stays_by (drop (n + 1) marks) ≡ true

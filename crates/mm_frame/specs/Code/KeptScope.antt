@@ -1,0 +1,26 @@
+-- What a reader keeps of the items so far to judge the next one: what they declare, what they do to the blocks, and the typecode of each.
+use Rattle.std.specs.Prelude.{◌≡◌, ℕ, Bool, true, if◌then◌else◌, List, [], ◌∷◌, ◌++◌, map}
+use Rattle.mm_frame.specs.declared.scope.Scope.{Scope}
+use Rattle.mm_frame.specs.Language.Item.{Item, passed, typecode_of}
+use Rattle.mm_frame.specs.Code.BlockMarks.{marks_of}
+use Rattle.mm_frame.specs.Language.Sound.{IsSound, AreSound}
+use Rattle.mm_frame.specs.Code.KeptTables.{Knows}
+
+-- the typecodes that are kept, by the numbers of the items
+abbrev pub typecodes_of : Scope → List (List ℕ)
+typecodes_of scope = map (λ typecode. typecode.now) scope.typecodes.items
+
+-- the scope is that behind these items
+pub record ScopeHolds (before : List Item) (scope : Scope) : Type 0 where
+  pub knows : Knows before scope.tables
+  pub marks : scope.blocks ≡ marks_of before
+  pub types : typecodes_of scope ≡ map typecode_of before
+
+-- what is kept of an item: the item where it is sound, and else what stands in its place
+abbrev pub taken : Bool → Item → Item
+taken sound item = if sound then item else passed
+
+-- the scope takes one more item, which is sound if it is said to be so
+abbrev pub ScopeTakes : Scope → Item → Bool → Scope → Type 0
+ScopeTakes old item sound new = (before : List Item) → AreSound before → ScopeHolds before old → (sound ≡ true → IsSound before item)
+    → ScopeHolds (before ++ taken sound item ∷ []) new

@@ -1,0 +1,28 @@
+-- The words of a statement between its keywords.
+use Rattle.std.specs.Prelude.{◌≡◌, ℕ, ◌≤◌, Bool, true, false, Option, Some, None, List, ◌∷◌, length, map, take, slice_range}
+use Rattle.std.specs.List.{prefix_len}
+use Rattle.mm_text.specs.declared.word.Word.{Word}
+use Rattle.mm_frame.specs.Language.Statement.{is_plain_kind}
+
+-- how a word is spelled
+abbrev pub bytes_in : List ℕ → Word → List ℕ
+bytes_in text word = slice_range text word.start word.end
+
+-- the words before the first keyword
+abbrev pub plain_words : List Word → List Word
+plain_words words = take (prefix_len (λ word. is_plain_kind word.kind) words) words
+
+-- how they are spelled
+abbrev pub plain_bytes : List ℕ → List Word → List (List ℕ)
+plain_bytes text words = map (bytes_in text) (plain_words words)
+
+-- the first word is taken where it is a label
+abbrev pub TakesLabel : Bool → List Word → Option Word → List Word → Type 0
+TakesLabel true old (Some word) new = old ≡ word ∷ new
+TakesLabel true old None new = ⊥
+TakesLabel false old (Some word) new = ⊥
+TakesLabel false old None new = new ≡ old
+
+-- the word's bytes are bytes of the text
+abbrev pub LiesInText : List ℕ → Word → Type 0
+LiesInText text word = (word.start ≤ word.end) × (word.end ≤ length text)

@@ -1,0 +1,92 @@
+-- What a base answers: which items are sound, and what each sound one means, as functions of what the items say (Metamath book, section 4.2).
+use Rattle.std.specs.Prelude.{◌≡◌, ◌<◌, ◌↔◌, ℕ, suc, Bool, true, ◌&&◌, if◌then◌else◌, Option, Some, None, is_none, List, take, drop, map, All, AllPairs}
+use Rattle.std.specs.Prelude.{Contains}
+use Rattle.std.specs.List.{AllZip}
+use Rattle.mm_store.specs.declared.item.Item as store
+use Rattle.mm_store.specs.Language.FilesView.{FilesView}
+use Rattle.mm_store.specs.Language.Expansion.{IsExpansion}
+use Rattle.mm_frame.specs.declared.FrameNumber.{FrameNumber}
+use Rattle.mm_frame.specs.declared.FrameNumber.TheVariants.{F14}
+use Rattle.mm_frame.specs.Language.Frame.{Symbol, Mandatory, Frame}
+use Rattle.mm_frame.specs.Language.Item.{Kind, Missing, Item, is_labelled, is_assertion, is_theorem, item_at}
+use Rattle.mm_frame.specs.Language.Sound.{fault, sound_items}
+use Rattle.mm_frame.specs.Language.Statement.{Says}
+use Rattle.mm_frame.specs.Language.Scope.{stays}
+use Rattle.mm_frame.specs.Language.Framing.{expression, hypothesis, mandatory_variables, is_mandatory, frame}
+
+-- what a base stands for: the items of the files, and what each says
+pub record BaseView : Type 0 where
+  pub found : List store.Item
+  pub said : List Item
+
+-- they are the items of these files from the top file on
+pub record IsOfFiles (files : FilesView) (top : List ℕ) (base : BaseView) : Type 0 where
+  pub expansion : IsExpansion files.files top base.found
+  pub each : AllZip (Says files) base.found base.said
+
+-- what each item says is what its words say, in some files
+abbrev pub AreSaid : BaseView → Type 0
+AreSaid base = (files : FilesView) × AllZip (Says files) base.found base.said
+
+-- the sound items before the one with this number, with a placeholder for each one at fault
+abbrev pub before : BaseView → ℕ → List Item
+before base i = sound_items (take i base.said)
+
+-- what the item with this number says
+abbrev pub said_at : BaseView → ℕ → Item
+said_at base i = item_at base.said i
+
+-- F14 at the name of a missing file, and else the fault of the statement
+abbrev pub fault_by : Kind → Option (ℕ × FrameNumber) → Option (ℕ × FrameNumber)
+fault_by Missing statement = Some (1, F14)
+fault_by _ statement = statement
+
+-- the fault of an item behind the sound ones before it
+abbrev pub told_fault : List Item → Item → Option (ℕ × FrameNumber)
+told_fault before item = fault_by item.kind (fault before item)
+
+-- the fault of the item with this number
+abbrev pub fault_at : BaseView → ℕ → Option (ℕ × FrameNumber)
+fault_at base i = told_fault (before base i) (said_at base i)
+
+-- it has none
+abbrev pub is_sound_at : BaseView → ℕ → Bool
+is_sound_at base i = is_none (fault_at base i)
+
+-- the expression of a sound `$f`, `$e`, `$a` or `$p`
+abbrev pub expression_at : BaseView → ℕ → Option (List Symbol)
+expression_at base i = if is_sound_at base i && is_labelled (said_at base i).kind then Some (expression (before base i) (said_at base i)) else None
+
+-- the item with this number is a sound `$f`, `$e`, `$a` or `$p`
+abbrev pub is_shown_at : BaseView → ℕ → Bool
+is_shown_at base i = is_sound_at base i && is_labelled (said_at base i).kind
+
+-- it is a sound `$a` or `$p`
+abbrev pub is_framed_at : BaseView → ℕ → Bool
+is_framed_at base i = is_sound_at base i && is_assertion (said_at base i).kind
+
+-- it is a sound `$p`
+abbrev pub is_proof_at : BaseView → ℕ → Bool
+is_proof_at base i = is_sound_at base i && is_theorem (said_at base i).kind
+
+-- the hypothesis with this number, as it is read at its own place
+abbrev pub hypothesis_at : BaseView → ℕ → Mandatory
+hypothesis_at base n = hypothesis (before base n) (said_at base n)
+
+-- the frame of the assertion with this number
+abbrev pub frame_at : BaseView → ℕ → Frame
+frame_at base i = frame (before base i) (said_at base i)
+
+-- item n is an active hypothesis that is mandatory for item i
+pub record IsMandatoryAt (base : BaseView) (i n : ℕ) : Type 0 where
+  pub earlier : n < i
+  pub shown : is_shown_at base n ≡ true
+  pub active : stays (drop (suc n) (before base i)) ≡ true
+  pub mandatory : is_mandatory (mandatory_variables (before base i) (said_at base i)) (said_at base n) ≡ true
+
+-- these are the numbers of all of them, rising; by them, in order, the hypotheses of the frame are told, each as it is read at its own place
+pub record AreHypotheses (base : BaseView) (i : ℕ) (numbers : List ℕ) : Type 0 where
+  pub which : (n : ℕ) → Contains numbers n ↔ IsMandatoryAt base i n
+  pub rise : AllPairs (λ m n. m < n) numbers
+  pub each : All (λ n. (n < i) × (is_shown_at base n ≡ true)) numbers
+  pub are : map (hypothesis_at base) numbers ≡ (frame_at base i).hypotheses

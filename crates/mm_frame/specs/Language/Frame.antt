@@ -1,0 +1,48 @@
+-- Symbols, mandatory hypotheses, frames, and what a label means at a statement: the words that frames and proofs share (Metamath book, section 4.2).
+use Rattle.std.specs.Prelude.{◌≡◌, ◌↔◌, ℕ, Bool, true, ◌⊎◌, List, Contains}
+
+-- A symbol is a name, as a constant or as a variable.
+pub record Symbol : Type 0 where
+  pub name : List ℕ
+  pub variable : Bool
+
+-- A mandatory hypothesis: a `$f` or else a `$e`, with its expression.
+pub record Mandatory : Type 0 where
+  pub floating : Bool
+  pub expression : List Symbol
+
+-- What citing an assertion needs and gives.
+pub record Frame : Type 0 where
+  pub expression : List Symbol
+  pub hypotheses : List Mandatory
+  pub pairs : List (Symbol × Symbol)
+
+-- What a label means at a statement.
+pub data Resolved : Type 0 where
+  Hypothesis : List Symbol → Resolved
+  Assertion : Frame → Resolved
+  Inactive : Resolved
+  Unknown : Resolved
+
+-- What a proof is read against: the labels' meaning there, and all active pairs.
+pub record Setting : Type 0 where
+  pub resolve : List ℕ → Resolved
+  pub active : List (Symbol × Symbol)
+
+-- the two variables are one of the pairs, in one order or the other
+abbrev pub ArePair : List (Symbol × Symbol) → Symbol → Symbol → Type 0
+ArePair pairs x y = Contains pairs (x, y) ⊎ Contains pairs (y, x)
+
+-- x is a variable that stands in the list
+abbrev pub HasVariable : List Symbol → Symbol → Type 0
+HasVariable symbols x = Contains symbols x × (x.variable ≡ true)
+
+-- the same unordered pairs
+abbrev pub AreSamePairs : List (Symbol × Symbol) → List (Symbol × Symbol) → Type 0
+AreSamePairs pairs others = (x y : Symbol) → ArePair pairs x y ↔ ArePair others x y
+
+-- the same frame
+pub record AreSameFrame (frame other : Frame) : Type 0 where
+  pub expression : frame.expression ≡ other.expression
+  pub hypotheses : frame.hypotheses ≡ other.hypotheses
+  pub pairs : AreSamePairs frame.pairs other.pairs

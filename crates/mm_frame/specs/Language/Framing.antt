@@ -1,0 +1,89 @@
+-- Frames: the mandatory variables, hypotheses and pairs of an assertion, and what a label means at a statement (Metamath book, section 4.2).
+use Rattle.std.specs.Prelude.{ℕ, Bool, ◌&&◌, ◌||◌, if◌then◌else◌, List, [], ◌∷◌, ◌++◌, take, map, filter, flat_map}
+use Rattle.mm_frame.specs.Language.Frame.{Symbol, Mandatory, Frame, Resolved, Hypothesis, Assertion, Inactive, Unknown, Setting}
+use Rattle.mm_frame.specs.Language.Item.{Item, item_at, is_disjoint, is_floating, is_essential, is_assertion, has, labels_of, variable_of}
+use Rattle.mm_frame.specs.Language.Scope.{stays, active, active_numbers, symbols_by, active_variables}
+use Rattle.mm_frame.specs.Language.Sound.{sound_items}
+
+-- what a name is behind these items
+abbrev pub symbol : List Item → List ℕ → Symbol
+symbol before name = record { name = name; variable = has (active_variables before) name }
+
+-- the expression of a statement
+abbrev pub expression : List Item → Item → List Symbol
+expression before item = map (symbol before) item.symbols
+
+-- the variables of an assertion's expression and of its active `$e`
+abbrev pub mandatory_variables : List Item → Item → List (List ℕ)
+mandatory_variables before item = filter (has (active_variables before)) (item.symbols ++ symbols_by is_essential (active before))
+
+-- an `$e`, or the `$f` of a mandatory variable
+abbrev pub is_mandatory : List (List ℕ) → Item → Bool
+is_mandatory mandatory item = is_essential item.kind || (is_floating item.kind && has mandatory (variable_of item))
+
+-- a hypothesis as it is read behind these items
+abbrev pub hypothesis : List Item → Item → Mandatory
+hypothesis before item = record { floating = is_floating item.kind; expression = expression before item }
+
+-- the active hypotheses that are mandatory, in order of occurrence
+abbrev pub mandatory_hypotheses : List Item → Item → List Mandatory
+mandatory_hypotheses before item = map (hypothesis before) (filter (is_mandatory (mandatory_variables before item)) (active before))
+
+-- the numbers of the mandatory hypotheses of a statement behind the items, in order
+abbrev pub mandatory_numbers : List Item → Item → List ℕ
+mandatory_numbers before item = active_numbers (is_mandatory (mandatory_variables before item)) before
+
+-- each with each later one
+abbrev pub pairs_of : List Symbol → List (Symbol × Symbol)
+pairs_of [] = []
+pairs_of (x ∷ xs) = map (λ y. (x, y)) xs ++ pairs_of xs
+
+-- the pairs of the active `$d`
+abbrev pub active_pairs : List Item → List (Symbol × Symbol)
+active_pairs before = flat_map (λ item. if is_disjoint item.kind then pairs_of (expression before item) else []) (active before)
+
+-- both are mandatory
+abbrev pub is_mandatory_pair : List (List ℕ) → Symbol × Symbol → Bool
+is_mandatory_pair mandatory pair = has mandatory pair.0.name && has mandatory pair.1.name
+
+-- the frame of an assertion behind these items
+abbrev pub frame : List Item → Item → Frame
+frame before item = record {
+  expression = expression before item;
+  hypotheses = mandatory_hypotheses before item;
+  pairs = filter (is_mandatory_pair (mandatory_variables before item)) (active_pairs before);
+}
+
+-- what the label of an item means, with the items before it and those behind it
+abbrev pub meaning : List Item → List Item → Item → List Item → Resolved
+meaning whole front item back =
+    if is_assertion item.kind then Assertion (frame front item)
+    else if stays back then Hypothesis (expression whole item)
+    else Inactive
+
+-- what a label means in the whole list, where it is looked for from the back part on
+abbrev pub resolve_from : List Item → List Item → List Item → List ℕ → Resolved
+resolve_from whole front [] label = Unknown
+resolve_from whole front (item ∷ back) label =
+    if has (labels_of item) label then meaning whole front item back
+    else resolve_from whole (front ++ item ∷ []) back label
+
+-- what a label means behind these items
+abbrev pub resolve : List Item → List ℕ → Resolved
+resolve before label = resolve_from before [] before label
+
+-- what a proof behind these items is read against
+abbrev pub setting : List Item → Setting
+setting before = record { resolve = resolve before; active = active_pairs before }
+
+-- the sound items before number j
+abbrev pub before_of : List Item → ℕ → List Item
+before_of items j = sound_items (take j items)
+
+-- what the proof of item j is read against
+abbrev pub setting_of : List Item → ℕ → Setting
+setting_of items j = setting (before_of items j)
+
+-- the expression that the proof of item j is of
+abbrev pub statement_of : List Item → ℕ → List Symbol
+statement_of items j = expression (before_of items j) (item_at items j)

@@ -1,0 +1,92 @@
+-- What is proved of scopes, soundness and frames: each is the contract of a function.
+use Rattle.std.specs.Prelude.{◌≡◌, ℕ, ◌<◌, ◌≤◌, ◌↔◌, ◌⊎◌, true, Some, None, List, [], ◌∷◌, ◌++◌, map, take, count_by, slice_get}
+use Rattle.mm_store.specs.Language.FilesView.{FilesView}
+use Rattle.mm_store.specs.Language.FileFacts.{HaveOwnKeys}
+use Rattle.mm_store.specs.Language.Keyless.{keyless_file, keyless_item}
+use Rattle.mm_frame.specs.Language.Typing.{HasFrames}
+use Rattle.mm_frame.specs.Language.Item.{Item}
+use Rattle.mm_frame.specs.Language.Numbered.{IsActive, between}
+use Rattle.mm_frame.specs.Language.Scope.{Neither, mark_of, closed, stays, active, is_start, is_end}
+use Rattle.mm_frame.specs.declared.FrameNumber.{FrameNumber}
+use Rattle.mm_frame.specs.Language.Sound.{IsSound, IsStatementFault, fault, judged, sound_items}
+use Rattle.mm_frame.specs.Language.Framing.{setting_of, mandatory_numbers}
+use Rattle.mm_frame.specs.Language.Base.{BaseView, IsOfFiles, AreSaid, AreHypotheses, IsMandatoryAt, before, said_at, is_shown_at}
+use Rattle.mm_frame.specs.Language.Resolving.{IsCarrier, Resolves}
+use Rattle.mm_frame.specs.declared.base.Resolved.TheVariants as answers
+use Rattle.mm_frame.specs.Language.ScopeStack.{read_scopes, all_of, statements}
+
+-- At every item of every list, what the theory of proofs needs is known of each label that resolves to an assertion.
+abbrev pub PlacesHaveFrames : Type 0
+PlacesHaveFrames = (items : List Item) (j : ℕ) → HasFrames (setting_of items j)
+
+-- A statement has one fault at most.
+abbrev pub HasOneStatementFault : Type 0
+HasOneStatementFault = (before : List Item) (item : Item) (w v : ℕ) (n m : FrameNumber)
+    → IsStatementFault before item w n → IsStatementFault before item v m → (w ≡ v) × (n ≡ m)
+
+-- It has a fault, or is sound.
+abbrev pub HasFaultOrIsSound : Type 0
+HasFaultOrIsSound = (before : List Item) (item : Item) → ((w : ℕ) × (n : FrameNumber) × IsStatementFault before item w n) ⊎ IsSound before item
+
+-- It is never both.
+abbrev pub NeverFaultAndSound : Type 0
+NeverFaultAndSound = (before : List Item) (item : Item) (w : ℕ) (n : FrameNumber) → IsStatementFault before item w n → IsSound before item → ⊥
+
+-- The fault that is computed is the fault.
+abbrev pub FaultIsFound : Type 0
+FaultIsFound = (before : List Item) (item : Item) (w : ℕ) (n : FrameNumber) → (fault before item ≡ Some (w, n)) ↔ IsStatementFault before item w n
+
+-- None is computed exactly for sound statements.
+abbrev pub SoundHasNone : Type 0
+SoundHasNone = (before : List Item) (item : Item) → (fault before item ≡ None) ↔ IsSound before item
+
+-- One more item is judged against the sound ones before it.
+abbrev pub KeptNext : Type 0
+KeptNext = (items : List Item) (item : Item) → sound_items (items ++ item ∷ []) ≡ sound_items items ++ judged item (fault (sound_items items) item) ∷ []
+
+-- Items close no block that was open before them exactly where no beginning of them has more `$}` than `${`.
+abbrev pub StaysByCounts : Type 0
+StaysByCounts = (items : List Item) → (stays items ≡ true) ↔ ((k : ℕ) → count_by is_end (take k items) ≤ count_by is_start (take k items))
+
+-- The statements in the scopes of the stack are those that are active.
+abbrev pub ReaderIsActive : Type 0
+ReaderIsActive = (items : List Item) → closed items ≡ 0 → all_of (read_scopes ([] ∷ []) items) ≡ statements (active items)
+
+-- A statement is active at a later one exactly where the items between them close no block that was open before them.
+abbrev pub ActiveByBlocks : Type 0
+ActiveByBlocks = (items : List Item) (i j : ℕ) (x y : Item) → stays items ≡ true → slice_get items i ≡ Some x → slice_get items j ≡ Some y
+    → mark_of x.kind ≡ Neither → mark_of y.kind ≡ Neither → i < j → (stays (between items i j) ≡ true) ↔ IsActive items i j
+
+-- Each sound `$f`, `$e`, `$a` and `$p` has a label.
+abbrev pub ItemsHaveLabels : Type 0
+ItemsHaveLabels = (base : BaseView) → AreSaid base → (j : ℕ) → is_shown_at base j ≡ true → (label : List ℕ) × ((said_at base j).label ≡ Some label)
+
+-- Two sound items with one label are one.
+abbrev pub HasOwnLabels : Type 0
+HasOwnLabels = (base : BaseView) (j k : ℕ) (label : List ℕ) → IsCarrier base label j → IsCarrier base label k → j ≡ k
+
+-- A mandatory hypothesis of an item is what its label means there.
+abbrev pub MandatoryMeans : Type 0
+MandatoryMeans = (base : BaseView) (i n : ℕ) (label : List ℕ) → IsCarrier base label n → IsMandatoryAt base i n → Resolves base i label (answers.Hypothesis n)
+
+-- The mandatory hypotheses of an item are sound and stand before it, and are those of its frame.
+abbrev pub MandatoryStandBefore : Type 0
+MandatoryStandBefore = (base : BaseView) (i : ℕ) → AreHypotheses base i (mandatory_numbers (before base i) (said_at base i))
+
+-- Files in which a key has one text have one base from a top file on.
+abbrev pub FilesHaveOneBase : Type 0
+FilesHaveOneBase = (files : FilesView) (top : List ℕ) (base other : BaseView) → HaveOwnKeys files → IsOfFiles files top base → IsOfFiles files top other
+    → base ≡ other
+
+-- two bases of files that are the same but for the keys of their pieces
+pub record AreAlikeBases (a b : FilesView) (top : List ℕ) (base other : BaseView) : Type 0 where
+  pub files : map keyless_file a.files ≡ map keyless_file b.files
+  pub keys : HaveOwnKeys a
+  pub other_keys : HaveOwnKeys b
+  pub is_base : IsOfFiles a top base
+  pub is_other : IsOfFiles b top other
+
+-- Such bases are the same but for keys: their items say the same.
+abbrev pub AlikeFilesSayTheSame : Type 0
+AlikeFilesSayTheSame = (a b : FilesView) (top : List ℕ) (base other : BaseView) → AreAlikeBases a b top base other
+    → (map keyless_item base.found ≡ map keyless_item other.found) × (base.said ≡ other.said)

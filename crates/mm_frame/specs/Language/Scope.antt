@@ -1,0 +1,101 @@
+-- Scopes: what is declared, and what is active behind a list of items (Metamath book, section 4.2).
+use Rattle.std.specs.Prelude.{ℕ, zero, suc, pred, Bool, true, false, ◌&&◌, if◌then◌else◌, ltb, List, [], ◌∷◌, filter, map, flat_map, count_by}
+use Rattle.mm_frame.specs.Language.Item.{Kind, BlockStart, BlockEnd, Item, is_constants, is_variables, is_floating, labels_of, variable_of}
+
+-- What an item does to the blocks that are open.
+pub data Mark : Type 0 where
+  Opens : Mark
+  Closes : Mark
+  Neither : Mark
+
+-- `${` opens a block, `$}` closes one
+abbrev pub mark_of : Kind → Mark
+mark_of BlockStart = Opens
+mark_of BlockEnd = Closes
+mark_of _ = Neither
+
+-- what an item makes of the count of earlier blocks that the items behind it close
+abbrev pub closed_at : Mark → ℕ → ℕ
+closed_at Opens count = pred count
+closed_at Closes count = suc count
+closed_at Neither count = count
+
+-- how many of the blocks that were open before them the items close
+abbrev pub closed : List Item → ℕ
+closed [] = zero
+closed (item ∷ items) = closed_at (mark_of item.kind) (closed items)
+
+-- none
+abbrev pub is_zero : ℕ → Bool
+is_zero zero = true
+is_zero (suc count) = false
+
+-- the items close no block that was open before them
+abbrev pub stays : List Item → Bool
+stays items = is_zero (closed items)
+
+-- the items, in order, whose blocks are open at the end
+abbrev pub active : List Item → List Item
+active [] = []
+active (item ∷ items) = if stays items then item ∷ active items else active items
+
+-- the numbers, counted from this one, of the items that are active behind the list and pass a test
+abbrev pub active_numbers_from : (Item → Bool) → ℕ → List Item → List ℕ
+active_numbers_from test n [] = []
+active_numbers_from test n (item ∷ items) =
+    if stays items && test item then n ∷ active_numbers_from test (suc n) items
+    else active_numbers_from test (suc n) items
+
+-- the numbers of the active items that pass a test, in order
+abbrev pub active_numbers : (Item → Bool) → List Item → List ℕ
+active_numbers test items = active_numbers_from test 0 items
+
+-- a block is opened
+abbrev pub opens : Mark → Bool
+opens Opens = true
+opens _ = false
+
+-- a block is closed
+abbrev pub closes : Mark → Bool
+closes Closes = true
+closes _ = false
+
+-- a `${`
+abbrev pub is_start : Item → Bool
+is_start item = opens (mark_of item.kind)
+
+-- a `$}`
+abbrev pub is_end : Item → Bool
+is_end item = closes (mark_of item.kind)
+
+-- a block is open at the end
+abbrev pub is_inside : List Item → Bool
+is_inside items = ltb (count_by is_end items) (count_by is_start items)
+
+-- the symbols of those items that pass a test of their kind
+abbrev pub symbols_by : (Kind → Bool) → List Item → List (List ℕ)
+symbols_by test items = flat_map (λ item. if test item.kind then item.symbols else []) items
+
+-- the declared constants
+abbrev pub constants : List Item → List (List ℕ)
+constants items = symbols_by is_constants items
+
+-- the declared variables, active or not
+abbrev pub variables : List Item → List (List ℕ)
+variables items = symbols_by is_variables items
+
+-- the labels, active or not
+abbrev pub labels : List Item → List (List ℕ)
+labels items = flat_map labels_of items
+
+-- the variables that are active at the end
+abbrev pub active_variables : List Item → List (List ℕ)
+active_variables items = variables (active items)
+
+-- the `$f` among these
+abbrev pub floats : List Item → List Item
+floats items = filter (λ item. is_floating item.kind) items
+
+-- the variables with an active `$f`
+abbrev pub typed : List Item → List (List ℕ)
+typed items = map variable_of (floats (active items))

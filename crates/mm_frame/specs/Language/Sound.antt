@@ -1,0 +1,206 @@
+-- Soundness: the fault of a statement behind the sound ones before it, and the items with each statement at fault passed over
+-- (Metamath book, sections 4.1 and 4.2).
+use Rattle.std.specs.Prelude.{◌≡◌, ℕ, zero, suc, ◌+◌, ◌-◌, ◌≤◌, Bool, true, false, not, ◌&&◌, ◌||◌, ltb, leb, ◌==◌, Option, Some, None, List, [], ◌∷◌, ◌++◌}
+use Rattle.std.specs.Prelude.{length, take, bytes_eq, slice_get, find}
+use Rattle.std.specs.List.{list_any}
+use Rattle.mm_frame.specs.declared.FrameNumber.{FrameNumber}
+use Rattle.mm_frame.specs.declared.FrameNumber.TheVariants.{F01, F02, F03, F04, F05, F06, F07, F08, F09, F10, F11, F12, F13, F14}
+use Rattle.mm_frame.specs.Language.Item.{Kind, Constants, Variables, Disjoint, Floating, Essential, Axiom, Theorem, Item, passed, is_constants, is_variables}
+use Rattle.mm_frame.specs.Language.Item.{is_disjoint, is_floating, is_declaring, is_expression, is_labelled, has, labels_of, typecode_of, variable_of}
+use Rattle.mm_frame.specs.Language.Scope.{is_inside, constants, variables, labels, active_variables, floats, typed}
+
+-- the word of the first symbol
+abbrev pub first_symbol : Item → ℕ
+first_symbol item = length (labels_of item) + 1
+
+-- the word of the `$.` or `$=` behind the last symbol
+abbrev pub closing_word : Item → ℕ
+closing_word item = first_symbol item + length item.symbols
+
+-- the test of a symbol, where there is one
+abbrev pub passes : (List ℕ → Bool) → Option (List ℕ) → Bool
+passes test None = false
+passes test (Some name) = test name
+
+-- the word is that of a symbol, and its place among the symbols and the symbol pass the test
+abbrev pub at_symbol : (ℕ → List ℕ → Bool) → Item → ℕ → Bool
+at_symbol test item word = leb (first_symbol item) word && passes (test (word - first_symbol item)) (slice_get item.symbols (word - first_symbol item))
+
+-- a test of each symbol
+abbrev pub each : (List ℕ → Bool) → ℕ → List ℕ → Bool
+each test n name = test name
+
+-- a test of the first symbol alone
+abbrev pub first : (List ℕ → Bool) → ℕ → List ℕ → Bool
+first test n name = n == 0 && test name
+
+-- a test of the second symbol alone
+abbrev pub second : (List ℕ → Bool) → ℕ → List ℕ → Bool
+second test n name = n == 1 && test name
+
+-- a test of each symbol behind the first
+abbrev pub later : (List ℕ → Bool) → ℕ → List ℕ → Bool
+later test n name = ltb 0 n && test name
+
+-- the third symbol
+abbrev pub is_third : ℕ → List ℕ → Bool
+is_third n name = n == 2
+
+-- the symbol stands before it in the same statement
+abbrev pub is_repeated : Item → ℕ → List ℕ → Bool
+is_repeated item n name = has (take n item.symbols) name
+
+-- a constant, or a variable, active or not
+abbrev pub is_declared : List Item → List ℕ → Bool
+is_declared before name = has (constants before) name || has (variables before) name
+
+-- a constant, or an active variable
+abbrev pub is_active_symbol : List Item → List ℕ → Bool
+is_active_symbol before name = has (constants before) name || has (active_variables before) name
+
+-- a label, active or not
+abbrev pub is_label : List Item → List ℕ → Bool
+is_label before name = has (labels before) name
+
+-- no constant
+abbrev pub is_no_constant : List Item → List ℕ → Bool
+is_no_constant before name = not (has (constants before) name)
+
+-- no active variable
+abbrev pub is_no_variable : List Item → List ℕ → Bool
+is_no_variable before name = not (has (active_variables before) name)
+
+-- no constant and no active variable
+abbrev pub is_no_active_symbol : List Item → List ℕ → Bool
+is_no_active_symbol before name = not (is_active_symbol before name)
+
+-- an active variable with no active `$f`
+abbrev pub is_untyped : List Item → List ℕ → Bool
+is_untyped before name = has (active_variables before) name && not (has (typed before) name)
+
+-- a variable with an active `$f`
+abbrev pub is_typed : List Item → List ℕ → Bool
+is_typed before name = has (typed before) name
+
+-- another `$f`, active or not, gives the variable another typecode
+abbrev pub is_typed_otherwise : List Item → Item → List ℕ → Bool
+is_typed_otherwise before item name = list_any (λ other.
+    bytes_eq (variable_of other) name && not (bytes_eq (typecode_of other) (typecode_of item))) (floats before)
+
+-- the statement has too few symbols
+abbrev pub is_short : Kind → ℕ → Bool
+is_short Constants count = count == 0
+is_short Variables count = count == 0
+is_short Disjoint count = ltb count 2
+is_short Floating count = ltb count 2
+is_short Essential count = count == 0
+is_short Axiom count = count == 0
+is_short Theorem count = count == 0
+is_short _ count = false
+
+-- the fault of this number holds at this word for a statement behind these items
+abbrev pub line_holds : List Item → Item → ℕ → FrameNumber → Bool
+-- too few symbols, or a third one of a `$f`
+line_holds before item word F01 = (is_short item.kind (length item.symbols) && word == closing_word item)
+    || (is_floating item.kind && at_symbol is_third item word)
+-- a `$c` in a block
+line_holds before item word F02 = is_constants item.kind && (word == 0 && is_inside before)
+-- a symbol that stands earlier in the same `$c`, `$v` or `$d`
+line_holds before item word F03 = (is_declaring item.kind || is_disjoint item.kind) && at_symbol (is_repeated item) item word
+-- a `$c` of what was ever declared, or a `$v` of a constant or an active variable
+line_holds before item word F04 =
+    (is_constants item.kind && at_symbol (each (is_declared before)) item word)
+    || (is_variables item.kind && at_symbol (each (is_active_symbol before)) item word)
+-- a declared symbol that is a label
+line_holds before item word F05 = is_declaring item.kind && at_symbol (each (is_label before)) item word
+-- a label that is a label already
+line_holds before item word F06 = word == 0 && list_any (is_label before) (labels_of item)
+-- a label that is a declared symbol
+line_holds before item word F07 = word == 0 && list_any (is_declared before) (labels_of item)
+-- a typecode that is no constant
+line_holds before item word F08 = is_labelled item.kind && at_symbol (first (is_no_constant before)) item word
+-- no active variable in a `$d`, or as the second symbol of a `$f`
+line_holds before item word F09 =
+    (is_disjoint item.kind && at_symbol (each (is_no_variable before)) item word)
+    || (is_floating item.kind && at_symbol (second (is_no_variable before)) item word)
+-- behind the typecode, neither a constant nor an active variable
+line_holds before item word F10 = is_expression item.kind && at_symbol (later (is_no_active_symbol before)) item word
+-- behind the typecode, an active variable that no active `$f` types
+line_holds before item word F11 = is_expression item.kind && at_symbol (later (is_untyped before)) item word
+-- a `$f` of a variable that an active `$f` types
+line_holds before item word F12 = is_floating item.kind && at_symbol (second (is_typed before)) item word
+-- a `$f` of a variable to which an earlier `$f` gave another typecode
+line_holds before item word F13 = is_floating item.kind && at_symbol (second (is_typed_otherwise before item)) item word
+-- a missing inclusion, which is no statement
+line_holds before item word F14 = false
+
+-- the line holds
+abbrev pub StatementLineHolds : List Item → Item → ℕ → FrameNumber → Type 0
+StatementLineHolds before item word number = line_holds before item word number ≡ true
+
+-- no line holds
+abbrev pub IsSound : List Item → Item → Type 0
+IsSound before item = (word : ℕ) (number : FrameNumber) → line_holds before item word number ≡ false
+
+-- each item is sound against those before it
+abbrev pub AreSound : List Item → Type 0
+AreSound items = (front : List Item) (item : Item) (back : List Item) → items ≡ front ++ item ∷ back → IsSound front item
+
+-- the numbers in order
+abbrev pub row : FrameNumber → ℕ
+row F01 = 1
+row F02 = 2
+row F03 = 3
+row F04 = 4
+row F05 = 5
+row F06 = 6
+row F07 = 7
+row F08 = 8
+row F09 = 9
+row F10 = 10
+row F11 = 11
+row F12 = 12
+row F13 = 13
+row F14 = 14
+
+-- the fault is at the least word for which a line holds, with the lowest number there
+pub record IsStatementFault (before : List Item) (item : Item) (word : ℕ) (number : FrameNumber) : Type 0 where
+  pub holds : StatementLineHolds before item word number
+  pub least_word : (other : ℕ) (m : FrameNumber) → StatementLineHolds before item other m → word ≤ other
+  pub lowest_number : (m : FrameNumber) → StatementLineHolds before item word m → row number ≤ row m
+
+-- all numbers, in order
+abbrev pub numbers : List FrameNumber
+numbers = F01 ∷ F02 ∷ F03 ∷ F04 ∷ F05 ∷ F06 ∷ F07 ∷ F08 ∷ F09 ∷ F10 ∷ F11 ∷ F12 ∷ F13 ∷ F14 ∷ []
+
+-- the lowest number of a word
+abbrev pub number_at : List Item → Item → ℕ → Option FrameNumber
+number_at before item word = find (λ number. line_holds before item word number) numbers
+
+-- the fault at a word, or else at one of the next words
+abbrev pub fault_or : ℕ → Option FrameNumber → Option (ℕ × FrameNumber) → Option (ℕ × FrameNumber)
+fault_or word (Some number) later = Some (word, number)
+fault_or word None later = later
+
+-- the first fault among the next words
+abbrev pub fault_from : List Item → Item → ℕ → ℕ → Option (ℕ × FrameNumber)
+fault_from before item word zero = None
+fault_from before item word (suc more) = fault_or word (number_at before item word) (fault_from before item (suc word) more)
+
+-- the fault of a statement, if it has one
+abbrev pub fault : List Item → Item → Option (ℕ × FrameNumber)
+fault before item = fault_from before item 0 (closing_word item + 1)
+
+-- the statement, or what stands in its place if it is at fault
+abbrev pub judged : Item → Option (ℕ × FrameNumber) → Item
+judged item None = item
+judged item (Some at) = passed
+
+-- the items behind others, each judged against the sound ones before it
+abbrev pub sound_items_after : List Item → List Item → List Item
+sound_items_after before [] = before
+sound_items_after before (item ∷ items) = sound_items_after (before ++ judged item (fault before item) ∷ []) items
+
+-- the items, where each statement at fault is passed over
+abbrev pub sound_items : List Item → List Item
+sound_items items = sound_items_after [] items

@@ -1,0 +1,58 @@
+-- What the code's decoding stands for.
+use Rattle.std.specs.Prelude.{◌≡◌, ℕ, Result, Err, List, ◌++◌, length, map, drop}
+use Rattle.std.specs.List.{before_first}
+use Rattle.mm_frame.specs.Language.Base.{BaseView}
+use Rattle.mm_frame.specs.Code.KeptBase.{IsBase}
+use Rattle.mm_frame.specs.declared.base.Base.{Base}
+use Rattle.mm_proof.specs.Language.BaseLabels.{setting_at, AreActive}
+use Rattle.mm_proof.specs.Code.Coded.{meant, meant_steps}
+use Rattle.mm_proof.specs.Language.Decoding.{Steps, word_spot, read_word, in_order, each_word, is_close, compressed_steps, decoding}
+use Rattle.mm_proof.specs.Language.Expansion.{Step, Named}
+use Rattle.mm_proof.specs.Code.Labels.{entry_steps, labels_at}
+use Rattle.mm_proof.specs.Language.Verdict.{Decoded}
+use Rattle.mm_proof.specs.declared.Spot.{Spot}
+use Rattle.mm_proof.specs.declared.reading.Decoding.{Decoding}
+use Rattle.mm_proof.specs.declared.step.Undecoded.{Undecoded}
+use Rattle.mm_proof.specs.declared.step.Undecoded.TheVariants as errors
+use Rattle.mm_proof.specs.declared.step.ProofFault.{ProofFault}
+
+-- the steps that the code has, with their spots, and the spot behind these words
+abbrev pub decoded_steps : BaseView → Decoding → List (List ℕ) → Decoded
+decoded_steps base d words = record {
+  steps = map (λ step. meant (entry_steps base d.labels.items) step.action) d.steps.items;
+  spots = map (λ step. step.spot) d.steps.items;
+  close = word_spot (length words);
+}
+
+-- a fault that is told is the fault; want of memory tells none
+abbrev pub TellsFault : Undecoded → Result Decoded ProofFault → Type 0
+TellsFault (errors.Fault fault) decoding = decoding ≡ Err fault
+TellsFault errors.Memory decoding = Unit {0}
+
+-- in each view that the base stands for
+abbrev pub InViews : Base → (BaseView → Type 0) → Type 0
+InViews code holds = (view : BaseView) → IsBase view code → holds view
+
+-- in each in which these hypotheses are active at item i
+abbrev pub WhereActive : Base → ℕ → List ℕ → (BaseView → Type 0) → Type 0
+WhereActive code i mandatory holds = (view : BaseView) → IsBase view code → AreActive view i mandatory → holds view
+
+-- the steps of a compressed proof of item i with these mandatory hypotheses
+abbrev pub compressed_at : BaseView → ℕ → List ℕ → List (List ℕ) → Steps
+compressed_at view i mandatory words = compressed_steps (setting_at view i) (labels_at view mandatory) (drop 1 words) (word_spot (length words))
+
+-- those of a normal one
+abbrev pub normal_at : BaseView → ℕ → List (List ℕ) → Steps
+normal_at view i words = in_order (each_word (read_word (setting_at view i)) 0 words)
+
+-- what a proof of item i decodes to
+abbrev pub decoding_of : BaseView → ℕ → List ℕ → List (List ℕ) → Result Decoded ProofFault
+decoding_of view i mandatory words = decoding (setting_at view i) (labels_at view mandatory) words
+
+-- the steps that the code has, with their spots
+abbrev pub steps_by : BaseView → Decoding → List (Step × Spot)
+steps_by view d = meant_steps (entry_steps view d.labels.items) d.steps.items
+
+-- the table that a compressed proof has
+abbrev pub listed_table : BaseView → List ℕ → List (List ℕ) → List Step
+listed_table view mandatory words = map Named (labels_at view mandatory ++ before_first is_close (drop 1 words))

@@ -1,0 +1,22 @@
+-- What the code's reader of letters has read, and what the letters that are left make of it.
+use Rattle.std.specs.Prelude.{◌≡◌, ℕ, ◌-◌, ◌^◌, min, List, length}
+use Rattle.mm_proof.specs.Language.Expansion.{Step}
+use Rattle.mm_proof.specs.Language.Letters.{Letter}
+use Rattle.mm_proof.specs.Language.Decoding.{Steps}
+use Rattle.mm_proof.specs.Code.LeftToRight.{read_on, with_steps}
+use Rattle.mm_proof.specs.Code.Coded.{meant_steps}
+use Rattle.mm_proof.specs.declared.Spot.{Spot}
+use Rattle.mm_proof.specs.declared.letters.LetterReader.{LetterReader}
+
+-- The labels that numbers name, the spot behind the letters, and what all letters give.
+pub record Aim : Type 0 where
+  pub names : List Step
+  pub close : Spot
+  pub total : Steps
+
+-- with the letters that are left the reader gives the total
+pub record Goes (aim : Aim) (reader : LetterReader) (letters : List Letter) : Type 0 where
+  pub digits : ℕ
+  pub labels_are : length aim.names ≡ reader.labels
+  pub digits_are : reader.digits ≡ min digits (2 ^ 64 - 1)
+  pub rest : with_steps (meant_steps aim.names reader.steps.items) (read_on aim.names aim.close reader.saves digits letters) ≡ aim.total

@@ -1,0 +1,21 @@
+-- The language: what the contracts of public calls cite, all the way down.
+pub mod Substitution
+pub mod Derivation
+pub mod Steps
+pub mod Expansion
+pub mod Faults
+pub mod Reaches
+pub mod Machine
+pub mod Run
+pub mod Verdict
+pub mod View
+pub mod Laws
+pub mod BaseLabels
+pub mod Numbers
+pub mod Letters
+pub mod Decoding
+pub mod Citing
+pub mod DecodingLaws
+pub mod VerdictAt
+pub mod ItemLaws
+pub mod Proved

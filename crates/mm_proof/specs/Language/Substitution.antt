@@ -1,0 +1,12 @@
+-- Substitution: each variable is replaced, all at once, and each constant is kept (Metamath book, section 4.1).
+use Rattle.std.specs.Prelude.{if◌then◌else◌, List, [], ◌∷◌}
+use Rattle.std.specs.List.{flat_map}
+use Rattle.mm_frame.specs.Language.Frame.{Symbol}
+
+-- what stands in a symbol's place
+abbrev pub replacement : (Symbol → List Symbol) → Symbol → List Symbol
+replacement given s = if s.variable then given s else (s ∷ [])
+
+-- each variable's list is put in its place, all at once, and the constants are kept
+abbrev pub substituted : (Symbol → List Symbol) → List Symbol → List Symbol
+substituted given symbols = flat_map (replacement given) symbols

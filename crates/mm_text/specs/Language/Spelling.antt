@@ -1,0 +1,51 @@
+-- How words and the marks of comments are spelled (the Metamath book, section 4.1).
+use Rattle.std.specs.Prelude.{◌≡◌, ℕ, ◌+◌, List, ◌⊎◌, length, take, drop, Contains, codes}
+use Rattle.mm_text.specs.declared.word.Keyword.{Keyword}
+use Rattle.mm_text.specs.declared.word.Keyword.TheVariants.{BlockStart, BlockEnd, Constants, Variables, Floating, Essential, Disjoint, Axiom, Theorem}
+use Rattle.mm_text.specs.declared.word.Keyword.TheVariants.{StatementEnd, ProofStart, InclusionStart, InclusionEnd}
+use Rattle.mm_text.specs.declared.word.WordKind.{WordKind}
+use Rattle.mm_text.specs.declared.word.WordKind.TheVariants as kinds
+use Rattle.mm_text.specs.declared.word.Word.{Word}
+use Rattle.mm_text.specs.Language.Run.{Run}
+
+-- the bytes of a keyword
+abbrev pub spelling : Keyword → List ℕ
+spelling BlockStart = codes "${"
+spelling BlockEnd = codes "$}"
+spelling Constants = codes "$c"
+spelling Variables = codes "$v"
+spelling Floating = codes "$f"
+spelling Essential = codes "$e"
+spelling Disjoint = codes "$d"
+spelling Axiom = codes "$a"
+spelling Theorem = codes "$p"
+spelling StatementEnd = codes "$."
+spelling ProofStart = codes "$="
+spelling InclusionStart = codes "$["
+spelling InclusionEnd = codes "$]"
+
+-- a keyword is spelled so, and a plain word has no `$`
+abbrev pub IsSpelled : WordKind → List ℕ → Type 0
+IsSpelled (kinds.Keyword keyword) bytes = bytes ≡ spelling keyword
+IsSpelled kinds.Plain bytes = ¬ Contains bytes 36
+
+-- a run that stands alone is this word
+pub record IsWord (run : Run) (word : Word) : Type 0 where
+  pub kind : IsSpelled word.kind run.bytes
+  pub start : word.start ≡ run.start
+  pub end : word.end ≡ run.start + length run.bytes
+
+-- the marks of a comment
+abbrev pub opening : List ℕ
+opening = codes "$("
+
+abbrev pub closing : List ℕ
+closing = codes "$)"
+
+-- these bytes stand in a run, from a place on
+abbrev pub HasBytesAt : List ℕ → List ℕ → ℕ → Type 0
+HasBytesAt bytes part k = take (length part) (drop k bytes) ≡ part
+
+-- a run in which a mark stands
+abbrev pub HoldsMark : List ℕ → Type 0
+HoldsMark bytes = (k : ℕ) × (HasBytesAt bytes opening k ⊎ HasBytesAt bytes closing k)

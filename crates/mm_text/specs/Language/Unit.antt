@@ -1,0 +1,145 @@
+-- Units: what a list of words may be, if it is whole.
+use Rattle.std.specs.Prelude.{◌≡◌, ℕ, ◌+◌, ◌<◌, ◌≤◌, ◌==◌, ◌||◌, ◌&&◌, Bool, true, false, nat_le, IsTrue, Some, List, [], ◌∷◌, ◌++◌, ◌⊎◌, length, take, drop}
+use Rattle.std.specs.Prelude.{map, slice_get}
+use Rattle.std.specs.List.{AllByRecursion, list_all, slice_range}
+use Rattle.mm_text.specs.declared.word.Keyword.{Keyword}
+use Rattle.mm_text.specs.declared.word.Keyword.TheVariants.{BlockStart, BlockEnd, Constants, Variables, Floating, Essential, Disjoint, Axiom, Theorem}
+use Rattle.mm_text.specs.declared.word.Keyword.TheVariants.{StatementEnd, ProofStart, InclusionStart, InclusionEnd}
+use Rattle.mm_text.specs.declared.word.WordKind.{WordKind}
+use Rattle.mm_text.specs.declared.word.WordKind.TheVariants as kinds
+use Rattle.mm_text.specs.declared.word.Word.{Word}
+use Rattle.mm_text.specs.declared.fault.TextNumber.{TextNumber}
+use Rattle.mm_text.specs.declared.fault.TextNumber.TheVariants.{T06, T07, T08, T09, T10, T11, T12}
+
+-- a word with its bytes, and where it begins
+pub record Token : Type 0 where
+  pub kind : WordKind
+  pub bytes : List ℕ
+  pub start : ℕ
+
+-- a word of a text
+abbrev pub token_of : List ℕ → Word → Token
+token_of text word = record { kind = word.kind; bytes = slice_range text word.start word.end; start = word.start }
+
+abbrev pub tokens_of : List ℕ → List Word → List Token
+tokens_of text words = map (token_of text) words
+
+-- the bytes of each word
+abbrev pub spellings : List ℕ → List Word → List (List ℕ)
+spellings text words = map (λ token. token.bytes) (tokens_of text words)
+
+abbrev pub IsKeyword : Keyword → Token → Type 0
+IsKeyword keyword token = token.kind ≡ kinds.Keyword keyword
+
+abbrev pub IsPlain : Token → Type 0
+IsPlain token = token.kind ≡ kinds.Plain
+
+-- letters, digits, `-`, `_` and `.`
+unfoldable pub is_label_byte : ℕ → Bool
+is_label_byte b = nat_le 48 b && nat_le b 57 || nat_le 65 b && nat_le b 90 || nat_le 97 b && nat_le b 122 || b == 45 || b == 95 || b == 46
+
+abbrev pub IsLabel : Token → Type 0
+IsLabel token = IsPlain token × IsTrue (list_all is_label_byte token.bytes)
+
+-- the words of a statement or an inclusion, by their places in it
+pub data Shape : Type 0 where
+  Declaration : Token → List Token → Token → Shape
+  Labelled : Token → Token → List Token → Token → Shape
+  Provable : Token → Token → List Token → Token → List Token → Token → Shape
+  Inclusion : Token → Token → Token → Shape
+
+abbrev pub shape_tokens : Shape → List Token
+shape_tokens (Declaration keyword symbols end) = keyword ∷ (symbols ++ end ∷ [])
+shape_tokens (Labelled label keyword symbols end) = label ∷ keyword ∷ (symbols ++ end ∷ [])
+shape_tokens (Provable label keyword symbols proof steps end) = label ∷ keyword ∷ (symbols ++ proof ∷ (steps ++ end ∷ []))
+shape_tokens (Inclusion begin name end) = begin ∷ name ∷ end ∷ []
+
+-- outside says that no block is open
+abbrev pub IsShape : Bool → Shape → Type 0
+IsShape outside (Declaration keyword symbols end) =
+    (IsKeyword Constants keyword ⊎ (IsKeyword Variables keyword ⊎ IsKeyword Disjoint keyword)) × AllByRecursion IsPlain symbols × IsKeyword StatementEnd end
+IsShape outside (Labelled label keyword symbols end) =
+    IsLabel label × (IsKeyword Floating keyword ⊎ (IsKeyword Essential keyword ⊎ IsKeyword Axiom keyword))
+    × AllByRecursion IsPlain symbols × IsKeyword StatementEnd end
+IsShape outside (Provable label keyword symbols proof steps end) =
+    IsLabel label × IsKeyword Theorem keyword × AllByRecursion IsPlain symbols
+    × IsKeyword ProofStart proof × AllByRecursion IsPlain steps × IsKeyword StatementEnd end
+IsShape outside (Inclusion begin name end) =
+    IsTrue outside × IsKeyword InclusionStart begin × IsPlain name × IsKeyword InclusionEnd end
+
+-- a sequence of units: a statement or an inclusion, or a block with units inside, and then the units behind it
+pub data Units : Type 0 where
+  Nothing : Units
+  Simple : Shape → Units → Units
+  Block : Token → Units → Token → Units → Units
+
+abbrev pub unit_tokens : Units → List Token
+unit_tokens Nothing = []
+unit_tokens (Simple shape later) = shape_tokens shape ++ unit_tokens later
+unit_tokens (Block begin inner end later) = begin ∷ (unit_tokens inner ++ end ∷ unit_tokens later)
+
+abbrev pub AreUnits : Bool → Units → Type 0
+AreUnits outside Nothing = Unit {0}
+AreUnits outside (Simple shape later) = IsShape outside shape × AreUnits outside later
+AreUnits outside (Block begin inner end later) = IsKeyword BlockStart begin × AreUnits false inner × IsKeyword BlockEnd end × AreUnits outside later
+
+-- the words are a sequence of units
+abbrev pub IsWhole : List Token → Type 0
+IsWhole tokens = (units : Units) × AreUnits true units × (unit_tokens units ≡ tokens)
+
+-- some whole list begins with these words
+abbrev pub IsViable : List Token → Type 0
+IsViable tokens = (more : List Token) × IsWhole (tokens ++ more)
+
+-- a `${` of no text
+abbrev pub a_block : Token
+a_block = record { kind = kinds.Keyword BlockStart; bytes = []; start = 0 }
+
+-- behind these words a unit may begin: a `${` may stand there
+abbrev pub MayBegin : List Token → Type 0
+MayBegin front = IsViable (front ++ a_block ∷ [])
+
+-- these words end in `$[`
+abbrev pub EndsInInclusion : List Token → Type 0
+EndsInInclusion front = (before : List Token) × (begin : Token) × (front ≡ before ++ begin ∷ []) × IsKeyword InclusionStart begin
+
+-- the number of a word with which no whole list goes on behind these words
+abbrev pub IsUnitNumber : TextNumber → List Token → Token → Type 0
+IsUnitNumber T12 front token = EndsInInclusion front × ¬ IsPlain token
+IsUnitNumber T10 front token = ¬ EndsInInclusion front × IsKeyword InclusionStart token
+IsUnitNumber T09 front token = MayBegin front × IsKeyword BlockEnd token
+IsUnitNumber T11 front token = MayBegin front × IsPlain token
+IsUnitNumber T06 front token = ¬ (EndsInInclusion front × ¬ IsPlain token) × ¬ IsKeyword InclusionStart token
+    × ¬ (MayBegin front × (IsKeyword BlockEnd token ⊎ IsPlain token))
+IsUnitNumber _ front token = ⊥
+
+-- word number `word` is the first that makes the list so far not viable
+pub record StopsAtWord (tokens : List Token) (number : TextNumber) (word : ℕ) : Type 0 where
+  pub token : Token
+  pub there : slice_get tokens word ≡ Some token
+  pub goes_on : IsViable (take word tokens)
+  pub stops : ¬ IsViable (take (word + 1) tokens)
+  pub is_number : IsUnitNumber number (take word tokens) token
+
+-- the statement or inclusion that begins at a word is not finished: a unit may begin there, and at no later place
+pub record EndsInUnit (tokens : List Token) (word : ℕ) : Type 0 where
+  pub within : word < length tokens
+  pub viable : IsViable tokens
+  pub begins : MayBegin (take word tokens)
+  pub unfinished : (n : ℕ) → word < n → n ≤ length tokens → ¬ MayBegin (take n tokens)
+
+-- the block that begins at a word is not closed: whole units stand behind its `${`
+pub record EndsInBlock (tokens : List Token) (word : ℕ) : Type 0 where
+  pub begin : Token
+  pub inner : Units
+  pub there : slice_get tokens word ≡ Some begin
+  pub opens : IsKeyword BlockStart begin
+  pub begins : MayBegin (take word tokens)
+  pub inside : AreUnits false inner
+  pub behind : drop (word + 1) tokens ≡ unit_tokens inner
+
+-- the list of words has this fault, at the word with this number
+abbrev pub IsUnitFault : List Token → TextNumber → ℕ → Type 0
+IsUnitFault tokens T07 word = EndsInUnit tokens word
+IsUnitFault tokens T08 word = EndsInBlock tokens word
+IsUnitFault tokens number word = StopsAtWord tokens number word
