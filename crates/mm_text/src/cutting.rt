@@ -12,7 +12,7 @@ use crate::grammar::Grammar;
 use crate::pieces::Cut;
 use crate::reader::Reader;
 use crate::reading::first_bad_byte;
-use crate::spelling::{could_label, is_white_space, white_len};
+use crate::spelling::{is_white_space, white_len};
 use std::alloc::{AllocError, Global};
 
 /// Whether a text ends in white space, so that `cut` puts no line feed behind it; the empty text counts as one that
@@ -65,7 +65,7 @@ pub fn cut(alloc: Global, text: &[u8]) -> Result<Cut, TextError>
     let mut reader = Reader::new(text);
     let mut from = 0;
     while let Some(word) = reader.next_word()? {
-        grammar.take(&word, could_label(&text[word.start..word.end]))?;
+        grammar.take(&word, &text[word.start..word.end])?;
         if grammar.is_whole() {
             let end = word.end + white_len(&text[word.end..]);
             pieces.push(ended_copy(alloc, &text[from..end])?)?;

@@ -1,12 +1,15 @@
 //! The reading of units from their beginning, word by word.
 
 ghost use Rattle.std.specs.Prelude.{◌≡◌, ◌↔◌, ℕ, Bool, IsTrue, []};
+ghost use Rattle.std.specs.List.{list_all};
 ghost use Rattle.mm_text.specs.declared.grammar.Phase.TheVariants as phases;
 ghost use Rattle.mm_text.specs.declared.word.WordKind.TheVariants as kinds;
+ghost use Rattle.mm_text.specs.Language.Unit.{is_label_byte};
 ghost use Rattle.mm_text.specs.Code.UnitReading.{next};
 ghost use Rattle.mm_text.specs.Code.Grammar.{phase_of, level, GrammarTakes, EndsAs};
 
 use crate::fault::{TextError, TextFault, TextNumber};
+use crate::spelling::could_label;
 use crate::word::{Keyword, Word, WordKind};
 use std::alloc::Global;
 
@@ -57,12 +60,12 @@ impl Grammar {
         matches!(self.phase, Phase::Begin) && self.blocks.is_empty()
     }
 
-    /// Reads one more word, or tells why no unit has it at this place.
-    pub fn take(&mut self, word: &Word, could_label: bool) -> Result<(), TextError>
-        ensures { GrammarTakes self.old word.now could_label result self.new }
+    /// Reads one more word, which is spelled so, or tells why no unit has it at this place.
+    pub fn take(&mut self, word: &Word, spelling: &[u8]) -> Result<(), TextError>
+        ensures { GrammarTakes self.old word.now (list_all is_label_byte spelling.now) result self.new }
     {
         let outside = self.blocks.is_empty();
-        let next = match behind(self.phase, outside, word.kind, could_label) {
+        let next = match behind(self.phase, outside, word.kind, spelling) {
             Ok(next) => next,
             Err(number) => {
                 return Err(TextError::Fault(TextFault {
@@ -103,28 +106,24 @@ impl Grammar {
     }
 }
 
-/// What comes behind a word, or the number of the fault if no unit has the word at this place.
+/// What comes behind a word, which is spelled so, or the number of the fault if no unit has the word at this place.
 ///
 /// Outside is where no block is open.
-fn behind(
-    phase: Phase,
-    outside: bool,
-    kind: WordKind,
-    could_label: bool,
-) -> Result<Phase, TextNumber>
-    ensures { result ≡ phase_of (next phase (level outside) kind could_label) }
+fn behind(phase: Phase, outside: bool, kind: WordKind, spelling: &[u8]) -> Result<Phase, TextNumber>
+    ensures { result ≡ phase_of (next phase (level outside) kind (list_all is_label_byte spelling.now)) }
 {
     match kind {
-        WordKind::Plain => behind_plain(phase, could_label),
+        WordKind::Plain => behind_plain(phase, spelling),
         WordKind::Keyword(keyword) => behind_keyword(phase, outside, keyword),
     }
 }
 
-fn behind_plain(phase: Phase, could_label: bool) -> Result<Phase, TextNumber>
-    ensures { (depth : ℕ) → result ≡ phase_of (next phase depth kinds.Plain could_label) }
+/// Only where a unit may begin is a plain word looked at: there it has to be a label.
+fn behind_plain(phase: Phase, spelling: &[u8]) -> Result<Phase, TextNumber>
+    ensures { (depth : ℕ) → result ≡ phase_of (next phase depth kinds.Plain (list_all is_label_byte spelling.now)) }
 {
     match phase {
-        Phase::Begin if could_label => Ok(Phase::Labelled),
+        Phase::Begin if could_label(spelling) => Ok(Phase::Labelled),
         Phase::Begin => Err(TextNumber::T11),
         Phase::Symbols => Ok(Phase::Symbols),
         Phase::Expression => Ok(Phase::Expression),

@@ -1,4 +1,4 @@
-use Rattle.std.proofs.Common.{◌≤◌, ◌+◌, ◌++◌, ◌∷◌, ℕ, List, Vec, [], map, length, rules, sym, ap, ◌∙◌}
+use Rattle.std.proofs.Common.{refl, ◌≤◌, ◌+◌, ◌++◌, ◌∷◌, ℕ, List, Vec, [], map, length, rules, sym, ap, ◌∙◌}
 use Rattle.std.specs.Global.{Global}
 use Rattle.std.proofs.lemmas.Bool.{false≢true}
 use Rattle.std.proofs.lemmas.List.{map-append}
@@ -32,7 +32,7 @@ pub returns-in_err-take-clause-fault : goal.returns-in_err-take-clause-fault
 returns-in_err-take-clause-fault c =
     let p = err_from_is_err_and c.from_residual-in_err-take.result c.from_residual-in_err-take.ensures.1 in
     let taken = rw (c.in-Some-2.is, c.loop-grammar.invariant.text) at c.in_ok-word.ensures.word in
-    rw (p.1, p.2) (refused _ _ _ _ c.loop-grammar.grammar c.loop-grammar.invariant.progress _ _ taken c.could_label.result c.take.new.self c.could_label.ensures _ (sym c.first_bad_byte.ensures ∙ c.in_default.is) c.in_err-take.ensures)
+    rw (p.1, p.2) (refused _ _ _ _ c.loop-grammar.grammar c.loop-grammar.invariant.progress _ _ taken _ c.take.new.self refl _ (sym c.first_bad_byte.ensures ∙ c.in_default.is) c.in_err-take.ensures)
 
 pub slice_bounds-ended_copy-count : goal.slice_bounds-ended_copy-count
 slice_bounds-ended_copy-count c =
@@ -51,7 +51,7 @@ loop-grammar-preserved-then-is_whole c =
     let most : c.next_word.new.self.from ≤ length c.next_word.new.self.text.now = c.next_word.new.self.in_text in
     record {
       text = c.in_ok-word.ensures.text ∙ c.loop-grammar.invariant.text;
-      progress = keeps_piece _ _ _ _ c.loop-grammar.grammar c.loop-grammar.invariant.progress _ _ taken c.could_label.result c.take.new.self c.could_label.ensures c.in_ok-take.ensures (sym c.first_bad_byte.ensures ∙ c.in_default.is) (rw same at most) (c.is_whole.ensures.0 c.if-is_whole.true)
+      progress = keeps_piece _ _ _ _ c.loop-grammar.grammar c.loop-grammar.invariant.progress _ _ taken _ c.take.new.self refl c.in_ok-take.ensures (sym c.first_bad_byte.ensures ∙ c.in_default.is) (rw same at most) (c.is_whole.ensures.0 c.if-is_whole.true)
           c.white_len.result c.white_len.ensures.value _ (ap (map bytes_of) c.in_ok-push.ensures.items ∙ map-append bytes_of c.loop-grammar.pieces.items (c.in_ok-ended_copy.field-0 ∷ []) ∙ ap (λ (piece : List ℕ). map bytes_of c.loop-grammar.pieces.items ++ piece ∷ []) c.in_ok-ended_copy.ensures);
     }
 
@@ -60,7 +60,7 @@ loop-grammar-preserved c =
     let taken = rw (c.in-Some-2.is, c.loop-grammar.invariant.text) at c.in_ok-word.ensures.word in
     record {
       text = c.in_ok-word.ensures.text ∙ c.loop-grammar.invariant.text;
-      progress = keeps_more _ _ _ _ c.loop-grammar.grammar c.loop-grammar.invariant.progress _ _ taken c.could_label.result c.take.new.self c.could_label.ensures c.in_ok-take.ensures (λ whole. false≢true (sym c.if-is_whole.false ∙ c.is_whole.ensures.1 whole));
+      progress = keeps_more _ _ _ _ c.loop-grammar.grammar c.loop-grammar.invariant.progress _ _ taken _ c.take.new.self refl c.in_ok-take.ensures (λ whole. false≢true (sym c.if-is_whole.false ∙ c.is_whole.ensures.1 whole));
     }
 
 pub returns-in-Some-end-clause-fault : goal.returns-in-Some-end-clause-fault
