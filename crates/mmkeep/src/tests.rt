@@ -588,7 +588,7 @@ fn tells_faults(rt: HostRuntime) -> Result<(), Fail> {
     for (text, number, at) in rows {
         let place = Place {
             line: 1,
-            column: at as u64 + 1,
+            column: (at as u64).saturating_add(1),
         };
         refuses(
             &rt,
@@ -716,7 +716,7 @@ fn calls_no_more_after_a_failure(rt: HostRuntime) -> Result<(), Fail> {
     let text = with_line(&rt, b"a $a wff r $. t $p wff p $= wq $.\n")?;
     let report =
         b"fault a.mm:6:10 F10 r\nwrong t\naxioms 1 theorems 1 proved 0 incomplete 0 wrong 1 faults 1\n";
-    let mut whole = 0;
+    let mut whole = 0_usize;
     for at in 1..64 {
         let mut writing = Writing::new(Broken {
             at,
@@ -729,7 +729,7 @@ fn calls_no_more_after_a_failure(rt: HostRuntime) -> Result<(), Fail> {
         if broken.calls < at {
             assert_eq!(rt; answer, Ok(false));
             assert_eq!(rt; broken.taken.as_slice(), report.as_slice());
-            whole += 1;
+            whole = whole.saturating_add(1);
         } else {
             assert_eq!(rt; answer, Err(FirstError::Write));
             assert_eq!(rt; broken.calls, at);
