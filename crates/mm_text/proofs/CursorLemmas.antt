@@ -1,17 +1,20 @@
 -- The words that are left to a cursor.
-use Rattle.std.proofs.Common.{◌≡◌, ℕ, zero, suc, ◌<◌, ◌≤◌, List, [], ◌∷◌, ◌++◌, Some, None, Ok, Err, length, get_or, refl, sym, ap, ◌∙◌, append_assoc, arith}
-use Rattle.std.specs.Prelude.{slice_get}
+use Rattle.std.proofs.Common.{◌≡◌, ℕ, zero, suc, ◌+◌, ◌-◌, ◌<◌, ◌≤◌, List, [], ◌∷◌, ◌++◌, Some, None, Ok, Err, length, get_or, refl, sym, ap, ◌∙◌, append_assoc, arith}
+use Rattle.std.specs.Prelude.{slice_get, slice_range}
+use Rattle.std.specs.List.{AllByRecursion, flat_map}
+use Rattle.std.proofs.lemmas.List.{length-append}
 use Rattle.mm_text.specs.declared.word.Word.{Word}
 use Rattle.mm_text.specs.declared.fault.TextFault.{TextFault}
 use Rattle.mm_text.specs.Language.Reading.{HasWords, LiesIn, AreWithin}
+use Rattle.mm_text.specs.Language.Unit.{spellings}
 use Rattle.mm_text.specs.Code.LeftToRight.{read_runs}
 use Rattle.mm_text.specs.Language.Run.{runs}
 use Rattle.mm_text.specs.Code.Reader.{runs_at, TakesWord}
 use Rattle.mm_text.specs.Code.Cursor.{words_read, words_from, AreLast}
 use Rattle.mm_text.proofs.ReadingLemmas.{read_words}
-use Rattle.mm_text.proofs.ReaderLemmas.{word_read}
+use Rattle.mm_text.proofs.ReaderLemmas.{slice_length, word_read}
 use Rattle.mm_text.proofs.NthLemmas.{first_word}
-use Rattle.mm_text.proofs.PositionLemmas.{are_within, nth_lies}
+use Rattle.mm_text.proofs.PositionLemmas.{Lying, words_lie, are_within, nth_lies}
 
 -- before the first word all are left
 pub all_left : (text : List ℕ) (words : List Word) (from : ℕ) → HasWords text words → from ≡ 0 → words_from text from ≡ words
@@ -82,3 +85,23 @@ few_words text (word ∷ words) has =
     let behind = begins_behind text all word within (length words) (omega arith) in
     let lies : LiesIn text (get_or all (length words) word) = within.each (length words) word (omega arith) in
     omega (arith, behind, lies.some, lies.within)
+
+-- ---- words have a byte each, and together no more bytes than the text
+
+words_some : (text : List ℕ) (at : ℕ) (words : List Word) → Lying text at words → AllByRecursion (λ bytes. 0 < length bytes) (spellings text words)
+words_some text at [] h = tt
+words_some text at (word ∷ words) h = (omega (arith, slice_length text word.start word.end h.1.within, h.1.some), words_some text (word.end + 1) words h.2)
+
+words_fit : (text : List ℕ) (at : ℕ) (words : List Word) → Lying text at words → length (flat_map (λ bytes. bytes) (spellings text words)) ≤ length text - at
+words_fit text at [] h = omega arith
+words_fit text at (word ∷ words) h =
+    let bytes = slice_range text word.start word.end in
+    let more = words_fit text (word.end + 1) words h.2 in
+    let both = length-append bytes (flat_map (λ bytes. bytes) (spellings text words)) in
+    omega (arith, h.0, h.1.some, h.1.within, slice_length text word.start word.end h.1.within, both, more)
+
+pub some_bytes : (text : List ℕ) (words : List Word) → HasWords text words → AllByRecursion (λ bytes. 0 < length bytes) (spellings text words)
+some_bytes text words has = words_some text 0 words (words_lie text words has)
+
+pub few_bytes : (text : List ℕ) (words : List Word) → HasWords text words → length (flat_map (λ bytes. bytes) (spellings text words)) ≤ length text
+few_bytes text words has = let fit = words_fit text 0 words (words_lie text words has) in omega (arith, fit)

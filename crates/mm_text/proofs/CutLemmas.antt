@@ -1,8 +1,9 @@
 -- What the loop of `cut` keeps.
-use Rattle.std.proofs.Common.{◌≡◌, ◌≢◌, ℕ, ◌+◌, ◌<◌, ◌≤◌, List, [], ◌∷◌, ◌++◌, append_assoc, map, length, take, drop, None, Ok, Err, refl, sym, ap, ◌∙◌, subst, ⊎_elim, arith}
+use Rattle.std.proofs.Common.{◌≡◌, ◌≢◌, ◌⊎◌, ℕ, ◌+◌, ◌-◌, ◌<◌, ◌≤◌, true, inl, inr, List, [], ◌∷◌, ◌++◌, append_assoc, map, length, take, drop, None, Ok, Err, refl, sym, ap, ◌∙◌, subst, ⊎_elim, arith}
 use Rattle.std.specs.Prelude.{slice_range}
 use Rattle.std.specs.List.{concat, prefix_len}
 use Rattle.std.proofs.lemmas.Bool.{cases_lt}
+use Rattle.std.proofs.Math.Seq.{take-append-add}
 use Rattle.std.proofs.lemmas.List.{append-nil, map-append, take-append-drop, take-append-le, length-append, length-map, length-take-le, take_all}
 use Rattle.std.proofs.lemmas.List.Folds.{concat-append}
 use Rattle.mm_text.specs.declared.word.Word.{Word}
@@ -12,15 +13,16 @@ use Rattle.mm_text.specs.Language.Run.{Run, runs, runs_from, is_white}
 use Rattle.mm_text.specs.Language.Reading.{AreWords, HasWords, LiesIn, first_bad}
 use Rattle.mm_text.specs.Language.Unit.{Token, token_of, tokens_of}
 use Rattle.mm_text.specs.Code.UnitReading as m
-use Rattle.mm_text.specs.Code.Grammar.{first_behind, blocks_behind}
-use Rattle.mm_text.specs.Code.Reader.{runs_at, TakesWord, FailsBehind}
+use Rattle.mm_text.specs.Code.Grammar.{first_behind, blocks_behind, is_within}
+use Rattle.mm_text.specs.Code.Reader.{runs_at, TakesWord, FailsBehind, SkipsPlain}
 use Rattle.mm_text.specs.Language.Cut.{ended, IsPiece, BeginsSolid, ArePieces, IsCut, IsFirstFaultAt}
 use Rattle.mm_text.proofs.LayoutLemmas.{laid_out}
 use Rattle.mm_text.proofs.PositionLemmas.{Standing, standing_front, Lying, runs_stand, parts_lie}
 use Rattle.mm_text.proofs.ReadingLemmas.{none_read}
 use Rattle.mm_text.proofs.ReaderLemmas.{words-append, fails_more, first_of_words}
+use Rattle.mm_text.proofs.SkipLemmas.{plain_words, are_plain_words, plain_tokens}
 use Rattle.mm_text.proofs.UnitReadingLemmas.{run-append, run-IsViable}
-use Rattle.mm_text.proofs.GrammarLemmas.{Stands, stands_none, stands_more, stands_unit, stands_block, first_of_units}
+use Rattle.mm_text.proofs.GrammarLemmas.{Stands, stands_none, stands_more, stands_plain, stands_unit, stands_block, plain_run, is_no_begin, first_of_units}
 use Rattle.mm_text.proofs.PieceLemmas.{shift_run, shift_word, runs-shift, words_unshift, runs-ended}
 use Rattle.mm_text.proofs.PieceUnitLemmas.{allowed-ended, allowed_rest, solid_ended, WholeRun, white_within, rest_solid, rest_ended, runs_behind, piece_is}
 
@@ -170,6 +172,52 @@ module _ (text : List ℕ) (pieces : List (List ℕ)) (from at : ℕ) (phase : m
         let all : AreWords (h.since ++ runs_at text at) (h.part ++ []) = words-append h.since (runs_at text at) h.part [] h.reads_part none in
         let no_part : h.part ++ [] ≡ [] = ap (λ (ws : List Word). ws ++ []) (part_none is no_open h.part refl) in
         subst (λ (rs : List Run). AreWords rs []) (sym h.at_now) (subst (λ (ws : List Word). AreWords (h.since ++ runs_at text at) ws) no_part all)
+
+  -- ---- plain words inside a statement
+
+  module _ (to : ℕ) (s : SkipsPlain text at to) (inside : is_within phase ≡ true) where
+    abbrev words_skipped : List Word
+    words_skipped = plain_words s.inside
+
+    tokens_skipped : tokens_of text (h.part ++ words_skipped) ≡ tokens_of text h.part ++ tokens_of text words_skipped
+    tokens_skipped = map-append (token_of text) h.part words_skipped
+
+    runs_skipped : (n : ℕ) → length (tokens_of text h.part) ≤ n → m.run m.Begin 0 (take n (tokens_of text (h.part ++ words_skipped))) ≡ Ok (m.state_of phase (length blocks))
+    runs_skipped n le =
+        let count : length (tokens_of text h.part) + (n - length (tokens_of text h.part)) ≡ n = omega arith in
+        let taken = take-append-add (tokens_of text h.part) (tokens_of text words_skipped) (n - length (tokens_of text h.part)) in
+        let front : m.run m.Begin 0 (tokens_of text h.part) ≡ Ok (m.state_of phase (length blocks)) = part_state h.part (phase, length blocks) h.stands.state in
+        ap (λ (ts : List Token). m.run m.Begin 0 (take n ts)) tokens_skipped
+        ∙ ap (λ (k : ℕ). m.run m.Begin 0 (take k (tokens_of text h.part ++ tokens_of text words_skipped))) (sym count)
+        ∙ ap (m.run m.Begin 0) taken
+        ∙ run-append (tokens_of text h.part) (take (n - length (tokens_of text h.part)) (tokens_of text words_skipped)) m.Begin 0 (phase, length blocks) front
+        ∙ plain_run phase (length blocks) inside (tokens_of text words_skipped) (plain_tokens text s.inside) (n - length (tokens_of text h.part))
+
+    inner_skipped : (n : ℕ) → 0 < n → (n ≤ length (tokens_of text h.part)) ⊎ (length (tokens_of text h.part) ≤ n) → ¬ WholeRun (take n (tokens_of text (h.part ++ words_skipped)))
+    inner_skipped n some (inl less) whole = h.inner n some less (ap (m.run m.Begin 0) (sym (ap (take n) tokens_skipped ∙ take-append-le n (tokens_of text h.part) (tokens_of text words_skipped) less)) ∙ whole)
+    inner_skipped n some (inr more) whole =
+        let same : m.state_of phase (length blocks) ≡ m.state_of m.Begin 0 = let a : m.run m.Begin 0 (take n (tokens_of text (h.part ++ words_skipped))) ≡ Ok (m.state_of phase (length blocks)) = runs_skipped n more in let b : m.run m.Begin 0 (take n (tokens_of text (h.part ++ words_skipped))) ≡ Ok (m.state_of m.Begin 0) = whole in cc in
+        is_no_begin phase inside (ap (λ (s : m.Phase × ℕ). s.0) same)
+
+    tokens_all : tokens_of text (h.before ++ h.part) ++ tokens_of text words_skipped ≡ tokens_of text (h.before ++ (h.part ++ words_skipped))
+    tokens_all = sym (map-append (token_of text) (h.before ++ h.part) words_skipped) ∙ ap (tokens_of text) (append_assoc h.before h.part words_skipped)
+
+    pub progress_skip : Progress text pieces from to phase first blocks
+    progress_skip = record {
+      front = h.front;
+      since = h.since ++ s.inside;
+      before = h.before;
+      part = h.part ++ words_skipped;
+      at_from = h.at_from;
+      at_now = h.at_now ∙ ap (λ (rs : List Run). h.since ++ rs) s.joined ∙ sym (append_assoc h.since s.inside (runs_at text to));
+      reads_before = h.reads_before;
+      reads_part = words-append h.since s.inside h.part words_skipped h.reads_part (are_plain_words s.inside s.plain);
+      whole_before = h.whole_before;
+      stands = subst (λ (ts : List Token). Stands ts phase first blocks) tokens_all (stands_plain (tokens_of text (h.before ++ h.part)) (tokens_of text words_skipped) phase first blocks inside (plain_tokens text s.inside) h.stands);
+      inner = λ n some less. inner_skipped n some (⊎_elim (λ above. inr (omega (arith, above))) (λ below. inl below) (cases_lt (length (tokens_of text h.part)) n));
+      within = h.within;
+      gathers = h.gathers;
+    }
 
   -- ---- one more word
 

@@ -1,8 +1,9 @@
 -- What a grammar keeps: the state of the machine, where the unit that is being read begins, and the open blocks.
-use Rattle.std.proofs.Common.{◌≡◌, ◌≢◌, ◌⊎◌, ℕ, suc, ◌+◌, ◌-◌, ◌<◌, ◌≤◌, List, [], ◌∷◌, ◌++◌, append_assoc, length, take, drop, slice_get, Some, None, Ok, Err, refl, sym, ap, ◌∙◌, subst, inl, inr, ⊎_elim, arith}
+use Rattle.std.proofs.Common.{true, ◌≡◌, ◌≢◌, ◌⊎◌, ℕ, zero, suc, ◌+◌, ◌-◌, ◌<◌, ◌≤◌, List, [], ◌∷◌, ◌++◌, append_assoc, length, take, drop, slice_get, Some, None, Ok, Err, refl, sym, ap, ◌∙◌, subst, inl, inr, ⊎_elim, arith}
 use Rattle.std.proofs.Math.Seq.{take-append_seam, drop-append-add}
-use Rattle.std.proofs.lemmas.Bool.{cases_lt}
-use Rattle.std.proofs.lemmas.List.{map-append, length-append, length-map, take-append-le, length-take-le, take_all}
+use Rattle.std.specs.List.{AllByRecursion}
+use Rattle.std.proofs.lemmas.Bool.{cases_lt, false≢true}
+use Rattle.std.proofs.lemmas.List.{append-nil, map-append, length-append, length-map, take-append-le, length-take-le, take_all}
 use Rattle.mm_text.specs.declared.word.Word.{Word}
 use Rattle.mm_text.specs.declared.word.WordKind.{WordKind}
 use Rattle.mm_text.specs.declared.word.WordKind.TheVariants as kinds
@@ -11,9 +12,9 @@ use Rattle.mm_text.specs.declared.fault.TextNumber.{TextNumber}
 use Rattle.mm_text.specs.declared.fault.TextNumber.TheVariants.{T06, T09, T10, T11, T12}
 use Rattle.mm_text.specs.Language.Run.{Run, runs}
 use Rattle.mm_text.specs.Language.Reading.{AreWords, first_bad}
-use Rattle.mm_text.specs.Language.Unit.{Token, IsKeyword, EndsInUnit, EndsInBlock, token_of, tokens_of}
+use Rattle.mm_text.specs.Language.Unit.{Token, IsKeyword, IsPlain, EndsInUnit, EndsInBlock, token_of, tokens_of}
 use Rattle.mm_text.specs.Code.UnitReading as m
-use Rattle.mm_text.specs.Code.Grammar.{first_behind, blocks_behind}
+use Rattle.mm_text.specs.Code.Grammar.{first_behind, blocks_behind, is_within}
 use Rattle.mm_text.specs.Code.BlockCounts.{is_start_word, is_end_word, starts, ends}
 use Rattle.mm_text.specs.Language.Cut.{StopsUnits, IsFirstFaultAt}
 use Rattle.mm_text.proofs.UnitFaultLemmas.{run_push, stop_at, ends_in_unit, ends_in_block, Covered, covered-append, covered_drop, starts-append, ends-append, start_counts, end_counts}
@@ -309,3 +310,36 @@ first_of_units text found word front rest phase depth number allowed joined read
   told T11 h = (allowed, h)
   told T12 h = (allowed, h)
   told _ h = absurd h.stop.is_number
+
+-- ---- plain words inside a statement
+
+pub plain_step : (phase : m.Phase) (depth : ℕ) (token : Token) → is_within phase ≡ true → IsPlain token → m.next phase depth token.kind (m.could_label token) ≡ Ok (m.state_of phase depth)
+plain_step m.Symbols depth token within plain = ap (λ (kind : WordKind). m.next m.Symbols depth kind (m.could_label token)) plain
+plain_step m.Expression depth token within plain = ap (λ (kind : WordKind). m.next m.Expression depth kind (m.could_label token)) plain
+plain_step _ depth token within plain = absurd (false≢true within)
+
+-- any number of them leave the phase as it is
+pub plain_run : (phase : m.Phase) (depth : ℕ) → is_within phase ≡ true → (tokens : List Token) → AllByRecursion IsPlain tokens → (k : ℕ) → m.run phase depth (take k tokens) ≡ Ok (m.state_of phase depth)
+plain_run phase depth within tokens plain zero = refl
+plain_run phase depth within [] plain (suc k) = refl
+plain_run phase depth within (token ∷ tokens) plain (suc k) =
+    ap (λ (step : m.UnitStep). m.after step (λ p d. m.run p d (take k tokens))) (plain_step phase depth token within plain.0) ∙ plain_run phase depth within tokens plain.1 k
+
+pub is_no_begin : (phase : m.Phase) → is_within phase ≡ true → phase ≢ m.Begin
+is_no_begin phase within is = false≢true (sym (ap is_within is) ∙ within)
+
+plain_first : (phase : m.Phase) (first start : ℕ) → is_within phase ≡ true → first_behind phase first start ≡ first
+plain_first m.Symbols first start within = refl
+plain_first m.Expression first start within = refl
+plain_first _ first start within = absurd (false≢true within)
+
+plain_blocks : (kind : WordKind) (blocks : List ℕ) (start : ℕ) → kind ≡ kinds.Plain → blocks_behind kind blocks start ≡ blocks
+plain_blocks kind blocks start plain = ap (λ (k : WordKind). blocks_behind k blocks start) plain
+
+pub stands_plain : (tokens more : List Token) (phase : m.Phase) (first : ℕ) (blocks : List ℕ) → is_within phase ≡ true → AllByRecursion IsPlain more → Stands tokens phase first blocks → Stands (tokens ++ more) phase first blocks
+stands_plain tokens [] phase first blocks within plain h = subst (λ (ts : List Token). Stands ts phase first blocks) (sym (append-nil tokens)) h
+stands_plain tokens (token ∷ more) phase first blocks within plain h =
+    let next : Stands (tokens ++ token ∷ []) phase (first_behind phase first token.start) (blocks_behind token.kind blocks token.start) = stands_more tokens phase first blocks h token phase (length blocks) (plain_step phase (length blocks) token within plain.0) in
+    let here : Stands (tokens ++ token ∷ []) phase first blocks = subst (λ (n : ℕ). Stands (tokens ++ token ∷ []) phase n blocks) (plain_first phase first token.start within)
+    (subst (λ (bs : List ℕ). Stands (tokens ++ token ∷ []) phase (first_behind phase first token.start) bs) (plain_blocks token.kind blocks token.start plain.0) next) in
+    subst (λ (ts : List Token). Stands ts phase first blocks) (append_assoc tokens (token ∷ []) more) (stands_plain (tokens ++ token ∷ []) more phase first blocks within plain.1 here)

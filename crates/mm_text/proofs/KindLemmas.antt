@@ -1,5 +1,5 @@
 -- Kinds of words, and marks, against how they are spelled.
-use Rattle.std.proofs.Common.{◌≡◌, ℕ, suc, zero, ◌<◌, true, false, cond, eqb, ◌||◌, List, [], ◌∷◌, length, get_or, Option, Some, None, Contains, refl, sym, ap, ◌∙◌, subst, arith, inl, inr, ◌⊎◌, eq-eqb}
+use Rattle.std.proofs.Common.{◌≡◌, ℕ, suc, zero, ◌<◌, Bool, true, false, not, cond, eqb, ◌||◌, List, [], ◌∷◌, length, get_or, Option, Some, None, Contains, refl, sym, ap, ◌∙◌, subst, arith, inl, inr, ◌⊎◌, eq-eqb}
 use Rattle.std.specs.List.{list_any}
 use Rattle.std.specs.Prelude.{option_map, ◌==◌}
 use Rattle.std.proofs.lemmas.Bool.{cases_Bool, cond-false, eqb-true, ne_eqb, false≢true, or_left, or_right, or_cases, and_parts, false_from_ne_true}
@@ -8,7 +8,7 @@ use Rattle.mm_text.specs.declared.word.Keyword.TheVariants.{BlockStart, BlockEnd
 use Rattle.mm_text.specs.declared.word.WordKind.{WordKind}
 use Rattle.mm_text.specs.declared.word.WordKind.TheVariants as kinds
 use Rattle.mm_text.specs.Language.Spelling.{spelling, IsSpelled, HoldsMark, HasBytesAt, opening, closing}
-use Rattle.mm_text.specs.Code.LeftToRight.{keyword_at, plain_unless, word_kind, is_mark, holds_mark}
+use Rattle.mm_text.specs.Code.LeftToRight.{keyword_at, plain_unless, word_kind, is_mark, holds_mark, has_dollar}
 
 -- ---- a `$` somewhere
 
@@ -154,3 +154,24 @@ stands_at (a ∷ b ∷ bytes) (suc k) h = or_right (is_mark a b) (holds_mark (b 
 
 pub stands_mark : (bytes : List ℕ) → HoldsMark bytes → holds_mark bytes ≡ true
 stands_mark bytes h = stands_at bytes h.0 h.1
+
+-- ---- runs without a `$`
+
+none_there : (b : Bool) → not b ≡ true → b ≡ false
+none_there true e = absurd cc
+none_there false e = refl
+
+pub plain_word : (bytes : List ℕ) → not (has_dollar bytes) ≡ true → word_kind bytes ≡ Some kinds.Plain
+plain_word bytes none = spelled_kind kinds.Plain bytes (λ h. false≢true (sym (none_there (has_dollar bytes) none) ∙ contains_any bytes h))
+
+mark_dollar : (bytes : List ℕ) → holds_mark bytes ≡ true → has_dollar bytes ≡ true
+mark_dollar [] e = absurd cc
+mark_dollar (a ∷ []) e = absurd cc
+mark_dollar (a ∷ b ∷ bytes) e =
+    elim (or_cases (is_mark a b) (holds_mark (b ∷ bytes)) e) [
+      | inl here ↦ or_left (eqb a 36) (has_dollar (b ∷ bytes)) (and_parts (eqb a 36) (eqb b 40 || eqb b 41) here).0
+      | inr later ↦ or_right (eqb a 36) (has_dollar (b ∷ bytes)) (mark_dollar (b ∷ bytes) later)
+    ]
+
+pub no_mark : (bytes : List ℕ) → not (has_dollar bytes) ≡ true → ¬ HoldsMark bytes
+no_mark bytes none h = false≢true (sym (none_there (has_dollar bytes) none) ∙ mark_dollar bytes (stands_mark bytes h))

@@ -1,4 +1,5 @@
 pub mod RunLemmas
+pub mod PlainLemmas
 pub mod ReadLemmas
 pub mod MarkLemmas
 pub mod KindLemmas
@@ -20,6 +21,7 @@ pub mod CutLemmas
 pub mod CutStepLemmas
 pub mod CutLawLemmas
 pub mod CutWalkLemmas
+pub mod SkipLemmas
 pub mod PartLemmas
 pub mod PartWalkLemmas
 pub mod OwnWordLemmas

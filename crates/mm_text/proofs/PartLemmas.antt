@@ -2,7 +2,7 @@
 use Rattle.std.proofs.Common.{◌≡◌, ◌⊎◌, ℕ, ◌-◌, ◌+◌, ◌<◌, ◌≤◌, Bool, true, false, List, [], ◌∷◌, ◌++◌, append_assoc, length, map, drop, Option, Some, None, Ok, Err, All, refl, sym, ap, ◌∙◌, subst, inl, inr, arith}
 use Rattle.std.specs.Prelude.{slice_range, unwrap_or, if◌then◌else◌}
 use Rattle.std.specs.List.{AllByRecursion}
-use Rattle.std.proofs.lemmas.List.{append-nil, take-append-drop, append_cancel_right, drop-drop, length-append, length-map}
+use Rattle.std.proofs.lemmas.List.{append-nil, take-append-drop, append_cancel_right, drop-drop, length-append, length-map, map-append}
 use Rattle.std.proofs.lemmas.List.Elements.{All-nil, All-cons, All-append}
 use Rattle.mm_text.specs.declared.part.Part.{Part}
 use Rattle.mm_text.specs.declared.part.PartKind.{PartKind}
@@ -15,15 +15,16 @@ use Rattle.mm_text.specs.declared.fault.TextNumber.{TextNumber}
 use Rattle.mm_text.specs.Language.Run.{Run, runs, runs_from, ends_run}
 use Rattle.mm_text.specs.Language.Reading.{first_bad, AreWords, HasWords}
 use Rattle.mm_text.specs.Language.Unit.{Token, token_of, tokens_of, IsKeyword, IsPlain, Shape, Declaration, Labelled, Provable, Inclusion, shape_tokens, IsShape, Units, Nothing, Simple, Block, unit_tokens, AreUnits}
-use Rattle.mm_text.specs.Code.LeftToRight.{Read, read_runs, words_fault_at}
-use Rattle.mm_text.specs.Code.Reader.{runs_at, run_between, TakesWord, FailsBehind}
+use Rattle.mm_text.specs.Code.LeftToRight.{Read, read_runs, with_words, words_fault_at}
+use Rattle.mm_text.specs.Code.Reader.{runs_at, run_between, TakesWord, FailsBehind, SkipsPlain}
 use Rattle.mm_text.specs.Language.Cut.{ends_white, IsPiece, ArePieces}
 use Rattle.mm_text.specs.Language.Part.{HasUnits, token_end, part, word_part, shape_part, parts_of, IsReadable}
 use Rattle.mm_text.specs.Code.PartReading.{ends_part, emit_word, emit}
-use Rattle.mm_text.proofs.ReadingLemmas.{none_read, word_step, read_words}
+use Rattle.mm_text.proofs.ReadingLemmas.{none_read, word_step, read_words, read_whole}
 use Rattle.mm_text.proofs.ReaderLemmas.{words-append, slice_length, word_read, fails_read}
 use Rattle.mm_text.proofs.PieceLemmas.{Seam, runs-append, shift_run, shift_word, runs-shift, words_unshift}
 use Rattle.mm_text.proofs.PieceUnitLemmas.{allowed_part, or_true}
+use Rattle.mm_text.proofs.SkipLemmas.{plain_words, are_plain_words, plain_tokens}
 use Rattle.mm_text.proofs.NthLemmas.{first_word}
 
 -- ---- units
@@ -266,6 +267,41 @@ module _ (text : List ℕ) (found : List Part) (first : Option ℕ) (kind : Part
       readable = h.readable;
       begun = λ s e. (let same : start ≡ s = cc in subst (λ n. Begun text n to) same (begins first refl));
     }
+
+-- ---- plain words inside a part
+
+read_behind : (words : List Word) (r : Read) (all : List Word) → with_words words r ≡ Ok all → (more : List Word) × (r ≡ Ok more) × (all ≡ words ++ more)
+read_behind words (Ok more) all e = (more, refl, cc)
+read_behind words (Err fault) all e = absurd cc
+
+module _ (text : List ℕ) (found : List Part) (start : ℕ) (kind : PartKind) (at to : ℕ) (h : Divides text found (Some start) kind at) (s : SkipsPlain text at to) where
+  begun_skip : at ≤ to → Begun text start at → Begun text start to
+  begun_skip le b = record {
+    before = omega (arith, b.before);
+    since = b.since ++ s.inside;
+    words = b.words ++ plain_words s.inside;
+    joined = b.joined ∙ ap (λ (rs : List Run). b.since ++ rs) s.joined ∙ sym (append_assoc b.since s.inside (runs_at text to));
+    reads = words-append b.since s.inside b.words (plain_words s.inside) b.reads (are_plain_words s.inside s.plain);
+    some = omega (arith, b.some, length-append b.words (plain_words s.inside));
+  }
+
+  rest_behind : Left text found (Some start) kind (read_runs None (runs_at text to))
+  rest_behind units has =
+      let left = h.rest units has in
+      let read : with_words (plain_words s.inside) (read_runs None (runs_at text to)) ≡ Ok left.0 = sym (ap (read_runs None) s.joined ∙ read_whole s.inside (plain_words s.inside) (are_plain_words s.inside s.plain) (runs_at text to)) ∙ left.1 in
+      let more = read_behind (plain_words s.inside) (read_runs None (runs_at text to)) left.0 read in
+      let emitted : emit (Some start) kind (tokens_of text left.0) ≡ emit (Some start) kind (tokens_of text more.0) =
+      ap (λ (ws : List Word). emit (Some start) kind (tokens_of text ws)) more.2 ∙ ap (emit (Some start) kind) (map-append (token_of text) (plain_words s.inside) more.0)
+      ∙ emit_symbols start kind (tokens_of text (plain_words s.inside)) (tokens_of text more.0) (plain_tokens text s.inside) in
+      (more.0, more.1, ap (λ (ps : List Part). found ++ ps) (sym emitted) ∙ left.2)
+
+  pub divides_skip : at ≤ to → Divides text found (Some start) kind to
+  divides_skip le = record {
+    allowed = h.allowed;
+    rest = rest_behind;
+    readable = h.readable;
+    begun = λ n e. (let same : start ≡ n = cc in subst (λ k. Begun text k to) same (begun_skip le (h.begun start refl)));
+  }
 
 -- ---- pieces
 

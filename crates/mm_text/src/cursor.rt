@@ -1,8 +1,10 @@
 //! A cursor over the words of a text.
 
-ghost use Rattle.std.specs.Prelude.{◌≡◌, ◌≤◌, ◌∷◌, [], List, IfSome, MatchOption, length};
+ghost use Rattle.std.specs.Prelude.{◌≡◌, ◌<◌, ◌≤◌, ◌∷◌, [], List, IfSome, MatchOption, length};
+ghost use Rattle.std.specs.List.{AllByRecursion, flat_map};
 ghost use Rattle.mm_text.specs.declared.word.Word.{Word};
 ghost use Rattle.mm_text.specs.Language.Reading.{HasWords, LiesIn};
+ghost use Rattle.mm_text.specs.Language.Unit.{spellings};
 
 use crate::reader::Reader;
 use crate::word::Word;
@@ -29,13 +31,16 @@ impl<'a> Model for WordCursor<'a> {
 }
 
 impl<'a> WordCursor<'a> {
-    /// A cursor before the first word of a text.
+    /// A cursor before the first word of a text. Each word has a byte at least, and together they have no more bytes
+    /// than the text.
     pub fn new(text: &'a [u8]) -> Self
         requires { (words : List Word) × HasWords text.now words }
         ensures text { result.text ≡ text.now }
         ensures words { HasWords text.now result.words }
         ensures only { (words : List Word) → HasWords text.now words → result.words ≡ words }
         ensures few { length result.words ≤ length text.now }
+        ensures some { AllByRecursion (λ bytes. 0 < length bytes) (spellings text.now result.words) }
+        ensures bytes { length (flat_map (λ bytes. bytes) (spellings text.now result.words)) ≤ length text.now }
     {
         WordCursor {
             reader: Reader::new(text),
@@ -65,7 +70,7 @@ impl<'a> WordCursor<'a> {
             }
             Ok(None) => None,
             // a text that has words has no fault
-            Err(_) => None,
+            Err(_) => unreachable!(),
         }
     }
 }

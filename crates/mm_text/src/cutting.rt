@@ -70,6 +70,8 @@ pub fn cut(alloc: Global, text: &[u8]) -> Result<Cut, TextError>
             let end = word.end + white_len(&text[word.end..]);
             pieces.push(ended_copy(alloc, &text[from..end])?)?;
             from = end;
+        } else if grammar.is_within() {
+            reader.skip_plain();
         }
     }
     match grammar.end() {

@@ -69,9 +69,13 @@ pub fn parts(alloc: Global, text: &[u8]) -> Result<Vec<Part>, AllocError>
                     first = None;
                 } else {
                     first = Some(start);
+                    reader.skip_plain();
                 }
             }
-            Ok(None) => return Ok(parts),
+            Ok(None) => {
+                parts.shrink_to_fit();
+                return Ok(parts);
+            }
             // a text whose words are units has no fault
             Err(_) => unreachable!(),
         }

@@ -6,7 +6,7 @@ ghost use Rattle.mm_text.specs.declared.grammar.Phase.TheVariants as phases;
 ghost use Rattle.mm_text.specs.declared.word.WordKind.TheVariants as kinds;
 ghost use Rattle.mm_text.specs.Language.Unit.{is_label_byte};
 ghost use Rattle.mm_text.specs.Code.UnitReading.{next};
-ghost use Rattle.mm_text.specs.Code.Grammar.{phase_of, level, GrammarTakes, EndsAs};
+ghost use Rattle.mm_text.specs.Code.Grammar.{phase_of, level, is_within, GrammarTakes, EndsAs};
 
 use crate::fault::{TextError, TextFault, TextNumber};
 use crate::spelling::could_label;
@@ -58,6 +58,13 @@ impl Grammar {
         ensures { IsTrue result ↔ ((self.now.phase ≡ phases.Begin) × (self.now.blocks.items ≡ [])) }
     {
         matches!(self.phase, Phase::Begin) && self.blocks.is_empty()
+    }
+
+    /// Whether a plain word makes no difference: the symbols or the proof of a statement are being read.
+    pub fn is_within(&self) -> bool
+        ensures { result ≡ is_within self.now.phase }
+    {
+        matches!(self.phase, Phase::Symbols | Phase::Expression)
     }
 
     /// Reads one more word, which is spelled so, or tells why no unit has it at this place.

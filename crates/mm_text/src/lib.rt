@@ -24,6 +24,7 @@ mod part;
 mod pieces;
 mod reader;
 mod reading;
+mod skipping;
 mod spelling;
 mod word;
 

@@ -3,14 +3,17 @@
 ghost use Rattle.std.specs.Prelude.{◌≤◌, length};
 
 use crate::fault::{TextFault, TextNumber};
-use crate::spelling::{has_mark, is_closing, is_opening, kind, run_len, white_len};
-use crate::word::Word;
+use crate::skipping::dollarless_len;
+use crate::spelling::{first_run, has_mark, is_closing, is_opening, kind, white_len};
+use crate::word::{Word, WordKind};
 
 /// The bytes of a text from `start` to `end`, without white space.
 #[derive(Clone, Copy)]
 pub struct Span {
     pub start: usize,
     pub end: usize,
+    /// No `$` is among them.
+    pub plain: bool,
 }
 
 /// A text that was read up to the byte `from`.
@@ -23,7 +26,7 @@ pub struct Reader<'a> {
 
 impl<'a> Reader<'a> {
     ghost use Rattle.std.specs.Prelude.{◌≡◌, MatchOption};
-    ghost use Rattle.mm_text.specs.Code.Reader.{TakesRun, EndsComment, GivesWord};
+    ghost use Rattle.mm_text.specs.Code.Reader.{TakesRun, EndsComment, GivesWord, SkipsPlain};
 
     /// A reader at the beginning of a text.
     pub fn new(text: &'a [u8]) -> Self
@@ -33,21 +36,32 @@ impl<'a> Reader<'a> {
         Reader { text, from: 0 }
     }
 
+    /// Goes on to the next run with a `$`, or to the end, over runs without one.
+    pub fn skip_plain(&mut self)
+        ensures text { self.new.text.now ≡ self.old.text.now }
+        ensures forward { self.old.from ≤ self.new.from }
+        ensures skips { SkipsPlain self.old.text.now self.old.from self.new.from }
+    {
+        self.from += dollarless_len(&self.text[self.from..]);
+    }
+
     /// The next longest sequence of bytes without white space, or `None` at the end of the text.
+    #[inline(always)]
     fn next_run(&mut self) -> Option<Span>
         ensures text { self.new.text.now ≡ self.old.text.now }
         ensures forward { self.old.from ≤ self.new.from }
         ensures run { TakesRun self.old.text.now self.old.from result self.new.from }
     {
         let start = self.from + white_len(&self.text[self.from..]);
-        let len = run_len(&self.text[start..]);
-        if len == 0 {
+        let run = first_run(&self.text[start..]);
+        if run.len == 0 {
             return None;
         }
-        self.from = start + len;
+        self.from = start + run.len;
         Some(Span {
             start,
-            end: start + len,
+            end: start + run.len,
+            plain: run.plain,
         })
     }
 
@@ -58,6 +72,10 @@ impl<'a> Reader<'a> {
         ensures end { EndsComment self.old.text.now self.old.from start result self.new.from }
     {
         while let Some(span) = self.next_run() {
+            if span.plain {
+                self.skip_plain();
+                continue;
+            }
             let bytes = &self.text[span.start..span.end];
             if is_closing(bytes) {
                 return Ok(());
@@ -81,6 +99,13 @@ impl<'a> Reader<'a> {
         ensures word { GivesWord self.old.text.now self.old.from result self.new.from }
     {
         while let Some(span) = self.next_run() {
+            if span.plain {
+                return Ok(Some(Word {
+                    kind: WordKind::Plain,
+                    start: span.start,
+                    end: span.end,
+                }));
+            }
             let bytes = &self.text[span.start..span.end];
             if is_opening(bytes) {
                 self.skip_comment(span.start)?;

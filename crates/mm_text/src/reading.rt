@@ -2,9 +2,10 @@
 
 ghost use Rattle.std.specs.Prelude.{◌≡◌, ◌<◌, List, None, IfOk, IfErr, IfSome, OnOk, All, slice_get};
 ghost use Rattle.mm_text.specs.declared.word.Word.{Word};
+ghost use Rattle.std.specs.List.{list_all};
 ghost use Rattle.mm_text.specs.Language.Run.{runs};
 ghost use Rattle.mm_text.specs.Code.LeftToRight.{read_runs, read_text, Gives};
-ghost use Rattle.mm_text.specs.Language.Reading.{first_bad, HasWords, IsWordsError, IsTextErrorIn, LiesIn, AreWithin};
+ghost use Rattle.mm_text.specs.Language.Reading.{first_bad, is_allowed, HasWords, IsWordsError, IsTextErrorIn, LiesIn, AreWithin};
 
 use crate::cursor::WordCursor;
 use crate::fault::{TextError, TextFault, TextNumber};
@@ -13,9 +14,24 @@ use crate::spelling::is_text_byte;
 use crate::word::Word;
 use std::alloc::Global;
 
+/// Whether a text may hold each of its bytes. It goes on to the end in any case, and so by many bytes at once.
+fn is_all_text(text: &[u8]) -> bool
+    ensures { result ≡ list_all is_allowed text.now }
+{
+    let mut all = true;
+    for at in 0..text.len() {
+        all &= is_text_byte(text[at]);
+    }
+    all
+}
+
+/// The first byte that no text may hold.
 pub fn first_bad_byte(text: &[u8]) -> Option<usize>
     ensures { result ≡ first_bad text.now }
 {
+    if is_all_text(text) {
+        return None;
+    }
     text.iter().position(|byte| !is_text_byte(*byte))
 }
 

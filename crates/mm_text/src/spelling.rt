@@ -1,12 +1,12 @@
 //! How words are spelled.
 
-ghost use Rattle.std.specs.Prelude.{◌≡◌, ◌≤◌, ◌↔◌, IsTrue, length};
+ghost use Rattle.std.specs.Prelude.{◌≡◌, ◌≤◌, ◌↔◌, IsTrue, length, not, take};
 ghost use Rattle.std.specs.List.{list_all, prefix_len};
 ghost use Rattle.mm_text.specs.Language.Unit as labels;
 ghost use Rattle.mm_text.specs.Language.Run.{is_white, is_solid};
 ghost use Rattle.mm_text.specs.Language.Reading.{is_allowed};
 ghost use Rattle.mm_text.specs.Language.Spelling.{opening, closing};
-ghost use Rattle.mm_text.specs.Code.LeftToRight.{keyword_at, word_kind, is_mark, holds_mark};
+ghost use Rattle.mm_text.specs.Code.LeftToRight.{has_dollar, is_plain, keyword_at, word_kind, is_mark, holds_mark};
 
 use crate::word::{Keyword, WordKind};
 
@@ -15,7 +15,7 @@ use crate::word::{Keyword, WordKind};
 pub fn is_white_space(byte: u8) -> bool
     ensures { result ≡ is_white byte }
 {
-    matches!(byte, b' ' | b'\t' | b'\r' | b'\n' | 0x0c)
+    byte <= b' ' && matches!(byte, b' ' | b'\t' | b'\r' | b'\n' | 0x0c)
 }
 
 /// Whether a text may hold this byte.
@@ -38,7 +38,7 @@ pub fn white_len(bytes: &[u8]) -> usize
 }
 
 /// How many bytes stand before the first white space, or before the end.
-pub fn run_len(bytes: &[u8]) -> usize
+fn run_len(bytes: &[u8]) -> usize
     ensures within { result ≤ length bytes.now }
     ensures value { result ≡ prefix_len is_solid bytes.now }
 {
@@ -46,6 +46,48 @@ pub fn run_len(bytes: &[u8]) -> usize
         .iter()
         .take_while(|byte| !is_white_space(**byte))
         .count()
+}
+
+/// Whether a byte is neither white space nor a `$`. Most bytes are told by one comparison.
+#[tactic(auto, unfolding(crate::specs::Language::Run::is_white))]
+fn is_plain_byte(byte: u8) -> bool
+    ensures { result ≡ is_plain byte }
+{
+    byte > b'$' || !(byte == b'$' || is_white_space(byte))
+}
+
+/// How many bytes stand before the first white space or `$`, or before the end.
+fn plain_len(bytes: &[u8]) -> usize
+    ensures within { result ≤ length bytes.now }
+    ensures value { result ≡ prefix_len is_plain bytes.now }
+{
+    bytes
+        .iter()
+        .take_while(|byte| is_plain_byte(**byte))
+        .count()
+}
+
+/// The run that some bytes begin with.
+#[derive(Clone, Copy)]
+pub struct Front {
+    /// How many bytes it has: none where there is no run.
+    pub len: usize,
+    /// It has no `$`.
+    pub plain: bool,
+}
+
+/// The run that these bytes begin with. Each byte of a run without `$` is looked at once.
+pub fn first_run(bytes: &[u8]) -> Front
+    ensures within { result.len ≤ length bytes.now }
+    ensures len { result.len ≡ prefix_len is_solid bytes.now }
+    ensures plain { result.plain ≡ not (has_dollar (take result.len bytes.now)) }
+{
+    let plain = plain_len(bytes);
+    let more = run_len(&bytes[plain..]);
+    Front {
+        len: plain + more,
+        plain: more == 0,
+    }
 }
 
 /// The keyword that has this byte behind its `$`, if there is one.

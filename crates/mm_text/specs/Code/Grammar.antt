@@ -10,7 +10,7 @@ use Rattle.mm_text.specs.declared.fault.TextError.{TextError}
 use Rattle.mm_text.specs.declared.fault.TextError.TheVariants as errors
 use Rattle.mm_text.specs.declared.fault.TextNumber.{TextNumber}
 use Rattle.mm_text.specs.declared.fault.TextNumber.TheVariants.{T07, T08}
-use Rattle.mm_text.specs.Code.UnitReading.{Phase, Begin, UnitStep, next}
+use Rattle.mm_text.specs.Code.UnitReading.{Phase, Begin, Symbols, Expression, UnitStep, next}
 
 -- the phase that a step leads to
 abbrev pub phase_of : UnitStep → Result Phase TextNumber
@@ -21,6 +21,12 @@ phase_of (Err number) = Err number
 abbrev pub level : Bool → ℕ
 level true = 0
 level false = 1
+
+-- a plain word changes nothing in this phase
+abbrev pub is_within : Phase → Bool
+is_within Symbols = true
+is_within Expression = true
+is_within _ = false
 
 -- where the unit begins to which a word belongs that begins here
 abbrev pub first_behind : Phase → ℕ → ℕ → ℕ

@@ -1,7 +1,7 @@
 -- The reading of a text, computed from left to right. The public contracts do not speak of it: it stands between the
 -- code and the definitions of `Reading`, with which it is proved to agree.
-use Rattle.std.specs.Prelude.{◌≡◌, ◌++◌, Vec, ℕ, ◌+◌, ◌==◌, Bool, if◌then◌else◌, false, ◌&&◌, ◌||◌, List, [], ◌∷◌, length, Option, Some, None, Result, Ok, Err}
-use Rattle.std.specs.Prelude.{option_map}
+use Rattle.std.specs.Prelude.{◌≡◌, ◌++◌, Vec, ℕ, ◌+◌, ◌==◌, Bool, if◌then◌else◌, false, not, ◌&&◌}
+use Rattle.std.specs.Prelude.{◌||◌, List, [], ◌∷◌, length, Option, Some, None, Result, Ok, Err, option_map}
 use Rattle.std.specs.Global.{Global}
 use Rattle.std.specs.List.{list_any}
 use Rattle.std.specs.Str.{bytes_eq}
@@ -16,9 +16,17 @@ use Rattle.mm_text.specs.declared.fault.TextError.{TextError}
 use Rattle.mm_text.specs.declared.fault.TextError.TheVariants as errors
 use Rattle.mm_text.specs.declared.fault.TextNumber.{TextNumber}
 use Rattle.mm_text.specs.declared.fault.TextNumber.TheVariants.{T01, T02, T03, T04, T05}
-use Rattle.mm_text.specs.Language.Run.{Run, runs}
+use Rattle.mm_text.specs.Language.Run.{Run, runs, is_solid}
 use Rattle.mm_text.specs.Language.Reading.{first_bad}
 use Rattle.mm_text.specs.Language.Spelling.{opening, closing}
+
+-- whether a byte is neither white space nor a `$`
+abbrev pub is_plain : ℕ → Bool
+is_plain b = is_solid b && not (b == 36)
+
+-- whether a `$` stands in these bytes
+abbrev pub has_dollar : List ℕ → Bool
+has_dollar bytes = list_any (λ c. c == 36) bytes
 
 -- the keyword with this byte behind its `$`
 abbrev pub keyword_at : ℕ → Option Keyword

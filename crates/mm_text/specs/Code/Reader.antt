@@ -1,5 +1,6 @@
 -- A reader, and what its steps do.
-use Rattle.std.specs.Prelude.{◌≡◌, ◌≢◌, ℕ, ◌<◌, ◌≤◌, true, List, [], ◌∷◌, ◌++◌, drop, slice_range, Option, None, Result, MatchOption, MatchResult}
+use Rattle.std.specs.Prelude.{◌≡◌, ◌≢◌, ℕ, ◌<◌, ◌≤◌, true, false, not, List, [], ◌∷◌, ◌++◌, drop, slice_range, Option, None, Result, MatchOption, MatchResult}
+use Rattle.std.specs.List.{AllByRecursion}
 use Rattle.mm_text.specs.declared.reader.Span.{Span}
 use Rattle.mm_text.specs.declared.word.Word.{Word}
 use Rattle.mm_text.specs.declared.fault.TextFault.{TextFault}
@@ -9,7 +10,7 @@ use Rattle.mm_text.specs.Language.Run.{Run, runs_from, ends_run}
 use Rattle.mm_text.specs.Language.Spelling.{HoldsMark, IsWord, opening, closing}
 use Rattle.mm_text.specs.Language.Reading.{AreWords, HoldNoMarks}
 use Rattle.mm_text.specs.Language.Cut.{EndsInComment}
-use Rattle.mm_text.specs.Code.LeftToRight.{word_kind}
+use Rattle.mm_text.specs.Code.LeftToRight.{word_kind, has_dollar}
 
 -- the runs of a text from a byte on
 abbrev pub runs_at : List ℕ → ℕ → List Run
@@ -27,9 +28,19 @@ pub record TakesSpan (text : List ℕ) (from : ℕ) (span : Span) (to : ℕ) : T
   pub run : runs_at text from ≡ run_of text span ∷ runs_at text to
   pub here : runs_at text span.start ≡ run_of text span ∷ runs_at text to
   pub ends : ends_run (drop to text) ≡ true
+  pub plain : span.plain ≡ not (has_dollar (run_of text span).bytes)
 
 abbrev pub TakesRun : List ℕ → ℕ → Option Span → ℕ → Type 0
 TakesRun text from result to = MatchOption result (runs_at text from ≡ []) (λ span. TakesSpan text from span to)
+
+-- runs without a `$` are passed over
+abbrev pub ArePlain : List Run → Type 0
+ArePlain runs = AllByRecursion (λ run. has_dollar run.bytes ≡ false) runs
+
+pub record SkipsPlain (text : List ℕ) (from to : ℕ) : Type 0 where
+  pub inside : List Run
+  pub joined : runs_at text from ≡ inside ++ runs_at text to
+  pub plain : ArePlain inside
 
 -- the rest of a comment is skipped
 pub record SkipsComment (text : List ℕ) (from to : ℕ) : Type 0 where

@@ -3,7 +3,8 @@ use Rattle.std.specs.Global.{Global}
 use Rattle.std.proofs.lemmas.Bool.{false≢true}
 use Rattle.std.proofs.lemmas.List.{map-append}
 use Rattle.std.proofs.lemmas.Result.{err_from_is_err_and}
-use Rattle.mm_text.proofs.CutLemmas.{progress_start, words_fault}
+use Rattle.mm_text.specs.Code.Reader.{SkipsPlain}
+use Rattle.mm_text.proofs.CutLemmas.{progress_start, progress_skip, words_fault}
 use Rattle.mm_text.proofs.CutStepLemmas.{ends_fault, ends_cut, from_before, refused, keeps_more, keeps_piece}
 use Rattle.mm_text.proofs.PartLemmas.{each_units}
 use Rattle.mm_text.proofs.PositionLemmas.{first_fault_lies, cut_error_lies}
@@ -61,6 +62,17 @@ loop-grammar-preserved c =
     record {
       text = c.in_ok-word.ensures.text ∙ c.loop-grammar.invariant.text;
       progress = keeps_more _ _ _ _ c.loop-grammar.grammar c.loop-grammar.invariant.progress _ _ taken _ c.take.new.self refl c.in_ok-take.ensures (λ whole. false≢true (sym c.if-is_whole.false ∙ c.is_whole.ensures.1 whole));
+    }
+
+pub loop-grammar-preserved-then-is_within : goal.loop-grammar-preserved-then-is_within
+loop-grammar-preserved-then-is_within c =
+    let taken = rw (c.in-Some-2.is, c.loop-grammar.invariant.text) at c.in_ok-word.ensures.word in
+    let same = c.in_ok-word.ensures.text ∙ c.loop-grammar.invariant.text in
+    let more = keeps_more _ _ _ _ c.loop-grammar.grammar c.loop-grammar.invariant.progress _ _ taken _ c.take.new.self refl c.in_ok-take.ensures (λ whole. false≢true (sym c.if-is_whole.false ∙ c.is_whole.ensures.1 whole)) in
+    let skips : SkipsPlain c.next_word.new.self.text.now c.next_word.new.self.from c.skip_plain.new.self.from = c.skip_plain.ensures.skips in
+    record {
+      text = c.skip_plain.ensures.text ∙ same;
+      progress = progress_skip _ _ _ _ _ _ _ more _ (rw same at skips) (sym c.is_within.ensures ∙ c.if-is_within.true);
     }
 
 pub returns-in-Some-end-clause-fault : goal.returns-in-Some-end-clause-fault

@@ -1,6 +1,7 @@
 use Rattle.std.proofs.Common.{◌≡◌, ◌≤◌, true, false, length, sym, ◌∙◌}
 use Rattle.mm_text.specs.Code.PartReading.{ends_part}
-use Rattle.mm_text.proofs.PartLemmas.{divides_start, divides_end, divides_fault, divides_part, divides_more}
+use Rattle.mm_text.specs.Code.Reader.{SkipsPlain}
+use Rattle.mm_text.proofs.PartLemmas.{divides_start, divides_end, divides_fault, divides_part, divides_more, divides_skip}
 use Rattle.mm_text.proofs.division.parts.Goals as goal
 
 pub loop-word-init : goal.loop-word-init
@@ -26,15 +27,17 @@ loop-word-preserved c =
     let same = c.in-Ok-Some.ensures.text ∙ c.loop-word.invariant.text in
     let most : c.next_word.new.self.from ≤ length c.next_word.new.self.text.now = c.next_word.new.self.in_text in
     let on : ends_part c.in-Ok-Some.word.kind ≡ false = sym c.ends_part.ensures ∙ c.if-ends_part.false in
+    let more = divides_more _ _ _ _ _ c.loop-word.invariant.divides c.in-Ok-Some.word _ taken (rw same at most) on in
+    let skips : SkipsPlain c.next_word.new.self.text.now c.next_word.new.self.from c.skip_plain.new.self.from = c.skip_plain.ensures.skips in
     record {
-      text = same;
-      divides = rw (c.part_kind-kind.ensures, c.unwrap_or-start.ensures) (divides_more _ _ _ _ _ c.loop-word.invariant.divides c.in-Ok-Some.word _ taken (rw same at most) on);
+      text = c.skip_plain.ensures.text ∙ same;
+      divides = rw (c.part_kind-kind.ensures, c.unwrap_or-start.ensures) (divides_skip _ _ _ _ _ _ more (rw same at skips) c.skip_plain.ensures.forward);
     }
 
 pub returns-in-Ok-None-clause-parts : goal.returns-in-Ok-None-clause-parts
 returns-in-Ok-None-clause-parts c =
     let none = rw (c.in-Ok-None.field-0-is, c.loop-word.invariant.text) at c.in-Ok-None.ensures.word in
-    divides_end _ _ _ _ _ c.loop-word.invariant.divides none
+    λ units has. c.shrink_to_fit.ensures.items ∙ divides_end _ _ _ _ _ c.loop-word.invariant.divides none units has
 
 pub unreachable-requires : goal.unreachable-requires
 unreachable-requires c =

@@ -24,6 +24,6 @@ returns-in-Ok-None-clause-word c =
     let none : c.args.self.now.words ≡ [] = ap (λ (left : WordsLeft). left.words) (sym c.self.view_is) ∙ none_left c.self.inside.reader.text.now c.self.inside.reader.from (read_words _ [] given) in
     (none, none)
 
-pub returns-in-Err-clause-word : goal.returns-in-Err-clause-word
-returns-in-Err-clause-word c =
-    absurd (no_fault c.self.inside.reader.text.now c.self.inside.reader.from c.in-Err.field-0 c.self.invariant (fails_read _ [] _ _ c.in-Err.ensures.word))
+pub unreachable-requires : goal.unreachable-requires
+unreachable-requires c =
+    no_fault c.self.inside.reader.text.now c.self.inside.reader.from c.in-Err.field-0 c.self.invariant (fails_read _ [] _ _ c.in-Err.ensures.word)
