@@ -1,9 +1,9 @@
 -- What the code that looks for a fault rests on.
 use Rattle.std.proofs.Common.{◌≡◌, ℕ, suc, ◌+◌, ◌<◌, Bool, true, false, not, cond, ◌&&◌, ◌||◌, Option, Some, None, List, [], ◌∷◌, ◌++◌, length, take, drop, get_or, bytes_eq, refl, sym, ◌∙◌, ap, subst, arith}
 use Rattle.std.specs.Borrow.{Bor}
+use Rattle.std.specs.Prelude.{is_none}
 use Rattle.std.specs.Option.{option_or}
 use Rattle.std.specs.HashSet.{HashSet, Updates}
-use Rattle.std.proofs.lemmas.Bool.{false≢true, false_from_ne_true}
 use Rattle.std.proofs.Math.Seq.{take-suc}
 use Rattle.std.proofs.lemmas.Option.{slice_get-get_or}
 use Rattle.std.proofs.lemmas.List.Folds.{list_any-append}
@@ -12,26 +12,43 @@ use Rattle.mm_frame.specs.Language.Scope.{constants, active_variables, typed}
 use Rattle.mm_frame.specs.Language.Sound.{first_symbol, closing_word, fault_or, fault, AreSound}
 use Rattle.mm_frame.specs.Code.KeptScope.{ScopeHolds}
 use Rattle.mm_frame.specs.declared.scope.Scope.{Scope}
+use Rattle.mm_frame.specs.declared.tables.Declared.{Declared}
+use Rattle.mm_frame.specs.declared.tables.Declared.TheVariants.{Constant, Variable}
+use Rattle.mm_frame.specs.Code.KeptTables.{declared_in, variable_at}
+use Rattle.mm_frame.specs.Code.LastItems.{last_where, declares_variable, types, is_active_last}
 use Rattle.mm_frame.specs.declared.FrameNumber.{FrameNumber}
 use Rattle.mm_frame.specs.declared.FrameNumber.TheVariants.{F10, F11}
 use Rattle.mm_frame.specs.Code.FaultInOrder.{must_differ, front_fault, end_fault, first_fault, symbol_fault, symbols_fault, later_fault}
 use Rattle.mm_frame.specs.Code.SeenNames.{HasSeen}
 use Rattle.mm_frame.proofs.JudgingLemmas.{first_fault_at, fault_is}
-use Rattle.mm_frame.proofs.KnownLemmas.{has_one}
-use Rattle.mm_frame.proofs.Members.{has_in}
-use Rattle.mm_frame.proofs.Facts.{not_constant}
-use Rattle.mm_frame.proofs.SoundItems.{sound_kept}
+use Rattle.mm_frame.proofs.KnownLemmas.{has_one, constant_no_variable}
+use Rattle.mm_frame.proofs.TableLemmas.{active_variable_last, typed_last}
 
--- nothing is wrong with a constant behind a typecode: it is no active variable
-pub constant_later : (before : List Item) → AreSound before → (name : List ℕ) → has (constants before) name ≡ true → later_fault before name ≡ None
-constant_later before h name c =
-    by_test (has (constants before) name) (has (active_variables before) name) (has (typed before) name) c
-    (false_from_ne_true (has (active_variables before) name) (λ v. not_constant before (sound_kept before h) name (has_in (constants before) name c) (has_in (active_variables before) name v)))
+-- whether a name that is declared so may stand behind a typecode
+abbrev pub may_follow_as : List Item → Option Declared → Bool
+may_follow_as before None = false
+may_follow_as before (Some Constant) = true
+may_follow_as before (Some (Variable declared float)) = is_active_last before (Some declared) && is_active_last before float
+
+-- what is wrong behind a typecode with a name that is a constant, an active variable, or typed
+abbrev later_as : Bool → Bool → Bool → Option FrameNumber
+later_as constant active typed = cond (not (constant || active)) (Some F10) (cond (active && not typed) (Some F11) None)
+
+pub follows_later : (before : List Item) → AreSound before → (name : List ℕ) → may_follow_as before (declared_in before name) ≡ is_none (later_fault before name)
+follows_later before h name =
+    by_test (has (constants before) name) (last_where (declares_variable name) before) (last_where (types name) before) (has (active_variables before) name) (has (typed before) name)
+    (active_variable_last before h name) (typed_last before h name) (constant_no_variable before h name)
   where
-    by_test : (a b t : Bool) → a ≡ true → b ≡ false → cond (not (a || b)) (Some F10) (cond (b && not t) (Some F11) None) ≡ None
-    by_test true false t e n = refl
-    by_test false b t e n = absurd (false≢true e)
-    by_test true true t e n = absurd (false≢true (sym n))
+    both : (active typed : Bool) → (active && typed) ≡ is_none (later_as false active typed)
+    both true true = refl
+    both true false = refl
+    both false typed = refl
+
+    by_test : (c : Bool) (v t : Option ℕ) (active typed : Bool) → active ≡ is_active_last before v → typed ≡ is_active_last before t → (c ≡ true → v ≡ None)
+        → may_follow_as before (cond c (Some Constant) (variable_at v t)) ≡ is_none (later_as c active typed)
+    by_test true v t active typed a b n = let inactive : active ≡ false = a ∙ ap (is_active_last before) (n refl) in rw inactive refl
+    by_test false None t active typed a b n = rw a refl
+    by_test false (Some d) t active typed a b n = rw (← a, ← b) (both active typed)
 
 -- one more name is seen
 pub sees_more : {S : Type 0} (names : List (List ℕ)) (name : Bor (List ℕ)) (old new : HashSet (Bor (List ℕ)) S) → HasSeen names old → Updates (λ x y. bytes_eq x.now y.now) old new name true → HasSeen (names ++ name.now ∷ []) new

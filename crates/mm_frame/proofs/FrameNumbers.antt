@@ -155,6 +155,12 @@ pub frame_means : {X : Type 0} (told : X → List ℕ) (base : BaseView) (i : �
 frame_means told base i None e = tt
 frame_means told base i (Some x) e = frame_numbers base i (told x) (sym e)
 
+-- what is kept, where it is
+pub frame_is : {X : Type 0} (told : X → List ℕ) (base : BaseView) (i : ℕ) (found : Option X) → option_map told found ≡ hypotheses_at base i →
+    IfSome found (λ x. told x ≡ mandatory_numbers (before base i) (said_at base i))
+frame_is told base i None e = tt
+frame_is told base i (Some x) e = sym (numbers_told _ (before base i) (said_at base i) (told x) (sym e))
+
 -- a frame is told exactly for an assertion
 told_some : {X : Type 0} (told : X → List ℕ) (found : Option X) (framed : Bool) (front : List Item) (item : Item) → option_map told found ≡ numbers_if framed front item → is_some found ≡ framed
 told_some told None true front item e = cc

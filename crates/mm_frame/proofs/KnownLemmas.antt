@@ -111,7 +111,7 @@ without_number (Some n) e = absurd (false≢true (sym e))
 no_variable : (before : List Item) (name : List ℕ) → last_where (declares_variable name) before ≡ None → has (variables before) name ≡ false
 no_variable before name e = variable_last before name ∙ ap is_some e
 
-constant_no_variable : (before : List Item) → AreSound before → (name : List ℕ) → has (constants before) name ≡ true → last_where (declares_variable name) before ≡ None
+pub constant_no_variable : (before : List Item) → AreSound before → (name : List ℕ) → has (constants before) name ≡ true → last_where (declares_variable name) before ≡ None
 constant_no_variable before h name t = without_number (last_where (declares_variable name) before) (sym (variable_last before name) ∙ constant_or_variable before h name t)
 
 -- what is told of the last `$v` and the last `$f` of a name

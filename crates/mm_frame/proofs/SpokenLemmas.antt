@@ -1,12 +1,12 @@
 -- The words of a statement between its keywords, read one by one.
-use Rattle.std.proofs.Common.{◌≡◌, ℕ, zero, suc, ◌+◌, Bool, true, false, cond, if◌then◌else◌, List, [], ◌∷◌, ◌++◌, Option, Some, None, length, map, take, drop, refl, sym, ◌∙◌, ap, arith, append_assoc, length-append}
-use Rattle.std.specs.Prelude.{slice_get, MatchOption}
+use Rattle.std.proofs.Common.{◌≡◌, ℕ, zero, suc, ◌+◌, ◌<◌, ◌≤◌, Bool, true, false, cond, if◌then◌else◌, List, [], ◌∷◌, ◌++◌, Option, Some, None, length, map, take, drop, refl, sym, ◌∙◌, ap, subst, arith, append_assoc, length-append}
+use Rattle.std.specs.Prelude.{slice_get, is_some, MatchOption}
 use Rattle.std.specs.Option.{option_map}
-use Rattle.std.specs.List.{prefix_len}
-use Rattle.std.proofs.lemmas.List.{drop-map, drop-drop, take-map, append-nil}
+use Rattle.std.specs.List.{AllByRecursion, flat_map, prefix_len}
+use Rattle.std.proofs.lemmas.List.{drop-map, drop-drop, take-map, append-nil, length-drop, length-take}
 use Rattle.std.proofs.lemmas.Simd.{map-map}
 use Rattle.mm_text.specs.declared.word.Word.{Word}
-use Rattle.mm_text.specs.Language.Unit.{Token, token_of, tokens_of}
+use Rattle.mm_text.specs.Language.Unit.{Token, token_of, tokens_of, spellings}
 use Rattle.mm_frame.specs.Language.Item.{Kind, Item, is_labelled}
 use Rattle.mm_frame.specs.Code.PlainWords.{TakesLabel, bytes_in, plain_words, plain_bytes}
 use Rattle.mm_frame.specs.Language.Statement.{is_plain_kind, is_plain, token_names, plain_from, symbols_from, symbols_in, proof_in, label_in, item_of}
@@ -117,6 +117,13 @@ label_is false text words new None h = refl
 label_is true text words new None h = absurd h
 label_is false text words new (Some word) h = absurd h
 
+-- there is a label where the kind has one
+pub label_there : (labelled : Bool) (words new : List Word) (label : Option Word) → TakesLabel labelled words label new → is_some label ≡ labelled
+label_there true words new (Some word) h = refl
+label_there false words new None h = refl
+label_there true words new None h = absurd h
+label_there false words new (Some word) h = absurd h
+
 -- what is read of a statement with these words
 pub record Reads (kind : Kind) (words : List Word) (label : Option Word) (symbols rest : List Word) : Type 0 where
   pub behind : List Word
@@ -137,3 +144,73 @@ item_read kind text words label symbols rest h =
     let proof : plain_bytes text rest ≡ token_names (proof_in kind (tokens_of text words)) = ap (plain_bytes text) behind ∙ sym (names_from text words (from + length (symbols_in kind (tokens_of text words)) + 1)) in
     let labelled : option_map (bytes_in text) label ≡ label_in kind (tokens_of text words) = label_is (is_labelled kind) text words h.behind label h.takes in
     λ i. record { kind = kind; label = labelled i; symbols = spelled i; proof = proof i }
+
+-- ---- how many words are left, and their bytes
+
+-- no word is empty
+abbrev AreSome : List (List ℕ) → Type 0
+AreSome names = AllByRecursion (λ name. 0 < length name) names
+
+-- the bytes of all words
+abbrev bytes_of : List (List ℕ) → ℕ
+bytes_of names = length (flat_map (λ name. name) names)
+
+-- so it is with the words behind some place, and with those before it
+some_behind : (n : ℕ) (names : List (List ℕ)) → AreSome names → AreSome (drop n names)
+some_behind zero names h = h
+some_behind (suc n) [] h = tt
+some_behind (suc n) (name ∷ names) h = some_behind n names h.1
+
+some_before : (n : ℕ) (names : List (List ℕ)) → AreSome names → AreSome (take n names)
+some_before zero names h = tt
+some_before (suc n) [] h = tt
+some_before (suc n) (name ∷ names) h = (h.0, some_before n names h.1)
+
+bytes_behind : (n : ℕ) (names : List (List ℕ)) → bytes_of (drop n names) ≤ bytes_of names
+bytes_behind zero names = omega arith
+bytes_behind (suc n) [] = omega arith
+bytes_behind (suc n) (name ∷ names) = omega (arith, bytes_behind n names, length-append name (flat_map (λ bytes. bytes) names))
+
+bytes_before : (n : ℕ) (names : List (List ℕ)) → bytes_of (take n names) ≤ bytes_of names
+bytes_before zero names = omega arith
+bytes_before (suc n) [] = omega arith
+bytes_before (suc n) (name ∷ names) =
+    omega (arith, bytes_before n names, length-append name (flat_map (λ bytes. bytes) names), length-append name (flat_map (λ bytes. bytes) (take n names)))
+
+-- the words of a proof are the first of those that are left
+module _ (text : List ℕ) (words : List Word) where
+  proof_spelled : take (prefix_len (λ (w : Word). is_plain_kind w.kind) words) (spellings text words) ≡ plain_bytes text words
+  proof_spelled =
+      let n = prefix_len (λ (w : Word). is_plain_kind w.kind) words in
+      ap (take n) (map-map (λ (token : Token). token.bytes) (token_of text) words) ∙ take-map (bytes_in text) n words
+
+  pub proof_some : AreSome (spellings text words) → AreSome (plain_bytes text words)
+  proof_some h = subst AreSome proof_spelled (some_before (prefix_len (λ (w : Word). is_plain_kind w.kind) words) (spellings text words) h)
+
+  pub proof_bytes : bytes_of (plain_bytes text words) ≤ bytes_of (spellings text words)
+  proof_bytes = subst (λ names. bytes_of names ≤ bytes_of (spellings text words)) proof_spelled (bytes_before (prefix_len (λ (w : Word). is_plain_kind w.kind) words) (spellings text words))
+
+-- the words that are left are the last of the words
+module _ (text : List ℕ) (kind : Kind) (words : List Word) (label : Option Word) (symbols rest : List Word) (h : Reads kind words label symbols rest) where
+  abbrev count : ℕ
+  count = symbols_from kind + (length (plain_words h.first) + 1)
+
+  rest_spelled : drop count (spellings text words) ≡ spellings text rest
+  rest_spelled =
+      let n = length (plain_words h.first) + 1 in
+      let first : h.first ≡ drop (symbols_from kind) words = h.keyword ∙ behind_label (is_labelled kind) words h.behind label h.takes in
+      let behind : rest ≡ drop count words = h.all.rest ∙ ap (drop n) first ∙ drop-drop n (symbols_from kind) words in
+      drop-map (λ (token : Token). token.bytes) count (tokens_of text words) ∙ ap (map (λ (token : Token). token.bytes)) (drop-map (token_of text) count words) ∙ ap (spellings text) (sym behind)
+
+  pub rest_some : AreSome (spellings text words) → AreSome (spellings text rest)
+  rest_some all = subst AreSome rest_spelled (some_behind count (spellings text words) all)
+
+  pub rest_bytes : bytes_of (spellings text rest) ≤ bytes_of (spellings text words)
+  rest_bytes = subst (λ names. bytes_of names ≤ bytes_of (spellings text words)) rest_spelled (bytes_behind count (spellings text words))
+
+  pub rest_few : length symbols + length rest ≤ length words
+  rest_few =
+      let n = length (plain_words h.first) in
+      let first = ap length (h.keyword ∙ behind_label (is_labelled kind) words h.behind label h.takes) ∙ length-drop (symbols_from kind) words in
+      let plain : n ≤ length h.first = omega (arith, length-take (prefix_len (λ (w : Word). is_plain_kind w.kind) h.first) h.first) in
+      omega (arith, first, plain, ap length h.all.are, ap length h.all.rest, length-drop (n + 1) h.first)

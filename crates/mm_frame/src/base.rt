@@ -7,7 +7,7 @@ ghost use Rattle.mm_store.specs.Language.Answers.{IsExpansionError};
 ghost use Rattle.mm_store.specs.declared.error.StoreError.TheVariants.{NoTop};
 ghost use Rattle.mm_frame.specs.Language.Item.{is_labelled};
 ghost use Rattle.mm_frame.specs.Language.Frame.{AreSamePairs};
-ghost use Rattle.mm_frame.specs.Language.Framing.{active_pairs, resolve};
+ghost use Rattle.mm_frame.specs.Language.Framing.{active_pairs, mandatory_numbers, resolve};
 ghost use Rattle.mm_frame.specs.Language.Base.{BaseView, IsOfFiles, before, said_at, is_proof_at, is_framed_at, is_sound_at, fault_at, expression_at, frame_at};
 ghost use Rattle.mm_frame.specs.Language.Base.{AreHypotheses};
 ghost use Rattle.mm_frame.specs.Code.CodeSymbols.{symbols_of, kept_pairs};
@@ -213,6 +213,8 @@ impl Base {
     pub fn frame(&self, i: usize) -> Option<&Frame>
         ensures some { (base : BaseView) → IsBase base self.now → is_some result ≡ is_framed_at base i }
         ensures means { (base : BaseView) → IsBase base self.now → IfSome result (λ frame. AreHypotheses base i frame.now.hypotheses.items) }
+        ensures numbers { (base : BaseView) → IsBase base self.now
+            → IfSome result (λ frame. frame.now.hypotheses.items ≡ mandatory_numbers (before base i) (said_at base i)) }
         ensures pairs { (base : BaseView) → IsBase base self.now
             → IfSome result (λ frame. AreSamePairs (kept_pairs frame.now.pairs.items) (frame_at base i).pairs) }
     {

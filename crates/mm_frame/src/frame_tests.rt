@@ -1,16 +1,17 @@
 //! Expressions, mandatory hypotheses and pairs of small databases, and when two assertions have the same frame.
 
+ghost use Rattle.std.specs.Prelude.{All};
 ghost use Rattle.mm_store.specs.Language.FileFacts.{CanBeRead};
 
-use crate::base_tests::base_of;
+use crate::base_tests::{base_of, has_hypotheses};
 use crate::blocks::Blocks;
 use crate::draft::{Draft, Parts};
 use crate::mandatory::{Earlier, hypotheses};
 use crate::paired::PairTable;
 use crate::same::{same_but_pairs, same_pairs};
-use crate::symbol::{NamedSymbol, expression_of};
-use crate::tables::Tables;
-use crate::{Files, Item, Statement, StoreError, same_frame};
+use crate::symbol::NamedSymbol;
+use crate::tests::read_text;
+use crate::{Base, Files, Item, StoreError, same_frame};
 use std::alloc::{AllocError, Global};
 use std::test::Fail;
 
@@ -18,36 +19,18 @@ use std::test::Fail;
 const FRAME: &[u8] =
     b"$c wff |- $.\n$v x y z $.\nwz $f wff z $.\nwx $f wff x $.\nwy $f wff y $.\n$d x y z $.\nex $e |- y $.\nax $a |- x $.\n";
 
-/// Keeps the expression of an item, and takes it.
-fn keep_item(
-    alloc: Global,
-    files: &Files,
-    item: &Item,
-    number: usize,
-    tables: &mut Tables,
-    expressions: &mut Vec<Vec<NamedSymbol>>,
-) -> Result<(), AllocError>
-    requires { CanBeRead files.now item.now }
+/// What is kept of items.
+fn parts_among(alloc: Global, files: &Files, items: &[Item]) -> Result<Parts, AllocError>
+    requires { All (CanBeRead files.now) items.now }
 {
-    let statement = Statement::read(alloc, files, item)?;
-    expressions.push(expression_of(alloc, tables, &statement)?)?;
-    tables.take(alloc, &statement, number)
+    let draft = Draft::read_all(alloc, files, items)?;
+    Ok(draft.parts())
 }
 
-/// Does so for all items of a text.
-fn keep_all(
-    alloc: Global,
-    text: &[u8],
-    tables: &mut Tables,
-    expressions: &mut Vec<Vec<NamedSymbol>>,
-) -> Result<(), StoreError> {
-    let mut files = Files::new(alloc);
-    files.add(alloc, b"top", text)?;
-    let items = files.statements(alloc, b"top")?;
-    for number in 0..items.len() {
-        keep_item(alloc, &files, &items[number], number, tables, expressions)?;
-    }
-    Ok(())
+/// What is kept of the items of a text.
+fn parts_of(alloc: Global, text: &[u8]) -> Result<Parts, StoreError> {
+    let (files, items) = read_text(alloc, text)?;
+    Ok(parts_among(alloc, &files, &items)?)
 }
 
 /// What is kept for an item.
@@ -79,35 +62,42 @@ pub fn stands_at(
     }
 }
 
+/// Whether the item 6 of `FRAME` is kept with its symbols.
+fn keeps_essential(alloc: Global, parts: &Parts) -> Result<bool, AllocError> {
+    let essential = kept_for(&parts.expressions, 6);
+    Ok(
+        essential.len() == 2
+            && stands_at(alloc, essential, 0, b"|-", false)?
+            && stands_at(alloc, essential, 1, b"y", true)?
+            && !stands_at(alloc, essential, 1, b"y", false)?
+            && !stands_at(alloc, essential, 1, b"x", true)?,
+    )
+}
+
 #[test]
 fn reads_expressions(rt: HostRuntime) -> Result<(), Fail> {
-    let mut tables = Tables::new(rt.alloc());
-    let mut expressions = Vec::new(rt.alloc());
-    keep_all(rt.alloc(), FRAME, &mut tables, &mut expressions)?;
-    let essential = kept_for(&expressions, 6);
-    assert_eq!(rt; essential.len(), 2);
-    assert!(rt; stands_at(rt.alloc(), essential, 0, b"|-", false)?);
-    assert!(rt; stands_at(rt.alloc(), essential, 1, b"y", true)?);
-    assert!(rt; !stands_at(rt.alloc(), essential, 1, b"y", false)?);
-    assert!(rt; !stands_at(rt.alloc(), essential, 1, b"x", true)?);
+    let parts = parts_of(rt.alloc(), FRAME)?;
+    assert!(rt; keeps_essential(rt.alloc(), &parts)?);
     Ok(())
+}
+
+/// Whether the assertion 7 of `FRAME` needs these hypotheses.
+fn needs(alloc: Global, parts: &Parts, wanted: &[usize]) -> Result<bool, AllocError> {
+    let earlier = Earlier {
+        tables: &parts.tables,
+        pairs: &PairTable::new(alloc),
+        blocks: &Blocks::new(alloc),
+        essentials: &[6],
+        expressions: &parts.expressions,
+    };
+    let numbers = hypotheses(alloc, &earlier, kept_for(&parts.expressions, 7))?;
+    Ok(&numbers[..] == wanted)
 }
 
 #[test]
 fn finds_mandatory_hypotheses(rt: HostRuntime) -> Result<(), Fail> {
-    let mut tables = Tables::new(rt.alloc());
-    let mut expressions = Vec::new(rt.alloc());
-    keep_all(rt.alloc(), FRAME, &mut tables, &mut expressions)?;
-    let own = kept_for(&expressions, 7);
-    let earlier = Earlier {
-        tables: &tables,
-        pairs: &PairTable::new(rt.alloc()),
-        blocks: &Blocks::new(rt.alloc()),
-        essentials: &[6],
-        expressions: &expressions,
-    };
-    let numbers = hypotheses(rt.alloc(), &earlier, own)?;
-    assert_eq!(rt; &numbers[..], [3, 4, 6].as_slice());
+    let parts = parts_of(rt.alloc(), FRAME)?;
+    assert!(rt; needs(rt.alloc(), &parts, &[3, 4, 6])?);
     Ok(())
 }
 
@@ -115,72 +105,140 @@ fn finds_mandatory_hypotheses(rt: HostRuntime) -> Result<(), Fail> {
 const BETWEEN: &[u8] =
     b"$c wff |- -> ( ) $.\n$v p q $.\nwp $f wff p $.\nwq $f wff q $.\nwi $a wff ( p -> q ) $.\n${ e1 $e |- p $. $v r $. wr $f wff r $. a3 $a |- r $. $}\n";
 
+/// Whether no item has a fault.
+fn is_sound(base: &Base) -> bool {
+    for i in 0..base.count() {
+        if base.fault(i).is_some() {
+            return false;
+        }
+    }
+    true
+}
+
+/// Whether an item has a frame with no pair.
+fn has_no_pair(base: &Base, i: usize) -> bool {
+    match base.frame(i) {
+        Some(frame) => frame.pairs.is_empty(),
+        None => false,
+    }
+}
+
+/// Whether the two assertions of `BETWEEN` have their mandatory hypotheses.
+fn keeps_hypotheses(base: &Base) -> bool {
+    has_hypotheses(base, 4, &[2, 3])
+        && has_hypotheses(base, 9, &[2, 6, 8])
+        && has_no_pair(base, 4)
+        && has_no_pair(base, 9)
+}
+
 #[test]
 fn keeps_hypotheses_in_order(rt: HostRuntime) -> Result<(), Fail> {
     let base = base_of(rt.alloc(), BETWEEN)?;
-    assert_eq!(rt; base.count(), 11);
-    for i in 0..base.count() {
-        assert_eq!(rt; base.fault(i), None, "of {i}");
-    }
-    let rows: [(usize, &[usize]); 2] = [(4, &[2, 3]), (9, &[2, 6, 8])];
-    for (i, wanted) in rows {
-        assert!(rt; base.frame(i).is_some(), "of {i}");
-        if let Some(frame) = base.frame(i) {
-            assert_eq!(rt; &frame.hypotheses[..], wanted, "of {i}");
-            assert!(rt; frame.pairs.is_empty(), "of {i}");
-        }
-    }
+    assert!(rt; base.count() == 11);
+    assert!(rt; is_sound(&base));
+    assert!(rt; keeps_hypotheses(&base));
     Ok(())
 }
 
 /// Five sound items: three variables, which are typed in the order z, x, y.
 const TYPED: &[u8] = b"$c wff |- $.\n$v x y z $.\nwz $f wff z $.\nwx $f wff x $.\nwy $f wff y $.\n";
 
-/// The pairs of the frame of an item of a text behind `TYPED`, written one behind another; `none` where it has no
-/// frame.
-fn pairs_written(alloc: Global, text: &[u8], i: usize) -> Result<Vec<u8>, StoreError> {
+/// The base of a text behind `TYPED`.
+fn base_behind(alloc: Global, text: &[u8]) -> Result<Base, StoreError> {
     let mut whole = Vec::from_slice(alloc, TYPED)?;
     whole.extend_from_slice(text)?;
-    let base = base_of(alloc, &whole)?;
-    let mut written = Vec::new(alloc);
-    match base.frame(i) {
-        Some(frame) => {
-            for pair in &frame.pairs {
-                written.extend_from_slice(&pair.0.name)?;
-                written.extend_from_slice(&pair.1.name)?;
-                written.push(b' ')?;
-            }
-        }
-        None => written.extend_from_slice(b"none")?,
-    }
-    Ok(written)
+    base_of(alloc, &whole)
 }
+
+/// Whether a pair is of these variables.
+fn is_pair(pair: &(NamedSymbol, NamedSymbol), wanted: &(&[u8], &[u8])) -> bool {
+    pair.0.variable
+        && pair.1.variable
+        && &pair.0.name[..] == wanted.0
+        && &pair.1.name[..] == wanted.1
+}
+
+/// Whether pairs are of these variables, in this order.
+fn are_pairs(pairs: &[(NamedSymbol, NamedSymbol)], wanted: &[(&[u8], &[u8])]) -> bool {
+    if pairs.len() != wanted.len() {
+        return false;
+    }
+    for k in 0..pairs.len() {
+        if !is_pair(&pairs[k], &wanted[k]) {
+            return false;
+        }
+    }
+    true
+}
+
+/// Whether an item has a frame with these pairs, or none where `None` is wanted.
+fn has_frame(base: &Base, i: usize, wanted: Option<&[(&[u8], &[u8])]>) -> bool {
+    match (base.frame(i), wanted) {
+        (Some(frame), Some(wanted)) => are_pairs(&frame.pairs, wanted),
+        (None, None) => true,
+        _ => false,
+    }
+}
+
+/// A text behind `TYPED`, the number of an item, and the pairs of its frame, if it has one.
+type FramePairs = (
+    &'static [u8],
+    usize,
+    Option<&'static [(&'static [u8], &'static [u8])]>,
+);
+
+/// Whether the item of a row has this frame.
+fn is_framed_so(alloc: Global, row: &FramePairs) -> Result<bool, StoreError> {
+    let base = base_behind(alloc, row.0)?;
+    Ok(has_frame(&base, row.1, row.2))
+}
+
+/// The pair of x and y.
+const XY: &[(&[u8], &[u8])] = &[(b"x", b"y")];
+
+/// The pairs of the frames of items.
+const FRAMED: &[FramePairs] = &[
+    (b"$d x y $.", 5, None),
+    (b"ax $a |- x y $.", 5, Some(&[])),
+    (
+        b"$d x y z $. ax $a |- x y z $.",
+        6,
+        Some(&[(b"z", b"x"), (b"z", b"y"), (b"x", b"y")]),
+    ),
+    // y is not mandatory
+    (b"$d x y z $. ax $a |- x z $.", 6, Some(&[(b"z", b"x")])),
+    // y is, for it stands in a `$e`
+    (
+        b"$d y z $. ex $e |- y $. ax $a |- z $.",
+        7,
+        Some(&[(b"z", b"y")]),
+    ),
+    // x and z are no pair, though each is one with y
+    (
+        b"$d x y $. $d y z $. ax $a |- x y z $.",
+        7,
+        Some(&[(b"z", b"y"), (b"x", b"y")]),
+    ),
+    (b"$d y x $. ax $a |- x y $.", 6, Some(XY)),
+    (b"$d y x $. $d x y $. ax $a |- x y $.", 7, Some(XY)),
+    // the block of the `$d` has ended
+    (b"${ $d x y $. $} ax $a |- x y $.", 8, Some(&[])),
+    (b"${ $d x y $. ax $a |- x y $. $}", 7, Some(XY)),
+    (b"${ $d x y $. $} $d x y $. ax $a |- x y $.", 9, Some(XY)),
+    // only that of the inner one has
+    (b"$d x y $. ${ $d x y $. $} ax $a |- x y $.", 9, Some(XY)),
+    (
+        b"$d x y $. ${ $d y x z $. $} ax $a |- x y z $.",
+        9,
+        Some(XY),
+    ),
+];
 
 #[test]
 fn keeps_the_pairs_of_frames(rt: HostRuntime) -> Result<(), Fail> {
-    let rows: [(&[u8], usize, &[u8]); 13] = [
-        (b"$d x y $.", 5, b"none"),
-        (b"ax $a |- x y $.", 5, b""),
-        (b"$d x y z $. ax $a |- x y z $.", 6, b"zx zy xy "),
-        // y is not mandatory
-        (b"$d x y z $. ax $a |- x z $.", 6, b"zx "),
-        // y is, for it stands in a `$e`
-        (b"$d y z $. ex $e |- y $. ax $a |- z $.", 7, b"zy "),
-        // x and z are no pair, though each is one with y
-        (b"$d x y $. $d y z $. ax $a |- x y z $.", 7, b"zy xy "),
-        (b"$d y x $. ax $a |- x y $.", 6, b"xy "),
-        (b"$d y x $. $d x y $. ax $a |- x y $.", 7, b"xy "),
-        // the block of the `$d` has ended
-        (b"${ $d x y $. $} ax $a |- x y $.", 8, b""),
-        (b"${ $d x y $. ax $a |- x y $. $}", 7, b"xy "),
-        (b"${ $d x y $. $} $d x y $. ax $a |- x y $.", 9, b"xy "),
-        // only that of the inner one has
-        (b"$d x y $. ${ $d x y $. $} ax $a |- x y $.", 9, b"xy "),
-        (b"$d x y $. ${ $d y x z $. $} ax $a |- x y z $.", 9, b"xy "),
-    ];
-    for (text, item, wanted) in rows {
-        let found = pairs_written(rt.alloc(), text, item)?;
-        assert_eq!(rt; &found[..], wanted, "of {text:?}");
+    for row in FRAMED {
+        let text = row.0;
+        assert!(rt; is_framed_so(rt.alloc(), row)?, "of {text:?}");
     }
     Ok(())
 }
@@ -192,78 +250,91 @@ const PAIRS: &[u8] =
 $d x y $.\nax $a |- x $.\nta $p |- x $= wx $.\n${ $d z y x $.\ntb $p |- x $= wx $.\n\
 te $p |- q $= wx $.\ntc $p |- y $= wy $. $}\ntd $p |- x $= wx $.\n";
 
-/// Whether the pair at a place is of these variables.
-fn is_pair_at(
-    pairs: &[(NamedSymbol, NamedSymbol)],
-    place: usize,
-    first: &[u8],
-    second: &[u8],
-) -> bool {
-    match pairs.get(place) {
-        Some(pair) => {
-            pair.0.variable
-                && pair.1.variable
-                && &pair.0.name[..] == first
-                && &pair.1.name[..] == second
-        }
-        None => false,
+/// Active pairs at an item: `None` where none are told of it.
+type ActivePairs = (usize, Option<&'static [(&'static [u8], &'static [u8])]>);
+
+/// Whether these active pairs are told of an item.
+fn has_pairs(base: &Base, row: &ActivePairs) -> bool {
+    match (base.pairs(row.0), row.1) {
+        (Some(pairs), Some(wanted)) => are_pairs(pairs, wanted),
+        (None, None) => true,
+        _ => false,
     }
 }
+
+/// The first row of which other active pairs are told.
+fn paired_otherwise(base: &Base, rows: &[ActivePairs]) -> Option<usize> {
+    for (k, row) in rows.iter().enumerate() {
+        if !has_pairs(base, row) {
+            return Some(k);
+        }
+    }
+    None
+}
+
+/// The pairs in the inner block of `PAIRS`.
+const INNER: &[(&[u8], &[u8])] = &[(b"x", b"y"), (b"z", b"y"), (b"z", b"x"), (b"y", b"x")];
+
+/// The active pairs at items of `PAIRS`, and behind the last one.
+const ACTIVE: &[ActivePairs] = &[
+    (0, None),
+    (2, None),
+    (5, Some(&[])),
+    (6, None),
+    (7, None),
+    (8, Some(XY)),
+    (9, None),
+    (10, None),
+    (11, Some(INNER)),
+    (12, None),
+    (13, Some(INNER)),
+    (14, None),
+    (15, Some(XY)),
+    (16, None),
+];
 
 #[test]
 fn tells_active_pairs(rt: HostRuntime) -> Result<(), Fail> {
     let base = base_of(rt.alloc(), PAIRS)?;
-    assert_eq!(rt; base.count(), 16);
-    for i in [0, 2, 6, 7, 9, 10, 12, 14, 16] {
-        assert!(rt; base.pairs(i).is_none(), "of {i}");
-    }
-    let rows: [(usize, &[(&[u8], &[u8])]); 5] = [
-        (5, &[]),
-        (8, &[(b"x", b"y")]),
-        (
-            11,
-            &[(b"x", b"y"), (b"z", b"y"), (b"z", b"x"), (b"y", b"x")],
-        ),
-        (
-            13,
-            &[(b"x", b"y"), (b"z", b"y"), (b"z", b"x"), (b"y", b"x")],
-        ),
-        (15, &[(b"x", b"y")]),
-    ];
-    for (i, wanted) in rows {
-        assert!(rt; base.pairs(i).is_some(), "of {i}");
-        let pairs = base.pairs(i).unwrap_or(&[]);
-        assert_eq!(rt; pairs.len(), wanted.len(), "of {i}");
-        for (place, pair) in wanted.iter().enumerate() {
-            assert!(rt; is_pair_at(pairs, place, pair.0, pair.1), "of {i}, {place}");
-        }
-    }
+    assert!(rt; base.count() == 16);
+    assert_eq!(rt; paired_otherwise(&base, ACTIVE), None);
     Ok(())
 }
 
-/// What is kept of the items of a text.
-fn parts_of(alloc: Global, text: &[u8]) -> Result<Parts, StoreError> {
-    let mut files = Files::new(alloc);
-    files.add(alloc, b"top", text)?;
-    let items = files.statements(alloc, b"top")?;
-    Ok(Draft::read_all(alloc, &files, &items)?.parts())
+/// Whether this is kept as the number of the list of an item.
+fn has_list(parts: &Parts, i: usize, wanted: Option<usize>) -> bool {
+    match parts.pair_numbers.get(i) {
+        Some(number) => *number == wanted,
+        None => false,
+    }
+}
+
+/// The numbers of the lists of items of `PAIRS`.
+const LISTS: &[(usize, Option<usize>)] = &[
+    (5, Some(0)),
+    (7, None),
+    (8, Some(1)),
+    (11, Some(2)),
+    (12, None),
+    (13, Some(2)),
+    (15, Some(1)),
+];
+
+/// The first row whose item has another list.
+fn listed_otherwise(parts: &Parts, rows: &[(usize, Option<usize>)]) -> Option<usize> {
+    for (k, row) in rows.iter().enumerate() {
+        if !has_list(parts, row.0, row.1) {
+            return Some(k);
+        }
+    }
+    None
 }
 
 #[test]
 fn neighbours_share_a_list(rt: HostRuntime) -> Result<(), Fail> {
     let parts = parts_of(rt.alloc(), PAIRS)?;
-    for (i, wanted) in [
-        (5, Some(0)),
-        (7, None),
-        (8, Some(1)),
-        (11, Some(2)),
-        (12, None),
-        (13, Some(2)),
-        (15, Some(1)),
-    ] {
-        assert_eq!(rt; parts.pair_numbers.get(i).copied(), Some(wanted), "of {i}");
-    }
-    assert_eq!(rt; parts.pair_lists.list(2).len(), 4);
+    assert_eq!(rt; listed_otherwise(&parts, LISTS), None);
+    assert!(rt; parts.pair_lists.list(2).len() == 4);
     assert!(rt; parts.pair_lists.list(3).is_empty());
     Ok(())
 }
@@ -275,26 +346,50 @@ const TWINS: &[u8] =
 /// The item 1 is of the symbols of assertions of the other text, but of constants.
 const CONSTANTS: &[u8] = b"$c wff |- x $.\nax $a |- x $.\n";
 
+/// The first row of two items that are told wrongly to be the same, or not to be.
+fn compared_otherwise(base: &Base, rows: &[(usize, usize, bool)]) -> Option<usize> {
+    for (k, row) in rows.iter().enumerate() {
+        if same_but_pairs(base, row.0, base, row.1) != row.2 {
+            return Some(k);
+        }
+    }
+    None
+}
+
+/// Items of `TWINS`, and whether they are the same but for their pairs.
+const SAME: &[(usize, usize, bool)] = &[
+    (4, 4, true),
+    (4, 6, true),
+    (4, 5, false),
+    (4, 9, false),
+    (9, 9, true),
+    (2, 2, false),
+];
+
+/// Whether an item of a base and one of a text are the same but for their pairs.
+fn is_like(
+    alloc: Global,
+    base: &Base,
+    i: usize,
+    text: &[u8],
+    j: usize,
+) -> Result<bool, StoreError> {
+    let other = base_of(alloc, text)?;
+    Ok(same_but_pairs(base, i, &other, j))
+}
+
 #[test]
 fn compares_what_assertions_need(rt: HostRuntime) -> Result<(), Fail> {
     let base = base_of(rt.alloc(), TWINS)?;
-    let other = base_of(rt.alloc(), CONSTANTS)?;
-    for (i, j, wanted) in [
-        (4, 4, true),
-        (4, 6, true),
-        (4, 5, false),
-        (4, 9, false),
-        (9, 9, true),
-        (2, 2, false),
-    ] {
-        assert_eq!(rt;
-            same_but_pairs(&base, i, &base, j),
-            wanted,
-            "of {i} and {j}"
-        );
-    }
-    assert!(rt; !same_but_pairs(&base, 4, &other, 1));
-    assert!(rt; same_but_pairs(&other, 1, &other, 1));
+    assert_eq!(rt; compared_otherwise(&base, SAME), None);
+    assert!(rt; !is_like(rt.alloc(), &base, 4, CONSTANTS, 1)?);
+    Ok(())
+}
+
+#[test]
+fn compares_constants(rt: HostRuntime) -> Result<(), Fail> {
+    let base = base_of(rt.alloc(), CONSTANTS)?;
+    assert!(rt; same_but_pairs(&base, 1, &base, 1));
     Ok(())
 }
 
@@ -311,17 +406,38 @@ fn add_pair(
     Ok(())
 }
 
+/// Pairs of variables.
+fn pairs_of(
+    alloc: Global,
+    names: &[(&[u8], &[u8])],
+) -> Result<Vec<(NamedSymbol, NamedSymbol)>, AllocError> {
+    let mut pairs = Vec::new(alloc);
+    for pair in names {
+        add_pair(alloc, pair.0, pair.1, &mut pairs)?;
+    }
+    Ok(pairs)
+}
+
+/// Whether two lists of pairs of variables are told to be the same.
+fn are_same_pairs(
+    alloc: Global,
+    one: &[(&[u8], &[u8])],
+    other: &[(&[u8], &[u8])],
+) -> Result<bool, AllocError> {
+    let one = pairs_of(alloc, one)?;
+    let other = pairs_of(alloc, other)?;
+    Ok(same_pairs(&one, &other))
+}
+
+const XY_XZ: &[(&[u8], &[u8])] = &[(b"x", b"y"), (b"x", b"z")];
+
+const XY_ZX: &[(&[u8], &[u8])] = &[(b"x", b"y"), (b"z", b"x")];
+
 #[test]
 fn compares_pairs(rt: HostRuntime) -> Result<(), Fail> {
-    let mut one = Vec::new(rt.alloc());
-    add_pair(rt.alloc(), b"x", b"y", &mut one)?;
-    let mut other = Vec::new(rt.alloc());
-    assert!(rt; !same_pairs(&one, &other));
-    add_pair(rt.alloc(), b"x", b"y", &mut other)?;
-    assert!(rt; same_pairs(&one, &other));
-    add_pair(rt.alloc(), b"x", b"z", &mut one)?;
-    add_pair(rt.alloc(), b"z", b"x", &mut other)?;
-    assert!(rt; !same_pairs(&one, &other));
+    assert!(rt; !are_same_pairs(rt.alloc(), XY, &[])?);
+    assert!(rt; are_same_pairs(rt.alloc(), XY, XY)?);
+    assert!(rt; !are_same_pairs(rt.alloc(), XY_XZ, XY_ZX)?);
     Ok(())
 }
 
@@ -341,24 +457,49 @@ const TURNED: &[u8] =
 /// The item 2 is of the names of an assertion of the twins, of which one is a constant here.
 const NAMES: &[u8] = b"$c wff |- x $.\nex $e wff x $.\nax $a |- x $.\n";
 
+/// Whether an item of a base and one of a text are told to have the same frame.
+fn frame_is_like(
+    alloc: Global,
+    base: &Base,
+    i: usize,
+    text: &[u8],
+    j: usize,
+) -> Result<bool, StoreError> {
+    let other = base_of(alloc, text)?;
+    Ok(same_frame(base, i, &other, j))
+}
+
+/// Whether two items of two texts are told to have the same frame.
+fn have_same_frame(
+    alloc: Global,
+    one: (&[u8], usize),
+    other: (&[u8], usize),
+) -> Result<bool, StoreError> {
+    let base = base_of(alloc, one.0)?;
+    frame_is_like(alloc, &base, one.1, other.0, other.1)
+}
+
+/// Items of texts, and whether they have the same frame.
+const FRAMES: &[((&[u8], usize), (&[u8], usize), bool)] = &[
+    ((APART, 6), (APART, 6), true),
+    ((APART, 6), (SPREAD, 12), true),
+    ((SPREAD, 12), (APART, 6), true),
+    ((APART, 6), (SPREAD, 14), false),
+    ((SPREAD, 14), (SPREAD, 14), true),
+    ((APART, 6), (TURNED, 6), false),
+    ((TWINS, 4), (TWINS, 6), true),
+    ((TWINS, 4), (TWINS, 9), false),
+    ((TWINS, 4), (NAMES, 2), false),
+    ((TWINS, 2), (TWINS, 2), false),
+];
+
 #[test]
 fn compares_frames(rt: HostRuntime) -> Result<(), Fail> {
-    let rows: [(&[u8], usize, &[u8], usize, bool); 10] = [
-        (APART, 6, APART, 6, true),
-        (APART, 6, SPREAD, 12, true),
-        (SPREAD, 12, APART, 6, true),
-        (APART, 6, SPREAD, 14, false),
-        (SPREAD, 14, SPREAD, 14, true),
-        (APART, 6, TURNED, 6, false),
-        (TWINS, 4, TWINS, 6, true),
-        (TWINS, 4, TWINS, 9, false),
-        (TWINS, 4, NAMES, 2, false),
-        (TWINS, 2, TWINS, 2, false),
-    ];
-    for (k, (text, i, other_text, j, wanted)) in rows.into_iter().enumerate() {
-        let base = base_of(rt.alloc(), text)?;
-        let other = base_of(rt.alloc(), other_text)?;
-        assert_eq!(rt; same_frame(&base, i, &other, j), wanted, "of row {k}");
+    for (k, row) in FRAMES.iter().enumerate() {
+        assert!(rt;
+            have_same_frame(rt.alloc(), row.0, row.1)? == row.2,
+            "of row {k}"
+        );
     }
     Ok(())
 }

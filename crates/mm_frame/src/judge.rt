@@ -120,18 +120,16 @@ fn floating_fault(scope: &Scope, statement: &Statement, n: usize) -> Option<Fram
     }
 }
 
-/// What is wrong with a symbol behind a typecode.
+/// What is wrong with a symbol behind a typecode. One with nothing wrong is looked up once.
 fn later_fault(scope: &Scope, name: &[u8]) -> Option<FrameNumber>
     ensures { (before : List Item) → AreSound before → ScopeHolds before scope.now → result ≡ judging.later_fault before name.now }
 {
-    if scope.is_constant(name) {
+    if scope.may_follow(name) {
         None
-    } else if !scope.is_active_variable(name) {
-        Some(FrameNumber::F10)
-    } else if !scope.is_typed(name) {
+    } else if scope.is_active_variable(name) {
         Some(FrameNumber::F11)
     } else {
-        None
+        Some(FrameNumber::F10)
     }
 }
 

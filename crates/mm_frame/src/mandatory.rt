@@ -105,11 +105,13 @@ pub fn hypotheses(
         → IsFramed before item own.now → numbers.items ≡ mandatory_numbers before item) }
 {
     let (essentials, expressions) = (earlier.essentials, earlier.expressions);
-    let mut numbers = Vec::from_slice(alloc, essentials)?;
+    let mut numbers = Vec::with_capacity(alloc, own.len())?;
+    numbers.extend_from_slice(essentials)?;
     add_floats(earlier.tables, own, &mut numbers)?;
     add_all_floats(earlier.tables, expressions, essentials, &mut numbers)?;
     numbers.sort_unstable();
     numbers.dedup();
+    numbers.shrink_to_fit();
     Ok(numbers)
 }
 
@@ -159,7 +161,7 @@ fn variables_typed<'a>(
     ensures { IfOk result (λ variables. IsRising essentials.now
         → symbols_lent variables.items ≡ float_variables essentials.now expressions.now hypotheses.now) }
 {
-    let mut variables = Vec::new(alloc);
+    let mut variables = Vec::with_capacity(alloc, hypotheses.len())?;
     for number in hypotheses {
         add_variable(essentials, expressions, *number, &mut variables)?;
     }

@@ -1,19 +1,20 @@
 //! What the sound items so far declare, and which of it is active.
 
-ghost use Rattle.std.specs.Prelude.{◌≡◌, true, List, [], ◌∷◌, ◌++◌, OnOk, slice_index_or};
+ghost use Rattle.std.specs.Prelude.{◌≡◌, is_none, true, List, [], ◌∷◌, ◌++◌, OnOk, slice_index_or};
 ghost use Rattle.mm_frame.specs.Language.Item as meant;
 ghost use Rattle.mm_frame.specs.Language.Scope as scopes;
 ghost use Rattle.mm_frame.specs.Language.Scope.{mark_of};
 ghost use Rattle.mm_frame.specs.Language.Statement.{kind_of};
 ghost use Rattle.mm_frame.specs.Language.Sound as sound;
 ghost use Rattle.mm_frame.specs.Language.Sound.{AreSound};
+ghost use Rattle.mm_frame.specs.Code.FaultInOrder as judging;
 ghost use Rattle.mm_frame.specs.Code.LastItems as numbered;
 ghost use Rattle.mm_frame.specs.Code.BlockMarks.{marks_of};
 ghost use Rattle.mm_frame.specs.Code.KeptTables.{Knows};
 
 use crate::blocks::Blocks;
 use crate::statement::Statement;
-use crate::tables::Tables;
+use crate::tables::{Declared, Tables};
 use mm_store::ItemKind;
 use std::alloc::{AllocError, Global};
 
@@ -108,6 +109,29 @@ impl<'a> Scope<'a> {
         ensures { (before : List meant.Item) → AreSound before → ScopeHolds before self.now → result ≡ sound.is_active_symbol before name.now }
     {
         self.is_constant(name) || self.is_active_variable(name)
+    }
+
+    /// Whether the item with this number is active; none is not.
+    fn is_active_number(&self, number: Option<usize>) -> bool
+        ensures { (before : List meant.Item) → ScopeHolds before self.now → result ≡ numbered.is_active_last before number }
+    {
+        match number {
+            Some(number) => self.blocks.is_active_now(number),
+            None => false,
+        }
+    }
+
+    /// Whether a name may stand behind a typecode: it is a constant, or a variable that is active and typed.
+    pub fn may_follow(&self, name: &[u8]) -> bool
+        ensures { (before : List meant.Item) → AreSound before → ScopeHolds before self.now → result ≡ is_none (judging.later_fault before name.now) }
+    {
+        match self.tables.name(name) {
+            Some(Declared::Constant) => true,
+            Some(Declared::Variable { declared, float }) => {
+                self.is_active_number(Some(declared)) && self.is_active_number(float)
+            }
+            None => false,
+        }
     }
 
     /// The number of the last `$f` of a variable, active or not.

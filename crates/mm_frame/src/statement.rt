@@ -1,6 +1,7 @@
 //! What an item of the files says.
 
 ghost use Rattle.std.specs.Prelude.{◌≡◌, ◌+◌, ◌<◌, ◌≤◌, [], false, None, All, IfOk, IfSome, OnOk, length, drop, is_some, slice_index_or};
+ghost use Rattle.std.specs.List.{AllByRecursion, flat_map};
 ghost use Rattle.std.specs.Option.{option_map};
 ghost use Rattle.mm_store.specs.Language.FileFacts.{CanBeRead};
 ghost use Rattle.mm_frame.specs.Language.Item as meant;
@@ -8,7 +9,7 @@ ghost use Rattle.mm_frame.specs.Language.Sound.{first_symbol};
 ghost use Rattle.mm_frame.specs.Code.PlainWords.{LiesInText, TakesLabel, bytes_in, plain_words};
 ghost use Rattle.mm_frame.specs.Language.Statement as spoken;
 ghost use Rattle.mm_frame.specs.Language.Statement.{Says};
-ghost use Rattle.mm_text.specs.Language.Unit.{tokens_of};
+ghost use Rattle.mm_text.specs.Language.Unit.{spellings, tokens_of};
 
 use crate::proof_words::ProofWords;
 use mm_store::{Files, Item, ItemKind};
@@ -88,6 +89,9 @@ fn read_label(kind: ItemKind, words: &mut WordCursor) -> Option<Word>
     }
 }
 
+/// How many symbols there is room for from the first on: more than most statements have.
+const USUAL_COUNT: usize = 32;
+
 /// The words before the next keyword; it is read, too.
 fn read_symbols(alloc: Global, words: &mut WordCursor) -> Result<Vec<Word>, AllocError>
     ensures text { words.new.text ≡ words.old.text }
@@ -95,7 +99,7 @@ fn read_symbols(alloc: Global, words: &mut WordCursor) -> Result<Vec<Word>, Allo
     ensures rest { OnOk result (words.new.words ≡ drop (length (plain_words words.old.words) + 1) words.old.words) }
     ensures within { IfOk result (λ symbols. All (LiesInText words.old.text) symbols.items) }
 {
-    let mut symbols = Vec::new(alloc);
+    let mut symbols = Vec::with_capacity(alloc, USUAL_COUNT)?;
     while let Some(word) = words.next_word() {
         if !is_plain(word.kind) {
             return Ok(symbols);
@@ -126,6 +130,8 @@ impl<'a> Statement<'a> {
         requires text { words.text ≡ text.now }
         requires some { 0 < length words.words }
         requires few { length words.words ≤ 4294967295 }
+        requires each { AllByRecursion (λ word. 0 < length word) (spellings text.now words.words) }
+        requires bytes { length (flat_map (λ word. word) (spellings text.now words.words)) ≤ 4294967295 }
         ensures { IfOk result (λ new. new ≡ spoken.item_of (spoken.kind_of kind) (tokens_of text.now words.entry.words)) }
     {
         let mut rest = words;
@@ -185,19 +191,22 @@ impl<'a> Statement<'a> {
         symbols_from(self.kind) + n
     }
 
-    /// The words of the proof, from the first one on: at most 4,294,967,295, and none where there is no proof. It takes
-    /// no memory.
+    /// The words of the proof, from the first one on: at most 4,294,967,295, and none where there is no proof. Each has a
+    /// byte at least, and together they have at most 4,294,967,295. It takes no memory.
     pub fn proof(&self) -> ProofWords<'a>
         ensures words { result ≡ self.now.proof }
         ensures few { length result ≤ 4294967295 }
+        ensures some { AllByRecursion (λ word. 0 < length word) result }
+        ensures bytes { length (flat_map (λ word. word) result) ≤ 4294967295 }
     {
         ProofWords::new(self.text, self.rest.again())
     }
 
     /// The place of the n-th word of the proof, counted from 0, among all words of the statement, which are counted
-    /// from 0 as well, the label being the first.
+    /// from 0 as well, the label being the first. Where n is the count of these words, it is the place of the `$.` that
+    /// closes a `$p`.
     pub fn proof_place(&self, n: usize) -> usize
-        requires { n < length self.now.proof }
+        requires { n ≤ length self.now.proof }
         ensures { result ≡ spoken.symbols_from self.now.kind + length self.now.symbols + 1 + n }
     {
         symbols_from(self.kind) + self.symbols.len() + 1 + n

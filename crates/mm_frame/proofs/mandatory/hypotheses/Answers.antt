@@ -10,6 +10,6 @@ returns c before item known framed =
     let essentials = c.args.earlier.now.essentials.now in
     let own = c.args.own.now in
     let found = flat_map (λ n. float_numbers tables (expression_kept expressions n)) essentials in
-    let numbers = c.in_ok-add_all_floats.ensures ∙ ap (λ w. w ++ found) (c.in_ok-add_floats.ensures ∙ ap (λ w. w ++ float_numbers tables own) c.in_ok-numbers.ensures.items) in
-    hypotheses_sorted tables expressions essentials own c.add_all_floats.new.numbers.items c.sort_unstable.new.self.items c.dedup.new.self.items numbers c.sort_unstable.ensures.permutation c.sort_unstable.ensures.sorted c.dedup.ensures.filtered
+    let numbers = c.in_ok-add_all_floats.ensures ∙ ap (λ w. w ++ found) (c.in_ok-add_floats.ensures ∙ ap (λ w. w ++ float_numbers tables own) (c.in_ok-extend_from_slice.ensures.items ∙ ap (λ w. w ++ essentials) c.in_ok-numbers.ensures.items)) in
+    c.shrink_to_fit.ensures.items ∙ hypotheses_sorted tables expressions essentials own c.add_all_floats.new.numbers.items c.sort_unstable.new.self.items c.dedup.new.self.items numbers c.sort_unstable.ensures.permutation c.sort_unstable.ensures.sorted c.dedup.ensures.filtered
     before item (record { sound = known.sound; known = known.known; item_sound = framed.sound; assertion = framed.assertion }) known.essentials known.expressions framed.symbols

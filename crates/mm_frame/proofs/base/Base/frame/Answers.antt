@@ -1,6 +1,6 @@
 use Rattle.mm_frame.specs.Code.CodeSymbols.{kept_pairs}
 use Rattle.mm_frame.proofs.BaseLemmas.{ordered_pairs}
-use Rattle.mm_frame.proofs.FrameNumbers.{frame_means, framed_some}
+use Rattle.mm_frame.proofs.FrameNumbers.{frame_means, frame_is, framed_some}
 use Rattle.mm_frame.proofs.base.Base.frame.Goals as goal
 
 pub returns-clause-some : goal.returns-clause-some
@@ -8,6 +8,9 @@ returns-clause-some c base is = framed_some (λ frame. frame.now.hypotheses.item
 
 pub returns-clause-means : goal.returns-clause-means
 returns-clause-means c base is = frame_means (λ frame. frame.now.hypotheses.items) base c.args.i c.kept_frame.result (c.kept_frame.ensures.numbers base is)
+
+pub returns-clause-numbers : goal.returns-clause-numbers
+returns-clause-numbers c base is = frame_is (λ frame. frame.now.hypotheses.items) base c.args.i c.kept_frame.result (c.kept_frame.ensures.numbers base is)
 
 pub returns-clause-pairs : goal.returns-clause-pairs
 returns-clause-pairs c base is = ordered_pairs (λ frame. kept_pairs frame.now.pairs.items) base c.args.i c.kept_frame.result (framed_some (λ frame. frame.now.hypotheses.items) c.kept_frame.result base c.args.i (c.kept_frame.ensures.numbers base is)) (c.kept_frame.ensures.order base is)
