@@ -34,7 +34,7 @@ labels_mean has means stand view i said =
     subst (λ hs. AllZip (MeansHypothesis (setting_at view i)) (map (label_at view) numbers) hs) (stand view i).are (active_mean view i numbers (mandatory_are_active has means stand view i said))
 
 -- they can be used
-active_usable : (view : BaseView) (i : ℕ) (numbers : List ℕ) → AreActive view i numbers → AllByRecursion (λ label. IsUsable ((setting_at view i).resolve label)) (map (label_at view) numbers)
+pub active_usable : (view : BaseView) (i : ℕ) (numbers : List ℕ) → AreActive view i numbers → AllByRecursion (λ label. IsUsable ((setting_at view i).resolve label)) (map (label_at view) numbers)
 active_usable view i [] a = tt
 active_usable view i (n ∷ numbers) a = (subst IsUsable (sym a.0.1) tt, active_usable view i numbers a.1)
 

@@ -278,7 +278,7 @@ pairs_moved active others expression hypotheses pairs b stack number s f e h c =
     by_number P12 c = c
     by_number _ c = absurd c
 
-label_moved : (active others : List (Symbol × Symbol)) (r t : Resolved) (stack : List (List Symbol)) (number : ProofNumber) → AreSamePairs active others → AreSameMeaning r t → LabelFails active r stack number → LabelFails others t stack number
+pub label_moved : (active others : List (Symbol × Symbol)) (r t : Resolved) (stack : List (List Symbol)) (number : ProofNumber) → AreSamePairs active others → AreSameMeaning r t → LabelFails active r stack number → LabelFails others t stack number
 label_moved active others (Assertion a) (Assertion b) stack number s m c = pairs_moved active others a.expression a.hypotheses a.pairs b stack number s m.pairs m.expression m.hypotheses c
 label_moved active others (Hypothesis e) t stack number s m c = absurd c
 label_moved active others Inactive t stack number s m c = absurd c
@@ -293,7 +293,7 @@ line_moved p q NotKnown b stack number s m c = absurd c
 line_moved p q (Named a) _ stack number s m c = absurd m
 line_moved p q Save _ stack number s m c = absurd m
 
-pairs_back : (pairs others : List (Symbol × Symbol)) → AreSamePairs pairs others → AreSamePairs others pairs
+pub pairs_back : (pairs others : List (Symbol × Symbol)) → AreSamePairs pairs others → AreSamePairs others pairs
 pairs_back pairs others s = λ x y. ((s x y).1, (s x y).0)
 
 steps_back : (p q : Setting) (xs ys : List Step) → AllZip (IsSameStep p q) xs ys → AllZip (IsSameStep q p) ys xs

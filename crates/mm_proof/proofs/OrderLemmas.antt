@@ -32,7 +32,8 @@ further reading readings fault is f = record { front = reading ∷ f.front; back
 told_here : (number : ProofNumber) (spot : Spot) (fault : ProofFault) → ◌≡◌ {A = Steps} (Err (record { number = number; spot = spot })) (Err fault) → record { number = number; spot = spot } ≡ fault
 told_here number spot fault e = cc
 
-found : (spot : Spot) (r : Result Step ProofNumber) (readings : List Reading) (fault : ProofFault) → (in_order readings ≡ Err fault → IsFirstDecodingFault readings fault) → read_first spot r (in_order readings) ≡ Err fault → IsFirstDecodingFault (record { spot = spot; step = r } ∷ readings) fault
+found : (spot : Spot) (r : Result Step ProofNumber) (readings : List Reading) (fault : ProofFault) → (in_order readings ≡ Err fault → IsFirstDecodingFault readings fault) → read_first spot r (in_order readings) ≡ Err fault →
+    IsFirstDecodingFault (record { spot = spot; step = r } ∷ readings) fault
 found spot (Ok step) readings fault rest e = further (record { spot = spot; step = Ok step }) readings fault (step, refl) (rest (with_err step spot (in_order readings) fault e))
 found spot (Err number) readings fault rest e =
     let same = told_here number spot fault e in

@@ -12,13 +12,13 @@ use Rattle.mm_proof.specs.Language.View.{IsSameStep}
 use Rattle.mm_proof.proofs.Threaded.{AreDecodedAfter}
 
 -- a known step
-known_one : (x : Step) → x ≢ NotKnown → is_unknown x ≡ false
+pub known_one : (x : Step) → x ≢ NotKnown → is_unknown x ≡ false
 known_one (Named label) k = refl
 known_one (Saved n) k = refl
 known_one Save k = refl
 known_one NotKnown k = absurd (k refl)
 
-one_known : (x : Step) → is_unknown x ≡ false → x ≢ NotKnown
+pub one_known : (x : Step) → is_unknown x ≡ false → x ≢ NotKnown
 one_known (Named label) k e = cc
 one_known (Saved n) k e = cc
 one_known Save k e = cc

@@ -7,7 +7,9 @@ use Rattle.mm_frame.specs.Language.Frame.{Resolved, Hypothesis, Assertion, Inact
 use Rattle.mm_proof.specs.Language.Expansion.{Step, Named, Saved, Save, NotKnown}
 use Rattle.mm_proof.specs.Language.Numbers.{is_last, value_of}
 use Rattle.mm_proof.specs.Language.Letters.{Letter, Group, groups, letters_from}
-use Rattle.mm_proof.specs.Language.Decoding.{Steps, with_step, read_first, in_order, usable, read_label, read_word, each_word, nameable, named, alone, read_letter, read_group, group_spot, is_save_letter, each_group, is_close, is_compressed, compressed_steps, steps_in, word_spot, decoded, decoding}
+use Rattle.mm_proof.specs.Language.Decoding.{Steps, with_step, read_first, in_order, usable, read_label, read_word, each_word, nameable, named}
+use Rattle.mm_proof.specs.Language.Decoding.{alone, read_letter, read_group, group_spot, is_save_letter, each_group, is_close, is_compressed}
+use Rattle.mm_proof.specs.Language.Decoding.{compressed_steps, steps_in, word_spot, decoded, decoding}
 use Rattle.mm_proof.specs.Language.Decoding.{if_read}
 use Rattle.mm_proof.specs.Language.Citing.{means_assertion}
 use Rattle.mm_proof.specs.Language.View.{AreSameMeaning, IsSameHypothesis, IsSameStep, IsSameDecoding, IsSameLabel, AreSameToDecode}

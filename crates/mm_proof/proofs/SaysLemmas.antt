@@ -1,16 +1,17 @@
 -- What a base and its files say of one item.
-use Rattle.std.proofs.Common.{◌≡◌, ℕ, zero, suc, Some, List, [], ◌∷◌, slice_get, refl, sym, subst}
+use Rattle.std.proofs.Common.{◌≡◌, ℕ, zero, suc, true, Some, List, [], ◌∷◌, slice_get, refl, sym, subst}
 use Rattle.std.specs.List.{AllZip}
 use Rattle.std.proofs.lemmas.Option.{get_or_from_slice_get}
 use Rattle.mm_store.specs.declared.item.Item as store
 use Rattle.mm_store.specs.Language.FilesView.{FilesView}
 use Rattle.mm_store.specs.Language.FileFacts.{CanBeRead}
-use Rattle.mm_frame.specs.Language.Base.{BaseView, said_at}
-use Rattle.mm_frame.specs.Language.Item.{passed}
-use Rattle.mm_frame.specs.Code.KeptBase.{IsBase, HasItem}
+use Rattle.mm_frame.specs.Language.Base.{BaseView, is_proof_at, said_at}
+use Rattle.mm_frame.specs.Language.Item.{Item, passed}
+use Rattle.mm_frame.specs.Code.KeptBase.{IsBase}
 use Rattle.mm_frame.specs.Language.Statement.{Says}
 use Rattle.mm_frame.specs.declared.base.Base.{Base}
-use Rattle.mm_proof.specs.Code.OfFiles.{IsOf, HasItemOf}
+use Rattle.mm_proof.specs.Code.ReadIn.{HasTheorem, IsReadIn}
+use Rattle.mm_proof.specs.Code.Judged.{IsTheorem}
 
 -- the element of the one list with that of the other
 zip_found : {A B : Type 0} (R : A → B → Type 0) (xs : List A) (ys : List B) (i : ℕ) (x : A) → AllZip R xs ys → slice_get xs i ≡ Some x → (y : B) × (slice_get ys i ≡ Some y) × R x y
@@ -21,15 +22,15 @@ zip_found R (w ∷ xs) (z ∷ ys) zero x a e = let f : w ≡ x = cc in (z, refl,
 zip_found R (w ∷ xs) (z ∷ ys) (suc i) x a e = zip_found R xs ys i x a.1 e
 
 -- what it says
-pub says_at : (files : FilesView) (code : Base) (view : BaseView) (n : ℕ) (item : store.Item) → IsOf files code view → slice_get view.found n ≡ Some item → Says files item (said_at view n)
+pub says_at : (files : FilesView) (code : Base) (view : BaseView) (n : ℕ) (item : store.Item) → IsReadIn files code view → slice_get view.found n ≡ Some item → Says files item (said_at view n)
 says_at files code view n item is e =
     let y = zip_found (Says files) view.found view.said n item is.each e in
     subst (Says files item) (sym (get_or_from_slice_get view.said n y.0 passed y.1)) y.2
 
 -- that it can be read
-pub read_at : (files : FilesView) (code : Base) (n : ℕ) (item : store.Item) → HasItemOf files code n → ((view : BaseView) → IsBase view code → slice_get view.found n ≡ Some item) → CanBeRead files item
+pub read_at : (files : FilesView) (code : Base) (n : ℕ) (item : store.Item) → HasTheorem files code n → ((view : BaseView) → IsBase view code → slice_get view.found n ≡ Some item) → CanBeRead files item
 read_at files code n item has e = (says_at files code has.0 n item has.1 (e has.0 has.1.base)).read
 
--- that the base has it
-pub has_item : (files : FilesView) (code : Base) (n : ℕ) → HasItemOf files code n → HasItem code n
-has_item files code n has = (has.0, has.1.base, has.2)
+-- the theorem that it is
+pub theorem_at : (files : FilesView) (code : Base) (n : ℕ) (item : store.Item) (said : Item) (view : BaseView) → IsReadIn files code view → is_proof_at view n ≡ true → slice_get view.found n ≡ Some item → ((other : Item) → Says files item other → said ≡ other) → IsTheorem code n said view
+theorem_at files code n item said view is proof at only = record { base = is.base; said = (files, is.each); is_sound = proof; says = sym (only (said_at view n) (says_at files code view n item is at)) }

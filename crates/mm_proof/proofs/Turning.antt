@@ -49,10 +49,10 @@ pub same_number : (a b : ProofNumber) → row_of a ≡ row_of b → a ≡ b
 same_number a b e = sym (number_at_row a) ∙ ap number_at e ∙ number_at_row b
 
 -- no line of a lower row holds
-abbrev NoneBelow : (ProofNumber → Type 0) → ℕ → Type 0
+abbrev pub NoneBelow : (ProofNumber → Type 0) → ℕ → Type 0
 NoneBelow P n = (other : ProofNumber) → P other → row_of other < n → ⊥
 
-none_more : (P : ProofNumber → Type 0) (number : ProofNumber) → NoneBelow P (row_of number) → (P number → ⊥) → NoneBelow P (suc (row_of number))
+pub none_more : (P : ProofNumber → Type 0) (number : ProofNumber) → NoneBelow P (row_of number) → (P number → ⊥) → NoneBelow P (suc (row_of number))
 none_more P number below n other p l = elim (cases_le (row_of other) (row_of number)) [
   | inl lt ↦ below other p lt
   | inr ge ↦ n (subst P (same_number other number (omega arith)) p)
@@ -81,7 +81,7 @@ choose_says Right P number rest (yes q) to from below go = (to q, λ other p. at
 choose_says Right P number rest (no n) to from below go = go n (none_more P number below (λ p. n (from p)))
 
 -- the lines below P07 say nothing of a citation
-none_first : (active : List (Symbol × Symbol)) (frame : Frame) (stack : List (List Symbol)) → NoneBelow (CitingFails active frame stack) 7
+pub none_first : (active : List (Symbol × Symbol)) (frame : Frame) (stack : List (List Symbol)) → NoneBelow (CitingFails active frame stack) 7
 none_first active frame stack P01 p l = p
 none_first active frame stack P02 p l = p
 none_first active frame stack P03 p l = p
@@ -142,7 +142,7 @@ long_by frame is f g es a b l =
     omega arith
 
 -- where no line holds, the assertion is cited
-cites_by :
+pub cites_by :
     (active : List (Symbol × Symbol)) (frame : Frame) (stack : List (List Symbol)) (given : Symbol → List Symbol) →
     (length stack < length frame.hypotheses → ⊥) → map (λ h. substituted given h.expression) frame.hypotheses ≡ entries_for frame stack →
     All (λ pair. AreApart active (given pair.0) (given pair.1)) frame.pairs → (1000000 < length (substituted given frame.expression) → ⊥) →
@@ -222,7 +222,8 @@ unfolding with_stack label_turn
 label_says place is label (Hypothesis e) s at u = (refl, refl)
 label_says place is label (Assertion frame) s at u = answer (cite place.active frame s.stack) (cite_says place.active frame s.stack (is label frame at))
   where
-    answer : (r : Result (List (List Symbol)) ProofNumber) → Says (Cites place.active frame s.stack) (CitingFails place.active frame s.stack) r → Says (λ (after : State). Cites place.active frame s.stack after.stack × (after.saved ≡ s.saved)) (CitingFails place.active frame s.stack) (with_stack s r)
+    answer : (r : Result (List (List Symbol)) ProofNumber) → Says (Cites place.active frame s.stack) (CitingFails place.active frame s.stack) r →
+        Says (λ (after : State). Cites place.active frame s.stack after.stack × (after.saved ≡ s.saved)) (CitingFails place.active frame s.stack) (with_stack s r)
     answer (Ok next) p = (p, refl)
     answer (Err number) p = p
 label_says place is label Inactive s at u = absurd u

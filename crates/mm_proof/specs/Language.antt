@@ -18,4 +18,4 @@ pub mod Citing
 pub mod DecodingLaws
 pub mod VerdictAt
 pub mod ItemLaws
-pub mod Proved
+pub mod Work

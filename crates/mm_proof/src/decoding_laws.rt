@@ -76,7 +76,7 @@ pub fn cites_rise()
 
 /// There are at most as many steps as the words have bytes.
 ///
-/// For the steps of a run, whose sum has a bound; no code calls on it yet.
+/// For the steps of a run, whose sum has a bound.
 pub fn decodes_short()
     ensures { DecodesShort }
 {}

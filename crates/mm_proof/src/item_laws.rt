@@ -1,6 +1,7 @@
 //! The laws of the proofs of items.
 
-ghost use Rattle.mm_proof.specs.Language.ItemLaws.{MandatoryLabelsMean, HasOneVerdictAt, HasVerdictAt, ProvedIsDerivedAt, HasOneCountAt, HasCountAt};
+ghost use Rattle.mm_proof.specs.Language.ItemLaws.{MandatoryLabelsMean, HasOneVerdictAt, HasVerdictAt, ProvedIsDerivedAt};
+ghost use Rattle.mm_proof.specs.Language.ItemLaws.{HasOneCountAt, HasCountAt, SpotsAreIn};
 
 use mm_frame::{items_have_labels, mandatory_means, mandatory_stand_before, places_have_frames};
 
@@ -58,3 +59,10 @@ pub fn has_count_at()
     mandatory_means();
     mandatory_stand_before();
 }
+
+/// The spot of a verdict is in the proof that it is on.
+///
+/// For the places of wrong and of incomplete proofs.
+pub fn spots_are_in()
+    ensures { SpotsAreIn }
+{}

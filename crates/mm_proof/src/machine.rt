@@ -1,193 +1,243 @@
-//! The machine that runs a proof.
+//! The machine: a stack of expressions and what was saved, as ranges of one flat list of symbols.
 
-ghost use Rattle.std.specs.Prelude.{◌≡◌, ◌↔◌, ◌<◌, List, true, false, IsTrue, IfOk, MatchBool, OnOk, length, map};
-ghost use Rattle.mm_frame.specs.Language.Base.{BaseView, before, said_at, is_shown_at, is_proof_at};
-ghost use Rattle.mm_frame.specs.Language.Framing.{setting, active_pairs};
-ghost use Rattle.mm_frame.specs.Code.KeptBase.{IsBase, HasItem};
-ghost use Rattle.mm_frame.specs.Code.CodeSymbols.{symbols_of as named};
-ghost use Rattle.mm_frame.specs.Language.Frame.{Symbol};
-ghost use Rattle.mm_frame.specs.Language.Sound.{AreSound};
+ghost use Rattle.std.specs.Prelude.{◌≡◌, ◌++◌, ◌∷◌, [], ◌<◌, ◌≤◌, ◌-◌, ℕ, IfOk, OnOk, MatchBool, MatchOption, Some, length, map, take, slice_get};
+ghost use Rattle.mm_proof.specs.Code.Ranges.{IsWhole, Saves};
+ghost use Rattle.mm_proof.specs.Code.Flat.{lent};
+ghost use Rattle.mm_proof.specs.Code.Citation.{IsLowestCiting, frame_from, frame_of, pairs_of};
 ghost use Rattle.mm_frame.specs.Language.Typing.{IsFrame};
-ghost use Rattle.mm_proof.specs.Code.Apart.{HasPairs, KnowsActive};
-ghost use Rattle.mm_proof.specs.Code.CitedFrame.{mandatory_of, frame_of};
-ghost use Rattle.mm_proof.specs.Code.Given.{given_by};
-ghost use Rattle.mm_proof.specs.Code.OfFiles.{IsOf, HasItemOf};
-ghost use Rattle.mm_proof.specs.Language.Proved.{IsProved};
-ghost use Rattle.mm_proof.specs.Code.StackRuns.{StepsOrFails, ReachesOrFails};
-ghost use Rattle.mm_proof.specs.Code.Stack.{lent_symbols, stack_of, TakesOrFails, CitesOrFails, AnyOtherEssential};
+ghost use Rattle.mm_proof.specs.Language.Steps.{Cites};
+ghost use Rattle.mm_proof.specs.Language.Machine.{nothing_yet};
 
-use crate::apart::Disjoint;
-use crate::assertion::{Cited, Hypothesis, active, assertion_of, expression};
-use crate::compare::is_expression;
-use crate::replacing::Given;
-use mm_frame::{Base, Files, NamedSymbol, Resolved, Statement};
+use crate::ProofNumber;
+use crate::active::Active;
+use crate::assertion::{Cited, Hypothesis};
+use crate::citation::citing_fault;
+use crate::gather::Gathered;
+use crate::pattern::{Entry, Taken, substitute};
+use crate::slots::note_places;
+use crate::symbol::Symbol;
 use std::alloc::{AllocError, Global};
 
-/// Whether each entry of a `$e` is the `$e` with what is given for its variables.
-fn essentials_fit<'a>(
-    hypotheses: &[Hypothesis<'a>],
-    taken: &[Vec<&'a NamedSymbol>],
-    given: &Given<'a>,
-) -> bool
-    requires { length taken.now ≡ length hypotheses.now }
-    ensures { MatchBool result
-        (¬ AnyOtherEssential (given_by given.now (stack_of taken.now)) (map mandatory_of hypotheses.now) (stack_of taken.now))
-        (AnyOtherEssential (given_by given.now (stack_of taken.now)) (map mandatory_of hypotheses.now) (stack_of taken.now)) }
-{
-    for place in 0..hypotheses.len() {
-        let hypothesis = hypotheses[place];
-        if !hypothesis.floating && !given.fits(taken, hypothesis.expression, &taken[place]) {
-            return false;
-        }
-    }
-    true
+/// The stack of expressions, and what was saved.
+#[derive(Drop)]
+pub struct Machine<'a, S> {
+    /// All symbols, of the stack and of what was saved.
+    pub symbols: Vec<&'a S>,
+    /// The entries, the last one on top.
+    pub stack: Vec<Entry>,
+    /// What was saved, in order; before it the expressions of hypotheses, which are kept from the beginning.
+    pub saved: Vec<Entry>,
+    /// What was saved lies below this place.
+    pub kept: usize,
+    /// The result of a step, until it is put in its place.
+    result: Vec<&'a S>,
+    /// For the key of a variable where its `$f` may stand among the hypotheses of the assertion that is cited.
+    places: Vec<usize>,
+    /// For the key of a variable where it may stand in one of two lists.
+    marks: Vec<usize>,
+    /// The variables of entries, for the pair clause.
+    gathered: Gathered<'a, S>,
 }
 
-/// What citing an assertion makes of the entries of its hypotheses, if they are such that it can be cited.
-fn result_of<'a>(
-    alloc: Global,
-    cited: &Cited<'a>,
-    disjoint: &Disjoint<'a>,
-    taken: &[Vec<&'a NamedSymbol>],
-) -> Result<Option<Vec<&'a NamedSymbol>>, AllocError>
-    requires { length taken.now ≡ length cited.now.hypotheses.items }
-    ensures { IfOk result (λ found. (active : List (Symbol × Symbol)) → HasPairs active disjoint.now → IsFrame (frame_of cited.now) →
-        TakesOrFails active (frame_of cited.now) (stack_of taken.now) found) }
+/// Puts the symbols of an expression behind others.
+fn append<'a, S: Symbol>(expression: &'a [S], to: &mut Vec<&'a S>) -> Result<(), AllocError>
+    ensures { OnOk result (map (lent S.means) to.new.items ≡ map (lent S.means) to.old.items ++ map S.means expression.now) }
 {
-    let Some(given) = Given::find(alloc, &cited.hypotheses, taken)? else {
-        return Ok(None);
-    };
-    if !essentials_fit(&cited.hypotheses, taken, &given) {
-        return Ok(None);
-    }
-    if !disjoint.keeps(alloc, cited.pairs, &given, taken)? {
-        return Ok(None);
-    }
-    Ok(given.substituted(alloc, taken, cited.expression)?)
-}
-
-/// Takes the entries of the mandatory hypotheses from the stack and puts the result there. Answers whether it could.
-fn cite<'a>(
-    alloc: Global,
-    cited: &Cited<'a>,
-    disjoint: &Disjoint<'a>,
-    stack: &mut Vec<Vec<&'a NamedSymbol>>,
-) -> Result<bool, AllocError>
-    ensures { IfOk result (λ done. (active : List (Symbol × Symbol)) → HasPairs active disjoint.now → IsFrame (frame_of cited.now) →
-        CitesOrFails active (frame_of cited.now) (stack_of stack.old.items) done (stack_of stack.new.items)) }
-{
-    let count = cited.hypotheses.len();
-    if stack.len() < count {
-        return Ok(false);
-    }
-    let below = stack.len() - count;
-    match result_of(alloc, cited, disjoint, &stack[below..])? {
-        None => Ok(false),
-        Some(result) => {
-            stack.truncate(below);
-            stack.push(result)?;
-            Ok(true)
-        }
-    }
-}
-
-/// The symbols of an expression, as an entry.
-fn entry<'a>(
-    alloc: Global,
-    expression: &'a [NamedSymbol],
-) -> Result<Vec<&'a NamedSymbol>, AllocError>
-    ensures { IfOk result (λ entry. lent_symbols entry.items ≡ named expression.now) }
-{
-    let mut symbols = Vec::new(alloc);
     for symbol in expression {
-        symbols.push(symbol)?;
+        to.push(symbol)?;
     }
-    Ok(symbols)
+    Ok(())
 }
 
-/// Does the step that a label names in the proof of a theorem. Answers whether it could.
-fn step<'a>(
-    alloc: Global,
-    base: &'a Base,
-    number: usize,
-    disjoint: &Disjoint<'a>,
-    label: &[u8],
-    stack: &mut Vec<Vec<&'a NamedSymbol>>,
-) -> Result<bool, AllocError>
-    requires { HasItem base.now number }
-    ensures { IfOk result (λ done. (view : BaseView) → IsBase view base.now → KnowsActive view number disjoint.now →
-        StepsOrFails (setting (before view number)) label.now (stack_of stack.old.items) done (stack_of stack.new.items)) }
+/// Where the symbols begin that belong to the entries from a place on alone.
+fn floor_of(stack: &[Entry], below: usize, kept: usize, count: usize) -> usize
+    requires whole { IsWhole count kept stack.now [] }
+    requires in_range { below ≤ length stack.now }
+    ensures within { result ≤ count }
+    ensures saved { kept ≤ result }
+    ensures stays { (i : ℕ) (e : Entry) → i < below → slice_get stack.now i ≡ Some e → (e.end ≤ result) × (e.floor ≤ result) }
 {
-    mm_frame::places_have_frames();
-    match base.resolve(label, number) {
-        Resolved::Hypothesis(hypothesis) => {
-            stack.push(entry(alloc, expression(base, hypothesis))?)?;
-            Ok(true)
+    if below == stack.len() {
+        return count;
+    }
+    let floor = stack[below].floor;
+    if floor < kept { kept } else { floor }
+}
+
+impl<'a, S: Symbol> Machine<'a, S> {
+    ghost use Rattle.mm_proof.specs.Code.MachineState.{state_of, AreRanges};
+
+    /// A machine with nothing on its stack and nothing saved. Its tables have so many places for the keys of variables.
+    pub fn new(alloc: Global, keys: usize) -> Result<Machine<'a, S>, AllocError>
+        ensures whole { IfOk result (λ machine. AreRanges machine) }
+        ensures state { IfOk result (λ machine. state_of S.means machine ≡ nothing_yet) }
+    {
+        let places = vec![in alloc; 0; keys]?;
+        let found = vec![in alloc; 0; keys]?;
+        let marks = vec![in alloc; 0; keys]?;
+        Ok(Machine {
+            symbols: Vec::new(alloc),
+            stack: Vec::new(alloc),
+            saved: Vec::new(alloc),
+            kept: 0,
+            result: Vec::new(alloc),
+            places,
+            marks,
+            gathered: Gathered {
+                variables: Vec::new(alloc),
+                spans: Vec::new(alloc),
+                places: found,
+            },
+        })
+    }
+
+    /// Saves an expression that was never on the stack: a hypothesis, so that each of its uses is a range.
+    pub fn load(&mut self, expression: &'a [S]) -> Result<(), AllocError>
+        requires { AreRanges self.old }
+        ensures whole { OnOk result (AreRanges self.new) }
+        ensures stack { OnOk result ((state_of S.means self.new).stack ≡ (state_of S.means self.old).stack) }
+        ensures saved { OnOk result ((state_of S.means self.new).saved ≡ (state_of S.means self.old).saved ++ map S.means expression.now ∷ []) }
+    {
+        let start = self.symbols.len();
+        append(expression, &mut self.symbols)?;
+        let end = self.symbols.len();
+        self.saved.push(Entry {
+            start,
+            end,
+            floor: start,
+        })?;
+        self.kept = end;
+        Ok(())
+    }
+
+    /// Pushes what was saved under a number.
+    pub fn push_saved(&mut self, number: usize) -> Result<(), AllocError>
+        requires whole { AreRanges self.old }
+        requires in_range { number < length self.old.saved.items }
+        ensures whole { OnOk result (AreRanges self.new) }
+        ensures stack { OnOk result ((e : _) → slice_get (state_of S.means self.old).saved number ≡ Some e
+            → (state_of S.means self.new).stack ≡ (state_of S.means self.old).stack ++ e ∷ []) }
+        ensures saved { OnOk result ((state_of S.means self.new).saved ≡ (state_of S.means self.old).saved) }
+    {
+        let Entry {
+            start,
+            end,
+            floor: _,
+        } = self.saved[number];
+        let floor = self.symbols.len();
+        self.stack.push(Entry { start, end, floor })?;
+        Ok(())
+    }
+
+    /// Saves the entry on top, by its range. Answers whether there is one.
+    pub fn save(&mut self) -> Result<bool, AllocError>
+        requires { AreRanges self.old }
+        ensures whole { OnOk result (AreRanges self.new) }
+        ensures saves { IfOk result (λ done. MatchBool done (Saves (state_of S.means self.old) (state_of S.means self.new))
+            (((state_of S.means self.old).stack ≡ []) × ((state_of S.means self.new) ≡ (state_of S.means self.old)))) }
+    {
+        let count = self.stack.len();
+        if count == 0 {
+            return Ok(false);
         }
-        Resolved::Assertion(assertion) => {
-            let cited = assertion_of(alloc, base, assertion)?;
-            Ok(cite(alloc, &cited, disjoint, stack)?)
+        let entry = self.stack[count - 1];
+        self.saved.push(entry)?;
+        if entry.end > self.kept {
+            self.kept = entry.end;
         }
-        Resolved::Inactive | Resolved::Unknown => Ok(false),
+        Ok(true)
     }
-}
 
-/// The stack behind the proof of a theorem, if it can be run.
-fn run<'a>(
-    alloc: Global,
-    base: &'a Base,
-    number: usize,
-    disjoint: &Disjoint<'a>,
-    statement: &Statement,
-) -> Result<Option<Vec<Vec<&'a NamedSymbol>>>, AllocError>
-    requires { HasItem base.now number }
-    ensures { IfOk result (λ found. (view : BaseView) → IsBase view base.now → KnowsActive view number disjoint.now →
-        ReachesOrFails (setting (before view number)) statement.now.proof found) }
-{
-    mm_frame::places_have_frames();
-    let mut stack = Vec::new(alloc);
-    let mut words = statement.proof();
-    while let Some(label) = words.next_word() {
-        if !step(alloc, base, number, disjoint, label, &mut stack)? {
-            return Ok(None);
+    /// Puts the result in the place of the entries from a place on.
+    fn replace(&mut self, below: usize) -> Result<(), AllocError>
+        requires whole { AreRanges self.old }
+        requires in_range { below ≤ length self.old.stack.items }
+        ensures whole { OnOk result (AreRanges self.new) }
+        ensures stack { OnOk result ((state_of S.means self.new).stack ≡ take below (state_of S.means self.old).stack
+            ++ map (lent S.means) self.old.result.items ∷ []) }
+        ensures saved { OnOk result ((state_of S.means self.new).saved ≡ (state_of S.means self.old).saved) }
+    {
+        let floor = floor_of(&self.stack, below, self.kept, self.symbols.len());
+        self.symbols.truncate(floor);
+        self.symbols.append(&mut self.result)?;
+        let end = self.symbols.len();
+        self.stack.truncate(below);
+        self.stack.push(Entry {
+            start: floor,
+            end,
+            floor,
+        })?;
+        Ok(())
+    }
+
+    /// Takes the entries of mandatory hypotheses and puts the expression under the substitution there. Answers the lowest
+    /// number of what is wrong, if anything is.
+    fn take(
+        &mut self,
+        expression: &'a [S],
+        hypotheses: &[Hypothesis<'a, S>],
+        pairs: &'a [(S, S)],
+        active: &mut Active<'a, S>,
+    ) -> Result<Option<ProofNumber>, AllocError>
+        requires whole { AreRanges self.old }
+        requires frame { IsFrame (frame_from S.means hypotheses.now expression.now pairs.now) }
+        ensures whole { OnOk result (AreRanges self.new) }
+        ensures cites { IfOk result (λ found. MatchOption found
+            (Cites (pairs_of S.means active.old.pairs.now) (frame_from S.means hypotheses.now expression.now pairs.now) (state_of S.means self.old).stack
+            (state_of S.means self.new).stack)
+            (IsLowestCiting (pairs_of S.means active.old.pairs.now) (frame_from S.means hypotheses.now expression.now pairs.now)
+            (state_of S.means self.old).stack)) }
+        ensures saved { OnOk result ((state_of S.means self.new).saved ≡ (state_of S.means self.old).saved) }
+        ensures active { active.new.pairs.now ≡ active.old.pairs.now }
+    {
+        let count = hypotheses.len();
+        if self.stack.len() < count {
+            return Ok(Some(ProofNumber::P07));
         }
+        let below = self.stack.len() - count;
+        note_places(hypotheses, &mut self.places);
+        let taken = Taken {
+            symbols: &self.symbols,
+            entries: &self.stack[below..],
+            hypotheses,
+            places: &self.places,
+        };
+        if let Some(number) = citing_fault(
+            &taken,
+            expression,
+            pairs,
+            &mut *active,
+            &mut self.gathered,
+            &mut self.marks,
+        )? {
+            return Ok(Some(number));
+        }
+        self.result.clear();
+        substitute(&taken, expression, &mut self.result)?;
+        self.replace(below)?;
+        Ok(None)
     }
-    Ok(Some(stack))
-}
 
-/// Whether the words of a theorem's proof derive its statement.
-fn proves(
-    alloc: Global,
-    base: &Base,
-    number: usize,
-    statement: &Statement,
-) -> Result<bool, AllocError>
-    requires { HasItem base.now number }
-    ensures { IfOk result (λ proved. (view : BaseView) → IsBase view base.now → is_proof_at view number ≡ true → said_at view number ≡ statement.now →
-        IsTrue proved ↔ IsProved view.said number) }
-{
-    mm_frame::places_have_frames();
-    let disjoint = Disjoint::of(alloc, active(base, number))?;
-    match run(alloc, base, number, &disjoint, statement)? {
-        None => Ok(false),
-        Some(stack) => Ok(stack.len() == 1 && is_expression(&stack[0], expression(base, number))),
+    /// Cites an assertion. Answers the lowest number of what is wrong, if anything is.
+    pub fn cite(
+        &mut self,
+        cited: &Cited<'a, S>,
+        active: &mut Active<'a, S>,
+    ) -> Result<Option<ProofNumber>, AllocError>
+        requires whole { AreRanges self.old }
+        requires frame { IsFrame (frame_of S.means cited.now) }
+        ensures whole { OnOk result (AreRanges self.new) }
+        ensures cites { IfOk result (λ found. MatchOption found
+            (Cites (pairs_of S.means active.old.pairs.now) (frame_of S.means cited.now) (state_of S.means self.old).stack (state_of S.means self.new).stack)
+            (IsLowestCiting (pairs_of S.means active.old.pairs.now) (frame_of S.means cited.now) (state_of S.means self.old).stack)) }
+        ensures saved { OnOk result ((state_of S.means self.new).saved ≡ (state_of S.means self.old).saved) }
+        ensures active { active.new.pairs.now ≡ active.old.pairs.now }
+    {
+        self.take(
+            cited.expression,
+            &cited.hypotheses,
+            cited.pairs,
+            &mut *active,
+        )
     }
-}
-
-/// Whether the labels of the proof of the theorem with this number derive its statement.
-///
-/// The base is that of the files, and the item is a sound `$p`. Of a compressed proof, and of one with an unknown step,
-/// the answer is about its words as labels.
-pub fn is_proved(
-    alloc: Global,
-    files: &Files,
-    base: &Base,
-    number: usize,
-) -> Result<bool, AllocError>
-    requires { HasItemOf files.now base.now number }
-    ensures { IfOk result (λ proved. (view : BaseView) → IsOf files.now base.now view → is_proof_at view number ≡ true →
-        IsTrue proved ↔ IsProved view.said number) }
-{
-    let statement = Statement::read(alloc, files, base.item(number))?;
-    proves(alloc, base, number, &statement)
 }

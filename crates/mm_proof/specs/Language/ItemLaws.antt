@@ -1,14 +1,15 @@
 -- What is proved of the proofs of items: each is the contract of a function.
-use Rattle.std.specs.Prelude.{◌≡◌, ◌↔◌, ℕ, Ok, List}
+use Rattle.std.specs.Prelude.{◌≡◌, ◌↔◌, ◌≤◌, ℕ, Ok, List, [], length, slice_index_or}
 use Rattle.std.specs.List.{AllZip}
-use Rattle.mm_frame.specs.Language.Base.{BaseView, AreSaid, frame_at}
+use Rattle.mm_frame.specs.Language.Base.{BaseView, AreSaid, frame_at, said_at}
 use Rattle.mm_frame.specs.Language.Frame.{Mandatory, Hypothesis, Setting}
 use Rattle.mm_proof.specs.Language.BaseLabels.{setting_at}
 use Rattle.mm_proof.specs.Language.Machine.{AreAllKnown}
 use Rattle.mm_proof.specs.Language.Verdict.{Decoded, StepsDerive}
 use Rattle.mm_proof.specs.Language.VerdictAt.{mandatory_labels, statement_at, decoding_at, IsVerdictAt, AreDoneAt}
+use Rattle.mm_proof.specs.declared.Spot.{Spot}
 use Rattle.mm_proof.specs.declared.Verdict.{Verdict}
-use Rattle.mm_proof.specs.declared.Verdict.TheVariants.{Proved}
+use Rattle.mm_proof.specs.declared.Verdict.TheVariants.{Proved, Incomplete, Wrong}
 
 -- the label means the hypothesis at this place
 abbrev pub MeansHypothesis : Setting → List ℕ → Mandatory → Type 0
@@ -43,3 +44,18 @@ HasOneCountAt = (view : BaseView) (i a b : ℕ) → AreDoneAt view i a → AreDo
 -- There is one, where the items say what their words say.
 abbrev pub HasCountAt : Type 0
 HasCountAt = (view : BaseView) (i : ℕ) → AreSaid view → (count : ℕ) × AreDoneAt view i count
+
+-- the spot is in these words: at a byte of one of them, or at the end behind the last
+pub record IsSpotIn (words : List (List ℕ)) (spot : Spot) : Type 0 where
+  pub word : spot.word ≤ length words
+  pub letter : spot.letter ≤ length (slice_index_or words spot.word [])
+
+-- the spot that a verdict tells, if it tells one, is in these words
+abbrev pub TellsSpotIn : List (List ℕ) → Verdict → Type 0
+TellsSpotIn words Proved = Unit {0}
+TellsSpotIn words (Incomplete spot) = IsSpotIn words spot
+TellsSpotIn words (Wrong number spot) = IsSpotIn words spot
+
+-- The spot of the verdict on the proof of an item is in that proof.
+abbrev pub SpotsAreIn : Type 0
+SpotsAreIn = (view : BaseView) (i : ℕ) (v : Verdict) → IsVerdictAt view i v → TellsSpotIn (said_at view i).proof v

@@ -4,7 +4,7 @@ use Rattle.mm_frame.specs.Language.Frame.{AreSamePairs}
 use Rattle.mm_frame.specs.Language.Base.{is_shown_at, hypothesis_at, frame_at}
 use Rattle.mm_frame.specs.Code.CodeSymbols.{kept_pairs}
 use Rattle.mm_frame.specs.declared.symbol.NamedSymbol.{NamedSymbol}
-use Rattle.mm_proof.proofs.RunLemmas.{shown_framed}
+use Rattle.mm_proof.proofs.FrameLemmas.{shown_framed}
 use Rattle.mm_proof.proofs.assertion.assertion_of.Goals as goal
 
 pub returns-in_ok-hypotheses-in-Some : goal.returns-in_ok-hypotheses-in-Some

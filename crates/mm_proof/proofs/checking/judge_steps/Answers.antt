@@ -1,0 +1,70 @@
+use Rattle.std.proofs.Common.{◌≡◌, ◌<◌, ◌≤◌, ℕ, Result, Ok, List, length, sym, ◌∙◌, ap, subst, arith}
+use Rattle.std.specs.List.{AllByRecursion, flat_map}
+use Rattle.std.proofs.lemmas.List.{length-map}
+use Rattle.mm_frame.specs.Language.Base.{before, said_at}
+use Rattle.mm_frame.specs.Language.Framing.{mandatory_numbers}
+use Rattle.mm_frame.specs.Language.Item.{Item}
+use Rattle.mm_proof.specs.Language.BaseLabels.{setting_at}
+use Rattle.mm_proof.specs.Language.Citing.{cites, cited_words}
+use Rattle.mm_proof.specs.Language.Verdict.{Decoded, IsVerdict, IsVerdictOnSteps}
+use Rattle.mm_proof.specs.Language.VerdictAt.{AreDoneIn, mandatory_labels, statement_at}
+use Rattle.mm_proof.specs.Language.Run.{AreDone}
+use Rattle.mm_proof.specs.declared.step.ProofFault.{ProofFault}
+use Rattle.mm_proof.specs.declared.step.ProofStep.{ProofStep}
+use Rattle.mm_proof.specs.declared.Verdict.{Verdict}
+use Rattle.mm_proof.specs.Code.Coded.{meant}
+use Rattle.mm_proof.specs.Code.Decoded.{decoded_steps}
+use Rattle.mm_proof.specs.Code.Judged.{done_by}
+use Rattle.mm_proof.specs.Code.Labels.{entry_steps}
+use Rattle.mm_proof.specs.Code.Tasks.{actions_mean}
+use Rattle.mm_proof.proofs.JudgedLemmas.{done_says}
+use Rattle.mm_proof.proofs.checking.judge_steps.Goals as goal
+
+pub returns-clause-verdict : goal.returns-clause-verdict
+returns-clause-verdict c view is =
+    let i = c.args.i in
+    let d = c.args.decoding.now in
+    let place = setting_at view i in
+    let says = c.in_ok-outcome.ensures.says view is in
+    let on = c.verdict-verdict.ensures view place (statement_at view i) says in
+    let words = subst (λ (w : List (List ℕ)). IsVerdictOnSteps place (statement_at view i) (decoded_steps view d w) c.verdict-verdict.result) c.proof.ensures.words on in
+    let verdict = subst (λ (v : Verdict). IsVerdictOnSteps place (statement_at view i) (decoded_steps view d c.args.statement.now.proof) v) (sym (ap (λ j. j.verdict) c.new.ensures)) words in
+    subst (λ (o : Result Decoded ProofFault). IsVerdict place (statement_at view i) o c.new.result.verdict) (sym is.decodes) verdict
+
+pub returns-clause-cites : goal.returns-clause-cites
+returns-clause-cites c view is =
+    let i = c.args.i in
+    let d = c.args.decoding.now in
+    let place = setting_at view i in
+    let item = c.args.statement.now in
+    let steps = actions_mean (entry_steps view d.labels.items) d.steps.items in
+    let numbers = mandatory_numbers (before view i) (said_at view i) in
+    let own = c.labels_are_own.ensures view is.theorem.said in
+    ap (λ j. j.cites) c.new.ensures
+    ∙ c.in_ok-cites.ensures view i numbers own (sym (c.requires.mandatory view is)) is.entries is.table
+    ∙ sym (ap (λ (o : Result Decoded ProofFault). cites place (said_at view i).proof o) is.decodes ∙ ap (λ (it : Item). cited_words place it.proof steps) is.theorem.says)
+
+pub returns-clause-done : goal.returns-clause-done
+returns-clause-done c view is =
+    let i = c.args.i in
+    let d = c.args.decoding.now in
+    let place = setting_at view i in
+    let names = entry_steps view d.labels.items in
+    let steps = actions_mean names d.steps.items in
+    let done = done_says place (statement_at view i) steps c.in_ok-outcome.outcome (c.in_ok-outcome.ensures.says view is) in
+    let count : length steps ≡ c.len.result = omega (arith, c.len.ensures, d.steps.ok, length-map d.steps.items (λ (step : ProofStep). meant names step.action)) in
+    let here = ap (λ n. done_by n c.in_ok-outcome.outcome) count ∙ sym c.done-done.ensures.value in
+    subst (λ (o : Result Decoded ProofFault). AreDoneIn place o c.done-done.result) (sym is.decodes) (subst (λ n. AreDone place steps n) here done)
+
+pub returns-clause-few : goal.returns-clause-few
+returns-clause-few c =
+    let has = c.requires.decoding in
+    let view = has.0 in
+    let i = c.args.i in
+    let d = c.args.decoding.now in
+    let names = entry_steps view d.labels.items in
+    let same = c.proof.ensures.words ∙ sym (ap (λ (it : Item). it.proof) has.1.theorem.says) in
+    let some = subst (λ (ws : List (List ℕ)). AllByRecursion (λ word. 0 < length word) ws) same c.proof.ensures.some in
+    let bytes = subst (λ (ws : List (List ℕ)). length (flat_map (λ word. word) ws) ≤ 4294967295) same c.proof.ensures.bytes in
+    let short = c.decodes_short.ensures (setting_at view i) (mandatory_labels view i) (said_at view i).proof (decoded_steps view d c.args.statement.now.proof) some has.1.decodes in
+    omega (arith, c.done-done.ensures.within, c.len.ensures, d.steps.ok, length-map d.steps.items (λ (step : ProofStep). meant names step.action))

@@ -1,0 +1,49 @@
+use Rattle.std.proofs.Common.{List, sym, subst, ap, ◌∙◌}
+use Rattle.std.specs.Prelude.{All, IfOk}
+use Rattle.mm_frame.specs.Language.Base.{before, said_at}
+use Rattle.mm_frame.specs.Language.Framing.{active_pairs, mandatory_numbers}
+use Rattle.mm_frame.specs.Language.Frame.{Symbol, AreSamePairs}
+use Rattle.mm_frame.specs.Code.CodeSymbols.{kept_pairs, symbol_of, symbols_of}
+use Rattle.mm_frame.specs.declared.symbol.NamedSymbol.{NamedSymbol}
+use Rattle.mm_frame.specs.declared.base.Resolved.{Resolved}
+use Rattle.mm_proof.specs.Language.BaseLabels.{setting_at}
+use Rattle.mm_proof.specs.Language.VerdictAt.{mandatory_labels}
+use Rattle.mm_proof.specs.Code.NamedItems.{IsNamedBy}
+use Rattle.mm_proof.specs.Code.Labels.{AreEntries, entry_steps}
+use Rattle.mm_proof.specs.Code.Tasks.{AreSavedBefore, AreUses, RunSays, actions_mean}
+use Rattle.mm_proof.specs.declared.step.ProofStep.{ProofStep}
+use Rattle.mm_proof.proofs.FrameLemmas.{shown_proof}
+use Rattle.mm_proof.proofs.ItemLemmas.{active_usable}
+use Rattle.mm_proof.proofs.JudgedLemmas.{named_by, saved_before}
+use Rattle.mm_proof.proofs.ReaderLemmas.{if_ok}
+use Rattle.mm_proof.proofs.checking.run_steps.Goals as goal
+
+pub name_all-requires : goal.name_all-requires
+name_all-requires c =
+    let has = c.requires in
+    let d = c.args.decoding.now in
+    subst (λ (ls : List Resolved). All (IsNamedBy c.args.base.now) ls) (sym c.deref.ensures.value) (named_by c.args.base.now has.0 c.args.i has.1.theorem.base has.2 d.labels.items has.1.entries)
+
+pub run-requires-clause-saved : goal.run-requires-clause-saved
+run-requires-clause-saved c =
+    let has = c.requires in
+    let view = has.0 in
+    let i = c.args.i in
+    let d = c.args.decoding.now in
+    let usable = active_usable view i (mandatory_numbers (before view i) (said_at view i)) (c.mandatory_are_active.ensures view i has.1.theorem.said) in
+    let sure = c.decodes_surely.ensures (setting_at view i) (mandatory_labels view i) (said_at view i).proof _ usable has.1.decodes in
+    subst (λ (steps : List ProofStep). AreSavedBefore steps) (sym c.deref-2.ensures.value) (saved_before (setting_at view i) view d.labels.items d.steps.items sure.0)
+
+pub returns-clause-says : goal.returns-clause-says
+returns-clause-says c = if_ok _ _ c.run.result (λ outcome says view is. (
+    let i = c.args.i in
+    let d = c.args.decoding.now in
+    let theorem = is.theorem in
+    let shown = shown_proof view i theorem.is_sound in
+    let pairs = subst (λ (ps : List (NamedSymbol × NamedSymbol)). AreSamePairs (kept_pairs ps) (active_pairs (before view i))) (sym c.new-active.ensures) (c.active.ensures view theorem.base theorem.is_sound) in
+    let uses = c.in_ok-named.ensures.means view i theorem.base (subst (λ (ls : List Resolved). AreEntries view i ls) (sym c.deref.ensures.value) is.entries) in
+    let names = subst (λ (ls : List Resolved). AreUses symbol_of c.in_ok-named.named (setting_at view i) (entry_steps view ls)) c.deref.ensures.value uses in
+    let frames = c.places_have_frames.ensures view.said i in
+    let said = says (setting_at view i) (entry_steps view d.labels.items) frames pairs names in
+    let here = subst (λ (steps : List ProofStep). RunSays (setting_at view i) (actions_mean (entry_steps view d.labels.items) steps) (symbols_of c.expression.result.now) outcome) c.deref-2.ensures.value said in
+    subst (λ (e : List Symbol). RunSays (setting_at view i) (actions_mean (entry_steps view d.labels.items) d.steps.items) e outcome) (c.expression.ensures view theorem.base shown) here)) c.run.ensures.says

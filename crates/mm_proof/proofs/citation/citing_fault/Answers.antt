@@ -1,0 +1,61 @@
+use Rattle.std.proofs.Common.{map}
+use Rattle.mm_proof.specs.Code.Flat.{lent, read_all}
+use Rattle.mm_proof.specs.Code.Citation.{frame_from}
+use Rattle.mm_proof.specs.Code.Citation.{pairs_of}
+use Rattle.mm_proof.proofs.CitingLemmas.{gives_all, hypotheses_known, count_of}
+use Rattle.mm_proof.proofs.CitingFaults.{says08, says09, says_pairs, says12}
+use Rattle.mm_proof.proofs.citation.citing_fault.Goals as goal
+
+pub essentials_fit-requires-clause-typed : goal.essentials_fit-requires-clause-typed
+essentials_fit-requires-clause-typed g c = hypotheses_known (frame_from g.S.Symbol.means c.args.taken.now.hypotheses.now c.args.expression.now c.args.pairs.now) c.requires.frame
+
+pub pairs_fault-requires-clause-hypotheses : goal.pairs_fault-requires-clause-hypotheses
+pairs_fault-requires-clause-hypotheses g c = hypotheses_known (frame_from g.S.Symbol.means c.args.taken.now.hypotheses.now c.args.expression.now c.args.pairs.now) c.requires.frame
+
+pub pairs_fault-requires-clause-typed : goal.pairs_fault-requires-clause-typed
+pairs_fault-requires-clause-typed g c k d l = let p = c.requires.frame.pairs_typed k d l in (p.2, p.3)
+
+pub returns-then-not-typecodes_match-clause-says : goal.returns-then-not-typecodes_match-clause-says
+returns-then-not-typecodes_match-clause-says g c =
+    let m = g.S.Symbol.means in
+    let frame = frame_from m c.args.taken.now.hypotheses.now c.args.expression.now c.args.pairs.now in
+    let es = read_all (map (lent m) c.args.taken.now.symbols.now) c.args.taken.now.entries.now in
+    says08 (pairs_of m c.args.active.now.pairs.now) frame es c.requires.frame (count_of m (map (lent m) c.args.taken.now.symbols.now) c.args.taken.now.entries.now c.args.taken.now.hypotheses.now c.requires.count) c.if-not-typecodes_match.ensures
+
+pub returns-then-not-essentials_fit-clause-says : goal.returns-then-not-essentials_fit-clause-says
+returns-then-not-essentials_fit-clause-says g c =
+    let m = g.S.Symbol.means in
+    let frame = frame_from m c.args.taken.now.hypotheses.now c.args.expression.now c.args.pairs.now in
+    let es = read_all (map (lent m) c.args.taken.now.symbols.now) c.args.taken.now.entries.now in
+    says09 (pairs_of m c.args.active.now.pairs.now) frame es c.requires.frame (count_of m (map (lent m) c.args.taken.now.symbols.now) c.args.taken.now.entries.now c.args.taken.now.hypotheses.now c.requires.count) c.if-not-typecodes_match.ensures c.if-not-essentials_fit.ensures
+
+pub returns-in-Some-clause-says : goal.returns-in-Some-clause-says
+returns-in-Some-clause-says g c =
+    let m = g.S.Symbol.means in
+    let frame = frame_from m c.args.taken.now.hypotheses.now c.args.expression.now c.args.pairs.now in
+    let es = read_all (map (lent m) c.args.taken.now.symbols.now) c.args.taken.now.entries.now in
+    says_pairs (pairs_of m c.args.active.now.pairs.now) frame es c.requires.frame (count_of m (map (lent m) c.args.taken.now.symbols.now) c.args.taken.now.entries.now c.args.taken.now.hypotheses.now c.requires.count) c.if-not-typecodes_match.ensures c.if-not-essentials_fit.ensures
+    c.in-Some.number (rw c.in-Some.is at c.in_ok-number.ensures.says)
+
+pub returns-then-not-is_short-clause-says : goal.returns-then-not-is_short-clause-says
+returns-then-not-is_short-clause-says g c =
+    let m = g.S.Symbol.means in
+    let frame = frame_from m c.args.taken.now.hypotheses.now c.args.expression.now c.args.pairs.now in
+    let es = read_all (map (lent m) c.args.taken.now.symbols.now) c.args.taken.now.entries.now in
+    says12 (pairs_of m c.args.active.now.pairs.now) frame es c.requires.frame (count_of m (map (lent m) c.args.taken.now.symbols.now) c.args.taken.now.entries.now c.args.taken.now.hypotheses.now c.requires.count) c.if-not-typecodes_match.ensures c.if-not-essentials_fit.ensures
+    (rw c.in_default.is at c.in_ok-number.ensures.says)
+    (λ given gives. c.if-not-is_short.ensures given (gives_all frame.hypotheses given es frame.expression (hypotheses_known frame c.requires.frame) gives c.requires.frame.expression_typed))
+
+pub returns-clause-says : goal.returns-clause-says
+returns-clause-says g c =
+    let m = g.S.Symbol.means in
+    let frame = frame_from m c.args.taken.now.hypotheses.now c.args.expression.now c.args.pairs.now in
+    let es = read_all (map (lent m) c.args.taken.now.symbols.now) c.args.taken.now.entries.now in
+    let pairs = rw c.in_default.is at c.in_ok-number.ensures.says in (
+      c.if-not-typecodes_match.ensures,
+      λ given gives. (
+        c.if-not-essentials_fit.ensures given gives,
+        pairs given gives,
+        c.if-not-is_short.ensures given (gives_all frame.hypotheses given es frame.expression (hypotheses_known frame c.requires.frame) gives c.requires.frame.expression_typed),
+      ),
+    )

@@ -1,0 +1,35 @@
+use Rattle.std.proofs.Common.{◌≡◌, ◌+◌, ◌++◌, ◌∷◌, [], List, get_or, take, sym, ◌∙◌, ap, subst, arith}
+use Rattle.std.specs.List.{AllZip}
+use Rattle.std.proofs.lemmas.List.{take_all}
+use Rattle.std.proofs.lemmas.Option.{slice_get-get_or}
+use Rattle.mm_frame.specs.declared.base.Resolved.{Resolved}
+use Rattle.mm_frame.specs.declared.base.Resolved.TheVariants as answers
+use Rattle.mm_proof.specs.Code.NamedItems.{StandsFor}
+use Rattle.mm_proof.specs.declared.named.Use.{Use}
+use Rattle.mm_proof.proofs.StepLemmas.{take_next}
+use Rattle.mm_proof.proofs.NamedLemmas.{uses_grow, uses_more, uses_within, uses_mean}
+use Rattle.mm_proof.proofs.named.name_all.Goals as goal
+
+pub loop-label-preserved : goal.loop-label-preserved
+loop-label-preserved c =
+    let labels = c.args.labels.now in
+    let k = c.loop-label.label-index in
+    let label = get_or labels k (answers.Hypothesis 0) in
+    let uses = c.loop-label.uses.items in
+    let new = c.name.new.self in
+    let grown = uses_grow c.loop-label.naming new c.in_ok-name.ensures.grows uses (take k labels) c.loop-label.invariant.stand in
+    let more = uses_more new uses (take k labels) c.in_ok-name.field-0 label grown c.in_ok-name.ensures.stands in
+    record {
+      named = c.in_ok-name.ensures.named;
+      stand = subst (λ (us : List Use). AllZip (StandsFor new) us (take (k + 1) labels)) (sym c.in_ok-push.ensures.items)
+          (subst (λ (ls : List Resolved). AllZip (StandsFor new) (uses ++ c.in_ok-name.field-0 ∷ []) ls) (sym (take_next labels k label (slice_get-get_or labels k (answers.Hypothesis 0) (omega (arith, c.loop-label-test.true))))) more);
+    }
+
+pub returns-clause-within : goal.returns-clause-within
+returns-clause-within c = uses_within c.args.base.now c.loop-label.naming c.loop-label.invariant.named c.loop-label.uses.items (take c.loop-label.label-index c.args.labels.now) c.loop-label.invariant.stand
+
+pub returns-clause-means : goal.returns-clause-means
+returns-clause-means c view i base entries =
+    let labels = c.args.labels.now in
+    let all = subst (λ (ls : List Resolved). AllZip (StandsFor c.loop-label.naming) c.loop-label.uses.items ls) (take_all c.loop-label.label-index labels (omega (arith, c.loop-label-test.false))) c.loop-label.invariant.stand in
+    uses_mean c.args.base.now c.loop-label.naming c.loop-label.invariant.named view i base c.loop-label.uses.items labels all entries

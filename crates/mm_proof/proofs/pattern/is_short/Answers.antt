@@ -1,0 +1,45 @@
+use Rattle.std.proofs.Common.{◌+◌, ◌++◌, [], false, map, take, drop, length, get_or, ◌∙◌, ap, arith, length-append}
+use Rattle.std.proofs.lemmas.List.{length-map, take_all}
+use Rattle.mm_frame.specs.Language.Frame.{Symbol}
+use Rattle.mm_proof.specs.Language.Substitution.{substituted, replacement}
+use Rattle.mm_proof.proofs.FlatLemmas.{element_at, put_more, put_rest}
+use Rattle.mm_proof.proofs.pattern.is_short.Goals as goal
+
+pub returns-then-more-count : goal.returns-then-more-count
+returns-then-more-count g c given slots =
+    let m = g.S.Symbol.means in
+    let expression = map m c.args.expression.now in
+    let d : Symbol = record { name = []; variable = false } in
+    let k = c.loop-place.place in
+    let s = get_or expression k d in
+    let here = element_at expression k d (omega (arith, length-map c.args.expression.now m, c.loop-place-test.true)) in
+    let whole = ap length (put_rest given expression k s here) in
+    let so_far = c.loop-place.invariant.so_far given slots in
+    let part = ap length (c.part.ensures given s slots here) in
+    let over = c.if-more-count.true in
+    let low = c.loop-place.invariant.low in
+    omega (arith, length-append (substituted given (take k expression)) (replacement given s ++ substituted given (drop (k + 1) expression)), length-append (replacement given s) (substituted given (drop (k + 1) expression)), c.count-more.ensures)
+
+pub loop-place-preserved : goal.loop-place-preserved
+loop-place-preserved g c = record {
+  low = omega (arith, c.if-more-count.false, c.loop-place.invariant.low);
+  so_far = λ given slots.
+      let m = g.S.Symbol.means in
+      let expression = map m c.args.expression.now in
+      let d : Symbol = record { name = []; variable = false } in
+      let k = c.loop-place.place in
+      let s = get_or expression k d in
+      let here = element_at expression k d (omega (arith, length-map c.args.expression.now m, c.loop-place-test.true)) in
+      let more = ap length (put_more given expression k s here) in
+      let so_far = c.loop-place.invariant.so_far given slots in
+      let part = ap length (c.part.ensures given s slots here) in
+      omega (arith, length-append (substituted given (take k expression)) (replacement given s), c.count-more.ensures);
+}
+
+pub returns : goal.returns
+returns g c given slots =
+    let m = g.S.Symbol.means in
+    let expression = map m c.args.expression.now in
+    let e = c.loop-place.invariant.so_far given slots ∙ ap (λ w. length (substituted given w)) (take_all c.loop-place.place expression (omega (arith, length-map c.args.expression.now m, c.loop-place-test.false))) in
+    let low = c.loop-place.invariant.low in
+    omega arith

@@ -1,0 +1,17 @@
+use Rattle.std.proofs.Common.{arith}
+use Rattle.std.proofs.lemmas.Option.{slice_get-get_or}
+use Rattle.mm_proof.specs.declared.named.Use.{Use}
+use Rattle.mm_proof.specs.declared.named.Use.TheVariants as uses
+use Rattle.mm_proof.specs.Code.Tasks.{IsUseWithin, MeansUse}
+use Rattle.mm_proof.proofs.StepLemmas.{used_at, unused_at}
+use Rattle.mm_proof.proofs.stepping.used.Goals as goal
+
+pub returns-then-k-uses-clause-means : goal.returns-then-k-uses-clause-means
+returns-then-k-uses-clause-means c expressions frames place names all =
+    used_at expressions frames place c.args.uses.now names c.args.k _ (slice_get-get_or c.args.uses.now c.args.k _ (omega (arith, c.if-k-uses.true))) all
+
+pub returns-then-k-uses-clause-within : goal.returns-then-k-uses-clause-within
+returns-then-k-uses-clause-within c hypotheses assertions all = all c.args.k _ (omega (arith, c.if-k-uses.true))
+
+pub returns-else-k-uses-clause-means : goal.returns-else-k-uses-clause-means
+returns-else-k-uses-clause-means c expressions frames place names all = unused_at expressions frames place c.args.uses.now names c.args.k (omega (arith, c.if-k-uses.false)) all

@@ -1,0 +1,226 @@
+//! The active pairs at a statement, and which symbols they keep apart.
+
+ghost use Rattle.std.specs.Prelude.{◌≡◌, ◌≢◌, ◌↔◌, ◌<◌, ◌≤◌, ℕ, IsTrue, IfOk, MatchBool, Some, Contains, length, map, slice_get, slice_set};
+ghost use Rattle.mm_frame.specs.Language.Frame.{Symbol as Meaning, ArePair};
+ghost use Rattle.mm_proof.specs.Code.Citation.{pairs_of};
+ghost use Rattle.mm_proof.specs.Code.Flat.{lent};
+ghost use Rattle.mm_proof.specs.Code.Keys.{home as home_lem, home_at};
+ghost use Rattle.mm_proof.specs.Code.PairClause.{IsPair, Apart, NotApart, EachApart, SomeNotApart, SomeShared, AreMarked};
+
+use crate::slots::home;
+use crate::symbol::Symbol;
+use std::alloc::{AllocError, Global};
+
+/// The active pairs at a statement, with where to look for each.
+#[derive(Drop)]
+pub struct Active<'a, S> {
+    pairs: &'a [(S, S)],
+    /// For each pair the lower and the higher key of its symbols, and its place; in order, once it is made. What is
+    /// found by it is compared, so that no answer depends on it.
+    index: Vec<(usize, usize, usize)>,
+    is_made: bool,
+}
+
+/// The keys of two symbols, the lower one first.
+fn keys<S: Symbol>(x: &S, y: &S) -> (usize, usize) {
+    let a = x.key();
+    let b = y.key();
+    if a <= b { (a, b) } else { (b, a) }
+}
+
+impl<'a, S: Symbol> Active<'a, S> {
+    /// These pairs. Nothing is made of them until they are asked for.
+    pub fn new(alloc: Global, pairs: &'a [(S, S)]) -> Active<'a, S>
+        ensures { result.pairs.now ≡ pairs.now }
+    {
+        Active {
+            pairs,
+            index: Vec::new(alloc),
+            is_made: false,
+        }
+    }
+
+    /// Notes where to look for each pair, unless that was done.
+    pub fn prepare(&mut self) -> Result<(), AllocError>
+        ensures { self.new.pairs.now ≡ self.old.pairs.now }
+    {
+        if self.is_made {
+            return Ok(());
+        }
+        self.index.clear();
+        for place in 0..self.pairs.len() {
+            let (low, high) = keys(&self.pairs[place].0, &self.pairs[place].1);
+            self.index.push((low, high, place))?;
+        }
+        self.index.sort()?;
+        self.is_made = true;
+        Ok(())
+    }
+
+    /// The place at which the pair of two symbols may stand.
+    fn guess(&self, x: &S, y: &S) -> usize {
+        let (a, b) = keys(x, y);
+        let mut low = 0;
+        let mut high = self.index.len();
+        while low < high {
+            let middle = low + (high - low) / 2;
+            let (c, d, _) = self.index[middle];
+            if c < a || c == a && d < b {
+                low = middle + 1;
+            } else {
+                high = middle;
+            }
+        }
+        if low < self.index.len() {
+            self.index[low].2
+        } else {
+            0
+        }
+    }
+
+    /// Whether the pair at a place is that of two symbols.
+    fn is_at(&self, place: usize, x: &S, y: &S) -> bool
+        requires { place < length self.now.pairs.now }
+        ensures { (p : Meaning × Meaning) → slice_get (pairs_of S.means self.now.pairs.now) place ≡ Some p
+            → IsTrue result ↔ IsPair p (S.means x.now) (S.means y.now) }
+    {
+        let pair = &self.pairs[place];
+        pair.0.same(x) && pair.1.same(y) || pair.0.same(y) && pair.1.same(x)
+    }
+
+    /// Whether two symbols are an active pair.
+    pub fn has(&self, x: &S, y: &S) -> bool
+        ensures { IsTrue result ↔ ArePair (pairs_of S.means self.now.pairs.now) (S.means x.now) (S.means y.now) }
+    {
+        let guess = self.guess(x, y);
+        if guess < self.pairs.len() && self.is_at(guess, x, y) {
+            return true;
+        }
+        for place in 0..self.pairs.len() {
+            if self.is_at(place, x, y) {
+                return true;
+            }
+        }
+        false
+    }
+
+    /// Whether two variables are different, and an active pair.
+    fn is_apart(&self, x: &S, y: &S) -> bool
+        ensures { MatchBool result (Apart (pairs_of S.means self.now.pairs.now) (S.means x.now) (S.means y.now)) (NotApart
+            (pairs_of S.means self.now.pairs.now) (S.means x.now) (S.means y.now)) }
+    {
+        if x.same(y) {
+            return false;
+        }
+        self.has(x, y)
+    }
+
+    /// Whether a variable is apart from each of these.
+    fn is_apart_from(&self, x: &S, ys: &[&'a S]) -> bool
+        ensures { MatchBool result
+            ((y : Meaning) → Contains (map (lent S.means) ys.now) y → Apart (pairs_of S.means self.now.pairs.now) (S.means x.now) y)
+            ((y : Meaning) × Contains (map (lent S.means) ys.now) y × NotApart (pairs_of S.means self.now.pairs.now) (S.means x.now) y) }
+    {
+        for i in 0..ys.len() {
+            let y = ys[i];
+            if !self.is_apart(x, y) {
+                return false;
+            }
+        }
+        true
+    }
+
+    /// Whether each of the one is apart from each of the other.
+    pub fn are_apart(&self, xs: &[&'a S], ys: &[&'a S]) -> bool
+        ensures { MatchBool result
+            (EachApart (pairs_of S.means self.now.pairs.now) (map (lent S.means) xs.now) (map (lent S.means) ys.now))
+            (SomeNotApart (pairs_of S.means self.now.pairs.now) (map (lent S.means) xs.now) (map (lent S.means) ys.now)) }
+    {
+        for i in 0..xs.len() {
+            let x = xs[i];
+            if !self.is_apart_from(x, ys) {
+                return false;
+            }
+        }
+        true
+    }
+}
+
+/// Whether a symbol stands in a list.
+pub fn stands_in<'a, S: Symbol>(x: &S, ys: &[&'a S]) -> bool
+    ensures { IsTrue result ↔ Contains (map (lent S.means) ys.now) (S.means x.now) }
+{
+    for i in 0..ys.len() {
+        let y = ys[i];
+        if y.same(x) {
+            return true;
+        }
+    }
+    false
+}
+
+/// Where a table of so many places has a symbol.
+fn home_of<S: Symbol>(symbol: &S, count: usize) -> usize
+    ensures { result ≡ home_lem (S.key_of (S.means symbol.now)) count }
+{
+    home(symbol.key(), count)
+}
+
+/// Writes a place into a table, if the table has the other.
+fn note(places: &mut [usize], at: usize, place: usize)
+    ensures { places.new ≡ slice_set places.old at place }
+{
+    if at < places.len() {
+        places[at] = place;
+    }
+}
+
+/// Notes for each symbol of a list where one stands that the table has at the same place.
+fn mark<'a, S: Symbol>(xs: &[&'a S], places: &mut [usize])
+    ensures marks { AreMarked (home_at S.key_of (length places.old)) (map (lent S.means) xs.now) places.new (length xs.now) }
+    ensures count { length places.new ≡ length places.old }
+{
+    for i in 0..xs.len() {
+        let x = xs[i];
+        let at = home_of(x, places.len());
+        note(&mut *places, at, i);
+    }
+}
+
+/// Whether a symbol stands in a list whose symbols are noted.
+fn is_marked<'a, S: Symbol>(xs: &[&'a S], places: &[usize], y: &S) -> bool
+    requires { AreMarked (home_at S.key_of (length places.now)) (map (lent S.means) xs.now) places.now (length xs.now) }
+    ensures { IsTrue result ↔ Contains (map (lent S.means) xs.now) (S.means y.now) }
+{
+    let at = home_of(y, places.len());
+    if at >= places.len() {
+        return stands_in(&*y, xs);
+    }
+    let place = places[at];
+    if place >= xs.len() {
+        return false;
+    }
+    let x = xs[place];
+    if home_of(x, places.len()) != at {
+        return false;
+    }
+    if x.same(y) {
+        return true;
+    }
+    stands_in(&*y, xs)
+}
+
+/// Whether one symbol stands in both lists.
+pub fn share<'a, S: Symbol>(xs: &[&'a S], ys: &[&'a S], places: &mut [usize]) -> bool
+    ensures { MatchBool result (SomeShared (map (lent S.means) xs.now) (map (lent S.means) ys.now))
+        (SomeShared (map (lent S.means) xs.now) (map (lent S.means) ys.now) → ⊥) }
+{
+    mark(xs, &mut *places);
+    for i in 0..ys.len() {
+        let y = ys[i];
+        if is_marked(xs, &*places, y) {
+            return true;
+        }
+    }
+    false
+}

@@ -1,0 +1,215 @@
+//! The check of a proof.
+
+ghost use Rattle.std.specs.Prelude.{true, ◌≡◌, ◌<◌, ◌≤◌, ◌+◌, ◌++◌, ◌∷◌, ◌^◌, [], ℕ, List, Err, All, IfOk, OnOk, OnErr, length};
+ghost use Rattle.mm_frame.specs.Language.Base.{BaseView, before, said_at, is_framed_at};
+ghost use Rattle.mm_frame.specs.Language.Framing.{mandatory_numbers};
+ghost use Rattle.mm_frame.specs.Code.KeptBase.{IsBase};
+ghost use Rattle.mm_proof.specs.Language.BaseLabels.{setting_at};
+ghost use Rattle.mm_proof.specs.Language.Decoding.{word_spot};
+ghost use Rattle.mm_proof.specs.Language.Verdict.{IsVerdictOnSteps};
+ghost use Rattle.mm_proof.specs.Language.VerdictAt.{IsVerdictAt, AreDoneAt, cites_at, decoding_at, statement_at};
+ghost use Rattle.mm_frame.specs.Language.Frame.{Symbol, Setting};
+ghost use Rattle.mm_proof.specs.Code.Decoded.{TellsFault, decoded_steps};
+ghost use Rattle.mm_proof.specs.Code.Judged.{HasDecoding, HasStatement, IsOutcomeWithin, OfDecoding, OfStatement, done_by};
+ghost use Rattle.mm_proof.specs.Code.ReadIn.{HasTheorem, OfTheorem};
+ghost use Rattle.mm_proof.specs.Code.Tasks.{RunSays};
+ghost use Rattle.mm_proof.specs.declared.step.Undecoded.TheVariants as errors;
+
+use crate::active::Active;
+use crate::assertion::{active, expression};
+use crate::citing::cites;
+use crate::decoding_laws::{decodes_short, decodes_surely, labels_are_own, mandatory_are_active};
+use crate::named::{Named, name_all};
+use crate::reading::{Decoding, decode};
+use crate::step::{ProofFault, Undecoded};
+use crate::stepping::{Outcome, run};
+use crate::work::{Checked, Work};
+use crate::{ProofNumber, Spot, Verdict};
+use mm_frame::{Base, Files, NamedSymbol, ProofWords, Statement, places_have_frames};
+use std::alloc::{AllocError, Global};
+
+/// The numbers of the mandatory hypotheses of an assertion; none where the item with this number is none.
+fn mandatory(base: &Base, i: usize) -> &[usize]
+    ensures { (view : BaseView) → IsBase view base.now → is_framed_at view i ≡ true → result.now ≡ mandatory_numbers (before view i) (said_at view i) }
+{
+    match base.frame(i) {
+        Some(frame) => &frame.hypotheses,
+        None => &[],
+    }
+}
+
+/// The fault that decoding tells; want of memory stays what it is.
+fn told(error: Undecoded) -> Result<ProofFault, AllocError>
+    ensures { IfOk result (λ fault. error ≡ errors.Fault fault) }
+{
+    match error {
+        Undecoded::Fault(fault) => Ok(fault),
+        Undecoded::Memory => Err(AllocError),
+    }
+}
+
+/// The spot behind the words of a proof.
+fn close(words: ProofWords) -> Spot
+    requires { length words ≤ 4294967295 }
+    ensures { result ≡ word_spot (length words.entry) }
+{
+    let mut words = words;
+    let mut word = 0;
+    while words.next_word().is_some() {
+        word += 1;
+    }
+    Spot { word, letter: 0 }
+}
+
+/// The verdict on a proof with these words, by what the run of its steps came to.
+fn verdict(outcome: Outcome, decoding: &Decoding, words: ProofWords) -> Verdict
+    requires within { IsOutcomeWithin (length decoding.now.steps.items) outcome }
+    requires few { length words ≤ 4294967295 }
+    ensures { (view : BaseView) (place : Setting) (statement : List Symbol)
+        → RunSays place (decoded_steps view decoding.now words.entry).steps statement outcome
+        → IsVerdictOnSteps place statement (decoded_steps view decoding.now words.entry) result }
+{
+    match outcome {
+        Outcome::Proved => Verdict::Proved,
+        Outcome::Fault(number, n) => Verdict::Wrong(number, decoding.steps[n].spot),
+        Outcome::Unknown(n) => Verdict::Incomplete(decoding.steps[n].spot),
+        Outcome::NotOne => Verdict::Wrong(ProofNumber::P14, close(words)),
+        Outcome::Other => Verdict::Wrong(ProofNumber::P15, close(words)),
+    }
+}
+
+/// How many of so many steps are done in a run that came to this.
+fn done(outcome: Outcome, steps: usize) -> usize
+    requires { IsOutcomeWithin steps outcome }
+    ensures value { result ≡ done_by steps outcome }
+    ensures within { result ≤ steps }
+{
+    match outcome {
+        Outcome::Proved | Outcome::NotOne | Outcome::Other => steps,
+        Outcome::Fault(_, n) => n + 1,
+        Outcome::Unknown(n) => n,
+    }
+}
+
+/// How many places the machine's tables have: some for each hypothesis of the assertion that has the most.
+fn keys(named: &Named<'_, NamedSymbol>) -> usize {
+    let mut most = 0;
+    for cited in &named.assertions {
+        most = most.max(cited.hypotheses.len());
+    }
+    most.saturating_mul(32).saturating_add(61)
+}
+
+/// Runs the steps of a proof.
+fn run_steps(
+    alloc: Global,
+    base: &Base,
+    i: usize,
+    statement: &Statement,
+    decoding: &Decoding,
+) -> Result<Outcome, AllocError>
+    requires { HasDecoding base.now i statement.now decoding.now }
+    ensures within { IfOk result (IsOutcomeWithin (length decoding.now.steps.items)) }
+    ensures says { IfOk result (λ outcome. OfDecoding base.now i statement.now decoding.now (λ view.
+        RunSays (setting_at view i) (decoded_steps view decoding.now statement.now.proof).steps (statement_at view i) outcome)) }
+{
+    places_have_frames();
+    decodes_surely();
+    mandatory_are_active();
+    let named = name_all(alloc, base, &decoding.labels)?;
+    let mut active = Active::new(alloc, active(base, i));
+    run(
+        alloc,
+        keys(&named),
+        &named,
+        &mut active,
+        &decoding.steps,
+        expression(base, i),
+    )
+}
+
+/// What a check says of a proof that decodes, and how many steps are done. It takes how many mandatory hypotheses there
+/// are.
+fn judge_steps(
+    alloc: Global,
+    base: &Base,
+    i: usize,
+    statement: &Statement,
+    decoding: &Decoding,
+    mandatory: usize,
+) -> Result<(Checked, u64), AllocError>
+    requires decoding { HasDecoding base.now i statement.now decoding.now }
+    requires mandatory { OfDecoding base.now i statement.now decoding.now (λ view. mandatory ≡ length (mandatory_numbers (before view i) (said_at view i))) }
+    ensures verdict { IfOk result (λ judged. OfDecoding base.now i statement.now decoding.now (λ view. IsVerdictAt view i judged.0.verdict)) }
+    ensures cites { IfOk result (λ judged. OfDecoding base.now i statement.now decoding.now (λ view. judged.0.cites ≡ cites_at view i)) }
+    ensures done { IfOk result (λ judged. OfDecoding base.now i statement.now decoding.now (λ view. AreDoneAt view i judged.1)) }
+    ensures few { IfOk result (λ judged. judged.1 ≤ 4294967295) }
+{
+    decodes_short();
+    labels_are_own();
+    let cites = cites(alloc, decoding, mandatory, statement)?;
+    let outcome = run_steps(alloc, base, i, statement, decoding)?;
+    let done = done(outcome, decoding.steps.len());
+    let verdict = verdict(outcome, decoding, statement.proof());
+    Ok((Checked::new(verdict, cites), done as u64))
+}
+
+/// What a check says of a proof, and how many steps are done.
+fn judge(
+    alloc: Global,
+    base: &Base,
+    i: usize,
+    statement: &Statement,
+) -> Result<(Checked, u64), AllocError>
+    requires { HasStatement base.now i statement.now }
+    ensures verdict { IfOk result (λ judged. OfStatement base.now i statement.now (λ view. IsVerdictAt view i judged.0.verdict)) }
+    ensures cites { IfOk result (λ judged. OfStatement base.now i statement.now (λ view. judged.0.cites ≡ cites_at view i)) }
+    ensures done { IfOk result (λ judged. OfStatement base.now i statement.now (λ view. AreDoneAt view i judged.1)) }
+    ensures few { IfOk result (λ judged. judged.1 ≤ 4294967295) }
+{
+    mandatory_are_active();
+    let mandatory = mandatory(base, i);
+    match decode(alloc, base, i, mandatory, statement) {
+        Ok(decoding) => { judge_steps(alloc, base, i, statement, &decoding, mandatory.len()) }
+        Err(error) => {
+            let fault = told(error)?;
+            let verdict = Verdict::Wrong(fault.number, fault.spot);
+            Ok((Checked::new(verdict, Vec::new(alloc)), 0))
+        }
+    }
+}
+
+/// Checks the proof of the item with the number `i`, a sound `$p` of a base whose items can be read in these files, and
+/// records the run.
+///
+/// A run has at most 4,294,967,295 steps. It takes time near linear in the symbols of the expressions that its steps
+/// make and compare, and memory for the entries of the stack and for what is saved. After want of memory nothing is
+/// recorded.
+pub fn check(
+    alloc: Global,
+    files: &Files,
+    base: &Base,
+    i: usize,
+    work: &mut Work,
+) -> Result<Checked, AllocError>
+    requires theorem { HasTheorem files.now base.now i }
+    requires room { 0 < work.old.room }
+    requires steps { work.old.steps + 4294967295 < 2 ^ 64 }
+
+    // The verdict is that on the item's proof, its decoding included, and the words are those that cite.
+    ensures verdict { IfOk result (λ checked. OfTheorem files.now base.now i (λ view. IsVerdictAt view i checked.verdict)) }
+    ensures cites { IfOk result (λ checked. OfTheorem files.now base.now i (λ view. checked.cites ≡ cites_at view i)) }
+
+    // One more run is recorded, with the steps that are done in it.
+    ensures run { OnOk result (work.new.runs ≡ work.old.runs ++ i ∷ []) }
+    ensures room { OnOk result (work.new.room + 1 ≡ work.old.room) }
+    ensures done { OnOk result (OfTheorem files.now base.now i (λ view.
+        (n : ℕ) × AreDoneAt view i n × (n ≤ 4294967295) × (work.new.steps ≡ work.old.steps + n))) }
+
+    ensures memory { OnErr result (work.new ≡ work.old) }
+{
+    let statement = Statement::read(alloc, files, base.item(i))?;
+    let (checked, done) = judge(alloc, base, i, &statement)?;
+    work.record(i, done)?;
+    Ok(checked)
+}

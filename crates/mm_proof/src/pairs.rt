@@ -1,0 +1,120 @@
+//! The pair clause: whether the entries of mandatory pairs are kept apart.
+
+ghost use Rattle.std.specs.Prelude.{◌≡◌, ◌<◌, ℕ, List, IfOk, MatchBool, All, Some, length, map, slice_get};
+ghost use Rattle.mm_frame.specs.Language.Frame.{Symbol as Meaning};
+ghost use Rattle.mm_frame.specs.Language.Typing.{IsTyped};
+ghost use Rattle.mm_proof.specs.Code.Flat.{IsWithin, lent};
+ghost use Rattle.mm_proof.specs.Code.Citation.{entries_of, AreHypotheses, GivesEntries, pairs_of, hypotheses_of};
+ghost use Rattle.mm_proof.specs.Code.PairClause.{EachApart, SomeNotApart, SomeShared, AreSpans, AreTypedPairs, AtSlot, AtSlots, PairsSay};
+
+use crate::ProofNumber;
+use crate::active::{Active, share};
+use crate::gather::Gathered;
+use crate::pattern::Taken;
+use crate::slots::slot_of;
+use crate::symbol::Symbol;
+use std::alloc::AllocError;
+
+/// The variables of the entry of a variable's `$f`.
+fn span<'s, 'g, 'a, S: Symbol>(
+    taken: &Taken<'s, 'a, S>,
+    gathered: &'g Gathered<'a, S>,
+    variable: &S,
+) -> &'g [&'a S]
+    requires spans { AreSpans (length gathered.now.variables.items) gathered.now.spans.items }
+    requires count { length gathered.now.spans.items ≡ length taken.now.hypotheses.now }
+    requires typed { IsTyped (hypotheses_of S.means taken.now.hypotheses.now) (S.means variable.now) }
+    ensures { AtSlot (hypotheses_of S.means taken.now.hypotheses.now) (map (lent S.means) gathered.now.variables.items) gathered.now.spans.items
+        (S.means variable.now) (map (lent S.means) result.now) }
+{
+    let slot = slot_of(&*taken.hypotheses, &*taken.places, &*variable);
+    let entry = gathered.spans[slot];
+    &gathered.variables[entry.start..entry.end]
+}
+
+/// Whether the two lists of each pair are apart.
+fn all_apart<'s, 'a, S: Symbol>(
+    taken: &Taken<'s, 'a, S>,
+    gathered: &Gathered<'a, S>,
+    active: &Active<'a, S>,
+    pairs: &[(S, S)],
+) -> bool
+    requires spans { AreSpans (length gathered.now.variables.items) gathered.now.spans.items }
+    requires count { length gathered.now.spans.items ≡ length taken.now.hypotheses.now }
+    requires typed { AreTypedPairs (hypotheses_of S.means taken.now.hypotheses.now) (pairs_of S.means pairs.now) }
+    ensures { MatchBool result
+        ((k : ℕ) (p : Meaning × Meaning) → slice_get (pairs_of S.means pairs.now) k ≡ Some p
+        → AtSlots (EachApart (pairs_of S.means active.now.pairs.now)) (hypotheses_of S.means taken.now.hypotheses.now)
+        (map (lent S.means) gathered.now.variables.items) gathered.now.spans.items p)
+        ((k : ℕ) × (p : Meaning × Meaning) × (slice_get (pairs_of S.means pairs.now) k ≡ Some p)
+        × AtSlots (SomeNotApart (pairs_of S.means active.now.pairs.now)) (hypotheses_of S.means taken.now.hypotheses.now)
+        (map (lent S.means) gathered.now.variables.items) gathered.now.spans.items p) }
+{
+    for n in 0..pairs.len() {
+        let pair = &pairs[n];
+        let first = span(&*taken, &*gathered, &pair.0);
+        let second = span(&*taken, &*gathered, &pair.1);
+        if !active.are_apart(first, second) {
+            return false;
+        }
+    }
+    true
+}
+
+/// Whether the two lists of some pair share a variable.
+fn any_share<'s, 'a, S: Symbol>(
+    taken: &Taken<'s, 'a, S>,
+    gathered: &Gathered<'a, S>,
+    pairs: &[(S, S)],
+    marks: &mut [usize],
+) -> bool
+    requires spans { AreSpans (length gathered.now.variables.items) gathered.now.spans.items }
+    requires count { length gathered.now.spans.items ≡ length taken.now.hypotheses.now }
+    requires typed { AreTypedPairs (hypotheses_of S.means taken.now.hypotheses.now) (pairs_of S.means pairs.now) }
+    ensures { MatchBool result
+        ((k : ℕ) × (p : Meaning × Meaning) × (slice_get (pairs_of S.means pairs.now) k ≡ Some p)
+        × AtSlots SomeShared (hypotheses_of S.means taken.now.hypotheses.now) (map (lent S.means) gathered.now.variables.items) gathered.now.spans.items p)
+        ((k : ℕ) (p : Meaning × Meaning) → slice_get (pairs_of S.means pairs.now) k ≡ Some p
+        → AtSlots (λ xs ys. SomeShared xs ys → ⊥) (hypotheses_of S.means taken.now.hypotheses.now) (map (lent S.means) gathered.now.variables.items) gathered.now.spans.items p) }
+{
+    for n in 0..pairs.len() {
+        let pair = &pairs[n];
+        let first = span(&*taken, &*gathered, &pair.0);
+        let second = span(&*taken, &*gathered, &pair.1);
+        if share(first, second, &mut *marks) {
+            return true;
+        }
+    }
+    false
+}
+
+/// What is wrong with the mandatory pairs of an assertion: the lower number of those that hold.
+pub fn pairs_fault<'s, 'a, S: Symbol>(
+    taken: &Taken<'s, 'a, S>,
+    pairs: &[(S, S)],
+    active: &mut Active<'a, S>,
+    gathered: &mut Gathered<'a, S>,
+    marks: &mut [usize],
+) -> Result<Option<ProofNumber>, AllocError>
+    requires within { All (IsWithin (length taken.now.symbols.now)) taken.now.entries.now }
+    requires count { length taken.now.entries.now ≡ length taken.now.hypotheses.now }
+    requires hypotheses { AreHypotheses (hypotheses_of S.means taken.now.hypotheses.now) }
+    requires typed { AreTypedPairs (hypotheses_of S.means taken.now.hypotheses.now) (pairs_of S.means pairs.now) }
+    ensures says { IfOk result (λ found. (given : Meaning → List Meaning)
+        → GivesEntries given (hypotheses_of S.means taken.now.hypotheses.now) (entries_of S.means taken.now)
+        → PairsSay (pairs_of S.means active.old.pairs.now) given (pairs_of S.means pairs.now) found) }
+    ensures active { active.new.pairs.now ≡ active.old.pairs.now }
+{
+    if pairs.is_empty() {
+        return Ok(None);
+    }
+    active.prepare()?;
+    gathered.gather_all(&*taken)?;
+    if all_apart(&*taken, &*gathered, &*active, &*pairs) {
+        return Ok(None);
+    }
+    if any_share(&*taken, &*gathered, &*pairs, &mut *marks) {
+        return Ok(Some(ProofNumber::P10));
+    }
+    Ok(Some(ProofNumber::P11))
+}

@@ -1,0 +1,223 @@
+//! Expressions of an assertion under the substitution that entries give.
+
+ghost use Rattle.std.specs.Prelude.{◌≡◌, ◌↔◌, ◌++◌, ◌<◌, ◌≤◌, ◌+◌, ℕ, List, IsTrue, OnOk, All, MatchBool, Some, drop, length, map, slice_get, take};
+ghost use Rattle.mm_frame.specs.Language.Frame.{Symbol as Meaning};
+ghost use Rattle.mm_proof.specs.Language.Substitution.{replacement, substituted};
+ghost use Rattle.mm_proof.specs.Code.Flat.{IsWithin, lent, read_all};
+ghost use Rattle.mm_proof.specs.Code.Citation.{Gives, hypotheses_of, entries_of, replaced_by};
+
+use crate::assertion::Hypothesis;
+use crate::slots::slot_of;
+use crate::symbol::Symbol;
+use std::alloc::AllocError;
+
+/// The most symbols that the result of an assertion step may have.
+pub const LONGEST_RESULT: usize = 1_000_000;
+
+/// An expression as a range of the flat list of symbols.
+#[derive(Clone, Copy)]
+pub struct Entry {
+    /// Where it begins.
+    pub start: usize,
+    /// Where it ends, this place not counted.
+    pub end: usize,
+    /// The symbols from here on belong to no earlier entry.
+    pub floor: usize,
+}
+
+/// The entries that an assertion takes.
+#[derive(Drop)]
+pub struct Taken<'s, 'a, S> {
+    /// The flat list of symbols.
+    pub symbols: &'s [&'a S],
+    pub entries: &'s [Entry],
+    /// The mandatory hypotheses of the assertion, in order.
+    pub hypotheses: &'s [Hypothesis<'a, S>],
+    /// For the key of a variable where its `$f` may stand among the hypotheses.
+    pub places: &'s [usize],
+}
+
+/// What an entry gives: its symbols behind the typecode. None where there is no such entry.
+pub fn given<'s, 'a, S: Symbol>(taken: &Taken<'s, 'a, S>, slot: usize) -> &'s [&'a S]
+    requires { All (IsWithin (length taken.now.symbols.now)) taken.now.entries.now }
+    ensures { (e : List Meaning) → slice_get (entries_of S.means taken.now) slot ≡ Some e → map (lent S.means) result.now ≡ drop 1 e }
+{
+    if slot >= taken.entries.len() {
+        return &[];
+    }
+    let entry = taken.entries[slot];
+    if entry.start == entry.end {
+        return &[];
+    }
+    &taken.symbols[entry.start + 1..entry.end]
+}
+
+/// What stands for a symbol of an expression: the constant itself, or what is given for a variable.
+#[derive(Drop)]
+pub struct Replacement<'s, 'a, S> {
+    symbol: &'a S,
+    /// For a variable.
+    given: &'s [&'a S],
+}
+
+impl<'s, 'a, S: Symbol> Replacement<'s, 'a, S> {
+    ghost use Rattle.mm_proof.specs.Code.Citation.{replaced_by};
+
+    /// How many symbols it has.
+    fn count(&self) -> usize
+        ensures { result ≡ length (replaced_by S.means self.now) }
+    {
+        if self.symbol.is_variable() {
+            self.given.len()
+        } else {
+            1
+        }
+    }
+
+    /// Puts its symbols behind others.
+    fn put(&self, to: &mut Vec<&'a S>) -> Result<(), AllocError>
+        ensures { OnOk result (map (lent S.means) to.new.items ≡ map (lent S.means) to.old.items ++ replaced_by S.means self.now) }
+    {
+        if self.symbol.is_variable() {
+            to.extend_from_slice(self.given)
+        } else {
+            to.push(self.symbol)?;
+            Ok(())
+        }
+    }
+
+    /// Whether it has these symbols.
+    fn is(&self, symbols: &[&'a S]) -> bool
+        ensures { IsTrue result ↔ (replaced_by S.means self.now ≡ map (lent S.means) symbols.now) }
+    {
+        if self.symbol.is_variable() {
+            return are_same(self.given, symbols);
+        }
+        if symbols.len() != 1 {
+            return false;
+        }
+        let symbol = symbols[0];
+        self.symbol.same(symbol)
+    }
+}
+
+/// What stands for the symbol at a place of an expression.
+fn part<'s, 'a, S: Symbol>(
+    taken: &Taken<'s, 'a, S>,
+    expression: &'a [S],
+    place: usize,
+) -> Replacement<'s, 'a, S>
+    requires within { All (IsWithin (length taken.now.symbols.now)) taken.now.entries.now }
+    requires in_range { place < length expression.now }
+    ensures { (given : Meaning → List Meaning) (s : Meaning) → Gives given (hypotheses_of S.means taken.now.hypotheses.now) (entries_of S.means taken.now)
+        (map S.means expression.now)
+        → slice_get (map S.means expression.now) place ≡ Some s → replaced_by S.means result ≡ replacement given s }
+{
+    let symbol = &expression[place];
+    if !symbol.is_variable() {
+        return Replacement {
+            symbol,
+            given: &taken.symbols[..0],
+        };
+    }
+    let slot = slot_of(&*taken.hypotheses, &*taken.places, symbol);
+    Replacement {
+        symbol,
+        given: given(taken, slot),
+    }
+}
+
+/// Puts an expression under the substitution behind other symbols.
+pub fn substitute<'s, 'a, S: Symbol>(
+    taken: &Taken<'s, 'a, S>,
+    expression: &'a [S],
+    to: &mut Vec<&'a S>,
+) -> Result<(), AllocError>
+    requires within { All (IsWithin (length taken.now.symbols.now)) taken.now.entries.now }
+    ensures { OnOk result ((given : Meaning → List Meaning) → Gives given (hypotheses_of S.means taken.now.hypotheses.now) (entries_of S.means taken.now)
+        (map S.means expression.now)
+        → map (lent S.means) to.new.items ≡ map (lent S.means) to.old.items ++ substituted given (map S.means expression.now)) }
+{
+    for place in 0..expression.len() {
+        part(&*taken, expression, place).put(&mut *to)?;
+    }
+    Ok(())
+}
+
+/// Whether an expression under the substitution has at most 1,000,000 symbols.
+pub fn is_short<'s, 'a, S: Symbol>(taken: &Taken<'s, 'a, S>, expression: &'a [S]) -> bool
+    requires within { All (IsWithin (length taken.now.symbols.now)) taken.now.entries.now }
+    ensures { (given : Meaning → List Meaning) → Gives given (hypotheses_of S.means taken.now.hypotheses.now) (entries_of S.means taken.now)
+        (map S.means expression.now)
+        → MatchBool result (length (substituted given (map S.means expression.now)) ≤ 1000000) (1000000 < length (substituted given
+        (map S.means expression.now))) }
+{
+    let mut count = 0;
+    for place in 0..expression.len() {
+        let more = part(&*taken, expression, place).count();
+        if more > LONGEST_RESULT - count {
+            return false;
+        }
+        count += more;
+    }
+    true
+}
+
+/// Whether two lists have the same symbols.
+pub fn are_same<'a, S: Symbol>(a: &[&'a S], b: &[&'a S]) -> bool
+    ensures { IsTrue result ↔ (map (lent S.means) a.now ≡ map (lent S.means) b.now) }
+{
+    if a.len() != b.len() {
+        return false;
+    }
+    for i in 0..a.len() {
+        let x = a[i];
+        let y = b[i];
+        if !x.same(y) {
+            return false;
+        }
+    }
+    true
+}
+
+/// Whether symbols that are kept elsewhere are those of an expression.
+pub fn are_symbols<'a, S: Symbol>(kept: &[&'a S], expression: &[S]) -> bool
+    ensures { IsTrue result ↔ (map (lent S.means) kept.now ≡ map S.means expression.now) }
+{
+    if kept.len() != expression.len() {
+        return false;
+    }
+    for i in 0..kept.len() {
+        let symbol = kept[i];
+        if !symbol.same(&expression[i]) {
+            return false;
+        }
+    }
+    true
+}
+
+/// Whether an entry is an expression under the substitution.
+pub fn fits<'s, 'a, S: Symbol>(
+    taken: &Taken<'s, 'a, S>,
+    expression: &'a [S],
+    entry: &[&'a S],
+) -> bool
+    requires within { All (IsWithin (length taken.now.symbols.now)) taken.now.entries.now }
+    ensures { (given : Meaning → List Meaning) → Gives given (hypotheses_of S.means taken.now.hypotheses.now) (entries_of S.means taken.now)
+        (map S.means expression.now)
+        → IsTrue result ↔ (substituted given (map S.means expression.now) ≡ map (lent S.means) entry.now) }
+{
+    let mut at = 0;
+    for place in 0..expression.len() {
+        let part = part(&*taken, expression, place);
+        let count = part.count();
+        if count > entry.len() - at {
+            return false;
+        }
+        if !part.is(&entry[at..at + count]) {
+            return false;
+        }
+        at += count;
+    }
+    at == entry.len()
+}

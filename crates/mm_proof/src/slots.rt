@@ -1,0 +1,73 @@
+//! The slots of variables: which `$f` of a frame is theirs.
+
+ghost use Rattle.std.specs.Prelude.{◌≡◌, ◌↔◌, ◌<◌, true, IsTrue, OnOk, length, map};
+ghost use Rattle.mm_frame.specs.Language.Typing.{IsTyped};
+ghost use Rattle.mm_proof.specs.Code.Citation.{IsSlot, Types, mandatory_of, hypotheses_of};
+ghost use Rattle.mm_proof.specs.Code.Keys.{home as home_lem};
+
+use crate::assertion::Hypothesis;
+use crate::symbol::Symbol;
+
+/// Where a key is noted in a table of so many places: at its own place, or at what is left of it.
+pub fn home(key: usize, count: usize) -> usize
+    ensures { result ≡ home_lem key count }
+{
+    if key < count || count == 0 {
+        key
+    } else {
+        key % count
+    }
+}
+
+/// Whether a hypothesis is the `$f` of a variable.
+fn is_float_of<'a, S: Symbol>(hypothesis: &Hypothesis<'a, S>, variable: &S) -> bool
+    ensures { IsTrue result ↔ Types (mandatory_of S.means hypothesis.now) (S.means variable.now) }
+{
+    if !hypothesis.floating {
+        return false;
+    }
+    if hypothesis.expression.len() < 2 {
+        return false;
+    }
+    hypothesis.expression[1].same(variable)
+}
+
+/// Notes for each variable of a `$f` where it stands among the hypotheses. What is found by it is compared, so that
+/// no answer depends on it.
+pub fn note_places<'a, S: Symbol>(hypotheses: &[Hypothesis<'a, S>], places: &mut [usize]) {
+    for place in 0..hypotheses.len() {
+        let hypothesis = &hypotheses[place];
+        if hypothesis.floating && hypothesis.expression.len() > 1 {
+            let at = home(hypothesis.expression[1].key(), places.len());
+            if at < places.len() {
+                places[at] = place;
+            }
+        }
+    }
+}
+
+/// The slot of a variable that some `$f` types.
+pub fn slot_of<'a, S: Symbol>(
+    hypotheses: &[Hypothesis<'a, S>],
+    places: &[usize],
+    variable: &S,
+) -> usize
+    ensures { IsTyped (hypotheses_of S.means hypotheses.now) (S.means variable.now)
+        → IsSlot (hypotheses_of S.means hypotheses.now) result (S.means variable.now) }
+{
+    let at = home(variable.key(), places.len());
+    if at < places.len() {
+        let guess = places[at];
+        if guess < hypotheses.len() {
+            if is_float_of(&hypotheses[guess], &*variable) {
+                return guess;
+            }
+        }
+    }
+    for place in 0..hypotheses.len() {
+        if is_float_of(&hypotheses[place], &*variable) {
+            return place;
+        }
+    }
+    0
+}

@@ -1,0 +1,194 @@
+//! A run of the steps of a proof.
+
+ghost use Rattle.std.specs.Prelude.{◌≡◌, ◌+◌, ◌-◌, ◌≤◌, ◌↔◌, ◌∷◌, ◌++◌, [], ℕ, List, All, IfOk, OnOk, IfNone, IsTrue, MatchOption, IfSome, length};
+ghost use Rattle.std.specs.Prelude.{map, slice_index_or};
+ghost use Rattle.std.specs.List.{AllZip};
+ghost use Rattle.mm_frame.specs.Language.Frame.{Symbol as Meaning, Frame, Setting, AreSamePairs};
+ghost use Rattle.mm_frame.specs.Language.Typing.{HasFrames, IsFrame};
+ghost use Rattle.mm_proof.specs.Language.Expansion.{Step, NotKnown};
+ghost use Rattle.mm_proof.specs.Language.Faults.{IsLowest};
+ghost use Rattle.mm_proof.specs.Language.Machine.{State, Turns, nothing_yet};
+ghost use Rattle.mm_proof.specs.Code.Citation.{frame_of, pairs_of};
+ghost use Rattle.mm_proof.specs.Code.Coded.{meant};
+ghost use Rattle.mm_proof.specs.Code.Judged.{IsOutcomeWithin};
+ghost use Rattle.mm_proof.specs.Code.MachineState.{state_of, AreRanges};
+ghost use Rattle.mm_proof.specs.Code.Tasks.{AreSavedBefore, AreUses, AreUsesWithin, HasState, IsSavedWithin, IsTaskWithin, MeansTask, RunSays};
+ghost use Rattle.mm_proof.specs.Code.Tasks.{IsUseWithin, MeansUse, actions_mean, expressions_of, frames_of, saves_by, saves_of};
+
+use crate::ProofNumber;
+use crate::active::Active;
+use crate::machine::Machine;
+use crate::named::{Named, Use};
+use crate::pattern::are_symbols;
+use crate::step::{Action, ProofStep};
+use crate::symbol::Symbol;
+use std::alloc::{AllocError, Global};
+
+/// What the machine does at a known step.
+#[derive(Clone, Copy)]
+pub enum Task {
+    /// It pushes the hypothesis with this number.
+    Push(usize),
+    /// It cites the assertion with this number.
+    Cite(usize),
+    /// It pushes what was saved under this number.
+    Again(usize),
+    /// It saves the entry on top.
+    Keep,
+}
+
+/// What a run comes to.
+#[derive(Clone, Copy)]
+pub enum Outcome {
+    /// The one entry at the end is the statement.
+    Proved,
+    /// The step with this number has this fault.
+    Fault(ProofNumber, usize),
+    /// The step with this number is the first that is not known.
+    Unknown(usize),
+    /// There is not one entry at the end.
+    NotOne,
+    /// The one entry at the end is not the statement.
+    Other,
+}
+
+/// What an entry of a proof's table is used for; nothing where there is no such entry.
+fn used(uses: &[Use], k: usize) -> Use
+    ensures means { (expressions : List (List Meaning)) (frames : List Frame) (place : Setting) (names : List Step)
+        → AllZip (MeansUse expressions frames place) uses.now names
+        → MeansUse expressions frames place result (slice_index_or names k NotKnown) }
+    ensures within { (hypotheses assertions : ℕ) → All (IsUseWithin hypotheses assertions) uses.now → IsUseWithin hypotheses assertions result }
+{
+    if k < uses.len() {
+        uses[k]
+    } else {
+        Use::Nothing
+    }
+}
+
+/// What the machine does at a step with this action; nothing where the step is not known.
+fn todo<'a, S: Symbol>(named: &Named<'a, S>, action: Action) -> Option<Task>
+    ensures means { (place : Setting) (names : List Step) → AreUses S.means named.now place names
+        → MatchOption result (meant names action ≡ NotKnown)
+        (λ task. MeansTask (expressions_of S.means named.now) (frames_of S.means named.now) place task (meant names action)) }
+    ensures within { (saves : ℕ) → AreUsesWithin named.now → IsSavedWithin saves action
+        → IfSome result (λ task. IsTaskWithin (length named.now.hypotheses.items) (length named.now.assertions.items) saves task) }
+    ensures saves { IfSome result (λ task. saves_of task ≡ saves_by action) }
+{
+    match action {
+        Action::Label(k) => match used(&named.uses, k) {
+            Use::Hypothesis(n) => Some(Task::Push(n)),
+            Use::Assertion(n) => Some(Task::Cite(n)),
+            Use::Nothing => None,
+        },
+        Action::Saved(n) => Some(Task::Again(n)),
+        Action::Save => Some(Task::Keep),
+        Action::Unknown => None,
+    }
+}
+
+/// Does one task. Answers the number of its fault, if it has one.
+fn turn<'a, S: Symbol>(
+    machine: &mut Machine<'a, S>,
+    named: &Named<'a, S>,
+    active: &mut Active<'a, S>,
+    task: Task,
+) -> Result<Option<ProofNumber>, AllocError>
+    requires whole { AreRanges machine.old }
+    requires frames { All (λ a. IsFrame (frame_of S.means a)) named.now.assertions.items }
+    requires loaded { length named.now.hypotheses.items ≤ length machine.old.saved.items }
+    requires within { IsTaskWithin (length named.now.hypotheses.items) (length named.now.assertions.items)
+        (length machine.old.saved.items - length named.now.hypotheses.items) task }
+    ensures whole { OnOk result (AreRanges machine.new) }
+    ensures turns { IfOk result (λ found. (place : Setting) (step : Step) (before : State) → AreSamePairs (pairs_of S.means active.old.pairs.now) place.active
+        → HasState S.means (expressions_of S.means named.now) machine.old before
+        → MeansTask (expressions_of S.means named.now) (frames_of S.means named.now) place task step
+        → MatchOption found ((after : State) × HasState S.means (expressions_of S.means named.now) machine.new after × Turns place step before after)
+        (IsLowest place step before.stack)) }
+    ensures saves { IfOk result (λ found. IfNone found (length machine.new.saved.items ≡ length machine.old.saved.items + saves_of task)) }
+    ensures active { active.new.pairs.now ≡ active.old.pairs.now }
+{
+    match task {
+        Task::Push(n) => {
+            machine.push_saved(n)?;
+            Ok(None)
+        }
+        Task::Cite(n) => {
+            let found = machine.cite(&named.assertions[n], &mut *active)?;
+            Ok(found)
+        }
+        Task::Again(n) => {
+            machine.push_saved(named.hypotheses.len() + n)?;
+            Ok(None)
+        }
+        Task::Keep => {
+            if machine.save()? {
+                Ok(None)
+            } else {
+                Ok(Some(ProofNumber::P13))
+            }
+        }
+    }
+}
+
+/// Whether the one entry is an expression.
+fn is_top<'a, S: Symbol>(machine: &Machine<'a, S>, expression: &[S]) -> bool
+    requires whole { AreRanges machine.now }
+    requires one { length machine.now.stack.items ≡ 1 }
+    ensures { IsTrue result ↔ ((state_of S.means machine.now).stack ≡ map S.means expression.now ∷ []) }
+{
+    let entry = machine.stack[0];
+    are_symbols(&machine.symbols[entry.start..entry.end], expression)
+}
+
+/// Keeps the expressions of the hypotheses that are named.
+fn load<'a, S: Symbol>(machine: &mut Machine<'a, S>, named: &Named<'a, S>) -> Result<(), AllocError>
+    requires whole { AreRanges machine.old }
+    requires nothing { state_of S.means machine.old ≡ nothing_yet }
+    ensures whole { OnOk result (AreRanges machine.new) }
+    ensures state { OnOk result (HasState S.means (expressions_of S.means named.now) machine.new nothing_yet) }
+{
+    for n in 0..named.hypotheses.len() {
+        let expression = named.hypotheses[n];
+        machine.load(expression)?;
+    }
+    Ok(())
+}
+
+/// Runs the steps of a proof of a statement, up to the first that is at fault or not known. The machine's tables have so
+/// many places for the keys of variables.
+pub fn run<'a, S: Symbol>(
+    alloc: Global,
+    keys: usize,
+    named: &Named<'a, S>,
+    active: &mut Active<'a, S>,
+    steps: &[ProofStep],
+    statement: &[S],
+) -> Result<Outcome, AllocError>
+    requires frames { All (λ a. IsFrame (frame_of S.means a)) named.now.assertions.items }
+    requires within { AreUsesWithin named.now }
+    requires saved { AreSavedBefore steps.now }
+    ensures within { IfOk result (IsOutcomeWithin (length steps.now)) }
+    ensures says { IfOk result (λ outcome. (place : Setting) (names : List Step) → HasFrames place
+        → AreSamePairs (pairs_of S.means active.old.pairs.now) place.active
+        → AreUses S.means named.now place names → RunSays place (actions_mean names steps.now) (map S.means statement.now) outcome) }
+{
+    let mut machine = Machine::new(alloc, keys)?;
+    load(&mut machine, &*named)?;
+    for place in 0..steps.len() {
+        let Some(task) = todo(&*named, steps[place].action) else {
+            return Ok(Outcome::Unknown(place));
+        };
+        if let Some(number) = turn(&mut machine, &*named, &mut *active, task)? {
+            return Ok(Outcome::Fault(number, place));
+        }
+    }
+    if machine.stack.len() != 1 {
+        return Ok(Outcome::NotOne);
+    }
+    if is_top(&machine, statement) {
+        Ok(Outcome::Proved)
+    } else {
+        Ok(Outcome::Other)
+    }
+}
