@@ -1,7 +1,6 @@
 -- A text has one answer: one report or one error of its own.
-use Rattle.std.proofs.Common.{◌≡◌, ◌↔◌, ℕ, zero, suc, ◌<◌, Bool, true, false, ◌&&◌, IsTrue, Option, is_none, List, [], ◌∷◌, length, take, get_or, slice_get, Some, refl, sym, ◌∙◌, ap, subst, ext_get_or, arith}
-use Rattle.std.specs.List.{AllByRecursion}
-use Rattle.std.proofs.lemmas.Option.{slice_get-get_or, none-some, same_Some}
+use Rattle.std.proofs.Common.{◌≡◌, ◌↔◌, ℕ, ◌<◌, Bool, true, false, ◌&&◌, IsTrue, Option, is_none, List, [], length, take, get_or, Some, refl, sym, ◌∙◌, ap, subst, ext_get_or, arith}
+use Rattle.std.proofs.lemmas.Option.{slice_get-get_or, same_Some}
 use Rattle.mm_text.specs.declared.fault.TextFault.{TextFault}
 use Rattle.mm_text.specs.declared.location.Place.{Place}
 use Rattle.mm_text.specs.Language.Cut.{IsFirstFault}
@@ -15,62 +14,16 @@ use Rattle.mm_frame.specs.Language.Item.{Kind, Axiom, Theorem, Item, is_assertio
 use Rattle.mm_frame.specs.Language.Sound.{sound_items}
 use Rattle.mm_frame.specs.declared.FrameNumber.{FrameNumber}
 use Rattle.mmkeep.specs.declared.fault.FirstError.{FirstError}
-use Rattle.mmkeep.specs.declared.fault.FirstError.TheVariants.{Text, Store, Later, Write}
+use Rattle.mmkeep.specs.declared.fault.FirstError.TheVariants.{Text, Store, Write}
 use Rattle.mmkeep.specs.Language.FirstErrors.{IsAnswerToText, IsToldOfText}
-use Rattle.mmkeep.specs.Language.Later.{unread_word, IsRead, AreRead, IsFirstUnread}
-use Rattle.mm_proof.specs.Language.Proved.{IsProved}
-use Rattle.mmkeep.specs.Language.Report.{Shown, Told, Quiet, AnAxiom, Proved, Wrong, Fault, IsRightlyTold, IsFaultOf, AreRightlyTold, lines, report}
-use Rattle.mmkeep.specs.Language.Verified.{IsReport, IsUnreadAt, IsPlaceIn}
-use Rattle.mmkeep.proofs.DatabaseLemmas.{Laws, Database, same_items, same_place, same_shown_word, database_or_fault, database_or_too_many}
-
--- ---- the first item that is not read
-
--- what holds of each item holds of one
-kept_at : {X : Type 0} (P : X → Type 0) (xs : List X) (n : ℕ) (x : X) → slice_get xs n ≡ Some x → AllByRecursion P xs → P x
-kept_at P [] n x there h = cc
-kept_at P (y ∷ xs) zero x there h = subst P (same_Some y x there) h.0
-kept_at P (y ∷ xs) (suc n) x there h = kept_at P xs n x there h.1
-
--- an item before a place is one of the items taken up to it
-taken_at : {X : Type 0} (xs : List X) (m n : ℕ) (x : X) → m < n → slice_get xs m ≡ Some x → slice_get (take n xs) m ≡ Some x
-taken_at [] m n x before e = absurd (none-some x e)
-taken_at (y ∷ xs) m zero x before e = absurd (omega arith)
-taken_at (y ∷ xs) zero (suc n) x before e = e
-taken_at (y ∷ xs) (suc m) (suc n) x before e = taken_at xs m n x (omega arith) e
-
-all_read_or_unread : (items : List Item) (n word : ℕ) → AreRead items → ¬ IsFirstUnread items n word
-all_read_or_unread items n word read f = none-some word (sym (kept_at IsRead items n f.item f.there read) ∙ f.unread)
-
--- an item that is not read is not before the first that is not read
-not_read_before : (items : List Item) (m n v w : ℕ) → IsFirstUnread items m v → IsFirstUnread items n w → m < n → ⊥
-not_read_before items m n v w f g before = none-some v (sym (kept_at IsRead (take n items) m f.item (taken_at items m n f.item before f.there) g.before) ∙ f.unread)
-
-same_unread : (items : List Item) (m n v w : ℕ) → IsFirstUnread items m v → IsFirstUnread items n w → (m ≡ n) × (v ≡ w)
-same_unread items m n v w f g =
-    let before : m < n → ⊥ = not_read_before items m n v w f g in
-    let behind : n < m → ⊥ = not_read_before items n m w v g f in
-    let number : m ≡ n = omega arith in
-    let there : slice_get items m ≡ Some g.item = ap (slice_get items) number ∙ g.there in
-    let item : f.item ≡ g.item = same_Some f.item g.item (sym f.there ∙ there) in
-    (number, same_Some v w (sym f.unread ∙ ap unread_word item ∙ g.unread))
-
--- ---- what is not read yet in a text
-
-abbrev unread_database : {name text : List ℕ} {at : ℕ} → IsUnreadAt name text at → Database name text
-unread_database f = record { files = f.files; view = f.view; is = f.database }
-
--- the same of the items of another database of the text
-unread_in : {name text : List ℕ} {at : ℕ} → Laws → (a : Database name text) (f : IsUnreadAt name text at) → IsFirstUnread a.view.said f.n f.word
-unread_in laws a f = subst (λ items. IsFirstUnread items f.n f.word) (same_items laws (unread_database f) a) f.unread
-
--- where all is read, nothing is told
-read_or_unread : {name text : List ℕ} {at : ℕ} → Laws → (a : Database name text) → AreRead a.view.said → ¬ IsUnreadAt name text at
-read_or_unread laws a read f = all_read_or_unread a.view.said f.n f.word read (unread_in laws a f)
-
-same_unread_at : {name text : List ℕ} → Laws → (a b : ℕ) → IsUnreadAt name text a → IsUnreadAt name text b → a ≡ b
-same_unread_at laws a b f g =
-    let both : (f.n ≡ g.n) × (f.word ≡ g.word) = same_unread f.view.said f.n g.n f.word g.word f.unread (unread_in laws (unread_database f) g) in
-    same_place laws (unread_database f) (unread_database g) f.n g.n f.word g.word a b both.0 both.1 f.place g.place
+use Rattle.mm_proof.specs.Language.VerdictAt.{IsVerdictAt}
+use Rattle.mm_proof.specs.declared.ProofNumber.{ProofNumber}
+use Rattle.mm_proof.specs.declared.Spot.{Spot}
+use Rattle.mm_proof.specs.declared.Verdict.{Verdict}
+use Rattle.mm_proof.specs.declared.Verdict.TheVariants as verdicts
+use Rattle.mmkeep.specs.Language.Report.{Shown, Told, Quiet, AnAxiom, Proved, Incomplete, Wrong, Fault, IsRightlyTold, IsFaultOf, HasVerdict, HasVerdictShown, AreRightlyTold, lines, report}
+use Rattle.mmkeep.specs.Language.Verified.{IsReport, IsPlaceIn}
+use Rattle.mmkeep.proofs.DatabaseLemmas.{Laws, Database, same_items, same_spot_place, same_shown_word, database_or_fault, database_or_too_many}
 
 -- ---- one error
 
@@ -94,23 +47,17 @@ one_answered text TooMany TooMany f g = refl
 one_answered text TooMany _ f g = absurd g
 one_answered text _ b f g = absurd f
 
-pub same_error : Laws → (name text : List ℕ) (a b : FirstError) → IsToldOfText name text a → IsToldOfText name text b → a ≡ b
-same_error laws name text (Text a place) (Text b other) f g =
+pub same_error : Laws → (text : List ℕ) (a b : FirstError) → IsToldOfText text a → IsToldOfText text b → a ≡ b
+same_error laws text (Text a place) (Text b other) f g =
     let fault : a ≡ b = laws.fault text a b f.0 g.0 in
     let there : place ≡ other = one_place text a.at b.at place other (ap (λ (x : TextFault). x.at) fault) f.2 g.2 in
     (λ i. Text (fault i) (there i))
-same_error laws name text (Text a place) (Store b) f g = absurd (fault_or_too_many laws text a f.0 (answered text b g))
-same_error laws name text (Text a place) (Later b) f g = absurd (database_or_fault laws (unread_database g.1) a f.0)
-same_error laws name text (Text a place) Write f g = absurd g
-same_error laws name text (Store a) (Text b place) f g = absurd (fault_or_too_many laws text b g.0 (answered text a f))
-same_error laws name text (Store a) (Store b) f g = ap Store (one_answered text a b f g)
-same_error laws name text (Store a) (Later b) f g = absurd (database_or_too_many (unread_database g.1) (answered text a f))
-same_error laws name text (Store a) Write f g = absurd g
-same_error laws name text (Later a) (Text b place) f g = absurd (database_or_fault laws (unread_database f.1) b g.0)
-same_error laws name text (Later a) (Store b) f g = absurd (database_or_too_many (unread_database f.1) (answered text b g))
-same_error laws name text (Later a) (Later b) f g = ap Later (one_place text f.0 g.0 a b (same_unread_at laws f.0 g.0 f.1 g.1) f.2 g.2)
-same_error laws name text (Later a) Write f g = absurd g
-same_error laws name text Write b f g = absurd f
+same_error laws text (Text a place) (Store b) f g = absurd (fault_or_too_many laws text a f.0 (answered text b g))
+same_error laws text (Text a place) Write f g = absurd g
+same_error laws text (Store a) (Text b place) f g = absurd (fault_or_too_many laws text b g.0 (answered text a f))
+same_error laws text (Store a) (Store b) f g = ap Store (one_answered text a b f g)
+same_error laws text (Store a) Write f g = absurd g
+same_error laws text Write b f g = absurd f
 
 -- ---- what is told of one item
 
@@ -129,7 +76,8 @@ abbrev class_told : Told → ℕ
 class_told Quiet = 1
 class_told AnAxiom = 2
 class_told Proved = 3
-class_told Wrong = 3
+class_told (Incomplete place) = 3
+class_told (Wrong number place) = 3
 class_told (Fault number shown) = 0
 
 quiet_class : (sound : Bool) (kind : Kind) → sound ≡ true → is_assertion kind ≡ false → 1 ≡ class_of sound kind
@@ -152,8 +100,9 @@ fault_class fault kind one e = sym (ap (λ (f : Option (ℕ × FrameNumber)). cl
 told_class : (files : FilesView) (view : BaseView) (n : ℕ) (one : Told) → IsRightlyTold files view n one → class_told one ≡ class_at view n
 told_class files view n Quiet f = quiet_class (is_sound_at view n) (said_at view n).kind f.sound f.kind
 told_class files view n AnAxiom f = axiom_class (is_sound_at view n) (said_at view n).kind f.sound f.kind
-told_class files view n Proved f = theorem_class (is_sound_at view n) (said_at view n).kind f.0
-told_class files view n Wrong f = theorem_class (is_sound_at view n) (said_at view n).kind f.0
+told_class files view n Proved f = theorem_class (is_sound_at view n) (said_at view n).kind f.proof
+told_class files view n (Incomplete place) f = theorem_class (is_sound_at view n) (said_at view n).kind f.has_verdict.proof
+told_class files view n (Wrong number place) f = theorem_class (is_sound_at view n) (said_at view n).kind f.has_verdict.proof
 told_class files view n (Fault number shown) f = fault_class (fault_at view n) (said_at view n).kind (f.word, number) f.fault
 
 -- of two databases of one text
@@ -166,9 +115,34 @@ same_class laws a b n one other f g =
     let classes : class_at a.view n ≡ class_at b.view n = (λ i. class_of (is_none (same_fault_at laws a b n i)) (item_at (same_items laws a b i) n).kind) in
     told_class a.files a.view n one f ∙ classes ∙ sym (told_class b.files b.view n other g)
 
--- a theorem is proved in both or in none
-proved_in : {name text : List ℕ} → Laws → (a b : Database name text) (n : ℕ) → IsProved a.view.said n → IsProved b.view.said n
-proved_in laws a b n proved = subst (λ items. IsProved items n) (same_items laws a b) proved
+-- the items with one number have one verdict
+one_verdict : {name text : List ℕ} → Laws → (a b : Database name text) (n : ℕ) (v w : Verdict) → HasVerdict a.view n v → HasVerdict b.view n w → v ≡ w
+one_verdict laws a b n v w f g =
+    laws.verdict b.view n v w (subst (λ (items : List Item). IsVerdictAt (record { found = b.view.found; said = items }) n v) (same_items laws a b) f.is_verdict) g.is_verdict
+
+-- and so one spot of it
+abbrev spot_of : Verdict → Spot → Spot
+spot_of verdicts.Proved other = other
+spot_of (verdicts.Incomplete spot) other = spot
+spot_of (verdicts.Wrong number spot) other = spot
+
+abbrev number_of : Verdict → ProofNumber → ProofNumber
+number_of (verdicts.Wrong number spot) other = number
+number_of _ other = other
+
+same_incomplete : {name text : List ℕ} → Laws → (a b : Database name text) (n : ℕ) (place other : Place)
+    → HasVerdictShown a.files a.view n verdicts.Incomplete place → HasVerdictShown b.files b.view n verdicts.Incomplete other → Incomplete place ≡ Incomplete other
+same_incomplete laws a b n place other f g =
+    let verdict = one_verdict laws a b n (verdicts.Incomplete f.spot) (verdicts.Incomplete g.spot) f.has_verdict g.has_verdict in
+    ap Incomplete (same_spot_place laws a b n f.spot g.spot place other (ap (λ (v : Verdict). spot_of v f.spot) verdict) f.is_place g.is_place)
+
+same_wrong : {name text : List ℕ} → Laws → (a b : Database name text) (n : ℕ) (number more : ProofNumber) (place other : Place)
+    → HasVerdictShown a.files a.view n (verdicts.Wrong number) place → HasVerdictShown b.files b.view n (verdicts.Wrong more) other → Wrong number place ≡ Wrong more other
+same_wrong laws a b n number more place other f g =
+    let verdict = one_verdict laws a b n (verdicts.Wrong number f.spot) (verdicts.Wrong more g.spot) f.has_verdict g.has_verdict in
+    let numbers : number ≡ more = ap (λ (v : Verdict). number_of v number) verdict in
+    let places : place ≡ other = same_spot_place laws a b n f.spot g.spot place other (ap (λ (v : Verdict). spot_of v f.spot) verdict) f.is_place g.is_place in
+    (λ i. Wrong (numbers i) (places i))
 
 same_fault : {name text : List ℕ} → Laws → (a b : Database name text) (n : ℕ) (number other : FrameNumber) (shown there : Shown)
     → IsFaultOf a.files a.view n number shown → IsFaultOf b.files b.view n other there → Fault number shown ≡ Fault other there
@@ -183,9 +157,14 @@ same_told_by : {name text : List ℕ} → Laws → (a b : Database name text) (n
 same_told_by laws a b n Quiet Quiet same f g = refl
 same_told_by laws a b n AnAxiom AnAxiom same f g = refl
 same_told_by laws a b n Proved Proved same f g = refl
-same_told_by laws a b n Proved Wrong same f g = absurd (g.1 (proved_in laws a b n f.1))
-same_told_by laws a b n Wrong Proved same f g = absurd (f.1 (proved_in laws b a n g.1))
-same_told_by laws a b n Wrong Wrong same f g = refl
+same_told_by laws a b n Proved (Incomplete other) same f g = let v = one_verdict laws a b n verdicts.Proved (verdicts.Incomplete g.spot) f g.has_verdict in cc
+same_told_by laws a b n Proved (Wrong more other) same f g = let v = one_verdict laws a b n verdicts.Proved (verdicts.Wrong more g.spot) f g.has_verdict in cc
+same_told_by laws a b n (Incomplete place) Proved same f g = let v = one_verdict laws a b n (verdicts.Incomplete f.spot) verdicts.Proved f.has_verdict g in cc
+same_told_by laws a b n (Incomplete place) (Incomplete other) same f g = same_incomplete laws a b n place other f g
+same_told_by laws a b n (Incomplete place) (Wrong more other) same f g = let v = one_verdict laws a b n (verdicts.Incomplete f.spot) (verdicts.Wrong more g.spot) f.has_verdict g.has_verdict in cc
+same_told_by laws a b n (Wrong number place) Proved same f g = let v = one_verdict laws a b n (verdicts.Wrong number f.spot) verdicts.Proved f.has_verdict g in cc
+same_told_by laws a b n (Wrong number place) (Incomplete other) same f g = let v = one_verdict laws a b n (verdicts.Wrong number f.spot) (verdicts.Incomplete g.spot) f.has_verdict g.has_verdict in cc
+same_told_by laws a b n (Wrong number place) (Wrong more other) same f g = same_wrong laws a b n number more place other f g
 same_told_by laws a b n (Fault number shown) (Fault other there) same f g = same_fault laws a b n number other shown there f g
 same_told_by laws a b n one other same f g = absurd (omega arith)
 
@@ -224,8 +203,7 @@ same_report laws name text clean other a b f g =
 
 -- ---- a report, or an error
 
-pub report_or_error : Laws → (name text : List ℕ) (clean : Bool) (bytes : List ℕ) (error : FirstError) → IsReport name text clean bytes → ¬ IsToldOfText name text error
+pub report_or_error : Laws → (name text : List ℕ) (clean : Bool) (bytes : List ℕ) (error : FirstError) → IsReport name text clean bytes → ¬ IsToldOfText text error
 report_or_error laws name text clean bytes (Text fault place) f g = database_or_fault laws (report_database f) fault g.0
 report_or_error laws name text clean bytes (Store error) f g = database_or_too_many (report_database f) (answered text error g)
-report_or_error laws name text clean bytes (Later place) f g = read_or_unread laws (report_database f) f.read g.1
 report_or_error laws name text clean bytes Write f g = g

@@ -18,10 +18,14 @@ use Rattle.mm_store.specs.Language.FileFacts.{CanBeRead, HaveOwnKeys, IsAdded, S
 use Rattle.mm_store.specs.Language.Answers.{HasTooMany}
 use Rattle.mm_store.specs.Language.Expansion.{IsExpansion}
 use Rattle.mm_store.specs.Language.Keyless.{keyless_piece, keyless_file, keyless_item}
-use Rattle.mm_frame.specs.Language.Base.{BaseView}
+use Rattle.mm_frame.specs.Language.Base.{BaseView, said_at}
+use Rattle.mm_frame.specs.Language.Item.{item_at}
 use Rattle.mm_frame.specs.Language.Laws.{AreAlikeBases}
-use Rattle.mmkeep.specs.Language.WordPlaces.{IsWordOf}
-use Rattle.mmkeep.specs.Language.Report.{Shown, IsWordAt, IsShown, start_of, spelled}
+use Rattle.mm_text.specs.declared.location.Place.{Place}
+use Rattle.mm_proof.specs.Language.ItemLaws.{HasOneVerdictAt}
+use Rattle.mm_proof.specs.declared.Spot.{Spot}
+use Rattle.mmkeep.specs.Language.WordPlaces.{start_of, spelled, IsByteOfWord, HasPlace, IsPlaceOfSpot, proof_word}
+use Rattle.mmkeep.specs.Language.Report.{Shown, IsShown}
 use Rattle.mmkeep.specs.Language.Verified.{IsDatabase}
 
 -- what is known of every text and of all files
@@ -32,6 +36,7 @@ pub record Laws : Type 0 where
   pub said : (a b : FilesView) (top : List ℕ) (base other : BaseView) → AreAlikeBases a b top base other → (map keyless_item base.found ≡ map keyless_item other.found) × (base.said ≡ other.said)
   pub one_file : (a b : FilesView) (name text : List ℕ) → IsAdded no_files a name text → IsAdded no_files b name text → map keyless_file a.files ≡ map keyless_file b.files
   pub own_keys : (files : FilesView) (name text : List ℕ) → IsAdded no_files files name text → HaveOwnKeys files
+  pub verdict : HasOneVerdictAt
   pub stand : (files : FilesView) (top : List ℕ) (items : List store.Item) → IsExpansion files.files top items → All (StandsIn files) items
 
 -- ---- what stands in files that are the same but for keys
@@ -107,14 +112,14 @@ same_offset f g m n same number =
     ∙ ap (λ texts. length (concat (take n texts))) (same_texts f g same)
     ∙ sym (offset_by_texts g n)
 
-same_byte : Laws → (a b : FilesView) (x y : store.Item) (v w at there : ℕ) → AreAlike a b x y → v ≡ w → IsWordAt a x v at → IsWordAt b y w there → at ≡ there
-same_byte laws a b x y v w at there alike number f g =
+same_byte : Laws → (a b : FilesView) (x y : store.Item) (v w l m at there : ℕ) → AreAlike a b x y → v ≡ w → l ≡ m → IsByteOfWord a x v l at → IsByteOfWord b y w m there → at ≡ there
+same_byte laws a b x y v w l m at there alike number letter f g =
     let piece : x.piece ≡ y.piece = ap (λ (z : store.Item). z.piece) alike.item in
     let start : x.start ≡ y.start = ap (λ (z : store.Item). z.start) alike.item in
     let words : f.read.words ≡ g.read.words = same_words laws a b x y alike f.read g.read in
     let file : keyless_file f.byte.file ≡ keyless_file g.byte.file = same_file a b x y f.byte.file g.byte.file alike f.byte.there g.byte.there in
     let offset : piece_offset f.byte.file x.piece ≡ piece_offset g.byte.file y.piece = same_offset f.byte.file g.byte.file x.piece y.piece file piece in
-    f.byte.is_offset ∙ (λ i. offset i + (start i + start_of (slice_get (words i) (number i)))) ∙ sym g.byte.is_offset
+    f.byte.is_offset ∙ (λ i. offset i + (start i + (start_of (slice_get (words i) (number i)) + letter i))) ∙ sym g.byte.is_offset
 
 -- ---- how a word is shown
 
@@ -124,9 +129,18 @@ same_file_text f g same =
     let tail : f.tail ≡ g.tail = ap (λ (file : FileView). file.tail) same in
     (λ i. concat (same_texts f g same i) ++ tail i)
 
-same_place_text : (a b : FilesView) (x y : store.Item) (v w at there : ℕ) → AreAlike a b x y → (f : IsWordAt a x v at) (g : IsWordAt b y w there) → f.text ≡ g.text
-same_place_text a b x y v w at there alike f g =
+same_place_text : (a b : FilesView) (x y : store.Item) (v w l m at there : ℕ) → AreAlike a b x y → (f : IsByteOfWord a x v l at) (g : IsByteOfWord b y w m there) → f.text ≡ g.text
+same_place_text a b x y v w l m at there alike f g =
     f.byte.is_text ∙ same_file_text f.byte.file g.byte.file (same_file a b x y f.byte.file g.byte.file alike f.byte.there g.byte.there) ∙ sym g.byte.is_text
+
+-- a byte of a word of an item has one place
+same_place : Laws → (a b : FilesView) (x y : store.Item) (v w l m : ℕ) (place other : Place) → AreAlike a b x y → v ≡ w → l ≡ m → HasPlace a x v l place → HasPlace b y w m other → place ≡ other
+same_place laws a b x y v w l m place other alike number letter f g =
+    let at : f.at ≡ g.at = same_byte laws a b x y v w l m f.at g.at alike number letter f.is_byte g.is_byte in
+    let text : f.is_byte.text ≡ g.is_byte.text = same_place_text a b x y v w l m f.at g.at alike f.is_byte g.is_byte in
+    let row : place.line ≡ other.line = f.line ∙ (λ i. line_at (text i) (at i)) ∙ sym g.line in
+    let column : place.column ≡ other.column = f.column ∙ (λ i. column_at (text i) (at i)) ∙ sym g.column in
+    λ i. record { line = row i; column = column i }
 
 same_spelled : Laws → (a b : FilesView) (x y : store.Item) (v w : ℕ) → AreAlike a b x y → v ≡ w → (s : CanBeRead a x) (t : CanBeRead b y)
     → spelled (bytes_in s.text x) (slice_get s.words v) ≡ spelled (bytes_in t.text y) (slice_get t.words w)
@@ -136,12 +150,9 @@ same_spelled laws a b x y v w alike number s t =
 -- a word of an item is shown in one way
 same_shown : Laws → (a b : FilesView) (x y : store.Item) (v w : ℕ) (shown other : Shown) → AreAlike a b x y → v ≡ w → IsShown a x v shown → IsShown b y w other → shown ≡ other
 same_shown laws a b x y v w shown other alike number f g =
-    let at : f.at ≡ g.at = same_byte laws a b x y v w f.at g.at alike number f.place g.place in
-    let text : f.place.text ≡ g.place.text = same_place_text a b x y v w f.at g.at alike f.place g.place in
-    let line : shown.line ≡ other.line = f.line ∙ (λ i. line_at (text i) (at i)) ∙ sym g.line in
-    let column : shown.column ≡ other.column = f.column ∙ (λ i. column_at (text i) (at i)) ∙ sym g.column in
-    let word : shown.word ≡ other.word = f.is_word ∙ same_spelled laws a b x y v w alike number f.place.read g.place.read ∙ sym g.is_word in
-    λ i. record { line = line i; column = column i; word = word i }
+    let place : shown.place ≡ other.place = same_place laws a b x y v w 0 0 shown.place other.place alike number refl f.has_place g.has_place in
+    let word : shown.word ≡ other.word = f.is_word ∙ same_spelled laws a b x y v w alike number f.has_place.is_byte.read g.has_place.is_byte.read ∙ sym g.is_word in
+    λ i. record { place = place i; word = word i }
 
 -- ---- two databases of one name and text
 
@@ -181,12 +192,14 @@ alike_at laws a b m n x y number at there = record {
   second = kept_at (StandsIn b.files) b.view.found n y (items_stand laws b) there;
 }
 
--- a word with one number, of an item with one number, begins at one byte
-pub same_place : {name text : List ℕ} → Laws → (a b : Database name text) (m n v w at other : ℕ) → m ≡ n → v ≡ w → IsWordOf a.files a.view m v at → IsWordOf b.files b.view n w other → at ≡ other
-same_place laws a b m n v w at other number word f g =
-    same_byte laws a.files b.files f.item g.item v w at other (alike_at laws a b m n f.item g.item number f.there g.there) word f.place g.place
+-- a spot in the proof of an item with one number has one place
+pub same_spot_place : {name text : List ℕ} → Laws → (a b : Database name text) (n : ℕ) (s t : Spot) (place other : Place) → s ≡ t → IsPlaceOfSpot a.files a.view n s place → IsPlaceOfSpot b.files b.view n t other → place ≡ other
+same_spot_place laws a b n s t place other same f g =
+    let word : proof_word (said_at a.view n) s.word ≡ proof_word (said_at b.view n) t.word = (λ i. proof_word (item_at (same_items laws a b i) n) (same i).word) in
+    let letter : s.letter ≡ t.letter = ap (λ (u : Spot). u.letter) same in
+    same_place laws a.files b.files f.item g.item _ _ s.letter t.letter place other (alike_at laws a b n n f.item g.item refl f.there g.there) word letter f.has_place g.has_place
 
--- and it is shown in one way
+-- a word of an item with one number is shown in one way
 pub same_shown_word : {name text : List ℕ} → Laws → (a b : Database name text) (n v w : ℕ) (x y : store.Item) (shown other : Shown) → v ≡ w → slice_get a.view.found n ≡ Some x → slice_get b.view.found n ≡ Some y
     → IsShown a.files x v shown → IsShown b.files y w other → shown ≡ other
 same_shown_word laws a b n v w x y shown other word at there f g = same_shown laws a.files b.files x y v w shown other (alike_at laws a b n n x y refl at there) word f g

@@ -1,5 +1,5 @@
 pub mod PlaceLemmas
-pub mod ReadingLemmas
+pub mod SpotLemmas
 pub mod StreamLemmas
 pub mod ReportLemmas
 pub mod DatabaseLemmas

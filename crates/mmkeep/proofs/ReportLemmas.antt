@@ -1,5 +1,5 @@
 -- The lines of a report, one more at a time.
-use Rattle.std.proofs.Common.{◌≡◌, ℕ, Bool, false, Option, Result, cond, zero-add, ◌+◌, ◌<◌, List, [], ◌∷◌, ◌++◌, length, take, drop, min, get_or, refl, sym, ◌∙◌, ap, subst, append_assoc, arith}
+use Rattle.std.proofs.Common.{◌≡◌, ℕ, Bool, false, Option, Result, cond, zero-add, ◌+◌, ◌<◌, ◌≤◌, List, [], ◌∷◌, ◌++◌, length, take, drop, min, get_or, refl, sym, ◌∙◌, ap, subst, append_assoc, arith}
 use Rattle.std.proofs.lemmas.List.Sums.{sum_by-cons}
 use Rattle.std.proofs.lemmas.List.{append-nil, take_more, length-take, length-take-le, length-map, get_or-map, take-append-drop}
 use Rattle.std.specs.Io.KnownBytes.{Appends}
@@ -8,14 +8,16 @@ use Rattle.mm_frame.specs.Language.Base.{BaseView, said_at}
 use Rattle.mm_frame.specs.Code.KeptBase.{IsBase}
 use Rattle.mm_frame.specs.declared.base.Base.{Base}
 use Rattle.mm_frame.specs.declared.FrameNumber.{FrameNumber}
+use Rattle.mm_text.specs.declared.location.Place.{Place}
+use Rattle.mm_proof.specs.declared.ProofNumber.{ProofNumber}
 use Rattle.mmkeep.specs.declared.finding.Finding.{Finding}
 use Rattle.mmkeep.specs.declared.finding.Finding.TheVariants as code
 use Rattle.std.specs.Prelude.{IsErr, count_by, codes, decimal}
 use Rattle.mmkeep.specs.declared.stream.Writing.{Writing}
 use Rattle.mmkeep.specs.declared.tally.Tally.{Tally}
 use Rattle.mmkeep.specs.Code.Findings.{AreOfEach, counted, told, told_all}
-use Rattle.mmkeep.specs.Language.Report.{Told, Quiet, AnAxiom, Proved, Wrong, Fault, Counts, counts, item_line, lines, fault_line, code_of}
-use Rattle.mmkeep.specs.Language.Report.{is_wrong, is_fault, summary, report}
+use Rattle.mmkeep.specs.Language.Report.{Told, Quiet, AnAxiom, Proved, Incomplete, Wrong, Fault, Counts, counts, item_line, lines, place_in, fault_line, incomplete_line, wrong_line, code_of, proof_code}
+use Rattle.mmkeep.specs.Language.Report.{is_proved, is_incomplete, is_wrong, is_fault, summary, report}
 use Rattle.mmkeep.specs.Language.Stream.{Stops, Writes, written}
 use Rattle.mmkeep.proofs.StreamLemmas.{stops_front, stops_behind, writes_behind, writes_stop}
 
@@ -71,30 +73,58 @@ pub count_told : (test : Told → Bool) (findings : List Finding) → count_by (
 count_told test [] = refl
 count_told test (x ∷ xs) = count_cons (λ finding. test (told finding)) x xs ∙ ap (λ (n : ℕ). unit (test (told x)) + n) (count_told test xs) ∙ sym (count_cons test (told x) (told_all xs))
 
--- no line stands in a report where nothing is wrong or at fault
-pub no_lines : (file : List ℕ) (items : List Item) (all : List Told) → count_by is_wrong all ≡ 0 → count_by is_fault all ≡ 0 → lines file items all ≡ []
-no_lines file [] all n f = refl
-no_lines file (x ∷ xs) [] n f = refl
-no_lines file (x ∷ xs) (Wrong ∷ ys) n f = absurd (omega (arith, count_cons is_wrong Wrong ys))
-no_lines file (x ∷ xs) (Fault number shown ∷ ys) n f = absurd (omega (arith, count_cons is_fault (Fault number shown) ys))
-no_lines file (x ∷ xs) (Quiet ∷ ys) n f = no_lines file xs ys (omega (arith, count_cons is_wrong Quiet ys)) (omega (arith, count_cons is_fault Quiet ys))
-no_lines file (x ∷ xs) (AnAxiom ∷ ys) n f = no_lines file xs ys (omega (arith, count_cons is_wrong AnAxiom ys)) (omega (arith, count_cons is_fault AnAxiom ys))
-no_lines file (x ∷ xs) (Proved ∷ ys) n f = no_lines file xs ys (omega (arith, count_cons is_wrong Proved ys)) (omega (arith, count_cons is_fault Proved ys))
+-- nothing is incomplete, wrong or at fault
+abbrev pub HaveNoLines : List Told → Type 0
+HaveNoLines all = (count_by is_incomplete all ≡ 0) × (count_by is_wrong all ≡ 0) × (count_by is_fault all ≡ 0)
 
--- what has no line is counted neither as wrong nor as a fault
-none_more : (one : Told) (all : List Told) → is_wrong one ≡ false → is_fault one ≡ false → (count_by is_wrong all ≡ 0) × (count_by is_fault all ≡ 0) → (count_by is_wrong (one ∷ all) ≡ 0) × (count_by is_fault (one ∷ all) ≡ 0)
-none_more one all w f p = (count_cons is_wrong one all ∙ rw w (zero-add _ ∙ p.0), count_cons is_fault one all ∙ rw f (zero-add _ ∙ p.1))
+-- what has no line is not counted
+none_more : (one : Told) (all : List Told) → is_incomplete one ≡ false → is_wrong one ≡ false → is_fault one ≡ false → HaveNoLines all → HaveNoLines (one ∷ all)
+none_more one all i w f p = (count_cons is_incomplete one all ∙ rw i (zero-add _ ∙ p.0), count_cons is_wrong one all ∙ rw w (zero-add _ ∙ p.1), count_cons is_fault one all ∙ rw f (zero-add _ ∙ p.2))
+
+none_behind : (one : Told) (all : List Told) → is_incomplete one ≡ false → is_wrong one ≡ false → is_fault one ≡ false → HaveNoLines (one ∷ all) → HaveNoLines all
+none_behind one all i w f p =
+    (sym (zero-add _) ∙ sym (count_cons is_incomplete one all ∙ rw i refl) ∙ p.0, sym (zero-add _) ∙ sym (count_cons is_wrong one all ∙ rw w refl) ∙ p.1, sym (zero-add _) ∙ sym (count_cons is_fault one all ∙ rw f refl) ∙ p.2)
+
+-- no line stands in a report where nothing is incomplete, wrong or at fault
+pub no_lines : (file : List ℕ) (items : List Item) (all : List Told) → HaveNoLines all → lines file items all ≡ []
+no_lines file [] all n = refl
+no_lines file (x ∷ xs) [] n = refl
+no_lines file (x ∷ xs) (Incomplete place ∷ ys) n = absurd (omega (arith, n.0, count_cons is_incomplete (Incomplete place) ys))
+no_lines file (x ∷ xs) (Wrong number place ∷ ys) n = absurd (omega (arith, n.1, count_cons is_wrong (Wrong number place) ys))
+no_lines file (x ∷ xs) (Fault number shown ∷ ys) n = absurd (omega (arith, n.2, count_cons is_fault (Fault number shown) ys))
+no_lines file (x ∷ xs) (Quiet ∷ ys) n = no_lines file xs ys (none_behind Quiet ys refl refl refl n)
+no_lines file (x ∷ xs) (AnAxiom ∷ ys) n = no_lines file xs ys (none_behind AnAxiom ys refl refl refl n)
+no_lines file (x ∷ xs) (Proved ∷ ys) n = no_lines file xs ys (none_behind Proved ys refl refl refl n)
 
 -- and one stands there where something is
-pub some_line : (file : List ℕ) (items : List Item) (all : List Told) → length all ≡ length items → lines file items all ≡ [] → (count_by is_wrong all ≡ 0) × (count_by is_fault all ≡ 0)
-some_line file [] [] e l = (refl, refl)
+pub some_line : (file : List ℕ) (items : List Item) (all : List Told) → length all ≡ length items → lines file items all ≡ [] → HaveNoLines all
+some_line file [] [] e l = (refl, refl, refl)
 some_line file [] (y ∷ ys) e l = cc
-some_line file (x ∷ xs) [] e l = (refl, refl)
-some_line file (x ∷ xs) (Wrong ∷ ys) e l = cc
+some_line file (x ∷ xs) [] e l = cc
+some_line file (x ∷ xs) (Incomplete place ∷ ys) e l = cc
+some_line file (x ∷ xs) (Wrong number place ∷ ys) e l = cc
 some_line file (x ∷ xs) (Fault number shown ∷ ys) e l = cc
-some_line file (x ∷ xs) (Quiet ∷ ys) e l = none_more Quiet ys refl refl (some_line file xs ys (cc) l)
-some_line file (x ∷ xs) (AnAxiom ∷ ys) e l = none_more AnAxiom ys refl refl (some_line file xs ys (cc) l)
-some_line file (x ∷ xs) (Proved ∷ ys) e l = none_more Proved ys refl refl (some_line file xs ys (cc) l)
+some_line file (x ∷ xs) (Quiet ∷ ys) e l = none_more Quiet ys refl refl refl (some_line file xs ys (cc) l)
+some_line file (x ∷ xs) (AnAxiom ∷ ys) e l = none_more AnAxiom ys refl refl refl (some_line file xs ys (cc) l)
+some_line file (x ∷ xs) (Proved ∷ ys) e l = none_more Proved ys refl refl refl (some_line file xs ys (cc) l)
+
+-- ---- the counts of theorems
+
+one_told : (one : Told) → unit (is_proved one) + unit (is_incomplete one) + unit (is_wrong one) ≤ 1
+one_told Quiet = omega arith
+one_told AnAxiom = omega arith
+one_told Proved = omega arith
+one_told (Incomplete place) = omega arith
+one_told (Wrong number place) = omega arith
+one_told (Fault number shown) = omega arith
+
+-- there are not more theorems than items
+pub theorems_few : (all : List Told) → count_by is_proved all + count_by is_incomplete all + count_by is_wrong all ≤ length all
+theorems_few [] = omega arith
+theorems_few (one ∷ all) =
+    let less = theorems_few all in
+    let here = one_told one in
+    omega (arith, less, here, count_cons is_proved one all, count_cons is_incomplete one all, count_cons is_wrong one all)
 
 -- ---- the summary
 
@@ -105,26 +135,38 @@ named_count name number = name ++ decimal number
 -- the summary as it is written, part by part
 pub summary_parts : (tally : Tally) → summary (counted tally)
     ≡ named_count (codes "axioms ") tally.axioms
-    ++ (named_count (codes " theorems ") (tally.proved + tally.wrong)
+    ++ (named_count (codes " theorems ") (tally.proved + tally.incomplete + tally.wrong)
     ++ (named_count (codes " proved ") tally.proved
-    ++ (named_count (codes " incomplete 0 wrong ") tally.wrong
-    ++ (named_count (codes " faults ") tally.faults ++ codes "\n"))))
+    ++ (named_count (codes " incomplete ") tally.incomplete
+    ++ (named_count (codes " wrong ") tally.wrong
+    ++ (named_count (codes " faults ") tally.faults ++ codes "\n")))))
 summary_parts tally = simp append_assoc
 
--- ---- the line of a fault
+-- ---- lines, part by part
 
--- a line and a column, as they are written
-abbrev pub placed : ℕ → ℕ → List ℕ
-placed row column = decimal row ++ codes ":" ++ decimal column ++ codes " "
+-- a place as it is written
+pub place_parts : (file : List ℕ) (place : Place) → place_in file place ≡ (file ++ codes ":") ++ (decimal place.line ++ (codes ":" ++ decimal place.column))
+place_parts file place = simp append_assoc
 
--- a place as it is written, part by part
-pub place_parts : (row column : ℕ) → placed row column ≡ decimal row ++ (codes ":" ++ (decimal column ++ codes " "))
-place_parts row column = simp append_assoc
+-- the line of a fault
+pub fault_parts : (file : List ℕ) (number : FrameNumber) (place : Place) (word : List ℕ)
+    → fault_line file number (record { place = place; word = word }) ≡ codes "fault " ++ (place_in file place ++ ((codes " " ++ code_of number) ++ ((codes " " ++ word) ++ codes "\n")))
+fault_parts file number place word = simp append_assoc
 
--- the line of a fault as it is written, part by part
-pub fault_parts : (file : List ℕ) (number : FrameNumber) (row column : ℕ) (word : List ℕ)
-    → fault_line file number (record { line = row; column = column; word = word }) ≡ codes "fault " ++ ((file ++ codes ":") ++ (placed row column ++ ((code_of number ++ codes " ") ++ (word ++ codes "\n"))))
-fault_parts file number row column word = simp append_assoc
+five : (a b c d e : List ℕ) → a ++ b ++ c ++ d ++ e ≡ (a ++ b) ++ (c ++ (d ++ e))
+five a b c d e = simp append_assoc
+
+seven : (a b c d e f g : List ℕ) → a ++ b ++ c ++ d ++ e ++ f ++ g ≡ (a ++ b) ++ (c ++ (d ++ ((e ++ f) ++ g)))
+seven a b c d e f g = simp append_assoc
+
+-- that of an incomplete proof
+pub incomplete_parts : (file label : List ℕ) (place : Place) → incomplete_line file label place ≡ (codes "incomplete " ++ label) ++ (codes " " ++ (place_in file place ++ codes "\n"))
+incomplete_parts file label place = five (codes "incomplete ") label (codes " ") (place_in file place) (codes "\n")
+
+-- that of a wrong one
+pub wrong_parts : (file label : List ℕ) (number : ProofNumber) (place : Place)
+    → wrong_line file label number place ≡ (codes "wrong " ++ label) ++ (codes " " ++ (place_in file place ++ ((codes " " ++ proof_code number) ++ codes "\n")))
+wrong_parts file label number place = seven (codes "wrong ") label (codes " ") (place_in file place) (codes " ") (proof_code number) (codes "\n")
 
 -- ---- what is written of the lines and the report
 

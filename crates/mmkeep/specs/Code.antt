@@ -1,2 +1,3 @@
 -- What the code keeps: private contracts and loop invariants cite it.
 pub mod Findings
+pub mod OfFiles

@@ -18,9 +18,6 @@ pub enum FirstError {
     /// its end, or want of memory. The top file is there, and a fault of the text is told with its place.
     #[error("{0}")]
     Store(StoreError),
-    /// What begins at this place is not read yet.
-    #[error("not read yet")]
-    Later(Place),
     /// The writing has failed.
     #[error("a write failed")]
     Write,

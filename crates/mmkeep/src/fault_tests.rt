@@ -9,13 +9,13 @@ use std::test::Fail;
 const START: &[u8] = b"$c wff |- ( ) -> $.\n$v p q r $.\nwp $f wff p $.\nwq $f wff q $.\n";
 
 /// What stands behind these lines, and what is told before the counts.
-type Row = (&'static str, &'static str);
+pub type Row = (&'static str, &'static str);
 
 /// Checks that these lines, and the counts behind them, are told of a text.
-fn tells_one(rt: &(impl AllocGlobal + Abort), row: &Row) -> Result<(), Fail> {
+fn tells_one(rt: &(impl AllocGlobal + Abort), start: &[u8], row: &Row) -> Result<(), Fail> {
     let (behind, lines) = *row;
     let lines = lines.as_bytes();
-    let mut text = Vec::from_slice(rt.alloc(), START)?;
+    let mut text = Vec::from_slice(rt.alloc(), start)?;
     text.extend_from_slice(behind.as_bytes())?;
     let mut writing = Writing::new(Vec::new(rt.alloc()));
     let answer = verify_one(rt.alloc(), b"a.mm", text, &mut writing);
@@ -30,12 +30,21 @@ fn tells_one(rt: &(impl AllocGlobal + Abort), row: &Row) -> Result<(), Fail> {
     Ok(())
 }
 
-/// Checks so of each row.
-fn tells(rt: &(impl AllocGlobal + Abort), rows: &[Row]) -> Result<(), Fail> {
+/// Checks so of each row, behind these lines.
+pub fn tells_behind(
+    rt: &(impl AllocGlobal + Abort),
+    start: &[u8],
+    rows: &[Row],
+) -> Result<(), Fail> {
     for row in rows {
-        tells_one(rt, row)?;
+        tells_one(rt, start, row)?;
     }
     Ok(())
+}
+
+/// Checks so behind the four lines.
+fn tells(rt: &(impl AllocGlobal + Abort), rows: &[Row]) -> Result<(), Fail> {
+    tells_behind(rt, START, rows)
 }
 
 /// F01: the word behind the last symbol, or the third symbol of a `$f`.
@@ -194,7 +203,7 @@ fn finds_taken_labels(rt: HostRuntime) -> Result<(), Fail> {
         // a wrong proof leaves its theorem sound
         (
             "t $p |- p $= $. t $a |- p $.",
-            "wrong t\nfault a.mm:5:17 F06 t\n",
+            "wrong t a.mm:5:14 P14\nfault a.mm:5:17 F06 t\n",
         ),
     ];
     tells(&rt, &rows)
@@ -403,11 +412,11 @@ fn tells_faults_in_order(rt: HostRuntime) -> Result<(), Fail> {
         // a proof with the label of a statement at fault
         (
             "a $a |- r $. t $p |- p $= wp a $. b $a |- r $.",
-            "fault a.mm:5:9 F11 r\nwrong t\nfault a.mm:5:43 F11 r\n",
+            "fault a.mm:5:9 F11 r\nwrong t a.mm:5:30 P01\nfault a.mm:5:43 F11 r\n",
         ),
         (
             "wff $a wff $. $c wff2 p $. t $p wff p $= wq $. ${ $c k $. $}",
-            "fault a.mm:5:1 F07 wff\nfault a.mm:5:23 F04 p\nwrong t\nfault a.mm:5:51 F02 $c\n",
+            "fault a.mm:5:1 F07 wff\nfault a.mm:5:23 F04 p\nwrong t a.mm:5:45 P15\nfault a.mm:5:51 F02 $c\n",
         ),
         // comments count as white space
         (

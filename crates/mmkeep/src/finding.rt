@@ -1,6 +1,7 @@
 //! What is found of an item.
 
 use mm_frame::{FrameNumber, Place};
+use mm_proof::ProofNumber;
 
 /// What is found of an item.
 #[derive(Clone, Copy, Debug)]
@@ -9,10 +10,13 @@ pub enum Finding<'a> {
     Quiet,
     /// A sound `$a`.
     Axiom,
-    /// A sound `$p` whose labels derive its statement.
+    /// A sound `$p` whose proof proves it.
     Proved,
-    /// A sound `$p` whose labels do not.
-    Wrong,
+    /// A sound `$p` whose proof has a step that is not known, the first one at this place in its file, and no fault
+    /// before it.
+    Incomplete(Place),
+    /// A sound `$p` whose proof has this fault, at this place in its file.
+    Wrong(ProofNumber, Place),
     /// A fault of the item, at a word with this place in its file.
     Fault {
         number: FrameNumber,

@@ -12,9 +12,9 @@ ghost use Rattle.mmkeep.specs.Language.Verified.{IsReport};
 pub fn one_answer()
     ensures report { (name text : List ℕ) (clean other : Bool) (a b : List ℕ)
         → IsReport name text clean a → IsReport name text other b → (clean ≡ other) × (a ≡ b) }
-    ensures error { (name text : List ℕ) (a b : FirstError) → IsToldOfText name text a → IsToldOfText name text b → a ≡ b }
+    ensures error { (text : List ℕ) (a b : FirstError) → IsToldOfText text a → IsToldOfText text b → a ≡ b }
     ensures not_both { (name text : List ℕ) (clean : Bool) (bytes : List ℕ) (error : FirstError)
-        → IsReport name text clean bytes → ¬ IsToldOfText name text error }
+        → IsReport name text clean bytes → ¬ IsToldOfText text error }
 {
     mm_text::one_meaning();
     mm_text::one_cut();
@@ -22,4 +22,5 @@ pub fn one_answer()
     mm_store::keys_are_own();
     mm_store::keys_do_not_matter();
     mm_frame::files_have_one_base();
+    mm_proof::has_one_verdict_at();
 }

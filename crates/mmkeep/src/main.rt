@@ -9,8 +9,8 @@ mod judgement;
 mod laws;
 mod outcome;
 mod program;
-mod reading;
 mod report;
+mod spot;
 mod stream;
 mod tally;
 mod verify;
@@ -26,6 +26,8 @@ pub use verify::verify_one;
 
 #[cfg(test)]
 mod fault_tests;
+#[cfg(test)]
+mod proof_tests;
 #[cfg(test)]
 mod tests;
 

@@ -88,10 +88,6 @@ fn told(rt: &impl Eprint, file: &str, error: FirstError) -> Outcome
             let _ = eprintln!(rt; "mmkeep: {file}:{line}:{column} {number:?}");
             Outcome::Input
         }
-        FirstError::Later(Place { line, column }) => {
-            let _ = eprintln!(rt; "mmkeep: {file}:{line}:{column} not yet");
-            Outcome::Input
-        }
         FirstError::Store(answer) => told_of_files(rt, answer),
         FirstError::Write => fail_to_write(rt),
     }

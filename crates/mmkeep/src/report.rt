@@ -4,7 +4,7 @@ ghost use Rattle.std.specs.Prelude.{◌≡◌, ◌+◌, ◌<◌, ◌++◌, ◌^�
 ghost use Rattle.mm_frame.specs.Language.Base.{BaseView, said_at};
 ghost use Rattle.mm_frame.specs.Code.KeptBase.{IsBase};
 ghost use Rattle.mmkeep.specs.Code.Findings.{AreOfEach, counted, told, told_all};
-ghost use Rattle.mmkeep.specs.Language.Report.{code_of, fault_line, item_line, lines, summary, report};
+ghost use Rattle.mmkeep.specs.Language.Report.{code_of, proof_code, place_in, fault_line, incomplete_line, wrong_line, item_line, lines, summary, report};
 ghost use Rattle.mmkeep.specs.Language.Stream.{Writes};
 
 use crate::finding::Finding;
@@ -12,6 +12,7 @@ use crate::stream::{WriteFailed, Writing};
 use crate::tally::Tally;
 use itoa::Buffer;
 use mm_frame::{Base, FrameNumber, Place};
+use mm_proof::ProofNumber;
 use std::io::Write;
 
 /// Writes a number in decimal.
@@ -34,16 +35,7 @@ fn write_count<W: Write>(
     write_number(number, to)
 }
 
-/// Writes the line of a theorem whose proof is wrong.
-fn write_wrong<W: Write>(label: &[u8], to: &mut Writing<W>) -> Result<(), WriteFailed>
-    ensures { Writes W.contents to.old to.new result (codes "wrong " ++ label.now ++ codes "\n") }
-{
-    to.write_all(b"wrong ")?;
-    to.write_all(label)?;
-    to.write_all(b"\n")
-}
-
-/// The number of a fault as it is written.
+/// The number of a fault of a statement as it is written.
 fn code_of_number(number: FrameNumber) -> &'static [u8]
     ensures { result.now ≡ code_of number }
 {
@@ -65,7 +57,30 @@ fn code_of_number(number: FrameNumber) -> &'static [u8]
     }
 }
 
-/// Writes a word and a byte behind it.
+/// The number of a fault of a proof as it is written.
+fn code_of_proof(number: ProofNumber) -> &'static [u8]
+    ensures { result.now ≡ proof_code number }
+{
+    match number {
+        ProofNumber::P01 => b"P01",
+        ProofNumber::P02 => b"P02",
+        ProofNumber::P03 => b"P03",
+        ProofNumber::P04 => b"P04",
+        ProofNumber::P05 => b"P05",
+        ProofNumber::P06 => b"P06",
+        ProofNumber::P07 => b"P07",
+        ProofNumber::P08 => b"P08",
+        ProofNumber::P09 => b"P09",
+        ProofNumber::P10 => b"P10",
+        ProofNumber::P11 => b"P11",
+        ProofNumber::P12 => b"P12",
+        ProofNumber::P13 => b"P13",
+        ProofNumber::P14 => b"P14",
+        ProofNumber::P15 => b"P15",
+    }
+}
+
+/// Writes a word and what stands behind it.
 fn write_part<W: Write>(word: &[u8], behind: &[u8], to: &mut Writing<W>) -> Result<(), WriteFailed>
     ensures { Writes W.contents to.old to.new result (word.now ++ behind.now) }
 {
@@ -73,17 +88,16 @@ fn write_part<W: Write>(word: &[u8], behind: &[u8], to: &mut Writing<W>) -> Resu
     to.write_all(behind)
 }
 
-/// Writes a line and a column, with what stands behind each.
-fn write_place<W: Write>(place: Place, to: &mut Writing<W>) -> Result<(), WriteFailed>
-    ensures { Writes W.contents to.old to.new result (decimal place.line ++ codes ":" ++ decimal place.column ++ codes " ") }
+/// Writes a place: the file, the line and the column.
+fn write_place<W: Write>(file: &[u8], place: Place, to: &mut Writing<W>) -> Result<(), WriteFailed>
+    ensures { Writes W.contents to.old to.new result (place_in file.now place) }
 {
+    write_part(file, b":", to)?;
     write_number(place.line, to)?;
-    to.write_all(b":")?;
-    write_number(place.column, to)?;
-    to.write_all(b" ")
+    write_count(b":", place.column, to)
 }
 
-/// Writes the line of a fault.
+/// Writes the line of a fault of a statement.
 fn write_fault<W: Write>(
     file: &[u8],
     number: FrameNumber,
@@ -91,24 +105,61 @@ fn write_fault<W: Write>(
     word: &[u8],
     to: &mut Writing<W>,
 ) -> Result<(), WriteFailed>
-    ensures { Writes W.contents to.old to.new result (fault_line file.now number (record { line = place.line; column = place.column; word = word.now })) }
+    ensures { Writes W.contents to.old to.new result (fault_line file.now number (record { place = place; word = word.now })) }
 {
     to.write_all(b"fault ")?;
-    write_part(file, b":", to)?;
-    write_place(place, to)?;
-    write_part(code_of_number(number), b" ", to)?;
-    write_part(word, b"\n", to)
+    write_place(file, place, to)?;
+    write_part(b" ", code_of_number(number), to)?;
+    write_part(b" ", word, to)?;
+    to.write_all(b"\n")
+}
+
+/// Writes the line of a theorem whose proof is incomplete.
+fn write_incomplete<W: Write>(
+    file: &[u8],
+    label: &[u8],
+    place: Place,
+    to: &mut Writing<W>,
+) -> Result<(), WriteFailed>
+    ensures { Writes W.contents to.old to.new result (incomplete_line file.now label.now place) }
+{
+    write_part(b"incomplete ", label, to)?;
+    to.write_all(b" ")?;
+    write_place(file, place, to)?;
+    to.write_all(b"\n")
+}
+
+/// Writes the line of a theorem whose proof is wrong.
+fn write_wrong<W: Write>(
+    file: &[u8],
+    label: &[u8],
+    number: ProofNumber,
+    place: Place,
+    to: &mut Writing<W>,
+) -> Result<(), WriteFailed>
+    ensures { Writes W.contents to.old to.new result (wrong_line file.now label.now number place) }
+{
+    write_part(b"wrong ", label, to)?;
+    to.write_all(b" ")?;
+    write_place(file, place, to)?;
+    write_part(b" ", code_of_proof(number), to)?;
+    to.write_all(b"\n")
 }
 
 /// Writes the last line.
 fn write_summary<W: Write>(tally: &Tally, to: &mut Writing<W>) -> Result<(), WriteFailed>
-    requires { tally.now.proved + tally.now.wrong < 2 ^ 64 }
+    requires { tally.now.proved + tally.now.incomplete + tally.now.wrong < 2 ^ 64 }
     ensures { Writes W.contents to.old to.new result (summary (counted tally.now)) }
 {
     write_count(b"axioms ", tally.axioms, to)?;
-    write_count(b" theorems ", tally.proved + tally.wrong, to)?;
+    write_count(
+        b" theorems ",
+        tally.proved + tally.incomplete + tally.wrong,
+        to,
+    )?;
     write_count(b" proved ", tally.proved, to)?;
-    write_count(b" incomplete 0 wrong ", tally.wrong, to)?;
+    write_count(b" incomplete ", tally.incomplete, to)?;
+    write_count(b" wrong ", tally.wrong, to)?;
     write_count(b" faults ", tally.faults, to)?;
     to.write_all(b"\n")
 }
@@ -123,8 +174,10 @@ fn write_line<W: Write>(
 ) -> Result<(), WriteFailed>
     ensures { (view : BaseView) → IsBase view base.now → Writes W.contents to.old to.new result (item_line file.now (said_at view number) (told finding.now)) }
 {
+    let label = base.label(number).unwrap_or(&[]);
     match *finding {
-        Finding::Wrong => write_wrong(base.label(number).unwrap_or(&[]), to),
+        Finding::Incomplete(place) => write_incomplete(file, label, place, to),
+        Finding::Wrong(number, place) => write_wrong(file, label, number, place, to),
         Finding::Fault {
             number,
             place,

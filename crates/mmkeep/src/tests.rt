@@ -140,7 +140,7 @@ fn reports_faults(rt: HostRuntime) -> Result<(), Fail> {
         (
             b"k.mm",
             b"$c wff |- $.\n$v k $.\nwk $f wff k $.\nax $a |- k $.\nth $p |- k $= ax $.\n",
-            b"wrong th\naxioms 1 theorems 1 proved 0 incomplete 0 wrong 1 faults 0\n",
+            b"wrong th k.mm:5:15 P07\naxioms 1 theorems 1 proved 0 incomplete 0 wrong 1 faults 0\n",
         ),
     ];
     for (name, text, report) in rows {
@@ -161,13 +161,13 @@ fn reports_blocks(rt: HostRuntime) -> Result<(), Fail> {
         &rt,
         &with_line(&rt, &text)?,
         false,
-        b"wrong th\naxioms 2 theorems 1 proved 0 incomplete 0 wrong 1 faults 0\n",
+        b"wrong th a.mm:7:67 P09\naxioms 2 theorems 1 proved 0 incomplete 0 wrong 1 faults 0\n",
     )?;
     reports(
         &rt,
         &with_line(&rt, DETACHED)?,
         false,
-        b"wrong th\naxioms 1 theorems 1 proved 0 incomplete 0 wrong 1 faults 0\n",
+        b"wrong th a.mm:6:67 P01\naxioms 1 theorems 1 proved 0 incomplete 0 wrong 1 faults 0\n",
     )?;
     // No word of the block is declared yet.
     let text = joined(&rt, RULE, FIVE)?;
@@ -175,7 +175,8 @@ fn reports_blocks(rt: HostRuntime) -> Result<(), Fail> {
         &rt,
         &joined(&rt, &text, DETACHED)?,
         false,
-        b"fault a.mm:1:10 F08 |-\nfault a.mm:1:24 F08 |-\nfault a.mm:1:47 F08 |-\nwrong th\naxioms 1 theorems 1 proved 0 incomplete 0 wrong 1 faults 3\n",
+        b"fault a.mm:1:10 F08 |-\nfault a.mm:1:24 F08 |-\nfault a.mm:1:47 F08 |-\nwrong th a.mm:7:67 P01\n\
+            axioms 1 theorems 1 proved 0 incomplete 0 wrong 1 faults 3\n",
     )
 }
 
@@ -237,53 +238,52 @@ fn reports_statements(rt: HostRuntime) -> Result<(), Fail> {
     Ok(())
 }
 
-/// Checks that the one theorem `t` of some lines is proved, or else wrong, and that nothing is at fault. They have this
-/// many axioms.
+/// Checks that the one theorem `t` of some lines is proved, or else wrong with this line, column and number, and that
+/// nothing is at fault. They have this many axioms.
 fn judges(
     rt: &(impl AllocGlobal + Abort),
     lines: &[u8],
     behind: &[u8],
     axioms: &[u8],
-    proved: bool,
+    wrong: &str,
 ) -> Result<(), Fail> {
-    let before: &[u8] = if proved {
-        b"axioms "
-    } else {
-        b"wrong t\naxioms "
-    };
+    let proved = wrong.is_empty();
+    let before: &[u8] = if proved { b"" } else { b"wrong t a.mm:" };
+    let between: &[u8] = if proved { b"axioms " } else { b"\naxioms " };
     let counts: &[u8] = if proved {
         b" theorems 1 proved 1 incomplete 0 wrong 0 faults 0\n"
     } else {
         b" theorems 1 proved 0 incomplete 0 wrong 1 faults 0\n"
     };
-    let report = joined(rt, &joined(rt, before, axioms)?, counts)?;
+    let line = joined(rt, &joined(rt, before, wrong.as_bytes())?, between)?;
+    let report = joined(rt, &joined(rt, &line, axioms)?, counts)?;
     reports(rt, &joined(rt, lines, behind)?, proved, &report)
 }
 
 #[test]
 fn reports_theorems(rt: HostRuntime) -> Result<(), Fail> {
-    let rows: [(&[u8], bool); 15] = [
-        (b"t $p wff ( p -> ( p -> q ) ) $= wp wp wq wi wi $.\n", true),
-        (b"t $p wff ( q -> p ) $= wq wp wi $.\n", true),
-        (b"t $p wff p $= wp $.\n", true),
+    let rows: [(&[u8], &str); 15] = [
+        (b"t $p wff ( p -> ( p -> q ) ) $= wp wp wq wi wi $.\n", ""),
+        (b"t $p wff ( q -> p ) $= wq wp wi $.\n", ""),
+        (b"t $p wff p $= wp $.\n", ""),
         // Two entries at the end, of which the last is the statement.
-        (b"t $p wff p $= wq wp $.\n", false),
-        (b"t $p wff p $= wp wp wi $.\n", false),
-        (b"t $p wff p $= wi $.\n", false),
-        (b"t $p wff p $= $.\n", false),
-        (b"t $p wff p $= wq $.\n", false),
+        (b"t $p wff p $= wq wp $.\n", "6:21 P14"),
+        (b"t $p wff p $= wp wp wi $.\n", "6:24 P15"),
+        (b"t $p wff p $= wi $.\n", "6:15 P07"),
+        (b"t $p wff p $= $.\n", "6:15 P14"),
+        (b"t $p wff p $= wq $.\n", "6:18 P15"),
         // The proof's own label, and none.
-        (b"t $p wff p $= t $.\n", false),
-        (b"t $p wff p $= wr $.\n", false),
-        (b"t $p |- p $= wp $.\n", false),
-        (b"t $p wff ( p -> q ) $= wq wp wi $.\n", false),
+        (b"t $p wff p $= t $.\n", "6:15 P01"),
+        (b"t $p wff p $= wr $.\n", "6:15 P01"),
+        (b"t $p |- p $= wp $.\n", "6:17 P15"),
+        (b"t $p wff ( p -> q ) $= wq wp wi $.\n", "6:33 P15"),
         // Normal proofs with words that are no labels.
-        (b"t $p wff p $= (wi ) A $.\n", false),
-        (b"t $p wff p $= wp ( ) A $.\n", false),
-        (b"t $p wff p $= ) ?? $.\n", false),
+        (b"t $p wff p $= (wi ) A $.\n", "6:15 P01"),
+        (b"t $p wff p $= wp ( ) A $.\n", "6:18 P01"),
+        (b"t $p wff p $= ) ?? $.\n", "6:15 P01"),
     ];
-    for (line, proved) in rows {
-        judges(&rt, FIVE, line, b"1", proved)?;
+    for (line, wrong) in rows {
+        judges(&rt, FIVE, line, b"1", wrong)?;
     }
     Ok(())
 }
@@ -299,49 +299,49 @@ fn reports_in_order(rt: HostRuntime) -> Result<(), Fail> {
         &rt,
         &text,
         false,
-        b"wrong t1\nwrong t4\naxioms 1 theorems 4 proved 2 incomplete 0 wrong 2 faults 0\n",
+        b"wrong t1 a.mm:6:19 P01\nwrong t4 a.mm:9:19 P15\naxioms 1 theorems 4 proved 2 incomplete 0 wrong 2 faults 0\n",
     )
 }
 
 /// Which hypotheses and assertions a proof may name, and in which order an assertion takes them.
 #[test]
 fn runs_proofs_by_scopes(rt: HostRuntime) -> Result<(), Fail> {
-    let rows: [(&[u8], bool); 19] = [
-        (b"${ h $e |- p $. t $p |- p $= h $. $}\n", true),
-        (b"${ h $e |- p $. ${ t $p |- p $= h $. $} $}\n", true),
-        (b"h $e |- p $. ${ $} t $p |- p $= h $.\n", true),
+    let rows: [(&[u8], &str); 19] = [
+        (b"${ h $e |- p $. t $p |- p $= h $. $}\n", ""),
+        (b"${ h $e |- p $. ${ t $p |- p $= h $. $} $}\n", ""),
+        (b"h $e |- p $. ${ $} t $p |- p $= h $.\n", ""),
         // The block of the `$e` has ended, or it comes later.
-        (b"${ h $e |- p $. $} t $p |- p $= h $.\n", false),
-        (b"${ t $p |- p $= h $. h $e |- p $. $}\n", false),
-        (b"${ $v x $. vx $f wff x $. t $p wff x $= vx $. $}\n", true),
+        (b"${ h $e |- p $. $} t $p |- p $= h $.\n", "6:33 P02"),
+        (b"${ t $p |- p $= h $. h $e |- p $. $}\n", "6:17 P01"),
+        (b"${ $v x $. vx $f wff x $. t $p wff x $= vx $. $}\n", ""),
         // A variable of the same name has another `$f` now.
         (
             b"${ $v x $. vx $f wff x $. $} $v x $. wx $f wff x $. t $p wff x $= wx $.\n",
-            true,
+            "",
         ),
         (
             b"${ $v x $. vx $f wff x $. $} $v x $. wx $f wff x $. t $p wff x $= vx $.\n",
-            false,
+            "6:67 P02",
         ),
         // The proof's own label.
-        (b"t $p |- p $= wp t $.\n", false),
-        (b"${ h $e |- p $. t $p |- p $= wp h t $. $}\n", false),
+        (b"t $p |- p $= wp t $.\n", "6:17 P01"),
+        (b"${ h $e |- p $. t $p |- p $= wp h t $. $}\n", "6:35 P01"),
         // No entry, another one, and two.
-        (b"${ h $e |- p $. t $p |- p $= $. $}\n", false),
-        (b"${ h $e |- p $. t $p |- q $= h $. $}\n", false),
-        (b"${ h $e wff p $. t $p |- p $= h $. $}\n", false),
-        (b"${ h $e |- p $. t $p |- p $= wp h $. $}\n", false),
+        (b"${ h $e |- p $. t $p |- p $= $. $}\n", "6:30 P14"),
+        (b"${ h $e |- p $. t $p |- q $= h $. $}\n", "6:32 P15"),
+        (b"${ h $e wff p $. t $p |- p $= h $. $}\n", "6:33 P15"),
+        (b"${ h $e |- p $. t $p |- p $= wp h $. $}\n", "6:35 P14"),
         (
             b"${ h $e |- p $. k $e |- q $. t $p |- p $= k h $. $}\n",
-            false,
+            "6:47 P14",
         ),
-        (b"${ h $e |- p $. k $e |- q $. t $p |- p $= h $. $}\n", true),
-        (b"${ h $e |- $. t $p |- $= h $. $}\n", true),
-        (b"${ h $e |- ( ) $. t $p |- ( ) $= h $. $}\n", true),
-        (b"${ h $e |- ( ) $. t $p |- ( $= h $. $}\n", false),
+        (b"${ h $e |- p $. k $e |- q $. t $p |- p $= h $. $}\n", ""),
+        (b"${ h $e |- $. t $p |- $= h $. $}\n", ""),
+        (b"${ h $e |- ( ) $. t $p |- ( ) $= h $. $}\n", ""),
+        (b"${ h $e |- ( ) $. t $p |- ( $= h $. $}\n", "6:34 P15"),
     ];
-    for (line, clean) in rows {
-        judges(&rt, FIVE, line, b"1", clean)?;
+    for (line, wrong) in rows {
+        judges(&rt, FIVE, line, b"1", wrong)?;
     }
     Ok(())
 }
@@ -351,27 +351,36 @@ fn runs_proofs_by_scopes(rt: HostRuntime) -> Result<(), Fail> {
 fn takes_hypotheses_in_order(rt: HostRuntime) -> Result<(), Fail> {
     let between = b"${ e1 $e |- p $. $v r $. wr $f wff r $. a3 $a |- r $. $}\n";
     let text = with_line(&rt, between)?;
-    let rows: [(&[u8], bool); 6] = [
-        (b"${ h $e |- p $. t $p |- q $= wp h wq a3 $. $}\n", true),
-        (b"${ h $e |- q $. t $p |- p $= wq h wp a3 $. $}\n", true),
-        (b"${ h $e |- p $. t $p |- q $= wp wq h a3 $. $}\n", false),
-        (b"${ h $e |- p $. t $p |- q $= h wp wq a3 $. $}\n", false),
-        (b"${ h $e |- p $. t $p |- q $= wq h wq a3 $. $}\n", false),
-        (b"${ h $e |- p $. t $p |- q $= h wq a3 $. $}\n", false),
+    let rows: [(&[u8], &str); 6] = [
+        (b"${ h $e |- p $. t $p |- q $= wp h wq a3 $. $}\n", ""),
+        (b"${ h $e |- q $. t $p |- p $= wq h wp a3 $. $}\n", ""),
+        (
+            b"${ h $e |- p $. t $p |- q $= wp wq h a3 $. $}\n",
+            "7:38 P08",
+        ),
+        (
+            b"${ h $e |- p $. t $p |- q $= h wp wq a3 $. $}\n",
+            "7:38 P08",
+        ),
+        (
+            b"${ h $e |- p $. t $p |- q $= wq h wq a3 $. $}\n",
+            "7:38 P09",
+        ),
+        (b"${ h $e |- p $. t $p |- q $= h wq a3 $. $}\n", "7:35 P07"),
     ];
-    for (line, clean) in rows {
-        judges(&rt, &text, line, b"2", clean)?;
+    for (line, wrong) in rows {
+        judges(&rt, &text, line, b"2", wrong)?;
     }
     // Those of the outermost block are hypotheses of all that comes behind them.
     let text = with_line(&rt, b"e $e |- p $. a $a |- q $.\n")?;
-    let rows: [(&[u8], bool); 4] = [
-        (b"t $p |- q $= wp wq e a $.\n", true),
-        (b"t $p |- p $= wp wp e a $.\n", true),
-        (b"t $p |- q $= wq e a $.\n", false),
-        (b"t $p |- q $= wq wq e a $.\n", false),
+    let rows: [(&[u8], &str); 4] = [
+        (b"t $p |- q $= wp wq e a $.\n", ""),
+        (b"t $p |- p $= wp wp e a $.\n", ""),
+        (b"t $p |- q $= wq e a $.\n", "7:19 P07"),
+        (b"t $p |- q $= wq wq e a $.\n", "7:22 P09"),
     ];
-    for (line, clean) in rows {
-        judges(&rt, &text, line, b"2", clean)?;
+    for (line, wrong) in rows {
+        judges(&rt, &text, line, b"2", wrong)?;
     }
     Ok(())
 }
@@ -379,51 +388,48 @@ fn takes_hypotheses_in_order(rt: HostRuntime) -> Result<(), Fail> {
 /// What is given for two variables that are kept apart.
 #[test]
 fn keeps_variables_apart(rt: HostRuntime) -> Result<(), Fail> {
-    let rows: [(&[u8], bool); 15] = [
+    let rows: [(&[u8], &str); 15] = [
         // z is not mandatory in the theorem, and its proof needs the pair.
-        (b"${ $d x z $. t $p |- x $= wx wz wx wz a1 b2 $. $}\n", true),
-        (b"${ $d z x $. t $p |- x $= wx wz wx wz a1 b2 $. $}\n", true),
-        (b"${ t $p |- x $= wx wz wx wz a1 b2 $. $}\n", false),
-        (b"${ $d x z $. t $p |- z $= wz wx wz wx a1 b2 $. $}\n", true),
-        (b"${ $d z x $. t $p |- z $= wz wx wz wx a1 b2 $. $}\n", true),
-        (
-            b"${ $d z y x $. t $p |- x $= wx wz wx wz a1 b2 $. $}\n",
-            true,
-        ),
+        (b"${ $d x z $. t $p |- x $= wx wz wx wz a1 b2 $. $}\n", ""),
+        (b"${ $d z x $. t $p |- x $= wx wz wx wz a1 b2 $. $}\n", ""),
+        (b"${ t $p |- x $= wx wz wx wz a1 b2 $. $}\n", "8:29 P11"),
+        (b"${ $d x z $. t $p |- z $= wz wx wz wx a1 b2 $. $}\n", ""),
+        (b"${ $d z x $. t $p |- z $= wz wx wz wx a1 b2 $. $}\n", ""),
+        (b"${ $d z y x $. t $p |- x $= wx wz wx wz a1 b2 $. $}\n", ""),
         // Another pair, and two that x and z do not share.
         (
             b"${ $d x y $. t $p |- x $= wx wz wx wz a1 b2 $. $}\n",
-            false,
+            "8:39 P11",
         ),
         (
             b"${ $d x y $. $d y z $. t $p |- x $= wx wz wx wz a1 b2 $. $}\n",
-            false,
+            "8:49 P11",
         ),
         // A shared variable.
         (
             b"${ $d x z $. t $p |- x $= wx wx wx wx a1 b2 $. $}\n",
-            false,
+            "8:39 P10",
         ),
-        (b"$d x z $. ${ t $p |- x $= wx wz wx wz a1 b2 $. $}\n", true),
+        (b"$d x z $. ${ t $p |- x $= wx wz wx wz a1 b2 $. $}\n", ""),
         (
             b"$d x z $. ${ $d x z $. $} t $p |- x $= wx wz wx wz a1 b2 $.\n",
-            true,
+            "",
         ),
         // The block of the `$d` has ended, or it comes later.
         (
             b"${ $d x z $. $} t $p |- x $= wx wz wx wz a1 b2 $.\n",
-            false,
+            "8:42 P11",
         ),
         (
             b"${ t $p |- x $= wx wz wx wz a1 b2 $. $d x z $. $}\n",
-            false,
+            "8:29 P11",
         ),
         // The pair of the axiom is none of the theorem.
-        (b"t $p |- x $= wx wy wx wy a1 b2 $.\n", false),
-        (b"$d y x $. t $p |- x $= wx wy wx wy a1 b2 $.\n", true),
+        (b"t $p |- x $= wx wy wx wy a1 b2 $.\n", "8:26 P11"),
+        (b"$d y x $. t $p |- x $= wx wy wx wy a1 b2 $.\n", ""),
     ];
-    for (line, clean) in rows {
-        judges(&rt, APART, line, b"2", clean)?;
+    for (line, wrong) in rows {
+        judges(&rt, APART, line, b"2", wrong)?;
     }
     Ok(())
 }
@@ -432,45 +438,45 @@ fn keeps_variables_apart(rt: HostRuntime) -> Result<(), Fail> {
 #[test]
 fn keeps_lists_apart(rt: HostRuntime) -> Result<(), Fail> {
     let text = joined(&rt, APART, b"e $a wff $. j $a wff x y $.\n")?;
-    let rows: [(&[u8], bool); 11] = [
+    let rows: [(&[u8], &str); 11] = [
         // An empty list asks nothing of the other.
-        (b"t $p |- x $= wx e wx e a1 b2 $.\n", true),
-        (b"t $p |- $= e wx e wx a1 b2 $.\n", true),
-        (b"t $p |- $= e e e e a1 b2 $.\n", true),
-        (b"t $p |- x y $= wx wy j e wx wy j e a1 b2 $.\n", true),
+        (b"t $p |- x $= wx e wx e a1 b2 $.\n", ""),
+        (b"t $p |- $= e wx e wx a1 b2 $.\n", ""),
+        (b"t $p |- $= e e e e a1 b2 $.\n", ""),
+        (b"t $p |- x y $= wx wy j e wx wy j e a1 b2 $.\n", ""),
         // Each variable of the one has to be apart from each of the other.
         (
             b"${ $d x z $. t $p |- x y $= wx wy j wz wx wy j wz a1 b2 $. $}\n",
-            false,
+            "9:51 P11",
         ),
         (
             b"${ $d z y $. t $p |- x y $= wx wy j wz wx wy j wz a1 b2 $. $}\n",
-            false,
+            "9:51 P11",
         ),
         (
             b"${ $d x z $. $d z y $. t $p |- x y $= wx wy j wz wx wy j wz a1 b2 $. $}\n",
-            true,
+            "",
         ),
         (
             b"${ $d x y z $. t $p |- x y $= wx wy j wz wx wy j wz a1 b2 $. $}\n",
-            true,
+            "",
         ),
         (
             b"${ $d x z $. $d z y $. t $p |- z $= wz wx wy j wz wx wy j a1 b2 $. $}\n",
-            true,
+            "",
         ),
         // The two of one list may be the same, but none may be in both.
         (
             b"${ $d x z $. t $p |- x x $= wx wx j wz wx wx j wz a1 b2 $. $}\n",
-            true,
+            "",
         ),
         (
             b"${ $d x y z $. t $p |- x y $= wx wy j wy wx wy j wy a1 b2 $. $}\n",
-            false,
+            "9:53 P10",
         ),
     ];
-    for (line, clean) in rows {
-        judges(&rt, &text, line, b"4", clean)?;
+    for (line, wrong) in rows {
+        judges(&rt, &text, line, b"4", wrong)?;
     }
     Ok(())
 }
@@ -489,26 +495,26 @@ fn passes_over_faults(rt: HostRuntime) -> Result<(), Fail> {
             FIVE,
             b"${ e $e |- z $. t $p |- p $= e $. $}\n",
             false,
-            b"fault a.mm:6:12 F10 z\nwrong t\naxioms 1 theorems 1 proved 0 incomplete 0 wrong 1 faults 1\n",
+            b"fault a.mm:6:12 F10 z\nwrong t a.mm:6:30 P01\naxioms 1 theorems 1 proved 0 incomplete 0 wrong 1 faults 1\n",
         ),
         (
             FIVE,
             b"a $a |- z $. t $p |- p $= wp a $. a $a |- p $. u $p |- p $= wp a $.\n",
             false,
-            b"fault a.mm:6:9 F10 z\nwrong t\naxioms 2 theorems 2 proved 1 incomplete 0 wrong 1 faults 1\n",
+            b"fault a.mm:6:9 F10 z\nwrong t a.mm:6:30 P01\naxioms 2 theorems 2 proved 1 incomplete 0 wrong 1 faults 1\n",
         ),
         (
             APART,
             b"${ $d x z z $. t $p |- x $= wx wz wx wz a1 b2 $. $}\n",
             false,
-            b"fault a.mm:8:11 F03 z\nwrong t\naxioms 2 theorems 1 proved 0 incomplete 0 wrong 1 faults 1\n",
+            b"fault a.mm:8:11 F03 z\nwrong t a.mm:8:41 P11\naxioms 2 theorems 1 proved 0 incomplete 0 wrong 1 faults 1\n",
         ),
         // A wrong proof leaves its theorem sound.
         (
             FIVE,
             b"t $p |- p $= wp $. u $p |- q $= wq t $.\n",
             false,
-            b"wrong t\naxioms 1 theorems 2 proved 1 incomplete 0 wrong 1 faults 0\n",
+            b"wrong t a.mm:6:17 P15\naxioms 1 theorems 2 proved 1 incomplete 0 wrong 1 faults 0\n",
         ),
     ];
     for (lines, behind, clean, report) in rows {
@@ -517,37 +523,63 @@ fn passes_over_faults(rt: HostRuntime) -> Result<(), Fail> {
     Ok(())
 }
 
-/// What is not read yet: a `?` in a proof, and a `(` as its first word, whatever else is at fault.
+/// Proofs with unknown steps and compressed ones, and the counts of each.
 #[test]
-fn tells_what_is_not_read(rt: HostRuntime) -> Result<(), Fail> {
-    let rows: [(&[u8], u16); 14] = [
-        (b"t $p wff p $= ( wi ) AB $.\n", 15),
-        (b"t $p wff p $= ( ? ) A $.\n", 15),
-        (b"t $p wff p $= ( $.\n", 15),
-        (b"t $p wff p $= ? $.\n", 15),
-        (b"t $p wff p $= wp ? $.\n", 18),
-        (b"t $p wff p $= wp ( ? $.\n", 20),
-        // Of a theorem at fault.
-        (b"t $p wff r $= ( $.\n", 15),
-        (b"wp $p wff p $= nothing ? $.\n", 24),
-        (b"t $p $= ? $.\n", 9),
-        // The first one in the order of the text.
+fn reports_partial_and_compressed_proofs(rt: HostRuntime) -> Result<(), Fail> {
+    let rows: [(&[u8], bool, &[u8]); 9] = [
         (
-            b"t $p wff p $= wp $. u $p wff p $= wp ? $. v $p wff p $= ( $.\n",
-            38,
+            b"t $p wff p $= wp ? $.\n",
+            false,
+            b"incomplete t a.mm:6:18\naxioms 1 theorems 1 proved 0 incomplete 1 wrong 0 faults 0\n",
         ),
-        (b"$[ b.mm $] ${ $c k $. t $p wff p $= ? $. $}\n", 37),
-        (b"$[ a.mm $] t $p wff p $= ( $.\n", 26),
-        (b"t $p wff p $= wq $. u $p wff p $= ? $.\n", 35),
-        (b"t $p wff p $= $( ( $) $( ? $)\t? $.\n", 31),
+        (
+            b"t $p wff ( p -> p ) $= ( wi ) AAB $.\n",
+            true,
+            b"axioms 1 theorems 1 proved 1 incomplete 0 wrong 0 faults 0\n",
+        ),
+        (
+            b"t $p wff ( ( p -> p ) -> ( p -> p ) ) $= ( wi ) AABZCB $.\n",
+            true,
+            b"axioms 1 theorems 1 proved 1 incomplete 0 wrong 0 faults 0\n",
+        ),
+        (
+            b"t $p wff ( ( p -> p ) -> ( p -> p ) ) $= ( wi ) AAB ZC B $.\n",
+            true,
+            b"axioms 1 theorems 1 proved 1 incomplete 0 wrong 0 faults 0\n",
+        ),
+        // of each kind one
+        (
+            b"t $p wff p $= wp $. u $p wff p $= ? $. a $a wff p $. v $p wff p $= $. w $p wff r $= ? $. x $p wff p $= ( ) ? $.\n",
+            false,
+            b"incomplete u a.mm:6:35\nwrong v a.mm:6:68 P14\nfault a.mm:6:80 F10 r\nincomplete x a.mm:6:108\n\
+                axioms 2 theorems 4 proved 1 incomplete 2 wrong 1 faults 1\n",
+        ),
+        // a theorem that is incomplete or wrong can be named
+        (
+            b"t $p wff p $= ? $. u $p wff p $= $. v $p wff q $= wq t $. w $p wff q $= wq u $.\n",
+            false,
+            b"incomplete t a.mm:6:15\nwrong u a.mm:6:34 P14\naxioms 1 theorems 4 proved 2 incomplete 1 wrong 1 faults 0\n",
+        ),
+        // the proof of a theorem at fault is not looked at
+        (
+            b"t $p wff r $= ( $. wp $p wff p $= nothing ? $.\n",
+            false,
+            b"fault a.mm:6:10 F10 r\nfault a.mm:6:20 F06 wp\naxioms 1 theorems 0 proved 0 incomplete 0 wrong 0 faults 2\n",
+        ),
+        (
+            b"t $p $= ? $.\n",
+            false,
+            b"fault a.mm:6:6 F01 $=\naxioms 1 theorems 0 proved 0 incomplete 0 wrong 0 faults 1\n",
+        ),
+        // comments are no part of a proof
+        (
+            b"t $p wff p $= $( ( $) $( ? $)\t? $.\n",
+            false,
+            b"incomplete t a.mm:6:31\naxioms 1 theorems 1 proved 0 incomplete 1 wrong 0 faults 0\n",
+        ),
     ];
-    for (line, column) in rows {
-        let text = with_line(&rt, line)?;
-        let place = Place {
-            line: 6,
-            column: u64::from(column),
-        };
-        refuses(&rt, &text, FirstError::Later(place))?;
+    for (line, clean, report) in rows {
+        reports(&rt, &with_line(&rt, line)?, clean, report)?;
     }
     Ok(())
 }
@@ -578,7 +610,7 @@ fn tells_faults(rt: HostRuntime) -> Result<(), Fail> {
         (b"$}\n", TextNumber::T09, 0),
         (b"${ $[ b $] $}\n", TextNumber::T10, 3),
         (b"$[ $]\n", TextNumber::T12, 3),
-        // A fault of the text goes before what is not read, wherever it is.
+        // A fault of the text goes before what is at fault in a proof, wherever it is.
         (b"$[ $c $c\n", TextNumber::T12, 3),
         (b"x $p a $= (\n", TextNumber::T07, 0),
         (b"t $p a $= ? $. $}\n", TextNumber::T09, 15),
@@ -622,7 +654,7 @@ fn passes_over_comments(rt: HostRuntime) -> Result<(), Fail> {
         true,
         b"axioms 1 theorems 1 proved 1 incomplete 0 wrong 0 faults 0\n",
     )?;
-    // The first word of the proof is no unread one, since the comment in front of it is none.
+    // The first word of the proof is the one behind the comment.
     let text = with_line(&rt, b"t $p wff p $= $( ( ? $) wp $.\n")?;
     reports(
         &rt,
@@ -665,7 +697,7 @@ impl Write for Slow {
 fn writes_slowly_and_fails(rt: HostRuntime) -> Result<(), Fail> {
     let text = with_line(&rt, b"a $a wff r $. t $p wff p $= wq $.\n")?;
     let report =
-        b"fault a.mm:6:10 F10 r\nwrong t\naxioms 1 theorems 1 proved 0 incomplete 0 wrong 1 faults 1\n";
+        b"fault a.mm:6:10 F10 r\nwrong t a.mm:6:32 P15\naxioms 1 theorems 1 proved 0 incomplete 0 wrong 1 faults 1\n";
     for calls in 0..report.len() + 2 {
         let mut writing = Writing::new(Slow {
             calls,
@@ -715,7 +747,7 @@ impl Write for Broken {
 fn calls_no_more_after_a_failure(rt: HostRuntime) -> Result<(), Fail> {
     let text = with_line(&rt, b"a $a wff r $. t $p wff p $= wq $.\n")?;
     let report =
-        b"fault a.mm:6:10 F10 r\nwrong t\naxioms 1 theorems 1 proved 0 incomplete 0 wrong 1 faults 1\n";
+        b"fault a.mm:6:10 F10 r\nwrong t a.mm:6:32 P15\naxioms 1 theorems 1 proved 0 incomplete 0 wrong 1 faults 1\n";
     let mut whole = 0_usize;
     for at in 1..64 {
         let mut writing = Writing::new(Broken {

@@ -10,7 +10,6 @@ ghost use Rattle.mmkeep.specs.Language.Verified.{IsReport, BeginsReport};
 
 use crate::fault::FirstError;
 use crate::judgement::findings;
-use crate::reading::{first_unread, place_of_word};
 use crate::report::write_report;
 use crate::stream::Writing;
 use crate::tally::is_clean;
@@ -22,7 +21,7 @@ use std::io::Write;
 fn only_file(alloc: Global, name: &[u8], text: Vec<u8>) -> Result<Files, FirstError>
     ensures added { IfOk result (λ files. IsAdded no_files files name.now text.items) }
     ensures within { IfOk result (λ files. bytes_of files.files ≤ 4294967295) }
-    ensures error { IfErr result (IsVerifyError name.now text.items) }
+    ensures error { IfErr result (IsVerifyError text.items) }
     ensures write { result ≢ Err FirstError.Write }
 {
     let mut files = Files::new(alloc);
@@ -35,10 +34,10 @@ fn only_file(alloc: Global, name: &[u8], text: Vec<u8>) -> Result<Files, FirstEr
 
 /// Verifies the text of a file as the top file of this name and the only one, and writes its report.
 ///
-/// Answers whether the report is clean: whether no line of a fault or of a wrong proof stands before its summary.
-/// An error comes in this order: the first fault of the text; too many bytes; the first word that is not read yet,
-/// which is the beginning of a compressed proof or a `?` in a proof. After each of these, and after want of memory,
-/// nothing was written. After a failed write a part of the report may be out, which is its beginning.
+/// Answers whether the report is clean: whether no line stands before its summary, which is that of a fault or of a
+/// proof that is wrong or incomplete. An error comes in this order: the first fault of the text; too many bytes. After
+/// each of these, and after want of memory, nothing was written. After a failed write a part of the report may be out,
+/// which is its beginning.
 ///
 /// The text is let go once it is cut into pieces, before anything is made of these.
 pub fn verify_one<W: Write>(
@@ -51,7 +50,7 @@ pub fn verify_one<W: Write>(
         × Appends (written W.contents writing.old) (written W.contents writing.new) bytes) }
 
     // Each error comes only where the text has it, is told with its place, and then nothing was written.
-    ensures error { IfErr result (IsVerifyError name.now text.items) }
+    ensures error { IfErr result (IsVerifyError text.items) }
     ensures unwritten { IfErr result (λ error. error ≢ FirstError.Write → writing.new ≡ writing.old) }
     ensures write { result ≡ Err FirstError.Write → has_failed writing.new ≡ true }
 
@@ -62,10 +61,6 @@ pub fn verify_one<W: Write>(
     mm_store::items_stand();
     let files = only_file(alloc, name, text)?;
     let base = Base::build(alloc, &files, name)?;
-    if let Some(unread) = first_unread(alloc, &files, &base)? {
-        let place = place_of_word(&files, &base, unread.item, unread.word);
-        return Err(FirstError::Later(place));
-    }
     let findings = findings(alloc, &files, &base)?;
     match write_report(name, &base, &findings, writing) {
         Ok(()) => Ok(is_clean(&findings)),

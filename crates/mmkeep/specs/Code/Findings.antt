@@ -1,9 +1,9 @@
 -- What the findings of the code tell, and what its tally counts.
-use Rattle.std.specs.Prelude.{◌≡◌, List, length, map}
+use Rattle.std.specs.Prelude.{◌≡◌, ◌==◌, ◌&&◌, Bool, List, length, map}
 use Rattle.mm_frame.specs.Language.Base.{BaseView}
 use Rattle.mm_frame.specs.Code.KeptBase.{IsBase}
 use Rattle.mm_frame.specs.declared.base.Base.{Base}
-use Rattle.mmkeep.specs.Language.Report.{Told, Quiet, AnAxiom, Proved, Wrong, Fault, Counts}
+use Rattle.mmkeep.specs.Language.Report.{Told, Quiet, AnAxiom, Proved, Incomplete, Wrong, Fault, Counts}
 use Rattle.mmkeep.specs.declared.finding.Finding.{Finding}
 use Rattle.mmkeep.specs.declared.finding.Finding.TheVariants as code
 use Rattle.mmkeep.specs.declared.tally.Tally.{Tally}
@@ -13,15 +13,20 @@ abbrev pub told : Finding → Told
 told code.Quiet = Quiet
 told code.Axiom = AnAxiom
 told code.Proved = Proved
-told code.Wrong = Wrong
-told (code.Fault number place word) = Fault number (record { line = place.line; column = place.column; word = word.now })
+told (code.Incomplete place) = Incomplete place
+told (code.Wrong number place) = Wrong number place
+told (code.Fault number place word) = Fault number (record { place = place; word = word.now })
 
 abbrev pub told_all : List Finding → List Told
 told_all findings = map told findings
 
 -- what a tally counts
 abbrev pub counted : Tally → Counts
-counted tally = record { axioms = tally.axioms; proved = tally.proved; wrong = tally.wrong; faults = tally.faults }
+counted tally = record { axioms = tally.axioms; proved = tally.proved; incomplete = tally.incomplete; wrong = tally.wrong; faults = tally.faults }
+
+-- nothing is counted that has a line
+abbrev pub has_no_lines : Counts → Bool
+has_no_lines counts = counts.incomplete == 0 && counts.wrong == 0 && counts.faults == 0
 
 -- the code's base answers this, and there is a finding for each item
 pub record AreOfEach (findings : List Finding) (code : Base) (view : BaseView) : Type 0 where

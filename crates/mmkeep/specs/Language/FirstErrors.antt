@@ -6,8 +6,8 @@ use Rattle.mm_store.specs.declared.error.StoreError.TheVariants.{TooMany, Memory
 use Rattle.mm_store.specs.Language.FilesView.{no_files}
 use Rattle.mm_store.specs.Language.Answers.{HasTooMany}
 use Rattle.mmkeep.specs.declared.fault.FirstError.{FirstError}
-use Rattle.mmkeep.specs.declared.fault.FirstError.TheVariants.{Text, Store, Later, Write}
-use Rattle.mmkeep.specs.Language.Verified.{IsUnreadAt, IsPlaceIn}
+use Rattle.mmkeep.specs.declared.fault.FirstError.TheVariants.{Text, Store, Write}
+use Rattle.mmkeep.specs.Language.Verified.{IsPlaceIn}
 
 -- what the files answer to a text: that there is too much of it, or that memory ran out, which may be so with any text
 abbrev pub IsAnswerOf : List ℕ → StoreError → Type 0
@@ -16,24 +16,22 @@ IsAnswerOf text Memory = Unit {0}
 IsAnswerOf text _ = ⊥
 
 -- when each error comes; a write may fail with any text
-abbrev pub IsVerifyError : List ℕ → List ℕ → FirstError → Type 0
-IsVerifyError name text (Text fault place) = IsFirstFault text fault × (fault.at < length text) × IsPlaceIn text fault.at place
-IsVerifyError name text (Store error) = IsAnswerOf text error
-IsVerifyError name text (Later place) = (at : ℕ) × IsUnreadAt name text at × IsPlaceIn text at place
-IsVerifyError name text Write = Unit {0}
+abbrev pub IsVerifyError : List ℕ → FirstError → Type 0
+IsVerifyError text (Text fault place) = IsFirstFault text fault × (fault.at < length text) × IsPlaceIn text fault.at place
+IsVerifyError text (Store error) = IsAnswerOf text error
+IsVerifyError text Write = Unit {0}
 
--- it is an error of some file
+-- it is an error of some text
 abbrev pub IsError : FirstError → Type 0
-IsError error = (name text : List ℕ) × IsVerifyError name text error
+IsError error = (text : List ℕ) × IsVerifyError text error
 
 -- what the files answer to the text itself: that there is too much of it
 abbrev pub IsAnswerToText : List ℕ → StoreError → Type 0
 IsAnswerToText text TooMany = HasTooMany no_files text
 IsAnswerToText text _ = ⊥
 
--- what is told of the text itself: its first fault, that it is too long, or what is not read yet
-abbrev pub IsToldOfText : List ℕ → List ℕ → FirstError → Type 0
-IsToldOfText name text (Text fault place) = IsVerifyError name text (Text fault place)
-IsToldOfText name text (Store error) = IsAnswerToText text error
-IsToldOfText name text (Later place) = IsVerifyError name text (Later place)
-IsToldOfText name text Write = ⊥
+-- what is told of the text itself: its first fault, or that it is too long
+abbrev pub IsToldOfText : List ℕ → FirstError → Type 0
+IsToldOfText text (Text fault place) = IsVerifyError text (Text fault place)
+IsToldOfText text (Store error) = IsAnswerToText text error
+IsToldOfText text Write = ⊥

@@ -1,21 +1,24 @@
--- The report of a file: a line for each fault and for each theorem whose proof is wrong, and a line of counts.
-use Rattle.std.specs.Prelude.{◌≡◌, ◌+◌, ℕ, true, false, Bool, Option, Some, None, unwrap_or}
+-- The report of a file: a line for each fault and for each theorem whose proof is wrong or incomplete, and a line of counts.
+use Rattle.std.specs.Prelude.{◌≡◌, ◌+◌, ℕ, true, false, Bool, Some, unwrap_or}
 use Rattle.std.specs.Prelude.{List, [], ◌∷◌, ◌++◌, length, slice_get, slice_range, count_by, codes, decimal}
-use Rattle.mm_text.specs.declared.word.Word.{Word}
-use Rattle.mm_text.specs.Language.Place.{line_at, column_at}
+use Rattle.mm_text.specs.declared.location.Place.{Place}
 use Rattle.mm_store.specs.declared.item.Item as store
 use Rattle.mm_store.specs.Language.FilesView.{FilesView}
-use Rattle.mm_store.specs.Language.FileFacts.{CanBeRead, StandsIn, IsByte}
 use Rattle.mm_frame.specs.Language.Base.{BaseView, fault_at, is_sound_at, is_proof_at, said_at}
 use Rattle.mm_frame.specs.Language.Item.{Axiom, Item, is_assertion}
 use Rattle.mm_frame.specs.declared.FrameNumber.{FrameNumber}
 use Rattle.mm_frame.specs.declared.FrameNumber.TheVariants.{F01, F02, F03, F04, F05, F06, F07, F08, F09, F10, F11, F12, F13, F14}
-use Rattle.mm_proof.specs.Language.Proved.{IsProved}
+use Rattle.mm_proof.specs.Language.VerdictAt.{IsVerdictAt}
+use Rattle.mm_proof.specs.declared.Spot.{Spot}
+use Rattle.mm_proof.specs.declared.Verdict.{Verdict}
+use Rattle.mm_proof.specs.declared.Verdict.TheVariants as verdicts
+use Rattle.mm_proof.specs.declared.ProofNumber.{ProofNumber}
+use Rattle.mm_proof.specs.declared.ProofNumber.TheVariants.{P01, P02, P03, P04, P05, P06, P07, P08, P09, P10, P11, P12, P13, P14, P15}
+use Rattle.mmkeep.specs.Language.WordPlaces.{spelled, HasPlace, IsPlaceOfSpot}
 
 -- A word as a line shows it: its place, and how it is spelled.
 pub record Shown : Type 0 where
-  pub line : ℕ
-  pub column : ℕ
+  pub place : Place
   pub word : List ℕ
 
 -- What is told of an item.
@@ -23,33 +26,14 @@ pub data Told : Type 0 where
   Quiet : Told
   AnAxiom : Told
   Proved : Told
-  Wrong : Told
+  Incomplete : Place → Told
+  Wrong : ProofNumber → Place → Told
   Fault : FrameNumber → Shown → Told
-
--- where the word with a number begins; 0 where there are fewer
-abbrev pub start_of : Option Word → ℕ
-start_of None = 0
-start_of (Some word) = word.start
-
--- how a word is spelled; no bytes where there are fewer
-abbrev pub spelled : List ℕ → Option Word → List ℕ
-spelled text None = []
-spelled text (Some word) = slice_range text word.start word.end
-
--- a word of an item begins at this byte of the text of its file
-pub record IsWordAt (files : FilesView) (item : store.Item) (word at : ℕ) : Type 0 where
-  pub stands : StandsIn files item
-  pub read : CanBeRead files item
-  pub text : List ℕ
-  pub byte : IsByte files item.file item.piece (item.start + start_of (slice_get read.words word)) text at
 
 -- a word of an item is shown like this
 pub record IsShown (files : FilesView) (item : store.Item) (word : ℕ) (shown : Shown) : Type 0 where
-  pub at : ℕ
-  pub place : IsWordAt files item word at
-  pub line : shown.line ≡ line_at place.text at
-  pub column : shown.column ≡ column_at place.text at
-  pub is_word : shown.word ≡ spelled (slice_range place.read.text item.start item.end) (slice_get place.read.words word)
+  pub has_place : HasPlace files item word 0 shown.place
+  pub is_word : shown.word ≡ spelled (slice_range has_place.is_byte.read.text item.start item.end) (slice_get has_place.is_byte.read.words word)
 
 -- it tells the fault with this number, at this word of an item
 abbrev pub TellsFaultAt : FilesView → store.Item → ℕ → FrameNumber → Told → Type 0
@@ -73,13 +57,24 @@ pub record IsAxiom (view : BaseView) (n : ℕ) : Type 0 where
   pub sound : is_sound_at view n ≡ true
   pub kind : (said_at view n).kind ≡ Axiom
 
--- what is told rightly of the item with this number: a sound theorem is proved where its labels derive its statement,
--- and else wrong
+-- it is a sound `$p`, and this is the verdict on its proof
+pub record HasVerdict (view : BaseView) (n : ℕ) (verdict : Verdict) : Type 0 where
+  pub proof : is_proof_at view n ≡ true
+  pub is_verdict : IsVerdictAt view n verdict
+
+-- it is one whose proof has this verdict at a spot, and the spot has this place
+pub record HasVerdictShown (files : FilesView) (view : BaseView) (n : ℕ) (verdict : Spot → Verdict) (place : Place) : Type 0 where
+  pub spot : Spot
+  pub has_verdict : HasVerdict view n (verdict spot)
+  pub is_place : IsPlaceOfSpot files view n spot place
+
+-- what is told rightly of the item with this number
 abbrev pub IsRightlyTold : FilesView → BaseView → ℕ → Told → Type 0
 IsRightlyTold files view n Quiet = IsQuiet view n
 IsRightlyTold files view n AnAxiom = IsAxiom view n
-IsRightlyTold files view n Proved = (is_proof_at view n ≡ true) × IsProved view.said n
-IsRightlyTold files view n Wrong = (is_proof_at view n ≡ true) × (¬ IsProved view.said n)
+IsRightlyTold files view n Proved = HasVerdict view n verdicts.Proved
+IsRightlyTold files view n (Incomplete place) = HasVerdictShown files view n verdicts.Incomplete place
+IsRightlyTold files view n (Wrong number place) = HasVerdictShown files view n (verdicts.Wrong number) place
 IsRightlyTold files view n (Fault number shown) = IsFaultOf files view n number shown
 
 -- what is told rightly of each item
@@ -95,8 +90,12 @@ abbrev pub is_proved : Told → Bool
 is_proved Proved = true
 is_proved _ = false
 
+abbrev pub is_incomplete : Told → Bool
+is_incomplete (Incomplete place) = true
+is_incomplete _ = false
+
 abbrev pub is_wrong : Told → Bool
-is_wrong Wrong = true
+is_wrong (Wrong number place) = true
 is_wrong _ = false
 
 abbrev pub is_fault : Told → Bool
@@ -120,15 +119,44 @@ code_of F12 = codes "F12"
 code_of F13 = codes "F13"
 code_of F14 = codes "F14"
 
--- the line of a fault: the file, the place, the number and the word
+-- the number of a fault of a proof as it is written
+abbrev pub proof_code : ProofNumber → List ℕ
+proof_code P01 = codes "P01"
+proof_code P02 = codes "P02"
+proof_code P03 = codes "P03"
+proof_code P04 = codes "P04"
+proof_code P05 = codes "P05"
+proof_code P06 = codes "P06"
+proof_code P07 = codes "P07"
+proof_code P08 = codes "P08"
+proof_code P09 = codes "P09"
+proof_code P10 = codes "P10"
+proof_code P11 = codes "P11"
+proof_code P12 = codes "P12"
+proof_code P13 = codes "P13"
+proof_code P14 = codes "P14"
+proof_code P15 = codes "P15"
+
+-- a place as it is written: the file, the line and the column
+abbrev pub place_in : List ℕ → Place → List ℕ
+place_in file place = file ++ codes ":" ++ decimal place.line ++ codes ":" ++ decimal place.column
+
+-- the line of a fault: the place, the number and the word
 abbrev pub fault_line : List ℕ → FrameNumber → Shown → List ℕ
-fault_line file number shown =
-    codes "fault " ++ file ++ codes ":" ++ decimal shown.line ++ codes ":" ++ decimal shown.column ++ codes " "
-    ++ code_of number ++ codes " " ++ shown.word ++ codes "\n"
+fault_line file number shown = codes "fault " ++ place_in file shown.place ++ codes " " ++ code_of number ++ codes " " ++ shown.word ++ codes "\n"
+
+-- the line of a theorem whose proof has a step that is not known: the label, and the place of the first such step
+abbrev pub incomplete_line : List ℕ → List ℕ → Place → List ℕ
+incomplete_line file label place = codes "incomplete " ++ label ++ codes " " ++ place_in file place ++ codes "\n"
+
+-- the line of a theorem whose proof is wrong: the label, and the place and the number of the fault
+abbrev pub wrong_line : List ℕ → List ℕ → ProofNumber → Place → List ℕ
+wrong_line file label number place = codes "wrong " ++ label ++ codes " " ++ place_in file place ++ codes " " ++ proof_code number ++ codes "\n"
 
 -- the line of an item, if it has one
 abbrev pub item_line : List ℕ → Item → Told → List ℕ
-item_line file item Wrong = codes "wrong " ++ unwrap_or item.label [] ++ codes "\n"
+item_line file item (Incomplete place) = incomplete_line file (unwrap_or item.label []) place
+item_line file item (Wrong number place) = wrong_line file (unwrap_or item.label []) number place
 item_line file item (Fault number shown) = fault_line file number shown
 item_line file item _ = []
 
@@ -138,10 +166,11 @@ lines file [] all = []
 lines file (item ∷ items) [] = []
 lines file (item ∷ items) (one ∷ all) = item_line file item one ++ lines file items all
 
--- How many there are: sound `$a`, sound `$p` that are proved and that are wrong, and faults.
+-- How many there are: sound `$a`, sound `$p` that are proved, incomplete and wrong, and faults.
 pub record Counts : Type 0 where
   pub axioms : ℕ
   pub proved : ℕ
+  pub incomplete : ℕ
   pub wrong : ℕ
   pub faults : ℕ
 
@@ -150,6 +179,7 @@ abbrev pub counts : List Told → Counts
 counts all = record {
   axioms = count_by is_axiom all;
   proved = count_by is_proved all;
+  incomplete = count_by is_incomplete all;
   wrong = count_by is_wrong all;
   faults = count_by is_fault all;
 }
@@ -157,8 +187,8 @@ counts all = record {
 -- the last line: the sound `$a`, the sound `$p`, how many of these are proved, incomplete and wrong, and the faults
 abbrev pub summary : Counts → List ℕ
 summary counts =
-    codes "axioms " ++ decimal counts.axioms ++ codes " theorems " ++ decimal (counts.proved + counts.wrong)
-    ++ codes " proved " ++ decimal counts.proved ++ codes " incomplete 0 wrong " ++ decimal counts.wrong
+    codes "axioms " ++ decimal counts.axioms ++ codes " theorems " ++ decimal (counts.proved + counts.incomplete + counts.wrong)
+    ++ codes " proved " ++ decimal counts.proved ++ codes " incomplete " ++ decimal counts.incomplete ++ codes " wrong " ++ decimal counts.wrong
     ++ codes " faults " ++ decimal counts.faults ++ codes "\n"
 
 abbrev pub report : List ℕ → List Item → List Told → List ℕ

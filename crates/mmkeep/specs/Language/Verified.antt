@@ -5,8 +5,6 @@ use Rattle.mm_text.specs.Language.Place.{line_at, column_at}
 use Rattle.mm_store.specs.Language.FilesView.{FilesView, no_files, bytes_of}
 use Rattle.mm_store.specs.Language.FileFacts.{IsAdded}
 use Rattle.mm_frame.specs.Language.Base.{BaseView, IsOfFiles}
-use Rattle.mmkeep.specs.Language.WordPlaces.{IsWordOf}
-use Rattle.mmkeep.specs.Language.Later.{AreRead, IsFirstUnread}
 use Rattle.mmkeep.specs.Language.Report.{Told, AreRightlyTold, lines, report}
 use Rattle.mmkeep.specs.Language.Stream.{AppendsPart}
 
@@ -16,12 +14,11 @@ pub record IsDatabase (name text : List ℕ) (files : FilesView) (view : BaseVie
   pub within : bytes_of files.files ≤ 4294967295
   pub of_files : IsOfFiles files name view
 
--- the report of a file: its items are read, and these are the bytes; it is clean where no line stands before the summary
+-- the report of a file: these are its bytes; it is clean where no line stands before the summary
 pub record IsReport (name text : List ℕ) (clean : Bool) (bytes : List ℕ) : Type 0 where
   pub files : FilesView
   pub view : BaseView
   pub database : IsDatabase name text files view
-  pub read : AreRead view.said
   pub all : List Told
   pub are_told : AreRightlyTold files view all
   pub bytes_are : bytes ≡ report name view.said all
@@ -33,16 +30,6 @@ pub record BeginsReport (name text : List ℕ) (old new : Option (List ℕ)) : T
   pub bytes : List ℕ
   pub is_report : IsReport name text clean bytes
   pub appends : AppendsPart old new bytes
-
--- the first word that is not read yet begins at this byte
-pub record IsUnreadAt (name text : List ℕ) (at : ℕ) : Type 0 where
-  pub files : FilesView
-  pub view : BaseView
-  pub database : IsDatabase name text files view
-  pub n : ℕ
-  pub word : ℕ
-  pub unread : IsFirstUnread view.said n word
-  pub place : IsWordOf files view n word at
 
 -- the line and the column of a byte of the text, or of its end
 pub record IsPlaceIn (text : List ℕ) (at : ℕ) (place : Place) : Type 0 where

@@ -1,28 +1,46 @@
--- Where the words of the items of a base stand.
-use Rattle.std.specs.Prelude.{◌≡◌, ℕ, ◌<◌, Some, length, slice_get}
+-- Where words of items stand, and bytes of these words, in the texts of the files.
+use Rattle.std.specs.Prelude.{◌≡◌, ℕ, ◌+◌, Option, Some, None, List, [], length, slice_get, slice_range}
+use Rattle.mm_text.specs.declared.word.Word.{Word}
 use Rattle.mm_text.specs.declared.location.Place.{Place}
 use Rattle.mm_text.specs.Language.Place.{line_at, column_at}
 use Rattle.mm_store.specs.declared.item.Item as store
 use Rattle.mm_store.specs.Language.FilesView.{FilesView}
-use Rattle.mm_frame.specs.Language.Base.{BaseView}
-use Rattle.mmkeep.specs.Language.Report.{IsWordAt}
+use Rattle.mm_store.specs.Language.FileFacts.{CanBeRead, StandsIn, IsByte}
+use Rattle.mm_frame.specs.Language.Base.{BaseView, said_at}
+use Rattle.mm_frame.specs.Language.Item.{Item}
+use Rattle.mm_frame.specs.Language.Statement.{symbols_from}
+use Rattle.mm_proof.specs.declared.Spot.{Spot}
 
--- a word of the item with this number begins at this byte
-pub record IsWordOf (files : FilesView) (view : BaseView) (n word at : ℕ) : Type 0 where
-  pub item : store.Item
-  pub there : slice_get view.found n ≡ Some item
-  pub place : IsWordAt files item word at
+-- where the word with a number begins; 0 where there are fewer
+abbrev pub start_of : Option Word → ℕ
+start_of None = 0
+start_of (Some word) = word.start
 
--- a word of an item begins at a byte of the text with this line and column
-pub record HasPlace (files : FilesView) (item : store.Item) (word : ℕ) (place : Place) : Type 0 where
+-- how a word is spelled; no bytes where there are fewer
+abbrev pub spelled : List ℕ → Option Word → List ℕ
+spelled text None = []
+spelled text (Some word) = slice_range text word.start word.end
+
+-- a byte of a word of an item, counted from the word's first, is this byte of the text of its file
+pub record IsByteOfWord (files : FilesView) (item : store.Item) (word letter at : ℕ) : Type 0 where
+  pub stands : StandsIn files item
+  pub read : CanBeRead files item
+  pub text : List ℕ
+  pub byte : IsByte files item.file item.piece (item.start + (start_of (slice_get read.words word) + letter)) text at
+
+-- a byte of a word of an item has this line and this column
+pub record HasPlace (files : FilesView) (item : store.Item) (word letter : ℕ) (place : Place) : Type 0 where
   pub at : ℕ
-  pub is_word : IsWordAt files item word at
-  pub within : at < length is_word.text
-  pub line : place.line ≡ line_at is_word.text at
-  pub column : place.column ≡ column_at is_word.text at
+  pub is_byte : IsByteOfWord files item word letter at
+  pub line : place.line ≡ line_at is_byte.text at
+  pub column : place.column ≡ column_at is_byte.text at
 
--- so does one of the item with this number
-pub record HasPlaceOf (files : FilesView) (view : BaseView) (n word : ℕ) (place : Place) : Type 0 where
+-- the number of a word of a proof among all words of its statement: the first one stands behind the symbols and the `$=`
+abbrev pub proof_word : Item → ℕ → ℕ
+proof_word item n = symbols_from item.kind + length item.symbols + 1 + n
+
+-- a spot in the proof of the item with this number has this place; the word behind the last of the proof is the closing `$.`
+pub record IsPlaceOfSpot (files : FilesView) (view : BaseView) (n : ℕ) (spot : Spot) (place : Place) : Type 0 where
   pub item : store.Item
   pub there : slice_get view.found n ≡ Some item
-  pub has_place : HasPlace files item word place
+  pub has_place : HasPlace files item (proof_word (said_at view n) spot.word) spot.letter place

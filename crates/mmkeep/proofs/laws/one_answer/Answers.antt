@@ -1,9 +1,9 @@
 use Rattle.mmkeep.proofs.DatabaseLemmas.{Laws}
 use Rattle.mmkeep.proofs.AnswerLemmas.{same_report, same_error, report_or_error}
 use Rattle.mmkeep.proofs.laws.one_answer.Goals as goal
-use Rattle.mmkeep.proofs.laws.one_answer.Goals.{After-files_have_one_base}
+use Rattle.mmkeep.proofs.laws.one_answer.Goals.{After-has_one_verdict_at}
 
-laws : After-files_have_one_base → Laws
+laws : After-has_one_verdict_at → Laws
 laws c = record {
   words = c.one_meaning.ensures.words;
   fault = c.one_cut.ensures.fault;
@@ -11,6 +11,7 @@ laws c = record {
   said = c.files_have_one_base.ensures.said;
   one_file = c.keys_do_not_matter.ensures.one_file;
   own_keys = c.keys_are_own.ensures;
+  verdict = c.has_one_verdict_at.ensures;
   stand = c.items_stand.ensures.stand;
 }
 

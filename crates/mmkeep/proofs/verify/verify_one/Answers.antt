@@ -1,44 +1,19 @@
 use Rattle.std.proofs.Common.{◌≡◌, List, length, sym, ◌∙◌, ap, subst}
-use Rattle.std.specs.Prelude.{◌==◌, ◌&&◌, ◌↔◌, IsTrue}
+use Rattle.std.specs.Prelude.{◌↔◌, IsTrue}
 use Rattle.std.specs.Io.KnownBytes.{Appends}
 use Rattle.std.proofs.lemmas.List.{length-map}
-use Rattle.std.proofs.lemmas.Option.{slice_get_within}
 use Rattle.mmkeep.specs.declared.finding.Finding.{Finding}
-use Rattle.mmkeep.specs.Code.Findings.{AreOfEach, told, told_all}
+use Rattle.mmkeep.specs.Code.Findings.{AreOfEach, has_no_lines, told, told_all}
 use Rattle.mmkeep.specs.Language.Report.{counts, report}
 use Rattle.mmkeep.specs.Language.Stream.{AppendsPart}
-use Rattle.mmkeep.proofs.PlaceLemmas.{from_some, from_none}
-use Rattle.mmkeep.proofs.VerifyLemmas.{database_of, view_of, unread_at, report_is, clean_counts, IsClean}
+use Rattle.mmkeep.proofs.ReportLemmas.{HaveNoLines}
+use Rattle.mmkeep.proofs.VerifyLemmas.{database_of, view_of, report_is, clean_counts}
 use Rattle.mmkeep.proofs.verify.verify_one.Goals as goal
-
-pub first_unread-requires : goal.first_unread-requires
-first_unread-requires g c =
-    let view = c.in_ok-base.ensures.base.0 in
-    (view, view_of c.args.name.now c.in_ok-files.files c.in_ok-base.base view c.items_stand.ensures.stand c.in_ok-base.ensures.base.1 c.in_ok-base.ensures.base.2)
 
 pub findings-requires : goal.findings-requires
 findings-requires g c =
     let view = c.in_ok-base.ensures.base.0 in
     (view, view_of c.args.name.now c.in_ok-files.files c.in_ok-base.base view c.items_stand.ensures.stand c.in_ok-base.ensures.base.1 c.in_ok-base.ensures.base.2)
-
-pub place_of_word-place-requires : goal.place_of_word-place-requires
-place_of_word-place-requires g c =
-    let view = c.in_ok-base.ensures.base.0 in
-    let of_files = c.in_ok-base.ensures.base.1 in
-    let base = c.in_ok-base.ensures.base.2 in
-    let is = view_of c.args.name.now c.in_ok-files.files c.in_ok-base.base view c.items_stand.ensures.stand of_files base in
-    let unread = from_some _ _ c.in_ok-unread.field-0 c.in-Some.unread c.in-Some.is (c.in_ok-unread.ensures view is) in
-    (view, is, slice_get_within view.said c.in-Some.unread.item unread.item unread.there)
-
-pub returns-in-Some-clause-error : goal.returns-in-Some-clause-error
-returns-in-Some-clause-error g c =
-    let view = c.in_ok-base.ensures.base.0 in
-    let of_files = c.in_ok-base.ensures.base.1 in
-    let base = c.in_ok-base.ensures.base.2 in
-    let is = view_of c.args.name.now c.in_ok-files.files c.in_ok-base.base view c.items_stand.ensures.stand of_files base in
-    let database = database_of c.args.name.now c.args.text.items c.in_ok-files.files view c.in_ok-files.ensures.added c.in_ok-files.ensures.within of_files in
-    let unread = from_some _ _ c.in_ok-unread.field-0 c.in-Some.unread c.in-Some.is (c.in_ok-unread.ensures view is) in
-    unread_at c.args.name.now c.args.text.items c.in_ok-files.files view database c.in-Some.unread.item c.in-Some.unread.word c.place_of_word-place.result unread (c.place_of_word-place.ensures view is)
 
 pub returns-in-Ok-clause-report : goal.returns-in-Ok-clause-report
 returns-in-Ok-clause-report g c =
@@ -47,17 +22,15 @@ returns-in-Ok-clause-report g c =
     let base = c.in_ok-base.ensures.base.2 in
     let is = view_of c.args.name.now c.in_ok-files.files c.in_ok-base.base view c.items_stand.ensures.stand of_files base in
     let database = database_of c.args.name.now c.args.text.items c.in_ok-files.files view c.in_ok-files.ensures.added c.in_ok-files.ensures.within of_files in
-    let read = from_none _ _ c.in_ok-unread.field-0 c.in_default.is (c.in_ok-unread.ensures view is) in
     let found = c.in_ok-findings.findings.items in
     let are = c.in_ok-findings.ensures view is in
     let seen = c.deref.ensures.value in
     let each : AreOfEach c.deref.result.now c.in_ok-base.base view = record { base = base; count = ap length seen ∙ sym (length-map found told) ∙ are.count } in
     let all = told_all found in
-    let clean : c.is_clean.result ≡ ((counts all).wrong == 0 && (counts all).faults == 0) =
-    c.is_clean.ensures ∙ ap (λ (fs : List Finding). (counts (told_all fs)).wrong == 0 && (counts (told_all fs)).faults == 0) c.deref-in-Ok.ensures.value in
-    let both = subst (λ b. IsTrue b ↔ IsClean all) (sym clean) (clean_counts (counts all).wrong (counts all).faults) in (
+    let clean : c.is_clean.result ≡ has_no_lines (counts all) = c.is_clean.ensures ∙ ap (λ (fs : List Finding). has_no_lines (counts (told_all fs))) c.deref-in-Ok.ensures.value in
+    let both = subst (λ b. IsTrue b ↔ HaveNoLines all) (sym clean) (clean_counts (counts all).incomplete (counts all).wrong (counts all).faults) in (
       report c.args.name.now view.said all,
-      report_is c.args.name.now c.args.text.items c.in_ok-files.files view database all c.is_clean.result read are both,
+      report_is c.args.name.now c.args.text.items c.in_ok-files.files view database all c.is_clean.result are both,
       subst (λ (fs : List Finding). Appends (g.W.Write.contents c.args.writing.now.inner) (g.W.Write.contents c.write_report.new.to.inner) (report c.args.name.now view.said (told_all fs))) seen (c.in-Ok.ensures view each).ok,
     )
 
@@ -80,16 +53,15 @@ returns-clause-prefix g c =
     let base = c.in_ok-base.ensures.base.2 in
     let is = view_of c.args.name.now c.in_ok-files.files c.in_ok-base.base view c.items_stand.ensures.stand of_files base in
     let database = database_of c.args.name.now c.args.text.items c.in_ok-files.files view c.in_ok-files.ensures.added c.in_ok-files.ensures.within of_files in
-    let read = from_none _ _ c.in_ok-unread.field-0 c.in_default.is (c.in_ok-unread.ensures view is) in
     let found = c.in_ok-findings.findings.items in
     let are = c.in_ok-findings.ensures view is in
     let seen = c.deref.ensures.value in
     let each : AreOfEach c.deref.result.now c.in_ok-base.base view = record { base = base; count = ap length seen ∙ sym (length-map found told) ∙ are.count } in
     let all = told_all found in
-    let clean = (counts all).wrong == 0 && (counts all).faults == 0 in
+    let clean = has_no_lines (counts all) in
     λ failed. record {
       clean = clean;
       bytes = report c.args.name.now view.said all;
-      is_report = report_is c.args.name.now c.args.text.items c.in_ok-files.files view database all clean read are (clean_counts (counts all).wrong (counts all).faults);
+      is_report = report_is c.args.name.now c.args.text.items c.in_ok-files.files view database all clean are (clean_counts (counts all).incomplete (counts all).wrong (counts all).faults);
       appends = subst (λ (fs : List Finding). AppendsPart (g.W.Write.contents c.args.writing.now.inner) (g.W.Write.contents c.write_report.new.to.inner) (report c.args.name.now view.said (told_all fs))) seen (c.in-Err.ensures view each).err.part;
     }
