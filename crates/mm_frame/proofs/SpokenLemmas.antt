@@ -45,9 +45,6 @@ pub record Symbols (words left symbols : List Word) : Type 0 where
   pub joined : plain_words words ≡ symbols ++ plain_words left
   pub behind : left ≡ drop (length symbols) words
 
-pub symbols_none : (words : List Word) → Symbols words words []
-symbols_none words = record { joined = refl; behind = refl }
-
 pub symbols_more : (words left new symbols : List Word) (word : Word) → Symbols words left symbols → left ≡ word ∷ new → is_plain_kind word.kind ≡ true → Symbols words new (symbols ++ word ∷ [])
 symbols_more words left new symbols word h e plain = record {
   joined = h.joined ∙ ap (λ l. symbols ++ plain_words l) e ∙ ap (λ l. symbols ++ l) (plain_more word new plain) ∙ sym (append_assoc symbols (word ∷ []) (plain_words new));
@@ -71,11 +68,6 @@ pub symbols_closed : (words left new symbols : List Word) (word : Word) → Symb
 symbols_closed words left new symbols word h e keyword =
     let all = h.joined ∙ ap (λ l. symbols ++ plain_words l) e ∙ ap (λ l. symbols ++ l) (plain_end word new keyword) ∙ append-nil symbols in
     rest_is words left new symbols all h.behind (ap (drop 1) (sym e))
-
-pub symbols_out : (words left new symbols : List Word) → Symbols words left symbols → left ≡ [] → new ≡ [] → AllSymbols words new symbols
-symbols_out words left new symbols h none done =
-    let all = h.joined ∙ ap (λ l. symbols ++ plain_words l) none ∙ append-nil symbols in
-    rest_is words left new symbols all h.behind (done ∙ ap (drop 1) (sym none))
 
 -- ---- a statement
 

@@ -20,10 +20,6 @@ lowest P number below p = (p, λ other q. at_least (row_of number) (row_of other
     at_least : (a b : ℕ) → (b < a → ⊥) → a ≤ b
     at_least a b n = omega arith
 
--- too few entries
-pub too_few : (active : List (Symbol × Symbol)) (frame : Frame) (stack : List (List Symbol)) → length stack < length frame.hypotheses → IsLowestCiting active frame stack P07
-too_few active frame stack l = lowest (CitingFails active frame stack) P07 (none_first active frame stack) l
-
 module _ (active : List (Symbol × Symbol)) (frame : Frame) (es : List (List Symbol)) (is : IsFrame frame) (count : length es ≡ length frame.hypotheses) where
   below08 : (stack : List (List Symbol)) → length frame.hypotheses ≤ length stack → NoneBelow (CitingFails active frame stack) 8
   below08 stack l = none_more (CitingFails active frame stack) P07 (none_first active frame stack) (λ few. absurd (omega arith))

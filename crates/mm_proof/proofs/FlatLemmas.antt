@@ -73,12 +73,6 @@ of_constant variable xs ys e = ap (λ (b : Bool). if b then xs else ys) e
 pub of_variable : (variable : Bool) (xs ys : List Symbol) → variable ≡ true → (if variable then xs else ys) ≡ xs
 of_variable variable xs ys e = ap (λ (b : Bool). if b then xs else ys) e
 
--- a range of one symbol
-pub range_of_one : {X : Type 0} (xs : List X) (n : ℕ) (x : X) → n < length xs → x ≡ get_or xs n x → take (n + 1 - n) (drop n xs) ≡ x ∷ []
-range_of_one xs n x l is =
-    let one : n + 1 - n ≡ 1 = omega arith in
-    ap (λ k. take k (drop n xs)) one ∙ ap (take 1) (drop_more xs n x l) ∙ ap (λ w. w ∷ []) (sym is)
-
 -- where the lists mean the same, so do their elements
 pub same_at : {S M : Type 0} (f : S → M) (xs ys : List S) (i : ℕ) (x y : S) → x ≡ get_or xs i x → y ≡ get_or ys i y → i < length xs → i < length ys → map f xs ≡ map f ys → f x ≡ f y
 same_at f xs ys i x y at_x at_y in_xs in_ys e =

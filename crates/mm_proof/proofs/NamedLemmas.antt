@@ -61,9 +61,6 @@ placed_more shown R xs more ys new x y count e f right before n k at is = elim (
 pub stands_last : (old new : List ℕ) (n j : ℕ) → new ≡ old ++ j ∷ [] → n ≡ length old → slice_get new n ≡ Some j
 stands_last old new n j e f = ap (λ w. slice_get w n) e ∙ ap (slice_get (old ++ j ∷ [])) f ∙ last_there old j
 
-pub one_more_each : (old new : List ℕ) (j m n : ℕ) → new ≡ old ++ j ∷ [] → m ≡ length old → n ≡ m + 1 → n ≡ length new
-one_more_each old new j m n e f g = let c = ap length e in omega (arith, length-append old (j ∷ []))
-
 -- ---- all uses
 
 pub uses_grow : (old new : Naming) → Grows old new → (all : List Use) (labels : List Resolved) → AllZip (StandsFor old) all labels → AllZip (StandsFor new) all labels

@@ -7,7 +7,7 @@ use Rattle.mm_frame.specs.Language.Frame.{Symbol, ArePair}
 use Rattle.std.proofs.lemmas.List.{length-drop, get_or-drop, get_or_at, take_rest, drop-map, take_all, drop_all, take_more, drop-append-le, take-append-le, take-append-drop}
 use Rattle.std.proofs.lemmas.List.Elements.{Contains-append_left, Contains-append_right, Contains-append_cases}
 use Rattle.std.proofs.lemmas.Bool.{false≢true}
-use Rattle.mm_frame.proofs.Members.{contains_cases}
+use Rattle.mm_proof.proofs.Members.{contains_cases}
 use Rattle.mm_frame.specs.Language.Frame.{HasVariable}
 use Rattle.mm_proof.specs.declared.pattern.Entry.{Entry}
 use Rattle.mm_proof.specs.declared.assertion.Hypothesis.{Hypothesis}
@@ -56,13 +56,6 @@ contains_rest f xs start s c = subst (λ w. Contains w s) (ap (map f) (take_rest
 
 only : (s v : Symbol) → Contains (s ∷ []) v → s ≡ v
 only s v c = elim (contains_cases s [] v c) [ inl e ↦ e | inr d ↦ (let l = d.1 in absurd (omega arith)) ]
-
-pub gathered_none : (symbols front : List Symbol) → GatheredUpTo symbols front front 0
-gathered_none symbols front = record {
-  kept = take_all (length front) front (omega arith);
-  long = omega arith;
-  same = λ v. (λ h. (let l = h.0.1 in absurd (omega arith)), λ c. (let l = c.1 in let e = ap length (drop_all (length front) front (omega arith)) in absurd (omega arith)));
-}
 
 pub gathered_more : (symbols front before after : List Symbol) (n : ℕ) (s : Symbol) → slice_get symbols n ≡ Some s → GathersOne (length front) s before after → GatheredUpTo symbols front before n → GatheredUpTo symbols front after (n + 1)
 gathered_more symbols front before after n s at (inl a) f =

@@ -5,7 +5,7 @@ ghost use Rattle.mm_frame.specs.Language.Frame.{Symbol as Meaning};
 ghost use Rattle.mm_frame.specs.Language.Typing.{IsTyped};
 ghost use Rattle.mm_proof.specs.Code.Flat.{IsWithin, lent};
 ghost use Rattle.mm_proof.specs.Code.Citation.{entries_of, AreHypotheses, GivesEntries, pairs_of, hypotheses_of};
-ghost use Rattle.mm_proof.specs.Code.PairClause.{EachApart, SomeNotApart, SomeShared, AreSpans, AreTypedPairs, AtSlot, AtSlots, PairsSay};
+ghost use Rattle.mm_proof.specs.Code.PairClause.{EachApart, SomeNotApart, SomeShared, AreSpans, AreTypedPairs, AtSlot, AtEachPair, AtSomePair, PairsSay};
 
 use crate::ProofNumber;
 use crate::active::{Active, share};
@@ -43,12 +43,8 @@ fn all_apart<'s, 'a, S: Symbol>(
     requires count { length gathered.now.spans.items ≡ length taken.now.hypotheses.now }
     requires typed { AreTypedPairs (hypotheses_of S.means taken.now.hypotheses.now) (pairs_of S.means pairs.now) }
     ensures { MatchBool result
-        ((k : ℕ) (p : Meaning × Meaning) → slice_get (pairs_of S.means pairs.now) k ≡ Some p
-        → AtSlots (EachApart (pairs_of S.means active.now.pairs.now)) (hypotheses_of S.means taken.now.hypotheses.now)
-        (map (lent S.means) gathered.now.variables.items) gathered.now.spans.items p)
-        ((k : ℕ) × (p : Meaning × Meaning) × (slice_get (pairs_of S.means pairs.now) k ≡ Some p)
-        × AtSlots (SomeNotApart (pairs_of S.means active.now.pairs.now)) (hypotheses_of S.means taken.now.hypotheses.now)
-        (map (lent S.means) gathered.now.variables.items) gathered.now.spans.items p) }
+        (AtEachPair S.means (EachApart (pairs_of S.means active.now.pairs.now)) taken.now gathered.now pairs.now)
+        (AtSomePair S.means (SomeNotApart (pairs_of S.means active.now.pairs.now)) taken.now gathered.now pairs.now) }
 {
     for n in 0..pairs.len() {
         let pair = &pairs[n];
@@ -72,10 +68,8 @@ fn any_share<'s, 'a, S: Symbol>(
     requires count { length gathered.now.spans.items ≡ length taken.now.hypotheses.now }
     requires typed { AreTypedPairs (hypotheses_of S.means taken.now.hypotheses.now) (pairs_of S.means pairs.now) }
     ensures { MatchBool result
-        ((k : ℕ) × (p : Meaning × Meaning) × (slice_get (pairs_of S.means pairs.now) k ≡ Some p)
-        × AtSlots SomeShared (hypotheses_of S.means taken.now.hypotheses.now) (map (lent S.means) gathered.now.variables.items) gathered.now.spans.items p)
-        ((k : ℕ) (p : Meaning × Meaning) → slice_get (pairs_of S.means pairs.now) k ≡ Some p
-        → AtSlots (λ xs ys. SomeShared xs ys → ⊥) (hypotheses_of S.means taken.now.hypotheses.now) (map (lent S.means) gathered.now.variables.items) gathered.now.spans.items p) }
+        (AtSomePair S.means SomeShared taken.now gathered.now pairs.now)
+        (AtEachPair S.means (λ xs ys. SomeShared xs ys → ⊥) taken.now gathered.now pairs.now) }
 {
     for n in 0..pairs.len() {
         let pair = &pairs[n];

@@ -25,11 +25,17 @@ pub use stream::Writing;
 pub use verify::verify_one;
 
 #[cfg(test)]
+mod command_tests;
+#[cfg(test)]
 mod fault_tests;
 #[cfg(test)]
 mod proof_tests;
 #[cfg(test)]
+mod stream_tests;
+#[cfg(test)]
 mod tests;
+#[cfg(test)]
+mod theorem_tests;
 
 fn main(rt: HostRuntime) -> ExitCode {
     ExitCode::from(status(&program::run(&rt)))

@@ -1,6 +1,7 @@
 //! The order of the faults of proofs: small theorems behind a few lines, and the line that is told of each.
 
 use crate::fault_tests::{Row, tells_behind};
+use crate::theorem_tests::APART;
 use std::test::Fail;
 
 /// Five lines of the small logic, and a rule with two `$e`.
@@ -12,10 +13,6 @@ const TWO: &[u8] =
 const BETWEEN: &[u8] =
     b"$c wff |- -> ( ) $.\n$v p q $.\nwp $f wff p $.\nwq $f wff q $.\nwi $a wff ( p -> q ) $.\n\
         ${ e1 $e |- p $. $v r $. wr $f wff r $. a3 $a |- r $. $}\n";
-
-/// Seven lines: an axiom that keeps two variables apart, and one that takes its statement.
-const APART: &[u8] = b"$c wff |- $.\n$v x y z $.\nwx $f wff x $.\nwy $f wff y $.\nwz $f wff z $.\n\
-        ${ $d x y $. a1 $a |- x y $. $}\n${ b1 $e |- x y $. b2 $a |- x $. $}\n";
 
 /// P01: a word of a normal proof, or of the list.
 #[test]

@@ -1,16 +1,18 @@
 -- Which variables of two lists are apart.
-use Rattle.std.specs.Prelude.{◌≡◌, ◌≢◌, ℕ, ◌≤◌, ◌<◌, Bool, true, ◌⊎◌, ◌↔◌, Option, Some, None, List, [], ◌∷◌, ◌++◌, length, take, drop, slice_get}
+use Rattle.std.specs.Prelude.{◌≡◌, ◌≢◌, ℕ, ◌≤◌, ◌<◌, Bool, true, ◌⊎◌, ◌↔◌, Option, Some, None, List, [], ◌∷◌, ◌++◌, length, map, take, drop, slice_get}
 use Rattle.std.specs.Prelude.{Contains, All, Any, slice_index}
 use Rattle.mm_frame.specs.Language.Frame.{Symbol, Mandatory, ArePair, HasVariable}
 use Rattle.mm_frame.specs.Language.Typing.{IsTyped}
-use Rattle.mm_proof.specs.Code.Citation.{IsSlot}
+use Rattle.mm_proof.specs.Code.Citation.{IsSlot, hypotheses_of, pairs_of}
 use Rattle.mm_proof.specs.Language.Derivation.{AreApart, ShareVariable}
 use Rattle.mm_proof.specs.Language.Faults.{LackPair}
 use Rattle.mm_proof.specs.declared.ProofNumber.{ProofNumber}
 use Rattle.mm_proof.specs.declared.ProofNumber.TheVariants.{P10, P11}
 use Rattle.mm_proof.specs.declared.pattern.Entry.{Entry}
 use Rattle.mm_proof.specs.declared.assertion.Hypothesis.{Hypothesis}
-use Rattle.mm_proof.specs.Code.Flat.{read, IsWithin}
+use Rattle.mm_proof.specs.declared.pattern.Taken.{Taken}
+use Rattle.mm_proof.specs.declared.gather.Gathered.{Gathered}
+use Rattle.mm_proof.specs.Code.Flat.{read, IsWithin, lent}
 
 -- it is the pair of these two, in one order or the other
 abbrev pub IsPair : Symbol × Symbol → Symbol → Symbol → Type 0
@@ -97,6 +99,18 @@ AtSlot hs variables spans v xs = (j : ℕ) × IsSlot hs j v × (xs ≡ span_of v
 -- it is said of the ranges of slots of the two variables
 abbrev pub AtSlots : (List Symbol → List Symbol → Type 0) → List Mandatory → List Symbol → List Entry → Symbol × Symbol → Type 0
 AtSlots P hs variables spans p = (i j : ℕ) × IsSlot hs i p.0 × IsSlot hs j p.1 × P (span_of variables spans i) (span_of variables spans j)
+
+-- it is said of what was gathered for the two variables of a pair
+abbrev pub AtPair : {S : Type 0} → (S → Symbol) → (List Symbol → List Symbol → Type 0) → Taken S → Gathered S → Symbol × Symbol → Type 0
+AtPair means P taken gathered p = AtSlots P (hypotheses_of means taken.hypotheses.now) (map (lent means) gathered.variables.items) gathered.spans.items p
+
+-- it is said at each pair
+abbrev pub AtEachPair : {S : Type 0} → (S → Symbol) → (List Symbol → List Symbol → Type 0) → Taken S → Gathered S → List (S × S) → Type 0
+AtEachPair means P taken gathered pairs = (k : ℕ) (p : Symbol × Symbol) → slice_get (pairs_of means pairs) k ≡ Some p → AtPair means P taken gathered p
+
+-- it is said at some pair
+abbrev pub AtSomePair : {S : Type 0} → (S → Symbol) → (List Symbol → List Symbol → Type 0) → Taken S → Gathered S → List (S × S) → Type 0
+AtSomePair means P taken gathered pairs = (k : ℕ) × (p : Symbol × Symbol) × (slice_get (pairs_of means pairs) k ≡ Some p) × AtPair means P taken gathered p
 
 -- for the key of each of the first symbols that the table has, it has the place of one with that key
 abbrev pub AreMarked : (Symbol → ℕ) → List Symbol → List ℕ → ℕ → Type 0
