@@ -285,7 +285,7 @@ label_moved active others Inactive t stack number s m c = absurd c
 label_moved active others Unknown t stack number s m c = absurd c
 label_moved active others (Assertion a) _ stack number s m c = absurd m
 
-line_moved : (p q : Setting) (a b : Step) (stack : List (List Symbol)) (number : ProofNumber) → AreSamePairs p.active q.active → IsSameStep p q a b → StepLineHolds p a stack number → StepLineHolds q b stack number
+pub line_moved : (p q : Setting) (a b : Step) (stack : List (List Symbol)) (number : ProofNumber) → AreSamePairs p.active q.active → IsSameStep p q a b → StepLineHolds p a stack number → StepLineHolds q b stack number
 line_moved p q (Named a) (Named b) stack number s m c = label_moved p.active q.active (p.resolve a) (q.resolve b) stack number s m c
 line_moved p q Save Save stack number s m c = c
 line_moved p q (Saved n) b stack number s m c = absurd c

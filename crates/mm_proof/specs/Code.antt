@@ -17,3 +17,4 @@ pub mod MachineState
 pub mod NamedItems
 pub mod Tasks
 pub mod Judged
+pub mod Numbering

@@ -9,6 +9,7 @@ pub mod Machine
 pub mod Run
 pub mod Verdict
 pub mod View
+pub mod Renaming
 pub mod Laws
 pub mod BaseLabels
 pub mod Numbers

@@ -4,7 +4,7 @@ use Rattle.std.specs.List.{AllByRecursion, list_any}
 use Rattle.mm_frame.specs.Language.Base.{BaseView, AreSaid, before, said_at}
 use Rattle.mm_frame.specs.Language.Framing.{mandatory_numbers}
 use Rattle.mm_proof.specs.Language.BaseLabels.{NoLabelTwice, AreActive}
-use Rattle.mm_frame.specs.Language.Frame.{Setting}
+use Rattle.mm_frame.specs.Language.Frame.{Symbol, Setting}
 use Rattle.mm_proof.specs.Language.Expansion.{Step}
 use Rattle.mm_proof.specs.Language.Machine.{IsUsable, AreDecoded}
 use Rattle.mm_proof.specs.Language.Numbers.{is_digit, is_last, value_of}
@@ -12,6 +12,7 @@ use Rattle.mm_proof.specs.Language.Letters.{Letter, Group, groups, IsDivided}
 use Rattle.mm_proof.specs.Language.Decoding.{Reading, in_order, is_close, decoding}
 use Rattle.mm_proof.specs.Language.Citing.{cites}
 use Rattle.mm_proof.specs.Language.View.{AreSameToDecode, IsSameDecoding}
+use Rattle.mm_proof.specs.Language.Renaming.{IsRenamedSetting}
 use Rattle.mm_proof.specs.Language.Verdict.{Decoded}
 use Rattle.mm_proof.specs.declared.ProofNumber.{ProofNumber}
 use Rattle.mm_proof.specs.declared.step.ProofFault.{ProofFault}
@@ -89,6 +90,13 @@ abbrev pub SameCitesSame : Type 0
 SameCitesSame =
     (place other : Setting) (mandatory others words : List (List ℕ)) → AreSameToDecode place other mandatory others words →
     cites place words (decoding place mandatory words) ≡ cites other words (decoding other others words)
+
+-- A renaming of symbols keeps what words decode to, and which of them cite.
+abbrev pub RenamingKeepsDecoding : Type 0
+RenamingKeepsDecoding =
+    (to : Symbol → Symbol) (place other : Setting) → IsRenamedSetting to place other → (mandatory words : List (List ℕ)) →
+    (decoding place mandatory words ≡ decoding other mandatory words) ×
+    ((d : Result Decoded ProofFault) → cites place words d ≡ cites other words d)
 
 -- each number is below those behind it
 abbrev pub Rise : List ℕ → Type 0

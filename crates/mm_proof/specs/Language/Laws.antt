@@ -1,5 +1,5 @@
 -- What is proved of derivations, proofs and verdicts: each is the contract of a function.
-use Rattle.std.specs.Prelude.{◌≡◌, ◌≢◌, ℕ, ◌↔◌, ◌⊎◌, Result, Ok, Some, None, List, [], ◌++◌, length, pos, ◌≤ℤ◌}
+use Rattle.std.specs.Prelude.{◌≡◌, ◌≢◌, ℕ, ◌↔◌, ◌⊎◌, Result, Ok, Some, None, List, [], ◌++◌, length, map, pos, ◌≤ℤ◌}
 use Rattle.mm_frame.specs.Language.Frame.{Symbol, Frame, Setting}
 use Rattle.mm_proof.specs.Language.Derivation.{Takes, Derives}
 use Rattle.mm_frame.specs.Language.Typing.{IsTyped, IsFrame, HasFrames}
@@ -10,6 +10,7 @@ use Rattle.mm_proof.specs.Language.Faults.{StepLineHolds, IsLowest}
 use Rattle.mm_proof.specs.Language.Verdict.{Decoded, StepsDerive, IsVerdict}
 use Rattle.mm_proof.specs.Language.Run.{AreDone}
 use Rattle.mm_proof.specs.Language.View.{IsSameProof}
+use Rattle.mm_proof.specs.Language.Renaming.{IsRenaming, IsRenamedSetting}
 use Rattle.mm_proof.specs.declared.ProofNumber.{ProofNumber}
 use Rattle.mm_proof.specs.declared.Verdict.{Verdict}
 use Rattle.mm_proof.specs.declared.Verdict.TheVariants.{Proved}
@@ -70,6 +71,13 @@ abbrev pub SameProofSameVerdict : Type 0
 SameProofSameVerdict =
     (place other : Setting) (statement : List Symbol) (proof copy : Decoded) (v : Verdict) →
     IsSameProof place other proof copy → IsVerdict place statement (Ok proof) v → IsVerdict other statement (Ok copy) v
+
+-- A renaming of symbols, one to one, keeps the verdict.
+abbrev pub RenamingKeepsVerdict : Type 0
+RenamingKeepsVerdict =
+    (to back : Symbol → Symbol) → IsRenaming to back → (place other : Setting) → IsRenamedSetting to place other →
+    (statement : List Symbol) (decoding : Result Decoded ProofFault) (v : Verdict) →
+    IsVerdict place statement decoding v → IsVerdict other (map to statement) decoding v
 
 -- The machine's stack after the steps is what the steps reach.
 abbrev pub MachineReaches : Type 0

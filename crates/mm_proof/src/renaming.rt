@@ -1,0 +1,18 @@
+//! The laws of a renaming of symbols.
+
+ghost use Rattle.mm_proof.specs.Language.Laws.{RenamingKeepsVerdict};
+ghost use Rattle.mm_proof.specs.Language.DecodingLaws.{RenamingKeepsDecoding};
+
+/// A renaming of symbols, one to one and by kinds, keeps the verdict on a proof.
+///
+/// For a base that keeps numbers in place of the names of symbols; no code calls on it yet.
+pub fn renaming_keeps_verdicts()
+    ensures { RenamingKeepsVerdict }
+{}
+
+/// A renaming of symbols keeps what the words of a proof decode to, and which of them cite.
+///
+/// For a base that keeps numbers in place of the names of symbols; no code calls on it yet.
+pub fn renaming_keeps_decoding()
+    ensures { RenamingKeepsDecoding }
+{}
