@@ -1,34 +1,37 @@
 -- Rows kept of the items, one more item, and what a base answers.
-use Rattle.std.proofs.Common.{◌≡◌, ℕ, zero, suc, ◌<◌, ◌≤◌, Bool, true, Option, Some, None, List, [], ◌∷◌, ◌++◌, length, map, take, drop, take_all, slice_get, Vec, append_assoc, append-nil, ◌&&◌, ◌||◌, cond, get_or, is_none, is_some, not, false, refl, sym, ◌∙◌, ap, subst, arith, inl, inr}
+use Rattle.std.proofs.Common.{◌≡◌, ℕ, zero, suc, ◌<◌, ◌≤◌, Bool, true, Option, Some, None, List, [], ◌∷◌, ◌++◌, length, take, drop, slice_get, Vec, append_assoc, append-nil, ◌&&◌, ◌||◌, cond, get_or, is_none, is_some, not, false, refl, sym, ◌∙◌, ap, subst, arith, inl, inr}
 use Rattle.std.specs.Option.{option_map}
 use Rattle.std.specs.List.{AllZip}
 use Rattle.std.proofs.lemmas.Bool.{false≢true, and_parts}
-use Rattle.std.proofs.lemmas.List.{length_push, take-append-le, length-take-le}
+use Rattle.std.proofs.Math.ListN.{get_or-append}
+use Rattle.std.proofs.Math.Seq.{take-suc}
+use Rattle.std.proofs.lemmas.List.{length_push, get_or_push, take-append-le, length-take-le}
 use Rattle.std.proofs.lemmas.Option.{slice_get_within, slice_get_cases, none-some}
 use Rattle.std.specs.Global.{Global}
 use Rattle.std.specs.Borrow.{Bor}
-use Rattle.std.specs.Prelude.{IfSome}
+use Rattle.std.specs.Prelude.{IfSome, All}
+use Rattle.std.proofs.lemmas.List.Elements.{All-nil}
 use Rattle.mm_frame.specs.declared.FrameNumber.{FrameNumber}
-use Rattle.mm_frame.specs.declared.symbol.NamedSymbol.{NamedSymbol}
+use Rattle.mm_frame.specs.declared.symbol.NumberedSymbol.{NumberedSymbol}
 use Rattle.mm_frame.specs.Language.Item.{Kind, Essential, Axiom, Theorem, Missing, Item, passed, is_labelled, is_disjoint, is_assertion, is_essential, is_theorem, item_at}
 use Rattle.mm_frame.specs.Language.Sound.{IsSound, AreSound, fault, judged, sound_items, sound_items_after}
-use Rattle.mm_frame.specs.Language.Framing.{symbol, expression, frame}
-use Rattle.mm_frame.specs.Language.Scope.{Mark, Closes, Neither, mark_of, closes, active_variables, active_numbers}
-use Rattle.mm_frame.specs.Code.CodeSymbols.{symbols_of, kept_pairs, as_variable}
+use Rattle.mm_frame.specs.Language.Framing.{expression, frame}
+use Rattle.mm_frame.specs.Language.Scope.{Mark, Closes, Neither, mark_of, closes, active_numbers}
+use Rattle.mm_frame.specs.Code.Numbers.{IsName, AreNumbersOf}
+use Rattle.mm_frame.specs.Code.CodeSymbols.{symbols_of, kept_pairs, IsNumbered, IsPairNumbered, ArePairsRead}
 use Rattle.mm_frame.specs.Code.KeptSymbols.{expression_kept, kept_or_none, is_read, AreSymbols, AreExpressions}
 use Rattle.mm_frame.specs.Code.LastItems.{IsSort}
 use Rattle.mm_frame.specs.Code.KeptScope.{taken}
 use Rattle.mm_frame.specs.Language.Base.{BaseView, before, said_at, fault_by, told_fault, is_sound_at, expression_at, is_framed_at, frame_at}
-use Rattle.mm_frame.specs.Code.KeptBase.{told_numbers, numbers_if, pairs_if}
+use Rattle.mm_frame.specs.Code.KeptBase.{told_numbers, numbers_if}
 use Rattle.mm_frame.specs.Code.KeptBase.{AreRows, TellsFrame, is_told_proof}
-use Rattle.mm_frame.specs.Language.Frame.{Symbol, AreSamePairs}
+use Rattle.mm_frame.specs.Language.Frame.{AreSamePairs}
 use Rattle.mm_frame.specs.Code.PairOrder.{pairs_in_order}
 use Rattle.mm_frame.specs.declared.draft.Frame.{Frame}
 use Rattle.mm_frame.proofs.FramePairs.{same_pairs}
 use Rattle.mm_frame.proofs.Judged.{no_fault_sound, sound_found, passed_sound, kept_is_sound, kept_next, kept_after_append}
-use Rattle.mm_frame.proofs.SoundItems.{kept_sound, split_at, map_same}
-use Rattle.mm_frame.proofs.Members.{in_has}
-use Rattle.mm_frame.proofs.PairLemmas.{disjoint_neither, disjoint_named}
+use Rattle.mm_frame.proofs.SoundItems.{kept_sound, split_at}
+use Rattle.mm_frame.proofs.PairLemmas.{disjoint_neither}
 use Rattle.mm_frame.proofs.TableLemmas.{item_between, take_between}
 use Rattle.mm_frame.proofs.BlockLemmas.{get_cases, get_last}
 use Rattle.mm_frame.proofs.NamedLemmas.{get_before}
@@ -59,6 +62,13 @@ rows_more {X} tells said item rows row a t = record {
 
     newest : (x : X) → row ≡ x → tells (sound_items (take (length said) (said ++ item ∷ []))) (item_at (said ++ item ∷ []) (length said)) x
     newest x e = subst (λ w. tells (sound_items w) (item_at (said ++ item ∷ []) (length said)) x) (sym (take_between said item [])) (subst (λ w. tells (sound_items said) w x) (sym (item_between said item [])) (subst (λ w. tells (sound_items said) item w) e t))
+
+-- no rows, and no symbols
+pub rows_none : {X : Type 0} (tells : List Item → Item → X → Type 0) → AreRows tells [] []
+rows_none tells = record { count = refl; each = λ n row e. cc }
+
+pub symbols_none : (all : List (List ℕ)) → AreSymbols all [] []
+symbols_none all = record { count = refl; numbered = λ n. All-nil (IsNumbered all); each = λ n item e t. cc }
 
 -- what is kept is sound
 pub kept_are_sound : (said : List Item) → AreSound (sound_items said)
@@ -100,21 +110,31 @@ none_found found true e = ap not e
 none_found found false e = ap not e
 
 -- one more item, with the symbols that are kept for it
-pub symbols_more : (before : List Item) (item : Item) (expressions : List (Vec NamedSymbol Global)) (symbols : Vec NamedSymbol Global) → AreSymbols before expressions → (is_read item.kind ≡ true → symbols_of symbols.items ≡ expression before item)
-    → AreSymbols (before ++ item ∷ []) (expressions ++ symbols ∷ [])
-symbols_more before item expressions symbols a new = record {
+pub symbols_more : (all : List (List ℕ)) (before : List Item) (item : Item) (expressions : List (Vec NumberedSymbol Global)) (symbols : Vec NumberedSymbol Global) → AreSymbols all before expressions → All (IsNumbered all) symbols.items
+    → (is_read item.kind ≡ true → symbols_of all symbols.items ≡ expression before item) → AreSymbols all (before ++ item ∷ []) (expressions ++ symbols ∷ [])
+symbols_more all before item expressions symbols a numbers new = record {
   count = (let c = a.count in let p = length_push expressions symbols in let q = length_push before item in omega arith);
+  numbered = λ n. by_place n (slice_get (expressions ++ symbols ∷ []) n) refl;
   each = λ n x e t. elim (get_cases before item x n e) [
-    | inl there ↦ (let c = a.count in let w = slice_get_within before n x there in ap (λ o. symbols_of (kept_or_none o)) (get_before expressions symbols n (omega arith)) ∙ a.each n x there t ∙ ap (λ (w : List Item). expression w x) (sym (take-append-le n before (item ∷ []) (omega arith))))
+    | inl there ↦ (let c = a.count in let w = slice_get_within before n x there in
+        ap (λ o. symbols_of all (kept_or_none o)) (get_before expressions symbols n (omega arith)) ∙ a.each n x there t ∙ ap (λ (w : List Item). expression w x) (sym (take-append-le n before (item ∷ []) (omega arith))))
     | inr last ↦ (let z = last.0 in
-        ap (λ k. symbols_of (expression_kept (expressions ++ symbols ∷ []) k)) (z ∙ sym a.count) ∙ ap (λ o. symbols_of (kept_or_none o)) (get_last expressions symbols (length expressions) refl) ∙ new (ap (λ (w : Item). is_read w.kind) last.1 ∙ t)
-        ∙ (λ i. expression (sym (ap (λ k. take k (before ++ item ∷ [])) z ∙ take_between before item []) i) (last.1 i)))
+        ap (λ k. symbols_of all (expression_kept (expressions ++ symbols ∷ []) k)) (z ∙ sym a.count) ∙ ap (λ o. symbols_of all (kept_or_none o)) (get_last expressions symbols (length expressions) refl)
+        ∙ new (ap (λ (w : Item). is_read w.kind) last.1 ∙ t) ∙ (λ i. expression (sym (ap (λ k. take k (before ++ item ∷ [])) z ∙ take_between before item []) i) (last.1 i)))
   ];
 }
+  where
+    by_place : (n : ℕ) (o : Option (Vec NumberedSymbol Global)) → slice_get (expressions ++ symbols ∷ []) n ≡ o → All (IsNumbered all) (kept_or_none o)
+    by_place n None e = All-nil (IsNumbered all)
+    by_place n (Some kept) e = elim (get_cases expressions symbols kept n e) [
+      | inl there ↦ subst (λ o. All (IsNumbered all) (kept_or_none o)) there (a.numbered n)
+      | inr last ↦ subst (λ (w : Vec NumberedSymbol Global). All (IsNumbered all) w.items) last.1 numbers
+    ]
 
-pub symbols_taken : (before : List Item) (item : Item) (symbols : List NamedSymbol) (sound : Bool) → (sound ≡ true → is_read item.kind ≡ true → symbols_of symbols ≡ expression before item) → is_read (taken sound item).kind ≡ true → symbols_of symbols ≡ expression before (taken sound item)
-symbols_taken before item symbols true h t = h refl t
-symbols_taken before item symbols false h t = absurd (false≢true t)
+pub symbols_taken : (all : List (List ℕ)) (before : List Item) (item : Item) (symbols : List NumberedSymbol) (sound : Bool) → (sound ≡ true → is_read item.kind ≡ true → symbols_of all symbols ≡ expression before item)
+    → is_read (taken sound item).kind ≡ true → symbols_of all symbols ≡ expression before (taken sound item)
+symbols_taken all before item symbols true h t = h refl t
+symbols_taken all before item symbols false h t = absurd (false≢true t)
 
 -- where an item stands among what is kept
 kept_after_front : (before items : List Item) → (rest : List Item) × (sound_items_after before items ≡ before ++ rest) × (length rest ≡ length items)
@@ -187,8 +207,9 @@ labelled_there (x ∷ said) (suc i) e = labelled_there said i e
 pub expression_none : (base : BaseView) (i : ℕ) → (is_sound_at base i && is_labelled (said_at base i).kind) ≡ false → expression_at base i ≡ None
 expression_none base i e = ap (λ b. cond b (Some (expression (before base i) (said_at base i))) None) e
 
-pub expression_some : (base : BaseView) (i : ℕ) (expressions : List (Vec NamedSymbol Global)) → AreSymbols (sound_items base.said) expressions → (is_sound_at base i && is_labelled (said_at base i).kind) ≡ true → expression_at base i ≡ Some (symbols_of (expression_kept expressions i))
-expression_some base i expressions a e =
+pub expression_some : (all : List (List ℕ)) (base : BaseView) (i : ℕ) (expressions : List (Vec NumberedSymbol Global)) → AreSymbols all (sound_items base.said) expressions → (is_sound_at base i && is_labelled (said_at base i).kind) ≡ true
+    → expression_at base i ≡ Some (symbols_of all (expression_kept expressions i))
+expression_some all base i expressions a e =
     let item = said_at base i in
     let parts = and_parts (is_sound_at base i) (is_labelled item.kind) e in
     let sound = none_told item.kind (fault (before base i) item) parts.0 in
@@ -196,14 +217,9 @@ expression_some base i expressions a e =
     let read : is_read item.kind ≡ true = ap (λ b. b || is_disjoint item.kind) parts.1 in
     ap (λ b. cond b (Some (expression (before base i) item)) None) e ∙ ap Some (ap (λ w. expression w item) (sym (kept_front_at base.said i item there)) ∙ sym (a.each i item (kept_item_at base.said i item there sound) read))
 
--- a sound `$d` is read as variables
-pub variables_read : (item : Item) (n : ℕ) (variables : List NamedSymbol) → length item.symbols ≤ n → symbols_of variables ≡ map as_variable (take n item.symbols) → (before : List Item) → IsSound before item → is_disjoint item.kind ≡ true → symbols_of variables ≡ expression before item
-variables_read item n variables l r before s t = r ∙ ap (map as_variable) (take_all n item.symbols l)
-    ∙ map_same as_variable (symbol before) item.symbols (λ name m. let v = in_has (active_variables before) name (disjoint_named before item name s t m) in λ i. record { name = name; variable = sym v i })
-
 -- what is read of a `$f`, `$e`, `$a` or `$p` is its expression
-pub are_expressions : (before : List Item) (expressions : List (Vec NamedSymbol Global)) → AreSymbols before expressions → AreExpressions before expressions
-are_expressions before expressions a n item e t = a.each n item e (ap (λ b. b || is_disjoint item.kind) t)
+pub are_expressions : (all : List (List ℕ)) (before : List Item) (expressions : List (Vec NumberedSymbol Global)) → AreSymbols all before expressions → AreExpressions all before expressions
+are_expressions all before expressions a n item e t = a.each n item e (ap (λ b. b || is_disjoint item.kind) t)
 
 -- an item that is not of the sort and is no `$}` leaves the active items of the sort as they are
 not_closes : (m : Mark) → closes m ≡ false → m ≡ Closes → ⊥
@@ -271,9 +287,9 @@ pub frame_numbers : (lent : Option (Bor Frame)) (kept_frame : Option Frame) → 
 frame_numbers None kept_frame e = ap (option_map (λ (frame : Frame). frame.hypotheses.items)) e
 frame_numbers (Some frame) kept_frame e = ap (option_map (λ (frame : Frame). frame.hypotheses.items)) e
 
-pairs_told : (framed : Bool) (before : List Item) (item : Item) (pairs : List (Symbol × Symbol)) → Some pairs ≡ pairs_if framed before item → (framed ≡ true) × (pairs ≡ pairs_in_order (frame before item))
-pairs_told true before item pairs e = (refl, cc)
-pairs_told false before item pairs e = cc
+framed_from : (framed : Bool) (before : List Item) (item : Item) (numbers : List ℕ) → Some numbers ≡ numbers_if framed before item → framed ≡ true
+framed_from true before item numbers e = refl
+framed_from false before item numbers e = cc
 
 -- the pairs of the frame of an assertion in one order are its pairs
 pub framed_in_order : (base : BaseView) (i : ℕ) → is_framed_at base i ≡ true → AreSamePairs (pairs_in_order (frame_at base i)) (frame_at base i).pairs
@@ -283,15 +299,42 @@ framed_in_order base i t =
     let sound = no_fault_sound (before base i) item (none_told item.kind (fault (before base i) item) parts.0) in
     same_pairs (before base i) item (kept_are_sound (take i base.said)) sound parts.1
 
-frame_told : (base : BaseView) (i : ℕ) (frame : Bor Frame) (kept_frame : Option Frame) → Some frame.now ≡ kept_frame → TellsFrame (before base i) (said_at base i) kept_frame → (is_framed_at base i ≡ true) × (kept_pairs frame.now.pairs.items ≡ pairs_in_order (frame_at base i))
-frame_told base i frame kept_frame e t = pairs_told (is_framed_at base i) (before base i) (said_at base i) (kept_pairs frame.now.pairs.items) (ap (option_map (λ (f : Frame). kept_pairs f.pairs.items)) e ∙ t.pairs)
-
-pub frame_order : (base : BaseView) (i : ℕ) (lent : Option (Bor Frame)) (kept_frame : Option Frame) → option_map (λ frame. frame.now) lent ≡ kept_frame → TellsFrame (before base i) (said_at base i) kept_frame
-    → IfSome lent (λ frame. kept_pairs frame.now.pairs.items ≡ pairs_in_order (frame_at base i))
-frame_order base i None kept_frame e t = tt
-frame_order base i (Some frame) kept_frame e t = (frame_told base i frame kept_frame e t).1
+pub frame_order : (all : List (List ℕ)) (base : BaseView) (i : ℕ) (lent : Option (Bor Frame)) (kept_frame : Option Frame) → option_map (λ frame. frame.now) lent ≡ kept_frame → TellsFrame all (before base i) (said_at base i) kept_frame
+    → IfSome lent (λ frame. ArePairsRead all (pairs_in_order (frame_at base i)) frame.now.pairs.items)
+frame_order all base i None kept_frame e t = tt
+frame_order all base i (Some frame) kept_frame e t =
+    let framed = framed_from (is_framed_at base i) (before base i) (said_at base i) frame.now.hypotheses.items (ap (option_map (λ (f : Frame). f.hypotheses.items)) e ∙ t.hypotheses) in
+    t.pairs framed frame.now (sym e)
 
 -- pairs in this order are those of the frame of an assertion
-pub ordered_pairs : {X : Type 0} (told : X → List (Symbol × Symbol)) (base : BaseView) (i : ℕ) (found : Option X) → is_some found ≡ is_framed_at base i → IfSome found (λ x. told x ≡ pairs_in_order (frame_at base i)) → IfSome found (λ x. AreSamePairs (told x) (frame_at base i).pairs)
-ordered_pairs told base i None s e = tt
-ordered_pairs told base i (Some x) s e = subst (λ w. AreSamePairs w (frame_at base i).pairs) (sym e) (framed_in_order base i (sym s))
+pub ordered_pairs : {X : Type 0} (all : List (List ℕ)) (kept : X → List (NumberedSymbol × NumberedSymbol)) (base : BaseView) (i : ℕ) (found : Option X) → is_some found ≡ is_framed_at base i
+    → IfSome found (λ x. ArePairsRead all (pairs_in_order (frame_at base i)) (kept x)) → IfSome found (λ x. AreSamePairs (kept_pairs all (kept x)) (frame_at base i).pairs)
+ordered_pairs all kept base i None s e = tt
+ordered_pairs all kept base i (Some x) s e = subst (λ w. AreSamePairs w (frame_at base i).pairs) (sym e.pairs) (framed_in_order base i (sym s))
+
+pub ordered_numbered : {X : Type 0} (all : List (List ℕ)) (kept : X → List (NumberedSymbol × NumberedSymbol)) (base : BaseView) (i : ℕ) (found : Option X)
+    → IfSome found (λ x. ArePairsRead all (pairs_in_order (frame_at base i)) (kept x)) → IfSome found (λ x. All (IsPairNumbered all) (kept x))
+ordered_numbered all kept base i None e = tt
+ordered_numbered all kept base i (Some x) e = e.numbered
+
+pub same_frame_kept : (frame kept : Frame) → Some frame ≡ Some kept → frame ≡ kept
+same_frame_kept frame kept e = cc
+
+-- one more name with its number
+numbers_push : (all : List (List ℕ)) (numbers : List ℕ) (names : List (List ℕ)) (number : ℕ) (name : List ℕ) → AreNumbersOf all numbers names → IsName all number name → AreNumbersOf all (numbers ++ number ∷ []) (names ++ name ∷ [])
+numbers_push all numbers names number name a there = record {
+  count = (let c = a.count in let p = length_push numbers number in let q = length_push names name in omega arith);
+  each = λ i n e. elim (get_cases numbers number n i e) [
+    | inl old ↦ (let c = a.count in let w = slice_get_within numbers i n old in subst (IsName all n) (sym (get_or-append names (name ∷ []) [] i (omega arith))) (a.each i n old))
+    | inr last ↦ (let here = get_or_push names name [] i (sym (last.0 ∙ a.count)) in subst (λ k. IsName all k (get_or (names ++ name ∷ []) i [])) last.1 (subst (IsName all number) (sym here) there))
+  ];
+}
+
+pub numbers_more : (all : List (List ℕ)) (numbers : List ℕ) (names : List (List ℕ)) (n more number : ℕ) (name : List ℕ) → more ≡ suc n → n < length names → name ≡ get_or names n [] → AreNumbersOf all numbers (take n names) → IsName all number name
+    → AreNumbersOf all (numbers ++ number ∷ []) (take more names)
+numbers_more all numbers names n more number name m l e a there =
+    let longer = ap (λ k. take k names) m ∙ take-suc names n [] l ∙ ap (λ x. take n names ++ x ∷ []) (sym e) in
+    subst (AreNumbersOf all (numbers ++ number ∷ [])) (sym longer) (numbers_push all numbers (take n names) number name a there)
+
+pub numbers_none : (all : List (List ℕ)) → AreNumbersOf all [] []
+numbers_none all = record { count = refl; each = λ i n e. cc }

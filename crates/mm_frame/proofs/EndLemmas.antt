@@ -1,5 +1,5 @@
 -- What a `$}` leaves of the numbers of active items: those that stood last go.
-use Rattle.std.proofs.Common.{◌≡◌, ℕ, zero, suc, ◌+◌, ◌-◌, ◌<◌, Bool, true, false, cond, Option, Some, List, [], ◌∷◌, ◌++◌, length, take, drop, slice_get, get_or, refl, sym, ◌∙◌, ap, subst, append_assoc, arith, inl, inr, ◌⊎◌, length-append}
+use Rattle.std.proofs.Common.{◌≡◌, ℕ, zero, suc, ◌+◌, ◌-◌, ◌<◌, Bool, true, false, cond, Option, Some, List, [], ◌∷◌, ◌++◌, length, take, drop, slice_get, get_or, refl, sym, ◌∙◌, ap, subst, append_assoc, arith, inl, inr, ◌⊎◌}
 use Rattle.std.specs.Prelude.{Contains, option_to_list}
 use Rattle.std.proofs.lemmas.Bool.{false≢true}
 use Rattle.std.proofs.lemmas.Option.{get_or_from_slice_get, slice_get_within}
@@ -16,6 +16,7 @@ use Rattle.mm_frame.proofs.SoundItems.{split_at}
 use Rattle.mm_frame.proofs.SpokenLemmas.{get_drop}
 use Rattle.mm_frame.proofs.TableLemmas.{not_closing}
 use Rattle.mm_frame.proofs.BlockLemmas.{get_front, get_cases, stays_of}
+use Rattle.mm_frame.proofs.Rising.{rising_front}
 use Rattle.mm_frame.proofs.HypothesisNumbers.{to_active_number, from_active_number, active_numbers_rise, active_numbers_more, same_rising}
 
 -- what is active behind one more item was active before it
@@ -62,12 +63,6 @@ number_before test before item t n h =
 
 number_behind : (test : Item → Bool) (before : List Item) (item : Item) (n : ℕ) → In n (active_numbers test before) → is_active_at (before ++ item ∷ []) n ≡ true → In n (active_numbers test (before ++ item ∷ []))
 number_behind test before item n h k = let r = from_active_number test before n h in to_active_number test (before ++ item ∷ []) n r.0 (get_front before item r.0 n r.1) k r.3
-
--- the beginning of rising numbers rises, and each of its numbers but the last is less than the last
-rising_front : (kept gone : List ℕ) → IsRising (kept ++ gone) → IsRising kept
-rising_front kept gone r i j d l m =
-    let n = length-append kept gone in
-    subst (λ a. a < get_or kept j d) (get_or_append_left kept gone d i (omega arith)) (subst (λ b. get_or (kept ++ gone) i d < b) (get_or_append_left kept gone d j m) (r i j d l (omega arith)))
 
 -- the last of some numbers
 abbrev IsEmptyOrEnds : List ℕ → Type 0

@@ -1,15 +1,17 @@
 -- What the code that looks for a fault rests on.
-use Rattle.std.proofs.Common.{◌≡◌, ℕ, suc, ◌+◌, ◌<◌, Bool, true, false, not, cond, ◌&&◌, ◌||◌, Option, Some, None, List, [], ◌∷◌, ◌++◌, length, take, drop, get_or, bytes_eq, refl, sym, ◌∙◌, ap, subst, arith}
+use Rattle.std.proofs.Common.{◌≡◌, ℕ, suc, ◌+◌, ◌<◌, ◌≤◌, Bool, true, false, not, cond, ◌&&◌, ◌||◌, Option, Some, None, List, [], ◌∷◌, ◌++◌, length, take, drop, get_or, bytes_eq, refl, sym, ◌∙◌, ap, subst, arith}
 use Rattle.std.specs.Borrow.{Bor}
 use Rattle.std.specs.Prelude.{is_none}
 use Rattle.std.specs.Option.{option_or}
 use Rattle.std.specs.HashSet.{HashSet, Updates}
 use Rattle.std.proofs.Math.Seq.{take-suc}
 use Rattle.std.proofs.lemmas.Option.{slice_get-get_or}
+use Rattle.std.proofs.lemmas.List.{drop_all}
 use Rattle.std.proofs.lemmas.List.Folds.{list_any-append}
 use Rattle.mm_frame.specs.Language.Item.{Item, has}
 use Rattle.mm_frame.specs.Language.Scope.{constants, active_variables, typed}
 use Rattle.mm_frame.specs.Language.Sound.{first_symbol, closing_word, fault_or, fault, AreSound}
+use Rattle.mm_frame.specs.Code.Numbers.{AreNumbersOf}
 use Rattle.mm_frame.specs.Code.KeptScope.{ScopeHolds}
 use Rattle.mm_frame.specs.declared.scope.Scope.{Scope}
 use Rattle.mm_frame.specs.declared.tables.Declared.{Declared}
@@ -70,41 +72,47 @@ twice_not true = refl
 twice_not false = refl
 
 -- the symbols up to a number have no fault, and are those that were seen where they have to differ
-pub record Passes {S : Type 0} (scope : Scope) (item : Item) (n : ℕ) (seen : HashSet (Bor (List ℕ)) S) : Type 0 where
+pub record Passes {S : Type 0} (scope : Scope) (item : Item) (numbers : List ℕ) (n : ℕ) (seen : HashSet (Bor (List ℕ)) S) : Type 0 where
   pub sees : must_differ item.kind ≡ true → HasSeen (take n item.symbols) seen
-  pub rest : (before : List Item) → AreSound before → ScopeHolds before scope → symbols_fault before item ≡ first_fault (symbol_fault before item) (first_symbol item + n) n (drop n item.symbols)
+  pub rest : (all : List (List ℕ)) (before : List Item) → AreSound before → ScopeHolds all before scope → AreNumbersOf all numbers item.symbols → symbols_fault before item ≡ first_fault (symbol_fault before item) (first_symbol item + n) n (drop n item.symbols)
 
 -- the first of the symbols that are left
-next_fault : {S : Type 0} {scope : Scope} (item : Item) (n : ℕ) (seen : HashSet (Bor (List ℕ)) S) → n < length item.symbols → Passes scope item n seen → (before : List Item) → AreSound before → ScopeHolds before scope
+next_fault : {S : Type 0} {scope : Scope} (item : Item) (numbers : List ℕ) (n : ℕ) (seen : HashSet (Bor (List ℕ)) S) → n < length item.symbols → Passes scope item numbers n seen
+    → (all : List (List ℕ)) (before : List Item) → AreSound before → ScopeHolds all before scope → AreNumbersOf all numbers item.symbols
     → symbols_fault before item ≡ fault_or (first_symbol item + n) (symbol_fault before item n (get_or item.symbols n [])) (first_fault (symbol_fault before item) (suc (first_symbol item + n)) (suc n) (drop (suc n) item.symbols))
-next_fault item n seen l p before h k = p.rest before h k ∙ first_fault_at (symbol_fault before item) (first_symbol item + n) n n (get_or item.symbols n []) item.symbols (slice_get-get_or item.symbols n [] l)
+next_fault item numbers n seen l p all before h k a = p.rest all before h k a ∙ first_fault_at (symbol_fault before item) (first_symbol item + n) n n (get_or item.symbols n []) item.symbols (slice_get-get_or item.symbols n [] l)
 
 -- a symbol with a fault
-pub fault_there : {S : Type 0} {scope : Scope} (item : Item) (n word : ℕ) (seen : HashSet (Bor (List ℕ)) S) (number : FrameNumber) → n < length item.symbols → word ≡ first_symbol item + n → Passes scope item n seen
-    → (before : List Item) → AreSound before → ScopeHolds before scope → Some number ≡ symbol_fault before item n (get_or item.symbols n [])
+pub fault_there : {S : Type 0} {scope : Scope} (item : Item) (numbers : List ℕ) (n word : ℕ) (seen : HashSet (Bor (List ℕ)) S) (number : FrameNumber) → n < length item.symbols → word ≡ first_symbol item + n → Passes scope item numbers n seen
+    → (all : List (List ℕ)) (before : List Item) → AreSound before → ScopeHolds all before scope → AreNumbersOf all numbers item.symbols → Some number ≡ symbol_fault before item n (get_or item.symbols n [])
     → ◌≡◌ {A = Option (ℕ × FrameNumber)} (Some (word, number)) (symbols_fault before item)
-fault_there item n word seen number l w p before h k f =
-    (λ i. fault_or (w i) (f i) (first_fault (symbol_fault before item) (suc (first_symbol item + n)) (suc n) (drop (suc n) item.symbols))) ∙ sym (next_fault item n seen l p before h k)
+fault_there item numbers n word seen number l w p all before h k a f =
+    (λ i. fault_or (w i) (f i) (first_fault (symbol_fault before item) (suc (first_symbol item + n)) (suc n) (drop (suc n) item.symbols))) ∙ sym (next_fault item numbers n seen l p all before h k a)
+
+-- no symbol is left
+pub none_left : {S : Type 0} {scope : Scope} (item : Item) (numbers : List ℕ) (n : ℕ) (seen : HashSet (Bor (List ℕ)) S) → length item.symbols ≤ n → Passes scope item numbers n seen
+    → (all : List (List ℕ)) (before : List Item) → AreSound before → ScopeHolds all before scope → AreNumbersOf all numbers item.symbols → None ≡ symbols_fault before item
+none_left item numbers n seen l p all before h k a = sym (p.rest all before h k a ∙ ap (first_fault (symbol_fault before item) (first_symbol item + n) n) (drop_all n item.symbols l))
 
 -- a symbol with no fault
-pub passes_more : {S : Type 0} {scope : Scope} (item : Item) (n more : ℕ) (name : List ℕ) (old new : HashSet (Bor (List ℕ)) S) → more ≡ suc n → n < length item.symbols → name ≡ get_or item.symbols n [] → Passes scope item n old
+pub passes_more : {S : Type 0} {scope : Scope} (item : Item) (numbers : List ℕ) (n more : ℕ) (name : List ℕ) (old new : HashSet (Bor (List ℕ)) S) → more ≡ suc n → n < length item.symbols → name ≡ get_or item.symbols n [] → Passes scope item numbers n old
     → (must_differ item.kind ≡ true → HasSeen (take n item.symbols ++ name ∷ []) new)
-    → ((before : List Item) → AreSound before → ScopeHolds before scope → None ≡ symbol_fault before item n (get_or item.symbols n []))
-    → Passes scope item more new
-passes_more {scope = scope} item n more name old new m l e p seen none = record {
+    → ((all : List (List ℕ)) (before : List Item) → AreSound before → ScopeHolds all before scope → AreNumbersOf all numbers item.symbols → None ≡ symbol_fault before item n (get_or item.symbols n []))
+    → Passes scope item numbers more new
+passes_more {scope = scope} item numbers n more name old new m l e p seen none = record {
   sees = λ d. subst (λ names. HasSeen names new) (sym longer) (seen d);
-  rest = λ before h k. next_fault item n old l p before h k ∙ passed_by before h k;
+  rest = λ all before h k a. next_fault item numbers n old l p all before h k a ∙ passed_by all before h k a;
 }
   where
     longer : take more item.symbols ≡ take n item.symbols ++ name ∷ []
     longer = ap (λ w. take w item.symbols) m ∙ take-suc item.symbols n [] l ∙ ap (λ x. take n item.symbols ++ x ∷ []) (sym e)
 
-    passed_by : (before : List Item) → AreSound before → ScopeHolds before scope
+    passed_by : (all : List (List ℕ)) (before : List Item) → AreSound before → ScopeHolds all before scope → AreNumbersOf all numbers item.symbols
         → fault_or (first_symbol item + n) (symbol_fault before item n (get_or item.symbols n [])) (first_fault (symbol_fault before item) (suc (first_symbol item + n)) (suc n) (drop (suc n) item.symbols)) ≡ first_fault (symbol_fault before item) (first_symbol item + more) more
         (drop more item.symbols)
-    passed_by before h k =
+    passed_by all before h k a =
         let word : suc (first_symbol item + n) ≡ first_symbol item + more = omega (arith, m) in
-        (λ i. fault_or (first_symbol item + n) (sym (none before h k) i) (first_fault (symbol_fault before item) (word i) (sym m i) (drop (sym m i) item.symbols)))
+        (λ i. fault_or (first_symbol item + n) (sym (none all before h k a) i) (first_fault (symbol_fault before item) (word i) (sym m i) (drop (sym m i) item.symbols)))
 
 -- the fault of a statement, where it is found at the first word, among the symbols, or neither
 pub at_front : (before : List Item) (item : Item) (number : FrameNumber) → Some number ≡ front_fault before item → ◌≡◌ {A = Option (ℕ × FrameNumber)} (Some (0, number)) (fault before item)

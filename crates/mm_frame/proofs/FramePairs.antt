@@ -1,61 +1,50 @@
 -- The pairs of a frame: those of its variables, in order, that an active `$d` has.
-use Rattle.std.proofs.Common.{◌≡◌, ◌≢◌, ℕ, suc, ◌+◌, ◌<◌, ◌≤◌, Bool, true, false, cond, ◌&&◌, ◌||◌, Some, None, List, [], ◌∷◌, ◌++◌, length, map, filter, take, drop, slice_get, get_or, bytes_eq, Vec, Result, refl, sym, ◌∙◌, ap, subst, append_assoc, append-nil, take-suc, arith, inl, inr, ◌⊎◌}
-use Rattle.std.specs.Prelude.{is_ok, nat_eq, option_to_list}
-use Rattle.std.specs.List.Sorted.{IsBinarySearchResult}
-use Rattle.std.specs.Ordering.{nat_cmp}
+use Rattle.std.proofs.Common.{◌≡◌, ◌≢◌, ℕ, suc, ◌+◌, ◌<◌, ◌≤◌, Bool, true, false, cond, ◌&&◌, Some, None, List, [], ◌∷◌, ◌++◌, length, map, filter, flat_map, take, drop, slice_get, get_or, Vec, refl, sym, ◌∙◌, ap, subst, append_assoc, append-nil, take-suc, arith, inl, inr, ◌⊎◌}
+use Rattle.std.specs.Prelude.{All, option_to_list}
 use Rattle.std.specs.Global.{Global}
-use Rattle.std.specs.Cmp.{nat_eq_equiv}
-use Rattle.std.proofs.lemmas.Bool.{false≢true, or_cases, or_left, or_right, and_from, false_from_ne_true, eqb-true}
+use Rattle.std.proofs.lemmas.Bool.{or_cases, and_from, false_from_ne_true}
 use Rattle.std.proofs.lemmas.Grind.{flat_map-append}
-use Rattle.std.proofs.lemmas.List.Elements.{filter-append}
-use Rattle.std.proofs.lemmas.Map.Views.{any-filter_same, list_any-from_Contains, Contains-from_any}
-use Rattle.std.proofs.lemmas.Option.{get_or_from_slice_get}
-use Rattle.std.proofs.lemmas.Slice.Eq.{bytes_eq-Decides}
-use Rattle.mm_frame.specs.declared.symbol.NamedSymbol.{NamedSymbol}
+use Rattle.std.proofs.lemmas.List.{map-append, map_push}
+use Rattle.std.proofs.lemmas.List.Elements.{All-contains, All-push, filter-append}
+use Rattle.std.proofs.lemmas.Map.Views.{any-filter_same}
+use Rattle.std.proofs.lemmas.Option.{same_Some, get_or_from_slice_get}
+use Rattle.mm_frame.specs.declared.symbol.NumberedSymbol.{NumberedSymbol}
+use Rattle.mm_frame.specs.declared.paired.PairTable.{PairTable}
 use Rattle.mm_frame.specs.Language.Frame.{Symbol, Mandatory, ArePair, AreSamePairs}
 use Rattle.mm_frame.specs.Language.Typing.{IsTyped}
-use Rattle.mm_frame.specs.Language.Item.{Item, passed, is_disjoint, is_declaring, is_floating, is_essential, is_assertion, has, variable_of, item_at}
-use Rattle.mm_frame.specs.Language.Scope.{active, active_numbers}
-use Rattle.mm_frame.specs.declared.FrameNumber.TheVariants.{F03}
-use Rattle.mm_frame.specs.Language.Sound.{is_repeated, IsSound, AreSound}
+use Rattle.mm_frame.specs.Language.Item.{Item, passed, is_floating, is_essential, is_assertion, has, variable_of, item_at}
+use Rattle.mm_frame.specs.Language.Names.{name_at}
+use Rattle.mm_frame.specs.Language.Scope.{Mark, active, active_numbers}
+use Rattle.mm_frame.specs.Language.Sound.{IsSound, AreSound}
 use Rattle.mm_frame.specs.Language.Framing.{symbol, expression, mandatory_variables, is_mandatory, hypothesis, mandatory_hypotheses, pairs_of, active_pairs, is_mandatory_pair, frame, mandatory_numbers}
-use Rattle.mm_frame.specs.Code.LastItems.{is_active_at, is_essential_item, IsRising}
-use Rattle.mm_frame.specs.Code.CodeSymbols.{symbols_of}
-use Rattle.mm_frame.specs.Code.KeptSymbols.{expression_kept, AreExpressions}
+use Rattle.mm_frame.specs.Code.LastItems.{is_active_at, is_essential_item}
+use Rattle.mm_frame.specs.Code.CodeSymbols.{symbol_of, symbols_of, pair_of, IsNumbered, IsPairNumbered, ArePairsRead}
+use Rattle.mm_frame.specs.Code.KeptSymbols.{expression_kept, AreExpressions, AreNumbered}
+use Rattle.mm_frame.specs.Code.KeptPairTable.{row_at, ReadsPairs}
 use Rattle.mm_frame.specs.Code.PairOrder.{are_paired, typed_variables, pairs_in_order, is_among, float_variable, float_variables}
-use Rattle.mm_frame.proofs.Members.{In, in_contains, contains_in, in_left, in_right, in_cases, in_map, from_map, in_filter, from_filter, in_flat, from_flat, in_get, in_has}
-use Rattle.mm_frame.proofs.Scopes.{active_split}
-use Rattle.mm_frame.proofs.Facts.{and_both, no_symbol_of, float_two}
-use Rattle.mm_frame.proofs.Frames.{float_of, float_name, float_labelled, from_pairs, pairs_typed_at, assertion_expression}
+use Rattle.mm_frame.proofs.Members.{In, in_contains, contains_in, from_map, in_filter, from_filter, in_flat, from_flat}
+use Rattle.mm_frame.proofs.Facts.{and_both, float_two}
+use Rattle.mm_frame.proofs.Frames.{in_at, float_of, float_name, float_labelled, from_pairs, pairs_typed_at, assertion_expression}
 use Rattle.mm_frame.proofs.SoundItems.{split_at, filter_same, sound_kept}
+use Rattle.mm_frame.proofs.NumberLemmas.{name_there}
 use Rattle.mm_frame.proofs.HypothesisNumbers.{to_active_number, from_active_number, hypotheses_by_numbers}
-use Rattle.mm_frame.proofs.MandatoryLemmas.{found_or_not, not_both, same_item}
-use Rattle.mm_frame.proofs.PairLemmas.{expression_at_number, flat_same, flat_of_map, item_pairs}
-use Rattle.mm_frame.proofs.PairTableLemmas.{pairs_with, all_more}
-
--- what a search among rising numbers finds
-nat_same : (x y : ℕ) → nat_eq x y ≡ true → x ≡ y
-nat_same x y e = eqb-true x y e
-
-in_among : (numbers : List ℕ) (n : ℕ) → In n numbers → is_among numbers n ≡ true
-in_among numbers n h = list_any-from_Contains nat_eq_equiv n numbers (in_contains n numbers h)
-
-among_in : (numbers : List ℕ) (n : ℕ) → is_among numbers n ≡ true → In n numbers
-among_in numbers n t = contains_in n numbers (Contains-from_any nat_same n numbers t)
-
-pub among_found : (numbers : List ℕ) (n : ℕ) (r : Result ℕ ℕ) → IsBinarySearchResult (λ y. nat_cmp y n) numbers r → IsRising numbers → is_ok r ≡ is_among numbers n
-among_found numbers n r s h = elim (found_or_not numbers n r s h) [
-  | inl p ↦ p.0 ∙ sym (in_among numbers n p.1)
-  | inr p ↦ p.0 ∙ sym (false_from_ne_true (is_among numbers n) (λ t. p.1 (among_in numbers n t)))
-]
+use Rattle.mm_frame.proofs.Rising.{in_among, among_in}
+use Rattle.mm_frame.proofs.MandatoryLemmas.{not_both}
+use Rattle.mm_frame.proofs.PairLemmas.{expression_at_number, flat_same, flat_of_map, pairs_with, row_last, all_more, in_order, is_pair, SameNames, same_names, found_pair, to_paired, pair_here, pair_turned, apart_active}
+use Rattle.mm_frame.proofs.PairTableLemmas.{none_told}
 
 -- the variables of the mandatory `$f`
 abbrev variables_if : Bool → List Symbol → List Symbol
 variables_if floating symbols = cond floating (drop 1 symbols) []
 
-variables_at : (before : List Item) (item : Item) (expressions : List (Vec NamedSymbol Global)) (n : ℕ) → AreSound before → AreExpressions before expressions → In n (mandatory_numbers before item)
-    → float_variable (active_numbers is_essential_item before) expressions n ≡ variables_if (is_floating (item_at before n).kind) (expression before (item_at before n))
-variables_at before item expressions n h a m =
+second_read : (all : List (List ℕ)) (kept : List NumberedSymbol) → symbols_of all (option_to_list (slice_get kept 1)) ≡ option_to_list (slice_get (symbols_of all kept) 1)
+second_read all [] = refl
+second_read all (x ∷ []) = refl
+second_read all (x ∷ y ∷ kept) = refl
+
+variables_at : (all : List (List ℕ)) (before : List Item) (item : Item) (expressions : List (Vec NumberedSymbol Global)) (n : ℕ) → AreSound before → AreExpressions all before expressions → In n (mandatory_numbers before item)
+    → symbols_of all (float_variable (active_numbers is_essential_item before) expressions n) ≡ variables_if (is_floating (item_at before n).kind) (expression before (item_at before n))
+variables_at all before item expressions n h a m =
     let r = from_active_number (is_mandatory (mandatory_variables before item)) before n m in
     let there = get_or_from_slice_get before n r.0 passed r.1 in
     let whole = λ (x : Item). variables_if (is_floating x.kind) (expression before x) in
@@ -70,13 +59,13 @@ variables_at before item expressions n h a m =
     no_essential : (x : Item) → slice_get before n ≡ Some x → is_floating x.kind ≡ true → is_among essentials n ≡ false
     no_essential x there f = false_from_ne_true (is_among essentials n) (λ t.
         let r = from_active_number is_essential_item before n (among_in essentials n t) in
-        let same = same_item x r.0 (sym there ∙ r.1) in
+        let same = same_Some x r.0 (sym there ∙ r.1) in
         not_both x.kind f (ap (λ (y : Item). is_essential y.kind) same ∙ r.3))
 
     by_kind : (x : Item) → slice_get before n ≡ Some x → is_active_at before n ≡ true → (is_essential x.kind ≡ true) ⊎ ((is_floating x.kind && has (mandatory_variables before item) (variable_of x)) ≡ true)
-        → float_variable essentials expressions n ≡ variables_if (is_floating x.kind) (expression before x)
+        → symbols_of all (float_variable essentials expressions n) ≡ variables_if (is_floating x.kind) (expression before x)
     by_kind x there stayed (inl e) =
-        ap (λ b. cond b [] (option_to_list (slice_get (symbols_of (expression_kept expressions n)) 1))) (in_among essentials n (to_active_number is_essential_item before n x there stayed e))
+        ap (λ b. symbols_of all (cond b [] (option_to_list (slice_get (expression_kept expressions n) 1)))) (in_among essentials n (to_active_number is_essential_item before n x there stayed e))
         ∙ sym (ap (λ b. variables_if b (expression before x)) (no_float x e))
     by_kind x there stayed (inr b) =
         let f = (and_both (is_floating x.kind) (has (mandatory_variables before item) (variable_of x)) b).0 in
@@ -84,19 +73,39 @@ variables_at before item expressions n h a m =
         let kept_is = a n x there labelled ∙ sym (expression_at_number before h n x there stayed labelled) in
         let two = float_two (take n before) x (h (take n before) x (drop (suc n) before) (split_at before n x there)) f in
         let symbols : expression before x ≡ symbol before two.0 ∷ symbol before two.1 ∷ [] = ap (map (symbol before)) two.2 in
-        ap (λ b. cond b [] (option_to_list (slice_get (symbols_of (expression_kept expressions n)) 1))) (no_essential x there f)
+        ap (λ b. symbols_of all (cond b [] (option_to_list (slice_get (expression_kept expressions n) 1)))) (no_essential x there f)
+        ∙ second_read all (expression_kept expressions n)
         ∙ ap (λ w. option_to_list (slice_get w 1)) (kept_is ∙ symbols)
         ∙ sym (ap (λ b. variables_if b (expression before x)) f ∙ ap (drop 1) symbols)
 
-pub variables_are : (before : List Item) (item : Item) (essentials numbers : List ℕ) (expressions : List (Vec NamedSymbol Global)) → AreSound before → essentials ≡ active_numbers is_essential_item before → AreExpressions before expressions → numbers ≡ mandatory_numbers before item
-    → float_variables essentials expressions numbers ≡ typed_variables (mandatory_hypotheses before item)
-variables_are before item essentials numbers expressions h e a m =
+read_each : {X : Type 0} (all : List (List ℕ)) (f : X → List NumberedSymbol) (xs : List X) → symbols_of all (flat_map f xs) ≡ flat_map (λ x. symbols_of all (f x)) xs
+read_each all f [] = refl
+read_each all f (x ∷ xs) = map-append (symbol_of all) (f x) (flat_map f xs) ∙ ap (λ w. symbols_of all (f x) ++ w) (read_each all f xs)
+
+pub variables_are : (all : List (List ℕ)) (before : List Item) (item : Item) (essentials numbers : List ℕ) (expressions : List (Vec NumberedSymbol Global)) → AreSound before → essentials ≡ active_numbers is_essential_item before
+    → AreExpressions all before expressions → numbers ≡ mandatory_numbers before item → symbols_of all (float_variables essentials expressions numbers) ≡ typed_variables (mandatory_hypotheses before item)
+variables_are all before item essentials numbers expressions h e a m =
     let said = λ (x : Mandatory). variables_if x.floating x.expression in
     let hypothesis_of = λ (n : ℕ). hypothesis before (item_at before n) in
-    (λ i. float_variables (e i) expressions (m i))
-    ∙ flat_same (float_variable (active_numbers is_essential_item before) expressions) (λ n. said (hypothesis_of n)) (mandatory_numbers before item) (λ n k. variables_at before item expressions n h a k)
+    (λ i. symbols_of all (float_variables (e i) expressions (m i)))
+    ∙ read_each all (float_variable (active_numbers is_essential_item before) expressions) (mandatory_numbers before item)
+    ∙ flat_same (λ n. symbols_of all (float_variable (active_numbers is_essential_item before) expressions n)) (λ n. said (hypothesis_of n)) (mandatory_numbers before item) (λ n k. variables_at all before item expressions n h a k)
     ∙ sym (flat_of_map said hypothesis_of (mandatory_numbers before item))
     ∙ ap typed_variables (sym (hypotheses_by_numbers before item))
+
+-- each has the number of a name
+second_kept : (b : Bool) (kept : List NumberedSymbol) (v : NumberedSymbol) → In v (cond b [] (option_to_list (slice_get kept 1))) → In v kept
+second_kept true kept v h = absurd h
+second_kept false [] v h = absurd h
+second_kept false (x ∷ []) v h = absurd h
+second_kept false (x ∷ y ∷ kept) v (inl e) = inr (inl e)
+second_kept false (x ∷ y ∷ kept) v (inr z) = absurd z
+
+pub variables_numbered : (all : List (List ℕ)) (essentials numbers : List ℕ) (expressions : List (Vec NumberedSymbol Global)) → AreNumbered all expressions → All (IsNumbered all) (float_variables essentials expressions numbers)
+variables_numbered all essentials numbers expressions a k d l =
+    let v = get_or (float_variables essentials expressions numbers) k d in
+    let r = from_flat (float_variable essentials expressions) v numbers (in_at (float_variables essentials expressions numbers) k d l) in
+    All-contains (IsNumbered all) (expression_kept expressions r.0) v (a r.0) (in_contains v (expression_kept expressions r.0) (second_kept (is_among essentials r.0) (expression_kept expressions r.0) v r.2))
 
 -- what a variable of a mandatory `$f` is
 record TypedVariable (before : List Item) (item : Item) (v : Symbol) : Type 0 where
@@ -133,22 +142,6 @@ typed_variable before item v h m =
           | inr b ↦ (and_both (is_floating f.kind) (has (mandatory_variables before item) (variable_of f)) b).1
         ]
 
--- the names of a pair, in one order or the other
-abbrev is_pair : Symbol × Symbol → Symbol × Symbol → Bool
-is_pair named pair = (bytes_eq pair.0.name named.0.name && bytes_eq pair.1.name named.1.name) || (bytes_eq pair.0.name named.1.name && bytes_eq pair.1.name named.0.name)
-
-abbrev SameNames : Symbol × Symbol → Symbol × Symbol → Type 0
-SameNames named pair = ((pair.0.name ≡ named.0.name) × (pair.1.name ≡ named.1.name)) ⊎ ((pair.0.name ≡ named.1.name) × (pair.1.name ≡ named.0.name))
-
-both_names : (a b c d : List ℕ) → (bytes_eq a b && bytes_eq c d) ≡ true → (a ≡ b) × (c ≡ d)
-both_names a b c d t = let p = and_both (bytes_eq a b) (bytes_eq c d) t in ((bytes_eq-Decides a b).0 p.0, (bytes_eq-Decides c d).0 p.1)
-
-same_names : (named pair : Symbol × Symbol) → is_pair named pair ≡ true → SameNames named pair
-same_names named pair t = elim (or_cases (bytes_eq pair.0.name named.0.name && bytes_eq pair.1.name named.1.name) (bytes_eq pair.0.name named.1.name && bytes_eq pair.1.name named.0.name) t) [
-  | inl a ↦ inl (both_names pair.0.name named.0.name pair.1.name named.1.name a)
-  | inr b ↦ inr (both_names pair.0.name named.1.name pair.1.name named.0.name b)
-]
-
 -- mandatory variables are a pair of the frame where they are an active pair
 paired_same : (mandatory : List (List ℕ)) (pairs : List (Symbol × Symbol)) (named : Symbol × Symbol) → has mandatory named.0.name ≡ true → has mandatory named.1.name ≡ true → are_paired pairs named ≡ are_paired (filter (is_mandatory_pair mandatory) pairs) named
 paired_same mandatory pairs named a b = sym (any-filter_same (is_pair named) (is_mandatory_pair mandatory) true (λ pair t. kept pair (same_names named pair t)) pairs)
@@ -163,21 +156,21 @@ active_in_order before item h = filter_same (are_paired (active_pairs before)) (
     paired_same (mandatory_variables before item) (active_pairs before) pair (typed_variable before item pair.0 h p.0).mandatory (typed_variable before item pair.1 h p.1).mandatory)
 
 -- one more hypothesis
-no_second : (symbols : List NamedSymbol) → length symbols ≤ 1 → slice_get (symbols_of symbols) 1 ≡ None
+no_second : (symbols : List NumberedSymbol) → length symbols ≤ 1 → slice_get symbols 1 ≡ None
 no_second [] l = refl
 no_second (x ∷ []) l = refl
 no_second (x ∷ y ∷ symbols) l = absurd (omega arith)
 
-nothing : (b : Bool) → cond {A = List Symbol} b [] [] ≡ []
+nothing : (b : Bool) → cond {A = List NumberedSymbol} b [] [] ≡ []
 nothing true = refl
 nothing false = refl
 
-pub nothing_second : (essentials : List ℕ) (expressions : List (Vec NamedSymbol Global)) (n : ℕ) (symbols : List NamedSymbol) (so_far : List Symbol) → symbols ≡ expression_kept expressions n → length symbols ≤ 1 → so_far ≡ so_far ++ float_variable essentials expressions n
+pub nothing_second : (essentials : List ℕ) (expressions : List (Vec NumberedSymbol Global)) (n : ℕ) (symbols so_far : List NumberedSymbol) → symbols ≡ expression_kept expressions n → length symbols ≤ 1 → so_far ≡ so_far ++ float_variable essentials expressions n
 nothing_second essentials expressions n symbols so_far e l =
     sym (append-nil so_far)
-    ∙ ap (λ w. so_far ++ w) (sym (ap (λ o. cond (is_among essentials n) [] (option_to_list o)) (ap (λ w. slice_get (symbols_of w) 1) (sym e) ∙ no_second symbols l) ∙ nothing (is_among essentials n)))
+    ∙ ap (λ w. so_far ++ w) (sym (ap (λ o. cond (is_among essentials n) [] (option_to_list o)) (ap (λ w. slice_get w 1) (sym e) ∙ no_second symbols l) ∙ nothing (is_among essentials n)))
 
-pub variables_more : (essentials : List ℕ) (expressions : List (Vec NamedSymbol Global)) (numbers : List ℕ) (n : ℕ) → n < length numbers
+pub variables_more : (essentials : List ℕ) (expressions : List (Vec NumberedSymbol Global)) (numbers : List ℕ) (n : ℕ) → n < length numbers
     → float_variables essentials expressions (take (n + 1) numbers) ≡ float_variables essentials expressions (take n numbers) ++ float_variable essentials expressions (get_or numbers n 0)
 variables_more essentials expressions numbers n l =
     let z : n + 1 ≡ suc n = omega arith in
@@ -186,94 +179,55 @@ variables_more essentials expressions numbers n l =
     ∙ flat_map-append (float_variable essentials expressions) (take n numbers) (get_or numbers n 0 ∷ [])
     ∙ ap (λ w. float_variables essentials expressions (take n numbers) ++ w) (append-nil (float_variable essentials expressions (get_or numbers n 0)))
 
+-- a pair that is kept if it passes a test
+pub pair_added : (all : List (List ℕ)) (test : Symbol × Symbol → Bool) (said : List (Symbol × Symbol)) (kept : List (NumberedSymbol × NumberedSymbol)) (x y : NumberedSymbol) → IsNumbered all x → IsNumbered all y → test (symbol_of all x, symbol_of all y) ≡ true → ArePairsRead all said kept
+    → ArePairsRead all (said ++ filter test ((symbol_of all x, symbol_of all y) ∷ [])) (kept ++ (x, y) ∷ [])
+pair_added all test said kept x y a b t r =
+    let pair : Symbol × Symbol = (symbol_of all x, symbol_of all y) in
+    record {
+      pairs = map_push (pair_of all) kept (x, y) ∙ ap (λ w. w ++ pair ∷ []) r.pairs ∙ sym (ap (λ c. said ++ cond c (pair ∷ []) []) t);
+      numbered = All-push (IsPairNumbered all) kept (x, y) r.numbered (a, b);
+    }
+
+pub pair_left : (all : List (List ℕ)) (test : Symbol × Symbol → Bool) (said : List (Symbol × Symbol)) (kept : List (NumberedSymbol × NumberedSymbol)) (pair : Symbol × Symbol) → test pair ≡ false → ArePairsRead all said kept → ArePairsRead all (said ++ filter test (pair ∷ [])) kept
+pair_left all test said kept pair t r = subst (λ w. ArePairsRead all w kept) (sym (append-nil said) ∙ sym (ap (λ c. said ++ cond c (pair ∷ []) []) t)) r
+
+-- one more pair of a variable, and none
+pub with_more : (all : List (List ℕ)) (test : Symbol × Symbol → Bool) (s : Symbol) (later : List NumberedSymbol) (n : ℕ) (d : NumberedSymbol) (said : List (Symbol × Symbol)) (kept : List (NumberedSymbol × NumberedSymbol)) → n < length later
+    → ArePairsRead all ((said ++ filter test (pairs_with s (symbols_of all (take n later)))) ++ filter test ((s, symbol_of all (get_or later n d)) ∷ [])) kept → ArePairsRead all (said ++ filter test (pairs_with s (symbols_of all (take (n + 1) later)))) kept
+with_more all test s later n d said kept l r =
+    let so_far = pairs_with s (symbols_of all (take n later)) in
+    let one : List (Symbol × Symbol) = (s, symbol_of all (get_or later n d)) ∷ [] in
+    subst (λ w. ArePairsRead all w kept) (append_assoc said (filter test so_far) (filter test one) ∙ ap (λ w. said ++ w) (sym (filter-append test so_far one) ∙ ap (filter test) (sym (row_last (symbol_of all) s later n d l)))) r
+
+no_pairs : (test : Symbol × Symbol → Bool) (s : Symbol) (others : List Symbol) → ((y : Symbol) → test (s, y) ≡ false) → filter test (pairs_with s others) ≡ []
+no_pairs test s [] h = refl
+no_pairs test s (y ∷ others) h = ap (λ b. cond b ((s, y) ∷ filter test (pairs_with s others)) (filter test (pairs_with s others))) (h y) ∙ no_pairs test s others h
+
+pub with_none : (all : List (List ℕ)) (before : List Item) (table : PairTable) (blocks : List Mark) (x : NumberedSymbol) (others : List Symbol) (said : List (Symbol × Symbol)) (kept : List (NumberedSymbol × NumberedSymbol)) → ReadsPairs all before table blocks
+    → IsNumbered all x → row_at table x.name ≡ [] → ArePairsRead all said kept → ArePairsRead all (said ++ filter (are_paired (active_pairs before)) (pairs_with (symbol_of all x) others)) kept
+with_none all before table blocks x others said kept k a e r =
+    let told = λ (y : Symbol). none_told all before table blocks x.name (name_at all x.name) y.name k (name_there all x.name a) e in
+    subst (λ w. ArePairsRead all w kept) (sym (append-nil said) ∙ ap (λ w. said ++ w) (sym (no_pairs (are_paired (active_pairs before)) (symbol_of all x) others told))) r
+
 -- one more variable
-pub among_more : {X : Type 0} (f : X → Symbol) (test : Symbol × Symbol → Bool) (variables : List X) (n : ℕ) (x : X) (old new all : List (Symbol × Symbol)) → n < length variables → x ≡ get_or variables n x → old ++ filter test (pairs_of (map f (drop n variables))) ≡ all
-    → new ≡ old ++ filter test (pairs_with (f x) (map f (drop (n + 1) variables))) → new ++ filter test (pairs_of (map f (drop (n + 1) variables))) ≡ all
-among_more f test variables n x old new all l e so_far more =
-    let row = pairs_with (f x) (map f (drop (n + 1) variables)) in
-    let rest = pairs_of (map f (drop (n + 1) variables)) in
-    ap (λ w. w ++ filter test rest) more
-    ∙ append_assoc old (filter test row) (filter test rest)
-    ∙ ap (λ w. old ++ w) (sym (filter-append test row rest) ∙ ap (filter test) (sym (all_more f variables n x l e)))
-    ∙ so_far
+pub among_more : (all : List (List ℕ)) (test : Symbol × Symbol → Bool) (variables : List NumberedSymbol) (n : ℕ) (d : NumberedSymbol) (said whole : List (Symbol × Symbol)) → n < length variables → said ++ filter test (pairs_of (symbols_of all (drop n variables))) ≡ whole
+    → (said ++ filter test (pairs_with (symbol_of all (get_or variables n d)) (symbols_of all (drop (n + 1) variables)))) ++ filter test (pairs_of (symbols_of all (drop (n + 1) variables))) ≡ whole
+among_more all test variables n d said whole l so_far =
+    let row = pairs_with (symbol_of all (get_or variables n d)) (symbols_of all (drop (n + 1) variables)) in
+    let rest = pairs_of (symbols_of all (drop (n + 1) variables)) in
+    append_assoc said (filter test row) (filter test rest) ∙ ap (λ w. said ++ w) (sym (filter-append test row rest) ∙ ap (filter test) (sym (all_more (symbol_of all) variables n d l))) ∙ so_far
 
--- two variables of a sound `$d` have different names
-abbrev AreUnrepeated : List (List ℕ) → Type 0
-AreUnrepeated names = (k : ℕ) (name : List ℕ) → slice_get names k ≡ Some name → has (take k names) name ≡ false
-
-disjoint_unrepeated : (before : List Item) (item : Item) → IsSound before item → is_disjoint item.kind ≡ true → AreUnrepeated item.symbols
-disjoint_unrepeated before item s t k name e = no_symbol_of (is_declaring item.kind || is_disjoint item.kind) (is_repeated item) item (λ word. s word F03) (or_right (is_declaring item.kind) (is_disjoint item.kind) t) k name e
-
-apart_names : (before : List Item) (names : List (List ℕ)) → AreUnrepeated names → (pair : Symbol × Symbol) → In pair (pairs_of (map (symbol before) names)) → pair.0.name ≢ pair.1.name
-apart_names before [] u pair h = absurd h
-apart_names before (x ∷ names) u pair h = elim (in_cases pair (pairs_with (symbol before x) (map (symbol before) names)) (pairs_of (map (symbol before) names)) h) [
-  | inl a ↦ first (from_map (λ (y : Symbol). (symbol before x, y)) pair (map (symbol before) names) a)
-  | inr b ↦ apart_names before names (λ k name e. false_from_ne_true (has (take k names) name) (λ t. false≢true (sym (u (suc k) name e) ∙ or_right (bytes_eq name x) (has (take k names) name) t))) pair b
-]
-  where
-    first : (y : Symbol) × In y (map (symbol before) names) × ((symbol before x, y) ≡ pair) → pair.0.name ≢ pair.1.name
-    first r q =
-        let s = from_map (symbol before) r.0 names r.1 in
-        let g = in_get s.0 names s.1 in
-        let same : x ≡ s.0 = ap (λ (p : Symbol × Symbol). p.0.name) r.2 ∙ q ∙ ap (λ (p : Symbol × Symbol). p.1.name) (sym r.2) ∙ ap (λ (w : Symbol). w.name) (sym s.2) in
-        false≢true (sym (u (suc g.0) s.0 g.1) ∙ in_has (x ∷ take g.0 names) s.0 (inl same))
-
+-- the names of a pair of a frame differ
 apart_pair : (before : List Item) (item : Item) → AreSound before → (pair : Symbol × Symbol) → In pair (frame before item).pairs → pair.0.name ≢ pair.1.name
-apart_pair before item h pair m =
-    let f = from_filter (is_mandatory_pair (mandatory_variables before item)) pair (active_pairs before) m in
-    let r = from_flat (item_pairs before) pair (active before) f.0 in
-    let s = active_split before r.0 r.1 in
-    let d = disjoint_in (is_disjoint (r.0).kind) pair (pairs_of (expression before r.0)) r.2 in
-    apart_names before (r.0).symbols (disjoint_unrepeated s.front r.0 (h s.front r.0 s.back s.whole) d.0) pair d.1
-  where
-    disjoint_in : (b : Bool) (pair : Symbol × Symbol) (pairs : List (Symbol × Symbol)) → In pair (cond b pairs []) → (b ≡ true) × In pair pairs
-    disjoint_in true pair pairs k = (refl, k)
-    disjoint_in false pair pairs k = absurd k
+apart_pair before item h pair m = apart_active before h pair (from_filter (is_mandatory_pair (mandatory_variables before item)) pair (active_pairs before) m).0
 
--- of two elements of a list, one stands before the other
-with_first : (x y z : Symbol) (xs : List Symbol) → z ≡ x → In y xs → In (x, y) (pairs_with z xs)
-with_first x y z xs e k = subst (λ w. In (w, y) (pairs_with z xs)) e (in_map (λ (t : Symbol). (z, t)) y xs k)
-
+-- the pairs in order are those of the frame
 pair_same : (a b c d : Symbol) → a ≡ b → c ≡ d → ◌≡◌ {A = Symbol × Symbol} (a, c) (b, d)
 pair_same a b c d e f = λ i. (e i, f i)
 
-in_order : (x y : Symbol) (xs : List Symbol) → (x ≡ y → ⊥) → In x xs → In y xs → In (x, y) (pairs_of xs) ⊎ In (y, x) (pairs_of xs)
-in_order x y [] n h k = absurd h
-in_order x y (z ∷ xs) n (inl a) (inl b) = absurd (n (sym a ∙ b))
-in_order x y (z ∷ xs) n (inl a) (inr k) = inl (in_left (x, y) (pairs_with z xs) (pairs_of xs) (with_first x y z xs a k))
-in_order x y (z ∷ xs) n (inr h) (inl b) = inr (in_left (y, x) (pairs_with z xs) (pairs_of xs) (with_first y x z xs b h))
-in_order x y (z ∷ xs) n (inr h) (inr k) = elim (in_order x y xs n h k) [
-  | inl a ↦ inl (in_right (x, y) (pairs_with z xs) (pairs_of xs) a)
-  | inr b ↦ inr (in_right (y, x) (pairs_with z xs) (pairs_of xs) b)
-]
-
--- the pairs in order are those of the frame
 symbol_same : (a b : Symbol) → a.name ≡ b.name → a.variable ≡ true → b.variable ≡ true → a ≡ b
 symbol_same a b e s t = let f = s ∙ sym t in λ i. record { name = e i; variable = f i }
-
-found_pair : (named : Symbol × Symbol) (pairs : List (Symbol × Symbol)) → are_paired pairs named ≡ true → (pair : Symbol × Symbol) × In pair pairs × SameNames named pair
-found_pair named [] t = absurd (false≢true t)
-found_pair named (pair ∷ pairs) t = elim (or_cases (is_pair named pair) (are_paired pairs named) t) [
-  | inl a ↦ (pair, inl refl, same_names named pair a)
-  | inr b ↦ (let r = found_pair named pairs b in (r.0, inr r.1, r.2))
-]
-
-to_paired : (named pair : Symbol × Symbol) (pairs : List (Symbol × Symbol)) → In pair pairs → is_pair named pair ≡ true → are_paired pairs named ≡ true
-to_paired named pair [] h t = absurd h
-to_paired named pair (other ∷ pairs) (inl e) t = or_left (is_pair named other) (are_paired pairs named) (ap (is_pair named) e ∙ t)
-to_paired named pair (other ∷ pairs) (inr h) t = or_right (is_pair named other) (are_paired pairs named) (to_paired named pair pairs h t)
-
-same_bytes : (name : List ℕ) → bytes_eq name name ≡ true
-same_bytes name = (bytes_eq-Decides name name).1 refl
-
-both_same : (a b : List ℕ) → (bytes_eq a a && bytes_eq b b) ≡ true
-both_same a b = and_from (bytes_eq a a) (bytes_eq b b) (same_bytes a) (same_bytes b)
-
-pair_here : (x y : Symbol) → is_pair (x, y) (x, y) ≡ true
-pair_here x y = or_left (bytes_eq x.name x.name && bytes_eq y.name y.name) (bytes_eq x.name y.name && bytes_eq y.name x.name) (both_same x.name y.name)
-
-pair_turned : (x y : Symbol) → is_pair (y, x) (x, y) ≡ true
-pair_turned x y = or_right (bytes_eq x.name y.name && bytes_eq y.name x.name) (bytes_eq x.name x.name && bytes_eq y.name y.name) (both_same x.name y.name)
 
 swapped : (pairs : List (Symbol × Symbol)) (x y : Symbol) → ArePair pairs x y → ArePair pairs y x
 swapped pairs x y (inl a) = inr a

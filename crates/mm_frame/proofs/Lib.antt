@@ -9,6 +9,7 @@ pub mod Activity
 pub mod Frames
 pub mod SoundItems
 pub mod SpokenLemmas
+pub mod NumberLemmas
 pub mod TableLemmas
 pub mod HypothesisNumbers
 pub mod BlockLemmas
@@ -17,6 +18,7 @@ pub mod PairLemmas
 pub mod KnownLemmas
 pub mod FaultLemmas
 pub mod ScopingLemmas
+pub mod Rising
 pub mod EndLemmas
 pub mod MandatoryLemmas
 pub mod PairTableLemmas

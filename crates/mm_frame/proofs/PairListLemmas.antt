@@ -1,28 +1,39 @@
 -- The active pairs are those behind the items up to the last active `$d`, and the lists that are made of them.
-use Rattle.std.proofs.Common.{◌≡◌, ℕ, zero, suc, ◌+◌, ◌-◌, ◌<◌, ◌≤◌, Bool, true, false, cond, ◌||◌, Option, Some, None, List, [], ◌∷◌, ◌++◌, length, flat_map, take, drop, slice_get, get_or, nat_eq, Vec, refl, sym, ◌∙◌, ap, subst, append-nil, arith, length-append, inl, inr}
+use Rattle.std.proofs.Common.{◌≡◌, ℕ, zero, suc, ◌+◌, ◌-◌, ◌<◌, ◌≤◌, Bool, true, false, cond, ◌&&◌, ◌||◌, Option, Some, None, List, [], ◌∷◌, ◌++◌, length, flat_map, take, drop, slice_get, get_or, nat_eq, Vec, refl, sym, ◌∙◌, ap, subst, append-nil, arith, length-append, inl, inr}
 use native.Mathlib.Decide.{dec_lt}
-use Rattle.std.specs.Option.{option_map}
+use Rattle.std.specs.Prelude.{All, Contains, Decides, ◌⊎◌, ◌↔◌, leb, map}
+use Rattle.std.proofs.lemmas.Simd.{map-map}
+use Rattle.std.proofs.lemmas.List.{map-append}
+use Rattle.std.specs.Cmp.{decided, unsigned_Decides, booleans_Decides}
+use Rattle.std.specs.Cmp.Lexicographic.{pointwise, pointwise_decides}
+use Rattle.std.proofs.Math.Bool.{beq}
+use Rattle.std.specs.List.{dedup}
+use Rattle.std.specs.List.Sorted.{IsPermutation}
+use Rattle.std.specs.List.Retain.{IsFiltered, DiffersFromLast}
+use Rattle.std.proofs.lemmas.List.Elements.{All-nil, All-append, All-map, All-contains, All-contains_itself}
+use Rattle.std.proofs.lemmas.List.Sorted.{IsPermutation-sym, Contains-permutation}
+use Rattle.std.proofs.lemmas.List.Filters.{dedup_is}
+use Rattle.std.proofs.lemmas.List.Kept.{Contains-dedup, Contains-from_dedup}
 use Rattle.std.specs.Global.{Global}
 use Rattle.std.proofs.lemmas.Bool.{false≢true}
-use Rattle.std.proofs.lemmas.Bool.Decides.{eqb_tells}
+use Rattle.std.proofs.lemmas.Bool.Decides.{eqb_tells, Decides-and}
 use Rattle.std.proofs.lemmas.Option.{get_or_from_slice_get, slice_get_within, slice_get-get_or, none-some}
 use Rattle.std.proofs.lemmas.List.{take-append-le, drop-append-le, take-append-drop}
-use Rattle.mm_frame.specs.declared.symbol.NamedSymbol.{NamedSymbol}
+use Rattle.mm_frame.specs.declared.symbol.NumberedSymbol.{NumberedSymbol}
 use Rattle.mm_frame.specs.declared.pair_lists.PairLists.{PairLists}
-use Rattle.mm_frame.specs.Language.Frame.{Symbol}
+use Rattle.mm_frame.specs.Language.Frame.{Symbol, ArePair, AreSamePairs}
 use Rattle.mm_frame.specs.Language.Item.{Item, passed, is_labelled, is_disjoint}
 use Rattle.mm_frame.specs.Language.Scope.{stays, active_numbers}
 use Rattle.mm_frame.specs.Language.Sound.{AreSound, sound_items}
 use Rattle.mm_frame.specs.Language.Framing.{expression, pairs_of, active_pairs}
 use Rattle.mm_frame.specs.Code.LastItems.{is_active_at, is_disjoint_item, IsRising}
-use Rattle.mm_frame.specs.Code.CodeSymbols.{symbols_of, kept_pairs}
-use Rattle.mm_frame.specs.Code.KeptSymbols.{expression_kept, AreSymbols}
-use Rattle.mm_frame.specs.Code.KeptPairLists.{IsList, list_made, IsMadeFor, AreMade, KeepsLists, HasActivePairs}
+use Rattle.mm_frame.specs.Code.CodeSymbols.{symbol_of, symbols_of, pair_of, kept_pairs, IsNumbered, IsPairNumbered, ArePairsRead, AreSamePairsRead}
+use Rattle.mm_frame.specs.Code.KeptSymbols.{expression_kept, AreSymbols, AreNumbered}
+use Rattle.mm_frame.specs.Code.KeptPairLists.{pairs_among, with_low_first, pairs_or_none, list_kept, IsThere, IsList, list_made, IsMadeFor, AreMade, KeepsLists, HasActivePairs}
 use Rattle.mm_frame.specs.Code.KeptBase.{AreRows, TellsPairs, is_told_proof}
-use Rattle.mm_frame.proofs.Members.{In, in_get, get_in}
+use Rattle.mm_frame.proofs.Members.{In, in_get, get_in, in_contains, contains_in, in_map, from_map}
 use Rattle.mm_frame.proofs.Scopes.{stays_join, stays_front}
 use Rattle.mm_frame.proofs.SoundItems.{sound_take}
-use Rattle.mm_frame.proofs.BlockLemmas.{get_last}
 use Rattle.mm_frame.proofs.BaseLemmas.{rows_more}
 use Rattle.mm_frame.proofs.HypothesisNumbers.{to_active_number, from_active_number, active_numbers_rise, same_rising}
 use Rattle.mm_frame.proofs.PairLemmas.{pairs_at, flat_same, active_pairs_by_numbers}
@@ -137,99 +148,239 @@ count_of_none before numbers h e last = record {
 }
 
 -- the number of an active item is that of something kept
-pub number_within : (before : List Item) (expressions : List (Vec NamedSymbol Global)) (numbers : List ℕ) (n : ℕ) → AreSymbols before expressions → numbers ≡ active_numbers is_disjoint_item before → number_last numbers ≡ Some n → n < length expressions
-number_within before expressions numbers n a e last =
+pub number_within : (all : List (List ℕ)) (before : List Item) (expressions : List (Vec NumberedSymbol Global)) (numbers : List ℕ) (n : ℕ) → AreSymbols all before expressions → numbers ≡ active_numbers is_disjoint_item before → number_last numbers ≡ Some n → n < length expressions
+number_within all before expressions numbers n a e last =
     let there = ap number_last (sym e) ∙ last in
-    let all = active_numbers is_disjoint_item before in
-    let r = from_active_number is_disjoint_item before n (get_in n all (length all - 1) there) in
+    let active = active_numbers is_disjoint_item before in
+    let r = from_active_number is_disjoint_item before n (get_in n active (length active - 1) there) in
     let w = slice_get_within before n r.0 r.1 in
     let c = a.count in
     omega arith
 
--- the pairs of what is kept for the active `$d` are the active pairs
-abbrev pub pairs_kept_at : List (Vec NamedSymbol Global) → ℕ → List (Symbol × Symbol)
-pairs_kept_at expressions n = pairs_of (symbols_of (expression_kept expressions n))
+-- each symbol with each later one, in turn, and the pairs that are read of these
+abbrev in_turn : List NumberedSymbol → List (NumberedSymbol × NumberedSymbol)
+in_turn [] = []
+in_turn (x ∷ xs) = map (λ y. (x, y)) xs ++ in_turn xs
 
-pub pairs_kept : (before : List Item) (expressions : List (Vec NamedSymbol Global)) (numbers : List ℕ) → AreSound before → AreSymbols before expressions → numbers ≡ active_numbers is_disjoint_item before → flat_map (pairs_kept_at expressions) numbers ≡ active_pairs before
-pairs_kept before expressions numbers h a e = ap (flat_map (pairs_kept_at expressions)) e ∙ flat_same (pairs_kept_at expressions) (pairs_at before) (active_numbers is_disjoint_item before) same ∙ sym (active_pairs_by_numbers before h)
+with_each : (all : List (List ℕ)) (x : NumberedSymbol) (xs : List NumberedSymbol) → kept_pairs all (map (λ y. (x, y)) xs) ≡ map (λ y. (symbol_of all x, y)) (symbols_of all xs)
+with_each all x [] = refl
+with_each all x (y ∷ xs) = ap (λ w. (symbol_of all x, symbol_of all y) ∷ w) (with_each all x xs)
+
+among_read : (all : List (List ℕ)) (xs : List NumberedSymbol) → kept_pairs all (in_turn xs) ≡ pairs_of (symbols_of all xs)
+among_read all [] = refl
+among_read all (x ∷ xs) = map-append (pair_of all) (map (λ y. (x, y)) xs) (in_turn xs) ∙ (λ i. with_each all x xs i ++ among_read all xs i)
+
+among_numbered : (all : List (List ℕ)) (xs : List NumberedSymbol) → All (IsNumbered all) xs → All (IsPairNumbered all) (in_turn xs)
+among_numbered all [] h = All-nil (IsPairNumbered all)
+among_numbered all (x ∷ xs) h =
+    let rest : All (IsNumbered all) xs = λ k d l. h (suc k) d (omega (arith, l)) in
+    All-append (IsPairNumbered all) (map (λ y. (x, y)) xs) (in_turn xs) (All-map (IsPairNumbered all) (λ y. (x, y)) xs (λ k d l. (h 0 x (omega arith), rest k d l))) (among_numbered all xs rest)
+
+-- the pairs of what is kept for the active `$d` are the active pairs
+abbrev in_turn_at : List (Vec NumberedSymbol Global) → ℕ → List (NumberedSymbol × NumberedSymbol)
+in_turn_at expressions n = in_turn (expression_kept expressions n)
+
+all_read : (all : List (List ℕ)) (expressions : List (Vec NumberedSymbol Global)) (numbers : List ℕ) → kept_pairs all (flat_map (in_turn_at expressions) numbers) ≡ flat_map (λ n. pairs_of (symbols_of all (expression_kept expressions n))) numbers
+all_read all expressions [] = refl
+all_read all expressions (n ∷ numbers) =
+    map-append (pair_of all) (in_turn_at expressions n) (flat_map (in_turn_at expressions) numbers) ∙ (λ i. among_read all (expression_kept expressions n) i ++ all_read all expressions numbers i)
+
+all_numbered : (all : List (List ℕ)) (expressions : List (Vec NumberedSymbol Global)) (numbers : List ℕ) → AreNumbered all expressions → All (IsPairNumbered all) (flat_map (in_turn_at expressions) numbers)
+all_numbered all expressions [] h = All-nil (IsPairNumbered all)
+all_numbered all expressions (n ∷ numbers) h =
+    All-append (IsPairNumbered all) (in_turn_at expressions n) (flat_map (in_turn_at expressions) numbers) (among_numbered all (expression_kept expressions n) (h n)) (all_numbered all expressions numbers h)
+
+pairs_kept : (all : List (List ℕ)) (before : List Item) (expressions : List (Vec NumberedSymbol Global)) (numbers : List ℕ) → AreSound before → AreSymbols all before expressions → numbers ≡ active_numbers is_disjoint_item before
+    → ArePairsRead all (active_pairs before) (flat_map (in_turn_at expressions) numbers)
+pairs_kept all before expressions numbers h a e = record {
+  pairs = all_read all expressions numbers ∙ ap (flat_map read_at) e ∙ flat_same read_at (pairs_at before) (active_numbers is_disjoint_item before) same ∙ sym (active_pairs_by_numbers before h);
+  numbered = all_numbered all expressions numbers a.numbered;
+}
   where
+    read_at : ℕ → List (Symbol × Symbol)
+    read_at n = pairs_of (symbols_of all (expression_kept expressions n))
+
     read_disjoint : (labelled disjoint : Bool) → disjoint ≡ true → (labelled || disjoint) ≡ true
     read_disjoint true disjoint t = refl
     read_disjoint false disjoint t = t
 
-    same : (n : ℕ) → In n (active_numbers is_disjoint_item before) → pairs_kept_at expressions n ≡ pairs_at before n
+    same : (n : ℕ) → In n (active_numbers is_disjoint_item before) → read_at n ≡ pairs_at before n
     same n k =
         let r = from_active_number is_disjoint_item before n k in
         let there = get_or_from_slice_get before n r.0 passed r.1 in
         let read = read_disjoint (is_labelled (r.0).kind) (is_disjoint (r.0).kind) r.3 in
         ap pairs_of (a.each n r.0 r.1 read ∙ ap (expression (take n before)) (sym there))
 
--- a list that is there stays there
-some_map : {X Y : Type 0} (f : X → Y) (o : Option X) (y : Y) → option_map f o ≡ Some y → (x : X) × (o ≡ Some x) × (f x ≡ y)
-some_map f None y e = cc
-some_map f (Some x) y e = (x, refl, same (f x) y e)
-  where
-    same : {Z : Type 0} (a b : Z) → Some a ≡ Some b → a ≡ b
-    same a b q = cc
+-- the pairs of a list with the lower number first, in whatever order and whatever often, are the same
+turned_or_not : (b : Bool) (p q : NumberedSymbol × NumberedSymbol) → cond b p (p.1, p.0) ≡ q → (p ≡ q) ⊎ (p ≡ (q.1, q.0))
+turned_or_not true p q e = inl e
+turned_or_not false p q e = inr (ap (λ (w : NumberedSymbol × NumberedSymbol). (w.1, w.0)) e)
 
-pub list_stays : (old new : PairLists) (k : ℕ) (pairs : List (Symbol × Symbol)) → KeepsLists old new → IsList old k pairs → IsList new k pairs
-list_stays old new k pairs keeps is =
-    let r = some_map (λ list. kept_pairs list.items) (slice_get old.lists.items k) pairs is in
-    ap (λ w. option_map (λ list. kept_pairs list.items) (slice_get w k)) keeps.whole ∙ ap (option_map (λ list. kept_pairs list.items)) (get_join old.lists.items keeps.more k r.0 r.1) ∙ ap Some r.2
+read_pair : (all : List (List ℕ)) (kept : List (NumberedSymbol × NumberedSymbol)) (p : NumberedSymbol × NumberedSymbol) (x y : Symbol) → pair_of all p ≡ (x, y) → In p kept → ArePair (kept_pairs all kept) x y
+read_pair all kept p x y e h = inl (in_contains (x, y) (kept_pairs all kept) (subst (λ w. In w (kept_pairs all kept)) e (in_map (pair_of all) p kept h)))
+
+read_turned : (all : List (List ℕ)) (kept : List (NumberedSymbol × NumberedSymbol)) (p : NumberedSymbol × NumberedSymbol) (x y : Symbol) → pair_of all p ≡ (x, y) → In (p.1, p.0) kept → ArePair (kept_pairs all kept) x y
+read_turned all kept p x y e h = inr (in_contains (y, x) (kept_pairs all kept) (subst (λ w. In w (kept_pairs all kept)) (ap (λ (w : Symbol × Symbol). (w.1, w.0)) e) (in_map (pair_of all) (p.1, p.0) kept h)))
+
+turned_pair : (pairs : List (Symbol × Symbol)) (x y : Symbol) → ArePair pairs x y → ArePair pairs y x
+turned_pair pairs x y (inl a) = inr a
+turned_pair pairs x y (inr b) = inl b
+
+same_read : (all : List (List ℕ)) (said : List (Symbol × Symbol)) (raw kept : List (NumberedSymbol × NumberedSymbol)) → ArePairsRead all said raw → ((p : NumberedSymbol × NumberedSymbol) → In p kept ↔ In p (map with_low_first raw)) → AreSamePairsRead all said kept
+same_read all said raw kept read same = record {
+  pairs = subst (AreSamePairs (kept_pairs all kept)) read.pairs (λ x y. (both_from x y, both_to x y));
+  numbered = λ k d l. numbered_at (get_or kept k d) ((same (get_or kept k d)).0 (contains_in (get_or kept k d) kept (All-contains_itself kept k d l)));
+}
+  where
+    from : (x y : Symbol) → Contains (kept_pairs all kept) (x, y) → ArePair (kept_pairs all raw) x y
+    from x y c =
+        let r = from_map (pair_of all) (x, y) kept (contains_in (x, y) (kept_pairs all kept) c) in
+        let t = from_map with_low_first r.0 raw ((same r.0).0 r.1) in
+        elim (turned_or_not (leb (t.0).0.name (t.0).1.name) t.0 r.0 t.2) [
+          | inl e ↦ read_pair all raw r.0 x y r.2 (subst (λ w. In w raw) e t.1)
+          | inr e ↦ read_turned all raw r.0 x y r.2 (subst (λ w. In w raw) e t.1)
+        ]
+
+    to_by : (b : Bool) (p : NumberedSymbol × NumberedSymbol) (x y : Symbol) → pair_of all p ≡ (x, y) → In (cond b p (p.1, p.0)) kept → ArePair (kept_pairs all kept) x y
+    to_by true p x y e h = read_pair all kept p x y e h
+    to_by false p x y e h = read_turned all kept p x y e h
+
+    to : (x y : Symbol) → Contains (kept_pairs all raw) (x, y) → ArePair (kept_pairs all kept) x y
+    to x y c =
+        let r = from_map (pair_of all) (x, y) raw (contains_in (x, y) (kept_pairs all raw) c) in
+        to_by (leb (r.0).0.name (r.0).1.name) r.0 x y r.2 ((same (with_low_first r.0)).1 (in_map with_low_first r.0 raw r.1))
+
+    both_from : (x y : Symbol) → ArePair (kept_pairs all kept) x y → ArePair (kept_pairs all raw) x y
+    both_from x y (inl c) = from x y c
+    both_from x y (inr c) = turned_pair (kept_pairs all raw) y x (from y x c)
+
+    both_to : (x y : Symbol) → ArePair (kept_pairs all raw) x y → ArePair (kept_pairs all kept) x y
+    both_to x y (inl c) = to x y c
+    both_to x y (inr c) = turned_pair (kept_pairs all kept) y x (to y x c)
+
+    numbered_by : (b : Bool) (p : NumberedSymbol × NumberedSymbol) → IsPairNumbered all p → IsPairNumbered all (cond b p (p.1, p.0))
+    numbered_by true p n = n
+    numbered_by false p n = (n.1, n.0)
+
+    numbered_at : (p : NumberedSymbol × NumberedSymbol) → In p (map with_low_first raw) → IsPairNumbered all p
+    numbered_at p h =
+        let r = from_map with_low_first p raw h in
+        subst (IsPairNumbered all) r.2 (numbered_by (leb (r.0).0.name (r.0).1.name) r.0 (All-contains (IsPairNumbered all) raw r.0 read.numbered (in_contains r.0 raw r.1)))
+
+-- the test of two pairs
+abbrev is_same_symbol : NumberedSymbol → NumberedSymbol → Bool
+is_same_symbol x y = nat_eq x.name y.name && beq x.variable y.variable
+
+abbrev is_same_pair : NumberedSymbol × NumberedSymbol → NumberedSymbol × NumberedSymbol → Bool
+is_same_pair p q = is_same_symbol p.0 q.0 && is_same_symbol p.1 q.1
+
+symbol_decides : (x y : NumberedSymbol) → Decides (is_same_symbol x y) (x ≡ y)
+symbol_decides x y =
+    let d = Decides-and (nat_eq x.name y.name) (beq x.variable y.variable) (unsigned_Decides x.name y.name) (booleans_Decides x.variable y.variable) in
+    (λ t. let r = d.0 t in let name = r.0 in let variable = r.1 in λ i. record { name = name i; variable = variable i }, λ e. d.1 (ap (λ (s : NumberedSymbol). s.name) e, ap (λ (s : NumberedSymbol). s.variable) e))
+
+pair_decides : (p q : NumberedSymbol × NumberedSymbol) → Decides (is_same_pair p q) (p ≡ q)
+pair_decides p q =
+    let d = Decides-and (is_same_symbol p.0 q.0) (is_same_symbol p.1 q.1) (symbol_decides p.0 q.0) (symbol_decides p.1 q.1) in
+    (λ t. let r = d.0 t in let first = r.0 in let second = r.1 in λ i. (first i, second i), λ e. d.1 (λ i. (e i).0, λ i. (e i).1))
+
+-- sorted, and each once
+sorted_read : (all : List (List ℕ)) (said : List (Symbol × Symbol)) (raw listed sorted kept : List (NumberedSymbol × NumberedSymbol)) → ArePairsRead all said raw → listed ≡ map with_low_first raw → IsPermutation listed sorted → IsFiltered (DiffersFromLast is_same_pair) [] sorted kept
+    → AreSamePairsRead all said kept
+sorted_read all said raw listed sorted kept read whole moved filtered = same_read all said raw kept read (λ p. (
+  λ h. subst (In p) whole (contains_in p listed (Contains-permutation sorted listed p (IsPermutation-sym listed sorted moved) (Contains-from_dedup is_same_pair sorted p (subst (λ w. Contains w p) is (in_contains p kept h))))),
+  λ h. contains_in p kept (subst (λ w. Contains w p) (sym is) (Contains-dedup (decided is_same_pair pair_decides) (λ a b. (pair_decides a b).0) sorted p (Contains-permutation listed sorted p moved (in_contains p listed (subst (In p) (sym whole) h))))),
+))
+  where
+    is : kept ≡ dedup is_same_pair sorted
+    is = dedup_is is_same_pair sorted kept filtered
+
+-- what is collected for the active `$d` are these pairs, with the lower number first
+low_among : (xs : List NumberedSymbol) → pairs_among xs ≡ map with_low_first (in_turn xs)
+low_among [] = refl
+low_among (x ∷ xs) = (λ i. sym (map-map with_low_first (λ y. (x, y)) xs) i ++ low_among xs i) ∙ sym (map-append with_low_first (map (λ y. (x, y)) xs) (in_turn xs))
+
+low_all : (expressions : List (Vec NumberedSymbol Global)) (numbers : List ℕ) → flat_map (λ n. pairs_among (expression_kept expressions n)) numbers ≡ map with_low_first (flat_map (in_turn_at expressions) numbers)
+low_all expressions [] = refl
+low_all expressions (n ∷ numbers) = (λ i. low_among (expression_kept expressions n) i ++ low_all expressions numbers i) ∙ sym (map-append with_low_first (in_turn_at expressions n) (flat_map (in_turn_at expressions) numbers))
+
+pub pairs_sorted : (all : List (List ℕ)) (before : List Item) (expressions : List (Vec NumberedSymbol Global)) (numbers : List ℕ) (listed sorted kept : List (NumberedSymbol × NumberedSymbol)) → AreSound before → AreSymbols all before expressions → numbers ≡ active_numbers is_disjoint_item before
+    → listed ≡ flat_map (λ n. pairs_among (expression_kept expressions n)) numbers → IsPermutation listed sorted → IsFiltered (DiffersFromLast is_same_pair) [] sorted kept → AreSamePairsRead all (active_pairs before) kept
+pairs_sorted all before expressions numbers listed sorted kept h a e whole moved filtered =
+    sorted_read all (active_pairs before) (flat_map (in_turn_at expressions) numbers) listed sorted kept (pairs_kept all before expressions numbers h a e) (whole ∙ low_all expressions numbers) moved filtered
+
+-- a list that is there stays there
+pub list_stays : (all : List (List ℕ)) (old new : PairLists) (k : ℕ) (pairs : List (Symbol × Symbol)) → KeepsLists old new → IsList all old k pairs → IsList all new k pairs
+list_stays all old new k pairs keeps is = record {
+  list = is.list;
+  there = ap (λ w. slice_get w k) keeps.whole ∙ get_join old.lists.items keeps.more k is.list is.there;
+  read = is.read;
+}
+
+-- what is read of the list with this number
+pub list_read : (all : List (List ℕ)) (lists : PairLists) (k : ℕ) (pairs : List (Symbol × Symbol)) → IsList all lists k pairs → AreSamePairsRead all pairs (list_kept lists k)
+list_read all lists k pairs is = subst (λ o. AreSamePairsRead all pairs (pairs_or_none o)) (sym is.there) is.read
 
 -- the lists that are made stay so behind more items
-pub made_more : (before later : List Item) (lists : PairLists) → AreMade before lists → AreMade (before ++ later) lists
-made_more before later lists m count k e =
+pub made_more : (all : List (List ℕ)) (before later : List Item) (lists : PairLists) → AreMade all before lists → AreMade all (before ++ later) lists
+made_more all before later lists m count k e =
     let r = m count k e in
     let w = r.within in
     let c = length-append before later in
     record {
       within = omega arith;
-      list = subst (λ items. IsList lists k (active_pairs items)) (sym (take-append-le count before later r.within)) r.list;
+      list = subst (λ items. IsList all lists k (active_pairs items)) (sym (take-append-le count before later r.within)) r.list;
     }
 
 -- one more list
-pub made_one_more : (before : List Item) (old new : PairLists) (count k : ℕ) → KeepsLists old new → AreMade before old → HasActivePairs before count → IsList new k (active_pairs before) → ((other : ℕ) → list_made new other ≡ cond (nat_eq count other) (Some k) (list_made old other))
-    → AreMade before new
-made_one_more before old new count k keeps made has is told other j e = by_test (nat_eq count other) refl
+pub made_one_more : (all : List (List ℕ)) (before : List Item) (old new : PairLists) (count k : ℕ) → KeepsLists old new → AreMade all before old → HasActivePairs before count → IsList all new k (active_pairs before)
+    → ((other : ℕ) → list_made new other ≡ cond (nat_eq count other) (Some k) (list_made old other)) → AreMade all before new
+made_one_more all before old new count k keeps made has is told other j e = by_test (nat_eq count other) refl
   where
-    this : other ≡ count → k ≡ j → IsMadeFor before new other j
-    this z y = subst (λ c. IsMadeFor before new c j) (sym z) (record { within = has.within; list = subst (λ i. IsList new i (active_pairs (take count before))) y (subst (IsList new k) (sym has.pairs) is) })
+    this : other ≡ count → k ≡ j → IsMadeFor all before new other j
+    this z y = subst (λ c. IsMadeFor all before new c j) (sym z) (record { within = has.within; list = subst (λ i. IsList all new i (active_pairs (take count before))) y (subst (IsList all new k) (sym has.pairs) is) })
 
-    before_it : list_made old other ≡ Some j → IsMadeFor before new other j
-    before_it q = let r = made other j q in record { within = r.within; list = list_stays old new j (active_pairs (take other before)) keeps r.list }
+    before_it : list_made old other ≡ Some j → IsMadeFor all before new other j
+    before_it q = let r = made other j q in record { within = r.within; list = list_stays all old new j (active_pairs (take other before)) keeps r.list }
 
     same : Some k ≡ Some j → k ≡ j
     same q = cc
 
-    by_test : (b : Bool) → nat_eq count other ≡ b → IsMadeFor before new other j
+    by_test : (b : Bool) → nat_eq count other ≡ b → IsMadeFor all before new other j
     by_test true t = elim (eqb_tells count other) [
       | inl p ↦ this (sym p.1) (same (sym (ap (λ b. cond b (Some k) (list_made old other)) t) ∙ sym (told other) ∙ e))
       | inr p ↦ absurd (false≢true (sym p.0 ∙ t))
     ]
     by_test false t = before_it (sym (ap (λ b. cond b (Some k) (list_made old other)) t) ∙ sym (told other) ∙ e)
 
-pub new_list : (old new : PairLists) (list : Vec (NamedSymbol × NamedSymbol) Global) (k : ℕ) (pairs : List (Symbol × Symbol)) → new.lists.items ≡ old.lists.items ++ list ∷ [] → k ≡ length old.lists.items → kept_pairs list.items ≡ pairs → IsList new k pairs
-new_list old new list k pairs e z is = ap (λ w. option_map (λ list. kept_pairs list.items) (slice_get w k)) e ∙ ap (option_map (λ list. kept_pairs list.items)) (get_last old.lists.items list k z) ∙ ap Some is
+-- the last list, where the test says that it is of these pairs
+pub is_there : (lists : PairLists) (last : Vec (NumberedSymbol × NumberedSymbol) Global) (kept : List (NumberedSymbol × NumberedSymbol)) → slice_get lists.lists.items (length lists.lists.items - 1) ≡ Some last → pointwise is_same_pair last.items kept ≡ true
+    → IsThere lists (length lists.lists.items - 1) kept
+is_there lists last kept there t = record { list = last; there = there; same = (pointwise_decides pair_decides last.items kept).0 t }
+
+-- the list with this number is of pairs that are read so
+pub is_list : (all : List (List ℕ)) (lists : PairLists) (k : ℕ) (kept : List (NumberedSymbol × NumberedSymbol)) (pairs : List (Symbol × Symbol)) → IsThere lists k kept → AreSamePairsRead all pairs kept → IsList all lists k pairs
+is_list all lists k kept pairs there read = record { list = there.list; there = there.there; read = subst (AreSamePairsRead all pairs) (sym there.same) read }
 
 -- the rows of numbers of lists, where there may be more lists
-pairs_stay : (said : List Item) (old new : PairLists) (numbers : List (Option ℕ)) → KeepsLists old new → AreRows (TellsPairs old) said numbers → AreRows (TellsPairs new) said numbers
-pairs_stay said old new numbers keeps rows = record {
+pairs_stay : (all : List (List ℕ)) (said : List Item) (old new : PairLists) (numbers : List (Option ℕ)) → KeepsLists old new → AreRows (TellsPairs all old) said numbers → AreRows (TellsPairs all new) said numbers
+pairs_stay all said old new numbers keeps rows = record {
   count = rows.count;
-  each = λ n row e. let told = rows.each n row e in record { some = told.some; list = λ k q. list_stays old new k (active_pairs (sound_items (take n said))) keeps (told.list k q) };
+  each = λ n row e. let told = rows.each n row e in record { some = told.some; list = λ k q. list_stays all old new k (active_pairs (sound_items (take n said))) keeps (told.list k q) };
 }
 
-pub pairs_more : (said : List Item) (item : Item) (old new : PairLists) (numbers : List (Option ℕ)) (number : Option ℕ) → KeepsLists old new → AreRows (TellsPairs old) said numbers → TellsPairs new (sound_items said) item number → AreRows (TellsPairs new) (said ++ item ∷ []) (numbers ++ number ∷ [])
-pairs_more said item old new numbers number keeps rows told = rows_more (TellsPairs new) said item numbers number (pairs_stay said old new numbers keeps rows) told
+pub pairs_more : (all : List (List ℕ)) (said : List Item) (item : Item) (old new : PairLists) (numbers : List (Option ℕ)) (number : Option ℕ) → KeepsLists old new → AreRows (TellsPairs all old) said numbers → TellsPairs all new (sound_items said) item number
+    → AreRows (TellsPairs all new) (said ++ item ∷ []) (numbers ++ number ∷ [])
+pairs_more all said item old new numbers number keeps rows told = rows_more (TellsPairs all new) said item numbers number (pairs_stay all said old new numbers keeps rows) told
 
 pub keeps_all : (lists : PairLists) → KeepsLists lists lists
 keeps_all lists = record { more = []; whole = sym (append-nil lists.lists.items) }
 
-pub no_number : (lists : PairLists) (before : List Item) (item : Item) → false ≡ is_told_proof before item → TellsPairs lists before item None
-no_number lists before item e = record { some = e; list = λ k q. absurd (none-some k q) }
+pub no_number : (all : List (List ℕ)) (lists : PairLists) (before : List Item) (item : Item) → false ≡ is_told_proof before item → TellsPairs all lists before item None
+no_number all lists before item e = record { some = e; list = λ k q. absurd (none-some k q) }
 
-pub some_number : (lists : PairLists) (before : List Item) (item : Item) (k : ℕ) → true ≡ is_told_proof before item → IsList lists k (active_pairs before) → TellsPairs lists before item (Some k)
-some_number lists before item k e is = record { some = e; list = λ j q. subst (λ i. IsList lists i (active_pairs before)) (same k j q) is }
+pub some_number : (all : List (List ℕ)) (lists : PairLists) (before : List Item) (item : Item) (k : ℕ) → true ≡ is_told_proof before item → IsList all lists k (active_pairs before) → TellsPairs all lists before item (Some k)
+some_number all lists before item k e is = record { some = e; list = λ j q. subst (λ i. IsList all lists i (active_pairs before)) (same k j q) is }
   where
     same : (a b : ℕ) → Some a ≡ Some b → a ≡ b
     same a b q = cc

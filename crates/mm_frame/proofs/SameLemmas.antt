@@ -1,9 +1,20 @@
--- Lists that are the same element by element, and frames that are the same.
-use Rattle.std.proofs.Common.{◌≡◌, ℕ, suc, ◌+◌, ◌<◌, Some, List, [], ◌∷◌, length, map, slice_get, refl, sym, ◌∙◌, ap, subst, arith}
+-- Lists that are the same element by element, and readings of numbers that are the same.
+use Rattle.std.proofs.Common.{◌≡◌, ℕ, suc, ◌+◌, ◌<◌, Bool, true, false, ◌&&◌, ◌==◌, cond, Some, None, List, [], ◌∷◌, length, map, slice_get, refl, sym, ◌∙◌, ap, subst, arith}
+use Rattle.std.specs.Prelude.{All}
+use Rattle.std.specs.Bool.{Decides, beq}
+use Rattle.std.specs.Cmp.{booleans_Decides}
+use Rattle.std.proofs.lemmas.Bool.{false≢true}
+use Rattle.std.proofs.lemmas.Bool.Decides.{Decides-eqb}
 use Rattle.std.specs.Option.{option_map}
 use Rattle.std.proofs.lemmas.List.{length-map}
-use Rattle.std.proofs.lemmas.Option.{slice_get-map}
+use Rattle.std.proofs.lemmas.Option.{slice_get-map, slice_get-get_or, same_Some, none-some}
 use native.Mathlib.Decide.{dec_lt}
+use Rattle.mm_frame.specs.declared.symbol.NumberedSymbol.{NumberedSymbol}
+use Rattle.mm_frame.specs.Language.Frame.{Symbol}
+use Rattle.mm_frame.specs.Language.Names.{AreDistinct, name_at}
+use Rattle.mm_frame.specs.Language.Framing.{expression}
+use Rattle.mm_frame.specs.Language.Base.{BaseView, before, said_at, is_shown_at, expression_at}
+use Rattle.mm_frame.specs.Code.CodeSymbols.{symbol_of, symbols_of, pair_of, kept_pairs, IsNumbered, IsPairNumbered}
 
 -- under these functions, so many elements of two lists are the same
 abbrev pub AreSameTo : {X Y Z : Type 0} → (X → Z) → (Y → Z) → List X → List Y → ℕ → Type 0
@@ -37,3 +48,60 @@ same_each f g xs ys k x y e p q =
 
 pub same_long : {X Y Z : Type 0} (f : X → Z) (g : Y → Z) (xs : List X) (ys : List Y) → map f xs ≡ map g ys → length xs ≡ length ys
 same_long f g xs ys e = sym (length-map xs f) ∙ ap length e ∙ length-map ys g
+
+-- equal readings have equal numbers
+number_from_reading : (all : List (List ℕ)) → AreDistinct all → (x y : NumberedSymbol) → IsNumbered all x → IsNumbered all y → symbol_of all x ≡ symbol_of all y → x ≡ y
+number_from_reading all distinct x y p q e =
+    let name : x.name ≡ y.name = distinct x.name y.name (name_at all x.name) (slice_get-get_or all x.name [] p) (slice_get-get_or all y.name [] q ∙ (λ i. Some (sym e i).name)) in
+    λ i. record { name = name i; variable = (e i).variable }
+
+pub numbers_from_readings : (all : List (List ℕ)) → AreDistinct all → (xs ys : List NumberedSymbol) → All (IsNumbered all) xs → All (IsNumbered all) ys → symbols_of all xs ≡ symbols_of all ys → xs ≡ ys
+numbers_from_readings all distinct [] [] p q e = refl
+numbers_from_readings all distinct [] (y ∷ ys) p q e = cc
+numbers_from_readings all distinct (x ∷ xs) [] p q e = cc
+numbers_from_readings all distinct (x ∷ xs) (y ∷ ys) p q e =
+    let head : symbol_of all x ≡ symbol_of all y = cc in
+    let rest : symbols_of all xs ≡ symbols_of all ys = cc in
+    let a = number_from_reading all distinct x y (p 0 x (omega arith)) (q 0 y (omega arith)) head in
+    let b = numbers_from_readings all distinct xs ys (λ k d h. p (suc k) d (omega (arith, h))) (λ k d h. q (suc k) d (omega (arith, h))) rest in
+    λ i. a i ∷ b i
+
+pub pairs_from_readings : (all : List (List ℕ)) → AreDistinct all → (xs ys : List (NumberedSymbol × NumberedSymbol)) → All (IsPairNumbered all) xs → All (IsPairNumbered all) ys → kept_pairs all xs ≡ kept_pairs all ys → xs ≡ ys
+pairs_from_readings all distinct [] [] p q e = refl
+pairs_from_readings all distinct [] (y ∷ ys) p q e = cc
+pairs_from_readings all distinct (x ∷ xs) [] p q e = cc
+pairs_from_readings all distinct (x ∷ xs) (y ∷ ys) p q e =
+    let head : pair_of all x ≡ pair_of all y = cc in
+    let rest : kept_pairs all xs ≡ kept_pairs all ys = cc in
+    let m = p 0 x (omega arith) in
+    let n = q 0 y (omega arith) in
+    let first = number_from_reading all distinct x.0 y.0 m.0 n.0 (ap (λ (w : Symbol × Symbol). w.0) head) in
+    let second = number_from_reading all distinct x.1 y.1 m.1 n.1 (ap (λ (w : Symbol × Symbol). w.1) head) in
+    let b = pairs_from_readings all distinct xs ys (λ k d h. p (suc k) d (omega (arith, h))) (λ k d h. q (suc k) d (omega (arith, h))) rest in
+    λ i. (first i, second i) ∷ b i
+
+-- two tests together
+pub both_decide : {P Q : Type 0} (p q : Bool) → Decides p P → Decides q Q → Decides (p && q) (P × Q)
+both_decide true true p q = (λ t. (p.0 refl, q.0 refl), λ e. refl)
+both_decide true false p q = (λ t. absurd (false≢true t), λ e. absurd (false≢true (q.1 e.1)))
+both_decide false r p q = (λ t. absurd (false≢true t), λ e. absurd (false≢true (p.1 e.0)))
+
+-- two symbols are equal where their numbers and their sorts are
+pub symbols_decide : (a b : NumberedSymbol) → Decides ((a.name == b.name) && (beq a.variable b.variable)) (a ≡ b)
+symbols_decide a b =
+    let both = both_decide (a.name == b.name) (beq a.variable b.variable) (Decides-eqb a.name b.name) (booleans_Decides a.variable b.variable) in
+    (λ t. (let e = both.0 t in λ i. record { name = e.0 i; variable = e.1 i }), λ e. both.1 (ap (λ (w : NumberedSymbol). w.name) e, ap (λ (w : NumberedSymbol). w.variable) e))
+
+-- and two pairs where their parts are
+pub pairs_decide : (a b : NumberedSymbol × NumberedSymbol)
+    → Decides (((a.0.name == b.0.name) && (beq a.0.variable b.0.variable)) && ((a.1.name == b.1.name) && (beq a.1.variable b.1.variable))) (a ≡ b)
+pairs_decide a b =
+    let both = both_decide ((a.0.name == b.0.name) && (beq a.0.variable b.0.variable)) ((a.1.name == b.1.name) && (beq a.1.variable b.1.variable)) (symbols_decide a.0 b.0) (symbols_decide a.1 b.1) in
+    (λ t. (let e = both.0 t in λ i. (e.0 i, e.1 i)), λ e. both.1 (ap (λ (w : NumberedSymbol × NumberedSymbol). w.0) e, ap (λ (w : NumberedSymbol × NumberedSymbol). w.1) e))
+
+-- the expression of a sound item with a label
+pub expression_shown : (base : BaseView) (i : ℕ) (symbols : List Symbol) → Some symbols ≡ expression_at base i → is_shown_at base i ≡ true → symbols ≡ expression (before base i) (said_at base i)
+expression_shown base i symbols e t = same_Some symbols (expression (before base i) (said_at base i)) (e ∙ ap (λ b. cond b (Some (expression (before base i) (said_at base i))) None) t)
+
+pub expression_there : (base : BaseView) (i : ℕ) → None ≡ expression_at base i → is_shown_at base i ≡ true → ⊥
+expression_there base i e t = none-some (expression (before base i) (said_at base i)) (e ∙ ap (λ b. cond b (Some (expression (before base i) (said_at base i))) None) t)

@@ -35,5 +35,5 @@ types_more now before item old new last t l e =
     ap (map now) e ∙ map-append now old (last ∷ []) ∙ (λ i. t i ++ l i ∷ []) ∙ sym (map-append typecode_of before (item ∷ []))
 
 -- an item that is not sound is passed over
-pub passed_over : {scope : Scope} (before : List Item) (item : Item) (sound : Bool) → sound ≡ false → ScopeHolds (before ++ passed ∷ []) scope → ScopeHolds (before ++ taken sound item ∷ []) scope
-passed_over {scope} before item sound e h = subst (λ b. ScopeHolds (before ++ taken b item ∷ []) scope) (sym e) h
+pub passed_over : (all : List (List ℕ)) {scope : Scope} (before : List Item) (item : Item) (sound : Bool) → sound ≡ false → ScopeHolds all (before ++ passed ∷ []) scope → ScopeHolds all (before ++ taken sound item ∷ []) scope
+passed_over all {scope} before item sound e h = subst (λ b. ScopeHolds all (before ++ taken b item ∷ []) scope) (sym e) h

@@ -4,6 +4,8 @@ pub mod BlockEnds
 pub mod KeptBlocks
 pub mod LastItems
 pub mod FaultInOrder
+pub mod Numbers
+pub mod KeptNames
 pub mod KeptTables
 pub mod PlainWords
 pub mod KeptStatement

@@ -36,7 +36,7 @@ fn is_active_behind(blocks: &Blocks, number: usize) -> bool
 }
 
 /// Drops numbers from the end until the last one is that of an active item.
-fn drop_ended(numbers: &mut Vec<usize>, blocks: &Blocks)
+pub fn drop_ended(numbers: &mut Vec<usize>, blocks: &Blocks)
     ensures { IsPruned blocks.now numbers.old.items numbers.new.items }
 {
     while let Some(number) = numbers.last().copied() {

@@ -1,6 +1,6 @@
 //! What the items of files mean, from a top file on.
 
-ghost use Rattle.std.specs.Prelude.{◌≡◌, ◌<◌, ◌≤◌, ◌↔◌, ◌&&◌, is_none, is_some, Some, None, List, length, ℕ, IfSome, IfOk, IfErr, IsErrOf, slice_get};
+ghost use Rattle.std.specs.Prelude.{All, ◌≡◌, ◌<◌, ◌≤◌, ◌↔◌, ◌&&◌, is_none, is_some, Some, None, List, length, ℕ, IfSome, IfOk, IfErr, IsErrOf, slice_get};
 ghost use Rattle.std.specs.Option.{option_map};
 ghost use Rattle.mm_store.specs.Language.FilesView.{number_of};
 ghost use Rattle.mm_store.specs.Language.Answers.{IsExpansionError};
@@ -10,7 +10,8 @@ ghost use Rattle.mm_frame.specs.Language.Frame.{AreSamePairs};
 ghost use Rattle.mm_frame.specs.Language.Framing.{active_pairs, mandatory_numbers, resolve};
 ghost use Rattle.mm_frame.specs.Language.Base.{BaseView, IsOfFiles, before, said_at, is_proof_at, is_framed_at, is_sound_at, fault_at, expression_at, frame_at};
 ghost use Rattle.mm_frame.specs.Language.Base.{AreHypotheses};
-ghost use Rattle.mm_frame.specs.Code.CodeSymbols.{symbols_of, kept_pairs};
+ghost use Rattle.mm_frame.specs.Language.Names.{Begins};
+ghost use Rattle.mm_frame.specs.Code.CodeSymbols.{symbols_of, kept_pairs, IsNumbered, IsPairNumbered, ArePairsRead};
 ghost use Rattle.mm_frame.specs.Code.KeptSymbols.{expression_kept};
 ghost use Rattle.mm_frame.specs.Code.PairOrder.{pairs_in_order};
 ghost use Rattle.mm_frame.specs.Language.Item as meant;
@@ -19,7 +20,8 @@ ghost use Rattle.mm_frame.specs.Language.Resolving.{IsCarrier, IsMeaning, Resolv
 
 use crate::draft::{Draft, Frame, Parts, Row};
 use crate::judge::FrameFault;
-use crate::symbol::NamedSymbol;
+use crate::names::Names;
+use crate::symbol::NumberedSymbol;
 use mm_store::{Files, Item, ItemKind, StoreError};
 use std::alloc::Global;
 
@@ -80,18 +82,29 @@ fn is_shown_row(row: &Row) -> bool
 }
 
 impl Base {
-    ghost use Rattle.mm_frame.specs.Code.KeptBase.{IsBase, TellsPairs, hypotheses_at, rows_of, expressions_of, frames_of};
+    ghost use Rattle.mm_frame.specs.Code.KeptBase.{IsBase, IsBaseBy, StandsLater, TellsPairs, hypotheses_at, rows_of, expressions_of, frames_of};
 
     /// Builds the base of the files from a top file on. `NoTop` comes where no file has the name `top`; any other
     /// error is `Memory`. It reads each item once, in time near linear in the texts and in the lists of active pairs,
     /// of which it makes one for each last active `$d` of a sound `$p`.
-    pub fn build(alloc: Global, files: &Files, top: &[u8]) -> Result<Base, StoreError>
-        ensures base { IfOk result (λ built. (base : BaseView) × IsOfFiles files.now top.now base × IsBase base built) }
+    ///
+    /// A base has numbers in place of names of symbols, and is read through the names as they are afterwards, or through
+    /// any that begin with these. New names come behind those that were there, also where an error is told.
+    pub fn build(
+        alloc: Global,
+        names: &mut Names,
+        files: &Files,
+        top: &[u8],
+    ) -> Result<Base, StoreError>
+        ensures base { IfOk result (λ built. (base : BaseView) × IsOfFiles files.now top.now base × IsBaseBy names.new base built
+            × StandsLater names.new base built) }
+        ensures grows { Begins names.old names.new }
         ensures no_top { IsErrOf result NoTop ↔ (number_of files.now.files top.now ≡ None) }
         ensures err { IfErr result IsExpansionError }
     {
         let items = files.statements(alloc, top)?;
-        let draft = Draft::read_all(alloc, files, &items)?;
+        let draft = Draft::read_all(alloc, names, files, &items)?;
+        names.distinct();
         Ok(Base {
             items,
             parts: draft.parts(),
@@ -123,7 +136,7 @@ impl Base {
     }
 
     /// The symbols that are kept of the item with this number: none where none are kept.
-    fn symbols(&self, i: usize) -> &[NamedSymbol]
+    fn symbols(&self, i: usize) -> &[NumberedSymbol]
         ensures { result.now ≡ expression_kept (expressions_of self.now) i }
     {
         match self.parts.expressions.get(i) {
@@ -187,8 +200,11 @@ impl Base {
     }
 
     /// The expression of the item with this number, where it is a sound `$f`, `$e`, `$a` or `$p`.
-    pub fn expression(&self, i: usize) -> Option<&[NamedSymbol]>
-        ensures { (base : BaseView) → IsBase base self.now → option_map (λ e. symbols_of e.now) result ≡ expression_at base i }
+    pub fn expression(&self, i: usize) -> Option<&[NumberedSymbol]>
+        ensures symbols { (names : List (List ℕ)) (base : BaseView) → IsBaseBy names base self.now
+            → option_map (λ e. symbols_of names e.now) result ≡ expression_at base i }
+        ensures numbered { (names : List (List ℕ)) (base : BaseView) → IsBaseBy names base self.now
+            → IfSome result (λ e. All (IsNumbered names) e.now) }
     {
         if self.is_shown(i) {
             Some(self.symbols(i))
@@ -200,8 +216,8 @@ impl Base {
     /// The frame that is kept of the item with this number, if one is kept; its pairs stand in the order of its `$f`.
     pub(crate) fn kept_frame(&self, i: usize) -> Option<&Frame>
         ensures numbers { (base : BaseView) → IsBase base self.now → option_map (λ frame. frame.now.hypotheses.items) result ≡ hypotheses_at base i }
-        ensures order { (base : BaseView) → IsBase base self.now →
-            IfSome result (λ frame. kept_pairs frame.now.pairs.items ≡ pairs_in_order (frame_at base i)) }
+        ensures order { (names : List (List ℕ)) (base : BaseView) → IsBaseBy names base self.now →
+            IfSome result (λ frame. ArePairsRead names (pairs_in_order (frame_at base i)) frame.now.pairs.items) }
     {
         match self.frame_row(i) {
             Some(frame) => frame_in(frame),
@@ -215,15 +231,18 @@ impl Base {
         ensures means { (base : BaseView) → IsBase base self.now → IfSome result (λ frame. AreHypotheses base i frame.now.hypotheses.items) }
         ensures numbers { (base : BaseView) → IsBase base self.now
             → IfSome result (λ frame. frame.now.hypotheses.items ≡ mandatory_numbers (before base i) (said_at base i)) }
-        ensures pairs { (base : BaseView) → IsBase base self.now
-            → IfSome result (λ frame. AreSamePairs (kept_pairs frame.now.pairs.items) (frame_at base i).pairs) }
+        ensures pairs { (names : List (List ℕ)) (base : BaseView) → IsBaseBy names base self.now
+            → IfSome result (λ frame. AreSamePairs (kept_pairs names frame.now.pairs.items) (frame_at base i).pairs) }
+        ensures numbered { (names : List (List ℕ)) (base : BaseView) → IsBaseBy names base self.now
+            → IfSome result (λ frame. All (IsPairNumbered names) frame.now.pairs.items) }
     {
         self.kept_frame(i)
     }
 
     /// The number of the list of active pairs that is kept of the item with this number, if one is kept.
     fn pair_number(&self, i: usize) -> Option<usize>
-        ensures { (base : BaseView) → IsBase base self.now → TellsPairs self.now.parts.pair_lists (before base i) (said_at base i) result }
+        ensures { (names : List (List ℕ)) (base : BaseView) → IsBaseBy names base self.now
+            → TellsPairs names self.now.parts.pair_lists (before base i) (said_at base i) result }
     {
         match self.parts.pair_numbers.get(i) {
             Some(number) => *number,
@@ -232,10 +251,13 @@ impl Base {
     }
 
     /// All active pairs at the item with this number, where it is a sound `$p`: its own and those of its scope,
-    /// mandatory or not.
-    pub fn pairs(&self, i: usize) -> Option<&[(NamedSymbol, NamedSymbol)]>
+    /// mandatory or not. They are sorted by the numbers of the names, the lower one first, and each stands there once.
+    pub fn pairs(&self, i: usize) -> Option<&[(NumberedSymbol, NumberedSymbol)]>
         ensures some { (base : BaseView) → IsBase base self.now → is_some result ≡ is_proof_at base i }
-        ensures pairs { (base : BaseView) → IsBase base self.now → IfSome result (λ pairs. AreSamePairs (kept_pairs pairs.now) (active_pairs (before base i))) }
+        ensures pairs { (names : List (List ℕ)) (base : BaseView) → IsBaseBy names base self.now
+            → IfSome result (λ pairs. AreSamePairs (kept_pairs names pairs.now) (active_pairs (before base i))) }
+        ensures numbered { (names : List (List ℕ)) (base : BaseView) → IsBaseBy names base self.now
+            → IfSome result (λ pairs. All (IsPairNumbered names) pairs.now) }
     {
         match self.pair_number(i) {
             Some(k) => Some(self.parts.pair_lists.list(k)),

@@ -2,12 +2,13 @@
 
 ghost use Rattle.std.specs.Prelude.{IfOk};
 ghost use Rattle.mm_frame.specs.Language.Base.{BaseView};
-ghost use Rattle.mm_frame.specs.Code.KeptBase.{IsBase};
+ghost use Rattle.mm_frame.specs.Code.KeptBase.{IsBase, IsBaseBy};
 
 use crate::frame_tests::stands_at;
 use crate::judge::FrameFault;
+use crate::names::Names;
 use crate::{Base, Files, FrameNumber, ItemKind, Resolved, StoreError};
-use std::alloc::{AllocError, Global};
+use std::alloc::Global;
 use std::test::Fail;
 
 /// A text with a block, a missing file and two statements at fault.
@@ -15,12 +16,12 @@ const BASE: &[u8] =
     b"$c wff |- $.\n${ $v x $.\nwx $f wff x $. $}\n$[ b.mm $]\nax $a |- y $.\n$v y $.\nwx $f wff y $.\nwy $f wff y $.\nay $a |- y $.\n";
 
 /// The base of a text as the one file.
-pub fn base_of(alloc: Global, text: &[u8]) -> Result<Base, StoreError>
-    ensures { IfOk result (λ base. (view : BaseView) × IsBase view base) }
+pub fn base_of(alloc: Global, names: &mut Names, text: &[u8]) -> Result<Base, StoreError>
+    ensures { IfOk result (λ base. (view : BaseView) × IsBaseBy names.new view base) }
 {
     let mut files = Files::new(alloc);
     files.add(alloc, b"top", text)?;
-    Base::build(alloc, &files, b"top")
+    Base::build(alloc, names, &files, b"top")
 }
 
 /// The kind of an item.
@@ -85,14 +86,14 @@ fn finds_labels(base: &Base) -> bool {
 }
 
 /// Whether an item has the expression `|- y`, with `y` as a variable.
-fn says_y(alloc: Global, base: &Base, i: usize) -> Result<bool, AllocError> {
+fn says_y(names: &Names, base: &Base, i: usize) -> bool {
     match base.expression(i) {
-        Some(expression) => Ok(
+        Some(expression) => {
             expression.len() == 2
-                && stands_at(alloc, expression, 0, b"|-", false)?
-                && stands_at(alloc, expression, 1, b"y", true)?,
-        ),
-        None => Ok(false),
+                && stands_at(names, expression, 0, b"|-", false)
+                && stands_at(names, expression, 1, b"y", true)
+        }
+        None => false,
     }
 }
 
@@ -118,13 +119,14 @@ fn tells_kinds(base: &Base) -> bool
 
 #[test]
 fn builds_a_base(rt: HostRuntime) -> Result<(), Fail> {
-    let base = base_of(rt.alloc(), BASE)?;
+    let mut names = Names::new(rt.alloc());
+    let base = base_of(rt.alloc(), &mut names, BASE)?;
     assert_eq!(rt; base.count(), FAULTS.len());
     assert_eq!(rt; without_its_fault(&base, FAULTS), None);
     for i in [5, 6, 7, 8] {
         assert!(rt; base.expression(i).is_none(), "of {i}");
     }
-    assert!(rt; says_y(rt.alloc(), &base, 10)?);
+    assert!(rt; says_y(&names, &base, 10));
     assert!(rt; tells_labels(&base));
     assert!(rt; finds_labels(&base));
     assert!(rt; tells_frames(&base));
@@ -134,7 +136,7 @@ fn builds_a_base(rt: HostRuntime) -> Result<(), Fail> {
 
 /// Whether the files have no top file.
 fn has_no_top(alloc: Global, files: &Files) -> bool {
-    match Base::build(alloc, files, b"top") {
+    match Base::build(alloc, &mut Names::new(alloc), files, b"top") {
         Ok(_) => false,
         Err(error) => error == StoreError::NoTop,
     }
@@ -181,7 +183,7 @@ fn means_otherwise(base: &Base, rows: &[(&[u8], usize, Resolved)]) -> Option<usi
 
 #[test]
 fn resolves_labels(rt: HostRuntime) -> Result<(), Fail> {
-    let base = base_of(rt.alloc(), LABELS)?;
+    let base = base_of(rt.alloc(), &mut Names::new(rt.alloc()), LABELS)?;
     assert!(rt; base.count() == 10);
     assert_eq!(rt; means_otherwise(&base, MEANINGS), None);
     Ok(())

@@ -1,6 +1,6 @@
 //! A base in the making: what the items read so far leave.
 
-ghost use Rattle.std.specs.Prelude.{◌≡◌, ◌∷◌, ◌++◌, Bool, List, [], true, IfOk, OnOk, All, is_some, length, ◌&&◌};
+ghost use Rattle.std.specs.Prelude.{◌≡◌, ◌∷◌, ◌++◌, ℕ, Bool, List, [], true, IfOk, OnOk, All, is_some, length, ◌&&◌};
 ghost use Rattle.std.specs.Option.{option_map};
 ghost use Rattle.std.specs.List.{AllZip};
 ghost use Rattle.mm_store.specs.Language.FileFacts.{CanBeRead};
@@ -9,7 +9,9 @@ ghost use Rattle.mm_frame.specs.Language.Statement.{Says, kind_of};
 ghost use Rattle.mm_frame.specs.Language.Sound.{AreSound, IsSound, sound_items};
 ghost use Rattle.mm_frame.specs.Language.Framing.{expression};
 ghost use Rattle.mm_frame.specs.Code.KeptTables.{Knows};
-ghost use Rattle.mm_frame.specs.Code.CodeSymbols.{symbols_of};
+ghost use Rattle.mm_frame.specs.Language.Names.{AreDistinct, Begins};
+ghost use Rattle.mm_frame.specs.Code.Numbers.{AreNumbersOf};
+ghost use Rattle.mm_frame.specs.Code.CodeSymbols.{symbols_of, IsNumbered};
 ghost use Rattle.mm_frame.specs.Code.KeptSymbols.{is_read, AreExpressions, AreSymbols};
 ghost use Rattle.mm_frame.specs.Language.Scope.{closes, mark_of, active_numbers};
 ghost use Rattle.mm_frame.specs.Code.KeptScope.{taken};
@@ -26,11 +28,12 @@ use crate::active::ActiveNumbers;
 use crate::blocks::Blocks;
 use crate::judge::{FrameFault, fault_of};
 use crate::mandatory::{Earlier, hypotheses, mandatory_pairs};
+use crate::names::Names;
 use crate::pair_lists::PairLists;
 use crate::paired::PairTable;
 use crate::scope::Scope;
 use crate::statement::Statement;
-use crate::symbol::{NamedSymbol, expression_of, variables_of};
+use crate::symbol::{NumberedSymbol, symbols_numbered, variables_numbered};
 use crate::tables::Tables;
 use mm_store::{Files, Item, ItemKind};
 use std::alloc::{AllocError, Global};
@@ -50,16 +53,18 @@ pub struct Frame {
     /// The numbers of the mandatory hypotheses, rising.
     pub hypotheses: Vec<usize>,
     /// The mandatory pairs, each once, in the order of the `$f` of their variables.
-    pub pairs: Vec<(NamedSymbol, NamedSymbol)>,
+    pub pairs: Vec<(NumberedSymbol, NumberedSymbol)>,
 }
 
 /// What is kept of the items so far.
 #[derive(Drop)]
 pub struct Draft<'a> {
     scope: Scope<'a>,
+    /// The numbers of the symbols of the last statement.
+    numbers: Vec<usize>,
     rows: Vec<Row>,
     /// The symbols of each sound `$f`, `$e`, `$a`, `$p` and `$d`, by its number; none for any other item.
-    expressions: Vec<Vec<NamedSymbol>>,
+    expressions: Vec<Vec<NumberedSymbol>>,
     /// The frame of each sound `$a` and `$p`, by its number; none for any other item.
     frames: Vec<Option<Frame>>,
     /// The active `$e`.
@@ -81,7 +86,7 @@ pub struct Parts {
     pub blocks: Blocks,
     pub rows: Vec<Row>,
     /// The symbols of each sound `$f`, `$e`, `$a`, `$p` and `$d`, by its number; none for any other item.
-    pub expressions: Vec<Vec<NamedSymbol>>,
+    pub expressions: Vec<Vec<NumberedSymbol>>,
     /// The frame of each sound `$a` and `$p`, by its number; none for any other item.
     pub frames: Vec<Option<Frame>>,
     /// The lists of active pairs.
@@ -136,23 +141,47 @@ fn is_disjoint(kind: ItemKind) -> bool
     matches!(kind, ItemKind::Disjoint)
 }
 
-/// The symbols that are kept of a statement: of a sound `$f`, `$e`, `$a`, `$p` or `$d`.
+/// Puts the numbers of the symbols of a statement, and names those that have none yet. Want of memory may leave more
+/// names.
+pub fn number_all(
+    alloc: Global,
+    names: &mut Names,
+    statement: &Statement,
+    numbers: &mut Vec<usize>,
+) -> Result<(), AllocError>
+    ensures grows { Begins names.old names.new }
+    ensures count { OnOk result (length numbers.new.items ≡ length statement.now.symbols) }
+    ensures numbers { OnOk result ((all : List (List ℕ)) → Begins names.new all → AreNumbersOf all numbers.new.items statement.now.symbols) }
+{
+    numbers.clear();
+    for n in 0..statement.symbol_count() {
+        let number = names.take(alloc, statement.symbol(n))?;
+        numbers.push(number)?;
+    }
+    Ok(())
+}
+
+/// The symbols that are kept of a statement whose symbols have these numbers: of a sound `$f`, `$e`, `$a`, `$p` or `$d`.
 fn symbols_kept(
     alloc: Global,
     tables: &Tables,
     statement: &Statement,
+    numbers: &[usize],
     sound: bool,
-) -> Result<Vec<NamedSymbol>, AllocError>
-    ensures { IfOk result (λ symbols. (before : List meant.Item) → AreSound before → Knows before tables.now → sound ≡ true → IsSound before statement.now
-        → is_read statement.now.kind ≡ true → symbols_of symbols.items ≡ expression before statement.now) }
+) -> Result<Vec<NumberedSymbol>, AllocError>
+    ensures numbered { IfOk result (λ symbols. (all : List (List ℕ)) → AreNumbersOf all numbers.now statement.now.symbols
+        → All (IsNumbered all) symbols.items) }
+    ensures read { IfOk result (λ symbols. (all : List (List ℕ)) (before : List meant.Item) → AreSound before → Knows all before tables.now
+        → AreNumbersOf all numbers.now statement.now.symbols → sound ≡ true → IsSound before statement.now
+        → is_read statement.now.kind ≡ true → symbols_of all symbols.items ≡ expression before statement.now) }
 {
     if !sound {
         return Ok(Vec::new(alloc));
     }
     if statement.label().is_some() {
-        Ok(expression_of(alloc, tables, statement)?)
+        symbols_numbered(alloc, tables, numbers)
     } else if is_disjoint(statement.kind()) {
-        Ok(variables_of(alloc, statement)?)
+        variables_numbered(alloc, numbers)
     } else {
         Ok(Vec::new(alloc))
     }
@@ -176,11 +205,11 @@ fn has_proof(kind: ItemKind, sound: bool) -> bool
 fn frame_of(
     alloc: Global,
     earlier: &Earlier,
-    own: &[NamedSymbol],
+    own: &[NumberedSymbol],
     framed: bool,
 ) -> Result<Option<Frame>, AllocError>
-    ensures { IfOk result (λ frame. (before : List meant.Item) (item : meant.Item) → KnowsEarlier before earlier.now
-        → (framed ≡ true → IsFramed before item own.now) → KeepsFrame framed before item frame) }
+    ensures { IfOk result (λ frame. (all : List (List ℕ)) (before : List meant.Item) (item : meant.Item) → KnowsEarlier all before earlier.now
+        → (framed ≡ true → IsFramed all before item own.now) → KeepsFrame all framed before item frame) }
 {
     if !framed {
         return Ok(None);
@@ -235,15 +264,15 @@ fn keep_pairs(
     pair_lists: &mut PairLists,
     pairs: &mut Vec<Option<usize>>,
     disjoints: &[usize],
-    expressions: &[Vec<NamedSymbol>],
+    expressions: &[Vec<NumberedSymbol>],
     proof: bool,
 ) -> Result<(), AllocError>
-    ensures made { OnOk result ((before : List meant.Item) → AreSound before → AreSymbols before expressions.now
-        → disjoints.now ≡ active_numbers is_disjoint_item before → AreMade before pair_lists.old → AreMade before pair_lists.new) }
-    ensures pairs { OnOk result ((said : List meant.Item) (item : meant.Item) → AreSymbols (sound_items said) expressions.now
+    ensures made { OnOk result ((all : List (List ℕ)) (before : List meant.Item) → AreSound before → AreSymbols all before expressions.now
+        → disjoints.now ≡ active_numbers is_disjoint_item before → AreMade all before pair_lists.old → AreMade all before pair_lists.new) }
+    ensures pairs { OnOk result ((all : List (List ℕ)) (said : List meant.Item) (item : meant.Item) → AreSymbols all (sound_items said) expressions.now
         → disjoints.now ≡ active_numbers is_disjoint_item (sound_items said)
-        → AreMade (sound_items said) pair_lists.old → proof ≡ is_told_proof (sound_items said) item
-        → AreRows (TellsPairs pair_lists.old) said pairs.old.items → AreRows (TellsPairs pair_lists.new) (said ++ item ∷ []) pairs.new.items) }
+        → AreMade all (sound_items said) pair_lists.old → proof ≡ is_told_proof (sound_items said) item
+        → AreRows (TellsPairs all pair_lists.old) said pairs.old.items → AreRows (TellsPairs all pair_lists.new) (said ++ item ∷ []) pairs.new.items) }
 {
     if !proof {
         pairs.push(None)?;
@@ -254,35 +283,36 @@ fn keep_pairs(
     Ok(())
 }
 
-/// Goes on with the pairs behind one more item, of this kind and with these symbols where it is sound.
+/// Goes on with the pairs behind one more item, of this kind, whose symbols have these numbers.
 fn follow_pairs(
     alloc: Global,
     pairs: &mut PairTable,
     blocks: &Blocks,
     kind: ItemKind,
-    symbols: &[NamedSymbol],
+    numbers: &[usize],
     number: usize,
     sound: bool,
 ) -> Result<(), AllocError>
-    ensures { OnOk result ((before : List meant.Item) (item : meant.Item) → kind_of kind ≡ item.kind → number ≡ length before → blocks.now ≡ marks_of before
-        → (sound ≡ true → is_read item.kind ≡ true → symbols_of symbols.now ≡ expression before item) → KnowsPairs before pairs.old
-        → KnowsPairs (before ++ taken sound item ∷ []) pairs.new) }
+    ensures { OnOk result ((all : List (List ℕ)) (before : List meant.Item) (item : meant.Item) → AreDistinct all → AreSound before → kind_of kind ≡ item.kind
+        → number ≡ length before → blocks.now ≡ marks_of before → AreNumbersOf all numbers.now item.symbols → (sound ≡ true → IsSound before item)
+        → KnowsPairs all before pairs.old → KnowsPairs all (before ++ taken sound item ∷ []) pairs.new) }
 {
     if sound && is_disjoint(kind) {
-        pairs.take(alloc, blocks, symbols, number)?;
+        pairs.take(alloc, blocks, numbers, number)?;
     }
     Ok(())
 }
 
 impl<'a> Draft<'a> {
-    ghost use Rattle.mm_frame.specs.Code.KeptBase.{IsDraft, AreParts};
+    ghost use Rattle.mm_frame.specs.Code.KeptBase.{IsDraft, StandsFor, AreParts};
 
     /// No items. It takes no memory.
     pub fn new(alloc: Global) -> Self
-        ensures { IsDraft [] result }
+        ensures { (all : List (List ℕ)) → AreDistinct all → IsDraft all [] result }
     {
         Draft {
             scope: Scope::new(alloc),
+            numbers: Vec::new(alloc),
             rows: Vec::new(alloc),
             expressions: Vec::new(alloc),
             frames: Vec::new(alloc),
@@ -296,7 +326,7 @@ impl<'a> Draft<'a> {
 
     /// What is known of the items so far.
     fn earlier(&self) -> Earlier<'_>
-        ensures { (said : List meant.Item) → IsDraft said self.now → KnowsEarlier (sound_items said) result }
+        ensures { (all : List (List ℕ)) (said : List meant.Item) → IsDraft all said self.now → KnowsEarlier all (sound_items said) result }
     {
         Earlier {
             tables: self.scope.tables(),
@@ -311,22 +341,32 @@ impl<'a> Draft<'a> {
     fn frame(
         &self,
         alloc: Global,
-        own: &[NamedSymbol],
+        own: &[NumberedSymbol],
         framed: bool,
     ) -> Result<Option<Frame>, AllocError>
-        ensures { IfOk result (λ frame. (said : List meant.Item) (item : meant.Item) → IsDraft said self.now
-            → (framed ≡ true → IsFramed (sound_items said) item own.now) → KeepsFrame framed (sound_items said) item frame) }
+        ensures { IfOk result (λ frame. (all : List (List ℕ)) (said : List meant.Item) (item : meant.Item) → IsDraft all said self.now
+            → (framed ≡ true → IsFramed all (sound_items said) item own.now) → KeepsFrame all framed (sound_items said) item frame) }
     {
         Ok(frame_of(alloc, &self.earlier(), own, framed)?)
     }
 
-    /// Takes one more statement. Want of memory leaves the draft as good for nothing.
-    fn take(&mut self, alloc: Global, statement: &Statement<'a>) -> Result<(), AllocError>
-        ensures { OnOk result ((said : List meant.Item) → IsDraft said self.old → IsDraft (said ++ statement.now ∷ []) self.new) }
+    /// Takes one more statement, whose symbols have the numbers that are kept. Want of memory leaves the draft as good
+    /// for nothing.
+    fn take(
+        &mut self,
+        alloc: Global,
+        names: &Names,
+        statement: &Statement<'a>,
+    ) -> Result<(), AllocError>
+        requires { length self.old.numbers.items ≡ length statement.now.symbols }
+        ensures { OnOk result ((all : List (List ℕ)) (said : List meant.Item) → IsDraft names.now said self.old → IsDraft all said self.old
+            → AreNumbersOf names.now self.old.numbers.items statement.now.symbols → AreNumbersOf all self.old.numbers.items statement.now.symbols
+            → IsDraft all (said ++ statement.now ∷ []) self.new) }
     {
-        let fault = fault_of(alloc, &self.scope, statement)?;
+        let fault = fault_of(alloc, names, &self.scope, statement, &self.numbers)?;
         let sound = fault.is_none();
-        let symbols = symbols_kept(alloc, self.scope.tables(), statement, sound)?;
+        let tables = self.scope.tables();
+        let symbols = symbols_kept(alloc, tables, statement, &self.numbers, sound)?;
         let framed = is_framed(statement.kind(), sound);
         let frame = self.frame(alloc, &symbols, framed)?;
         keep_pairs(
@@ -344,14 +384,14 @@ impl<'a> Draft<'a> {
             &mut self.pair_table,
             self.scope.blocks(),
             statement.kind(),
-            &symbols,
+            &self.numbers,
             number,
             sound,
         )?;
         self.expressions.push(symbols)?;
         let row = row_of(alloc, statement, fault)?;
         self.rows.push(row)?;
-        self.scope.next(alloc, statement, sound)?;
+        self.scope.next(alloc, statement, &self.numbers, sound)?;
         let kind = statement.kind();
         let blocks = self.scope.blocks();
         follow(
@@ -373,35 +413,46 @@ impl<'a> Draft<'a> {
         Ok(())
     }
 
-    /// Reads one more item of the files. Want of memory leaves the draft as good for nothing.
-    pub fn read(&mut self, alloc: Global, files: &'a Files, item: &Item) -> Result<(), AllocError>
+    /// Reads one more item of the files. Want of memory leaves the draft as good for nothing, and may leave more names.
+    pub fn read(
+        &mut self,
+        alloc: Global,
+        names: &mut Names,
+        files: &'a Files,
+        item: &Item,
+    ) -> Result<(), AllocError>
         requires { CanBeRead files.now item.now }
-        ensures { OnOk result ((one : meant.Item) × Says files.now item.now one
-            × ((said : List meant.Item) → IsDraft said self.old → IsDraft (said ++ one ∷ []) self.new)) }
+        ensures grows { Begins names.old names.new }
+        ensures read { OnOk result ((one : meant.Item) × Says files.now item.now one
+            × ((said : List meant.Item) → StandsFor names.old said self.old → StandsFor names.new (said ++ one ∷ []) self.new)) }
     {
         let statement = Statement::read(alloc, files, item)?;
-        self.take(alloc, &statement)
+        number_all(alloc, names, &statement, &mut self.numbers)?;
+        names.distinct();
+        self.take(alloc, names, &statement)
     }
 
     /// Reads items of the files, from the first one on.
     pub fn read_all(
         alloc: Global,
+        names: &mut Names,
         files: &'a Files,
         items: &[Item],
     ) -> Result<Draft<'a>, AllocError>
         requires { All (CanBeRead files.now) items.now }
-        ensures { IfOk result (λ draft. (said : List meant.Item) × AllZip (Says files.now) items.now said × IsDraft said draft) }
+        ensures grows { Begins names.old names.new }
+        ensures read { IfOk result (λ draft. (said : List meant.Item) × AllZip (Says files.now) items.now said × StandsFor names.new said draft) }
     {
         let mut draft = Draft::new(alloc);
         for item in items {
-            draft.read(alloc, files, item)?;
+            draft.read(alloc, names, files, item)?;
         }
         Ok(draft)
     }
 
     /// What is kept when all items are read.
     pub fn parts(self) -> Parts
-        ensures { (said : List meant.Item) → IsDraft said self.entry → AreParts said result }
+        ensures { (all : List (List ℕ)) (said : List meant.Item) → IsDraft all said self.entry → AreParts all said result }
     {
         let Draft {
             scope,

@@ -3,7 +3,9 @@
 ghost use Rattle.std.specs.Prelude.{All};
 ghost use Rattle.mm_store.specs.Language.FileFacts.{CanBeRead};
 
+use crate::draft::number_all;
 use crate::judge::{FrameFault, fault_of};
+use crate::names::Names;
 use crate::scope::Scope;
 use crate::tests::{ROWS, read_text};
 use crate::{Files, FrameNumber, Item, Statement, StoreError};
@@ -15,6 +17,7 @@ const START: &[u8] = b"$c wff |- ( ) -> $. $v p q r $. wp $f wff p $. wq $f wff 
 /// Judges an item, and takes it where it is sound.
 fn judge_item<'a>(
     alloc: Global,
+    names: &mut Names,
     files: &'a Files,
     item: &Item,
     scope: &mut Scope<'a>,
@@ -22,8 +25,10 @@ fn judge_item<'a>(
     requires { CanBeRead files.now item.now }
 {
     let statement = Statement::read(alloc, files, item)?;
-    let found = fault_of(alloc, scope, &statement)?;
-    scope.next(alloc, &statement, found.is_none())?;
+    let mut numbers = Vec::new(alloc);
+    number_all(alloc, names, &statement, &mut numbers)?;
+    let found = fault_of(alloc, names, scope, &statement, &numbers)?;
+    scope.next(alloc, &statement, &numbers, found.is_none())?;
     Ok(found)
 }
 
@@ -48,10 +53,11 @@ fn one_more(found: Found, item: usize, fault: FrameFault) -> Found {
 fn faults_among(alloc: Global, files: &Files, items: &[Item]) -> Result<Found, AllocError>
     requires { All (CanBeRead files.now) items.now }
 {
+    let mut names = Names::new(alloc);
     let mut scope = Scope::new(alloc);
     let mut found = Found::Nothing;
     for (number, item) in items.iter().enumerate() {
-        if let Some(fault) = judge_item(alloc, files, item, &mut scope)? {
+        if let Some(fault) = judge_item(alloc, &mut names, files, item, &mut scope)? {
             found = one_more(found, number, fault);
         }
     }

@@ -7,9 +7,10 @@ use crate::base_tests::{base_of, has_hypotheses};
 use crate::blocks::Blocks;
 use crate::draft::{Draft, Parts};
 use crate::mandatory::{Earlier, hypotheses};
+use crate::names::Names;
 use crate::paired::PairTable;
 use crate::same::{same_but_pairs, same_pairs};
-use crate::symbol::NamedSymbol;
+use crate::symbol::{NamedSymbol, NumberedSymbol};
 use crate::tests::read_text;
 use crate::{Base, Files, Item, StoreError, same_frame};
 use std::alloc::{AllocError, Global};
@@ -20,64 +21,77 @@ const FRAME: &[u8] =
     b"$c wff |- $.\n$v x y z $.\nwz $f wff z $.\nwx $f wff x $.\nwy $f wff y $.\n$d x y z $.\nex $e |- y $.\nax $a |- x $.\n";
 
 /// What is kept of items.
-fn parts_among(alloc: Global, files: &Files, items: &[Item]) -> Result<Parts, AllocError>
+fn parts_among(
+    alloc: Global,
+    names: &mut Names,
+    files: &Files,
+    items: &[Item],
+) -> Result<Parts, AllocError>
     requires { All (CanBeRead files.now) items.now }
 {
-    let draft = Draft::read_all(alloc, files, items)?;
+    let draft = Draft::read_all(alloc, names, files, items)?;
     Ok(draft.parts())
 }
 
 /// What is kept of the items of a text.
-fn parts_of(alloc: Global, text: &[u8]) -> Result<Parts, StoreError> {
+fn parts_of(alloc: Global, names: &mut Names, text: &[u8]) -> Result<Parts, StoreError> {
     let (files, items) = read_text(alloc, text)?;
-    Ok(parts_among(alloc, &files, &items)?)
+    Ok(parts_among(alloc, names, &files, &items)?)
 }
 
 /// What is kept for an item.
-fn kept_for(expressions: &[Vec<NamedSymbol>], number: usize) -> &[NamedSymbol] {
+fn kept_for(expressions: &[Vec<NumberedSymbol>], number: usize) -> &[NumberedSymbol] {
     match expressions.get(number) {
         Some(expression) => expression,
         None => &[],
     }
 }
 
-/// A symbol.
+/// Whether the symbol at a place is the one of this name.
+pub fn stands_at(
+    names: &Names,
+    expression: &[NumberedSymbol],
+    place: usize,
+    name: &[u8],
+    variable: bool,
+) -> bool {
+    match (expression.get(place), names.number(name)) {
+        (Some(symbol), Some(name)) => symbol.same(&NumberedSymbol { name, variable }),
+        _ => false,
+    }
+}
+
+/// Whether the item 6 of `FRAME` is kept with its symbols.
+fn keeps_essential(names: &Names, parts: &Parts) -> bool {
+    let essential = kept_for(&parts.expressions, 6);
+    essential.len() == 2
+        && stands_at(names, essential, 0, b"|-", false)
+        && stands_at(names, essential, 1, b"y", true)
+        && !stands_at(names, essential, 1, b"y", false)
+        && !stands_at(names, essential, 1, b"x", true)
+}
+
+#[test]
+fn reads_expressions(rt: HostRuntime) -> Result<(), Fail> {
+    let mut names = Names::new(rt.alloc());
+    let parts = parts_of(rt.alloc(), &mut names, FRAME)?;
+    assert!(rt; keeps_essential(&names, &parts));
+    assert!(rt; names.count() == 5);
+    Ok(())
+}
+
+/// A symbol with its name.
 fn named(alloc: Global, name: &[u8], variable: bool) -> Result<NamedSymbol, AllocError> {
     let name = Vec::from_slice(alloc, name)?;
     Ok(NamedSymbol { name, variable })
 }
 
-/// Whether the symbol at a place is the one of this name, and so is its copy.
-pub fn stands_at(
-    alloc: Global,
-    expression: &[NamedSymbol],
-    place: usize,
-    name: &[u8],
-    variable: bool,
-) -> Result<bool, AllocError> {
-    let wanted = named(alloc, name, variable)?;
-    match expression.get(place) {
-        Some(symbol) => Ok(symbol.same(&wanted) && wanted.same(&symbol.copy(alloc)?)),
-        None => Ok(false),
-    }
-}
-
-/// Whether the item 6 of `FRAME` is kept with its symbols.
-fn keeps_essential(alloc: Global, parts: &Parts) -> Result<bool, AllocError> {
-    let essential = kept_for(&parts.expressions, 6);
-    Ok(
-        essential.len() == 2
-            && stands_at(alloc, essential, 0, b"|-", false)?
-            && stands_at(alloc, essential, 1, b"y", true)?
-            && !stands_at(alloc, essential, 1, b"y", false)?
-            && !stands_at(alloc, essential, 1, b"x", true)?,
-    )
-}
-
 #[test]
-fn reads_expressions(rt: HostRuntime) -> Result<(), Fail> {
-    let parts = parts_of(rt.alloc(), FRAME)?;
-    assert!(rt; keeps_essential(rt.alloc(), &parts)?);
+fn compares_names_and_kinds(rt: HostRuntime) -> Result<(), Fail> {
+    let symbol = named(rt.alloc(), b"x", true)?;
+    assert!(rt; symbol.same(&symbol.copy(rt.alloc())?));
+    assert!(rt; !symbol.same(&named(rt.alloc(), b"x", false)?));
+    assert!(rt; !symbol.same(&named(rt.alloc(), b"y", true)?));
     Ok(())
 }
 
@@ -96,7 +110,7 @@ fn needs(alloc: Global, parts: &Parts, wanted: &[usize]) -> Result<bool, AllocEr
 
 #[test]
 fn finds_mandatory_hypotheses(rt: HostRuntime) -> Result<(), Fail> {
-    let parts = parts_of(rt.alloc(), FRAME)?;
+    let parts = parts_of(rt.alloc(), &mut Names::new(rt.alloc()), FRAME)?;
     assert!(rt; needs(rt.alloc(), &parts, &[3, 4, 6])?);
     Ok(())
 }
@@ -133,7 +147,7 @@ fn keeps_hypotheses(base: &Base) -> bool {
 
 #[test]
 fn keeps_hypotheses_in_order(rt: HostRuntime) -> Result<(), Fail> {
-    let base = base_of(rt.alloc(), BETWEEN)?;
+    let base = base_of(rt.alloc(), &mut Names::new(rt.alloc()), BETWEEN)?;
     assert!(rt; base.count() == 11);
     assert!(rt; is_sound(&base));
     assert!(rt; keeps_hypotheses(&base));
@@ -144,27 +158,35 @@ fn keeps_hypotheses_in_order(rt: HostRuntime) -> Result<(), Fail> {
 const TYPED: &[u8] = b"$c wff |- $.\n$v x y z $.\nwz $f wff z $.\nwx $f wff x $.\nwy $f wff y $.\n";
 
 /// The base of a text behind `TYPED`.
-fn base_behind(alloc: Global, text: &[u8]) -> Result<Base, StoreError> {
+fn base_behind(alloc: Global, names: &mut Names, text: &[u8]) -> Result<Base, StoreError> {
     let mut whole = Vec::from_slice(alloc, TYPED)?;
     whole.extend_from_slice(text)?;
-    base_of(alloc, &whole)
+    base_of(alloc, names, &whole)
 }
 
 /// Whether a pair is of these variables.
-fn is_pair(pair: &(NamedSymbol, NamedSymbol), wanted: &(&[u8], &[u8])) -> bool {
+fn is_pair(
+    names: &Names,
+    pair: &(NumberedSymbol, NumberedSymbol),
+    wanted: &(&[u8], &[u8]),
+) -> bool {
     pair.0.variable
         && pair.1.variable
-        && &pair.0.name[..] == wanted.0
-        && &pair.1.name[..] == wanted.1
+        && names.number(wanted.0) == Some(pair.0.name)
+        && names.number(wanted.1) == Some(pair.1.name)
 }
 
 /// Whether pairs are of these variables, in this order.
-fn are_pairs(pairs: &[(NamedSymbol, NamedSymbol)], wanted: &[(&[u8], &[u8])]) -> bool {
+fn are_pairs(
+    names: &Names,
+    pairs: &[(NumberedSymbol, NumberedSymbol)],
+    wanted: &[(&[u8], &[u8])],
+) -> bool {
     if pairs.len() != wanted.len() {
         return false;
     }
     for k in 0..pairs.len() {
-        if !is_pair(&pairs[k], &wanted[k]) {
+        if !is_pair(names, &pairs[k], &wanted[k]) {
             return false;
         }
     }
@@ -172,9 +194,9 @@ fn are_pairs(pairs: &[(NamedSymbol, NamedSymbol)], wanted: &[(&[u8], &[u8])]) ->
 }
 
 /// Whether an item has a frame with these pairs, or none where `None` is wanted.
-fn has_frame(base: &Base, i: usize, wanted: Option<&[(&[u8], &[u8])]>) -> bool {
+fn has_frame(names: &Names, base: &Base, i: usize, wanted: Option<&[(&[u8], &[u8])]>) -> bool {
     match (base.frame(i), wanted) {
-        (Some(frame), Some(wanted)) => are_pairs(&frame.pairs, wanted),
+        (Some(frame), Some(wanted)) => are_pairs(names, &frame.pairs, wanted),
         (None, None) => true,
         _ => false,
     }
@@ -189,8 +211,9 @@ type FramePairs = (
 
 /// Whether the item of a row has this frame.
 fn is_framed_so(alloc: Global, row: &FramePairs) -> Result<bool, StoreError> {
-    let base = base_behind(alloc, row.0)?;
-    Ok(has_frame(&base, row.1, row.2))
+    let mut names = Names::new(alloc);
+    let base = base_behind(alloc, &mut names, row.0)?;
+    Ok(has_frame(&names, &base, row.1, row.2))
 }
 
 /// The pair of x and y.
@@ -254,18 +277,18 @@ te $p |- q $= wx $.\ntc $p |- y $= wy $. $}\ntd $p |- x $= wx $.\n";
 type ActivePairs = (usize, Option<&'static [(&'static [u8], &'static [u8])]>);
 
 /// Whether these active pairs are told of an item.
-fn has_pairs(base: &Base, row: &ActivePairs) -> bool {
+fn has_pairs(names: &Names, base: &Base, row: &ActivePairs) -> bool {
     match (base.pairs(row.0), row.1) {
-        (Some(pairs), Some(wanted)) => are_pairs(pairs, wanted),
+        (Some(pairs), Some(wanted)) => are_pairs(names, pairs, wanted),
         (None, None) => true,
         _ => false,
     }
 }
 
 /// The first row of which other active pairs are told.
-fn paired_otherwise(base: &Base, rows: &[ActivePairs]) -> Option<usize> {
+fn paired_otherwise(names: &Names, base: &Base, rows: &[ActivePairs]) -> Option<usize> {
     for (k, row) in rows.iter().enumerate() {
-        if !has_pairs(base, row) {
+        if !has_pairs(names, base, row) {
             return Some(k);
         }
     }
@@ -273,7 +296,7 @@ fn paired_otherwise(base: &Base, rows: &[ActivePairs]) -> Option<usize> {
 }
 
 /// The pairs in the inner block of `PAIRS`.
-const INNER: &[(&[u8], &[u8])] = &[(b"x", b"y"), (b"z", b"y"), (b"z", b"x"), (b"y", b"x")];
+const INNER: &[(&[u8], &[u8])] = &[(b"x", b"y"), (b"x", b"z"), (b"y", b"z")];
 
 /// The active pairs at items of `PAIRS`, and behind the last one.
 const ACTIVE: &[ActivePairs] = &[
@@ -295,9 +318,10 @@ const ACTIVE: &[ActivePairs] = &[
 
 #[test]
 fn tells_active_pairs(rt: HostRuntime) -> Result<(), Fail> {
-    let base = base_of(rt.alloc(), PAIRS)?;
+    let mut names = Names::new(rt.alloc());
+    let base = base_of(rt.alloc(), &mut names, PAIRS)?;
     assert!(rt; base.count() == 16);
-    assert_eq!(rt; paired_otherwise(&base, ACTIVE), None);
+    assert_eq!(rt; paired_otherwise(&names, &base, ACTIVE), None);
     Ok(())
 }
 
@@ -332,9 +356,35 @@ fn listed_otherwise(parts: &Parts, rows: &[(usize, Option<usize>)]) -> Option<us
 
 #[test]
 fn neighbours_share_a_list(rt: HostRuntime) -> Result<(), Fail> {
-    let parts = parts_of(rt.alloc(), PAIRS)?;
+    let parts = parts_of(rt.alloc(), &mut Names::new(rt.alloc()), PAIRS)?;
     assert_eq!(rt; listed_otherwise(&parts, LISTS), None);
-    assert!(rt; parts.pair_lists.list(2).len() == 4);
+    assert!(rt; parts.pair_lists.list(2).len() == 3);
+    assert!(rt; parts.pair_lists.list(3).is_empty());
+    Ok(())
+}
+
+/// Two inner blocks whose `$d` say again what an outer one says; then one that says more, and one behind it.
+const AGAIN: &[u8] =
+    b"$c wff |- $.\n$v x y z $.\nwx $f wff x $.\nwy $f wff y $.\nwz $f wff z $.\n$d x y $.\n\
+ta $p |- x $= wx $.\n${ $d y x $.\ntb $p |- x $= wx $. $}\n${ $d x y $.\ntc $p |- x $= wx $. $}\n\
+${ $d y z $.\ntd $p |- x $= wx $. $}\n${ $d x y $.\nte $p |- x $= wx $. $}\n";
+
+/// The numbers of the lists of items of `AGAIN`.
+const SHARED: &[(usize, Option<usize>)] = &[
+    (6, Some(0)),
+    (9, Some(0)),
+    (13, Some(0)),
+    (17, Some(1)),
+    (21, Some(2)),
+];
+
+#[test]
+fn the_same_pairs_share_a_list(rt: HostRuntime) -> Result<(), Fail> {
+    let parts = parts_of(rt.alloc(), &mut Names::new(rt.alloc()), AGAIN)?;
+    assert_eq!(rt; listed_otherwise(&parts, SHARED), None);
+    assert!(rt; parts.pair_lists.list(0).len() == 1);
+    assert!(rt; parts.pair_lists.list(1).len() == 2);
+    assert!(rt; parts.pair_lists.list(2).len() == 1);
     assert!(rt; parts.pair_lists.list(3).is_empty());
     Ok(())
 }
@@ -369,76 +419,48 @@ const SAME: &[(usize, usize, bool)] = &[
 /// Whether an item of a base and one of a text are the same but for their pairs.
 fn is_like(
     alloc: Global,
+    names: &mut Names,
     base: &Base,
     i: usize,
     text: &[u8],
     j: usize,
 ) -> Result<bool, StoreError> {
-    let other = base_of(alloc, text)?;
+    let other = base_of(alloc, names, text)?;
     Ok(same_but_pairs(base, i, &other, j))
 }
 
 #[test]
 fn compares_what_assertions_need(rt: HostRuntime) -> Result<(), Fail> {
-    let base = base_of(rt.alloc(), TWINS)?;
+    let mut names = Names::new(rt.alloc());
+    let base = base_of(rt.alloc(), &mut names, TWINS)?;
     assert_eq!(rt; compared_otherwise(&base, SAME), None);
-    assert!(rt; !is_like(rt.alloc(), &base, 4, CONSTANTS, 1)?);
+    assert!(rt; !is_like(rt.alloc(), &mut names, &base, 4, CONSTANTS, 1)?);
     Ok(())
 }
 
 #[test]
 fn compares_constants(rt: HostRuntime) -> Result<(), Fail> {
-    let base = base_of(rt.alloc(), CONSTANTS)?;
+    let base = base_of(rt.alloc(), &mut Names::new(rt.alloc()), CONSTANTS)?;
     assert!(rt; same_but_pairs(&base, 1, &base, 1));
     Ok(())
 }
 
-/// Adds a pair of variables.
-fn add_pair(
-    alloc: Global,
-    first: &[u8],
-    second: &[u8],
-    pairs: &mut Vec<(NamedSymbol, NamedSymbol)>,
-) -> Result<(), AllocError> {
-    let first = named(alloc, first, true)?;
-    let second = named(alloc, second, true)?;
-    pairs.push((first, second))?;
-    Ok(())
-}
-
-/// Pairs of variables.
-fn pairs_of(
-    alloc: Global,
-    names: &[(&[u8], &[u8])],
-) -> Result<Vec<(NamedSymbol, NamedSymbol)>, AllocError> {
-    let mut pairs = Vec::new(alloc);
-    for pair in names {
-        add_pair(alloc, pair.0, pair.1, &mut pairs)?;
+/// The variable whose name has this number.
+fn variable(name: usize) -> NumberedSymbol {
+    NumberedSymbol {
+        name,
+        variable: true,
     }
-    Ok(pairs)
 }
-
-/// Whether two lists of pairs of variables are told to be the same.
-fn are_same_pairs(
-    alloc: Global,
-    one: &[(&[u8], &[u8])],
-    other: &[(&[u8], &[u8])],
-) -> Result<bool, AllocError> {
-    let one = pairs_of(alloc, one)?;
-    let other = pairs_of(alloc, other)?;
-    Ok(same_pairs(&one, &other))
-}
-
-const XY_XZ: &[(&[u8], &[u8])] = &[(b"x", b"y"), (b"x", b"z")];
-
-const XY_ZX: &[(&[u8], &[u8])] = &[(b"x", b"y"), (b"z", b"x")];
 
 #[test]
-fn compares_pairs(rt: HostRuntime) -> Result<(), Fail> {
-    assert!(rt; !are_same_pairs(rt.alloc(), XY, &[])?);
-    assert!(rt; are_same_pairs(rt.alloc(), XY, XY)?);
-    assert!(rt; !are_same_pairs(rt.alloc(), XY_XZ, XY_ZX)?);
-    Ok(())
+fn compares_pairs(rt: HostRuntime) {
+    let xy = (variable(0), variable(1));
+    let xz = (variable(0), variable(2));
+    let zx = (variable(2), variable(0));
+    assert!(rt; !same_pairs(&[xy], &[]));
+    assert!(rt; same_pairs(&[xy], &[xy]));
+    assert!(rt; !same_pairs(&[xy, xz], &[xy, zx]));
 }
 
 /// The item 6 is of three variables, each apart from each other.
@@ -460,13 +482,14 @@ const NAMES: &[u8] = b"$c wff |- x $.\nex $e wff x $.\nax $a |- x $.\n";
 /// Whether an item of a base and one of a text are told to have the same frame.
 fn frame_is_like(
     alloc: Global,
+    names: &mut Names,
     base: &Base,
     i: usize,
     text: &[u8],
     j: usize,
 ) -> Result<bool, StoreError> {
-    let other = base_of(alloc, text)?;
-    Ok(same_frame(base, i, &other, j))
+    let other = base_of(alloc, names, text)?;
+    Ok(same_frame(names, base, i, &other, j))
 }
 
 /// Whether two items of two texts are told to have the same frame.
@@ -475,8 +498,9 @@ fn have_same_frame(
     one: (&[u8], usize),
     other: (&[u8], usize),
 ) -> Result<bool, StoreError> {
-    let base = base_of(alloc, one.0)?;
-    frame_is_like(alloc, &base, one.1, other.0, other.1)
+    let mut names = Names::new(alloc);
+    let base = base_of(alloc, &mut names, one.0)?;
+    frame_is_like(alloc, &mut names, &base, one.1, other.0, other.1)
 }
 
 /// Items of texts, and whether they have the same frame.

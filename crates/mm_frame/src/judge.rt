@@ -10,8 +10,10 @@ ghost use Rattle.mm_frame.specs.Language.Sound.{AreSound};
 ghost use Rattle.mm_frame.specs.Code.KeptScope.{ScopeHolds};
 ghost use Rattle.mm_frame.specs.Code.SeenNames.{HasSeen};
 ghost use Rattle.mm_frame.specs.Language.Statement.{kind_of};
+ghost use Rattle.mm_frame.specs.Code.Numbers.{IsName, AreNumbersOf};
 
 use crate::FrameNumber;
+use crate::names::Names;
 use crate::scope::Scope;
 use crate::statement::Statement;
 use mm_store::ItemKind;
@@ -26,12 +28,12 @@ pub struct FrameFault {
 }
 
 /// What is wrong with a label.
-fn label_fault(scope: &Scope, label: &[u8]) -> Option<FrameNumber>
-    ensures { (before : List Item) → AreSound before → ScopeHolds before scope.now → result ≡ judging.label_fault before label.now }
+fn label_fault(names: &Names, scope: &Scope, label: &[u8]) -> Option<FrameNumber>
+    ensures { (before : List Item) → AreSound before → ScopeHolds names.now before scope.now → result ≡ judging.label_fault before label.now }
 {
     if scope.is_label(label) {
         Some(FrameNumber::F06)
-    } else if scope.is_declared(label) {
+    } else if scope.is_symbol(names, label) {
         Some(FrameNumber::F07)
     } else {
         None
@@ -39,22 +41,24 @@ fn label_fault(scope: &Scope, label: &[u8]) -> Option<FrameNumber>
 }
 
 /// What is wrong at the first word: a `$c` stands in a block, or the label is wrong.
-fn front_fault(scope: &Scope, statement: &Statement) -> Option<FrameNumber>
-    ensures { (before : List Item) → AreSound before → ScopeHolds before scope.now → result ≡ judging.front_fault before statement.now }
+fn front_fault(names: &Names, scope: &Scope, statement: &Statement) -> Option<FrameNumber>
+    ensures { (before : List Item) → AreSound before → ScopeHolds names.now before scope.now → result ≡ judging.front_fault before statement.now }
 {
     if matches!(statement.kind(), ItemKind::Constants) && scope.is_inside() {
         return Some(FrameNumber::F02);
     }
-    label_fault(scope, statement.label()?)
+    label_fault(names, scope, statement.label()?)
 }
 
 /// What is wrong with a symbol of a `$c` or `$v`, if it is known whether the symbol stands earlier in the same
 /// statement, and whether it is a symbol already that must not be declared again.
 fn declared_fault(scope: &Scope, name: &[u8], repeated: bool, declared: bool) -> Option<FrameNumber>
-    ensures constant { (before : List Item) (item : Item) (n : ℕ) → AreSound before → ScopeHolds before scope.now → repeated ≡ sound.is_repeated item n name.now
-        → declared ≡ sound.is_declared before name.now → result ≡ judging.constant_fault before item n name.now }
-    ensures variable { (before : List Item) (item : Item) (n : ℕ) → AreSound before → ScopeHolds before scope.now → repeated ≡ sound.is_repeated item n name.now
-        → declared ≡ sound.is_active_symbol before name.now → result ≡ judging.variable_fault before item n name.now }
+    ensures constant { (all : List (List ℕ)) (before : List Item) (item : Item) (n : ℕ) → AreSound before → ScopeHolds all before scope.now
+        → repeated ≡ sound.is_repeated item n name.now → declared ≡ sound.is_declared before name.now
+        → result ≡ judging.constant_fault before item n name.now }
+    ensures variable { (all : List (List ℕ)) (before : List Item) (item : Item) (n : ℕ) → AreSound before → ScopeHolds all before scope.now
+        → repeated ≡ sound.is_repeated item n name.now → declared ≡ sound.is_active_symbol before name.now
+        → result ≡ judging.variable_fault before item n name.now }
 {
     if repeated {
         Some(FrameNumber::F03)
@@ -67,80 +71,90 @@ fn declared_fault(scope: &Scope, name: &[u8], repeated: bool, declared: bool) ->
     }
 }
 
-/// What is wrong with a symbol of a `$d`, if it is known whether the symbol stands earlier in the same statement.
-fn disjoint_fault(scope: &Scope, name: &[u8], repeated: bool) -> Option<FrameNumber>
-    ensures { (before : List Item) (item : Item) (n : ℕ) → AreSound before → ScopeHolds before scope.now → repeated ≡ sound.is_repeated item n name.now
-        → result ≡ judging.disjoint_fault before item n name.now }
+/// What is wrong with a symbol of a `$d`, told by its number, if it is known whether the symbol stands earlier in the
+/// same statement.
+fn disjoint_fault(scope: &Scope, number: usize, repeated: bool) -> Option<FrameNumber>
+    ensures { (all : List (List ℕ)) (before : List Item) (item : Item) (n : ℕ) (name : List ℕ) → AreSound before → ScopeHolds all before scope.now
+        → IsName all number name → repeated ≡ sound.is_repeated item n name → result ≡ judging.disjoint_fault before item n name }
 {
     if repeated {
         Some(FrameNumber::F03)
-    } else if scope.is_active_variable(name) {
+    } else if scope.is_active_variable(number) {
         None
     } else {
         Some(FrameNumber::F09)
     }
 }
 
-/// What is wrong with a typecode.
-fn typecode_fault(scope: &Scope, name: &[u8]) -> Option<FrameNumber>
-    ensures { (before : List Item) → AreSound before → ScopeHolds before scope.now → result ≡ judging.typecode_fault before name.now }
+/// What is wrong with the typecode that has this number.
+fn typecode_fault(scope: &Scope, number: usize) -> Option<FrameNumber>
+    ensures { (all : List (List ℕ)) (before : List Item) (name : List ℕ) → AreSound before → ScopeHolds all before scope.now → IsName all number name
+        → result ≡ judging.typecode_fault before name }
 {
-    if !scope.is_constant(name) {
+    if !scope.is_constant(number) {
         return Some(FrameNumber::F08);
     }
     None
 }
 
-/// What is wrong with the variable of a `$f` that gives it this typecode.
-fn typed_fault(scope: &Scope, name: &[u8], typecode: &[u8]) -> Option<FrameNumber>
-    ensures { (before : List Item) (item : Item) → AreSound before → ScopeHolds before scope.now → meant.typecode_of item ≡ typecode.now
-        → result ≡ judging.typed_fault before item name.now }
+/// What is wrong with the variable of a `$f`, told by its number, that gives it this typecode.
+fn typed_fault(scope: &Scope, number: usize, typecode: &[u8]) -> Option<FrameNumber>
+    ensures { (all : List (List ℕ)) (before : List Item) (item : Item) (name : List ℕ) → AreSound before → ScopeHolds all before scope.now
+        → IsName all number name → meant.typecode_of item ≡ typecode.now → result ≡ judging.typed_fault before item name }
 {
-    if !scope.is_active_variable(name) {
+    if !scope.is_active_variable(number) {
         Some(FrameNumber::F09)
-    } else if scope.is_typed(name) {
+    } else if scope.is_typed(number) {
         Some(FrameNumber::F12)
-    } else if scope.is_typed_otherwise(name, typecode) {
+    } else if scope.is_typed_otherwise(number, typecode) {
         Some(FrameNumber::F13)
     } else {
         None
     }
 }
 
-/// What is wrong with the n-th symbol of a `$f`, counted from 0.
-fn floating_fault(scope: &Scope, statement: &Statement, n: usize) -> Option<FrameNumber>
+/// What is wrong with the n-th symbol of a `$f`, counted from 0, which has this number.
+fn floating_fault(
+    scope: &Scope,
+    statement: &Statement,
+    n: usize,
+    number: usize,
+) -> Option<FrameNumber>
     requires { n < length statement.now.symbols }
-    ensures { (before : List Item) → AreSound before → ScopeHolds before scope.now
+    ensures { (all : List (List ℕ)) (before : List Item) → AreSound before → ScopeHolds all before scope.now
+        → IsName all number (slice_index_or statement.now.symbols n [])
         → result ≡ judging.floating_fault before statement.now n (slice_index_or statement.now.symbols n []) }
 {
     match n {
-        0 => typecode_fault(scope, statement.symbol(0)),
-        1 => typed_fault(scope, statement.symbol(1), statement.symbol(0)),
+        0 => typecode_fault(scope, number),
+        1 => typed_fault(scope, number, statement.symbol(0)),
         _ => Some(FrameNumber::F01),
     }
 }
 
-/// What is wrong with a symbol behind a typecode. One with nothing wrong is looked up once.
-fn later_fault(scope: &Scope, name: &[u8]) -> Option<FrameNumber>
-    ensures { (before : List Item) → AreSound before → ScopeHolds before scope.now → result ≡ judging.later_fault before name.now }
+/// What is wrong with the symbol behind a typecode that has this number.
+fn later_fault(scope: &Scope, number: usize) -> Option<FrameNumber>
+    ensures { (all : List (List ℕ)) (before : List Item) (name : List ℕ) → AreSound before → ScopeHolds all before scope.now → IsName all number name
+        → result ≡ judging.later_fault before name }
 {
-    if scope.may_follow(name) {
+    if scope.may_follow(number) {
         None
-    } else if scope.is_active_variable(name) {
+    } else if scope.is_active_variable(number) {
         Some(FrameNumber::F11)
     } else {
         Some(FrameNumber::F10)
     }
 }
 
-/// What is wrong with the n-th symbol of a `$e`, `$a` or `$p`, counted from 0.
-fn expression_fault(scope: &Scope, n: usize, name: &[u8]) -> Option<FrameNumber>
-    ensures { (before : List Item) → AreSound before → ScopeHolds before scope.now → result ≡ judging.expression_fault before n name.now }
+/// What is wrong with the n-th symbol of a `$e`, `$a` or `$p`, counted from 0, which has this number.
+fn expression_fault(scope: &Scope, n: usize, number: usize) -> Option<FrameNumber>
+    ensures { (all : List (List ℕ)) (before : List Item) (name : List ℕ) → AreSound before → ScopeHolds all before scope.now → IsName all number name
+        → result ≡ judging.expression_fault before n name }
 {
     if n == 0 {
-        typecode_fault(scope, name)
+        typecode_fault(scope, number)
     } else {
-        later_fault(scope, name)
+        later_fault(scope, number)
     }
 }
 
@@ -154,27 +168,31 @@ fn must_differ(kind: ItemKind) -> bool
     )
 }
 
-/// What is wrong with the n-th symbol, counted from 0, if it is known whether it stands earlier in the same statement
-/// where it must not.
+/// What is wrong with the n-th symbol, counted from 0, which has this number, if it is known whether it stands earlier
+/// in the same statement where it must not.
 fn symbol_fault(
     scope: &Scope,
     statement: &Statement,
     n: usize,
+    number: usize,
     repeated: bool,
 ) -> Option<FrameNumber>
     requires { n < length statement.now.symbols }
-    ensures { (before : List Item) → AreSound before → ScopeHolds before scope.now
+    ensures { (all : List (List ℕ)) (before : List Item) → AreSound before → ScopeHolds all before scope.now
+        → IsName all number (slice_index_or statement.now.symbols n [])
         → (judging.must_differ statement.now.kind ≡ true → repeated ≡ sound.is_repeated statement.now n (slice_index_or statement.now.symbols n []))
         → result ≡ judging.symbol_fault before statement.now n (slice_index_or statement.now.symbols n []) }
 {
     let name = statement.symbol(n);
     match statement.kind() {
-        ItemKind::Constants => declared_fault(scope, name, repeated, scope.is_declared(name)),
-        ItemKind::Variables => declared_fault(scope, name, repeated, scope.is_active_symbol(name)),
-        ItemKind::Disjoint => disjoint_fault(scope, name, repeated),
-        ItemKind::Floating => floating_fault(scope, statement, n),
+        ItemKind::Constants => declared_fault(scope, name, repeated, scope.is_declared(number)),
+        ItemKind::Variables => {
+            declared_fault(scope, name, repeated, scope.is_active_symbol(number))
+        }
+        ItemKind::Disjoint => disjoint_fault(scope, number, repeated),
+        ItemKind::Floating => floating_fault(scope, statement, n, number),
         ItemKind::Essential | ItemKind::Axiom | ItemKind::Theorem => {
-            expression_fault(scope, n, name)
+            expression_fault(scope, n, number)
         }
         ItemKind::BlockStart | ItemKind::BlockEnd | ItemKind::Missing => None,
     }
@@ -188,20 +206,23 @@ fn see<'a>(seen: &mut HashSet<&'a [u8]>, name: &'a [u8], differ: bool) -> Result
     Ok(differ && !seen.insert(name)?)
 }
 
-/// The first fault among the symbols. Memory is taken for those that have to differ.
+/// The first fault among the symbols, which have these numbers. Memory is taken for those that have to differ.
 fn symbols_fault(
     alloc: Global,
     scope: &Scope,
     statement: &Statement,
+    numbers: &[usize],
 ) -> Result<Option<FrameFault>, AllocError>
-    ensures { (before : List Item) → AreSound before → ScopeHolds before scope.now
+    requires { length numbers.now ≡ length statement.now.symbols }
+    ensures { (all : List (List ℕ)) (before : List Item) → AreSound before → ScopeHolds all before scope.now
+        → AreNumbersOf all numbers.now statement.now.symbols
         → IfOk result (λ found. option_map (λ f. (f.word, f.number)) found ≡ judging.symbols_fault before statement.now) }
 {
     let differ = must_differ(statement.kind());
     let mut seen = HashSet::new(alloc);
     for n in 0..statement.symbol_count() {
         let repeated = see(&mut seen, statement.symbol(n), differ)?;
-        if let Some(number) = symbol_fault(scope, statement, n, repeated) {
+        if let Some(number) = symbol_fault(scope, statement, n, numbers[n], repeated) {
             let word = statement.symbol_place(n);
             return Ok(Some(FrameFault { number, word }));
         }
@@ -235,21 +256,24 @@ fn end_fault(statement: &Statement) -> Option<FrameFault>
 }
 
 /// The fault of a statement behind the sound items of a scope, if it has one: at the first word with a fault, with
-/// the lowest number there. What is no statement has none.
+/// the lowest number there. What is no statement has none. Its symbols have these numbers among the names.
 ///
 /// It reads the words once, in time near linear in them.
 pub fn fault_of(
     alloc: Global,
+    names: &Names,
     scope: &Scope,
     statement: &Statement,
+    numbers: &[usize],
 ) -> Result<Option<FrameFault>, AllocError>
-    ensures { (before : List Item) → AreSound before → ScopeHolds before scope.now
+    requires { length numbers.now ≡ length statement.now.symbols }
+    ensures { (before : List Item) → AreSound before → ScopeHolds names.now before scope.now → AreNumbersOf names.now numbers.now statement.now.symbols
         → IfOk result (λ found. option_map (λ f. (f.word, f.number)) found ≡ sound.fault before statement.now) }
 {
-    if let Some(number) = front_fault(scope, statement) {
+    if let Some(number) = front_fault(names, scope, statement) {
         return Ok(Some(FrameFault { number, word: 0 }));
     }
-    if let Some(fault) = symbols_fault(alloc, scope, statement)? {
+    if let Some(fault) = symbols_fault(alloc, scope, statement, numbers)? {
         return Ok(Some(fault));
     }
     Ok(end_fault(statement))

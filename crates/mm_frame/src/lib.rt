@@ -7,6 +7,7 @@ mod blocks;
 mod draft;
 mod judge;
 mod mandatory;
+mod names;
 mod one_base;
 mod own_labels;
 mod pair_lists;
@@ -25,12 +26,13 @@ pub use mm_store::{
     Files, Item, ItemKind, Keyword, PieceKey, Place, StoreError, TextFault, TextNumber, Word,
     WordKind, fits, nth_word, place,
 };
+pub use names::Names;
 pub use one_base::files_have_one_base;
 pub use own_labels::{has_own_labels, items_have_labels, mandatory_means, mandatory_stand_before};
 pub use proof_words::ProofWords;
 pub use same::same_frame;
 pub use statement::Statement;
-pub use symbol::NamedSymbol;
+pub use symbol::{NamedSymbol, NumberedSymbol};
 
 #[cfg(test)]
 mod base_tests;

@@ -1,21 +1,21 @@
 //! The mandatory hypotheses and pairs of an assertion.
 
-ghost use Rattle.std.specs.Prelude.{◌≡◌, ◌++◌, ◌∷◌, ℕ, List, [], OnOk, IfOk, map, filter};
+ghost use Rattle.std.specs.Prelude.{◌≡◌, ◌++◌, ◌∷◌, ℕ, List, [], All, OnOk, IfOk, map, filter};
 ghost use Rattle.std.specs.List.{flat_map};
+ghost use Rattle.mm_frame.specs.Language.Frame.{Symbol as Meaning};
 ghost use Rattle.mm_frame.specs.Language.Item as meant;
 ghost use Rattle.mm_frame.specs.Language.Framing.{pairs_of, active_pairs, frame, mandatory_numbers};
 ghost use Rattle.mm_frame.specs.Code.KeptEarlier.{IsFramed, KnowsEarlier};
-ghost use Rattle.mm_frame.specs.Code.BlockMarks.{marks_of};
 ghost use Rattle.mm_frame.specs.Code.LastItems.{IsRising};
-ghost use Rattle.mm_frame.specs.Code.CodeSymbols.{symbol_of, kept_pairs};
-ghost use Rattle.mm_frame.specs.Code.KeptSymbols.{symbols_lent, float_number, float_numbers, expression_kept};
+ghost use Rattle.mm_frame.specs.Code.CodeSymbols.{symbol_of, symbols_of, IsNumbered, AreRead, ArePairsRead};
+ghost use Rattle.mm_frame.specs.Code.KeptSymbols.{float_number, float_numbers, expression_kept};
 ghost use Rattle.mm_frame.specs.Code.PairOrder as paired;
 ghost use Rattle.mm_frame.specs.Code.PairOrder.{are_paired, pairs_in_order, float_variable, float_variables};
-ghost use Rattle.mm_frame.specs.Code.KeptPairTable.{KnowsPairs};
+ghost use Rattle.mm_frame.specs.Code.KeptPairTable.{ReadsPairs};
 
 use crate::blocks::Blocks;
 use crate::paired::PairTable;
-use crate::symbol::{NamedSymbol, add_pair};
+use crate::symbol::NumberedSymbol;
 use crate::tables::Tables;
 use std::alloc::{AllocError, Global};
 
@@ -31,19 +31,19 @@ pub struct Earlier<'a> {
     /// The numbers of the active `$e`, rising.
     pub essentials: &'a [usize],
     /// The symbols of each, by its number.
-    pub expressions: &'a [Vec<NamedSymbol>],
+    pub expressions: &'a [Vec<NumberedSymbol>],
 }
 
 /// Adds the number of the `$f` of a symbol that is a variable.
 fn add_float(
     tables: &Tables,
-    symbol: &NamedSymbol,
+    symbol: &NumberedSymbol,
     numbers: &mut Vec<usize>,
 ) -> Result<(), AllocError>
     ensures { OnOk result (numbers.new.items ≡ numbers.old.items ++ float_number tables.now symbol.now) }
 {
     if symbol.variable {
-        if let Some(number) = tables.float(&symbol.name) {
+        if let Some(number) = tables.float(symbol.name) {
             numbers.push(number)?;
         }
     }
@@ -53,7 +53,7 @@ fn add_float(
 /// Adds those of the variables among some symbols, in order.
 fn add_floats(
     tables: &Tables,
-    symbols: &[NamedSymbol],
+    symbols: &[NumberedSymbol],
     numbers: &mut Vec<usize>,
 ) -> Result<(), AllocError>
     ensures { OnOk result (numbers.new.items ≡ numbers.old.items ++ float_numbers tables.now symbols.now) }
@@ -67,7 +67,7 @@ fn add_floats(
 /// Adds those of the expression with this number, if there is one.
 fn add_floats_of(
     tables: &Tables,
-    expressions: &[Vec<NamedSymbol>],
+    expressions: &[Vec<NumberedSymbol>],
     number: usize,
     numbers: &mut Vec<usize>,
 ) -> Result<(), AllocError>
@@ -82,7 +82,7 @@ fn add_floats_of(
 /// Adds those of the expressions with these numbers, in order.
 fn add_all_floats(
     tables: &Tables,
-    expressions: &[Vec<NamedSymbol>],
+    expressions: &[Vec<NumberedSymbol>],
     from: &[usize],
     numbers: &mut Vec<usize>,
 ) -> Result<(), AllocError>
@@ -99,10 +99,10 @@ fn add_all_floats(
 pub fn hypotheses(
     alloc: Global,
     earlier: &Earlier,
-    own: &[NamedSymbol],
+    own: &[NumberedSymbol],
 ) -> Result<Vec<usize>, AllocError>
-    ensures { IfOk result (λ numbers. (before : List meant.Item) (item : meant.Item) → KnowsEarlier before earlier.now
-        → IsFramed before item own.now → numbers.items ≡ mandatory_numbers before item) }
+    ensures { IfOk result (λ numbers. (all : List (List ℕ)) (before : List meant.Item) (item : meant.Item) → KnowsEarlier all before earlier.now
+        → IsFramed all before item own.now → numbers.items ≡ mandatory_numbers before item) }
 {
     let (essentials, expressions) = (earlier.essentials, earlier.expressions);
     let mut numbers = Vec::with_capacity(alloc, own.len())?;
@@ -116,14 +116,14 @@ pub fn hypotheses(
 }
 
 /// Whether a number is one of some that rise.
-fn is_among(numbers: &[usize], number: usize) -> bool
+pub fn is_among(numbers: &[usize], number: usize) -> bool
     ensures { IsRising numbers.now → result ≡ paired.is_among numbers.now number }
 {
     numbers.binary_search(&number).is_ok()
 }
 
 /// What is kept for the item with this number: none where nothing is kept.
-fn symbols_at(expressions: &[Vec<NamedSymbol>], number: usize) -> &[NamedSymbol]
+fn symbols_at(expressions: &[Vec<NumberedSymbol>], number: usize) -> &[NumberedSymbol]
     ensures { result.now ≡ expression_kept expressions.now number }
 {
     match expressions.get(number) {
@@ -133,33 +133,32 @@ fn symbols_at(expressions: &[Vec<NamedSymbol>], number: usize) -> &[NamedSymbol]
 }
 
 /// Adds the variable of a mandatory hypothesis that is a `$f`: its number is none of those of the active `$e`.
-fn add_variable<'a>(
+fn add_variable(
     essentials: &[usize],
-    expressions: &'a [Vec<NamedSymbol>],
+    expressions: &[Vec<NumberedSymbol>],
     number: usize,
-    variables: &mut Vec<&'a NamedSymbol>,
+    variables: &mut Vec<NumberedSymbol>,
 ) -> Result<(), AllocError>
     ensures { OnOk result (IsRising essentials.now
-        → symbols_lent variables.new.items ≡ symbols_lent variables.old.items ++ float_variable essentials.now expressions.now number) }
+        → variables.new.items ≡ variables.old.items ++ float_variable essentials.now expressions.now number) }
 {
     if is_among(essentials, number) {
         return Ok(());
     }
     if let Some(variable) = symbols_at(expressions, number).get(1) {
-        variables.push(variable)?;
+        variables.push(*variable)?;
     }
     Ok(())
 }
 
 /// The variables of the mandatory `$f`, in order.
-fn variables_typed<'a>(
+fn variables_typed(
     alloc: Global,
     essentials: &[usize],
-    expressions: &'a [Vec<NamedSymbol>],
+    expressions: &[Vec<NumberedSymbol>],
     hypotheses: &[usize],
-) -> Result<Vec<&'a NamedSymbol>, AllocError>
-    ensures { IfOk result (λ variables. IsRising essentials.now
-        → symbols_lent variables.items ≡ float_variables essentials.now expressions.now hypotheses.now) }
+) -> Result<Vec<NumberedSymbol>, AllocError>
+    ensures { IfOk result (λ variables. IsRising essentials.now → variables.items ≡ float_variables essentials.now expressions.now hypotheses.now) }
 {
     let mut variables = Vec::with_capacity(alloc, hypotheses.len())?;
     for number in hypotheses {
@@ -168,40 +167,42 @@ fn variables_typed<'a>(
     Ok(variables)
 }
 
-/// Adds a copy of a pair if an active `$d` has it.
+/// Adds a pair if an active `$d` has it.
 fn add_if_active(
-    alloc: Global,
     table: &PairTable,
     blocks: &Blocks,
-    first: &NamedSymbol,
-    second: &NamedSymbol,
-    pairs: &mut Vec<(NamedSymbol, NamedSymbol)>,
+    first: NumberedSymbol,
+    second: NumberedSymbol,
+    pairs: &mut Vec<(NumberedSymbol, NumberedSymbol)>,
 ) -> Result<(), AllocError>
-    ensures { OnOk result ((before : List meant.Item) → KnowsPairs before table.now → blocks.now ≡ marks_of before
-        → kept_pairs pairs.new.items
-        ≡ kept_pairs pairs.old.items ++ filter (are_paired (active_pairs before)) ((symbol_of first.now, symbol_of second.now) ∷ [])) }
+    ensures { OnOk result ((all : List (List ℕ)) (before : List meant.Item) (said : List (Meaning × Meaning)) → ReadsPairs all before table.now blocks.now
+        → IsNumbered all first → IsNumbered all second → ArePairsRead all said pairs.old.items
+        → ArePairsRead all (said ++ filter (are_paired (active_pairs before)) ((symbol_of all first, symbol_of all second) ∷ [])) pairs.new.items) }
 {
-    if table.is_active_pair(blocks, &first.name, &second.name) {
-        add_pair(alloc, first, second, pairs)?;
+    if table.is_active_pair(blocks, first.name, second.name) {
+        pairs.push((first, second))?;
     }
     Ok(())
 }
 
 /// Adds those of one variable with each of some others.
 fn add_active_with(
-    alloc: Global,
     table: &PairTable,
     blocks: &Blocks,
-    first: &NamedSymbol,
-    later: &[&NamedSymbol],
-    pairs: &mut Vec<(NamedSymbol, NamedSymbol)>,
+    first: NumberedSymbol,
+    later: &[NumberedSymbol],
+    pairs: &mut Vec<(NumberedSymbol, NumberedSymbol)>,
 ) -> Result<(), AllocError>
-    ensures { OnOk result ((before : List meant.Item) → KnowsPairs before table.now → blocks.now ≡ marks_of before
-        → kept_pairs pairs.new.items
-        ≡ kept_pairs pairs.old.items ++ filter (are_paired (active_pairs before)) (map (λ y. (symbol_of first.now, y)) (symbols_lent later.now))) }
+    ensures { OnOk result ((all : List (List ℕ)) (before : List meant.Item) (said : List (Meaning × Meaning)) → ReadsPairs all before table.now blocks.now
+        → IsNumbered all first → All (IsNumbered all) later.now → ArePairsRead all said pairs.old.items
+        → ArePairsRead all (said ++ filter (are_paired (active_pairs before)) (map (λ y. (symbol_of all first, y)) (symbols_of all later.now)))
+        pairs.new.items) }
 {
+    if !table.has(first.name) {
+        return Ok(());
+    }
     for second in later {
-        add_if_active(alloc, table, blocks, first, second, pairs)?;
+        add_if_active(table, blocks, first, *second, pairs)?;
     }
     Ok(())
 }
@@ -211,21 +212,15 @@ fn active_among(
     alloc: Global,
     table: &PairTable,
     blocks: &Blocks,
-    variables: &[&NamedSymbol],
-) -> Result<Vec<(NamedSymbol, NamedSymbol)>, AllocError>
-    ensures { IfOk result (λ pairs. (before : List meant.Item) → KnowsPairs before table.now → blocks.now ≡ marks_of before
-        → kept_pairs pairs.items ≡ filter (are_paired (active_pairs before)) (pairs_of (symbols_lent variables.now))) }
+    variables: &[NumberedSymbol],
+) -> Result<Vec<(NumberedSymbol, NumberedSymbol)>, AllocError>
+    ensures { IfOk result (λ pairs. (all : List (List ℕ)) (before : List meant.Item) → ReadsPairs all before table.now blocks.now
+        → All (IsNumbered all) variables.now
+        → ArePairsRead all (filter (are_paired (active_pairs before)) (pairs_of (symbols_of all variables.now))) pairs.items) }
 {
     let mut pairs = Vec::new(alloc);
     for n in 0..variables.len() {
-        add_active_with(
-            alloc,
-            table,
-            blocks,
-            variables[n],
-            &variables[n + 1..],
-            &mut pairs,
-        )?;
+        add_active_with(table, blocks, variables[n], &variables[n + 1..], &mut pairs)?;
     }
     pairs.shrink_to_fit();
     Ok(pairs)
@@ -237,9 +232,9 @@ pub fn mandatory_pairs(
     alloc: Global,
     earlier: &Earlier,
     hypotheses: &[usize],
-) -> Result<Vec<(NamedSymbol, NamedSymbol)>, AllocError>
-    ensures { IfOk result (λ pairs. (before : List meant.Item) (item : meant.Item) → KnowsEarlier before earlier.now
-        → hypotheses.now ≡ mandatory_numbers before item → kept_pairs pairs.items ≡ pairs_in_order (frame before item)) }
+) -> Result<Vec<(NumberedSymbol, NumberedSymbol)>, AllocError>
+    ensures { IfOk result (λ pairs. (all : List (List ℕ)) (before : List meant.Item) (item : meant.Item) → KnowsEarlier all before earlier.now
+        → hypotheses.now ≡ mandatory_numbers before item → ArePairsRead all (pairs_in_order (frame before item)) pairs.items) }
 {
     let variables = variables_typed(alloc, earlier.essentials, earlier.expressions, hypotheses)?;
     active_among(alloc, earlier.pairs, earlier.blocks, &variables)

@@ -1,175 +1,134 @@
-//! Which pairs of variables the active `$d` have, found by hash.
+//! Which pairs of variables the active `$d` have.
 
-ghost use Rattle.std.specs.Prelude.{◌≡◌, ◌∷◌, ◌++◌, ◌&&◌, if◌then◌else◌, ℕ, true, List, [], Some, None, OnOk, length, map, bytes_eq};
+ghost use Rattle.std.specs.Prelude.{◌≡◌, ◌∷◌, ◌++◌, ◌<◌, ℕ, suc, Bool, true, false, List, [], Some, Contains, MatchBool, OnOk, length, drop, slice_get};
 ghost use Rattle.mm_frame.specs.Language.Item as meant;
-ghost use Rattle.mm_frame.specs.Code.BlockMarks.{marks_of};
-ghost use Rattle.mm_frame.specs.Language.Framing.{expression, pairs_of, active_pairs};
-ghost use Rattle.mm_frame.specs.Code.CodeSymbols.{symbol_of, symbols_of, as_variable};
+ghost use Rattle.mm_frame.specs.Language.Names.{AreDistinct};
+ghost use Rattle.mm_frame.specs.Language.Sound.{IsSound};
+ghost use Rattle.mm_frame.specs.Language.Framing.{active_pairs};
+ghost use Rattle.mm_frame.specs.Code.BlockMarks.{marks_of, stays_by};
+ghost use Rattle.mm_frame.specs.Code.CodeSymbols.{as_variable};
+ghost use Rattle.mm_frame.specs.Code.LastItems.{IsRising};
+ghost use Rattle.mm_frame.specs.Code.Numbers.{IsName, AreNumbersOf};
 ghost use Rattle.mm_frame.specs.Code.PairOrder.{are_paired};
-ghost use Rattle.mm_frame.specs.Code.KeptPairTable.{value_in, is_number_active};
+ghost use Rattle.mm_frame.specs.Code.KeptPairTable.{IsCommon, ReadsPairs};
 
+use crate::active::drop_ended;
 use crate::blocks::Blocks;
-use crate::symbol::NamedSymbol;
+use crate::mandatory::is_among;
 use std::alloc::{AllocError, Global};
-use std::collections::HashMap;
 
-/// For each pair of names the number of a `$d` that has it, one that is active as long as any of these is.
+/// For each variable, by the number of its name, the numbers of the `$d` that have it, rising: of all that are active,
+/// and of some that are not.
 ///
-/// To take a `$d` takes the time of a few look-ups by hash for each of its pairs, and a question that of two.
+/// To take a `$d` takes time linear in its variables. Whether two variables are an active pair takes that of a search
+/// in the longer of their rows for each number in the shorter one, up to the first that both have.
 #[derive(Drop)]
 pub struct PairTable {
-    numbers: HashMap<Vec<u8>, HashMap<Vec<u8>, usize>>,
+    rows: Vec<Vec<usize>>,
 }
 
-/// Keeps a number for a name.
-fn keep(
-    alloc: Global,
-    numbers: &mut HashMap<Vec<u8>, usize>,
-    name: &[u8],
-    number: usize,
-) -> Result<(), AllocError>
-    ensures { OnOk result ((other : List ℕ) → value_in numbers.new other ≡ (if bytes_eq name.now other then Some number else value_in numbers.old other)) }
+/// Whether an active `$d` is in both rows.
+fn have_common(blocks: &Blocks, row: &[usize], other: &[usize]) -> bool
+    ensures { IsRising other.now → MatchBool result
+        ((n : ℕ) × IsCommon blocks.now row.now other.now n)
+        ((n : ℕ) → IsCommon blocks.now row.now other.now n → ⊥) }
 {
-    let key = Vec::from_slice(alloc, name)?;
-    numbers.insert(key, number)?;
-    Ok(())
+    for k in 0..row.len() {
+        if is_among(other, row[k]) && blocks.is_active_now(row[k]) {
+            return true;
+        }
+    }
+    false
 }
 
 impl PairTable {
-    ghost use Rattle.mm_frame.specs.Code.KeptPairTable.{pair_number, TakesPairs, KnowsPairs};
+    ghost use Rattle.mm_frame.specs.Code.KeptPairTable.{row_at, Puts, PutsAll, AreOnce, KnowsPairs};
 
     /// No `$d` is taken yet. Takes no memory.
     pub fn new(alloc: Global) -> Self
-        ensures { KnowsPairs [] result }
+        ensures { (all : List (List ℕ)) → KnowsPairs all [] result }
     {
         PairTable {
-            numbers: HashMap::new(alloc),
+            rows: Vec::new(alloc),
         }
     }
 
-    /// The number that is kept for two names in this order.
-    fn number(&self, first: &[u8], second: &[u8]) -> Option<usize>
-        ensures { result ≡ pair_number self.now first.now second.now }
+    /// The numbers that are kept for the name with this number.
+    fn row(&self, name: usize) -> &[usize]
+        ensures { result.now ≡ row_at self.now name }
     {
-        self.numbers.get(first)?.get(second).copied()
-    }
-
-    /// Whether the `$d` that is kept for two names in this order is active.
-    fn is_active(&self, blocks: &Blocks, first: &[u8], second: &[u8]) -> bool
-        ensures { result ≡ is_number_active blocks.now (pair_number self.now first.now second.now) }
-    {
-        match self.number(first, second) {
-            Some(number) => blocks.is_active_now(number),
-            None => false,
+        match self.rows.get(name) {
+            Some(row) => row,
+            None => &[],
         }
     }
 
-    /// Whether an active `$d` has the two names, in one order or the other.
-    pub fn is_active_pair(&self, blocks: &Blocks, first: &[u8], second: &[u8]) -> bool
-        ensures { (before : List meant.Item) → KnowsPairs before self.now → blocks.now ≡ marks_of before
-            → result ≡ are_paired (active_pairs before) (as_variable first.now, as_variable second.now) }
+    /// Whether any number is kept for the name with this number.
+    pub fn has(&self, name: usize) -> bool
+        ensures { result ≡ false → row_at self.now name ≡ [] }
     {
-        self.is_active(blocks, first, second) || self.is_active(blocks, second, first)
+        !self.row(name).is_empty()
     }
 
-    /// Keeps a number for two names in this order, of which the first has none yet.
-    fn begin(
-        &mut self,
-        alloc: Global,
-        first: &[u8],
-        second: &[u8],
-        number: usize,
-    ) -> Result<(), AllocError>
-        ensures { OnOk result (value_in self.old.numbers first.now ≡ None → (x y : List ℕ)
-            → pair_number self.new x y ≡ (if bytes_eq first.now x && bytes_eq second.now y then Some number else pair_number self.old x y)) }
+    /// Whether an active `$d` has the two names with these numbers.
+    pub fn is_active_pair(&self, blocks: &Blocks, first: usize, second: usize) -> bool
+        ensures { (all : List (List ℕ)) (before : List meant.Item) (x y : List ℕ) → ReadsPairs all before self.now blocks.now → IsName all first x
+            → IsName all second y → result ≡ are_paired (active_pairs before) (as_variable x, as_variable y) }
     {
-        let mut numbers = HashMap::new(alloc);
-        keep(alloc, &mut numbers, second, number)?;
-        let key = Vec::from_slice(alloc, first)?;
-        self.numbers.insert(key, numbers)?;
-        Ok(())
-    }
-
-    /// Keeps a number for two names in this order.
-    fn set(
-        &mut self,
-        alloc: Global,
-        first: &[u8],
-        second: &[u8],
-        number: usize,
-    ) -> Result<(), AllocError>
-        ensures { OnOk result ((x y : List ℕ)
-            → pair_number self.new x y ≡ (if bytes_eq first.now x && bytes_eq second.now y then Some number else pair_number self.old x y)) }
-    {
-        match self.numbers.get_mut(first) {
-            Some(numbers) => keep(alloc, numbers, second, number),
-            None => self.begin(alloc, first, second, number),
+        if first == second {
+            return false;
+        }
+        let row = self.row(first);
+        let other = self.row(second);
+        if row.len() <= other.len() {
+            have_common(blocks, row, other)
+        } else {
+            have_common(blocks, other, row)
         }
     }
 
-    /// Takes a pair of the `$d` with this number: where it has no active one yet, it gets this number.
-    fn take_pair(
-        &mut self,
-        alloc: Global,
-        blocks: &Blocks,
-        first: &NamedSymbol,
-        second: &NamedSymbol,
-        number: usize,
-    ) -> Result<(), AllocError>
-        ensures { OnOk result (TakesPairs self.old blocks.now ((symbol_of first.now, symbol_of second.now) ∷ []) number self.new) }
+    /// Has a row for the name with this number. Want of memory changes no row.
+    fn grow(&mut self, alloc: Global, name: usize) -> Result<(), AllocError>
+        ensures ok { OnOk result (name < length self.new.rows.items) }
+        ensures same { (n : ℕ) → row_at self.new n ≡ row_at self.old n }
     {
-        if self.is_active(blocks, &first.name, &second.name) {
-            return Ok(());
-        }
-        self.set(alloc, &first.name, &second.name, number)
-    }
-
-    /// Takes the pairs of one variable with each of some others.
-    fn take_pairs(
-        &mut self,
-        alloc: Global,
-        blocks: &Blocks,
-        first: &NamedSymbol,
-        later: &[NamedSymbol],
-        number: usize,
-    ) -> Result<(), AllocError>
-        ensures { OnOk result (TakesPairs self.old blocks.now (map (λ y. (symbol_of first.now, y)) (symbols_of later.now)) number self.new) }
-    {
-        for second in later {
-            self.take_pair(alloc, blocks, first, second, number)?;
+        while self.rows.len() <= name {
+            self.rows.push(Vec::new(alloc))?;
         }
         Ok(())
     }
 
-    /// Takes the pairs of each variable with each later one.
-    fn take_all(
+    /// Puts a number behind those of a name that are active.
+    fn put(
         &mut self,
         alloc: Global,
         blocks: &Blocks,
-        variables: &[NamedSymbol],
+        name: usize,
         number: usize,
     ) -> Result<(), AllocError>
-        ensures { OnOk result (TakesPairs self.old blocks.now (pairs_of (symbols_of variables.now)) number self.new) }
+        ensures { OnOk result (Puts self.old blocks.now name number self.new) }
     {
-        for n in 0..variables.len() {
-            self.take_pairs(alloc, blocks, &variables[n], &variables[n + 1..], number)?;
-        }
+        self.grow(alloc, name)?;
+        let row = &mut self.rows[name];
+        drop_ended(row, blocks);
+        row.push(number)?;
         Ok(())
     }
 
-    /// Takes one more sound `$d`, with its variables, its number, and the blocks of the items before it. Want of
-    /// memory leaves the table as good for nothing.
+    /// Takes one more sound `$d`, with the numbers of its variables, its own number, and the blocks of the items before
+    /// it. Want of memory leaves the table as good for nothing.
     pub fn take(
         &mut self,
         alloc: Global,
         blocks: &Blocks,
-        variables: &[NamedSymbol],
+        names: &[usize],
         number: usize,
     ) -> Result<(), AllocError>
-        ensures { OnOk result ((before : List meant.Item) (item : meant.Item) → meant.is_disjoint item.kind ≡ true
-            → symbols_of variables.now ≡ expression before item → length before ≡ number → blocks.now ≡ marks_of before → KnowsPairs before self.old
-            → KnowsPairs (before ++ item ∷ []) self.new) }
+        ensures { OnOk result (AreOnce names.now → PutsAll self.old blocks.now names.now number self.new) }
     {
-        self.take_all(alloc, blocks, variables, number)
+        for k in 0..names.len() {
+            self.put(alloc, blocks, names[k], number)?;
+        }
+        Ok(())
     }
 }

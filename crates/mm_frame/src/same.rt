@@ -1,55 +1,36 @@
 //! Whether what two bases keep is the same.
 
-ghost use Rattle.std.specs.Prelude.{◌≡◌, ◌↔◌, IsTrue, true, All, map};
+ghost use Rattle.std.specs.Prelude.{◌≡◌, ◌↔◌, ℕ, List, IsTrue, true, All, map};
 ghost use Rattle.mm_frame.specs.Language.Base.{BaseView, before, said_at, is_shown_at, is_framed_at, hypothesis_at, frame_at};
 ghost use Rattle.mm_frame.specs.Language.Framing.{expression};
-ghost use Rattle.mm_frame.specs.Code.KeptBase.{IsBase};
+ghost use Rattle.mm_frame.specs.Code.KeptBase.{IsBaseBy};
 ghost use Rattle.mm_frame.specs.Language.Frame.{AreSameFrame};
-ghost use Rattle.mm_frame.specs.Code.CodeSymbols.{symbols_of, pair_of, kept_pairs};
 
 use crate::base::Base;
-use crate::symbol::NamedSymbol;
+use crate::names::Names;
+use crate::symbol::NumberedSymbol;
 
 /// Whether two lists of symbols are the same, one by one.
-pub fn same_symbols(one: &[NamedSymbol], other: &[NamedSymbol]) -> bool
-    ensures { IsTrue result ↔ (symbols_of one.now ≡ symbols_of other.now) }
+fn same_symbols(one: &[NumberedSymbol], other: &[NumberedSymbol]) -> bool
+    ensures { IsTrue result ↔ (one.now ≡ other.now) }
 {
-    if one.len() != other.len() {
-        return false;
-    }
-    for k in 0..one.len() {
-        if !one[k].same(&other[k]) {
-            return false;
-        }
-    }
-    true
-}
-
-/// Whether two pairs are the same, in this order.
-fn same_pair(one: &(NamedSymbol, NamedSymbol), other: &(NamedSymbol, NamedSymbol)) -> bool
-    ensures { IsTrue result ↔ (pair_of one.now ≡ pair_of other.now) }
-{
-    one.0.same(&other.0) && one.1.same(&other.1)
+    one == other
 }
 
 /// Whether two lists of pairs are the same, one by one.
-pub fn same_pairs(one: &[(NamedSymbol, NamedSymbol)], other: &[(NamedSymbol, NamedSymbol)]) -> bool
-    ensures { IsTrue result ↔ (kept_pairs one.now ≡ kept_pairs other.now) }
+pub fn same_pairs(
+    one: &[(NumberedSymbol, NumberedSymbol)],
+    other: &[(NumberedSymbol, NumberedSymbol)],
+) -> bool
+    ensures { IsTrue result ↔ (one.now ≡ other.now) }
 {
-    if one.len() != other.len() {
-        return false;
-    }
-    for k in 0..one.len() {
-        if !same_pair(&one[k], &other[k]) {
-            return false;
-        }
-    }
-    true
+    one == other
 }
 
 /// Whether two sound `$f`, `$e`, `$a` or `$p` have the same expression.
 fn same_expression(one: &Base, i: usize, other: &Base, j: usize) -> bool
-    ensures { (base copy : BaseView) → IsBase base one.now → IsBase copy other.now → is_shown_at base i ≡ true → is_shown_at copy j ≡ true
+    ensures { (names : List (List ℕ)) (base copy : BaseView) → IsBaseBy names base one.now → IsBaseBy names copy other.now
+        → is_shown_at base i ≡ true → is_shown_at copy j ≡ true
         → IsTrue result ↔ (expression (before base i) (said_at base i) ≡ expression (before copy j) (said_at copy j)) }
 {
     match (one.expression(i), other.expression(j)) {
@@ -60,7 +41,8 @@ fn same_expression(one: &Base, i: usize, other: &Base, j: usize) -> bool
 
 /// Whether two hypotheses are the same.
 fn same_hypothesis(one: &Base, i: usize, other: &Base, j: usize) -> bool
-    ensures { (base copy : BaseView) → IsBase base one.now → IsBase copy other.now → is_shown_at base i ≡ true → is_shown_at copy j ≡ true
+    ensures { (names : List (List ℕ)) (base copy : BaseView) → IsBaseBy names base one.now → IsBaseBy names copy other.now
+        → is_shown_at base i ≡ true → is_shown_at copy j ≡ true
         → IsTrue result ↔ (hypothesis_at base i ≡ hypothesis_at copy j) }
 {
     one.is_floating(i) == other.is_floating(j) && same_expression(one, i, other, j)
@@ -68,7 +50,8 @@ fn same_hypothesis(one: &Base, i: usize, other: &Base, j: usize) -> bool
 
 /// Whether the hypotheses with these numbers are the same, one by one.
 fn same_hypotheses(one: &Base, mine: &[usize], other: &Base, yours: &[usize]) -> bool
-    ensures { (base copy : BaseView) → IsBase base one.now → IsBase copy other.now → All (λ n. is_shown_at base n ≡ true) mine.now
+    ensures { (names : List (List ℕ)) (base copy : BaseView) → IsBaseBy names base one.now → IsBaseBy names copy other.now
+        → All (λ n. is_shown_at base n ≡ true) mine.now
         → All (λ n. is_shown_at copy n ≡ true) yours.now → IsTrue result ↔ (map (hypothesis_at base) mine.now ≡ map (hypothesis_at copy) yours.now) }
 {
     if mine.len() != yours.len() {
@@ -84,7 +67,8 @@ fn same_hypotheses(one: &Base, mine: &[usize], other: &Base, yours: &[usize]) ->
 
 /// Whether two sound `$a` or `$p` have the same expression and the same mandatory hypotheses.
 pub fn same_but_pairs(one: &Base, i: usize, other: &Base, j: usize) -> bool
-    ensures { (base copy : BaseView) → IsBase base one.now → IsBase copy other.now → is_framed_at base i ≡ true → is_framed_at copy j ≡ true
+    ensures { (names : List (List ℕ)) (base copy : BaseView) → IsBaseBy names base one.now → IsBaseBy names copy other.now
+        → is_framed_at base i ≡ true → is_framed_at copy j ≡ true
         → IsTrue result ↔ (((frame_at base i).expression ≡ (frame_at copy j).expression) × ((frame_at base i).hypotheses ≡ (frame_at copy j).hypotheses)) }
 {
     match (one.frame(i), other.frame(j)) {
@@ -96,12 +80,12 @@ pub fn same_but_pairs(one: &Base, i: usize, other: &Base, j: usize) -> bool
     }
 }
 
-/// Whether two sound `$a` or `$p` have the same frame: the same expression, the same mandatory hypotheses in the same
-/// order, and the same mandatory pairs, in whatever `$d` they stand. It takes no memory, and time linear in the two
-/// frames.
-pub fn same_frame(one: &Base, i: usize, other: &Base, j: usize) -> bool
-    ensures { (base copy : BaseView) → IsBase base one.now → IsBase copy other.now → is_framed_at base i ≡ true → is_framed_at copy j ≡ true
-        → IsTrue result ↔ AreSameFrame (frame_at base i) (frame_at copy j) }
+/// Whether two sound `$a` or `$p` of bases over the same names have the same frame: the same expression, the same
+/// mandatory hypotheses in the same order, and the same mandatory pairs, in whatever `$d` they stand. It takes no memory,
+/// and time linear in the two frames.
+pub fn same_frame(names: &Names, one: &Base, i: usize, other: &Base, j: usize) -> bool
+    ensures { (base copy : BaseView) → IsBaseBy names.now base one.now → IsBaseBy names.now copy other.now → is_framed_at base i ≡ true
+        → is_framed_at copy j ≡ true → IsTrue result ↔ AreSameFrame (frame_at base i) (frame_at copy j) }
 {
     match (one.kept_frame(i), other.kept_frame(j)) {
         (Some(mine), Some(yours)) => {

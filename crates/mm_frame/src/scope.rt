@@ -1,6 +1,6 @@
 //! What the sound items so far declare, and which of it is active.
 
-ghost use Rattle.std.specs.Prelude.{◌≡◌, is_none, true, List, [], ◌∷◌, ◌++◌, OnOk, slice_index_or};
+ghost use Rattle.std.specs.Prelude.{◌≡◌, ℕ, is_none, true, List, [], ◌∷◌, ◌++◌, OnOk, slice_index_or};
 ghost use Rattle.mm_frame.specs.Language.Item as meant;
 ghost use Rattle.mm_frame.specs.Language.Scope as scopes;
 ghost use Rattle.mm_frame.specs.Language.Scope.{mark_of};
@@ -11,8 +11,11 @@ ghost use Rattle.mm_frame.specs.Code.FaultInOrder as judging;
 ghost use Rattle.mm_frame.specs.Code.LastItems as numbered;
 ghost use Rattle.mm_frame.specs.Code.BlockMarks.{marks_of};
 ghost use Rattle.mm_frame.specs.Code.KeptTables.{Knows};
+ghost use Rattle.mm_frame.specs.Language.Names.{AreDistinct};
+ghost use Rattle.mm_frame.specs.Code.Numbers.{IsName, AreNumbersOf};
 
 use crate::blocks::Blocks;
+use crate::names::Names;
 use crate::statement::Statement;
 use crate::tables::{Declared, Tables};
 use mm_store::ItemKind;
@@ -57,7 +60,7 @@ impl<'a> Scope<'a> {
 
     /// No items. It takes no memory.
     pub fn new(alloc: Global) -> Self
-        ensures { ScopeHolds [] result }
+        ensures { (all : List (List ℕ)) → AreDistinct all → ScopeHolds all [] result }
     {
         Scope {
             tables: Tables::new(alloc),
@@ -68,52 +71,57 @@ impl<'a> Scope<'a> {
 
     /// Whether a block is open.
     pub fn is_inside(&self) -> bool
-        ensures { (before : List meant.Item) → AreSound before → ScopeHolds before self.now → result ≡ scopes.is_inside before }
+        ensures { (all : List (List ℕ)) (before : List meant.Item) → AreSound before → ScopeHolds all before self.now → result ≡ scopes.is_inside before }
     {
         self.blocks.is_inside()
     }
 
-    /// Whether a name is a constant.
-    pub fn is_constant(&self, name: &[u8]) -> bool
-        ensures { (before : List meant.Item) → AreSound before → ScopeHolds before self.now → result ≡ meant.has (scopes.constants before) name.now }
+    /// Whether the name with this number is a constant.
+    pub fn is_constant(&self, number: usize) -> bool
+        ensures { (all : List (List ℕ)) (before : List meant.Item) (name : List ℕ) → AreSound before → ScopeHolds all before self.now
+            → IsName all number name → result ≡ meant.has (scopes.constants before) name }
     {
-        self.tables.is_constant(name)
+        self.tables.is_constant(number)
     }
 
-    /// Whether a name is a constant or a variable, active or not.
-    pub fn is_declared(&self, name: &[u8]) -> bool
-        ensures { (before : List meant.Item) → AreSound before → ScopeHolds before self.now → result ≡ sound.is_declared before name.now }
+    /// Whether the name with this number is a constant or a variable, active or not.
+    pub fn is_declared(&self, number: usize) -> bool
+        ensures { (all : List (List ℕ)) (before : List meant.Item) (name : List ℕ) → AreSound before → ScopeHolds all before self.now
+            → IsName all number name → result ≡ sound.is_declared before name }
     {
-        self.tables.is_declared(name)
+        self.tables.is_declared(number)
     }
 
     /// Whether an item, active or not, has this label.
     pub fn is_label(&self, label: &[u8]) -> bool
-        ensures { (before : List meant.Item) → AreSound before → ScopeHolds before self.now → result ≡ sound.is_label before label.now }
+        ensures { (all : List (List ℕ)) (before : List meant.Item) → AreSound before → ScopeHolds all before self.now
+            → result ≡ sound.is_label before label.now }
     {
         self.tables.is_label(label)
     }
 
-    /// Whether a name is an active variable.
-    pub fn is_active_variable(&self, name: &[u8]) -> bool
-        ensures { (before : List meant.Item) → AreSound before → ScopeHolds before self.now → result ≡ meant.has (scopes.active_variables before) name.now }
+    /// Whether the name with this number is an active variable.
+    pub fn is_active_variable(&self, number: usize) -> bool
+        ensures { (all : List (List ℕ)) (before : List meant.Item) (name : List ℕ) → AreSound before → ScopeHolds all before self.now
+            → IsName all number name → result ≡ meant.has (scopes.active_variables before) name }
     {
-        match self.tables.variable(name) {
-            Some(number) => self.blocks.is_active_now(number),
+        match self.tables.variable(number) {
+            Some(declared) => self.blocks.is_active_now(declared),
             None => false,
         }
     }
 
-    /// Whether a name is a constant or an active variable.
-    pub fn is_active_symbol(&self, name: &[u8]) -> bool
-        ensures { (before : List meant.Item) → AreSound before → ScopeHolds before self.now → result ≡ sound.is_active_symbol before name.now }
+    /// Whether the name with this number is a constant or an active variable.
+    pub fn is_active_symbol(&self, number: usize) -> bool
+        ensures { (all : List (List ℕ)) (before : List meant.Item) (name : List ℕ) → AreSound before → ScopeHolds all before self.now
+            → IsName all number name → result ≡ sound.is_active_symbol before name }
     {
-        self.is_constant(name) || self.is_active_variable(name)
+        self.is_constant(number) || self.is_active_variable(number)
     }
 
     /// Whether the item with this number is active; none is not.
     fn is_active_number(&self, number: Option<usize>) -> bool
-        ensures { (before : List meant.Item) → ScopeHolds before self.now → result ≡ numbered.is_active_last before number }
+        ensures { (all : List (List ℕ)) (before : List meant.Item) → ScopeHolds all before self.now → result ≡ numbered.is_active_last before number }
     {
         match number {
             Some(number) => self.blocks.is_active_now(number),
@@ -121,11 +129,13 @@ impl<'a> Scope<'a> {
         }
     }
 
-    /// Whether a name may stand behind a typecode: it is a constant, or a variable that is active and typed.
-    pub fn may_follow(&self, name: &[u8]) -> bool
-        ensures { (before : List meant.Item) → AreSound before → ScopeHolds before self.now → result ≡ is_none (judging.later_fault before name.now) }
+    /// Whether the name with this number may stand behind a typecode: it is a constant, or a variable that is active and
+    /// typed.
+    pub fn may_follow(&self, number: usize) -> bool
+        ensures { (all : List (List ℕ)) (before : List meant.Item) (name : List ℕ) → AreSound before → ScopeHolds all before self.now
+            → IsName all number name → result ≡ is_none (judging.later_fault before name) }
     {
-        match self.tables.name(name) {
+        match self.tables.name(number) {
             Some(Declared::Constant) => true,
             Some(Declared::Variable { declared, float }) => {
                 self.is_active_number(Some(declared)) && self.is_active_number(float)
@@ -134,19 +144,21 @@ impl<'a> Scope<'a> {
         }
     }
 
-    /// The number of the last `$f` of a variable, active or not.
-    pub fn float(&self, name: &[u8]) -> Option<usize>
-        ensures { (before : List meant.Item) → AreSound before → ScopeHolds before self.now → result ≡ numbered.last_where (numbered.types name.now) before }
+    /// The number of the last `$f` of the variable whose name has this number, active or not.
+    pub fn float(&self, number: usize) -> Option<usize>
+        ensures { (all : List (List ℕ)) (before : List meant.Item) (name : List ℕ) → AreSound before → ScopeHolds all before self.now
+            → IsName all number name → result ≡ numbered.last_where (numbered.types name) before }
     {
-        self.tables.float(name)
+        self.tables.float(number)
     }
 
-    /// Whether an active `$f` types a name.
-    pub fn is_typed(&self, name: &[u8]) -> bool
-        ensures { (before : List meant.Item) → AreSound before → ScopeHolds before self.now → result ≡ sound.is_typed before name.now }
+    /// Whether an active `$f` types the name with this number.
+    pub fn is_typed(&self, number: usize) -> bool
+        ensures { (all : List (List ℕ)) (before : List meant.Item) (name : List ℕ) → AreSound before → ScopeHolds all before self.now
+            → IsName all number name → result ≡ sound.is_typed before name }
     {
-        match self.float(name) {
-            Some(number) => self.blocks.is_active_now(number),
+        match self.float(number) {
+            Some(float) => self.blocks.is_active_now(float),
             None => false,
         }
     }
@@ -158,39 +170,53 @@ impl<'a> Scope<'a> {
         self.typecodes.get(number).copied().unwrap_or(b"")
     }
 
-    /// Whether a `$f`, active or not, gives a name another typecode than this one.
-    pub fn is_typed_otherwise(&self, name: &[u8], typecode: &[u8]) -> bool
-        ensures { (before : List meant.Item) (item : meant.Item) → AreSound before → ScopeHolds before self.now → meant.typecode_of item ≡ typecode.now
-            → result ≡ sound.is_typed_otherwise before item name.now }
+    /// Whether a `$f`, active or not, gives the name with this number another typecode than this one.
+    pub fn is_typed_otherwise(&self, number: usize, typecode: &[u8]) -> bool
+        ensures { (all : List (List ℕ)) (before : List meant.Item) (item : meant.Item) (name : List ℕ) → AreSound before → ScopeHolds all before self.now
+            → meant.typecode_of item ≡ typecode.now → IsName all number name → result ≡ sound.is_typed_otherwise before item name }
     {
-        match self.float(name) {
-            Some(number) => self.typecode(number) != typecode,
+        match self.float(number) {
+            Some(float) => self.typecode(float) != typecode,
             None => false,
         }
     }
 
-    /// Takes a sound item.
-    fn take(&mut self, alloc: Global, statement: &Statement<'a>) -> Result<(), AllocError>
-        ensures { OnOk result (ScopeTakes self.old statement.now true self.new) }
+    /// Whether these bytes are a constant or a variable, active or not.
+    pub fn is_symbol(&self, names: &Names, name: &[u8]) -> bool
+        ensures { (before : List meant.Item) → AreSound before → ScopeHolds names.now before self.now → result ≡ sound.is_declared before name.now }
     {
-        self.tables.take(alloc, statement, self.typecodes.len())?;
+        self.tables.is_symbol(names, name)
+    }
+
+    /// Takes a sound item, with the numbers of its symbols.
+    fn take(
+        &mut self,
+        alloc: Global,
+        statement: &Statement<'a>,
+        numbers: &[usize],
+    ) -> Result<(), AllocError>
+        ensures { OnOk result (ScopeTakes numbers.now self.old statement.now true self.new) }
+    {
+        self.tables
+            .take(alloc, statement, numbers, self.typecodes.len())?;
         mark(&mut self.blocks, statement.kind())?;
         self.typecodes.push(typecode_of(statement))?;
         Ok(())
     }
 
-    /// Takes one more item: as it is where it is sound, and else passes over it. Want of memory leaves the scope as
-    /// good for nothing.
+    /// Takes one more item, with the numbers of its symbols: as it is where it is sound, and else passes over it. Want of
+    /// memory leaves the scope as good for nothing.
     pub fn next(
         &mut self,
         alloc: Global,
         statement: &Statement<'a>,
+        numbers: &[usize],
         sound: bool,
     ) -> Result<(), AllocError>
-        ensures { OnOk result (ScopeTakes self.old statement.now sound self.new) }
+        ensures { OnOk result (ScopeTakes numbers.now self.old statement.now sound self.new) }
     {
         if sound {
-            return self.take(alloc, statement);
+            return self.take(alloc, statement, numbers);
         }
         self.blocks.pass()?;
         self.typecodes.push(b"")?;
@@ -213,7 +239,8 @@ impl<'a> Scope<'a> {
 
     /// What the sound items declare, and their blocks.
     pub fn tables_and_blocks(self) -> (Tables, Blocks)
-        ensures { (before : List meant.Item) → ScopeHolds before self.entry → Knows before result.0 × (result.1 ≡ marks_of before) }
+        ensures { (all : List (List ℕ)) (before : List meant.Item) → ScopeHolds all before self.entry
+            → Knows all before result.0 × (result.1 ≡ marks_of before) }
     {
         (self.tables, self.blocks)
     }

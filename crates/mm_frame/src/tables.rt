@@ -1,11 +1,15 @@
 //! What the items so far declare, found by hash.
 
-ghost use Rattle.std.specs.Prelude.{◌≡◌, ◌<◌, ◌++◌, ◌∷◌, ◌||◌, ℕ, OnOk, List, [], Some, length, is_some, option_to_list, slice_index_or, bytes_eq};
+ghost use Rattle.std.specs.Prelude.{◌≡◌, ◌<◌, ◌++◌, ◌∷◌, ◌||◌, ℕ, OnOk, OnErr, List, [], None, Some, length, is_some, nat_eq, option_to_list};
+ghost use Rattle.std.specs.Prelude.{if◌then◌else◌, slice_index_or, bytes_eq};
 ghost use Rattle.mm_frame.specs.Language.Item as meant;
 ghost use Rattle.mm_frame.specs.Language.Scope.{constants};
 ghost use Rattle.mm_frame.specs.Language.Sound as sound;
 ghost use Rattle.mm_frame.specs.Code.LastItems as numbered;
+ghost use Rattle.mm_frame.specs.Language.Names.{AreDistinct};
+ghost use Rattle.mm_frame.specs.Code.Numbers.{IsName, AreNumbersOf};
 
+use crate::names::Names;
 use crate::statement::Statement;
 use mm_store::ItemKind;
 use std::alloc::{AllocError, Global};
@@ -25,31 +29,36 @@ pub enum Declared {
     },
 }
 
-/// The names and labels of the items so far. Items are told by their numbers, from 0.
+/// The names and labels of the items so far. Items are told by their numbers, from 0, and so are names of symbols.
 #[derive(Drop)]
 pub struct Tables {
-    names: HashMap<Vec<u8>, Declared>,
+    /// What each name is declared as, by its number.
+    declared: Vec<Option<Declared>>,
     labels: HashMap<Vec<u8>, usize>,
 }
 
 impl Tables {
-    ghost use Rattle.mm_frame.specs.Code.KeptTables.{table_name, table_label, variable_number, float_of, Knows, Declares, Types, Carries};
+    ghost use Rattle.mm_frame.specs.Code.KeptTables.{declared_at, is_constant_as, table_name, table_label, variable_number, float_of};
+    ghost use Rattle.mm_frame.specs.Code.KeptTables.{Knows, Declares, Types, Carries};
 
     /// No item is taken yet. Takes no memory.
     pub fn new(alloc: Global) -> Self
-        ensures { Knows [] result }
+        ensures { (all : List (List ℕ)) → AreDistinct all → Knows all [] result }
     {
         Tables {
-            names: HashMap::new(alloc),
+            declared: Vec::new(alloc),
             labels: HashMap::new(alloc),
         }
     }
 
-    /// What a name is declared as, if it is declared.
-    pub fn name(&self, name: &[u8]) -> Option<Declared>
-        ensures { result ≡ table_name self.now name.now }
+    /// What the name with this number is declared as, if it is declared.
+    pub fn name(&self, number: usize) -> Option<Declared>
+        ensures { result ≡ declared_at self.now number }
     {
-        self.names.get(name).copied()
+        match self.declared.get(number) {
+            Some(declared) => *declared,
+            None => None,
+        }
     }
 
     /// The number of the item that has a label, if one has it.
@@ -59,107 +68,136 @@ impl Tables {
         self.labels.get(label).copied()
     }
 
-    /// Whether a name is a constant.
-    pub fn is_constant(&self, name: &[u8]) -> bool
-        ensures { (before : List meant.Item) → Knows before self.now → result ≡ meant.has (constants before) name.now }
+    /// Whether the name with this number is a constant.
+    pub fn is_constant(&self, number: usize) -> bool
+        ensures value { result ≡ is_constant_as (declared_at self.now number) }
+        ensures declared { (all : List (List ℕ)) (before : List meant.Item) (name : List ℕ) → Knows all before self.now → IsName all number name
+            → result ≡ meant.has (constants before) name }
     {
-        matches!(self.name(name), Some(Declared::Constant))
+        matches!(self.name(number), Some(Declared::Constant))
     }
 
-    /// Whether a name is a constant or a variable, active or not.
-    pub fn is_declared(&self, name: &[u8]) -> bool
-        ensures { (before : List meant.Item) → Knows before self.now → result ≡ sound.is_declared before name.now }
+    /// Whether the name with this number is a constant or a variable, active or not.
+    pub fn is_declared(&self, number: usize) -> bool
+        ensures { (all : List (List ℕ)) (before : List meant.Item) (name : List ℕ) → Knows all before self.now → IsName all number name
+            → result ≡ sound.is_declared before name }
     {
-        self.name(name).is_some()
+        self.name(number).is_some()
+    }
+
+    /// Whether these bytes are a constant or a variable, active or not.
+    pub fn is_symbol(&self, names: &Names, name: &[u8]) -> bool
+        ensures { (before : List meant.Item) → Knows names.now before self.now → result ≡ sound.is_declared before name.now }
+    {
+        match names.number(name) {
+            Some(number) => self.name(number).is_some(),
+            None => false,
+        }
     }
 
     /// Whether an item, active or not, has this label.
     pub fn is_label(&self, label: &[u8]) -> bool
-        ensures { (before : List meant.Item) → Knows before self.now → result ≡ sound.is_label before label.now }
+        ensures { (all : List (List ℕ)) (before : List meant.Item) → Knows all before self.now → result ≡ sound.is_label before label.now }
     {
         self.label(label).is_some()
     }
 
-    /// The number of the last `$v` that declares a name: none for a constant.
-    pub fn variable(&self, name: &[u8]) -> Option<usize>
-        ensures { (before : List meant.Item) → sound.AreSound before → Knows before self.now
-            → result ≡ numbered.last_where (numbered.declares_variable name.now) before }
+    /// The number of the last `$v` that declares the name with this number: none for a constant.
+    pub fn variable(&self, number: usize) -> Option<usize>
+        ensures { (all : List (List ℕ)) (before : List meant.Item) (name : List ℕ) → sound.AreSound before → Knows all before self.now
+            → IsName all number name → result ≡ numbered.last_where (numbered.declares_variable name) before }
     {
-        match self.name(name)? {
+        match self.name(number)? {
             Declared::Variable { declared, .. } => Some(declared),
             Declared::Constant => None,
         }
     }
 
-    /// The number of the last `$f` that types a name: none for what is no variable.
-    pub fn float(&self, name: &[u8]) -> Option<usize>
-        ensures value { result ≡ float_of (table_name self.now name.now) }
-        ensures last { (before : List meant.Item) → sound.AreSound before → Knows before self.now
-            → result ≡ numbered.last_where (numbered.types name.now) before }
+    /// The number of the last `$f` that types the name with this number: none for what is no variable.
+    pub fn float(&self, number: usize) -> Option<usize>
+        ensures value { result ≡ float_of (declared_at self.now number) }
+        ensures last { (all : List (List ℕ)) (before : List meant.Item) (name : List ℕ) → sound.AreSound before → Knows all before self.now
+            → IsName all number name → result ≡ numbered.last_where (numbered.types name) before }
     {
-        match self.name(name)? {
+        match self.name(number)? {
             Declared::Variable { float, .. } => float,
             Declared::Constant => None,
         }
     }
 
-    /// Declares a name, or declares it anew.
-    fn declare(&mut self, alloc: Global, name: &[u8], declared: Declared) -> Result<(), AllocError>
-        ensures { OnOk result (Declares self.old (name.now ∷ []) (λ _. declared) self.new) }
+    /// Has a place for the name with this number. Want of memory changes nothing that is declared.
+    fn grow(&mut self, number: usize) -> Result<(), AllocError>
+        ensures ok { OnOk result (number < length self.new.declared.items) }
+        ensures same { (n : ℕ) → declared_at self.new n ≡ declared_at self.old n }
+        ensures labels { self.new.labels ≡ self.old.labels }
     {
-        let key = Vec::from_slice(alloc, name)?;
-        self.names.insert(key, declared)?;
-        Ok(())
-    }
-
-    /// Declares the symbols as constants.
-    fn take_constants(&mut self, alloc: Global, statement: &Statement) -> Result<(), AllocError>
-        ensures { OnOk result (Declares self.old statement.now.symbols (λ _. Declared.Constant) self.new) }
-    {
-        for n in 0..statement.symbol_count() {
-            self.declare(alloc, statement.symbol(n), Declared::Constant)?;
+        while self.declared.len() <= number {
+            self.declared.push(None)?;
         }
         Ok(())
     }
 
-    /// Declares the symbols as variables. One that was a variable before keeps its `$f`.
-    fn take_variables(
-        &mut self,
-        alloc: Global,
-        statement: &Statement,
-        number: usize,
-    ) -> Result<(), AllocError>
-        ensures { OnOk result (Declares self.old statement.now.symbols (λ old. Declared.Variable number (float_of old)) self.new) }
+    /// Puts what the name with this number is declared as.
+    fn put(&mut self, number: usize, declared: Declared) -> Result<(), AllocError>
+        ensures put { OnOk result ((n : ℕ) → declared_at self.new n ≡ (if nat_eq n number then Some declared else declared_at self.old n)) }
+        ensures labels { self.new.labels ≡ self.old.labels }
     {
-        for n in 0..statement.symbol_count() {
-            let name = statement.symbol(n);
+        self.grow(number)?;
+        self.declared[number] = Some(declared);
+        Ok(())
+    }
+
+    /// Declares the name with this number, or declares it anew.
+    fn declare(&mut self, number: usize, declared: Declared) -> Result<(), AllocError>
+        ensures { OnOk result ((all : List (List ℕ)) (name : List ℕ) → AreDistinct all → IsName all number name
+            → Declares all self.old (name ∷ []) (λ _. declared) self.new) }
+    {
+        self.put(number, declared)
+    }
+
+    /// Declares the names with these numbers as constants.
+    fn take_constants(&mut self, numbers: &[usize]) -> Result<(), AllocError>
+        ensures { OnOk result ((all symbols : List (List ℕ)) → AreDistinct all → AreNumbersOf all numbers.now symbols
+            → Declares all self.old symbols (λ _. Declared.Constant) self.new) }
+    {
+        for n in 0..numbers.len() {
+            self.declare(numbers[n], Declared::Constant)?;
+        }
+        Ok(())
+    }
+
+    /// Declares the names with these numbers as variables. One that was a variable before keeps its `$f`.
+    fn take_variables(&mut self, numbers: &[usize], number: usize) -> Result<(), AllocError>
+        ensures { OnOk result ((all symbols : List (List ℕ)) → AreDistinct all → AreNumbersOf all numbers.now symbols
+            → Declares all self.old symbols (λ old. Declared.Variable number (float_of old)) self.new) }
+    {
+        for n in 0..numbers.len() {
             let variable = Declared::Variable {
                 declared: number,
-                float: self.float(name),
+                float: self.float(numbers[n]),
             };
-            self.declare(alloc, name, variable)?;
+            self.declare(numbers[n], variable)?;
         }
         Ok(())
     }
 
-    /// Types a variable by the `$f` with this number.
-    fn type_variable(&mut self, name: &[u8], number: usize)
-        ensures { Types self.old name.now number self.new }
+    /// Types the variable whose name has the number `name` by the `$f` with this number.
+    fn type_variable(&mut self, name: usize, number: usize)
+        ensures { (all : List (List ℕ)) (variable : List ℕ) → AreDistinct all → IsName all name variable → Types all self.old variable number self.new }
     {
         if let Some(Declared::Variable { declared, .. }) = self.name(name) {
             let float = Some(number);
-            if let Some(told) = self.names.get_mut(name) {
-                *told = Declared::Variable { declared, float };
-            }
+            self.declared[name] = Some(Declared::Variable { declared, float });
         }
     }
 
     /// Types the variable of a `$f`, which is the second symbol.
-    fn take_float(&mut self, statement: &Statement, number: usize)
-        ensures { 1 < length statement.now.symbols → Types self.old (meant.variable_of statement.now) number self.new }
+    fn take_float(&mut self, numbers: &[usize], number: usize)
+        ensures { (all symbols : List (List ℕ)) → AreDistinct all → AreNumbersOf all numbers.now symbols → 1 < length symbols
+            → Types all self.old (slice_index_or symbols 1 []) number self.new }
     {
-        if statement.symbol_count() > 1 {
-            self.type_variable(statement.symbol(1), number);
+        if numbers.len() > 1 {
+            self.type_variable(numbers[1], number);
         }
     }
 
@@ -170,7 +208,7 @@ impl Tables {
         statement: &Statement,
         number: usize,
     ) -> Result<(), AllocError>
-        ensures { OnOk result (Carries self.old (option_to_list statement.now.label) number self.new) }
+        ensures { OnOk result ((all : List (List ℕ)) → Carries all self.old (option_to_list statement.now.label) number self.new) }
     {
         if let Some(label) = statement.label() {
             let key = Vec::from_slice(alloc, label)?;
@@ -179,21 +217,23 @@ impl Tables {
         Ok(())
     }
 
-    /// Takes one more item, with its number. Want of memory leaves the tables as good for nothing.
+    /// Takes one more item, with its number and the numbers of its symbols. Want of memory leaves the tables as good for
+    /// nothing.
     pub fn take(
         &mut self,
         alloc: Global,
         statement: &Statement,
+        numbers: &[usize],
         number: usize,
     ) -> Result<(), AllocError>
-        ensures { OnOk result ((before : List meant.Item) → sound.AreSound (before ++ statement.now ∷ []) → length before ≡ number → Knows before self.old
-            → Knows (before ++ statement.now ∷ []) self.new) }
+        ensures { OnOk result ((all : List (List ℕ)) (before : List meant.Item) → sound.AreSound (before ++ statement.now ∷ []) → length before ≡ number
+            → AreNumbersOf all numbers.now statement.now.symbols → Knows all before self.old → Knows all (before ++ statement.now ∷ []) self.new) }
     {
         match statement.kind() {
-            ItemKind::Constants => self.take_constants(alloc, statement),
-            ItemKind::Variables => self.take_variables(alloc, statement, number),
+            ItemKind::Constants => self.take_constants(numbers),
+            ItemKind::Variables => self.take_variables(numbers, number),
             ItemKind::Floating => {
-                self.take_float(statement, number);
+                self.take_float(numbers, number);
                 self.take_label(alloc, statement, number)
             }
             ItemKind::Essential | ItemKind::Axiom | ItemKind::Theorem => {

@@ -5,6 +5,8 @@ ghost use Rattle.mm_store.specs.Language.FileFacts.{CanBeRead};
 
 use crate::active::ActiveNumbers;
 use crate::blocks::Blocks;
+use crate::draft::number_all;
+use crate::names::Names;
 use crate::tables::{Declared, Tables};
 use crate::{Files, Item, ProofWords, Statement, StoreError};
 use std::alloc::{AllocError, Global};
@@ -27,6 +29,7 @@ pub fn read_text(alloc: Global, text: &[u8]) -> Result<(Files, Vec<Item>), Store
 /// Reads an item and takes it.
 fn take_item(
     alloc: Global,
+    names: &mut Names,
     files: &Files,
     item: &Item,
     number: usize,
@@ -35,24 +38,31 @@ fn take_item(
     requires { CanBeRead files.now item.now }
 {
     let statement = Statement::read(alloc, files, item)?;
-    tables.take(alloc, &statement, number)
+    let mut numbers = Vec::new(alloc);
+    number_all(alloc, names, &statement, &mut numbers)?;
+    tables.take(alloc, &statement, &numbers, number)
 }
 
 /// The tables behind all items.
-fn tables_behind(alloc: Global, files: &Files, items: &[Item]) -> Result<Tables, AllocError>
+fn tables_behind(
+    alloc: Global,
+    names: &mut Names,
+    files: &Files,
+    items: &[Item],
+) -> Result<Tables, AllocError>
     requires { All (CanBeRead files.now) items.now }
 {
     let mut tables = Tables::new(alloc);
     for (number, item) in items.iter().enumerate() {
-        take_item(alloc, files, item, number, &mut tables)?;
+        take_item(alloc, names, files, item, number, &mut tables)?;
     }
     Ok(tables)
 }
 
 /// The tables behind all items of a text.
-fn tables_of(alloc: Global, text: &[u8]) -> Result<Tables, StoreError> {
+fn tables_of(alloc: Global, names: &mut Names, text: &[u8]) -> Result<Tables, StoreError> {
     let (files, items) = read_text(alloc, text)?;
-    Ok(tables_behind(alloc, &files, &items)?)
+    Ok(tables_behind(alloc, names, &files, &items)?)
 }
 
 /// What names are declared as.
@@ -77,28 +87,39 @@ const NAMES: &[(&[u8], Option<Declared>)] = &[
     (b"wx", None),
 ];
 
+/// The number of a name; that of no name where it has none.
+fn number_of(names: &Names, name: &[u8]) -> usize {
+    names.number(name).unwrap_or(names.count())
+}
+
 /// Whether a name is declared as this.
-fn is_declared_as(tables: &Tables, name: &[u8], wanted: Option<Declared>) -> bool {
-    tables.name(name) == wanted
-        && tables.is_declared(name) == wanted.is_some()
-        && tables.is_constant(name) == (wanted == Some(Declared::Constant))
+fn is_declared_as(names: &Names, tables: &Tables, name: &[u8], wanted: Option<Declared>) -> bool {
+    let number = number_of(names, name);
+    tables.name(number) == wanted
+        && tables.is_declared(number) == wanted.is_some()
+        && tables.is_symbol(names, name) == wanted.is_some()
+        && tables.is_constant(number) == (wanted == Some(Declared::Constant))
 }
 
 /// The first row whose name is declared as something else.
-fn declared_otherwise(tables: &Tables, rows: &[(&[u8], Option<Declared>)]) -> Option<usize> {
+fn declared_otherwise(
+    names: &Names,
+    tables: &Tables,
+    rows: &[(&[u8], Option<Declared>)],
+) -> Option<usize> {
     for (k, row) in rows.iter().enumerate() {
-        if !is_declared_as(tables, row.0, row.1) {
+        if !is_declared_as(names, tables, row.0, row.1) {
             return Some(k);
         }
     }
     None
 }
 
-fn tells_numbers(tables: &Tables) -> bool {
-    tables.variable(b"x") == Some(6)
-        && tables.variable(b"wff").is_none()
-        && tables.float(b"x") == Some(3)
-        && tables.float(b"|-").is_none()
+fn tells_numbers(names: &Names, tables: &Tables) -> bool {
+    tables.variable(number_of(names, b"x")) == Some(6)
+        && tables.variable(number_of(names, b"wff")).is_none()
+        && tables.float(number_of(names, b"x")) == Some(3)
+        && tables.float(number_of(names, b"|-")).is_none()
 }
 
 /// The items that have labels.
@@ -124,9 +145,10 @@ fn labels_otherwise(tables: &Tables, rows: &[(&[u8], Option<usize>)]) -> Option<
 
 #[test]
 fn tells_names_and_labels(rt: HostRuntime) -> Result<(), Fail> {
-    let tables = tables_of(rt.alloc(), ROWS)?;
-    assert_eq!(rt; declared_otherwise(&tables, NAMES), None);
-    assert!(rt; tells_numbers(&tables));
+    let mut names = Names::new(rt.alloc());
+    let tables = tables_of(rt.alloc(), &mut names, ROWS)?;
+    assert_eq!(rt; declared_otherwise(&names, &tables, NAMES), None);
+    assert!(rt; tells_numbers(&names, &tables));
     assert_eq!(rt; labels_otherwise(&tables, LABELS), None);
     Ok(())
 }

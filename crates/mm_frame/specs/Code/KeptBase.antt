@@ -1,5 +1,5 @@
 -- What the code keeps of the items for a base.
-use Rattle.std.specs.Prelude.{◌≡◌, ℕ, ◌<◌, ◌≤◌, Bool, ◌&&◌, if◌then◌else◌, Some, None, is_some, is_none, List, length, take, slice_get, Option, Vec}
+use Rattle.std.specs.Prelude.{◌≡◌, ℕ, ◌<◌, ◌≤◌, Bool, true, ◌&&◌, if◌then◌else◌, Some, None, is_some, is_none, List, length, take, slice_get, Option, Vec}
 use Rattle.std.specs.Option.{option_map}
 use Rattle.std.specs.List.{AllZip}
 use Rattle.std.specs.Global.{Global}
@@ -8,22 +8,23 @@ use Rattle.mm_frame.specs.declared.draft.Draft.{Draft}
 use Rattle.mm_frame.specs.declared.draft.Parts.{Parts}
 use Rattle.mm_frame.specs.declared.draft.Row.{Row}
 use Rattle.mm_frame.specs.declared.draft.Frame.{Frame}
-use Rattle.mm_frame.specs.declared.symbol.NamedSymbol.{NamedSymbol}
-use Rattle.mm_frame.specs.Code.CodeSymbols.{kept_pairs}
+use Rattle.mm_frame.specs.declared.symbol.NumberedSymbol.{NumberedSymbol}
+use Rattle.mm_frame.specs.Language.Names.{AreDistinct, Begins}
+use Rattle.mm_frame.specs.Code.CodeSymbols.{ArePairsRead}
 use Rattle.mm_frame.specs.Code.KeptSymbols.{AreSymbols}
 use Rattle.mm_frame.specs.Code.KeptPairTable.{KnowsPairs}
 use Rattle.mm_frame.specs.Language.Item.{Item, is_labelled, is_assertion, is_theorem, item_at}
 use Rattle.mm_frame.specs.Language.Statement.{kind_of}
 use Rattle.mm_frame.specs.Language.Sound.{sound_items}
 use Rattle.mm_frame.specs.declared.pair_lists.PairLists.{PairLists}
-use Rattle.mm_frame.specs.Language.Frame.{Symbol}
 use Rattle.mm_frame.specs.Language.Framing.{frame, active_pairs, mandatory_numbers}
 use Rattle.mm_frame.specs.Code.KeptPairLists.{IsList, AreMade}
 use Rattle.mm_frame.specs.Code.LastItems.{last_where, carries, is_essential_item, is_disjoint_item}
 use Rattle.mm_frame.specs.Language.Scope.{active_numbers}
 use Rattle.mm_frame.specs.Code.PairOrder.{pairs_in_order}
 use Rattle.mm_frame.specs.Code.BlockMarks.{marks_of}
-use Rattle.mm_frame.specs.Code.KeptTables.{Knows}
+use Rattle.mm_frame.specs.Code.KeptTables.{table_label}
+use Rattle.mm_frame.specs.declared.tables.Tables.{Tables}
 use Rattle.mm_frame.specs.Code.KeptScope.{ScopeHolds}
 use Rattle.mm_frame.specs.Language.Base.{BaseView, before, said_at, told_fault}
 
@@ -41,10 +42,6 @@ numbers_if framed before item = if framed then Some (mandatory_numbers before it
 abbrev pub told_numbers : List Item → Item → Option (List ℕ)
 told_numbers before item = numbers_if (is_none (told_fault before item) && is_assertion item.kind) before item
 
--- the pairs of the frame of an assertion, in order
-abbrev pub pairs_if : Bool → List Item → Item → Option (List (Symbol × Symbol))
-pairs_if framed before item = if framed then Some (pairs_in_order (frame before item)) else None
-
 -- the numbers of the mandatory hypotheses of the item with this number, where it is a sound `$a` or `$p`
 abbrev pub hypotheses_at : BaseView → ℕ → Option (List ℕ)
 hypotheses_at base i = told_numbers (before base i) (said_at base i)
@@ -54,63 +51,80 @@ abbrev pub find_in : BaseView → List ℕ → Option ℕ
 find_in base label = last_where (carries label) (sound_items base.said)
 
 -- where a frame is to be kept, one is, and has the numbers and pairs of that of an assertion
-pub record KeepsFrame (framed : Bool) (before : List Item) (item : Item) (kept_frame : Option Frame) : Type 0 where
+pub record KeepsFrame (all : List (List ℕ)) (framed : Bool) (before : List Item) (item : Item) (kept_frame : Option Frame) : Type 0 where
   pub hypotheses : option_map (λ frame. frame.hypotheses.items) kept_frame ≡ numbers_if framed before item
-  pub pairs : option_map (λ frame. kept_pairs frame.pairs.items) kept_frame ≡ pairs_if framed before item
+  pub pairs : framed ≡ true → (kept : Frame) → kept_frame ≡ Some kept → ArePairsRead all (pairs_in_order (frame before item)) kept.pairs.items
 
 -- the frame, where one is kept, is that of an item behind the sound items before it
-abbrev pub TellsFrame : List Item → Item → Option Frame → Type 0
-TellsFrame before item kept_frame = KeepsFrame (is_none (told_fault before item) && is_assertion item.kind) before item kept_frame
+abbrev pub TellsFrame : List (List ℕ) → List Item → Item → Option Frame → Type 0
+TellsFrame all before item kept_frame = KeepsFrame all (is_none (told_fault before item) && is_assertion item.kind) before item kept_frame
 
 -- the item is a sound `$p` behind the sound items before it
 abbrev pub is_told_proof : List Item → Item → Bool
 is_told_proof before item = is_none (told_fault before item) && is_theorem item.kind
 
 -- there is a number of a list exactly for a sound `$p`, and the list is of the pairs that are active there
-pub record TellsPairs (lists : PairLists) (before : List Item) (item : Item) (number : Option ℕ) : Type 0 where
+pub record TellsPairs (all : List (List ℕ)) (lists : PairLists) (before : List Item) (item : Item) (number : Option ℕ) : Type 0 where
   pub some : is_some number ≡ is_told_proof before item
-  pub list : (k : ℕ) → number ≡ Some k → IsList lists k (active_pairs before)
+  pub list : (k : ℕ) → number ≡ Some k → IsList all lists k (active_pairs before)
 
 -- there is a row for each item, which tells of it
 pub record AreRows {X : Type 0} (tells : List Item → Item → X → Type 0) (said : List Item) (rows : List X) : Type 0 where
   pub count : length rows ≡ length said
   pub each : (n : ℕ) (row : X) → slice_get rows n ≡ Some row → tells (sound_items (take n said)) (item_at said n) row
 
--- the draft is that behind items that say this
-pub record IsDraft (said : List Item) (draft : Draft) : Type 0 where
-  pub scope : ScopeHolds (sound_items said) draft.scope
+-- the draft is that behind items that say this, by the numbers of names in the list of all
+pub record IsDraft (all : List (List ℕ)) (said : List Item) (draft : Draft) : Type 0 where
+  pub scope : ScopeHolds all (sound_items said) draft.scope
   pub rows : AreRows TellsRow said draft.rows.items
-  pub symbols : AreSymbols (sound_items said) draft.expressions.items
-  pub frames : AreRows TellsFrame said draft.frames.items
+  pub symbols : AreSymbols all (sound_items said) draft.expressions.items
+  pub frames : AreRows (TellsFrame all) said draft.frames.items
   pub essentials : draft.essentials ≡ active_numbers is_essential_item (sound_items said)
   pub disjoints : draft.disjoints ≡ active_numbers is_disjoint_item (sound_items said)
-  pub made : AreMade (sound_items said) draft.pair_lists
-  pub pair_numbers : AreRows (TellsPairs draft.pair_lists) said draft.pair_numbers.items
-  pub pair_table : KnowsPairs (sound_items said) draft.pair_table
+  pub made : AreMade all (sound_items said) draft.pair_lists
+  pub pair_numbers : AreRows (TellsPairs all draft.pair_lists) said draft.pair_numbers.items
+  pub pair_table : KnowsPairs all (sound_items said) draft.pair_table
+
+-- so it is for each list of names that begins with these
+abbrev pub StandsFor : List (List ℕ) → List Item → Draft → Type 0
+StandsFor names said draft = (all : List (List ℕ)) → AreDistinct all → Begins names all → IsDraft all said draft
+
+-- the tables tell which of these items carries a label
+abbrev pub KnowsLabels : List Item → Tables → Type 0
+KnowsLabels items tables = (label : List ℕ) → table_label tables label ≡ last_where (carries label) items
 
 -- what is kept of items that say this
-pub record AreParts (said : List Item) (parts : Parts) : Type 0 where
+pub record AreParts (all : List (List ℕ)) (said : List Item) (parts : Parts) : Type 0 where
   pub rows : AreRows TellsRow said parts.rows.items
-  pub symbols : AreSymbols (sound_items said) parts.expressions.items
-  pub frames : AreRows TellsFrame said parts.frames.items
-  pub knows : Knows (sound_items said) parts.tables
+  pub symbols : AreSymbols all (sound_items said) parts.expressions.items
+  pub frames : AreRows (TellsFrame all) said parts.frames.items
+  pub labels : KnowsLabels (sound_items said) parts.tables
   pub marks : parts.blocks ≡ marks_of (sound_items said)
-  pub pair_numbers : AreRows (TellsPairs parts.pair_lists) said parts.pair_numbers.items
+  pub pair_numbers : AreRows (TellsPairs all parts.pair_lists) said parts.pair_numbers.items
 
--- the code keeps what this base answers
-pub record IsBase (base : BaseView) (code : Base) : Type 0 where
+-- the code keeps what this base answers, where names have the numbers of this list
+pub record IsBaseBy (names : List (List ℕ)) (base : BaseView) (code : Base) : Type 0 where
+  pub distinct : AreDistinct names
   pub found : code.items.items ≡ base.found
   pub count : length base.found ≡ length base.said
   pub few : length base.said ≤ 4294967295
   pub kinds : AllZip (λ item said. kind_of item.kind ≡ said.kind) base.found base.said
-  pub parts : AreParts base.said code.parts
+  pub parts : AreParts names base.said code.parts
+
+-- so it is for each list of names that begins with these: names that are added change nothing
+abbrev pub StandsLater : List (List ℕ) → BaseView → Base → Type 0
+StandsLater names base code = (all : List (List ℕ)) → AreDistinct all → Begins names all → IsBaseBy all base code
+
+-- so it is for some list of names
+abbrev pub IsBase : BaseView → Base → Type 0
+IsBase base code = (names : List (List ℕ)) × IsBaseBy names base code
 
 -- the rows that the code keeps
 abbrev pub rows_of : Base → List Row
 rows_of code = code.parts.rows.items
 
 -- the expressions that the code keeps
-abbrev pub expressions_of : Base → List (Vec NamedSymbol Global)
+abbrev pub expressions_of : Base → List (Vec NumberedSymbol Global)
 expressions_of code = code.parts.expressions.items
 
 -- the frames that the code keeps

@@ -1,7 +1,7 @@
 -- What the code keeps of the sound items before an assertion, from which its frame is made.
-use Rattle.std.specs.Prelude.{◌≡◌, true, List}
+use Rattle.std.specs.Prelude.{◌≡◌, ℕ, true, List}
 use Rattle.mm_frame.specs.declared.mandatory.Earlier.{Earlier}
-use Rattle.mm_frame.specs.declared.symbol.NamedSymbol.{NamedSymbol}
+use Rattle.mm_frame.specs.declared.symbol.NumberedSymbol.{NumberedSymbol}
 use Rattle.mm_frame.specs.Language.Item.{Item, is_assertion}
 use Rattle.mm_frame.specs.Language.Sound.{AreSound, IsSound}
 use Rattle.mm_frame.specs.Language.Framing.{expression}
@@ -10,20 +10,21 @@ use Rattle.mm_frame.specs.Code.LastItems.{is_essential_item}
 use Rattle.mm_frame.specs.Language.Scope.{active_numbers}
 use Rattle.mm_frame.specs.Code.KeptTables.{Knows}
 use Rattle.mm_frame.specs.Code.KeptPairTable.{KnowsPairs}
-use Rattle.mm_frame.specs.Code.CodeSymbols.{symbols_of}
-use Rattle.mm_frame.specs.Code.KeptSymbols.{AreExpressions}
+use Rattle.mm_frame.specs.Code.CodeSymbols.{AreRead}
+use Rattle.mm_frame.specs.Code.KeptSymbols.{AreExpressions, AreNumbered}
 
 -- the items are sound, and this is known of them
-pub record KnowsEarlier (before : List Item) (earlier : Earlier) : Type 0 where
+pub record KnowsEarlier (all : List (List ℕ)) (before : List Item) (earlier : Earlier) : Type 0 where
   pub sound : AreSound before
-  pub known : Knows before earlier.tables.now
-  pub pairs : KnowsPairs before earlier.pairs.now
+  pub known : Knows all before earlier.tables.now
+  pub pairs : KnowsPairs all before earlier.pairs.now
   pub marks : earlier.blocks.now ≡ marks_of before
   pub essentials : earlier.essentials.now ≡ active_numbers is_essential_item before
-  pub expressions : AreExpressions before earlier.expressions.now
+  pub expressions : AreExpressions all before earlier.expressions.now
+  pub numbered : AreNumbered all earlier.expressions.now
 
 -- the item is a sound `$a` or `$p` behind these items, and has these symbols
-pub record IsFramed (before : List Item) (item : Item) (own : List NamedSymbol) : Type 0 where
+pub record IsFramed (all : List (List ℕ)) (before : List Item) (item : Item) (own : List NumberedSymbol) : Type 0 where
   pub sound : IsSound before item
   pub assertion : is_assertion item.kind ≡ true
-  pub symbols : symbols_of own ≡ expression before item
+  pub symbols : AreRead all (expression before item) own

@@ -1,44 +1,60 @@
 -- The lists of active pairs, each made once, for a count of items.
-use Rattle.std.specs.Prelude.{◌≡◌, ℕ, ◌≤◌, Option, Some, None, List, [], ◌++◌, length, take, slice_get, nat_eq, Vec}
-use Rattle.std.specs.Option.{option_map}
+use Rattle.std.specs.Prelude.{◌≡◌, ℕ, ◌≤◌, leb, cond, Option, Some, None, List, [], ◌∷◌, ◌++◌, length, map, take, slice_get, nat_eq, Vec}
 use Rattle.std.specs.HashMap.{get}
 use Rattle.std.specs.Global.{Global}
-use Rattle.mm_frame.specs.declared.symbol.NamedSymbol.{NamedSymbol}
+use Rattle.mm_frame.specs.declared.symbol.NumberedSymbol.{NumberedSymbol}
 use Rattle.mm_frame.specs.declared.pair_lists.PairLists.{PairLists}
 use Rattle.mm_frame.specs.Language.Frame.{Symbol}
 use Rattle.mm_frame.specs.Language.Item.{Item}
 use Rattle.mm_frame.specs.Language.Framing.{active_pairs}
-use Rattle.mm_frame.specs.Code.CodeSymbols.{kept_pairs}
+use Rattle.mm_frame.specs.Code.CodeSymbols.{AreSamePairsRead}
 
 -- the pairs of a list: none where there is no list
-abbrev pub pairs_or_none : Option (Vec (NamedSymbol × NamedSymbol) Global) → List (NamedSymbol × NamedSymbol)
+abbrev pub pairs_or_none : Option (Vec (NumberedSymbol × NumberedSymbol) Global) → List (NumberedSymbol × NumberedSymbol)
 pairs_or_none None = []
 pairs_or_none (Some list) = list.items
 
 -- the list with this number: empty where there is no such list
-abbrev pub list_kept : PairLists → ℕ → List (NamedSymbol × NamedSymbol)
+abbrev pub list_kept : PairLists → ℕ → List (NumberedSymbol × NumberedSymbol)
 list_kept lists k = pairs_or_none (slice_get lists.lists.items k)
 
+-- the two symbols, the one with the lower number of its name first
+abbrev pub with_low_first : NumberedSymbol × NumberedSymbol → NumberedSymbol × NumberedSymbol
+with_low_first pair = cond (leb pair.0.name pair.1.name) pair (pair.1, pair.0)
+
+-- each symbol with each later one, the lower number of a name first
+abbrev pub pairs_among : List NumberedSymbol → List (NumberedSymbol × NumberedSymbol)
+pairs_among [] = []
+pairs_among (x ∷ xs) = map (λ y. with_low_first (x, y)) xs ++ pairs_among xs
+
+-- the list with this number is of these pairs
+pub record IsThere (lists : PairLists) (k : ℕ) (kept : List (NumberedSymbol × NumberedSymbol)) : Type 0 where
+  pub list : Vec (NumberedSymbol × NumberedSymbol) Global
+  pub there : slice_get lists.lists.items k ≡ Some list
+  pub same : list.items ≡ kept
+
 -- there is a list with this number, and it is of these pairs
-abbrev pub IsList : PairLists → ℕ → List (Symbol × Symbol) → Type 0
-IsList lists k pairs = option_map (λ list. kept_pairs list.items) (slice_get lists.lists.items k) ≡ Some pairs
+pub record IsList (all : List (List ℕ)) (lists : PairLists) (k : ℕ) (pairs : List (Symbol × Symbol)) : Type 0 where
+  pub list : Vec (NumberedSymbol × NumberedSymbol) Global
+  pub there : slice_get lists.lists.items k ≡ Some list
+  pub read : AreSamePairsRead all pairs list.items
 
 -- the number of the list that is made for this count of items
 abbrev pub list_made : PairLists → ℕ → Option ℕ
 list_made lists count = get nat_eq lists.made count
 
 -- the list with this number is of the pairs that are active behind so many of the items
-pub record IsMadeFor (before : List Item) (lists : PairLists) (count k : ℕ) : Type 0 where
+pub record IsMadeFor (all : List (List ℕ)) (before : List Item) (lists : PairLists) (count k : ℕ) : Type 0 where
   pub within : count ≤ length before
-  pub list : IsList lists k (active_pairs (take count before))
+  pub list : IsList all lists k (active_pairs (take count before))
 
 -- so it is with each list that is made
-abbrev pub AreMade : List Item → PairLists → Type 0
-AreMade before lists = (count k : ℕ) → list_made lists count ≡ Some k → IsMadeFor before lists count k
+abbrev pub AreMade : List (List ℕ) → List Item → PairLists → Type 0
+AreMade all before lists = (count k : ℕ) → list_made lists count ≡ Some k → IsMadeFor all before lists count k
 
 -- the lists that were there still are, with the same numbers, and there may be more
 pub record KeepsLists (old new : PairLists) : Type 0 where
-  pub more : List (Vec (NamedSymbol × NamedSymbol) Global)
+  pub more : List (Vec (NumberedSymbol × NumberedSymbol) Global)
   pub whole : new.lists.items ≡ old.lists.items ++ more
 
 -- behind so many of the items the active pairs are those behind all

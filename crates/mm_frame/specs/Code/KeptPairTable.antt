@@ -1,68 +1,65 @@
--- What the code keeps of the pairs of the sound `$d` so far: for two names the number of a `$d` that has them in this order,
--- one that is active as long as any of these is.
-use Rattle.std.specs.Prelude.{◌≡◌, ℕ, suc, Bool, true, false, ◌&&◌, ◌||◌, if◌then◌else◌, Option, Some, None, List, [], ◌∷◌, ◌++◌, drop, slice_get, bytes_eq}
-use Rattle.std.specs.Prelude.{Vec}
-use Rattle.std.specs.List.{list_any}
+-- What the code keeps of the sound `$d` so far: for each variable, by the number of its name, the numbers of those that have it.
+use Rattle.std.specs.Prelude.{◌≡◌, ℕ, suc, true, Option, Some, None, List, [], ◌∷◌, ◌++◌, drop, slice_get, Contains, Vec}
 use Rattle.std.specs.Global.{Global}
-use Rattle.std.specs.HashMap.{HashMap, get_by}
 use Rattle.mm_frame.specs.declared.paired.PairTable.{PairTable}
-use Rattle.mm_frame.specs.Language.Frame.{Symbol}
 use Rattle.mm_frame.specs.Language.Item.{Item, is_disjoint, has}
-use Rattle.mm_frame.specs.Language.Scope.{Mark, stays}
-use Rattle.mm_frame.specs.Code.BlockMarks.{stays_by}
+use Rattle.mm_frame.specs.Language.Names.{AreDistinct}
+use Rattle.mm_frame.specs.Language.Scope.{Mark}
+use Rattle.mm_frame.specs.Language.Sound.{AreSound}
+use Rattle.mm_frame.specs.Code.BlockMarks.{stays_by, marks_of}
+use Rattle.mm_frame.specs.Code.KeptActive.{IsPruned}
+use Rattle.mm_frame.specs.Code.LastItems.{IsRising, is_active_at}
+use Rattle.mm_frame.specs.Code.Numbers.{IsName}
 
--- what a map tells of a name
-abbrev pub value_in : {X S : Type 0} → HashMap (Vec ℕ Global) X S → List ℕ → Option X
-value_in values name = get_by (λ key. bytes_eq name key.items) values
+-- the numbers of a row: none where there is no row
+abbrev pub numbers_or_none : Option (Vec ℕ Global) → List ℕ
+numbers_or_none None = []
+numbers_or_none (Some row) = row.items
 
--- what the numbers behind the first name, if there are any, tell of the second one
-abbrev pub number_in : {S : Type 0} → Option (HashMap (Vec ℕ Global) ℕ S) → List ℕ → Option ℕ
-number_in None name = None
-number_in (Some numbers) name = value_in numbers name
+-- the numbers that are kept for the name with a number
+abbrev pub row_at : PairTable → ℕ → List ℕ
+row_at table n = numbers_or_none (slice_get table.rows.items n)
 
--- what the table tells of two names, in this order
-abbrev pub pair_number : PairTable → List ℕ → List ℕ → Option ℕ
-pair_number table x y = number_in (value_in table.numbers x) y
+-- a number is put behind those of one row that are left of it, and nothing else changes
+pub record Puts (old : PairTable) (marks : List Mark) (name number : ℕ) (new : PairTable) : Type 0 where
+  pub left : List ℕ
+  pub pruned : IsPruned marks (row_at old name) left
+  pub here : row_at new name ≡ left ++ number ∷ []
+  pub others : (n : ℕ) → (n ≡ name → ⊥) → row_at new n ≡ row_at old n
 
--- there is a number, and its item is active
-abbrev pub is_number_active : List Mark → Option ℕ → Bool
-is_number_active marks None = false
-is_number_active marks (Some n) = stays_by (drop (suc n) marks)
+-- so it is with each of these rows, and nothing else changes
+pub record PutsAll (old : PairTable) (marks : List Mark) (names : List ℕ) (number : ℕ) (new : PairTable) : Type 0 where
+  pub each : (n : ℕ) → Contains names n → (left : List ℕ) × IsPruned marks (row_at old n) left × (row_at new n ≡ left ++ number ∷ [])
+  pub others : (n : ℕ) → (Contains names n → ⊥) → row_at new n ≡ row_at old n
 
--- the names are those of the pair, in this order
-abbrev pub is_named : List ℕ → List ℕ → Symbol × Symbol → Bool
-is_named x y pair = bytes_eq pair.0.name x && bytes_eq pair.1.name y
+-- the numbers stand each at one place
+abbrev pub AreOnce : List ℕ → Type 0
+AreOnce numbers = (i j n : ℕ) → slice_get numbers i ≡ Some n → slice_get numbers j ≡ Some n → i ≡ j
 
--- the names are those of one of the pairs, in this order
-abbrev pub has_pair : List (Symbol × Symbol) → List ℕ → List ℕ → Bool
-has_pair pairs x y = list_any (is_named x y) pairs
-
--- the number of an active item stays, and else this one is told
-abbrev pub number_next : List Mark → ℕ → Option ℕ → Option ℕ
-number_next marks number told = if is_number_active marks told then told else Some number
-
--- so it is for each of these pairs, and nothing else changes
-abbrev pub TakesPairs : PairTable → List Mark → List (Symbol × Symbol) → ℕ → PairTable → Type 0
-TakesPairs old marks pairs number new = (x y : List ℕ)
-    → pair_number new x y ≡ (if has_pair pairs x y then number_next marks number (pair_number old x y) else pair_number old x y)
-
--- the second name stands behind the first one
-abbrev pub stand_in_order : List (List ℕ) → List ℕ → List ℕ → Bool
-stand_in_order [] x y = false
-stand_in_order (name ∷ names) x y = (bytes_eq name x && has names y) || stand_in_order names x y
-
--- the item with this number is a `$d` that has the two names in this order
-pub record IsPairAt (before : List Item) (x y : List ℕ) (n : ℕ) : Type 0 where
+-- the item with this number is a `$d` that has the name
+pub record IsDisjointAt (before : List Item) (name : List ℕ) (n : ℕ) : Type 0 where
   pub item : Item
   pub there : slice_get before n ≡ Some item
   pub disjoint : is_disjoint item.kind ≡ true
-  pub ordered : stand_in_order item.symbols x y ≡ true
+  pub named : has item.symbols name ≡ true
 
--- behind whatever items come, where the item of the first number is active so is that of the second
-abbrev pub Outlasts : List Item → ℕ → ℕ → Type 0
-Outlasts before m n = (later : List Item) → stays (drop (suc m) before ++ later) ≡ true → stays (drop (suc n) before ++ later) ≡ true
+-- the numbers rise, and are those of `$d` that have the name, of all that are active among them
+pub record IsRow (before : List Item) (name : List ℕ) (row : List ℕ) : Type 0 where
+  pub rising : IsRising row
+  pub there : (n : ℕ) → Contains row n → IsDisjointAt before name n
+  pub cover : (n : ℕ) → IsDisjointAt before name n → is_active_at before n ≡ true → Contains row n
 
--- what the table tells are numbers of such `$d`, and for each such `$d` one that is active as long as it is
-pub record KnowsPairs (before : List Item) (table : PairTable) : Type 0 where
-  pub there : (x y : List ℕ) (n : ℕ) → pair_number table x y ≡ Some n → IsPairAt before x y n
-  pub cover : (x y : List ℕ) (m : ℕ) → IsPairAt before x y m → (n : ℕ) × (pair_number table x y ≡ Some n) × Outlasts before m n
+-- so it is for each name
+abbrev pub KnowsPairs : List (List ℕ) → List Item → PairTable → Type 0
+KnowsPairs all before table = (n : ℕ) (name : List ℕ) → IsName all n name → IsRow before name (row_at table n)
+
+-- the number is one of an active `$d`, and in both rows
+abbrev pub IsCommon : List Mark → List ℕ → List ℕ → ℕ → Type 0
+IsCommon marks row other n = Contains row n × Contains other n × (stays_by (drop (suc n) marks) ≡ true)
+
+-- what a question about active pairs rests on
+pub record ReadsPairs (all : List (List ℕ)) (before : List Item) (table : PairTable) (blocks : List Mark) : Type 0 where
+  pub distinct : AreDistinct all
+  pub sound : AreSound before
+  pub knows : KnowsPairs all before table
+  pub marks : blocks ≡ marks_of before

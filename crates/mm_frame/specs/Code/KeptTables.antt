@@ -1,16 +1,26 @@
 -- What the items so far declare, as the code keeps it: of each name what it is declared as, and of each label the number of its item.
-use Rattle.std.specs.Prelude.{◌≡◌, ℕ, if◌then◌else◌, Option, Some, None, List, bytes_eq}
+use Rattle.std.specs.Prelude.{◌≡◌, ℕ, Bool, true, false, if◌then◌else◌, Option, Some, None, List, slice_index_or, bytes_eq}
 use Rattle.std.specs.HashMap.{get_by}
 use Rattle.mm_frame.specs.declared.tables.Tables.{Tables}
 use Rattle.mm_frame.specs.declared.tables.Declared.{Declared}
 use Rattle.mm_frame.specs.declared.tables.Declared.TheVariants.{Constant, Variable}
 use Rattle.mm_frame.specs.Language.Item.{Item, has}
 use Rattle.mm_frame.specs.Language.Scope.{constants}
+use Rattle.mm_frame.specs.Language.Names.{AreDistinct}
+use Rattle.mm_frame.specs.Code.Numbers.{number_in}
 use Rattle.mm_frame.specs.Code.LastItems.{last_where, declares_variable, types, carries}
 
--- what the tables tell of a name
-abbrev pub table_name : Tables → List ℕ → Option Declared
-table_name tables name = get_by (λ key. bytes_eq name key.items) tables.names
+-- what the tables tell of the name with a number
+abbrev pub declared_at : Tables → ℕ → Option Declared
+declared_at tables n = slice_index_or tables.declared.items n None
+
+abbrev pub declared_for : Tables → Option ℕ → Option Declared
+declared_for tables None = None
+declared_for tables (Some n) = declared_at tables n
+
+-- what the tables tell of a name, by its number among all names
+abbrev pub table_name : List (List ℕ) → Tables → List ℕ → Option Declared
+table_name all tables name = declared_for tables (number_in all name)
 
 -- what the tables tell of a label
 abbrev pub table_label : Tables → List ℕ → Option ℕ
@@ -20,6 +30,11 @@ table_label tables label = get_by (λ key. bytes_eq label key.items) tables.labe
 abbrev pub variable_at : Option ℕ → Option ℕ → Option Declared
 variable_at None float = None
 variable_at (Some declared) float = Some (Variable declared float)
+
+-- it is a constant
+abbrev pub is_constant_as : Option Declared → Bool
+is_constant_as (Some Constant) = true
+is_constant_as _ = false
 
 -- what a name is declared as: a constant, or a variable with the last `$v` that declares it and the last `$f` that types it
 abbrev pub declared_in : List Item → List ℕ → Option Declared
@@ -45,22 +60,23 @@ typed_by number None = None
 typed_by number (Some Constant) = Some Constant
 typed_by number (Some (Variable declared float)) = Some (Variable declared (Some number))
 
--- the tables tell what these items declare
-pub record Knows (items : List Item) (tables : Tables) : Type 0 where
-  pub names : (name : List ℕ) → table_name tables name ≡ declared_in items name
+-- the tables tell what these items declare, by the numbers of names in the list of all
+pub record Knows (all : List (List ℕ)) (items : List Item) (tables : Tables) : Type 0 where
+  pub distinct : AreDistinct all
+  pub names : (name : List ℕ) → table_name all tables name ≡ declared_in items name
   pub labels : (label : List ℕ) → table_label tables label ≡ last_where (carries label) items
 
 -- these names are declared from now on, each as the function tells from what it was, and nothing else changes
-pub record Declares (old : Tables) (symbols : List (List ℕ)) (declared : Option Declared → Declared) (new : Tables) : Type 0 where
-  pub names : (name : List ℕ) → table_name new name ≡ (if has symbols name then Some (declared (table_name old name)) else table_name old name)
+pub record Declares (all : List (List ℕ)) (old : Tables) (symbols : List (List ℕ)) (declared : Option Declared → Declared) (new : Tables) : Type 0 where
+  pub names : (name : List ℕ) → table_name all new name ≡ (if has symbols name then Some (declared (table_name all old name)) else table_name all old name)
   pub labels : (label : List ℕ) → table_label new label ≡ table_label old label
 
 -- this name, if it is a variable, is typed by the `$f` with this number from now on, and nothing else changes
-pub record Types (old : Tables) (variable : List ℕ) (number : ℕ) (new : Tables) : Type 0 where
-  pub names : (name : List ℕ) → table_name new name ≡ (if bytes_eq variable name then typed_by number (table_name old name) else table_name old name)
+pub record Types (all : List (List ℕ)) (old : Tables) (variable : List ℕ) (number : ℕ) (new : Tables) : Type 0 where
+  pub names : (name : List ℕ) → table_name all new name ≡ (if bytes_eq variable name then typed_by number (table_name all old name) else table_name all old name)
   pub labels : (label : List ℕ) → table_label new label ≡ table_label old label
 
 -- these labels are those of the item with this number from now on, and nothing else changes
-pub record Carries (old : Tables) (carried : List (List ℕ)) (number : ℕ) (new : Tables) : Type 0 where
-  pub names : (name : List ℕ) → table_name new name ≡ table_name old name
+pub record Carries (all : List (List ℕ)) (old : Tables) (carried : List (List ℕ)) (number : ℕ) (new : Tables) : Type 0 where
+  pub names : (name : List ℕ) → table_name all new name ≡ table_name all old name
   pub labels : (label : List ℕ) → table_label new label ≡ (if has carried label then Some number else table_label old label)

@@ -1,12 +1,18 @@
-use Rattle.std.proofs.Common.{Some, ◌∙◌, ap, sym}
-use Rattle.mm_frame.specs.Code.KeptBase.{numbers_if, pairs_if}
+use Rattle.std.proofs.Common.{Some, ◌∙◌, ap, sym, subst}
+use Rattle.mm_frame.specs.Language.Framing.{frame}
+use Rattle.mm_frame.specs.Code.CodeSymbols.{ArePairsRead}
+use Rattle.mm_frame.specs.Code.KeptBase.{numbers_if}
+use Rattle.mm_frame.specs.Code.PairOrder.{pairs_in_order}
+use Rattle.mm_frame.specs.declared.draft.Frame.{Frame}
+use Rattle.mm_frame.proofs.BaseLemmas.{same_frame_kept}
 use Rattle.mm_frame.proofs.draft.frame_of.Goals as goal
 
 pub returns : goal.returns
-returns c before item known parts =
+returns c all before item known parts =
     let framed = c.if-not-framed.false in
-    let numbers = c.in_ok-hypotheses.ensures before item known (parts framed) in
+    let numbers = c.in_ok-hypotheses.ensures all before item known (parts framed) in
+    let read = c.in_ok-pairs.ensures all before item known (c.deref.ensures.value ∙ numbers) in
     record {
       hypotheses = ap Some numbers ∙ sym (ap (λ b. numbers_if b before item) framed);
-      pairs = ap Some (c.in_ok-pairs.ensures before item known (c.deref.ensures.value ∙ numbers)) ∙ sym (ap (λ b. pairs_if b before item) framed);
+      pairs = λ t kept e. subst (λ (f : Frame). ArePairsRead all (pairs_in_order (frame before item)) f.pairs.items) (same_frame_kept _ kept e) read;
     }

@@ -1,20 +1,34 @@
-use Rattle.std.proofs.Common.{◌+◌, ◌++◌, ◌≡◌, filter, subst}
-use Rattle.std.specs.Borrow.{Bor}
-use Rattle.std.proofs.lemmas.List.{take_rest}
-use Rattle.mm_frame.specs.declared.symbol.NamedSymbol.{NamedSymbol}
+use Rattle.std.proofs.Common.{◌+◌, ◌++◌, ◌∙◌, false, ap, sym, subst, filter, drop, get_or, append-nil}
+use Rattle.std.specs.Prelude.{All}
+use Rattle.std.proofs.lemmas.List.{take_rest, drop_all}
+use Rattle.std.proofs.lemmas.List.Elements.{All-drop}
+use Rattle.mm_frame.specs.declared.symbol.NumberedSymbol.{NumberedSymbol}
 use Rattle.mm_frame.specs.Language.Framing.{active_pairs, pairs_of}
-use Rattle.mm_frame.specs.Code.CodeSymbols.{symbol_of, kept_pairs}
-use Rattle.mm_frame.specs.Code.KeptSymbols.{symbols_lent}
+use Rattle.mm_frame.specs.Code.CodeSymbols.{symbol_of, symbols_of, IsNumbered, ArePairsRead}
 use Rattle.mm_frame.specs.Code.PairOrder.{are_paired}
-use Rattle.mm_frame.proofs.PairTableLemmas.{pairs_with}
+use Rattle.mm_frame.proofs.PairLemmas.{pairs_with}
 use Rattle.mm_frame.proofs.FramePairs.{among_more}
 use Rattle.mm_frame.proofs.mandatory.active_among.Goals as goal
 
 pub loop-n-preserved : goal.loop-n-preserved
-loop-n-preserved c before k m =
+loop-n-preserved c all before reads numbered =
     let n = c.loop-n.n in
     let variables = c.args.variables.now in
-    let x = c.index-variables-n.result in
+    let d : NumberedSymbol = record { name = 0; variable = false } in
+    let x = get_or variables n d in
     let test = are_paired (active_pairs before) in
-    let more = subst (λ w. kept_pairs c.add_active_with.new.pairs.items ≡ kept_pairs c.loop-n.pairs.items ++ filter test (pairs_with (symbol_of x.now) (symbols_lent w))) (take_rest variables (n + 1)) (c.in_ok-add_active_with.ensures before k m) in
-    among_more (λ (symbol : Bor NamedSymbol). symbol_of symbol.now) test variables n x (kept_pairs c.loop-n.pairs.items) (kept_pairs c.add_active_with.new.pairs.items) (filter test (pairs_of (symbols_lent variables))) c.loop-n-test.true c.index-variables-n.is (c.loop-n.invariant before k m) more
+    let so_far = c.loop-n.invariant all before reads numbered in
+    let later = take_rest variables (n + 1) in
+    let more = c.in_ok-add_active_with.ensures all before so_far.0 reads (numbered n d c.loop-n-test.true) (subst (All (IsNumbered all)) (sym later) (All-drop (IsNumbered all) (n + 1) variables numbered)) so_far.2 in (
+      so_far.0 ++ filter test (pairs_with (symbol_of all x) (symbols_of all (drop (n + 1) variables))),
+      among_more all test variables n d so_far.0 (filter test (pairs_of (symbols_of all variables))) c.loop-n-test.true so_far.1,
+      subst (λ w. ArePairsRead all (so_far.0 ++ filter test (pairs_with (symbol_of all x) (symbols_of all w))) c.add_active_with.new.pairs.items) later more,
+    )
+
+pub returns : goal.returns
+returns c all before reads numbered =
+    let variables = c.args.variables.now in
+    let test = are_paired (active_pairs before) in
+    let so_far = c.loop-n.invariant all before reads numbered in
+    let whole = sym (append-nil so_far.0) ∙ ap (λ w. so_far.0 ++ filter test (pairs_of (symbols_of all w))) (sym (drop_all c.loop-n.n variables c.loop-n-test.false)) ∙ so_far.1 in
+    subst (λ w. ArePairsRead all w c.shrink_to_fit.new.self.items) whole (subst (ArePairsRead all so_far.0) (sym c.shrink_to_fit.ensures.items) so_far.2)

@@ -1,13 +1,13 @@
-use Rattle.std.proofs.Common.{◌≡◌, ◌++◌, List, filter, drop}
+use Rattle.std.proofs.Common.{◌≡◌, ℕ, ◌++◌, List, filter, drop}
+use Rattle.std.specs.Prelude.{All}
+use Rattle.mm_frame.specs.Language.Frame.{Symbol}
 use Rattle.mm_frame.specs.Language.Item.{Item}
-use Rattle.mm_frame.specs.Code.BlockMarks.{marks_of}
 use Rattle.mm_frame.specs.Language.Framing.{pairs_of, active_pairs}
-use Rattle.mm_frame.specs.Code.CodeSymbols.{kept_pairs}
-use Rattle.mm_frame.specs.Code.KeptSymbols.{symbols_lent}
+use Rattle.mm_frame.specs.Code.CodeSymbols.{symbols_of, IsNumbered, ArePairsRead}
 use Rattle.mm_frame.specs.Code.PairOrder.{are_paired}
-use Rattle.mm_frame.specs.Code.KeptPairTable.{KnowsPairs}
+use Rattle.mm_frame.specs.Code.KeptPairTable.{ReadsPairs}
 use Rattle.mm_frame.proofs.mandatory.active_among.Given as goal
 
 abbrev pub invariant-loop-n : goal.invariant-loop-n
-invariant-loop-n l = (before : List Item) → KnowsPairs before l.table → l.blocks ≡ marks_of before
-    → kept_pairs l.pairs.items ++ filter (are_paired (active_pairs before)) (pairs_of (symbols_lent (drop l.n l.variables))) ≡ filter (are_paired (active_pairs before)) (pairs_of (symbols_lent l.variables))
+invariant-loop-n l = (all : List (List ℕ)) (before : List Item) → ReadsPairs all before l.table l.blocks → All (IsNumbered all) l.variables
+    → (said : List (Symbol × Symbol)) × (said ++ filter (are_paired (active_pairs before)) (pairs_of (symbols_of all (drop l.n l.variables))) ≡ filter (are_paired (active_pairs before)) (pairs_of (symbols_of all l.variables))) × ArePairsRead all said l.pairs.items

@@ -4,7 +4,7 @@ use Rattle.mm_frame.proofs.MandatoryLemmas.{hypotheses_sorted}
 use Rattle.mm_frame.proofs.mandatory.hypotheses.Goals as goal
 
 pub returns : goal.returns
-returns c before item known framed =
+returns c all before item known framed =
     let tables = c.args.earlier.now.tables.now in
     let expressions = c.args.earlier.now.expressions.now in
     let essentials = c.args.earlier.now.essentials.now in
@@ -12,4 +12,4 @@ returns c before item known framed =
     let found = flat_map (λ n. float_numbers tables (expression_kept expressions n)) essentials in
     let numbers = c.in_ok-add_all_floats.ensures ∙ ap (λ w. w ++ found) (c.in_ok-add_floats.ensures ∙ ap (λ w. w ++ float_numbers tables own) (c.in_ok-extend_from_slice.ensures.items ∙ ap (λ w. w ++ essentials) c.in_ok-numbers.ensures.items)) in
     c.shrink_to_fit.ensures.items ∙ hypotheses_sorted tables expressions essentials own c.add_all_floats.new.numbers.items c.sort_unstable.new.self.items c.dedup.new.self.items numbers c.sort_unstable.ensures.permutation c.sort_unstable.ensures.sorted c.dedup.ensures.filtered
-    before item (record { sound = known.sound; known = known.known; item_sound = framed.sound; assertion = framed.assertion }) known.essentials known.expressions framed.symbols
+    all before item (record { sound = known.sound; known = known.known; expressions = known.expressions; numbered = known.numbered; item_sound = framed.sound; assertion = framed.assertion; symbols = framed.symbols }) known.essentials

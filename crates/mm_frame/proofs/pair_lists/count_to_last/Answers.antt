@@ -4,11 +4,11 @@ use Rattle.mm_frame.proofs.PairListLemmas.{count_of_last, count_of_none, number_
 use Rattle.mm_frame.proofs.pair_lists.count_to_last.Goals as goal
 
 pub returns-in-Some : goal.returns-in-Some
-returns-in-Some c before h a e =
+returns-in-Some c all before h a e =
     let number = c.in-Some.number.now in
     let disjoints = c.args.disjoints.now in
     let last = sym c.in-Some.ensures.value in
-    count_of_last before disjoints number c.count_to.result h e last (c.count_to.ensures (number_within before c.args.expressions.now disjoints number a e last))
+    count_of_last before disjoints number c.count_to.result h e last (c.count_to.ensures (number_within all before c.args.expressions.now disjoints number a e last))
 
 pub returns-in-None : goal.returns-in-None
-returns-in-None c before h a e = count_of_none before c.args.disjoints.now h e (sym c.last.ensures.value ∙ ap option_copied c.in-None.is)
+returns-in-None c all before h a e = count_of_none before c.args.disjoints.now h e (sym c.last.ensures.value ∙ ap option_copied c.in-None.is)

@@ -1,17 +1,29 @@
 use Rattle.std.proofs.Common.{IsTrue, ◌&&◌, ◌↔◌, ◌∙◌, ap, sym, subst}
+use Rattle.std.proofs.lemmas.Bool.{false≢true}
 use Rattle.mm_frame.specs.Language.Base.{frame_at}
 use Rattle.mm_frame.specs.Language.Frame.{AreSameFrame}
-use Rattle.mm_frame.specs.Code.CodeSymbols.{kept_pairs}
+use Rattle.mm_frame.specs.Code.CodeSymbols.{kept_pairs, ArePairsRead}
+use Rattle.mm_frame.specs.Code.PairOrder.{pairs_in_order}
 use Rattle.mm_frame.proofs.BaseLemmas.{framed_in_order}
 use Rattle.mm_frame.proofs.SameFrames.{same_by_parts}
+use Rattle.mm_frame.proofs.SameLemmas.{pairs_from_readings}
 use Rattle.mm_frame.proofs.same.same_frame.Goals as goal
 
 pub returns-then-same_but_pairs : goal.returns-then-same_but_pairs
 returns-then-same_but_pairs c base copy is are s t =
+    let names = c.args.names.now in
     let frame = frame_at base c.args.i in
     let other = frame_at copy c.args.j in
-    let mine = ap kept_pairs c.deref.ensures.value ∙ c.in-Some-Some.ensures.order base is in
-    let yours = ap kept_pairs c.deref-then-same_but_pairs.ensures.value ∙ c.in-Some-Some.ensures'.order copy are in
+    let mine = subst (ArePairsRead names (pairs_in_order frame)) (sym c.deref.ensures.value) (c.in-Some-Some.ensures.order names base is) in
+    let yours = subst (ArePairsRead names (pairs_in_order other)) (sym c.deref-then-same_but_pairs.ensures.value) (c.in-Some-Some.ensures'.order names copy are) in
     let same = c.same_pairs.ensures in
-    let parts = same_by_parts frame other c.same_but_pairs.result c.same_pairs.result (framed_in_order base c.args.i s) (framed_in_order copy c.args.j t) (c.same_but_pairs.ensures base copy is are s t) ((λ q. sym mine ∙ same.0 q ∙ yours), (λ q. same.1 (mine ∙ q ∙ sym yours))) in
+    let parts = same_by_parts frame other c.same_but_pairs.result c.same_pairs.result (framed_in_order base c.args.i s) (framed_in_order copy c.args.j t) (c.same_but_pairs.ensures names base copy is are s t) (
+      (λ q. sym mine.pairs ∙ ap (kept_pairs names) (same.0 q) ∙ yours.pairs),
+      (λ q. same.1 (pairs_from_readings names is.distinct c.deref.result.now c.deref-then-same_but_pairs.result.now mine.numbered yours.numbered (mine.pairs ∙ q ∙ sym yours.pairs))),
+    ) in
     subst (λ b. IsTrue (b && c.same_pairs.result) ↔ AreSameFrame frame other) c.if-same_but_pairs.true parts
+
+pub returns-else-same_but_pairs : goal.returns-else-same_but_pairs
+returns-else-same_but_pairs c base copy is are s t =
+    let parts = c.same_but_pairs.ensures c.args.names.now base copy is are s t in
+    (λ q. absurd (false≢true (sym c.if-same_but_pairs.false ∙ q)), λ f. parts.1 (f.expression, f.hypotheses))

@@ -7,10 +7,10 @@ use Rattle.mm_frame.proofs.SameLemmas.{same_more, same_whole, same_each, same_lo
 use Rattle.mm_frame.proofs.same.same_hypotheses.Goals as goal
 
 pub returns-then-mine-yours : goal.returns-then-mine-yours
-returns-then-mine-yours c base copy is are a b = (λ t. absurd (false≢true t), λ e. let l = same_long (hypothesis_at base) (hypothesis_at copy) c.args.mine.now c.args.yours.now e in absurd (omega arith))
+returns-then-mine-yours c names base copy is are a b = (λ t. absurd (false≢true t), λ e. let l = same_long (hypothesis_at base) (hypothesis_at copy) c.args.mine.now c.args.yours.now e in absurd (omega arith))
 
 pub returns-then-not-same_hypothesis : goal.returns-then-not-same_hypothesis
-returns-then-not-same_hypothesis c base copy is are a b =
+returns-then-not-same_hypothesis c names base copy is are a b =
     let mine = c.args.mine.now in
     let yours = c.args.yours.now in
     let k = c.loop-k.k in
@@ -18,10 +18,10 @@ returns-then-not-same_hypothesis c base copy is are a b =
     let q = slice_get-get_or yours k 0 (omega arith) in
     let s = All-get_or (λ n. is_shown_at base n ≡ true) mine k 0 (omega arith) a in
     let t = All-get_or (λ n. is_shown_at copy n ≡ true) yours k 0 (omega arith) b in
-    (λ f. absurd (false≢true f), λ e. sym c.if-not-same_hypothesis.true ∙ (c.same_hypothesis.ensures base copy is are s t).1 (same_each (hypothesis_at base) (hypothesis_at copy) mine yours k (get_or mine k 0) (get_or yours k 0) e p q))
+    (λ f. absurd (false≢true f), λ e. sym c.if-not-same_hypothesis.true ∙ (c.same_hypothesis.ensures names base copy is are s t).1 (same_each (hypothesis_at base) (hypothesis_at copy) mine yours k (get_or mine k 0) (get_or yours k 0) e p q))
 
 pub loop-k-preserved : goal.loop-k-preserved
-loop-k-preserved c base copy is are a b =
+loop-k-preserved c names base copy is are a b =
     let mine = c.args.mine.now in
     let yours = c.args.yours.now in
     let k = c.loop-k.k in
@@ -29,7 +29,7 @@ loop-k-preserved c base copy is are a b =
     let q = slice_get-get_or yours k 0 (omega arith) in
     let s = All-get_or (λ n. is_shown_at base n ≡ true) mine k 0 (omega arith) a in
     let t = All-get_or (λ n. is_shown_at copy n ≡ true) yours k 0 (omega arith) b in
-    same_more (hypothesis_at base) (hypothesis_at copy) mine yours k (get_or mine k 0) (get_or yours k 0) (c.loop-k.invariant base copy is are a b) p q ((c.same_hypothesis.ensures base copy is are s t).0 c.if-not-same_hypothesis.false)
+    same_more (hypothesis_at base) (hypothesis_at copy) mine yours k (get_or mine k 0) (get_or yours k 0) (c.loop-k.invariant names base copy is are a b) p q ((c.same_hypothesis.ensures names base copy is are s t).0 c.if-not-same_hypothesis.false)
 
 pub returns : goal.returns
-returns c base copy is are a b = (λ t. same_whole (hypothesis_at base) (hypothesis_at copy) c.args.mine.now c.args.yours.now (λ m x y l p q. c.loop-k.invariant base copy is are a b m x y (omega arith) p q) (omega arith), λ e. refl)
+returns c names base copy is are a b = (λ t. same_whole (hypothesis_at base) (hypothesis_at copy) c.args.mine.now c.args.yours.now (λ m x y l p q. c.loop-k.invariant names base copy is are a b m x y (omega arith) p q) (omega arith), λ e. refl)

@@ -6,7 +6,7 @@ use Rattle.mm_frame.proofs.BaseLemmas.{row_none, fault_beyond}
 use Rattle.mm_frame.proofs.base.Base.fault.Goals as goal
 
 pub returns-in-Some : goal.returns-in-Some
-returns-in-Some c base is = (is.parts.rows.each c.args.i c.in-Some.row.now (sym c.row.ensures ∙ ap (option_map (λ row. row.now)) c.in-Some.is)).fault
+returns-in-Some c base is = (is.1.parts.rows.each c.args.i c.in-Some.row.now (sym c.row.ensures ∙ ap (option_map (λ row. row.now)) c.in-Some.is)).fault
 
 pub returns-in-None : goal.returns-in-None
-returns-in-None c base is = sym (fault_beyond (before base c.args.i) base.said c.args.i (row_none TellsRow base.said (rows_of c.args.self.now) c.args.i is.parts.rows (sym c.row.ensures ∙ ap (option_map (λ row. row.now)) c.in-None.is)))
+returns-in-None c base is = sym (fault_beyond (before base c.args.i) base.said c.args.i (row_none TellsRow base.said (rows_of c.args.self.now) c.args.i is.1.parts.rows (sym c.row.ensures ∙ ap (option_map (λ row. row.now)) c.in-None.is)))

@@ -1,5 +1,4 @@
-use Rattle.mm_frame.specs.Code.CodeSymbols.{kept_pairs}
-use Rattle.mm_frame.proofs.BaseLemmas.{ordered_pairs}
+use Rattle.mm_frame.proofs.BaseLemmas.{ordered_pairs, ordered_numbered}
 use Rattle.mm_frame.proofs.FrameNumbers.{frame_means, frame_is, framed_some}
 use Rattle.mm_frame.proofs.base.Base.frame.Goals as goal
 
@@ -13,4 +12,9 @@ pub returns-clause-numbers : goal.returns-clause-numbers
 returns-clause-numbers c base is = frame_is (λ frame. frame.now.hypotheses.items) base c.args.i c.kept_frame.result (c.kept_frame.ensures.numbers base is)
 
 pub returns-clause-pairs : goal.returns-clause-pairs
-returns-clause-pairs c base is = ordered_pairs (λ frame. kept_pairs frame.now.pairs.items) base c.args.i c.kept_frame.result (framed_some (λ frame. frame.now.hypotheses.items) c.kept_frame.result base c.args.i (c.kept_frame.ensures.numbers base is)) (c.kept_frame.ensures.order base is)
+returns-clause-pairs c names base is =
+    let some = framed_some (λ frame. frame.now.hypotheses.items) c.kept_frame.result base c.args.i (c.kept_frame.ensures.numbers base (names, is)) in
+    ordered_pairs names (λ frame. frame.now.pairs.items) base c.args.i c.kept_frame.result some (c.kept_frame.ensures.order names base is)
+
+pub returns-clause-numbered : goal.returns-clause-numbered
+returns-clause-numbered c names base is = ordered_numbered names (λ frame. frame.now.pairs.items) base c.args.i c.kept_frame.result (c.kept_frame.ensures.order names base is)

@@ -6,9 +6,9 @@ use Rattle.mm_frame.proofs.base.Base.item.Goals as goal
 pub returns-clause-kind : goal.returns-clause-kind
 returns-clause-kind c base is =
     let items = c.args.self.now.items.items in
-    let other = c.requires.1 in
+    let other = c.requires.1.1 in
     let long = ap length other.found in
     let count = other.count in
     let within = c.requires.2 in
     let there = slice_get_read items (length items) c.args.i c.index.result.now refl (omega arith) c.index.ensures in
-    kind_at base.found base.said c.args.i c.index.result.now is.kinds (ap (λ w. slice_get w c.args.i) (sym is.found) ∙ there)
+    kind_at base.found base.said c.args.i c.index.result.now is.1.kinds (ap (λ w. slice_get w c.args.i) (sym is.1.found) ∙ there)

@@ -6,13 +6,15 @@ use Rattle.mm_frame.proofs.BaseLemmas.{kept_are_sound, are_expressions}
 use Rattle.mm_frame.proofs.draft.Draft.earlier.Goals as goal
 
 pub returns : goal.returns
-returns c said d =
+returns c all said d =
     let before = sound_items said in
+    let symbols = subst (λ w. AreSymbols all before w) (sym c.deref.ensures.value) d.symbols in
     record {
       sound = kept_are_sound said;
-      known = subst (λ w. Knows before w) (sym c.tables.ensures) d.scope.knows;
+      known = subst (λ w. Knows all before w) (sym c.tables.ensures) d.scope.knows;
       pairs = d.pair_table;
       marks = c.blocks-2.ensures ∙ d.scope.marks;
       essentials = c.as_slice.ensures ∙ d.essentials;
-      expressions = are_expressions before c.deref.result.now (subst (λ w. AreSymbols before w) (sym c.deref.ensures.value) d.symbols);
+      expressions = are_expressions all before c.deref.result.now symbols;
+      numbered = symbols.numbered;
     }

@@ -1,11 +1,12 @@
 use Rattle.std.proofs.Common.{◌≡◌, ◌∷◌, ◌++◌, [], suc, ◌+◌, take, take_all, subst, arith}
 use Rattle.std.specs.List.{AllZip}
 use Rattle.mm_frame.specs.Language.Statement.{Says}
+use Rattle.mm_frame.proofs.NumberLemmas.{begins_on}
 use Rattle.mm_frame.proofs.BaseLemmas.{zip_more}
 use Rattle.mm_frame.proofs.draft.Draft.read_all.Goals as goal
 
 pub loop-item-init : goal.loop-item-init
-loop-item-init c = ([], tt, c.new-draft.ensures)
+loop-item-init c = (λ n name there. there, [], tt, λ all distinct more. c.new-draft.ensures all distinct)
 
 pub loop-item-preserved : goal.loop-item-preserved
 loop-item-preserved c =
@@ -13,14 +14,21 @@ loop-item-preserved c =
     let items = c.args.items.now in
     let n = c.loop-item.item-index in
     let so_far = c.loop-item.invariant in
-    let read = c.in_ok-read.ensures in
-    let said = so_far.0 ++ read.0 ∷ [] in
-    let next : suc n ≡ n + 1 = omega arith in
-    (said, subst (λ k. AllZip (Says files) (take k items) said) next (zip_more (Says files) items so_far.0 n _ read.0 c.loop-item-test.true so_far.1 read.1), read.2 so_far.0 so_far.2)
+    let read = c.in_ok-read.ensures.read in
+    let said = so_far.1 ++ read.0 ∷ [] in
+    let next : suc n ≡ n + 1 = omega arith in (
+      begins_on _ _ _ so_far.0 c.read.ensures.grows,
+      said,
+      subst (λ k. AllZip (Says files) (take k items) said) next (zip_more (Says files) items so_far.1 n _ read.0 c.loop-item-test.true so_far.2 read.1),
+      read.2 so_far.1 so_far.3,
+    )
 
-pub returns : goal.returns
-returns c =
+pub returns-clause-read : goal.returns-clause-read
+returns-clause-read c =
     let files = c.args.files.now in
     let items = c.args.items.now in
     let so_far = c.loop-item.invariant in
-    (so_far.0, subst (λ w. AllZip (Says files) w so_far.0) (take_all c.loop-item.item-index items c.loop-item-test.false) so_far.1, so_far.2)
+    (so_far.1, subst (λ w. AllZip (Says files) w so_far.1) (take_all c.loop-item.item-index items c.loop-item-test.false) so_far.2, so_far.3)
+
+pub returns-in_err-read-clause-grows : goal.returns-in_err-read-clause-grows
+returns-in_err-read-clause-grows c = begins_on _ _ _ c.loop-item.invariant.0 c.read.ensures.grows

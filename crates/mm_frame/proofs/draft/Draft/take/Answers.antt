@@ -3,8 +3,10 @@ use Rattle.mm_frame.specs.Language.Base.{fault_by}
 use Rattle.mm_frame.specs.Code.KeptBase.{AreRows, TellsRow, TellsFrame, KeepsFrame}
 use Rattle.mm_frame.specs.Code.KeptPairTable.{KnowsPairs}
 use Rattle.mm_frame.specs.Code.KeptTables.{Knows}
-use Rattle.mm_frame.specs.Code.CodeSymbols.{symbols_of}
+use Rattle.mm_frame.specs.Code.Numbers.{AreNumbersOf}
+use Rattle.mm_frame.specs.Code.CodeSymbols.{AreRead}
 use Rattle.mm_frame.specs.Code.KeptSymbols.{AreSymbols, is_read}
+use Rattle.mm_frame.specs.Language.Framing.{expression}
 use Rattle.mm_frame.specs.Language.Statement.{kind_of}
 use Rattle.mm_frame.specs.Code.KeptScope.{ScopeHolds, taken}
 use Rattle.mm_frame.specs.Language.Sound.{sound_items}
@@ -17,48 +19,58 @@ use Rattle.mm_frame.proofs.PairListLemmas.{made_more}
 use Rattle.mm_frame.proofs.draft.Draft.take.Goals as goal
 
 pub returns : goal.returns
-returns c said d =
+returns c all said first d numbers_first numbers =
+    let names = c.args.names.now in
     let item = c.args.statement.now in
+    let before = sound_items said in
     let found = c.in_ok-fault.fault in
     let flag = c.is_none-sound.result in
     let framed = c.is_framed-framed.result in
     let are_sound = kept_are_sound said in
-    let told = c.in_ok-fault.ensures (sound_items said) are_sound d.scope in
+    let told = c.in_ok-fault.ensures before are_sound first.scope (subst (λ w. AreNumbersOf names w item.symbols) (sym c.deref.ensures.value) numbers_first) in
     let none = none_found found flag c.is_none-sound.ensures in
-    let is_sound = λ (t : flag ≡ true). sound_found_none (λ f. (f.word, f.number)) (sound_items said) item found told (none ∙ t) in
-    let more = ap (λ b. sound_items said ++ taken b item ∷ []) (sym none) ∙ kept_taken (λ f. (f.word, f.number)) said item found told in
-    let knows = subst (λ w. Knows (sound_items said) w) (sym c.tables.ensures) d.scope.knows in
+    let is_sound = λ (t : flag ≡ true). sound_found_none (λ f. (f.word, f.number)) before item found told (none ∙ t) in
+    let more = ap (λ b. before ++ taken b item ∷ []) (sym none) ∙ kept_taken (λ f. (f.word, f.number)) said item found told in
+    let knows = subst (λ w. Knows all before w) (sym c.tables-tables.ensures) d.scope.knows in
+    let kept_numbers = subst (λ w. AreNumbersOf all w item.symbols) (sym c.deref-2.ensures.value) numbers in
     let symbols = c.in_ok-symbols.symbols in
-    let own = λ (t : flag ≡ true) (r : is_read item.kind ≡ true). c.in_ok-symbols.ensures (sound_items said) are_sound knows t (is_sound t) r in
-    let read = symbols_taken (sound_items said) item symbols.items flag own in
+    let numbered = c.in_ok-symbols.ensures.numbered all kept_numbers in
+    let own = λ (t : flag ≡ true) (r : is_read item.kind ≡ true). c.in_ok-symbols.ensures.read all before are_sound knows kept_numbers t (is_sound t) r in
+    let read = symbols_taken all before item symbols.items flag own in
     let kind = c.kind.ensures.kind in
     let parts = λ (t : framed ≡ true). framed_parts flag (kind_of c.kind.result) item.kind kind (sym c.is_framed-framed.ensures ∙ t) in
-    let frame = c.in_ok-frame.ensures said item d (λ t. record { sound = is_sound (parts t).0; assertion = (parts t).1; symbols = ap symbols_of c.deref.ensures.value ∙ own (parts t).0 (parts t).2 }) in
-    let frame_told = subst (λ b. KeepsFrame b (sound_items said) item c.in_ok-frame.frame) (framed_told (sound_items said) item flag framed (kind_of c.kind.result) kind c.is_framed-framed.ensures (none_fault (λ f. (f.word, f.number)) (sound_items said) item found told ∙ none)) frame in
-    let holds = c.in_ok-next.ensures (sound_items said) are_sound d.scope is_sound in
-    let number : c.len-number.result ≡ length (sound_items said) = omega (arith, c.len-number.ensures, kept_count said, d.rows.count, c.args.self.now.rows.ok.0) in
-    let pairs = c.in_ok-follow_pairs.ensures (sound_items said) item c.kind-3.ensures.kind number (c.blocks-2.ensures ∙ d.scope.marks) (λ t r. ap symbols_of c.deref-3.ensures.value ∙ own t r) d.pair_table in
+    let frame = c.in_ok-frame.ensures all said item d (λ t. record {
+      sound = is_sound (parts t).0;
+      assertion = (parts t).1;
+      symbols = subst (AreRead all (expression before item)) (sym c.deref-3.ensures.value) (record { symbols = own (parts t).0 (parts t).2; numbered = numbered });
+    }) in
+    let frame_told = subst (λ b. KeepsFrame all b before item c.in_ok-frame.frame) (framed_told before item flag framed (kind_of c.kind.result) kind c.is_framed-framed.ensures (none_fault (λ f. (f.word, f.number)) before item found told ∙ none)) frame in
+    let holds = c.in_ok-next.ensures all before are_sound d.scope is_sound (subst (λ w. AreNumbersOf all w item.symbols) (sym c.deref-6.ensures.value) numbers) in
+    let number : c.len-number.result ≡ length before = omega (arith, c.len-number.ensures, kept_count said, d.rows.count, c.args.self.now.rows.ok.0) in
+    let pairs = c.in_ok-follow_pairs.ensures all before item d.scope.knows.distinct are_sound c.kind-3.ensures.kind number (c.blocks-2.ensures ∙ d.scope.marks)
+    (subst (λ w. AreNumbersOf all w item.symbols) (sym c.deref-5.ensures.value) numbers) is_sound d.pair_table in
     let this = c.kind-kind.ensures.kind in
     let marks = c.blocks-blocks.ensures ∙ holds.marks in
-    let essentials = c.in_ok-follow.ensures is_essential (sound_items said) item essential_sort this (c.is_essential.ensures ∙ ap is_essential this) number marks d.essentials in
-    let disjoints = c.in_ok-follow-2.ensures is_disjoint (sound_items said) item disjoint_sort this (c.is_disjoint.ensures ∙ ap is_disjoint this) number marks d.disjoints in
+    let essentials = c.in_ok-follow.ensures is_essential before item essential_sort this (c.is_essential.ensures ∙ ap is_essential this) number marks d.essentials in
+    let disjoints = c.in_ok-follow-2.ensures is_disjoint before item disjoint_sort this (c.is_disjoint.ensures ∙ ap is_disjoint this) number marks d.disjoints in
     let lists = c.keep_pairs.new.pair_lists in
     let active_disjoints = c.as_slice.ensures ∙ d.disjoints in
-    let kept_symbols = subst (λ w. AreSymbols (sound_items said) w) (sym c.deref-2.ensures.value) d.symbols in
-    let proof = proof_told (sound_items said) item flag c.has_proof.result (kind_of c.kind-2.result) c.kind-2.ensures.kind c.has_proof.ensures (none_fault (λ f. (f.word, f.number)) (sound_items said) item found told ∙ none) in
-    let made = made_more (sound_items said) (taken flag item ∷ []) lists (c.in_ok-keep_pairs.ensures.made (sound_items said) are_sound kept_symbols active_disjoints d.made) in
+    let kept_symbols = subst (λ w. AreSymbols all before w) (sym c.deref-4.ensures.value) d.symbols in
+    let proof = proof_told before item flag c.has_proof.result (kind_of c.kind-2.result) c.kind-2.ensures.kind c.has_proof.ensures (none_fault (λ f. (f.word, f.number)) before item found told ∙ none) in
+    let made = made_more all before (taken flag item ∷ []) lists (c.in_ok-keep_pairs.ensures.made all before are_sound kept_symbols active_disjoints d.made) in
     record {
-      scope = subst (λ w. ScopeHolds w c.next.new.self) more holds;
+      scope = subst (λ w. ScopeHolds all w c.next.new.self) more holds;
       rows = subst (λ w. AreRows TellsRow (said ++ item ∷ []) w) (sym c.in_ok-push-3.ensures.items) (rows_more TellsRow said item c.args.self.now.rows.items c.in_ok-row.row d.rows (record {
         label = c.in_ok-row.ensures.label;
         labelled = c.in_ok-row.ensures.labelled;
         fault = c.in_ok-row.ensures.fault ∙ ap (fault_by item.kind) told;
       }));
-      symbols = subst (λ w. AreSymbols w c.push-2.new.self.items) more (subst (λ w. AreSymbols (sound_items said ++ taken flag item ∷ []) w) (sym c.in_ok-push-2.ensures.items) (symbols_more (sound_items said) (taken flag item) c.args.self.now.expressions.items symbols d.symbols read));
-      frames = subst (λ w. AreRows TellsFrame (said ++ item ∷ []) w) (sym c.in_ok-push.ensures.items) (rows_more TellsFrame said item c.args.self.now.frames.items c.in_ok-frame.frame d.frames frame_told);
+      symbols = subst (λ w. AreSymbols all w c.push-2.new.self.items) more
+          (subst (λ w. AreSymbols all (before ++ taken flag item ∷ []) w) (sym c.in_ok-push-2.ensures.items) (symbols_more all before (taken flag item) c.args.self.now.expressions.items symbols d.symbols numbered read));
+      frames = subst (λ w. AreRows (TellsFrame all) (said ++ item ∷ []) w) (sym c.in_ok-push.ensures.items) (rows_more (TellsFrame all) said item c.args.self.now.frames.items c.in_ok-frame.frame d.frames frame_told);
       essentials = essentials ∙ ap (active_numbers is_essential_item) more;
       disjoints = disjoints ∙ ap (active_numbers is_disjoint_item) more;
-      made = subst (λ w. AreMade w lists) more made;
-      pair_numbers = c.in_ok-keep_pairs.ensures.pairs said item kept_symbols active_disjoints d.made proof d.pair_numbers;
-      pair_table = subst (λ w. KnowsPairs w c.follow_pairs.new.pairs) more pairs;
+      made = subst (λ w. AreMade all w lists) more made;
+      pair_numbers = c.in_ok-keep_pairs.ensures.pairs all said item kept_symbols active_disjoints d.made proof d.pair_numbers;
+      pair_table = subst (λ w. KnowsPairs all w c.follow_pairs.new.pairs) more pairs;
     }

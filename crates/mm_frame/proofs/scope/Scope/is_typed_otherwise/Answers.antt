@@ -6,12 +6,10 @@ use Rattle.mm_frame.proofs.ScopingLemmas.{typecode_kept}
 use Rattle.mm_frame.proofs.scope.Scope.is_typed_otherwise.Goals as goal
 
 pub returns-in-Some : goal.returns-in-Some
-returns-in-Some c before item h k t =
-    let name = c.args.name.now in
-    let kept = c.typecode.ensures ∙ typecode_kept before (typecodes_of c.args.self.now) c.in-Some.number k.types in
-    c.ne.ensures ∙ (λ i. not (bytes_eq (kept i) (sym t i))) ∙ ap (is_otherwise_at before item) (sym c.in-Some.is ∙ c.float.ensures before h k) ∙ sym (typed_otherwise_last before h name item)
+returns-in-Some c all before item name h k t there =
+    let kept = c.typecode.ensures ∙ typecode_kept before (typecodes_of c.args.self.now) c.in-Some.float k.types in
+    c.ne.ensures ∙ (λ i. not (bytes_eq (kept i) (sym t i))) ∙ ap (is_otherwise_at before item) (sym c.in-Some.is ∙ c.float.ensures all before name h k there) ∙ sym (typed_otherwise_last before h name item)
 
 pub returns-in-None : goal.returns-in-None
-returns-in-None c before item h k t =
-    let name = c.args.name.now in
-    ap (is_otherwise_at before item) (sym c.in-None.is ∙ c.float.ensures before h k) ∙ sym (typed_otherwise_last before h name item)
+returns-in-None c all before item name h k t there =
+    ap (is_otherwise_at before item) (sym c.in-None.is ∙ c.float.ensures all before name h k there) ∙ sym (typed_otherwise_last before h name item)

@@ -5,28 +5,30 @@ use Rattle.mm_frame.specs.Language.Sound.{AreSound}
 use Rattle.mm_frame.specs.declared.scope.Scope.{Scope}
 use Rattle.mm_frame.specs.declared.tables.Declared.{Declared}
 use Rattle.mm_frame.specs.Code.FaultInOrder.{later_fault}
+use Rattle.mm_frame.specs.Code.Numbers.{IsName}
 use Rattle.mm_frame.specs.Code.KeptScope.{ScopeHolds}
-use Rattle.mm_frame.specs.Code.KeptTables.{table_name}
+use Rattle.mm_frame.specs.Code.KeptTables.{declared_at}
 use Rattle.mm_frame.specs.Code.LastItems.{is_active_last}
+use Rattle.mm_frame.proofs.KnownLemmas.{known_at}
 use Rattle.mm_frame.proofs.FaultLemmas.{may_follow_as, follows_later}
 use Rattle.mm_frame.proofs.scope.Scope.may_follow.Goals as goal
 
-told : (scope : Scope) (name : List ℕ) (found given : Option Declared) (before : List Item) → AreSound before → ScopeHolds before scope → found ≡ table_name scope.tables name → found ≡ given
+told : (scope : Scope) (n : ℕ) (found given : Option Declared) (all : List (List ℕ)) (before : List Item) (name : List ℕ) → AreSound before → ScopeHolds all before scope → IsName all n name → found ≡ declared_at scope.tables n → found ≡ given
     → may_follow_as before given ≡ is_none (later_fault before name)
-told scope name found given before h k is e = ap (may_follow_as before) (sym e ∙ is ∙ k.knows.names name) ∙ follows_later before h name
+told scope n found given all before name h k t is e = ap (may_follow_as before) (sym e ∙ is ∙ known_at all before scope.tables n name k.knows t) ∙ follows_later before h name
 
 pub returns-in-Some-Constant : goal.returns-in-Some-Constant
-returns-in-Some-Constant c before h k = told c.args.self.now c.args.name.now c.name.result _ before h k c.name.ensures (c.in-Some-Constant.is ∙ ap Some c.in-Some-Constant.field-0-is)
+returns-in-Some-Constant c all before name h k t = told c.args.self.now c.args.number c.name.result _ all before name h k t c.name.ensures (c.in-Some-Constant.is ∙ ap Some c.in-Some-Constant.field-0-is)
 
 pub returns-then-is_active_number : goal.returns-then-is_active_number
-returns-then-is_active_number c before h k =
-    c.is_active_number-then-is_active_number.ensures before k ∙ ap (λ b. b && is_active_last before c.in-Some-Variable.float) (sym c.if-is_active_number.true ∙ c.is_active_number.ensures before k)
-    ∙ told c.args.self.now c.args.name.now c.name.result _ before h k c.name.ensures (c.in-Some-Variable.is ∙ ap Some c.in-Some-Variable.field-0-is)
+returns-then-is_active_number c all before name h k t =
+    c.is_active_number-then-is_active_number.ensures all before k ∙ ap (λ b. b && is_active_last before c.in-Some-Variable.float) (sym c.if-is_active_number.true ∙ c.is_active_number.ensures all before k)
+    ∙ told c.args.self.now c.args.number c.name.result _ all before name h k t c.name.ensures (c.in-Some-Variable.is ∙ ap Some c.in-Some-Variable.field-0-is)
 
 pub returns-else-is_active_number : goal.returns-else-is_active_number
-returns-else-is_active_number c before h k =
-    c.if-is_active_number.false ∙ ap (λ b. b && is_active_last before c.in-Some-Variable.float) (sym c.if-is_active_number.false ∙ c.is_active_number.ensures before k)
-    ∙ told c.args.self.now c.args.name.now c.name.result _ before h k c.name.ensures (c.in-Some-Variable.is ∙ ap Some c.in-Some-Variable.field-0-is)
+returns-else-is_active_number c all before name h k t =
+    c.if-is_active_number.false ∙ ap (λ b. b && is_active_last before c.in-Some-Variable.float) (sym c.if-is_active_number.false ∙ c.is_active_number.ensures all before k)
+    ∙ told c.args.self.now c.args.number c.name.result _ all before name h k t c.name.ensures (c.in-Some-Variable.is ∙ ap Some c.in-Some-Variable.field-0-is)
 
 pub returns-in-None : goal.returns-in-None
-returns-in-None c before h k = told c.args.self.now c.args.name.now c.name.result _ before h k c.name.ensures c.in-None.is
+returns-in-None c all before name h k t = told c.args.self.now c.args.number c.name.result _ all before name h k t c.name.ensures c.in-None.is

@@ -1,14 +1,18 @@
-use Rattle.std.proofs.Common.{refl}
+use Rattle.std.proofs.Common.{OnOk, refl, sym, subst}
 use Rattle.mm_frame.specs.Language.Item.{Passed, passed}
+use Rattle.mm_frame.specs.Code.KeptScope.{ScopeTakes}
 use Rattle.mm_frame.proofs.KnownLemmas.{knows_passed}
 use Rattle.mm_frame.proofs.ScopingLemmas.{passed_over, marks_more, types_more}
 use Rattle.mm_frame.proofs.scope.Scope.next.Goals as goal
 
+pub returns-then-sound : goal.returns-then-sound
+returns-then-sound c = subst (λ b. OnOk c.take.result (ScopeTakes c.args.numbers.now c.args.self.now c.args.statement.now b c.take.new.self)) (sym c.if-sound.true) c.take.ensures
+
 pub returns : goal.returns
-returns c before h k s =
+returns c all before h k s a =
     let scope = c.args.self.now in
-    passed_over before c.args.statement.now c.args.sound c.if-sound.false (record {
-      knows = knows_passed before scope.tables k.knows;
+    passed_over all before c.args.statement.now c.args.sound c.if-sound.false (record {
+      knows = knows_passed all before scope.tables k.knows;
       marks = marks_more before passed Passed _ _ refl k.marks c.in_ok-pass.ensures.ok;
       types = types_more (λ typecode. typecode.now) before passed scope.typecodes.items c.push.new.self.items _ k.types refl c.in_ok-push.ensures.items;
     })

@@ -5,12 +5,12 @@ use Rattle.mm_frame.proofs.ScopingLemmas.{typecodes_count, marks_more, types_mor
 use Rattle.mm_frame.proofs.scope.Scope.take.Goals as goal
 
 pub returns : goal.returns
-returns c before h k s =
+returns c all before h k s a =
     let item = c.args.statement.now in
     let typecodes = c.args.self.now.typecodes in
     let count = typecodes_count (λ typecode. typecode.now) before typecodes.items k.types in
     record {
-      knows = c.in_ok-take.ensures before (sound_more before item h (s refl)) (omega (arith, c.len.ensures, count, typecodes.ok.0)) k.knows;
+      knows = c.in_ok-take.ensures all before (sound_more before item h (s refl)) (omega (arith, c.len.ensures, count, typecodes.ok.0)) a k.knows;
       marks = marks_more before item (kind_of c.kind.result) _ _ c.kind.ensures.kind k.marks c.in_ok-mark.ensures;
       types = types_more (λ typecode. typecode.now) before item typecodes.items c.push.new.self.items c.typecode_of.result k.types c.typecode_of.ensures c.in_ok-push.ensures.items;
     }

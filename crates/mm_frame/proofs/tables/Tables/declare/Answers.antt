@@ -1,6 +1,6 @@
-use Rattle.std.proofs.Common.{refl}
-use Rattle.mm_frame.proofs.KnownLemmas.{inserted}
+use Rattle.std.proofs.lemmas.Result.{on_ok_weaker}
+use Rattle.mm_frame.proofs.KnownLemmas.{declares_one}
 use Rattle.mm_frame.proofs.tables.Tables.declare.Goals as goal
 
 pub returns : goal.returns
-returns c = record { names = inserted c.in_ok-key.key.items c.args.name.now c.args.self.now.names c.insert.new.self c.args.declared c.in_ok-key.ensures.items c.in_ok-insert.ensures.updates; labels = λ label. refl }
+returns c = on_ok_weaker c.put.result (λ p all name d t. declares_one all c.args.self.now c.put.new.self c.args.number name c.args.declared d t p c.put.ensures.labels) c.put.ensures.put

@@ -1,7 +1,7 @@
 use Rattle.std.proofs.Common.{◌∙◌, ap}
 use Rattle.std.specs.Prelude.{is_some}
-use Rattle.mm_frame.proofs.KnownLemmas.{is_declared_in}
+use Rattle.mm_frame.proofs.KnownLemmas.{known_at, is_declared_in}
 use Rattle.mm_frame.proofs.tables.Tables.is_declared.Goals as goal
 
 pub returns : goal.returns
-returns c before k = c.is_some.ensures ∙ ap is_some (c.name.ensures ∙ k.names c.args.name.now) ∙ is_declared_in before c.args.name.now
+returns c all before name k t = c.is_some.ensures ∙ ap is_some (c.name.ensures ∙ known_at all before c.args.self.now c.args.number name k t) ∙ is_declared_in before name

@@ -1,14 +1,14 @@
-use Rattle.std.proofs.Common.{rules, Some, sym, ◌∙◌, ap, refl}
-use Rattle.mm_frame.specs.declared.tables.Declared.TheVariants.{Variable}
-use Rattle.mm_frame.specs.Code.KeptTables.{typed_by}
-use Rattle.mm_frame.proofs.KnownLemmas.{written_as}
+use Rattle.std.proofs.Common.{rules, Some, ◌∙◌, ap, sym, refl}
+use Rattle.mm_frame.proofs.KnownLemmas.{types_one, typed_there, stays_there}
 use Rattle.mm_frame.proofs.tables.Tables.type_variable.Goals as goal
 
-pub returns-in-Some : goal.returns-in-Some
-returns-in-Some c =
-    let told = Variable c.in-Some-Variable.declared (Some c.args.number) in
-    let here = ap (typed_by c.args.number) (sym c.in-Some-Variable.ensures ∙ ap Some c.in-Some-Variable.field-0-is) in
-    record {
-      names = written_as c.args.name.now c.args.self.now.names (c.get_mut.follows.lender told) told (typed_by c.args.number) here ((c.get_mut.follows.holds told).3 (search rules));
-      labels = λ label. refl;
-    }
+pub returns-in-Some-Variable : goal.returns-in-Some-Variable
+returns-in-Some-Variable c all variable d t =
+    let told = sym c.name.ensures ∙ c.in-Some-Variable.is ∙ ap Some c.in-Some-Variable.field-0-is in
+    types_one all c.args.self.now _ c.args.name variable c.args.number d t (λ m. typed_there c.args.self.now.declared.items c.args.name m c.args.number c.in-Some-Variable.declared _ told) refl
+
+pub returns : goal.returns
+returns c all variable d t = types_one all c.args.self.now c.args.self.now c.args.name variable c.args.number d t (λ m. stays_there c.args.self.now c.args.name m c.args.number (search rules)) refl
+
+pub returns-2 : goal.returns-2
+returns-2 c all variable d t = types_one all c.args.self.now c.args.self.now c.args.name variable c.args.number d t (λ m. stays_there c.args.self.now c.args.name m c.args.number (search rules)) refl

@@ -1,0 +1,163 @@
+-- Names by their numbers, and lists of names that grow.
+use Rattle.std.proofs.Common.{◌≡◌, ℕ, zero, suc, ◌+◌, ◌<◌, nat_eq, Option, inl, inr, Bool, true, false, not, ◌||◌, cond, Some, None, List, [], ◌∷◌, ◌++◌, length, map, get_or, refl, sym, ap, ◌∙◌, subst, arith}
+use Rattle.std.specs.Prelude.{slice_get, position, Vec, if◌then◌else◌, nat_lt, Result, Ok, Err, IfOk, OnErr}
+use Rattle.std.specs.List.{IsDistinct, list_any, position_or_len}
+use Rattle.std.specs.Str.{bytes_eq}
+use Rattle.std.proofs.lemmas.Bool.{false≢true, ltb-true, ltb-false}
+use Rattle.std.proofs.lemmas.Bool.Decides.{Decides-eqb, eqb_tells}
+use Rattle.std.proofs.lemmas.Slice.Eq.{bytes_eq-Decides}
+use Rattle.std.proofs.lemmas.List.{map_push, length-map}
+use Rattle.std.proofs.lemmas.Map.Keys.{apart_from_distinct}
+use Rattle.std.proofs.lemmas.Option.{same_Some, slice_get_within, slice_get-get_or, get_or_from_slice_get}
+use native.Mathlib.Decide.{dec_lt}
+use Rattle.indexmap.specs.IndexSet.{insert_key}
+use Rattle.mm_frame.specs.Language.Names.{Begins, AreDistinct, name_at}
+use Rattle.mm_frame.specs.Code.Numbers.{number_in, IsName, AreNumbersOf}
+use Rattle.mm_frame.specs.declared.tables.Tables.{Tables}
+use Rattle.mm_frame.specs.Code.KeptTables.{declared_at, declared_for, table_name}
+
+same_tests : (b : Bool) (m n : ℕ) → m ≡ n → cond (not b) (1 + m) 0 ≡ cond (not b) (1 + n) 0
+same_tests b m n e = ap (λ (k : ℕ). cond (not b) (1 + k) 0) e
+
+-- what begins with a list begins with all that the list begins with
+pub begins_on : (one two three : List (List ℕ)) → Begins one two → Begins two three → Begins one three
+begins_on one two three a b n name p = b n name (a n name p)
+
+-- names behind a list leave it in front
+pub begins_more : (names more : List (List ℕ)) → Begins names (names ++ more)
+begins_more [] more n name p = cc
+begins_more (x ∷ names) more zero name p = p
+begins_more (x ∷ names) more (suc n) name p = begins_more names more n name p
+
+pub last_at : (names : List (List ℕ)) (name : List ℕ) → slice_get (names ++ name ∷ []) (length names) ≡ Some name
+last_at [] name = refl
+last_at (x ∷ names) name = last_at names name
+
+-- the element that a list of values has at a place
+there_from_map : {X Y : Type 0} (f : X → Y) (xs : List X) (n : ℕ) (y : Y) → slice_get (map f xs) n ≡ Some y → (x : X) × (slice_get xs n ≡ Some x) × (y ≡ f x)
+there_from_map f [] n y h = cc
+there_from_map f (x ∷ xs) zero y h = (x, refl, sym (same_Some (f x) y h))
+there_from_map f (x ∷ xs) (suc n) y h = there_from_map f xs n y h
+
+module _ {Y : Type 0} where
+  apart : (keys : List (Vec ℕ Y)) (i j : ℕ) (name : List ℕ) → IsDistinct (λ x y. bytes_eq x.items y.items) keys → i < j → slice_get (map (λ key. key.items) keys) i ≡ Some name → slice_get (map (λ key. key.items) keys) j ≡ Some name → ⊥
+  apart keys i j name distinct less p q =
+      let x = there_from_map (λ key. key.items) keys i name p in
+      let y = there_from_map (λ key. key.items) keys j name q in
+      let a : get_or keys i x.0 ≡ x.0 = get_or_from_slice_get keys i x.0 x.0 x.1 in
+      let b : get_or keys j x.0 ≡ y.0 = get_or_from_slice_get keys j y.0 x.0 y.1 in
+      let no = apart_from_distinct (λ x y. bytes_eq x.items y.items) keys i j x.0 distinct less (slice_get_within keys j y.0 y.1) in
+      false≢true (sym no ∙ (bytes_eq-Decides (get_or keys i x.0).items (get_or keys j x.0).items).1 (ap (λ (k : Vec ℕ Y). k.items) a ∙ sym x.2 ∙ y.2 ∙ ap (λ (k : Vec ℕ Y). k.items) (sym b)))
+
+  -- keys of which no two are equal have distinct names
+  pub distinct_names : (keys : List (Vec ℕ Y)) → IsDistinct (λ x y. bytes_eq x.items y.items) keys → AreDistinct (map (λ key. key.items) keys)
+  distinct_names keys distinct i j name p q = elim (dec_lt i j) [
+    | yes l ↦ absurd (apart keys i j name distinct l p q)
+    | no m ↦ elim (dec_lt j i) [
+      | yes l ↦ absurd (apart keys j i name distinct l q p)
+      | no k ↦ omega arith
+    ]
+  ]
+
+  -- a new key goes last
+  pub inserted : (keys : List (Vec ℕ Y)) (key : Vec ℕ Y) (name : List ℕ) → key.items ≡ name → list_any (λ other. bytes_eq name other.items) keys ≡ false → map (λ key. key.items) (insert_key (λ x y. bytes_eq x.items y.items) keys key) ≡ map (λ key. key.items) keys ++ name ∷ []
+  inserted keys key name is new =
+      let none : list_any (λ other. bytes_eq key.items other.items) keys ≡ false = ap (λ n. list_any (λ other. bytes_eq n other.items) keys) is ∙ new in
+      ap (λ b. map (λ key. key.items) (if b then keys else keys ++ key ∷ [])) none ∙ map_push (λ key. key.items) keys key ∙ ap (λ n. map (λ key. key.items) keys ++ n ∷ []) is
+
+before_map : {X Y : Type 0} (test : Y → Bool) (f : X → Y) (xs : List X) → position_or_len test (map f xs) ≡ position_or_len (λ x. test (f x)) xs
+before_map test f [] = refl
+before_map test f (x ∷ xs) = same_tests (test (f x)) _ _ (before_map test f xs)
+
+position_map : {X Y : Type 0} (test : Y → Bool) (f : X → Y) (xs : List X) → position test (map f xs) ≡ position (λ x. test (f x)) xs
+position_map test f xs = rw (before_map test f xs, length-map xs f) refl
+
+-- the number by the keys is that by the names
+pub number_by_keys : {Y : Type 0} (name : List ℕ) (keys : List (Vec ℕ Y)) → position (λ key. bytes_eq name key.items) keys ≡ number_in (map (λ key. key.items) keys) name
+number_by_keys name keys = sym (position_map (bytes_eq name) (λ key. key.items) keys)
+
+first_found : (name : List ℕ) (names : List (List ℕ)) → position_or_len (bytes_eq name) names < length names → slice_get names (position_or_len (bytes_eq name) names) ≡ Some name
+first_found name [] h = absurd (omega (arith, h))
+first_found name (x ∷ names) h = by (bytes_eq name x) refl h (λ l. first_found name names l)
+  where
+    by : (b : Bool) → bytes_eq name x ≡ b → cond (not b) (1 + position_or_len (bytes_eq name) names) 0 < suc (length names) → (position_or_len (bytes_eq name) names < length names → slice_get names (position_or_len (bytes_eq name) names) ≡ Some name)
+        → slice_get (x ∷ names) (cond (not b) (1 + position_or_len (bytes_eq name) names) 0) ≡ Some name
+    by true e h rest = ap Some (sym ((bytes_eq-Decides name x).0 e))
+    by false e h rest =
+        let next : suc (position_or_len (bytes_eq name) names) ≡ 1 + position_or_len (bytes_eq name) names = omega arith in
+        subst (λ (k : ℕ). slice_get (x ∷ names) k ≡ Some name) next (rest (omega (arith, h)))
+
+-- a number that is found is that of the name
+pub number_names : (names : List (List ℕ)) (name : List ℕ) (n : ℕ) → number_in names name ≡ Some n → slice_get names n ≡ Some name
+number_names names name n h = by (nat_lt (position_or_len (bytes_eq name) names) (length names)) refl h
+  where
+    by : (b : Bool) → nat_lt (position_or_len (bytes_eq name) names) (length names) ≡ b → cond b (Some (position_or_len (bytes_eq name) names)) None ≡ Some n → slice_get names n ≡ Some name
+    by true e h = subst (λ (k : ℕ). slice_get names k ≡ Some name) (same_Some _ n h) (first_found name names (ltb-true _ _ e))
+    by false e h = cc
+
+-- a test of names by their keys
+pub any_by_keys : {Y : Type 0} (name : List ℕ) (keys : List (Vec ℕ Y)) → list_any (bytes_eq name) (map (λ key. key.items) keys) ≡ list_any (λ key. bytes_eq name key.items) keys
+any_by_keys name [] = refl
+any_by_keys name (x ∷ keys) = ap (λ r. bytes_eq name x.items || r) (any_by_keys name keys)
+
+-- what a new name behind the others leaves
+pub added_named : {E : Type 0} (r : Result ℕ E) (old new : List (List ℕ)) (name : List ℕ) → IfOk r (λ n. (n ≡ length old) × (new ≡ old ++ name ∷ [])) → IfOk r (λ n. slice_get new n ≡ Some name)
+added_named (Ok n) old new name h = rw (h.0, h.1) (last_at old name)
+added_named (Err e) old new name h = h
+
+pub added_grows : {E : Type 0} (r : Result ℕ E) (old new : List (List ℕ)) (name : List ℕ) → IfOk r (λ n. (n ≡ length old) × (new ≡ old ++ name ∷ [])) → OnErr r (new ≡ old) → Begins old new
+added_grows (Ok n) old new name h e = subst (Begins old) (sym h.1) (begins_more old (name ∷ []))
+added_grows (Err x) old new name h e = subst (Begins old) (sym e) (λ n name p. p)
+
+first_within : (name : List ℕ) (names : List (List ℕ)) (n : ℕ) → slice_get names n ≡ Some name → position_or_len (bytes_eq name) names < length names
+first_within name [] n h = cc
+first_within name (x ∷ names) zero h = by (bytes_eq name x) ((bytes_eq-Decides name x).1 (sym (same_Some x name h)))
+  where
+    by : (b : Bool) → b ≡ true → cond (not b) (1 + position_or_len (bytes_eq name) names) 0 < suc (length names)
+    by true e = omega arith
+    by false e = absurd (false≢true e)
+first_within name (x ∷ names) (suc n) h = by (bytes_eq name x) (first_within name names n h)
+  where
+    by : (b : Bool) → position_or_len (bytes_eq name) names < length names → cond (not b) (1 + position_or_len (bytes_eq name) names) 0 < suc (length names)
+    by true l = omega arith
+    by false l = omega (arith, l)
+
+-- a name that stands at a place has a number
+named_somewhere : (names : List (List ℕ)) (name : List ℕ) (n : ℕ) → slice_get names n ≡ Some name → number_in names name ≡ None → ⊥
+named_somewhere names name n there none = by (nat_lt (position_or_len (bytes_eq name) names) (length names)) refl none
+  where
+    by : (b : Bool) → nat_lt (position_or_len (bytes_eq name) names) (length names) ≡ b → cond b (Some (position_or_len (bytes_eq name) names)) None ≡ None → ⊥
+    by true e h = cc
+    by false e h = let l = ltb-false _ _ e in let m = first_within name names n there in omega (arith, l, m)
+
+-- and where names are distinct it is that place
+pub number_of_named : (names : List (List ℕ)) (name : List ℕ) (n : ℕ) → AreDistinct names → slice_get names n ≡ Some name → number_in names name ≡ Some n
+number_of_named names name n distinct there = by (number_in names name) refl
+  where
+    by : (r : Option ℕ) → number_in names name ≡ r → number_in names name ≡ Some n
+    by None e = absurd (named_somewhere names name n there e)
+    by (Some m) e = e ∙ ap Some (distinct m n name (number_names names name m e) there)
+
+pub same_number : (n : ℕ) → nat_eq n n ≡ true
+same_number n = (Decides-eqb n n).1 refl
+
+pub other_number : (m n : ℕ) → (m ≡ n → ⊥) → nat_eq m n ≡ false
+other_number m n h = elim (eqb_tells m n) [ inl p ↦ absurd (h p.1) | inr p ↦ p.0 ]
+
+-- what the tables tell of a name is what they tell by its number
+pub declared_named : (all : List (List ℕ)) (tables : Tables) (n : ℕ) (name : List ℕ) → AreDistinct all → IsName all n name → declared_at tables n ≡ table_name all tables name
+declared_named all tables n name distinct there = ap (declared_for tables) (sym (number_of_named all name n distinct there))
+
+-- the number of a name is below the count of all, and names what stands there
+pub name_within : (all : List (List ℕ)) (n : ℕ) (name : List ℕ) → IsName all n name → n < length all
+name_within all n name there = slice_get_within all n name there
+
+pub name_there : (all : List (List ℕ)) (n : ℕ) → n < length all → IsName all n (name_at all n)
+name_there all n l = slice_get-get_or all n [] l
+
+pub name_read : (all : List (List ℕ)) (n : ℕ) (name : List ℕ) → IsName all n name → name_at all n ≡ name
+name_read all n name there = get_or_from_slice_get all n name [] there
+
+-- one of some numbers is that of the name at its place
+pub number_at : (all : List (List ℕ)) (numbers : List ℕ) (names : List (List ℕ)) (i d : ℕ) → AreNumbersOf all numbers names → i < length numbers → IsName all (get_or numbers i d) (get_or names i [])
+number_at all numbers names i d h l = h.each i (get_or numbers i d) (slice_get-get_or numbers i d l)

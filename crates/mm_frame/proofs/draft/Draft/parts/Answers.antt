@@ -1,0 +1,14 @@
+use Rattle.mm_frame.specs.Language.Sound.{sound_items}
+use Rattle.mm_frame.proofs.draft.Draft.parts.Goals as goal
+
+pub returns : goal.returns
+returns c = λ all said d.
+    let kept = c.tables_and_blocks-tables.ensures all (sound_items said) d.scope in
+    record {
+      rows = d.rows;
+      symbols = d.symbols;
+      frames = d.frames;
+      labels = kept.0.labels;
+      marks = kept.1;
+      pair_numbers = d.pair_numbers;
+    }

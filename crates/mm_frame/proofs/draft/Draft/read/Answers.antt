@@ -1,0 +1,36 @@
+use Rattle.std.proofs.Common.{ℕ, List}
+use Rattle.std.proofs.lemmas.Result.{on_ok_weaker}
+use Rattle.mm_frame.specs.declared.draft.Draft.{Draft}
+use Rattle.mm_frame.specs.Language.Item.{Item}
+use Rattle.mm_frame.specs.Code.KeptBase.{IsDraft}
+use Rattle.mm_frame.proofs.NumberLemmas.{begins_on}
+use Rattle.mm_frame.proofs.draft.Draft.read.Goals as goal
+
+-- the numbers of the last statement's symbols are nothing that is said
+numbers_aside : (all : List (List ℕ)) (said : List Item) (old : Draft) (numbers : _) → IsDraft all said old → IsDraft all said (record old { numbers = numbers })
+numbers_aside all said old numbers d = record {
+  scope = d.scope;
+  rows = d.rows;
+  symbols = d.symbols;
+  frames = d.frames;
+  essentials = d.essentials;
+  disjoints = d.disjoints;
+  made = d.made;
+  pair_numbers = d.pair_numbers;
+  pair_table = d.pair_table;
+}
+
+pub returns-clause-read : goal.returns-clause-read
+returns-clause-read c =
+    let names = c.number_all.new.names in
+    let grows = c.number_all.ensures.grows in
+    let numbers = c.in_ok-number_all.ensures.numbers in
+    let aside = λ (all : List (List ℕ)) (said : List Item) (d : IsDraft all said c.args.self.now). numbers_aside all said c.args.self.now c.number_all.new.numbers d in
+    on_ok_weaker c.take.result
+    (λ takes. (
+      c.in_ok-statement.statement,
+      c.in_ok-statement.ensures.says,
+      λ said stands all distinct more.
+          takes all said (aside names said (stands names c.distinct.ensures grows)) (aside all said (stands all distinct (begins_on _ _ _ grows more))) (numbers names (λ n name there. there)) (numbers all more),
+    ))
+    c.take.ensures

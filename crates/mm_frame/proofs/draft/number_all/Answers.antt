@@ -1,0 +1,29 @@
+use Rattle.std.proofs.Common.{◌+◌, refl, take_all, subst, arith}
+use Rattle.std.proofs.lemmas.List.{length_push}
+use Rattle.mm_frame.specs.Code.Numbers.{AreNumbersOf}
+use Rattle.mm_frame.proofs.NumberLemmas.{begins_on}
+use Rattle.mm_frame.proofs.BaseLemmas.{numbers_more, numbers_none}
+use Rattle.mm_frame.proofs.draft.number_all.Goals as goal
+
+pub loop-n-init : goal.loop-n-init
+loop-n-init c = rw (c.clear.ensures.items) (λ n name there. there, refl, λ all more. numbers_none all)
+
+pub loop-n-preserved : goal.loop-n-preserved
+loop-n-preserved c =
+    let inv = c.loop-n.invariant in
+    let symbols = c.args.statement.now.symbols in
+    let items = c.loop-n.numbers.items in
+    let long = length_push items c.in_ok-number.number in
+    let count = inv.1 in
+    rw (c.in_ok-push.ensures.items) (
+      begins_on _ _ _ inv.0 c.take.ensures.grows,
+      omega arith,
+      λ all more. numbers_more all items symbols c.loop-n.n (c.loop-n.n + 1) c.in_ok-number.number c.symbol.result.now (omega arith) (omega arith) c.symbol.ensures
+          (inv.2 all (begins_on _ _ _ c.take.ensures.grows more)) (more c.in_ok-number.number c.symbol.result.now c.in_ok-number.ensures.named),
+    )
+
+pub returns-clause-count : goal.returns-clause-count
+returns-clause-count c = let count = c.loop-n.invariant.1 in omega (arith, c.symbol_count-n-end.ensures, c.loop-n-test.false, c.loop-n.auto.n-end)
+
+pub returns-clause-numbers : goal.returns-clause-numbers
+returns-clause-numbers c = λ all more. subst (AreNumbersOf all c.loop-n.numbers.items) (take_all c.loop-n.n c.args.statement.now.symbols (omega (arith, c.symbol_count-n-end.ensures, c.loop-n-test.false))) (c.loop-n.invariant.2 all more)

@@ -1,0 +1,7 @@
+use Rattle.mm_frame.specs.Language.Names.{AreDistinct}
+use Rattle.std.proofs.Common.{subst}
+use Rattle.mm_frame.proofs.NumberLemmas.{distinct_names}
+use Rattle.mm_frame.proofs.names.Names.distinct.Goals as goal
+
+pub returns : goal.returns
+returns c = subst AreDistinct c.self.view_is (distinct_names c.self.inside.names.keys c.self.invariant)

@@ -1,0 +1,18 @@
+use Rattle.std.proofs.Common.{Some, subst, sym, ap, ◌∙◌, ◌≡◌, is_some}
+use Rattle.std.specs.Prelude.{slice_get}
+use Rattle.std.specs.Str.{bytes_eq}
+use Rattle.std.specs.List.{list_any}
+use Rattle.mm_frame.proofs.NumberLemmas.{number_by_keys, any_by_keys, number_names, added_named, added_grows}
+use Rattle.mm_frame.proofs.names.Names.take.Goals as goal
+
+pub returns-in-Some-clause-named : goal.returns-in-Some-clause-named
+returns-in-Some-clause-named c = subst (λ names. slice_get names c.in-Some.number ≡ Some c.args.name.now) c.self.view_is (number_names _ c.args.name.now c.in-Some.number (sym (number_by_keys c.args.name.now c.self.inside.names.keys) ∙ sym c.get_index_of.ensures.index ∙ c.in-Some.is))
+
+pub add-requires : goal.add-requires
+add-requires c = ap (list_any (bytes_eq c.args.name.now)) (sym c.self.view_is) ∙ any_by_keys c.args.name.now c.self.inside.names.keys ∙ sym c.get_index_of.ensures.found ∙ ap is_some c.in-None.is
+
+pub returns-in-None-clause-named : goal.returns-in-None-clause-named
+returns-in-None-clause-named c = added_named c.add.result c.args.self.now c.add.new.self c.args.name.now c.add.ensures.ok
+
+pub returns-in-None-clause-grows : goal.returns-in-None-clause-grows
+returns-in-None-clause-grows c = added_grows c.add.result c.args.self.now c.add.new.self c.args.name.now c.add.ensures.ok c.add.ensures.err
