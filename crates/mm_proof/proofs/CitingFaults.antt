@@ -11,7 +11,7 @@ use Rattle.mm_proof.specs.declared.ProofNumber.{ProofNumber}
 use Rattle.mm_proof.specs.declared.ProofNumber.TheVariants.{P07, P08, P09, P10, P11, P12}
 use Rattle.mm_proof.proofs.Given.{given_by, floats_match, all_match}
 use Rattle.mm_proof.proofs.Turning.{NoneBelow, none_more, none_first, cites_by}
-use Rattle.mm_proof.specs.Code.Citation.{GivesEntries, OtherTypecode, OtherEssential, IsLowestCiting, CitingSays}
+use Rattle.mm_proof.specs.Code.Citation.{GivesEntries, OtherTypecode, OtherEssential, CitingSays}
 use Rattle.mm_proof.specs.Code.PairClause.{PairsSay}
 
 lowest : (P : ProofNumber → Type 0) (number : ProofNumber) → NoneBelow P (row_of number) → P number → P number × ((other : ProofNumber) → P other → row_of number ≤ row_of other)

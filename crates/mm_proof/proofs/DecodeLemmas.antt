@@ -2,11 +2,15 @@
 use Rattle.std.proofs.Common.{◌≡◌, ℕ, true, false, Ok, List, [], ◌∷◌, length, map, drop, refl, ap}
 use Rattle.mm_frame.specs.Language.Frame.{Setting}
 use Rattle.mm_proof.specs.Language.Expansion.{Step}
-use Rattle.mm_proof.specs.Code.Coded.{meant, meant_steps}
+use Rattle.mm_proof.specs.Code.Coded.{meant, meant_steps, TellsSteps}
+use Rattle.mm_proof.specs.Code.Decoded.{TellsFault}
+use Rattle.mm_proof.specs.Code.Labels.{label_table, word_step}
 use Rattle.mm_proof.specs.Language.Decoding.{in_order, each_word, read_word, compressed_steps, is_compressed, word_spot, decoded, decoding}
 use Rattle.mm_proof.specs.Language.Verdict.{Decoded}
 use Rattle.mm_proof.specs.declared.Spot.{Spot}
 use Rattle.mm_proof.specs.declared.step.ProofStep.{ProofStep}
+use Rattle.mm_proof.specs.declared.step.Undecoded.{Undecoded}
+use Rattle.mm_proof.specs.declared.step.Undecoded.TheVariants as errors
 
 only_steps : (names : List Step) (steps : List ProofStep) → map (λ (step : Step × Spot). step.0) (meant_steps names steps) ≡ map (λ (step : ProofStep). meant names step.action) steps
 only_steps names [] = refl
@@ -33,3 +37,13 @@ pub normal_done :
     in_order (each_word (read_word place) 0 words) ≡ Ok (meant_steps names steps) →
     decoding place mandatory words ≡ Ok (made names steps (word_spot (length words)))
 normal_done place mandatory words names steps is e = rw (is, e) (decoded_is names steps (word_spot (length words)))
+
+-- a normal proof has the steps of its words as its table, and its fault
+pub normal_table : (mandatory words : List (List ℕ)) → is_compressed words ≡ false → map word_step words ≡ label_table mandatory words
+normal_table mandatory words is = rw is refl
+
+pub normal_fails :
+    (place : Setting) (mandatory words : List (List ℕ)) (e : Undecoded) → is_compressed words ≡ false →
+    TellsSteps e (in_order (each_word (read_word place) 0 words)) → TellsFault e (decoding place mandatory words)
+normal_fails place mandatory words (errors.Fault fault) is tells = rw (is, tells) refl
+normal_fails place mandatory words errors.Memory is tells = tt

@@ -1,7 +1,7 @@
 -- Ranges of a flat list, and the expressions under what they give.
 use Rattle.std.proofs.Common.{Bool, true, false, ◌≡◌, ℕ, zero, suc, ◌+◌, ◌-◌, ◌<◌, ◌≤◌, Some, List, [], ◌∷◌, ◌++◌, length, map, take, drop, get_or, refl, sym, ◌∙◌, ap, append_assoc, length-append, ◌↔◌, arith}
 use Rattle.std.specs.Prelude.{slice_get, if◌then◌else◌}
-use Rattle.std.proofs.lemmas.List.{append-nil, take_more, drop_more, take-append-drop, take-map, drop-map, length-map, drop_all, drop-drop, get_or-map, get_or_default, append_cancel_left, take_at}
+use Rattle.std.proofs.lemmas.List.{append-nil, take_more, take-append-drop, take-map, drop-map, length-map, drop_all, drop-drop, get_or-map, get_or_default, append_cancel_left, take_at}
 use Rattle.std.proofs.lemmas.Grind.{flat_map-append}
 use Rattle.std.proofs.lemmas.Option.{slice_get_within, get_or_from_slice_get, slice_get-get_or}
 use Rattle.mm_frame.specs.Language.Frame.{Symbol}

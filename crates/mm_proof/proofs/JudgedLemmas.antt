@@ -1,31 +1,37 @@
 -- A proof that is decoded, and what a run says of it.
-use Rattle.std.proofs.Common.{◌≡◌, ℕ, zero, suc, ◌+◌, ◌<◌, ◌≤◌, Bool, true, false, cond, Some, Ok, List, [], ◌∷◌, length, map, take, get_or, refl, sym, ◌∙◌, ap, subst, arith, inl, inr}
-use Rattle.std.specs.Prelude.{slice_get, All, count_by, sum_by}
+use Rattle.std.proofs.Common.{◌≡◌, ℕ, zero, suc, ◌+◌, ◌<◌, true, false, cond, Some, Ok, List, [], ◌∷◌, length, take, get_or, refl, sym, ◌∙◌, ap, subst, arith, inl, inr}
+use Rattle.std.specs.Prelude.{slice_get, All, count_by}
 use Rattle.std.specs.Option.{option_map}
-use Rattle.std.proofs.lemmas.List.{take-map, length-map, length-take-le}
+use Rattle.std.proofs.lemmas.List.{take-map, length-take-le}
 use Rattle.std.proofs.lemmas.List.Elements.{All-nil, All-cons}
 use Rattle.std.proofs.lemmas.List.Sums.{sum_by-cons}
 use Rattle.std.proofs.lemmas.Option.{slice_get-map, slice_get_within}
 use Rattle.mm_frame.specs.declared.base.Base.{Base}
 use Rattle.mm_frame.specs.declared.base.Resolved.{Resolved}
 use Rattle.mm_frame.specs.declared.base.Resolved.TheVariants as answers
-use Rattle.mm_frame.specs.Language.Base.{BaseView}
+use Rattle.mm_frame.specs.Language.Base.{BaseView, before, said_at, is_framed_at}
 use Rattle.mm_frame.specs.Language.Frame.{Symbol, Setting}
+use Rattle.mm_frame.specs.Language.Framing.{mandatory_numbers}
+use Rattle.mm_frame.specs.Language.Item.{Item}
 use Rattle.mm_frame.specs.Code.KeptBase.{IsBase}
-use Rattle.mm_proof.specs.Language.BaseLabels.{label_at}
-use Rattle.mm_proof.specs.Language.Expansion.{Step, Named, Saved, Save, NotKnown}
+use Rattle.mm_proof.specs.Language.BaseLabels.{AreActive, setting_at}
+use Rattle.mm_proof.specs.Language.Decoding.{decoding}
+use Rattle.mm_proof.specs.Language.Expansion.{Step, Saved, NotKnown}
 use Rattle.mm_proof.specs.Language.Machine.{AreDecoded, is_save}
-use Rattle.mm_proof.specs.Language.Run.{run_part, AreDone}
+use Rattle.mm_proof.specs.Language.Run.{AreDone}
 use Rattle.mm_proof.specs.Code.Coded.{meant}
-use Rattle.mm_proof.specs.Code.Labels.{AreEntries, IsEntry, entry_step, entry_steps}
-use Rattle.mm_proof.specs.Code.Judged.{done_by}
+use Rattle.mm_proof.specs.Code.Decoded.{WhereActive, decoded_steps, decoding_of}
+use Rattle.mm_proof.specs.Code.Labels.{AreEntries, entry_step, entry_steps, label_table, labels_at}
+use Rattle.mm_proof.specs.Code.Judged.{IsDecoding, IsTheorem, done_by}
 use Rattle.mm_proof.specs.Code.NamedItems.{IsNamedBy}
 use Rattle.mm_proof.specs.Code.Tasks.{AreSavedBefore, IsSavedWithin, RunSays, actions_mean, saves_by, saves_in}
+use Rattle.mm_proof.specs.declared.reading.Decoding.{Decoding}
 use Rattle.mm_proof.specs.declared.step.Action.{Action}
 use Rattle.mm_proof.specs.declared.step.Action.TheVariants as actions
 use Rattle.mm_proof.specs.declared.step.ProofStep.{ProofStep}
 use Rattle.mm_proof.specs.declared.stepping.Outcome.{Outcome}
 use Rattle.mm_proof.specs.declared.stepping.Outcome.TheVariants.{Proved, Fault, Unknown, NotOne, Other}
+use Rattle.mm_proof.proofs.FrameLemmas.{framed_proof}
 use Rattle.mm_proof.proofs.Part.{known_part}
 use Rattle.mm_proof.proofs.StepLemmas.{part_ends}
 
@@ -79,6 +85,24 @@ saved_before place view labels steps decoded n step at = by_action step.action r
     by_action (actions.Label k) e = tt
     by_action actions.Save e = tt
     by_action actions.Unknown e = tt
+
+-- ---- what decodes
+
+-- what decoding says of these hypotheses, it says of the mandatory ones
+pub decoded : (code : Base) (i : ℕ) (item : Item) (d : Decoding) (numbers : List ℕ) (view : BaseView) → IsTheorem code i item view →
+    ((v : BaseView) → IsBase v code → is_framed_at v i ≡ true → numbers ≡ mandatory_numbers (before v i) (said_at v i)) → AreActive view i (mandatory_numbers (before view i) (said_at view i)) →
+    WhereActive code i numbers (λ v. decoding_of v i numbers item.proof ≡ Ok (decoded_steps v d item.proof)) → WhereActive code i numbers (λ v. AreEntries v i d.labels.items) →
+    WhereActive code i numbers (λ v. entry_steps v d.labels.items ≡ label_table (labels_at v numbers) item.proof) → IsDecoding code i item d view
+decoded code i item d numbers view theorem mandatory active ok entries table =
+    let are = mandatory view theorem.base (framed_proof view i theorem.is_sound) in
+    let there = subst (λ (ns : List ℕ). AreActive view i ns) (sym are) active in
+    record {
+      theorem = theorem;
+      decodes = ap (λ (it : Item). decoding (setting_at view i) (labels_at view (mandatory_numbers (before view i) (said_at view i))) it.proof) theorem.says
+          ∙ ap (λ (ns : List ℕ). decoding (setting_at view i) (labels_at view ns) item.proof) (sym are) ∙ ok view theorem.base there;
+      entries = entries view theorem.base there;
+      table = table view theorem.base there ∙ ap (λ (ns : List ℕ). label_table (labels_at view ns) item.proof) are;
+    }
 
 -- ---- steps that are done
 

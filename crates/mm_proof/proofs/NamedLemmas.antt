@@ -1,23 +1,20 @@
 -- What was named so far, when more is named.
-use Rattle.std.proofs.Common.{◌≡◌, ℕ, zero, suc, ◌+◌, ◌<◌, ◌≤◌, true, Some, List, [], ◌∷◌, ◌++◌, length, map, refl, sym, ◌∙◌, ap, subst, arith, length-append, ◌⊎◌, inl, inr}
+use Rattle.std.proofs.Common.{◌≡◌, ℕ, zero, suc, Some, List, [], ◌∷◌, ◌++◌, length, refl, sym, ◌∙◌, ap, subst, arith, ◌⊎◌, inl, inr}
 use Rattle.std.specs.Prelude.{slice_get, All}
 use Rattle.std.specs.List.{AllZip}
-use Rattle.std.specs.Borrow.{Bor}
-use Rattle.std.proofs.Math.Decide.{ℕ_discrete}
-use Rattle.std.proofs.lemmas.List.{length-map}
 use Rattle.std.proofs.lemmas.List.Elements.{All-nil, All-cons}
 use Rattle.std.proofs.lemmas.Option.{slice_get_within, same_Some}
 use Rattle.mm_frame.specs.declared.base.Base.{Base}
 use Rattle.mm_frame.specs.declared.base.Resolved.{Resolved}
 use Rattle.mm_frame.specs.declared.base.Resolved.TheVariants as answers
-use Rattle.mm_frame.specs.Language.Base.{BaseView, is_shown_at, is_framed_at, hypothesis_at, frame_at}
-use Rattle.mm_frame.specs.Language.Frame.{Symbol, Frame, Hypothesis, AreSameFrame}
-use Rattle.mm_frame.specs.Code.CodeSymbols.{symbol_of}
-use Rattle.mm_frame.specs.Code.KeptBase.{IsBase}
-use Rattle.mm_proof.specs.Language.BaseLabels.{setting_at}
-use Rattle.mm_proof.specs.Language.Expansion.{Step}
+use Rattle.mm_frame.specs.Language.Base.{BaseView}
+use Rattle.mm_frame.specs.Language.Frame.{Hypothesis}
+use Rattle.mm_frame.specs.Code.KeptBase.{IsBaseBy}
 use Rattle.mm_proof.specs.Code.Labels.{AreEntries, IsEntry, entry_step, entry_steps}
-use Rattle.mm_proof.specs.Code.NamedItems.{AreNamed, Grows, HasAssertion, HasHypothesis, StandsFor, Stays, expressions_named, frames_named}
+use Rattle.mm_proof.specs.Code.NamedItems.{AreNamed, Grows, StandsFor, Stays, expressions_named, frames_named}
+use Rattle.mm_proof.specs.Language.Renaming.{renamed_meaning}
+use Rattle.mm_proof.specs.Code.Numbering.{unnaming}
+use Rattle.mm_proof.specs.Code.NumberedBase.{numbered_frame, numbered_setting}
 use Rattle.mm_proof.specs.Code.Tasks.{IsUseWithin, MeansUse}
 use Rattle.mm_proof.specs.declared.named.Naming.{Naming}
 use Rattle.mm_proof.specs.declared.named.Use.{Use}
@@ -107,24 +104,26 @@ uses_within code naming is (u ∷ all) [] z = absurd z
 uses_within code naming is (u ∷ all) (l ∷ labels) z = All-cons (IsUseWithin (length naming.hypotheses.items) (length naming.assertions.items)) u all (one_within code naming is u l z.0) (uses_within code naming is all labels z.1)
 
 -- and mean what the entries mean
-one_means : (code : Base) (naming : Naming) → AreNamed code naming → (view : BaseView) (i : ℕ) → IsBase view code → (u : Use) (l : Resolved) → StandsFor naming u l → IsEntry view i l → MeansUse (expressions_named naming) (frames_named naming) (setting_at view i) u (entry_step view l)
-one_means code naming is view i base (uses.Hypothesis n) (answers.Hypothesis j) s e = let h = is.hypotheses view n j base s e.0.carrier.shown in (h.0, h.1, e.1 ∙ ap Hypothesis (sym h.2))
-one_means code naming is view i base (uses.Assertion n) (answers.Assertion j) s e = let h = is.assertions view n j base s e.1 in (h.0, frame_at view j, h.1, e.2, h.2)
-one_means code naming is view i base uses.Nothing answers.Inactive s e = tt
-one_means code naming is view i base uses.Nothing answers.Unknown s e = tt
-one_means code naming is view i base (uses.Hypothesis n) (answers.Assertion j) s e = absurd s
-one_means code naming is view i base (uses.Hypothesis n) answers.Inactive s e = absurd s
-one_means code naming is view i base (uses.Hypothesis n) answers.Unknown s e = absurd s
-one_means code naming is view i base (uses.Assertion n) (answers.Hypothesis j) s e = absurd s
-one_means code naming is view i base (uses.Assertion n) answers.Inactive s e = absurd s
-one_means code naming is view i base (uses.Assertion n) answers.Unknown s e = absurd s
-one_means code naming is view i base uses.Nothing (answers.Hypothesis j) s e = absurd s
-one_means code naming is view i base uses.Nothing (answers.Assertion j) s e = absurd s
+one_means :
+    (code : Base) (naming : Naming) → AreNamed code naming → (names : List (List ℕ)) (view : BaseView) (i : ℕ) → IsBaseBy names view code →
+    (u : Use) (l : Resolved) → StandsFor naming u l → IsEntry view i l → MeansUse (expressions_named naming) (frames_named naming) (numbered_setting names view i) u (entry_step view l)
+one_means code naming is names view i base (uses.Hypothesis n) (answers.Hypothesis j) s e = let h = is.hypotheses names view base n j s e.0.carrier.shown in (h.0, h.1, ap (renamed_meaning (unnaming names)) e.1 ∙ ap Hypothesis (sym h.2))
+one_means code naming is names view i base (uses.Assertion n) (answers.Assertion j) s e = let h = is.assertions names view base n j s e.1 in (h.0, numbered_frame names view j, h.1, ap (renamed_meaning (unnaming names)) e.2, h.2)
+one_means code naming is names view i base uses.Nothing answers.Inactive s e = tt
+one_means code naming is names view i base uses.Nothing answers.Unknown s e = tt
+one_means code naming is names view i base (uses.Hypothesis n) (answers.Assertion j) s e = absurd s
+one_means code naming is names view i base (uses.Hypothesis n) answers.Inactive s e = absurd s
+one_means code naming is names view i base (uses.Hypothesis n) answers.Unknown s e = absurd s
+one_means code naming is names view i base (uses.Assertion n) (answers.Hypothesis j) s e = absurd s
+one_means code naming is names view i base (uses.Assertion n) answers.Inactive s e = absurd s
+one_means code naming is names view i base (uses.Assertion n) answers.Unknown s e = absurd s
+one_means code naming is names view i base uses.Nothing (answers.Hypothesis j) s e = absurd s
+one_means code naming is names view i base uses.Nothing (answers.Assertion j) s e = absurd s
 
 pub uses_mean :
-    (code : Base) (naming : Naming) → AreNamed code naming → (view : BaseView) (i : ℕ) → IsBase view code → (all : List Use) (labels : List Resolved) →
-    AllZip (StandsFor naming) all labels → AreEntries view i labels → AllZip (MeansUse (expressions_named naming) (frames_named naming) (setting_at view i)) all (entry_steps view labels)
-uses_mean code naming is view i base [] [] z e = tt
-uses_mean code naming is view i base [] (l ∷ labels) z e = absurd z
-uses_mean code naming is view i base (u ∷ all) [] z e = absurd z
-uses_mean code naming is view i base (u ∷ all) (l ∷ labels) z e = (one_means code naming is view i base u l z.0 e.0, uses_mean code naming is view i base all labels z.1 e.1)
+    (code : Base) (naming : Naming) → AreNamed code naming → (names : List (List ℕ)) (view : BaseView) (i : ℕ) → IsBaseBy names view code → (all : List Use) (labels : List Resolved) →
+    AllZip (StandsFor naming) all labels → AreEntries view i labels → AllZip (MeansUse (expressions_named naming) (frames_named naming) (numbered_setting names view i)) all (entry_steps view labels)
+uses_mean code naming is names view i base [] [] z e = tt
+uses_mean code naming is names view i base [] (l ∷ labels) z e = absurd z
+uses_mean code naming is names view i base (u ∷ all) [] z e = absurd z
+uses_mean code naming is names view i base (u ∷ all) (l ∷ labels) z e = (one_means code naming is names view i base u l z.0 e.0, uses_mean code naming is names view i base all labels z.1 e.1)

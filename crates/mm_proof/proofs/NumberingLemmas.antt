@@ -1,10 +1,17 @@
 -- Numbers for names are a renaming.
-use Rattle.std.proofs.Common.{◌≡◌, ◌≢◌, ℕ, zero, suc, ◌+◌, Bool, true, false, Some, List, [], ◌∷◌, refl, sym, ap, ◌∙◌, arith, inl, inr}
-use Rattle.std.specs.Prelude.{slice_get, bytes_eq}
+use Rattle.std.proofs.Common.{◌≡◌, ◌≢◌, ℕ, zero, suc, ◌+◌, Bool, true, false, Some, List, [], ◌∷◌, map, refl, sym, ap, ap₂, ◌∙◌, arith, inl, inr}
+use Rattle.std.specs.Prelude.{slice_get, bytes_eq, All}
 use Rattle.std.proofs.lemmas.Bool.{cases_Bool, false≢true}
+use Rattle.std.proofs.lemmas.List.Elements.{All-head, All-tail}
+use Rattle.std.proofs.lemmas.Option.{slice_get-get_or}
 use Rattle.std.proofs.lemmas.Slice.Eq.{bytes_eq-Decides}
-use Rattle.mm_proof.specs.Language.Renaming.{IsRenaming}
-use Rattle.mm_proof.specs.Code.Numbering.{AreDistinct, exchanged, named_from, numbered_from, naming, unnaming}
+use Rattle.mm_frame.specs.declared.symbol.NumberedSymbol.{NumberedSymbol}
+use Rattle.mm_frame.specs.Language.Names.{AreDistinct, name_at}
+use Rattle.mm_frame.specs.Code.CodeSymbols.{symbol_of, symbols_of, pair_of, kept_pairs, IsNumbered, IsPairNumbered}
+use Rattle.mm_proof.specs.Language.Renaming.{IsRenaming, renamed_pair, renamed_pairs}
+use Rattle.mm_proof.specs.Code.Citation.{pairs_of}
+use Rattle.mm_proof.specs.Code.NumberedBase.{by_number, all_by_number}
+use Rattle.mm_proof.specs.Code.Numbering.{exchanged, named_from, numbered_from, naming, unnaming}
 
 same_names : (a b : List ℕ) → a ≡ b → bytes_eq a b ≡ true
 same_names a b e = (bytes_eq-Decides a b).1 e
@@ -83,12 +90,29 @@ named_at n (first ∷ names) distinct (suc k) name e =
     ∙ is
 
 -- the symbol with a number has the name with this number
-pub naming_names : (names : List (List ℕ)) → AreDistinct names → (n : ℕ) (name : List ℕ) (v : Bool) → slice_get names n ≡ Some name → naming names (record { name = n ∷ []; variable = v }) ≡ record { name = name; variable = v }
+naming_names : (names : List (List ℕ)) → AreDistinct names → (n : ℕ) (name : List ℕ) (v : Bool) → slice_get names n ≡ Some name → naming names (record { name = n ∷ []; variable = v }) ≡ record { name = name; variable = v }
 naming_names names distinct n name v e =
     let none : 0 + n ≡ n = omega arith in
     let is = ap (λ (w : ℕ). named_from 0 names (w ∷ [])) (sym none) ∙ named_at 0 names distinct n name e in
     λ i. record { name = is i; variable = v }
 
 -- and the symbol with the name has the number again
-pub unnaming_numbers : (names : List (List ℕ)) → AreDistinct names → (n : ℕ) (name : List ℕ) (v : Bool) → slice_get names n ≡ Some name → unnaming names (record { name = name; variable = v }) ≡ record { name = n ∷ []; variable = v }
+unnaming_numbers : (names : List (List ℕ)) → AreDistinct names → (n : ℕ) (name : List ℕ) (v : Bool) → slice_get names n ≡ Some name → unnaming names (record { name = name; variable = v }) ≡ record { name = n ∷ []; variable = v }
 unnaming_numbers names distinct n name v e = ap (unnaming names) (sym (naming_names names distinct n name v e)) ∙ (naming_is_renaming names).there (record { name = n ∷ []; variable = v })
+
+-- what is kept by the numbers of names, and what it stands for
+module _ (names : List (List ℕ)) (distinct : AreDistinct names) where
+  symbol_numbered : (s : NumberedSymbol) → IsNumbered names s → unnaming names (symbol_of names s) ≡ by_number s
+  symbol_numbered s within = unnaming_numbers names distinct s.name (name_at names s.name) s.variable (slice_get-get_or names s.name [] within)
+
+  pub symbols_numbered : (symbols : List NumberedSymbol) → All (IsNumbered names) symbols → map (unnaming names) (symbols_of names symbols) ≡ all_by_number symbols
+  symbols_numbered [] all = refl
+  symbols_numbered (s ∷ symbols) all =
+      ap₂ ◌∷◌ (symbol_numbered s (All-head (IsNumbered names) s symbols all)) (symbols_numbered symbols (All-tail (IsNumbered names) s symbols all))
+
+  pub pairs_numbered : (pairs : List (NumberedSymbol × NumberedSymbol)) → All (IsPairNumbered names) pairs → renamed_pairs (unnaming names) (kept_pairs names pairs) ≡ pairs_of by_number pairs
+  pairs_numbered [] all = refl
+  pairs_numbered (pair ∷ pairs) all =
+      let both = All-head (IsPairNumbered names) pair pairs all in
+      let one : renamed_pair (unnaming names) (pair_of names pair) ≡ (by_number pair.0, by_number pair.1) = λ i. (symbol_numbered pair.0 both.0 i, symbol_numbered pair.1 both.1 i) in
+      ap₂ ◌∷◌ one (pairs_numbered pairs (All-tail (IsPairNumbered names) pair pairs all))

@@ -4,7 +4,7 @@ use Rattle.std.specs.Prelude.{slice_get, Contains}
 use Rattle.std.proofs.Math.Decide.{ℕ_discrete}
 use Rattle.std.proofs.lemmas.Option.{slice_get_within, get_or_from_slice_get, slice_get-get_or, same_Some}
 use Rattle.mm_frame.specs.Language.Frame.{Symbol, ArePair}
-use Rattle.std.proofs.lemmas.List.{length-drop, get_or-drop, get_or_at, take_rest, drop-map, take_all, drop_all, take_more, drop-append-le, take-append-le, take-append-drop}
+use Rattle.std.proofs.lemmas.List.{length-drop, get_or-drop, get_or_at, take_rest, drop-map, take_all, take_more, drop-append-le, take-append-le, take-append-drop}
 use Rattle.std.proofs.lemmas.List.Elements.{Contains-append_left, Contains-append_right, Contains-append_cases}
 use Rattle.std.proofs.lemmas.Bool.{false≢true}
 use Rattle.mm_proof.proofs.Members.{contains_cases}

@@ -19,6 +19,7 @@ use Rattle.mm_proof.specs.Language.Decoding.{Steps, in_order, usable, read_label
 use Rattle.mm_proof.specs.Language.Citing.{label_words, firsts, means_assertion, names_assertion, cites}
 use Rattle.mm_proof.specs.Language.Laws.{RenamingKeepsVerdict}
 use Rattle.mm_proof.specs.Language.DecodingLaws.{RenamingKeepsDecoding}
+use Rattle.mm_proof.specs.Code.NumberedBase.{renamed_setting}
 use Rattle.mm_proof.specs.Code.Tasks.{RunSays}
 use Rattle.mm_proof.specs.declared.Spot.{Spot}
 use Rattle.mm_proof.specs.declared.ProofNumber.{ProofNumber}
@@ -31,20 +32,20 @@ use Rattle.mm_proof.specs.declared.stepping.Outcome.TheVariants as outcomes
 use Rattle.mm_proof.proofs.Moving.{reached_moved, line_moved}
 
 -- a list under a map, and under its inverse
-map_back : {X Y : Type 0} (f : X → Y) (g : Y → X) → ((x : X) → g (f x) ≡ x) → (xs : List X) → map g (map f xs) ≡ xs
+pub map_back : {X Y : Type 0} (f : X → Y) (g : Y → X) → ((x : X) → g (f x) ≡ x) → (xs : List X) → map g (map f xs) ≡ xs
 map_back f g e [] = refl
 map_back f g e (x ∷ xs) = ap₂ ◌∷◌ (e x) (map_back f g e xs)
 
 map_own : {X Y : Type 0} (f : X → Y) (g : Y → X) → ((x : X) → g (f x) ≡ x) → (xs ys : List X) → map f xs ≡ map f ys → xs ≡ ys
 map_own f g e xs ys same = sym (map_back f g e xs) ∙ ap (map g) same ∙ map_back f g e ys
 
-contains_map : {X Y : Type 0} (f : X → Y) (xs : List X) (x : X) → Contains xs x → Contains (map f xs) (f x)
+pub contains_map : {X Y : Type 0} (f : X → Y) (xs : List X) (x : X) → Contains xs x → Contains (map f xs) (f x)
 contains_map f xs x c =
     let long = length-map xs f in
     let within = c.1 in
     (c.0, omega arith, get_or-map f xs c.0 x (f x) within ∙ ap f c.2)
 
-contains_back : {X Y : Type 0} (f : X → Y) (g : Y → X) → ((x : X) → g (f x) ≡ x) → (xs : List X) (y : Y) → Contains (map f xs) y → Contains xs (g y)
+pub contains_back : {X Y : Type 0} (f : X → Y) (g : Y → X) → ((x : X) → g (f x) ≡ x) → (xs : List X) (y : Y) → Contains (map f xs) y → Contains xs (g y)
 contains_back f g e xs y c = subst (λ l. Contains l (g y)) (map_back f g e xs) (contains_map g (map f xs) y c)
 
 any_map : {X Y : Type 0} (P : X → Type 0) (Q : Y → Type 0) (f : X → Y) (xs : List X) → ((x : X) → P x → Q (f x)) → Any P xs → Any Q (map f xs)
@@ -67,7 +68,7 @@ all_zip_map R S f g (x ∷ xs) [] each a = absurd a
 all_zip_map R S f g (x ∷ xs) (y ∷ ys) each a = (each x y a.0, all_zip_map R S f g xs ys each a.1)
 
 -- pairs, there and back
-pair_there : (f : Symbol → Symbol) (pairs : List (Symbol × Symbol)) (x y : Symbol) → ArePair pairs x y → ArePair (renamed_pairs f pairs) (f x) (f y)
+pub pair_there : (f : Symbol → Symbol) (pairs : List (Symbol × Symbol)) (x y : Symbol) → ArePair pairs x y → ArePair (renamed_pairs f pairs) (f x) (f y)
 pair_there f pairs x y are = elim are [
   | inl c ↦ inl (contains_map (renamed_pair f) pairs (x, y) c)
   | inr c ↦ inr (contains_map (renamed_pair f) pairs (y, x) c)
@@ -76,7 +77,7 @@ pair_there f pairs x y are = elim are [
 pair_inverse : (f g : Symbol → Symbol) → ((s : Symbol) → g (f s) ≡ s) → (pair : Symbol × Symbol) → renamed_pair g (renamed_pair f pair) ≡ pair
 pair_inverse f g e pair = λ i. (e pair.0 i, e pair.1 i)
 
-pair_back : (f g : Symbol → Symbol) → ((s : Symbol) → g (f s) ≡ s) → (pairs : List (Symbol × Symbol)) (x y : Symbol) → ArePair (renamed_pairs f pairs) x y → ArePair pairs (g x) (g y)
+pub pair_back : (f g : Symbol → Symbol) → ((s : Symbol) → g (f s) ≡ s) → (pairs : List (Symbol × Symbol)) (x y : Symbol) → ArePair (renamed_pairs f pairs) x y → ArePair pairs (g x) (g y)
 pair_back f g e pairs x y are = subst (λ ps. ArePair ps (g x) (g y)) (map_back (renamed_pair f) (renamed_pair g) (pair_inverse f g e) pairs) (pair_there g (renamed_pairs f pairs) x y are)
 
 -- a renaming the other way round
@@ -86,10 +87,6 @@ renaming_back to back is = record {
   again = is.there;
   kinds = λ s. sym (is.kinds (back s)) ∙ ap (λ (w : Symbol). w.variable) (is.again s);
 }
-
--- the setting whose symbols are renamed
-abbrev pub renamed_setting : (Symbol → Symbol) → Setting → Setting
-renamed_setting to place = record { resolve = λ label. renamed_meaning to (place.resolve label); active = renamed_pairs to place.active }
 
 -- what steps expand to knows no symbols
 taken_renamed : (to : Symbol → Symbol) (r : Resolved) → taken_by (renamed_meaning to r) ≡ taken_by r
@@ -146,10 +143,10 @@ module _ (to back : Symbol → Symbol) (is : IsRenaming to back) where
   entries_renamed given (h ∷ hs) = ap₂ ◌∷◌ (substituted_renamed given h.expression) (entries_renamed given hs)
 
   -- variables, there and back
-  has_there : (xs : List Symbol) (x : Symbol) → HasVariable xs x → HasVariable (map to xs) (to x)
+  pub has_there : (xs : List Symbol) (x : Symbol) → HasVariable xs x → HasVariable (map to xs) (to x)
   has_there xs x h = (contains_map to xs x h.0, is.kinds x ∙ h.1)
 
-  has_back : (xs : List Symbol) (x : Symbol) → HasVariable (map to xs) x → HasVariable xs (back x)
+  pub has_back : (xs : List Symbol) (x : Symbol) → HasVariable (map to xs) x → HasVariable xs (back x)
   has_back xs x h = (contains_back to back is.there xs x h.0, (renaming_back to back is).kinds x ∙ h.1)
 
   other_back : (x y : Symbol) → x ≢ y → back x ≢ back y
@@ -307,7 +304,7 @@ pairs_back to back is pairs others s = λ x y. (
   λ are. subst₂ (ArePair (renamed_pairs back others)) (is.there x) (is.there y) (pair_there back others (to x) (to y) ((s (to x) (to y)).0 (pair_there to pairs x y are))),
 )
 
-mandatory_there : (to back : Symbol → Symbol) → IsRenaming to back → (h : Mandatory) → renamed_mandatory back (renamed_mandatory to h) ≡ h
+pub mandatory_there : (to back : Symbol → Symbol) → IsRenaming to back → (h : Mandatory) → renamed_mandatory back (renamed_mandatory to h) ≡ h
 mandatory_there to back is h = λ i. record { floating = h.floating; expression = map_back to back is.there h.expression i }
 
 meaning_back : (to back : Symbol → Symbol) → IsRenaming to back → (r s : Resolved) → AreSameMeaning (renamed_meaning to r) s → AreSameMeaning (renamed_meaning back s) r

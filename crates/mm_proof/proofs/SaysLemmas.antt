@@ -22,15 +22,17 @@ zip_found R (w ∷ xs) (z ∷ ys) zero x a e = let f : w ≡ x = cc in (z, refl,
 zip_found R (w ∷ xs) (z ∷ ys) (suc i) x a e = zip_found R xs ys i x a.1 e
 
 -- what it says
-pub says_at : (files : FilesView) (code : Base) (view : BaseView) (n : ℕ) (item : store.Item) → IsReadIn files code view → slice_get view.found n ≡ Some item → Says files item (said_at view n)
-says_at files code view n item is e =
+pub says_at : (names : List (List ℕ)) (files : FilesView) (code : Base) (view : BaseView) (n : ℕ) (item : store.Item) → IsReadIn names files code view → slice_get view.found n ≡ Some item → Says files item (said_at view n)
+says_at names files code view n item is e =
     let y = zip_found (Says files) view.found view.said n item is.each e in
     subst (Says files item) (sym (get_or_from_slice_get view.said n y.0 passed y.1)) y.2
 
 -- that it can be read
-pub read_at : (files : FilesView) (code : Base) (n : ℕ) (item : store.Item) → HasTheorem files code n → ((view : BaseView) → IsBase view code → slice_get view.found n ≡ Some item) → CanBeRead files item
-read_at files code n item has e = (says_at files code has.0 n item has.1 (e has.0 has.1.base)).read
+pub read_at : (names : List (List ℕ)) (files : FilesView) (code : Base) (n : ℕ) (item : store.Item) → HasTheorem names files code n → ((view : BaseView) → IsBase view code → slice_get view.found n ≡ Some item) → CanBeRead files item
+read_at names files code n item has e = (says_at names files code has.0 n item has.1 (e has.0 (names, has.1.base))).read
 
 -- the theorem that it is
-pub theorem_at : (files : FilesView) (code : Base) (n : ℕ) (item : store.Item) (said : Item) (view : BaseView) → IsReadIn files code view → is_proof_at view n ≡ true → slice_get view.found n ≡ Some item → ((other : Item) → Says files item other → said ≡ other) → IsTheorem code n said view
-theorem_at files code n item said view is proof at only = record { base = is.base; said = (files, is.each); is_sound = proof; says = sym (only (said_at view n) (says_at files code view n item is at)) }
+pub theorem_at :
+    (names : List (List ℕ)) (files : FilesView) (code : Base) (n : ℕ) (item : store.Item) (said : Item) (view : BaseView) → IsReadIn names files code view → is_proof_at view n ≡ true →
+    slice_get view.found n ≡ Some item → ((other : Item) → Says files item other → said ≡ other) → IsTheorem code n said view
+theorem_at names files code n item said view is proof at only = record { base = (names, is.base); said = (files, is.each); is_sound = proof; says = sym (only (said_at view n) (says_at names files code view n item is at)) }

@@ -1,10 +1,8 @@
 -- Tasks of the code and steps of a proof.
-use Rattle.std.proofs.Common.{◌≡◌, ◌≢◌, ℕ, zero, suc, ◌+◌, ◌<◌, ◌≤◌, true, false, Option, Some, None, List, [], ◌∷◌, ◌++◌, length, map, take, drop, get_or, refl, sym, ◌∙◌, ap, subst, arith, append_assoc, zero-add, add-zero, inl, inr}
+use Rattle.std.proofs.Common.{◌≡◌, ◌≢◌, ℕ, zero, suc, ◌+◌, ◌<◌, ◌≤◌, false, Option, Some, None, List, [], ◌∷◌, ◌++◌, length, take, drop, get_or, refl, sym, ◌∙◌, ap, subst, arith, append_assoc, zero-add, add-zero}
 use Rattle.std.specs.Prelude.{slice_get, MatchOption}
 use Rattle.std.specs.List.{AllZip}
 use Rattle.std.proofs.Math.Decide.{ℕ_discrete}
-use Rattle.std.proofs.Math.Numerals.{one-add}
-use Rattle.std.proofs.lemmas.Bool.{cases_Bool}
 use Rattle.std.proofs.lemmas.List.{take_more, take-append-drop, drop_more, length-take-le, take_all}
 use Rattle.std.proofs.lemmas.Option.{slice_get_within, get_or_from_slice_get, slice_get-get_or}
 use Rattle.mm_frame.specs.Language.Frame.{Symbol, Frame, Resolved, Hypothesis, Assertion, Setting, AreSameFrame, AreSamePairs}
@@ -18,7 +16,7 @@ use Rattle.mm_proof.specs.Language.Run.{is_unknown, run_part, IsReached}
 use Rattle.mm_proof.specs.Language.Verdict.{IsFirstUnknown}
 use Rattle.mm_proof.specs.declared.ProofNumber.{ProofNumber}
 use Rattle.mm_proof.proofs.Moving.{takes_moved, frame_back, label_moved, pairs_back}
-use Rattle.mm_proof.proofs.Part.{known_one, one_known, part_one, part_none, known_part}
+use Rattle.mm_proof.proofs.Part.{known_one, one_known, part_one, part_none}
 use Rattle.mm_proof.proofs.Reaching.{Follows, follows_on, reached}
 use Rattle.mm_proof.proofs.Running.{faulty}
 use Rattle.mm_proof.specs.declared.stepping.Task.{Task}

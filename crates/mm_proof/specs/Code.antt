@@ -18,3 +18,4 @@ pub mod NamedItems
 pub mod Tasks
 pub mod Judged
 pub mod Numbering
+pub mod NumberedBase

@@ -9,16 +9,14 @@ ghost use Rattle.mm_proof.specs.Code.PairClause.{IsPair, Apart, NotApart, EachAp
 
 use crate::slots::home;
 use crate::symbol::Symbol;
-use std::alloc::{AllocError, Global};
 
-/// The active pairs at a statement, with where to look for each.
+/// The active pairs at a statement.
+///
+/// A pair is found quickly where the pairs are sorted by the lower and the higher key of their symbols. What is found is
+/// compared, so that no answer depends on it.
 #[derive(Drop)]
 pub struct Active<'a, S> {
     pairs: &'a [(S, S)],
-    /// For each pair the lower and the higher key of its symbols, and its place; in order, once it is made. What is
-    /// found by it is compared, so that no answer depends on it.
-    index: Vec<(usize, usize, usize)>,
-    is_made: bool,
 }
 
 /// The keys of two symbols, the lower one first.
@@ -29,53 +27,28 @@ fn keys<S: Symbol>(x: &S, y: &S) -> (usize, usize) {
 }
 
 impl<'a, S: Symbol> Active<'a, S> {
-    /// These pairs. Nothing is made of them until they are asked for.
-    pub fn new(alloc: Global, pairs: &'a [(S, S)]) -> Active<'a, S>
+    /// These pairs.
+    pub fn new(pairs: &'a [(S, S)]) -> Active<'a, S>
         ensures { result.pairs.now ≡ pairs.now }
     {
-        Active {
-            pairs,
-            index: Vec::new(alloc),
-            is_made: false,
-        }
-    }
-
-    /// Notes where to look for each pair, unless that was done.
-    pub fn prepare(&mut self) -> Result<(), AllocError>
-        ensures { self.new.pairs.now ≡ self.old.pairs.now }
-    {
-        if self.is_made {
-            return Ok(());
-        }
-        self.index.clear();
-        for place in 0..self.pairs.len() {
-            let (low, high) = keys(&self.pairs[place].0, &self.pairs[place].1);
-            self.index.push((low, high, place))?;
-        }
-        self.index.sort()?;
-        self.is_made = true;
-        Ok(())
+        Active { pairs }
     }
 
     /// The place at which the pair of two symbols may stand.
     fn guess(&self, x: &S, y: &S) -> usize {
-        let (a, b) = keys(x, y);
+        let wanted = keys(x, y);
         let mut low = 0;
-        let mut high = self.index.len();
+        let mut high = self.pairs.len();
         while low < high {
             let middle = low + (high - low) / 2;
-            let (c, d, _) = self.index[middle];
-            if c < a || c == a && d < b {
+            let pair = &self.pairs[middle];
+            if keys(&pair.0, &pair.1) < wanted {
                 low = middle + 1;
             } else {
                 high = middle;
             }
         }
-        if low < self.index.len() {
-            self.index[low].2
-        } else {
-            0
-        }
+        low
     }
 
     /// Whether the pair at a place is that of two symbols.

@@ -1,14 +1,13 @@
 //! What citing an assertion needs.
 
 ghost use Rattle.std.specs.Prelude.{◌≡◌, ◌<◌, true, All, IfOk, length, map};
-ghost use Rattle.mm_frame.specs.Code.CodeSymbols.{symbol_of, kept_pairs, symbols_of as named};
-ghost use Rattle.mm_frame.specs.Language.Base.{BaseView, before, is_shown_at, is_framed_at, is_proof_at, hypothesis_at, frame_at};
-ghost use Rattle.mm_frame.specs.Language.Framing.{active_pairs};
+ghost use Rattle.mm_frame.specs.Language.Base.{BaseView, is_shown_at, is_framed_at, is_proof_at};
 ghost use Rattle.mm_frame.specs.Code.KeptBase.{IsBase, HasItem};
 ghost use Rattle.mm_frame.specs.Language.Frame.{AreSameFrame, AreSamePairs};
-ghost use Rattle.mm_proof.specs.Code.Citation.{mandatory_of, frame_of};
+ghost use Rattle.mm_proof.specs.Code.Citation.{mandatory_of, frame_of, pairs_of};
+ghost use Rattle.mm_proof.specs.Code.NumberedBase.{ByNames, by_number, all_by_number, numbered_hypothesis, numbered_frame, numbered_setting};
 
-use mm_frame::{Base, ItemKind, NamedSymbol};
+use mm_frame::{Base, ItemKind, NumberedSymbol};
 use std::alloc::{AllocError, Global};
 
 /// A mandatory hypothesis of an assertion.
@@ -30,24 +29,25 @@ pub struct Cited<'a, S> {
 }
 
 /// The expression of the item with this number; no symbols where it has none.
-pub fn expression(base: &Base, number: usize) -> &[NamedSymbol]
-    ensures { (view : BaseView) → IsBase view base.now → is_shown_at view number ≡ true → named result.now ≡ (hypothesis_at view number).expression }
+pub fn expression(base: &Base, number: usize) -> &[NumberedSymbol]
+    ensures { ByNames base.now (λ names view. is_shown_at view number ≡ true
+        → all_by_number result.now ≡ (numbered_hypothesis names view number).expression) }
 {
     base.expression(number).unwrap_or(&[])
 }
 
 /// The active pairs at a theorem; none where the item with this number is no theorem.
-pub fn active(base: &Base, number: usize) -> &[(NamedSymbol, NamedSymbol)]
-    ensures { (view : BaseView) → IsBase view base.now → is_proof_at view number ≡ true →
-        AreSamePairs (kept_pairs result.now) (active_pairs (before view number)) }
+pub fn active(base: &Base, number: usize) -> &[(NumberedSymbol, NumberedSymbol)]
+    ensures { ByNames base.now (λ names view. is_proof_at view number ≡ true
+        → AreSamePairs (pairs_of by_number result.now) (numbered_setting names view number).active) }
 {
     base.pairs(number).unwrap_or(&[])
 }
 
 /// The hypothesis with this number.
-fn hypothesis_of(base: &Base, number: usize) -> Hypothesis<'_, NamedSymbol>
+fn hypothesis_of(base: &Base, number: usize) -> Hypothesis<'_, NumberedSymbol>
     requires { HasItem base.now number }
-    ensures { (view : BaseView) → IsBase view base.now → is_shown_at view number ≡ true → mandatory_of symbol_of result ≡ hypothesis_at view number }
+    ensures { ByNames base.now (λ names view. is_shown_at view number ≡ true → mandatory_of by_number result ≡ numbered_hypothesis names view number) }
 {
     Hypothesis {
         floating: matches!(base.item(number).kind, ItemKind::Floating),
@@ -60,10 +60,10 @@ fn hypotheses<'a>(
     alloc: Global,
     base: &'a Base,
     numbers: &[usize],
-) -> Result<Vec<Hypothesis<'a, NamedSymbol>>, AllocError>
+) -> Result<Vec<Hypothesis<'a, NumberedSymbol>>, AllocError>
     requires { All (HasItem base.now) numbers.now }
-    ensures { IfOk result (λ found. (view : BaseView) → IsBase view base.now → All (λ n. is_shown_at view n ≡ true) numbers.now →
-        map (mandatory_of symbol_of) found.items ≡ map (hypothesis_at view) numbers.now) }
+    ensures { IfOk result (λ found. ByNames base.now (λ names view. All (λ n. is_shown_at view n ≡ true) numbers.now →
+        map (mandatory_of by_number) found.items ≡ map (numbered_hypothesis names view) numbers.now)) }
 {
     let mut found = Vec::new(alloc);
     for number in numbers {
@@ -77,10 +77,10 @@ pub fn assertion_of(
     alloc: Global,
     base: &Base,
     number: usize,
-) -> Result<Cited<'_, NamedSymbol>, AllocError>
+) -> Result<Cited<'_, NumberedSymbol>, AllocError>
     requires { (view : BaseView) × IsBase view base.now × (is_framed_at view number ≡ true) × (number < length view.said) }
-    ensures { IfOk result (λ cited. (view : BaseView) → IsBase view base.now → is_framed_at view number ≡ true →
-        AreSameFrame (frame_of symbol_of cited) (frame_at view number)) }
+    ensures { IfOk result (λ cited. ByNames base.now (λ names view. is_framed_at view number ≡ true →
+        AreSameFrame (frame_of by_number cited) (numbered_frame names view number))) }
 {
     let expression = expression(base, number);
     match base.frame(number) {

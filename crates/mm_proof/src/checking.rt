@@ -25,11 +25,11 @@ use crate::step::{ProofFault, Undecoded};
 use crate::stepping::{Outcome, run};
 use crate::work::{Checked, Work};
 use crate::{ProofNumber, Spot, Verdict};
-use mm_frame::{Base, Files, NamedSymbol, ProofWords, Statement, places_have_frames};
+use mm_frame::{Base, Files, Names, NumberedSymbol, ProofWords, Statement, places_have_frames};
 use std::alloc::{AllocError, Global};
 
 /// The numbers of the mandatory hypotheses of an assertion; none where the item with this number is none.
-fn mandatory(base: &Base, i: usize) -> &[usize]
+pub fn mandatory(base: &Base, i: usize) -> &[usize]
     ensures { (view : BaseView) → IsBase view base.now → is_framed_at view i ≡ true → result.now ≡ mandatory_numbers (before view i) (said_at view i) }
 {
     match base.frame(i) {
@@ -39,7 +39,7 @@ fn mandatory(base: &Base, i: usize) -> &[usize]
 }
 
 /// The fault that decoding tells; want of memory stays what it is.
-fn told(error: Undecoded) -> Result<ProofFault, AllocError>
+pub fn told(error: Undecoded) -> Result<ProofFault, AllocError>
     ensures { IfOk result (λ fault. error ≡ errors.Fault fault) }
 {
     match error {
@@ -62,7 +62,7 @@ fn close(words: ProofWords) -> Spot
 }
 
 /// The verdict on a proof with these words, by what the run of its steps came to.
-fn verdict(outcome: Outcome, decoding: &Decoding, words: ProofWords) -> Verdict
+pub fn verdict(outcome: Outcome, decoding: &Decoding, words: ProofWords) -> Verdict
     requires within { IsOutcomeWithin (length decoding.now.steps.items) outcome }
     requires few { length words ≤ 4294967295 }
     ensures { (view : BaseView) (place : Setting) (statement : List Symbol)
@@ -92,7 +92,7 @@ fn done(outcome: Outcome, steps: usize) -> usize
 }
 
 /// How many places the machine's tables have: some for each hypothesis of the assertion that has the most.
-fn keys(named: &Named<'_, NamedSymbol>) -> usize {
+fn keys(named: &Named<'_, NumberedSymbol>) -> usize {
     let mut most = 0;
     for cited in &named.assertions {
         most = most.max(cited.hypotheses.len());
@@ -117,12 +117,12 @@ fn run_steps(
     decodes_surely();
     mandatory_are_active();
     let named = name_all(alloc, base, &decoding.labels)?;
-    let mut active = Active::new(alloc, active(base, i));
+    let active = Active::new(active(base, i));
     run(
         alloc,
         keys(&named),
         &named,
-        &mut active,
+        &active,
         &decoding.steps,
         expression(base, i),
     )
@@ -180,30 +180,32 @@ fn judge(
 }
 
 /// Checks the proof of the item with the number `i`, a sound `$p` of a base whose items can be read in these files, and
-/// records the run.
+/// records the run. The symbols of the base are read by the names that it was built over, or by any that begin with
+/// these.
 ///
 /// A run has at most 4,294,967,295 steps. It takes time near linear in the symbols of the expressions that its steps
 /// make and compare, and memory for the entries of the stack and for what is saved. After want of memory nothing is
 /// recorded.
 pub fn check(
     alloc: Global,
+    names: &Names,
     files: &Files,
     base: &Base,
     i: usize,
     work: &mut Work,
 ) -> Result<Checked, AllocError>
-    requires theorem { HasTheorem files.now base.now i }
+    requires theorem { HasTheorem names.now files.now base.now i }
     requires room { 0 < work.old.room }
     requires steps { work.old.steps + 4294967295 < 2 ^ 64 }
 
     // The verdict is that on the item's proof, its decoding included, and the words are those that cite.
-    ensures verdict { IfOk result (λ checked. OfTheorem files.now base.now i (λ view. IsVerdictAt view i checked.verdict)) }
-    ensures cites { IfOk result (λ checked. OfTheorem files.now base.now i (λ view. checked.cites ≡ cites_at view i)) }
+    ensures verdict { IfOk result (λ checked. OfTheorem names.now files.now base.now i (λ view. IsVerdictAt view i checked.verdict)) }
+    ensures cites { IfOk result (λ checked. OfTheorem names.now files.now base.now i (λ view. checked.cites ≡ cites_at view i)) }
 
     // One more run is recorded, with the steps that are done in it.
     ensures run { OnOk result (work.new.runs ≡ work.old.runs ++ i ∷ []) }
     ensures room { OnOk result (work.new.room + 1 ≡ work.old.room) }
-    ensures done { OnOk result (OfTheorem files.now base.now i (λ view.
+    ensures done { OnOk result (OfTheorem names.now files.now base.now i (λ view.
         (n : ℕ) × AreDoneAt view i n × (n ≤ 4294967295) × (work.new.steps ≡ work.old.steps + n))) }
 
     ensures memory { OnErr result (work.new ≡ work.old) }

@@ -98,16 +98,15 @@ pub fn citing_fault<'s, 'a, S: Symbol>(
     taken: &Taken<'s, 'a, S>,
     expression: &'a [S],
     pairs: &[(S, S)],
-    active: &mut Active<'a, S>,
+    active: &Active<'a, S>,
     gathered: &mut Gathered<'a, S>,
     marks: &mut [usize],
 ) -> Result<Option<ProofNumber>, AllocError>
     requires within { All (IsWithin (length taken.now.symbols.now)) taken.now.entries.now }
     requires count { length taken.now.entries.now ≡ length taken.now.hypotheses.now }
     requires frame { IsFrame (frame_from S.means taken.now.hypotheses.now expression.now pairs.now) }
-    ensures says { IfOk result (λ found. CitingSays (pairs_of S.means active.old.pairs.now)
+    ensures { IfOk result (λ found. CitingSays (pairs_of S.means active.now.pairs.now)
         (frame_from S.means taken.now.hypotheses.now expression.now pairs.now) (entries_of S.means taken.now) found) }
-    ensures active { active.new.pairs.now ≡ active.old.pairs.now }
 {
     if !typecodes_match(&*taken) {
         return Ok(Some(ProofNumber::P08));
@@ -115,13 +114,7 @@ pub fn citing_fault<'s, 'a, S: Symbol>(
     if !essentials_fit(&*taken) {
         return Ok(Some(ProofNumber::P09));
     }
-    if let Some(number) = pairs_fault(
-        &*taken,
-        &*pairs,
-        &mut *active,
-        &mut *gathered,
-        &mut *marks,
-    )? {
+    if let Some(number) = pairs_fault(&*taken, &*pairs, &*active, &mut *gathered, &mut *marks)? {
         return Ok(Some(number));
     }
     if !is_short(&*taken, expression) {

@@ -177,18 +177,17 @@ impl<'a, S: Symbol> Machine<'a, S> {
         expression: &'a [S],
         hypotheses: &[Hypothesis<'a, S>],
         pairs: &'a [(S, S)],
-        active: &mut Active<'a, S>,
+        active: &Active<'a, S>,
     ) -> Result<Option<ProofNumber>, AllocError>
         requires whole { AreRanges self.old }
         requires frame { IsFrame (frame_from S.means hypotheses.now expression.now pairs.now) }
         ensures whole { OnOk result (AreRanges self.new) }
         ensures cites { IfOk result (λ found. MatchOption found
-            (Cites (pairs_of S.means active.old.pairs.now) (frame_from S.means hypotheses.now expression.now pairs.now) (state_of S.means self.old).stack
+            (Cites (pairs_of S.means active.now.pairs.now) (frame_from S.means hypotheses.now expression.now pairs.now) (state_of S.means self.old).stack
             (state_of S.means self.new).stack)
-            (IsLowestCiting (pairs_of S.means active.old.pairs.now) (frame_from S.means hypotheses.now expression.now pairs.now)
+            (IsLowestCiting (pairs_of S.means active.now.pairs.now) (frame_from S.means hypotheses.now expression.now pairs.now)
             (state_of S.means self.old).stack)) }
         ensures saved { OnOk result ((state_of S.means self.new).saved ≡ (state_of S.means self.old).saved) }
-        ensures active { active.new.pairs.now ≡ active.old.pairs.now }
     {
         let count = hypotheses.len();
         if self.stack.len() < count {
@@ -206,7 +205,7 @@ impl<'a, S: Symbol> Machine<'a, S> {
             &taken,
             expression,
             pairs,
-            &mut *active,
+            &*active,
             &mut self.gathered,
             &mut self.marks,
         )? {
@@ -222,22 +221,16 @@ impl<'a, S: Symbol> Machine<'a, S> {
     pub fn cite(
         &mut self,
         cited: &Cited<'a, S>,
-        active: &mut Active<'a, S>,
+        active: &Active<'a, S>,
     ) -> Result<Option<ProofNumber>, AllocError>
         requires whole { AreRanges self.old }
         requires frame { IsFrame (frame_of S.means cited.now) }
         ensures whole { OnOk result (AreRanges self.new) }
         ensures cites { IfOk result (λ found. MatchOption found
-            (Cites (pairs_of S.means active.old.pairs.now) (frame_of S.means cited.now) (state_of S.means self.old).stack (state_of S.means self.new).stack)
-            (IsLowestCiting (pairs_of S.means active.old.pairs.now) (frame_of S.means cited.now) (state_of S.means self.old).stack)) }
+            (Cites (pairs_of S.means active.now.pairs.now) (frame_of S.means cited.now) (state_of S.means self.old).stack (state_of S.means self.new).stack)
+            (IsLowestCiting (pairs_of S.means active.now.pairs.now) (frame_of S.means cited.now) (state_of S.means self.old).stack)) }
         ensures saved { OnOk result ((state_of S.means self.new).saved ≡ (state_of S.means self.old).saved) }
-        ensures active { active.new.pairs.now ≡ active.old.pairs.now }
     {
-        self.take(
-            cited.expression,
-            &cited.hypotheses,
-            cited.pairs,
-            &mut *active,
-        )
+        self.take(cited.expression, &cited.hypotheses, cited.pairs, &*active)
     }
 }

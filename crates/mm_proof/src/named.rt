@@ -2,18 +2,15 @@
 
 ghost use Rattle.std.specs.Prelude.{◌≡◌, ◌++◌, ◌∷◌, ◌<◌, [], ℕ, Some, All, IfOk, IfSome, OnOk, length, slice_get};
 ghost use Rattle.mm_frame.specs.declared.base.Resolved.TheVariants as answers;
-ghost use Rattle.mm_frame.specs.Language.Base.{BaseView};
 ghost use Rattle.mm_frame.specs.Language.Typing.{IsFrame};
-ghost use Rattle.mm_frame.specs.Code.CodeSymbols.{symbol_of};
-ghost use Rattle.mm_frame.specs.Code.KeptBase.{IsBase};
-ghost use Rattle.mm_proof.specs.Language.BaseLabels.{setting_at};
 ghost use Rattle.mm_proof.specs.Code.Citation.{frame_of};
 ghost use Rattle.mm_proof.specs.Code.Labels.{AreEntries, entry_steps};
 ghost use Rattle.mm_proof.specs.Code.NamedItems.{AreNamed, Grows, IsNamedBy, StandsFor};
+ghost use Rattle.mm_proof.specs.Code.NumberedBase.{ByNames, by_number, numbered_setting};
 ghost use Rattle.mm_proof.specs.Code.Tasks.{AreUses, AreUsesWithin};
 
 use crate::assertion::{Cited, assertion_of, expression};
-use mm_frame::{Base, NamedSymbol, Resolved, places_have_frames};
+use mm_frame::{Base, NumberedSymbol, Resolved, places_have_frames};
 use std::alloc::{AllocError, Global};
 use std::collections::HashMap;
 
@@ -86,9 +83,9 @@ impl Numbers {
 /// What was named so far, with the numbers of the items.
 #[derive(Drop)]
 pub struct Naming<'a> {
-    pub hypotheses: Vec<&'a [NamedSymbol]>,
+    pub hypotheses: Vec<&'a [NumberedSymbol]>,
     pub hypothesis_numbers: Numbers,
-    pub assertions: Vec<Cited<'a, NamedSymbol>>,
+    pub assertions: Vec<Cited<'a, NumberedSymbol>>,
     pub assertion_numbers: Numbers,
 }
 
@@ -156,12 +153,12 @@ pub fn name_all<'a>(
     alloc: Global,
     base: &'a Base,
     labels: &[Resolved],
-) -> Result<Named<'a, NamedSymbol>, AllocError>
+) -> Result<Named<'a, NumberedSymbol>, AllocError>
     requires { All (IsNamedBy base.now) labels.now }
     ensures within { IfOk result (λ named. AreUsesWithin named) }
-    ensures frames { IfOk result (λ named. All (λ a. IsFrame (frame_of symbol_of a)) named.assertions.items) }
-    ensures means { IfOk result (λ named. (view : BaseView) (i : ℕ) → IsBase view base.now → AreEntries view i labels.now
-        → AreUses symbol_of named (setting_at view i) (entry_steps view labels.now)) }
+    ensures frames { IfOk result (λ named. All (λ a. IsFrame (frame_of by_number a)) named.assertions.items) }
+    ensures means { IfOk result (λ named. ByNames base.now (λ names view. (i : ℕ) → AreEntries view i labels.now
+        → AreUses by_number named (numbered_setting names view i) (entry_steps view labels.now))) }
 {
     let mut naming = Naming::new(alloc, base);
     let mut uses = Vec::new(alloc);

@@ -86,7 +86,7 @@ fn any_share<'s, 'a, S: Symbol>(
 pub fn pairs_fault<'s, 'a, S: Symbol>(
     taken: &Taken<'s, 'a, S>,
     pairs: &[(S, S)],
-    active: &mut Active<'a, S>,
+    active: &Active<'a, S>,
     gathered: &mut Gathered<'a, S>,
     marks: &mut [usize],
 ) -> Result<Option<ProofNumber>, AllocError>
@@ -94,15 +94,13 @@ pub fn pairs_fault<'s, 'a, S: Symbol>(
     requires count { length taken.now.entries.now ≡ length taken.now.hypotheses.now }
     requires hypotheses { AreHypotheses (hypotheses_of S.means taken.now.hypotheses.now) }
     requires typed { AreTypedPairs (hypotheses_of S.means taken.now.hypotheses.now) (pairs_of S.means pairs.now) }
-    ensures says { IfOk result (λ found. (given : Meaning → List Meaning)
+    ensures { IfOk result (λ found. (given : Meaning → List Meaning)
         → GivesEntries given (hypotheses_of S.means taken.now.hypotheses.now) (entries_of S.means taken.now)
-        → PairsSay (pairs_of S.means active.old.pairs.now) given (pairs_of S.means pairs.now) found) }
-    ensures active { active.new.pairs.now ≡ active.old.pairs.now }
+        → PairsSay (pairs_of S.means active.now.pairs.now) given (pairs_of S.means pairs.now) found) }
 {
     if pairs.is_empty() {
         return Ok(None);
     }
-    active.prepare()?;
     gathered.gather_all(&*taken)?;
     if all_apart(&*taken, &*gathered, &*active, &*pairs) {
         return Ok(None);

@@ -5,14 +5,14 @@ ghost use Rattle.mm_proof.specs.Language.DecodingLaws.{RenamingKeepsDecoding};
 
 /// A renaming of symbols, one to one and by kinds, keeps the verdict on a proof.
 ///
-/// For a base that keeps numbers in place of the names of symbols; no code calls on it yet.
+/// So a check may run over numbers in place of names. It shows what the definitions mean; no code calls on it.
 pub fn renaming_keeps_verdicts()
     ensures { RenamingKeepsVerdict }
 {}
 
 /// A renaming of symbols keeps what the words of a proof decode to, and which of them cite.
 ///
-/// For a base that keeps numbers in place of the names of symbols; no code calls on it yet.
+/// It shows what the definitions mean; no code calls on it.
 pub fn renaming_keeps_decoding()
     ensures { RenamingKeepsDecoding }
 {}

@@ -91,7 +91,7 @@ fn todo<'a, S: Symbol>(named: &Named<'a, S>, action: Action) -> Option<Task>
 fn turn<'a, S: Symbol>(
     machine: &mut Machine<'a, S>,
     named: &Named<'a, S>,
-    active: &mut Active<'a, S>,
+    active: &Active<'a, S>,
     task: Task,
 ) -> Result<Option<ProofNumber>, AllocError>
     requires whole { AreRanges machine.old }
@@ -100,13 +100,12 @@ fn turn<'a, S: Symbol>(
     requires within { IsTaskWithin (length named.now.hypotheses.items) (length named.now.assertions.items)
         (length machine.old.saved.items - length named.now.hypotheses.items) task }
     ensures whole { OnOk result (AreRanges machine.new) }
-    ensures turns { IfOk result (λ found. (place : Setting) (step : Step) (before : State) → AreSamePairs (pairs_of S.means active.old.pairs.now) place.active
+    ensures turns { IfOk result (λ found. (place : Setting) (step : Step) (before : State) → AreSamePairs (pairs_of S.means active.now.pairs.now) place.active
         → HasState S.means (expressions_of S.means named.now) machine.old before
         → MeansTask (expressions_of S.means named.now) (frames_of S.means named.now) place task step
         → MatchOption found ((after : State) × HasState S.means (expressions_of S.means named.now) machine.new after × Turns place step before after)
         (IsLowest place step before.stack)) }
     ensures saves { IfOk result (λ found. IfNone found (length machine.new.saved.items ≡ length machine.old.saved.items + saves_of task)) }
-    ensures active { active.new.pairs.now ≡ active.old.pairs.now }
 {
     match task {
         Task::Push(n) => {
@@ -114,7 +113,7 @@ fn turn<'a, S: Symbol>(
             Ok(None)
         }
         Task::Cite(n) => {
-            let found = machine.cite(&named.assertions[n], &mut *active)?;
+            let found = machine.cite(&named.assertions[n], &*active)?;
             Ok(found)
         }
         Task::Again(n) => {
@@ -161,7 +160,7 @@ pub fn run<'a, S: Symbol>(
     alloc: Global,
     keys: usize,
     named: &Named<'a, S>,
-    active: &mut Active<'a, S>,
+    active: &Active<'a, S>,
     steps: &[ProofStep],
     statement: &[S],
 ) -> Result<Outcome, AllocError>
@@ -170,7 +169,7 @@ pub fn run<'a, S: Symbol>(
     requires saved { AreSavedBefore steps.now }
     ensures within { IfOk result (IsOutcomeWithin (length steps.now)) }
     ensures says { IfOk result (λ outcome. (place : Setting) (names : List Step) → HasFrames place
-        → AreSamePairs (pairs_of S.means active.old.pairs.now) place.active
+        → AreSamePairs (pairs_of S.means active.now.pairs.now) place.active
         → AreUses S.means named.now place names → RunSays place (actions_mean names steps.now) (map S.means statement.now) outcome) }
 {
     let mut machine = Machine::new(alloc, keys)?;
@@ -179,7 +178,7 @@ pub fn run<'a, S: Symbol>(
         let Some(task) = todo(&*named, steps[place].action) else {
             return Ok(Outcome::Unknown(place));
         };
-        if let Some(number) = turn(&mut machine, &*named, &mut *active, task)? {
+        if let Some(number) = turn(&mut machine, &*named, &*active, task)? {
             return Ok(Outcome::Fault(number, place));
         }
     }

@@ -1,11 +1,12 @@
 //! What the machine asks of symbols.
 
-ghost use Rattle.std.specs.Prelude.{◌≡◌, ◌↔◌, ◌<◌, ◌^◌, ℕ, IsTrue};
+ghost use Rattle.std.specs.Prelude.{◌≡◌, ◌↔◌, ◌<◌, ◌^◌, ℕ, IsTrue, slice_index};
 ghost use Rattle.mm_frame.specs.Language.Frame.{Symbol as Meaning};
-ghost use Rattle.mm_frame.specs.Code.CodeSymbols.{symbol_of};
+ghost use Rattle.mm_frame.specs.Code.CodeSymbols.{named_symbol};
 ghost use Rattle.mm_proof.specs.Code.Keys.{key_from, key_next};
+ghost use Rattle.mm_proof.specs.Code.NumberedBase.{by_number};
 
-use mm_frame::NamedSymbol;
+use mm_frame::{NamedSymbol, NumberedSymbol};
 
 /// A symbol of expressions, by its name or by a number.
 pub trait Symbol: Drop {
@@ -38,7 +39,7 @@ fn key_behind(key: usize, byte: u8) -> usize
 }
 
 impl Symbol for NamedSymbol {
-    ghost means = { symbol_of };
+    ghost means = { named_symbol };
 
     ghost key_of = { λ symbol. key_from 0 symbol.name };
 
@@ -56,5 +57,23 @@ impl Symbol for NamedSymbol {
             key = key_behind(key, *byte);
         }
         key
+    }
+}
+
+impl Symbol for NumberedSymbol {
+    ghost means = { by_number };
+
+    ghost key_of = { λ symbol. slice_index symbol.name 0 };
+
+    fn same(&self, other: &Self) -> bool {
+        NumberedSymbol::same(self, other)
+    }
+
+    fn is_variable(&self) -> bool {
+        self.variable
+    }
+
+    fn key(&self) -> usize {
+        self.name
     }
 }

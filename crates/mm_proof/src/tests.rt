@@ -4,9 +4,10 @@ ghost use Rattle.std.specs.Prelude.{◌≡◌, ◌<◌, true, IfSome, length};
 ghost use Rattle.mm_frame.specs.Language.Base.{BaseView, is_proof_at};
 ghost use Rattle.mm_frame.specs.Code.KeptBase.{IsBase};
 
+use crate::symbol_tests::agrees;
 use crate::work::{Checked, Work};
 use crate::{ProofNumber, Spot, Verdict, check};
-use mm_frame::{Base, Files, StoreError};
+use mm_frame::{Base, Files, Names, StoreError};
 use std::alloc::Global;
 use std::test::Fail;
 
@@ -40,6 +41,37 @@ x16 $a wff p $. x17 $a wff p $. x18 $a wff p $. x19 $a wff p $. x20 $a wff p $.
 /// A database with a pair of a theorem that is not mandatory for it.
 const APART: &[u8] =
     b"$c wff |- $. $v x y z $. wx $f wff x $. wy $f wff y $. wz $f wff z $. ${ $d x y $. a1 $a |- x y $. $} ${ b1 $e |- x y $. b2 $a |- x $. $}\n";
+
+/// A hundred and twenty ways.
+const LONG: &[u8] = b"$c wff $. $v p $. wp $f wff p $.
+x1 $a wff p $. x2 $a wff p $. x3 $a wff p $. x4 $a wff p $. x5 $a wff p $. x6 $a wff p $. x7 $a wff p $. x8 $a wff p $.
+x9 $a wff p $. x10 $a wff p $. x11 $a wff p $. x12 $a wff p $. x13 $a wff p $. x14 $a wff p $. x15 $a wff p $. x16 $a wff p $.
+x17 $a wff p $. x18 $a wff p $. x19 $a wff p $. x20 $a wff p $. x21 $a wff p $. x22 $a wff p $. x23 $a wff p $. x24 $a wff p $.
+x25 $a wff p $. x26 $a wff p $. x27 $a wff p $. x28 $a wff p $. x29 $a wff p $. x30 $a wff p $. x31 $a wff p $. x32 $a wff p $.
+x33 $a wff p $. x34 $a wff p $. x35 $a wff p $. x36 $a wff p $. x37 $a wff p $. x38 $a wff p $. x39 $a wff p $. x40 $a wff p $.
+x41 $a wff p $. x42 $a wff p $. x43 $a wff p $. x44 $a wff p $. x45 $a wff p $. x46 $a wff p $. x47 $a wff p $. x48 $a wff p $.
+x49 $a wff p $. x50 $a wff p $. x51 $a wff p $. x52 $a wff p $. x53 $a wff p $. x54 $a wff p $. x55 $a wff p $. x56 $a wff p $.
+x57 $a wff p $. x58 $a wff p $. x59 $a wff p $. x60 $a wff p $. x61 $a wff p $. x62 $a wff p $. x63 $a wff p $. x64 $a wff p $.
+x65 $a wff p $. x66 $a wff p $. x67 $a wff p $. x68 $a wff p $. x69 $a wff p $. x70 $a wff p $. x71 $a wff p $. x72 $a wff p $.
+x73 $a wff p $. x74 $a wff p $. x75 $a wff p $. x76 $a wff p $. x77 $a wff p $. x78 $a wff p $. x79 $a wff p $. x80 $a wff p $.
+x81 $a wff p $. x82 $a wff p $. x83 $a wff p $. x84 $a wff p $. x85 $a wff p $. x86 $a wff p $. x87 $a wff p $. x88 $a wff p $.
+x89 $a wff p $. x90 $a wff p $. x91 $a wff p $. x92 $a wff p $. x93 $a wff p $. x94 $a wff p $. x95 $a wff p $. x96 $a wff p $.
+x97 $a wff p $. x98 $a wff p $. x99 $a wff p $. x100 $a wff p $. x101 $a wff p $. x102 $a wff p $. x103 $a wff p $. x104 $a wff p $.
+x105 $a wff p $. x106 $a wff p $. x107 $a wff p $. x108 $a wff p $. x109 $a wff p $. x110 $a wff p $. x111 $a wff p $. x112 $a wff p $.
+x113 $a wff p $. x114 $a wff p $. x115 $a wff p $. x116 $a wff p $. x117 $a wff p $. x118 $a wff p $. x119 $a wff p $. x120 $a wff p $.
+";
+
+/// The demonstration database of the Metamath book, without its theorem.
+const DEMO: &[u8] = b"$c 0 + = -> ( ) term wff |- $.
+$v t r s P Q $.
+tt $f term t $. tr $f term r $. ts $f term s $. wp $f wff P $. wq $f wff Q $.
+tze $a term 0 $. tpl $a term ( t + r ) $. weq $a wff t = r $. wim $a wff ( P -> Q ) $.
+a1 $a |- ( t = r -> ( t = s -> r = s ) ) $. a2 $a |- ( t + 0 ) = t $.
+${ min $e |- P $. maj $e |- ( P -> Q ) $. mp $a |- Q $. $}
+";
+
+/// A variable that may stand for no symbols.
+const EMPTY: &[u8] = b"$c |- S $.\n$v x $.\nsx $f S x $.\ne $a S $.\nax $a |- x $.\n";
 
 /// Proofs, with what a check of each says.
 const CASES: &[Case] = &[
@@ -145,6 +177,138 @@ const CASES: &[Case] = &[
         cites: &[4, 5],
         steps: 5,
     },
+    Case {
+        front: DEMO,
+        rest: b"th1 $p |- t = t $=
+tt tze tpl tt weq tt tt weq tt a2 tt tze tpl
+tt weq tt tze tpl tt weq tt tt weq wim tt a2
+tt tze tpl tt tt a1 mp mp
+$.",
+        label: b"th1",
+        verdict: Verdict::Proved,
+        cites: &[1, 2, 4, 9, 23, 31, 32],
+        steps: 34,
+    },
+    Case {
+        front: DETACHMENT,
+        rest: b"${ h1 $e |- p $. h2 $e |- ( p -> q ) $. th $p |- q $= ( mp ) ABCDE $. $}",
+        label: b"th",
+        verdict: Verdict::Proved,
+        cites: &[1],
+        steps: 5,
+    },
+    Case {
+        front: DETACHMENT,
+        rest: b"id $p wff ( ( p -> p ) -> ( p -> p ) ) $= ( wi ) AAB ZC B $.",
+        label: b"id",
+        verdict: Verdict::Proved,
+        cites: &[1],
+        steps: 6,
+    },
+    Case {
+        front: DETACHMENT,
+        rest: b"id $p wff ( ( p -> p ) -> ( p -> p ) ) $= ( wi ) AABU $.",
+        label: b"id",
+        verdict: Verdict::Wrong(ProofNumber::P05, Spot { word: 4, letter: 0 }),
+        cites: &[],
+        steps: 0,
+    },
+    Case {
+        front: DETACHMENT,
+        rest: b"id $p wff ( ( p -> p ) -> ( p -> p ) ) $= ( wi ) ZA $.",
+        label: b"id",
+        verdict: Verdict::Wrong(ProofNumber::P13, Spot { word: 3, letter: 0 }),
+        cites: &[],
+        steps: 1,
+    },
+    Case {
+        front: DETACHMENT,
+        rest: b"id $p wff ( ( p -> p ) -> ( p -> p ) ) $= ( wi ) AABa $.",
+        label: b"id",
+        verdict: Verdict::Wrong(ProofNumber::P04, Spot { word: 3, letter: 3 }),
+        cites: &[],
+        steps: 0,
+    },
+    Case {
+        front: DETACHMENT,
+        rest: b"t7 $p wff p $= ? $.",
+        label: b"t7",
+        verdict: Verdict::Incomplete(Spot { word: 0, letter: 0 }),
+        cites: &[],
+        steps: 0,
+    },
+    Case {
+        front: DETACHMENT,
+        rest: b"t7 $p wff p $= ? nolabel $.",
+        label: b"t7",
+        verdict: Verdict::Wrong(ProofNumber::P01, Spot { word: 1, letter: 0 }),
+        cites: &[],
+        steps: 0,
+    },
+    Case {
+        front: DETACHMENT,
+        rest: b"t7 $p wff p $= wp wp $.",
+        label: b"t7",
+        verdict: Verdict::Wrong(ProofNumber::P14, Spot { word: 2, letter: 0 }),
+        cites: &[],
+        steps: 2,
+    },
+    Case {
+        front: DETACHMENT,
+        rest: b"t $p wff p $= ( wi ) A $.",
+        label: b"t",
+        verdict: Verdict::Proved,
+        cites: &[],
+        steps: 1,
+    },
+    Case {
+        front: EMPTY,
+        rest: b"t $p |- $= e ax $.",
+        label: b"t",
+        verdict: Verdict::Proved,
+        cites: &[0, 1],
+        steps: 2,
+    },
+    Case {
+        front: DETACHMENT,
+        rest: b"sw $p wff ( q -> p ) $= wq wp wi $.",
+        label: b"sw",
+        verdict: Verdict::Proved,
+        cites: &[2],
+        steps: 3,
+    },
+    Case {
+        front: LONG,
+        rest: b"t $p wff p $= ( x1 x2 x3 x4 x5 x6 x7 x8 x9 x10 x11 x12 x13 x14 x15 x16 x17 x18 x19 x20
+x21 x22 x23 x24 x25 x26 x27 x28 x29 x30 x31 x32 x33 x34 x35 x36 x37 x38 x39 x40
+x41 x42 x43 x44 x45 x46 x47 x48 x49 x50 x51 x52 x53 x54 x55 x56 x57 x58 x59 x60
+x61 x62 x63 x64 x65 x66 x67 x68 x69 x70 x71 x72 x73 x74 x75 x76 x77 x78 x79 x80
+x81 x82 x83 x84 x85 x86 x87 x88 x89 x90 x91 x92 x93 x94 x95 x96 x97 x98 x99 x100
+x101 x102 x103 x104 x105 x106 x107 x108 x109 x110 x111 x112 x113 x114 x115 x116 x117 x118 x119 x120 ) AUUA $.",
+        label: b"t",
+        verdict: Verdict::Proved,
+        cites: &[120],
+        steps: 2,
+    },
+    Case {
+        front: LONG,
+        rest: b"t $p wff p $= ( x1 x2 x3 x4 x5 x6 x7 x8 x9 x10 x11 x12 x13 x14 x15 x16 x17 x18 x19 x20
+x21 x22 x23 x24 x25 x26 x27 x28 x29 x30 x31 x32 x33 x34 x35 x36 x37 x38 x39 x40
+x41 x42 x43 x44 x45 x46 x47 x48 x49 x50 x51 x52 x53 x54 x55 x56 x57 x58 x59 x60
+x61 x62 x63 x64 x65 x66 x67 x68 x69 x70 x71 x72 x73 x74 x75 x76 x77 x78 x79 x80
+x81 x82 x83 x84 x85 x86 x87 x88 x89 x90 x91 x92 x93 x94 x95 x96 x97 x98 x99 x100
+x101 x102 x103 x104 x105 x106 x107 x108 x109 x110 x111 x112 x113 x114 x115 x116 x117 x118 x119 x120 ) AUUB $.",
+        label: b"t",
+        verdict: Verdict::Wrong(
+            ProofNumber::P06,
+            Spot {
+                word: 122,
+                letter: 3,
+            },
+        ),
+        cites: &[],
+        steps: 0,
+    },
 ];
 
 /// The number of the theorem with a label.
@@ -168,19 +332,20 @@ fn says(checked: &Checked, work: &Work, i: usize, case: &Case) -> bool {
         && work.room() == 1
 }
 
-/// Whether the check of a case says what it has to.
+/// Whether the check of a case says what it has to, and a run over names too.
 fn holds(alloc: Global, case: &Case) -> Result<bool, StoreError> {
     let mut text = Vec::from_slice(alloc, case.front)?;
     text.extend_from_slice(case.rest)?;
     let mut files = Files::new(alloc);
     files.add(alloc, b"a.mm", &text)?;
-    let base = Base::build(alloc, &files, b"a.mm")?;
+    let mut names = Names::new(alloc);
+    let base = Base::build(alloc, &mut names, &files, b"a.mm")?;
     let Some(i) = theorem(&base, case.label) else {
         return Ok(false);
     };
     let mut work = Work::new(alloc, 2)?;
-    let checked = check(alloc, &files, &base, i, &mut work)?;
-    Ok(says(&checked, &work, i, case))
+    let checked = check(alloc, &names, &files, &base, i, &mut work)?;
+    Ok(says(&checked, &work, i, case) && agrees(alloc, &files, &base, i, &checked)?)
 }
 
 /// The first case that does not hold.

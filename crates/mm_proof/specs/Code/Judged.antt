@@ -1,5 +1,5 @@
 -- A theorem whose proof is judged, and what a run says of it.
-use Rattle.std.specs.Prelude.{◌≡◌, ℕ, ◌+◌, ◌<◌, ◌≤◌, true, Ok, length}
+use Rattle.std.specs.Prelude.{◌≡◌, ℕ, ◌+◌, ◌<◌, true, Ok, length}
 use Rattle.mm_frame.specs.declared.base.Base.{Base}
 use Rattle.mm_frame.specs.Language.Base.{BaseView, AreSaid, said_at, is_proof_at}
 use Rattle.mm_frame.specs.Language.Item.{Item}

@@ -3,42 +3,44 @@ use Rattle.std.specs.Prelude.{◌≡◌, ℕ, ◌<◌, true, Some, List, All, le
 use Rattle.mm_frame.specs.declared.base.Base.{Base}
 use Rattle.mm_frame.specs.declared.base.Resolved.{Resolved}
 use Rattle.mm_frame.specs.declared.base.Resolved.TheVariants as answers
-use Rattle.mm_frame.specs.Language.Base.{BaseView, is_shown_at, is_framed_at, hypothesis_at, frame_at}
+use Rattle.mm_frame.specs.Language.Base.{BaseView, is_shown_at, is_framed_at}
 use Rattle.mm_frame.specs.Language.Frame.{Symbol, Frame, AreSameFrame}
 use Rattle.mm_frame.specs.Language.Typing.{IsFrame}
-use Rattle.mm_frame.specs.Code.CodeSymbols.{symbol_of, symbols_of}
 use Rattle.mm_frame.specs.Code.KeptBase.{IsBase}
 use Rattle.mm_proof.specs.Code.Citation.{frame_of}
 use Rattle.mm_proof.specs.Code.Labels.{IsEntry}
+use Rattle.mm_proof.specs.Code.NumberedBase.{ByNames, by_number, all_by_number, numbered_hypothesis, numbered_frame}
 use Rattle.mm_proof.specs.declared.named.Naming.{Naming}
 use Rattle.mm_proof.specs.declared.named.Use.{Use}
 use Rattle.mm_proof.specs.declared.named.Use.TheVariants as uses
 
 -- the expressions that were named
 abbrev pub expressions_named : Naming → List (List Symbol)
-expressions_named naming = map (λ e. symbols_of e.now) naming.hypotheses.items
+expressions_named naming = map (λ e. all_by_number e.now) naming.hypotheses.items
 
 -- the frames that were named
 abbrev pub frames_named : Naming → List Frame
-frames_named naming = map (frame_of symbol_of) naming.assertions.items
+frames_named naming = map (frame_of by_number) naming.assertions.items
 
 -- this place has the expression of the hypothesis with a number
-abbrev pub HasHypothesis : BaseView → Naming → ℕ → ℕ → Type 0
-HasHypothesis view naming n j = (e : List Symbol) × (slice_get (expressions_named naming) n ≡ Some e) × (e ≡ (hypothesis_at view j).expression)
+abbrev pub HasHypothesis : List (List ℕ) → BaseView → Naming → ℕ → ℕ → Type 0
+HasHypothesis names view naming n j =
+    (e : List Symbol) × (slice_get (expressions_named naming) n ≡ Some e) × (e ≡ (numbered_hypothesis names view j).expression)
 
 -- this place has the frame of the assertion with a number
-abbrev pub HasAssertion : BaseView → Naming → ℕ → ℕ → Type 0
-HasAssertion view naming n j = (kept : Frame) × (slice_get (frames_named naming) n ≡ Some kept) × AreSameFrame kept (frame_at view j)
+abbrev pub HasAssertion : List (List ℕ) → BaseView → Naming → ℕ → ℕ → Type 0
+HasAssertion names view naming n j =
+    (kept : Frame) × (slice_get (frames_named naming) n ≡ Some kept) × AreSameFrame kept (numbered_frame names view j)
 
 -- what was named is what the base has under the numbers
 pub record AreNamed (code : Base) (naming : Naming) : Type 0 where
   pub hypothesis_count : length naming.hypotheses.items ≡ length naming.hypothesis_numbers.items.items
   pub assertion_count : length naming.assertions.items ≡ length naming.assertion_numbers.items.items
-  pub hypotheses : (view : BaseView) (n j : ℕ) → IsBase view code → slice_get naming.hypothesis_numbers.items.items n ≡ Some j → is_shown_at view j ≡ true
-      → HasHypothesis view naming n j
-  pub assertions : (view : BaseView) (n j : ℕ) → IsBase view code → slice_get naming.assertion_numbers.items.items n ≡ Some j → is_framed_at view j ≡ true
-      → HasAssertion view naming n j
-  pub frames : All (λ a. IsFrame (frame_of symbol_of a)) naming.assertions.items
+  pub hypotheses : ByNames code (λ names view. (n j : ℕ) → slice_get naming.hypothesis_numbers.items.items n ≡ Some j → is_shown_at view j ≡ true
+      → HasHypothesis names view naming n j)
+  pub assertions : ByNames code (λ names view. (n j : ℕ) → slice_get naming.assertion_numbers.items.items n ≡ Some j → is_framed_at view j ≡ true
+      → HasAssertion names view naming n j)
+  pub frames : All (λ a. IsFrame (frame_of by_number a)) naming.assertions.items
 
 -- what stood in the list stands there still
 abbrev pub Stays : List ℕ → List ℕ → Type 0

@@ -1,10 +1,6 @@
 -- The renaming that gives numbers their names: a name that is one number stands for the name with this number in a list.
-use Rattle.std.specs.Prelude.{◌≡◌, ℕ, ◌+◌, if◌then◌else◌, Some, List, [], ◌∷◌, slice_get, bytes_eq}
+use Rattle.std.specs.Prelude.{ℕ, ◌+◌, if◌then◌else◌, List, [], ◌∷◌, bytes_eq}
 use Rattle.mm_frame.specs.Language.Frame.{Symbol}
-
--- no name stands twice in the list
-abbrev pub AreDistinct : List (List ℕ) → Type 0
-AreDistinct names = (i j : ℕ) (name : List ℕ) → slice_get names i ≡ Some name → slice_get names j ≡ Some name → i ≡ j
 
 -- the one name for the other, and the other way round
 abbrev pub exchanged : List ℕ → List ℕ → List ℕ → List ℕ

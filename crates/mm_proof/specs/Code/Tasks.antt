@@ -1,5 +1,5 @@
 -- What the machine does at each step, and what the steps of a proof come to.
-use Rattle.std.specs.Prelude.{◌≡◌, ◌≢◌, ℕ, ◌+◌, ◌<◌, Some, List, [], ◌∷◌, ◌++◌, length, map, take, slice_get, sum_by, All}
+use Rattle.std.specs.Prelude.{◌≡◌, ◌≢◌, ℕ, ◌<◌, Some, List, [], ◌∷◌, ◌++◌, length, map, take, slice_get, sum_by, All}
 use Rattle.std.specs.List.{AllZip}
 use Rattle.mm_frame.specs.Language.Frame.{Symbol, Frame, Hypothesis, Assertion, Setting, AreSameFrame}
 use Rattle.mm_proof.specs.Language.Expansion.{Step, Named, Saved, Save, NotKnown}

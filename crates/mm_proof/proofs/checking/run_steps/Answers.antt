@@ -1,14 +1,15 @@
-use Rattle.std.proofs.Common.{List, sym, subst, ap, ◌∙◌}
-use Rattle.std.specs.Prelude.{All, IfOk}
+use Rattle.std.proofs.Common.{List, sym, subst}
+use Rattle.std.specs.Prelude.{All}
 use Rattle.mm_frame.specs.Language.Base.{before, said_at}
-use Rattle.mm_frame.specs.Language.Framing.{active_pairs, mandatory_numbers}
+use Rattle.mm_frame.specs.Language.Framing.{mandatory_numbers}
 use Rattle.mm_frame.specs.Language.Frame.{Symbol, AreSamePairs}
-use Rattle.mm_frame.specs.Code.CodeSymbols.{kept_pairs, symbol_of, symbols_of}
-use Rattle.mm_frame.specs.declared.symbol.NamedSymbol.{NamedSymbol}
+use Rattle.mm_frame.specs.declared.symbol.NumberedSymbol.{NumberedSymbol}
 use Rattle.mm_frame.specs.declared.base.Resolved.{Resolved}
 use Rattle.mm_proof.specs.Language.BaseLabels.{setting_at}
-use Rattle.mm_proof.specs.Language.VerdictAt.{mandatory_labels}
+use Rattle.mm_proof.specs.Language.VerdictAt.{mandatory_labels, statement_at}
+use Rattle.mm_proof.specs.Code.Citation.{pairs_of}
 use Rattle.mm_proof.specs.Code.NamedItems.{IsNamedBy}
+use Rattle.mm_proof.specs.Code.NumberedBase.{by_number, all_by_number, numbered_setting}
 use Rattle.mm_proof.specs.Code.Labels.{AreEntries, entry_steps}
 use Rattle.mm_proof.specs.Code.Tasks.{AreSavedBefore, AreUses, RunSays, actions_mean}
 use Rattle.mm_proof.specs.declared.step.ProofStep.{ProofStep}
@@ -16,6 +17,7 @@ use Rattle.mm_proof.proofs.FrameLemmas.{shown_proof}
 use Rattle.mm_proof.proofs.ItemLemmas.{active_usable}
 use Rattle.mm_proof.proofs.JudgedLemmas.{named_by, saved_before}
 use Rattle.mm_proof.proofs.ReaderLemmas.{if_ok}
+use Rattle.mm_proof.proofs.RenamedFrames.{frames_by_number, run_named}
 use Rattle.mm_proof.proofs.checking.run_steps.Goals as goal
 
 pub name_all-requires : goal.name_all-requires
@@ -39,11 +41,15 @@ returns-clause-says c = if_ok _ _ c.run.result (λ outcome says view is. (
     let i = c.args.i in
     let d = c.args.decoding.now in
     let theorem = is.theorem in
+    let names = theorem.base.0 in
+    let base = theorem.base.1 in
     let shown = shown_proof view i theorem.is_sound in
-    let pairs = subst (λ (ps : List (NamedSymbol × NamedSymbol)). AreSamePairs (kept_pairs ps) (active_pairs (before view i))) (sym c.new-active.ensures) (c.active.ensures view theorem.base theorem.is_sound) in
-    let uses = c.in_ok-named.ensures.means view i theorem.base (subst (λ (ls : List Resolved). AreEntries view i ls) (sym c.deref.ensures.value) is.entries) in
-    let names = subst (λ (ls : List Resolved). AreUses symbol_of c.in_ok-named.named (setting_at view i) (entry_steps view ls)) c.deref.ensures.value uses in
-    let frames = c.places_have_frames.ensures view.said i in
-    let said = says (setting_at view i) (entry_steps view d.labels.items) frames pairs names in
-    let here = subst (λ (steps : List ProofStep). RunSays (setting_at view i) (actions_mean (entry_steps view d.labels.items) steps) (symbols_of c.expression.result.now) outcome) c.deref-2.ensures.value said in
-    subst (λ (e : List Symbol). RunSays (setting_at view i) (actions_mean (entry_steps view d.labels.items) d.steps.items) e outcome) (c.expression.ensures view theorem.base shown) here)) c.run.ensures.says
+    let numbered = numbered_setting names view i in
+    let pairs = subst (λ (ps : List (NumberedSymbol × NumberedSymbol)). AreSamePairs (pairs_of by_number ps) numbered.active) (sym c.new-active.ensures) (c.active.ensures names view base theorem.is_sound) in
+    let uses = c.in_ok-named.ensures.means names view base i (subst (λ (ls : List Resolved). AreEntries view i ls) (sym c.deref.ensures.value) is.entries) in
+    let mean = subst (λ (ls : List Resolved). AreUses by_number c.in_ok-named.named numbered (entry_steps view ls)) c.deref.ensures.value uses in
+    let frames = frames_by_number names (setting_at view i) (c.places_have_frames.ensures view.said i) in
+    let said = says numbered (entry_steps view d.labels.items) frames pairs mean in
+    let here = subst (λ (steps : List ProofStep). RunSays numbered (actions_mean (entry_steps view d.labels.items) steps) (all_by_number c.expression.result.now) outcome) c.deref-2.ensures.value said in
+    let stated = subst (λ (e : List Symbol). RunSays numbered (actions_mean (entry_steps view d.labels.items) d.steps.items) e outcome) (c.expression.ensures names view base shown) here in
+    run_named names (setting_at view i) (actions_mean (entry_steps view d.labels.items) d.steps.items) (statement_at view i) outcome stated)) c.run.ensures.says

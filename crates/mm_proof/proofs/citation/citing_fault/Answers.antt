@@ -15,43 +15,43 @@ pairs_fault-requires-clause-hypotheses g c = hypotheses_known (frame_from g.S.Sy
 pub pairs_fault-requires-clause-typed : goal.pairs_fault-requires-clause-typed
 pairs_fault-requires-clause-typed g c k d l = let p = c.requires.frame.pairs_typed k d l in (p.2, p.3)
 
-pub returns-then-not-typecodes_match-clause-says : goal.returns-then-not-typecodes_match-clause-says
-returns-then-not-typecodes_match-clause-says g c =
+pub returns-then-not-typecodes_match : goal.returns-then-not-typecodes_match
+returns-then-not-typecodes_match g c =
     let m = g.S.Symbol.means in
     let frame = frame_from m c.args.taken.now.hypotheses.now c.args.expression.now c.args.pairs.now in
     let es = read_all (map (lent m) c.args.taken.now.symbols.now) c.args.taken.now.entries.now in
     says08 (pairs_of m c.args.active.now.pairs.now) frame es c.requires.frame (count_of m (map (lent m) c.args.taken.now.symbols.now) c.args.taken.now.entries.now c.args.taken.now.hypotheses.now c.requires.count) c.if-not-typecodes_match.ensures
 
-pub returns-then-not-essentials_fit-clause-says : goal.returns-then-not-essentials_fit-clause-says
-returns-then-not-essentials_fit-clause-says g c =
+pub returns-then-not-essentials_fit : goal.returns-then-not-essentials_fit
+returns-then-not-essentials_fit g c =
     let m = g.S.Symbol.means in
     let frame = frame_from m c.args.taken.now.hypotheses.now c.args.expression.now c.args.pairs.now in
     let es = read_all (map (lent m) c.args.taken.now.symbols.now) c.args.taken.now.entries.now in
     says09 (pairs_of m c.args.active.now.pairs.now) frame es c.requires.frame (count_of m (map (lent m) c.args.taken.now.symbols.now) c.args.taken.now.entries.now c.args.taken.now.hypotheses.now c.requires.count) c.if-not-typecodes_match.ensures c.if-not-essentials_fit.ensures
 
-pub returns-in-Some-clause-says : goal.returns-in-Some-clause-says
-returns-in-Some-clause-says g c =
+pub returns-in-Some : goal.returns-in-Some
+returns-in-Some g c =
     let m = g.S.Symbol.means in
     let frame = frame_from m c.args.taken.now.hypotheses.now c.args.expression.now c.args.pairs.now in
     let es = read_all (map (lent m) c.args.taken.now.symbols.now) c.args.taken.now.entries.now in
     says_pairs (pairs_of m c.args.active.now.pairs.now) frame es c.requires.frame (count_of m (map (lent m) c.args.taken.now.symbols.now) c.args.taken.now.entries.now c.args.taken.now.hypotheses.now c.requires.count) c.if-not-typecodes_match.ensures c.if-not-essentials_fit.ensures
-    c.in-Some.number (rw c.in-Some.is at c.in_ok-number.ensures.says)
+    c.in-Some.number (rw c.in-Some.is at c.in_ok-number.ensures)
 
-pub returns-then-not-is_short-clause-says : goal.returns-then-not-is_short-clause-says
-returns-then-not-is_short-clause-says g c =
+pub returns-then-not-is_short : goal.returns-then-not-is_short
+returns-then-not-is_short g c =
     let m = g.S.Symbol.means in
     let frame = frame_from m c.args.taken.now.hypotheses.now c.args.expression.now c.args.pairs.now in
     let es = read_all (map (lent m) c.args.taken.now.symbols.now) c.args.taken.now.entries.now in
     says12 (pairs_of m c.args.active.now.pairs.now) frame es c.requires.frame (count_of m (map (lent m) c.args.taken.now.symbols.now) c.args.taken.now.entries.now c.args.taken.now.hypotheses.now c.requires.count) c.if-not-typecodes_match.ensures c.if-not-essentials_fit.ensures
-    (rw c.in_default.is at c.in_ok-number.ensures.says)
+    (rw c.in_default.is at c.in_ok-number.ensures)
     (λ given gives. c.if-not-is_short.ensures given (gives_all frame.hypotheses given es frame.expression (hypotheses_known frame c.requires.frame) gives c.requires.frame.expression_typed))
 
-pub returns-clause-says : goal.returns-clause-says
-returns-clause-says g c =
+pub returns : goal.returns
+returns g c =
     let m = g.S.Symbol.means in
     let frame = frame_from m c.args.taken.now.hypotheses.now c.args.expression.now c.args.pairs.now in
     let es = read_all (map (lent m) c.args.taken.now.symbols.now) c.args.taken.now.entries.now in
-    let pairs = rw c.in_default.is at c.in_ok-number.ensures.says in (
+    let pairs = rw c.in_default.is at c.in_ok-number.ensures in (
       c.if-not-typecodes_match.ensures,
       λ given gives. (
         c.if-not-essentials_fit.ensures given gives,

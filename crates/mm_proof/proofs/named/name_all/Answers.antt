@@ -1,4 +1,4 @@
-use Rattle.std.proofs.Common.{◌≡◌, ◌+◌, ◌++◌, ◌∷◌, [], List, get_or, take, sym, ◌∙◌, ap, subst, arith}
+use Rattle.std.proofs.Common.{◌+◌, ◌++◌, ◌∷◌, [], List, get_or, take, sym, subst, arith}
 use Rattle.std.specs.List.{AllZip}
 use Rattle.std.proofs.lemmas.List.{take_all}
 use Rattle.std.proofs.lemmas.Option.{slice_get-get_or}
@@ -29,7 +29,7 @@ pub returns-clause-within : goal.returns-clause-within
 returns-clause-within c = uses_within c.args.base.now c.loop-label.naming c.loop-label.invariant.named c.loop-label.uses.items (take c.loop-label.label-index c.args.labels.now) c.loop-label.invariant.stand
 
 pub returns-clause-means : goal.returns-clause-means
-returns-clause-means c view i base entries =
+returns-clause-means c names view base i entries =
     let labels = c.args.labels.now in
     let all = subst (λ (ls : List Resolved). AllZip (StandsFor c.loop-label.naming) c.loop-label.uses.items ls) (take_all c.loop-label.label-index labels (omega (arith, c.loop-label-test.false))) c.loop-label.invariant.stand in
-    uses_mean c.args.base.now c.loop-label.naming c.loop-label.invariant.named view i base c.loop-label.uses.items labels all entries
+    uses_mean c.args.base.now c.loop-label.naming c.loop-label.invariant.named names view i base c.loop-label.uses.items labels all entries

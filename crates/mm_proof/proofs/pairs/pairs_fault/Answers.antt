@@ -1,11 +1,7 @@
-use Rattle.std.proofs.Common.{map, arith, subst, None}
-use Rattle.std.specs.Prelude.{Any}
+use Rattle.std.proofs.Common.{map, arith}
 use Rattle.std.proofs.lemmas.List.{length-map}
 use Rattle.mm_proof.specs.Code.Flat.{lent, read_all}
 use Rattle.mm_proof.specs.Code.Citation.{pairs_of}
-use Rattle.mm_frame.specs.Language.Frame.{Symbol}
-use Rattle.mm_proof.specs.Language.Faults.{LackPair}
-use Rattle.mm_proof.specs.Code.PairClause.{PairsSay}
 use Rattle.mm_proof.proofs.PairsLemmas.{apart_given, shared_given, none_shared, lack_given}
 use Rattle.mm_proof.proofs.pairs.pairs_fault.Goals as goal
 
@@ -15,21 +11,21 @@ all_apart-requires-clause-spans g c k s at = let w = c.in_ok-gather_all.ensures.
 pub any_share-requires-clause-spans : goal.any_share-requires-clause-spans
 any_share-requires-clause-spans g c k s at = let w = c.in_ok-gather_all.ensures.within k s at in let l = length-map c.gather_all.new.self.variables.items (lent g.S.Symbol.means) in (w.0, omega arith)
 
-pub returns-then-all_apart-clause-says : goal.returns-then-all_apart-clause-says
-returns-then-all_apart-clause-says g c given gives =
+pub returns-then-all_apart : goal.returns-then-all_apart
+returns-then-all_apart g c given gives =
     let m = g.S.Symbol.means in
-    subst (λ ps. PairsSay (pairs_of m ps) given (pairs_of m c.args.pairs.now) None) c.in_ok-prepare.ensures (apart_given m c.args.taken.now.hypotheses.now (read_all (map (lent m) c.args.taken.now.symbols.now) c.args.taken.now.entries.now) (map
-    (lent m) c.gather_all.new.self.variables.items) c.gather_all.new.self.spans.items given c.requires.hypotheses gives c.in_ok-gather_all.ensures (pairs_of m c.prepare.new.self.pairs.now) (pairs_of m c.args.pairs.now) c.if-all_apart.ensures)
+    apart_given m c.args.taken.now.hypotheses.now (read_all (map (lent m) c.args.taken.now.symbols.now) c.args.taken.now.entries.now) (map (lent m) c.gather_all.new.self.variables.items) c.gather_all.new.self.spans.items given c.requires.hypotheses gives c.in_ok-gather_all.ensures
+    (pairs_of m c.args.active.now.pairs.now) (pairs_of m c.args.pairs.now) c.if-all_apart.ensures
 
-pub returns-then-any_share-clause-says : goal.returns-then-any_share-clause-says
-returns-then-any_share-clause-says g c given gives =
+pub returns-then-any_share : goal.returns-then-any_share
+returns-then-any_share g c given gives =
     let m = g.S.Symbol.means in
     let h = c.if-any_share.ensures in
     shared_given m c.args.taken.now.hypotheses.now (read_all (map (lent m) c.args.taken.now.symbols.now) c.args.taken.now.entries.now) (map (lent m) c.gather_all.new.self.variables.items) c.gather_all.new.self.spans.items given c.requires.hypotheses gives c.in_ok-gather_all.ensures
     (pairs_of m c.args.pairs.now) h.0 h.1 h.2 h.3
 
-pub returns-clause-says : goal.returns-clause-says
-returns-clause-says g c given gives =
+pub returns : goal.returns
+returns g c given gives =
     let m = g.S.Symbol.means in
     let hypotheses = c.args.taken.now.hypotheses.now in
     let es = read_all (map (lent m) c.args.taken.now.symbols.now) c.args.taken.now.entries.now in
@@ -39,6 +35,5 @@ returns-clause-says g c given gives =
     let none = c.if-any_share.ensures in
     let lack = c.if-all_apart.ensures in (
       none_shared m hypotheses es all spans given c.requires.hypotheses gives c.in_ok-gather_all.ensures pairs none,
-      subst (λ ps. Any (λ (pair : Symbol × Symbol). LackPair (pairs_of m ps) (given pair.0) (given pair.1)) pairs) c.in_ok-prepare.ensures
-          (lack_given m hypotheses es all spans given c.requires.hypotheses gives c.in_ok-gather_all.ensures (pairs_of m c.prepare.new.self.pairs.now) pairs lack.0 lack.1 lack.2 lack.3 none),
+      lack_given m hypotheses es all spans given c.requires.hypotheses gives c.in_ok-gather_all.ensures (pairs_of m c.args.active.now.pairs.now) pairs lack.0 lack.1 lack.2 lack.3 none,
     )

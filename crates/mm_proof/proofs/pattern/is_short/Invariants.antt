@@ -1,7 +1,6 @@
 use Rattle.std.proofs.Common.{◌≡◌, ◌≤◌, List, length, map, take}
 use Rattle.mm_frame.specs.Language.Frame.{Symbol}
 use Rattle.mm_proof.specs.Language.Substitution.{substituted}
-use Rattle.mm_proof.specs.Code.Flat.{lent}
 use Rattle.mm_proof.specs.Code.Citation.{Gives, hypotheses_of, entries_of}
 use Rattle.mm_proof.proofs.pattern.is_short.Given as goal
 

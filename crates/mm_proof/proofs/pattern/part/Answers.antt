@@ -1,7 +1,6 @@
-use Rattle.std.proofs.Common.{◌≡◌, ◌∷◌, [], true, false, map, sym, ◌∙◌, ap, subst}
+use Rattle.std.proofs.Common.{◌≡◌, ◌∷◌, [], true, map, sym, ◌∙◌, ap, subst}
 use Rattle.mm_frame.specs.Language.Frame.{Symbol}
 use Rattle.mm_frame.specs.Language.Typing.{IsTyped}
-use Rattle.mm_proof.specs.Code.Flat.{lent}
 use Rattle.mm_proof.specs.Code.Citation.{IsSlot, hypotheses_of}
 use Rattle.mm_proof.proofs.Unique.{replacement-variable, replacement-constant}
 use Rattle.mm_proof.proofs.PairLemmas.{contains_at}

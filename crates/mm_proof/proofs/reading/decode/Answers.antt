@@ -1,8 +1,8 @@
 use Rattle.mm_proof.specs.Language.BaseLabels.{setting_at}
-use Rattle.std.proofs.Common.{sym}
+use Rattle.std.proofs.Common.{sym, ◌∙◌}
 use Rattle.mm_proof.specs.Code.Labels.{labels_at, entry_steps}
-use Rattle.mm_proof.proofs.ReaderLemmas.{if_ok}
-use Rattle.mm_proof.proofs.DecodeLemmas.{compressed_done, normal_done}
+use Rattle.mm_proof.proofs.ReaderLemmas.{if_ok, if_err}
+use Rattle.mm_proof.proofs.DecodeLemmas.{compressed_done, normal_done, normal_table, normal_fails}
 use Rattle.mm_proof.proofs.reading.decode.Goals as goal
 
 pub returns-then-is_compressed-clause-ok : goal.returns-then-is_compressed-clause-ok
@@ -18,3 +18,16 @@ returns-else-is_compressed-clause-ok c =
     if_ok _ _ c.decode_normal.result (λ d says view is active.
     normal_done (setting_at view c.args.i) (labels_at view c.args.mandatory.now) words (entry_steps view d.labels.items) d.steps.items
     (sym c.if-is_compressed.ensures) (says view is)) c.decode_normal.ensures.ok
+
+pub returns-else-is_compressed-clause-entries : goal.returns-else-is_compressed-clause-entries
+returns-else-is_compressed-clause-entries c = if_ok _ _ c.decode_normal.result (λ d says view is active. says view is) c.decode_normal.ensures.entries
+
+pub returns-else-is_compressed-clause-table : goal.returns-else-is_compressed-clause-table
+returns-else-is_compressed-clause-table c =
+    if_ok _ _ c.decode_normal.result (λ d says view is active. says view is ∙ normal_table (labels_at view c.args.mandatory.now) c.args.statement.now.proof (sym c.if-is_compressed.ensures))
+    c.decode_normal.ensures.table
+
+pub returns-else-is_compressed-clause-err : goal.returns-else-is_compressed-clause-err
+returns-else-is_compressed-clause-err c =
+    if_err _ _ c.decode_normal.result (λ e says view is active.
+    normal_fails (setting_at view c.args.i) (labels_at view c.args.mandatory.now) c.args.statement.now.proof e (sym c.if-is_compressed.ensures) (says view is)) c.decode_normal.ensures.err

@@ -38,3 +38,6 @@ returns-clause-table c view is =
     let words = c.args.statement.now.proof in
     let past : length words ≤ c.loop-word.n = omega (arith, none_left words c.loop-word.words c.loop-word.n c.loop-word.invariant.left c.in_default.ensures.0) in
     table_is view c.args.i words c.loop-word.n c.loop-word.labels.items c.loop-word.steps.items (c.loop-word.invariant.normal view is) past
+
+pub returns-clause-entries : goal.returns-clause-entries
+returns-clause-entries c view is = (c.loop-word.invariant.normal view is).entries

@@ -1,24 +1,18 @@
-use Rattle.std.proofs.Common.{◌≡◌, ◌≢◌, ◌≤◌, length-append, ◌+◌, ◌-◌, ◌<◌, ◌∷◌, [], ℕ, Some, None, List, map, length, take, get_or, refl, sym, ◌∙◌, ap, subst, arith}
-use Rattle.std.specs.Prelude.{slice_get, MatchOption}
-use Rattle.std.specs.Option.{option_map}
+use Rattle.std.proofs.Common.{◌≡◌, ◌≤◌, length-append, ◌-◌, ◌<◌, ◌∷◌, [], ℕ, Some, map, length, take, get_or, refl, sym, ◌∙◌, ap, subst, arith}
 use Rattle.std.proofs.lemmas.Bool.{false≢true}
 use Rattle.std.proofs.lemmas.List.{length-map, get_or_default}
 use Rattle.std.proofs.lemmas.Option.{slice_get-get_or}
-use Rattle.mm_frame.specs.Language.Frame.{Symbol, Setting, AreSamePairs}
-use Rattle.mm_proof.specs.Language.Expansion.{Step}
-use Rattle.mm_proof.specs.Language.Machine.{State, nothing_yet}
+use Rattle.mm_proof.specs.Language.Machine.{nothing_yet}
 use Rattle.mm_proof.specs.Language.Reaches.{Reaches}
 use Rattle.mm_proof.specs.declared.pattern.Entry.{Entry}
 use Rattle.mm_proof.specs.declared.step.Action.TheVariants as actions
 use Rattle.mm_proof.specs.declared.step.ProofStep.{ProofStep}
-use Rattle.mm_proof.specs.Code.Citation.{pairs_of}
 use Rattle.mm_proof.specs.Code.Coded.{meant}
 use Rattle.mm_proof.specs.Code.Flat.{lent, read, read_all}
-use Rattle.mm_proof.specs.Code.MachineState.{state_of}
-use Rattle.mm_proof.specs.Code.Tasks.{AreUses, HasState, IsSavedWithin, actions_mean, expressions_of, frames_of, saves_in}
+use Rattle.mm_proof.specs.Code.Tasks.{IsSavedWithin, actions_mean, expressions_of, frames_of, saves_in}
 use Rattle.mm_proof.proofs.Reaching.{at_start}
 use Rattle.mm_proof.proofs.StackLemmas.{top_of}
-use Rattle.mm_proof.proofs.StepLemmas.{KnownUpTo, nothing_known, known_more, known_all, follows_more, fault_here, unknown_here, reached_all, means_known, action_at, saves_next}
+use Rattle.mm_proof.proofs.StepLemmas.{nothing_known, known_more, known_all, follows_more, fault_here, unknown_here, reached_all, means_known, action_at, saves_next}
 use Rattle.mm_proof.proofs.stepping.run.Goals as goal
 
 -- a step of a proof, where there is none
@@ -35,7 +29,6 @@ loop-place-init g c =
     record {
       whole = c.in_ok-load.ensures.whole;
       count = omega (arith, length-map machine.saved.items (read (map (lent m) machine.symbols.items)), length-append expressions [], length-map c.args.named.now.hypotheses.items (λ e. map m e.now));
-      pairs = refl;
       follows = λ place names is pairs all. (nothing_known (actions_mean names c.args.steps.now), nothing_yet, state, at_start place);
     }
 
@@ -67,9 +60,8 @@ returns-in-Some-2-clause-says g c place names is pairs all =
     let at = action_at names c.args.steps.now k nowhere (omega (arith, c.loop-place-test.true)) in
     let means = c.in-Some.ensures.means place names all in
     let known = means_known (expressions_of m c.args.named.now) (frames_of m c.args.named.now) place c.in-Some.task step means in
-    let active = subst (λ ps. AreSamePairs (pairs_of m ps) place.active) (sym c.loop-place.invariant.pairs) pairs in
     let turns = rw c.in-Some-2.is at c.in_ok-number.ensures.turns in
-    fault_here place is steps k step f.1 c.in-Some-2.number f.0 at known f.3 (turns place step f.1 active f.2 means)
+    fault_here place is steps k step f.1 c.in-Some-2.number f.0 at known f.3 (turns place step f.1 pairs f.2 means)
 
 pub loop-place-preserved : goal.loop-place-preserved
 loop-place-preserved g c =
@@ -81,7 +73,6 @@ loop-place-preserved g c =
     record {
       whole = c.in_ok-number.ensures.whole;
       count = omega (arith, saves, c.in-Some.ensures.saves, c.loop-place.invariant.count, saves_next c.args.steps.now k nowhere within);
-      pairs = c.in_ok-number.ensures.active ∙ c.loop-place.invariant.pairs;
       follows = λ place names is pairs all.
           let steps = actions_mean names c.args.steps.now in
           let step = meant names (get_or c.args.steps.now k nowhere).action in
@@ -89,8 +80,7 @@ loop-place-preserved g c =
           let at = action_at names c.args.steps.now k nowhere within in
           let means = c.in-Some.ensures.means place names all in
           let known = means_known (expressions_of m c.args.named.now) (frames_of m c.args.named.now) place c.in-Some.task step means in
-          let active = subst (λ ps. AreSamePairs (pairs_of m ps) place.active) (sym c.loop-place.invariant.pairs) pairs in
-          let t = turns place step f.1 active f.2 means in
+          let t = turns place step f.1 pairs f.2 means in
           (known_more steps k step at known f.0, t.0, t.1, follows_more place steps k step f.1 t.0 at f.3 t.2);
     }
 

@@ -14,7 +14,6 @@ abbrev pub invariant-loop-place : goal.invariant-loop-place
 invariant-loop-place g l = record {
   whole : AreRanges l.machine;
   count : length l.machine.saved.items ≡ length l.named.hypotheses.items + saves_in (take l.place l.steps);
-  pairs : l.active.pairs.now ≡ l.initial.active.pairs.now;
-  follows : (place : Setting) (names : List Step) → HasFrames place → AreSamePairs (pairs_of g.S.Symbol.means l.initial.active.pairs.now) place.active → AreUses g.S.Symbol.means l.named place names →
+  follows : (place : Setting) (names : List Step) → HasFrames place → AreSamePairs (pairs_of g.S.Symbol.means l.active.pairs.now) place.active → AreUses g.S.Symbol.means l.named place names →
       KnownUpTo (actions_mean names l.steps) l.place × (state : State) × HasState g.S.Symbol.means (expressions_of g.S.Symbol.means l.named) l.machine state × Follows place (take l.place (actions_mean names l.steps)) state;
 }

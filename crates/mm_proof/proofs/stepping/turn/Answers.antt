@@ -1,13 +1,11 @@
-use Rattle.std.proofs.Common.{◌≡◌, ◌+◌, ◌-◌, ◌++◌, ◌∷◌, [], Some, List, map, length, get_or, refl, sym, ◌∙◌, ap, subst, arith, append_assoc}
+use Rattle.std.proofs.Common.{◌≡◌, ◌+◌, ◌-◌, ◌++◌, map, length, get_or, refl, sym, ◌∙◌, ap, subst, arith}
 use Rattle.std.specs.Prelude.{MatchOption, slice_get}
 use Rattle.std.proofs.lemmas.List.{length-map}
-use Rattle.std.proofs.lemmas.Option.{slice_get_within}
-use Rattle.mm_frame.specs.Language.Frame.{Symbol, Frame, AreSameFrame}
+use Rattle.mm_frame.specs.Language.Frame.{Frame, AreSameFrame}
 use Rattle.mm_frame.specs.Language.Typing.{IsFrame}
-use Rattle.mm_proof.specs.Language.Expansion.{Step, Named}
+use Rattle.mm_proof.specs.Language.Expansion.{Step}
 use Rattle.mm_proof.specs.Language.Faults.{IsLowest}
-use Rattle.mm_proof.specs.Language.Machine.{State, Turns}
-use Rattle.mm_proof.specs.declared.machine.Machine.{Machine}
+use Rattle.mm_proof.specs.Language.Machine.{State}
 use Rattle.mm_proof.specs.declared.pattern.Entry.{Entry}
 use Rattle.mm_proof.specs.declared.stepping.Task.{Task}
 use Rattle.mm_proof.specs.Code.Citation.{frame_of, pairs_of}

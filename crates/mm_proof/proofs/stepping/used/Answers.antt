@@ -1,8 +1,5 @@
 use Rattle.std.proofs.Common.{arith}
 use Rattle.std.proofs.lemmas.Option.{slice_get-get_or}
-use Rattle.mm_proof.specs.declared.named.Use.{Use}
-use Rattle.mm_proof.specs.declared.named.Use.TheVariants as uses
-use Rattle.mm_proof.specs.Code.Tasks.{IsUseWithin, MeansUse}
 use Rattle.mm_proof.proofs.StepLemmas.{used_at, unused_at}
 use Rattle.mm_proof.proofs.stepping.used.Goals as goal
 

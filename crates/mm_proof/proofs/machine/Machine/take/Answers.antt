@@ -21,7 +21,7 @@ returns-in-Some-clause-cites g c =
     let n = length hs in
     let k = c.args.self.now.stack.ok in
     let below = c.len-2.result - n in
-    let says = rw c.in-Some.is at c.in_ok-number.ensures.says in
+    let says = rw c.in-Some.is at c.in_ok-number.ensures in
     says (read_all (map (lent m) symbols) es) (omega (arith, c.len.ensures, k, c.if-len-count.false, length-map es (read (map (lent m) symbols)), length-map hs (mandatory_of m)))
     (entries_taken m hs c.args.expression.now c.args.pairs.now (map (lent m) symbols) es below (omega (arith, c.len.ensures, c.len-2.ensures, k, c.if-len-count.false)) ∙ sym (slice_taken c.deref.result.now symbols
     (lent m) c.deref-2.result.now es below c.deref.ensures.value c.deref-2.ensures.value))
@@ -39,7 +39,7 @@ returns-clause-cites g c =
     let stack = read_all (map (lent m) symbols) es in
     let entries : List Entry = take (length c.deref-2.result.now - below) (drop below c.deref-2.result.now) in
     let taken = slice_taken c.deref.result.now symbols (lent m) c.deref-2.result.now es below c.deref.ensures.value c.deref-2.ensures.value in
-    let says = rw c.in_default.is at c.in_ok-number.ensures.says in
+    let says = rw c.in_default.is at c.in_ok-number.ensures in
     let active = pairs_of m c.args.active.now.pairs.now in
     let here : length stack - length frame.hypotheses ≡ below = omega (arith, length-map es (read (map (lent m) symbols)), length-map hs (mandatory_of m), k, c.len-2.ensures) in
     let result = map (lent m) c.substitute.new.to.items in

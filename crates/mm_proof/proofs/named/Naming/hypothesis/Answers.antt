@@ -1,16 +1,10 @@
-use Rattle.std.proofs.Common.{◌≡◌, ◌++◌, ◌∷◌, [], ℕ, true, List, length, map, sym, ◌∙◌, ap, subst, arith, length-append}
-use Rattle.std.specs.Prelude.{All}
+use Rattle.std.proofs.Common.{◌≡◌, ◌∷◌, [], true, List, length, map, ◌∙◌, ap, arith, length-append}
 use Rattle.std.specs.Borrow.{Bor}
 use Rattle.std.proofs.lemmas.List.{length-map, map-append}
-use Rattle.std.proofs.lemmas.List.Elements.{All-append, All-cons, All-nil}
-use Rattle.mm_frame.specs.Language.Base.{is_shown_at, is_framed_at, hypothesis_at, frame_at}
-use Rattle.mm_frame.specs.Language.Frame.{Symbol, Frame, AreSameFrame}
-use Rattle.mm_frame.specs.Language.Typing.{IsFrame}
-use Rattle.mm_frame.specs.Code.CodeSymbols.{symbol_of, symbols_of}
-use Rattle.mm_frame.specs.declared.symbol.NamedSymbol.{NamedSymbol}
-use Rattle.mm_proof.specs.declared.assertion.Cited.{Cited}
-use Rattle.mm_proof.specs.Code.Citation.{frame_of}
-use Rattle.mm_proof.proofs.FrameLemmas.{frame_moved}
+use Rattle.mm_frame.specs.Language.Base.{is_shown_at}
+use Rattle.mm_frame.specs.Language.Frame.{Symbol}
+use Rattle.mm_frame.specs.declared.symbol.NumberedSymbol.{NumberedSymbol}
+use Rattle.mm_proof.specs.Code.NumberedBase.{all_by_number, numbered_hypothesis}
 use Rattle.mm_proof.proofs.NamedLemmas.{placed_more, stays_more, stands_last}
 use Rattle.mm_proof.proofs.named.Naming.hypothesis.Goals as goal
 
@@ -18,18 +12,18 @@ pub returns-clause-named : goal.returns-clause-named
 returns-clause-named c =
     let old = c.args.self.now in
     let is = c.requires in
-    let expressions : List (Bor (List NamedSymbol)) → List (List Symbol) = map (λ e. symbols_of e.now) in
+    let expressions : List (Bor (List NumberedSymbol)) → List (List Symbol) = map (λ e. all_by_number e.now) in
     let numbers = old.hypothesis_numbers.items.items in
     let a = ap length c.in_ok-add.ensures.items in
     let b = ap length c.in_ok-push.ensures.items in
     record {
       hypothesis_count = omega (arith, is.hypothesis_count, length-append numbers (c.args.number ∷ []), length-append old.hypotheses.items (c.expression.result ∷ []));
       assertion_count = is.assertion_count;
-      hypotheses = λ view n j base at shown.
-          placed_more (λ k. is_shown_at view k ≡ true) (λ e k. e ≡ (hypothesis_at view k).expression) numbers c.add.new.self.items.items (expressions old.hypotheses.items) (expressions c.push.new.self.items) c.args.number (symbols_of c.expression.result.now)
-          (length-map old.hypotheses.items (λ e. symbols_of e.now) ∙ is.hypothesis_count) c.in_ok-add.ensures.items
-          (ap expressions c.in_ok-push.ensures.items ∙ map-append (λ e. symbols_of e.now) old.hypotheses.items (c.expression.result ∷ []))
-          (λ s. c.expression.ensures view base s) (λ m k there s. is.hypotheses view m k base there s) n j at shown;
+      hypotheses = λ names view base n j at shown.
+          placed_more (λ k. is_shown_at view k ≡ true) (λ e k. e ≡ (numbered_hypothesis names view k).expression) numbers c.add.new.self.items.items (expressions old.hypotheses.items) (expressions c.push.new.self.items) c.args.number (all_by_number c.expression.result.now)
+          (length-map old.hypotheses.items (λ e. all_by_number e.now) ∙ is.hypothesis_count) c.in_ok-add.ensures.items
+          (ap expressions c.in_ok-push.ensures.items ∙ map-append (λ e. all_by_number e.now) old.hypotheses.items (c.expression.result ∷ []))
+          (λ s. c.expression.ensures names view base s) (λ m k there s. is.hypotheses names view base m k there s) n j at shown;
       assertions = is.assertions;
       frames = is.frames;
     }
