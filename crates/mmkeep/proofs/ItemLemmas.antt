@@ -14,19 +14,19 @@ use Rattle.mmkeep.specs.Language.Report.{Told, IsRightlyTold}
 use Rattle.mmkeep.proofs.PlaceLemmas.{zip_found}
 
 -- what it says
-pub says_at : (files : FilesView) (code : Base) (view : BaseView) (n : ℕ) (item : store.Item) → IsOf files code view → slice_get view.found n ≡ Some item → Says files item (said_at view n)
-says_at files code view n item is e =
+pub says_at : (names : List (List ℕ)) (files : FilesView) (code : Base) (view : BaseView) (n : ℕ) (item : store.Item) → IsOf names files code view → slice_get view.found n ≡ Some item → Says files item (said_at view n)
+says_at names files code view n item is e =
     let y = zip_found (Says files) view.found view.said n item is.read_in.each e in
     subst (Says files item) (sym (get_or_from_slice_get view.said n y.0 passed y.1)) y.2
 
 -- that it can be read
-pub read_at : (files : FilesView) (code : Base) (n : ℕ) (item : store.Item) → HasItemOf files code n → ((view : BaseView) → IsBase view code → slice_get view.found n ≡ Some item) → CanBeRead files item
-read_at files code n item has e = (says_at files code has.0 n item has.1 (e has.0 has.1.read_in.base)).read
+pub read_at : (names : List (List ℕ)) (files : FilesView) (code : Base) (n : ℕ) (item : store.Item) → HasItemOf names files code n → ((view : BaseView) → IsBase view code → slice_get view.found n ≡ Some item) → CanBeRead files item
+read_at names files code n item has e = (says_at names files code has.0 n item has.1 (e has.0 (names, has.1.read_in.base))).read
 
 -- that it stands where it says
-pub stands_at : (files : FilesView) (code : Base) (n : ℕ) (item : store.Item) → HasItemOf files code n → ((view : BaseView) → IsBase view code → slice_get view.found n ≡ Some item) → StandsIn files item
-stands_at files code n item has e =
-    let there = e has.0 has.1.read_in.base in
+pub stands_at : (names : List (List ℕ)) (files : FilesView) (code : Base) (n : ℕ) (item : store.Item) → HasItemOf names files code n → ((view : BaseView) → IsBase view code → slice_get view.found n ≡ Some item) → StandsIn files item
+stands_at names files code n item has e =
+    let there = e has.0 (names, has.1.read_in.base) in
     subst (StandsIn files) (get_or_from_slice_get has.0.found n item item there) (has.1.stand n item (slice_get_within has.0.found n item there))
 
 -- ---- what is told of the items, one after another

@@ -8,7 +8,7 @@ use Rattle.mm_store.specs.Language.FileFacts.{IsAdded, StandsIn}
 use Rattle.mm_store.specs.Language.Expansion.{IsExpansion}
 use Rattle.mm_store.specs.declared.item.Item as store
 use Rattle.mm_frame.specs.Language.Base.{BaseView, IsOfFiles}
-use Rattle.mm_frame.specs.Code.KeptBase.{IsBase}
+use Rattle.mm_frame.specs.Code.KeptBase.{IsBaseBy}
 use Rattle.mm_frame.specs.declared.base.Base.{Base}
 use Rattle.mmkeep.specs.Code.OfFiles.{IsOf}
 use Rattle.mmkeep.specs.Language.Report.{Told, AreRightlyTold, report}
@@ -28,8 +28,8 @@ abbrev pub ItemsStand : Type 0
 ItemsStand = (files : FilesView) (top : List ℕ) (items : List store.Item) → IsExpansion files.files top items → All (StandsIn files) items
 
 -- and what its base answers is what the items of the files say
-pub view_of : (name : List ℕ) (files : FilesView) (code : Base) (view : BaseView) → ItemsStand → IsOfFiles files name view → IsBase view code → IsOf files code view
-view_of name files code view stand is base = record { read_in = record { base = base; each = is.each }; stand = stand files name view.found is.expansion }
+pub view_of : (names : List (List ℕ)) (name : List ℕ) (files : FilesView) (code : Base) (view : BaseView) → ItemsStand → IsOfFiles files name view → IsBaseBy names view code → IsOf names files code view
+view_of names name files code view stand is base = record { read_in = record { base = base; each = is.each }; stand = stand files name view.found is.expansion }
 
 module _ (name text : List ℕ) (files : FilesView) (view : BaseView) (database : IsDatabase name text files view) where
   -- the report

@@ -9,7 +9,7 @@ ghost use Rattle.mmkeep.specs.Language.Report.{IsRightlyTold, AreRightlyTold, Te
 
 use crate::finding::Finding;
 use crate::spot::{place_of_spot, seen_at};
-use mm_frame::{Base, Files, FrameFault, Item, ItemKind};
+use mm_frame::{Base, Files, FrameFault, Item, ItemKind, Names};
 use mm_proof::{Verdict, Work, check, spots_are_in};
 use std::alloc::{AllocError, Global};
 
@@ -30,20 +30,21 @@ fn at_fault<'a>(files: &'a Files, item: &Item, fault: FrameFault) -> Finding<'a>
 /// What is found of a sound theorem, by the verdict on its proof.
 fn judged<'a>(
     alloc: Global,
+    names: &Names,
     files: &Files,
     base: &Base,
     number: usize,
     work: &mut Work,
 ) -> Result<Finding<'a>, AllocError>
-    requires theorem { HasTheoremOf files.now base.now number }
+    requires theorem { HasTheoremOf names.now files.now base.now number }
     requires room { 0 < work.old.room }
     requires steps { work.old.steps + 4294967295 < 2 ^ 64 }
-    ensures told { IfOk result (λ finding. (view : BaseView) → IsOf files.now base.now view → is_proof_at view number ≡ true
+    ensures told { IfOk result (λ finding. (view : BaseView) → IsOf names.now files.now base.now view → is_proof_at view number ≡ true
         → IsRightlyTold files.now view number (told finding)) }
     ensures run { OnOk result (HasRun work.old work.new) }
 {
     spots_are_in();
-    match check(alloc, files, base, number, work)?.verdict() {
+    match check(alloc, names, files, base, number, work)?.verdict() {
         Verdict::Proved => Ok(Finding::Proved),
         Verdict::Incomplete(spot) => {
             let place = place_of_spot(alloc, files, base, number, spot)?;
@@ -59,15 +60,16 @@ fn judged<'a>(
 /// What is found of the item with this number.
 fn finding_of<'a>(
     alloc: Global,
+    names: &Names,
     files: &'a Files,
     base: &Base,
     number: usize,
     work: &mut Work,
 ) -> Result<Finding<'a>, AllocError>
-    requires item { HasItemOf files.now base.now number }
+    requires item { HasItemOf names.now files.now base.now number }
     requires room { 0 < work.old.room }
     requires steps { work.old.steps + 4294967295 < 2 ^ 64 }
-    ensures told { IfOk result (λ finding. (view : BaseView) → IsOf files.now base.now view → IsRightlyTold files.now view number (told finding)) }
+    ensures told { IfOk result (λ finding. (view : BaseView) → IsOf names.now files.now base.now view → IsRightlyTold files.now view number (told finding)) }
     ensures run { OnOk result (HasRun work.old work.new) }
 {
     let item = base.item(number);
@@ -76,7 +78,7 @@ fn finding_of<'a>(
     }
     match item.kind {
         ItemKind::Axiom => Ok(Finding::Axiom),
-        ItemKind::Theorem => judged(alloc, files, base, number, work),
+        ItemKind::Theorem => judged(alloc, names, files, base, number, work),
         _ => Ok(Finding::Quiet),
     }
 }
@@ -84,16 +86,17 @@ fn finding_of<'a>(
 /// What is found of each item, in order.
 pub fn findings<'a>(
     alloc: Global,
+    names: &Names,
     files: &'a Files,
     base: &Base,
 ) -> Result<Vec<Finding<'a>>, AllocError>
-    requires { HasView files.now base.now }
-    ensures { IfOk result (λ found. (view : BaseView) → IsOf files.now base.now view → AreRightlyTold files.now view (told_all found.items)) }
+    requires { HasView names.now files.now base.now }
+    ensures { IfOk result (λ found. (view : BaseView) → IsOf names.now files.now base.now view → AreRightlyTold files.now view (told_all found.items)) }
 {
     let mut work = Work::new(alloc, base.count())?;
     let mut found = Vec::new(alloc);
     for number in 0..base.count() {
-        found.push(finding_of(alloc, files, base, number, &mut work)?)?;
+        found.push(finding_of(alloc, names, files, base, number, &mut work)?)?;
     }
     Ok(found)
 }

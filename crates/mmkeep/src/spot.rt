@@ -1,6 +1,6 @@
 //! Where words of items and spots of proofs stand.
 
-ghost use Rattle.std.specs.Prelude.{◌≡◌, IfOk, IfSome};
+ghost use Rattle.std.specs.Prelude.{◌≡◌, ℕ, List, IfOk, IfSome};
 ghost use Rattle.mm_text.specs.Language.Reading.{LiesIn};
 ghost use Rattle.mm_frame.specs.Language.Base.{BaseView};
 ghost use Rattle.mmkeep.specs.Language.WordPlaces as places;
@@ -62,7 +62,8 @@ pub fn place_of_spot(
     spot: Spot,
 ) -> Result<Place, AllocError>
     requires { HasSpotOf files.now base.now number spot }
-    ensures { IfOk result (λ place. (view : BaseView) → IsOf files.now base.now view → IsPlaceOfSpot files.now view number spot place) }
+    ensures { IfOk result (λ place. (names : List (List ℕ)) (view : BaseView) → IsOf names files.now base.now view
+        → IsPlaceOfSpot files.now view number spot place) }
 {
     let item = base.item(number);
     let word = Statement::read(alloc, files, item)?.proof_place(spot.word);

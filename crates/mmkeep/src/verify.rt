@@ -13,7 +13,7 @@ use crate::judgement::findings;
 use crate::report::write_report;
 use crate::stream::Writing;
 use crate::tally::is_clean;
-use mm_frame::{Base, Files, StoreError, place};
+use mm_frame::{Base, Files, Names, StoreError, place};
 use std::alloc::Global;
 use std::io::Write;
 
@@ -60,8 +60,9 @@ pub fn verify_one<W: Write>(
 {
     mm_store::items_stand();
     let files = only_file(alloc, name, text)?;
-    let base = Base::build(alloc, &files, name)?;
-    let findings = findings(alloc, &files, &base)?;
+    let mut names = Names::new(alloc);
+    let base = Base::build(alloc, &mut names, &files, name)?;
+    let findings = findings(alloc, &names, &files, &base)?;
     match write_report(name, &base, &findings, writing) {
         Ok(()) => Ok(is_clean(&findings)),
         Err(_) => Err(FirstError::Write),

@@ -12,26 +12,27 @@ use Rattle.mm_proof.specs.Language.Work.{Recorded}
 use Rattle.mm_proof.specs.declared.Spot.{Spot}
 use Rattle.mmkeep.specs.Language.WordPlaces.{spelled, HasPlace}
 
--- the code's base answers this, what it answers is what its items say in these files, and the items stand in the files
-pub record IsOf (files : FilesView) (code : Base) (view : BaseView) : Type 0 where
-  pub read_in : IsReadIn files code view
+-- the code's base answers this by these names, what it answers is what its items say in these files, and the items stand in the files
+pub record IsOf (names : List (List ℕ)) (files : FilesView) (code : Base) (view : BaseView) : Type 0 where
+  pub read_in : IsReadIn names files code view
   pub stand : All (StandsIn files) view.found
 
 -- there is what the code's base answers
-abbrev pub HasView : FilesView → Base → Type 0
-HasView files code = (view : BaseView) × IsOf files code view
+abbrev pub HasView : List (List ℕ) → FilesView → Base → Type 0
+HasView names files code = (view : BaseView) × IsOf names files code view
 
 -- and it has an item with this number
-abbrev pub HasItemOf : FilesView → Base → ℕ → Type 0
-HasItemOf files code n = (view : BaseView) × IsOf files code view × (n < length view.said)
+abbrev pub HasItemOf : List (List ℕ) → FilesView → Base → ℕ → Type 0
+HasItemOf names files code n = (view : BaseView) × IsOf names files code view × (n < length view.said)
 
 -- and this item is a sound `$p`
-abbrev pub HasTheoremOf : FilesView → Base → ℕ → Type 0
-HasTheoremOf files code n = (view : BaseView) × IsOf files code view × (n < length view.said) × (is_proof_at view n ≡ true)
+abbrev pub HasTheoremOf : List (List ℕ) → FilesView → Base → ℕ → Type 0
+HasTheoremOf names files code n = (view : BaseView) × IsOf names files code view × (n < length view.said) × (is_proof_at view n ≡ true)
 
--- and the spot is in its proof
+-- and the spot is in its proof, by some names
 abbrev pub HasSpotOf : FilesView → Base → ℕ → Spot → Type 0
-HasSpotOf files code n spot = (view : BaseView) × IsOf files code view × (n < length view.said) × IsSpotIn (said_at view n).proof spot
+HasSpotOf files code n spot =
+    (names : List (List ℕ)) × (view : BaseView) × IsOf names files code view × (n < length view.said) × IsSpotIn (said_at view n).proof spot
 
 -- an item can be read where it stands, and one of its words has so many bytes at least
 pub record HasLetter (files : FilesView) (item : store.Item) (word letter : ℕ) : Type 0 where

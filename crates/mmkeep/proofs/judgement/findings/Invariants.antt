@@ -7,7 +7,7 @@ use Rattle.mmkeep.proofs.judgement.findings.Given as goal
 
 abbrev pub invariant-loop-number : goal.invariant-loop-number
 invariant-loop-number l = record {
-  told : (view : BaseView) → IsOf l.files l.base view → ToldUpTo l.files view l.number (told_all l.found.items);
+  told : (view : BaseView) → IsOf l.names l.files l.base view → ToldUpTo l.files view l.number (told_all l.found.items);
   room : l.number-end ≤ l.work.room + l.number;
   steps : l.work.steps ≤ l.number * 4294967295;
 }

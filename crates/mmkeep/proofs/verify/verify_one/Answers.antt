@@ -13,19 +13,20 @@ use Rattle.mmkeep.proofs.verify.verify_one.Goals as goal
 pub findings-requires : goal.findings-requires
 findings-requires g c =
     let view = c.in_ok-base.ensures.base.0 in
-    (view, view_of c.args.name.now c.in_ok-files.files c.in_ok-base.base view c.items_stand.ensures.stand c.in_ok-base.ensures.base.1 c.in_ok-base.ensures.base.2)
+    (view, view_of c.build.new.names c.args.name.now c.in_ok-files.files c.in_ok-base.base view c.items_stand.ensures.stand c.in_ok-base.ensures.base.1 c.in_ok-base.ensures.base.2)
 
 pub returns-in-Ok-clause-report : goal.returns-in-Ok-clause-report
 returns-in-Ok-clause-report g c =
     let view = c.in_ok-base.ensures.base.0 in
     let of_files = c.in_ok-base.ensures.base.1 in
     let base = c.in_ok-base.ensures.base.2 in
-    let is = view_of c.args.name.now c.in_ok-files.files c.in_ok-base.base view c.items_stand.ensures.stand of_files base in
+    let names = c.build.new.names in
+    let is = view_of names c.args.name.now c.in_ok-files.files c.in_ok-base.base view c.items_stand.ensures.stand of_files base in
     let database = database_of c.args.name.now c.args.text.items c.in_ok-files.files view c.in_ok-files.ensures.added c.in_ok-files.ensures.within of_files in
     let found = c.in_ok-findings.findings.items in
     let are = c.in_ok-findings.ensures view is in
     let seen = c.deref.ensures.value in
-    let each : AreOfEach c.deref.result.now c.in_ok-base.base view = record { base = base; count = ap length seen ∙ sym (length-map found told) ∙ are.count } in
+    let each : AreOfEach c.deref.result.now c.in_ok-base.base view = record { base = (names, base); count = ap length seen ∙ sym (length-map found told) ∙ are.count } in
     let all = told_all found in
     let clean : c.is_clean.result ≡ has_no_lines (counts all) = c.is_clean.ensures ∙ ap (λ (fs : List Finding). has_no_lines (counts (told_all fs))) c.deref-in-Ok.ensures.value in
     let both = subst (λ b. IsTrue b ↔ HaveNoLines all) (sym clean) (clean_counts (counts all).incomplete (counts all).wrong (counts all).faults) in (
@@ -39,11 +40,12 @@ returns-clause-write g c =
     let view = c.in_ok-base.ensures.base.0 in
     let of_files = c.in_ok-base.ensures.base.1 in
     let base = c.in_ok-base.ensures.base.2 in
-    let is = view_of c.args.name.now c.in_ok-files.files c.in_ok-base.base view c.items_stand.ensures.stand of_files base in
+    let names = c.build.new.names in
+    let is = view_of names c.args.name.now c.in_ok-files.files c.in_ok-base.base view c.items_stand.ensures.stand of_files base in
     let found = c.in_ok-findings.findings.items in
     let are = c.in_ok-findings.ensures view is in
     let seen = c.deref.ensures.value in
-    let each : AreOfEach c.deref.result.now c.in_ok-base.base view = record { base = base; count = ap length seen ∙ sym (length-map found told) ∙ are.count } in
+    let each : AreOfEach c.deref.result.now c.in_ok-base.base view = record { base = (names, base); count = ap length seen ∙ sym (length-map found told) ∙ are.count } in
     λ failed. (c.in-Err.ensures view each).err.failed
 
 pub returns-clause-prefix : goal.returns-clause-prefix
@@ -51,12 +53,13 @@ returns-clause-prefix g c =
     let view = c.in_ok-base.ensures.base.0 in
     let of_files = c.in_ok-base.ensures.base.1 in
     let base = c.in_ok-base.ensures.base.2 in
-    let is = view_of c.args.name.now c.in_ok-files.files c.in_ok-base.base view c.items_stand.ensures.stand of_files base in
+    let names = c.build.new.names in
+    let is = view_of names c.args.name.now c.in_ok-files.files c.in_ok-base.base view c.items_stand.ensures.stand of_files base in
     let database = database_of c.args.name.now c.args.text.items c.in_ok-files.files view c.in_ok-files.ensures.added c.in_ok-files.ensures.within of_files in
     let found = c.in_ok-findings.findings.items in
     let are = c.in_ok-findings.ensures view is in
     let seen = c.deref.ensures.value in
-    let each : AreOfEach c.deref.result.now c.in_ok-base.base view = record { base = base; count = ap length seen ∙ sym (length-map found told) ∙ are.count } in
+    let each : AreOfEach c.deref.result.now c.in_ok-base.base view = record { base = (names, base); count = ap length seen ∙ sym (length-map found told) ∙ are.count } in
     let all = told_all found in
     let clean = has_no_lines (counts all) in
     λ failed. record {
