@@ -1,4 +1,4 @@
--- A text has one cut at most, one first fault at most, and never both.
+-- A text has one cut at most, one first fault at most, and never both; and a text whose cut has one piece holds one unit.
 use Rattle.std.proofs.Common.{◌≡◌, ◌⊎◌, ℕ, zero, suc, Bool, ◌+◌, ◌-◌, ◌<◌, ◌≤◌, ◌||◌, true, List, [], ◌∷◌, ◌++◌, append_assoc, map, length, take, drop, get_or, slice_get, Some, None, Ok, Err, refl, sym, ap, ◌∙◌, subst, inl, inr, arith}
 use Rattle.std.specs.List.{concat, AllPass}
 use Rattle.std.proofs.Math.Seq.{take-append_seam, drop-append_seam}
@@ -16,14 +16,14 @@ use Rattle.mm_text.specs.Language.Unit as units
 use Rattle.mm_text.specs.Language.Unit.{Token, token_of, tokens_of, Shape, shape_tokens, Units, Nothing, Simple, Block, unit_tokens, AreUnits, IsViable, IsUnitFault, EndsInUnit, EndsInBlock}
 use Rattle.mm_text.specs.Code.UnitReading as m
 use Rattle.mm_text.specs.Code.LeftToRight.{Read, read_runs, with_words, words_fault_at, read_text}
-use Rattle.mm_text.specs.Language.Cut.{ends_white, ended, IsOne, end_of_words, IsPiece, BeginsSolid, ArePieces, IsCut, HoldWords, StopsWords, StopsUnits, IsFirstFaultAt, IsFirstFault}
+use Rattle.mm_text.specs.Language.Cut.{ends_white, ended, IsOne, end_of_words, HoldsOne, IsPiece, BeginsSolid, ArePieces, IsCut, HoldWords, StopsWords, StopsUnits, IsFirstFaultAt, IsFirstFault}
 use Rattle.mm_text.proofs.ReadingLemmas.{closer, closer_closes, close_step, read_whole, read_words, same_words, text_words, text_fault}
 use Rattle.mm_text.proofs.ReaderLemmas.{in_comment, words-append}
 use Rattle.mm_text.proofs.PositionLemmas.{Lying, words_lie}
 use Rattle.mm_text.proofs.UnitReadingLemmas.{run-append, run-IsViable, IsWhole-run, run-IsWhole}
 use Rattle.mm_text.proofs.UnitFaultLemmas.{cut_twice, viable_front, not_viable_all, block_viable, one_stop, one_unit_fault, whole_has_no_fault}
 use Rattle.mm_text.proofs.UnitDivisionLemmas.{one_division}
-use Rattle.mm_text.proofs.PieceLemmas.{Seam, runs-append, shift_run, shift_word, runs-shift, words-shift, line_end, ended_is, runs-ended}
+use Rattle.mm_text.proofs.PieceLemmas.{Seam, runs-append, shift_run, shift_word, runs-shift, words-shift, line_end, ended_is, runs-ended, ended_white}
 use Rattle.mm_text.proofs.PieceUnitLemmas.{allowed_all, all_allowed, bare, tokens-shift, tokens-front, run_bare, WholeRun}
 
 -- ---- two texts, one behind the other
@@ -416,3 +416,22 @@ same_pieces (p ∷ ps) (q ∷ qs) s t e f g = by_cut (cut_twice p (concat ps ++ 
 
 pub one_cut : (text : List ℕ) (ps qs : List (List ℕ)) (s t : List ℕ) → IsCut text ps s → IsCut text qs t → (ps ≡ qs) × (s ≡ t)
 one_cut text ps qs s t f g = same_pieces ps qs s t (f.joined ∙ sym g.joined) f.are_pieces g.are_pieces
+
+-- ---- a cut with one piece
+
+-- a piece, and behind it bytes without a word
+holds_front : (piece tail : List ℕ) → IsPiece piece → HasWords tail [] → ends_white (piece ++ tail) ≡ true → HoldsOne (piece ++ tail)
+holds_front piece tail h none ends = record {
+  words = h.words;
+  units = h.units;
+  has_words = subst (λ (ws : List Word). HasWords (piece ++ tail) ws) (append-nil h.words) (join_words piece tail h.words [] h.ends h.has_words none);
+  are_units = h.are_units;
+  spells = h.spells ∙ sym (tokens-front piece tail h.words 0 (words_lie piece h.words h.has_words));
+  one = h.one;
+  ends = ends;
+}
+
+pub one_unit_of_cut : (text piece tail : List ℕ) → IsCut text (piece ∷ []) tail → HoldsOne (ended text)
+one_unit_of_cut text piece tail h = subst HoldsOne joined (holds_front piece tail h.are_pieces.0 h.are_pieces.2 (subst (λ (bs : List ℕ). ends_white bs ≡ true) (sym joined) (ended_white text))) where
+  joined : piece ++ tail ≡ ended text
+  joined = ap (λ (bs : List ℕ). bs ++ tail) (sym (append-nil piece)) ∙ h.joined

@@ -1,6 +1,6 @@
 //! What holds of every text. Each function does nothing; what it promises is the law.
 
-ghost use Rattle.std.specs.Prelude.{◌≡◌, ◌⊎◌, ℕ, true, All, List, ◌∷◌, map, slice_range};
+ghost use Rattle.std.specs.Prelude.{◌≡◌, ◌⊎◌, ℕ, true, All, List, [], ◌∷◌, map, slice_range};
 ghost use Rattle.std.specs.List.{AllByRecursion, flat_map};
 ghost use Rattle.mm_text.specs.declared.word.Word.{Word};
 ghost use Rattle.mm_text.specs.declared.fault.TextFault.{TextFault};
@@ -8,7 +8,7 @@ ghost use Rattle.mm_text.specs.Language.Run.{Run, runs};
 ghost use Rattle.mm_text.specs.Language.Layout.{IsLaidOut};
 ghost use Rattle.mm_text.specs.Language.Reading.{HasWords, IsWordsFault};
 ghost use Rattle.mm_text.specs.declared.fault.TextNumber.{TextNumber};
-ghost use Rattle.mm_text.specs.Language.Cut.{IsCut, IsFirstFault, end_of_words};
+ghost use Rattle.mm_text.specs.Language.Cut.{HoldsOne, IsCut, IsFirstFault, end_of_words, ended};
 ghost use Rattle.mm_text.specs.Language.Part.{HasUnits, part_bytes, parts_of, shape_part, IsReadable};
 ghost use Rattle.mm_text.specs.Language.Unit.{Token, spellings, Shape, shape_tokens, IsShape, Units, Nothing, Simple, unit_tokens, AreUnits, IsWhole};
 ghost use Rattle.mm_text.specs.Language.Unit.{IsUnitFault};
@@ -75,4 +75,11 @@ pub fn one_cut()
     ensures cut { (text : List ℕ) (a b : List (List ℕ)) (s t : List ℕ) → IsCut text a s → IsCut text b t → (a ≡ b) × (s ≡ t) }
     ensures fault { (text : List ℕ) (a b : TextFault) → IsFirstFault text a → IsFirstFault text b → a ≡ b }
     ensures not_both { (text : List ℕ) (pieces : List (List ℕ)) (tail : List ℕ) (fault : TextFault) → IsCut text pieces tail → ¬ IsFirstFault text fault }
+{}
+
+/// A text whose cut has one piece holds one unit, and no more.
+///
+/// This is said of the text as it is cut: with one line feed added, if it does not end in white space.
+pub fn one_unit_of_cut()
+    ensures { (text piece tail : List ℕ) → IsCut text (piece ∷ []) tail → HoldsOne (ended text) }
 {}

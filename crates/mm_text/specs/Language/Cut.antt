@@ -36,6 +36,16 @@ end_of_words [] = 0
 end_of_words (word ∷ []) = word.end
 end_of_words (word ∷ words) = end_of_words words
 
+-- the text holds one unit, and ends in white space
+pub record HoldsOne (text : List ℕ) : Type 0 where
+  pub words : List Word
+  pub units : Units
+  pub has_words : HasWords text words
+  pub are_units : AreUnits true units
+  pub spells : unit_tokens units ≡ tokens_of text words
+  pub one : IsOne units
+  pub ends : ends_white text ≡ true
+
 -- a piece holds one unit, and behind it nothing but white space, of which there is some
 pub record IsPiece (piece : List ℕ) : Type 0 where
   pub words : List Word
