@@ -51,11 +51,11 @@ pub record Taken (files : List FileView) (part : Placed) (parts : List Placed) (
   pub is : items ≡ gained ++ rest
   pub later : Expands files parts between rest after
 
-abbrev Way : List FileView → List Placed → List (List ℕ) → List Item → List (List ℕ) → Type 0
+abbrev pub Way : List FileView → List Placed → List (List ℕ) → List Item → List (List ℕ) → Type 0
 Way files [] names items after = (items ≡ []) × (after ≡ names)
 Way files (part ∷ parts) names items after = (Own files part parts names items after ⊎ Again files part parts names items after) ⊎ (Lost files part parts names items after ⊎ Taken files part parts names items after)
 
-way : {files : List FileView} {parts : List Placed} {names after : List (List ℕ)} {items : List Item} → Expands files parts names items after → Way files parts names items after
+pub way : {files : List FileView} {parts : List Placed} {names after : List (List ℕ)} {items : List Item} → Expands files parts names items after → Way files parts names items after
 way nothing = (refl, refl)
 way (own {items = items} not d) = inl (inl (record { is_own = not; rest = items; is = refl; later = d }))
 way (again is old d) = inl (inr (record { is_inclusion = is; known = old; later = d }))
@@ -87,7 +87,7 @@ missing_one {part = part} {y = y} is new none one (inr (inl l)) = (let r = one l
 missing_one is new none one (inr (inr t)) = absurd (none-some t.number (sym none ∙ t.is_number))
 
 module _ (one_reading : OneReading) (one_division : OneDivision) where
-  parts_one : (file n : ℕ) (piece : PieceView) (a b : List Placed) → ArePartsOf file n piece a → ArePartsOf file n piece b → a ≡ b
+  pub parts_one : (file n : ℕ) (piece : PieceView) (a b : List Placed) → ArePartsOf file n piece a → ArePartsOf file n piece b → a ≡ b
   parts_one file n piece a b p q =
       let w : p.words ≡ q.words = one_reading piece.text p.words q.words p.has_words q.has_words in
       let u : p.units ≡ q.units = one_division p.units q.units p.are_units q.are_units (p.spells ∙ ap (tokens_of piece.text) w ∙ sym q.spells) in

@@ -13,15 +13,16 @@ use Rattle.mm_text.specs.declared.part.PartKind.TheVariants as parts
 use Rattle.mm_text.specs.Language.Reading.{HasWords}
 use Rattle.mm_text.specs.Language.Unit.{Token, IsKeyword, Shape, Declaration, Labelled, Provable, Inclusion, shape_tokens, IsShape, Units, Nothing, Simple, Block, AreUnits, spellings, tokens_of}
 use Rattle.mm_text.specs.Language.Part.{HasUnits, part, part_bytes, parts_of, shape_part, word_part}
-use Rattle.mm_text.specs.Language.Cut.{IsOne}
+use Rattle.mm_text.specs.Language.Cut.{IsOne, HoldsOne}
 use Rattle.mm_store.specs.declared.item.Item.{Item}
 use Rattle.mm_store.specs.declared.item.ItemKind.TheVariants as items
-use Rattle.mm_store.specs.Language.FilesView.{PieceView, FileView, FilesView, number_of}
-use Rattle.mm_store.specs.Language.FileFacts.{HaveOwnKeys, IsLive, NamesNoFile, second_word}
+use Rattle.mm_store.specs.Language.Pieces.{text_in, text_under}
+use Rattle.mm_store.specs.Language.FilesView.{PieceView, FileView, FilesView, files_in, number_of}
+use Rattle.mm_store.specs.Language.FileFacts.{NamesNoFile, second_word}
 use Rattle.mm_store.specs.Language.Expansion.{Named, Placed, IsInclusion, included_name, item_kind, placed_item, nameless, named_parts, placed_part, ArePlaced, Expands, nothing, own, again, missing, included, IsExpansion}
-use Rattle.mm_store.specs.Code.Gains.{IsNamed}
-use Rattle.mm_store.specs.Code.Inside.{HoldsUnit}
+use Rattle.mm_store.specs.Code.Gains.{IsNamed, HoldUnits}
 use Rattle.mm_store.proofs.ExpansionLemmas.{OneReading, OneDivision}
+use Rattle.mm_store.proofs.ViewLemmas.{piece_there}
 
 -- the named parts are the parts
 pub named_are : (units : Units) → map (λ named. named.part) (named_parts units) ≡ parts_of units
@@ -45,17 +46,17 @@ second_of bytes [] first name last e = absurd (omega (arith, ap length e))
 second_of bytes (word ∷ []) first name last e = absurd (omega (arith, ap length e))
 second_of bytes (word ∷ other ∷ words) first name last e = cc
 
-declared_kind : (keyword : Token) → (IsKeyword Constants keyword ⊎ (IsKeyword Variables keyword ⊎ IsKeyword Disjoint keyword)) → word_part parts.Constants keyword.kind ≡ parts.Inclusion → ⊥
+pub declared_kind : (keyword : Token) → (IsKeyword Constants keyword ⊎ (IsKeyword Variables keyword ⊎ IsKeyword Disjoint keyword)) → word_part parts.Constants keyword.kind ≡ parts.Inclusion → ⊥
 declared_kind keyword (inl is) e = let k : parts.Constants ≡ parts.Inclusion = sym (ap (word_part parts.Constants) is) ∙ e in cc
 declared_kind keyword (inr (inl is)) e = let k : parts.Variables ≡ parts.Inclusion = sym (ap (word_part parts.Constants) is) ∙ e in cc
 declared_kind keyword (inr (inr is)) e = let k : parts.Disjoint ≡ parts.Inclusion = sym (ap (word_part parts.Constants) is) ∙ e in cc
 
-labelled_kind : (keyword : Token) → (IsKeyword Floating keyword ⊎ (IsKeyword Essential keyword ⊎ IsKeyword Axiom keyword)) → word_part parts.Axiom keyword.kind ≡ parts.Inclusion → ⊥
+pub labelled_kind : (keyword : Token) → (IsKeyword Floating keyword ⊎ (IsKeyword Essential keyword ⊎ IsKeyword Axiom keyword)) → word_part parts.Axiom keyword.kind ≡ parts.Inclusion → ⊥
 labelled_kind keyword (inl is) e = let k : parts.Floating ≡ parts.Inclusion = sym (ap (word_part parts.Axiom) is) ∙ e in cc
 labelled_kind keyword (inr (inl is)) e = let k : parts.Essential ≡ parts.Inclusion = sym (ap (word_part parts.Axiom) is) ∙ e in cc
 labelled_kind keyword (inr (inr is)) e = let k : parts.Axiom ≡ parts.Inclusion = sym (ap (word_part parts.Axiom) is) ∙ e in cc
 
-inner_kind : (shape : Shape) → IsShape false shape → (shape_part shape).kind ≡ parts.Inclusion → ⊥
+pub inner_kind : (shape : Shape) → IsShape false shape → (shape_part shape).kind ≡ parts.Inclusion → ⊥
 inner_kind (Declaration keyword symbols end) is e = declared_kind keyword is.0 e
 inner_kind (Labelled label keyword symbols end) is e = labelled_kind keyword is.1 e
 inner_kind (Provable label keyword symbols proof steps end) is e = let k : parts.Theorem ≡ parts.Inclusion = e in cc
@@ -76,7 +77,7 @@ abbrev pub StandsAlone : Type 0
 StandsAlone = (text : List ℕ) (shape : Shape) (own : List Word) → HasUnits text (Simple shape Nothing) → HasWords (part_bytes text (shape_part shape)) own
     → spellings (part_bytes text (shape_part shape)) own ≡ map (λ token. token.bytes) (shape_tokens shape)
 
-kind_missing : (kind : PartKind) → item_kind kind ≡ items.Missing → kind ≡ parts.Inclusion
+pub kind_missing : (kind : PartKind) → item_kind kind ≡ items.Missing → kind ≡ parts.Inclusion
 kind_missing parts.Constants e = absurd cc
 kind_missing parts.Variables e = absurd cc
 kind_missing parts.Disjoint e = absurd cc
@@ -88,27 +89,20 @@ kind_missing parts.BlockStart e = absurd cc
 kind_missing parts.BlockEnd e = absurd cc
 kind_missing parts.Inclusion e = refl
 
--- each piece of these files holds one unit
-abbrev pub HoldUnits : List FileView → Type 0
-HoldUnits files = (number : ℕ) (file : FileView) → slice_get files number ≡ Some file → (n : ℕ) (piece : PieceView) → slice_get file.pieces n ≡ Some piece → HoldsUnit piece.text
+-- the text under the key of a part has the part, and its name
+abbrev Tied : FilesView → Placed → Type 0
+Tied view part = IsNamed (text_under view.pieces part.key.at) (record { part = part.part; name = part.name })
 
--- a part of a live piece, whose name is in its own bytes
-record Tied (files : List FileView) (part : Placed) : Type 0 where
-  pub text : List ℕ
-  pub live : IsLive (record { files = files }) part.key text
-  pub named : IsNamed text (record { part = part.part; name = part.name })
+piece_tied : (view : FilesView) (number n : ℕ) (piece : PieceView) (named : List Named) → AllByRecursion (IsNamed piece.text) named → piece.text ≡ text_under view.pieces piece.key.at
+    → AllByRecursion (Tied view) (map (placed_part number n piece.key) named)
+piece_tied view number n piece [] h same = tt
+piece_tied view number n piece (part ∷ named) h same = (subst (λ text. IsNamed text part) same h.0, piece_tied view number n piece named h.1 same)
 
-piece_tied : (files : List FileView) (file : FileView) (number n : ℕ) (piece : PieceView) (named : List Named) → AllByRecursion (IsNamed piece.text) named → slice_get files number ≡ Some file → slice_get file.pieces n ≡ Some piece
-    → AllByRecursion (Tied files) (map (placed_part number n piece.key) named)
-piece_tied files file number n piece [] h there here = tt
-piece_tied files file number n piece (part ∷ named) h there here =
-    (record { text = piece.text; live = record { number = number; file = file; there = there; piece = n; is_piece = here }; named = h.0 }, piece_tied files file number n piece named h.1 there here)
-
-item_tied : (files : List FileView) (part : Placed) → HaveOwnKeys (record { files = files }) → IsInclusion part → number_of files part.name ≡ None → Tied files part → NamesNoFile (record { files = files }) (placed_item part)
-item_tied files part own_keys is none tied kind text words live has =
-    let same : tied.text ≡ text = own_keys part.key tied.text text tied.live live in
-    let own : HasWords (part_bytes tied.text part.part) words = subst (λ text. HasWords (part_bytes text part.part) words) (sym same) has in
-    ap (λ (text : List ℕ). number_of files (second_word (part_bytes text part.part) words)) (sym same) ∙ ap (number_of files) (sym (tied.named is words own)) ∙ none
+item_tied : (view : FilesView) (part : Placed) → IsInclusion part → number_of (files_in view) part.name ≡ None → Tied view part → NamesNoFile view (placed_item part)
+item_tied view part is none tied kind text words live has =
+    let same : text_under view.pieces part.key.at ≡ text = ap text_in live.held ∙ sym live.is_text in
+    let own : HasWords (part_bytes (text_under view.pieces part.key.at) part.part) words = subst (λ text. HasWords (part_bytes text part.part) words) (sym same) has in
+    ap (λ (text : List ℕ). number_of (files_in view) (second_word (part_bytes text part.part) words)) (sym same) ∙ ap (number_of (files_in view)) (sym (tied is words own)) ∙ none
 
 module _ (stands_alone : StandsAlone) where
   one_named : (text : List ℕ) (shape : Shape) → HasUnits text (Simple shape Nothing) → IsNamed text (record { part = shape_part shape; name = included_name shape })
@@ -132,34 +126,35 @@ module _ (stands_alone : StandsAlone) where
   all_named text (Block begin inner end (Block first more last later)) units one = absurd cc
 
 module _ (one_reading : OneReading) (one_division : OneDivision) (stands_alone : StandsAlone) where
-  unit_named : (text : List ℕ) (units : Units) → HasUnits text units → HoldsUnit text → AllByRecursion (IsNamed text) (named_parts units)
+  unit_named : (text : List ℕ) (units : Units) → HasUnits text units → HoldsOne text → AllByRecursion (IsNamed text) (named_parts units)
   unit_named text units has holds =
       let words : has.words ≡ holds.words = one_reading text has.words holds.words has.has_words holds.has_words in
       let same : units ≡ holds.units = one_division units holds.units has.are_units holds.are_units (has.spells ∙ ap (tokens_of text) words ∙ sym holds.spells) in
       all_named stands_alone text units has (subst IsOne (sym same) holds.one)
 
-  placed_tied : (files : List FileView) (file : FileView) (number n : ℕ) (front pieces : List PieceView) (placed : List Placed) → HoldUnits files → slice_get files number ≡ Some file → file.pieces ≡ front ++ pieces → n ≡ length front
-      → ArePlaced number n pieces placed → AllByRecursion (Tied files) placed
-  placed_tied files file number n front [] placed hold there whole at are = subst (AllByRecursion (Tied files)) (sym are) tt
-  placed_tied files file number n front (piece ∷ pieces) placed hold there whole at are =
+  placed_tied : (view : FilesView) (file : FileView) (number n : ℕ) (front pieces : List PieceView) (placed : List Placed) → HoldUnits (files_in view) → slice_get (files_in view) number ≡ Some file → file.pieces ≡ front ++ pieces → n ≡ length front
+      → ArePlaced number n pieces placed → AllByRecursion (Tied view) placed
+  placed_tied view file number n front [] placed hold there whole at are = subst (AllByRecursion (Tied view)) (sym are) tt
+  placed_tied view file number n front (piece ∷ pieces) placed hold there whole at are =
       let long : n < length (front ++ piece ∷ pieces) = omega (arith, length-append front (piece ∷ pieces)) in
       let here : slice_get file.pieces n ≡ Some piece = ap (λ l. slice_get l n) whole ∙ slice_get-get_or (front ++ piece ∷ pieces) n piece long ∙ ap Some (get_or_at front piece pieces piece n (sym at)) in
       let units : HasUnits piece.text are.2.units = record { words = are.2.words; has_words = are.2.has_words; are_units = are.2.are_units; spells = are.2.spells } in
       let named = unit_named piece.text are.2.units units (hold number file there n piece here) in
-      let first = subst (AllByRecursion (Tied files)) (sym are.2.parts) (piece_tied files file number n piece (named_parts are.2.units) named there here) in
+      let first = subst (AllByRecursion (Tied view)) (sym are.2.parts) (piece_tied view number n piece (named_parts are.2.units) named (piece_there view number file n piece there here).text) in
       let next : n + 1 ≡ length (front ++ piece ∷ []) = omega (arith, length-append front (piece ∷ [])) in
-      let rest = placed_tied files file number (n + 1) (front ++ piece ∷ []) pieces are.1 hold there (whole ∙ sym (append_assoc front (piece ∷ []) pieces)) next are.3 in
-      subst (AllByRecursion (Tied files)) (sym are.4) (all_and (Tied files) are.0 are.1 first rest)
+      let rest = placed_tied view file number (n + 1) (front ++ piece ∷ []) pieces are.1 hold there (whole ∙ sym (append_assoc front (piece ∷ []) pieces)) next are.3 in
+      subst (AllByRecursion (Tied view)) (sym are.4) (all_and (Tied view) are.0 are.1 first rest)
 
-  items_tied : {files : List FileView} {parts : List Placed} {names after : List (List ℕ)} {items : List Item} → HoldUnits files → HaveOwnKeys (record { files = files }) → Expands files parts names items after → AllByRecursion (Tied files) parts
-      → AllByRecursion (NamesNoFile (record { files = files })) items
-  items_tied hold keys nothing h = tt
-  items_tied hold keys (own {part = part} not d) h = (λ kind. absurd (not (kind_missing part.part.kind kind)), items_tied hold keys d h.1)
-  items_tied hold keys (again is old d) h = items_tied hold keys d h.1
-  items_tied {files} hold keys (missing {part = part} is new none d) h = (item_tied files part keys is none h.0, items_tied hold keys d h.1)
-  items_tied {files} hold keys (included {inner = inner} {gained = gained} {items = items} {number = number} {file = file} is new at there placed inside d) h =
-      all_and (NamesNoFile (record { files = files })) gained items (items_tied hold keys inside (placed_tied files file number 0 [] file.pieces inner hold there refl refl placed)) (items_tied hold keys d h.1)
+  items_tied : (view : FilesView) {files : List FileView} {parts : List Placed} {names after : List (List ℕ)} {items : List Item} → files ≡ files_in view → HoldUnits (files_in view) → Expands files parts names items after → AllByRecursion (Tied view) parts
+      → AllByRecursion (NamesNoFile view) items
+  items_tied view e hold nothing h = tt
+  items_tied view e hold (own {part = part} not d) h = ((λ kind. absurd (not (kind_missing part.part.kind kind))), items_tied view e hold d h.1)
+  items_tied view e hold (again is old d) h = items_tied view e hold d h.1
+  items_tied view e hold (missing {part = part} is new none d) h = (item_tied view part is (ap (λ files. number_of files part.name) (sym e) ∙ none) h.0, items_tied view e hold d h.1)
+  items_tied view e hold (included {inner = inner} {gained = gained} {items = items} {number = number} {file = file} is new at there placed inside d) h =
+      all_and (NamesNoFile view) gained items
+      (items_tied view e hold inside (placed_tied view file number 0 [] file.pieces inner hold (ap (λ files. slice_get files number) (sym e) ∙ there) refl refl placed)) (items_tied view e hold d h.1)
 
-  pub expansion_names : (view : FilesView) (top : List ℕ) (items : List Item) → HoldUnits view.files → HaveOwnKeys view → IsExpansion view.files top items → All (NamesNoFile view) items
-  expansion_names view top items hold keys is =
-      All-from_recursion (NamesNoFile view) items (items_tied hold keys is.expands (placed_tied view.files is.file is.number 0 [] is.file.pieces is.parts hold is.there refl refl is.placed))
+  pub expansion_names : (view : FilesView) (top : List ℕ) (items : List Item) → HoldUnits (files_in view) → IsExpansion (files_in view) top items → All (NamesNoFile view) items
+  expansion_names view top items hold is =
+      All-from_recursion (NamesNoFile view) items (items_tied view refl hold is.expands (placed_tied view is.file is.number 0 [] is.file.pieces is.parts hold is.there refl refl is.placed))

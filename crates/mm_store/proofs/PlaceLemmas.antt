@@ -3,15 +3,14 @@ use Rattle.std.proofs.Common.{◌≡◌, ℕ, zero, suc, ◌+◌, ◌-◌, ◌<�
 use Rattle.std.specs.Prelude.{slice_get}
 use Rattle.std.specs.List.{suffix_len, prefix_len, after_last, concat}
 use Rattle.std.proofs.lemmas.Bool.Decides.{nat_tests}
-use Rattle.std.proofs.lemmas.List.{append-nil, length-drop, length-reverse, reverse-append, take_more, drop_more, take-append-drop, take-append-le, take-map}
+use Rattle.std.proofs.lemmas.List.{append-nil, length-drop, length-reverse, reverse-append, take_more, drop_more, take-append-drop, take-append-le}
 use Rattle.std.proofs.lemmas.List.Sums.{sum_by-cons, sum_by-append, suffix_len-le-length}
 use Rattle.std.proofs.lemmas.List.Sorted.{sum_by-IsPermutation, IsPermutation-reverse}
 use Rattle.std.proofs.lemmas.List.Folds.{prefix_len-append, concat-append}
-use Rattle.std.proofs.lemmas.Option.{get_or_from_slice_get, slice_get_within, slice_get-map}
-use Rattle.std.specs.Option.{option_map}
+use Rattle.std.proofs.lemmas.Option.{get_or_from_slice_get, slice_get_within}
 use Rattle.std.proofs.Math.Seq.{take-append-add}
 use Rattle.mm_text.specs.Language.Place.{is_line_feed}
-use Rattle.mm_store.specs.Language.FilesView.{PieceView, FileView, piece_texts, text_of}
+use Rattle.mm_store.specs.Language.FilesView.{File, text_of}
 use Rattle.mm_store.specs.Language.FileFacts.{piece_offset}
 use Rattle.mm_store.specs.Code.Lines.{bytes_before}
 
@@ -98,9 +97,7 @@ before_in texts n at tail h within =
     ap (λ l. take (length a + at) (l ++ tail)) whole ∙ ap (take (length a + at)) (append_assoc a (x ++ d) tail) ∙ take-append-add a ((x ++ d) ++ tail) at ∙ ap (λ l. a ++ l) (ap (take at) (append_assoc x d tail) ∙ take-append-le at x (d ++ tail) within)
 
 -- the bytes of a file before a byte of a piece
-pub before_byte : (file : FileView) (n at : ℕ) (view : PieceView) → slice_get file.pieces n ≡ Some view → at ≤ length view.text → take (piece_offset file n + at) (text_of file) ≡ bytes_before (piece_texts file.pieces) n at
-before_byte file n at view there within =
-    let texts = piece_texts file.pieces in
-    let here : slice_get texts n ≡ Some view.text = slice_get-map (λ piece. piece.text) file.pieces n ∙ ap (option_map (λ piece. piece.text)) there in
-    let long : at ≤ length (get_or texts n []) = rw (get_or_from_slice_get texts n view.text [] here) within in
-    ap (λ l. take (length (concat l) + at) (text_of file)) (sym (take-map (λ piece. piece.text) n file.pieces)) ∙ before_in texts n at file.tail (slice_get_within texts n view.text here) long
+pub before_byte : (file : File) (n at : ℕ) (text : List ℕ) → slice_get file.pieces n ≡ Some text → at ≤ length text → take (piece_offset file n + at) (text_of file) ≡ bytes_before file.pieces n at
+before_byte file n at text there within =
+    let long : at ≤ length (get_or file.pieces n []) = rw (get_or_from_slice_get file.pieces n text [] there) within in
+    before_in file.pieces n at file.tail (slice_get_within file.pieces n text there) long

@@ -1,6 +1,11 @@
 -- The language: what the contracts of public calls cite, all the way down.
+pub mod Pieces
 pub mod FilesView
 pub mod FileFacts
 pub mod Expansion
+pub mod Walking
 pub mod Keyless
+pub mod Edits
+pub mod Undoing
 pub mod Answers
+pub mod Batches

@@ -16,6 +16,9 @@ pub enum StoreError {
     /// The texts of the files would have more than 4,294,967,295 bytes.
     #[error("more than 4,294,967,295 bytes")]
     TooMany,
+    /// A file has this name already.
+    #[error("a file of this name is there")]
+    Known,
     /// There is no file of the name of the top file.
     #[error("no top file")]
     NoTop,

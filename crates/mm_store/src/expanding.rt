@@ -1,29 +1,25 @@
-//! The items that the pieces of a file give.
+//! The items that the pieces of the files give.
 
-ghost use Rattle.std.specs.Prelude.{◌≡◌, ℕ, ◌<◌, ◌↔◌, IsTrue, List, [], ◌∷◌, All, IfOk, OnOk, map, length};
+ghost use Rattle.std.specs.Prelude.{◌≡◌, ℕ, ◌↔◌, IsTrue, List, [], ◌++◌, IfNone, IfSome, IfOk, OnOk, IsSome, map};
 ghost use Rattle.mm_text.specs.declared.word.Word.{Word};
 ghost use Rattle.mm_text.specs.declared.part.PartKind.TheVariants.{Inclusion};
 ghost use Rattle.mm_text.specs.Language.Reading.{HasWords};
-ghost use Rattle.mm_text.specs.Language.Part.{IsReadable};
+ghost use Rattle.mm_text.specs.Language.Cut.{HoldsOne};
+ghost use Rattle.mm_text.specs.Language.Part.{IsReadable, part_bytes};
+ghost use Rattle.mm_store.specs.declared.files.PieceKey.{PieceKey};
+ghost use Rattle.mm_store.specs.Language.FilesView.{files_in};
 ghost use Rattle.mm_store.specs.Language.FileFacts.{second_word};
-ghost use Rattle.mm_store.specs.Language.Expansion.{item_kind, placed_item, placed_part};
-ghost use Rattle.mm_store.specs.Code.Gains.{names_in, IsNamed, TakesName, Gains, PieceGains, FileGains};
-ghost use Rattle.mm_store.specs.Code.Inside.{HoldsUnit, HasParts, IsPieceKept, piece_of};
+ghost use Rattle.mm_store.specs.Language.Expansion.{item_kind, IsExpansion};
+ghost use Rattle.mm_store.specs.Language.Walking.{IsWalk};
+ghost use Rattle.mm_store.specs.Code.Gains.{item_at};
+ghost use Rattle.mm_store.specs.Code.Inside.{HasParts};
+ghost use Rattle.mm_store.specs.Code.Steps.{Includes, IncludesNothing};
 
-use crate::files::PieceKey;
+use crate::files::Files;
 use crate::item::{Item, ItemKind};
-use crate::piece_text::PieceText;
-use indexmap::IndexSet;
+use crate::walk::{Spot, Step, Walk};
 use mm_text::{Part, PartKind, nth_word};
 use std::alloc::{AllocError, Global};
-
-/// Where a piece stands, and its key.
-#[derive(Clone, Copy)]
-pub(crate) struct Origin {
-    pub(crate) file: usize,
-    pub(crate) piece: usize,
-    pub(crate) key: PieceKey,
-}
 
 fn item_kind(kind: PartKind) -> ItemKind
     ensures { result ≡ item_kind kind }
@@ -48,14 +44,14 @@ fn is_inclusion(kind: PartKind) -> bool
     matches!(kind, PartKind::Inclusion)
 }
 
-fn item_of(origin: Origin, part: Part) -> Item
-    ensures { (name : List ℕ) → result ≡ placed_item (placed_part origin.file origin.piece origin.key (record { part = part; name = name })) }
+fn item_of(spot: Spot, part: Part) -> Item
+    ensures { result ≡ item_at spot part }
 {
     Item {
         kind: item_kind(part.kind),
-        file: origin.file,
-        piece: origin.piece,
-        key: origin.key,
+        file: spot.file,
+        piece: spot.piece,
+        key: spot.key,
         start: part.start,
         end: part.end,
     }
@@ -72,93 +68,64 @@ fn second_word(text: &[u8]) -> &[u8]
     }
 }
 
-/// Puts a name into the set, and says whether it was not there.
-fn take_name(alloc: Global, name: &[u8], names: &mut IndexSet<Vec<u8>>) -> Result<bool, AllocError>
-    ensures { IfOk result (λ first. TakesName (names_in names.old) name.now first (names_in names.new)) }
-{
-    if names.contains(name) {
-        return Ok(false);
-    }
-    names.insert(Vec::from_slice(alloc, name)?)?;
-    Ok(true)
-}
-
-/// What one part of a piece gives: an item, or nothing where it includes a name once more.
-fn expand_part(
-    alloc: Global,
-    origin: Origin,
-    text: &[u8],
-    part: Part,
-    names: &mut IndexSet<Vec<u8>>,
-    items: &mut Vec<Item>,
-) -> Result<(), AllocError>
+/// The second word of a part.
+fn named(text: &[u8], part: Part) -> &[u8]
     requires { IsReadable text.now part }
-    ensures { OnOk result
-        ((name : List ℕ) → IsNamed text.now (record { part = part; name = name })
-        → Gains (placed_part origin.file origin.piece origin.key (record { part = part; name = name }) ∷ [])
-        (names_in names.old) items.old.items (names_in names.new) items.new.items) }
+    ensures { (words : List Word) → HasWords (part_bytes text.now part) words → result.now ≡ second_word (part_bytes text.now part) words }
 {
-    if is_inclusion(part.kind) {
-        let name = second_word(&text[part.start..part.end]);
-        if !take_name(alloc, name, names)? {
-            return Ok(());
-        }
-    }
-    items.push(item_of(origin, part))?;
-    Ok(())
+    second_word(&text[part.start..part.end])
 }
 
-/// What a piece gives.
-fn expand_piece(
-    alloc: Global,
-    origin: Origin,
-    text: &[u8],
-    parts: &[Part],
-    names: &mut IndexSet<Vec<u8>>,
-    items: &mut Vec<Item>,
-) -> Result<(), AllocError>
-    requires unit { HoldsUnit text.now }
+/// The name that a piece includes; `None` where it includes nothing.
+pub(crate) fn included_name<'a>(text: &'a [u8], parts: &[Part]) -> Option<&'a [u8]>
+    requires unit { HoldsOne text.now }
     requires divided { HasParts text.now parts.now }
-    ensures { OnOk result
-        (PieceGains origin.file origin.piece (record { key = origin.key; text = text.now })
-        (names_in names.old) items.old.items (names_in names.new) items.new.items) }
+    ensures none { IfNone result ((file number : ℕ) (key : PieceKey) → IncludesNothing file number (record { key = key; text = text.now })) }
+    ensures some { IfSome result
+        (λ name. (file number : ℕ) (key : PieceKey) → Includes file number (record { key = key; text = text.now }) name.now) }
 {
     mm_text::parts_are_texts();
     mm_text::words_stand_alone();
+    if parts.is_empty() {
+        return None;
+    }
+    let part = parts[0];
+    if !is_inclusion(part.kind) {
+        return None;
+    }
+    Some(named(text, part))
+}
+
+/// Puts the items of a piece behind others.
+fn push_items(spot: Spot, parts: &[Part], items: &mut Vec<Item>) -> Result<(), AllocError>
+    ensures { OnOk result (items.new.items ≡ items.old.items ++ map (item_at spot) parts.now) }
+{
     for part in parts {
-        expand_part(alloc, origin, text, *part, names, items)?;
+        items.push(item_of(spot, *part))?;
     }
     Ok(())
 }
 
-/// What a file gives that is the top file, where there is no other.
-pub(crate) fn expand_file(
+/// The items that a walk goes past.
+pub(crate) fn expanded(
     alloc: Global,
-    file: usize,
-    top: &[u8],
-    keys: &[PieceKey],
-    pieces: &[PieceText],
+    files: &Files,
+    mut walk: Walk,
 ) -> Result<Vec<Item>, AllocError>
-    requires in_range { All (λ key. key.at < length pieces.now) keys.now }
-    requires kept { All IsPieceKept pieces.now }
     ensures { IfOk result
-        (λ items. (after : List (List ℕ)) × FileGains file (map (piece_of pieces.now) keys.now) (top.now ∷ []) after items.items) }
+        (λ items. (top : List ℕ) → IsWalk (files_in files.now) top [] walk → IsExpansion (files_in files.now) top items.items) }
 {
-    let mut names = IndexSet::new(alloc);
-    names.insert(Vec::from_slice(alloc, top)?)?;
+    mm_text::one_meaning();
+    mm_text::one_division();
+    files.holds_pieces();
+    files.hold_units();
     let mut items = Vec::new(alloc);
-    for piece in 0..keys.len() {
-        let key = keys[piece];
-        let origin = Origin { file, piece, key };
-        let kept = &pieces[key.at];
-        expand_piece(
-            alloc,
-            origin,
-            &kept.text,
-            &kept.parts,
-            &mut names,
-            &mut items,
-        )?;
+    loop {
+        match walk.step(alloc, files)? {
+            Step::End => return Ok(items),
+            Step::Items(spot) => push_items(spot, files.parts(spot.key), &mut items)?,
+            Step::Nothing => {}
+            Step::Missing(_) => {}
+        }
     }
-    Ok(items)
 }

@@ -1,11 +1,19 @@
 //! What holds of all files. Each function does nothing; what it promises is the law.
 
-ghost use Rattle.std.specs.Prelude.{◌≡◌, ◌≤◌, ℕ, All, List, length, map};
+ghost use Rattle.std.specs.Prelude.{◌≡◌, ◌≢◌, ◌⊎◌, ◌+◌, ◌≤◌, ℕ, All, Contains, List, ◌∷◌, ◌++◌, Some, None, length, map};
+ghost use Rattle.std.specs.List.{concat};
+ghost use Rattle.std.specs.Option.{option_map};
+ghost use Rattle.mm_text.specs.Language.Cut.{ended};
 ghost use Rattle.mm_store.specs.declared.item.Item.{Item};
-ghost use Rattle.mm_store.specs.Language.FilesView.{FileView, FilesView, no_files};
-ghost use Rattle.mm_store.specs.Language.FileFacts.{CanBeRead, HaveOwnKeys, IsAdded, IsByte, StandsIn};
+ghost use Rattle.mm_store.specs.declared.edit.EditError.{EditError};
+ghost use Rattle.mm_store.specs.declared.edit.EditError.TheVariants.{Memory};
+ghost use Rattle.mm_store.specs.Language.Answers.{IsEditError};
+ghost use Rattle.mm_store.specs.Language.FilesView.{File, FileView, FilesView, file_number, files_in, find_file, plain, text_of, without_keys};
+ghost use Rattle.mm_store.specs.Language.FileFacts.{CanBeRead, HoldsPieces, IsAdded, IsByte, StandsIn};
+ghost use Rattle.mm_store.specs.Language.Edits.{Asked, Insert, Replace, Delete, Move, edited, edited_name, with_members, IsEditOf};
 ghost use Rattle.mm_store.specs.Language.Expansion.{IsExpansion};
-ghost use Rattle.mm_store.specs.Language.Keyless.{keyless_file, keyless_item};
+ghost use Rattle.mm_store.specs.Language.Walking.{IsWalk, WalkView};
+ghost use Rattle.mm_store.specs.Language.Keyless.{bare, keyless_item};
 
 /// Files give one list of items at most from a top file on.
 pub fn one_expansion()
@@ -17,33 +25,107 @@ pub fn one_expansion()
 
 /// Each item of files can be read, and stands where it says.
 pub fn items_stand()
-    ensures read { (files : FilesView) (top : List ℕ) (items : List Item) → IsExpansion files.files top items → All (CanBeRead files) items }
-    ensures stand { (files : FilesView) (top : List ℕ) (items : List Item) → IsExpansion files.files top items → All (StandsIn files) items }
+    ensures read { (files : FilesView) (top : List ℕ) (items : List Item) → HoldsPieces files → IsExpansion (files_in files) top items
+        → All (CanBeRead files) items }
+    ensures stand { (files : FilesView) (top : List ℕ) (items : List Item) → IsExpansion (files_in files) top items → All (StandsIn files) items }
 {
     mm_text::parts_are_texts();
 }
 
-/// In files that hold just one file a key has one text at most.
-pub fn keys_are_own()
-    ensures { (files : FilesView) (name text : List ℕ) → IsAdded no_files files name text → HaveOwnKeys files }
-{}
-
-/// The keys of pieces do not matter.
-///
-/// Files that are the same but for the keys of their pieces give items that are the same but for their keys. And
-/// files that hold just one file, made from the same name and the same text, are the same but for keys.
+/// The keys of pieces do not matter: files that are the same but for the keys of their pieces give items that are
+/// the same but for their keys.
 pub fn keys_do_not_matter()
-    ensures items { (a b : List FileView) (top : List ℕ) (items others : List Item) → map keyless_file a ≡ map keyless_file b
+    ensures { (a b : List FileView) (top : List ℕ) (items others : List Item) → map without_keys a ≡ map without_keys b
         → IsExpansion a top items → IsExpansion b top others → map keyless_item items ≡ map keyless_item others }
-    ensures one_file { (a b : FilesView) (name text : List ℕ) → IsAdded no_files a name text → IsAdded no_files b name text
-        → map keyless_file a.files ≡ map keyless_file b.files }
 {
     mm_text::one_meaning();
     mm_text::one_division();
     mm_text::one_cut();
 }
 
+/// A walk goes on among more files.
+///
+/// Where a walk has gone past items of files, it has gone past the same items once a file is added whose name it has
+/// not taken. Where a walk has come to the end, the items that it has gone past are the expansion of the files
+/// without keys; and that is what the items are that the files give, without keys.
+pub fn walks_go_on()
+    ensures added { (old new : List File) (name text top : List ℕ) (items : List Item) (walk : WalkView) → IsAdded old new name text
+        → ¬ Contains walk.names name → IsWalk (bare old) top items walk → IsWalk (bare new) top items walk }
+    ensures end { (files : FilesView) (top : List ℕ) (items others : List Item) → IsExpansion (files_in files) top items
+        → IsExpansion (bare (plain files)) top others → others ≡ map keyless_item items }
+{
+    mm_text::one_meaning();
+    mm_text::one_division();
+}
+
 /// A byte of a piece, or the end of the piece, stands in the text of its file, or at its end.
 pub fn bytes_are_within()
     ensures { (files : FilesView) (number piece at : ℕ) (text : List ℕ) (offset : ℕ) → IsByte files number piece at text offset → offset ≤ length text }
 {}
+
+/// The text of a file is its pieces and its tail, joined.
+pub fn pieces_join_to_text()
+    ensures { (file : File) → text_of file ≡ concat file.pieces ++ file.tail }
+{}
+
+/// An edit makes of the members of its file what its kind says; those before and behind stay as they were.
+///
+/// A new member is the text of the edit, which ends in white space; a moved one goes over those between its old
+/// place and its new one.
+pub fn edits_keep_members()
+    ensures insert { (name text : List ℕ) (before behind : List (List ℕ))
+        → edited (Insert name (length before) text) (before ++ behind) ≡ before ++ ended text ∷ behind }
+    ensures replace { (name text old : List ℕ) (before behind : List (List ℕ))
+        → edited (Replace name (length before) text) (before ++ old ∷ behind) ≡ before ++ ended text ∷ behind }
+    ensures delete { (name old : List ℕ) (before behind : List (List ℕ))
+        → edited (Delete name (length before)) (before ++ old ∷ behind) ≡ before ++ behind }
+    ensures down { (name moved : List ℕ) (before middle behind : List (List ℕ))
+        → edited (Move name (length before) (length before + length middle)) (before ++ moved ∷ (middle ++ behind)) ≡ before ++ (middle ++ moved ∷ behind) }
+    ensures up { (name moved : List ℕ) (before middle behind : List (List ℕ))
+        → edited (Move name (length before + length middle) (length before)) (before ++ (middle ++ moved ∷ behind)) ≡ before ++ moved ∷ (middle ++ behind) }
+{}
+
+/// An edit keeps the names of all files and their order, and every other file as it was.
+///
+/// Its own file keeps its name and its tail.
+pub fn edits_keep_files()
+    ensures names { (edit : Asked) (files after : List File) → IsEditOf edit files after → map (λ file. file.name) after ≡ map (λ file. file.name) files }
+    ensures numbers { (edit : Asked) (files after : List File) (name : List ℕ) → IsEditOf edit files after → file_number after name ≡ file_number files name }
+    ensures others { (edit : Asked) (files after : List File) (name : List ℕ) → IsEditOf edit files after → name ≢ edited_name edit
+        → find_file after name ≡ find_file files name }
+    ensures edited { (edit : Asked) (files after : List File) (file : File) → IsEditOf edit files after → find_file files (edited_name edit) ≡ Some file
+        → find_file after (edited_name edit) ≡ Some (with_members file (edited edit file.pieces)) }
+{}
+
+/// The deletion of a member that was inserted is accepted, and gives the files of before; so is the move of a moved
+/// member back to its old place.
+pub fn edits_reverse()
+    ensures insert { (files between : List File) (name text : List ℕ) (at : ℕ) → IsEditOf (Insert name at text) files between
+        → IsEditOf (Delete name at) between files }
+    ensures moved { (files between : List File) (name : List ℕ) (at to : ℕ) → IsEditOf (Move name at to) files between
+        → IsEditOf (Move name to at) between files }
+{}
+
+/// An edit of files gives one list of files, or it is refused for one reason, and never both; want of memory is no
+/// such reason.
+pub fn one_edit()
+    ensures some { (edit : Asked) (files : List File)
+        → ((after : List File) × IsEditOf edit files after) ⊎ ((error : EditError) × (error ≢ Memory) × IsEditError edit files error) }
+    ensures files { (edit : Asked) (files a b : List File) → IsEditOf edit files a → IsEditOf edit files b → a ≡ b }
+    ensures refused { (edit : Asked) (files after : List File) (error : EditError) → IsEditOf edit files after → IsEditError edit files error → error ≡ Memory }
+    ensures reason { (edit : Asked) (files : List File) (a b : EditError) → a ≢ Memory → b ≢ Memory
+        → IsEditError edit files a → IsEditError edit files b → a ≡ b }
+{
+    mm_text::one_cut();
+}
+
+/// The text of a file that was added is the text that it was added with, with a line feed behind it where that does
+/// not end in white space; the other files stay as they were. A text is added in one way.
+pub fn added_files_have_their_text()
+    ensures text { (old new : List File) (name text : List ℕ) → file_number old name ≡ None → IsAdded old new name text
+        → option_map text_of (find_file new name) ≡ Some (ended text) }
+    ensures others { (old new : List File) (name text other : List ℕ) → IsAdded old new name text → other ≢ name → find_file new other ≡ find_file old other }
+    ensures one { (old a b : List File) (name text : List ℕ) → IsAdded old a name text → IsAdded old b name text → a ≡ b }
+{
+    mm_text::one_cut();
+}

@@ -7,22 +7,46 @@
 //! beginnings and ends of blocks, and references to files that are missing.
 #![tactic(auto)]
 
+mod batch;
+mod edit;
 mod error;
 mod expanding;
+mod file_text;
 mod files;
 mod item;
 mod laws;
 mod lines;
 mod piece_text;
+mod pieces;
 mod room;
 mod start;
+mod state;
+mod undo;
+mod unit;
+mod walk;
 
+pub use batch::{BatchError, Undos};
+pub use edit::{Edit, EditError};
 pub use error::StoreError;
 pub use files::{Files, PieceKey};
 pub use item::{Item, ItemKind};
-pub use laws::{bytes_are_within, items_stand, keys_are_own, keys_do_not_matter, one_expansion};
+pub use laws::{
+    added_files_have_their_text, bytes_are_within, edits_keep_files, edits_keep_members,
+    edits_reverse, items_stand, keys_do_not_matter, one_edit, one_expansion, pieces_join_to_text,
+    walks_go_on,
+};
 pub use mm_text::{Keyword, Place, TextFault, TextNumber, Word, WordKind, nth_word, place};
 pub use room::fits;
+pub use undo::Undo;
+pub use walk::Walk;
 
+#[cfg(test)]
+mod batch_tests;
+#[cfg(test)]
+mod chance_tests;
+#[cfg(test)]
+mod edit_tests;
+#[cfg(test)]
+mod files_tests;
 #[cfg(test)]
 mod tests;

@@ -3,7 +3,7 @@
 ghost use Rattle.std.specs.Prelude.{◌≡◌, All, IfOk, map};
 ghost use Rattle.mm_store.specs.Code.Inside.{CanBeKept, IsPieceKept};
 
-use crate::lines::{Lines, marks};
+use crate::lines::{Lines, lines_before, marks};
 use mm_text::{Part, parts};
 use std::alloc::{AllocError, Global};
 
@@ -16,17 +16,25 @@ pub struct PieceText {
     pub(crate) parts: Vec<Part>,
     /// The lines of its first kilobyte, of its first two, and so on.
     pub(crate) marks: Vec<Lines>,
+    /// The lines of the whole text.
+    pub(crate) lines: Lines,
 }
 
 /// A text as it is kept.
-fn kept_piece(alloc: Global, text: Vec<u8>) -> Result<PieceText, AllocError>
+pub(crate) fn kept_piece(alloc: Global, text: Vec<u8>) -> Result<PieceText, AllocError>
     requires { CanBeKept text.items }
     ensures text { IfOk result (λ piece. piece.text.items ≡ text.items) }
     ensures kept { IfOk result IsPieceKept }
 {
     let parts = parts(alloc, &text)?;
     let marks = marks(alloc, &text)?;
-    Ok(PieceText { text, parts, marks })
+    let lines = lines_before(&text, &marks, text.len());
+    Ok(PieceText {
+        text,
+        parts,
+        marks,
+        lines,
+    })
 }
 
 /// Texts as they are kept, in order.

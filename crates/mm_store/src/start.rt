@@ -1,13 +1,11 @@
 //! Where the pieces of a file begin.
 
-ghost use Rattle.std.specs.Prelude.{◌≡◌, ℕ, ◌++◌, ◌≤◌, List, All, IfOk, length, map};
-ghost use Rattle.std.specs.List.{concat};
-ghost use Rattle.mm_store.specs.Code.Lines.{AreStarts, IsStart, StaysSmall};
+ghost use Rattle.std.specs.Prelude.{◌≡◌, ℕ, ◌++◌, List, []};
+ghost use Rattle.mm_store.specs.Code.Lines.{IsStart, StaysSmall};
 ghost use Rattle.mm_store.specs.Code.Inside.{IsPieceKept};
 
-use crate::lines::{Lines, lines_before};
+use crate::lines::Lines;
 use crate::piece_text::PieceText;
-use std::alloc::{AllocError, Global};
 
 /// How many bytes of a file stand before a piece, and the lines of these bytes.
 #[derive(Clone, Copy)]
@@ -16,34 +14,26 @@ pub struct Start {
     pub(crate) lines: Lines,
 }
 
-/// Where the next piece begins.
-fn next_start(start: Start, piece: &PieceText) -> Start
-    requires kept { IsPieceKept piece.now }
-    requires small { StaysSmall start piece.now.text.items }
-    ensures { (before : List ℕ) → IsStart before start → IsStart (before ++ piece.now.text.items) result }
-{
-    let bytes = piece.text.len();
-    let lines = lines_before(&piece.text, &piece.marks, bytes);
-    Start {
-        bytes: start.bytes + bytes as u32,
-        lines: start.lines.then(lines),
+impl Start {
+    /// Where the first piece begins.
+    pub(crate) fn first() -> Start
+        ensures { IsStart [] result }
+    {
+        Start {
+            bytes: 0,
+            lines: Lines::none(),
+        }
     }
-}
 
-/// Where each of the pieces of a file begins.
-pub(crate) fn starts(alloc: Global, pieces: &[PieceText]) -> Result<Vec<Start>, AllocError>
-    requires kept { All IsPieceKept pieces.now }
-    requires small { length (concat (map (λ piece. piece.text.items) pieces.now)) ≤ 4294967295 }
-    ensures { IfOk result (λ starts. AreStarts (map (λ piece. piece.text.items) pieces.now) starts.items) }
-{
-    let mut starts = Vec::with_capacity(alloc, pieces.len())?;
-    let mut start = Start {
-        bytes: 0,
-        lines: Lines::none(),
-    };
-    for piece in pieces {
-        starts.push(start)?;
-        start = next_start(start, piece);
+    /// Where the piece behind this one begins, which begins here.
+    pub(crate) fn behind(self, piece: &PieceText) -> Start
+        requires kept { IsPieceKept piece.now }
+        requires small { StaysSmall self piece.now.text.items }
+        ensures { (before : List ℕ) → IsStart before self → IsStart (before ++ piece.now.text.items) result }
+    {
+        Start {
+            bytes: self.bytes + piece.text.len() as u32,
+            lines: self.lines.then(piece.lines),
+        }
     }
-    Ok(starts)
 }

@@ -34,10 +34,13 @@ pub record StaysSmall (start : Start) (text : List ℕ) : Type 0 where
   pub is_start : IsStart before start
   pub small : length before + length text ≤ 4294967295
 
--- where pieces with these texts begin in their file
-pub record AreStarts (texts : List (List ℕ)) (starts : List Start) : Type 0 where
-  pub many : length starts ≡ length texts
-  pub each : (number : ℕ) (default : Start) → number < length starts → IsStart (concat (take number texts)) (slice_index_or starts number default)
+-- where the first of these texts begin in their file, up to the one of this number
+abbrev pub AreStartsTo : ℕ → List (List ℕ) → List Start → Type 0
+AreStartsTo last texts starts = (number : ℕ) (default : Start) → number ≤ last → IsStart (concat (take number texts)) (slice_index_or starts number default)
+
+-- where pieces with these texts begin in their file, and where the tail does
+abbrev pub AreStarts : List (List ℕ) → List Start → Type 0
+AreStarts texts starts = AreStartsTo (length texts) texts starts
 
 -- the bytes of joined texts before a byte of one of them
 abbrev pub bytes_before : List (List ℕ) → ℕ → ℕ → List ℕ

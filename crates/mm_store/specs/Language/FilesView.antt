@@ -1,45 +1,90 @@
--- What a contract sees of the files: each with its name, its pieces, and what is behind them.
-use Rattle.std.specs.Prelude.{ℕ, List, [], ◌++◌, Option, Some, None, length, map, position, slice_get}
-use Rattle.std.specs.List.{concat, sum_by}
+-- What a contract sees of the files: each with its name, the keys of its pieces in order and what is behind them; and the pieces, under
+-- their keys. Two readings of it are what other definitions go by: with keys and texts, and without keys, which is what the files mean.
+use Rattle.std.specs.Prelude.{ℕ, ◌+◌, List, [], ◌∷◌, ◌++◌, Option, Some, None, length, map, position, slice_get}
+use Rattle.std.specs.List.{concat}
 use Rattle.std.specs.Str.{bytes_eq}
+use Rattle.std.specs.FinMap as finite
 use Rattle.mm_store.specs.declared.files.PieceKey.{PieceKey}
+use Rattle.mm_store.specs.Language.Pieces.{Pieces, text_under}
 
--- a piece: its key, which stays when pieces move, and its text
+-- a file by keys: its name, the keys of its pieces, and its tail
+pub record KeyedFile : Type 0 where
+  pub name : List ℕ
+  pub keys : List ℕ
+  pub tail : List ℕ
+
+-- the files, in order of adding, and the pieces: those that stand in the files, and those that are parked
+pub record FilesView : Type 0 where
+  pub keyed : List KeyedFile
+  pub pieces : Pieces
+
+abbrev pub no_files : FilesView
+no_files = record { keyed = []; pieces = finite.empty }
+
+-- a piece of a file: its key, which stays when pieces move, and its text
 pub record PieceView : Type 0 where
   pub key : PieceKey
   pub text : List ℕ
 
+-- a file with keys and texts
 pub record FileView : Type 0 where
   pub name : List ℕ
   pub pieces : List PieceView
   pub tail : List ℕ
 
--- the files, in order of adding
-pub record FilesView : Type 0 where
-  pub files : List FileView
+abbrev pub key_of : ℕ → PieceKey
+key_of at = record { at = at }
 
-abbrev pub no_files : FilesView
-no_files = record { files = [] }
+abbrev pub piece_view : Pieces → ℕ → PieceView
+piece_view pieces key = record { key = key_of key; text = text_under pieces key }
 
-abbrev pub piece_texts : List PieceView → List (List ℕ)
-piece_texts pieces = map (λ piece. piece.text) pieces
+abbrev pub file_view : Pieces → KeyedFile → FileView
+file_view pieces file = record { name = file.name; pieces = map (piece_view pieces) file.keys; tail = file.tail }
 
--- the text of a file: its pieces and its tail, joined
-abbrev pub text_of : FileView → List ℕ
-text_of file = concat (piece_texts file.pieces) ++ file.tail
-
--- how many bytes the texts of the files have
-abbrev pub bytes_of : List FileView → ℕ
-bytes_of files = sum_by (λ file. length (text_of file)) files
+-- the files with keys and texts
+abbrev pub files_in : FilesView → List FileView
+files_in view = map (file_view view.pieces) view.keyed
 
 -- the number of the file of this name: of the first, but no two have one name
 abbrev pub number_of : List FileView → List ℕ → Option ℕ
 number_of files name = position (λ file. bytes_eq name file.name) files
 
-abbrev pub file_at : List FileView → Option ℕ → Option FileView
+-- a file without keys: its name, the texts of its pieces, and its tail
+pub record File : Type 0 where
+  pub name : List ℕ
+  pub pieces : List (List ℕ)
+  pub tail : List ℕ
+
+abbrev pub piece_texts : List PieceView → List (List ℕ)
+piece_texts pieces = map (λ piece. piece.text) pieces
+
+abbrev pub without_keys : FileView → File
+without_keys file = record { name = file.name; pieces = piece_texts file.pieces; tail = file.tail }
+
+abbrev pub plain_file : Pieces → KeyedFile → File
+plain_file pieces file = record { name = file.name; pieces = map (text_under pieces) file.keys; tail = file.tail }
+
+-- the files without keys: what they mean
+abbrev pub plain : FilesView → List File
+plain view = map (plain_file view.pieces) view.keyed
+
+-- the number of the file of this name
+abbrev pub file_number : List File → List ℕ → Option ℕ
+file_number files name = position (λ file. bytes_eq name file.name) files
+
+abbrev pub file_at : List File → Option ℕ → Option File
 file_at files None = None
 file_at files (Some number) = slice_get files number
 
 -- the file of this name
-abbrev pub find_file : List FileView → List ℕ → Option FileView
-find_file files name = file_at files (number_of files name)
+abbrev pub find_file : List File → List ℕ → Option File
+find_file files name = file_at files (file_number files name)
+
+-- the text of a file: its pieces and its tail, joined
+abbrev pub text_of : File → List ℕ
+text_of file = concat file.pieces ++ file.tail
+
+-- how many bytes the texts of the files have
+abbrev pub bytes_of : List File → ℕ
+bytes_of [] = 0
+bytes_of (file ∷ files) = length (text_of file) + bytes_of files

@@ -1,22 +1,20 @@
--- Files, parts and items without their keys: one key stands for all. So lists of files that differ in the keys of
--- their pieces alone become the same list.
-use Rattle.std.specs.Prelude.{map}
+-- Files, parts and items without their keys: one key stands for all.
+use Rattle.std.specs.Prelude.{List, map}
 use Rattle.mm_store.specs.declared.files.PieceKey.{PieceKey}
 use Rattle.mm_store.specs.declared.item.Item.{Item}
-use Rattle.mm_store.specs.Language.FilesView.{PieceView, FileView}
+use Rattle.mm_store.specs.Language.FilesView.{FileView, File}
 use Rattle.mm_store.specs.Language.Expansion.{Placed}
 
 -- the key that stands for every key
 abbrev pub one_key : PieceKey
 one_key = record { at = 0 }
 
--- a piece without its key: what remains is its text
-abbrev pub keyless_piece : PieceView → PieceView
-keyless_piece piece = record { key = one_key; text = piece.text }
+-- files that are known without keys, under one key
+abbrev pub bare_file : File → FileView
+bare_file file = record { name = file.name; pieces = map (λ text. record { key = one_key; text = text }) file.pieces; tail = file.tail }
 
--- a file without the keys of its pieces: what remains is its name, the texts of its pieces, and its tail
-abbrev pub keyless_file : FileView → FileView
-keyless_file file = record { name = file.name; pieces = map keyless_piece file.pieces; tail = file.tail }
+abbrev pub bare : List File → List FileView
+bare files = map bare_file files
 
 -- a part of a piece, where its piece stands, without the key of the piece
 abbrev pub keyless_placed : Placed → Placed

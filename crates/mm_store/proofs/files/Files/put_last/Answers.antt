@@ -1,15 +1,23 @@
-use Rattle.std.proofs.Common.{◌≡◌, ◌+◌, ◌++◌, ◌∷◌, ◌≤◌, [], length, map, sym, ◌∙◌, ap, subst, arith, length-append}
+use Rattle.std.proofs.Common.{◌≡◌, ℕ, ◌+◌, ◌≤◌, List, [], ◌∷◌, ◌++◌, None, length, map, refl, sym, ap, ◌∙◌, subst, arith, length-append}
+use Rattle.std.specs.Prelude.{Vec, position}
+use Rattle.std.specs.Global.{Global}
 use Rattle.std.specs.List.{concat}
 use Rattle.std.specs.Str.{bytes_eq}
-use Rattle.std.specs.Prelude.{All, List, Vec, ℕ}
-use Rattle.std.specs.Global.{Global}
-use Rattle.mm_text.specs.Language.Reading.{HasWords}
-use Rattle.mm_store.specs.declared.files.FileText.{FileText}
+use Rattle.std.specs.Map.{keys_of, lookup}
+use Rattle.std.proofs.lemmas.List.{length-map}
+use Rattle.indexmap.proofs.CallerLemmas.{insert_entry-new}
+use Rattle.mm_store.specs.declared.file_text.FileText.{FileText}
 use Rattle.mm_store.specs.declared.piece_text.PieceText.{PieceText}
-use Rattle.mm_store.specs.Language.FilesView.{FilesView, bytes_of}
-use Rattle.mm_store.specs.Code.Inside.{AreKept, IsPieceKept, file_of, files_of, keys_of_files, keys_from}
+use Rattle.mm_store.specs.declared.files.Files.TheInside.{Inside}
+use Rattle.mm_store.specs.Language.Pieces.{parked_pieces}
+use Rattle.mm_store.specs.Language.FilesView.{File, FilesView, plain, plain_file, file_number, bytes_of}
+use Rattle.mm_store.specs.Code.Inside.{ArePut}
 use Rattle.mm_store.specs.Code.Lines.{AreStarts}
-use Rattle.mm_store.proofs.NewFileLemmas.{can_be_kept, file_added, fresh_pieces, new_texts, no_entries, ok_items, one_entry, tail_of}
+use Rattle.mm_store.specs.Code.Edited.{with_file}
+use Rattle.mm_store.specs.Code.Kept.{file_of}
+use Rattle.mm_store.proofs.NumberLemmas.{number_is}
+use Rattle.mm_store.proofs.StoreLemmas.{parked_all}
+use Rattle.mm_store.proofs.AddLemmas.{can_be_kept, tail_of, done_ok, no_file, kept_added, plain_added, put_keeps, put_many}
 use Rattle.mm_store.proofs.files.Files.put_last.Goals as goal
 
 pub kept_pieces-requires : goal.kept_pieces-requires
@@ -19,53 +27,67 @@ kept_pieces-requires c =
     let small : length (concat (map (λ text. text.items) texts)) ≤ 4294967295 = omega (arith, c.requires.counted, c.requires.fits, length-append (concat (map (λ text. text.items) texts)) tail) in
     can_be_kept texts tail c.requires.pieces small
 
-pub invariant_of-self-in_err-insert : goal.invariant_of-self-in_err-insert
-invariant_of-self-in_err-insert c =
-    let inside = c.self.inside in
-    let same = c.in_err-insert.ensures.err in
-    subst (λ es. AreKept es c.reserve.new.self.items inside.bytes) (sym same) (subst (λ ps. AreKept inside.files.entries ps inside.bytes) (sym c.reserve.ensures.items) c.self.invariant)
-
 pub invariant_of-self-2 : goal.invariant_of-self-2
 invariant_of-self-2 c =
     let inside = c.self.inside in
-    let old = c.reserve.new.self.items in
-    let new = c.in_ok-kept.kept.items in
-    let entry : Vec ℕ Global × FileText = (c.in_ok-from_slice.field-0, c.in_ok-file.file) in
-    let none = no_entries inside.pieces.items inside.files.entries (c.self.view_is ∙ c.requires.empty) in
-    let entries = one_entry (λ x y. bytes_eq x.items y.items) inside.files.entries entry.0 entry.1 c.insert.new.self.entries none c.in_ok-insert.ensures.entries in
-    let pieces = ok_items c.append.result c.unwrap.result c.append.new.self.items (old ++ new) old c.unwrap.ensures c.append.ensures.items in
-    let start : c.len-2.result ≡ length old = omega (arith, c.len-2.ensures, c.reserve.new.self.ok.0) in
-    let keys : entry.1.keys.items ≡ keys_from (length old) (length new) = c.in_ok-file.ensures.keys ∙ ap (λ n. keys_from n (length c.deref.result.now)) start ∙ ap (λ (ps : List PieceText). keys_from (length old) (length ps)) c.deref.ensures.value in
-    let empty = ap (λ es. bytes_of (files_of inside.pieces.items es)) none in
-    let first : length old ≡ 0 = omega (arith, ap length c.reserve.ensures.items, c.self.invariant.no_more, ap (λ es. length (keys_of_files es)) none) in
-    let kept : All IsPieceKept old = subst (All IsPieceKept) (sym c.reserve.ensures.items) c.self.invariant.texts in
-    let tail = subst (λ tail. HasWords tail []) (sym c.in_ok-file.ensures.tail) (tail_of (map (λ text. text.items) c.args.cut.pieces.items) c.args.cut.tail.items c.requires.pieces) in
-    let starts : AreStarts (map (λ piece. piece.text.items) new) entry.1.starts.items = subst (λ (ps : List PieceText). AreStarts (map (λ piece. piece.text.items) ps) entry.1.starts.items) c.deref.ensures.value c.in_ok-file.ensures.starts in
-    let bytes = inside.bytes + c.args.bytes in
-    let given = ap (λ texts. length (concat texts ++ entry.1.tail.items)) c.in_ok-kept.ensures.texts in
-    let behind = ap (λ tail. length (concat (map (λ text. text.items) c.args.cut.pieces.items) ++ tail)) c.in_ok-file.ensures.tail in
-    let counted : bytes ≡ length (concat (map (λ piece. piece.text.items) new) ++ entry.1.tail.items) = omega (arith, empty, c.self.invariant.counted, c.requires.counted, given, behind) in
-    let within : bytes ≤ 4294967295 = omega (arith, empty, c.self.invariant.counted, c.requires.fits) in
-    let all = file_added old new entry keys first kept c.in_ok-kept.ensures.kept tail starts bytes counted within in
-    subst (λ es. AreKept es c.append.new.self.items bytes) (sym entries) (subst (λ ps. AreKept (entry ∷ []) ps bytes) (sym pieces) all)
+    let texts = map (λ (piece : PieceText). piece.text.items) c.in_ok-kept.kept.items in
+    let cut = map (λ (piece : Vec ℕ Global). piece.items) c.args.cut.pieces.items in
+    let put : ArePut inside.pieces texts c.in_ok-keys.keys.items c.put_all.new.self = c.in_ok-keys.ensures.ok in
+    let missing : position (λ key. bytes_eq c.args.name.now key.items) (keys_of inside.files.entries) ≡ None =
+    sym (number_is inside.pieces c.args.name.now inside.files.entries) ∙ ap (λ (v : FilesView). file_number (plain v) c.args.name.now) c.self.view_is ∙ c.requires.missing in
+    let none : lookup (λ (key : Vec ℕ Global). bytes_eq c.in_ok-name.name.items key.items) c.reserve.new.self.entries ≡ None =
+    no_file (λ (key : Vec ℕ Global). bytes_eq c.in_ok-name.name.items key.items) c.reserve.new.self.entries
+    (ap (λ (name : List ℕ). position (λ (key : Vec ℕ Global). bytes_eq name key.items) (keys_of c.reserve.new.self.entries)) c.in_ok-name.ensures.items
+    ∙ ap (λ es. position (λ (key : Vec ℕ Global). bytes_eq c.args.name.now key.items) (keys_of es)) c.reserve.ensures.entries ∙ missing) in
+    let value : FileText = record { keys = c.in_ok-keys.keys; starts = c.in_ok-starts.starts; tail = c.args.cut.tail; deleted = 0 } in
+    let entries : c.insert.new.self.entries ≡ inside.files.entries ++ (c.in_ok-name.name, value) ∷ [] =
+    done_ok c.insert.result c.unwrap.result _ c.unwrap.ensures c.insert.ensures.entries ∙ insert_entry-new (λ x y. bytes_eq x.items y.items) c.reserve.new.self c.in_ok-name.name value none
+    ∙ ap (λ (es : List (Vec ℕ Global × FileText)). es ++ (c.in_ok-name.name, value) ∷ []) c.reserve.ensures.entries in
+    let e : Vec ℕ Global × FileText = (c.in_ok-name.name, value) in
+    let after : Inside = record { files = c.insert.new.self; pieces = c.put_all.new.self; bytes = inside.bytes + c.args.bytes } in
+    let held : bytes_of (plain c.args.self.now) ≡ inside.bytes = ap (λ (v : FilesView). bytes_of (plain v)) (sym c.self.view_is) ∙ sym c.self.invariant.counted in
+    let starts : AreStarts texts c.in_ok-starts.starts.items = subst (λ (ps : List PieceText). AreStarts (map (λ (piece : PieceText). piece.text.items) ps) c.in_ok-starts.starts.items) c.deref.ensures.value c.in_ok-starts.ensures.starts in
+    let many : length c.in_ok-keys.keys.items ≡ length texts = put_many inside.pieces c.put_all.new.self texts c.in_ok-keys.keys.items put in
+    kept_added inside c.self.invariant e texts c.put_all.new.self put after entries refl refl
+    (record {
+      keys = omega (arith, c.in_ok-keys.keys.ok.0, c.in_ok-keys.keys.ok.1);
+      starts = omega (arith, c.in_ok-keys.keys.ok.0, many, length-map c.in_ok-kept.kept.items (λ (piece : PieceText). piece.text.items), c.in_ok-starts.ensures.many, ap length c.deref.ensures.value);
+    })
+    starts (tail_of cut c.args.cut.tail.items c.requires.pieces)
+    (omega (arith, c.requires.counted, ap (λ (ts : List (List ℕ)). length (concat ts ++ c.args.cut.tail.items)) c.in_ok-kept.ensures.texts)) (omega (arith, held, c.requires.fits))
 
 pub returns-clause-ok : goal.returns-clause-ok
 returns-clause-ok c =
     let inside = c.self.inside in
-    let old = c.reserve.new.self.items in
-    let new = c.in_ok-kept.kept.items in
-    let entry : Vec ℕ Global × FileText = (c.in_ok-from_slice.field-0, c.in_ok-file.file) in
-    let none = no_entries inside.pieces.items inside.files.entries (c.self.view_is ∙ c.requires.empty) in
-    let entries = one_entry (λ x y. bytes_eq x.items y.items) inside.files.entries entry.0 entry.1 c.insert.new.self.entries none c.in_ok-insert.ensures.entries in
-    let pieces = ok_items c.append.result c.unwrap.result c.append.new.self.items (old ++ new) old c.unwrap.ensures c.append.ensures.items in
-    let start : c.len-2.result ≡ length old = omega (arith, c.len-2.ensures, c.reserve.new.self.ok.0) in
-    let keys : entry.1.keys.items ≡ keys_from (length old) (length new) = c.in_ok-file.ensures.keys ∙ ap (λ n. keys_from n (length c.deref.result.now)) start ∙ ap (λ (ps : List PieceText). keys_from (length old) (length ps)) c.deref.ensures.value in
-    let all = ap (files_of c.append.new.self.items) entries ∙ ap (λ t. files_of t (entry ∷ [])) pieces in
-    record {
-      file = file_of (old ++ new) entry;
-      last = all ∙ sym (ap (λ (view : FilesView). view.files ++ file_of (old ++ new) entry ∷ []) c.requires.empty);
-      is_name = c.in_ok-from_slice.ensures.items;
-      is_pieces = new_texts old new entry keys ∙ c.in_ok-kept.ensures.texts;
-      is_tail = c.in_ok-file.ensures.tail;
-      fresh = fresh_pieces old new entry keys c.args.self.now c.requires.empty;
-    }
+    let texts = map (λ (piece : PieceText). piece.text.items) c.in_ok-kept.kept.items in
+    let cut = map (λ (piece : Vec ℕ Global). piece.items) c.args.cut.pieces.items in
+    let put : ArePut inside.pieces texts c.in_ok-keys.keys.items c.put_all.new.self = c.in_ok-keys.ensures.ok in
+    let missing : position (λ key. bytes_eq c.args.name.now key.items) (keys_of inside.files.entries) ≡ None =
+    sym (number_is inside.pieces c.args.name.now inside.files.entries) ∙ ap (λ (v : FilesView). file_number (plain v) c.args.name.now) c.self.view_is ∙ c.requires.missing in
+    let none : lookup (λ (key : Vec ℕ Global). bytes_eq c.in_ok-name.name.items key.items) c.reserve.new.self.entries ≡ None =
+    no_file (λ (key : Vec ℕ Global). bytes_eq c.in_ok-name.name.items key.items) c.reserve.new.self.entries
+    (ap (λ (name : List ℕ). position (λ (key : Vec ℕ Global). bytes_eq name key.items) (keys_of c.reserve.new.self.entries)) c.in_ok-name.ensures.items
+    ∙ ap (λ es. position (λ (key : Vec ℕ Global). bytes_eq c.args.name.now key.items) (keys_of es)) c.reserve.ensures.entries ∙ missing) in
+    let value : FileText = record { keys = c.in_ok-keys.keys; starts = c.in_ok-starts.starts; tail = c.args.cut.tail; deleted = 0 } in
+    let entries : c.insert.new.self.entries ≡ inside.files.entries ++ (c.in_ok-name.name, value) ∷ [] =
+    done_ok c.insert.result c.unwrap.result _ c.unwrap.ensures c.insert.ensures.entries ∙ insert_entry-new (λ x y. bytes_eq x.items y.items) c.reserve.new.self c.in_ok-name.name value none
+    ∙ ap (λ (es : List (Vec ℕ Global × FileText)). es ++ (c.in_ok-name.name, value) ∷ []) c.reserve.ensures.entries in
+    let e : Vec ℕ Global × FileText = (c.in_ok-name.name, value) in
+    let after : Inside = record { files = c.insert.new.self; pieces = c.put_all.new.self; bytes = inside.bytes + c.args.bytes } in
+    let old : plain (record { keyed = map file_of inside.files.entries; pieces = inside.pieces }) ≡ plain c.args.self.now = ap (λ (v : FilesView). plain v) c.self.view_is in
+    ap (λ es. map (plain_file c.put_all.new.self) (map file_of es)) entries ∙ plain_added inside c.self.invariant e texts c.put_all.new.self put
+    ∙ ap (λ (files : List File). with_file files c.in_ok-name.name.items texts c.args.cut.tail.items) old
+    ∙ ap (λ (name : List ℕ). with_file (plain c.args.self.now) name texts c.args.cut.tail.items) c.in_ok-name.ensures.items
+    ∙ ap (λ (ts : List (List ℕ)). with_file (plain c.args.self.now) c.args.name.now ts c.args.cut.tail.items) c.in_ok-kept.ensures.texts
+
+pub returns-clause-keeps : goal.returns-clause-keeps
+returns-clause-keeps c =
+    let texts = map (λ (piece : PieceText). piece.text.items) c.in_ok-kept.kept.items in
+    let old : c.self.inside.pieces ≡ c.args.self.now.pieces = ap (λ (v : FilesView). v.pieces) c.self.view_is in
+    let put : ArePut c.args.self.now.pieces texts c.in_ok-keys.keys.items c.put_all.new.self = subst (λ p. ArePut p texts c.in_ok-keys.keys.items c.put_all.new.self) old c.in_ok-keys.ensures.ok in
+    put_keeps c.args.self.now.pieces c.put_all.new.self texts c.in_ok-keys.keys.items put
+
+pub returns-clause-parked : goal.returns-clause-parked
+returns-clause-parked c =
+    let texts = map (λ (piece : PieceText). piece.text.items) c.in_ok-kept.kept.items in
+    parked_all c.self.inside.pieces c.put_all.new.self texts c.in_ok-keys.keys.items c.in_ok-keys.ensures.ok ∙ ap (λ (v : FilesView). parked_pieces v.pieces) c.self.view_is

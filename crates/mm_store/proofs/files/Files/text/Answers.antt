@@ -1,21 +1,33 @@
-use Rattle.std.proofs.Common.{Some, sym, ◌∙◌, ap, map, ◌++◌}
-use Rattle.std.specs.List.{concat}
+use Rattle.std.proofs.Common.{◌≡◌, ℕ, Some, is_some, true, length, map, get_or, sym, ap, ◌∙◌, subst, arith}
+use Rattle.std.specs.Prelude.{Vec, slice_get}
+use Rattle.std.specs.Global.{Global}
 use Rattle.std.specs.Option.{option_map}
-use Rattle.mm_store.specs.Language.FilesView.{find_file, text_of}
-use Rattle.mm_store.specs.Code.Inside.{text_at}
-use Rattle.mm_store.proofs.FilesLemmas.{found_is, none_is, texts_are}
+use Rattle.std.specs.FinMap as finite
+use Rattle.std.proofs.lemmas.Option.{slice_get-map}
+use Rattle.mm_store.specs.declared.file_text.FileText.{FileText}
+use Rattle.mm_store.specs.Language.FilesView.{FilesView, plain, find_file, text_of}
+use Rattle.mm_store.specs.Code.Kept.{file_of}
+use Rattle.mm_store.proofs.EntryLemmas.{texts_of, keys_at}
+use Rattle.mm_store.proofs.FilesLemmas.{found_is, none_is, key_some}
 use Rattle.mm_store.proofs.files.Files.text.Goals as goal
+
+pub joined-requires : goal.joined-requires
+joined-requires c =
+    let es = c.self.inside.files.entries in
+    let v = c.in-Some.file.now in
+    let n = c.in-Some.field-0-0 in
+    let here : slice_get (texts_of es) n ≡ Some v = slice_get-map (λ (e : Vec ℕ Global × FileText). e.1) es n ∙ ap (option_map (λ (e : Vec ℕ Global × FileText). e.1)) c.in-Some.ensures.entry in
+    let keys = keys_at es n v here in
+    λ at d lt. subst (λ ks. is_some (finite.get c.self.inside.pieces (get_or ks at d)) ≡ true) keys (key_some (map file_of es) c.self.inside.pieces c.self.invariant.once n at d (omega (arith, lt, ap length keys)))
 
 pub returns-in-None : goal.returns-in-None
 returns-in-None c =
     let inside = c.self.inside in
-    sym (ap (λ files. option_map text_of (find_file files.files c.args.name.now)) (sym c.self.view_is) ∙ ap (option_map text_of) (none_is inside.pieces.items c.args.name.now inside.files.entries c.in-None.ensures.index))
+    sym (ap (λ (v : FilesView). option_map text_of (find_file (plain v) c.args.name.now)) (sym c.self.view_is) ∙ ap (option_map text_of) (none_is inside.pieces c.args.name.now inside.files.entries c.in-None.ensures.index))
 
 pub returns-in_ok-joined-in-Some : goal.returns-in_ok-joined-in-Some
 returns-in_ok-joined-in-Some c =
     let inside = c.self.inside in
     let file = c.in-Some.file.now in
-    let found = found_is inside.pieces.items c.args.name.now inside.files.entries c.in-Some.field-0-0 (c.in-Some.field-0-1.now, file) c.in-Some.ensures.index c.in-Some.ensures.entry in
-    let text = c.in_ok-joined-in-Some.ensures ∙ ap (λ texts. concat (map (text_at texts) file.keys.items) ++ file.tail.items) c.deref.ensures.value in
-    let whole = ap (λ texts. concat texts ++ file.tail.items) (texts_are inside.pieces.items file.keys.items) ∙ sym text in
-    sym (ap (λ files. option_map text_of (find_file files.files c.args.name.now)) (sym c.self.view_is) ∙ ap (option_map text_of) found ∙ ap Some whole)
+    let found = found_is inside.pieces c.args.name.now inside.files.entries c.in-Some.field-0-0 (c.in-Some.field-0-1.now, file) c.in-Some.ensures.index c.in-Some.ensures.entry in
+    sym (ap (λ (v : FilesView). option_map text_of (find_file (plain v) c.args.name.now)) (sym c.self.view_is) ∙ ap (option_map text_of) found ∙ ap Some (sym c.in_ok-joined-in-Some.ensures))

@@ -1,0 +1,204 @@
+-- Edits over files without keys: what they leave as it was, and what reverses them.
+use Rattle.std.proofs.Common.{◌≡◌, ◌≢◌, ℕ, zero, suc, ◌+◌, ◌<◌, ◌≤◌, List, [], ◌∷◌, ◌++◌, Option, Some, None, length, map, get_or, set, refl, sym, ap, ◌∙◌, append_assoc, arith, length-append}
+use Rattle.std.specs.Prelude.{slice_get}
+use Rattle.std.specs.List.{concat, sum_by, insert, remove}
+use Rattle.std.specs.Str.{bytes_eq}
+use Rattle.std.proofs.lemmas.List.{length-set}
+use Rattle.std.proofs.lemmas.List.Edits.{length-remove}
+use Rattle.std.proofs.lemmas.List.Folds.{position_or_len-set}
+use Rattle.std.proofs.lemmas.List.Sums.{sum_by-cons, sum_by-insert, sum_by-remove}
+use Rattle.std.proofs.Math.Seq.{map-set_same}
+use Rattle.std.proofs.lemmas.Option.{get_or_from_slice_get, none-some, same_Some}
+use Rattle.mm_text.specs.Language.Cut.{ended}
+use Rattle.mm_store.specs.Language.FilesView.{File, file_number, file_at, find_file, bytes_of, text_of}
+use Rattle.mm_store.specs.Language.Edits.{Asked, Insert, Replace, Delete, Move, edited, after_edit, with_members, IsEditOf}
+
+-- one element of a list set
+module _ {X : Type 0} where
+  set_set : (xs : List X) (n : ℕ) (x y : X) → set (set xs n x) n y ≡ set xs n y
+  set_set [] n x y = refl
+  set_set (z ∷ xs) zero x y = refl
+  set_set (z ∷ xs) (suc n) x y = ap (λ ys. z ∷ ys) (set_set xs n x y)
+
+  set_back : (xs : List X) (n : ℕ) (x : X) → slice_get xs n ≡ Some x → set xs n x ≡ xs
+  set_back [] n x there = refl
+  set_back (z ∷ xs) zero x there = ap (λ y. y ∷ xs) (sym (same_Some z x there))
+  set_back (z ∷ xs) (suc n) x there = ap (λ ys. z ∷ ys) (set_back xs n x there)
+
+  get_set : (xs : List X) (n : ℕ) (x y : X) → slice_get xs n ≡ Some x → slice_get (set xs n y) n ≡ Some y
+  get_set [] n x y there = absurd (none-some x there)
+  get_set (z ∷ xs) zero x y there = refl
+  get_set (z ∷ xs) (suc n) x y there = get_set xs n x y there
+
+  get_other : (xs : List X) (n m : ℕ) (y : X) → m ≢ n → slice_get (set xs n y) m ≡ slice_get xs m
+  get_other [] n m y differs = refl
+  get_other (z ∷ xs) zero zero y differs = absurd (differs refl)
+  get_other (z ∷ xs) zero (suc m) y differs = refl
+  get_other (z ∷ xs) (suc n) zero y differs = refl
+  get_other (z ∷ xs) (suc n) (suc m) y differs = get_other xs n m y (λ e. differs (ap suc e))
+
+  longer : (xs : List X) (i : ℕ) (x : X) → i ≤ length xs → length (insert xs i x) ≡ suc (length xs)
+  longer [] zero x le = refl
+  longer [] (suc i) x le = absurd (omega arith)
+  longer (y ∷ xs) zero x le = refl
+  longer (y ∷ xs) (suc i) x le = ap suc (longer xs i x (omega arith))
+
+  -- the member that was put in is there, and the list without it is that of before
+  put_there : (xs : List X) (i : ℕ) (x d : X) → i ≤ length xs → get_or (insert xs i x) i d ≡ x
+  put_there [] zero x d le = refl
+  put_there [] (suc i) x d le = absurd (omega arith)
+  put_there (y ∷ xs) zero x d le = refl
+  put_there (y ∷ xs) (suc i) x d le = put_there xs i x d (omega arith)
+
+  remove_put : (xs : List X) (i : ℕ) (x : X) → i ≤ length xs → remove (insert xs i x) i ≡ xs
+  remove_put xs zero x le = refl
+  remove_put [] (suc i) x le = absurd (omega arith)
+  remove_put (y ∷ xs) (suc i) x le = ap (λ ys. y ∷ ys) (remove_put xs i x (omega arith))
+
+  put_removed : (xs : List X) (i : ℕ) (d : X) → i < length xs → insert (remove xs i) i (get_or xs i d) ≡ xs
+  put_removed [] i d lt = absurd (omega arith)
+  put_removed (y ∷ xs) zero d lt = refl
+  put_removed (y ∷ xs) (suc i) d lt = ap (λ ys. y ∷ ys) (put_removed xs i d (omega arith))
+
+  -- in a list of three parts
+  put_at : (before behind : List X) (x : X) → insert (before ++ behind) (length before) x ≡ before ++ x ∷ behind
+  put_at [] behind x = refl
+  put_at (y ∷ before) behind x = ap (λ ys. y ∷ ys) (put_at before behind x)
+
+  drop_at : (before behind : List X) (x : X) → remove (before ++ x ∷ behind) (length before) ≡ before ++ behind
+  drop_at [] behind x = refl
+  drop_at (y ∷ before) behind x = ap (λ ys. y ∷ ys) (drop_at before behind x)
+
+  set_at : (before behind : List X) (x y : X) → set (before ++ x ∷ behind) (length before) y ≡ before ++ y ∷ behind
+  set_at [] behind x y = refl
+  set_at (z ∷ before) behind x y = ap (λ ys. z ∷ ys) (set_at before behind x y)
+
+  read_at : (before behind : List X) (x d : X) → get_or (before ++ x ∷ behind) (length before) d ≡ x
+  read_at [] behind x d = refl
+  read_at (z ∷ before) behind x d = read_at before behind x d
+
+-- what an edit makes of the members, in parts
+pub insert_parts : (name text : List ℕ) (before behind : List (List ℕ)) → edited (Insert name (length before) text) (before ++ behind) ≡ before ++ ended text ∷ behind
+insert_parts name text before behind = put_at before behind (ended text)
+
+pub replace_parts : (name text old : List ℕ) (before behind : List (List ℕ)) → edited (Replace name (length before) text) (before ++ old ∷ behind) ≡ before ++ ended text ∷ behind
+replace_parts name text old before behind = set_at before behind old (ended text)
+
+pub delete_parts : (name old : List ℕ) (before behind : List (List ℕ)) → edited (Delete name (length before)) (before ++ old ∷ behind) ≡ before ++ behind
+delete_parts name old before behind = drop_at before behind old
+
+pub down_parts : (name moved : List ℕ) (before middle behind : List (List ℕ)) → edited (Move name (length before) (length before + length middle)) (before ++ moved ∷ (middle ++ behind)) ≡ before ++ (middle ++ moved ∷ behind)
+down_parts name moved before middle behind =
+    let all = before ++ moved ∷ (middle ++ behind) in
+    let to : length before + length middle ≡ length (before ++ middle) = sym (length-append before middle) in
+    ap (λ x. insert (remove all (length before)) (length before + length middle) x) (read_at before (middle ++ behind) moved [])
+    ∙ ap (λ xs. insert xs (length before + length middle) moved) (drop_at before (middle ++ behind) moved ∙ sym (append_assoc before middle behind))
+    ∙ ap (λ n. insert ((before ++ middle) ++ behind) n moved) to ∙ put_at (before ++ middle) behind moved ∙ append_assoc before middle (moved ∷ behind)
+
+pub up_parts : (name moved : List ℕ) (before middle behind : List (List ℕ)) → edited (Move name (length before + length middle) (length before)) (before ++ (middle ++ moved ∷ behind)) ≡ before ++ moved ∷ (middle ++ behind)
+up_parts name moved before middle behind =
+    let all = before ++ (middle ++ moved ∷ behind) in
+    let from : length before + length middle ≡ length (before ++ middle) = sym (length-append before middle) in
+    let joined : all ≡ (before ++ middle) ++ moved ∷ behind = sym (append_assoc before middle (moved ∷ behind)) in
+    let read : get_or all (length before + length middle) [] ≡ moved = ap (λ xs. get_or xs (length before + length middle) []) joined ∙ ap (λ n. get_or ((before ++ middle) ++ moved ∷ behind) n []) from ∙ read_at (before ++ middle) behind moved [] in
+    let rest : remove all (length before + length middle) ≡ before ++ (middle ++ behind) =
+    ap (λ xs. remove xs (length before + length middle)) joined ∙ ap (λ n. remove ((before ++ middle) ++ moved ∷ behind) n) from ∙ drop_at (before ++ middle) behind moved ∙ append_assoc before middle behind in
+    ap (λ x. insert (remove all (length before + length middle)) (length before) x) read ∙ ap (λ xs. insert xs (length before) moved) rest ∙ put_at before (middle ++ behind) moved
+
+-- another file in the place of one, of the same name
+module _ (files : List File) (n : ℕ) (file other : File) (there : slice_get files n ≡ Some file) (same : other.name ≡ file.name) where
+  pub number_set : (name : List ℕ) → file_number (set files n other) name ≡ file_number files name
+  number_set name =
+      let a = position_or_len-set (λ (file : File). bytes_eq name file.name) files n other file (ap (bytes_eq name) (same ∙ sym (ap (λ (file : File). file.name) (get_or_from_slice_get files n file file there)))) in
+      let b = length-set files n other in
+      rw (a, b) refl
+
+bytes_set : (files : List File) (n : ℕ) (file other : File) → slice_get files n ≡ Some file → bytes_of (set files n other) + length (text_of file) ≡ bytes_of files + length (text_of other)
+bytes_set [] n file other there = absurd (none-some file there)
+bytes_set (first ∷ files) zero file other there = omega (arith, ap (λ (file : File). length (text_of file)) (same_Some first file there))
+bytes_set (first ∷ files) (suc n) file other there = omega (arith, bytes_set files n file other there)
+
+size_is : (texts : List (List ℕ)) → length (concat texts) ≡ sum_by length texts
+size_is [] = refl
+size_is (text ∷ texts) = omega (arith, length-append text (concat texts), sum_by-cons length text texts, size_is texts)
+
+-- how many bytes a file has
+bytes_in : (file : File) → length (text_of file) ≡ sum_by length file.pieces + length file.tail
+bytes_in file = omega (arith, length-append (concat file.pieces) file.tail, size_is file.pieces)
+
+-- an edit of the edited file that gives its members of before gives the files of before
+module _ (edit : Asked) (files between : List File) (is : IsEditOf edit files between) where
+  abbrev changed : File
+  changed = with_members is.file (edited edit is.file.pieces)
+
+  pub number_kept : (name : List ℕ) → file_number between name ≡ file_number files name
+  number_kept name = ap (λ fs. file_number fs name) is.is_after ∙ number_set files is.number is.file changed is.placed.file_there.there refl name
+
+  pub names_kept : map (λ file. file.name) between ≡ map (λ file. file.name) files
+  names_kept =
+      let there = is.placed.file_there.there in
+      ap (map (λ (file : File). file.name)) is.is_after
+      ∙ map-set_same (λ (file : File). file.name) files is.number changed is.file (sym (ap (λ (file : File). file.name) (get_or_from_slice_get files is.number is.file is.file there)))
+
+  pub changed_there : slice_get between is.number ≡ Some changed
+  changed_there = ap (λ fs. slice_get fs is.number) is.is_after ∙ get_set files is.number is.file changed is.placed.file_there.there
+
+  pub given_back : (members : List (List ℕ)) → members ≡ is.file.pieces → files ≡ set between is.number (with_members changed members)
+  given_back members same = sym (
+      ap (λ fs. set fs is.number (with_members changed members)) is.is_after ∙ set_set files is.number changed (with_members changed members)
+      ∙ ap (λ pieces. set files is.number (with_members is.file pieces)) same ∙ set_back files is.number is.file is.placed.file_there.there)
+
+  pub bytes_before : bytes_of between + sum_by length is.file.pieces ≡ bytes_of files + sum_by length (edited edit is.file.pieces)
+  bytes_before = omega (arith, ap bytes_of is.is_after, bytes_set files is.number is.file changed is.placed.file_there.there, bytes_in is.file, bytes_in changed)
+
+  other_file : (name : List ℕ) (number : Option ℕ) → file_number files name ≡ number → number ≢ Some is.number → find_file between name ≡ find_file files name
+  other_file name None at differs = ap (file_at between) (number_kept name ∙ at) ∙ sym (ap (file_at files) at)
+  other_file name (Some number) at differs =
+      ap (file_at between) (number_kept name ∙ at) ∙ ap (λ fs. slice_get fs number) is.is_after ∙ get_other files is.number number changed (λ e. differs (ap Some e)) ∙ sym (ap (file_at files) at)
+
+  -- a file of another number is as it was
+  pub others_kept : (name : List ℕ) → file_number files name ≢ Some is.number → find_file between name ≡ find_file files name
+  others_kept name differs = other_file name (file_number files name) refl differs
+
+-- the deletion of what was inserted
+pub insert_reversed : (name text : List ℕ) (at : ℕ) (files between : List File) → IsEditOf (Insert name at text) files between → IsEditOf (Delete name at) between files
+insert_reversed name text at files between is = record {
+  number = is.number;
+  file = changed (Insert name at text) files between is;
+  placed = record {
+    file_there = record { named = number_kept (Insert name at text) files between is name ∙ is.placed.file_there.named; there = changed_there (Insert name at text) files between is };
+    among = omega (arith, longer is.file.pieces at (ended text) is.placed.among, is.placed.among);
+  };
+  one_unit = tt;
+  is_after = given_back (Insert name at text) files between is (remove (insert is.file.pieces at (ended text)) at) (remove_put is.file.pieces at (ended text) is.placed.among);
+  within = omega (arith, is.within, bytes_before (Insert name at text) files between is, sum_by-insert length is.file.pieces at (ended text));
+}
+
+-- the move back
+pub move_reversed : (name : List ℕ) (at to : ℕ) (files between : List File) → IsEditOf (Move name at to) files between → IsEditOf (Move name to at) between files
+move_reversed name at to files between is =
+    let pieces = is.file.pieces in
+    let old = get_or pieces at [] in
+    let rest = remove pieces at in
+    let short = length-remove pieces at is.placed.among.0 in
+    let le : to ≤ length rest = omega (arith, short, is.placed.among.1) in
+    let long = longer rest to old le in
+    record {
+      number = is.number;
+      file = changed (Move name at to) files between is;
+      placed = record {
+        file_there = record { named = number_kept (Move name at to) files between is name ∙ is.placed.file_there.named; there = changed_there (Move name at to) files between is };
+        among = (omega (arith, long, le), omega (arith, long, short, is.placed.among.0));
+      };
+      one_unit = tt;
+      is_after = given_back (Move name at to) files between is (insert (remove (insert rest to old) to) at (get_or (insert rest to old) to []))
+          (ap (λ x. insert (remove (insert rest to old) to) at x) (put_there rest to old [] le) ∙ ap (λ xs. insert xs at old) (remove_put rest to old le) ∙ put_removed pieces at [] is.placed.among.0);
+      within = omega (arith, is.within, bytes_before (Move name at to) files between is, sum_by-insert length rest to old, sum_by-remove length pieces at [] is.placed.among.0);
+    }
+
+-- an edit gives one list of files
+pub one_after : (edit : Asked) (files a b : List File) → IsEditOf edit files a → IsEditOf edit files b → a ≡ b
+one_after edit files a b is other =
+    let number : is.number ≡ other.number = same_Some is.number other.number (sym is.placed.file_there.named ∙ other.placed.file_there.named) in
+    let file : is.file ≡ other.file = same_Some is.file other.file (sym is.placed.file_there.there ∙ ap (slice_get files) number ∙ other.placed.file_there.there) in
+    is.is_after ∙ (λ i. after_edit files edit (number i) (file i)) ∙ sym other.is_after

@@ -1,0 +1,136 @@
+-- Keys in lists of files, and what the files mean.
+use Rattle.std.proofs.Common.{◌≡◌, ◌≢◌, inl, inr, ℕ, zero, suc, ◌+◌, ◌<◌, ◌≤◌, List, [], ◌∷◌, length, map, get_or, set, refl, ap, ◌∙◌, arith, length-append}
+use Rattle.std.specs.List.{concat, sum_by, insert}
+use Rattle.std.proofs.lemmas.Bool.{cases_eq}
+use Rattle.std.proofs.lemmas.Bool.Decides.{nat_tests}
+use Rattle.std.proofs.lemmas.List.Sums.{sum_by-cons, sum_by-insert, sum_by-set, get_or-le-sum_by}
+use Rattle.std.proofs.lemmas.List.{get_or-map, length-map}
+use Rattle.mm_store.specs.Code.Edited.{pieces_in, with_pieces}
+use Rattle.mm_store.specs.Code.Kept.{one, times, places}
+use Rattle.mm_store.specs.Language.FilesView.{File, KeyedFile, plain_file, bytes_of}
+use Rattle.mm_store.specs.Language.Pieces.{Pieces, text_under}
+use Rattle.mm_store.specs.Language.Undoing.{keys_in, with_keys}
+
+pub one_same : (k : ℕ) → one k k ≡ 1
+one_same k = grind (arith, nat_tests)
+
+pub one_other : (k x : ℕ) → k ≢ x → one k x ≡ 0
+one_other k x differs = grind (arith, nat_tests)
+
+pub times_at : (keys : List ℕ) (at : ℕ) → at < length keys → 1 ≤ times (get_or keys at 0) keys
+times_at keys at lt = omega (arith, one_same (get_or keys at 0), get_or-le-sum_by (one (get_or keys at 0)) keys at 0 lt)
+
+pub places_with : (q : ℕ) (files : List KeyedFile) (n : ℕ) (keys : List ℕ) → n < length files → places q (with_keys files n keys) + times q (keys_in files n) ≡ places q files + times q keys
+places_with q [] n keys lt = absurd (omega arith)
+places_with q (file ∷ files) zero keys lt = omega arith
+places_with q (file ∷ files) (suc n) keys lt = omega (arith, places_with q files n keys (omega arith))
+
+pub places_in : (q : ℕ) (files : List KeyedFile) (n : ℕ) → times q (keys_in files n) ≤ places q files
+places_in q [] n = omega arith
+places_in q (file ∷ files) zero = omega arith
+places_in q (file ∷ files) (suc n) = omega (arith, places_in q files n)
+
+pub in_files : (files : List KeyedFile) (n at : ℕ) → at < length (keys_in files n) → n < length files
+in_files [] n at lt = absurd (omega arith)
+in_files (file ∷ files) zero at lt = omega arith
+in_files (file ∷ files) (suc n) at lt = omega (arith, in_files files n at lt)
+
+-- keys once more, and the keys that are there
+pub with_with : (files : List KeyedFile) (n : ℕ) (a b : List ℕ) → with_keys (with_keys files n a) n b ≡ with_keys files n b
+with_with [] n a b = refl
+with_with (file ∷ files) zero a b = refl
+with_with (file ∷ files) (suc n) a b = ap (λ fs. file ∷ fs) (with_with files n a b)
+
+pub with_same : (files : List KeyedFile) (n : ℕ) → with_keys files n (keys_in files n) ≡ files
+with_same [] n = refl
+with_same (file ∷ files) zero = refl
+with_same (file ∷ files) (suc n) = ap (λ fs. file ∷ fs) (with_same files n)
+
+pub keys_with : (files : List KeyedFile) (n : ℕ) (a : List ℕ) → n < length files → keys_in (with_keys files n a) n ≡ a
+keys_with [] n a lt = absurd (omega arith)
+keys_with (file ∷ files) zero a lt = refl
+keys_with (file ∷ files) (suc n) a lt = keys_with files n a (omega arith)
+
+-- what a change back gives
+pub back : (files : List KeyedFile) (n : ℕ) (a b : List ℕ) → b ≡ keys_in files n → with_keys (with_keys files n a) n b ≡ files
+back files n a b is = with_with files n a b ∙ ap (with_keys files n) is ∙ with_same files n
+
+module _ (p p' : Pieces) (k : ℕ) (same : (q : ℕ) → q ≢ k → text_under p' q ≡ text_under p q) where
+  pub texts_same : (keys : List ℕ) → times k keys ≡ 0 → map (text_under p') keys ≡ map (text_under p) keys
+  texts_same [] none = refl
+  texts_same (x ∷ keys) none =
+      let cons = sum_by-cons (one k) x keys in
+      elim (cases_eq x k) [
+        | inl is ↦ absurd (omega (arith, cons, one_same k, ap (one k) is))
+        | inr differs ↦ ap (λ t. t ∷ map (text_under p') keys) (same x differs) ∙ ap (λ ts. text_under p x ∷ ts) (texts_same keys (omega (arith, cons)))
+      ]
+
+  pub plain_same : (files : List KeyedFile) → places k files ≡ 0 → map (plain_file p') files ≡ map (plain_file p) files
+  plain_same [] none = refl
+  plain_same (file ∷ files) none =
+      ap (λ (texts : List (List ℕ)). record { name = file.name; pieces = texts; tail = file.tail } ∷ map (plain_file p') files) (texts_same file.keys (omega arith))
+      ∙ ap (λ fs. plain_file p file ∷ fs) (plain_same files (omega arith))
+
+pub plain_with : (p : Pieces) (files : List KeyedFile) (n : ℕ) (keys : List ℕ) → map (plain_file p) (with_keys files n keys) ≡ with_pieces (map (plain_file p) files) n (map (text_under p) keys)
+plain_with p [] n keys = refl
+plain_with p (file ∷ files) zero keys = refl
+plain_with p (file ∷ files) (suc n) keys = ap (λ fs. plain_file p file ∷ fs) (plain_with p files n keys)
+
+pub plain_pieces : (p : Pieces) (files : List KeyedFile) (n : ℕ) → pieces_in (map (plain_file p) files) n ≡ map (text_under p) (keys_in files n)
+plain_pieces p [] n = refl
+plain_pieces p (file ∷ files) zero = refl
+plain_pieces p (file ∷ files) (suc n) = plain_pieces p files n
+
+-- how many bytes these texts have
+abbrev pub size : List (List ℕ) → ℕ
+size texts = sum_by length texts
+
+size_is : (texts : List (List ℕ)) → length (concat texts) ≡ size texts
+size_is [] = refl
+size_is (text ∷ texts) = omega (arith, length-append text (concat texts), sum_by-cons length text texts, size_is texts)
+
+pub bytes_with : (files : List File) (n : ℕ) (texts : List (List ℕ)) → n < length files → bytes_of (with_pieces files n texts) + size (pieces_in files n) ≡ bytes_of files + size texts
+bytes_with [] n texts lt = absurd (omega arith)
+bytes_with (file ∷ files) zero texts lt = omega (arith, length-append (concat file.pieces) file.tail, length-append (concat texts) file.tail, size_is texts, size_is file.pieces)
+bytes_with (file ∷ files) (suc n) texts lt = omega (arith, bytes_with files n texts (omega arith))
+
+-- no text of a piece is longer than all texts
+pub text_within : (p : Pieces) (files : List KeyedFile) (n at : ℕ) → at < length (keys_in files n) → length (text_under p (get_or (keys_in files n) at 0)) ≤ bytes_of (map (plain_file p) files)
+text_within p files n at there =
+    let all = map (plain_file p) files in
+    let same = plain_pieces p files n in
+    let pieces = pieces_in all n in
+    let long : n < length all = omega (arith, length-map files (plain_file p), in_files files n at there) in
+    let within : at < length pieces = omega (arith, ap length same, length-map (keys_in files n) (text_under p)) in
+    let read : get_or pieces at [] ≡ text_under p (get_or (keys_in files n) at 0) = ap (λ ts. get_or ts at []) same ∙ get_or-map (text_under p) (keys_in files n) at 0 [] there in
+    omega (arith, bytes_with all n [] long, get_or-le-sum_by length pieces at [] within, ap length read)
+
+-- the bytes after an insertion
+pub bytes_more : (files : List File) (n at : ℕ) (text : List ℕ) → n < length files → bytes_of (with_pieces files n (insert (pieces_in files n) at text)) ≡ bytes_of files + length text
+bytes_more files n at text lt = omega (arith, bytes_with files n (insert (pieces_in files n) at text) lt, sum_by-insert length (pieces_in files n) at text)
+
+-- the bytes after a replacement
+pub bytes_other : (files : List File) (n at : ℕ) (text : List ℕ) → n < length files → at < length (pieces_in files n) → bytes_of (with_pieces files n (set (pieces_in files n) at text)) + length (get_or (pieces_in files n) at []) ≡ bytes_of files + length text
+bytes_other files n at text lt there = omega (arith, bytes_with files n (set (pieces_in files n) at text) lt, sum_by-set length (pieces_in files n) at text [] there)
+
+pub read_member : (p : Pieces) (files : List KeyedFile) (n at : ℕ) → at < length (keys_in files n) → get_or (pieces_in (map (plain_file p) files) n) at [] ≡ text_under p (get_or (keys_in files n) at 0)
+read_member p files n at there = ap (λ ts. get_or ts at []) (plain_pieces p files n) ∙ get_or-map (text_under p) (keys_in files n) at 0 [] there
+
+pub count_members : (p : Pieces) (files : List KeyedFile) (n : ℕ) → length (pieces_in (map (plain_file p) files) n) ≡ length (keys_in files n)
+count_members p files n = ap length (plain_pieces p files n) ∙ length-map (keys_in files n) (text_under p)
+
+pub with_pieces_same : (files : List File) (n : ℕ) → with_pieces files n (pieces_in files n) ≡ files
+with_pieces_same [] n = refl
+with_pieces_same (file ∷ files) zero = refl
+with_pieces_same (file ∷ files) (suc n) = ap (λ fs. file ∷ fs) (with_pieces_same files n)
+
+pub pieces_with : (files : List File) (n : ℕ) (members : List (List ℕ)) → n < length files → pieces_in (with_pieces files n members) n ≡ members
+pieces_with [] n members lt = absurd (omega arith)
+pieces_with (file ∷ files) zero members lt = refl
+pieces_with (file ∷ files) (suc n) members lt = pieces_with files n members (omega arith)
+
+-- the members of a file are no longer than all texts
+pub members_within : (files : List File) (n : ℕ) → length (concat (pieces_in files n)) ≤ bytes_of files
+members_within [] n = omega arith
+members_within (file ∷ files) zero = omega (arith, length-append (concat file.pieces) file.tail)
+members_within (file ∷ files) (suc n) = omega (arith, members_within files n)

@@ -1,0 +1,51 @@
+-- Files by name, and files without keys.
+use Rattle.std.proofs.Common.{◌≡◌, ℕ, zero, suc, ◌+◌, ◌<◌, Bool, not, cond, List, [], ◌∷◌, Some, length, map, set, refl, sym, ap, ◌∙◌, arith}
+use Rattle.std.specs.Prelude.{Vec, position, slice_get}
+use Rattle.std.specs.List.{position_or_len}
+use Rattle.std.specs.Str.{bytes_eq}
+use Rattle.std.specs.Map.{keys_of}
+use Rattle.std.proofs.lemmas.List.{length-map}
+use Rattle.std.proofs.lemmas.Option.{same_Some, none-some}
+use Rattle.mm_store.specs.declared.file_text.FileText.{FileText}
+use Rattle.mm_store.specs.Language.Pieces.{Pieces, text_under}
+use Rattle.mm_store.specs.Language.FilesView.{File, KeyedFile, FilesView, plain, plain_file, file_number}
+use Rattle.mm_store.specs.Language.Undoing.{keys_in}
+use Rattle.mm_store.specs.Language.Edits.{with_members}
+use Rattle.mm_store.specs.Code.Edited.{pieces_in, with_pieces}
+use Rattle.mm_store.specs.Code.Kept.{file_of}
+
+same_tests : (b : Bool) (m n : ℕ) → m ≡ n → cond (not b) (1 + m) 0 ≡ cond (not b) (1 + n) 0
+same_tests b m n e = ap (λ (k : ℕ). cond (not b) (1 + k) 0) e
+
+module _ {Y : Type 0} (p : Pieces) (name : List ℕ) where
+  names_before : (entries : List (Vec ℕ Y × FileText)) → position_or_len (λ file. bytes_eq name file.name) (map (plain_file p) (map file_of entries)) ≡ position_or_len (λ key. bytes_eq name key.items) (keys_of entries)
+  names_before [] = refl
+  names_before (e ∷ entries) = same_tests (bytes_eq name e.0.items) _ _ (names_before entries)
+
+  -- the number that a name has in the map is its number among the files
+  pub number_is : (entries : List (Vec ℕ Y × FileText)) → file_number (map (plain_file p) (map file_of entries)) name ≡ position (λ key. bytes_eq name key.items) (keys_of entries)
+  number_is entries =
+      let a = names_before entries in
+      let b : length (map (plain_file p) (map (file_of {Y = Y}) entries)) ≡ length (keys_of entries) =
+      length-map (map (file_of {Y = Y}) entries) (plain_file p) ∙ length-map entries (file_of {Y = Y}) ∙ sym (length-map entries (λ (e : Vec ℕ Y × FileText). e.0)) in
+      rw (a, b) refl
+
+-- the file of a number, without keys
+pub record IsThere (view : FilesView) (number : ℕ) : Type 0 where
+  pub file : File
+  pub there : slice_get (plain view) number ≡ Some file
+  pub members : pieces_in (plain view) number ≡ file.pieces
+  pub count : length file.pieces ≡ length (keys_in view.keyed number)
+
+pub file_there : (keyed : List KeyedFile) (p : Pieces) (n : ℕ) → n < length keyed → IsThere (record { keyed = keyed; pieces = p }) n
+file_there [] p n lt = absurd (omega arith)
+file_there (file ∷ files) p zero lt = record { file = plain_file p file; there = refl; members = refl; count = length-map file.keys (text_under p) }
+file_there (file ∷ files) p (suc n) lt =
+    let later = file_there files p n (omega arith) in
+    record { file = later.file; there = later.there; members = later.members; count = later.count }
+
+-- other members in the file of a number
+pub with_pieces_is : (files : List File) (n : ℕ) (file : File) (members : List (List ℕ)) → slice_get files n ≡ Some file → with_pieces files n members ≡ set files n (with_members file members)
+with_pieces_is [] n file members there = absurd (none-some file there)
+with_pieces_is (x ∷ files) zero file members there = ap (λ (f : File). record { name = f.name; pieces = members; tail = f.tail } ∷ files) (same_Some x file there)
+with_pieces_is (x ∷ files) (suc n) file members there = ap (λ fs. x ∷ fs) (with_pieces_is files n file members there)

@@ -1,0 +1,58 @@
+-- A set of names, and what it takes.
+use Rattle.std.proofs.Common.{◌≡◌, ℕ, zero, suc, ◌<◌, Bool, true, false, Result, Ok, Err, ◌||◌, List, [], ◌∷◌, ◌++◌, map, get_or, refl, sym, ap, ◌∙◌, arith, Contains, ◌⊎◌, inl, inr}
+use Rattle.std.specs.Prelude.{Vec, IfOk, if◌then◌else◌}
+use Rattle.std.specs.Result.{IsErrAnd}
+use Rattle.std.specs.List.{list_any}
+use Rattle.std.specs.Str.{bytes_eq}
+use Rattle.std.proofs.lemmas.Bool.{false≢true, false_from_ne_true}
+use Rattle.std.proofs.lemmas.Slice.Eq.{bytes_eq-Decides}
+use Rattle.std.proofs.lemmas.List.{map_push}
+use Rattle.std.proofs.lemmas.List.Elements.{Contains-append_right, Contains-append_cases}
+use Rattle.mm_store.specs.declared.error.StoreError.{StoreError}
+use Rattle.mm_store.specs.declared.error.StoreError.TheVariants.{NoTop, Memory}
+use Rattle.indexmap.specs.IndexSet.{insert_key}
+
+abbrev pub tests : {Y : Type 0} → List ℕ → List (Vec ℕ Y) → Bool
+tests name names = list_any (λ key. bytes_eq name key.items) names
+
+abbrev names_of : {Y : Type 0} → List (Vec ℕ Y) → List (List ℕ)
+names_of names = map (λ key. key.items) names
+
+one_is : (y name : List ℕ) (k : ℕ) → k < 1 → get_or (y ∷ []) k name ≡ name → y ≡ name
+one_is y name zero h e = e
+one_is y name (suc k) h e = absurd (omega arith)
+
+found : {Y : Type 0} (name : List ℕ) (x : Vec ℕ Y) (names : List (Vec ℕ Y)) (b : Bool) → bytes_eq name x.items ≡ b → (b || tests name names) ≡ true → (tests name names ≡ true → Contains (names_of names) name) → Contains (x.items ∷ names_of names) name
+found name x names true e h later = (0, omega arith, sym ((bytes_eq-Decides name x.items).0 e))
+found name x names false e h later = Contains-append_right (x.items ∷ []) (names_of names) name (later h)
+
+-- a name is among those that a test finds
+pub contains_from_test : {Y : Type 0} (name : List ℕ) (names : List (Vec ℕ Y)) → tests name names ≡ true → Contains (names_of names) name
+contains_from_test name [] h = absurd (false≢true h)
+contains_from_test name (x ∷ names) h = found name x names (bytes_eq name x.items) refl h (contains_from_test name names)
+
+missed : {Y : Type 0} (name : List ℕ) (x : Vec ℕ Y) (names : List (Vec ℕ Y)) (b : Bool) → bytes_eq name x.items ≡ b → Contains (x.items ∷ []) name ⊎ Contains (names_of names) name → (Contains (names_of names) name → tests name names ≡ true) → (b || tests name names) ≡ true
+missed name x names true e h later = refl
+missed name x names false e (inl here) later = absurd (false≢true (sym e ∙ (bytes_eq-Decides name x.items).1 (sym (one_is x.items name here.0 here.1 here.2))))
+missed name x names false e (inr there) later = later there
+
+pub test_from_contains : {Y : Type 0} (name : List ℕ) (names : List (Vec ℕ Y)) → Contains (names_of names) name → tests name names ≡ true
+test_from_contains name [] h = absurd (omega (arith, h.1))
+test_from_contains name (x ∷ names) h = missed name x names (bytes_eq name x.items) refl (Contains-append_cases (x.items ∷ []) (names_of names) name h) (test_from_contains name names)
+
+-- a new name goes behind the others
+pub inserted : {Y : Type 0} (names : List (Vec ℕ Y)) (key : Vec ℕ Y) (name : List ℕ) → key.items ≡ name → ¬ Contains (names_of names) name → names_of (insert_key (λ x y. bytes_eq x.items y.items) names key) ≡ names_of names ++ name ∷ []
+inserted names key name is new =
+    let fresh : tests name names ≡ false = false_from_ne_true (tests name names) (λ t. new (contains_from_test name names t)) in
+    let none : tests key.items names ≡ false = ap (λ n. tests n names) is ∙ fresh in
+    ap (λ b. names_of (if b then names else names ++ key ∷ [])) none ∙ map_push (λ key. key.items) names key ∙ ap (λ n. names_of names ++ n ∷ []) is
+
+-- a fact of a result gives another
+pub ok_map : {T E : Type 0} {P Q : T → Type 0} (r : Result T E) → ((x : T) → P x → Q x) → IfOk r P → IfOk r Q
+ok_map (Ok x) f h = f x h
+ok_map (Err e) f h = tt
+
+-- want of memory is no want of a top file
+pub not_no_top : {T : Type 0} (r : Result T StoreError) → IsErrAnd r (λ e. e ≡ Memory) → r ≡ Err NoTop → ⊥
+not_no_top (Ok x) h e = absurd h
+not_no_top (Err x) h e = cc

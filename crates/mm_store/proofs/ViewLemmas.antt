@@ -1,0 +1,67 @@
+-- What the files with keys and texts say of the keyed files and the pieces.
+use Rattle.std.proofs.Common.{◌≡◌, ℕ, zero, suc, ◌+◌, Bool, not, cond, List, [], ◌∷◌, Option, Some, None, map, bytes_eq, refl, sym, ap, ◌∙◌, subst}
+use Rattle.std.specs.Prelude.{IsSome, All, position, slice_get}
+use Rattle.std.specs.List.{position_or_len}
+use Rattle.std.specs.Option.{option_map}
+use Rattle.std.specs.FinMap as finite
+use Rattle.std.proofs.lemmas.List.{length-map}
+use Rattle.std.proofs.lemmas.Option.{none-some, same_Some, slice_get-map, slice_get_within, get_or_from_slice_get}
+use Rattle.mm_store.specs.declared.walk.Level.{Level}
+use Rattle.mm_store.specs.Language.Pieces.{text_under}
+use Rattle.mm_store.specs.Language.FilesView.{KeyedFile, PieceView, FileView, FilesView, files_in, file_number, file_view, number_of, piece_view, plain, plain_file}
+use Rattle.mm_store.specs.Language.FileFacts.{HoldsPieces}
+use Rattle.mm_store.specs.Code.Steps.{piece_in, piece_at}
+
+-- the element that a list of values has at a place
+pub there_from_map : {X Y : Type 0} (f : X → Y) (xs : List X) (n : ℕ) (y : Y) → slice_get (map f xs) n ≡ Some y → (x : X) × (slice_get xs n ≡ Some x) × (y ≡ f x)
+there_from_map f [] n y h = cc
+there_from_map f (x ∷ xs) zero y h = (x, refl, sym (same_Some (f x) y h))
+there_from_map f (x ∷ xs) (suc n) y h = there_from_map f xs n y h
+
+-- a piece of a file stands under its key
+pub record PieceThere (view : FilesView) (number n : ℕ) (piece : PieceView) : Type 0 where
+  pub file : KeyedFile
+  pub there : slice_get view.keyed number ≡ Some file
+  pub is_key : slice_get file.keys n ≡ Some piece.key.at
+  pub text : piece.text ≡ text_under view.pieces piece.key.at
+
+pub piece_there : (view : FilesView) (number : ℕ) (file : FileView) (n : ℕ) (piece : PieceView) → slice_get (files_in view) number ≡ Some file → slice_get file.pieces n ≡ Some piece → PieceThere view number n piece
+piece_there view number file n piece there here =
+    let f = there_from_map (file_view view.pieces) view.keyed number file there in
+    let k = there_from_map (piece_view view.pieces) f.0.keys n piece (subst (λ (file : FileView). slice_get file.pieces n ≡ Some piece) f.2 here) in
+    let at : piece.key.at ≡ k.0 = ap (λ (piece : PieceView). piece.key.at) k.2 in
+    record { file = f.0; there = f.1; is_key = k.1 ∙ ap Some (sym at); text = ap (λ (piece : PieceView). piece.text) k.2 ∙ ap (text_under view.pieces) (sym at) }
+
+-- the piece that is next in a file stands there
+pub next_there : (view : FilesView) (level : Level) (piece : PieceView) → piece_at (files_in view) level ≡ Some piece → PieceThere view level.file level.piece piece
+next_there view level piece there = case (slice_get (files_in view) level.file) refl there
+  where
+    case : (o : Option FileView) → slice_get (files_in view) level.file ≡ o → piece_in o level.piece ≡ Some piece → PieceThere view level.file level.piece piece
+    case None e h = absurd (none-some piece h)
+    case (Some file) e h = piece_there view level.file file level.piece piece e h
+
+-- each key of a file has a piece
+pub held_there : (view : FilesView) (number n : ℕ) (file : KeyedFile) (key : ℕ) → HoldsPieces view → slice_get view.keyed number ≡ Some file → slice_get file.keys n ≡ Some key → IsSome (finite.get view.pieces key)
+held_there view number n file key holds there is =
+    let own = subst (λ (file : KeyedFile). All (λ key. IsSome (finite.get view.pieces key)) file.keys) (get_or_from_slice_get view.keyed number file file there) (holds number file (slice_get_within view.keyed number file there)) in
+    subst (λ key. IsSome (finite.get view.pieces key)) (get_or_from_slice_get file.keys n key key is) (own n key (slice_get_within file.keys n key is))
+
+pub some_is : {X : Type 0} (o : Option X) → IsSome o → (x : X) × (o ≡ Some x)
+some_is None h = absurd cc
+some_is (Some x) h = (x, refl)
+
+-- the piece that is next in a file is the one under the key there
+pub piece_at_key : (view : FilesView) (number n : ℕ) (file : KeyedFile) → slice_get view.keyed number ≡ Some file → piece_at (files_in view) (record { file = number; piece = n }) ≡ option_map (piece_view view.pieces) (slice_get file.keys n)
+piece_at_key view number n file there =
+    ap (λ file. piece_in file n) (slice_get-map (file_view view.pieces) view.keyed number ∙ ap (option_map (file_view view.pieces)) there) ∙ slice_get-map (piece_view view.pieces) file.keys n
+
+before_map : {X Y : Type 0} (test : Y → Bool) (f : X → Y) (xs : List X) → position_or_len test (map f xs) ≡ position_or_len (λ x. test (f x)) xs
+before_map test f [] = refl
+before_map test f (x ∷ xs) = ap (λ (k : ℕ). cond (not (test (f x))) (1 + k) 0) (before_map test f xs)
+
+pub position_map : {X Y : Type 0} (test : Y → Bool) (f : X → Y) (xs : List X) → position test (map f xs) ≡ position (λ x. test (f x)) xs
+position_map test f xs = rw (before_map test f xs, length-map xs f) refl
+
+-- a name has one number, with keys and without
+pub number_plain : (view : FilesView) (name : List ℕ) → file_number (plain view) name ≡ number_of (files_in view) name
+number_plain view name = position_map (λ file. bytes_eq name file.name) (plain_file view.pieces) view.keyed ∙ sym (position_map (λ file. bytes_eq name file.name) (file_view view.pieces) view.keyed)

@@ -1,0 +1,31 @@
+use Rattle.std.proofs.Common.{◌∙◌, sym, refl}
+use Rattle.std.proofs.lemmas.Option.{none-some}
+use Rattle.mm_store.proofs.ViewLemmas.{number_plain}
+use Rattle.mm_store.proofs.SetLemmas.{not_no_top}
+use Rattle.mm_store.proofs.files.Files.begun.Goals as goal
+
+pub returns-in-None-clause-no_top : goal.returns-in-None-clause-no_top
+returns-in-None-clause-no_top c = (λ e. sym c.in-None.ensures.number, λ e. refl)
+
+pub returns-in_err-from_top-in-Some-clause-no_top : goal.returns-in_err-from_top-in-Some-clause-no_top
+returns-in_err-from_top-in-Some-clause-no_top c =
+    (λ e. absurd (not_no_top c.from_residual.result c.from_residual.ensures.1 e), λ e. absurd (none-some c.in-Some.number (sym e ∙ sym c.in-Some.ensures.number)))
+
+pub returns-in_ok-from_top-in-Some-clause-no_top : goal.returns-in_ok-from_top-in-Some-clause-no_top
+returns-in_ok-from_top-in-Some-clause-no_top c = (λ e. (cc), λ e. absurd (none-some c.in-Some.number (sym e ∙ sym c.in-Some.ensures.number)))
+
+pub returns-in_ok-from_top-in-Some-clause-ok : goal.returns-in_ok-from_top-in-Some-clause-ok
+returns-in_ok-from_top-in-Some-clause-ok c = (c.in-Some.number, sym c.in-Some.ensures.number, c.in_ok-from_top-in-Some.ensures)
+
+pub returns-in-None-clause-no_file : goal.returns-in-None-clause-no_file
+returns-in-None-clause-no_file c = (λ e. sym (number_plain c.args.self.now c.args.top.now) ∙ sym c.in-None.ensures.number, λ e. refl)
+
+pub returns-in_err-from_top-in-Some-clause-no_file : goal.returns-in_err-from_top-in-Some-clause-no_file
+returns-in_err-from_top-in-Some-clause-no_file c =
+    let some = sym (number_plain c.args.self.now c.args.top.now) ∙ sym c.in-Some.ensures.number in
+    (λ e. absurd (not_no_top c.from_residual.result c.from_residual.ensures.1 e), λ e. absurd (none-some c.in-Some.number (sym e ∙ some)))
+
+pub returns-in_ok-from_top-in-Some-clause-no_file : goal.returns-in_ok-from_top-in-Some-clause-no_file
+returns-in_ok-from_top-in-Some-clause-no_file c =
+    let some = sym (number_plain c.args.self.now c.args.top.now) ∙ sym c.in-Some.ensures.number in
+    (λ e. (cc), λ e. absurd (none-some c.in-Some.number (sym e ∙ some)))

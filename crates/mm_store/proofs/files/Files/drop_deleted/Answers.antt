@@ -1,0 +1,100 @@
+use Rattle.std.proofs.Common.{◌≡◌, List, Some, length, map, sym, ap, ◌∙◌, subst, arith}
+use Rattle.std.specs.Prelude.{slice_get, vec_len, vec_capacity}
+use Rattle.std.specs.Option.{option_copied_mut}
+use Rattle.std.specs.FinMap as finite
+use Rattle.mm_store.specs.declared.state.EditKind.TheVariants.{Deleted}
+use Rattle.mm_store.proofs.EntryLemmas.{texts_of, keys_at, room_at}
+use Rattle.mm_store.proofs.ListLemmas.{plain_same, with_same}
+use Rattle.mm_store.proofs.KeptLemmas.{below_bound, view_after, kept_after}
+use Rattle.mm_store.proofs.PieceLemmas.{stands_settled, text_drop_other}
+use Rattle.mm_store.proofs.StepLemmas as lemmas
+use Rattle.mm_store.proofs.files.Files.drop_deleted.Goals as goal
+use Rattle.mm_store.specs.Code.Kept.{file_of, places, deletions}
+use Rattle.mm_store.specs.Language.FilesView.{FilesView, KeyedFile, plain_file, bytes_of}
+use Rattle.mm_store.specs.Language.Pieces.{IsParked}
+use Rattle.std.specs.Prelude.{Vec}
+use Rattle.mm_store.specs.declared.start.Start.{Start}
+use Rattle.std.specs.Global.{Global}
+use Rattle.mm_store.specs.Code.Edited.{pieces_in}
+use Rattle.mm_store.specs.Code.Lines.{AreStarts}
+use Rattle.mm_store.proofs.ListLemmas.{with_pieces_same}
+use Rattle.mm_store.proofs.EntryLemmas.{starts_at}
+use Rattle.mm_store.specs.Language.Undoing.{keys_in}
+
+pub unwrap-file-requires : goal.unwrap-file-requires
+unwrap-file-requires c =
+    let n = c.args.number in
+    let inside = c.self.inside in
+    let es = c.self.inside.files.entries in
+    let fs : List KeyedFile = map file_of es in
+    let p = c.self.inside.pieces in
+    let once = c.self.invariant.once in
+    let is_parked = subst (λ (view : FilesView). IsParked view.pieces c.args.old n Deleted) (sym c.self.view_is) c.requires in
+    c.get_index_mut.ensures.found.1 (below_bound n (length es) (deletions n p) (c.self.invariant.known n) (omega (arith, lemmas.settled_here fs p n 0 once c.args.old is_parked)))
+
+pub forget_deleted-requires : goal.forget_deleted-requires
+forget_deleted-requires c =
+    let n = c.args.number in
+    let inside = c.self.inside in
+    let es = c.self.inside.files.entries in
+    let fs : List KeyedFile = map file_of es in
+    let p = c.self.inside.pieces in
+    let once = c.self.invariant.once in
+    let is_parked = subst (λ (view : FilesView). IsParked view.pieces c.args.old n Deleted) (sym c.self.view_is) c.requires in
+    let v = c.unwrap-file.result.now in
+    let here : slice_get (texts_of es) n ≡ Some v = sym c.get_index_mut.ensures.value ∙ ap option_copied_mut c.unwrap-file.ensures in
+    let keys = keys_at es n v here in
+    let had = room_at p 0 es n n v (omega arith) c.self.invariant.room here in
+    let less : bytes_of (map (plain_file p) fs) ≡ c.self.inside.bytes = sym c.self.invariant.counted in
+    omega (arith, had.parked, lemmas.settled_here fs p n 0 once c.args.old is_parked)
+
+pub invariant_of-self : goal.invariant_of-self
+invariant_of-self c =
+    let n = c.args.number in
+    let inside = c.self.inside in
+    let es = c.self.inside.files.entries in
+    let fs : List KeyedFile = map file_of es in
+    let p = c.self.inside.pieces in
+    let once = c.self.invariant.once in
+    let is_parked = subst (λ (view : FilesView). IsParked view.pieces c.args.old n Deleted) (sym c.self.view_is) c.requires in
+    let v = c.unwrap-file.result.now in
+    let here : slice_get (texts_of es) n ≡ Some v = sym c.get_index_mut.ensures.value ∙ ap option_copied_mut c.unwrap-file.ensures in
+    let keys = keys_at es n v here in
+    let had = room_at p 0 es n n v (omega arith) c.self.invariant.room here in
+    let less : bytes_of (map (plain_file p) fs) ≡ c.self.inside.bytes = sym c.self.invariant.counted in
+    let w = c.forget_deleted.new.self in
+    let items : w.keys.items ≡ keys_in fs n = ap (λ k. k.items) c.forget_deleted.ensures.keys ∙ sym keys in
+    let same = with_same fs n in
+    kept_after inside n v w here c.forget_deleted.ensures.tail (keys_in fs n) items c.drop_piece.new.self (finite.remove p c.args.old) c.drop_piece.ensures.pieces c.self.inside.bytes c.self.invariant
+    (λ q. ap (places q) same ∙ once q ∙ sym (stands_settled p c.args.old n Deleted q (lemmas.parked (finite.get p c.args.old) n Deleted is_parked).none))
+    (lemmas.settled_others fs p n 0 once c.args.old is_parked)
+    (omega (arith, c.forget_deleted.ensures.deleted, had.parked, lemmas.settled_here fs p n 0 once c.args.old is_parked))
+    (record {
+      keys = omega (arith, had.room.keys, ap (λ k. vec_len k) c.forget_deleted.ensures.keys, ap (λ k. vec_capacity k) c.forget_deleted.ensures.keys, c.forget_deleted.ensures.deleted);
+      starts = omega (arith, had.room.starts, ap (λ k. vec_len k) c.forget_deleted.ensures.keys, ap (λ (s : Vec Start Global). length s.items) c.forget_deleted.ensures.starts, c.forget_deleted.ensures.deleted);
+    })
+    (c.self.invariant.counted ∙ sym (ap bytes_of (plain_same p (finite.remove p c.args.old) c.args.old (text_drop_other p c.args.old) fs
+    (once c.args.old ∙ (lemmas.parked (finite.get p c.args.old) n Deleted is_parked).none))) ∙ ap (λ gs. bytes_of (map (plain_file (finite.remove p c.args.old)) gs)) (sym same))
+    c.self.invariant.within
+    (pieces_in (map (plain_file p) fs) n)
+    (ap (map (plain_file (finite.remove p c.args.old))) same ∙ plain_same p (finite.remove p c.args.old) c.args.old (text_drop_other p c.args.old) fs (once c.args.old ∙ (lemmas.parked (finite.get p c.args.old) n Deleted is_parked).none) ∙ sym (with_pieces_same (map (plain_file p) fs) n))
+    (subst (λ (s : Vec Start Global). AreStarts (pieces_in (map (plain_file p) fs) n) s.items) (sym c.forget_deleted.ensures.starts) (starts_at (map (plain_file p) fs) es n v c.self.invariant.starts here))
+
+pub returns : goal.returns
+returns c =
+    let n = c.args.number in
+    let inside = c.self.inside in
+    let es = c.self.inside.files.entries in
+    let fs : List KeyedFile = map file_of es in
+    let p = c.self.inside.pieces in
+    let once = c.self.invariant.once in
+    let v = c.unwrap-file.result.now in
+    let here : slice_get (texts_of es) n ≡ Some v = sym c.get_index_mut.ensures.value ∙ ap option_copied_mut c.unwrap-file.ensures in
+    let keys = keys_at es n v here in
+    let had = room_at p 0 es n n v (omega arith) c.self.invariant.room here in
+    let less : bytes_of (map (plain_file p) fs) ≡ c.self.inside.bytes = sym c.self.invariant.counted in
+    let w = c.forget_deleted.new.self in
+    let items : w.keys.items ≡ keys_in fs n = ap (λ k. k.items) c.forget_deleted.ensures.keys ∙ sym keys in
+    view_after inside n v w here c.forget_deleted.ensures.tail (keys_in fs n) items c.drop_piece.new.self (finite.remove p c.args.old) c.drop_piece.ensures.pieces c.self.inside.bytes
+    ∙ ap (λ (files : List KeyedFile). record { keyed = files; pieces = finite.remove p c.args.old }) (with_same fs n)
+    ∙ ap (λ (v : FilesView). record { keyed = v.keyed; pieces = finite.remove v.pieces c.args.old }) c.self.view_is

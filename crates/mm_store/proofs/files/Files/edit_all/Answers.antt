@@ -1,0 +1,48 @@
+use Rattle.std.proofs.Common.{map, refl, sym, subst, arith}
+use Rattle.mm_store.specs.Language.Batches.{IsBatchOf, IsSpendable}
+use Rattle.mm_store.specs.Language.Edits.{asked}
+use Rattle.mm_store.specs.Language.FilesView.{plain}
+use Rattle.mm_store.proofs.BatchLemmas.{nothing_spendable}
+use Rattle.mm_store.proofs.RefusedLemmas.{batch_error, batch_next, mapped_there, keys_then, reads_alike, take_whole}
+use Rattle.mm_store.proofs.files.Files.edit_all.Goals as goal
+
+pub loop-number-init : goal.loop-number-init
+loop-number-init c = record {
+  done = refl;
+  keys = λ key some. record { there = some; text = refl };
+  spendable = subst (IsSpendable c.args.self.now c.args.self.now) (sym c.new-undos.ensures) (nothing_spendable c.args.self.now);
+}
+
+pub undo_all-requires : goal.undo_all-requires
+undo_all-requires c = (
+  c.args.self.now,
+  subst (IsSpendable c.args.self.now c.edit_next.new.self) (sym c.in-Err.ensures.kept)
+      (subst (λ view. IsSpendable c.args.self.now view c.loop-number.undos) (sym c.in-Err.ensures.unchanged) c.loop-number.invariant.spendable),
+)
+
+pub returns-in-Err-clause-err : goal.returns-in-Err-clause-err
+returns-in-Err-clause-err c =
+    batch_error (map asked c.args.edits.now) (plain c.args.self.now) (plain c.loop-number.self) c.loop-number.number _ c.in-Err.error c.loop-number.invariant.done
+    (mapped_there c.args.edits.now c.loop-number.number _ c.loop-number-test.true) c.in-Err.ensures.err
+
+pub returns-in-Err-clause-unchanged : goal.returns-in-Err-clause-unchanged
+returns-in-Err-clause-unchanged c =
+    c.undo_all.ensures c.args.self.now (subst (IsSpendable c.args.self.now c.edit_next.new.self) (sym c.in-Err.ensures.kept)
+    (subst (λ view. IsSpendable c.args.self.now view c.loop-number.undos) (sym c.in-Err.ensures.unchanged) c.loop-number.invariant.spendable))
+
+pub loop-number-preserved : goal.loop-number-preserved
+loop-number-preserved c = record {
+  done = batch_next c.args.edits.now c.loop-number.number _ (plain c.args.self.now) (plain c.loop-number.self) (plain c.edit_next.new.self) c.loop-number-test.true c.loop-number.invariant.done c.in_default.ensures.ok;
+  keys = keys_then c.args.self.now c.loop-number.self c.edit_next.new.self c.loop-number.invariant.keys c.in_default.ensures.keys;
+  spendable = c.in_default.ensures.spendable c.args.self.now c.loop-number.invariant.spendable;
+}
+
+pub returns-clause-ok : goal.returns-clause-ok
+returns-clause-ok c =
+    subst (λ edits. IsBatchOf edits (plain c.args.self.now) (plain c.loop-number.self)) (take_whole c.args.edits.now c.loop-number.number (omega (arith, c.loop-number-test.false, c.loop-number.auto.number-end))) c.loop-number.invariant.done
+
+pub returns-clause-reading : goal.returns-clause-reading
+returns-clause-reading c = reads_alike c.args.self.now c.loop-number.self c.loop-number.invariant.keys
+
+pub returns-clause-spendable : goal.returns-clause-spendable
+returns-clause-spendable c = c.loop-number.invariant.spendable

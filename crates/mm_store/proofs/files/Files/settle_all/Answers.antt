@@ -1,0 +1,42 @@
+use Rattle.std.proofs.Common.{sym, ap, ◌∙◌, subst, arith}
+use Rattle.mm_store.specs.Language.Batches.{CanSettleAll, settled_all}
+use Rattle.mm_store.specs.Language.FileFacts.{parked_in}
+use Rattle.mm_store.proofs.BatchLemmas.{settle_last, settle_others, settled_last, settled_none}
+use Rattle.mm_store.proofs.SettleLemmas.{Stays, spent_stays, stays_same, stays_then}
+use Rattle.mm_store.proofs.files.Files.settle_all.Goals as goal
+
+pub loop-spent-init : goal.loop-spent-init
+loop-spent-init c = record {
+  can = subst (λ undos. CanSettleAll undos c.args.self.now) (sym c.undos.view_is) c.requires.1.can_settle;
+  left = ap (λ undos. settled_all undos c.args.self.now) c.undos.view_is;
+  stays = stays_same c.args.self.now;
+}
+
+pub settle-requires : goal.settle-requires
+settle-requires c = settle_last c.pop.new.self.items c.in-Some.spent c.loop-spent.self (subst (λ undos. CanSettleAll undos c.loop-spent.self) c.in-Some.ensures.items c.loop-spent.invariant.can)
+
+pub loop-spent-preserved : goal.loop-spent-preserved
+loop-spent-preserved c =
+    let others = c.pop.new.self.items in
+    let undo = c.in-Some.spent in
+    let view = c.loop-spent.self in
+    let can = subst (λ undos. CanSettleAll undos view) c.in-Some.ensures.items c.loop-spent.invariant.can in
+    record {
+      can = subst (CanSettleAll others) (sym c.settle.ensures.settled) (settle_others others undo view can);
+      left = ap (settled_all others) c.settle.ensures.settled ∙ sym (settled_last others undo view) ∙ ap (λ undos. settled_all undos view) (sym c.in-Some.ensures.items) ∙ c.loop-spent.invariant.left;
+      stays = stays_then c.args.self.now view c.settle.new.self c.loop-spent.invariant.stays
+          (subst (Stays view) (sym c.settle.ensures.settled) (spent_stays view undo.file undo.action c.stand_once.ensures (settle_last others undo view can)));
+    }
+
+pub returns-clause-plain : goal.returns-clause-plain
+returns-clause-plain c = c.loop-spent.invariant.stays.plain_is
+
+pub returns-clause-keyed : goal.returns-clause-keyed
+returns-clause-keyed c = c.loop-spent.invariant.stays.keyed_is
+
+pub returns-clause-standing : goal.returns-clause-standing
+returns-clause-standing c = c.loop-spent.invariant.stays.standing
+
+pub returns-clause-parked : goal.returns-clause-parked
+returns-clause-parked c old spendable =
+    ap (λ view. parked_in view) (sym (settled_none c.loop-spent.undos.items c.loop-spent.self (omega (arith, c.loop-spent.undos.ok.0, c.in_default.ensures.cases.0))) ∙ c.loop-spent.invariant.left) ∙ spendable.parked

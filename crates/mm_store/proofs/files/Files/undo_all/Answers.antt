@@ -1,0 +1,25 @@
+use Rattle.std.proofs.Common.{sym, ap, ◌∙◌, subst, arith}
+use Rattle.mm_store.specs.Language.Batches.{CanUndoAll, undone_all}
+use Rattle.mm_store.proofs.BatchLemmas.{undo_last, undo_others, undone_last, undone_none}
+use Rattle.mm_store.proofs.files.Files.undo_all.Goals as goal
+
+pub loop-undo-init : goal.loop-undo-init
+loop-undo-init c = record {
+  can = subst (λ undos. CanUndoAll undos c.args.self.now) (sym c.undos.view_is) c.requires.1.can_undo;
+  back = ap (λ undos. undone_all undos c.args.self.now) c.undos.view_is;
+}
+
+pub undo-requires : goal.undo-requires
+undo-requires c = undo_last c.pop.new.self.items c.in-Some.undo c.loop-undo.self (subst (λ undos. CanUndoAll undos c.loop-undo.self) c.in-Some.ensures.items c.loop-undo.invariant.can)
+
+pub loop-undo-preserved : goal.loop-undo-preserved
+loop-undo-preserved c =
+    let others = c.pop.new.self.items in
+    let view = c.loop-undo.self in
+    record {
+      can = subst (CanUndoAll others) (sym c.undo.ensures.undone) (undo_others others c.in-Some.undo view (subst (λ undos. CanUndoAll undos view) c.in-Some.ensures.items c.loop-undo.invariant.can));
+      back = ap (undone_all others) c.undo.ensures.undone ∙ sym (undone_last others c.in-Some.undo view) ∙ ap (λ undos. undone_all undos view) (sym c.in-Some.ensures.items) ∙ c.loop-undo.invariant.back;
+    }
+
+pub returns : goal.returns
+returns c old spendable = sym (undone_none c.loop-undo.undos.items c.loop-undo.self (omega (arith, c.loop-undo.undos.ok.0, c.in_default.ensures.cases.0))) ∙ c.loop-undo.invariant.back ∙ spendable.back

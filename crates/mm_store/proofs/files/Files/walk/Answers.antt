@@ -1,0 +1,20 @@
+use Rattle.std.proofs.Common.{◌∙◌, sym, ap, subst, []}
+use Rattle.mm_store.specs.Language.FilesView.{plain}
+use Rattle.mm_store.specs.Language.Keyless.{bare}
+use Rattle.mm_store.specs.Language.Walking.{WalkView, IsWalk}
+use Rattle.mm_store.proofs.BareLemmas.{hold_bare, number_bare}
+use Rattle.mm_store.proofs.ViewLemmas.{number_plain}
+use Rattle.mm_store.proofs.SetLemmas.{ok_map}
+use Rattle.mm_store.proofs.WalkStepLemmas.{walk_begins}
+use Rattle.mm_store.proofs.files.Files.walk.Goals as goal
+
+pub returns-clause-ok : goal.returns-clause-ok
+returns-clause-ok c =
+    let view = c.args.self.now in
+    let top = c.args.top.now in
+    let files = bare (plain view) in
+    ok_map c.begun.result
+    (λ walk h. subst (IsWalk files top []) (sym h.2) (walk_begins files (hold_bare view c.hold_units.ensures) top h.0 (number_bare view top ∙ sym (number_plain view top) ∙ h.1))) c.begun.ensures.ok
+
+pub returns-clause-untold : goal.returns-clause-untold
+returns-clause-untold c = ok_map c.begun.result (λ walk h. ap (λ (walk : WalkView). walk.told) h.2) c.begun.ensures.ok

@@ -1,0 +1,32 @@
+use Rattle.std.proofs.Common.{◌≡◌, length, take, sym, ap, ◌∙◌, subst, arith}
+use Rattle.mm_store.specs.Language.Pieces.{text_under}
+use Rattle.mm_store.specs.Code.Lines.{AreLines}
+use Rattle.mm_store.proofs.SlabLemmas.{text_is}
+use Rattle.mm_store.proofs.StoreLemmas.{none_text}
+use Rattle.mm_store.proofs.pieces.PieceStore.lines_before.Goals as goal
+
+pub lines_before-requires-clause-marked : goal.lines_before-requires-clause-marked
+lines_before-requires-clause-marked c =
+    let kept = c.self.invariant.kept c.args.key c.in-Some.piece.now (sym c.in-Some.ensures) in
+    rw (c.deref.ensures.value, c.deref-in-Some.ensures.value) kept.marked
+
+pub lines_before-requires-clause-small : goal.lines_before-requires-clause-small
+lines_before-requires-clause-small c =
+    let kept = c.self.invariant.kept c.args.key c.in-Some.piece.now (sym c.in-Some.ensures) in
+    rw c.deref.ensures.value kept.text.small
+
+pub lines_before-requires-clause-within : goal.lines_before-requires-clause-within
+lines_before-requires-clause-within c =
+    let text = text_is c.self.inside.slab c.args.key c.args.self.now c.in-Some.piece.now c.self.view_is (sym c.in-Some.ensures) in
+    omega (arith, ap length text, ap length c.deref.ensures.value, c.requires)
+
+pub returns-in-None : goal.returns-in-None
+returns-in-None c =
+    let none = none_text c.self.inside.slab c.args.key c.args.self.now c.self.view_is c.in-None.ensures in
+    let first : c.args.at ≡ 0 = omega (arith, c.requires, ap length none) in
+    subst (λ n. AreLines (take n (text_under c.args.self.now c.args.key)) c.none.result) (sym first) c.none.ensures
+
+pub returns-in-Some : goal.returns-in-Some
+returns-in-Some c =
+    let text = text_is c.self.inside.slab c.args.key c.args.self.now c.in-Some.piece.now c.self.view_is (sym c.in-Some.ensures) in
+    subst (λ t. AreLines (take c.args.at t) c.lines_before.result) (c.deref.ensures.value ∙ sym text) c.lines_before.ensures

@@ -1,0 +1,34 @@
+use Rattle.std.proofs.Common.{◌≡◌, None, sym, ap, ◌∙◌, subst}
+use Rattle.mm_store.specs.declared.pieces.Piece.{Piece}
+use Rattle.mm_store.proofs.StoreLemmas.{kept_put, parked_put}
+use Rattle.mm_store.specs.Code.Slots.{pieces_of, AreKeptIn}
+use Rattle.std.specs.Option.{option_map}
+use Rattle.std.specs.FinMap as finite
+use Rattle.mm_store.specs.declared.state.State.TheVariants.{Standing}
+use Rattle.mm_store.proofs.SlabLemmas.{get_is, put_is}
+use Rattle.mm_store.proofs.pieces.PieceStore.put.Goals as goal
+use Rattle.mm_store.specs.Code.Slots.{held}
+use Rattle.mm_store.specs.Language.Pieces.{standing_piece, parked_pieces}
+
+pub returns-clause-fresh : goal.returns-clause-fresh
+returns-clause-fresh c = ap (λ m. finite.get m c.in_ok-insert.field-0) (sym c.self.view_is) ∙ get_is c.self.inside.slab c.in_ok-insert.field-0 ∙ ap (option_map held) c.in_ok-insert.ensures.was_vacant
+
+pub returns-clause-ok : goal.returns-clause-ok
+returns-clause-ok c = put_is c.self.inside.slab c.insert.new.self c.in_ok-insert.field-0 (record { kept = c.args.kept; state = Standing }) c.in_ok-insert.ensures.updates ∙ ap (λ m. finite.insert m c.in_ok-insert.field-0 (standing_piece c.args.kept.text.items)) c.self.view_is
+
+pub invariant_of-self : goal.invariant_of-self
+invariant_of-self c = record {
+  kept = subst AreKeptIn (sym c.in_err-insert.ensures.err) c.self.invariant.kept;
+  counted = c.self.invariant.counted ∙ ap (λ s. parked_pieces (pieces_of s)) (sym c.in_err-insert.ensures.err);
+}
+
+pub invariant_of-self-2 : goal.invariant_of-self-2
+invariant_of-self-2 c =
+    let piece : Piece = record { kept = c.args.kept; state = Standing } in
+    let slab = c.self.inside.slab in
+    let key = c.in_ok-insert.field-0 in
+    let fresh : finite.get (pieces_of slab) key ≡ None = get_is slab key ∙ ap (option_map held) c.in_ok-insert.ensures.was_vacant in
+    record {
+      kept = kept_put slab c.insert.new.self key piece c.in_ok-insert.ensures.updates c.requires c.self.invariant.kept;
+      counted = c.self.invariant.counted ∙ sym (parked_put (pieces_of slab) key c.args.kept.text.items fresh) ∙ ap parked_pieces (sym (put_is slab c.insert.new.self key piece c.in_ok-insert.ensures.updates));
+    }

@@ -1,0 +1,71 @@
+use Rattle.std.proofs.Common.{◌≡◌, Some, is_some, true, length, refl, sym, ap, ◌∙◌, arith}
+use Rattle.std.specs.Option.{option_map}
+use Rattle.std.proofs.lemmas.Option.{none-some}
+use Rattle.slab.specs.Slab.{get, with_value}
+use Rattle.slab.proofs.SlabLemmas.{Updates-with_value}
+use Rattle.mm_store.specs.declared.pieces.Piece.{Piece}
+use Rattle.mm_store.specs.Language.Pieces.{with_state, parked_pieces}
+use Rattle.mm_store.specs.Code.Slots.{pieces_of, held}
+use Rattle.mm_store.proofs.SlabLemmas.{get_is, state_is, text_is}
+use Rattle.mm_store.proofs.StoreLemmas.{kept_put, parked_changed, parked_dropped, others_parked, slot_there, parked_there}
+use Rattle.mm_store.proofs.pieces.PieceStore.set_state.Goals as goal
+
+pub overflow_sub-others : goal.overflow_sub-others
+overflow_sub-others c =
+    let slab = c.self.inside.slab in
+    let has = slot_there slab c.args.key c.args.self.now c.self.view_is c.requires in
+    let is = get_is slab c.args.key ∙ ap (option_map held) has.1 in
+    omega (arith, c.parked_under.ensures, parked_there slab c.args.key c.args.self.now has.0 c.self.view_is has.1, parked_dropped (pieces_of slab) c.args.key (held has.0) is, c.self.invariant.counted)
+
+pub prove-unreachable-requires : goal.prove-unreachable-requires
+prove-unreachable-requires c =
+    let slab = c.self.inside.slab in
+    let has = slot_there slab c.args.key c.args.self.now c.self.view_is c.requires in
+    let is = get_is slab c.args.key ∙ ap (option_map held) has.1 in
+    omega (
+      arith,
+      c.parked_under.ensures,
+      parked_there slab c.args.key c.args.self.now has.0 c.self.view_is has.1,
+      parked_dropped (pieces_of slab) c.args.key (held has.0) is,
+      others_parked slab c.args.key has.0 has.1,
+      c.self.invariant.counted,
+      c.if-prove.true,
+      c.len.ensures,
+    )
+
+pub invariant_of-self-in-Some : goal.invariant_of-self-in-Some
+invariant_of-self-in-Some c =
+    let slab = c.self.inside.slab in
+    let piece = c.in-Some.piece.now in
+    let there : get slab c.args.key ≡ Some piece = sym c.in-Some.ensures.value in
+    let after : Piece = record { kept = piece.kept; state = c.args.state } in
+    let some : is_some (get slab c.args.key) ≡ true = ap is_some there in
+    let new = with_value slab c.args.key after in
+    let is = get_is slab c.args.key ∙ ap (option_map held) there in
+    let changed = parked_changed (pieces_of slab) c.args.key (held piece) c.args.state is in
+    let dropped = parked_dropped (pieces_of slab) c.args.key (held piece) is in
+    let now : parked_pieces (pieces_of new) ≡ parked_pieces (with_state (pieces_of slab) c.args.key c.args.state) = ap parked_pieces (state_is slab c.args.key piece c.args.state there) in
+    let under = parked_there slab c.args.key (pieces_of slab) piece refl there in
+    record {
+      kept = kept_put slab new c.args.key after (Updates-with_value slab c.args.key after some) (c.self.invariant.kept c.args.key piece there) c.self.invariant.kept;
+      counted = omega (arith, c.self.invariant.counted, c.parked_under.ensures, parked_there slab c.args.key c.args.self.now piece c.self.view_is there, under, changed, dropped, now, c.count_parked.ensures);
+    }
+
+pub returns-in-None-clause-pieces : goal.returns-in-None-clause-pieces
+returns-in-None-clause-pieces c =
+    let has = slot_there c.self.inside.slab c.args.key c.args.self.now c.self.view_is c.requires in
+    absurd (none-some has.0 (c.in-None.ensures.value ∙ has.1))
+
+pub returns-in-None-clause-len : goal.returns-in-None-clause-len
+returns-in-None-clause-len c =
+    let has = slot_there c.self.inside.slab c.args.key c.args.self.now c.self.view_is c.requires in
+    absurd (none-some has.0 (c.in-None.ensures.value ∙ has.1))
+
+pub returns-in-Some-clause-pieces : goal.returns-in-Some-clause-pieces
+returns-in-Some-clause-pieces c =
+    state_is c.self.inside.slab c.args.key c.in-Some.piece.now c.args.state (sym c.in-Some.ensures.value) ∙ ap (λ m. with_state m c.args.key c.args.state) c.self.view_is
+
+pub returns-in-Some-clause-len : goal.returns-in-Some-clause-len
+returns-in-Some-clause-len c =
+    let text = text_is c.self.inside.slab c.args.key c.args.self.now c.in-Some.piece.now c.self.view_is (sym c.in-Some.ensures.value) in
+    omega (arith, c.len-in-Some.ensures, c.in-Some.piece.now.kept.text.ok.0, ap length text)

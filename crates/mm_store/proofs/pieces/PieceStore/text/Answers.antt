@@ -1,0 +1,28 @@
+use Rattle.std.proofs.Common.{◌≡◌, Option, Some, None, is_some, true, Bor, refl, sym, ap, ◌∙◌}
+use Rattle.std.specs.Option.{option_copied}
+use Rattle.slab.specs.Slab.{get}
+use Rattle.mm_store.proofs.SlabLemmas.{some_slot, text_is}
+use Rattle.mm_store.proofs.pieces.PieceStore.text.Goals as goal
+
+some_copied : {T : Type 0} (r : Option (Bor T)) → is_some (option_copied r) ≡ true → is_some r ≡ true
+some_copied None e = e
+some_copied (Some x) e = refl
+
+pub unwrap-piece-requires : goal.unwrap-piece-requires
+unwrap-piece-requires c =
+    let some = some_slot c.self.inside.slab c.args.key c.args.self.now c.self.view_is c.requires in
+    some_copied c.get.result (ap is_some c.get.ensures ∙ some)
+
+pub returns-clause-text : goal.returns-clause-text
+returns-clause-text c =
+    let there : get c.self.inside.slab c.args.key ≡ Some c.unwrap-piece.result.now = sym c.get.ensures ∙ ap option_copied c.unwrap-piece.ensures in
+    let kept = c.self.invariant.kept c.args.key c.unwrap-piece.result.now there in
+    let text = text_is c.self.inside.slab c.args.key c.args.self.now c.unwrap-piece.result.now c.self.view_is there in
+    c.deref.ensures.value ∙ sym text
+
+pub returns-clause-small : goal.returns-clause-small
+returns-clause-small c =
+    let there : get c.self.inside.slab c.args.key ≡ Some c.unwrap-piece.result.now = sym c.get.ensures ∙ ap option_copied c.unwrap-piece.ensures in
+    let kept = c.self.invariant.kept c.args.key c.unwrap-piece.result.now there in
+    let text = text_is c.self.inside.slab c.args.key c.args.self.now c.unwrap-piece.result.now c.self.view_is there in
+    rw c.deref.ensures.value kept.text.small

@@ -1,0 +1,52 @@
+use Rattle.std.proofs.Common.{sym, subst}
+use Rattle.mm_store.specs.declared.walk.Step.{Step}
+use Rattle.mm_store.specs.declared.walk.Step.TheVariants as steps
+use Rattle.mm_store.specs.Language.FilesView.{files_in, plain}
+use Rattle.mm_store.specs.Language.Keyless.{bare}
+use Rattle.mm_store.specs.Language.Walking.{FindsEnd}
+use Rattle.mm_store.specs.Code.Steps.{IsStep}
+use Rattle.mm_store.proofs.BareLemmas.{hold_bare, bare_nothing, bare_items, bare_tells}
+use Rattle.mm_store.proofs.TurnLemmas.{turns_less}
+use Rattle.mm_store.proofs.WalkLemmas.{since_nothing, since_items, since_tells, since_end}
+use Rattle.mm_store.proofs.walk.Walk.next_missing.Goals as goal
+
+pub returns-in-End-clause-end : goal.returns-in-End-clause-end
+returns-in-End-clause-end c top items is =
+    let files = bare (plain c.args.files.now) in
+    let first = c.args.self.now in
+    let now = c.loop-name.self in
+    let s : IsStep (files_in c.args.files.now) now steps.End c.step.new.self = subst (λ (step : Step). IsStep (files_in c.args.files.now) now step c.step.new.self) c.in-End.is c.in_ok-step.ensures.ok in
+    subst (FindsEnd files top items first) (sym s.1) (since_end files top items first now s.0 (c.loop-name.invariant top items is))
+
+pub returns-in-Missing-clause-found : goal.returns-in-Missing-clause-found
+returns-in-Missing-clause-found c top items is =
+    let view = c.args.files.now in
+    let new = c.step.new.self in
+    let now = c.loop-name.self in
+    let s : IsStep (files_in view) now (steps.Missing c.in-Missing.name) new = subst (λ (step : Step). IsStep (files_in view) now step new) c.in-Missing.is c.in_ok-step.ensures.ok in
+    since_tells (bare (plain view)) top items c.args.self.now now c.one_meaning.ensures.words c.one_division.ensures.units (hold_bare view c.hold_units.ensures) c.in-Missing.name.items new
+    (bare_tells view now new c.in-Missing.name.items s) (c.loop-name.invariant top items is)
+
+pub loop-name-smaller-in-Nothing : goal.loop-name-smaller-in-Nothing
+loop-name-smaller-in-Nothing c = turns_less (files_in c.args.files.now) c.loop-name.self c.step.new.self c.in_ok-step.field-0 c.in_ok-step.ensures.ok (λ e. (cc))
+
+pub loop-name-preserved-in-Nothing : goal.loop-name-preserved-in-Nothing
+loop-name-preserved-in-Nothing c top items is =
+    let view = c.args.files.now in
+    let new = c.step.new.self in
+    let now = c.loop-name.self in
+    let s : IsStep (files_in view) now steps.Nothing new = subst (λ (step : Step). IsStep (files_in view) now step new) c.in-Nothing.is c.in_ok-step.ensures.ok in
+    since_nothing (bare (plain view)) top items c.args.self.now now c.one_meaning.ensures.words c.one_division.ensures.units (hold_bare view c.hold_units.ensures) new
+    (bare_nothing view now new s) (c.loop-name.invariant top items is)
+
+pub loop-name-smaller : goal.loop-name-smaller
+loop-name-smaller c = turns_less (files_in c.args.files.now) c.loop-name.self c.step.new.self c.in_ok-step.field-0 c.in_ok-step.ensures.ok (λ e. (cc))
+
+pub loop-name-preserved : goal.loop-name-preserved
+loop-name-preserved c top items is =
+    let view = c.args.files.now in
+    let new = c.step.new.self in
+    let now = c.loop-name.self in
+    let s : IsStep (files_in view) now (steps.Items c.in-Items.field-0) new = subst (λ (step : Step). IsStep (files_in view) now step new) c.in-Items.is c.in_ok-step.ensures.ok in
+    let t = bare_items view now new c.in-Items.field-0 s in
+    since_items (bare (plain view)) top items c.args.self.now now c.one_meaning.ensures.words c.one_division.ensures.units (hold_bare view c.hold_units.ensures) t.0 new t.1 (c.loop-name.invariant top items is) is

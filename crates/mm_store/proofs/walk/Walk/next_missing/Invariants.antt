@@ -1,0 +1,14 @@
+use Rattle.std.proofs.Common.{ℕ, List}
+use Rattle.mm_store.specs.declared.item.Item.{Item}
+use Rattle.mm_store.specs.Language.FilesView.{files_in, plain}
+use Rattle.mm_store.specs.Language.Keyless.{bare}
+use Rattle.mm_store.specs.Language.Walking.{IsWalk}
+use Rattle.mm_store.proofs.TurnLemmas.{turns}
+use Rattle.mm_store.proofs.WalkLemmas.{Since}
+use Rattle.mm_store.proofs.walk.Walk.next_missing.Given as goal
+
+abbrev pub invariant-loop-name : goal.invariant-loop-name
+invariant-loop-name l = (top : List ℕ) (items : List Item) → IsWalk (bare (plain l.files)) top items l.initial.self → Since (bare (plain l.files)) top items l.initial.self l.self
+
+abbrev pub decreases-loop-name : goal.decreases-loop-name
+decreases-loop-name l = turns (files_in l.files) l.self

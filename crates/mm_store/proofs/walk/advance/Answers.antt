@@ -1,0 +1,14 @@
+use Rattle.std.proofs.Common.{◌≡◌, ◌-◌, ◌∷◌, ◌++◌, [], length, ◌∙◌, ap, sym, get_or, arith, length-append}
+use Rattle.std.specs.Prelude.{slice_set}
+use Rattle.std.proofs.lemmas.List.{get_or_at}
+use Rattle.mm_store.specs.Code.Steps.{behind}
+use Rattle.mm_store.proofs.StackLemmas.{set_last}
+use Rattle.mm_store.proofs.walk.advance.Goals as goal
+
+pub returns-clause-moved : goal.returns-clause-moved
+returns-clause-moved c front level last =
+    let n = c.len-last.result - 1 in
+    let at : n ≡ length front = omega (arith, ap length last, length-append front (level ∷ [])) in
+    let now = c.index_mut.result.now in
+    let is : now ≡ level = c.index_mut.ensures.value ∙ ap (λ l. get_or l n now) last ∙ get_or_at front level [] now n (sym at) in
+    ap (λ l. slice_set l n (behind now)) last ∙ set_last front level (behind now) n at ∙ ap (λ level. front ++ behind level ∷ []) is

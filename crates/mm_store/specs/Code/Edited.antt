@@ -1,0 +1,89 @@
+-- What each edit makes of the files, by keys.
+use Rattle.std.specs.Prelude.{◌≡◌, ℕ, ◌≤◌, zero, suc, List, [], ◌∷◌, ◌++◌, None, IsSome, slice_set, slice_index_or}
+use Rattle.std.specs.List.{insert, remove}
+use Rattle.std.specs.FinMap as finite
+use Rattle.mm_store.specs.declared.state.State.TheVariants.{Parked}
+use Rattle.mm_store.specs.declared.state.EditKind.TheVariants.{Replaced, Deleted}
+use Rattle.mm_store.specs.declared.undo.Undo.{Undo}
+use Rattle.mm_store.specs.declared.undo.Action.TheVariants as action
+use Rattle.mm_store.specs.Language.Pieces.{standing_piece, with_state}
+use Rattle.mm_store.specs.Language.FilesView.{File, FilesView, plain, bytes_of}
+use Rattle.mm_store.specs.Language.Undoing.{keys_in, with_keys, key_at, moved, undone, CanUndo, CanSettle, KeepsText}
+
+-- the members of the file of this number
+abbrev pub pieces_in : List File → ℕ → List (List ℕ)
+pieces_in [] n = []
+pieces_in (file ∷ files) zero = file.pieces
+pieces_in (file ∷ files) (suc n) = pieces_in files n
+
+-- the files with other members in the file of this number
+abbrev pub with_pieces : List File → ℕ → List (List ℕ) → List File
+with_pieces [] n pieces = []
+with_pieces (file ∷ files) zero pieces = record { name = file.name; pieces = pieces; tail = file.tail } ∷ files
+with_pieces (file ∷ files) (suc n) pieces = file ∷ with_pieces files n pieces
+
+-- a new member under this key, with this text, stands before member `at`
+abbrev pub inserted : FilesView → ℕ → ℕ → ℕ → List ℕ → FilesView
+inserted view number at key text = record {
+  keyed = with_keys view.keyed number (insert (keys_in view.keyed number) at key);
+  pieces = finite.insert view.pieces key (standing_piece text);
+}
+
+-- a new member under this key stands in the place of member `at`, which is parked
+abbrev pub replaced : FilesView → ℕ → ℕ → ℕ → List ℕ → FilesView
+replaced view number at key text = record {
+  keyed = with_keys view.keyed number (slice_set (keys_in view.keyed number) at key);
+  pieces = with_state (finite.insert view.pieces key (standing_piece text)) (key_at view number at) (Parked number Replaced);
+}
+
+-- member `at` is taken out and parked
+abbrev pub deleted : FilesView → ℕ → ℕ → FilesView
+deleted view number at = record {
+  keyed = with_keys view.keyed number (remove (keys_in view.keyed number) at);
+  pieces = with_state view.pieces (key_at view number at) (Parked number Deleted);
+}
+
+-- an edit of the file of this number: its members become these, and the undo gives the files of before
+pub record IsDone (old new : FilesView) (number : ℕ) (members : List (List ℕ)) (undo : Undo) : Type 0 where
+  pub means : plain new ≡ with_pieces (plain old) number members
+  pub keeps : (key : ℕ) → IsSome (finite.get old.pieces key) → KeepsText old new key
+  pub can_undo : CanUndo undo new
+  pub can_settle : CanSettle undo.file undo.action new
+  pub back : undone undo new ≡ old
+
+abbrev pub members_of : FilesView → ℕ → List (List ℕ)
+members_of view number = pieces_in (plain view) number
+
+-- the member has a new piece under a key that no piece had, and the old one is parked
+pub record IsReplaced (old new : FilesView) (number at : ℕ) (text : List ℕ) (undo : Undo) : Type 0 where
+  pub key : ℕ
+  pub fresh : finite.get old.pieces key ≡ None
+  pub is : new ≡ replaced old number at key text
+  pub undo_is : undo ≡ record { file = number; action = action.Replaced at (key_at old number at) }
+  pub done : IsDone old new number (slice_set (members_of old number) at text) undo
+
+-- a new piece stands before the member, under a key that no piece had
+pub record IsInserted (old new : FilesView) (number at : ℕ) (text : List ℕ) (undo : Undo) : Type 0 where
+  pub key : ℕ
+  pub fresh : finite.get old.pieces key ≡ None
+  pub is : new ≡ inserted old number at key text
+  pub undo_is : undo ≡ record { file = number; action = action.Inserted at }
+  pub done : IsDone old new number (insert (members_of old number) at text) undo
+
+-- the member is taken out, and its piece is parked
+pub record IsDeleted (old new : FilesView) (number at : ℕ) (undo : Undo) : Type 0 where
+  pub is : new ≡ deleted old number at
+  pub undo_is : undo ≡ record { file = number; action = action.Deleted at (key_at old number at) }
+  pub within : bytes_of (plain new) ≤ 4294967295
+  pub done : IsDone old new number (remove (members_of old number) at) undo
+
+-- the member is taken out and put where it is member `to`
+pub record IsMoved (old new : FilesView) (number at to : ℕ) (undo : Undo) : Type 0 where
+  pub is : new ≡ moved old number at to
+  pub undo_is : undo ≡ record { file = number; action = action.Moved at to }
+  pub within : bytes_of (plain new) ≤ 4294967295
+  pub done : IsDone old new number (insert (remove (members_of old number) at) to (slice_index_or (members_of old number) at [])) undo
+
+-- the files with one more, of this name, with these members and this tail
+abbrev pub with_file : List File → List ℕ → List (List ℕ) → List ℕ → List File
+with_file files name pieces tail = files ++ record { name = name; pieces = pieces; tail = tail } ∷ []

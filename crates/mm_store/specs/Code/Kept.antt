@@ -1,0 +1,86 @@
+-- From the fields of `Files` to what a contract sees, and what always holds of the fields.
+use Rattle.std.specs.Prelude.{◌≡◌, ℕ, suc, ◌+◌, ◌≤◌, cond, nat_eq, List, [], ◌∷◌, Option, Some, None, length, map, Vec}
+use Rattle.std.specs.List.{sum_by}
+use Rattle.std.specs.FinMap as finite
+use Rattle.mm_text.specs.Language.Reading.{HasWords}
+use Rattle.mm_store.specs.declared.state.State.{State}
+use Rattle.mm_store.specs.declared.state.State.TheVariants.{Standing, Parked}
+use Rattle.mm_store.specs.declared.state.EditKind.{EditKind}
+use Rattle.mm_store.specs.declared.state.EditKind.TheVariants.{Replaced, Deleted}
+use Rattle.mm_store.specs.declared.file_text.FileText.{FileText}
+use Rattle.mm_store.specs.declared.files.Files.TheInside.{Inside}
+use Rattle.mm_store.specs.Language.Pieces.{HeldPiece, Pieces}
+use Rattle.mm_store.specs.Language.FilesView.{KeyedFile, FilesView, File, plain, bytes_of}
+use Rattle.mm_store.specs.Code.Lines.{AreStarts}
+use Rattle.mm_store.specs.Code.Room.{HasRoom}
+
+abbrev pub file_of : {Y : Type 0} → Vec ℕ Y × FileText → KeyedFile
+file_of entry = record { name = entry.0.items; keys = entry.1.keys.items; tail = entry.1.tail.items }
+
+abbrev pub view_of : Inside → FilesView
+view_of inside = record { keyed = map file_of inside.files.entries; pieces = inside.pieces }
+
+-- one for the same key
+abbrev pub one : ℕ → ℕ → ℕ
+one k x = cond (nat_eq k x) 1 0
+
+-- how often a key stands in a list
+abbrev pub times : ℕ → List ℕ → ℕ
+times k keys = sum_by (one k) keys
+
+-- at how many places a key stands in the files
+abbrev pub places : ℕ → List KeyedFile → ℕ
+places k [] = 0
+places k (file ∷ files) = times k file.keys + places k files
+
+abbrev pub standing_state : State → ℕ
+standing_state Standing = 1
+standing_state (Parked file kind) = 0
+
+-- one for a piece that stands
+abbrev pub standing_count : Option HeldPiece → ℕ
+standing_count None = 0
+standing_count (Some piece) = standing_state piece.state
+
+abbrev pub deleted_kind : EditKind → ℕ
+deleted_kind Replaced = 0
+deleted_kind Deleted = 1
+
+abbrev pub deleted_state : ℕ → State → ℕ
+deleted_state n Standing = 0
+deleted_state n (Parked file kind) = cond (nat_eq n file) (deleted_kind kind) 0
+
+abbrev pub weigh : (HeldPiece → ℕ) → List (ℕ × HeldPiece) → ℕ
+weigh w [] = 0
+weigh w (e ∷ es) = w e.1 + weigh w es
+
+-- how many parked pieces were deleted from the file of this number
+abbrev pub deletions : ℕ → Pieces → ℕ
+deletions n pieces = weigh (λ piece. deleted_state n piece.state) (finite.entries pieces)
+
+-- a file has room for its pieces and for those of its deleted ones that are parked
+pub record IsRoomy (pieces : Pieces) (n : ℕ) (file : FileText) : Type 0 where
+  pub parked : file.deleted ≡ deletions n pieces
+  pub room : HasRoom file
+
+-- each file from this number on does
+abbrev pub HaveRoom : {Y : Type 0} → Pieces → ℕ → List (Vec ℕ Y × FileText) → Type 0
+HaveRoom pieces n [] = Unit {0}
+HaveRoom pieces n (entry ∷ entries) = IsRoomy pieces n entry.1 × HaveRoom pieces (suc n) entries
+
+-- it is known of each file where its pieces and its tail begin, and the tail holds no word
+abbrev pub HaveStarts : {Y : Type 0} → List File → List (Vec ℕ Y × FileText) → Type 0
+HaveStarts files [] = files ≡ []
+HaveStarts [] (entry ∷ entries) = ⊥
+HaveStarts (file ∷ files) (entry ∷ entries) = AreStarts file.pieces entry.1.starts.items × HasWords entry.1.tail.items [] × HaveStarts files entries
+
+pub record IsKept (inside : Inside) : Type 0 where
+  -- a piece stands in the files at one place, and a parked one at none: so a piece that stands nowhere is parked, and no key of the files
+  -- is without a piece
+  pub once : (k : ℕ) → places k (map file_of inside.files.entries) ≡ standing_count (finite.get inside.pieces k)
+  pub room : HaveRoom inside.pieces 0 inside.files.entries
+  -- no piece is parked as deleted from a file that is not there
+  pub known : (m : ℕ) → length inside.files.entries ≤ m → deletions m inside.pieces ≡ 0
+  pub starts : HaveStarts (plain (view_of inside)) inside.files.entries
+  pub counted : inside.bytes ≡ bytes_of (plain (view_of inside))
+  pub within : inside.bytes ≤ 4294967295

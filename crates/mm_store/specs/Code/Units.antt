@@ -1,0 +1,21 @@
+-- What a text is read as that an edit brings.
+use Rattle.std.specs.Prelude.{◌≡◌, ℕ, List, Some}
+use Rattle.mm_text.specs.Language.Cut.{HoldsOne, ended}
+use Rattle.mm_store.specs.declared.edit.EditError.{EditError}
+use Rattle.mm_store.specs.declared.edit.EditError.TheVariants.{NoFile, NoPiece, Text, NotOne, TooMany, Memory}
+use Rattle.mm_store.specs.Language.Edits.{HasUnitCount, BringsFault, BringsNotOne}
+
+-- the text is one unit, and this is all of it
+pub record IsUnit (text unit : List ℕ) : Type 0 where
+  pub one : HasUnitCount text 1
+  pub whole : unit ≡ ended text
+  pub holds : HoldsOne unit
+
+-- why a text is not one unit
+abbrev pub IsUnitError : List ℕ → EditError → Type 0
+IsUnitError text (Text fault) = BringsFault (Some text) fault
+IsUnitError text (NotOne count) = BringsNotOne (Some text) count
+IsUnitError text Memory = Unit {0}
+IsUnitError text NoFile = ⊥
+IsUnitError text (NoPiece count) = ⊥
+IsUnitError text TooMany = ⊥

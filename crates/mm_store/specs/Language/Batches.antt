@@ -1,0 +1,77 @@
+-- Several edits, one after another: all of them, or none.
+use Rattle.std.specs.Prelude.{◌≡◌, ◌≢◌, ℕ, List, [], ◌∷◌, Some, take, slice_get}
+use Rattle.mm_store.specs.declared.edit.EditError.{EditError}
+use Rattle.mm_store.specs.declared.edit.EditError.TheVariants.{Memory}
+use Rattle.mm_store.specs.declared.batch.BatchError.{BatchError}
+use Rattle.mm_store.specs.declared.batch.BatchError.TheVariants as batch
+use Rattle.mm_store.specs.declared.item.Item.{Item}
+use Rattle.mm_store.specs.declared.undo.Undo.{Undo}
+use Rattle.mm_store.specs.Language.Answers.{IsEditError}
+use Rattle.mm_store.specs.Language.Edits.{Asked, IsEditOf, IsPlaced}
+use Rattle.mm_store.specs.Language.FileFacts.{CanBeRead, StandsIn, parked_in}
+use Rattle.mm_store.specs.Language.FilesView.{File, FilesView}
+use Rattle.mm_store.specs.Language.Undoing.{CanSettle, CanUndo, undone, settled}
+
+-- the edits are accepted one after another, each on the files after those before it, and these are the files after them all
+abbrev pub IsBatchOf : List Asked → List File → List File → Type 0
+IsBatchOf [] files after = after ≡ files
+IsBatchOf (edit ∷ edits) files after = (next : List File) × IsEditOf edit files next × IsBatchOf edits next after
+
+-- the edit with this number, from 0, is the first that is refused, on the files after those before it; want of memory refuses none
+pub record IsRefusedAt (edits : List Asked) (files : List File) (n : ℕ) (error : EditError) : Type 0 where
+  pub before : List File
+  pub accepted : IsBatchOf (take n edits) files before
+  pub edit : Asked
+  pub there : slice_get edits n ≡ Some edit
+  pub refused : IsEditError edit before error
+  pub told : error ≢ Memory
+
+-- the first edit names a file and members of it
+abbrev pub StartsPlaced : List Asked → List File → Type 0
+StartsPlaced edits files = (edit : Asked) × (number : ℕ) × (file : File) × (slice_get edits 0 ≡ Some edit) × IsPlaced files edit number file
+
+-- why edits are not done: one is refused; or want of memory, once file and member of the first are known
+abbrev pub IsBatchError : List Asked → List File → BatchError → Type 0
+IsBatchError edits files (batch.Edit n error) = IsRefusedAt edits files n error
+IsBatchError edits files batch.Memory = StartsPlaced edits files
+
+-- the files with edits undone, the last of them first
+abbrev pub undone_all : List Undo → FilesView → FilesView
+undone_all [] view = view
+undone_all (undo ∷ undos) view = undone undo (undone_all undos view)
+
+-- when they may be undone
+abbrev pub CanUndoAll : List Undo → FilesView → Type 0
+CanUndoAll [] view = Unit {0}
+CanUndoAll (undo ∷ undos) view = CanUndoAll undos view × CanUndo undo (undone_all undos view)
+
+-- the files with the old pieces of edits dropped, that of the last first
+abbrev pub settled_all : List Undo → FilesView → FilesView
+settled_all [] view = view
+settled_all (undo ∷ undos) view = settled undo (settled_all undos view)
+
+-- when they may be settled
+abbrev pub CanSettleAll : List Undo → FilesView → Type 0
+CanSettleAll [] view = Unit {0}
+CanSettleAll (undo ∷ undos) view = CanSettleAll undos view × CanSettle undo.file undo.action (settled_all undos view)
+
+-- what edits left may be spent in these files, in either way: undoing gives the files of before, and settling as many parked pieces
+pub record IsSpendable (old new : FilesView) (undos : List Undo) : Type 0 where
+  pub can_undo : CanUndoAll undos new
+  pub back : undone_all undos new ≡ old
+  pub can_settle : CanSettleAll undos new
+  pub parked : parked_in (settled_all undos new) ≡ parked_in old
+
+-- an item that can be read in the one files can be read in the others, with the same text and the same words
+pub record ReadsAlike (old new : FilesView) (item : Item) (was : CanBeRead old item) : Type 0 where
+  pub read : CanBeRead new item
+  pub text : read.text ≡ was.text
+  pub words : read.words ≡ was.words
+
+-- so it is with each item that can be read
+abbrev pub KeepsReading : FilesView → FilesView → Type 0
+KeepsReading old new = (item : Item) (was : CanBeRead old item) → ReadsAlike old new item was
+
+-- so it is with each item that stands in the files
+abbrev pub KeepsStanding : FilesView → FilesView → Type 0
+KeepsStanding old new = (item : Item) (was : CanBeRead old item) → StandsIn old item → ReadsAlike old new item was

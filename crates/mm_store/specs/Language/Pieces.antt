@@ -1,0 +1,61 @@
+-- The pieces that are held, each under its key: those that stand in a file, and those that are parked until their edit is undone or settled.
+use Rattle.std.specs.Prelude.{◌≡◌, ℕ, List, [], Option, Some, None}
+use Rattle.std.specs.Ordering.{nat_cmp}
+use Rattle.std.specs.List.{sum_by}
+use Rattle.std.specs.FinMap as finite
+use Rattle.mm_store.specs.declared.state.State.{State}
+use Rattle.mm_store.specs.declared.state.State.TheVariants.{Standing, Parked}
+use Rattle.mm_store.specs.declared.state.EditKind.{EditKind}
+
+-- a piece that is held: its text, and whether it stands in a file or is parked
+pub record HeldPiece : Type 0 where
+  pub text : List ℕ
+  pub state : State
+
+-- the pieces, each under its key
+abbrev pub Pieces : Type 0
+Pieces = finite.FinMap nat_cmp HeldPiece
+
+abbrev pub standing_piece : List ℕ → HeldPiece
+standing_piece text = record { text = text; state = Standing }
+
+-- the piece with its text, in another state
+abbrev pub in_state : Option HeldPiece → State → HeldPiece
+in_state None state = record { text = []; state = state }
+in_state (Some piece) state = record { text = piece.text; state = state }
+
+-- the pieces after the state of one has changed
+abbrev pub with_state : Pieces → ℕ → State → Pieces
+with_state pieces key state = finite.insert pieces key (in_state (finite.get pieces key) state)
+
+abbrev pub text_in : Option HeldPiece → List ℕ
+text_in None = []
+text_in (Some piece) = piece.text
+
+-- the text of the piece under a key
+abbrev pub text_under : Pieces → ℕ → List ℕ
+text_under pieces key = text_in (finite.get pieces key)
+
+abbrev pub state_in : Option HeldPiece → Option State
+state_in None = None
+state_in (Some piece) = Some piece.state
+
+-- the piece under the key is parked in the file of this number, by an edit of this kind
+abbrev pub IsParked : Pieces → ℕ → ℕ → EditKind → Type 0
+IsParked pieces key file kind = state_in (finite.get pieces key) ≡ Some (Parked file kind)
+
+abbrev pub parked_state : State → ℕ
+parked_state Standing = 0
+parked_state (Parked file kind) = 1
+
+-- one for a piece that is parked
+abbrev pub parked_count : Option HeldPiece → ℕ
+parked_count None = 0
+parked_count (Some piece) = parked_state piece.state
+
+abbrev pub parked_under : Pieces → ℕ → ℕ
+parked_under pieces key = parked_count (finite.get pieces key)
+
+-- how many pieces are parked
+abbrev pub parked_pieces : Pieces → ℕ
+parked_pieces pieces = sum_by (λ entry. parked_state entry.1.state) (finite.entries pieces)

@@ -1,0 +1,91 @@
+//! Edits, and why they are refused.
+
+ghost use Rattle.std.specs.Prelude.{◌≡◌};
+ghost use Rattle.mm_store.specs.declared.edit.EditError.TheVariants.{Memory};
+
+use mm_text::{TextError, TextFault};
+use std::alloc::{AllocError, Global};
+use thiserror::Error;
+
+/// An edit of one file, by its name: of its pieces, counted from 0.
+#[derive(Clone, Copy, Debug)]
+pub enum Edit<'a> {
+    /// A new piece, of this text, before the piece `at`, or behind the last where `at` is their count.
+    Insert {
+        /// The name of the file.
+        file: &'a [u8],
+        /// At most the count of the pieces.
+        at: usize,
+        /// One unit, with white space and comments around it.
+        text: &'a [u8],
+    },
+    /// A new piece, of this text, in the place of the piece `at`.
+    Replace {
+        /// The name of the file.
+        file: &'a [u8],
+        /// Less than the count of the pieces.
+        at: usize,
+        /// One unit, with white space and comments around it.
+        text: &'a [u8],
+    },
+    /// The piece `at` is taken out.
+    Delete {
+        /// The name of the file.
+        file: &'a [u8],
+        /// Less than the count of the pieces.
+        at: usize,
+    },
+    /// The piece `at` is taken out and put where it is piece `to` of the list that is then there.
+    Move {
+        /// The name of the file.
+        file: &'a [u8],
+        /// Less than the count of the pieces.
+        at: usize,
+        /// Less than the count of the pieces.
+        to: usize,
+    },
+}
+
+/// Why an edit is refused.
+#[derive(Clone, Copy, Debug, PartialEq, Eq, Error)]
+pub enum EditError {
+    /// No file has this name.
+    #[error("no such file")]
+    NoFile,
+    /// The file has only so many pieces.
+    #[error("no such piece, of {0}")]
+    NoPiece(usize),
+    /// The text has this fault, and it is its first.
+    #[error("{0}")]
+    Text(TextFault),
+    /// The text is not one unit, but so many.
+    #[error("{0} units in place of one")]
+    NotOne(usize),
+    /// The texts of the files would have more than 4,294,967,295 bytes.
+    #[error("more than 4,294,967,295 bytes")]
+    TooMany,
+    /// There was not enough memory. It says nothing of the text.
+    #[error("out of memory")]
+    Memory,
+}
+
+impl From<AllocError> for EditError {
+    ghost from_gives = { λ _ e. e ≡ Memory };
+
+    fn from(_: AllocError) -> Self {
+        EditError::Memory
+    }
+}
+
+impl From<TextError> for EditError {
+    ghost use Rattle.mm_store.specs.Language.Answers.{edit_error_of};
+
+    ghost from_gives = { λ e s. s ≡ edit_error_of e };
+
+    fn from(error: TextError) -> Self {
+        match error {
+            TextError::Fault(fault) => EditError::Text(fault),
+            TextError::Memory => EditError::Memory,
+        }
+    }
+}

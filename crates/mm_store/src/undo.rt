@@ -1,0 +1,19 @@
+//! What an edit leaves to be undone or settled.
+
+/// What was done: an insertion at a place, a replacement or a deletion there of the piece with this key, a move
+/// from a place to another.
+#[derive(Drop)]
+pub(crate) enum Action {
+    Inserted(usize),
+    Replaced(usize, usize),
+    Deleted(usize, usize),
+    Moved(usize, usize),
+}
+
+/// An edit that was done, to be spent by [`Files::undo`](crate::Files::undo) or by
+/// [`Files::settle`](crate::Files::settle). It cannot be copied or thrown away.
+#[must_use]
+pub struct Undo {
+    pub(crate) file: usize,
+    pub(crate) action: Action,
+}

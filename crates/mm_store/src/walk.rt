@@ -1,0 +1,273 @@
+//! The walk through the files, from the top file on, in the order in which they are read.
+
+ghost use Rattle.std.specs.Prelude.{◌≡◌, ℕ, ◌+◌, ◌<◌, ◌≤◌, ◌↔◌, IsTrue, false, List, [], ◌∷◌, ◌++◌, Contains};
+ghost use Rattle.std.specs.Prelude.{None, IfNone, IfSome, IfOk, OnOk, OnErr, vec_len, vec_capacity};
+ghost use Rattle.mm_store.specs.declared.item.Item.{Item};
+ghost use Rattle.mm_store.specs.Language.FilesView.{FileView, files_in, number_of, plain};
+ghost use Rattle.mm_store.specs.Language.Keyless.{bare};
+ghost use Rattle.mm_store.specs.Language.Walking.{WalkView, IsWalk, GoesOn, FindsMissing, FindsEnd};
+ghost use Rattle.mm_store.specs.Code.Gains.{names_in};
+ghost use Rattle.mm_store.specs.Code.Steps.{behind, beginning, first_walk, IsReference, IsStep};
+
+use crate::files::{Files, PieceKey};
+use indexmap::IndexSet;
+use std::alloc::{AllocError, Global};
+use std::marker::Model;
+
+/// A file that the walk has entered and not left: its number, and which of its pieces is next, both from 0.
+#[derive(Clone, Copy)]
+pub struct Level {
+    pub(crate) file: usize,
+    pub(crate) piece: usize,
+}
+
+/// Where a piece stands, and its key.
+#[derive(Clone, Copy)]
+pub struct Spot {
+    pub(crate) file: usize,
+    pub(crate) piece: usize,
+    pub(crate) key: PieceKey,
+}
+
+/// What a step of the walk comes to.
+#[derive(Drop)]
+pub enum Step {
+    /// Nothing is still to come.
+    End,
+    /// No items: a file is left or entered, or a name comes once more.
+    Nothing,
+    /// The items of this piece, one for each part: a piece that includes nothing, or a reference that was told.
+    Items(Spot),
+    /// A reference to a missing file of this name, past which the walk does not go before it is told.
+    Missing(Vec<u8>),
+}
+
+/// How far the files are gone through from a top file on, each at its first inclusion, in the order in which they
+/// are read: so that files can be added while the walk goes on.
+///
+/// It has the names that it has taken so far, and where it stands in each file that it has entered and not left.
+#[derive(Drop)]
+pub struct Walk {
+    names: IndexSet<Vec<u8>>,
+    levels: Vec<Level>,
+    told: bool,
+}
+
+impl Model for Walk {
+    ghost use Rattle.mm_store.specs.Language.Walking.{WalkView};
+
+    ghost Value = { WalkView };
+
+    ghost use Rattle.mm_store.specs.Code.Walked.{view_of};
+
+    ghost view = { view_of };
+}
+
+/// Goes behind the next piece of the innermost file.
+fn advance(levels: &mut Vec<Level>)
+    requires { (front : List Level) × (level : Level) × (levels.old.items ≡ front ++ level ∷ []) × (level.piece < 18446744073709551615) }
+    ensures moved { (front : List Level) (level : Level) → levels.old.items ≡ front ++ level ∷ [] → levels.new.items ≡ front ++ behind level ∷ [] }
+    ensures len { vec_len levels.new ≡ vec_len levels.old }
+    ensures capacity { vec_capacity levels.old ≤ vec_capacity levels.new }
+{
+    let last = levels.len() - 1;
+    levels[last].piece += 1;
+}
+
+/// Puts a name into the set that is not there.
+fn take_name(alloc: Global, name: &[u8], names: &mut IndexSet<Vec<u8>>) -> Result<(), AllocError>
+    requires { ¬ Contains (names_in names.old) name.now }
+    ensures ok { OnOk result (names_in names.new ≡ names_in names.old ++ name.now ∷ []) }
+    ensures err { OnErr result (names_in names.new ≡ names_in names.old) }
+{
+    names.insert(Vec::from_slice(alloc, name)?)?;
+    Ok(())
+}
+
+impl Walk {
+    /// A walk before the first piece of the file of this number, the top file, whose name is taken.
+    pub(crate) fn from_top(alloc: Global, top: &[u8], number: usize) -> Result<Walk, AllocError>
+        ensures { IfOk result (λ walk. walk ≡ first_walk top.now number) }
+    {
+        let mut names = IndexSet::new(alloc);
+        take_name(alloc, top, &mut names)?;
+        let mut levels = Vec::new(alloc);
+        levels.push(Level {
+            file: number,
+            piece: 0,
+        })?;
+        Ok(Walk {
+            names,
+            levels,
+            told: false,
+        })
+    }
+
+    /// The innermost of the files that the walk has entered and not left.
+    fn innermost(&self) -> Option<Level>
+        ensures none { IfNone result (self.now.levels ≡ []) }
+        ensures some { IfSome result (λ level. (front : List Level) × (self.now.levels ≡ front ++ level ∷ [])) }
+    {
+        self.levels.last().copied()
+    }
+
+    /// Whether a name is taken.
+    fn has_taken(&self, name: &[u8]) -> bool
+        ensures { IsTrue result ↔ Contains self.now.names name.now }
+    {
+        self.names.contains(name)
+    }
+
+    /// Leaves the innermost file.
+    fn leave(&mut self)
+        ensures { (front : List Level) (level : Level) → self.old.levels ≡ front ++ level ∷ []
+            → self.new ≡ record { names = self.old.names; levels = front; told = false } }
+    {
+        let _ = self.levels.pop();
+        self.told = false;
+    }
+
+    /// Goes past the next piece of the innermost file.
+    fn pass(&mut self)
+        requires { (front : List Level) × (level : Level) × (self.old.levels ≡ front ++ level ∷ []) × (level.piece < 18446744073709551615) }
+        ensures { (front : List Level) (level : Level) → self.old.levels ≡ front ++ level ∷ []
+            → self.new ≡ record { names = self.old.names; levels = front ++ behind level ∷ []; told = false } }
+    {
+        advance(&mut self.levels);
+        self.told = false;
+    }
+
+    /// Goes past the next piece of the innermost file, and takes the name that it includes.
+    fn pass_told(&mut self, alloc: Global, name: &[u8]) -> Result<(), AllocError>
+        requires last { (front : List Level) × (level : Level) × (self.old.levels ≡ front ++ level ∷ []) × (level.piece < 18446744073709551615) }
+        requires fresh { ¬ Contains self.old.names name.now }
+        ensures ok { OnOk result ((front : List Level) (level : Level) → self.old.levels ≡ front ++ level ∷ []
+            → self.new ≡ record { names = self.old.names ++ name.now ∷ []; levels = front ++ behind level ∷ []; told = false }) }
+        ensures err { OnErr result (self.new ≡ self.old) }
+    {
+        take_name(alloc, name, &mut self.names)?;
+        self.pass();
+        Ok(())
+    }
+
+    /// Goes past the next piece of the innermost file, takes the name that it includes, and enters that file.
+    fn enter(&mut self, alloc: Global, name: &[u8], number: usize) -> Result<(), AllocError>
+        requires last { (front : List Level) × (level : Level) × (self.old.levels ≡ front ++ level ∷ []) × (level.piece < 18446744073709551615) }
+        requires fresh { ¬ Contains self.old.names name.now }
+        ensures ok { OnOk result ((front : List Level) (level : Level) → self.old.levels ≡ front ++ level ∷ [] → self.new ≡
+            record { names = self.old.names ++ name.now ∷ []; levels = (front ++ behind level ∷ []) ++ beginning number ∷ []; told = false }) }
+        ensures err { OnErr result (self.new ≡ self.old) }
+    {
+        self.levels.reserve(1)?;
+        take_name(alloc, name, &mut self.names)?;
+        advance(&mut self.levels);
+        let inner = Level {
+            file: number,
+            piece: 0,
+        };
+        self.levels.push(inner).unwrap();
+        self.told = false;
+        Ok(())
+    }
+
+    /// A reference to a missing file: it is told, or gone past where it was told.
+    fn miss(&mut self, alloc: Global, spot: Spot, name: &[u8]) -> Result<Step, AllocError>
+        requires last { (front : List Level) × (level : Level) × (self.old.levels ≡ front ++ level ∷ []) × (level.piece < 18446744073709551615) }
+        requires fresh { ¬ Contains self.old.names name.now }
+        ensures ok { IfOk result (λ step. (files : List FileView) → IsReference files self.old.levels spot name.now → number_of files name.now ≡ None
+            → IsStep files self.old step self.new) }
+        ensures err { OnErr result (self.new ≡ self.old) }
+    {
+        if self.told {
+            self.pass_told(alloc, name)?;
+            return Ok(Step::Items(spot));
+        }
+        let name = Vec::from_slice(alloc, name)?;
+        self.told = true;
+        Ok(Step::Missing(name))
+    }
+
+    /// A reference: it is gone past where its name was taken, its file is entered, or it is missing.
+    fn include(
+        &mut self,
+        alloc: Global,
+        files: &Files,
+        spot: Spot,
+        name: &[u8],
+    ) -> Result<Step, AllocError>
+        requires { IsReference (files_in files.now) self.old.levels spot name.now }
+        ensures ok { IfOk result (λ step. IsStep (files_in files.now) self.old step self.new) }
+        ensures err { OnErr result (self.new ≡ self.old) }
+    {
+        if self.has_taken(name) {
+            self.pass();
+            return Ok(Step::Nothing);
+        }
+        match files.number_of(name) {
+            None => self.miss(alloc, spot, name),
+            Some(number) => {
+                self.enter(alloc, name, number)?;
+                Ok(Step::Nothing)
+            }
+        }
+    }
+
+    /// One step. After want of memory the walk stands where it stood.
+    pub(crate) fn step(&mut self, alloc: Global, files: &Files) -> Result<Step, AllocError>
+        ensures ok { IfOk result (λ step. IsStep (files_in files.now) self.old step self.new) }
+        ensures err { OnErr result (self.new ≡ self.old) }
+    {
+        let level = match self.innermost() {
+            None => return Ok(Step::End),
+            Some(level) => level,
+        };
+        let Level { file, piece } = level;
+        let key = match files.key_at(file, piece) {
+            None => {
+                self.leave();
+                return Ok(Step::Nothing);
+            }
+            Some(key) => key,
+        };
+        let spot = Spot { file, piece, key };
+        match files.included_name(key) {
+            None => {
+                self.pass();
+                Ok(Step::Items(spot))
+            }
+            Some(name) => self.include(alloc, files, spot, name),
+        }
+    }
+
+    /// The next name to which the files refer and which none of them has, in the order in which they are read: each
+    /// name once, at its first reference; `None` where no more come.
+    ///
+    /// The walk then stands before that reference, and a file of that name may be added before the next call, which
+    /// enters it; where none is, the next call goes past the reference. Each call goes on from where the last one
+    /// stopped. After want of memory the walk may have gone on, but past no missing name that it did not tell: the
+    /// next call goes on from there.
+    pub fn next_missing(
+        &mut self,
+        alloc: Global,
+        files: &Files,
+    ) -> Result<Option<Vec<u8>>, AllocError>
+        ensures found { IfOk result (λ found. IfSome found (λ name. (top : List ℕ) (items : List Item)
+            → IsWalk (bare (plain files.now)) top items self.old → FindsMissing (bare (plain files.now)) top items self.old self.new name.items)) }
+        ensures end { IfOk result (λ found. IfNone found ((top : List ℕ) (items : List Item)
+            → IsWalk (bare (plain files.now)) top items self.old → FindsEnd (bare (plain files.now)) top items self.old self.new)) }
+        ensures err { OnErr result ((top : List ℕ) (items : List Item)
+            → IsWalk (bare (plain files.now)) top items self.old → GoesOn (bare (plain files.now)) top items self.old self.new) }
+    {
+        mm_text::one_meaning();
+        mm_text::one_division();
+        files.hold_units();
+        loop {
+            match self.step(alloc, files)? {
+                Step::End => return Ok(None),
+                Step::Missing(name) => return Ok(Some(name)),
+                Step::Nothing => {}
+                Step::Items(_) => {}
+            }
+        }
+    }
+}
