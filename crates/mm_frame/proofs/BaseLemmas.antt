@@ -1,5 +1,5 @@
 -- Rows kept of the items, one more item, and what a base answers.
-use Rattle.std.proofs.Common.{◌≡◌, ℕ, zero, suc, ◌<◌, ◌≤◌, Bool, true, Option, Some, None, List, [], ◌∷◌, ◌++◌, length, take, drop, slice_get, Vec, append_assoc, append-nil, ◌&&◌, ◌||◌, cond, get_or, is_none, is_some, not, false, refl, sym, ◌∙◌, ap, subst, arith, inl, inr}
+use Rattle.std.proofs.Common.{◌≡◌, ℕ, zero, suc, ◌<◌, ◌≤◌, Bool, true, Option, Some, None, List, [], ◌∷◌, ◌++◌, length, take, drop, slice_get, append_assoc, append-nil, ◌&&◌, ◌||◌, cond, get_or, is_none, is_some, not, false, refl, sym, ◌∙◌, ap, subst, arith, inl, inr}
 use Rattle.std.specs.Option.{option_map}
 use Rattle.std.specs.List.{AllZip}
 use Rattle.std.proofs.lemmas.Bool.{false≢true, and_parts}
@@ -7,7 +7,6 @@ use Rattle.std.proofs.Math.ListN.{get_or-append}
 use Rattle.std.proofs.Math.Seq.{take-suc}
 use Rattle.std.proofs.lemmas.List.{length_push, get_or_push, take-append-le, length-take-le}
 use Rattle.std.proofs.lemmas.Option.{slice_get_within, slice_get_cases, none-some}
-use Rattle.std.specs.Global.{Global}
 use Rattle.std.specs.Borrow.{Bor}
 use Rattle.std.specs.Prelude.{IfSome, All}
 use Rattle.std.proofs.lemmas.List.Elements.{All-nil}
@@ -110,8 +109,8 @@ none_found found true e = ap not e
 none_found found false e = ap not e
 
 -- one more item, with the symbols that are kept for it
-pub symbols_more : (all : List (List ℕ)) (before : List Item) (item : Item) (expressions : List (Vec NumberedSymbol Global)) (symbols : Vec NumberedSymbol Global) → AreSymbols all before expressions → All (IsNumbered all) symbols.items
-    → (is_read item.kind ≡ true → symbols_of all symbols.items ≡ expression before item) → AreSymbols all (before ++ item ∷ []) (expressions ++ symbols ∷ [])
+pub symbols_more : (all : List (List ℕ)) (before : List Item) (item : Item) (expressions : List (List NumberedSymbol)) (symbols : List NumberedSymbol) → AreSymbols all before expressions → All (IsNumbered all) symbols
+    → (is_read item.kind ≡ true → symbols_of all symbols ≡ expression before item) → AreSymbols all (before ++ item ∷ []) (expressions ++ symbols ∷ [])
 symbols_more all before item expressions symbols a numbers new = record {
   count = (let c = a.count in let p = length_push expressions symbols in let q = length_push before item in omega arith);
   numbered = λ n. by_place n (slice_get (expressions ++ symbols ∷ []) n) refl;
@@ -124,11 +123,11 @@ symbols_more all before item expressions symbols a numbers new = record {
   ];
 }
   where
-    by_place : (n : ℕ) (o : Option (Vec NumberedSymbol Global)) → slice_get (expressions ++ symbols ∷ []) n ≡ o → All (IsNumbered all) (kept_or_none o)
+    by_place : (n : ℕ) (o : Option (List NumberedSymbol)) → slice_get (expressions ++ symbols ∷ []) n ≡ o → All (IsNumbered all) (kept_or_none o)
     by_place n None e = All-nil (IsNumbered all)
     by_place n (Some kept) e = elim (get_cases expressions symbols kept n e) [
       | inl there ↦ subst (λ o. All (IsNumbered all) (kept_or_none o)) there (a.numbered n)
-      | inr last ↦ subst (λ (w : Vec NumberedSymbol Global). All (IsNumbered all) w.items) last.1 numbers
+      | inr last ↦ subst (λ (w : List NumberedSymbol). All (IsNumbered all) w) last.1 numbers
     ]
 
 pub symbols_taken : (all : List (List ℕ)) (before : List Item) (item : Item) (symbols : List NumberedSymbol) (sound : Bool) → (sound ≡ true → is_read item.kind ≡ true → symbols_of all symbols ≡ expression before item)
@@ -207,7 +206,7 @@ labelled_there (x ∷ said) (suc i) e = labelled_there said i e
 pub expression_none : (base : BaseView) (i : ℕ) → (is_sound_at base i && is_labelled (said_at base i).kind) ≡ false → expression_at base i ≡ None
 expression_none base i e = ap (λ b. cond b (Some (expression (before base i) (said_at base i))) None) e
 
-pub expression_some : (all : List (List ℕ)) (base : BaseView) (i : ℕ) (expressions : List (Vec NumberedSymbol Global)) → AreSymbols all (sound_items base.said) expressions → (is_sound_at base i && is_labelled (said_at base i).kind) ≡ true
+pub expression_some : (all : List (List ℕ)) (base : BaseView) (i : ℕ) (expressions : List (List NumberedSymbol)) → AreSymbols all (sound_items base.said) expressions → (is_sound_at base i && is_labelled (said_at base i).kind) ≡ true
     → expression_at base i ≡ Some (symbols_of all (expression_kept expressions i))
 expression_some all base i expressions a e =
     let item = said_at base i in
@@ -218,7 +217,7 @@ expression_some all base i expressions a e =
     ap (λ b. cond b (Some (expression (before base i) item)) None) e ∙ ap Some (ap (λ w. expression w item) (sym (kept_front_at base.said i item there)) ∙ sym (a.each i item (kept_item_at base.said i item there sound) read))
 
 -- what is read of a `$f`, `$e`, `$a` or `$p` is its expression
-pub are_expressions : (all : List (List ℕ)) (before : List Item) (expressions : List (Vec NumberedSymbol Global)) → AreSymbols all before expressions → AreExpressions all before expressions
+pub are_expressions : (all : List (List ℕ)) (before : List Item) (expressions : List (List NumberedSymbol)) → AreSymbols all before expressions → AreExpressions all before expressions
 are_expressions all before expressions a n item e t = a.each n item e (ap (λ b. b || is_disjoint item.kind) t)
 
 -- an item that is not of the sort and is no `$}` leaves the active items of the sort as they are

@@ -1,7 +1,6 @@
 -- The pairs of a frame: those of its variables, in order, that an active `$d` has.
-use Rattle.std.proofs.Common.{◌≡◌, ◌≢◌, ℕ, suc, ◌+◌, ◌<◌, ◌≤◌, Bool, true, false, cond, ◌&&◌, Some, None, List, [], ◌∷◌, ◌++◌, length, map, filter, flat_map, take, drop, slice_get, get_or, Vec, refl, sym, ◌∙◌, ap, subst, append_assoc, append-nil, take-suc, arith, inl, inr, ◌⊎◌}
+use Rattle.std.proofs.Common.{◌≡◌, ◌≢◌, ℕ, suc, ◌+◌, ◌<◌, ◌≤◌, Bool, true, false, cond, ◌&&◌, Some, None, List, [], ◌∷◌, ◌++◌, length, map, filter, flat_map, take, drop, slice_get, get_or, refl, sym, ◌∙◌, ap, subst, append_assoc, append-nil, take-suc, arith, inl, inr, ◌⊎◌}
 use Rattle.std.specs.Prelude.{All, option_to_list}
-use Rattle.std.specs.Global.{Global}
 use Rattle.std.proofs.lemmas.Bool.{or_cases, and_from, false_from_ne_true}
 use Rattle.std.proofs.lemmas.Grind.{flat_map-append}
 use Rattle.std.proofs.lemmas.List.{map-append, map_push}
@@ -42,7 +41,7 @@ second_read all [] = refl
 second_read all (x ∷ []) = refl
 second_read all (x ∷ y ∷ kept) = refl
 
-variables_at : (all : List (List ℕ)) (before : List Item) (item : Item) (expressions : List (Vec NumberedSymbol Global)) (n : ℕ) → AreSound before → AreExpressions all before expressions → In n (mandatory_numbers before item)
+variables_at : (all : List (List ℕ)) (before : List Item) (item : Item) (expressions : List (List NumberedSymbol)) (n : ℕ) → AreSound before → AreExpressions all before expressions → In n (mandatory_numbers before item)
     → symbols_of all (float_variable (active_numbers is_essential_item before) expressions n) ≡ variables_if (is_floating (item_at before n).kind) (expression before (item_at before n))
 variables_at all before item expressions n h a m =
     let r = from_active_number (is_mandatory (mandatory_variables before item)) before n m in
@@ -82,7 +81,7 @@ read_each : {X : Type 0} (all : List (List ℕ)) (f : X → List NumberedSymbol)
 read_each all f [] = refl
 read_each all f (x ∷ xs) = map-append (symbol_of all) (f x) (flat_map f xs) ∙ ap (λ w. symbols_of all (f x) ++ w) (read_each all f xs)
 
-pub variables_are : (all : List (List ℕ)) (before : List Item) (item : Item) (essentials numbers : List ℕ) (expressions : List (Vec NumberedSymbol Global)) → AreSound before → essentials ≡ active_numbers is_essential_item before
+pub variables_are : (all : List (List ℕ)) (before : List Item) (item : Item) (essentials numbers : List ℕ) (expressions : List (List NumberedSymbol)) → AreSound before → essentials ≡ active_numbers is_essential_item before
     → AreExpressions all before expressions → numbers ≡ mandatory_numbers before item → symbols_of all (float_variables essentials expressions numbers) ≡ typed_variables (mandatory_hypotheses before item)
 variables_are all before item essentials numbers expressions h e a m =
     let said = λ (x : Mandatory). variables_if x.floating x.expression in
@@ -101,7 +100,7 @@ second_kept false (x ∷ []) v h = absurd h
 second_kept false (x ∷ y ∷ kept) v (inl e) = inr (inl e)
 second_kept false (x ∷ y ∷ kept) v (inr z) = absurd z
 
-pub variables_numbered : (all : List (List ℕ)) (essentials numbers : List ℕ) (expressions : List (Vec NumberedSymbol Global)) → AreNumbered all expressions → All (IsNumbered all) (float_variables essentials expressions numbers)
+pub variables_numbered : (all : List (List ℕ)) (essentials numbers : List ℕ) (expressions : List (List NumberedSymbol)) → AreNumbered all expressions → All (IsNumbered all) (float_variables essentials expressions numbers)
 variables_numbered all essentials numbers expressions a k d l =
     let v = get_or (float_variables essentials expressions numbers) k d in
     let r = from_flat (float_variable essentials expressions) v numbers (in_at (float_variables essentials expressions numbers) k d l) in
@@ -165,12 +164,12 @@ nothing : (b : Bool) → cond {A = List NumberedSymbol} b [] [] ≡ []
 nothing true = refl
 nothing false = refl
 
-pub nothing_second : (essentials : List ℕ) (expressions : List (Vec NumberedSymbol Global)) (n : ℕ) (symbols so_far : List NumberedSymbol) → symbols ≡ expression_kept expressions n → length symbols ≤ 1 → so_far ≡ so_far ++ float_variable essentials expressions n
+pub nothing_second : (essentials : List ℕ) (expressions : List (List NumberedSymbol)) (n : ℕ) (symbols so_far : List NumberedSymbol) → symbols ≡ expression_kept expressions n → length symbols ≤ 1 → so_far ≡ so_far ++ float_variable essentials expressions n
 nothing_second essentials expressions n symbols so_far e l =
     sym (append-nil so_far)
     ∙ ap (λ w. so_far ++ w) (sym (ap (λ o. cond (is_among essentials n) [] (option_to_list o)) (ap (λ w. slice_get w 1) (sym e) ∙ no_second symbols l) ∙ nothing (is_among essentials n)))
 
-pub variables_more : (essentials : List ℕ) (expressions : List (Vec NumberedSymbol Global)) (numbers : List ℕ) (n : ℕ) → n < length numbers
+pub variables_more : (essentials : List ℕ) (expressions : List (List NumberedSymbol)) (numbers : List ℕ) (n : ℕ) → n < length numbers
     → float_variables essentials expressions (take (n + 1) numbers) ≡ float_variables essentials expressions (take n numbers) ++ float_variable essentials expressions (get_or numbers n 0)
 variables_more essentials expressions numbers n l =
     let z : n + 1 ≡ suc n = omega arith in

@@ -26,10 +26,13 @@ pub mod FramePairs
 pub mod NamedLemmas
 pub mod BaseLemmas
 pub mod PairListLemmas
+pub mod ExpressionLemmas
 pub mod FrameNumbers
 pub mod ResolvingLemmas
 pub mod SameLemmas
 pub mod SameFrames
 pub mod OwnLabels
 pub mod OneBase
+pub mod PieceLemmas
+pub mod SharedPairs
 pub mod SaidLabels

@@ -1,7 +1,6 @@
 -- The numbers of the mandatory hypotheses, as the code collects them.
-use Rattle.std.proofs.Common.{◌≡◌, ℕ, Bool, true, false, cond, Option, Some, None, List, [], ◌++◌, flat_map, slice_get, refl, sym, ◌∙◌, ap, subst, eqb, inl, inr, Vec}
+use Rattle.std.proofs.Common.{◌≡◌, ℕ, Bool, true, false, cond, Option, Some, None, List, [], ◌++◌, flat_map, slice_get, refl, sym, ◌∙◌, ap, subst, eqb, inl, inr}
 use Rattle.std.specs.Prelude.{All, option_to_list}
-use Rattle.std.specs.Global.{Global}
 use Rattle.std.specs.List.{dedup}
 use Rattle.std.specs.List.Sorted.{IsPermutation, IsSorted}
 use Rattle.std.specs.List.Retain.{IsFiltered, DiffersFromLast}
@@ -82,14 +81,14 @@ essential_mandatory before item e s a k m t =
     in_filter (has (active_variables before)) s.name (item.symbols ++ symbols_by is_essential (active before)) (in_right s.name item.symbols (symbols_by is_essential (active before)) (to_symbols is_essential s.name (active before) e a k r.0)) (r.1 ∙ t)
 
 -- what is kept for an active `$e` is its expression
-kept_essential : (all : List (List ℕ)) (before : List Item) (expressions : List (Vec NumberedSymbol Global)) (n : ℕ) (e : Item) → AreSound before → AreExpressions all before expressions → slice_get before n ≡ Some e → is_active_at before n ≡ true → is_essential e.kind ≡ true
+kept_essential : (all : List (List ℕ)) (before : List Item) (expressions : List (List NumberedSymbol)) (n : ℕ) (e : Item) → AreSound before → AreExpressions all before expressions → slice_get before n ≡ Some e → is_active_at before n ≡ true → is_essential e.kind ≡ true
     → symbols_of all (expression_kept expressions n) ≡ expression before e
 kept_essential all before expressions n e h a there s t =
     let labelled = expression_labelled e.kind (essential_expression e.kind t) in
     a n e there labelled ∙ sym (expression_at_number before h n e there s labelled)
 
 -- the item is a sound `$a` or `$p` behind sound items, of which all this is kept
-pub record IsAssertionBehind (all : List (List ℕ)) (before : List Item) (item : Item) (tables : Tables) (kept : List (Vec NumberedSymbol Global)) (own : List NumberedSymbol) : Type 0 where
+pub record IsAssertionBehind (all : List (List ℕ)) (before : List Item) (item : Item) (tables : Tables) (kept : List (List NumberedSymbol)) (own : List NumberedSymbol) : Type 0 where
   pub sound : AreSound before
   pub known : Knows all before tables
   pub expressions : AreExpressions all before kept
@@ -99,10 +98,10 @@ pub record IsAssertionBehind (all : List (List ℕ)) (before : List Item) (item 
   pub symbols : AreRead all (expression before item) own
 
 -- the numbers that are collected
-abbrev pub collected : Tables → List (Vec NumberedSymbol Global) → List ℕ → List NumberedSymbol → List ℕ
+abbrev pub collected : Tables → List (List NumberedSymbol) → List ℕ → List NumberedSymbol → List ℕ
 collected tables expressions essentials own = (essentials ++ float_numbers tables own) ++ flat_map (λ n. float_numbers tables (expression_kept expressions n)) essentials
 
-collected_from : (all : List (List ℕ)) (before : List Item) (item : Item) (tables : Tables) (expressions : List (Vec NumberedSymbol Global)) (own : List NumberedSymbol) → IsAssertionBehind all before item tables expressions own → (n : ℕ)
+collected_from : (all : List (List ℕ)) (before : List Item) (item : Item) (tables : Tables) (expressions : List (List NumberedSymbol)) (own : List NumberedSymbol) → IsAssertionBehind all before item tables expressions own → (n : ℕ)
     → In n (collected tables expressions (active_numbers is_essential_item before) own) → IsHypothesisNumber before item n
 collected_from all before item tables expressions own b n m =
     let essentials = active_numbers is_essential_item before in
@@ -124,7 +123,7 @@ collected_from all before item tables expressions own b n m =
         let there = subst (In r.0) (kept_essential all before expressions p.0 e.0 b.sound b.expressions e.1 e.2 e.3) r.1 in
         inr ((r.0).name, in_contains (r.0).name (mandatory_variables before item) (essential_mandatory before item e.0 r.0 (active_at_number before p.0 e.0 e.1 e.2) e.3 there r.2), r.3)
 
-collected_to : (all : List (List ℕ)) (before : List Item) (item : Item) (tables : Tables) (expressions : List (Vec NumberedSymbol Global)) (own : List NumberedSymbol) → IsAssertionBehind all before item tables expressions own → (n : ℕ)
+collected_to : (all : List (List ℕ)) (before : List Item) (item : Item) (tables : Tables) (expressions : List (List NumberedSymbol)) (own : List NumberedSymbol) → IsAssertionBehind all before item tables expressions own → (n : ℕ)
     → IsHypothesisNumber before item n → In n (collected tables expressions (active_numbers is_essential_item before) own)
 collected_to all before item tables expressions own b n (inl c) =
     let essentials = active_numbers is_essential_item before in
@@ -152,7 +151,7 @@ collected_to all before item tables expressions own b n (inr p) =
         (float_to all before tables (expression_kept expressions at.number) (symbol before name) n b.sound b.known (b.numbered at.number) (subst (In (symbol before name)) (sym same) (in_map (symbol before) name e.symbols q.3)) v last)
 
 -- sorted, and each once
-pub hypotheses_sorted : (tables : Tables) (expressions : List (Vec NumberedSymbol Global)) (essentials : List ℕ) (own : List NumberedSymbol) (numbers sorted kept : List ℕ) → numbers ≡ collected tables expressions essentials own → IsPermutation numbers sorted → IsSorted nat_cmp sorted
+pub hypotheses_sorted : (tables : Tables) (expressions : List (List NumberedSymbol)) (essentials : List ℕ) (own : List NumberedSymbol) (numbers sorted kept : List ℕ) → numbers ≡ collected tables expressions essentials own → IsPermutation numbers sorted → IsSorted nat_cmp sorted
     → IsFiltered (DiffersFromLast eqb) [] sorted kept → (all : List (List ℕ)) (before : List Item) (item : Item) → IsAssertionBehind all before item tables expressions own → essentials ≡ active_numbers is_essential_item before → kept ≡ mandatory_numbers before item
 hypotheses_sorted tables expressions essentials own numbers sorted kept whole moved rising filtered all before item b e =
     let same = dedup_is eqb sorted kept filtered in

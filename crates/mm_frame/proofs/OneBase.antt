@@ -10,10 +10,11 @@ use Rattle.mm_text.specs.declared.word.Word.{Word}
 use Rattle.mm_text.specs.Language.Reading.{HasWords}
 use Rattle.mm_text.specs.Language.Unit.{tokens_of}
 use Rattle.mm_store.specs.declared.item.Item as store
-use Rattle.mm_store.specs.Language.FilesView.{PieceView, FileView, FilesView, piece_texts}
-use Rattle.mm_store.specs.Language.FileFacts.{CanBeRead, HaveOwnKeys, StandsIn}
+use Rattle.mm_store.specs.Language.Pieces.{Pieces, text_in, text_under}
+use Rattle.mm_store.specs.Language.FilesView.{PieceView, KeyedFile, FileView, FilesView, files_in, file_view, piece_view, without_keys, File, plain, plain_file}
+use Rattle.mm_store.specs.Language.FileFacts.{CanBeRead, StandsIn}
 use Rattle.mm_store.specs.Language.Expansion.{IsExpansion}
-use Rattle.mm_store.specs.Language.Keyless.{keyless_piece, keyless_file, keyless_item}
+use Rattle.mm_store.specs.Language.Keyless.{keyless_item}
 use Rattle.mm_frame.specs.Language.Base.{BaseView, IsOfFiles}
 use Rattle.mm_frame.specs.Language.Laws.{AreAlikeBases}
 use Rattle.mm_frame.specs.Language.Item.{Item}
@@ -23,56 +24,53 @@ use Rattle.mm_frame.specs.Language.Statement.{Says, kind_of, item_of}
 pub record ReadingLaws : Type 0 where
   pub words : (text : List ℕ) (a b : List Word) → HasWords text a → HasWords text b → a ≡ b
   pub expansion : (files : List FileView) (top : List ℕ) (a b : List store.Item) → IsExpansion files top a → IsExpansion files top b → a ≡ b
-  pub items : (a b : List FileView) (top : List ℕ) (xs ys : List store.Item) → map keyless_file a ≡ map keyless_file b → IsExpansion a top xs → IsExpansion b top ys → map keyless_item xs ≡ map keyless_item ys
-  pub stand : (files : FilesView) (top : List ℕ) (items : List store.Item) → IsExpansion files.files top items → All (StandsIn files) items
+  pub items : (a b : List FileView) (top : List ℕ) (xs ys : List store.Item) → map without_keys a ≡ map without_keys b → IsExpansion a top xs → IsExpansion b top ys → map keyless_item xs ≡ map keyless_item ys
+  pub stand : (files : FilesView) (top : List ℕ) (items : List store.Item) → IsExpansion (files_in files) top items → All (StandsIn files) items
 
 -- what holds of all elements holds of the one at a place
 kept_at : {X : Type 0} (P : X → Type 0) (xs : List X) (n : ℕ) (x : X) → All P xs → slice_get xs n ≡ Some x → P x
 kept_at P xs n x all there = subst P (get_or_from_slice_get xs n x x there) (all n x (slice_get_within xs n x there))
 
--- lists that a function makes the same have, at one place, what it makes the same
-same_at : {X Y : Type 0} (f : X → Y) (xs ys : List X) (m n : ℕ) (x y : X) → map f xs ≡ map f ys → m ≡ n → slice_get xs m ≡ Some x → slice_get ys n ≡ Some y → f x ≡ f y
-same_at f xs ys m n x y same number at there =
+-- lists that functions make the same have, at one place, what they make the same
+same_at : {X Y Z : Type 0} (f : X → Z) (g : Y → Z) (xs : List X) (ys : List Y) (m n : ℕ) (x : X) (y : Y) → map f xs ≡ map g ys → m ≡ n → slice_get xs m ≡ Some x → slice_get ys n ≡ Some y → f x ≡ g y
+same_at f g xs ys m n x y same number at there =
     let first : slice_get (map f xs) m ≡ Some (f x) = slice_get-map f xs m ∙ ap (option_map f) at in
-    let second : slice_get (map f ys) n ≡ Some (f y) = slice_get-map f ys n ∙ ap (option_map f) there in
-    same_Some (f x) (f y) (cc)
+    let second : slice_get (map g ys) n ≡ Some (g y) = slice_get-map g ys n ∙ ap (option_map g) there in
+    same_Some (f x) (g y) (cc)
 
--- the pieces have the same texts
-same_texts : (f g : FileView) → keyless_file f ≡ keyless_file g → piece_texts f.pieces ≡ piece_texts g.pieces
-same_texts f g same =
-    sym (map-map (λ (piece : PieceView). piece.text) keyless_piece f.pieces)
-    ∙ ap (λ (file : FileView). piece_texts file.pieces) same
-    ∙ map-map (λ (piece : PieceView). piece.text) keyless_piece g.pieces
+-- a file with keys and texts means what it means by its keys
+file_means : (pieces : Pieces) (file : KeyedFile) → without_keys (file_view pieces file) ≡ plain_file pieces file
+file_means pieces file =
+    ap (λ texts. record { name = file.name; pieces = texts; tail = file.tail }) (map-map (λ (piece : PieceView). piece.text) (piece_view pieces) file.keys)
 
--- files that are the same but for keys, in each of which a key has one text
-record AreAlikeFiles (a b : FilesView) : Type 0 where
-  files : map keyless_file a.files ≡ map keyless_file b.files
-  first : HaveOwnKeys a
-  second : HaveOwnKeys b
+means : (files : FilesView) → map without_keys (files_in files) ≡ plain files
+means files =
+    map-map without_keys (file_view files.pieces) files.keyed
+    ∙ (λ i. map (λ file. file_means files.pieces file i) files.keyed)
 
--- and an item of each of the two, the same but for its key
+-- an item of each of two lists of files that mean the same, the same but for its key
 record AreAlike (a b : FilesView) (x y : store.Item) : Type 0 where
-  both : AreAlikeFiles a b
+  files : plain a ≡ plain b
   item : keyless_item x ≡ keyless_item y
   first : StandsIn a x
   second : StandsIn b y
 
-same_file : (a b : FilesView) (x y : store.Item) (f g : FileView) → AreAlike a b x y → slice_get a.files x.file ≡ Some f → slice_get b.files y.file ≡ Some g → keyless_file f ≡ keyless_file g
-same_file a b x y f g alike at there = same_at keyless_file a.files b.files x.file y.file f g alike.both.files (ap (λ (z : store.Item). z.file) alike.item) at there
+-- their pieces have the same text
+same_piece : (a b : FilesView) (x y : store.Item) → AreAlike a b x y → text_under a.pieces x.key.at ≡ text_under b.pieces y.key.at
+same_piece a b x y alike =
+    let s = alike.first in
+    let t = alike.second in
+    let file : plain_file a.pieces s.file ≡ plain_file b.pieces t.file =
+    same_at (plain_file a.pieces) (plain_file b.pieces) a.keyed b.keyed x.file y.file s.file t.file alike.files (ap (λ (z : store.Item). z.file) alike.item) s.there t.there in
+    same_at (text_under a.pieces) (text_under b.pieces) s.file.keys t.file.keys x.piece y.piece x.key.at y.key.at
+    (ap (λ (f : File). f.pieces) file) (ap (λ (z : store.Item). z.piece) alike.item) s.is_key t.is_key
 
--- the texts of their pieces are the same
-same_piece : (a b : FilesView) (x y : store.Item) → AreAlike a b x y → (s : StandsIn a x) (t : StandsIn b y) → s.text ≡ t.text
-same_piece a b x y alike s t =
-    same_at (λ (piece : PieceView). piece.text) s.file.pieces t.file.pieces x.piece y.piece (record { key = x.key; text = s.text }) (record { key = y.key; text = t.text })
-    (same_texts s.file t.file (same_file a b x y s.file t.file alike s.there t.there)) (ap (λ (z : store.Item). z.piece) alike.item) s.is_piece t.is_piece
-
--- an item is read where it stands
-read_there : (files : FilesView) (item : store.Item) → HaveOwnKeys files → (r : CanBeRead files item) (s : StandsIn files item) → r.text ≡ s.text
-read_there files item own r s =
-    own item.key r.text s.text r.live (record { number = item.file; file = s.file; there = s.there; piece = item.piece; is_piece = s.is_piece })
+-- the text under the key of an item is the one that the item is read in
+pub read_under : (files : FilesView) (item : store.Item) → (r : CanBeRead files item) → r.text ≡ text_under files.pieces item.key.at
+read_under files item r = r.live.is_text ∙ sym (ap text_in r.live.held)
 
 same_text : (a b : FilesView) (x y : store.Item) → AreAlike a b x y → (r : CanBeRead a x) (q : CanBeRead b y) → r.text ≡ q.text
-same_text a b x y alike r q = read_there a x alike.both.first r alike.first ∙ same_piece a b x y alike alike.first alike.second ∙ sym (read_there b y alike.both.second q alike.second)
+same_text a b x y alike r q = read_under a x r ∙ same_piece a b x y alike ∙ sym (read_under b y q)
 
 -- the bytes of an item
 abbrev bytes_in : List ℕ → store.Item → List ℕ
@@ -96,12 +94,12 @@ same_said laws a b x y said other alike f g =
 abbrev Stand : FilesView → List store.Item → Type 0
 Stand files items = AllByRecursion (StandsIn files) items
 
-same_all_said : ReadingLaws → (a b : FilesView) (xs ys : List store.Item) (all others : List Item) → AreAlikeFiles a b → Stand a xs → Stand b ys → map keyless_item xs ≡ map keyless_item ys → AllZip (Says a) xs all → AllZip (Says b) ys others → all ≡ others
+same_all_said : ReadingLaws → (a b : FilesView) (xs ys : List store.Item) (all others : List Item) → plain a ≡ plain b → Stand a xs → Stand b ys → map keyless_item xs ≡ map keyless_item ys → AllZip (Says a) xs all → AllZip (Says b) ys others → all ≡ others
 same_all_said laws a b [] [] [] [] both s t items f g = refl
 same_all_said laws a b (x ∷ xs) (y ∷ ys) (said ∷ all) (other ∷ others) both s t items f g =
     let item : keyless_item x ≡ keyless_item y = cc in
     let rest : map keyless_item xs ≡ map keyless_item ys = cc in
-    let first : said ≡ other = same_said laws a b x y said other (record { both = both; item = item; first = s.0; second = t.0 }) f.0 g.0 in
+    let first : said ≡ other = same_said laws a b x y said other (record { files = both; item = item; first = s.0; second = t.0 }) f.0 g.0 in
     let later : all ≡ others = same_all_said laws a b xs ys all others both s.1 t.1 rest f.1 g.1 in
     cc
 same_all_said laws a b [] [] [] (other ∷ others) both s t items f g = absurd g
@@ -118,12 +116,11 @@ stand laws files top base is = recursion_from_All (StandsIn files) base.found (l
 
 pub said_same : ReadingLaws → (a b : FilesView) (top : List ℕ) (base other : BaseView) → AreAlikeBases a b top base other → (map keyless_item base.found ≡ map keyless_item other.found) × (base.said ≡ other.said)
 said_same laws a b top base other s =
-    let items = laws.items a.files b.files top base.found other.found s.files s.is_base.expansion s.is_other.expansion in
-    let both : AreAlikeFiles a b = record { files = s.files; first = s.keys; second = s.other_keys } in
-    (items, same_all_said laws a b base.found other.found base.said other.said both (stand laws a top base s.is_base) (stand laws b top other s.is_other) items s.is_base.each s.is_other.each)
+    let items = laws.items (files_in a) (files_in b) top base.found other.found (means a ∙ s.files ∙ sym (means b)) s.is_base.expansion s.is_other.expansion in
+    (items, same_all_said laws a b base.found other.found base.said other.said s.files (stand laws a top base s.is_base) (stand laws b top other s.is_other) items s.is_base.each s.is_other.each)
 
-pub one_base : ReadingLaws → (files : FilesView) (top : List ℕ) (base other : BaseView) → HaveOwnKeys files → IsOfFiles files top base → IsOfFiles files top other → base ≡ other
-one_base laws files top base other keys f g =
-    let found = laws.expansion files.files top base.found other.found f.expansion g.expansion in
-    let said = (said_same laws files files top base other (record { files = refl; keys = keys; other_keys = keys; is_base = f; is_other = g })).1 in
+pub one_base : ReadingLaws → (files : FilesView) (top : List ℕ) (base other : BaseView) → IsOfFiles files top base → IsOfFiles files top other → base ≡ other
+one_base laws files top base other f g =
+    let found = laws.expansion (files_in files) top base.found other.found f.expansion g.expansion in
+    let said = (said_same laws files files top base other (record { files = refl; is_base = f; is_other = g })).1 in
     λ i. record { found = found i; said = said i }

@@ -1,16 +1,17 @@
 -- The active pairs are those behind the items up to the last active `$d`, and the lists that are made of them.
-use Rattle.std.proofs.Common.{◌≡◌, ℕ, zero, suc, ◌+◌, ◌-◌, ◌<◌, ◌≤◌, Bool, true, false, cond, ◌&&◌, ◌||◌, Option, Some, None, List, [], ◌∷◌, ◌++◌, length, flat_map, take, drop, slice_get, get_or, nat_eq, Vec, refl, sym, ◌∙◌, ap, subst, append-nil, arith, length-append, inl, inr}
+use Rattle.std.proofs.Common.{◌≡◌, ℕ, zero, suc, ◌+◌, ◌-◌, ◌<◌, ◌≤◌, Bool, true, false, cond, ◌&&◌, ◌||◌, Option, Some, None, List, [], ◌∷◌, ◌++◌, length, flat_map, take, drop, slice_get, get_or, nat_eq, Vec, refl, sym, ◌∙◌, ap, subst, append-nil, arith, length-append, length-take-le, inl, inr}
 use native.Mathlib.Decide.{dec_lt}
 use Rattle.std.specs.Prelude.{All, Contains, Decides, ◌⊎◌, ◌↔◌, leb, map}
 use Rattle.std.proofs.lemmas.Simd.{map-map}
 use Rattle.std.proofs.lemmas.List.{map-append}
+use Rattle.std.proofs.lemmas.Grind.{flat_map-append}
 use Rattle.std.specs.Cmp.{decided, unsigned_Decides, booleans_Decides}
 use Rattle.std.specs.Cmp.Lexicographic.{pointwise, pointwise_decides}
 use Rattle.std.proofs.Math.Bool.{beq}
 use Rattle.std.specs.List.{dedup}
 use Rattle.std.specs.List.Sorted.{IsPermutation}
 use Rattle.std.specs.List.Retain.{IsFiltered, DiffersFromLast}
-use Rattle.std.proofs.lemmas.List.Elements.{All-nil, All-append, All-map, All-contains, All-contains_itself}
+use Rattle.std.proofs.lemmas.List.Elements.{Contains-append_left, Contains-append_right, Contains-append_cases, All-nil, All-append, All-map, All-contains, All-contains_itself}
 use Rattle.std.proofs.lemmas.List.Sorted.{IsPermutation-sym, Contains-permutation}
 use Rattle.std.proofs.lemmas.List.Filters.{dedup_is}
 use Rattle.std.proofs.lemmas.List.Kept.{Contains-dedup, Contains-from_dedup}
@@ -29,13 +30,14 @@ use Rattle.mm_frame.specs.Language.Framing.{expression, pairs_of, active_pairs}
 use Rattle.mm_frame.specs.Code.LastItems.{is_active_at, is_disjoint_item, IsRising}
 use Rattle.mm_frame.specs.Code.CodeSymbols.{symbol_of, symbols_of, pair_of, kept_pairs, IsNumbered, IsPairNumbered, ArePairsRead, AreSamePairsRead}
 use Rattle.mm_frame.specs.Code.KeptSymbols.{expression_kept, AreSymbols, AreNumbered}
-use Rattle.mm_frame.specs.Code.KeptPairLists.{pairs_among, with_low_first, pairs_or_none, list_kept, IsThere, IsList, list_made, IsMadeFor, AreMade, KeepsLists, HasActivePairs}
+use Rattle.mm_frame.specs.Code.KeptPairLists.{pairs_among, with_low_first, pairs_or_none, list_kept, IsThere, IsList, list_made, IsMadeFor, AreMade, KeepsLists, IsFront, HasEach, HasSame}
 use Rattle.mm_frame.specs.Code.KeptBase.{AreRows, TellsPairs, is_told_proof}
-use Rattle.mm_frame.proofs.Members.{In, in_get, get_in, in_contains, contains_in, in_map, from_map}
+use Rattle.mm_frame.proofs.Members.{In, in_left, in_right, in_cases, in_get, get_in, in_contains, contains_in, in_map, from_map}
 use Rattle.mm_frame.proofs.Scopes.{stays_join, stays_front}
 use Rattle.mm_frame.proofs.SoundItems.{sound_take}
 use Rattle.mm_frame.proofs.BaseLemmas.{rows_more}
-use Rattle.mm_frame.proofs.HypothesisNumbers.{to_active_number, from_active_number, active_numbers_rise, same_rising}
+use Rattle.mm_frame.proofs.HypothesisNumbers.{to_active_number, from_active_number, active_numbers_rise, same_rising, above, behind}
+use Rattle.mm_frame.proofs.Rising.{rising_front}
 use Rattle.mm_frame.proofs.PairLemmas.{pairs_at, flat_same, active_pairs_by_numbers}
 
 -- the last of rising numbers is the greatest
@@ -76,9 +78,15 @@ number_of_front test a d s m h =
     let stayed : is_active_at (a ++ d) m ≡ true = ap stays (drop-append-le (suc m) a d (omega arith)) ∙ stays_join (drop (suc m) a) d r.2 s in
     to_active_number test (a ++ d) m r.0 (get_join a d m r.0 r.1) stayed r.3
 
--- the numbers of the active items are those of the items up to the last of them
-numbers_to_last : (test : Item → Bool) (before : List Item) (n : ℕ) → slice_get (active_numbers test before) (length (active_numbers test before) - 1) ≡ Some n → active_numbers test (take (suc n) before) ≡ active_numbers test before
-numbers_to_last test before n e = same_rising (active_numbers test a) (active_numbers test before) (active_numbers_rise test a) (active_numbers_rise test before) to from
+-- of rising numbers those of a beginning are less than those behind it
+front_below : (numbers rest : List ℕ) (n m : ℕ) → IsRising (numbers ++ rest) → In n numbers → In m rest → n < m
+front_below [] rest n m r h k = absurd h
+front_below (x ∷ xs) rest n m r (inl e) k = let l = above x (xs ++ rest) m r (in_right m xs rest k) in omega arith
+front_below (x ∷ xs) rest n m r (inr h) k = front_below xs rest n m (behind x (xs ++ rest) r) h k
+
+-- the first numbers of the active items are those of the active ones among the items up to the last of them
+front_numbers : (test : Item → Bool) (before : List Item) (numbers rest : List ℕ) (n : ℕ) → numbers ++ rest ≡ active_numbers test before → slice_get numbers (length numbers - 1) ≡ Some n → active_numbers test (take (suc n) before) ≡ numbers
+front_numbers test before numbers rest n w e = same_rising (active_numbers test a) numbers (active_numbers_rise test a) rising to from
   where
     a : List Item
     a = take (suc n) before
@@ -89,18 +97,38 @@ numbers_to_last test before n e = same_rising (active_numbers test a) (active_nu
     whole : a ++ d ≡ before
     whole = take-append-drop (suc n) before
 
-    to : (m : ℕ) → In m (active_numbers test a) → In m (active_numbers test before)
-    to m h =
-        let numbers = active_numbers test before in
-        let r = from_active_number test before n (get_in n numbers (length numbers - 1) e) in
-        subst (λ w. In m (active_numbers test w)) whole (number_of_front test a d r.2 m h)
+    rise : IsRising (numbers ++ rest)
+    rise = subst IsRising (sym w) (active_numbers_rise test before)
 
-    from : (m : ℕ) → In m (active_numbers test before) → In m (active_numbers test a)
+    rising : IsRising numbers
+    rising = rising_front numbers rest rise
+
+    active_one : (m : ℕ) → In m numbers → In m (active_numbers test before)
+    active_one m h = subst (In m) w (in_left m numbers rest h)
+
+    last : In n numbers
+    last = get_in n numbers (length numbers - 1) e
+
+    to_by : (m : ℕ) → m < suc n → In m numbers ⊎ In m rest → In m numbers
+    to_by m l (inl h) = h
+    to_by m l (inr h) = let k = front_below numbers rest n m rise last h in absurd (omega arith)
+
+    to : (m : ℕ) → In m (active_numbers test a) → In m numbers
+    to m h =
+        let r = from_active_number test before n (active_one n last) in
+        let here = from_active_number test a m h in
+        let within = slice_get_within a m here.0 here.1 in
+        let reached = slice_get_within before n r.0 r.1 in
+        let count = length-take-le (suc n) before (omega arith) in
+        let all = subst (λ w. In m (active_numbers test w)) whole (number_of_front test a d r.2 m h) in
+        to_by m (omega arith) (in_cases m numbers rest (subst (In m) (sym w) all))
+
+    from : (m : ℕ) → In m numbers → In m (active_numbers test a)
     from m h =
-        let r = from_active_number test before m h in
-        let l = at_most_last (active_numbers test before) n (active_numbers_rise test before) e m h in
+        let r = from_active_number test before m (active_one m h) in
+        let l = at_most_last numbers n rising e m h in
         let there = get_take before m (suc n) r.0 (omega arith) r.1 in
-        let w = slice_get_within a m r.0 there in
+        let within = slice_get_within a m r.0 there in
         let stayed : stays (drop (suc m) a ++ d) ≡ true = ap stays (sym (drop-append-le (suc m) a d (omega arith)) ∙ ap (drop (suc m)) whole) ∙ r.2 in
         to_active_number test a m r.0 there (stays_front (drop (suc m) a) d stayed) r.3
 
@@ -115,45 +143,44 @@ pairs_of_front a d m h =
     let same = here ∙ sym there in
     λ i. pairs_of (expression (sym front i) (same i))
 
-pub pairs_to_last : (before : List Item) → AreSound before → (n : ℕ) → slice_get (active_numbers is_disjoint_item before) (length (active_numbers is_disjoint_item before) - 1) ≡ Some n → active_pairs (take (suc n) before) ≡ active_pairs before
-pairs_to_last before h n e =
-    let a = take (suc n) before in
-    let d = drop (suc n) before in
-    let front = active_pairs_by_numbers a (sound_take before (suc n) h) in
+-- the active pairs behind so many of the items are those of their active `$d`
+pub front_pairs : (before : List Item) (numbers : List ℕ) (count : ℕ) → AreSound before → IsFront before numbers count → active_pairs (take count before) ≡ flat_map (pairs_at before) numbers
+front_pairs before numbers count h front =
+    let a = take count before in
+    let d = drop count before in
     let same = flat_same (pairs_at a) (pairs_at (a ++ d)) (active_numbers is_disjoint_item a) (λ m k. pairs_of_front a d m k) in
-    let whole = take-append-drop (suc n) before in
-    let numbers = numbers_to_last is_disjoint_item before n e in
-    front ∙ same ∙ (λ i. flat_map (pairs_at (whole i)) (numbers i)) ∙ sym (active_pairs_by_numbers before h)
+    let whole = take-append-drop count before in
+    active_pairs_by_numbers a (sound_take before count h) ∙ same ∙ (λ i. flat_map (pairs_at (whole i)) (sym front.active i))
 
--- so the items up to the last active `$d` have the active pairs, and where none is active there are none
+-- so the items up to the last active `$d` have the active pairs
+pub whole_front : (before : List Item) (numbers : List ℕ) (count : ℕ) → AreSound before → numbers ≡ active_numbers is_disjoint_item before → IsFront before numbers count → active_pairs (take count before) ≡ active_pairs before
+whole_front before numbers count h e front = front_pairs before numbers count h front ∙ ap (flat_map (pairs_at before)) e ∙ sym (active_pairs_by_numbers before h)
+
+-- the items up to the last of the first active `$d`, and none where there is none
 abbrev pub number_last : List ℕ → Option ℕ
 number_last numbers = slice_get numbers (length numbers - 1)
 
-pub count_of_last : (before : List Item) (numbers : List ℕ) (n count : ℕ) → AreSound before → numbers ≡ active_numbers is_disjoint_item before → number_last numbers ≡ Some n → count ≡ n + 1 → HasActivePairs before count
-count_of_last before numbers n count h e last c =
-    let there = ap number_last (sym e) ∙ last in
-    let all = active_numbers is_disjoint_item before in
-    let r = from_active_number is_disjoint_item before n (get_in n all (length all - 1) there) in
-    let w = slice_get_within before n r.0 r.1 in
+-- the number of an active item is that of something
+number_there : (before : List Item) (numbers rest : List ℕ) (n : ℕ) → numbers ++ rest ≡ active_numbers is_disjoint_item before → number_last numbers ≡ Some n → n < length before
+number_there before numbers rest n e last =
+    let r = from_active_number is_disjoint_item before n (subst (In n) e (in_left n numbers rest (get_in n numbers (length numbers - 1) last))) in
+    slice_get_within before n r.0 r.1
+
+pub count_of_last : (before : List Item) (numbers rest : List ℕ) (n count : ℕ) → numbers ++ rest ≡ active_numbers is_disjoint_item before → number_last numbers ≡ Some n → count ≡ n + 1 → IsFront before numbers count
+count_of_last before numbers rest n count e last c =
+    let w = number_there before numbers rest n e last in
     let z : suc n ≡ count = omega arith in
     record {
       within = omega arith;
-      pairs = ap (λ k. active_pairs (take k before)) (sym z) ∙ pairs_to_last before h n there;
+      active = sym (front_numbers is_disjoint_item before numbers rest n e last) ∙ ap (λ k. active_numbers is_disjoint_item (take k before)) z;
     }
 
-pub count_of_none : (before : List Item) (numbers : List ℕ) → AreSound before → numbers ≡ active_numbers is_disjoint_item before → number_last numbers ≡ None → HasActivePairs before 0
-count_of_none before numbers h e last = record {
-  within = omega arith;
-  pairs = sym (active_pairs_by_numbers before h ∙ ap (flat_map (pairs_at before)) (sym e ∙ none_last numbers last));
-}
+pub count_of_none : (before : List Item) (numbers : List ℕ) → number_last numbers ≡ None → IsFront before numbers 0
+count_of_none before numbers last = record { within = omega arith; active = none_last numbers last }
 
--- the number of an active item is that of something kept
-pub number_within : (all : List (List ℕ)) (before : List Item) (expressions : List (Vec NumberedSymbol Global)) (numbers : List ℕ) (n : ℕ) → AreSymbols all before expressions → numbers ≡ active_numbers is_disjoint_item before → number_last numbers ≡ Some n → n < length expressions
-number_within all before expressions numbers n a e last =
-    let there = ap number_last (sym e) ∙ last in
-    let active = active_numbers is_disjoint_item before in
-    let r = from_active_number is_disjoint_item before n (get_in n active (length active - 1) there) in
-    let w = slice_get_within before n r.0 r.1 in
+pub number_within : (all : List (List ℕ)) (before : List Item) (expressions : List (List NumberedSymbol)) (numbers rest : List ℕ) (n : ℕ) → AreSymbols all before expressions → numbers ++ rest ≡ active_numbers is_disjoint_item before → number_last numbers ≡ Some n → n < length expressions
+number_within all before expressions numbers rest n a e last =
+    let w = number_there before numbers rest n e last in
     let c = a.count in
     omega arith
 
@@ -177,23 +204,27 @@ among_numbered all (x ∷ xs) h =
     All-append (IsPairNumbered all) (map (λ y. (x, y)) xs) (in_turn xs) (All-map (IsPairNumbered all) (λ y. (x, y)) xs (λ k d l. (h 0 x (omega arith), rest k d l))) (among_numbered all xs rest)
 
 -- the pairs of what is kept for the active `$d` are the active pairs
-abbrev in_turn_at : List (Vec NumberedSymbol Global) → ℕ → List (NumberedSymbol × NumberedSymbol)
+abbrev in_turn_at : List (List NumberedSymbol) → ℕ → List (NumberedSymbol × NumberedSymbol)
 in_turn_at expressions n = in_turn (expression_kept expressions n)
 
-all_read : (all : List (List ℕ)) (expressions : List (Vec NumberedSymbol Global)) (numbers : List ℕ) → kept_pairs all (flat_map (in_turn_at expressions) numbers) ≡ flat_map (λ n. pairs_of (symbols_of all (expression_kept expressions n))) numbers
+all_read : (all : List (List ℕ)) (expressions : List (List NumberedSymbol)) (numbers : List ℕ) → kept_pairs all (flat_map (in_turn_at expressions) numbers) ≡ flat_map (λ n. pairs_of (symbols_of all (expression_kept expressions n))) numbers
 all_read all expressions [] = refl
 all_read all expressions (n ∷ numbers) =
     map-append (pair_of all) (in_turn_at expressions n) (flat_map (in_turn_at expressions) numbers) ∙ (λ i. among_read all (expression_kept expressions n) i ++ all_read all expressions numbers i)
 
-all_numbered : (all : List (List ℕ)) (expressions : List (Vec NumberedSymbol Global)) (numbers : List ℕ) → AreNumbered all expressions → All (IsPairNumbered all) (flat_map (in_turn_at expressions) numbers)
+all_numbered : (all : List (List ℕ)) (expressions : List (List NumberedSymbol)) (numbers : List ℕ) → AreNumbered all expressions → All (IsPairNumbered all) (flat_map (in_turn_at expressions) numbers)
 all_numbered all expressions [] h = All-nil (IsPairNumbered all)
 all_numbered all expressions (n ∷ numbers) h =
     All-append (IsPairNumbered all) (in_turn_at expressions n) (flat_map (in_turn_at expressions) numbers) (among_numbered all (expression_kept expressions n) (h n)) (all_numbered all expressions numbers h)
 
-pairs_kept : (all : List (List ℕ)) (before : List Item) (expressions : List (Vec NumberedSymbol Global)) (numbers : List ℕ) → AreSound before → AreSymbols all before expressions → numbers ≡ active_numbers is_disjoint_item before
-    → ArePairsRead all (active_pairs before) (flat_map (in_turn_at expressions) numbers)
-pairs_kept all before expressions numbers h a e = record {
-  pairs = all_read all expressions numbers ∙ ap (flat_map read_at) e ∙ flat_same read_at (pairs_at before) (active_numbers is_disjoint_item before) same ∙ sym (active_pairs_by_numbers before h);
+-- these are numbers of `$d`
+abbrev AreDisjoint : List Item → List ℕ → Type 0
+AreDisjoint before numbers = (n : ℕ) → In n numbers → (x : Item) × (slice_get before n ≡ Some x) × (is_disjoint x.kind ≡ true)
+
+pairs_kept : (all : List (List ℕ)) (before : List Item) (expressions : List (List NumberedSymbol)) (numbers : List ℕ) → AreSymbols all before expressions → AreDisjoint before numbers
+    → ArePairsRead all (flat_map (pairs_at before) numbers) (flat_map (in_turn_at expressions) numbers)
+pairs_kept all before expressions numbers a are = record {
+  pairs = all_read all expressions numbers ∙ flat_same read_at (pairs_at before) numbers same;
   numbered = all_numbered all expressions numbers a.numbered;
 }
   where
@@ -204,11 +235,11 @@ pairs_kept all before expressions numbers h a e = record {
     read_disjoint true disjoint t = refl
     read_disjoint false disjoint t = t
 
-    same : (n : ℕ) → In n (active_numbers is_disjoint_item before) → read_at n ≡ pairs_at before n
+    same : (n : ℕ) → In n numbers → read_at n ≡ pairs_at before n
     same n k =
-        let r = from_active_number is_disjoint_item before n k in
+        let r = are n k in
         let there = get_or_from_slice_get before n r.0 passed r.1 in
-        let read = read_disjoint (is_labelled (r.0).kind) (is_disjoint (r.0).kind) r.3 in
+        let read = read_disjoint (is_labelled (r.0).kind) (is_disjoint (r.0).kind) r.2 in
         ap pairs_of (a.each n r.0 r.1 read ∙ ap (expression (take n before)) (sym there))
 
 -- the pairs of a list with the lower number first, in whatever order and whatever often, are the same
@@ -285,12 +316,11 @@ pair_decides p q =
     (λ t. let r = d.0 t in let first = r.0 in let second = r.1 in λ i. (first i, second i), λ e. d.1 (λ i. (e i).0, λ i. (e i).1))
 
 -- sorted, and each once
-sorted_read : (all : List (List ℕ)) (said : List (Symbol × Symbol)) (raw listed sorted kept : List (NumberedSymbol × NumberedSymbol)) → ArePairsRead all said raw → listed ≡ map with_low_first raw → IsPermutation listed sorted → IsFiltered (DiffersFromLast is_same_pair) [] sorted kept
-    → AreSamePairsRead all said kept
-sorted_read all said raw listed sorted kept read whole moved filtered = same_read all said raw kept read (λ p. (
-  λ h. subst (In p) whole (contains_in p listed (Contains-permutation sorted listed p (IsPermutation-sym listed sorted moved) (Contains-from_dedup is_same_pair sorted p (subst (λ w. Contains w p) is (in_contains p kept h))))),
-  λ h. contains_in p kept (subst (λ w. Contains w p) (sym is) (Contains-dedup (decided is_same_pair pair_decides) (λ a b. (pair_decides a b).0) sorted p (Contains-permutation listed sorted p moved (in_contains p listed (subst (In p) (sym whole) h))))),
-))
+pub sorted_once : (listed sorted kept : List (NumberedSymbol × NumberedSymbol)) → IsPermutation listed sorted → IsFiltered (DiffersFromLast is_same_pair) [] sorted kept → HasSame listed kept
+sorted_once listed sorted kept moved filtered = (
+  λ p h. subst (λ w. Contains w p) (sym is) (Contains-dedup (decided is_same_pair pair_decides) (λ a b. (pair_decides a b).0) sorted p (Contains-permutation listed sorted p moved h)),
+  λ p h. Contains-permutation sorted listed p (IsPermutation-sym listed sorted moved) (Contains-from_dedup is_same_pair sorted p (subst (λ w. Contains w p) is h)),
+)
   where
     is : kept ≡ dedup is_same_pair sorted
     is = dedup_is is_same_pair sorted kept filtered
@@ -300,14 +330,93 @@ low_among : (xs : List NumberedSymbol) → pairs_among xs ≡ map with_low_first
 low_among [] = refl
 low_among (x ∷ xs) = (λ i. sym (map-map with_low_first (λ y. (x, y)) xs) i ++ low_among xs i) ∙ sym (map-append with_low_first (map (λ y. (x, y)) xs) (in_turn xs))
 
-low_all : (expressions : List (Vec NumberedSymbol Global)) (numbers : List ℕ) → flat_map (λ n. pairs_among (expression_kept expressions n)) numbers ≡ map with_low_first (flat_map (in_turn_at expressions) numbers)
+low_all : (expressions : List (List NumberedSymbol)) (numbers : List ℕ) → flat_map (λ n. pairs_among (expression_kept expressions n)) numbers ≡ map with_low_first (flat_map (in_turn_at expressions) numbers)
 low_all expressions [] = refl
 low_all expressions (n ∷ numbers) = (λ i. low_among (expression_kept expressions n) i ++ low_all expressions numbers i) ∙ sym (map-append with_low_first (in_turn_at expressions n) (flat_map (in_turn_at expressions) numbers))
 
-pub pairs_sorted : (all : List (List ℕ)) (before : List Item) (expressions : List (Vec NumberedSymbol Global)) (numbers : List ℕ) (listed sorted kept : List (NumberedSymbol × NumberedSymbol)) → AreSound before → AreSymbols all before expressions → numbers ≡ active_numbers is_disjoint_item before
-    → listed ≡ flat_map (λ n. pairs_among (expression_kept expressions n)) numbers → IsPermutation listed sorted → IsFiltered (DiffersFromLast is_same_pair) [] sorted kept → AreSamePairsRead all (active_pairs before) kept
-pairs_sorted all before expressions numbers listed sorted kept h a e whole moved filtered =
-    sorted_read all (active_pairs before) (flat_map (in_turn_at expressions) numbers) listed sorted kept (pairs_kept all before expressions numbers h a e) (whole ∙ low_all expressions numbers) moved filtered
+low_read : (all : List (List ℕ)) (before : List Item) (expressions : List (List NumberedSymbol)) (numbers : List ℕ) → AreSymbols all before expressions → AreDisjoint before numbers
+    → AreSamePairsRead all (flat_map (pairs_at before) numbers) (flat_map (λ n. pairs_among (expression_kept expressions n)) numbers)
+low_read all before expressions numbers a are =
+    let listed = flat_map (λ n. pairs_among (expression_kept expressions n)) numbers in
+    let low = low_all expressions numbers in
+    same_read all (flat_map (pairs_at before) numbers) (flat_map (in_turn_at expressions) numbers) listed (pairs_kept all before expressions numbers a are) (λ p. (λ h. subst (In p) low h, λ h. subst (In p) (sym low) h))
+
+pub active_read : (all : List (List ℕ)) (before : List Item) (expressions : List (List NumberedSymbol)) (numbers : List ℕ) → AreSymbols all before expressions → ((n : ℕ) → In n numbers → In n (active_numbers is_disjoint_item before))
+    → AreSamePairsRead all (flat_map (pairs_at before) numbers) (flat_map (λ n. pairs_among (expression_kept expressions n)) numbers)
+active_read all before expressions numbers a active = low_read all before expressions numbers a (λ n h. let r = from_active_number is_disjoint_item before n (active n h) in (r.0, r.1, r.3))
+
+pub front_read : (all : List (List ℕ)) (before : List Item) (expressions : List (List NumberedSymbol)) (numbers : List ℕ) (count : ℕ) → AreSound before → AreSymbols all before expressions → IsFront before numbers count
+    → AreSamePairsRead all (active_pairs (take count before)) (flat_map (λ n. pairs_among (expression_kept expressions n)) numbers)
+front_read all before expressions numbers count h a front =
+    let listed = flat_map (λ n. pairs_among (expression_kept expressions n)) numbers in
+    subst (λ w. AreSamePairsRead all w listed) (sym (front_pairs before numbers count h front)) (low_read all before expressions numbers a there)
+  where
+    there : AreDisjoint before numbers
+    there n k =
+        let r = from_active_number is_disjoint_item (take count before) n (subst (In n) front.active k) in
+        (r.0, subst (λ w. slice_get w n ≡ Some r.0) (take-append-drop count before) (get_join (take count before) (drop count before) n r.0 r.1), r.3)
+
+-- the pairs behind so many of the items, with those of the `$d` behind, are the active ones
+pub front_and_own : (before : List Item) (outer own : List ℕ) (count : ℕ) → AreSound before → outer ++ own ≡ active_numbers is_disjoint_item before → IsFront before outer count → active_pairs (take count before) ++ flat_map (pairs_at before) own ≡ active_pairs before
+front_and_own before outer own count h e front =
+    ap (λ w. w ++ flat_map (pairs_at before) own) (front_pairs before outer count h front) ∙ sym (flat_map-append (pairs_at before) outer own) ∙ ap (flat_map (pairs_at before)) e ∙ sym (active_pairs_by_numbers before h)
+
+-- pairs of a list that has each of some pairs, and of two lists behind one another
+pair_more : (all : List (List ℕ)) (xs ys : List (NumberedSymbol × NumberedSymbol)) (x y : Symbol) → HasEach ys xs → ArePair (kept_pairs all xs) x y → ArePair (kept_pairs all ys) x y
+pair_more all xs ys x y each are = by are
+  where
+    one : (x y : Symbol) → Contains (kept_pairs all xs) (x, y) → ArePair (kept_pairs all ys) x y
+    one x y c =
+        let r = from_map (pair_of all) (x, y) xs (contains_in (x, y) (kept_pairs all xs) c) in
+        read_pair all ys r.0 x y r.2 (contains_in r.0 ys (each r.0 (in_contains r.0 xs r.1)))
+
+    by : ArePair (kept_pairs all xs) x y → ArePair (kept_pairs all ys) x y
+    by (inl c) = one x y c
+    by (inr c) = turned_pair (kept_pairs all ys) y x (one y x c)
+
+pair_left : (ps qs : List (Symbol × Symbol)) (x y : Symbol) → ArePair ps x y → ArePair (ps ++ qs) x y
+pair_left ps qs x y (inl c) = inl (Contains-append_left ps qs (x, y) c)
+pair_left ps qs x y (inr c) = inr (Contains-append_left ps qs (y, x) c)
+
+pair_right : (ps qs : List (Symbol × Symbol)) (x y : Symbol) → ArePair qs x y → ArePair (ps ++ qs) x y
+pair_right ps qs x y (inl c) = inl (Contains-append_right ps qs (x, y) c)
+pair_right ps qs x y (inr c) = inr (Contains-append_right ps qs (y, x) c)
+
+pair_parts : (ps qs : List (Symbol × Symbol)) (x y : Symbol) → ArePair (ps ++ qs) x y → ArePair ps x y ⊎ ArePair qs x y
+pair_parts ps qs x y (inl c) = elim (Contains-append_cases ps qs (x, y) c) [ inl a ↦ inl (inl a) | inr b ↦ inr (inl b) ]
+pair_parts ps qs x y (inr c) = elim (Contains-append_cases ps qs (y, x) c) [ inl a ↦ inl (inr a) | inr b ↦ inr (inr b) ]
+
+-- a list with the same pairs reads the same
+pub same_members : (all : List (List ℕ)) (said : List (Symbol × Symbol)) (xs ys : List (NumberedSymbol × NumberedSymbol)) → HasSame xs ys → AreSamePairsRead all said xs → AreSamePairsRead all said ys
+same_members all said xs ys same read = record {
+  pairs = λ x y. (λ h. (read.pairs x y).0 (pair_more all ys xs x y same.1 h), λ h. pair_more all xs ys x y same.0 ((read.pairs x y).1 h));
+  numbered = λ k d l. All-contains (IsPairNumbered all) xs (get_or ys k d) read.numbered (same.1 (get_or ys k d) (All-contains_itself ys k d l));
+}
+
+-- two lists behind one another
+both_read : (all : List (List ℕ)) (said added : List (Symbol × Symbol)) (base own : List (NumberedSymbol × NumberedSymbol)) → AreSamePairsRead all said base → AreSamePairsRead all added own → AreSamePairsRead all (said ++ added) (own ++ base)
+both_read all said added base own b o = record {
+  pairs = λ x y. (λ h. from x y (pair_parts (kept_pairs all own) (kept_pairs all base) x y (subst (λ w. ArePair w x y) split h)), λ h. subst (λ w. ArePair w x y) (sym split) (to x y (pair_parts said added x y h)));
+  numbered = All-append (IsPairNumbered all) own base o.numbered b.numbered;
+}
+  where
+    split : kept_pairs all (own ++ base) ≡ kept_pairs all own ++ kept_pairs all base
+    split = map-append (pair_of all) own base
+
+    from : (x y : Symbol) → ArePair (kept_pairs all own) x y ⊎ ArePair (kept_pairs all base) x y → ArePair (said ++ added) x y
+    from x y (inl h) = pair_right said added x y ((o.pairs x y).0 h)
+    from x y (inr h) = pair_left said added x y ((b.pairs x y).0 h)
+
+    to : (x y : Symbol) → ArePair said x y ⊎ ArePair added x y → ArePair (kept_pairs all own ++ kept_pairs all base) x y
+    to x y (inl h) = pair_right (kept_pairs all own) (kept_pairs all base) x y ((b.pairs x y).1 h)
+    to x y (inr h) = pair_left (kept_pairs all own) (kept_pairs all base) x y ((o.pairs x y).1 h)
+
+pub joined_read : (all : List (List ℕ)) (said added : List (Symbol × Symbol)) (base own kept : List (NumberedSymbol × NumberedSymbol)) → AreSamePairsRead all said base → AreSamePairsRead all added own → HasSame (own ++ base) kept → AreSamePairsRead all (said ++ added) kept
+joined_read all said added base own kept b o same = same_members all (said ++ added) (own ++ base) kept same (both_read all said added base own b o)
+
+-- a list that has each of the others is of both
+pub shared_same : (base own : List (NumberedSymbol × NumberedSymbol)) → HasEach base own → HasSame (own ++ base) base
+shared_same base own each = (λ p h. elim (Contains-append_cases own base p h) [ inl a ↦ each p a | inr b ↦ b ], λ p h. Contains-append_right own base p h)
 
 -- a list that is there stays there
 pub list_stays : (all : List (List ℕ)) (old new : PairLists) (k : ℕ) (pairs : List (Symbol × Symbol)) → KeepsLists old new → IsList all old k pairs → IsList all new k pairs
@@ -333,12 +442,12 @@ made_more all before later lists m count k e =
     }
 
 -- one more list
-pub made_one_more : (all : List (List ℕ)) (before : List Item) (old new : PairLists) (count k : ℕ) → KeepsLists old new → AreMade all before old → HasActivePairs before count → IsList all new k (active_pairs before)
+pub made_one_more : (all : List (List ℕ)) (before : List Item) (old new : PairLists) (count k : ℕ) → KeepsLists old new → AreMade all before old → count ≤ length before → IsList all new k (active_pairs (take count before))
     → ((other : ℕ) → list_made new other ≡ cond (nat_eq count other) (Some k) (list_made old other)) → AreMade all before new
-made_one_more all before old new count k keeps made has is told other j e = by_test (nat_eq count other) refl
+made_one_more all before old new count k keeps made within is told other j e = by_test (nat_eq count other) refl
   where
     this : other ≡ count → k ≡ j → IsMadeFor all before new other j
-    this z y = subst (λ c. IsMadeFor all before new c j) (sym z) (record { within = has.within; list = subst (λ i. IsList all new i (active_pairs (take count before))) y (subst (IsList all new k) (sym has.pairs) is) })
+    this z y = subst (λ c. IsMadeFor all before new c j) (sym z) (record { within = within; list = subst (λ i. IsList all new i (active_pairs (take count before))) y is })
 
     before_it : list_made old other ≡ Some j → IsMadeFor all before new other j
     before_it q = let r = made other j q in record { within = r.within; list = list_stays all old new j (active_pairs (take other before)) keeps r.list }

@@ -1,10 +1,10 @@
 -- The first five lines of the base, by computing.
 use Rattle.std.proofs.Common.{◌≡◌, ℕ, true, false, Some, None, List, [], ◌∷◌, ◌++◌, refl, codes}
 use Rattle.mm_frame.specs.Language.Frame.{Symbol, Hypothesis, Assertion, Unknown, Inactive}
-use Rattle.mm_frame.specs.Language.Item.{Kind, Constants, Variables, Disjoint, Floating, Essential, Axiom, Theorem, BlockStart, BlockEnd, Item, has}
+use Rattle.mm_frame.specs.Language.Item.{Kind, Constants, Variables, Disjoint, Floating, Essential, Axiom, Theorem, BlockStart, BlockEnd, Item, item_at, has}
 use Rattle.mm_frame.specs.declared.FrameNumber.TheVariants.{F06, F08, F12}
 use Rattle.mm_frame.specs.Language.Sound.{fault, sound_items}
-use Rattle.mm_frame.specs.Language.Framing.{resolve, active_pairs, setting_of, statement_of, mandatory_numbers}
+use Rattle.mm_frame.specs.Language.Framing.{resolve, active_pairs, setting_of, before_of, expression, mandatory_numbers}
 use Rattle.mm_frame.specs.Language.Scope.{active_variables}
 use Rattle.mm_frame.specs.Code.LastItems.{last_where, is_active_last, declares_variable, types, carries}
 
@@ -96,7 +96,7 @@ with_w2 = five ++ labelled (codes "w2") Theorem (wff ∷ left ∷ p ∷ arrow �
 w2_wi : (setting_of with_w2 5).resolve (codes "wi") ≡ resolve five (codes "wi")
 w2_wi = refl
 
-w2_states : statement_of with_w2 5 ≡ constant wff ∷ constant left ∷ variable p ∷ constant arrow ∷ constant left ∷ variable p ∷ constant arrow ∷ variable q ∷ constant right ∷ constant right ∷ []
+w2_states : expression (before_of with_w2 5) (item_at with_w2 5) ≡ constant wff ∷ constant left ∷ variable p ∷ constant arrow ∷ constant left ∷ variable p ∷ constant arrow ∷ variable q ∷ constant right ∷ constant right ∷ []
 w2_states = refl
 
 -- a `$d`, its pair, and a statement at fault that is passed over

@@ -66,6 +66,12 @@ numbers_from_readings all distinct (x ∷ xs) (y ∷ ys) p q e =
     let b = numbers_from_readings all distinct xs ys (λ k d h. p (suc k) d (omega (arith, h))) (λ k d h. q (suc k) d (omega (arith, h))) rest in
     λ i. a i ∷ b i
 
+pub pair_from_reading : (all : List (List ℕ)) → AreDistinct all → (x y : NumberedSymbol × NumberedSymbol) → IsPairNumbered all x → IsPairNumbered all y → pair_of all x ≡ pair_of all y → x ≡ y
+pair_from_reading all distinct x y m n e =
+    let first = number_from_reading all distinct x.0 y.0 m.0 n.0 (ap (λ (w : Symbol × Symbol). w.0) e) in
+    let second = number_from_reading all distinct x.1 y.1 m.1 n.1 (ap (λ (w : Symbol × Symbol). w.1) e) in
+    λ i. (first i, second i)
+
 pub pairs_from_readings : (all : List (List ℕ)) → AreDistinct all → (xs ys : List (NumberedSymbol × NumberedSymbol)) → All (IsPairNumbered all) xs → All (IsPairNumbered all) ys → kept_pairs all xs ≡ kept_pairs all ys → xs ≡ ys
 pairs_from_readings all distinct [] [] p q e = refl
 pairs_from_readings all distinct [] (y ∷ ys) p q e = cc
@@ -73,12 +79,9 @@ pairs_from_readings all distinct (x ∷ xs) [] p q e = cc
 pairs_from_readings all distinct (x ∷ xs) (y ∷ ys) p q e =
     let head : pair_of all x ≡ pair_of all y = cc in
     let rest : kept_pairs all xs ≡ kept_pairs all ys = cc in
-    let m = p 0 x (omega arith) in
-    let n = q 0 y (omega arith) in
-    let first = number_from_reading all distinct x.0 y.0 m.0 n.0 (ap (λ (w : Symbol × Symbol). w.0) head) in
-    let second = number_from_reading all distinct x.1 y.1 m.1 n.1 (ap (λ (w : Symbol × Symbol). w.1) head) in
+    let a = pair_from_reading all distinct x y (p 0 x (omega arith)) (q 0 y (omega arith)) head in
     let b = pairs_from_readings all distinct xs ys (λ k d h. p (suc k) d (omega (arith, h))) (λ k d h. q (suc k) d (omega (arith, h))) rest in
-    λ i. (first i, second i) ∷ b i
+    λ i. a i ∷ b i
 
 -- two tests together
 pub both_decide : {P Q : Type 0} (p q : Bool) → Decides p P → Decides q Q → Decides (p && q) (P × Q)

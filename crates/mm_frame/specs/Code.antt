@@ -14,6 +14,7 @@ pub mod KeptScope
 pub mod SeenNames
 pub mod CodeSymbols
 pub mod KeptSymbols
+pub mod KeptExpressions
 pub mod KeptEarlier
 pub mod KeptActive
 pub mod KeptPairLists

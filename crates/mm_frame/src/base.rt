@@ -1,8 +1,9 @@
 //! What the items of files mean, from a top file on.
 
-ghost use Rattle.std.specs.Prelude.{All, ◌≡◌, ◌<◌, ◌≤◌, ◌↔◌, ◌&&◌, is_none, is_some, Some, None, List, length, ℕ, IfSome, IfOk, IfErr, IsErrOf, slice_get};
+ghost use Rattle.std.specs.Prelude.{All, true, ◌≡◌, ◌<◌, ◌≤◌, ◌↔◌, ◌&&◌, is_none, is_some, Some, None, List, length, ℕ};
+ghost use Rattle.std.specs.Prelude.{IfSome, IfOk, IfErr, IsErrOf, IsTrue, slice_get};
 ghost use Rattle.std.specs.Option.{option_map};
-ghost use Rattle.mm_store.specs.Language.FilesView.{number_of};
+ghost use Rattle.mm_store.specs.Language.FilesView.{files_in, number_of};
 ghost use Rattle.mm_store.specs.Language.Answers.{IsExpansionError};
 ghost use Rattle.mm_store.specs.declared.error.StoreError.TheVariants.{NoTop};
 ghost use Rattle.mm_frame.specs.Language.Item.{is_labelled};
@@ -99,7 +100,7 @@ impl Base {
         ensures base { IfOk result (λ built. (base : BaseView) × IsOfFiles files.now top.now base × IsBaseBy names.new base built
             × StandsLater names.new base built) }
         ensures grows { Begins names.old names.new }
-        ensures no_top { IsErrOf result NoTop ↔ (number_of files.now.files top.now ≡ None) }
+        ensures no_top { IsErrOf result NoTop ↔ (number_of (files_in files.now) top.now ≡ None) }
         ensures err { IfErr result IsExpansionError }
     {
         let items = files.statements(alloc, top)?;
@@ -139,10 +140,7 @@ impl Base {
     fn symbols(&self, i: usize) -> &[NumberedSymbol]
         ensures { result.now ≡ expression_kept (expressions_of self.now) i }
     {
-        match self.parts.expressions.get(i) {
-            Some(symbols) => symbols,
-            None => &[],
-        }
+        self.parts.expressions.at(i)
     }
 
     /// The item of the files with this number, if there is one.
@@ -265,6 +263,15 @@ impl Base {
         }
     }
 
+    /// Whether two sound `$p` share their list of active pairs, as neighbours often do. Where they do not, they may still
+    /// have the same pairs.
+    pub fn shares_pairs(&self, i: usize, j: usize) -> bool
+        ensures { (base : BaseView) → IsBase base self.now → is_proof_at base i ≡ true → is_proof_at base j ≡ true
+            → IsTrue result → AreSamePairs (active_pairs (before base i)) (active_pairs (before base j)) }
+    {
+        self.pair_number(i) == self.pair_number(j)
+    }
+
     /// The number of the sound item that has a label, if one has it, active or not.
     pub fn find(&self, label: &[u8]) -> Option<usize>
         ensures { (base : BaseView) (j : ℕ) → IsBase base self.now → (result ≡ Some j) ↔ IsCarrier base label.now j }
@@ -273,7 +280,7 @@ impl Base {
     }
 
     /// What the label of the sound item `j` means at the item `i`.
-    fn meaning(&self, j: usize, i: usize) -> Resolved
+    pub fn meaning(&self, j: usize, i: usize) -> Resolved
         ensures { (base : BaseView) (label : List ℕ) → IsBase base self.now → IsCarrier base label j → Resolves base i label result }
     {
         if j >= i {

@@ -26,6 +26,7 @@ ghost use Rattle.mm_frame.specs.Code.KeptBase.{AreRows, KeepsFrame, TellsPairs, 
 use crate::FrameNumber;
 use crate::active::ActiveNumbers;
 use crate::blocks::Blocks;
+use crate::expressions::Expressions;
 use crate::judge::{FrameFault, fault_of};
 use crate::mandatory::{Earlier, hypotheses, mandatory_pairs};
 use crate::names::Names;
@@ -64,7 +65,7 @@ pub struct Draft<'a> {
     numbers: Vec<usize>,
     rows: Vec<Row>,
     /// The symbols of each sound `$f`, `$e`, `$a`, `$p` and `$d`, by its number; none for any other item.
-    expressions: Vec<Vec<NumberedSymbol>>,
+    expressions: Expressions,
     /// The frame of each sound `$a` and `$p`, by its number; none for any other item.
     frames: Vec<Option<Frame>>,
     /// The active `$e`.
@@ -86,7 +87,7 @@ pub struct Parts {
     pub blocks: Blocks,
     pub rows: Vec<Row>,
     /// The symbols of each sound `$f`, `$e`, `$a`, `$p` and `$d`, by its number; none for any other item.
-    pub expressions: Vec<Vec<NumberedSymbol>>,
+    pub expressions: Expressions,
     /// The frame of each sound `$a` and `$p`, by its number; none for any other item.
     pub frames: Vec<Option<Frame>>,
     /// The lists of active pairs.
@@ -264,7 +265,7 @@ fn keep_pairs(
     pair_lists: &mut PairLists,
     pairs: &mut Vec<Option<usize>>,
     disjoints: &[usize],
-    expressions: &[Vec<NumberedSymbol>],
+    expressions: &Expressions,
     proof: bool,
 ) -> Result<(), AllocError>
     ensures made { OnOk result ((all : List (List ℕ)) (before : List meant.Item) → AreSound before → AreSymbols all before expressions.now
@@ -314,7 +315,7 @@ impl<'a> Draft<'a> {
             scope: Scope::new(alloc),
             numbers: Vec::new(alloc),
             rows: Vec::new(alloc),
-            expressions: Vec::new(alloc),
+            expressions: Expressions::new(alloc),
             frames: Vec::new(alloc),
             essentials: ActiveNumbers::new(alloc),
             disjoints: ActiveNumbers::new(alloc),
@@ -388,7 +389,7 @@ impl<'a> Draft<'a> {
             number,
             sound,
         )?;
-        self.expressions.push(symbols)?;
+        self.expressions.add(&symbols)?;
         let row = row_of(alloc, statement, fault)?;
         self.rows.push(row)?;
         self.scope.next(alloc, statement, &self.numbers, sound)?;

@@ -39,14 +39,6 @@ fn parts_of(alloc: Global, names: &mut Names, text: &[u8]) -> Result<Parts, Stor
     Ok(parts_among(alloc, names, &files, &items)?)
 }
 
-/// What is kept for an item.
-fn kept_for(expressions: &[Vec<NumberedSymbol>], number: usize) -> &[NumberedSymbol] {
-    match expressions.get(number) {
-        Some(expression) => expression,
-        None => &[],
-    }
-}
-
 /// Whether the symbol at a place is the one of this name.
 pub fn stands_at(
     names: &Names,
@@ -63,7 +55,7 @@ pub fn stands_at(
 
 /// Whether the item 6 of `FRAME` is kept with its symbols.
 fn keeps_essential(names: &Names, parts: &Parts) -> bool {
-    let essential = kept_for(&parts.expressions, 6);
+    let essential = parts.expressions.at(6);
     essential.len() == 2
         && stands_at(names, essential, 0, b"|-", false)
         && stands_at(names, essential, 1, b"y", true)
@@ -104,7 +96,7 @@ fn needs(alloc: Global, parts: &Parts, wanted: &[usize]) -> Result<bool, AllocEr
         essentials: &[6],
         expressions: &parts.expressions,
     };
-    let numbers = hypotheses(alloc, &earlier, kept_for(&parts.expressions, 7))?;
+    let numbers = hypotheses(alloc, &earlier, parts.expressions.at(7))?;
     Ok(&numbers[..] == wanted)
 }
 
@@ -369,22 +361,22 @@ const AGAIN: &[u8] =
 ta $p |- x $= wx $.\n${ $d y x $.\ntb $p |- x $= wx $. $}\n${ $d x y $.\ntc $p |- x $= wx $. $}\n\
 ${ $d y z $.\ntd $p |- x $= wx $. $}\n${ $d x y $.\nte $p |- x $= wx $. $}\n";
 
-/// The numbers of the lists of items of `AGAIN`.
+/// The numbers of the lists of items of `AGAIN`: list 0 is that of no `$d`.
 const SHARED: &[(usize, Option<usize>)] = &[
-    (6, Some(0)),
-    (9, Some(0)),
-    (13, Some(0)),
-    (17, Some(1)),
-    (21, Some(2)),
+    (6, Some(1)),
+    (9, Some(1)),
+    (13, Some(1)),
+    (17, Some(2)),
+    (21, Some(1)),
 ];
 
 #[test]
 fn the_same_pairs_share_a_list(rt: HostRuntime) -> Result<(), Fail> {
     let parts = parts_of(rt.alloc(), &mut Names::new(rt.alloc()), AGAIN)?;
     assert_eq!(rt; listed_otherwise(&parts, SHARED), None);
-    assert!(rt; parts.pair_lists.list(0).len() == 1);
-    assert!(rt; parts.pair_lists.list(1).len() == 2);
-    assert!(rt; parts.pair_lists.list(2).len() == 1);
+    assert!(rt; parts.pair_lists.list(0).is_empty());
+    assert!(rt; parts.pair_lists.list(1).len() == 1);
+    assert!(rt; parts.pair_lists.list(2).len() == 2);
     assert!(rt; parts.pair_lists.list(3).is_empty());
     Ok(())
 }

@@ -1,6 +1,6 @@
 //! The fault of a statement behind the sound items before it.
 
-ghost use Rattle.std.specs.Prelude.{◌≡◌, ◌<◌, ◌||◌, ◌∷◌, ◌++◌, ℕ, true, None, List, [], IfOk, length, slice_index_or};
+ghost use Rattle.std.specs.Prelude.{◌≡◌, ◌<◌, ◌||◌, ◌∷◌, ◌++◌, ℕ, true, None, List, [], IfOk, length, take, slice_index_or};
 ghost use Rattle.std.specs.Option.{option_map};
 ghost use Rattle.mm_frame.specs.Language.Item as meant;
 ghost use Rattle.mm_frame.specs.Language.Item.{Item};
@@ -198,15 +198,44 @@ fn symbol_fault(
     }
 }
 
-/// Whether a name is among those seen so far, which it joins. Where the names need not differ, none is kept.
-fn see<'a>(seen: &mut HashSet<&'a [u8]>, name: &'a [u8], differ: bool) -> Result<bool, AllocError>
-    ensures { (names : List (List ℕ)) → (differ ≡ true → HasSeen names seen.old)
-        → IfOk result (λ repeated. differ ≡ true → (repeated ≡ meant.has names name.now) × HasSeen (names ++ name.now ∷ []) seen.new) }
+/// Whether the n-th symbol, counted from 0, is one of those before it.
+fn stands_before(statement: &Statement, n: usize) -> bool
+    requires { n < length statement.now.symbols }
+    ensures { result ≡ sound.is_repeated statement.now n (slice_index_or statement.now.symbols n []) }
 {
-    Ok(differ && !seen.insert(name)?)
+    let name = statement.symbol(n);
+    for k in 0..n {
+        if name == statement.symbol(k) {
+            return true;
+        }
+    }
+    false
 }
 
-/// The first fault among the symbols, which have these numbers. Memory is taken for those that have to differ.
+/// How many symbols are compared with one another; where there are more, they are found by hash.
+const FEW_SYMBOLS: usize = 16;
+
+/// Whether the n-th symbol, counted from 0, is one of those before it, where they have to differ. Where the names are
+/// kept, those before it are those seen so far, which it joins; else no memory is taken.
+fn is_repeated<'a>(
+    seen: &mut HashSet<&'a [u8]>,
+    statement: &Statement<'a>,
+    n: usize,
+    differ: bool,
+    kept: bool,
+) -> Result<bool, AllocError>
+    requires { n < length statement.now.symbols }
+    ensures { (kept ≡ true → HasSeen (take n statement.now.symbols) seen.old) → IfOk result (λ repeated.
+        (differ ≡ true → repeated ≡ sound.is_repeated statement.now n (slice_index_or statement.now.symbols n []))
+        × (kept ≡ true → HasSeen (take n statement.now.symbols ++ slice_index_or statement.now.symbols n [] ∷ []) seen.new)) }
+{
+    if kept {
+        return Ok(!seen.insert(statement.symbol(n))?);
+    }
+    Ok(differ && stands_before(statement, n))
+}
+
+/// The first fault among the symbols, which have these numbers. Memory is taken where many have to differ.
 fn symbols_fault(
     alloc: Global,
     scope: &Scope,
@@ -219,9 +248,10 @@ fn symbols_fault(
         → IfOk result (λ found. option_map (λ f. (f.word, f.number)) found ≡ judging.symbols_fault before statement.now) }
 {
     let differ = must_differ(statement.kind());
+    let kept = differ && statement.symbol_count() > FEW_SYMBOLS;
     let mut seen = HashSet::new(alloc);
     for n in 0..statement.symbol_count() {
-        let repeated = see(&mut seen, statement.symbol(n), differ)?;
+        let repeated = is_repeated(&mut seen, statement, n, differ, kept)?;
         if let Some(number) = symbol_fault(scope, statement, n, numbers[n], repeated) {
             let word = statement.symbol_place(n);
             return Ok(Some(FrameFault { number, word }));

@@ -5,6 +5,7 @@ mod active;
 mod base;
 mod blocks;
 mod draft;
+mod expressions;
 mod judge;
 mod mandatory;
 mod names;
@@ -23,16 +24,16 @@ pub use base::{Base, Resolved};
 pub use draft::Frame;
 pub use judge::FrameFault;
 pub use mm_store::{
-    Files, Item, ItemKind, Keyword, PieceKey, Place, StoreError, TextFault, TextNumber, Word,
-    WordKind, fits, nth_word, place,
+    BatchError, Edit, EditError, Files, Item, ItemKind, Keyword, PieceKey, Place, StoreError,
+    TextFault, TextNumber, Undo, Undos, Walk, Word, WordKind, fits, nth_word, place,
 };
 pub use names::Names;
 pub use one_base::files_have_one_base;
 pub use own_labels::{has_own_labels, items_have_labels, mandatory_means, mandatory_stand_before};
 pub use proof_words::ProofWords;
-pub use same::same_frame;
-pub use statement::Statement;
-pub use symbol::{NamedSymbol, NumberedSymbol};
+pub use same::{same_active_pairs, same_but_pairs, same_expression, same_frame};
+pub use statement::{Statement, same_proof, words_of_proof};
+pub use symbol::{NamedSymbol, NumberedSymbol, Symbol};
 
 #[cfg(test)]
 mod base_tests;

@@ -14,6 +14,7 @@ ghost use Rattle.mm_frame.specs.Code.PairOrder.{are_paired, pairs_in_order, floa
 ghost use Rattle.mm_frame.specs.Code.KeptPairTable.{ReadsPairs};
 
 use crate::blocks::Blocks;
+use crate::expressions::Expressions;
 use crate::paired::PairTable;
 use crate::symbol::NumberedSymbol;
 use crate::tables::Tables;
@@ -31,7 +32,7 @@ pub struct Earlier<'a> {
     /// The numbers of the active `$e`, rising.
     pub essentials: &'a [usize],
     /// The symbols of each, by its number.
-    pub expressions: &'a [Vec<NumberedSymbol>],
+    pub expressions: &'a Expressions,
 }
 
 /// Adds the number of the `$f` of a symbol that is a variable.
@@ -67,22 +68,19 @@ fn add_floats(
 /// Adds those of the expression with this number, if there is one.
 fn add_floats_of(
     tables: &Tables,
-    expressions: &[Vec<NumberedSymbol>],
+    expressions: &Expressions,
     number: usize,
     numbers: &mut Vec<usize>,
 ) -> Result<(), AllocError>
     ensures { OnOk result (numbers.new.items ≡ numbers.old.items ++ float_numbers tables.now (expression_kept expressions.now number)) }
 {
-    match expressions.get(number) {
-        Some(expression) => add_floats(tables, expression, numbers),
-        None => Ok(()),
-    }
+    add_floats(tables, expressions.at(number), numbers)
 }
 
 /// Adds those of the expressions with these numbers, in order.
 fn add_all_floats(
     tables: &Tables,
-    expressions: &[Vec<NumberedSymbol>],
+    expressions: &Expressions,
     from: &[usize],
     numbers: &mut Vec<usize>,
 ) -> Result<(), AllocError>
@@ -122,20 +120,10 @@ pub fn is_among(numbers: &[usize], number: usize) -> bool
     numbers.binary_search(&number).is_ok()
 }
 
-/// What is kept for the item with this number: none where nothing is kept.
-fn symbols_at(expressions: &[Vec<NumberedSymbol>], number: usize) -> &[NumberedSymbol]
-    ensures { result.now ≡ expression_kept expressions.now number }
-{
-    match expressions.get(number) {
-        Some(symbols) => symbols,
-        None => &[],
-    }
-}
-
 /// Adds the variable of a mandatory hypothesis that is a `$f`: its number is none of those of the active `$e`.
 fn add_variable(
     essentials: &[usize],
-    expressions: &[Vec<NumberedSymbol>],
+    expressions: &Expressions,
     number: usize,
     variables: &mut Vec<NumberedSymbol>,
 ) -> Result<(), AllocError>
@@ -145,7 +133,7 @@ fn add_variable(
     if is_among(essentials, number) {
         return Ok(());
     }
-    if let Some(variable) = symbols_at(expressions, number).get(1) {
+    if let Some(variable) = expressions.at(number).get(1) {
         variables.push(*variable)?;
     }
     Ok(())
@@ -155,7 +143,7 @@ fn add_variable(
 fn variables_typed(
     alloc: Global,
     essentials: &[usize],
-    expressions: &[Vec<NumberedSymbol>],
+    expressions: &Expressions,
     hypotheses: &[usize],
 ) -> Result<Vec<NumberedSymbol>, AllocError>
     ensures { IfOk result (λ variables. IsRising essentials.now → variables.items ≡ float_variables essentials.now expressions.now hypotheses.now) }

@@ -1,16 +1,18 @@
 //! The lists of active pairs, which neighbours share.
 
-ghost use Rattle.std.specs.Prelude.{◌≡◌, ◌<◌, ◌+◌, ◌-◌, ◌++◌, ◌∷◌, ℕ, List, [], OnOk, IfOk, IsTrue, length, map};
+ghost use Rattle.std.specs.Prelude.{◌≡◌, ◌<◌, ◌≤◌, ◌+◌, ◌-◌, ◌++◌, ◌∷◌, ℕ, List, [], OnOk, IfOk, IsTrue, Contains, length, map, take};
 ghost use Rattle.std.specs.List.{flat_map};
 ghost use Rattle.mm_frame.specs.Language.Item as meant;
 ghost use Rattle.mm_frame.specs.Language.Sound.{AreSound};
+ghost use Rattle.mm_frame.specs.Language.Frame.{Symbol as Meaning};
 ghost use Rattle.mm_frame.specs.Language.Framing.{active_pairs};
 ghost use Rattle.mm_frame.specs.Code.LastItems.{is_disjoint_item};
 ghost use Rattle.mm_frame.specs.Language.Scope.{active_numbers};
 ghost use Rattle.mm_frame.specs.Code.KeptSymbols.{AreSymbols, expression_kept};
 ghost use Rattle.mm_frame.specs.Code.CodeSymbols.{AreSamePairsRead};
-ghost use Rattle.mm_frame.specs.Code.KeptPairLists.{HasActivePairs, pairs_among, with_low_first};
+ghost use Rattle.mm_frame.specs.Code.KeptPairLists.{IsFront, HasSame, HasEach, pairs_among, with_low_first};
 
+use crate::expressions::Expressions;
 use crate::symbol::NumberedSymbol;
 use std::alloc::{AllocError, Global};
 use std::collections::HashMap;
@@ -20,11 +22,16 @@ use std::collections::HashMap;
 /// Which pairs are active depends on the items up to the last active `$d` alone. So all places with the same last
 /// active `$d` share one list; and so do two lists made one after the other that have the same pairs. A list has each
 /// pair once, with the lower number of a name first, and is sorted by these numbers.
+///
+/// A list is made from that of the outer `$d`, those that were active where the last list was made: it is the same list
+/// where the others have no pair that is not in it, which takes time near linear in their pairs.
 #[derive(Drop)]
 pub struct PairLists {
     lists: Vec<Vec<(NumberedSymbol, NumberedSymbol)>>,
     /// The number of the list, by the count of items up to the last active `$d`: 0 where no `$d` is active.
     made: HashMap<usize, usize>,
+    /// The count of items up to the last `$d` of the last list that was made.
+    reach: usize,
 }
 
 /// The two symbols, the one with the lower number of its name first.
@@ -65,23 +72,20 @@ fn add_pairs_of(
 
 /// Adds the pairs of the `$d` with this number.
 fn add_pairs_at(
-    expressions: &[Vec<NumberedSymbol>],
+    expressions: &Expressions,
     number: usize,
     pairs: &mut Vec<(NumberedSymbol, NumberedSymbol)>,
 ) -> Result<(), AllocError>
     ensures { OnOk result (pairs.new.items ≡ pairs.old.items ++ pairs_among (expression_kept expressions.now number)) }
 {
-    match expressions.get(number) {
-        Some(symbols) => add_pairs_of(symbols, pairs),
-        None => Ok(()),
-    }
+    add_pairs_of(expressions.at(number), pairs)
 }
 
 /// The pairs of the `$d` with these numbers.
 fn pairs_at(
     alloc: Global,
     disjoints: &[usize],
-    expressions: &[Vec<NumberedSymbol>],
+    expressions: &Expressions,
 ) -> Result<Vec<(NumberedSymbol, NumberedSymbol)>, AllocError>
     ensures { IfOk result (λ pairs. pairs.items ≡ flat_map (λ n. pairs_among (expression_kept expressions.now n)) disjoints.now) }
 {
@@ -92,20 +96,55 @@ fn pairs_at(
     Ok(pairs)
 }
 
-/// The active pairs behind sound items, sorted and each once, where these are the numbers of the active `$d`.
-fn active_at(
-    alloc: Global,
-    disjoints: &[usize],
-    expressions: &[Vec<NumberedSymbol>],
+/// Sorts the pairs, and keeps each once.
+fn in_order(
+    mut pairs: Vec<(NumberedSymbol, NumberedSymbol)>,
 ) -> Result<Vec<(NumberedSymbol, NumberedSymbol)>, AllocError>
-    ensures { IfOk result (λ pairs. (all : List (List ℕ)) (before : List meant.Item) → AreSound before → AreSymbols all before expressions.now
-        → disjoints.now ≡ active_numbers is_disjoint_item before → AreSamePairsRead all (active_pairs before) pairs.items) }
+    ensures { IfOk result (λ sorted. HasSame pairs.items sorted.items) }
 {
-    let mut pairs = pairs_at(alloc, disjoints, expressions)?;
-    pairs.sort()?;
+    pairs.sort_by_key(|pair| (pair.0.name, pair.1.name))?;
     pairs.dedup();
     pairs.shrink_to_fit();
     Ok(pairs)
+}
+
+/// Whether a sorted list has a pair. What is found is compared.
+fn has_pair(
+    list: &[(NumberedSymbol, NumberedSymbol)],
+    pair: &(NumberedSymbol, NumberedSymbol),
+) -> bool
+    ensures { IsTrue result → Contains list.now pair.now }
+{
+    match list.binary_search(pair) {
+        Ok(at) => list[at] == *pair,
+        Err(_) => false,
+    }
+}
+
+/// Whether a sorted list has each of some pairs.
+fn has_all(
+    list: &[(NumberedSymbol, NumberedSymbol)],
+    pairs: &[(NumberedSymbol, NumberedSymbol)],
+) -> bool
+    ensures { IsTrue result → HasEach list.now pairs.now }
+{
+    for pair in pairs {
+        if !has_pair(list, pair) {
+            return false;
+        }
+    }
+    true
+}
+
+/// How many of the active `$d` were active where the last list was made, which was for so many items.
+fn outer_count(disjoints: &[usize], reach: usize) -> usize
+    ensures { result ≤ length disjoints.now }
+{
+    let mut count = disjoints.len();
+    while count > 0 && disjoints[count - 1] >= reach {
+        count -= 1;
+    }
+    count
 }
 
 /// The count of items up to the one with this number, of so many in all: 0 where there is no such item.
@@ -115,13 +154,13 @@ fn count_to(number: usize, count: usize) -> usize
     if number < count { number + 1 } else { 0 }
 }
 
-/// The count of items up to the last active `$d`: 0 where no `$d` is active.
-fn count_to_last(disjoints: &[usize], expressions: &[Vec<NumberedSymbol>]) -> usize
-    ensures { (all : List (List ℕ)) (before : List meant.Item) → AreSound before → AreSymbols all before expressions.now
-        → disjoints.now ≡ active_numbers is_disjoint_item before → HasActivePairs before result }
+/// The count of items up to the last of the first active `$d`: 0 where there is none.
+fn count_to_last(disjoints: &[usize], expressions: &Expressions) -> usize
+    ensures { (all : List (List ℕ)) (before : List meant.Item) (rest : List ℕ) → AreSymbols all before expressions.now
+        → disjoints.now ++ rest ≡ active_numbers is_disjoint_item before → IsFront before disjoints.now result }
 {
     match disjoints.last() {
-        Some(number) => count_to(*number, expressions.len()),
+        Some(number) => count_to(*number, expressions.count()),
         None => 0,
     }
 }
@@ -136,6 +175,7 @@ impl PairLists {
         PairLists {
             lists: Vec::new(alloc),
             made: HashMap::new(alloc),
+            reach: 0,
         }
     }
 
@@ -170,6 +210,52 @@ impl PairLists {
         Ok(count)
     }
 
+    /// The number of the list of the outer `$d`, which is made now if there is none yet: `count` is that of the items up
+    /// to the last of them. Want of memory leaves the lists as good for nothing.
+    fn outer_list(
+        &mut self,
+        alloc: Global,
+        outer: &[usize],
+        count: usize,
+        expressions: &Expressions,
+    ) -> Result<usize, AllocError>
+        ensures pairs { IfOk result (λ k. (all : List (List ℕ)) (before : List meant.Item) → AreSound before → AreSymbols all before expressions.now
+            → IsFront before outer.now count → AreMade all before self.old → IsList all self.new k (active_pairs (take count before))) }
+        ensures made { OnOk result ((all : List (List ℕ)) (before : List meant.Item) → AreSound before → AreSymbols all before expressions.now
+            → IsFront before outer.now count → AreMade all before self.old → AreMade all before self.new) }
+        ensures kept { OnOk result (KeepsLists self.old self.new) }
+    {
+        if let Some(k) = self.made_for(count) {
+            return Ok(k);
+        }
+        let pairs = pairs_at(alloc, outer, expressions)?;
+        let k = self.keep(in_order(pairs)?)?;
+        self.made.insert(count, k)?;
+        Ok(k)
+    }
+
+    /// The number of the list that has the pairs of the list `base` and those of the `$d` with these numbers.
+    fn extended(
+        &mut self,
+        alloc: Global,
+        base: usize,
+        own: &[usize],
+        expressions: &Expressions,
+    ) -> Result<usize, AllocError>
+        ensures pairs { IfOk result (λ k. (all : List (List ℕ)) (said added : List (Meaning × Meaning)) → IsList all self.old base said
+            → AreSamePairsRead all added (flat_map (λ n. pairs_among (expression_kept expressions.now n)) own.now) → IsList all self.new k (said ++ added)) }
+        ensures kept { OnOk result (KeepsLists self.old self.new) }
+        ensures made { OnOk result (self.new.made ≡ self.old.made) }
+    {
+        let mut pairs = pairs_at(alloc, own, expressions)?;
+        if has_all(self.list(base), &pairs) {
+            return Ok(base);
+        }
+        pairs.extend_from_slice(self.list(base))?;
+        let k = self.keep(in_order(pairs)?)?;
+        Ok(k)
+    }
+
     /// The number of the list of the active pairs behind sound items, which is made now if there is none yet.
     ///
     /// `disjoints` are the numbers of the active `$d`, and `expressions` the symbols of the items by their numbers.
@@ -178,7 +264,7 @@ impl PairLists {
         &mut self,
         alloc: Global,
         disjoints: &[usize],
-        expressions: &[Vec<NumberedSymbol>],
+        expressions: &Expressions,
     ) -> Result<usize, AllocError>
         ensures pairs { IfOk result (λ k. (all : List (List ℕ)) (before : List meant.Item) → AreSound before → AreSymbols all before expressions.now
             → disjoints.now ≡ active_numbers is_disjoint_item before → AreMade all before self.old → IsList all self.new k (active_pairs before)) }
@@ -190,9 +276,12 @@ impl PairLists {
         if let Some(k) = self.made_for(count) {
             return Ok(k);
         }
-        let list = active_at(alloc, disjoints, expressions)?;
-        let k = self.keep(list)?;
+        let outer = outer_count(disjoints, self.reach);
+        let front = count_to_last(&disjoints[..outer], expressions);
+        let base = self.outer_list(alloc, &disjoints[..outer], front, expressions)?;
+        let k = self.extended(alloc, base, &disjoints[outer..], expressions)?;
         self.made.insert(count, k)?;
+        self.reach = count;
         Ok(k)
     }
 

@@ -1,10 +1,10 @@
 //! Whether what two bases keep is the same.
 
-ghost use Rattle.std.specs.Prelude.{◌≡◌, ◌↔◌, ℕ, List, IsTrue, true, All, map};
-ghost use Rattle.mm_frame.specs.Language.Base.{BaseView, before, said_at, is_shown_at, is_framed_at, hypothesis_at, frame_at};
-ghost use Rattle.mm_frame.specs.Language.Framing.{expression};
+ghost use Rattle.std.specs.Prelude.{◌≡◌, ◌↔◌, ◌⊎◌, ℕ, List, IsTrue, true, All, Contains, map};
+ghost use Rattle.mm_frame.specs.Language.Base.{BaseView, before, said_at, is_shown_at, is_framed_at, is_proof_at, hypothesis_at, frame_at};
+ghost use Rattle.mm_frame.specs.Language.Framing.{active_pairs, expression};
 ghost use Rattle.mm_frame.specs.Code.KeptBase.{IsBaseBy};
-ghost use Rattle.mm_frame.specs.Language.Frame.{AreSameFrame};
+ghost use Rattle.mm_frame.specs.Language.Frame.{AreSameFrame, AreSamePairs};
 
 use crate::base::Base;
 use crate::names::Names;
@@ -27,8 +27,8 @@ pub fn same_pairs(
     one == other
 }
 
-/// Whether two sound `$f`, `$e`, `$a` or `$p` have the same expression.
-fn same_expression(one: &Base, i: usize, other: &Base, j: usize) -> bool
+/// Whether two sound `$f`, `$e`, `$a` or `$p` of bases over the same names have the same expression. It takes no memory.
+pub fn same_expression(one: &Base, i: usize, other: &Base, j: usize) -> bool
     ensures { (names : List (List ℕ)) (base copy : BaseView) → IsBaseBy names base one.now → IsBaseBy names copy other.now
         → is_shown_at base i ≡ true → is_shown_at copy j ≡ true
         → IsTrue result ↔ (expression (before base i) (said_at base i) ≡ expression (before copy j) (said_at copy j)) }
@@ -65,7 +65,8 @@ fn same_hypotheses(one: &Base, mine: &[usize], other: &Base, yours: &[usize]) ->
     true
 }
 
-/// Whether two sound `$a` or `$p` have the same expression and the same mandatory hypotheses.
+/// Whether two sound `$a` or `$p` of bases over the same names have the same expression and the same mandatory hypotheses,
+/// in the same order. It takes no memory.
 pub fn same_but_pairs(one: &Base, i: usize, other: &Base, j: usize) -> bool
     ensures { (names : List (List ℕ)) (base copy : BaseView) → IsBaseBy names base one.now → IsBaseBy names copy other.now
         → is_framed_at base i ≡ true → is_framed_at copy j ≡ true
@@ -90,6 +91,61 @@ pub fn same_frame(names: &Names, one: &Base, i: usize, other: &Base, j: usize) -
     match (one.kept_frame(i), other.kept_frame(j)) {
         (Some(mine), Some(yours)) => {
             same_but_pairs(one, i, other, j) && same_pairs(&mine.pairs, &yours.pairs)
+        }
+        _ => false,
+    }
+}
+
+/// Whether a list has a pair, in this order. Lists are sorted, so a search finds it; where it does not, each is compared.
+fn has_ordered(
+    list: &[(NumberedSymbol, NumberedSymbol)],
+    pair: &(NumberedSymbol, NumberedSymbol),
+) -> bool
+    ensures { IsTrue result ↔ Contains list.now pair.now }
+{
+    match list.binary_search(pair) {
+        Ok(at) if list[at] == *pair => true,
+        _ => list.contains(pair),
+    }
+}
+
+/// Whether a list has a pair, in one order or the other.
+fn has_either_way(
+    list: &[(NumberedSymbol, NumberedSymbol)],
+    pair: &(NumberedSymbol, NumberedSymbol),
+) -> bool
+    ensures { IsTrue result ↔ (Contains list.now pair.now ⊎ Contains list.now (pair.now.1, pair.now.0)) }
+{
+    has_ordered(list, pair) || has_ordered(list, &(pair.1, pair.0))
+}
+
+/// Whether a list has each of some pairs, in one order or the other.
+fn has_each(
+    list: &[(NumberedSymbol, NumberedSymbol)],
+    pairs: &[(NumberedSymbol, NumberedSymbol)],
+) -> bool
+    ensures { IsTrue result ↔ ((p : NumberedSymbol × NumberedSymbol) → Contains pairs.now p
+        → Contains list.now p ⊎ Contains list.now (p.1, p.0)) }
+{
+    for pair in pairs {
+        if !has_either_way(list, pair) {
+            return false;
+        }
+    }
+    true
+}
+
+/// Whether two sound `$p` of bases over the same names have the same active pairs, as sets of unordered pairs. It takes no
+/// memory, and time linear in the pairs where they are the same; else a search for each pair of the one in those of the
+/// other is added, up to the first that is missing.
+pub fn same_active_pairs(one: &Base, i: usize, other: &Base, j: usize) -> bool
+    ensures { (names : List (List ℕ)) (base copy : BaseView) → IsBaseBy names base one.now → IsBaseBy names copy other.now
+        → is_proof_at base i ≡ true → is_proof_at copy j ≡ true
+        → IsTrue result ↔ AreSamePairs (active_pairs (before base i)) (active_pairs (before copy j)) }
+{
+    match (one.pairs(i), other.pairs(j)) {
+        (Some(mine), Some(yours)) => {
+            same_pairs(mine, yours) || has_each(mine, yours) && has_each(yours, mine)
         }
         _ => false,
     }

@@ -1,6 +1,6 @@
 //! What an item of the files says.
 
-ghost use Rattle.std.specs.Prelude.{◌≡◌, ◌+◌, ◌<◌, ◌≤◌, [], false, None, All, IfOk, IfSome, OnOk, length, drop, is_some, slice_index_or};
+ghost use Rattle.std.specs.Prelude.{◌≡◌, ◌↔◌, ◌+◌, ◌<◌, ◌≤◌, [], false, None, All, IsTrue, IfOk, IfSome, OnOk, length, drop, is_some, slice_index_or};
 ghost use Rattle.std.specs.List.{AllByRecursion, flat_map};
 ghost use Rattle.std.specs.Option.{option_map};
 ghost use Rattle.mm_store.specs.Language.FileFacts.{CanBeRead};
@@ -210,5 +210,73 @@ impl<'a> Statement<'a> {
         ensures { result ≡ spoken.symbols_from self.now.kind + length self.now.symbols + 1 + n }
     {
         symbols_from(self.kind) + self.symbols.len() + 1 + n
+    }
+}
+
+/// The words of the proof of an item, from the first one on; none where it has no proof. The item's bytes are read up to
+/// its proof. It takes no memory.
+pub fn words_of_proof<'a>(files: &'a Files, item: &Item) -> ProofWords<'a>
+    requires { CanBeRead files.now item.now }
+    ensures words { (said : meant.Item) → Says files.now item.now said → result ≡ said.proof }
+{
+    let text = &files.piece(item.key)[item.start..item.end];
+    let mut words = WordCursor::new(text);
+    read_label(item.kind, &mut words);
+    words.next_word();
+    pass_symbols(&mut words);
+    ProofWords::new(text, words)
+}
+
+/// Goes behind the next keyword.
+fn pass_symbols(words: &mut WordCursor)
+    ensures text { words.new.text ≡ words.old.text }
+    ensures rest { words.new.words ≡ drop (length (plain_words words.old.words) + 1) words.old.words }
+{
+    while let Some(word) = words.next_word() {
+        if !is_plain(word.kind) {
+            return;
+        }
+    }
+}
+
+/// Whether the proofs of two items have the same words. The same range of one piece is not looked at; else the words are
+/// read up to the first that differs. It takes no memory.
+pub fn same_proof(files: &Files, one: &Item, other: &Item) -> bool
+    requires one { CanBeRead files.now one.now }
+    requires other { CanBeRead files.now other.now }
+    ensures { (said told : meant.Item) → Says files.now one.now said → Says files.now other.now told
+        → IsTrue result ↔ (said.proof ≡ told.proof) }
+{
+    if is_same_range(one, other) {
+        // A law: the same bytes have one reading.
+        mm_text::one_meaning();
+        return true;
+    }
+    same_words(words_of_proof(files, one), words_of_proof(files, other))
+}
+
+/// Whether two items are the same bytes of one piece, read as the same kind.
+fn is_same_range(one: &Item, other: &Item) -> bool
+    ensures { IsTrue result → (one.now.kind ≡ other.now.kind) × (one.now.key ≡ other.now.key)
+        × (one.now.start ≡ other.now.start) × (one.now.end ≡ other.now.end) }
+{
+    one.key == other.key
+        && one.start == other.start
+        && one.end == other.end
+        && one.kind == other.kind
+}
+
+/// Whether the words that are left are the same.
+fn same_words(one: ProofWords, other: ProofWords) -> bool
+    ensures { IsTrue result ↔ (one.entry ≡ other.entry) }
+{
+    let mut one = one;
+    let mut other = other;
+    loop {
+        match (one.next_word(), other.next_word()) {
+            (None, None) => return true,
+            (Some(mine), Some(yours)) if *mine == *yours => (),
+            _ => return false,
+        }
     }
 }

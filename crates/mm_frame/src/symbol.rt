@@ -1,7 +1,8 @@
 //! Symbols of expressions, as they are kept.
 
 ghost use Rattle.std.specs.Prelude.{◌≡◌, ◌↔◌, IsTrue, IfOk, map};
-ghost use Rattle.mm_frame.specs.Code.CodeSymbols.{named_symbol};
+ghost use Rattle.mm_frame.specs.Code.CodeSymbols.{by_number, named_symbol};
+ghost use Rattle.mm_frame.specs.Language.Frame.{Symbol as Meaning};
 ghost use Rattle.mm_frame.specs.Code.KeptSymbols.{symbol_by, variable_by};
 
 use crate::tables::Tables;
@@ -51,6 +52,56 @@ impl NamedSymbol {
             name,
             variable: self.variable,
         })
+    }
+}
+
+/// A symbol of expressions, by its name or by a number.
+pub trait Symbol: Drop {
+    /// The name, and whether it is a variable.
+    ghost means: { Self → Meaning };
+
+    /// Whether the two are the same symbol.
+    fn same(&self, other: &Self) -> bool
+        ensures { IsTrue result ↔ (means self.now ≡ means other.now) };
+
+    /// Whether it is a variable.
+    fn is_variable(&self) -> bool
+        ensures { result ≡ (means self.now).variable };
+
+    /// The same symbol once more. It fails where memory for a name is wanting; a symbol by a number takes none.
+    fn copy(&self, alloc: Global) -> Result<Self, AllocError>
+        ensures { IfOk result (λ copy. means copy ≡ means self.now) };
+}
+
+impl Symbol for NamedSymbol {
+    ghost means = { named_symbol };
+
+    fn same(&self, other: &Self) -> bool {
+        NamedSymbol::same(self, other)
+    }
+
+    fn is_variable(&self) -> bool {
+        self.variable
+    }
+
+    fn copy(&self, alloc: Global) -> Result<Self, AllocError> {
+        NamedSymbol::copy(self, alloc)
+    }
+}
+
+impl Symbol for NumberedSymbol {
+    ghost means = { by_number };
+
+    fn same(&self, other: &Self) -> bool {
+        NumberedSymbol::same(self, other)
+    }
+
+    fn is_variable(&self) -> bool {
+        self.variable
+    }
+
+    fn copy(&self, _alloc: Global) -> Result<Self, AllocError> {
+        Ok(*self)
     }
 }
 

@@ -1,5 +1,5 @@
 -- What symbols, expressions and pairs the code's symbols are, where numbers of names are read by a list of all names.
-use Rattle.std.specs.Prelude.{◌≡◌, ℕ, ◌<◌, true, List, All, length, map}
+use Rattle.std.specs.Prelude.{◌≡◌, ℕ, ◌<◌, true, List, [], ◌∷◌, All, length, map}
 use Rattle.mm_frame.specs.declared.symbol.NamedSymbol.{NamedSymbol}
 use Rattle.mm_frame.specs.declared.symbol.NumberedSymbol.{NumberedSymbol}
 use Rattle.mm_frame.specs.Language.Frame.{Symbol, AreSamePairs}
@@ -8,6 +8,10 @@ use Rattle.mm_frame.specs.Language.Names.{name_at}
 -- what symbol it is, with its name in it
 abbrev pub named_symbol : NamedSymbol → Symbol
 named_symbol kept = record { name = kept.name.items; variable = kept.variable }
+
+-- the symbol whose name is its number
+abbrev pub by_number : NumberedSymbol → Symbol
+by_number kept = record { name = kept.name ∷ []; variable = kept.variable }
 
 -- what symbol it is
 abbrev pub symbol_of : List (List ℕ) → NumberedSymbol → Symbol

@@ -1,8 +1,7 @@
 -- What the code keeps of the items for a base.
-use Rattle.std.specs.Prelude.{◌≡◌, ℕ, ◌<◌, ◌≤◌, Bool, true, ◌&&◌, if◌then◌else◌, Some, None, is_some, is_none, List, length, take, slice_get, Option, Vec}
+use Rattle.std.specs.Prelude.{◌≡◌, ℕ, ◌<◌, ◌≤◌, Bool, true, ◌&&◌, if◌then◌else◌, Some, None, is_some, is_none, List, length, take, slice_get, Option}
 use Rattle.std.specs.Option.{option_map}
 use Rattle.std.specs.List.{AllZip}
-use Rattle.std.specs.Global.{Global}
 use Rattle.mm_frame.specs.declared.base.Base.{Base}
 use Rattle.mm_frame.specs.declared.draft.Draft.{Draft}
 use Rattle.mm_frame.specs.declared.draft.Parts.{Parts}
@@ -77,7 +76,7 @@ pub record AreRows {X : Type 0} (tells : List Item → Item → X → Type 0) (s
 pub record IsDraft (all : List (List ℕ)) (said : List Item) (draft : Draft) : Type 0 where
   pub scope : ScopeHolds all (sound_items said) draft.scope
   pub rows : AreRows TellsRow said draft.rows.items
-  pub symbols : AreSymbols all (sound_items said) draft.expressions.items
+  pub symbols : AreSymbols all (sound_items said) draft.expressions
   pub frames : AreRows (TellsFrame all) said draft.frames.items
   pub essentials : draft.essentials ≡ active_numbers is_essential_item (sound_items said)
   pub disjoints : draft.disjoints ≡ active_numbers is_disjoint_item (sound_items said)
@@ -96,7 +95,7 @@ KnowsLabels items tables = (label : List ℕ) → table_label tables label ≡ l
 -- what is kept of items that say this
 pub record AreParts (all : List (List ℕ)) (said : List Item) (parts : Parts) : Type 0 where
   pub rows : AreRows TellsRow said parts.rows.items
-  pub symbols : AreSymbols all (sound_items said) parts.expressions.items
+  pub symbols : AreSymbols all (sound_items said) parts.expressions
   pub frames : AreRows (TellsFrame all) said parts.frames.items
   pub labels : KnowsLabels (sound_items said) parts.tables
   pub marks : parts.blocks ≡ marks_of (sound_items said)
@@ -124,8 +123,8 @@ abbrev pub rows_of : Base → List Row
 rows_of code = code.parts.rows.items
 
 -- the expressions that the code keeps
-abbrev pub expressions_of : Base → List (Vec NumberedSymbol Global)
-expressions_of code = code.parts.expressions.items
+abbrev pub expressions_of : Base → List (List NumberedSymbol)
+expressions_of code = code.parts.expressions
 
 -- the frames that the code keeps
 abbrev pub frames_of : Base → List (Option Frame)

@@ -1,5 +1,5 @@
 -- The lists of active pairs, each made once, for a count of items.
-use Rattle.std.specs.Prelude.{◌≡◌, ℕ, ◌≤◌, leb, cond, Option, Some, None, List, [], ◌∷◌, ◌++◌, length, map, take, slice_get, nat_eq, Vec}
+use Rattle.std.specs.Prelude.{◌≡◌, ℕ, ◌≤◌, leb, cond, Option, Some, None, List, [], ◌∷◌, ◌++◌, length, map, take, slice_get, nat_eq, Contains, Vec}
 use Rattle.std.specs.HashMap.{get}
 use Rattle.std.specs.Global.{Global}
 use Rattle.mm_frame.specs.declared.symbol.NumberedSymbol.{NumberedSymbol}
@@ -7,6 +7,8 @@ use Rattle.mm_frame.specs.declared.pair_lists.PairLists.{PairLists}
 use Rattle.mm_frame.specs.Language.Frame.{Symbol}
 use Rattle.mm_frame.specs.Language.Item.{Item}
 use Rattle.mm_frame.specs.Language.Framing.{active_pairs}
+use Rattle.mm_frame.specs.Language.Scope.{active_numbers}
+use Rattle.mm_frame.specs.Code.LastItems.{is_disjoint_item}
 use Rattle.mm_frame.specs.Code.CodeSymbols.{AreSamePairsRead}
 
 -- the pairs of a list: none where there is no list
@@ -57,7 +59,15 @@ pub record KeepsLists (old new : PairLists) : Type 0 where
   pub more : List (Vec (NumberedSymbol × NumberedSymbol) Global)
   pub whole : new.lists.items ≡ old.lists.items ++ more
 
--- behind so many of the items the active pairs are those behind all
-pub record HasActivePairs (before : List Item) (count : ℕ) : Type 0 where
+-- behind so many of the items these are the numbers of the active `$d`
+pub record IsFront (before : List Item) (numbers : List ℕ) (count : ℕ) : Type 0 where
   pub within : count ≤ length before
-  pub pairs : active_pairs (take count before) ≡ active_pairs before
+  pub active : numbers ≡ active_numbers is_disjoint_item (take count before)
+
+-- the list has each of these pairs
+abbrev pub HasEach : List (NumberedSymbol × NumberedSymbol) → List (NumberedSymbol × NumberedSymbol) → Type 0
+HasEach list pairs = (p : NumberedSymbol × NumberedSymbol) → Contains pairs p → Contains list p
+
+-- the two lists have the same pairs
+abbrev pub HasSame : List (NumberedSymbol × NumberedSymbol) → List (NumberedSymbol × NumberedSymbol) → Type 0
+HasSame pairs list = HasEach list pairs × HasEach pairs list

@@ -1,7 +1,6 @@
 -- Symbols and expressions as the code keeps them.
-use Rattle.std.specs.Prelude.{◌≡◌, ℕ, ◌||◌, Bool, true, not, length, if◌then◌else◌, Option, Some, None, List, [], All, take, slice_get, option_to_list, Vec}
+use Rattle.std.specs.Prelude.{◌≡◌, ℕ, ◌||◌, Bool, true, not, length, if◌then◌else◌, Option, Some, None, List, [], All, take, slice_get, option_to_list}
 use Rattle.std.specs.List.{flat_map}
-use Rattle.std.specs.Global.{Global}
 use Rattle.mm_frame.specs.declared.symbol.NumberedSymbol.{NumberedSymbol}
 use Rattle.mm_frame.specs.declared.tables.Tables.{Tables}
 use Rattle.mm_frame.specs.Language.Frame.{Symbol}
@@ -24,16 +23,16 @@ abbrev pub variable_by : ℕ → NumberedSymbol
 variable_by n = record { name = n; variable = true }
 
 -- the symbols that are kept for an item: none where nothing is kept
-abbrev pub kept_or_none : Option (Vec NumberedSymbol Global) → List NumberedSymbol
+abbrev pub kept_or_none : Option (List NumberedSymbol) → List NumberedSymbol
 kept_or_none None = []
-kept_or_none (Some kept) = kept.items
+kept_or_none (Some kept) = kept
 
 -- the symbols that are kept for the item with this number
-abbrev pub expression_kept : List (Vec NumberedSymbol Global) → ℕ → List NumberedSymbol
+abbrev pub expression_kept : List (List NumberedSymbol) → ℕ → List NumberedSymbol
 expression_kept expressions n = kept_or_none (slice_get expressions n)
 
 -- for each `$f`, `$e`, `$a` and `$p` its expression is kept, read at its own place
-abbrev pub AreExpressions : List (List ℕ) → List Item → List (Vec NumberedSymbol Global) → Type 0
+abbrev pub AreExpressions : List (List ℕ) → List Item → List (List NumberedSymbol) → Type 0
 AreExpressions all before expressions = (n : ℕ) (item : Item) → slice_get before n ≡ Some item → is_labelled item.kind ≡ true
     → symbols_of all (expression_kept expressions n) ≡ expression (take n before) item
 
@@ -42,11 +41,11 @@ abbrev pub is_read : Kind → Bool
 is_read kind = is_labelled kind || is_disjoint kind
 
 -- each symbol that is kept has the number of a name
-abbrev pub AreNumbered : List (List ℕ) → List (Vec NumberedSymbol Global) → Type 0
+abbrev pub AreNumbered : List (List ℕ) → List (List NumberedSymbol) → Type 0
 AreNumbered all expressions = (n : ℕ) → All (IsNumbered all) (expression_kept expressions n)
 
 -- for each of these its symbols are kept, read at its own place
-pub record AreSymbols (all : List (List ℕ)) (before : List Item) (expressions : List (Vec NumberedSymbol Global)) : Type 0 where
+pub record AreSymbols (all : List (List ℕ)) (before : List Item) (expressions : List (List NumberedSymbol)) : Type 0 where
   pub count : length expressions ≡ length before
   pub numbered : AreNumbered all expressions
   pub each : (n : ℕ) (item : Item) → slice_get before n ≡ Some item → is_read item.kind ≡ true

@@ -1,7 +1,6 @@
 -- The pairs of a frame in one order, as the code keeps them.
-use Rattle.std.specs.Prelude.{ℕ, Bool, ◌&&◌, ◌||◌, if◌then◌else◌, List, [], drop, filter, flat_map, bytes_eq, nat_eq, slice_get, option_to_list, Vec}
+use Rattle.std.specs.Prelude.{ℕ, Bool, ◌&&◌, ◌||◌, if◌then◌else◌, List, [], drop, filter, flat_map, bytes_eq, nat_eq, slice_get, option_to_list}
 use Rattle.std.specs.List.{list_any}
-use Rattle.std.specs.Global.{Global}
 use Rattle.mm_frame.specs.declared.symbol.NumberedSymbol.{NumberedSymbol}
 use Rattle.mm_frame.specs.Language.Frame.{Symbol, Mandatory, Frame}
 use Rattle.mm_frame.specs.Language.Framing.{pairs_of}
@@ -26,9 +25,9 @@ abbrev pub is_among : List ℕ → ℕ → Bool
 is_among numbers n = list_any (nat_eq n) numbers
 
 -- the variable of a `$f`, from what is kept for it: none where the number is one of the active `$e`
-abbrev pub float_variable : List ℕ → List (Vec NumberedSymbol Global) → ℕ → List NumberedSymbol
+abbrev pub float_variable : List ℕ → List (List NumberedSymbol) → ℕ → List NumberedSymbol
 float_variable essentials expressions n = if is_among essentials n then [] else option_to_list (slice_get (expression_kept expressions n) 1)
 
 -- the variables of the `$f` among some hypotheses, in order
-abbrev pub float_variables : List ℕ → List (Vec NumberedSymbol Global) → List ℕ → List NumberedSymbol
+abbrev pub float_variables : List ℕ → List (List NumberedSymbol) → List ℕ → List NumberedSymbol
 float_variables essentials expressions numbers = flat_map (float_variable essentials expressions) numbers

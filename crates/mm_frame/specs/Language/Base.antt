@@ -3,7 +3,7 @@ use Rattle.std.specs.Prelude.{◌≡◌, ◌<◌, ◌↔◌, ℕ, suc, Bool, tru
 use Rattle.std.specs.Prelude.{Contains}
 use Rattle.std.specs.List.{AllZip}
 use Rattle.mm_store.specs.declared.item.Item as store
-use Rattle.mm_store.specs.Language.FilesView.{FilesView}
+use Rattle.mm_store.specs.Language.FilesView.{FilesView, files_in}
 use Rattle.mm_store.specs.Language.Expansion.{IsExpansion}
 use Rattle.mm_frame.specs.declared.FrameNumber.{FrameNumber}
 use Rattle.mm_frame.specs.declared.FrameNumber.TheVariants.{F14}
@@ -21,7 +21,7 @@ pub record BaseView : Type 0 where
 
 -- they are the items of these files from the top file on
 pub record IsOfFiles (files : FilesView) (top : List ℕ) (base : BaseView) : Type 0 where
-  pub expansion : IsExpansion files.files top base.found
+  pub expansion : IsExpansion (files_in files) top base.found
   pub each : AllZip (Says files) base.found base.said
 
 -- what each item says is what its words say, in some files

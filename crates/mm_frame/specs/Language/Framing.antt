@@ -1,7 +1,7 @@
 -- Frames: the mandatory variables, hypotheses and pairs of an assertion, and what a label means at a statement (Metamath book, section 4.2).
 use Rattle.std.specs.Prelude.{ℕ, Bool, ◌&&◌, ◌||◌, if◌then◌else◌, List, [], ◌∷◌, ◌++◌, take, map, filter, flat_map}
 use Rattle.mm_frame.specs.Language.Frame.{Symbol, Mandatory, Frame, Resolved, Hypothesis, Assertion, Inactive, Unknown, Setting}
-use Rattle.mm_frame.specs.Language.Item.{Item, item_at, is_disjoint, is_floating, is_essential, is_assertion, has, labels_of, variable_of}
+use Rattle.mm_frame.specs.Language.Item.{Item, is_disjoint, is_floating, is_essential, is_assertion, has, labels_of, variable_of}
 use Rattle.mm_frame.specs.Language.Scope.{stays, active, active_numbers, symbols_by, active_variables}
 use Rattle.mm_frame.specs.Language.Sound.{sound_items}
 
@@ -83,7 +83,3 @@ before_of items j = sound_items (take j items)
 -- what the proof of item j is read against
 abbrev pub setting_of : List Item → ℕ → Setting
 setting_of items j = setting (before_of items j)
-
--- the expression that the proof of item j is of
-abbrev pub statement_of : List Item → ℕ → List Symbol
-statement_of items j = expression (before_of items j) (item_at items j)

@@ -1,8 +1,7 @@
 -- What is proved of scopes, soundness and frames: each is the contract of a function.
 use Rattle.std.specs.Prelude.{◌≡◌, ℕ, ◌<◌, ◌≤◌, ◌↔◌, ◌⊎◌, true, Some, None, List, [], ◌∷◌, ◌++◌, map, take, count_by, slice_get}
-use Rattle.mm_store.specs.Language.FilesView.{FilesView}
-use Rattle.mm_store.specs.Language.FileFacts.{HaveOwnKeys}
-use Rattle.mm_store.specs.Language.Keyless.{keyless_file, keyless_item}
+use Rattle.mm_store.specs.Language.FilesView.{FilesView, plain}
+use Rattle.mm_store.specs.Language.Keyless.{keyless_item}
 use Rattle.mm_frame.specs.Language.Typing.{HasFrames}
 use Rattle.mm_frame.specs.Language.Item.{Item}
 use Rattle.mm_frame.specs.Language.Numbered.{IsActive, between}
@@ -73,16 +72,13 @@ MandatoryMeans = (base : BaseView) (i n : ℕ) (label : List ℕ) → IsCarrier 
 abbrev pub MandatoryStandBefore : Type 0
 MandatoryStandBefore = (base : BaseView) (i : ℕ) → AreHypotheses base i (mandatory_numbers (before base i) (said_at base i))
 
--- Files in which a key has one text have one base from a top file on.
+-- Files have one base from a top file on.
 abbrev pub FilesHaveOneBase : Type 0
-FilesHaveOneBase = (files : FilesView) (top : List ℕ) (base other : BaseView) → HaveOwnKeys files → IsOfFiles files top base → IsOfFiles files top other
-    → base ≡ other
+FilesHaveOneBase = (files : FilesView) (top : List ℕ) (base other : BaseView) → IsOfFiles files top base → IsOfFiles files top other → base ≡ other
 
 -- two bases of files that are the same but for the keys of their pieces
 pub record AreAlikeBases (a b : FilesView) (top : List ℕ) (base other : BaseView) : Type 0 where
-  pub files : map keyless_file a.files ≡ map keyless_file b.files
-  pub keys : HaveOwnKeys a
-  pub other_keys : HaveOwnKeys b
+  pub files : plain a ≡ plain b
   pub is_base : IsOfFiles a top base
   pub is_other : IsOfFiles b top other
 

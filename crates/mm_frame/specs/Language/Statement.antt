@@ -1,7 +1,7 @@
 -- What the items of the files say: the label, the symbols and the proof of each, from its words (Metamath book, section 4.1.3).
 use Rattle.std.specs.Prelude.{◌≡◌, ℕ, ◌+◌, Bool, true, false, if◌then◌else◌, Option, None, List, length, map, take, drop, slice_get, slice_range}
 use Rattle.std.specs.Option.{option_map}
-use Rattle.std.specs.List.{AllZip, prefix_len}
+use Rattle.std.specs.List.{prefix_len}
 use Rattle.mm_text.specs.declared.word.WordKind.{WordKind}
 use Rattle.mm_text.specs.declared.word.WordKind.TheVariants as words
 use Rattle.mm_text.specs.Language.Unit.{Token, tokens_of}
@@ -10,7 +10,6 @@ use Rattle.mm_store.specs.declared.item.ItemKind.{ItemKind}
 use Rattle.mm_store.specs.declared.item.ItemKind.TheVariants as items
 use Rattle.mm_store.specs.Language.FilesView.{FilesView}
 use Rattle.mm_store.specs.Language.FileFacts.{CanBeRead}
-use Rattle.mm_store.specs.Language.Expansion.{IsExpansion}
 use Rattle.mm_frame.specs.Language.Item.{Kind, Constants, Variables, Disjoint, Floating, Essential, Axiom, Theorem, BlockStart, BlockEnd, Missing, Item}
 use Rattle.mm_frame.specs.Language.Item.{is_labelled}
 
@@ -72,9 +71,3 @@ item_of kind tokens = record {
 pub record Says (files : FilesView) (item : store.Item) (said : Item) : Type 0 where
   pub read : CanBeRead files item
   pub is : said ≡ item_of (kind_of item.kind) (tokens_of (slice_range read.text item.start item.end) read.words)
-
--- what the items of the files say, from the top file on
-pub record AreItems (files : FilesView) (top : List ℕ) (items : List Item) : Type 0 where
-  pub found : List store.Item
-  pub expansion : IsExpansion files.files top found
-  pub each : AllZip (Says files) found items

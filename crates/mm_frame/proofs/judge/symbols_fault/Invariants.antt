@@ -2,4 +2,4 @@ use Rattle.mm_frame.proofs.FaultLemmas.{Passes}
 use Rattle.mm_frame.proofs.judge.symbols_fault.Given as goal
 
 abbrev pub invariant-loop-n : goal.invariant-loop-n
-invariant-loop-n l = Passes l.scope l.statement l.numbers l.n l.seen
+invariant-loop-n l = Passes l.kept l.scope l.statement l.numbers l.n l.seen

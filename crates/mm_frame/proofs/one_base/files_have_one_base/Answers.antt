@@ -6,7 +6,7 @@ laws : After-keys_do_not_matter → ReadingLaws
 laws c = record {
   words = c.one_meaning.ensures.words;
   expansion = c.one_expansion.ensures;
-  items = c.keys_do_not_matter.ensures.items;
+  items = c.keys_do_not_matter.ensures;
   stand = c.items_stand.ensures.stand;
 }
 

@@ -9,7 +9,7 @@ pub returns : goal.returns
 returns c = λ all distinct. record {
   scope = c.new.ensures all distinct;
   rows = subst (AreRows TellsRow []) (sym c.new-3.ensures.items) (rows_none TellsRow);
-  symbols = subst (AreSymbols all []) (sym c.new-4.ensures.items) (symbols_none all);
+  symbols = subst (AreSymbols all []) (sym c.new-4.ensures) (symbols_none all);
   frames = subst (AreRows (TellsFrame all) []) (sym c.new-5.ensures.items) (rows_none (TellsFrame all));
   essentials = c.new-6.ensures.first is_essential_item;
   disjoints = c.new-7.ensures.first is_disjoint_item;

@@ -48,29 +48,29 @@ returns c all said first d numbers_first numbers =
     let holds = c.in_ok-next.ensures all before are_sound d.scope is_sound (subst (λ w. AreNumbersOf all w item.symbols) (sym c.deref-6.ensures.value) numbers) in
     let number : c.len-number.result ≡ length before = omega (arith, c.len-number.ensures, kept_count said, d.rows.count, c.args.self.now.rows.ok.0) in
     let pairs = c.in_ok-follow_pairs.ensures all before item d.scope.knows.distinct are_sound c.kind-3.ensures.kind number (c.blocks-2.ensures ∙ d.scope.marks)
-    (subst (λ w. AreNumbersOf all w item.symbols) (sym c.deref-5.ensures.value) numbers) is_sound d.pair_table in
+    (subst (λ w. AreNumbersOf all w item.symbols) (sym c.deref-4.ensures.value) numbers) is_sound d.pair_table in
     let this = c.kind-kind.ensures.kind in
     let marks = c.blocks-blocks.ensures ∙ holds.marks in
     let essentials = c.in_ok-follow.ensures is_essential before item essential_sort this (c.is_essential.ensures ∙ ap is_essential this) number marks d.essentials in
     let disjoints = c.in_ok-follow-2.ensures is_disjoint before item disjoint_sort this (c.is_disjoint.ensures ∙ ap is_disjoint this) number marks d.disjoints in
     let lists = c.keep_pairs.new.pair_lists in
     let active_disjoints = c.as_slice.ensures ∙ d.disjoints in
-    let kept_symbols = subst (λ w. AreSymbols all before w) (sym c.deref-4.ensures.value) d.symbols in
+    let added = c.in_ok-add.ensures ∙ ap (λ w. c.args.self.now.expressions ++ w ∷ []) c.deref-5.ensures.value in
     let proof = proof_told before item flag c.has_proof.result (kind_of c.kind-2.result) c.kind-2.ensures.kind c.has_proof.ensures (none_fault (λ f. (f.word, f.number)) before item found told ∙ none) in
-    let made = made_more all before (taken flag item ∷ []) lists (c.in_ok-keep_pairs.ensures.made all before are_sound kept_symbols active_disjoints d.made) in
+    let made = made_more all before (taken flag item ∷ []) lists (c.in_ok-keep_pairs.ensures.made all before are_sound d.symbols active_disjoints d.made) in
     record {
       scope = subst (λ w. ScopeHolds all w c.next.new.self) more holds;
-      rows = subst (λ w. AreRows TellsRow (said ++ item ∷ []) w) (sym c.in_ok-push-3.ensures.items) (rows_more TellsRow said item c.args.self.now.rows.items c.in_ok-row.row d.rows (record {
+      rows = subst (λ w. AreRows TellsRow (said ++ item ∷ []) w) (sym c.in_ok-push-2.ensures.items) (rows_more TellsRow said item c.args.self.now.rows.items c.in_ok-row.row d.rows (record {
         label = c.in_ok-row.ensures.label;
         labelled = c.in_ok-row.ensures.labelled;
         fault = c.in_ok-row.ensures.fault ∙ ap (fault_by item.kind) told;
       }));
-      symbols = subst (λ w. AreSymbols all w c.push-2.new.self.items) more
-          (subst (λ w. AreSymbols all (before ++ taken flag item ∷ []) w) (sym c.in_ok-push-2.ensures.items) (symbols_more all before (taken flag item) c.args.self.now.expressions.items symbols d.symbols numbered read));
+      symbols = subst (λ w. AreSymbols all w c.add.new.self) more
+          (subst (λ w. AreSymbols all (before ++ taken flag item ∷ []) w) (sym added) (symbols_more all before (taken flag item) c.args.self.now.expressions symbols.items d.symbols numbered read));
       frames = subst (λ w. AreRows (TellsFrame all) (said ++ item ∷ []) w) (sym c.in_ok-push.ensures.items) (rows_more (TellsFrame all) said item c.args.self.now.frames.items c.in_ok-frame.frame d.frames frame_told);
       essentials = essentials ∙ ap (active_numbers is_essential_item) more;
       disjoints = disjoints ∙ ap (active_numbers is_disjoint_item) more;
       made = subst (λ w. AreMade all w lists) more made;
-      pair_numbers = c.in_ok-keep_pairs.ensures.pairs all said item kept_symbols active_disjoints d.made proof d.pair_numbers;
+      pair_numbers = c.in_ok-keep_pairs.ensures.pairs all said item d.symbols active_disjoints d.made proof d.pair_numbers;
       pair_table = subst (λ w. KnowsPairs all w c.follow_pairs.new.pairs) more pairs;
     }

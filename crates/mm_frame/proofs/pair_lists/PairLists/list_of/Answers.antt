@@ -1,29 +1,49 @@
-use Rattle.std.proofs.Common.{Some, cond, nat_eq, sym, ap, subst, ◌∙◌}
+use Rattle.std.proofs.Common.{ℕ, [], Some, cond, nat_eq, List, take, drop, take-append-drop, append-nil, flat_map, sym, ap, subst, ◌∙◌}
+use Rattle.std.proofs.lemmas.List.{take_rest}
 use Rattle.std.specs.HashMap.{get}
 use Rattle.mm_frame.specs.Language.Framing.{active_pairs}
 use Rattle.mm_frame.specs.declared.pair_lists.PairLists.{PairLists}
-use Rattle.mm_frame.specs.Code.KeptPairLists.{KeepsLists, IsList}
-use Rattle.mm_frame.proofs.PairListLemmas.{made_one_more, is_list}
+use Rattle.mm_frame.specs.Code.CodeSymbols.{AreSamePairsRead}
+use Rattle.mm_frame.specs.Code.KeptPairLists.{KeepsLists, IsList, pairs_among}
+use Rattle.mm_frame.specs.Code.KeptSymbols.{expression_kept}
+use Rattle.mm_frame.proofs.Members.{In, in_right}
+use Rattle.mm_frame.proofs.PairLemmas.{pairs_at}
+use Rattle.mm_frame.proofs.PairListLemmas.{made_one_more, whole_front, front_and_own, active_read}
 use Rattle.mm_frame.proofs.pair_lists.PairLists.list_of.Goals as goal
 
 pub returns-clause-pairs : goal.returns-clause-pairs
 returns-clause-pairs c all before h a e m =
-    let new : PairLists = record { lists = c.keep.new.self.lists; made = c.insert.new.self } in
-    let there = c.in_ok-k.ensures.there in
-    is_list all new c.in_ok-k.k c.in_ok-list.list.items (active_pairs before) (record { list = there.list; there = there.there; same = there.same }) (c.in_ok-list.ensures all before h a e)
+    let disjoints = c.args.disjoints.now in
+    let n = c.outer_count-outer.result in
+    let outer = take n disjoints in
+    let own = drop n disjoints in
+    let both = take-append-drop n disjoints ∙ e in
+    let front = c.count_to_last-front.ensures all before own a both in
+    let base = c.in_ok-base.ensures.pairs all before h a front m in
+    let added = flat_map (pairs_at before) own in
+    let listed = λ (w : List ℕ). AreSamePairsRead all added (flat_map (λ k. pairs_among (expression_kept c.args.expressions.now k)) w) in
+    let read = subst listed (sym (take_rest disjoints n)) (active_read all before c.args.expressions.now own a (λ k q. subst (λ w. In k w) both (in_right k outer own q))) in
+    let made = c.in_ok-k.ensures.pairs all (active_pairs (take c.count_to_last-front.result before)) added base read in
+    record { list = made.list; there = made.there; read = subst (λ w. AreSamePairsRead all w made.list.items) (front_and_own before outer own c.count_to_last-front.result h both front) made.read }
 
 pub returns-clause-made : goal.returns-clause-made
 returns-clause-made c all before h a e m =
-    let old = c.args.self.now in
-    let new : PairLists = record { lists = c.keep.new.self.lists; made = c.insert.new.self } in
-    let kept = c.in_ok-k.ensures.kept in
-    let keeps : KeepsLists old new = record { more = kept.more; whole = kept.whole } in
+    let disjoints = c.args.disjoints.now in
+    let n = c.outer_count-outer.result in
     let count = c.count_to_last-count.result in
     let k = c.in_ok-k.k in
-    made_one_more all before old new count k keeps m (c.count_to_last-count.ensures all before h a e) (returns-clause-pairs c all before h a e m)
+    let new : PairLists = record { lists = c.extended.new.self.lists; made = c.insert.new.self; reach = count } in
+    let outer = c.count_to_last-front.ensures all before (drop n disjoints) a (take-append-drop n disjoints ∙ e) in
+    let whole = c.count_to_last-count.ensures all before [] a (append-nil disjoints ∙ e) in
+    let more = c.in_ok-k.ensures.kept in
+    let keeps : KeepsLists c.outer_list.new.self new = record { more = more.more; whole = more.whole } in
+    made_one_more all before c.outer_list.new.self new count k keeps (c.in_ok-base.ensures.made all before h a outer m) whole.within
+    (subst (IsList all new k) (sym (whole_front before disjoints count h e whole)) (returns-clause-pairs c all before h a e m))
     (λ other. c.in_ok-insert.ensures.updates.0 other ∙ ap (λ w. cond (nat_eq count other) (Some k) (get nat_eq w other)) c.in_ok-k.ensures.made)
 
 pub returns-in-Some-clause-pairs : goal.returns-in-Some-clause-pairs
 returns-in-Some-clause-pairs c all before h a e m =
+    let disjoints = c.args.disjoints.now in
     let made = m c.count_to_last-count.result c.in-Some.k (sym c.made_for.ensures ∙ c.in-Some.is) in
-    subst (IsList all c.args.self.now c.in-Some.k) (c.count_to_last-count.ensures all before h a e).pairs made.list
+    let front = c.count_to_last-count.ensures all before [] a (append-nil disjoints ∙ e) in
+    subst (IsList all c.args.self.now c.in-Some.k) (whole_front before disjoints c.count_to_last-count.result h e front) made.list
