@@ -8,7 +8,7 @@ use Rattle.mm_frame.specs.Language.Frame.{Resolved, Hypothesis, Assertion, Inact
 use Rattle.mm_proof.specs.Language.Expansion.{Step, Named, Saved, Save, NotKnown}
 use Rattle.mm_proof.specs.Language.Citing.{label_words, firsts, means_assertion, names_assertion, is_cited, cites}
 use Rattle.mm_proof.specs.Language.Decoding.{Steps, is_close, is_compressed, word_spot, steps_in, decoded, decoding}
-use Rattle.mm_proof.specs.Language.View.{AreSameMeaning, IsSameLabel, labels_named, AreSameToDecode}
+use Rattle.mm_proof.specs.Language.SameProof.{AreSameMeaning, IsSameLabel, labels_named, AreSameToDecode}
 use Rattle.mm_proof.specs.declared.Spot.{Spot}
 use Rattle.mm_proof.proofs.SameLemmas.{IsBoth, AreSame, steps_same}
 

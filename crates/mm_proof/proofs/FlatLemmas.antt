@@ -78,11 +78,6 @@ pub same_at : {S M : Type 0} (f : S → M) (xs ys : List S) (i : ℕ) (x y : S) 
 same_at f xs ys i x y at_x at_y in_xs in_ys e =
     ap f at_x ∙ sym (get_or-map f xs i x (f x) in_xs) ∙ ap (λ ms. get_or ms i (f x)) e ∙ get_or-map f ys i y (f x) in_ys ∙ sym (ap f at_y)
 
--- the same of lists of two types
-pub same_meaning_at : {R S M : Type 0} (e : R → M) (f : S → M) (xs : List R) (ys : List S) (i : ℕ) (x : R) (y : S) → x ≡ get_or xs i x → y ≡ get_or ys i y → i < length xs → i < length ys → map e xs ≡ map f ys → e x ≡ f y
-same_meaning_at e f xs ys i x y at_x at_y in_xs in_ys same =
-    ap e at_x ∙ sym (get_or-map e xs i x (e x) in_xs) ∙ ap (λ ms. get_or ms i (e x)) same ∙ get_or-map f ys i y (e x) in_ys ∙ sym (ap f at_y)
-
 -- the whole expression, by the symbols so far, one more, and the rest
 pub put_rest : (given : Symbol → List Symbol) (expression : List Symbol) (k : ℕ) (s : Symbol) → slice_get expression k ≡ Some s → substituted given expression ≡ substituted given (take k expression) ++ (replacement given s ++ substituted given (drop (k + 1) expression))
 put_rest given expression k s e =

@@ -55,7 +55,7 @@ pub none_more : (listed : List (List ℕ)) (word : List ℕ) → list_any is_clo
 none_more [] word e f = rw f refl
 none_more (first ∷ listed) word e f = let p = or_false (is_close first) (list_any is_close listed) e in rw (p.0, none_more listed word p.1 f) refl
 
-before_one : (word : List ℕ) (words : List (List ℕ)) → is_close word ≡ false → before_first is_close (word ∷ words) ≡ word ∷ before_first is_close words
+pub before_one : (word : List ℕ) (words : List (List ℕ)) → is_close word ≡ false → before_first is_close (word ∷ words) ≡ word ∷ before_first is_close words
 before_one word words e = rw (e, one-add) refl
 
 -- the words before the first `)` begin with those that are none

@@ -15,7 +15,7 @@ use Rattle.mm_proof.specs.Language.Machine.{AreAllKnown}
 use Rattle.mm_proof.specs.Language.Run.{run_part}
 use Rattle.mm_proof.proofs.Part.{part_same}
 use Rattle.mm_proof.specs.Language.Verdict.{Decoded, IsFirstUnknown, IsWrongBy, IsVerdictOnSteps}
-use Rattle.mm_proof.specs.Language.View.{AreSameMeaning, IsSameStep, IsSameProof}
+use Rattle.mm_proof.specs.Language.SameProof.{AreSameMeaning, IsSameStep, IsSameProof}
 use Rattle.mm_proof.specs.declared.Spot.{Spot}
 use Rattle.mm_proof.specs.declared.ProofNumber.{ProofNumber}
 use Rattle.mm_proof.specs.declared.ProofNumber.TheVariants.{P07, P08, P09, P10, P11, P12, P14, P15}

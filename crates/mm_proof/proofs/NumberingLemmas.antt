@@ -10,7 +10,8 @@ use Rattle.mm_frame.specs.Language.Names.{AreDistinct, name_at}
 use Rattle.mm_frame.specs.Code.CodeSymbols.{symbol_of, symbols_of, pair_of, kept_pairs, IsNumbered, IsPairNumbered}
 use Rattle.mm_proof.specs.Language.Renaming.{IsRenaming, renamed_pair, renamed_pairs}
 use Rattle.mm_proof.specs.Code.Citation.{pairs_of}
-use Rattle.mm_proof.specs.Code.NumberedBase.{by_number, all_by_number}
+use Rattle.mm_frame.specs.Code.CodeSymbols.{by_number}
+use Rattle.mm_proof.specs.Code.NumberedBase.{all_by_number}
 use Rattle.mm_proof.specs.Code.Numbering.{exchanged, named_from, numbered_from, naming, unnaming}
 
 same_names : (a b : List ℕ) → a ≡ b → bytes_eq a b ≡ true

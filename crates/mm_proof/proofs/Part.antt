@@ -8,7 +8,7 @@ use Rattle.mm_frame.specs.Language.Frame.{Setting}
 use Rattle.mm_proof.specs.Language.Expansion.{Step, Named, Saved, Save, NotKnown}
 use Rattle.mm_proof.specs.Language.Machine.{AreAllKnown}
 use Rattle.mm_proof.specs.Language.Run.{is_unknown, run_part}
-use Rattle.mm_proof.specs.Language.View.{IsSameStep}
+use Rattle.mm_proof.specs.Language.SameProof.{IsSameStep}
 use Rattle.mm_proof.proofs.Threaded.{AreDecodedAfter}
 
 -- a known step

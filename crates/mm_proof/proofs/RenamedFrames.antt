@@ -7,7 +7,7 @@ use Rattle.std.proofs.lemmas.List.Elements.{All-map}
 use Rattle.std.proofs.lemmas.Option.{slice_get-map}
 use Rattle.mm_frame.specs.Language.Frame.{Symbol, Mandatory, Frame, Resolved, Hypothesis, Assertion, Inactive, Unknown, Setting, ArePair, AreSamePairs}
 use Rattle.mm_frame.specs.Language.Typing.{IsTyped, IsTyping, IsFrame, HasFrames}
-use Rattle.mm_proof.specs.Language.View.{AreSameMeaning}
+use Rattle.mm_proof.specs.Language.SameProof.{AreSameMeaning}
 use Rattle.mm_proof.specs.Language.Renaming.{IsRenaming, renamed_pair, renamed_pairs, renamed_mandatory, renamed_frame, renamed_meaning, IsRenamedSetting}
 use Rattle.mm_frame.specs.declared.symbol.NumberedSymbol.{NumberedSymbol}
 use Rattle.mm_frame.specs.Language.Names.{AreDistinct}
@@ -17,7 +17,8 @@ use Rattle.mm_proof.specs.Code.Citation.{pairs_of}
 use Rattle.mm_proof.specs.Code.Tasks.{RunSays}
 use Rattle.mm_proof.specs.declared.stepping.Outcome.{Outcome}
 use Rattle.mm_proof.specs.Code.Numbering.{naming, unnaming}
-use Rattle.mm_proof.specs.Code.NumberedBase.{renamed_setting, by_number}
+use Rattle.mm_frame.specs.Code.CodeSymbols.{by_number}
+use Rattle.mm_proof.specs.Code.NumberedBase.{renamed_setting}
 use Rattle.mm_proof.proofs.NumberingLemmas.{naming_is_renaming, pairs_numbered}
 use Rattle.mm_proof.proofs.RenamingLemmas.{map_back, contains_map, contains_back, pair_there, pair_back, renaming_back, mandatory_there, has_there, has_back, setting_back, run_renamed}
 

@@ -13,7 +13,7 @@ use Rattle.mm_proof.specs.Language.Faults.{AnyZip, UnderGiven, LackPair, entries
 use Rattle.mm_proof.specs.Language.Reaches.{Reaches, IsStepFault}
 use Rattle.mm_proof.specs.Language.Run.{run_part}
 use Rattle.mm_proof.specs.Language.Verdict.{Decoded, IsWrongBy, IsVerdictOnSteps}
-use Rattle.mm_proof.specs.Language.View.{AreSameMeaning, IsSameStep}
+use Rattle.mm_proof.specs.Language.SameProof.{AreSameMeaning, IsSameStep}
 use Rattle.mm_proof.specs.Language.Renaming.{IsRenaming, renamed_pair, renamed_pairs, renamed_mandatory, renamed_frame, renamed_meaning, IsRenamedSetting}
 use Rattle.mm_proof.specs.Language.Decoding.{Steps, in_order, usable, read_label, each_word, is_close, if_read, letter_steps, is_compressed, decoded, word_spot, decoding}
 use Rattle.mm_proof.specs.Language.Citing.{label_words, firsts, means_assertion, names_assertion, cites}

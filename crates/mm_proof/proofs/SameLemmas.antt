@@ -12,7 +12,7 @@ use Rattle.mm_proof.specs.Language.Decoding.{alone, read_letter, read_group, gro
 use Rattle.mm_proof.specs.Language.Decoding.{compressed_steps, steps_in, word_spot, decoded, decoding}
 use Rattle.mm_proof.specs.Language.Decoding.{if_read}
 use Rattle.mm_proof.specs.Language.Citing.{means_assertion}
-use Rattle.mm_proof.specs.Language.View.{AreSameMeaning, IsSameHypothesis, IsSameStep, IsSameDecoding, IsSameLabel, AreSameToDecode}
+use Rattle.mm_proof.specs.Language.SameProof.{AreSameMeaning, IsSameHypothesis, IsSameStep, IsSameDecoding, IsSameLabel, AreSameToDecode}
 use Rattle.mm_proof.specs.declared.Spot.{Spot}
 use Rattle.mm_proof.specs.declared.ProofNumber.{ProofNumber}
 

@@ -1,13 +1,12 @@
 -- Entries, when the list of symbols grows or is cut.
 use Rattle.std.proofs.Common.{◌≡◌, ℕ, ◌+◌, ◌-◌, ◌<◌, ◌≤◌, Some, List, [], ◌∷◌, ◌++◌, length, map, take, drop, get_or, refl, sym, ◌∙◌, ap, subst, arith, inl, inr, ◌⊎◌, length-append}
 use Rattle.std.specs.Prelude.{slice_get, All}
-use Rattle.std.specs.Borrow.{Bor}
 use Rattle.std.proofs.lemmas.List.{length-map, length-take, length-take-le, take_more, map-append, take-map, take_at, take_all, drop_at, get_or-take, drop-map, take_rest}
 use Rattle.std.proofs.lemmas.List.Elements.{All-head, All-tail, All-append, All-cons}
 use Rattle.std.proofs.lemmas.Option.{slice_get_within, get_or_from_slice_get, slice_get-get_or, same_Some}
 use Rattle.mm_frame.specs.Language.Frame.{Symbol}
 use Rattle.mm_proof.specs.declared.pattern.Entry.{Entry}
-use Rattle.mm_proof.specs.Code.Flat.{lent, read, read_all, IsWithin}
+use Rattle.mm_proof.specs.Code.Flat.{read, read_all, IsWithin}
 use Rattle.std.proofs.Math.Decide.{ℕ_discrete}
 use Rattle.mm_proof.specs.Code.Ranges.{IsWhole}
 use Rattle.mm_proof.specs.Language.Faults.{entries_for}
@@ -38,11 +37,11 @@ one_more P es new all p = All-append P es (new ∷ []) all (All-cons P new [] p 
 
 -- the list grows by an expression that is kept
 pub whole_loaded :
-    {S : Type 0} (means : S → Symbol) (before : List (Bor S)) (expression : List S) (after : List (Bor S)) (kept end : ℕ) (stack saved next : List Entry) (new : Entry) →
-    IsWhole (length before) kept stack saved → map (lent means) after ≡ map (lent means) before ++ map means expression → next ≡ saved ++ new ∷ [] →
+    {S : Type 0} (means : S → Symbol) (before : List S) (expression : List S) (after : List S) (kept end : ℕ) (stack saved next : List Entry) (new : Entry) →
+    IsWhole (length before) kept stack saved → map means after ≡ map means before ++ map means expression → next ≡ saved ++ new ∷ [] →
     new.start ≡ length before → new.end ≡ length after → end ≡ length after → IsWhole (length after) end stack next
 whole_loaded means before expression after kept end stack saved next new whole e s a b l =
-    let grown : length before ≤ length after = let c = ap length e in omega (arith, length-map after (lent means), length-map before (lent means), length-append (map (lent means) before) (map means expression)) in
+    let grown : length before ≤ length after = let c = ap length e in omega (arith, length-map after means, length-map before means, length-append (map means before) (map means expression)) in
     record {
       kept_within = omega arith;
       within = wider (length before) (length after) stack grown whole.within;

@@ -19,3 +19,4 @@ pub mod Tasks
 pub mod Judged
 pub mod Numbering
 pub mod NumberedBase
+pub mod KeptMarks

@@ -8,7 +8,7 @@ pub mod Reaches
 pub mod Machine
 pub mod Run
 pub mod Verdict
-pub mod View
+pub mod SameProof
 pub mod Renaming
 pub mod Laws
 pub mod BaseLabels
@@ -19,4 +19,7 @@ pub mod Citing
 pub mod DecodingLaws
 pub mod VerdictAt
 pub mod ItemLaws
+pub mod View
+pub mod ViewLaws
+pub mod BaseMarks
 pub mod Work

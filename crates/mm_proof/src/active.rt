@@ -3,12 +3,12 @@
 ghost use Rattle.std.specs.Prelude.{◌≡◌, ◌≢◌, ◌↔◌, ◌<◌, ◌≤◌, ℕ, IsTrue, IfOk, MatchBool, Some, Contains, length, map, slice_get, slice_set};
 ghost use Rattle.mm_frame.specs.Language.Frame.{Symbol as Meaning, ArePair};
 ghost use Rattle.mm_proof.specs.Code.Citation.{pairs_of};
-ghost use Rattle.mm_proof.specs.Code.Flat.{lent};
 ghost use Rattle.mm_proof.specs.Code.Keys.{home as home_lem, home_at};
 ghost use Rattle.mm_proof.specs.Code.PairClause.{IsPair, Apart, NotApart, EachApart, SomeNotApart, SomeShared, AreMarked};
 
 use crate::slots::home;
-use crate::symbol::Symbol;
+use crate::symbol::Kept;
+use mm_frame::Symbol;
 
 /// The active pairs at a statement.
 ///
@@ -20,13 +20,13 @@ pub struct Active<'a, S> {
 }
 
 /// The keys of two symbols, the lower one first.
-fn keys<S: Symbol>(x: &S, y: &S) -> (usize, usize) {
+fn keys<S: Kept>(x: &S, y: &S) -> (usize, usize) {
     let a = x.key();
     let b = y.key();
     if a <= b { (a, b) } else { (b, a) }
 }
 
-impl<'a, S: Symbol> Active<'a, S> {
+impl<'a, S: Kept> Active<'a, S> {
     /// These pairs.
     pub fn new(pairs: &'a [(S, S)]) -> Active<'a, S>
         ensures { result.pairs.now ≡ pairs.now }
@@ -89,14 +89,13 @@ impl<'a, S: Symbol> Active<'a, S> {
     }
 
     /// Whether a variable is apart from each of these.
-    fn is_apart_from(&self, x: &S, ys: &[&'a S]) -> bool
+    fn is_apart_from(&self, x: &S, ys: &[S]) -> bool
         ensures { MatchBool result
-            ((y : Meaning) → Contains (map (lent S.means) ys.now) y → Apart (pairs_of S.means self.now.pairs.now) (S.means x.now) y)
-            ((y : Meaning) × Contains (map (lent S.means) ys.now) y × NotApart (pairs_of S.means self.now.pairs.now) (S.means x.now) y) }
+            ((y : Meaning) → Contains (map S.means ys.now) y → Apart (pairs_of S.means self.now.pairs.now) (S.means x.now) y)
+            ((y : Meaning) × Contains (map S.means ys.now) y × NotApart (pairs_of S.means self.now.pairs.now) (S.means x.now) y) }
     {
         for i in 0..ys.len() {
-            let y = ys[i];
-            if !self.is_apart(x, y) {
+            if !self.is_apart(x, &ys[i]) {
                 return false;
             }
         }
@@ -104,14 +103,13 @@ impl<'a, S: Symbol> Active<'a, S> {
     }
 
     /// Whether each of the one is apart from each of the other.
-    pub fn are_apart(&self, xs: &[&'a S], ys: &[&'a S]) -> bool
+    pub fn are_apart(&self, xs: &[S], ys: &[S]) -> bool
         ensures { MatchBool result
-            (EachApart (pairs_of S.means self.now.pairs.now) (map (lent S.means) xs.now) (map (lent S.means) ys.now))
-            (SomeNotApart (pairs_of S.means self.now.pairs.now) (map (lent S.means) xs.now) (map (lent S.means) ys.now)) }
+            (EachApart (pairs_of S.means self.now.pairs.now) (map S.means xs.now) (map S.means ys.now))
+            (SomeNotApart (pairs_of S.means self.now.pairs.now) (map S.means xs.now) (map S.means ys.now)) }
     {
         for i in 0..xs.len() {
-            let x = xs[i];
-            if !self.is_apart_from(x, ys) {
+            if !self.is_apart_from(&xs[i], ys) {
                 return false;
             }
         }
@@ -120,12 +118,11 @@ impl<'a, S: Symbol> Active<'a, S> {
 }
 
 /// Whether a symbol stands in a list.
-pub fn stands_in<'a, S: Symbol>(x: &S, ys: &[&'a S]) -> bool
-    ensures { IsTrue result ↔ Contains (map (lent S.means) ys.now) (S.means x.now) }
+pub fn stands_in<S: Kept>(x: &S, ys: &[S]) -> bool
+    ensures { IsTrue result ↔ Contains (map S.means ys.now) (S.means x.now) }
 {
     for i in 0..ys.len() {
-        let y = ys[i];
-        if y.same(x) {
+        if ys[i].same(x) {
             return true;
         }
     }
@@ -133,7 +130,7 @@ pub fn stands_in<'a, S: Symbol>(x: &S, ys: &[&'a S]) -> bool
 }
 
 /// Where a table of so many places has a symbol.
-fn home_of<S: Symbol>(symbol: &S, count: usize) -> usize
+fn home_of<S: Kept>(symbol: &S, count: usize) -> usize
     ensures { result ≡ home_lem (S.key_of (S.means symbol.now)) count }
 {
     home(symbol.key(), count)
@@ -149,21 +146,20 @@ fn note(places: &mut [usize], at: usize, place: usize)
 }
 
 /// Notes for each symbol of a list where one stands that the table has at the same place.
-fn mark<'a, S: Symbol>(xs: &[&'a S], places: &mut [usize])
-    ensures marks { AreMarked (home_at S.key_of (length places.old)) (map (lent S.means) xs.now) places.new (length xs.now) }
+fn mark<S: Kept>(xs: &[S], places: &mut [usize])
+    ensures marks { AreMarked (home_at S.key_of (length places.old)) (map S.means xs.now) places.new (length xs.now) }
     ensures count { length places.new ≡ length places.old }
 {
     for i in 0..xs.len() {
-        let x = xs[i];
-        let at = home_of(x, places.len());
+        let at = home_of(&xs[i], places.len());
         note(&mut *places, at, i);
     }
 }
 
 /// Whether a symbol stands in a list whose symbols are noted.
-fn is_marked<'a, S: Symbol>(xs: &[&'a S], places: &[usize], y: &S) -> bool
-    requires { AreMarked (home_at S.key_of (length places.now)) (map (lent S.means) xs.now) places.now (length xs.now) }
-    ensures { IsTrue result ↔ Contains (map (lent S.means) xs.now) (S.means y.now) }
+fn is_marked<S: Kept>(xs: &[S], places: &[usize], y: &S) -> bool
+    requires { AreMarked (home_at S.key_of (length places.now)) (map S.means xs.now) places.now (length xs.now) }
+    ensures { IsTrue result ↔ Contains (map S.means xs.now) (S.means y.now) }
 {
     let at = home_of(y, places.len());
     if at >= places.len() {
@@ -173,7 +169,7 @@ fn is_marked<'a, S: Symbol>(xs: &[&'a S], places: &[usize], y: &S) -> bool
     if place >= xs.len() {
         return false;
     }
-    let x = xs[place];
+    let x = &xs[place];
     if home_of(x, places.len()) != at {
         return false;
     }
@@ -184,14 +180,13 @@ fn is_marked<'a, S: Symbol>(xs: &[&'a S], places: &[usize], y: &S) -> bool
 }
 
 /// Whether one symbol stands in both lists.
-pub fn share<'a, S: Symbol>(xs: &[&'a S], ys: &[&'a S], places: &mut [usize]) -> bool
-    ensures { MatchBool result (SomeShared (map (lent S.means) xs.now) (map (lent S.means) ys.now))
-        (SomeShared (map (lent S.means) xs.now) (map (lent S.means) ys.now) → ⊥) }
+pub fn share<S: Kept>(xs: &[S], ys: &[S], places: &mut [usize]) -> bool
+    ensures { MatchBool result (SomeShared (map S.means xs.now) (map S.means ys.now))
+        (SomeShared (map S.means xs.now) (map S.means ys.now) → ⊥) }
 {
     mark(xs, &mut *places);
     for i in 0..ys.len() {
-        let y = ys[i];
-        if is_marked(xs, &*places, y) {
+        if is_marked(xs, &*places, &ys[i]) {
             return true;
         }
     }

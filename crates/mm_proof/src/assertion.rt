@@ -5,7 +5,8 @@ ghost use Rattle.mm_frame.specs.Language.Base.{BaseView, is_shown_at, is_framed_
 ghost use Rattle.mm_frame.specs.Code.KeptBase.{IsBase, HasItem};
 ghost use Rattle.mm_frame.specs.Language.Frame.{AreSameFrame, AreSamePairs};
 ghost use Rattle.mm_proof.specs.Code.Citation.{mandatory_of, frame_of, pairs_of};
-ghost use Rattle.mm_proof.specs.Code.NumberedBase.{ByNames, by_number, all_by_number, numbered_hypothesis, numbered_frame, numbered_setting};
+ghost use Rattle.mm_frame.specs.Code.CodeSymbols.{by_number};
+ghost use Rattle.mm_proof.specs.Code.NumberedBase.{ByNames, all_by_number, numbered_hypothesis, numbered_frame, numbered_setting};
 
 use mm_frame::{Base, ItemKind, NumberedSymbol};
 use std::alloc::{AllocError, Global};
@@ -65,7 +66,7 @@ fn hypotheses<'a>(
     ensures { IfOk result (λ found. ByNames base.now (λ names view. All (λ n. is_shown_at view n ≡ true) numbers.now →
         map (mandatory_of by_number) found.items ≡ map (numbered_hypothesis names view) numbers.now)) }
 {
-    let mut found = Vec::new(alloc);
+    let mut found = Vec::with_capacity(alloc, numbers.len())?;
     for number in numbers {
         found.push(hypothesis_of(base, *number))?;
     }

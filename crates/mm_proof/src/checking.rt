@@ -19,14 +19,15 @@ use crate::active::Active;
 use crate::assertion::{active, expression};
 use crate::citing::cites;
 use crate::decoding_laws::{decodes_short, decodes_surely, labels_are_own, mandatory_are_active};
-use crate::named::{Named, name_all};
+use crate::named::{NamingRoom, name_all};
 use crate::reading::{Decoding, decode};
 use crate::step::{ProofFault, Undecoded};
 use crate::stepping::{Outcome, run};
-use crate::work::{Checked, Work};
+use crate::work::{Checked, Scratch, Work};
 use crate::{ProofNumber, Spot, Verdict};
 use mm_frame::{Base, Files, Names, NumberedSymbol, ProofWords, Statement, places_have_frames};
 use std::alloc::{AllocError, Global};
+use std::mem;
 
 /// The numbers of the mandatory hypotheses of an assertion; none where the item with this number is none.
 pub fn mandatory(base: &Base, i: usize) -> &[usize]
@@ -91,18 +92,11 @@ fn done(outcome: Outcome, steps: usize) -> usize
     }
 }
 
-/// How many places the machine's tables have: some for each hypothesis of the assertion that has the most.
-fn keys(named: &Named<'_, NumberedSymbol>) -> usize {
-    let mut most = 0;
-    for cited in &named.assertions {
-        most = most.max(cited.hypotheses.len());
-    }
-    most.saturating_mul(32).saturating_add(61)
-}
-
-/// Runs the steps of a proof.
+/// Runs the steps of a proof. The machine's tables get so many places for the keys of variables, if they have fewer.
 fn run_steps(
     alloc: Global,
+    scratch: &mut Scratch,
+    keys: usize,
     base: &Base,
     i: usize,
     statement: &Statement,
@@ -116,11 +110,14 @@ fn run_steps(
     places_have_frames();
     decodes_surely();
     mandatory_are_active();
-    let named = name_all(alloc, base, &decoding.labels)?;
+    let room = mem::replace(&mut scratch.naming, NamingRoom::new(alloc));
+    let (named, room) = name_all(alloc, base, &decoding.labels, room)?;
+    scratch.naming = room;
     let active = Active::new(active(base, i));
     run(
         alloc,
-        keys(&named),
+        &mut scratch.machine,
+        keys,
         &named,
         &active,
         &decoding.steps,
@@ -132,6 +129,8 @@ fn run_steps(
 /// are.
 fn judge_steps(
     alloc: Global,
+    scratch: &mut Scratch,
+    keys: usize,
     base: &Base,
     i: usize,
     statement: &Statement,
@@ -147,8 +146,9 @@ fn judge_steps(
 {
     decodes_short();
     labels_are_own();
-    let cites = cites(alloc, decoding, mandatory, statement)?;
-    let outcome = run_steps(alloc, base, i, statement, decoding)?;
+    scratch.widen(base.count())?;
+    let cites = cites(alloc, &mut scratch.marks, decoding, mandatory, statement)?;
+    let outcome = run_steps(alloc, &mut *scratch, keys, base, i, statement, decoding)?;
     let done = done(outcome, decoding.steps.len());
     let verdict = verdict(outcome, decoding, statement.proof());
     Ok((Checked::new(verdict, cites), done as u64))
@@ -157,6 +157,8 @@ fn judge_steps(
 /// What a check says of a proof, and how many steps are done.
 fn judge(
     alloc: Global,
+    scratch: &mut Scratch,
+    keys: usize,
     base: &Base,
     i: usize,
     statement: &Statement,
@@ -169,8 +171,22 @@ fn judge(
 {
     mandatory_are_active();
     let mandatory = mandatory(base, i);
-    match decode(alloc, base, i, mandatory, statement) {
-        Ok(decoding) => { judge_steps(alloc, base, i, statement, &decoding, mandatory.len()) }
+    let room = mem::replace(&mut scratch.decoding, Decoding::new(alloc));
+    match decode(base, i, mandatory, statement, room) {
+        Ok(decoding) => {
+            let judged = judge_steps(
+                alloc,
+                &mut *scratch,
+                keys,
+                base,
+                i,
+                statement,
+                &decoding,
+                mandatory.len(),
+            )?;
+            scratch.decoding = decoding;
+            Ok(judged)
+        }
         Err(error) => {
             let fault = told(error)?;
             let verdict = Verdict::Wrong(fault.number, fault.spot);
@@ -211,7 +227,9 @@ pub fn check(
     ensures memory { OnErr result (work.new ≡ work.old) }
 {
     let statement = Statement::read(alloc, files, base.item(i))?;
-    let (checked, done) = judge(alloc, base, i, &statement)?;
+    let mut scratch = work.lend(alloc);
+    let (checked, done) = judge(alloc, &mut scratch, names.count(), base, i, &statement)?;
+    work.keep(scratch)?;
     work.record(i, done)?;
     Ok(checked)
 }

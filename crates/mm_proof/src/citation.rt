@@ -4,7 +4,7 @@ ghost use Rattle.std.specs.Prelude.{◌≡◌, ◌↔◌, ◌<◌, List, false, 
 ghost use Rattle.mm_frame.specs.Language.Frame.{Symbol as Meaning};
 ghost use Rattle.mm_frame.specs.Language.Typing.{IsFrame};
 ghost use Rattle.mm_proof.specs.Language.Faults.{AnyZip};
-ghost use Rattle.mm_proof.specs.Code.Flat.{IsWithin, lent};
+ghost use Rattle.mm_proof.specs.Code.Flat.{IsWithin};
 ghost use Rattle.mm_proof.specs.Code.Citation.{entries_of, mandatory_of, hypotheses_of, frame_from, pairs_of, Gives, AreHypotheses, GivesEntries};
 ghost use Rattle.mm_proof.specs.Code.Citation.{OtherTypecode, OtherEssential, CitingSays};
 
@@ -14,39 +14,39 @@ use crate::assertion::Hypothesis;
 use crate::gather::Gathered;
 use crate::pairs::pairs_fault;
 use crate::pattern::{Taken, fits, is_short};
-use crate::symbol::Symbol;
-use std::alloc::AllocError;
+use crate::symbol::Kept;
+use mm_frame::Symbol;
+use std::alloc::{AllocError, Global};
 
 /// The symbols of an entry.
-pub fn entry_at<'s, 'a, S: Symbol>(taken: &Taken<'s, 'a, S>, place: usize) -> &'s [&'a S]
+pub fn entry_at<'s, 'a, S: Kept>(taken: &Taken<'s, 'a, S>, place: usize) -> &'s [S]
     requires within { All (IsWithin (length taken.now.symbols.now)) taken.now.entries.now }
     requires in_range { place < length taken.now.entries.now }
-    ensures { slice_get (entries_of S.means taken.now) place ≡ Some (map (lent S.means) result.now) }
+    ensures { slice_get (entries_of S.means taken.now) place ≡ Some (map S.means result.now) }
 {
     let entry = taken.entries[place];
     &taken.symbols[entry.start..entry.end]
 }
 
 /// Whether two expressions have the same first symbol.
-fn have_same_typecode<'a, S: Symbol>(a: &[S], b: &[&'a S]) -> bool
-    ensures { IsTrue result ↔ (slice_get (map S.means a.now) 0 ≡ slice_get (map (lent S.means) b.now) 0) }
+fn have_same_typecode<S: Kept>(a: &[S], b: &[S]) -> bool
+    ensures { IsTrue result ↔ (slice_get (map S.means a.now) 0 ≡ slice_get (map S.means b.now) 0) }
 {
     if a.is_empty() || b.is_empty() {
         return a.is_empty() && b.is_empty();
     }
-    let typecode = b[0];
-    a[0].same(typecode)
+    a[0].same(&b[0])
 }
 
 /// Whether the hypothesis is a `$f`, and its entry has another typecode.
-fn is_other_typecode<'a, S: Symbol>(hypothesis: &Hypothesis<'a, S>, entry: &[&'a S]) -> bool
-    ensures { IsTrue result ↔ OtherTypecode (mandatory_of S.means hypothesis.now) (map (lent S.means) entry.now) }
+fn is_other_typecode<'a, S: Kept>(hypothesis: &Hypothesis<'a, S>, entry: &[S]) -> bool
+    ensures { IsTrue result ↔ OtherTypecode (mandatory_of S.means hypothesis.now) (map S.means entry.now) }
 {
     hypothesis.floating && !have_same_typecode(&*hypothesis.expression, entry)
 }
 
 /// Whether each entry of a `$f` has its typecode.
-fn typecodes_match<'s, 'a, S: Symbol>(taken: &Taken<'s, 'a, S>) -> bool
+fn typecodes_match<'s, 'a, S: Kept>(taken: &Taken<'s, 'a, S>) -> bool
     requires within { All (IsWithin (length taken.now.symbols.now)) taken.now.entries.now }
     requires count { length taken.now.entries.now ≡ length taken.now.hypotheses.now }
     ensures { MatchBool result
@@ -62,21 +62,21 @@ fn typecodes_match<'s, 'a, S: Symbol>(taken: &Taken<'s, 'a, S>) -> bool
 }
 
 /// Whether the hypothesis is a `$e`, and its entry differs from it under the substitution.
-fn is_other_essential<'s, 'a, S: Symbol>(
+fn is_other_essential<'s, 'a, S: Kept>(
     taken: &Taken<'s, 'a, S>,
     hypothesis: &Hypothesis<'a, S>,
-    entry: &[&'a S],
+    entry: &[S],
 ) -> bool
     requires within { All (IsWithin (length taken.now.symbols.now)) taken.now.entries.now }
     ensures { (given : Meaning → List Meaning) → (hypothesis.now.floating ≡ false
         → Gives given (hypotheses_of S.means taken.now.hypotheses.now) (entries_of S.means taken.now) (map S.means hypothesis.now.expression.now))
-        → IsTrue result ↔ OtherEssential given (mandatory_of S.means hypothesis.now) (map (lent S.means) entry.now) }
+        → IsTrue result ↔ OtherEssential given (mandatory_of S.means hypothesis.now) (map S.means entry.now) }
 {
     !hypothesis.floating && !fits(&*taken, hypothesis.expression, entry)
 }
 
 /// Whether each entry of a `$e` is the `$e` under the substitution.
-fn essentials_fit<'s, 'a, S: Symbol>(taken: &Taken<'s, 'a, S>) -> bool
+fn essentials_fit<'s, 'a, S: Kept>(taken: &Taken<'s, 'a, S>) -> bool
     requires within { All (IsWithin (length taken.now.symbols.now)) taken.now.entries.now }
     requires count { length taken.now.entries.now ≡ length taken.now.hypotheses.now }
     requires typed { AreHypotheses (hypotheses_of S.means taken.now.hypotheses.now) }
@@ -94,12 +94,13 @@ fn essentials_fit<'s, 'a, S: Symbol>(taken: &Taken<'s, 'a, S>) -> bool
 }
 
 /// What is wrong where an assertion is cited that has its entries: the lowest number that holds.
-pub fn citing_fault<'s, 'a, S: Symbol>(
+pub fn citing_fault<'s, 'a, S: Kept>(
+    alloc: Global,
     taken: &Taken<'s, 'a, S>,
     expression: &'a [S],
     pairs: &[(S, S)],
     active: &Active<'a, S>,
-    gathered: &mut Gathered<'a, S>,
+    gathered: &mut Gathered<S>,
     marks: &mut [usize],
 ) -> Result<Option<ProofNumber>, AllocError>
     requires within { All (IsWithin (length taken.now.symbols.now)) taken.now.entries.now }
@@ -114,7 +115,14 @@ pub fn citing_fault<'s, 'a, S: Symbol>(
     if !essentials_fit(&*taken) {
         return Ok(Some(ProofNumber::P09));
     }
-    if let Some(number) = pairs_fault(&*taken, &*pairs, &*active, &mut *gathered, &mut *marks)? {
+    if let Some(number) = pairs_fault(
+        alloc,
+        &*taken,
+        &*pairs,
+        &*active,
+        &mut *gathered,
+        &mut *marks,
+    )? {
         return Ok(Some(number));
     }
     if !is_short(&*taken, expression) {

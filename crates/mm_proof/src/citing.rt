@@ -1,9 +1,8 @@
 //! Which words of a proof cite an assertion.
 
-ghost use Rattle.std.specs.Prelude.{◌≡◌, ◌≤◌, ℕ, ◌+◌, ◌++◌, ◌∷◌, ◌||◌, ◌&&◌, not, nat_eq, List, IfOk, OnOk, drop, length};
-ghost use Rattle.std.specs.HashSet.{contains};
+ghost use Rattle.std.specs.Prelude.{◌≡◌, ◌≤◌, true, false, ℕ, ◌+◌, ◌++◌, ◌∷◌, ◌||◌, nat_eq, List, IfOk, OnOk, drop, length};
 ghost use Rattle.std.specs.List.{list_any};
-ghost use Rattle.mm_proof.specs.Code.Cited.{item_named, names_item, item_cites, without};
+ghost use Rattle.mm_proof.specs.Code.Cited.{item_named, names_item, item_cites, without, mark_at, is_listed};
 ghost use Rattle.mm_frame.specs.declared.base.Resolved as labels;
 ghost use Rattle.mm_frame.specs.Language.Base.{BaseView};
 ghost use Rattle.mm_proof.specs.Language.BaseLabels.{NoLabelTwice};
@@ -17,7 +16,6 @@ use crate::reading::{Decoding, is_compressed};
 use crate::step::{Action, ProofStep};
 use mm_frame::{Resolved, Statement};
 use std::alloc::{AllocError, Global};
-use std::collections::HashSet;
 
 /// The assertion that an action names, if it names one.
 fn assertion_of(labels: &[Resolved], action: Action) -> Option<usize>
@@ -32,52 +30,69 @@ fn assertion_of(labels: &[Resolved], action: Action) -> Option<usize>
     }
 }
 
-/// Puts a number into a set.
-fn put(set: &mut HashSet<usize>, j: usize) -> Result<(), AllocError>
-    ensures { OnOk result ((i : ℕ) → contains nat_eq set.new i ≡ (contains nat_eq set.old i || nat_eq j i)) }
+/// Marks a number.
+fn put(marks: &mut Vec<bool>, j: usize) -> Result<(), AllocError>
+    ensures { OnOk result ((i : ℕ) → mark_at marks.new.items i ≡ (mark_at marks.old.items i || nat_eq j i)) }
 {
-    set.insert(j)?;
+    if j < marks.len() {
+        marks[j] = true;
+        return Ok(());
+    }
+    marks.resize(j, false)?;
+    marks.push(true)?;
     Ok(())
 }
 
-/// Takes a number out of a set. Answers whether it was there.
-fn take(set: &mut HashSet<usize>, j: usize) -> bool
-    ensures was { result ≡ contains nat_eq set.old j }
-    ensures left { (i : ℕ) → contains nat_eq set.new i ≡ without (contains nat_eq set.old) j i }
+/// Takes the mark from a number. Answers whether it was there.
+fn take(marks: &mut Vec<bool>, j: usize) -> bool
+    ensures was { result ≡ mark_at marks.old.items j }
+    ensures left { (i : ℕ) → mark_at marks.new.items i ≡ without (mark_at marks.old.items) j i }
 {
-    set.remove(&j)
+    if j >= marks.len() {
+        return false;
+    }
+    let was = marks[j];
+    marks[j] = false;
+    was
 }
 
-/// The assertions that steps name.
-fn named(
-    alloc: Global,
-    labels: &[Resolved],
-    steps: &[ProofStep],
-) -> Result<HashSet<usize>, AllocError>
-    ensures { IfOk result (λ set. (j : ℕ) → contains nat_eq set j ≡ list_any (names_item labels.now j) steps.now) }
+/// Takes the marks from the assertions that labels name.
+fn forget(marks: &mut Vec<bool>, labels: &[Resolved])
+    ensures { (j : ℕ) → is_listed labels.now j ≡ true → mark_at marks.new.items j ≡ false }
 {
-    let mut set = HashSet::new(alloc);
-    for step in steps {
-        if let Some(j) = assertion_of(labels, step.action) {
-            put(&mut set, j)?;
+    for label in labels {
+        if let Resolved::Assertion(j) = *label {
+            take(&mut *marks, j);
         }
     }
-    Ok(set)
+}
+
+/// Marks, of the assertions that labels name, those that steps name. Of others the marks do not count.
+fn named(marks: &mut Vec<bool>, labels: &[Resolved], steps: &[ProofStep]) -> Result<(), AllocError>
+    ensures { OnOk result ((j : ℕ) → is_listed labels.now j ≡ true → mark_at marks.new.items j ≡ list_any (names_item labels.now j) steps.now) }
+{
+    forget(&mut *marks, labels);
+    for step in steps {
+        if let Some(j) = assertion_of(labels, step.action) {
+            put(&mut *marks, j)?;
+        }
+    }
+    Ok(())
 }
 
 /// Tells a word, where its label is that of an assertion that is left.
 fn cite(
-    left: &mut HashSet<usize>,
+    left: &mut Vec<bool>,
     words: &mut Vec<usize>,
     label: Resolved,
     word: usize,
 ) -> Result<(), AllocError>
     ensures { OnOk result ((labels : List labels.Resolved) →
-        words.new.items ++ item_cites (contains nat_eq left.new) (word + 1) labels
-        ≡ words.old.items ++ item_cites (contains nat_eq left.old) word (label ∷ labels)) }
+        words.new.items ++ item_cites (mark_at left.new.items) (word + 1) labels
+        ≡ words.old.items ++ item_cites (mark_at left.old.items) word (label ∷ labels)) }
 {
     if let Resolved::Assertion(j) = label {
-        if take(left, j) {
+        if take(&mut *left, j) {
             words.push(word)?;
         }
     }
@@ -88,6 +103,7 @@ fn cite(
 /// Each assertion that a step names is told once, by the first word that is its label.
 fn cited(
     alloc: Global,
+    marks: &mut Vec<bool>,
     decoding: &Decoding,
     skip: usize,
     from: usize,
@@ -96,18 +112,20 @@ fn cited(
     ensures { IfOk result (λ words. words.items
         ≡ item_cites (λ j. list_any (names_item decoding.now.labels.items j) decoding.now.steps.items) from (drop skip decoding.now.labels.items)) }
 {
-    let mut left = named(alloc, &decoding.labels, &decoding.steps)?;
+    named(&mut *marks, &decoding.labels, &decoding.steps)?;
     let mut words = Vec::new(alloc);
     for k in skip..decoding.labels.len() {
-        cite(&mut left, &mut words, decoding.labels[k], k - skip + from)?;
+        cite(&mut *marks, &mut words, decoding.labels[k], k - skip + from)?;
     }
     Ok(words)
 }
 
 /// The numbers of the words of a proof that cite: for each assertion that a decoded step names, the first word that is
-/// its label. They rise. It takes the decoding of the proof, and how many mandatory hypotheses there are.
+/// its label. They rise. It takes the decoding of the proof, and how many mandatory hypotheses there are. It marks
+/// assertions by their numbers; the marks that are there do not count.
 pub fn cites(
     alloc: Global,
+    marks: &mut Vec<bool>,
     decoding: &Decoding,
     mandatory: usize,
     statement: &Statement,
@@ -118,8 +136,8 @@ pub fn cites(
         words.items ≡ cited_words (setting_at view i) statement.now.proof (decoded_steps view decoding.now statement.now.proof).steps) }
 {
     if is_compressed(statement) {
-        cited(alloc, decoding, mandatory, 1)
+        cited(alloc, &mut *marks, decoding, mandatory, 1)
     } else {
-        cited(alloc, decoding, 0, 0)
+        cited(alloc, &mut *marks, decoding, 0, 0)
     }
 }

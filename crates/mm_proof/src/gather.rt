@@ -2,24 +2,25 @@
 
 ghost use Rattle.std.specs.Prelude.{◌≡◌, ◌<◌, ◌≤◌, true, List, IsTrue, OnOk, All, Some, Contains, drop, length, map, slice_get};
 ghost use Rattle.mm_frame.specs.Language.Frame.{Symbol as Meaning};
-ghost use Rattle.mm_proof.specs.Code.Flat.{IsWithin, lent};
+ghost use Rattle.mm_proof.specs.Code.Flat.{IsWithin};
 ghost use Rattle.mm_proof.specs.Code.Citation.{entries_of};
 ghost use Rattle.mm_proof.specs.Code.PairClause.{GatheredUpTo, GathersOne, GathersEntry, Gathers};
 
 use crate::active::stands_in;
 use crate::pattern::{Entry, Taken, given};
 use crate::slots::home;
-use crate::symbol::Symbol;
-use std::alloc::AllocError;
+use crate::symbol::Kept;
+use mm_frame::Symbol;
+use std::alloc::{AllocError, Global};
 
 /// Up to so many variables are compared one by one.
 const FEW: usize = 8;
 
 /// The variables of the entries that an assertion takes.
 #[derive(Drop)]
-pub struct Gathered<'a, S> {
+pub struct Gathered<S> {
     /// The variables, entry after entry.
-    pub variables: Vec<&'a S>,
+    pub variables: Vec<S>,
     /// For each entry the range of its variables.
     pub spans: Vec<Entry>,
     /// For the key of a variable where it may stand. What is found by it is compared, so that no answer depends on it.
@@ -27,9 +28,9 @@ pub struct Gathered<'a, S> {
 }
 
 /// Whether a symbol is found among the variables from a place on.
-fn is_found<'a, S: Symbol>(variables: &[&'a S], start: usize, places: &[usize], symbol: &S) -> bool
+fn is_found<S: Kept>(variables: &[S], start: usize, places: &[usize], symbol: &S) -> bool
     requires { start ≤ length variables.now }
-    ensures { IsTrue result → Contains (drop start (map (lent S.means) variables.now)) (S.means symbol.now) }
+    ensures { IsTrue result → Contains (drop start (map S.means variables.now)) (S.means symbol.now) }
 {
     if variables.len() - start <= FEW {
         return stands_in(&*symbol, &variables[start..]);
@@ -45,59 +46,60 @@ fn is_found<'a, S: Symbol>(variables: &[&'a S], start: usize, places: &[usize], 
     if place >= variables.len() {
         return false;
     }
-    let variable = variables[place];
-    variable.same(symbol)
+    variables[place].same(symbol)
 }
 
 /// Adds a symbol, if it is a variable that is not found from a place on.
-fn gather_one<'a, S: Symbol>(
-    symbol: &'a S,
+fn gather_one<S: Kept>(
+    alloc: Global,
+    symbol: &S,
     start: usize,
     places: &mut [usize],
-    variables: &mut Vec<&'a S>,
+    variables: &mut Vec<S>,
 ) -> Result<(), AllocError>
     requires { start ≤ length variables.old.items }
-    ensures { OnOk result (GathersOne start (S.means symbol.now) (map (lent S.means) variables.old.items) (map (lent S.means) variables.new.items)) }
+    ensures { OnOk result (GathersOne start (S.means symbol.now) (map S.means variables.old.items) (map S.means variables.new.items)) }
 {
     if symbol.is_variable() && !is_found(&*variables, start, &*places, &*symbol) {
         let at = home(symbol.key(), places.len());
         if at < places.len() {
             places[at] = variables.len();
         }
-        variables.push(symbol)?;
+        variables.push(symbol.copy(alloc)?)?;
     }
     Ok(())
 }
 
 /// Adds the variables among some symbols, each once.
-fn gather<'a, S: Symbol>(
-    symbols: &[&'a S],
+fn gather<S: Kept>(
+    alloc: Global,
+    symbols: &[S],
     places: &mut [usize],
-    variables: &mut Vec<&'a S>,
+    variables: &mut Vec<S>,
 ) -> Result<(), AllocError>
-    ensures { OnOk result (GatheredUpTo (map (lent S.means) symbols.now) (map (lent S.means) variables.old.items) (map (lent S.means) variables.new.items)
+    ensures { OnOk result (GatheredUpTo (map S.means symbols.now) (map S.means variables.old.items) (map S.means variables.new.items)
         (length symbols.now)) }
 {
     let start = variables.len();
     for i in 0..symbols.len() {
-        let symbol = symbols[i];
-        gather_one(symbol, start, &mut *places, &mut *variables)?;
+        gather_one(alloc, &symbols[i], start, &mut *places, &mut *variables)?;
     }
     Ok(())
 }
 
-impl<'a, S: Symbol> Gathered<'a, S> {
+impl<S: Kept> Gathered<S> {
     /// The variables of one more entry.
-    fn gather_entry<'s>(
+    fn gather_entry<'s, 'a>(
         &mut self,
+        alloc: Global,
         taken: &Taken<'s, 'a, S>,
         floating: bool,
         place: usize,
     ) -> Result<(), AllocError>
         requires { All (IsWithin (length taken.now.symbols.now)) taken.now.entries.now }
         ensures { OnOk result ((e : List Meaning) → slice_get (entries_of S.means taken.now) place ≡ Some e
-            → GathersEntry floating e (map (lent S.means) self.old.variables.items)
-            (map (lent S.means) self.new.variables.items) self.old.spans.items self.new.spans.items) }
+            → GathersEntry floating e (map S.means self.old.variables.items)
+            (map S.means self.new.variables.items) self.old.spans.items self.new.spans.items) }
     {
         let start = self.variables.len();
         if !floating {
@@ -108,7 +110,12 @@ impl<'a, S: Symbol> Gathered<'a, S> {
             })?;
             return Ok(());
         }
-        gather(given(&*taken, place), &mut self.places, &mut self.variables)?;
+        gather(
+            alloc,
+            given(&*taken, place),
+            &mut self.places,
+            &mut self.variables,
+        )?;
         let end = self.variables.len();
         self.spans.push(Entry {
             start,
@@ -119,16 +126,20 @@ impl<'a, S: Symbol> Gathered<'a, S> {
     }
 
     /// The variables of the entries of all `$f`.
-    pub fn gather_all<'s>(&mut self, taken: &Taken<'s, 'a, S>) -> Result<(), AllocError>
+    pub fn gather_all<'s, 'a>(
+        &mut self,
+        alloc: Global,
+        taken: &Taken<'s, 'a, S>,
+    ) -> Result<(), AllocError>
         requires within { All (IsWithin (length taken.now.symbols.now)) taken.now.entries.now }
         requires count { length taken.now.entries.now ≡ length taken.now.hypotheses.now }
         ensures { OnOk result (Gathers taken.now.hypotheses.now (entries_of S.means taken.now)
-            (map (lent S.means) self.new.variables.items) self.new.spans.items (length taken.now.hypotheses.now)) }
+            (map S.means self.new.variables.items) self.new.spans.items (length taken.now.hypotheses.now)) }
     {
         self.variables.clear();
         self.spans.clear();
         for place in 0..taken.hypotheses.len() {
-            self.gather_entry(&*taken, taken.hypotheses[place].floating, place)?;
+            self.gather_entry(alloc, &*taken, taken.hypotheses[place].floating, place)?;
         }
         Ok(())
     }

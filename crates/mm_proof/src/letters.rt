@@ -10,7 +10,6 @@ ghost use Rattle.mm_proof.specs.Code.Coded.{TellsSteps, meant, meant_or, meant_s
 use crate::step::{Action, ProofFault, ProofStep, Undecoded};
 use crate::{ProofNumber, Spot};
 use mm_frame::ProofWords;
-use std::alloc::Global;
 
 /// Whether a byte is one of the digits `U` to `Y`.
 fn is_digit(byte: u8) -> bool
@@ -87,16 +86,19 @@ impl LetterReader {
     ghost use Rattle.mm_proof.specs.Language.Letters.{Letter, letters_in};
     ghost use Rattle.mm_proof.specs.Code.Reader.{Aim, Goes};
 
-    /// A reader before the first letter, where numbers name this many labels.
-    fn new(alloc: Global, labels: usize) -> Self
+    /// A reader before the first letter, where numbers name this many labels. It puts the steps in place of what a list
+    /// has.
+    fn new(room: Vec<ProofStep>, labels: usize) -> Self
         requires { labels < 2 ^ 63 }
         ensures { (aim : Aim) (ls : List Letter) → length aim.names ≡ labels → aim.total ≡ read_on aim.names aim.close 0 0 ls → Goes aim result ls }
     {
+        let mut steps = room;
+        steps.clear();
         LetterReader {
             labels,
             saves: 0,
             digits: 0,
-            steps: Vec::new(alloc),
+            steps,
         }
     }
 
@@ -151,9 +153,9 @@ impl LetterReader {
 }
 
 /// The steps of the letters of a proof, which are the words that are left, from the word with the number `from` on, where
-/// numbers name this many labels and then the saves.
+/// numbers name this many labels and then the saves. They are put in place of what a list has.
 pub fn read_letters(
-    alloc: Global,
+    room: Vec<ProofStep>,
     words: &mut ProofWords,
     from: usize,
     labels: usize,
@@ -163,7 +165,7 @@ pub fn read_letters(
     ensures ok { IfOk result (λ steps. LettersGive labels words.old from (λ names given. given ≡ Ok (meant_steps names steps.items))) }
     ensures err { IfErr result (λ e. LettersGive labels words.old from (λ names given. TellsSteps e given)) }
 {
-    let mut reader = LetterReader::new(alloc, labels);
+    let mut reader = LetterReader::new(room, labels);
     let mut n = from;
     while let Some(word) = words.next_word() {
         reader.read_word(n, word)?;

@@ -2,7 +2,6 @@
 
 ghost use Rattle.std.specs.Prelude.{◌≡◌, ◌++◌, ◌∷◌, [], ◌<◌, ◌≤◌, ◌-◌, ℕ, IfOk, OnOk, MatchBool, MatchOption, Some, length, map, take, slice_get};
 ghost use Rattle.mm_proof.specs.Code.Ranges.{IsWhole, Saves};
-ghost use Rattle.mm_proof.specs.Code.Flat.{lent};
 ghost use Rattle.mm_proof.specs.Code.Citation.{IsLowestCiting, frame_from, frame_of, pairs_of};
 ghost use Rattle.mm_frame.specs.Language.Typing.{IsFrame};
 ghost use Rattle.mm_proof.specs.Language.Steps.{Cites};
@@ -15,14 +14,15 @@ use crate::citation::citing_fault;
 use crate::gather::Gathered;
 use crate::pattern::{Entry, Taken, substitute};
 use crate::slots::note_places;
-use crate::symbol::Symbol;
+use crate::symbol::Kept;
+use mm_frame::Symbol;
 use std::alloc::{AllocError, Global};
 
 /// The stack of expressions, and what was saved.
 #[derive(Drop)]
-pub struct Machine<'a, S> {
+pub struct Machine<S> {
     /// All symbols, of the stack and of what was saved.
-    pub symbols: Vec<&'a S>,
+    pub symbols: Vec<S>,
     /// The entries, the last one on top.
     pub stack: Vec<Entry>,
     /// What was saved, in order; before it the expressions of hypotheses, which are kept from the beginning.
@@ -30,21 +30,19 @@ pub struct Machine<'a, S> {
     /// What was saved lies below this place.
     pub kept: usize,
     /// The result of a step, until it is put in its place.
-    result: Vec<&'a S>,
+    result: Vec<S>,
     /// For the key of a variable where its `$f` may stand among the hypotheses of the assertion that is cited.
     places: Vec<usize>,
     /// For the key of a variable where it may stand in one of two lists.
     marks: Vec<usize>,
     /// The variables of entries, for the pair clause.
-    gathered: Gathered<'a, S>,
+    gathered: Gathered<S>,
 }
 
-/// Puts the symbols of an expression behind others.
-fn append<'a, S: Symbol>(expression: &'a [S], to: &mut Vec<&'a S>) -> Result<(), AllocError>
-    ensures { OnOk result (map (lent S.means) to.new.items ≡ map (lent S.means) to.old.items ++ map S.means expression.now) }
-{
-    for symbol in expression {
-        to.push(symbol)?;
+/// Gives a table so many places, if it has fewer.
+pub fn widen(places: &mut Vec<usize>, keys: usize) -> Result<(), AllocError> {
+    if places.len() < keys {
+        places.resize(keys, 0)?;
     }
     Ok(())
 }
@@ -64,42 +62,54 @@ fn floor_of(stack: &[Entry], below: usize, kept: usize, count: usize) -> usize
     if floor < kept { kept } else { floor }
 }
 
-impl<'a, S: Symbol> Machine<'a, S> {
+impl<S: Kept> Machine<S> {
     ghost use Rattle.mm_proof.specs.Code.MachineState.{state_of, AreRanges};
 
-    /// A machine with nothing on its stack and nothing saved. Its tables have so many places for the keys of variables.
-    pub fn new(alloc: Global, keys: usize) -> Result<Machine<'a, S>, AllocError>
-        ensures whole { IfOk result (λ machine. AreRanges machine) }
-        ensures state { IfOk result (λ machine. state_of S.means machine ≡ nothing_yet) }
+    /// A machine with nothing on its stack and nothing saved. It takes no memory.
+    pub fn new(alloc: Global) -> Machine<S>
+        ensures whole { AreRanges result }
+        ensures state { state_of S.means result ≡ nothing_yet }
     {
-        let places = vec![in alloc; 0; keys]?;
-        let found = vec![in alloc; 0; keys]?;
-        let marks = vec![in alloc; 0; keys]?;
-        Ok(Machine {
+        Machine {
             symbols: Vec::new(alloc),
             stack: Vec::new(alloc),
             saved: Vec::new(alloc),
             kept: 0,
             result: Vec::new(alloc),
-            places,
-            marks,
+            places: Vec::new(alloc),
+            marks: Vec::new(alloc),
             gathered: Gathered {
                 variables: Vec::new(alloc),
                 spans: Vec::new(alloc),
-                places: found,
+                places: Vec::new(alloc),
             },
-        })
+        }
+    }
+
+    /// Leaves nothing on the stack and nothing saved; the room that was taken stays. The tables get so many places for
+    /// the keys of variables, if they have fewer.
+    pub fn clear(&mut self, keys: usize) -> Result<(), AllocError>
+        ensures whole { OnOk result (AreRanges self.new) }
+        ensures state { OnOk result (state_of S.means self.new ≡ nothing_yet) }
+    {
+        self.symbols.clear();
+        self.stack.clear();
+        self.saved.clear();
+        self.kept = 0;
+        widen(&mut self.places, keys)?;
+        widen(&mut self.marks, keys)?;
+        widen(&mut self.gathered.places, keys)
     }
 
     /// Saves an expression that was never on the stack: a hypothesis, so that each of its uses is a range.
-    pub fn load(&mut self, expression: &'a [S]) -> Result<(), AllocError>
+    pub fn load(&mut self, alloc: Global, expression: &[S]) -> Result<(), AllocError>
         requires { AreRanges self.old }
         ensures whole { OnOk result (AreRanges self.new) }
         ensures stack { OnOk result ((state_of S.means self.new).stack ≡ (state_of S.means self.old).stack) }
         ensures saved { OnOk result ((state_of S.means self.new).saved ≡ (state_of S.means self.old).saved ++ map S.means expression.now ∷ []) }
     {
         let start = self.symbols.len();
-        append(expression, &mut self.symbols)?;
+        S::append(alloc, &mut self.symbols, expression)?;
         let end = self.symbols.len();
         self.saved.push(Entry {
             start,
@@ -154,7 +164,7 @@ impl<'a, S: Symbol> Machine<'a, S> {
         requires in_range { below ≤ length self.old.stack.items }
         ensures whole { OnOk result (AreRanges self.new) }
         ensures stack { OnOk result ((state_of S.means self.new).stack ≡ take below (state_of S.means self.old).stack
-            ++ map (lent S.means) self.old.result.items ∷ []) }
+            ++ map S.means self.old.result.items ∷ []) }
         ensures saved { OnOk result ((state_of S.means self.new).saved ≡ (state_of S.means self.old).saved) }
     {
         let floor = floor_of(&self.stack, below, self.kept, self.symbols.len());
@@ -172,8 +182,9 @@ impl<'a, S: Symbol> Machine<'a, S> {
 
     /// Takes the entries of mandatory hypotheses and puts the expression under the substitution there. Answers the lowest
     /// number of what is wrong, if anything is.
-    fn take(
+    fn take<'a>(
         &mut self,
+        alloc: Global,
         expression: &'a [S],
         hypotheses: &[Hypothesis<'a, S>],
         pairs: &'a [(S, S)],
@@ -202,6 +213,7 @@ impl<'a, S: Symbol> Machine<'a, S> {
             places: &self.places,
         };
         if let Some(number) = citing_fault(
+            alloc,
             &taken,
             expression,
             pairs,
@@ -212,14 +224,15 @@ impl<'a, S: Symbol> Machine<'a, S> {
             return Ok(Some(number));
         }
         self.result.clear();
-        substitute(&taken, expression, &mut self.result)?;
+        substitute(alloc, &taken, expression, &mut self.result)?;
         self.replace(below)?;
         Ok(None)
     }
 
     /// Cites an assertion. Answers the lowest number of what is wrong, if anything is.
-    pub fn cite(
+    pub fn cite<'a>(
         &mut self,
+        alloc: Global,
         cited: &Cited<'a, S>,
         active: &Active<'a, S>,
     ) -> Result<Option<ProofNumber>, AllocError>
@@ -231,6 +244,12 @@ impl<'a, S: Symbol> Machine<'a, S> {
             (IsLowestCiting (pairs_of S.means active.now.pairs.now) (frame_of S.means cited.now) (state_of S.means self.old).stack)) }
         ensures saved { OnOk result ((state_of S.means self.new).saved ≡ (state_of S.means self.old).saved) }
     {
-        self.take(cited.expression, &cited.hypotheses, cited.pairs, &*active)
+        self.take(
+            alloc,
+            cited.expression,
+            &cited.hypotheses,
+            cited.pairs,
+            &*active,
+        )
     }
 }

@@ -6,13 +6,17 @@ ghost use Rattle.mm_frame.specs.Language.Typing.{IsFrame};
 ghost use Rattle.mm_proof.specs.Code.Citation.{frame_of};
 ghost use Rattle.mm_proof.specs.Code.Labels.{AreEntries, entry_steps};
 ghost use Rattle.mm_proof.specs.Code.NamedItems.{AreNamed, Grows, IsNamedBy, StandsFor};
-ghost use Rattle.mm_proof.specs.Code.NumberedBase.{ByNames, by_number, numbered_setting};
+ghost use Rattle.mm_frame.specs.Code.CodeSymbols.{by_number};
+ghost use Rattle.mm_proof.specs.Code.NumberedBase.{ByNames, numbered_setting};
 ghost use Rattle.mm_proof.specs.Code.Tasks.{AreUses, AreUsesWithin};
 
 use crate::assertion::{Cited, assertion_of, expression};
+use crate::machine::widen;
 use mm_frame::{Base, NumberedSymbol, Resolved, places_have_frames};
 use std::alloc::{AllocError, Global};
-use std::collections::HashMap;
+
+/// At first there is room for so many labels at most.
+const FIRST_LABELS: usize = 64;
 
 /// What a label is used for.
 #[derive(Clone, Copy)]
@@ -40,25 +44,40 @@ pub struct Named<'a, S> {
 #[derive(Drop)]
 pub struct Numbers {
     pub items: Vec<usize>,
-    /// Where a number may stand. What is found by it is compared, so that no answer depends on it.
-    places: HashMap<usize, usize>,
+    /// For the number of an item where it may stand. What is found by it is compared, so that no answer depends on it.
+    places: Vec<usize>,
 }
 
 impl Numbers {
-    fn new(alloc: Global) -> Numbers
+    /// None, which takes no memory.
+    pub fn new(alloc: Global) -> Numbers
         ensures { result.items.items ≡ [] }
     {
         Numbers {
             items: Vec::new(alloc),
-            places: HashMap::new(alloc),
+            places: Vec::new(alloc),
         }
+    }
+
+    /// None, with the room that these have, and a place for each of so many items.
+    fn emptied(self, count: usize) -> Result<Numbers, AllocError>
+        ensures { IfOk result (λ numbers. numbers.items.items ≡ []) }
+    {
+        let mut items = self.items;
+        items.clear();
+        let mut places = self.places;
+        widen(&mut places, count)?;
+        Ok(Numbers { items, places })
     }
 
     /// Where a number stands, if it is there.
     fn find(&self, number: usize) -> Option<usize>
         ensures { IfSome result (λ n. slice_get self.now.items.items n ≡ Some number) }
     {
-        let place = *self.places.get(&number)?;
+        if number >= self.places.len() {
+            return None;
+        }
+        let place = self.places[number];
         if place >= self.items.len() {
             return None;
         }
@@ -75,8 +94,27 @@ impl Numbers {
     {
         let place = self.items.len();
         self.items.push(number)?;
-        self.places.insert(number, place)?;
+        if number < self.places.len() {
+            self.places[number] = place;
+        }
         Ok(place)
+    }
+}
+
+/// What naming uses over again, so that it takes no memory anew.
+#[derive(Drop)]
+pub struct NamingRoom {
+    pub hypotheses: Numbers,
+    pub assertions: Numbers,
+}
+
+impl NamingRoom {
+    /// It has taken no memory yet.
+    pub fn new(alloc: Global) -> NamingRoom {
+        NamingRoom {
+            hypotheses: Numbers::new(alloc),
+            assertions: Numbers::new(alloc),
+        }
     }
 }
 
@@ -90,16 +128,24 @@ pub struct Naming<'a> {
 }
 
 impl<'a> Naming<'a> {
-    /// Nothing was named.
-    fn new(alloc: Global, base: &'a Base) -> Naming<'a>
-        ensures { AreNamed base.now result }
+    /// Nothing was named. There will be so many labels.
+    fn new(
+        alloc: Global,
+        base: &'a Base,
+        labels: usize,
+        room: NamingRoom,
+    ) -> Result<Naming<'a>, AllocError>
+        ensures { IfOk result (AreNamed base.now) }
     {
-        Naming {
-            hypotheses: Vec::new(alloc),
-            hypothesis_numbers: Numbers::new(alloc),
-            assertions: Vec::new(alloc),
-            assertion_numbers: Numbers::new(alloc),
-        }
+        let some = labels.min(FIRST_LABELS);
+        let hypothesis_numbers = room.hypotheses.emptied(base.count())?;
+        let assertion_numbers = room.assertions.emptied(base.count())?;
+        Ok(Naming {
+            hypotheses: Vec::with_capacity(alloc, some)?,
+            hypothesis_numbers,
+            assertions: Vec::with_capacity(alloc, some)?,
+            assertion_numbers,
+        })
     }
 
     /// The hypothesis with this number is named.
@@ -148,26 +194,32 @@ impl<'a> Naming<'a> {
     }
 }
 
-/// What the labels of a proof's table name, in a base.
+/// What the labels of a proof's table name, in a base; and what naming uses over again.
 pub fn name_all<'a>(
     alloc: Global,
     base: &'a Base,
     labels: &[Resolved],
-) -> Result<Named<'a, NumberedSymbol>, AllocError>
+    room: NamingRoom,
+) -> Result<(Named<'a, NumberedSymbol>, NamingRoom), AllocError>
     requires { All (IsNamedBy base.now) labels.now }
-    ensures within { IfOk result (λ named. AreUsesWithin named) }
-    ensures frames { IfOk result (λ named. All (λ a. IsFrame (frame_of by_number a)) named.assertions.items) }
-    ensures means { IfOk result (λ named. ByNames base.now (λ names view. (i : ℕ) → AreEntries view i labels.now
-        → AreUses by_number named (numbered_setting names view i) (entry_steps view labels.now))) }
+    ensures within { IfOk result (λ r. AreUsesWithin r.0) }
+    ensures frames { IfOk result (λ r. All (λ a. IsFrame (frame_of by_number a)) r.0.assertions.items) }
+    ensures means { IfOk result (λ r. ByNames base.now (λ names view. (i : ℕ) → AreEntries view i labels.now
+        → AreUses by_number r.0 (numbered_setting names view i) (entry_steps view labels.now))) }
 {
-    let mut naming = Naming::new(alloc, base);
-    let mut uses = Vec::new(alloc);
+    let mut naming = Naming::new(alloc, base, labels.len(), room)?;
+    let mut uses = Vec::with_capacity(alloc, labels.len())?;
     for label in labels {
         uses.push(naming.name(alloc, base, *label)?)?;
     }
-    Ok(Named {
+    let named = Named {
         uses,
         hypotheses: naming.hypotheses,
         assertions: naming.assertions,
-    })
+    };
+    let room = NamingRoom {
+        hypotheses: naming.hypothesis_numbers,
+        assertions: naming.assertion_numbers,
+    };
+    Ok((named, room))
 }

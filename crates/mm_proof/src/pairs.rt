@@ -3,7 +3,7 @@
 ghost use Rattle.std.specs.Prelude.{◌≡◌, ◌<◌, ℕ, List, IfOk, MatchBool, All, Some, length, map, slice_get};
 ghost use Rattle.mm_frame.specs.Language.Frame.{Symbol as Meaning};
 ghost use Rattle.mm_frame.specs.Language.Typing.{IsTyped};
-ghost use Rattle.mm_proof.specs.Code.Flat.{IsWithin, lent};
+ghost use Rattle.mm_proof.specs.Code.Flat.{IsWithin};
 ghost use Rattle.mm_proof.specs.Code.Citation.{entries_of, AreHypotheses, GivesEntries, pairs_of, hypotheses_of};
 ghost use Rattle.mm_proof.specs.Code.PairClause.{EachApart, SomeNotApart, SomeShared, AreSpans, AreTypedPairs, AtSlot, AtEachPair, AtSomePair, PairsSay};
 
@@ -12,20 +12,21 @@ use crate::active::{Active, share};
 use crate::gather::Gathered;
 use crate::pattern::Taken;
 use crate::slots::slot_of;
-use crate::symbol::Symbol;
-use std::alloc::AllocError;
+use crate::symbol::Kept;
+use mm_frame::Symbol;
+use std::alloc::{AllocError, Global};
 
 /// The variables of the entry of a variable's `$f`.
-fn span<'s, 'g, 'a, S: Symbol>(
+fn span<'s, 'g, 'a, S: Kept>(
     taken: &Taken<'s, 'a, S>,
-    gathered: &'g Gathered<'a, S>,
+    gathered: &'g Gathered<S>,
     variable: &S,
-) -> &'g [&'a S]
+) -> &'g [S]
     requires spans { AreSpans (length gathered.now.variables.items) gathered.now.spans.items }
     requires count { length gathered.now.spans.items ≡ length taken.now.hypotheses.now }
     requires typed { IsTyped (hypotheses_of S.means taken.now.hypotheses.now) (S.means variable.now) }
-    ensures { AtSlot (hypotheses_of S.means taken.now.hypotheses.now) (map (lent S.means) gathered.now.variables.items) gathered.now.spans.items
-        (S.means variable.now) (map (lent S.means) result.now) }
+    ensures { AtSlot (hypotheses_of S.means taken.now.hypotheses.now) (map S.means gathered.now.variables.items) gathered.now.spans.items
+        (S.means variable.now) (map S.means result.now) }
 {
     let slot = slot_of(&*taken.hypotheses, &*taken.places, &*variable);
     let entry = gathered.spans[slot];
@@ -33,9 +34,9 @@ fn span<'s, 'g, 'a, S: Symbol>(
 }
 
 /// Whether the two lists of each pair are apart.
-fn all_apart<'s, 'a, S: Symbol>(
+fn all_apart<'s, 'a, S: Kept>(
     taken: &Taken<'s, 'a, S>,
-    gathered: &Gathered<'a, S>,
+    gathered: &Gathered<S>,
     active: &Active<'a, S>,
     pairs: &[(S, S)],
 ) -> bool
@@ -58,9 +59,9 @@ fn all_apart<'s, 'a, S: Symbol>(
 }
 
 /// Whether the two lists of some pair share a variable.
-fn any_share<'s, 'a, S: Symbol>(
+fn any_share<'s, 'a, S: Kept>(
     taken: &Taken<'s, 'a, S>,
-    gathered: &Gathered<'a, S>,
+    gathered: &Gathered<S>,
     pairs: &[(S, S)],
     marks: &mut [usize],
 ) -> bool
@@ -83,11 +84,12 @@ fn any_share<'s, 'a, S: Symbol>(
 }
 
 /// What is wrong with the mandatory pairs of an assertion: the lower number of those that hold.
-pub fn pairs_fault<'s, 'a, S: Symbol>(
+pub fn pairs_fault<'s, 'a, S: Kept>(
+    alloc: Global,
     taken: &Taken<'s, 'a, S>,
     pairs: &[(S, S)],
     active: &Active<'a, S>,
-    gathered: &mut Gathered<'a, S>,
+    gathered: &mut Gathered<S>,
     marks: &mut [usize],
 ) -> Result<Option<ProofNumber>, AllocError>
     requires within { All (IsWithin (length taken.now.symbols.now)) taken.now.entries.now }
@@ -101,7 +103,7 @@ pub fn pairs_fault<'s, 'a, S: Symbol>(
     if pairs.is_empty() {
         return Ok(None);
     }
-    gathered.gather_all(&*taken)?;
+    gathered.gather_all(alloc, &*taken)?;
     if all_apart(&*taken, &*gathered, &*active, &*pairs) {
         return Ok(None);
     }

@@ -3,13 +3,14 @@
 ghost use Rattle.std.specs.Prelude.{◌≡◌, ◌↔◌, ◌++◌, ◌<◌, ◌≤◌, ◌+◌, ℕ, List, IsTrue, OnOk, All, MatchBool, Some, drop, length, map, slice_get, take};
 ghost use Rattle.mm_frame.specs.Language.Frame.{Symbol as Meaning};
 ghost use Rattle.mm_proof.specs.Language.Substitution.{replacement, substituted};
-ghost use Rattle.mm_proof.specs.Code.Flat.{IsWithin, lent, read_all};
+ghost use Rattle.mm_proof.specs.Code.Flat.{IsWithin, read_all};
 ghost use Rattle.mm_proof.specs.Code.Citation.{Gives, hypotheses_of, entries_of, replaced_by};
 
 use crate::assertion::Hypothesis;
 use crate::slots::slot_of;
-use crate::symbol::Symbol;
-use std::alloc::AllocError;
+use crate::symbol::Kept;
+use mm_frame::Symbol;
+use std::alloc::{AllocError, Global};
 
 /// The most symbols that the result of an assertion step may have.
 pub const LONGEST_RESULT: usize = 1_000_000;
@@ -29,7 +30,7 @@ pub struct Entry {
 #[derive(Drop)]
 pub struct Taken<'s, 'a, S> {
     /// The flat list of symbols.
-    pub symbols: &'s [&'a S],
+    pub symbols: &'s [S],
     pub entries: &'s [Entry],
     /// The mandatory hypotheses of the assertion, in order.
     pub hypotheses: &'s [Hypothesis<'a, S>],
@@ -38,9 +39,9 @@ pub struct Taken<'s, 'a, S> {
 }
 
 /// What an entry gives: its symbols behind the typecode. None where there is no such entry.
-pub fn given<'s, 'a, S: Symbol>(taken: &Taken<'s, 'a, S>, slot: usize) -> &'s [&'a S]
+pub fn given<'s, 'a, S: Kept>(taken: &Taken<'s, 'a, S>, slot: usize) -> &'s [S]
     requires { All (IsWithin (length taken.now.symbols.now)) taken.now.entries.now }
-    ensures { (e : List Meaning) → slice_get (entries_of S.means taken.now) slot ≡ Some e → map (lent S.means) result.now ≡ drop 1 e }
+    ensures { (e : List Meaning) → slice_get (entries_of S.means taken.now) slot ≡ Some e → map S.means result.now ≡ drop 1 e }
 {
     if slot >= taken.entries.len() {
         return &[];
@@ -57,10 +58,10 @@ pub fn given<'s, 'a, S: Symbol>(taken: &Taken<'s, 'a, S>, slot: usize) -> &'s [&
 pub struct Replacement<'s, 'a, S> {
     symbol: &'a S,
     /// For a variable.
-    given: &'s [&'a S],
+    given: &'s [S],
 }
 
-impl<'s, 'a, S: Symbol> Replacement<'s, 'a, S> {
+impl<'s, 'a, S: Kept> Replacement<'s, 'a, S> {
     ghost use Rattle.mm_proof.specs.Code.Citation.{replaced_by};
 
     /// How many symbols it has.
@@ -75,20 +76,20 @@ impl<'s, 'a, S: Symbol> Replacement<'s, 'a, S> {
     }
 
     /// Puts its symbols behind others.
-    fn put(&self, to: &mut Vec<&'a S>) -> Result<(), AllocError>
-        ensures { OnOk result (map (lent S.means) to.new.items ≡ map (lent S.means) to.old.items ++ replaced_by S.means self.now) }
+    fn put(&self, alloc: Global, to: &mut Vec<S>) -> Result<(), AllocError>
+        ensures { OnOk result (map S.means to.new.items ≡ map S.means to.old.items ++ replaced_by S.means self.now) }
     {
         if self.symbol.is_variable() {
-            to.extend_from_slice(self.given)
+            S::append(alloc, to, self.given)
         } else {
-            to.push(self.symbol)?;
+            to.push(self.symbol.copy(alloc)?)?;
             Ok(())
         }
     }
 
     /// Whether it has these symbols.
-    fn is(&self, symbols: &[&'a S]) -> bool
-        ensures { IsTrue result ↔ (replaced_by S.means self.now ≡ map (lent S.means) symbols.now) }
+    fn is(&self, symbols: &[S]) -> bool
+        ensures { IsTrue result ↔ (replaced_by S.means self.now ≡ map S.means symbols.now) }
     {
         if self.symbol.is_variable() {
             return are_same(self.given, symbols);
@@ -96,13 +97,12 @@ impl<'s, 'a, S: Symbol> Replacement<'s, 'a, S> {
         if symbols.len() != 1 {
             return false;
         }
-        let symbol = symbols[0];
-        self.symbol.same(symbol)
+        self.symbol.same(&symbols[0])
     }
 }
 
 /// What stands for the symbol at a place of an expression.
-fn part<'s, 'a, S: Symbol>(
+fn part<'s, 'a, S: Kept>(
     taken: &Taken<'s, 'a, S>,
     expression: &'a [S],
     place: usize,
@@ -128,30 +128,36 @@ fn part<'s, 'a, S: Symbol>(
 }
 
 /// Puts an expression under the substitution behind other symbols.
-pub fn substitute<'s, 'a, S: Symbol>(
+pub fn substitute<'s, 'a, S: Kept>(
+    alloc: Global,
     taken: &Taken<'s, 'a, S>,
     expression: &'a [S],
-    to: &mut Vec<&'a S>,
+    to: &mut Vec<S>,
 ) -> Result<(), AllocError>
     requires within { All (IsWithin (length taken.now.symbols.now)) taken.now.entries.now }
     ensures { OnOk result ((given : Meaning → List Meaning) → Gives given (hypotheses_of S.means taken.now.hypotheses.now) (entries_of S.means taken.now)
         (map S.means expression.now)
-        → map (lent S.means) to.new.items ≡ map (lent S.means) to.old.items ++ substituted given (map S.means expression.now)) }
+        → map S.means to.new.items ≡ map S.means to.old.items ++ substituted given (map S.means expression.now)) }
 {
     for place in 0..expression.len() {
-        part(&*taken, expression, place).put(&mut *to)?;
+        part(&*taken, expression, place).put(alloc, &mut *to)?;
     }
     Ok(())
 }
 
 /// Whether an expression under the substitution has at most 1,000,000 symbols.
-pub fn is_short<'s, 'a, S: Symbol>(taken: &Taken<'s, 'a, S>, expression: &'a [S]) -> bool
+pub fn is_short<'s, 'a, S: Kept>(taken: &Taken<'s, 'a, S>, expression: &'a [S]) -> bool
     requires within { All (IsWithin (length taken.now.symbols.now)) taken.now.entries.now }
     ensures { (given : Meaning → List Meaning) → Gives given (hypotheses_of S.means taken.now.hypotheses.now) (entries_of S.means taken.now)
         (map S.means expression.now)
         → MatchBool result (length (substituted given (map S.means expression.now)) ≤ 1000000) (1000000 < length (substituted given
         (map S.means expression.now))) }
 {
+    // No entry is longer than the list, so most results need no count.
+    let half = LONGEST_RESULT / 2;
+    if expression.len() <= half && expression.len().saturating_mul(taken.symbols.len()) <= half {
+        return true;
+    }
     let mut count = 0;
     for place in 0..expression.len() {
         let more = part(&*taken, expression, place).count();
@@ -164,32 +170,14 @@ pub fn is_short<'s, 'a, S: Symbol>(taken: &Taken<'s, 'a, S>, expression: &'a [S]
 }
 
 /// Whether two lists have the same symbols.
-pub fn are_same<'a, S: Symbol>(a: &[&'a S], b: &[&'a S]) -> bool
-    ensures { IsTrue result ↔ (map (lent S.means) a.now ≡ map (lent S.means) b.now) }
+pub fn are_same<S: Kept>(a: &[S], b: &[S]) -> bool
+    ensures { IsTrue result ↔ (map S.means a.now ≡ map S.means b.now) }
 {
     if a.len() != b.len() {
         return false;
     }
     for i in 0..a.len() {
-        let x = a[i];
-        let y = b[i];
-        if !x.same(y) {
-            return false;
-        }
-    }
-    true
-}
-
-/// Whether symbols that are kept elsewhere are those of an expression.
-pub fn are_symbols<'a, S: Symbol>(kept: &[&'a S], expression: &[S]) -> bool
-    ensures { IsTrue result ↔ (map (lent S.means) kept.now ≡ map S.means expression.now) }
-{
-    if kept.len() != expression.len() {
-        return false;
-    }
-    for i in 0..kept.len() {
-        let symbol = kept[i];
-        if !symbol.same(&expression[i]) {
+        if !a[i].same(&b[i]) {
             return false;
         }
     }
@@ -197,15 +185,11 @@ pub fn are_symbols<'a, S: Symbol>(kept: &[&'a S], expression: &[S]) -> bool
 }
 
 /// Whether an entry is an expression under the substitution.
-pub fn fits<'s, 'a, S: Symbol>(
-    taken: &Taken<'s, 'a, S>,
-    expression: &'a [S],
-    entry: &[&'a S],
-) -> bool
+pub fn fits<'s, 'a, S: Kept>(taken: &Taken<'s, 'a, S>, expression: &'a [S], entry: &[S]) -> bool
     requires within { All (IsWithin (length taken.now.symbols.now)) taken.now.entries.now }
     ensures { (given : Meaning → List Meaning) → Gives given (hypotheses_of S.means taken.now.hypotheses.now) (entries_of S.means taken.now)
         (map S.means expression.now)
-        → IsTrue result ↔ (substituted given (map S.means expression.now) ≡ map (lent S.means) entry.now) }
+        → IsTrue result ↔ (substituted given (map S.means expression.now) ≡ map S.means entry.now) }
 {
     let mut at = 0;
     for place in 0..expression.len() {

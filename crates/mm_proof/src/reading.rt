@@ -29,23 +29,35 @@ pub struct Decoding {
     pub steps: Vec<ProofStep>,
 }
 
-/// The entries of the mandatory hypotheses, which are the items with these numbers.
-fn hypotheses(alloc: Global, mandatory: &[usize]) -> Result<Vec<Resolved>, AllocError>
+impl Decoding {
+    /// Nothing, which takes no memory.
+    pub fn new(alloc: Global) -> Decoding {
+        Decoding {
+            labels: Vec::new(alloc),
+            steps: Vec::new(alloc),
+        }
+    }
+}
+
+/// The entries of the mandatory hypotheses, which are the items with these numbers, in place of what a list has.
+fn hypotheses(room: Vec<Resolved>, mandatory: &[usize]) -> Result<Vec<Resolved>, AllocError>
     ensures { IfOk result (λ labels. labels.items ≡ map answers.Hypothesis mandatory.now) }
 {
-    mandatory
-        .iter()
-        .map(|number| Resolved::Hypothesis(*number))
-        .collect(alloc)
+    let mut labels = room;
+    labels.clear();
+    for number in mandatory {
+        labels.push(Resolved::Hypothesis(*number))?;
+    }
+    Ok(labels)
 }
 
 /// Decodes a compressed proof of the item with the number `i`.
 fn decode_compressed(
-    alloc: Global,
     base: &Base,
     i: usize,
     mandatory: &[usize],
     statement: &Statement,
+    room: Decoding,
 ) -> Result<Decoding, Undecoded>
     requires { is_compressed_lem statement.now.proof ≡ true }
     ensures ok { IfOk result (λ d. WhereActive base.now i mandatory.now (λ view.
@@ -56,11 +68,11 @@ fn decode_compressed(
     ensures err { IfErr result (λ e. WhereActive base.now i mandatory.now (λ view.
         TellsSteps e (compressed_at view i mandatory.now statement.now.proof))) }
 {
-    let mut labels = hypotheses(alloc, mandatory)?;
+    let mut labels = hypotheses(room.labels, mandatory)?;
     let mut words = statement.proof();
     let _open = words.next_word();
     let close = read_list(base, i, &mut words, &mut labels)?;
-    let steps = read_letters(alloc, &mut words, close + 1, labels.len())?;
+    let steps = read_letters(room.steps, &mut words, close + 1, labels.len())?;
     Ok(Decoding { labels, steps })
 }
 
@@ -88,18 +100,20 @@ fn read_word(base: &Base, i: usize, word: &[u8], n: usize) -> Result<(Resolved, 
 
 /// The words of a normal proof of the item with the number `i`, one by one.
 fn decode_normal(
-    alloc: Global,
     base: &Base,
     i: usize,
     statement: &Statement,
+    room: Decoding,
 ) -> Result<Decoding, Undecoded>
     ensures ok { IfOk result (λ d. InViews base.now (λ view. normal_at view i statement.now.proof ≡ Ok (steps_by view d))) }
     ensures entries { IfOk result (λ d. InViews base.now (λ view. AreEntries view i d.labels.items)) }
     ensures table { IfOk result (λ d. InViews base.now (λ view. entry_steps view d.labels.items ≡ map word_step statement.now.proof)) }
     ensures err { IfErr result (λ e. InViews base.now (λ view. TellsSteps e (normal_at view i statement.now.proof))) }
 {
-    let mut labels = Vec::new(alloc);
-    let mut steps = Vec::new(alloc);
+    let mut labels = room.labels;
+    labels.clear();
+    let mut steps = room.steps;
+    steps.clear();
     let mut words = statement.proof();
     let mut n = 0;
     while let Some(word) = words.next_word() {
@@ -127,14 +141,14 @@ pub fn is_compressed(statement: &Statement) -> bool
 
 /// Decodes the proof of the item with the number `i`, whose mandatory hypotheses are the items with these numbers.
 ///
-/// It reads the words once, in time linear in their bytes, and looks each label up once. After an error nothing is
-/// kept.
+/// It reads the words once, in time linear in their bytes, and looks each label up once. The lists of an older decoding
+/// are used over again; what they have does not count. After an error nothing is kept.
 pub fn decode(
-    alloc: Global,
     base: &Base,
     i: usize,
     mandatory: &[usize],
     statement: &Statement,
+    room: Decoding,
 ) -> Result<Decoding, Undecoded>
     ensures ok { IfOk result (λ d. WhereActive base.now i mandatory.now (λ view.
         decoding_of view i mandatory.now statement.now.proof ≡ Ok (decoded_steps view d statement.now.proof))) }
@@ -145,8 +159,8 @@ pub fn decode(
         TellsFault e (decoding_of view i mandatory.now statement.now.proof))) }
 {
     if is_compressed(statement) {
-        decode_compressed(alloc, base, i, mandatory, statement)
+        decode_compressed(base, i, mandatory, statement, room)
     } else {
-        decode_normal(alloc, base, i, statement)
+        decode_normal(base, i, statement, room)
     }
 }

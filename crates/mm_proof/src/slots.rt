@@ -6,7 +6,8 @@ ghost use Rattle.mm_proof.specs.Code.Citation.{IsSlot, Types, mandatory_of, hypo
 ghost use Rattle.mm_proof.specs.Code.Keys.{home as home_lem};
 
 use crate::assertion::Hypothesis;
-use crate::symbol::Symbol;
+use crate::symbol::Kept;
+use mm_frame::Symbol;
 
 /// Where a key is noted in a table of so many places: at its own place, or at what is left of it.
 pub fn home(key: usize, count: usize) -> usize
@@ -20,7 +21,7 @@ pub fn home(key: usize, count: usize) -> usize
 }
 
 /// Whether a hypothesis is the `$f` of a variable.
-fn is_float_of<'a, S: Symbol>(hypothesis: &Hypothesis<'a, S>, variable: &S) -> bool
+fn is_float_of<'a, S: Kept>(hypothesis: &Hypothesis<'a, S>, variable: &S) -> bool
     ensures { IsTrue result ↔ Types (mandatory_of S.means hypothesis.now) (S.means variable.now) }
 {
     if !hypothesis.floating {
@@ -34,7 +35,7 @@ fn is_float_of<'a, S: Symbol>(hypothesis: &Hypothesis<'a, S>, variable: &S) -> b
 
 /// Notes for each variable of a `$f` where it stands among the hypotheses. What is found by it is compared, so that
 /// no answer depends on it.
-pub fn note_places<'a, S: Symbol>(hypotheses: &[Hypothesis<'a, S>], places: &mut [usize]) {
+pub fn note_places<'a, S: Kept>(hypotheses: &[Hypothesis<'a, S>], places: &mut [usize]) {
     for place in 0..hypotheses.len() {
         let hypothesis = &hypotheses[place];
         if hypothesis.floating && hypothesis.expression.len() > 1 {
@@ -47,7 +48,7 @@ pub fn note_places<'a, S: Symbol>(hypotheses: &[Hypothesis<'a, S>], places: &mut
 }
 
 /// The slot of a variable that some `$f` types.
-pub fn slot_of<'a, S: Symbol>(
+pub fn slot_of<'a, S: Kept>(
     hypotheses: &[Hypothesis<'a, S>],
     places: &[usize],
     variable: &S,

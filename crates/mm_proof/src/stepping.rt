@@ -19,9 +19,10 @@ use crate::ProofNumber;
 use crate::active::Active;
 use crate::machine::Machine;
 use crate::named::{Named, Use};
-use crate::pattern::are_symbols;
+use crate::pattern::are_same;
 use crate::step::{Action, ProofStep};
-use crate::symbol::Symbol;
+use crate::symbol::Kept;
+use mm_frame::Symbol;
 use std::alloc::{AllocError, Global};
 
 /// What the machine does at a known step.
@@ -67,7 +68,7 @@ fn used(uses: &[Use], k: usize) -> Use
 }
 
 /// What the machine does at a step with this action; nothing where the step is not known.
-fn todo<'a, S: Symbol>(named: &Named<'a, S>, action: Action) -> Option<Task>
+fn todo<'a, S: Kept>(named: &Named<'a, S>, action: Action) -> Option<Task>
     ensures means { (place : Setting) (names : List Step) → AreUses S.means named.now place names
         → MatchOption result (meant names action ≡ NotKnown)
         (λ task. MeansTask (expressions_of S.means named.now) (frames_of S.means named.now) place task (meant names action)) }
@@ -88,8 +89,9 @@ fn todo<'a, S: Symbol>(named: &Named<'a, S>, action: Action) -> Option<Task>
 }
 
 /// Does one task. Answers the number of its fault, if it has one.
-fn turn<'a, S: Symbol>(
-    machine: &mut Machine<'a, S>,
+fn turn<'a, S: Kept>(
+    alloc: Global,
+    machine: &mut Machine<S>,
     named: &Named<'a, S>,
     active: &Active<'a, S>,
     task: Task,
@@ -113,7 +115,7 @@ fn turn<'a, S: Symbol>(
             Ok(None)
         }
         Task::Cite(n) => {
-            let found = machine.cite(&named.assertions[n], &*active)?;
+            let found = machine.cite(alloc, &named.assertions[n], &*active)?;
             Ok(found)
         }
         Task::Again(n) => {
@@ -131,17 +133,21 @@ fn turn<'a, S: Symbol>(
 }
 
 /// Whether the one entry is an expression.
-fn is_top<'a, S: Symbol>(machine: &Machine<'a, S>, expression: &[S]) -> bool
+fn is_top<S: Kept>(machine: &Machine<S>, expression: &[S]) -> bool
     requires whole { AreRanges machine.now }
     requires one { length machine.now.stack.items ≡ 1 }
     ensures { IsTrue result ↔ ((state_of S.means machine.now).stack ≡ map S.means expression.now ∷ []) }
 {
     let entry = machine.stack[0];
-    are_symbols(&machine.symbols[entry.start..entry.end], expression)
+    are_same(&machine.symbols[entry.start..entry.end], expression)
 }
 
 /// Keeps the expressions of the hypotheses that are named.
-fn load<'a, S: Symbol>(machine: &mut Machine<'a, S>, named: &Named<'a, S>) -> Result<(), AllocError>
+fn load<'a, S: Kept>(
+    alloc: Global,
+    machine: &mut Machine<S>,
+    named: &Named<'a, S>,
+) -> Result<(), AllocError>
     requires whole { AreRanges machine.old }
     requires nothing { state_of S.means machine.old ≡ nothing_yet }
     ensures whole { OnOk result (AreRanges machine.new) }
@@ -149,15 +155,16 @@ fn load<'a, S: Symbol>(machine: &mut Machine<'a, S>, named: &Named<'a, S>) -> Re
 {
     for n in 0..named.hypotheses.len() {
         let expression = named.hypotheses[n];
-        machine.load(expression)?;
+        machine.load(alloc, expression)?;
     }
     Ok(())
 }
 
-/// Runs the steps of a proof of a statement, up to the first that is at fault or not known. The machine's tables have so
-/// many places for the keys of variables.
-pub fn run<'a, S: Symbol>(
+/// Runs the steps of a proof of a statement, up to the first that is at fault or not known. What the machine has from
+/// other runs does not count; its tables get so many places for the keys of variables, if they have fewer.
+pub fn run<'a, S: Kept>(
     alloc: Global,
+    machine: &mut Machine<S>,
     keys: usize,
     named: &Named<'a, S>,
     active: &Active<'a, S>,
@@ -172,20 +179,20 @@ pub fn run<'a, S: Symbol>(
         → AreSamePairs (pairs_of S.means active.now.pairs.now) place.active
         → AreUses S.means named.now place names → RunSays place (actions_mean names steps.now) (map S.means statement.now) outcome) }
 {
-    let mut machine = Machine::new(alloc, keys)?;
-    load(&mut machine, &*named)?;
+    machine.clear(keys)?;
+    load(alloc, &mut *machine, &*named)?;
     for place in 0..steps.len() {
         let Some(task) = todo(&*named, steps[place].action) else {
             return Ok(Outcome::Unknown(place));
         };
-        if let Some(number) = turn(&mut machine, &*named, &*active, task)? {
+        if let Some(number) = turn(alloc, &mut *machine, &*named, &*active, task)? {
             return Ok(Outcome::Fault(number, place));
         }
     }
     if machine.stack.len() != 1 {
         return Ok(Outcome::NotOne);
     }
-    if is_top(&machine, statement) {
+    if is_top(&*machine, statement) {
         Ok(Outcome::Proved)
     } else {
         Ok(Outcome::Other)

@@ -1,32 +1,25 @@
-//! What the machine asks of symbols.
+//! What the machine asks of symbols that it keeps in a list.
 
-ghost use Rattle.std.specs.Prelude.{◌≡◌, ◌↔◌, ◌<◌, ◌^◌, ℕ, IsTrue, slice_index};
+ghost use Rattle.std.specs.Prelude.{◌≡◌, ◌↔◌, ◌<◌, ◌^◌, ◌++◌, ℕ, IfOk, IsTrue, OnOk, map, slice_index};
 ghost use Rattle.mm_frame.specs.Language.Frame.{Symbol as Meaning};
 ghost use Rattle.mm_frame.specs.Code.CodeSymbols.{named_symbol};
 ghost use Rattle.mm_proof.specs.Code.Keys.{key_from, key_next};
-ghost use Rattle.mm_proof.specs.Code.NumberedBase.{by_number};
 
-use mm_frame::{NamedSymbol, NumberedSymbol};
+use mm_frame::{NamedSymbol, NumberedSymbol, Symbol};
+use std::alloc::{AllocError, Global};
 
-/// A symbol of expressions, by its name or by a number.
-pub trait Symbol: Drop {
-    /// The name, and whether it is a variable.
-    ghost means: { Self → Meaning };
-
+/// A symbol that the machine keeps in its list.
+pub trait Kept: Symbol {
     /// The number by which a symbol is looked for.
     ghost key_of: { Meaning → ℕ };
 
-    /// Whether the two are the same symbol.
-    fn same(&self, other: &Self) -> bool
-        ensures { IsTrue result ↔ (means self.now ≡ means other.now) };
-
-    /// Whether it is a variable.
-    fn is_variable(&self) -> bool
-        ensures { result ≡ (means self.now).variable };
-
     /// The number by which it is looked for. Look-ups are quick where different symbols have different numbers.
     fn key(&self) -> usize
-        ensures { result ≡ key_of (means self.now) };
+        ensures { result ≡ key_of (Self.means self.now) };
+
+    /// Puts copies of symbols behind others.
+    fn append(alloc: Global, to: &mut Vec<Self>, from: &[Self]) -> Result<(), AllocError>
+        ensures { OnOk result (map Self.means to.new.items ≡ map Self.means to.old.items ++ map Self.means from.now) };
 }
 
 /// The next number behind some bytes of a name.
@@ -38,18 +31,8 @@ fn key_behind(key: usize, byte: u8) -> usize
     (key * 31 + byte as usize) % 4294967296
 }
 
-impl Symbol for NamedSymbol {
-    ghost means = { named_symbol };
-
+impl Kept for NamedSymbol {
     ghost key_of = { λ symbol. key_from 0 symbol.name };
-
-    fn same(&self, other: &Self) -> bool {
-        NamedSymbol::same(self, other)
-    }
-
-    fn is_variable(&self) -> bool {
-        self.variable
-    }
 
     fn key(&self) -> usize {
         let mut key = 0;
@@ -58,22 +41,23 @@ impl Symbol for NamedSymbol {
         }
         key
     }
+
+    fn append(alloc: Global, to: &mut Vec<Self>, from: &[Self]) -> Result<(), AllocError> {
+        for symbol in from {
+            to.push(symbol.copy(alloc)?)?;
+        }
+        Ok(())
+    }
 }
 
-impl Symbol for NumberedSymbol {
-    ghost means = { by_number };
-
+impl Kept for NumberedSymbol {
     ghost key_of = { λ symbol. slice_index symbol.name 0 };
-
-    fn same(&self, other: &Self) -> bool {
-        NumberedSymbol::same(self, other)
-    }
-
-    fn is_variable(&self) -> bool {
-        self.variable
-    }
 
     fn key(&self) -> usize {
         self.name
+    }
+
+    fn append(_alloc: Global, to: &mut Vec<Self>, from: &[Self]) -> Result<(), AllocError> {
+        to.extend_from_slice(from)
     }
 }

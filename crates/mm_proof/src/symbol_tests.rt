@@ -5,7 +5,8 @@ ghost use Rattle.mm_frame.specs.Code.CodeSymbols.{named_symbol};
 ghost use Rattle.mm_frame.specs.Language.Typing.{IsFrame};
 ghost use Rattle.mm_proof.specs.Code.Citation.{frame_of, hypotheses_of, pairs_of};
 ghost use Rattle.mm_proof.specs.Code.Judged.{HasDecoding, HasStatement, IsOutcomeWithin};
-ghost use Rattle.mm_proof.specs.Code.NumberedBase.{by_number, all_by_number};
+ghost use Rattle.mm_frame.specs.Code.CodeSymbols.{by_number};
+ghost use Rattle.mm_proof.specs.Code.NumberedBase.{all_by_number};
 ghost use Rattle.mm_proof.specs.Code.ReadIn.{HasTheorem};
 ghost use Rattle.mm_proof.specs.Code.Tasks.{AreSavedBefore, AreUsesWithin, IsUseWithin};
 
@@ -15,7 +16,8 @@ use crate::assertion::{Cited, Hypothesis, active, expression};
 use crate::checking::{mandatory, told, verdict};
 use crate::citing::cites;
 use crate::decoding_laws::{decodes_surely, mandatory_are_active};
-use crate::named::{Named, Use, name_all};
+use crate::machine::Machine;
+use crate::named::{Named, NamingRoom, Use, name_all};
 use crate::reading::{Decoding, decode};
 use crate::step::ProofStep;
 use crate::stepping::{Outcome, run};
@@ -230,7 +232,8 @@ fn run_lent<'a>(
         assertions,
     };
     let active = Active::new(pairs);
-    run(alloc, 61, &named, &active, steps, statement)
+    let mut machine = Machine::new(alloc);
+    run(alloc, &mut machine, 61, &named, &active, steps, statement)
 }
 
 /// What a run over names comes to.
@@ -273,7 +276,7 @@ fn verdict_by_names(
 {
     decodes_surely();
     mandatory_are_active();
-    let named = name_all(alloc, base, &decoding.labels)?;
+    let (named, _) = name_all(alloc, base, &decoding.labels, NamingRoom::new(alloc))?;
     let outcome = run_by_names(
         alloc,
         &named,
@@ -295,9 +298,10 @@ fn judge_by_names(
 {
     mandatory_are_active();
     let mandatory = mandatory(base, i);
-    match decode(alloc, base, i, mandatory, statement) {
+    match decode(base, i, mandatory, statement, Decoding::new(alloc)) {
         Ok(decoding) => {
-            let cites = cites(alloc, &decoding, mandatory.len(), statement)?;
+            let mut marks = Vec::new(alloc);
+            let cites = cites(alloc, &mut marks, &decoding, mandatory.len(), statement)?;
             let verdict = verdict_by_names(alloc, base, i, statement, &decoding)?;
             Ok(Checked::new(verdict, cites))
         }

@@ -3,8 +3,42 @@
 ghost use Rattle.std.specs.Prelude.{◌≡◌, ◌<◌, ◌+◌, ◌++◌, ◌∷◌, ◌^◌, [], IfOk, OnOk, OnErr};
 
 use crate::Verdict;
+use crate::machine::Machine;
+use crate::named::NamingRoom;
+use crate::reading::Decoding;
+use mm_frame::NumberedSymbol;
 use std::alloc::{AllocError, Global};
 use std::marker::Model;
+
+/// What checks use over again, so that none takes its memory anew. What one leaves there does not count in the next.
+#[derive(Drop)]
+pub struct Scratch {
+    pub decoding: Decoding,
+    pub naming: NamingRoom,
+    /// For the number of an item a mark.
+    pub marks: Vec<bool>,
+    pub machine: Machine<NumberedSymbol>,
+}
+
+impl Scratch {
+    /// It has taken no memory yet.
+    fn new(alloc: Global) -> Scratch {
+        Scratch {
+            decoding: Decoding::new(alloc),
+            naming: NamingRoom::new(alloc),
+            marks: Vec::new(alloc),
+            machine: Machine::new(alloc),
+        }
+    }
+
+    /// Gives the marks a place for each of so many items, if they have fewer.
+    pub fn widen(&mut self, items: usize) -> Result<(), AllocError> {
+        if self.marks.len() < items {
+            self.marks.resize(items, false)?;
+        }
+        Ok(())
+    }
+}
 
 /// Which proofs were run, in order, and how many steps were done.
 #[derive(Drop)]
@@ -12,6 +46,8 @@ pub struct Work {
     runs: Vec<usize>,
     steps: u64,
     room: usize,
+    /// What checks use over again, where none has it.
+    scratch: Vec<Scratch>,
 }
 
 impl Model for Work {
@@ -33,7 +69,26 @@ impl Work {
             runs: Vec::with_capacity(alloc, room)?,
             steps: 0,
             room,
+            scratch: Vec::with_capacity(alloc, 1)?,
         })
+    }
+
+    /// Lends what checks use over again. Without it the work is the same.
+    pub(crate) fn lend(&mut self, alloc: Global) -> Scratch
+        ensures { self.new ≡ self.old }
+    {
+        match self.scratch.pop() {
+            Some(scratch) => scratch,
+            None => Scratch::new(alloc),
+        }
+    }
+
+    /// Takes it back for the next check.
+    pub(crate) fn keep(&mut self, scratch: Scratch) -> Result<(), AllocError>
+        ensures { self.new ≡ self.old }
+    {
+        self.scratch.push(scratch)?;
+        Ok(())
     }
 
     /// Records the run of the proof of the item with this number, in which so many steps were done. Want of memory records

@@ -7,7 +7,7 @@ use Rattle.mm_proof.specs.Language.Substitution.{substituted}
 use Rattle.mm_proof.specs.Language.Derivation.{AreApart}
 use Rattle.mm_proof.specs.Language.Faults.{AnyZip, CitingFails, entries_for, row_of}
 use Rattle.mm_proof.specs.declared.ProofNumber.{ProofNumber}
-use Rattle.mm_proof.specs.Code.Flat.{lent, read_all}
+use Rattle.mm_proof.specs.Code.Flat.{read_all}
 use Rattle.mm_proof.specs.declared.pattern.Replacement.{Replacement}
 use Rattle.mm_proof.specs.declared.pattern.Taken.{Taken}
 use Rattle.mm_proof.specs.declared.assertion.Hypothesis.{Hypothesis}
@@ -79,8 +79,8 @@ CitingSays active frame es (Some number) = (stack : List (List Symbol)) → leng
 
 -- the entries that are taken
 abbrev pub entries_of : {S : Type 0} → (S → Symbol) → Taken S → List (List Symbol)
-entries_of means taken = read_all (map (lent means) taken.symbols.now) taken.entries.now
+entries_of means taken = read_all (map means taken.symbols.now) taken.entries.now
 
 -- what stands for a symbol
 abbrev pub replaced_by : {S : Type 0} → (S → Symbol) → Replacement S → List Symbol
-replaced_by means r = if (means r.symbol.now).variable then map (lent means) r.given.now else means r.symbol.now ∷ []
+replaced_by means r = if (means r.symbol.now).variable then map means r.given.now else means r.symbol.now ∷ []

@@ -1,5 +1,6 @@
 -- Which words cite, by the numbers of assertions: it stands between the code and the definition.
-use Rattle.std.specs.Prelude.{ℕ, ◌+◌, Bool, false, not, ◌&&◌, if◌then◌else◌, nat_eq, Option, Some, None, List, [], ◌∷◌, slice_get}
+use Rattle.std.specs.Prelude.{ℕ, ◌+◌, Bool, false, not, slice_index_or, ◌&&◌, if◌then◌else◌, nat_eq, Option, Some, None, List, [], ◌∷◌, slice_get}
+use Rattle.std.specs.List.{list_any}
 use Rattle.mm_frame.specs.declared.base.Resolved.{Resolved}
 use Rattle.mm_frame.specs.declared.base.Resolved.TheVariants as answers
 use Rattle.mm_proof.specs.declared.step.Action.{Action}
@@ -27,6 +28,14 @@ is_item None j = false
 
 abbrev pub names_item : List Resolved → ℕ → ProofStep → Bool
 names_item labels j step = is_item (item_named labels step.action) j
+
+-- an entry is that of this assertion
+abbrev pub is_listed : List Resolved → ℕ → Bool
+is_listed labels j = list_any (λ label. is_item (cited_item (Some label)) j) labels
+
+-- whether a number is marked
+abbrev pub mark_at : List Bool → ℕ → Bool
+mark_at marks j = slice_index_or marks j false
 
 -- the assertions that are left once this one is told
 abbrev pub without : (ℕ → Bool) → ℕ → ℕ → Bool

@@ -1,12 +1,7 @@
 -- A flat list of symbols, and the expressions that are ranges of it.
 use Rattle.std.specs.Prelude.{ℕ, ◌-◌, ◌≤◌, List, map, take, drop}
-use Rattle.std.specs.Borrow.{Bor}
 use Rattle.mm_frame.specs.Language.Frame.{Symbol}
 use Rattle.mm_proof.specs.declared.pattern.Entry.{Entry}
-
--- what a symbol means that is kept elsewhere
-abbrev pub lent : {S : Type 0} → (S → Symbol) → Bor S → Symbol
-lent means symbol = means symbol.now
 
 -- the expression of an entry
 abbrev pub read : List Symbol → Entry → List Symbol

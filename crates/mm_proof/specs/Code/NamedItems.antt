@@ -9,7 +9,8 @@ use Rattle.mm_frame.specs.Language.Typing.{IsFrame}
 use Rattle.mm_frame.specs.Code.KeptBase.{IsBase}
 use Rattle.mm_proof.specs.Code.Citation.{frame_of}
 use Rattle.mm_proof.specs.Code.Labels.{IsEntry}
-use Rattle.mm_proof.specs.Code.NumberedBase.{ByNames, by_number, all_by_number, numbered_hypothesis, numbered_frame}
+use Rattle.mm_frame.specs.Code.CodeSymbols.{by_number}
+use Rattle.mm_proof.specs.Code.NumberedBase.{ByNames, all_by_number, numbered_hypothesis, numbered_frame}
 use Rattle.mm_proof.specs.declared.named.Naming.{Naming}
 use Rattle.mm_proof.specs.declared.named.Use.{Use}
 use Rattle.mm_proof.specs.declared.named.Use.TheVariants as uses

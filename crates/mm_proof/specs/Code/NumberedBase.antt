@@ -1,17 +1,14 @@
 -- What a base answers, with numbers in place of the names of symbols.
-use Rattle.std.specs.Prelude.{ℕ, List, [], ◌∷◌, map}
+use Rattle.std.specs.Prelude.{ℕ, List, map}
 use Rattle.mm_frame.specs.declared.base.Base.{Base}
 use Rattle.mm_frame.specs.declared.symbol.NumberedSymbol.{NumberedSymbol}
 use Rattle.mm_frame.specs.Language.Base.{BaseView, hypothesis_at, frame_at}
 use Rattle.mm_frame.specs.Language.Frame.{Symbol, Mandatory, Frame, Setting}
+use Rattle.mm_frame.specs.Code.CodeSymbols.{by_number}
 use Rattle.mm_frame.specs.Code.KeptBase.{IsBaseBy}
 use Rattle.mm_proof.specs.Language.BaseLabels.{setting_at}
 use Rattle.mm_proof.specs.Language.Renaming.{renamed_mandatory, renamed_frame, renamed_meaning, renamed_pairs}
 use Rattle.mm_proof.specs.Code.Numbering.{unnaming}
-
--- the symbol whose name is its number
-abbrev pub by_number : NumberedSymbol → Symbol
-by_number s = record { name = s.name ∷ []; variable = s.variable }
 
 abbrev pub all_by_number : List NumberedSymbol → List Symbol
 all_by_number symbols = map by_number symbols

@@ -12,7 +12,7 @@ use Rattle.mm_proof.specs.declared.pattern.Entry.{Entry}
 use Rattle.mm_proof.specs.declared.assertion.Hypothesis.{Hypothesis}
 use Rattle.mm_proof.specs.declared.pattern.Taken.{Taken}
 use Rattle.mm_proof.specs.declared.gather.Gathered.{Gathered}
-use Rattle.mm_proof.specs.Code.Flat.{read, IsWithin, lent}
+use Rattle.mm_proof.specs.Code.Flat.{read, IsWithin}
 
 -- it is the pair of these two, in one order or the other
 abbrev pub IsPair : Symbol × Symbol → Symbol → Symbol → Type 0
@@ -102,7 +102,7 @@ AtSlots P hs variables spans p = (i j : ℕ) × IsSlot hs i p.0 × IsSlot hs j p
 
 -- it is said of what was gathered for the two variables of a pair
 abbrev pub AtPair : {S : Type 0} → (S → Symbol) → (List Symbol → List Symbol → Type 0) → Taken S → Gathered S → Symbol × Symbol → Type 0
-AtPair means P taken gathered p = AtSlots P (hypotheses_of means taken.hypotheses.now) (map (lent means) gathered.variables.items) gathered.spans.items p
+AtPair means P taken gathered p = AtSlots P (hypotheses_of means taken.hypotheses.now) (map means gathered.variables.items) gathered.spans.items p
 
 -- it is said at each pair
 abbrev pub AtEachPair : {S : Type 0} → (S → Symbol) → (List Symbol → List Symbol → Type 0) → Taken S → Gathered S → List (S × S) → Type 0

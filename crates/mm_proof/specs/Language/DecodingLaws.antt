@@ -11,7 +11,7 @@ use Rattle.mm_proof.specs.Language.Numbers.{is_digit, is_last, value_of}
 use Rattle.mm_proof.specs.Language.Letters.{Letter, Group, groups, IsDivided}
 use Rattle.mm_proof.specs.Language.Decoding.{Reading, in_order, is_close, decoding}
 use Rattle.mm_proof.specs.Language.Citing.{cites}
-use Rattle.mm_proof.specs.Language.View.{AreSameToDecode, IsSameDecoding}
+use Rattle.mm_proof.specs.Language.SameProof.{AreSameToDecode, IsSameDecoding}
 use Rattle.mm_proof.specs.Language.Renaming.{IsRenamedSetting}
 use Rattle.mm_proof.specs.Language.Verdict.{Decoded}
 use Rattle.mm_proof.specs.declared.ProofNumber.{ProofNumber}

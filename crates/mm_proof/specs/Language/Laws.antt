@@ -9,7 +9,7 @@ use Rattle.mm_proof.specs.Language.Machine.{State, Turns, Runs, nothing_yet, IsR
 use Rattle.mm_proof.specs.Language.Faults.{StepLineHolds, IsLowest}
 use Rattle.mm_proof.specs.Language.Verdict.{Decoded, StepsDerive, IsVerdict}
 use Rattle.mm_proof.specs.Language.Run.{AreDone}
-use Rattle.mm_proof.specs.Language.View.{IsSameProof}
+use Rattle.mm_proof.specs.Language.SameProof.{IsSameProof}
 use Rattle.mm_proof.specs.Language.Renaming.{IsRenaming, IsRenamedSetting}
 use Rattle.mm_proof.specs.declared.ProofNumber.{ProofNumber}
 use Rattle.mm_proof.specs.declared.Verdict.{Verdict}

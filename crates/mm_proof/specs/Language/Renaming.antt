@@ -1,7 +1,7 @@
 -- Renaming of symbols, one to one, and what it makes of frames and of what labels mean.
 use Rattle.std.specs.Prelude.{◌≡◌, ℕ, List, map}
 use Rattle.mm_frame.specs.Language.Frame.{Symbol, Mandatory, Frame, Resolved, Hypothesis, Assertion, Inactive, Unknown, Setting, AreSamePairs}
-use Rattle.mm_proof.specs.Language.View.{AreSameMeaning}
+use Rattle.mm_proof.specs.Language.SameProof.{AreSameMeaning}
 
 -- the one gives each symbol a symbol of its kind, and the other gives it back
 pub record IsRenaming (to back : Symbol → Symbol) : Type 0 where

@@ -1,7 +1,6 @@
 use Rattle.std.proofs.Common.{map, length, ◌∙◌, ap, arith, refl}
 use Rattle.std.specs.Prelude.{slice_set}
 use Rattle.std.proofs.lemmas.List.{length-set}
-use Rattle.mm_proof.specs.Code.Flat.{lent}
 use Rattle.mm_proof.specs.Code.Keys.{home, home_at}
 use Rattle.mm_proof.proofs.FlatLemmas.{mapped_get}
 use Rattle.mm_proof.proofs.MarkLemmas.{marked_more}
@@ -12,9 +11,9 @@ loop-i-preserved g c =
     let m = g.S.Symbol.means in
     let x = c.index-xs-i.result in
     record {
-      marks = marked_more (home_at g.S.Symbol.key_of (length c.args.places.now)) (map (lent m) c.args.xs.now) c.loop-i.places c.note.new.places c.loop-i.i (lent m x)
-          (mapped_get (lent m) c.args.xs.now c.loop-i.i x c.loop-i-test.true c.index-xs-i.is)
-          (c.note.ensures ∙ ap (λ k. slice_set c.loop-i.places k c.loop-i.i) (c.home_of-at.ensures ∙ ap (home (g.S.Symbol.key_of (lent m x))) c.loop-i.invariant.count)) c.loop-i.invariant.marks;
+      marks = marked_more (home_at g.S.Kept.key_of (length c.args.places.now)) (map m c.args.xs.now) c.loop-i.places c.note.new.places c.loop-i.i (m x)
+          (mapped_get m c.args.xs.now c.loop-i.i x c.loop-i-test.true c.index-xs-i.is)
+          (c.note.ensures ∙ ap (λ k. slice_set c.loop-i.places k c.loop-i.i) (c.home_of-at.ensures ∙ ap (home (g.S.Kept.key_of (m x))) c.loop-i.invariant.count)) c.loop-i.invariant.marks;
       count = ap length c.note.ensures ∙ length-set c.loop-i.places c.home_of-at.result c.loop-i.i ∙ c.loop-i.invariant.count;
     }
 

@@ -2,7 +2,6 @@ use Rattle.std.proofs.Common.{map, sym, ◌∙◌, arith}
 use Rattle.std.specs.Prelude.{Contains}
 use Rattle.std.proofs.lemmas.Bool.{false≢true}
 use Rattle.std.proofs.lemmas.List.{length-map}
-use Rattle.mm_proof.specs.Code.Flat.{lent}
 use Rattle.mm_proof.proofs.FlatLemmas.{mapped_get}
 use Rattle.mm_proof.proofs.PairLemmas.{each_more, each_all}
 use Rattle.mm_proof.proofs.active.share.Goals as goal
@@ -10,11 +9,11 @@ use Rattle.mm_proof.proofs.active.share.Goals as goal
 pub loop-i-preserved : goal.loop-i-preserved
 loop-i-preserved g c =
     let m = g.S.Symbol.means in
-    each_more (λ x. Contains (map (lent m) c.args.xs.now) x → ⊥) (map (lent m) c.args.ys.now) c.loop-i.i (lent m c.index-ys-i.result)
-    (mapped_get (lent m) c.args.ys.now c.loop-i.i c.index-ys-i.result c.loop-i-test.true c.index-ys-i.is)
+    each_more (λ x. Contains (map m c.args.xs.now) x → ⊥) (map m c.args.ys.now) c.loop-i.i (m c.index-ys-i.result)
+    (mapped_get m c.args.ys.now c.loop-i.i c.index-ys-i.result c.loop-i-test.true c.index-ys-i.is)
     (λ e. false≢true (sym c.if-is_marked.false ∙ c.is_marked.ensures.1 e)) c.loop-i.invariant
 
 pub returns : goal.returns
 returns g c s =
     let m = g.S.Symbol.means in
-    each_all (λ x. Contains (map (lent m) c.args.xs.now) x → ⊥) (map (lent m) c.args.ys.now) c.loop-i.i (omega (arith, length-map c.args.ys.now (lent m), c.loop-i-test.false)) c.loop-i.invariant s.0 s.2 s.1
+    each_all (λ x. Contains (map m c.args.xs.now) x → ⊥) (map m c.args.ys.now) c.loop-i.i (omega (arith, length-map c.args.ys.now m, c.loop-i-test.false)) c.loop-i.invariant s.0 s.2 s.1

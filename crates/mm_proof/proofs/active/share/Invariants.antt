@@ -1,8 +1,7 @@
 use Rattle.std.proofs.Common.{map}
 use Rattle.std.specs.Prelude.{Contains}
-use Rattle.mm_proof.specs.Code.Flat.{lent}
 use Rattle.mm_proof.proofs.PairLemmas.{EachUpTo}
 use Rattle.mm_proof.proofs.active.share.Given as goal
 
 abbrev pub invariant-loop-i : goal.invariant-loop-i
-invariant-loop-i g l = EachUpTo (λ y. Contains (map (lent g.S.Symbol.means) l.xs) y → ⊥) (map (lent g.S.Symbol.means) l.ys) l.i
+invariant-loop-i g l = EachUpTo (λ y. Contains (map g.S.Symbol.means l.xs) y → ⊥) (map g.S.Symbol.means l.ys) l.i

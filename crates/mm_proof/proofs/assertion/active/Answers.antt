@@ -11,7 +11,7 @@ use Rattle.mm_frame.specs.declared.symbol.NumberedSymbol.{NumberedSymbol}
 use Rattle.mm_proof.specs.Language.Renaming.{renamed_pairs}
 use Rattle.mm_proof.specs.Code.Citation.{pairs_of}
 use Rattle.mm_proof.specs.Code.Numbering.{unnaming}
-use Rattle.mm_proof.specs.Code.NumberedBase.{by_number}
+use Rattle.mm_frame.specs.Code.CodeSymbols.{by_number}
 use Rattle.mm_proof.proofs.RenamedFrames.{pairs_by_number}
 use Rattle.mm_proof.proofs.assertion.active.Goals as goal
 

@@ -7,7 +7,8 @@ use Rattle.mm_frame.specs.declared.symbol.NumberedSymbol.{NumberedSymbol}
 use Rattle.mm_proof.specs.Language.Renaming.{renamed_mandatory}
 use Rattle.mm_proof.specs.Code.Citation.{pairs_of}
 use Rattle.mm_proof.specs.Code.Numbering.{unnaming}
-use Rattle.mm_proof.specs.Code.NumberedBase.{by_number, numbered_hypothesis, numbered_frame}
+use Rattle.mm_frame.specs.Code.CodeSymbols.{by_number}
+use Rattle.mm_proof.specs.Code.NumberedBase.{numbered_hypothesis, numbered_frame}
 use Rattle.mm_proof.proofs.FrameLemmas.{shown_framed}
 use Rattle.mm_proof.proofs.RenamedFrames.{pairs_by_number}
 use Rattle.mm_proof.proofs.assertion.assertion_of.Goals as goal

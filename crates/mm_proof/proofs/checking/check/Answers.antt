@@ -1,3 +1,4 @@
+use Rattle.std.proofs.Common.{◌+◌, ◌∙◌, ap}
 use Rattle.mm_proof.proofs.SaysLemmas.{read_at, theorem_at}
 use Rattle.mm_proof.proofs.checking.check.Goals as goal
 
@@ -23,5 +24,5 @@ returns-clause-done c view is proof = (
   c.in_ok-checked.ensures.done view (theorem_at c.args.names.now c.args.files.now c.args.base.now c.args.i c.item.result.now c.in_ok-statement.statement view is proof
       (c.item.ensures.found view (c.args.names.now, is.base)) c.in_ok-statement.ensures.only),
   c.in_ok-checked.ensures.few,
-  c.in_ok-record.ensures.steps,
+  c.in_ok-record.ensures.steps ∙ ap (λ w. w.steps + c.in_ok-checked.done) (c.keep.ensures ∙ c.lend-scratch.ensures),
 )

@@ -9,7 +9,8 @@ use Rattle.mm_proof.specs.Language.BaseLabels.{setting_at}
 use Rattle.mm_proof.specs.Language.VerdictAt.{mandatory_labels, statement_at}
 use Rattle.mm_proof.specs.Code.Citation.{pairs_of}
 use Rattle.mm_proof.specs.Code.NamedItems.{IsNamedBy}
-use Rattle.mm_proof.specs.Code.NumberedBase.{by_number, all_by_number, numbered_setting}
+use Rattle.mm_frame.specs.Code.CodeSymbols.{by_number}
+use Rattle.mm_proof.specs.Code.NumberedBase.{all_by_number, numbered_setting}
 use Rattle.mm_proof.specs.Code.Labels.{AreEntries, entry_steps}
 use Rattle.mm_proof.specs.Code.Tasks.{AreSavedBefore, AreUses, RunSays, actions_mean}
 use Rattle.mm_proof.specs.declared.step.ProofStep.{ProofStep}

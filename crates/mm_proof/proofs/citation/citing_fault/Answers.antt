@@ -1,5 +1,5 @@
 use Rattle.std.proofs.Common.{map}
-use Rattle.mm_proof.specs.Code.Flat.{lent, read_all}
+use Rattle.mm_proof.specs.Code.Flat.{read_all}
 use Rattle.mm_proof.specs.Code.Citation.{frame_from}
 use Rattle.mm_proof.specs.Code.Citation.{pairs_of}
 use Rattle.mm_proof.proofs.CitingLemmas.{gives_all, hypotheses_known, count_of}
@@ -19,30 +19,30 @@ pub returns-then-not-typecodes_match : goal.returns-then-not-typecodes_match
 returns-then-not-typecodes_match g c =
     let m = g.S.Symbol.means in
     let frame = frame_from m c.args.taken.now.hypotheses.now c.args.expression.now c.args.pairs.now in
-    let es = read_all (map (lent m) c.args.taken.now.symbols.now) c.args.taken.now.entries.now in
-    says08 (pairs_of m c.args.active.now.pairs.now) frame es c.requires.frame (count_of m (map (lent m) c.args.taken.now.symbols.now) c.args.taken.now.entries.now c.args.taken.now.hypotheses.now c.requires.count) c.if-not-typecodes_match.ensures
+    let es = read_all (map m c.args.taken.now.symbols.now) c.args.taken.now.entries.now in
+    says08 (pairs_of m c.args.active.now.pairs.now) frame es c.requires.frame (count_of m (map m c.args.taken.now.symbols.now) c.args.taken.now.entries.now c.args.taken.now.hypotheses.now c.requires.count) c.if-not-typecodes_match.ensures
 
 pub returns-then-not-essentials_fit : goal.returns-then-not-essentials_fit
 returns-then-not-essentials_fit g c =
     let m = g.S.Symbol.means in
     let frame = frame_from m c.args.taken.now.hypotheses.now c.args.expression.now c.args.pairs.now in
-    let es = read_all (map (lent m) c.args.taken.now.symbols.now) c.args.taken.now.entries.now in
-    says09 (pairs_of m c.args.active.now.pairs.now) frame es c.requires.frame (count_of m (map (lent m) c.args.taken.now.symbols.now) c.args.taken.now.entries.now c.args.taken.now.hypotheses.now c.requires.count) c.if-not-typecodes_match.ensures c.if-not-essentials_fit.ensures
+    let es = read_all (map m c.args.taken.now.symbols.now) c.args.taken.now.entries.now in
+    says09 (pairs_of m c.args.active.now.pairs.now) frame es c.requires.frame (count_of m (map m c.args.taken.now.symbols.now) c.args.taken.now.entries.now c.args.taken.now.hypotheses.now c.requires.count) c.if-not-typecodes_match.ensures c.if-not-essentials_fit.ensures
 
 pub returns-in-Some : goal.returns-in-Some
 returns-in-Some g c =
     let m = g.S.Symbol.means in
     let frame = frame_from m c.args.taken.now.hypotheses.now c.args.expression.now c.args.pairs.now in
-    let es = read_all (map (lent m) c.args.taken.now.symbols.now) c.args.taken.now.entries.now in
-    says_pairs (pairs_of m c.args.active.now.pairs.now) frame es c.requires.frame (count_of m (map (lent m) c.args.taken.now.symbols.now) c.args.taken.now.entries.now c.args.taken.now.hypotheses.now c.requires.count) c.if-not-typecodes_match.ensures c.if-not-essentials_fit.ensures
+    let es = read_all (map m c.args.taken.now.symbols.now) c.args.taken.now.entries.now in
+    says_pairs (pairs_of m c.args.active.now.pairs.now) frame es c.requires.frame (count_of m (map m c.args.taken.now.symbols.now) c.args.taken.now.entries.now c.args.taken.now.hypotheses.now c.requires.count) c.if-not-typecodes_match.ensures c.if-not-essentials_fit.ensures
     c.in-Some.number (rw c.in-Some.is at c.in_ok-number.ensures)
 
 pub returns-then-not-is_short : goal.returns-then-not-is_short
 returns-then-not-is_short g c =
     let m = g.S.Symbol.means in
     let frame = frame_from m c.args.taken.now.hypotheses.now c.args.expression.now c.args.pairs.now in
-    let es = read_all (map (lent m) c.args.taken.now.symbols.now) c.args.taken.now.entries.now in
-    says12 (pairs_of m c.args.active.now.pairs.now) frame es c.requires.frame (count_of m (map (lent m) c.args.taken.now.symbols.now) c.args.taken.now.entries.now c.args.taken.now.hypotheses.now c.requires.count) c.if-not-typecodes_match.ensures c.if-not-essentials_fit.ensures
+    let es = read_all (map m c.args.taken.now.symbols.now) c.args.taken.now.entries.now in
+    says12 (pairs_of m c.args.active.now.pairs.now) frame es c.requires.frame (count_of m (map m c.args.taken.now.symbols.now) c.args.taken.now.entries.now c.args.taken.now.hypotheses.now c.requires.count) c.if-not-typecodes_match.ensures c.if-not-essentials_fit.ensures
     (rw c.in_default.is at c.in_ok-number.ensures)
     (λ given gives. c.if-not-is_short.ensures given (gives_all frame.hypotheses given es frame.expression (hypotheses_known frame c.requires.frame) gives c.requires.frame.expression_typed))
 
@@ -50,7 +50,7 @@ pub returns : goal.returns
 returns g c =
     let m = g.S.Symbol.means in
     let frame = frame_from m c.args.taken.now.hypotheses.now c.args.expression.now c.args.pairs.now in
-    let es = read_all (map (lent m) c.args.taken.now.symbols.now) c.args.taken.now.entries.now in
+    let es = read_all (map m c.args.taken.now.symbols.now) c.args.taken.now.entries.now in
     let pairs = rw c.in_default.is at c.in_ok-number.ensures in (
       c.if-not-typecodes_match.ensures,
       λ given gives. (

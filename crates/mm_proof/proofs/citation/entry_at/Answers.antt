@@ -1,6 +1,6 @@
 use Rattle.std.proofs.Common.{Some, map, get_or, sym, ◌∙◌, ap}
 use Rattle.mm_proof.specs.declared.pattern.Entry.{Entry}
-use Rattle.mm_proof.specs.Code.Flat.{read, lent}
+use Rattle.mm_proof.specs.Code.Flat.{read}
 use Rattle.mm_proof.proofs.FlatLemmas.{mapped_or_get, entry_map}
 use Rattle.mm_proof.proofs.citation.entry_at.Goals as goal
 
@@ -10,4 +10,4 @@ returns g c =
     let m = g.S.Symbol.means in
     let symbols = c.args.taken.now.symbols.now in
     let e = get_or c.args.taken.now.entries.now c.args.place d in
-    mapped_or_get (read (map (lent m) symbols)) c.args.taken.now.entries.now c.args.place d c.requires.in_range ∙ ap Some (sym (entry_map (lent m) symbols e))
+    mapped_or_get (read (map m symbols)) c.args.taken.now.entries.now c.args.place d c.requires.in_range ∙ ap Some (sym (entry_map m symbols e))

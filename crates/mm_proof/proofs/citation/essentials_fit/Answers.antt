@@ -1,7 +1,7 @@
 use Rattle.std.proofs.Common.{map, get_or, sym, ◌∙◌, arith}
 use Rattle.std.proofs.lemmas.Bool.{false≢true}
 use Rattle.std.proofs.lemmas.List.{length-map}
-use Rattle.mm_proof.specs.Code.Flat.{lent, read_all}
+use Rattle.mm_proof.specs.Code.Flat.{read_all}
 use Rattle.mm_proof.specs.Code.Citation.{hypotheses_of, mandatory_of, OtherEssential}
 use Rattle.mm_proof.proofs.FlatLemmas.{mapped_or_get}
 use Rattle.mm_proof.proofs.CitingLemmas.{none_more, none_all, any_at, gives_essential}
@@ -11,9 +11,9 @@ pub returns-then-is_other_essential : goal.returns-then-is_other_essential
 returns-then-is_other_essential g c given gives =
     let m = g.S.Symbol.means in
     let hs = hypotheses_of m c.args.taken.now.hypotheses.now in
-    let es = read_all (map (lent m) c.args.taken.now.symbols.now) c.args.taken.now.entries.now in
+    let es = read_all (map m c.args.taken.now.symbols.now) c.args.taken.now.entries.now in
     let h = get_or c.args.taken.now.hypotheses.now c.loop-place.place c.index-taken-place.result in
-    any_at (OtherEssential given) hs es c.loop-place.place (mandatory_of m h) (map (lent m) c.entry_at.result.now)
+    any_at (OtherEssential given) hs es c.loop-place.place (mandatory_of m h) (map m c.entry_at.result.now)
     (mapped_or_get (mandatory_of m) c.args.taken.now.hypotheses.now c.loop-place.place c.index-taken-place.result c.loop-place-test.true) c.entry_at.ensures
     ((c.is_other_essential.ensures given (λ e. gives_essential hs given es c.loop-place.place (mandatory_of m h) c.requires.typed gives (mapped_or_get
     (mandatory_of m) c.args.taken.now.hypotheses.now c.loop-place.place c.index-taken-place.result c.loop-place-test.true))).0 c.if-is_other_essential.true)
@@ -22,9 +22,9 @@ pub loop-place-preserved : goal.loop-place-preserved
 loop-place-preserved g c given gives =
     let m = g.S.Symbol.means in
     let hs = hypotheses_of m c.args.taken.now.hypotheses.now in
-    let es = read_all (map (lent m) c.args.taken.now.symbols.now) c.args.taken.now.entries.now in
+    let es = read_all (map m c.args.taken.now.symbols.now) c.args.taken.now.entries.now in
     let h = get_or c.args.taken.now.hypotheses.now c.loop-place.place c.index-taken-place.result in
-    none_more (OtherEssential given) hs es c.loop-place.place (mandatory_of m h) (map (lent m) c.entry_at.result.now)
+    none_more (OtherEssential given) hs es c.loop-place.place (mandatory_of m h) (map m c.entry_at.result.now)
     (mapped_or_get (mandatory_of m) c.args.taken.now.hypotheses.now c.loop-place.place c.index-taken-place.result c.loop-place-test.true) c.entry_at.ensures
     (λ r. false≢true (sym c.if-is_other_essential.false ∙ (c.is_other_essential.ensures given (λ e. gives_essential hs given es c.loop-place.place (mandatory_of m h) c.requires.typed gives (mapped_or_get
     (mandatory_of m) c.args.taken.now.hypotheses.now c.loop-place.place c.index-taken-place.result c.loop-place-test.true))).1 r))
@@ -33,5 +33,5 @@ loop-place-preserved g c given gives =
 pub returns : goal.returns
 returns g c given gives =
     let m = g.S.Symbol.means in
-    none_all (OtherEssential given) (hypotheses_of m c.args.taken.now.hypotheses.now) (read_all (map (lent m) c.args.taken.now.symbols.now) c.args.taken.now.entries.now) c.loop-place.place (omega (arith, length-map c.args.taken.now.hypotheses.now (mandatory_of m), c.loop-place-test.false))
+    none_all (OtherEssential given) (hypotheses_of m c.args.taken.now.hypotheses.now) (read_all (map m c.args.taken.now.symbols.now) c.args.taken.now.entries.now) c.loop-place.place (omega (arith, length-map c.args.taken.now.hypotheses.now (mandatory_of m), c.loop-place-test.false))
     (c.loop-place.invariant given gives)

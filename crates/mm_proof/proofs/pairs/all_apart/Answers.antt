@@ -3,7 +3,6 @@ use Rattle.std.proofs.lemmas.List.{length-map}
 use Rattle.std.proofs.lemmas.Option.{slice_get_within}
 use Rattle.mm_frame.specs.Language.Frame.{Symbol}
 use Rattle.mm_frame.specs.Language.Typing.{IsTyped}
-use Rattle.mm_proof.specs.Code.Flat.{lent}
 use Rattle.mm_proof.specs.Code.Citation.{pairs_of, pair_of, hypotheses_of}
 use Rattle.mm_proof.specs.Code.PairClause.{EachApart, SomeNotApart, AtSlots, span_of}
 use Rattle.mm_proof.proofs.FlatLemmas.{mapped_get}
@@ -27,7 +26,7 @@ pub loop-n-preserved : goal.loop-n-preserved
 loop-n-preserved g c =
     let m = g.S.Symbol.means in
     let hs = hypotheses_of m c.args.taken.now.hypotheses.now in
-    let variables = map (lent m) c.args.gathered.now.variables.items in
+    let variables = map m c.args.gathered.now.variables.items in
     let spans = c.args.gathered.now.spans.items in
     let active = pairs_of m c.args.active.now.pairs.now in
     let x = c.index-pairs-n.result in
@@ -36,14 +35,14 @@ loop-n-preserved g c =
     let P : List Symbol → List Symbol → Type 0 = EachApart active in
     each_more (λ (p : Symbol × Symbol). AtSlots P hs variables spans p) (pairs_of m c.args.pairs.now) c.loop-n.n (pair_of m x)
     (mapped_get (pair_of m) c.args.pairs.now c.loop-n.n x c.loop-n-test.true c.index-pairs-n.is)
-    (first.0, second.0, first.1, second.1, subst (λ w. P w (span_of variables spans second.0)) first.2 (subst (λ w. P (map (lent m) c.span-first.result.now) w) second.2 c.if-not-are_apart.ensures))
+    (first.0, second.0, first.1, second.1, subst (λ w. P w (span_of variables spans second.0)) first.2 (subst (λ w. P (map m c.span-first.result.now) w) second.2 c.if-not-are_apart.ensures))
     c.loop-n.invariant
 
 pub returns-then-not-are_apart : goal.returns-then-not-are_apart
 returns-then-not-are_apart g c =
     let m = g.S.Symbol.means in
     let hs = hypotheses_of m c.args.taken.now.hypotheses.now in
-    let variables = map (lent m) c.args.gathered.now.variables.items in
+    let variables = map m c.args.gathered.now.variables.items in
     let spans = c.args.gathered.now.spans.items in
     let active = pairs_of m c.args.active.now.pairs.now in
     let x = c.index-pairs-n.result in
@@ -53,7 +52,7 @@ returns-then-not-are_apart g c =
       c.loop-n.n,
       pair_of m x,
       mapped_get (pair_of m) c.args.pairs.now c.loop-n.n x c.loop-n-test.true c.index-pairs-n.is,
-      (first.0, second.0, first.1, second.1, subst (λ w. P w (span_of variables spans second.0)) first.2 (subst (λ w. P (map (lent m) c.span-first.result.now) w) second.2 c.if-not-are_apart.ensures)),
+      (first.0, second.0, first.1, second.1, subst (λ w. P w (span_of variables spans second.0)) first.2 (subst (λ w. P (map m c.span-first.result.now) w) second.2 c.if-not-are_apart.ensures)),
     )
 
 pub returns : goal.returns

@@ -1,35 +1,35 @@
 use Rattle.std.proofs.Common.{map, arith}
 use Rattle.std.proofs.lemmas.List.{length-map}
-use Rattle.mm_proof.specs.Code.Flat.{lent, read_all}
+use Rattle.mm_proof.specs.Code.Flat.{read_all}
 use Rattle.mm_proof.specs.Code.Citation.{pairs_of}
 use Rattle.mm_proof.proofs.PairsLemmas.{apart_given, shared_given, none_shared, lack_given}
 use Rattle.mm_proof.proofs.pairs.pairs_fault.Goals as goal
 
 pub all_apart-requires-clause-spans : goal.all_apart-requires-clause-spans
-all_apart-requires-clause-spans g c k s at = let w = c.in_ok-gather_all.ensures.within k s at in let l = length-map c.gather_all.new.self.variables.items (lent g.S.Symbol.means) in (w.0, omega arith)
+all_apart-requires-clause-spans g c k s at = let w = c.in_ok-gather_all.ensures.within k s at in let l = length-map c.gather_all.new.self.variables.items g.S.Symbol.means in (w.0, omega arith)
 
 pub any_share-requires-clause-spans : goal.any_share-requires-clause-spans
-any_share-requires-clause-spans g c k s at = let w = c.in_ok-gather_all.ensures.within k s at in let l = length-map c.gather_all.new.self.variables.items (lent g.S.Symbol.means) in (w.0, omega arith)
+any_share-requires-clause-spans g c k s at = let w = c.in_ok-gather_all.ensures.within k s at in let l = length-map c.gather_all.new.self.variables.items g.S.Symbol.means in (w.0, omega arith)
 
 pub returns-then-all_apart : goal.returns-then-all_apart
 returns-then-all_apart g c given gives =
     let m = g.S.Symbol.means in
-    apart_given m c.args.taken.now.hypotheses.now (read_all (map (lent m) c.args.taken.now.symbols.now) c.args.taken.now.entries.now) (map (lent m) c.gather_all.new.self.variables.items) c.gather_all.new.self.spans.items given c.requires.hypotheses gives c.in_ok-gather_all.ensures
+    apart_given m c.args.taken.now.hypotheses.now (read_all (map m c.args.taken.now.symbols.now) c.args.taken.now.entries.now) (map m c.gather_all.new.self.variables.items) c.gather_all.new.self.spans.items given c.requires.hypotheses gives c.in_ok-gather_all.ensures
     (pairs_of m c.args.active.now.pairs.now) (pairs_of m c.args.pairs.now) c.if-all_apart.ensures
 
 pub returns-then-any_share : goal.returns-then-any_share
 returns-then-any_share g c given gives =
     let m = g.S.Symbol.means in
     let h = c.if-any_share.ensures in
-    shared_given m c.args.taken.now.hypotheses.now (read_all (map (lent m) c.args.taken.now.symbols.now) c.args.taken.now.entries.now) (map (lent m) c.gather_all.new.self.variables.items) c.gather_all.new.self.spans.items given c.requires.hypotheses gives c.in_ok-gather_all.ensures
+    shared_given m c.args.taken.now.hypotheses.now (read_all (map m c.args.taken.now.symbols.now) c.args.taken.now.entries.now) (map m c.gather_all.new.self.variables.items) c.gather_all.new.self.spans.items given c.requires.hypotheses gives c.in_ok-gather_all.ensures
     (pairs_of m c.args.pairs.now) h.0 h.1 h.2 h.3
 
 pub returns : goal.returns
 returns g c given gives =
     let m = g.S.Symbol.means in
     let hypotheses = c.args.taken.now.hypotheses.now in
-    let es = read_all (map (lent m) c.args.taken.now.symbols.now) c.args.taken.now.entries.now in
-    let all = map (lent m) c.gather_all.new.self.variables.items in
+    let es = read_all (map m c.args.taken.now.symbols.now) c.args.taken.now.entries.now in
+    let all = map m c.gather_all.new.self.variables.items in
     let spans = c.gather_all.new.self.spans.items in
     let pairs = pairs_of m c.args.pairs.now in
     let none = c.if-any_share.ensures in

@@ -1,7 +1,7 @@
 use Rattle.std.proofs.Common.{◌-◌, Some, map, take, drop, sym, ◌∙◌, ap, arith}
 use Rattle.std.proofs.lemmas.Option.{slice_get_within}
 use Rattle.std.proofs.lemmas.List.{length-map}
-use Rattle.mm_proof.specs.Code.Flat.{read, lent}
+use Rattle.mm_proof.specs.Code.Flat.{read}
 use Rattle.mm_proof.specs.Code.Citation.{hypotheses_of, mandatory_of}
 use Rattle.mm_proof.specs.Code.PairClause.{entry_or}
 use Rattle.mm_proof.proofs.FlatLemmas.{element_at, entry_map}
@@ -18,7 +18,7 @@ returns g c =
     let w = slice_get_within (hypotheses_of m c.args.taken.now.hypotheses.now) n slot.0 slot.1 in (
       n,
       slot,
-      ap (λ w. map (lent m) (take (e.end - e.start) (drop e.start w))) c.deref.ensures.value
-          ∙ entry_map (lent m) variables e
-          ∙ ap (λ o. read (map (lent m) variables) (entry_or o)) (sym (element_at spans n e (omega (arith, w, c.requires.count, length-map c.args.taken.now.hypotheses.now (mandatory_of m))) ∙ ap Some (sym c.index-entry.ensures))),
+      ap (λ w. map m (take (e.end - e.start) (drop e.start w))) c.deref.ensures.value
+          ∙ entry_map m variables e
+          ∙ ap (λ o. read (map m variables) (entry_or o)) (sym (element_at spans n e (omega (arith, w, c.requires.count, length-map c.args.taken.now.hypotheses.now (mandatory_of m))) ∙ ap Some (sym c.index-entry.ensures))),
     )

@@ -3,7 +3,6 @@ use Rattle.std.proofs.lemmas.Bool.{false≢true, eqb-true, eq-eqb}
 use Rattle.std.proofs.lemmas.List.{length-map, take_all, length-drop}
 use Rattle.mm_frame.specs.Language.Frame.{Symbol}
 use Rattle.mm_proof.specs.Language.Substitution.{substituted, replacement}
-use Rattle.mm_proof.specs.Code.Flat.{lent}
 use Rattle.mm_proof.proofs.FlatLemmas.{element_at, put_more, fits_on, fits_next, fits_short, fits_part, fits_end, range_map}
 use Rattle.mm_proof.proofs.pattern.fits.Goals as goal
 
@@ -11,7 +10,7 @@ pub returns-then-count-entry : goal.returns-then-count-entry
 returns-then-count-entry g c given slots =
     let m = g.S.Symbol.means in
     let expression = map m c.args.expression.now in
-    let entry = map (lent m) c.args.entry.now in
+    let entry = map m c.args.entry.now in
     let d : Symbol = record { name = []; variable = false } in
     let k = c.loop-place.place in
     let s = get_or expression k d in
@@ -21,14 +20,14 @@ returns-then-count-entry g c given slots =
       λ whole.
           let next = fits_next given expression k s entry c.loop-place.at here (c.loop-place.invariant.joined given slots) whole in
           let short = fits_short (drop c.loop-place.at entry) (replacement given s) (substituted given (drop (k + 1) expression)) next in
-          absurd (omega (arith, c.if-count-entry.true, length-drop c.loop-place.at entry, length-map c.args.entry.now (lent m), c.count-count.ensures)),
+          absurd (omega (arith, c.if-count-entry.true, length-drop c.loop-place.at entry, length-map c.args.entry.now m, c.count-count.ensures)),
     )
 
 pub returns-then-not-is : goal.returns-then-not-is
 returns-then-not-is g c given slots =
     let m = g.S.Symbol.means in
     let expression = map m c.args.expression.now in
-    let entry = map (lent m) c.args.entry.now in
+    let entry = map m c.args.entry.now in
     let d : Symbol = record { name = []; variable = false } in
     let k = c.loop-place.place in
     let s = get_or expression k d in
@@ -40,7 +39,7 @@ returns-then-not-is g c given slots =
       λ whole.
           let next = fits_next given expression k s entry at here (c.loop-place.invariant.joined given slots) whole in
           let same = fits_part (drop at entry) (replacement given s) (substituted given (drop (k + 1) expression)) n (sym (ap length part) ∙ sym c.count-count.ensures) next in
-          absurd (false≢true (sym c.if-not-is.true ∙ c.is.ensures.1 (part ∙ same ∙ sym (range_map (lent m) c.args.entry.now at n)))),
+          absurd (false≢true (sym c.if-not-is.true ∙ c.is.ensures.1 (part ∙ same ∙ sym (range_map m c.args.entry.now at n)))),
     )
 
 pub loop-place-preserved : goal.loop-place-preserved
@@ -49,7 +48,7 @@ loop-place-preserved g c = record {
   joined = λ given slots.
       let m = g.S.Symbol.means in
       let expression = map m c.args.expression.now in
-      let entry = map (lent m) c.args.entry.now in
+      let entry = map m c.args.entry.now in
       let d : Symbol = record { name = []; variable = false } in
       let k = c.loop-place.place in
       let s = get_or expression k d in
@@ -58,7 +57,7 @@ loop-place-preserved g c = record {
       let here = element_at expression k d (omega (arith, length-map c.args.expression.now m, c.loop-place-test.true)) in
       let part = c.part-part.ensures given s slots here in
       let front = substituted given (take k expression) in
-      let same = sym part ∙ c.is.ensures.0 c.if-not-is.false ∙ range_map (lent m) c.args.entry.now at n in
+      let same = sym part ∙ c.is.ensures.0 c.if-not-is.false ∙ range_map m c.args.entry.now at n in
       fits_on entry front (replacement given s) at n same (c.loop-place.invariant.joined given slots)
       ∙ ap (λ w. w ++ drop (at + n) entry) (sym (put_more given expression k s here));
 }
@@ -67,12 +66,12 @@ pub returns : goal.returns
 returns g c given slots =
     let m = g.S.Symbol.means in
     let expression = map m c.args.expression.now in
-    let entry = map (lent m) c.args.entry.now in
+    let entry = map m c.args.entry.now in
     let at = c.loop-place.at in
     let all = take_all c.loop-place.place expression (omega (arith, length-map c.args.expression.now m, c.loop-place-test.false)) in
-    let low : at ≤ length entry = omega (arith, c.loop-place.invariant.low, length-map c.args.entry.now (lent m)) in
+    let low : at ≤ length entry = omega (arith, c.loop-place.invariant.low, length-map c.args.entry.now m) in
     let joined : entry ≡ substituted given expression ++ drop at entry = c.loop-place.invariant.joined given slots ∙ ap (λ w. substituted given w ++ drop at entry) all in
     let both = fits_end (substituted given expression) entry at low joined in (
-      λ t. both.0 (eqb-true at (length c.args.entry.now) t ∙ sym (length-map c.args.entry.now (lent m))),
-      λ e. eq-eqb at (length c.args.entry.now) (both.1 e ∙ length-map c.args.entry.now (lent m)),
+      λ t. both.0 (eqb-true at (length c.args.entry.now) t ∙ sym (length-map c.args.entry.now m)),
+      λ e. eq-eqb at (length c.args.entry.now) (both.1 e ∙ length-map c.args.entry.now m),
     )

@@ -2,8 +2,21 @@ use Rattle.std.proofs.Common.{◌+◌, ◌++◌, [], false, map, take, drop, len
 use Rattle.std.proofs.lemmas.List.{length-map, take_all}
 use Rattle.mm_frame.specs.Language.Frame.{Symbol}
 use Rattle.mm_proof.specs.Language.Substitution.{substituted, replacement}
+use Rattle.mm_proof.specs.Code.Citation.{hypotheses_of}
+use Rattle.mm_proof.proofs.BoundLemmas.{short_by, given_short}
 use Rattle.mm_proof.proofs.FlatLemmas.{element_at, put_more, put_rest}
 use Rattle.mm_proof.proofs.pattern.is_short.Goals as goal
+
+pub returns-then-saturating_mul-half : goal.returns-then-saturating_mul-half
+returns-then-saturating_mul-half g c given slots =
+    let m = g.S.Symbol.means in
+    let symbols = c.args.taken.now.symbols.now in
+    let expression = map m c.args.expression.now in
+    let n = length (map m symbols) + 1 in
+    let short = short_by given n expression (given_short given (hypotheses_of m c.args.taken.now.hypotheses.now) (map m symbols) c.args.taken.now.entries.now expression slots) in
+    let a = length-map c.args.expression.now m in
+    let b = length-map symbols m in
+    grind (arith, c.if-saturating_mul-half.true, c.if-expression-half.true, c.saturating_mul.ensures)
 
 pub returns-then-more-count : goal.returns-then-more-count
 returns-then-more-count g c given slots =

@@ -2,7 +2,6 @@ use Rattle.std.proofs.Common.{◌++◌, [], false, map, take, get_or, sym, ◌�
 use Rattle.std.proofs.lemmas.List.{length-map, take_all}
 use Rattle.mm_frame.specs.Language.Frame.{Symbol}
 use Rattle.mm_proof.specs.Language.Substitution.{substituted, replacement}
-use Rattle.mm_proof.specs.Code.Flat.{lent}
 use Rattle.mm_proof.proofs.FlatLemmas.{element_at, put_more}
 use Rattle.mm_proof.proofs.pattern.substitute.Goals as goal
 
@@ -16,14 +15,14 @@ loop-place-preserved g c given slots =
     let front = substituted given (take k expression) in
     let part = replacement given (get_or expression k d) in
     c.in_ok-put.ensures
-    ∙ ap (λ w. map (lent m) c.loop-place.to.items ++ w) (c.part.ensures given (get_or expression k d) slots here)
+    ∙ ap (λ w. map m c.loop-place.to.items ++ w) (c.part.ensures given (get_or expression k d) slots here)
     ∙ ap (λ w. w ++ part) (c.loop-place.invariant given slots)
-    ∙ append_assoc (map (lent m) c.args.to.now.items) front part
-    ∙ ap (λ w. map (lent m) c.args.to.now.items ++ w) (sym (put_more given expression k (get_or expression k d) here))
+    ∙ append_assoc (map m c.args.to.now.items) front part
+    ∙ ap (λ w. map m c.args.to.now.items ++ w) (sym (put_more given expression k (get_or expression k d) here))
 
 pub returns : goal.returns
 returns g c given slots =
     let m = g.S.Symbol.means in
     let expression = map m c.args.expression.now in
     c.loop-place.invariant given slots
-    ∙ ap (λ w. map (lent m) c.args.to.now.items ++ substituted given w) (take_all c.loop-place.place expression (omega (arith, length-map c.args.expression.now m, c.loop-place-test.false)))
+    ∙ ap (λ w. map m c.args.to.now.items ++ substituted given w) (take_all c.loop-place.place expression (omega (arith, length-map c.args.expression.now m, c.loop-place-test.false)))

@@ -8,7 +8,7 @@ use Rattle.mm_proof.specs.declared.pattern.Entry.{Entry}
 use Rattle.mm_proof.specs.declared.step.Action.TheVariants as actions
 use Rattle.mm_proof.specs.declared.step.ProofStep.{ProofStep}
 use Rattle.mm_proof.specs.Code.Coded.{meant}
-use Rattle.mm_proof.specs.Code.Flat.{lent, read, read_all}
+use Rattle.mm_proof.specs.Code.Flat.{read, read_all}
 use Rattle.mm_proof.specs.Code.Tasks.{IsSavedWithin, actions_mean, expressions_of, frames_of, saves_in}
 use Rattle.mm_proof.proofs.Reaching.{at_start}
 use Rattle.mm_proof.proofs.StackLemmas.{top_of}
@@ -28,7 +28,7 @@ loop-place-init g c =
     let e = ap length state.saved in
     record {
       whole = c.in_ok-load.ensures.whole;
-      count = omega (arith, length-map machine.saved.items (read (map (lent m) machine.symbols.items)), length-append expressions [], length-map c.args.named.now.hypotheses.items (λ e. map m e.now));
+      count = omega (arith, length-map machine.saved.items (read (map m machine.symbols.items)), length-append expressions [], length-map c.args.named.now.hypotheses.items (λ e. map m e.now));
       follows = λ place names is pairs all. (nothing_known (actions_mean names c.args.steps.now), nothing_yet, state, at_start place);
     }
 
@@ -96,7 +96,7 @@ returns-then-len-ne1-clause-says g c place names is pairs all =
       known_all steps k long f.0,
       f.1.stack,
       reached_all place steps k f.1 long f.3,
-      λ e. c.if-len-ne1.true (c.len.ensures ∙ omega (arith, machine.stack.ok, e, n, length-map machine.stack.items (read (map (lent m) machine.symbols.items)))),
+      λ e. c.if-len-ne1.true (c.len.ensures ∙ omega (arith, machine.stack.ok, e, n, length-map machine.stack.items (read (map m machine.symbols.items)))),
     )
 
 pub returns-then-is_top-clause-says : goal.returns-then-is_top-clause-says
@@ -107,11 +107,11 @@ returns-then-is_top-clause-says g c place names is pairs all =
     let long : length steps ≤ k = omega (arith, c.loop-place-test.false, length-map c.args.steps.now (λ (step : ProofStep). meant names step.action)) in
     (known_all steps k long f.0, subst (λ w. Reaches place steps w) (sym f.2.stack ∙ c.if-is_top.ensures.0 refl) (reached_all place steps k f.1 long f.3))
 
-pub returns-clause-says : goal.returns-clause-says
-returns-clause-says g c place names is pairs all =
+pub returns-else-is_top-clause-says : goal.returns-else-is_top-clause-says
+returns-else-is_top-clause-says g c place names is pairs all =
     let m = g.S.Symbol.means in
     let machine = c.loop-place.machine in
-    let symbols = map (lent m) machine.symbols.items in
+    let symbols = map m machine.symbols.items in
     let steps = actions_mean names c.args.steps.now in
     let k = c.loop-place.place in
     let f = c.loop-place.invariant.follows place names is pairs all in

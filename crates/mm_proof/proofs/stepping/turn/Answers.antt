@@ -9,7 +9,7 @@ use Rattle.mm_proof.specs.Language.Machine.{State}
 use Rattle.mm_proof.specs.declared.pattern.Entry.{Entry}
 use Rattle.mm_proof.specs.declared.stepping.Task.{Task}
 use Rattle.mm_proof.specs.Code.Citation.{frame_of, pairs_of}
-use Rattle.mm_proof.specs.Code.Flat.{lent, read}
+use Rattle.mm_proof.specs.Code.Flat.{read}
 use Rattle.mm_proof.specs.Code.MachineState.{state_of}
 use Rattle.mm_proof.specs.Code.Tasks.{HasState, IsTaskWithin, expressions_of, frames_of}
 use Rattle.mm_proof.proofs.FlatLemmas.{mapped_or, mapped_or_get}
@@ -56,7 +56,7 @@ returns-in_ok-push_saved-in-Again-clause-turns g c place step before pairs state
     let expressions = expressions_of m named in
     let d : Entry = record { start = 0; end = 0; floor = 0 } in
     let within = subst (λ (w : Task). IsTaskWithin (length named.hypotheses.items) (length named.assertions.items) (length c.args.machine.now.saved.items - length named.hypotheses.items) w) c.in-Again.is c.requires.within in
-    let symbols = map (lent m) c.args.machine.now.symbols.items in
+    let symbols = map m c.args.machine.now.symbols.items in
     let place_of = c.len.result + n in
     let e = read symbols (get_or c.args.machine.now.saved.items place_of d) in
     let at = mapped_or_get (read symbols) c.args.machine.now.saved.items place_of d (omega (arith, c.len.ensures, named.hypotheses.ok, within, c.requires.loaded)) in

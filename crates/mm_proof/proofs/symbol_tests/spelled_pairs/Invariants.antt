@@ -1,7 +1,7 @@
 use Rattle.std.proofs.Common.{◌≡◌, take}
 use Rattle.mm_frame.specs.Code.CodeSymbols.{named_symbol}
 use Rattle.mm_proof.specs.Code.Citation.{pairs_of}
-use Rattle.mm_proof.specs.Code.NumberedBase.{by_number}
+use Rattle.mm_frame.specs.Code.CodeSymbols.{by_number}
 use Rattle.mm_proof.proofs.symbol_tests.spelled_pairs.Given as goal
 
 abbrev pub invariant-loop-pair : goal.invariant-loop-pair

@@ -1,28 +1,27 @@
 use Rattle.std.proofs.Common.{length, map, refl, arith}
 use Rattle.std.proofs.lemmas.List.{length-map}
-use Rattle.mm_proof.specs.Code.Flat.{lent}
 use Rattle.mm_proof.proofs.PairLemmas.{entry_gathered, entry_passed}
 use Rattle.mm_proof.proofs.gather.Gathered.gather_entry.Goals as goal
 
 pub returns-then-not-floating : goal.returns-then-not-floating
 returns-then-not-floating g c e at =
     let m = g.S.Symbol.means in
-    let before = map (lent m) c.args.self.now.variables.items in
+    let before = map m c.args.self.now.variables.items in
     let n = c.len-start.result in
     let l = c.args.self.now.variables.ok in
-    entry_passed before before e n n c.args.floating c.args.self.now.spans.items c.push.new.self.items c.if-not-floating.true refl (omega (arith, c.len-start.ensures, l, length-map c.args.self.now.variables.items (lent m))) (omega
-    (arith, c.len-start.ensures, l, length-map c.args.self.now.variables.items (lent m))) c.in_ok-push.ensures.items
+    entry_passed before before e n n c.args.floating c.args.self.now.spans.items c.push.new.self.items c.if-not-floating.true refl (omega (arith, c.len-start.ensures, l, length-map c.args.self.now.variables.items m)) (omega
+    (arith, c.len-start.ensures, l, length-map c.args.self.now.variables.items m)) c.in_ok-push.ensures.items
 
 pub returns : goal.returns
 returns g c e at =
     let m = g.S.Symbol.means in
-    let before = map (lent m) c.args.self.now.variables.items in
-    let after = map (lent m) c.gather.new.variables.items in
+    let before = map m c.args.self.now.variables.items in
+    let after = map m c.gather.new.variables.items in
     let k = c.args.self.now.variables.ok in
     let l = c.gather.new.variables.ok in
-    entry_gathered (map (lent m) c.given.result.now) before after e (length c.given.result.now) c.len-start.result c.len-end.result c.args.floating c.args.self.now.spans.items c.push-2.new.self.items (c.given.ensures e at) (omega (
+    entry_gathered (map m c.given.result.now) before after e (length c.given.result.now) c.len-start.result c.len-end.result c.args.floating c.args.self.now.spans.items c.push-2.new.self.items (c.given.ensures e at) (omega (
       arith,
       length-map c.given.result.now
-          (lent m),
+          m,
     )) c.in_ok-gather.ensures
-    (omega (arith, c.len-start.ensures, k, length-map c.args.self.now.variables.items (lent m))) (omega (arith, c.len-end.ensures, l, length-map c.gather.new.variables.items (lent m))) c.in_ok-push-2.ensures.items
+    (omega (arith, c.len-start.ensures, k, length-map c.args.self.now.variables.items m)) (omega (arith, c.len-end.ensures, l, length-map c.gather.new.variables.items m)) c.in_ok-push-2.ensures.items

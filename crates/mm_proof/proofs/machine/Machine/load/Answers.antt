@@ -1,7 +1,6 @@
 use Rattle.std.proofs.Common.{map, length, sym, arith}
 use Rattle.std.proofs.lemmas.List.{length-map}
 use Rattle.mm_proof.specs.declared.pattern.Entry.{Entry}
-use Rattle.mm_proof.specs.Code.Flat.{lent}
 use Rattle.mm_proof.proofs.StackLemmas.{pushed_all, grown_all, whole_loaded, wider}
 use Rattle.mm_proof.proofs.machine.Machine.load.Goals as goal
 
@@ -20,15 +19,15 @@ returns-clause-saved g c =
     let k = c.args.self.now.symbols.ok in
     let l = c.append.new.to.ok in
     let w = c.requires.kept_within in
-    pushed_all (map (lent m) c.args.self.now.symbols.items) (map m c.args.expression.now) (map (lent m) c.append.new.to.items) (length c.args.self.now.symbols.items) c.args.self.now.saved.items c.push.new.self.items new c.in_ok-append.ensures (sym (length-map c.args.self.now.symbols.items
-    (lent m))) (wider c.args.self.now.kept (length c.args.self.now.symbols.items) c.args.self.now.saved.items w c.requires.saved_within) c.in_ok-push.ensures.items
-    (omega (arith, c.len-start.ensures, k, length-map c.args.self.now.symbols.items (lent m))) (omega (arith, c.len-end.ensures, l, length-map c.append.new.to.items (lent m)))
+    pushed_all (map m c.args.self.now.symbols.items) (map m c.args.expression.now) (map m c.append.new.to.items) (length c.args.self.now.symbols.items) c.args.self.now.saved.items c.push.new.self.items new c.in_ok-append.ensures (sym (length-map c.args.self.now.symbols.items
+    m)) (wider c.args.self.now.kept (length c.args.self.now.symbols.items) c.args.self.now.saved.items w c.requires.saved_within) c.in_ok-push.ensures.items
+    (omega (arith, c.len-start.ensures, k, length-map c.args.self.now.symbols.items m)) (omega (arith, c.len-end.ensures, l, length-map c.append.new.to.items m))
 
 pub returns-clause-stack : goal.returns-clause-stack
 returns-clause-stack g c =
     let m = g.S.Symbol.means in
-    grown_all (map (lent m) c.args.self.now.symbols.items) (map m c.args.expression.now) (map (lent m) c.append.new.to.items) (length c.args.self.now.symbols.items) c.args.self.now.stack.items c.in_ok-append.ensures (omega (
+    grown_all (map m c.args.self.now.symbols.items) (map m c.args.expression.now) (map m c.append.new.to.items) (length c.args.self.now.symbols.items) c.args.self.now.stack.items c.in_ok-append.ensures (omega (
       arith,
       length-map c.args.self.now.symbols.items
-          (lent m),
+          m,
     )) c.requires.within

@@ -2,7 +2,6 @@ use Rattle.std.proofs.Common.{◌++◌, ◌∷◌, [], map, take, length, sym, �
 use Rattle.std.specs.Prelude.{slice_get}
 use Rattle.std.proofs.lemmas.List.{length-map, map-append, take-map, length-take-le}
 use Rattle.mm_proof.specs.declared.pattern.Entry.{Entry}
-use Rattle.mm_proof.specs.Code.Flat.{lent}
 use Rattle.mm_proof.proofs.StackLemmas.{whole_replaced, replaced_all, cut_all, ends_of}
 use Rattle.mm_proof.proofs.machine.Machine.replace.Goals as goal
 
@@ -27,12 +26,12 @@ returns-clause-stack g c =
     let k = c.args.self.now.symbols.ok in
     let l = c.append.new.self.ok in
     let n = c.floor_of-floor.ensures.within in
-    let more = map (lent m) c.args.self.now.result.items in
-    replaced_all (map (lent m) c.args.self.now.symbols.items) more (map (lent m) c.append.new.self.items) f c.args.below c.args.self.now.stack.items c.push.new.self.items new
-    (ap (map (lent m)) (c.in_ok-append.ensures.items ∙ ap (λ w. w ++ c.args.self.now.result.items) c.truncate.ensures.items) ∙ map-append (lent m) (take f c.args.self.now.symbols.items) c.args.self.now.result.items ∙ ap (λ w. w ++ more) (sym (take-map (lent m) f c.args.self.now.symbols.items)))
-    (omega (arith, c.len.ensures, k, n, length-map c.args.self.now.symbols.items (lent m)))
+    let more = map m c.args.self.now.result.items in
+    replaced_all (map m c.args.self.now.symbols.items) more (map m c.append.new.self.items) f c.args.below c.args.self.now.stack.items c.push.new.self.items new
+    (ap (map m) (c.in_ok-append.ensures.items ∙ ap (λ w. w ++ c.args.self.now.result.items) c.truncate.ensures.items) ∙ map-append m (take f c.args.self.now.symbols.items) c.args.self.now.result.items ∙ ap (λ w. w ++ more) (sym (take-map m f c.args.self.now.symbols.items)))
+    (omega (arith, c.len.ensures, k, n, length-map c.args.self.now.symbols.items m))
     (λ i e o at. (c.floor_of-floor.ensures.stays i e o (ap (λ w. slice_get w i) c.deref.ensures.value ∙ at)).0)
-    (c.in_ok-push.ensures.items ∙ ap (λ w. w ++ new ∷ []) c.truncate-2.ensures.items) refl (omega (arith, c.len-end.ensures, l, length-map c.append.new.self.items (lent m)))
+    (c.in_ok-push.ensures.items ∙ ap (λ w. w ++ new ∷ []) c.truncate-2.ensures.items) refl (omega (arith, c.len-end.ensures, l, length-map c.append.new.self.items m))
 
 pub returns-clause-saved : goal.returns-clause-saved
 returns-clause-saved g c =
@@ -40,8 +39,8 @@ returns-clause-saved g c =
     let f = c.floor_of-floor.result in
     let k = c.args.self.now.symbols.ok in
     let n = c.floor_of-floor.ensures.within in
-    let more = map (lent m) c.args.self.now.result.items in
-    cut_all (map (lent m) c.args.self.now.symbols.items) more (map (lent m) c.append.new.self.items) f c.args.self.now.saved.items
-    (ap (map (lent m)) (c.in_ok-append.ensures.items ∙ ap (λ w. w ++ c.args.self.now.result.items) c.truncate.ensures.items) ∙ map-append (lent m) (take f c.args.self.now.symbols.items) c.args.self.now.result.items ∙ ap (λ w. w ++ more) (sym (take-map (lent m) f c.args.self.now.symbols.items)))
-    (omega (arith, c.len.ensures, k, n, length-map c.args.self.now.symbols.items (lent m)))
+    let more = map m c.args.self.now.result.items in
+    cut_all (map m c.args.self.now.symbols.items) more (map m c.append.new.self.items) f c.args.self.now.saved.items
+    (ap (map m) (c.in_ok-append.ensures.items ∙ ap (λ w. w ++ c.args.self.now.result.items) c.truncate.ensures.items) ∙ map-append m (take f c.args.self.now.symbols.items) c.args.self.now.result.items ∙ ap (λ w. w ++ more) (sym (take-map m f c.args.self.now.symbols.items)))
+    (omega (arith, c.len.ensures, k, n, length-map c.args.self.now.symbols.items m))
     (ends_of c.args.self.now.kept f c.args.self.now.saved.items c.floor_of-floor.ensures.saved c.requires.whole.saved_within)

@@ -1,12 +1,12 @@
 use Rattle.std.proofs.Common.{◌-◌, ◌∷◌, [], map, take, refl, ◌∙◌, ap, arith}
 use Rattle.std.proofs.lemmas.List.{map-append}
-use Rattle.mm_proof.specs.Code.Flat.{read, read_all, lent}
+use Rattle.mm_proof.specs.Code.Flat.{read, read_all}
 use Rattle.mm_proof.proofs.StackLemmas.{top_of}
 use Rattle.mm_proof.proofs.machine.Machine.save.Goals as goal
 
 pub returns-then-entry-self-clause-saves : goal.returns-then-entry-self-clause-saves
 returns-then-entry-self-clause-saves g c =
-    let symbols = map (lent g.S.Symbol.means) c.args.self.now.symbols.items in
+    let symbols = map g.S.Symbol.means c.args.self.now.symbols.items in
     let es = c.args.self.now.stack.items in
     let n = c.len-count.result - 1 in
     let x = c.index-entry.result.now in
@@ -20,7 +20,7 @@ returns-then-entry-self-clause-saves g c =
 
 pub returns-else-entry-self-clause-saves : goal.returns-else-entry-self-clause-saves
 returns-else-entry-self-clause-saves g c =
-    let symbols = map (lent g.S.Symbol.means) c.args.self.now.symbols.items in
+    let symbols = map g.S.Symbol.means c.args.self.now.symbols.items in
     let es = c.args.self.now.stack.items in
     let n = c.len-count.result - 1 in
     let x = c.index-entry.result.now in

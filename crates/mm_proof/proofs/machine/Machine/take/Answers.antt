@@ -3,7 +3,7 @@ use Rattle.std.proofs.lemmas.List.{length-map, length-drop}
 use Rattle.mm_proof.specs.Language.Steps.{Cites}
 use Rattle.mm_proof.specs.Language.Substitution.{substituted}
 use Rattle.mm_proof.specs.declared.pattern.Entry.{Entry}
-use Rattle.mm_proof.specs.Code.Flat.{read, read_all, lent}
+use Rattle.mm_proof.specs.Code.Flat.{read, read_all}
 use Rattle.mm_proof.specs.Code.Citation.{frame_from, mandatory_of}
 use Rattle.mm_proof.specs.Code.Citation.{pairs_of}
 use Rattle.mm_proof.proofs.CitingLemmas.{gives_all, hypotheses_known}
@@ -22,9 +22,9 @@ returns-in-Some-clause-cites g c =
     let k = c.args.self.now.stack.ok in
     let below = c.len-2.result - n in
     let says = rw c.in-Some.is at c.in_ok-number.ensures in
-    says (read_all (map (lent m) symbols) es) (omega (arith, c.len.ensures, k, c.if-len-count.false, length-map es (read (map (lent m) symbols)), length-map hs (mandatory_of m)))
-    (entries_taken m hs c.args.expression.now c.args.pairs.now (map (lent m) symbols) es below (omega (arith, c.len.ensures, c.len-2.ensures, k, c.if-len-count.false)) ∙ sym (slice_taken c.deref.result.now symbols
-    (lent m) c.deref-2.result.now es below c.deref.ensures.value c.deref-2.ensures.value))
+    says (read_all (map m symbols) es) (omega (arith, c.len.ensures, k, c.if-len-count.false, length-map es (read (map m symbols)), length-map hs (mandatory_of m)))
+    (entries_taken m hs c.args.expression.now c.args.pairs.now (map m symbols) es below (omega (arith, c.len.ensures, c.len-2.ensures, k, c.if-len-count.false)) ∙ sym (slice_taken c.deref.result.now symbols
+    m c.deref-2.result.now es below c.deref.ensures.value c.deref-2.ensures.value))
 
 pub returns-clause-cites : goal.returns-clause-cites
 returns-clause-cites g c =
@@ -36,18 +36,18 @@ returns-clause-cites g c =
     let n = length hs in
     let k = c.args.self.now.stack.ok in
     let below = c.len-2.result - n in
-    let stack = read_all (map (lent m) symbols) es in
+    let stack = read_all (map m symbols) es in
     let entries : List Entry = take (length c.deref-2.result.now - below) (drop below c.deref-2.result.now) in
-    let taken = slice_taken c.deref.result.now symbols (lent m) c.deref-2.result.now es below c.deref.ensures.value c.deref-2.ensures.value in
+    let taken = slice_taken c.deref.result.now symbols m c.deref-2.result.now es below c.deref.ensures.value c.deref-2.ensures.value in
     let says = rw c.in_default.is at c.in_ok-number.ensures in
     let active = pairs_of m c.args.active.now.pairs.now in
-    let here : length stack - length frame.hypotheses ≡ below = omega (arith, length-map es (read (map (lent m) symbols)), length-map hs (mandatory_of m), k, c.len-2.ensures) in
-    let result = map (lent m) c.substitute.new.to.items in
-    let whole = cited_by active frame stack (read_all (map (lent m) c.deref.result.now) entries) c.requires.frame
-    (ap length taken ∙ omega (arith, length-map (drop below es) (read (map (lent m) symbols)), length-drop below es, length-map hs (mandatory_of m), c.len.ensures, c.len-2.ensures, k, c.if-len-count.false))
-    (omega (arith, c.len.ensures, k, c.if-len-count.false, length-map es (read (map (lent m) symbols)), length-map hs (mandatory_of m)))
-    (entries_taken m hs c.args.expression.now c.args.pairs.now (map (lent m) symbols) es below (omega (arith, c.len.ensures, c.len-2.ensures, k, c.if-len-count.false)) ∙ sym taken)
+    let here : length stack - length frame.hypotheses ≡ below = omega (arith, length-map es (read (map m symbols)), length-map hs (mandatory_of m), k, c.len-2.ensures) in
+    let result = map m c.substitute.new.to.items in
+    let whole = cited_by active frame stack (read_all (map m c.deref.result.now) entries) c.requires.frame
+    (ap length taken ∙ omega (arith, length-map (drop below es) (read (map m symbols)), length-drop below es, length-map hs (mandatory_of m), c.len.ensures, c.len-2.ensures, k, c.if-len-count.false))
+    (omega (arith, c.len.ensures, k, c.if-len-count.false, length-map es (read (map m symbols)), length-map hs (mandatory_of m)))
+    (entries_taken m hs c.args.expression.now c.args.pairs.now (map m symbols) es below (omega (arith, c.len.ensures, c.len-2.ensures, k, c.if-len-count.false)) ∙ sym taken)
     says result
-    (λ given gives. c.in_ok-substitute.ensures given (gives_all frame.hypotheses given (read_all (map (lent m) c.deref.result.now) entries) frame.expression (hypotheses_known frame c.requires.frame) gives c.requires.frame.expression_typed) ∙ ap (λ w. map (lent m) w ++ substituted given
+    (λ given gives. c.in_ok-substitute.ensures given (gives_all frame.hypotheses given (read_all (map m c.deref.result.now) entries) frame.expression (hypotheses_known frame c.requires.frame) gives c.requires.frame.expression_typed) ∙ ap (λ w. map m w ++ substituted given
     (map m c.args.expression.now)) c.clear.ensures.items) in
     subst (λ w. Cites active frame stack w) (ap (λ k. take k stack ++ result ∷ []) here ∙ sym c.in_ok-replace.ensures.stack) whole

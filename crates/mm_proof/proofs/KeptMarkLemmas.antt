@@ -1,0 +1,136 @@
+-- What stays of an item of an old base in a new one.
+use Rattle.std.proofs.Common.{◌≡◌, ◌<◌, ℕ, zero, suc, cond, slice_index_or, ◌+◌, Bool, true, false, ◌&&◌, Option, Some, None, List, [], ◌∷◌, ◌++◌, length, slice_get, refl, sym, ◌∙◌, ap, subst, arith}
+use Rattle.std.specs.Prelude.{◌↔◌, is_some}
+use Rattle.std.specs.Option.{option_map}
+use Rattle.std.proofs.lemmas.Bool.{false≢true}
+use Rattle.std.proofs.lemmas.Option.{same_Some}
+use Rattle.mm_frame.specs.Language.Base.{BaseView, said_at, is_shown_at, is_sound_at}
+use Rattle.mm_frame.specs.Language.Frame.{Symbol, AreSamePairs}
+use Rattle.mm_frame.specs.Language.Item.{Item, passed, is_labelled}
+use Rattle.mm_frame.specs.Language.Resolving.{IsCarrier}
+use Rattle.mm_frame.specs.declared.base.Base.{Base}
+use Rattle.mm_frame.specs.Code.KeptBase.{IsBaseBy}
+use Rattle.mm_proof.specs.Language.BaseMarks.{Mark, IsMark, HaveOneLabel, AreMarks, no_mark, mark_at}
+use Rattle.mm_proof.specs.Code.KeptMarks.{AreTheorems, ShareFrame, SharePairs, AreMarked}
+use Rattle.std.proofs.Math.Decide.{ℕ_discrete}
+use Rattle.std.proofs.lemmas.List.{length-append}
+
+-- the same unordered pairs, the other way round and one after the other
+pub turned : (ps qs : List (Symbol × Symbol)) → AreSamePairs ps qs → AreSamePairs qs ps
+turned ps qs h x y = ((h x y).1, (h x y).0)
+
+pub joined : (ps qs rs : List (Symbol × Symbol)) → AreSamePairs ps qs → AreSamePairs qs rs → AreSamePairs ps rs
+joined ps qs rs h k x y = (λ p. (k x y).0 ((h x y).0 p), λ r. (h x y).1 ((k x y).1 r))
+
+-- theorems that share their pairs with those that were compared
+pub told_again :
+    (ps qs rs ss : List (Symbol × Symbol)) (same : Bool) → (same ≡ true) ↔ AreSamePairs ps qs → AreSamePairs ps rs → AreSamePairs qs ss →
+    (same ≡ true) ↔ AreSamePairs rs ss
+told_again ps qs rs ss same h k l = (
+  λ e. joined rs qs ss (joined rs ps qs (turned ps rs k) (h.0 e)) l,
+  λ m. h.1 (joined ps ss qs (joined ps rs ss k m) (turned qs ss l)),
+)
+
+and_second : (a b : Bool) → (a && b) ≡ true → b ≡ true
+and_second true b e = e
+and_second false b e = absurd (false≢true e)
+
+-- an item with a label is one of the items
+pub shown_within : (view : BaseView) (i : ℕ) → is_shown_at view i ≡ true → i < length view.said
+shown_within view i e = within view.said i (and_second (is_sound_at view i) (is_labelled (said_at view i).kind) e)
+  where
+    within : (items : List Item) (n : ℕ) → is_labelled (slice_index_or items n passed).kind ≡ true → n < length items
+    within [] n h = absurd (false≢true h)
+    within (x ∷ items) zero h = omega arith
+    within (x ∷ items) (suc n) h = let l = within items n h in omega (arith, l)
+
+got : {X : Type 0} (xs : List X) (n : ℕ) → n < length xs → (x : X) × (slice_get xs n ≡ Some x)
+got [] n l = absurd (omega (arith, l))
+got (x ∷ xs) zero l = (x, refl)
+got (x ∷ xs) (suc n) l = got xs n (omega (arith, l))
+
+some_of : {X Y : Type 0} (f : X → Y) (o : Option X) (l : Option Y) (b : Bool) → b ≡ true → is_some o ≡ b → option_map f o ≡ l → (y : Y) × (l ≡ Some y)
+some_of f (Some x) l b t e h = (f x, sym h)
+some_of f None l b t e h = absurd (false≢true (e ∙ t))
+
+-- it has a label
+pub shown_label : (names : List (List ℕ)) (view : BaseView) (code : Base) (i : ℕ) → IsBaseBy names view code → is_shown_at view i ≡ true → (label : List ℕ) × ((said_at view i).label ≡ Some label)
+shown_label names view code i is e =
+    let rows = code.parts.rows.items in
+    let within = shown_within view i e in
+    let row = got rows i (omega (arith, within, is.parts.rows.count)) in
+    let tells = is.parts.rows.each i row.0 row.1 in
+    some_of (λ label. label.items) row.0.label (said_at view i).label (is_labelled (said_at view i).kind) (and_second (is_sound_at view i) (is_labelled (said_at view i).kind) e) tells.labelled tells.label
+
+-- it is the item of the old base that carries the label
+pub one_label : (base copy : BaseView) (i j : ℕ) (label : List ℕ) → is_shown_at copy j ≡ true → (said_at copy j).label ≡ Some label → IsCarrier base label i ↔ HaveOneLabel base copy i j
+one_label base copy i j label shown e = (
+  λ c. record { within = shown_within base i c.shown; was = c.shown; is = shown; label = c.label_is ∙ sym e },
+  λ h. record { shown = h.was; label_is = h.label ∙ e },
+)
+
+-- where no expression is told, the item is not shown, and where one is, it is
+pub none_shown : (b : Bool) (e : List Symbol) → None ≡ cond b (Some e) None → b ≡ true → ⊥
+none_shown true e n t = cc
+none_shown false e n t = false≢true t
+
+pub some_shown : (b : Bool) (e d : List Symbol) → Some d ≡ cond b (Some e) None → b ≡ true
+some_shown true e d n = refl
+some_shown false e d n = cc
+
+-- nothing is found exactly where there is nothing
+pub no_number : (found : Option ℕ) (i : ℕ) (P : Type 0) → found ≡ None → (P → ⊥) → (found ≡ Some i) ↔ P
+no_number found i P e none = (λ h. cc, λ p. absurd (none p))
+
+-- nothing stays of an item whose label no old one has
+pub nothing_kept : (base copy : BaseView) (j : ℕ) → ((i : ℕ) → HaveOneLabel base copy i j → ⊥) → IsMark base copy j no_mark
+nothing_kept base copy j none = record {
+  old_is = λ i. (λ e. cc, λ h. absurd (none i h));
+  frame_is = (λ e. absurd (false≢true e), λ k. absurd (none k.i k.one_label));
+  pairs_is = (λ e. absurd (false≢true e), λ k. absurd (none k.i k.one_label));
+}
+
+-- what stays of one whose label an old one has
+pub some_kept :
+    (base copy : BaseView) (i j : ℕ) (frame pairs : Bool) → ((k : ℕ) → ((Some i ≡ Some k) ↔ HaveOneLabel base copy k j)) → (frame ≡ true) ↔ ShareFrame base copy i j →
+    (pairs ≡ true) ↔ (AreTheorems base copy i j × SharePairs base copy i j) → IsMark base copy j (record { old = Some i; frame = frame; pairs = pairs })
+some_kept base copy i j frame pairs old f p = record {
+  old_is = old;
+  frame_is = (
+    λ e. (let s = f.0 e in record { i = i; one_label = (old i).0 refl; was = s.was; is = s.is; same = s.same }),
+    λ k. f.1 (subst (λ (n : ℕ). ShareFrame base copy n j) (same_Some k.i i (sym ((old k.i).1 k.one_label))) (record { was = k.was; is = k.is; same = k.same })),
+  );
+  pairs_is = (
+    λ e. (let s = p.0 e in record { i = i; one_label = (old i).0 refl; was = s.0.was; is = s.0.is; same = s.1 }),
+    λ k. p.1 (subst (λ (n : ℕ). AreTheorems base copy n j × SharePairs base copy n j) (same_Some k.i i (sym ((old k.i).1 k.one_label))) (record { was = k.was; is = k.is }, k.same)),
+  );
+}
+
+at_front : {X : Type 0} (xs ys : List X) (n : ℕ) (d : X) → n < length xs → slice_index_or (xs ++ ys) n d ≡ slice_index_or xs n d
+at_front [] ys n d l = absurd (omega (arith, l))
+at_front (x ∷ xs) ys zero d l = refl
+at_front (x ∷ xs) ys (suc n) d l = at_front xs ys n d (omega (arith, l))
+
+at_end : {X : Type 0} (xs : List X) (y d : X) → slice_index_or (xs ++ y ∷ []) (length xs) d ≡ y
+at_end [] y d = refl
+at_end (x ∷ xs) y d = at_end xs y d
+
+-- one more mark
+pub marked_more : (base copy : BaseView) (n : ℕ) (marks : List Mark) (mark : Mark) → AreMarked base copy n marks → IsMark base copy n mark → AreMarked base copy (n + 1) (marks ++ mark ∷ [])
+marked_more base copy n marks mark are is = record {
+  count_is = length-append marks (mark ∷ []) ∙ ap (λ k. k + 1) are.count_is;
+  each = λ j l. by_case j l (ℕ_discrete j n);
+}
+  where
+    by_case : (j : ℕ) → j < n + 1 → Dec (j ≡ n) → IsMark base copy j (mark_at (marks ++ mark ∷ []) j)
+    by_case j l (yes e) =
+        let here = subst (λ k. mark_at (marks ++ mark ∷ []) k ≡ mark) (are.count_is ∙ sym e) (at_end marks mark no_mark) in
+        subst (λ m. IsMark base copy j m) (sym here) (subst (λ k. IsMark base copy k mark) (sym e) is)
+    by_case j l (no other) = subst (λ m. IsMark base copy j m) (sym (at_front marks (mark ∷ []) j no_mark (omega (arith, l, other, are.count_is)))) (are.each j (omega (arith, l, other)))
+
+pub none_marked : (base copy : BaseView) → AreMarked base copy 0 []
+none_marked base copy = record { count_is = refl; each = λ j l. absurd (omega (arith, l)) }
+
+-- all are marked
+pub all_marked : (base copy : BaseView) (n : ℕ) (marks : List Mark) → AreMarked base copy n marks → n ≡ length copy.said → AreMarks base copy marks
+all_marked base copy n marks are e = record { count = are.count_is ∙ e; each = λ j l. are.each j (omega (arith, l, e)) }

@@ -1,0 +1,20 @@
+use Rattle.std.proofs.Common.{false}
+use Rattle.std.proofs.lemmas.Bool.{false≢true}
+use Rattle.mm_proof.proofs.KeptMarkLemmas.{nothing_kept, some_kept}
+use Rattle.mm_proof.proofs.marks.mark_of.Goals as goal
+
+pub returns-in_default-clause-mark : goal.returns-in_default-clause-mark
+returns-in_default-clause-mark c base copy f g = nothing_kept base copy c.args.j (λ i h. c.in_default.not-Some i ((c.old_of.ensures c.args.names.now base copy f g i).1 h))
+
+pub returns-in-Some-compare-clause-mark : goal.returns-in-Some-compare-clause-mark
+returns-in-Some-compare-clause-mark c base copy f g =
+    let names = c.args.names.now in
+    let told = c.in-Some-compare.ensures.these names base copy f g in
+    some_kept base copy c.in-Some.i c.args.j c.same_frames-frame.result c.in-Some-compare.compared.same (λ k. c.in-Some.ensures names base copy f g k) (c.same_frames-frame.ensures base copy f g)
+    (λ e. (told.0, told.1.0 e), λ s. told.1.1 s.1)
+
+pub returns-in-None-clause-mark : goal.returns-in-None-clause-mark
+returns-in-None-clause-mark c base copy f g =
+    let names = c.args.names.now in
+    some_kept base copy c.in-Some.i c.args.j c.same_frames-frame.result false (λ k. c.in-Some.ensures names base copy f g k) (c.same_frames-frame.ensures base copy f g)
+    (λ e. absurd (false≢true e), λ s. absurd (c.in-None.ensures.these names base copy f g s.0))

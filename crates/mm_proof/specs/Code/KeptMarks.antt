@@ -1,0 +1,95 @@
+-- What is kept of what stays of an old base in a new one.
+use Rattle.std.specs.Prelude.{◌≡◌, ◌↔◌, ◌<◌, ℕ, Bool, true, false, not, Option, Some, None, List, length, map, bytes_eq, codes}
+use Rattle.std.specs.List.{AllByRecursion}
+use Rattle.mm_frame.specs.Language.Base.{BaseView, before, said_at, is_shown_at, is_framed_at, is_proof_at, frame_at}
+use Rattle.mm_frame.specs.Language.Frame.{AreSameFrame, AreSamePairs}
+use Rattle.mm_frame.specs.Language.Framing.{active_pairs, expression}
+use Rattle.mm_frame.specs.Code.KeptBase.{IsBaseBy}
+use Rattle.mm_frame.specs.declared.base.Base.{Base}
+use Rattle.mm_frame.specs.declared.base.Resolved as answer
+use Rattle.mm_frame.specs.declared.base.Resolved.TheVariants as answers
+use Rattle.mm_proof.specs.Language.BaseLabels.{setting_at}
+use Rattle.mm_proof.specs.Language.BaseMarks.{Mark, IsMark, mark_at}
+use Rattle.mm_proof.specs.Language.SameProof.{IsSameLabel, labels_named}
+use Rattle.mm_proof.specs.declared.marks.Compared.{Compared}
+use Rattle.mm_proof.specs.declared.marks.Mark as code
+use Rattle.mm_proof.specs.declared.marks.Marks.TheInside.{Inside}
+
+-- what is kept of an item
+abbrev pub kept_mark : code.Mark → Mark
+kept_mark mark = record { old = mark.old; frame = mark.frame; pairs = mark.pairs }
+
+abbrev pub kept_marks : List code.Mark → List Mark
+kept_marks marks = map kept_mark marks
+
+abbrev pub marks_of : Inside → List Mark
+marks_of inside = kept_marks inside.marks.items
+
+-- it is so of what an old base and a new one answer, both by the same names
+abbrev pub OfBases : Base → Base → (BaseView → BaseView → Type 0) → Type 0
+OfBases old new holds = (names : List (List ℕ)) (base copy : BaseView) → IsBaseBy names base old → IsBaseBy names copy new → holds base copy
+
+-- both by these names
+abbrev pub OfBasesBy : List (List ℕ) → Base → Base → (BaseView → BaseView → Type 0) → Type 0
+OfBasesBy names old new holds = (base copy : BaseView) → IsBaseBy names base old → IsBaseBy names copy new → holds base copy
+
+-- both items are assertions with the same frame
+pub record ShareFrame (base copy : BaseView) (i j : ℕ) : Type 0 where
+  pub was : is_framed_at base i ≡ true
+  pub is : is_framed_at copy j ≡ true
+  pub same : AreSameFrame (frame_at base i) (frame_at copy j)
+
+-- both are theorems
+pub record AreTheorems (base copy : BaseView) (i j : ℕ) : Type 0 where
+  pub was : is_proof_at base i ≡ true
+  pub is : is_proof_at copy j ≡ true
+
+-- the same pairs are active at both
+abbrev pub SharePairs : BaseView → BaseView → ℕ → ℕ → Type 0
+SharePairs base copy i j = AreSamePairs (active_pairs (before base i)) (active_pairs (before copy j))
+
+-- so it is told of two theorems that were compared
+abbrev pub IsCompared : Base → Base → Option Compared → Type 0
+IsCompared old new None = Unit {0}
+IsCompared old new (Some c) = OfBases old new (λ base copy. AreTheorems base copy c.i c.j × ((c.same ≡ true) ↔ SharePairs base copy c.i c.j))
+
+-- it is told of these two, and nothing is told of two of which one is no theorem
+abbrev pub IsComparedOf : Base → Base → ℕ → ℕ → Option Compared → Type 0
+IsComparedOf old new i j None = OfBases old new (λ base copy. AreTheorems base copy i j → ⊥)
+IsComparedOf old new i j (Some c) = OfBases old new (λ base copy. AreTheorems base copy i j × ((c.same ≡ true) ↔ SharePairs base copy i j))
+
+-- the marks of so many items are kept
+pub record AreMarked (base copy : BaseView) (count : ℕ) (marks : List Mark) : Type 0 where
+  pub count_is : length marks ≡ count
+  pub each : (j : ℕ) → j < count → IsMark base copy j (mark_at marks j)
+
+-- the item that an answer tells is one that has an expression, or a frame
+abbrev pub IsUsable : BaseView → answer.Resolved → Type 0
+IsUsable base (answers.Hypothesis n) = is_shown_at base n ≡ true
+IsUsable base (answers.Assertion n) = is_framed_at base n ≡ true
+IsUsable base answers.Inactive = Unit {0}
+IsUsable base answers.Unknown = Unit {0}
+
+-- it is told whether two answers mean the same
+abbrev pub TellsSame : BaseView → BaseView → answer.Resolved → answer.Resolved → Bool → Type 0
+TellsSame base copy (answers.Hypothesis a) (answers.Hypothesis b) same =
+    (same ≡ true) ↔ (expression (before base a) (said_at base a) ≡ expression (before copy b) (said_at copy b))
+TellsSame base copy (answers.Assertion a) (answers.Assertion b) same = (same ≡ true) ↔ AreSameFrame (frame_at base a) (frame_at copy b)
+TellsSame base copy answers.Inactive answers.Inactive same = same ≡ true
+TellsSame base copy answers.Unknown answers.Unknown same = same ≡ true
+TellsSame base copy _ _ same = same ≡ false
+
+-- the word of a normal proof is a label
+abbrev pub is_label_word : List ℕ → Bool
+is_label_word word = not (bytes_eq word (codes "?"))
+
+-- two theorems have the same expression, mandatory hypotheses and active pairs
+pub record ShareStatement (base copy : BaseView) (i j : ℕ) : Type 0 where
+  pub expression : (frame_at base i).expression ≡ (frame_at copy j).expression
+  pub hypotheses : (frame_at base i).hypotheses ≡ (frame_at copy j).hypotheses
+  pub pairs : SharePairs base copy i j
+
+-- the same words stand in their proofs, and the labels that these name mean the same
+pub record ShareProof (base copy : BaseView) (i j : ℕ) : Type 0 where
+  pub words : (said_at base i).proof ≡ (said_at copy j).proof
+  pub labels : AllByRecursion (IsSameLabel (setting_at base i) (setting_at copy j)) (labels_named (said_at copy j).proof)

@@ -1,0 +1,53 @@
+-- What stays of an old base in a new one, told for each item of the new one.
+use Rattle.std.specs.Prelude.{◌≡◌, ◌↔◌, ℕ, ◌<◌, Bool, true, false, Option, Some, None, List, length, slice_index_or}
+use Rattle.mm_frame.specs.Language.Base.{BaseView, before, said_at, is_framed_at, is_proof_at, is_shown_at, frame_at}
+use Rattle.mm_frame.specs.Language.Frame.{AreSameFrame, AreSamePairs}
+use Rattle.mm_frame.specs.Language.Framing.{active_pairs}
+
+-- What is told of an item: the number of the sound item of the old base that has its label, whether both are assertions with the same
+-- frame, and whether both are theorems with the same active pairs.
+pub record Mark : Type 0 where
+  pub old : Option ℕ
+  pub frame : Bool
+  pub pairs : Bool
+
+-- nothing stays
+abbrev pub no_mark : Mark
+no_mark = record { old = None; frame = false; pairs = false }
+
+abbrev pub mark_at : List Mark → ℕ → Mark
+mark_at marks j = slice_index_or marks j no_mark
+
+-- item i of the old base and item j of the new one are sound and have one label
+pub record HaveOneLabel (old new : BaseView) (i j : ℕ) : Type 0 where
+  pub within : i < length old.said
+  pub was : is_shown_at old i ≡ true
+  pub is : is_shown_at new j ≡ true
+  pub label : (said_at old i).label ≡ (said_at new j).label
+
+-- item j of the new base is an assertion, and the old base has one with its label and its frame
+pub record KeepsFrame (old new : BaseView) (j : ℕ) : Type 0 where
+  pub i : ℕ
+  pub one_label : HaveOneLabel old new i j
+  pub was : is_framed_at old i ≡ true
+  pub is : is_framed_at new j ≡ true
+  pub same : AreSameFrame (frame_at old i) (frame_at new j)
+
+-- it is a theorem, and the old base has one with its label and the same active pairs
+pub record KeepsPairs (old new : BaseView) (j : ℕ) : Type 0 where
+  pub i : ℕ
+  pub one_label : HaveOneLabel old new i j
+  pub was : is_proof_at old i ≡ true
+  pub is : is_proof_at new j ≡ true
+  pub same : AreSamePairs (active_pairs (before old i)) (active_pairs (before new j))
+
+-- the mark tells this of item j of the new base
+pub record IsMark (old new : BaseView) (j : ℕ) (mark : Mark) : Type 0 where
+  pub old_is : (i : ℕ) → (mark.old ≡ Some i) ↔ HaveOneLabel old new i j
+  pub frame_is : (mark.frame ≡ true) ↔ KeepsFrame old new j
+  pub pairs_is : (mark.pairs ≡ true) ↔ KeepsPairs old new j
+
+-- the marks tell this of each item of the new base
+pub record AreMarks (old new : BaseView) (marks : List Mark) : Type 0 where
+  pub count : length marks ≡ length new.said
+  pub each : (j : ℕ) → j < length new.said → IsMark old new j (mark_at marks j)

@@ -1,0 +1,189 @@
+//! What stays of an old base in a new one.
+
+ghost use Rattle.std.specs.Prelude.{◌≡◌, ◌↔◌, ℕ, Some, IfOk, IsTrue};
+ghost use Rattle.mm_frame.specs.Language.Base.{BaseView};
+ghost use Rattle.mm_frame.specs.Code.KeptBase.{IsBaseBy};
+ghost use Rattle.mm_proof.specs.Code.KeptMarks.{OfBases, OfBasesBy, AreTheorems, SharePairs, ShareFrame, IsCompared, IsComparedOf, kept_mark};
+ghost use Rattle.mm_proof.specs.Language.BaseMarks.{AreMarks, HaveOneLabel, IsMark, mark_at};
+
+use mm_frame::{Base, Names, same_active_pairs, same_frame};
+use std::alloc::{AllocError, Global};
+use std::marker::Model;
+
+/// What stays of an item: the number of the sound item of the old base that has its label, whether both have the same
+/// frame, and whether both have the same active pairs.
+#[derive(Clone, Copy)]
+struct Mark {
+    old: Option<usize>,
+    frame: bool,
+    pairs: bool,
+}
+
+/// Nothing stays.
+const NO_MARK: Mark = Mark {
+    old: None,
+    frame: false,
+    pairs: false,
+};
+
+/// What stays of an old base in a new one, for each item of the new one: so that frames and active pairs are compared
+/// once, and a label of the new base is looked up in the old one once.
+#[derive(Drop)]
+pub struct Marks {
+    marks: Vec<Mark>,
+}
+
+impl Model for Marks {
+    ghost use Rattle.std.specs.Prelude.{List};
+    ghost use Rattle.mm_proof.specs.Language.BaseMarks.{Mark};
+
+    ghost Value = { List Mark };
+
+    ghost use Rattle.mm_proof.specs.Code.KeptMarks.{marks_of};
+
+    ghost view = { marks_of };
+}
+
+/// Two theorems whose active pairs were compared, the one of the old base and the other of the new, and whether they are
+/// the same.
+#[derive(Clone, Copy)]
+struct Compared {
+    i: usize,
+    j: usize,
+    same: bool,
+}
+
+/// Whether two sound `$p` share their lists of active pairs with those that were compared.
+fn shares(compared: Compared, old: &Base, i: usize, new: &Base, j: usize) -> bool
+    ensures { OfBases old.now new.now (λ base copy. AreTheorems base copy compared.i compared.j → AreTheorems base copy i j → IsTrue result
+        → SharePairs base base compared.i i × SharePairs copy copy compared.j j) }
+{
+    old.shares_pairs(compared.i, i) && new.shares_pairs(compared.j, j)
+}
+
+/// Whether two sound `$p` have the same active pairs. Where both share their lists with those that were compared last,
+/// nothing is compared.
+fn same_pairs(old: &Base, i: usize, new: &Base, j: usize, last: Option<Compared>) -> bool
+    requires { IsCompared old.now new.now last }
+    ensures { OfBases old.now new.now (λ base copy. AreTheorems base copy i j → IsTrue result ↔ SharePairs base copy i j) }
+{
+    match last {
+        Some(compared) if shares(compared, old, i, new, j) => compared.same,
+        _ => same_active_pairs(old, i, new, j),
+    }
+}
+
+/// Compares the active pairs of two items, where both are sound `$p`.
+fn compare(old: &Base, i: usize, new: &Base, j: usize, last: Option<Compared>) -> Option<Compared>
+    requires { IsCompared old.now new.now last }
+    ensures told { IsCompared old.now new.now result }
+    ensures these { IsComparedOf old.now new.now i j result }
+{
+    old.pairs(i)?;
+    new.pairs(j)?;
+    let same = same_pairs(old, i, new, j, last);
+    Some(Compared { i, j, same })
+}
+
+/// Whether two items are sound assertions with the same frame.
+fn same_frames(names: &Names, old: &Base, i: usize, new: &Base, j: usize) -> bool
+    ensures { OfBasesBy names.now old.now new.now (λ base copy. IsTrue result ↔ ShareFrame base copy i j) }
+{
+    old.frame(i).is_some() && new.frame(j).is_some() && same_frame(names, old, i, new, j)
+}
+
+/// The sound item of the old base that has the label of the item `j` of the new one, which has to be sound, too.
+fn old_of(old: &Base, new: &Base, j: usize) -> Option<usize>
+    ensures { OfBases old.now new.now (λ base copy. (i : ℕ) → (result ≡ Some i) ↔ HaveOneLabel base copy i j) }
+{
+    new.expression(j)?;
+    old.find(new.label(j)?)
+}
+
+/// What stays of the item with this number, and the two theorems that were compared last.
+fn mark_of(
+    names: &Names,
+    old: &Base,
+    new: &Base,
+    j: usize,
+    last: Option<Compared>,
+) -> (Mark, Option<Compared>)
+    requires { IsCompared old.now new.now last }
+    ensures mark { OfBasesBy names.now old.now new.now (λ base copy. IsMark base copy j (kept_mark result.0)) }
+    ensures last { IsCompared old.now new.now result.1 }
+{
+    let Some(i) = old_of(old, new, j) else {
+        return (NO_MARK, last);
+    };
+    let frame = same_frames(names, old, i, new, j);
+    let old_is = Some(i);
+    match compare(old, i, new, j, last) {
+        Some(compared) => {
+            let mark = Mark {
+                old: old_is,
+                frame,
+                pairs: compared.same,
+            };
+            (mark, Some(compared))
+        }
+        None => {
+            let mark = Mark {
+                old: old_is,
+                frame,
+                pairs: false,
+            };
+            (mark, last)
+        }
+    }
+}
+
+impl Marks {
+    /// Compares an old base with a new one, both over the same names. It takes time near linear in the items, the frames
+    /// and the lists of active pairs of the two, and memory for each item of the new one.
+    pub fn build(alloc: Global, names: &Names, old: &Base, new: &Base) -> Result<Marks, AllocError>
+        ensures { IfOk result (λ marks. (base copy : BaseView) → IsBaseBy names.now base old.now → IsBaseBy names.now copy new.now
+            → AreMarks base copy marks) }
+    {
+        let mut marks = Vec::with_capacity(alloc, new.count())?;
+        let mut last = None;
+        for j in 0..new.count() {
+            let (mark, compared) = mark_of(names, old, new, j, last);
+            marks.push(mark)?;
+            last = compared;
+        }
+        Ok(Marks { marks })
+    }
+
+    /// The number of the sound item of the old base that has the label of the item `j` of the new one, if both are sound.
+    /// It takes no memory.
+    pub fn old(&self, j: usize) -> Option<usize>
+        ensures { result ≡ (mark_at self.now j).old }
+    {
+        match self.marks.get(j) {
+            Some(mark) => mark.old,
+            None => None,
+        }
+    }
+
+    /// Whether the item `j` of the new base is a sound `$a` or `$p`, and the old base has one with its label and the same
+    /// frame. It takes no memory.
+    pub fn same(&self, j: usize) -> bool
+        ensures { result ≡ (mark_at self.now j).frame }
+    {
+        match self.marks.get(j) {
+            Some(mark) => mark.frame,
+            None => false,
+        }
+    }
+
+    /// Whether the item `j` of the new base is a sound `$p`, and the old base has one with its label and the same active
+    /// pairs.
+    pub(crate) fn same_pairs(&self, j: usize) -> bool
+        ensures { result ≡ (mark_at self.now j).pairs }
+    {
+        match self.marks.get(j) {
+            Some(mark) => mark.pairs,
+            None => false,
+        }
+    }
+}

@@ -1,0 +1,24 @@
+//! What is proved of views: each law is the contract of a function.
+
+ghost use Rattle.mm_proof.specs.Language.ViewLaws.{SameViewSameVerdict, SameViewSameCites};
+
+use crate::decoding_laws::{same_cites_same, same_decodes_same};
+use crate::item_laws::mandatory_labels_mean;
+use crate::same_proof_same_verdict;
+
+/// Two theorems with equal views have equal verdicts, spots included, in any two databases.
+pub fn same_view_same_verdict()
+    ensures { SameViewSameVerdict }
+{
+    mandatory_labels_mean();
+    same_decodes_same();
+    same_proof_same_verdict();
+}
+
+/// And the same words of their proofs cite.
+pub fn same_view_same_cites()
+    ensures { SameViewSameCites }
+{
+    mandatory_labels_mean();
+    same_cites_same();
+}
