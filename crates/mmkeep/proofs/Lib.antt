@@ -6,3 +6,4 @@ pub mod DatabaseLemmas
 pub mod VerifyLemmas
 pub mod AnswerLemmas
 pub mod ItemLemmas
+pub mod FileLemmas

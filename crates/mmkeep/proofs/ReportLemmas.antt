@@ -8,11 +8,11 @@ use Rattle.mm_frame.specs.Language.Base.{BaseView, said_at}
 use Rattle.mm_frame.specs.Code.KeptBase.{IsBase}
 use Rattle.mm_frame.specs.declared.base.Base.{Base}
 use Rattle.mm_frame.specs.declared.FrameNumber.{FrameNumber}
-use Rattle.mm_text.specs.declared.location.Place.{Place}
 use Rattle.mm_proof.specs.declared.ProofNumber.{ProofNumber}
+use Rattle.mmkeep.specs.declared.finding.At.{At}
 use Rattle.mmkeep.specs.declared.finding.Finding.{Finding}
 use Rattle.mmkeep.specs.declared.finding.Finding.TheVariants as code
-use Rattle.std.specs.Prelude.{IsErr, count_by, codes, decimal}
+use Rattle.std.specs.Prelude.{IsErr, count_by, codes, decimal, slice_index_or}
 use Rattle.mmkeep.specs.declared.stream.Writing.{Writing}
 use Rattle.mmkeep.specs.declared.tally.Tally.{Tally}
 use Rattle.mmkeep.specs.Code.Findings.{AreOfEach, counted, told, told_all}
@@ -24,41 +24,41 @@ use Rattle.mmkeep.proofs.StreamLemmas.{stops_front, stops_behind, writes_behind,
 -- ---- lines
 
 -- the lines of some items, and then those of more
-lines_join : (file : List ℕ) (items more : List Item) (all others : List Told) → length all ≡ length items → lines file (items ++ more) (all ++ others) ≡ lines file items all ++ lines file more others
-lines_join file [] more [] others e = refl
-lines_join file [] more (y ∷ ys) others e = cc
-lines_join file (x ∷ xs) more [] others e = cc
-lines_join file (x ∷ xs) more (y ∷ ys) others e = ap (λ bytes. item_line file x y ++ bytes) (lines_join file xs more ys others (cc)) ∙ sym (append_assoc (item_line file x y) (lines file xs ys) (lines file more others))
+lines_join : (names : List (List ℕ)) (items more : List Item) (all others : List Told) → length all ≡ length items → lines names (items ++ more) (all ++ others) ≡ lines names items all ++ lines names more others
+lines_join names [] more [] others e = refl
+lines_join names [] more (y ∷ ys) others e = cc
+lines_join names (x ∷ xs) more [] others e = cc
+lines_join names (x ∷ xs) more (y ∷ ys) others e = ap (λ bytes. item_line names x y ++ bytes) (lines_join names xs more ys others (cc)) ∙ sym (append_assoc (item_line names x y) (lines names xs ys) (lines names more others))
 
 -- one more item has its line behind the others'
-lines_push : (file : List ℕ) (items : List Item) (all : List Told) (item : Item) (one : Told) → length all ≡ length items → lines file (items ++ item ∷ []) (all ++ one ∷ []) ≡ lines file items all ++ item_line file item one
-lines_push file items all item one e = lines_join file items (item ∷ []) all (one ∷ []) e ∙ ap (λ bytes. lines file items all ++ bytes) (append-nil (item_line file item one))
+lines_push : (names : List (List ℕ)) (items : List Item) (all : List Told) (item : Item) (one : Told) → length all ≡ length items → lines names (items ++ item ∷ []) (all ++ one ∷ []) ≡ lines names items all ++ item_line names item one
+lines_push names items all item one e = lines_join names items (item ∷ []) all (one ∷ []) e ∙ ap (λ bytes. lines names items all ++ bytes) (append-nil (item_line names item one))
 
 -- the lines of the first items, and then those of the others
-lines_split : (file : List ℕ) (items : List Item) (all : List Told) (i : ℕ) → length all ≡ length items → lines file (take i items) (take i all) ++ lines file (drop i items) (drop i all) ≡ lines file items all
-lines_split file items all i e =
+lines_split : (names : List (List ℕ)) (items : List Item) (all : List Told) (i : ℕ) → length all ≡ length items → lines names (take i items) (take i all) ++ lines names (drop i items) (drop i all) ≡ lines names items all
+lines_split names items all i e =
     let lengths : length (take i all) ≡ length (take i items) = length-take i all ∙ ap (λ (n : ℕ). min i n) e ∙ sym (length-take i items) in
-    sym (lines_join file (take i items) (drop i items) (take i all) (drop i all) lengths) ∙ ap (λ (xs : List Item). lines file xs (take i all ++ drop i all)) (take-append-drop i items) ∙ ap (lines file items) (take-append-drop i all)
+    sym (lines_join names (take i items) (drop i items) (take i all) (drop i all) lengths) ∙ ap (λ (xs : List Item). lines names xs (take i all ++ drop i all)) (take-append-drop i items) ∙ ap (lines names items) (take-append-drop i all)
 
-lines_step : (file : List ℕ) (items : List Item) (all : List Told) (i : ℕ) (x : Item) (y : Told) → length all ≡ length items → i < length all → lines file (take (i + 1) items) (take (i + 1) all) ≡ lines file (take i items) (take i all) ++ item_line file (get_or items i x) (get_or all i y)
-lines_step file items all i x y e l =
+lines_step : (names : List (List ℕ)) (items : List Item) (all : List Told) (i : ℕ) (x : Item) (y : Told) → length all ≡ length items → i < length all → lines names (take (i + 1) items) (take (i + 1) all) ≡ lines names (take i items) (take i all) ++ item_line names (get_or items i x) (get_or all i y)
+lines_step names items all i x y e l =
     let in_items : i < length items = omega arith in
     let lengths : length (take i all) ≡ length (take i items) = length-take-le i all (omega arith) ∙ sym (length-take-le i items (omega arith)) in
-    rw (take_more items i x in_items, take_more all i y l) (lines_push file (take i items) (take i all) (get_or items i x) (get_or all i y) lengths)
+    rw (take_more items i x in_items, take_more all i y l) (lines_push names (take i items) (take i all) (get_or items i x) (get_or all i y) lengths)
 
 -- one more item has its line, which tells its finding
-pub lines_more : (file : List ℕ) (items : List Item) (findings : List Finding) (i : ℕ) (x : Item) (y : Finding) → length findings ≡ length items → i < length findings
-    → lines file (take (i + 1) items) (take (i + 1) (told_all findings)) ≡ lines file (take i items) (take i (told_all findings)) ++ item_line file (get_or items i x) (told (get_or findings i y))
-lines_more file items findings i x y e l =
+pub lines_more : (names : List (List ℕ)) (items : List Item) (findings : List Finding) (i : ℕ) (x : Item) (y : Finding) → length findings ≡ length items → i < length findings
+    → lines names (take (i + 1) items) (take (i + 1) (told_all findings)) ≡ lines names (take i items) (take i (told_all findings)) ++ item_line names (get_or items i x) (told (get_or findings i y))
+lines_more names items findings i x y e l =
     let count : length (told_all findings) ≡ length findings = length-map findings told in
     let one : get_or (told_all findings) i (told y) ≡ told (get_or findings i y) = get_or-map told findings i y (told y) l in
-    lines_step file items (told_all findings) i x (told y) (count ∙ e) (omega arith) ∙ ap (λ (t : Told). lines file (take i items) (take i (told_all findings)) ++ item_line file (get_or items i x) t) one
+    lines_step names items (told_all findings) i x (told y) (count ∙ e) (omega arith) ∙ ap (λ (t : Told). lines names (take i items) (take i (told_all findings)) ++ item_line names (get_or items i x) t) one
 
 -- the lines of the items before one, its own, and those of the items behind it
-pub lines_at : (file : List ℕ) (items : List Item) (findings : List Finding) (i : ℕ) (x : Item) (y : Finding) → length findings ≡ length items → i < length findings
-    → lines file items (told_all findings) ≡ lines file (take i items) (take i (told_all findings)) ++ item_line file (get_or items i x) (told (get_or findings i y)) ++ lines file (drop (i + 1) items) (drop (i + 1) (told_all findings))
-lines_at file items findings i x y e l =
-    sym (lines_split file items (told_all findings) (i + 1) (length-map findings told ∙ e)) ∙ ap (λ bytes. bytes ++ lines file (drop (i + 1) items) (drop (i + 1) (told_all findings))) (lines_more file items findings i x y e l)
+pub lines_at : (names : List (List ℕ)) (items : List Item) (findings : List Finding) (i : ℕ) (x : Item) (y : Finding) → length findings ≡ length items → i < length findings
+    → lines names items (told_all findings) ≡ lines names (take i items) (take i (told_all findings)) ++ item_line names (get_or items i x) (told (get_or findings i y)) ++ lines names (drop (i + 1) items) (drop (i + 1) (told_all findings))
+lines_at names items findings i x y e l =
+    sym (lines_split names items (told_all findings) (i + 1) (length-map findings told ∙ e)) ∙ ap (λ bytes. bytes ++ lines names (drop (i + 1) items) (drop (i + 1) (told_all findings))) (lines_more names items findings i x y e l)
 
 -- ---- counts
 
@@ -86,27 +86,27 @@ none_behind one all i w f p =
     (sym (zero-add _) ∙ sym (count_cons is_incomplete one all ∙ rw i refl) ∙ p.0, sym (zero-add _) ∙ sym (count_cons is_wrong one all ∙ rw w refl) ∙ p.1, sym (zero-add _) ∙ sym (count_cons is_fault one all ∙ rw f refl) ∙ p.2)
 
 -- no line stands in a report where nothing is incomplete, wrong or at fault
-pub no_lines : (file : List ℕ) (items : List Item) (all : List Told) → HaveNoLines all → lines file items all ≡ []
-no_lines file [] all n = refl
-no_lines file (x ∷ xs) [] n = refl
-no_lines file (x ∷ xs) (Incomplete place ∷ ys) n = absurd (omega (arith, n.0, count_cons is_incomplete (Incomplete place) ys))
-no_lines file (x ∷ xs) (Wrong number place ∷ ys) n = absurd (omega (arith, n.1, count_cons is_wrong (Wrong number place) ys))
-no_lines file (x ∷ xs) (Fault number shown ∷ ys) n = absurd (omega (arith, n.2, count_cons is_fault (Fault number shown) ys))
-no_lines file (x ∷ xs) (Quiet ∷ ys) n = no_lines file xs ys (none_behind Quiet ys refl refl refl n)
-no_lines file (x ∷ xs) (AnAxiom ∷ ys) n = no_lines file xs ys (none_behind AnAxiom ys refl refl refl n)
-no_lines file (x ∷ xs) (Proved ∷ ys) n = no_lines file xs ys (none_behind Proved ys refl refl refl n)
+pub no_lines : (names : List (List ℕ)) (items : List Item) (all : List Told) → HaveNoLines all → lines names items all ≡ []
+no_lines names [] all n = refl
+no_lines names (x ∷ xs) [] n = refl
+no_lines names (x ∷ xs) (Incomplete at ∷ ys) n = absurd (omega (arith, n.0, count_cons is_incomplete (Incomplete at) ys))
+no_lines names (x ∷ xs) (Wrong number at ∷ ys) n = absurd (omega (arith, n.1, count_cons is_wrong (Wrong number at) ys))
+no_lines names (x ∷ xs) (Fault number shown ∷ ys) n = absurd (omega (arith, n.2, count_cons is_fault (Fault number shown) ys))
+no_lines names (x ∷ xs) (Quiet ∷ ys) n = no_lines names xs ys (none_behind Quiet ys refl refl refl n)
+no_lines names (x ∷ xs) (AnAxiom ∷ ys) n = no_lines names xs ys (none_behind AnAxiom ys refl refl refl n)
+no_lines names (x ∷ xs) (Proved ∷ ys) n = no_lines names xs ys (none_behind Proved ys refl refl refl n)
 
 -- and one stands there where something is
-pub some_line : (file : List ℕ) (items : List Item) (all : List Told) → length all ≡ length items → lines file items all ≡ [] → HaveNoLines all
-some_line file [] [] e l = (refl, refl, refl)
-some_line file [] (y ∷ ys) e l = cc
-some_line file (x ∷ xs) [] e l = cc
-some_line file (x ∷ xs) (Incomplete place ∷ ys) e l = cc
-some_line file (x ∷ xs) (Wrong number place ∷ ys) e l = cc
-some_line file (x ∷ xs) (Fault number shown ∷ ys) e l = cc
-some_line file (x ∷ xs) (Quiet ∷ ys) e l = none_more Quiet ys refl refl refl (some_line file xs ys (cc) l)
-some_line file (x ∷ xs) (AnAxiom ∷ ys) e l = none_more AnAxiom ys refl refl refl (some_line file xs ys (cc) l)
-some_line file (x ∷ xs) (Proved ∷ ys) e l = none_more Proved ys refl refl refl (some_line file xs ys (cc) l)
+pub some_line : (names : List (List ℕ)) (items : List Item) (all : List Told) → length all ≡ length items → lines names items all ≡ [] → HaveNoLines all
+some_line names [] [] e l = (refl, refl, refl)
+some_line names [] (y ∷ ys) e l = cc
+some_line names (x ∷ xs) [] e l = cc
+some_line names (x ∷ xs) (Incomplete at ∷ ys) e l = cc
+some_line names (x ∷ xs) (Wrong number at ∷ ys) e l = cc
+some_line names (x ∷ xs) (Fault number shown ∷ ys) e l = cc
+some_line names (x ∷ xs) (Quiet ∷ ys) e l = none_more Quiet ys refl refl refl (some_line names xs ys (cc) l)
+some_line names (x ∷ xs) (AnAxiom ∷ ys) e l = none_more AnAxiom ys refl refl refl (some_line names xs ys (cc) l)
+some_line names (x ∷ xs) (Proved ∷ ys) e l = none_more Proved ys refl refl refl (some_line names xs ys (cc) l)
 
 -- ---- the counts of theorems
 
@@ -114,8 +114,8 @@ one_told : (one : Told) → unit (is_proved one) + unit (is_incomplete one) + un
 one_told Quiet = omega arith
 one_told AnAxiom = omega arith
 one_told Proved = omega arith
-one_told (Incomplete place) = omega arith
-one_told (Wrong number place) = omega arith
+one_told (Incomplete at) = omega arith
+one_told (Wrong number at) = omega arith
 one_told (Fault number shown) = omega arith
 
 -- there are not more theorems than items
@@ -144,14 +144,14 @@ summary_parts tally = simp append_assoc
 
 -- ---- lines, part by part
 
--- a place as it is written
-pub place_parts : (file : List ℕ) (place : Place) → place_in file place ≡ (file ++ codes ":") ++ (decimal place.line ++ (codes ":" ++ decimal place.column))
-place_parts file place = simp append_assoc
+-- a at as it is written
+pub place_parts : (names : List (List ℕ)) (at : At) → place_in names at ≡ (slice_index_or names at.file [] ++ codes ":") ++ (decimal at.line ++ (codes ":" ++ decimal at.column))
+place_parts names at = simp append_assoc
 
 -- the line of a fault
-pub fault_parts : (file : List ℕ) (number : FrameNumber) (place : Place) (word : List ℕ)
-    → fault_line file number (record { place = place; word = word }) ≡ codes "fault " ++ (place_in file place ++ ((codes " " ++ code_of number) ++ ((codes " " ++ word) ++ codes "\n")))
-fault_parts file number place word = simp append_assoc
+pub fault_parts : (names : List (List ℕ)) (number : FrameNumber) (at : At) (word : List ℕ)
+    → fault_line names number (record { at = at; word = word }) ≡ codes "fault " ++ (place_in names at ++ ((codes " " ++ code_of number) ++ ((codes " " ++ word) ++ codes "\n")))
+fault_parts names number at word = simp append_assoc
 
 five : (a b c d e : List ℕ) → a ++ b ++ c ++ d ++ e ≡ (a ++ b) ++ (c ++ (d ++ e))
 five a b c d e = simp append_assoc
@@ -160,36 +160,36 @@ seven : (a b c d e f g : List ℕ) → a ++ b ++ c ++ d ++ e ++ f ++ g ≡ (a ++
 seven a b c d e f g = simp append_assoc
 
 -- that of an incomplete proof
-pub incomplete_parts : (file label : List ℕ) (place : Place) → incomplete_line file label place ≡ (codes "incomplete " ++ label) ++ (codes " " ++ (place_in file place ++ codes "\n"))
-incomplete_parts file label place = five (codes "incomplete ") label (codes " ") (place_in file place) (codes "\n")
+pub incomplete_parts : (names : List (List ℕ)) (label : List ℕ) (at : At) → incomplete_line names label at ≡ (codes "incomplete " ++ label) ++ (codes " " ++ (place_in names at ++ codes "\n"))
+incomplete_parts names label at = five (codes "incomplete ") label (codes " ") (place_in names at) (codes "\n")
 
 -- that of a wrong one
-pub wrong_parts : (file label : List ℕ) (number : ProofNumber) (place : Place)
-    → wrong_line file label number place ≡ (codes "wrong " ++ label) ++ (codes " " ++ (place_in file place ++ ((codes " " ++ proof_code number) ++ codes "\n")))
-wrong_parts file label number place = seven (codes "wrong ") label (codes " ") (place_in file place) (codes " ") (proof_code number) (codes "\n")
+pub wrong_parts : (names : List (List ℕ)) (label : List ℕ) (number : ProofNumber) (at : At)
+    → wrong_line names label number at ≡ (codes "wrong " ++ label) ++ (codes " " ++ (place_in names at ++ ((codes " " ++ proof_code number) ++ codes "\n")))
+wrong_parts names label number at = seven (codes "wrong ") label (codes " ") (place_in names at) (codes " ") (proof_code number) (codes "\n")
 
 -- ---- what is written of the lines and the report
 
-module _ {W : Type 0} (contents : W → Option (List ℕ)) (file : List ℕ) (base : Base) (findings : List Finding) where
+module _ {W : Type 0} (contents : W → Option (List ℕ)) (names : List (List ℕ)) (base : Base) (findings : List Finding) where
   -- for each base that the code keeps, with as many items as there are findings
   abbrev pub ForEach : (BaseView → Type 0) → Type 0
   ForEach says = (view : BaseView) → AreOfEach findings base view → says view
 
   -- a write that fails in one line, behind those before it, fails in the lines
   pub lines_stop : {T E : Type 0} (a b c : Writing W) (r : Result T E) (i : ℕ) → i < length findings → IsErr r
-      → ForEach (λ view. Appends (written contents a) (written contents b) (lines file (take i view.said) (take i (told_all findings))))
-      → ((view : BaseView) → IsBase view base → Stops contents b c (item_line file (said_at view i) (told (get_or findings i code.Quiet))))
-      → ForEach (λ view. Writes contents a c r (lines file view.said (told_all findings)))
+      → ForEach (λ view. Appends (written contents a) (written contents b) (lines names (take i view.said) (take i (told_all findings))))
+      → ((view : BaseView) → IsBase view base → Stops contents b c (item_line names (said_at view i) (told (get_or findings i code.Quiet))))
+      → ForEach (λ view. Writes contents a c r (lines names view.said (told_all findings)))
   lines_stop a b c r i within failed before here view is =
-      rw (lines_at file view.said findings i passed code.Quiet is.count within)
+      rw (lines_at names view.said findings i passed code.Quiet is.count within)
       (writes_stop failed (stops_front _ (stops_behind contents a b c _ _ (before view is) (here view is.base))))
 
   -- so it does in the report
-  pub report_stop : {T E : Type 0} (a b : Writing W) (r : Result T E) → IsErr r → ForEach (λ view. Stops contents a b (lines file view.said (told_all findings))) → ForEach (λ view. Writes contents a b r (report file view.said (told_all findings)))
+  pub report_stop : {T E : Type 0} (a b : Writing W) (r : Result T E) → IsErr r → ForEach (λ view. Stops contents a b (lines names view.said (told_all findings))) → ForEach (λ view. Writes contents a b r (report names view.said (told_all findings)))
   report_stop a b r failed lines view is = writes_stop failed (stops_front _ (lines view is))
 
   -- and the summary is written behind the lines
   pub report_then : {T E : Type 0} (a b c : Writing W) (r : Result T E) (last : Counts) → last ≡ counts (told_all findings)
-      → ForEach (λ view. Appends (written contents a) (written contents b) (lines file view.said (told_all findings))) → Writes contents b c r (summary last)
-      → ForEach (λ view. Writes contents a c r (report file view.said (told_all findings)))
+      → ForEach (λ view. Appends (written contents a) (written contents b) (lines names view.said (told_all findings))) → Writes contents b c r (summary last)
+      → ForEach (λ view. Writes contents a c r (report names view.said (told_all findings)))
   report_then a b c r last same before w view is = writes_behind contents a b c r _ _ (before view is) (subst (λ n. Writes contents b c r (summary n)) same w)

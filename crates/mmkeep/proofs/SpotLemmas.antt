@@ -2,11 +2,14 @@
 use Rattle.std.proofs.Common.{◌≤◌, ◌≡◌, ℕ, zero, suc, ◌+◌, ◌-◌, Some, None, Option, List, [], ◌∷◌, length, take, drop, slice_get, refl, sym, ap, ◌∙◌, subst, arith}
 use Rattle.std.specs.Prelude.{slice_range, slice_index_or, IfSome}
 use Rattle.std.specs.List.{prefix_len}
+use Rattle.std.specs.Option.{option_map}
+use Rattle.std.proofs.lemmas.Option.{slice_get-map}
 use Rattle.std.proofs.lemmas.List.{length-take-le, length-drop, length-map}
 use Rattle.mm_text.specs.declared.word.Word.{Word}
 use Rattle.mm_text.specs.Language.Reading.{HasWords, LiesIn}
 use Rattle.mm_store.specs.declared.item.Item as store
-use Rattle.mm_store.specs.Language.FilesView.{FilesView, text_of}
+use Rattle.mm_store.specs.Language.Pieces.{text_in, text_under}
+use Rattle.mm_store.specs.Language.FilesView.{FilesView, plain, plain_file, text_of}
 use Rattle.mm_store.specs.Language.FileFacts.{CanBeRead, StandsIn, IsByte, IsLive, piece_offset}
 use Rattle.mm_text.specs.Language.Unit.{Token, tokens_of}
 use Rattle.mm_frame.specs.Language.Item.{Kind, Item}
@@ -51,18 +54,28 @@ module _ (files : FilesView) (item : store.Item) (read : CanBeRead files item) (
       let within = byte_within found letter lies (omega (arith, less, bytes)) in
       omega (arith, within, begins)
 
-  pub word_is_byte : (stands : StandsIn files item) (at : ℕ) → at ≤ item.end → IsByte files item.file item.piece at (text_of stands.file) (piece_offset stands.file item.piece + at)
-  word_is_byte stands at less =
-      let live : IsLive files item.key stands.text = record { number = item.file; file = stands.file; there = stands.there; piece = item.piece; is_piece = stands.is_piece } in
-      record {
-        file = stands.file;
-        there = stands.there;
-        is_text = refl;
-        view = record { key = item.key; text = stands.text };
-        is_piece = stands.is_piece;
-        within = omega (arith, less, item_within, ap length (same stands.text live));
-        is_offset = refl;
-      }
+  -- the file of an item, without keys
+  pub file_there : (stands : StandsIn files item) → slice_get (plain files) item.file ≡ Some (plain_file files.pieces stands.file)
+  file_there stands = slice_get-map (plain_file files.pieces) files.keyed item.file ∙ ap (option_map (plain_file files.pieces)) stands.there
+
+  -- the text of its piece
+  piece_there : (stands : StandsIn files item) → slice_get (plain_file files.pieces stands.file).pieces item.piece ≡ Some read.text
+  piece_there stands =
+      slice_get-map (text_under files.pieces) stands.file.keys item.piece
+      ∙ ap (option_map (text_under files.pieces)) stands.is_key
+      ∙ ap Some (ap text_in read.live.held ∙ sym read.live.is_text)
+
+  pub word_is_byte : (stands : StandsIn files item) (at : ℕ) → at ≤ item.end
+      → IsByte files item.file item.piece at (text_of (plain_file files.pieces stands.file)) (piece_offset (plain_file files.pieces stands.file) item.piece + at)
+  word_is_byte stands at less = record {
+    file = plain_file files.pieces stands.file;
+    there = file_there stands;
+    is_text = refl;
+    bytes = read.text;
+    is_piece = piece_there stands;
+    within = omega (arith, less, read.within);
+    is_offset = refl;
+  }
 
 -- ---- the words of a proof among those of its item
 

@@ -3,6 +3,6 @@ pub mod Stream
 pub mod WordPlaces
 pub mod Report
 pub mod Verified
-pub mod FirstErrors
+pub mod VerifyErrors
 pub mod Asking
 pub mod Status

@@ -1,7 +1,7 @@
 //! The order of the faults of statements: small statements behind four lines, and the lines that are told of them.
 
 use crate::stream::Writing;
-use crate::verify::verify_one;
+use crate::tests::verify_text;
 use std::process::Abort;
 use std::test::Fail;
 
@@ -18,7 +18,7 @@ fn tells_one(rt: &(impl AllocGlobal + Abort), start: &[u8], row: &Row) -> Result
     let mut text = Vec::from_slice(rt.alloc(), start)?;
     text.extend_from_slice(behind.as_bytes())?;
     let mut writing = Writing::new(Vec::new(rt.alloc()));
-    let answer = verify_one(rt.alloc(), b"a.mm", text, &mut writing);
+    let answer = verify_text(rt.alloc(), b"a.mm", &text, &mut writing);
     assert_eq!(rt; answer, Ok(lines.is_empty()), "of {behind:?}");
     let written = writing.into_inner();
     assert!(rt; written.len() >= lines.len(), "of {behind:?}");

@@ -1,7 +1,18 @@
 //! What is found of an item.
 
-use mm_frame::{FrameNumber, Place};
+use mm_frame::FrameNumber;
 use mm_proof::ProofNumber;
+
+/// A place in the text of one of the files.
+#[derive(Clone, Copy, Debug, PartialEq, Eq)]
+pub struct At {
+    /// The number of the file, from 0, in the order of adding.
+    pub file: usize,
+    /// The line, from 1.
+    pub line: u64,
+    /// The column, from 1, in bytes.
+    pub column: u64,
+}
 
 /// What is found of an item.
 #[derive(Clone, Copy, Debug)]
@@ -12,15 +23,14 @@ pub enum Finding<'a> {
     Axiom,
     /// A sound `$p` whose proof proves it.
     Proved,
-    /// A sound `$p` whose proof has a step that is not known, the first one at this place in its file, and no fault
-    /// before it.
-    Incomplete(Place),
-    /// A sound `$p` whose proof has this fault, at this place in its file.
-    Wrong(ProofNumber, Place),
-    /// A fault of the item, at a word with this place in its file.
+    /// A sound `$p` whose proof has a step that is not known, the first one at this place, and no fault before it.
+    Incomplete(At),
+    /// A sound `$p` whose proof has this fault, at this place.
+    Wrong(ProofNumber, At),
+    /// A fault of the item, at a word with this place.
     Fault {
         number: FrameNumber,
-        place: Place,
+        at: At,
         word: &'a [u8],
     },
 }

@@ -1,4 +1,4 @@
-//! What is found of each item of a file.
+//! What is found of each item of the files.
 
 ghost use Rattle.std.specs.Prelude.{◌≡◌, ◌+◌, ◌<◌, ◌^◌, true, IfOk, OnOk};
 ghost use Rattle.mm_store.specs.Language.FileFacts.{CanBeRead, StandsIn};
@@ -22,7 +22,7 @@ fn at_fault<'a>(files: &'a Files, item: &Item, fault: FrameFault) -> Finding<'a>
     let seen = seen_at(files, item, fault.word, 0);
     Finding::Fault {
         number: fault.number,
-        place: seen.place,
+        at: seen.at,
         word: seen.word,
     }
 }
@@ -47,12 +47,12 @@ fn judged<'a>(
     match check(alloc, names, files, base, number, work)?.verdict() {
         Verdict::Proved => Ok(Finding::Proved),
         Verdict::Incomplete(spot) => {
-            let place = place_of_spot(alloc, files, base, number, spot)?;
-            Ok(Finding::Incomplete(place))
+            let at = place_of_spot(alloc, files, base, number, spot)?;
+            Ok(Finding::Incomplete(at))
         }
         Verdict::Wrong(fault, spot) => {
-            let place = place_of_spot(alloc, files, base, number, spot)?;
-            Ok(Finding::Wrong(fault, place))
+            let at = place_of_spot(alloc, files, base, number, spot)?;
+            Ok(Finding::Wrong(fault, at))
         }
     }
 }

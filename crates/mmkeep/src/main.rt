@@ -17,17 +17,19 @@ mod verify;
 
 pub use arguments::Command;
 pub use asking::command;
-pub use fault::FirstError;
+pub use fault::VerifyError;
 pub use laws::one_answer;
 pub use outcome::{Outcome, status};
 use std::process::ExitCode;
 pub use stream::Writing;
-pub use verify::verify_one;
+pub use verify::verify_files;
 
 #[cfg(test)]
 mod command_tests;
 #[cfg(test)]
 mod fault_tests;
+#[cfg(test)]
+mod files_tests;
 #[cfg(test)]
 mod proof_tests;
 #[cfg(test)]

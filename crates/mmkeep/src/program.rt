@@ -1,19 +1,19 @@
-//! The program: the words of the command line, the file, the report and the standard error lines.
+//! The program: the words of the command line, the files, the report and the standard error lines.
 
-ghost use Rattle.std.specs.Prelude.{ℕ, List};
-ghost use Rattle.mmkeep.specs.Language.FirstErrors.{IsAnswerOf, IsError};
+ghost use Rattle.mm_store.specs.Language.Answers.{IsAddErrorIn};
 
 use crate::arguments::Command;
 use crate::asking::command;
-use crate::fault::FirstError;
+use crate::fault::VerifyError;
 use crate::outcome::Outcome;
 use crate::stream::Writing;
-use crate::verify::verify_one;
-use mm_frame::{Place, StoreError};
+use crate::verify::verify_files;
+use mm_frame::{Files as Database, Place, StoreError, place};
 use std::alloc::{AllocError, Global};
-use std::io::{BufWriter, ErrorKind, Write};
+use std::fs::File;
+use std::io::{BufWriter, ErrorKind, Read, Write};
 use std::rt::{Env, Files};
-use std::{env, fs, io};
+use std::{env, io, str};
 
 /// Does what the command line asks for.
 pub fn run(rt: &(impl Env + Files + Print + Eprint + AllocGlobal)) -> Outcome {
@@ -51,59 +51,119 @@ fn chosen(alloc: Global, arguments: &[String]) -> Result<Option<Command<'_>>, Al
     }
 }
 
-/// Verifies a file, and writes its report to standard output.
-fn verify(rt: &(impl Files + Print + Eprint + AllocGlobal), file: &str) -> Outcome {
-    match fs::read(rt, file) {
-        Ok(text) => verify_text(rt, file, text),
-        Err(error) if error.kind() == ErrorKind::OutOfMemory => lack_memory(rt),
-        Err(_) => {
-            let _ = eprintln!(rt; "mmkeep: {file}: cannot be read");
+/// Loads the files of a database, verifies it, and writes its report to standard output.
+fn verify(rt: &(impl Files + Print + Eprint + AllocGlobal), top: &str) -> Outcome {
+    match load(rt, top) {
+        Ok(files) => verify_loaded(rt, &files, top),
+        Err(outcome) => outcome,
+    }
+}
+
+/// The top file and the files that it includes: each name is opened at its first reference, in the order of the
+/// expansion, once. A name that cannot be opened stays missing. What keeps a file from being loaded is told.
+fn load(rt: &(impl Files + Eprint + AllocGlobal), top: &str) -> Result<Database, Outcome> {
+    let mut files = Database::new(rt.alloc());
+    let Ok(file) = File::open(rt, top) else {
+        return Err(unreadable(rt, top));
+    };
+    add_file(rt, &mut files, top, file)?;
+    let Ok(mut walk) = files.walk(rt.alloc(), top.as_bytes()) else {
+        return Err(lack_memory(rt));
+    };
+    // The texts have fewer inclusions than bytes.
+    for _ in 0..u32::MAX {
+        match walk.next_missing(rt.alloc(), &files) {
+            Ok(Some(name)) => add_included(rt, &mut files, &name)?,
+            Ok(None) => return Ok(files),
+            Err(_) => return Err(lack_memory(rt)),
+        }
+    }
+    Ok(files)
+}
+
+/// Adds the file of this name, if it can be opened.
+fn add_included(
+    rt: &(impl Files + Eprint + AllocGlobal),
+    files: &mut Database,
+    name: &[u8],
+) -> Result<(), Outcome> {
+    // The words of a text are ASCII.
+    let Ok(path) = str::from_utf8(name) else {
+        return Ok(());
+    };
+    match File::open(rt, path) {
+        Ok(file) => add_file(rt, files, path, file),
+        Err(error) if error.kind() == ErrorKind::OutOfMemory => Err(lack_memory(rt)),
+        Err(_) => Ok(()),
+    }
+}
+
+/// Reads a file and adds it under its path.
+fn add_file(
+    rt: &(impl Files + Eprint + AllocGlobal),
+    files: &mut Database,
+    path: &str,
+    mut file: impl Read + Drop,
+) -> Result<(), Outcome> {
+    let mut text = Vec::new(rt.alloc());
+    match file.read_to_end(&mut text) {
+        Ok(_) => add_text(rt, files, path, &text),
+        Err(error) if error.kind() == ErrorKind::OutOfMemory => Err(lack_memory(rt)),
+        Err(_) => Err(unreadable(rt, path)),
+    }
+}
+
+/// Adds a text under a path.
+fn add_text(
+    rt: &(impl Eprint + AllocGlobal),
+    files: &mut Database,
+    path: &str,
+    text: &[u8],
+) -> Result<(), Outcome> {
+    match files.add(rt.alloc(), path.as_bytes(), text) {
+        Ok(()) => Ok(()),
+        Err(error) => Err(not_added(rt, path, text, error)),
+    }
+}
+
+/// Tells why a text was not added; no path is loaded twice.
+fn not_added(rt: &impl Eprint, path: &str, text: &[u8], error: StoreError) -> Outcome
+    requires { IsAddErrorIn text.now error }
+{
+    match error {
+        StoreError::Text(fault) => {
+            let Place { line, column } = place(text, fault.at);
+            let number = fault.number;
+            let _ = eprintln!(rt; "mmkeep: {path}:{line}:{column} {number:?}");
+            Outcome::Input
+        }
+        StoreError::Memory => lack_memory(rt),
+        _ => {
+            let _ = eprintln!(rt; "mmkeep: S05");
             Outcome::Input
         }
     }
 }
 
-fn verify_text(rt: &(impl Print + Eprint + AllocGlobal), file: &str, text: Vec<u8>) -> Outcome {
+fn unreadable(rt: &impl Eprint, path: &str) -> Outcome {
+    let _ = eprintln!(rt; "mmkeep: {path}: cannot be read");
+    Outcome::Input
+}
+
+/// Verifies files, and writes their report to standard output.
+fn verify_loaded(rt: &(impl Print + Eprint + AllocGlobal), files: &Database, top: &str) -> Outcome {
     let Ok(out) = BufWriter::new(rt.alloc(), io::writer(rt)) else {
         return lack_memory(rt);
     };
     let mut writing = Writing::new(out);
-    let verified = verify_one(rt.alloc(), file.as_bytes(), text, &mut writing);
+    let verified = verify_files(rt.alloc(), files, top.as_bytes(), &mut writing);
     let flushed = writing.into_inner().flush();
     match verified {
         Ok(_) if flushed.is_err() => fail_to_write(rt),
         Ok(true) => Outcome::Clean,
         Ok(false) => Outcome::Findings,
-        Err(error) => told(rt, file, error),
-    }
-}
-
-/// Tells why a file was not verified.
-fn told(rt: &impl Eprint, file: &str, error: FirstError) -> Outcome
-    requires { IsError error }
-{
-    match error {
-        FirstError::Text(fault, Place { line, column }) => {
-            let number = fault.number;
-            let _ = eprintln!(rt; "mmkeep: {file}:{line}:{column} {number:?}");
-            Outcome::Input
-        }
-        FirstError::Store(answer) => told_of_files(rt, answer),
-        FirstError::Write => fail_to_write(rt),
-    }
-}
-
-/// Tells what the files answered to a text without a fault.
-fn told_of_files(rt: &impl Eprint, answer: StoreError) -> Outcome
-    requires { (text : List ℕ) × IsAnswerOf text answer }
-{
-    match answer {
-        StoreError::TooMany => {
-            let _ = eprintln!(rt; "mmkeep: S05");
-            Outcome::Input
-        }
-        StoreError::Memory => lack_memory(rt),
-        _ => unreachable!(),
+        Err(VerifyError::Store(_)) => lack_memory(rt),
+        Err(VerifyError::Write) => fail_to_write(rt),
     }
 }
 

@@ -1,17 +1,19 @@
-//! The report of a file.
+//! The report of files.
 
-ghost use Rattle.std.specs.Prelude.{◌≡◌, ◌+◌, ◌<◌, ◌++◌, ◌^◌, codes, decimal};
+ghost use Rattle.std.specs.Prelude.{◌≡◌, ◌+◌, ◌<◌, ◌++◌, ◌^◌, codes, decimal, length};
+ghost use Rattle.mm_store.specs.Language.FilesView.{plain};
 ghost use Rattle.mm_frame.specs.Language.Base.{BaseView, said_at};
 ghost use Rattle.mm_frame.specs.Code.KeptBase.{IsBase};
-ghost use Rattle.mmkeep.specs.Code.Findings.{AreOfEach, counted, told, told_all};
-ghost use Rattle.mmkeep.specs.Language.Report.{code_of, proof_code, place_in, fault_line, incomplete_line, wrong_line, item_line, lines, summary, report};
+ghost use Rattle.mmkeep.specs.Code.Findings.{AreInFiles, AreOfEach, IsInFiles, counted, told, told_all};
+ghost use Rattle.mmkeep.specs.Language.Report.{code_of, proof_code, place_in, fault_line, incomplete_line};
+ghost use Rattle.mmkeep.specs.Language.Report.{wrong_line, item_line, lines, names_of, summary, report};
 ghost use Rattle.mmkeep.specs.Language.Stream.{Writes};
 
-use crate::finding::Finding;
+use crate::finding::{At, Finding};
 use crate::stream::{WriteFailed, Writing};
 use crate::tally::Tally;
 use itoa::Buffer;
-use mm_frame::{Base, FrameNumber, Place};
+use mm_frame::{Base, Files, FrameNumber};
 use mm_proof::ProofNumber;
 use std::io::Write;
 
@@ -88,27 +90,29 @@ fn write_part<W: Write>(word: &[u8], behind: &[u8], to: &mut Writing<W>) -> Resu
     to.write_all(behind)
 }
 
-/// Writes a place: the file, the line and the column.
-fn write_place<W: Write>(file: &[u8], place: Place, to: &mut Writing<W>) -> Result<(), WriteFailed>
-    ensures { Writes W.contents to.old to.new result (place_in file.now place) }
+/// Writes a place: the name of the file, the line and the column.
+fn write_place<W: Write>(files: &Files, at: At, to: &mut Writing<W>) -> Result<(), WriteFailed>
+    requires { at.file < length files.now.keyed }
+    ensures { Writes W.contents to.old to.new result (place_in (names_of (plain files.now)) at) }
 {
-    write_part(file, b":", to)?;
-    write_number(place.line, to)?;
-    write_count(b":", place.column, to)
+    write_part(files.file_name(at.file), b":", to)?;
+    write_number(at.line, to)?;
+    write_count(b":", at.column, to)
 }
 
 /// Writes the line of a fault of a statement.
 fn write_fault<W: Write>(
-    file: &[u8],
+    files: &Files,
     number: FrameNumber,
-    place: Place,
+    at: At,
     word: &[u8],
     to: &mut Writing<W>,
 ) -> Result<(), WriteFailed>
-    ensures { Writes W.contents to.old to.new result (fault_line file.now number (record { place = place; word = word.now })) }
+    requires { at.file < length files.now.keyed }
+    ensures { Writes W.contents to.old to.new result (fault_line (names_of (plain files.now)) number (record { at = at; word = word.now })) }
 {
     to.write_all(b"fault ")?;
-    write_place(file, place, to)?;
+    write_place(files, at, to)?;
     write_part(b" ", code_of_number(number), to)?;
     write_part(b" ", word, to)?;
     to.write_all(b"\n")
@@ -116,32 +120,34 @@ fn write_fault<W: Write>(
 
 /// Writes the line of a theorem whose proof is incomplete.
 fn write_incomplete<W: Write>(
-    file: &[u8],
+    files: &Files,
     label: &[u8],
-    place: Place,
+    at: At,
     to: &mut Writing<W>,
 ) -> Result<(), WriteFailed>
-    ensures { Writes W.contents to.old to.new result (incomplete_line file.now label.now place) }
+    requires { at.file < length files.now.keyed }
+    ensures { Writes W.contents to.old to.new result (incomplete_line (names_of (plain files.now)) label.now at) }
 {
     write_part(b"incomplete ", label, to)?;
     to.write_all(b" ")?;
-    write_place(file, place, to)?;
+    write_place(files, at, to)?;
     to.write_all(b"\n")
 }
 
 /// Writes the line of a theorem whose proof is wrong.
 fn write_wrong<W: Write>(
-    file: &[u8],
+    files: &Files,
     label: &[u8],
     number: ProofNumber,
-    place: Place,
+    at: At,
     to: &mut Writing<W>,
 ) -> Result<(), WriteFailed>
-    ensures { Writes W.contents to.old to.new result (wrong_line file.now label.now number place) }
+    requires { at.file < length files.now.keyed }
+    ensures { Writes W.contents to.old to.new result (wrong_line (names_of (plain files.now)) label.now number at) }
 {
     write_part(b"wrong ", label, to)?;
     to.write_all(b" ")?;
-    write_place(file, place, to)?;
+    write_place(files, at, to)?;
     write_part(b" ", code_of_proof(number), to)?;
     to.write_all(b"\n")
 }
@@ -166,55 +172,55 @@ fn write_summary<W: Write>(tally: &Tally, to: &mut Writing<W>) -> Result<(), Wri
 
 /// Writes the line of an item, if it has one.
 fn write_line<W: Write>(
-    file: &[u8],
+    files: &Files,
     base: &Base,
     number: usize,
     finding: &Finding,
     to: &mut Writing<W>,
 ) -> Result<(), WriteFailed>
-    ensures { (view : BaseView) → IsBase view base.now → Writes W.contents to.old to.new result (item_line file.now (said_at view number) (told finding.now)) }
+    requires { IsInFiles (length files.now.keyed) (told finding.now) }
+    ensures { (view : BaseView) → IsBase view base.now
+        → Writes W.contents to.old to.new result (item_line (names_of (plain files.now)) (said_at view number) (told finding.now)) }
 {
     let label = base.label(number).unwrap_or(&[]);
     match *finding {
-        Finding::Incomplete(place) => write_incomplete(file, label, place, to),
-        Finding::Wrong(number, place) => write_wrong(file, label, number, place, to),
-        Finding::Fault {
-            number,
-            place,
-            word,
-        } => write_fault(file, number, place, word, to),
+        Finding::Incomplete(at) => write_incomplete(files, label, at, to),
+        Finding::Wrong(number, at) => write_wrong(files, label, number, at, to),
+        Finding::Fault { number, at, word } => write_fault(files, number, at, word, to),
         _ => Ok(()),
     }
 }
 
 /// Writes the lines of the items, in order.
 fn write_lines<W: Write>(
-    file: &[u8],
+    files: &Files,
     base: &Base,
     findings: &[Finding],
     to: &mut Writing<W>,
 ) -> Result<(), WriteFailed>
+    requires { AreInFiles files.now findings.now }
     ensures { (view : BaseView) → AreOfEach findings.now base.now view
-        → Writes W.contents to.old to.new result (lines file.now view.said (told_all findings.now)) }
+        → Writes W.contents to.old to.new result (lines (names_of (plain files.now)) view.said (told_all findings.now)) }
 {
     for number in 0..findings.len() {
-        write_line(file, base, number, &findings[number], to)?;
+        write_line(files, base, number, &findings[number], to)?;
     }
     Ok(())
 }
 
-/// Writes the report: `file` is the name of the one file.
+/// Writes the report.
 ///
 /// After a failed write a part of the report may be out, which is its beginning.
 pub fn write_report<W: Write>(
-    file: &[u8],
+    files: &Files,
     base: &Base,
     findings: &[Finding],
     to: &mut Writing<W>,
 ) -> Result<(), WriteFailed>
+    requires { AreInFiles files.now findings.now }
     ensures { (view : BaseView) → AreOfEach findings.now base.now view
-        → Writes W.contents to.old to.new result (report file.now view.said (told_all findings.now)) }
+        → Writes W.contents to.old to.new result (report (names_of (plain files.now)) view.said (told_all findings.now)) }
 {
-    write_lines(file, base, findings, to)?;
+    write_lines(files, base, findings, to)?;
     write_summary(&Tally::of(findings), to)
 }

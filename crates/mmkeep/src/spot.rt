@@ -7,6 +7,7 @@ ghost use Rattle.mmkeep.specs.Language.WordPlaces as places;
 ghost use Rattle.mmkeep.specs.Language.WordPlaces.{IsPlaceOfSpot};
 ghost use Rattle.mmkeep.specs.Code.OfFiles.{IsOf, HasLetter, HasSpotOf, IsSeen};
 
+use crate::finding::At;
 use mm_frame::{Base, Files, Item, Place, Statement, Word, nth_word};
 use mm_proof::Spot;
 use std::alloc::{AllocError, Global};
@@ -14,7 +15,7 @@ use std::alloc::{AllocError, Global};
 /// A word, and the place of one of its bytes.
 #[derive(Clone, Copy)]
 pub struct Seen<'a> {
-    pub place: Place,
+    pub at: At,
     pub word: &'a [u8],
 }
 
@@ -42,13 +43,18 @@ fn spelled(text: &[u8], word: Option<Word>) -> &[u8]
 /// A word of an item, with the place of the byte with this number, counted from the word's first.
 pub fn seen_at<'a>(files: &'a Files, item: &Item, word: usize, letter: usize) -> Seen<'a>
     requires { HasLetter files.now item.now word letter }
-    ensures { IsSeen files.now item.now word letter result.place result.word.now }
+    ensures { IsSeen files.now item.now word letter result.at result.word.now }
 {
     let text = &files.piece(item.key)[item.start..item.end];
     let found = nth_word(text, word);
     let at = item.start + (start_of(found) + letter);
+    let Place { line, column } = files.place(item.file, item.piece, at);
     Seen {
-        place: files.place(item.file, item.piece, at),
+        at: At {
+            file: item.file,
+            line,
+            column,
+        },
         word: spelled(text, found),
     }
 }
@@ -60,12 +66,12 @@ pub fn place_of_spot(
     base: &Base,
     number: usize,
     spot: Spot,
-) -> Result<Place, AllocError>
+) -> Result<At, AllocError>
     requires { HasSpotOf files.now base.now number spot }
-    ensures { IfOk result (λ place. (names : List (List ℕ)) (view : BaseView) → IsOf names files.now base.now view
-        → IsPlaceOfSpot files.now view number spot place) }
+    ensures { IfOk result (λ at. (names : List (List ℕ)) (view : BaseView) → IsOf names files.now base.now view
+        → IsPlaceOfSpot files.now view number spot at) }
 {
     let item = base.item(number);
     let word = Statement::read(alloc, files, item)?.proof_place(spot.word);
-    Ok(seen_at(files, item, word, spot.letter).place)
+    Ok(seen_at(files, item, word, spot.letter).at)
 }

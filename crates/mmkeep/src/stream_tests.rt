@@ -1,9 +1,8 @@
 //! What is written by writers that take little, or fail.
 
-use crate::fault::FirstError;
+use crate::fault::VerifyError;
 use crate::stream::Writing;
-use crate::tests::with_line;
-use crate::verify::verify_one;
+use crate::tests::{verify_text, with_line};
 use std::io;
 use std::io::Write;
 use std::test::Fail;
@@ -47,12 +46,11 @@ fn writes_slowly_and_fails(rt: HostRuntime) -> Result<(), Fail> {
             calls,
             taken: Vec::new(rt.alloc()),
         });
-        let given = Vec::from_slice(rt.alloc(), &text)?;
-        let answer = verify_one(rt.alloc(), b"a.mm", given, &mut writing);
+        let answer = verify_text(rt.alloc(), b"a.mm", &text, &mut writing);
         let failed = writing.failed();
         let taken = writing.into_inner().taken;
         if calls < report.len() {
-            assert_eq!(rt; answer, Err(FirstError::Write));
+            assert_eq!(rt; answer, Err(VerifyError::Write));
             assert!(rt; failed);
             assert_eq!(rt; taken.as_slice(), &report[..calls]);
         } else {
@@ -99,15 +97,14 @@ fn calls_no_more_after_a_failure(rt: HostRuntime) -> Result<(), Fail> {
             calls: 0,
             taken: Vec::new(rt.alloc()),
         });
-        let given = Vec::from_slice(rt.alloc(), &text)?;
-        let answer = verify_one(rt.alloc(), b"a.mm", given, &mut writing);
+        let answer = verify_text(rt.alloc(), b"a.mm", &text, &mut writing);
         let broken = writing.into_inner();
         if broken.calls < at {
             assert_eq!(rt; answer, Ok(false));
             assert_eq!(rt; broken.taken.as_slice(), report.as_slice());
             whole = whole.saturating_add(1);
         } else {
-            assert_eq!(rt; answer, Err(FirstError::Write));
+            assert_eq!(rt; answer, Err(VerifyError::Write));
             assert_eq!(rt; broken.calls, at);
             assert!(rt; report.starts_with(&broken.taken) && broken.taken.len() < report.len());
         }

@@ -1,9 +1,11 @@
 //! The reports of small files: blocks, statements and comments, and the errors of texts.
 
-use crate::fault::FirstError;
+use crate::fault::VerifyError;
 use crate::stream::Writing;
-use crate::verify::verify_one;
-use mm_text::{Place, TextNumber};
+use crate::verify::verify_files;
+use mm_frame::{Files, Place, StoreError, TextFault, TextNumber, place};
+use std::alloc::Global;
+use std::io::Write;
 use std::process::Abort;
 use std::test::Fail;
 
@@ -48,6 +50,18 @@ pub fn with_line(rt: &(impl AllocGlobal + Abort), line: &[u8]) -> Result<Vec<u8>
     joined(rt, FIVE, line)
 }
 
+/// Verifies a text as the only file, which has this name.
+pub fn verify_text<W: Write>(
+    alloc: Global,
+    name: &[u8],
+    text: &[u8],
+    writing: &mut Writing<W>,
+) -> Result<bool, VerifyError> {
+    let mut files = Files::new(alloc);
+    files.add(alloc, name, text)?;
+    verify_files(alloc, &files, name, writing)
+}
+
 /// Checks that a text of this name is verified with this report, and whether that is clean.
 fn reports_as(
     rt: &(impl AllocGlobal + Abort),
@@ -57,8 +71,7 @@ fn reports_as(
     report: &[u8],
 ) -> Result<(), Fail> {
     let mut writing = Writing::new(Vec::new(rt.alloc()));
-    let text_given = Vec::from_slice(rt.alloc(), text)?;
-    let answer = verify_one(rt.alloc(), name, text_given, &mut writing);
+    let answer = verify_text(rt.alloc(), name, text, &mut writing);
     assert_eq!(rt; answer, Ok(clean), "of {text:?}");
     assert!(rt; !writing.failed());
     let written = writing.into_inner();
@@ -76,13 +89,18 @@ pub fn reports(
     reports_as(rt, b"a.mm", text, clean, report)
 }
 
-/// Checks that a text is refused with this error, and that nothing was written.
-fn refuses(rt: &(impl AllocGlobal + Abort), text: &[u8], error: FirstError) -> Result<(), Fail> {
-    let mut writing = Writing::new(Vec::new(rt.alloc()));
-    let text_given = Vec::from_slice(rt.alloc(), text)?;
-    let answer = verify_one(rt.alloc(), b"a.mm", text_given, &mut writing);
-    assert_eq!(rt; answer, Err(error), "of {text:?}");
-    assert!(rt; writing.into_inner().is_empty());
+/// Checks that a text is not taken, for this fault at this place.
+fn refuses(
+    rt: &(impl AllocGlobal + Abort),
+    text: &[u8],
+    fault: TextFault,
+    there: Place,
+) -> Result<(), Fail> {
+    let mut files = Files::new(rt.alloc());
+    let answer = files.add(rt.alloc(), b"a.mm", text);
+    assert_eq!(rt; answer, Err(StoreError::Text(fault)), "of {text:?}");
+    assert!(rt; fault.at <= text.len());
+    assert_eq!(rt; place(text, fault.at), there, "of {text:?}");
     Ok(())
 }
 
@@ -269,27 +287,21 @@ fn tells_faults(rt: HostRuntime) -> Result<(), Fail> {
         (b"$c k k $. $}\n", TextNumber::T09, 10),
     ];
     for (text, number, at) in rows {
-        let place = Place {
+        let there = Place {
             line: 1,
             column: (at as u64).saturating_add(1),
         };
-        refuses(
-            &rt,
-            text,
-            FirstError::Text(mm_text::TextFault { number, at }, place),
-        )?;
+        refuses(&rt, text, TextFault { number, at }, there)?;
     }
     // On another line.
     refuses(
         &rt,
         b"$c k $.\n\n  $c l\n",
-        FirstError::Text(
-            mm_text::TextFault {
-                number: TextNumber::T07,
-                at: 11,
-            },
-            Place { line: 3, column: 3 },
-        ),
+        TextFault {
+            number: TextNumber::T07,
+            at: 11,
+        },
+        Place { line: 3, column: 3 },
     )
 }
 

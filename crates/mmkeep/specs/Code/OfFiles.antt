@@ -1,6 +1,5 @@
 -- A base as that of the files that it was built from, and what its items are there.
 use Rattle.std.specs.Prelude.{◌≡◌, ℕ, ◌+◌, ◌<◌, ◌≤◌, true, All, List, length, slice_get, slice_range}
-use Rattle.mm_text.specs.declared.location.Place.{Place}
 use Rattle.mm_store.specs.declared.item.Item as store
 use Rattle.mm_store.specs.Language.FilesView.{FilesView}
 use Rattle.mm_store.specs.Language.FileFacts.{CanBeRead, StandsIn}
@@ -10,6 +9,7 @@ use Rattle.mm_proof.specs.Code.ReadIn.{IsReadIn}
 use Rattle.mm_proof.specs.Language.ItemLaws.{IsSpotIn}
 use Rattle.mm_proof.specs.Language.Work.{Recorded}
 use Rattle.mm_proof.specs.declared.Spot.{Spot}
+use Rattle.mmkeep.specs.declared.finding.At.{At}
 use Rattle.mmkeep.specs.Language.WordPlaces.{spelled, HasPlace}
 
 -- the code's base answers this by these names, what it answers is what its items say in these files, and the items stand in the files
@@ -41,8 +41,8 @@ pub record HasLetter (files : FilesView) (item : store.Item) (word letter : ℕ)
   pub within : letter ≤ length (spelled (slice_range read.text item.start item.end) (slice_get read.words word))
 
 -- the place of a byte of a word of an item, and how the word is spelled
-pub record IsSeen (files : FilesView) (item : store.Item) (word letter : ℕ) (place : Place) (bytes : List ℕ) : Type 0 where
-  pub has_place : HasPlace files item word letter place
+pub record IsSeen (files : FilesView) (item : store.Item) (word letter : ℕ) (at : At) (bytes : List ℕ) : Type 0 where
+  pub has_place : HasPlace files item word letter at
   pub is_word : bytes ≡ spelled (slice_range has_place.is_byte.read.text item.start item.end) (slice_get has_place.is_byte.read.words word)
 
 -- at most one run more is recorded, and at most as many steps more as a run has

@@ -1,9 +1,8 @@
--- The report of a file: a line for each fault and for each theorem whose proof is wrong or incomplete, and a line of counts.
+-- The report of files: a line for each fault and for each theorem whose proof is wrong or incomplete, and a line of counts.
 use Rattle.std.specs.Prelude.{◌≡◌, ◌+◌, ℕ, true, false, Bool, Some, unwrap_or}
-use Rattle.std.specs.Prelude.{List, [], ◌∷◌, ◌++◌, length, slice_get, slice_range, count_by, codes, decimal}
-use Rattle.mm_text.specs.declared.location.Place.{Place}
+use Rattle.std.specs.Prelude.{List, [], ◌∷◌, ◌++◌, length, map, slice_get, slice_index_or, slice_range, count_by, codes, decimal}
 use Rattle.mm_store.specs.declared.item.Item as store
-use Rattle.mm_store.specs.Language.FilesView.{FilesView}
+use Rattle.mm_store.specs.Language.FilesView.{FilesView, File}
 use Rattle.mm_frame.specs.Language.Base.{BaseView, fault_at, is_sound_at, is_proof_at, said_at}
 use Rattle.mm_frame.specs.Language.Item.{Axiom, Item, is_assertion}
 use Rattle.mm_frame.specs.declared.FrameNumber.{FrameNumber}
@@ -14,11 +13,12 @@ use Rattle.mm_proof.specs.declared.Verdict.{Verdict}
 use Rattle.mm_proof.specs.declared.Verdict.TheVariants as verdicts
 use Rattle.mm_proof.specs.declared.ProofNumber.{ProofNumber}
 use Rattle.mm_proof.specs.declared.ProofNumber.TheVariants.{P01, P02, P03, P04, P05, P06, P07, P08, P09, P10, P11, P12, P13, P14, P15}
+use Rattle.mmkeep.specs.declared.finding.At.{At}
 use Rattle.mmkeep.specs.Language.WordPlaces.{spelled, HasPlace, IsPlaceOfSpot}
 
 -- A word as a line shows it: its place, and how it is spelled.
 pub record Shown : Type 0 where
-  pub place : Place
+  pub at : At
   pub word : List ℕ
 
 -- What is told of an item.
@@ -26,13 +26,13 @@ pub data Told : Type 0 where
   Quiet : Told
   AnAxiom : Told
   Proved : Told
-  Incomplete : Place → Told
-  Wrong : ProofNumber → Place → Told
+  Incomplete : At → Told
+  Wrong : ProofNumber → At → Told
   Fault : FrameNumber → Shown → Told
 
 -- a word of an item is shown like this
 pub record IsShown (files : FilesView) (item : store.Item) (word : ℕ) (shown : Shown) : Type 0 where
-  pub has_place : HasPlace files item word 0 shown.place
+  pub has_place : HasPlace files item word 0 shown.at
   pub is_word : shown.word ≡ spelled (slice_range has_place.is_byte.read.text item.start item.end) (slice_get has_place.is_byte.read.words word)
 
 -- it tells the fault with this number, at this word of an item
@@ -63,18 +63,18 @@ pub record HasVerdict (view : BaseView) (n : ℕ) (verdict : Verdict) : Type 0 w
   pub is_verdict : IsVerdictAt view n verdict
 
 -- it is one whose proof has this verdict at a spot, and the spot has this place
-pub record HasVerdictShown (files : FilesView) (view : BaseView) (n : ℕ) (verdict : Spot → Verdict) (place : Place) : Type 0 where
+pub record HasVerdictShown (files : FilesView) (view : BaseView) (n : ℕ) (verdict : Spot → Verdict) (at : At) : Type 0 where
   pub spot : Spot
   pub has_verdict : HasVerdict view n (verdict spot)
-  pub is_place : IsPlaceOfSpot files view n spot place
+  pub is_place : IsPlaceOfSpot files view n spot at
 
 -- what is told rightly of the item with this number
 abbrev pub IsRightlyTold : FilesView → BaseView → ℕ → Told → Type 0
 IsRightlyTold files view n Quiet = IsQuiet view n
 IsRightlyTold files view n AnAxiom = IsAxiom view n
 IsRightlyTold files view n Proved = HasVerdict view n verdicts.Proved
-IsRightlyTold files view n (Incomplete place) = HasVerdictShown files view n verdicts.Incomplete place
-IsRightlyTold files view n (Wrong number place) = HasVerdictShown files view n (verdicts.Wrong number) place
+IsRightlyTold files view n (Incomplete at) = HasVerdictShown files view n verdicts.Incomplete at
+IsRightlyTold files view n (Wrong number at) = HasVerdictShown files view n (verdicts.Wrong number) at
 IsRightlyTold files view n (Fault number shown) = IsFaultOf files view n number shown
 
 -- what is told rightly of each item
@@ -91,11 +91,11 @@ is_proved Proved = true
 is_proved _ = false
 
 abbrev pub is_incomplete : Told → Bool
-is_incomplete (Incomplete place) = true
+is_incomplete (Incomplete at) = true
 is_incomplete _ = false
 
 abbrev pub is_wrong : Told → Bool
-is_wrong (Wrong number place) = true
+is_wrong (Wrong number at) = true
 is_wrong _ = false
 
 abbrev pub is_fault : Told → Bool
@@ -137,34 +137,38 @@ proof_code P13 = codes "P13"
 proof_code P14 = codes "P14"
 proof_code P15 = codes "P15"
 
--- a place as it is written: the file, the line and the column
-abbrev pub place_in : List ℕ → Place → List ℕ
-place_in file place = file ++ codes ":" ++ decimal place.line ++ codes ":" ++ decimal place.column
+-- the names of the files
+abbrev pub names_of : List File → List (List ℕ)
+names_of files = map (λ file. file.name) files
+
+-- a place as it is written: the name of the file, the line and the column
+abbrev pub place_in : List (List ℕ) → At → List ℕ
+place_in names at = slice_index_or names at.file [] ++ codes ":" ++ decimal at.line ++ codes ":" ++ decimal at.column
 
 -- the line of a fault: the place, the number and the word
-abbrev pub fault_line : List ℕ → FrameNumber → Shown → List ℕ
-fault_line file number shown = codes "fault " ++ place_in file shown.place ++ codes " " ++ code_of number ++ codes " " ++ shown.word ++ codes "\n"
+abbrev pub fault_line : List (List ℕ) → FrameNumber → Shown → List ℕ
+fault_line names number shown = codes "fault " ++ place_in names shown.at ++ codes " " ++ code_of number ++ codes " " ++ shown.word ++ codes "\n"
 
 -- the line of a theorem whose proof has a step that is not known: the label, and the place of the first such step
-abbrev pub incomplete_line : List ℕ → List ℕ → Place → List ℕ
-incomplete_line file label place = codes "incomplete " ++ label ++ codes " " ++ place_in file place ++ codes "\n"
+abbrev pub incomplete_line : List (List ℕ) → List ℕ → At → List ℕ
+incomplete_line names label at = codes "incomplete " ++ label ++ codes " " ++ place_in names at ++ codes "\n"
 
 -- the line of a theorem whose proof is wrong: the label, and the place and the number of the fault
-abbrev pub wrong_line : List ℕ → List ℕ → ProofNumber → Place → List ℕ
-wrong_line file label number place = codes "wrong " ++ label ++ codes " " ++ place_in file place ++ codes " " ++ proof_code number ++ codes "\n"
+abbrev pub wrong_line : List (List ℕ) → List ℕ → ProofNumber → At → List ℕ
+wrong_line names label number at = codes "wrong " ++ label ++ codes " " ++ place_in names at ++ codes " " ++ proof_code number ++ codes "\n"
 
 -- the line of an item, if it has one
-abbrev pub item_line : List ℕ → Item → Told → List ℕ
-item_line file item (Incomplete place) = incomplete_line file (unwrap_or item.label []) place
-item_line file item (Wrong number place) = wrong_line file (unwrap_or item.label []) number place
-item_line file item (Fault number shown) = fault_line file number shown
-item_line file item _ = []
+abbrev pub item_line : List (List ℕ) → Item → Told → List ℕ
+item_line names item (Incomplete at) = incomplete_line names (unwrap_or item.label []) at
+item_line names item (Wrong number at) = wrong_line names (unwrap_or item.label []) number at
+item_line names item (Fault number shown) = fault_line names number shown
+item_line names item _ = []
 
 -- the lines of the items, in order
-abbrev pub lines : List ℕ → List Item → List Told → List ℕ
-lines file [] all = []
-lines file (item ∷ items) [] = []
-lines file (item ∷ items) (one ∷ all) = item_line file item one ++ lines file items all
+abbrev pub lines : List (List ℕ) → List Item → List Told → List ℕ
+lines names [] all = []
+lines names (item ∷ items) [] = []
+lines names (item ∷ items) (one ∷ all) = item_line names item one ++ lines names items all
 
 -- How many there are: sound `$a`, sound `$p` that are proved, incomplete and wrong, and faults.
 pub record Counts : Type 0 where
@@ -191,5 +195,6 @@ summary counts =
     ++ codes " proved " ++ decimal counts.proved ++ codes " incomplete " ++ decimal counts.incomplete ++ codes " wrong " ++ decimal counts.wrong
     ++ codes " faults " ++ decimal counts.faults ++ codes "\n"
 
-abbrev pub report : List ℕ → List Item → List Told → List ℕ
-report file items all = lines file items all ++ summary (counts all)
+-- the report, with these names of the files
+abbrev pub report : List (List ℕ) → List Item → List Told → List ℕ
+report names items all = lines names items all ++ summary (counts all)

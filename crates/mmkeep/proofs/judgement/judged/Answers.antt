@@ -22,7 +22,7 @@ returns-in-Incomplete-clause-told c view is proof = record {
     proof = proof;
     is_verdict = subst (IsVerdictAt view c.args.number) (sym c.in-Incomplete.ensures) (c.in_ok-check.ensures.verdict view is.read_in proof);
   };
-  is_place = c.in_ok-place-in-Incomplete.ensures c.args.names.now view is;
+  is_place = c.in_ok-at-in-Incomplete.ensures c.args.names.now view is;
 }
 
 pub place_of_spot-requires-in-Wrong : goal.place_of_spot-requires-in-Wrong
@@ -38,5 +38,5 @@ returns-clause-told c view is proof = record {
     proof = proof;
     is_verdict = subst (IsVerdictAt view c.args.number) (sym c.in-Wrong.ensures) (c.in_ok-check.ensures.verdict view is.read_in proof);
   };
-  is_place = c.in_ok-place-in-Wrong.ensures c.args.names.now view is;
+  is_place = c.in_ok-at-in-Wrong.ensures c.args.names.now view is;
 }

@@ -39,5 +39,5 @@ returns c names view is =
     record {
       item = item;
       there = there;
-      has_place = subst (λ w. HasPlace files item w c.args.spot.letter c.seen_at.result.place) word c.seen_at.ensures.has_place;
+      has_place = subst (λ w. HasPlace files item w c.args.spot.letter c.seen_at.result.at) word c.seen_at.ensures.has_place;
     }
