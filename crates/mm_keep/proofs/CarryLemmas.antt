@@ -1,0 +1,92 @@
+-- What is carried so far.
+use Rattle.std.proofs.Common.{◌≡◌, ◌≢◌, ℕ, ◌<◌, ◌≤◌, ◌+◌, Option, Some, None, List, length, get_or, set, refl, sym, ◌∙◌, ap, subst, arith, length-set, get_or-set_other, get_or-set_same}
+use Rattle.std.specs.Prelude.{slice_get}
+use native.Mathlib.Decide.{dec_lt}
+use Rattle.std.proofs.lemmas.Option.{get_or_from_slice_get, slice_get-get_or, slice_get_within}
+use Rattle.mm_frame.specs.Language.Base.{BaseView}
+use Rattle.mm_proof.specs.Language.DecodingLaws.{LabelsAreOwn}
+use Rattle.mm_proof.specs.Language.ViewLaws.{SameViewSameVerdict, SameViewSameCites}
+use Rattle.mm_proof.specs.Language.Work.{Judgement}
+use Rattle.mm_keep.specs.Code.KeptSession.{IsCheckedAt, AreChecked}
+use Rattle.mm_keep.specs.Code.Planned.{IsRunBy, CanCarry}
+use Rattle.mm_keep.specs.Language.Runs.{HasSameView}
+use Rattle.mm_keep.proofs.PlanLemmas.{checked_same, kept_by_one}
+
+-- the first items of the new list are checked, the others are as the runs gave them, and what they keep is where it was
+pub record AreCarried (base copy : BaseView) (plan : List (Option ℕ)) (count : ℕ) (old new : List (Option Judgement)) : Type 0 where
+  pub done : (k : ℕ) (one : Option Judgement) → k < count → slice_get new k ≡ Some one → IsCheckedAt copy k one
+  pub rest : (k : ℕ) (from : Option ℕ) (one : Option Judgement) → count ≤ k → slice_get plan k ≡ Some from → slice_get new k ≡ Some one → IsRunBy copy from k one
+  pub left : (k i : ℕ) (one : Option Judgement) → count ≤ k → slice_get plan k ≡ Some (Some i) → slice_get old i ≡ Some one → IsCheckedAt base i one
+
+pub carried_none : (base copy : BaseView) (old : List (Option Judgement)) (plan : List (Option ℕ)) (new : List (Option Judgement)) → CanCarry base copy old plan new → AreCarried base copy plan 0 old new
+carried_none base copy old plan new can = record {
+  done = λ k one l e. absurd (omega arith);
+  rest = λ k from one l e f. can.ran_is.each k from one e f;
+  left = λ k i one l e f. can.was.each i one f;
+}
+
+-- all are checked
+pub carried_all : (base copy : BaseView) (old : List (Option Judgement)) (plan : List (Option ℕ)) (new : List (Option Judgement)) → CanCarry base copy old plan new → (spent result : List (Option Judgement)) → AreCarried base copy plan (length plan) spent result → length result ≡ length new
+    → AreChecked copy result
+carried_all base copy old plan new can spent result are long = record {
+  count = long ∙ can.count ∙ can.planned.count;
+  each = λ i one e. are.done i one (let w = slice_get_within result i one e in omega (arith, can.count)) e;
+}
+
+-- an item that keeps nothing
+pub carried_past : (base copy : BaseView) (plan : List (Option ℕ)) (j : ℕ) (old new : List (Option Judgement)) → AreCarried base copy plan j old new → slice_get plan j ≡ Some None → AreCarried base copy plan (j + 1) old new
+carried_past base copy plan j old new are there = record {
+  done = λ k one l e.
+      elim (dec_lt k j) [
+        | yes m ↦ are.done k one m e
+        | no n ↦ (let same : j ≡ k = omega arith in subst (λ m. IsCheckedAt copy m one) same (are.rest j None one (omega arith) there (ap (slice_get new) same ∙ e)))
+      ];
+  rest = λ k from one l e f. are.rest k from one (omega arith) e f;
+  left = λ k i one l e f. are.left k i one (omega arith) e f;
+}
+
+get_set_other : {X : Type 0} (xs : List X) (i k : ℕ) (x y : X) → i ≢ k → slice_get (set xs i y) k ≡ Some x → slice_get xs k ≡ Some x
+get_set_other xs i k x y ne e =
+    let w = slice_get_within (set xs i y) k x e in
+    let n = length-set xs i y in
+    let away : k ≢ i = λ f. ne (sym f) in
+    slice_get-get_or xs k x (omega arith) ∙ ap Some (sym (get_or-set_other xs i k y x away) ∙ get_or_from_slice_get (set xs i y) k x x e)
+
+-- an item that keeps what was checked before
+pub carried_kept : LabelsAreOwn → SameViewSameVerdict → SameViewSameCites → (base copy : BaseView) (checked : List (Option Judgement)) (plan : List (Option ℕ)) (ran : List (Option Judgement)) → CanCarry base copy checked plan ran
+    → (j i : ℕ) (old new : List (Option Judgement)) → AreCarried base copy plan j old new → slice_get plan j ≡ Some (Some i) → i < length old → j < length new
+    → AreCarried base copy plan (j + 1) (set old i (get_or new j None)) (set new j (get_or old i None))
+carried_kept own verdicts cites base copy checked plan ran can j i old new are there l m =
+    let kept : HasSameView base copy i j = can.planned.each j (Some i) there in
+    record {
+      done = λ k one n e.
+          elim (dec_lt k j) [
+            | yes before ↦ (let ne : j ≢ k = omega arith in are.done k one before (get_set_other new j k one (get_or old i None) ne e))
+            | no past ↦ (
+                let same : j ≡ k = omega arith in
+                let here : slice_get old i ≡ Some one =
+                slice_get-get_or old i None l ∙ ap Some (sym (get_or-set_same new j (get_or old i None) None m) ∙ ap (λ x. get_or (set new j (get_or old i None)) x None) same ∙ get_or_from_slice_get (set new j (get_or old i None)) k one None e) in
+                subst (λ x. IsCheckedAt copy x one) same (checked_same verdicts cites base copy checked plan ran can i j kept one (are.left j i one (omega arith) there here))
+                )
+          ];
+      rest = λ k from one n e f. let ne : j ≢ k = omega arith in are.rest k from one (omega arith) e (get_set_other new j k one (get_or old i None) ne f);
+      left = λ k h one n e f.
+          let ne : i ≢ h = λ same. (let one_j : j ≡ k = kept_by_one own base copy checked plan ran can i j k kept (subst (λ x. HasSameView base copy x k) (sym same) (can.planned.each k (Some h) e)) in absurd (omega arith)) in
+          are.left k h one (omega arith) e (get_set_other old i h one (get_or new j None) ne f);
+    }
+
+-- one item more is carried, if it keeps something
+pub carried_one : LabelsAreOwn → SameViewSameVerdict → SameViewSameCites → (base copy : BaseView) (checked : List (Option Judgement)) (plan : List (Option ℕ)) (ran : List (Option Judgement)) → CanCarry base copy checked plan ran
+    → (j : ℕ) (old new spent given : List (Option Judgement)) → AreCarried base copy plan j old new → j < length plan → j < length new
+    → (from : Option ℕ) → get_or plan j None ≡ from → ((i : ℕ) → from ≡ Some i → i < length old)
+    → (from ≡ None → (spent ≡ old) × (given ≡ new))
+    → ((i : ℕ) → from ≡ Some i → (spent ≡ set old i (get_or new j None)) × (given ≡ set new j (get_or old i None)))
+    → AreCarried base copy plan (j + 1) spent given
+carried_one own verdicts cites base copy checked plan ran can j old new spent given are l m None is bound nothing moved =
+    let e = nothing refl in
+    subst (λ (xs : List (Option Judgement)). AreCarried base copy plan (j + 1) spent xs) (sym e.1) (subst (λ (xs : List (Option Judgement)). AreCarried base copy plan (j + 1) xs new) (sym e.0)
+    (carried_past base copy plan j old new are (slice_get-get_or plan j None l ∙ ap Some is)))
+carried_one own verdicts cites base copy checked plan ran can j old new spent given are l m (Some i) is bound nothing moved =
+    let e = moved i refl in
+    subst (λ (xs : List (Option Judgement)). AreCarried base copy plan (j + 1) spent xs) (sym e.1) (subst (λ (xs : List (Option Judgement)). AreCarried base copy plan (j + 1) xs (set new j (get_or old i None))) (sym e.0)
+    (carried_kept own verdicts cites base copy checked plan ran can j i old new are (slice_get-get_or plan j None l ∙ ap Some is) (bound i refl) m))

@@ -1,0 +1,106 @@
+-- How a session goes on with edited files.
+use Rattle.std.proofs.Common.{◌≡◌, ℕ, Option, List, refl, sym, ◌∙◌, subst}
+use Rattle.mm_store.specs.declared.undo.Undo.{Undo}
+use Rattle.mm_store.specs.Language.Batches.{IsBatchOf, IsSpendable, KeepsReading, KeepsStanding}
+use Rattle.mm_store.specs.Language.Edits.{Asked}
+use Rattle.mm_store.specs.Language.FileFacts.{parked_in}
+use Rattle.mm_store.specs.Language.FilesView.{FilesView, files_in, plain}
+use Rattle.mm_frame.specs.Language.Names.{AreDistinct, Begins as longer}
+use Rattle.mm_frame.specs.declared.base.Base.{Base}
+use Rattle.mm_proof.specs.Language.Work.{Judgement, Recorded}
+use Rattle.mm_keep.specs.declared.keeping.Next.{Next}
+use Rattle.mm_keep.specs.Code.Changing.{CanTake, HasKept, WereKept, session_of}
+use Rattle.mm_keep.specs.Code.KeptSession.{AreChecked, IsKept}
+use Rattle.mm_keep.specs.declared.session.Session.TheInside.{Inside}
+use Rattle.mm_keep.specs.Code.Next.{IsBuilt, IsNext, IsOldIn}
+use Rattle.mm_keep.specs.Code.Planned.{CanCarry}
+use Rattle.mm_keep.specs.Language.Sessions.{IsChanged}
+use Rattle.mm_keep.proofs.KeepLemmas.{ItemsStand, KeepsNumbers, batch_top, expansion_top, base_settled, says_edited}
+use Rattle.mm_keep.proofs.NextLemmas.{longer_trans}
+
+pub can_carry : (before after : FilesView) (undos : List Undo) (top : List ℕ) (names : List (List ℕ)) (checked : List (Option Judgement)) (next : Next) → (can : CanTake before after undos top names checked next)
+    → CanCarry can.old can.base checked next.plan.items next.checked.items
+can_carry before after undos top names checked next can = record {
+  old_said = (before, can.old_is.each);
+  new_said = (after, can.built.of_files.each);
+  planned = can.goes_on.planned;
+  was = can.old_checked;
+  ran_is = can.goes_on.ran;
+  count = can.goes_on.count;
+}
+
+-- what is kept once the edits are settled
+pub kept_settled : ItemsStand → (before after settled : FilesView) (undos : List Undo) (top : List ℕ) (names : List (List ℕ)) (checked : List (Option Judgement)) (next : Next) → (can : CanTake before after undos top names checked next)
+    → files_in settled ≡ files_in after → KeepsStanding after settled → parked_in settled ≡ parked_in before
+    → (code : Base) (now : List (Option Judgement)) → code ≡ next.base → AreChecked can.base now → HasKept settled top names code now
+kept_settled stand before after settled undos top names checked next can same keeps parked code now is are = (
+  can.base,
+  record {
+    built = subst (λ (b : Base). IsBuilt names settled top b can.base) (sym is) (record { of_files = base_settled stand after settled top can.base same keeps can.built.of_files; by_names = can.built.by_names; later = can.built.later });
+    checked_is = are;
+    parked = parked ∙ can.parked;
+  },
+)
+
+-- what was run
+pub changed_settled : ItemsStand → (before after settled : FilesView) (undos : List Undo) (top : List ℕ) (names : List (List ℕ)) (checked : List (Option Judgement)) (next : Next) → (can : CanTake before after undos top names checked next)
+    → files_in settled ≡ files_in after → KeepsStanding after settled → (work : Recorded) → work ≡ next.work → IsChanged (session_of before top) (session_of settled top) work
+changed_settled stand before after settled undos top names checked next can same keeps work is =
+    let of_files = base_settled stand after settled top can.base same keeps can.built.of_files in
+    subst (λ (w : Recorded). IsChanged (session_of before top) (session_of settled top) w) (sym is)
+    (record { top = refl; runs = record { old = can.old; new = can.base; were = can.old_is; are = of_files; those = can.goes_on.runs }; base = can.base; of_files = of_files; steps = can.goes_on.steps })
+
+-- the old base can be read in edited files
+pub old_in : (before after : FilesView) (undos : List Undo) (top : List ℕ) (names : List (List ℕ)) (code : Base) (checked : List (Option Judgement)) → (were : WereKept before after undos top names code checked) → IsOldIn names after code were.base
+old_in before after undos top names code checked were = record { later = were.kept.built.later; each = says_edited before after were.reading were.base.found were.base.said were.kept.built.of_files.each }
+
+pub can_take : (before after : FilesView) (undos : List Undo) (top : List ℕ) (names all : List (List ℕ)) (code : Base) (checked : List (Option Judgement)) (next : Next) → (were : WereKept before after undos top names code checked) → IsNext all after top were.base next
+    → CanTake before after undos top all checked next
+can_take before after undos top names all code checked next were is = record {
+  spendable = were.spendable;
+  parked = were.kept.parked;
+  old = were.base;
+  old_is = were.kept.built.of_files;
+  old_checked = were.kept.checked_is;
+  base = is.base;
+  built = is.built;
+  goes_on = is.goes_on;
+}
+
+-- what is kept once the edits are undone
+pub kept_undone : (before after files : FilesView) (undos : List Undo) (top : List ℕ) (names all : List (List ℕ)) (code : Base) (checked : List (Option Judgement)) → WereKept before after undos top names code checked → files ≡ before → longer names all → AreDistinct all
+    → HasKept files top all code checked
+kept_undone before after files undos top names all code checked were is grows distinct =
+    subst (λ (fs : FilesView). HasKept fs top all code checked) (sym is) (
+      were.base,
+      record {
+        built = record { of_files = were.kept.built.of_files; by_names = were.kept.built.later all distinct grows; later = λ more apart begins. were.kept.built.later more apart (longer_trans names all more grows begins) };
+        checked_is = were.kept.checked_is;
+        parked = were.kept.parked;
+      },
+    )
+
+-- what a session keeps, by its parts
+pub kept_inside : (inside : Inside) → IsKept inside → HasKept inside.files inside.top.items inside.names inside.base inside.checked.items
+kept_inside inside kept = (kept.base, record { built = record { of_files = kept.of_files; by_names = kept.by_names; later = kept.later }; checked_is = kept.checked; parked = kept.parked })
+
+pub inside_kept : (inside : Inside) → HasKept inside.files inside.top.items inside.names inside.base inside.checked.items → IsKept inside
+inside_kept inside has = record { base = has.0; of_files = has.1.built.of_files; by_names = has.1.built.by_names; later = has.1.built.later; checked = has.1.checked_is; parked = has.1.parked }
+
+-- files that are edited, with what was kept of them before
+pub were_kept : KeepsNumbers → (before after : FilesView) (undos : List Undo) (top : List ℕ) (names : List (List ℕ)) (code : Base) (checked : List (Option Judgement)) → HasKept before top names code checked
+    → (edits : List Asked) → IsBatchOf edits (plain before) (plain after) → KeepsReading before after → IsSpendable before after undos → WereKept before after undos top names code checked
+were_kept keeps before after undos top names code checked has edits done reading spendable = record {
+  base = has.0;
+  kept = has.1;
+  reading = reading;
+  spendable = spendable;
+  has_top = batch_top keeps edits before after top done (expansion_top before top has.0.found has.1.built.of_files.expansion);
+}
+
+-- so it is of lists that are the same
+pub can_carry_by : (before after : FilesView) (undos : List Undo) (top : List ℕ) (names : List (List ℕ)) (checked : List (Option Judgement)) (next : Next) → (can : CanTake before after undos top names checked next)
+    → (was : List (Option Judgement)) (plan : List (Option ℕ)) (ran : List (Option Judgement)) → was ≡ checked → plan ≡ next.plan.items → ran ≡ next.checked.items → CanCarry can.old can.base was plan ran
+can_carry_by before after undos top names checked next can was plan ran a b d =
+    subst (λ (xs : List (Option Judgement)). CanCarry can.old can.base xs plan ran) (sym a) (subst (λ (xs : List (Option ℕ)). CanCarry can.old can.base checked xs ran) (sym b)
+    (subst (λ (xs : List (Option Judgement)). CanCarry can.old can.base checked next.plan.items xs) (sym d) (can_carry before after undos top names checked next can)))

@@ -1,0 +1,53 @@
+-- From what a session keeps to what it answers.
+use Rattle.std.proofs.Common.{◌≡◌, ℕ, ◌<◌, Bool, true, false, ◌&&◌, Option, Some, None, is_none, List, length, get_or, slice_get, sym, ap, ◌∙◌, subst}
+use Rattle.std.specs.Prelude.{All, IfSome}
+use Rattle.std.specs.Option.{option_map}
+use Rattle.std.proofs.lemmas.Option.{slice_get-get_or}
+use Rattle.mm_store.specs.declared.item.Item as store
+use Rattle.mm_store.specs.Language.FilesView.{FilesView, files_in}
+use Rattle.mm_store.specs.Language.FileFacts.{StandsIn}
+use Rattle.mm_store.specs.Language.Expansion.{IsExpansion}
+use Rattle.mm_frame.specs.declared.FrameNumber.{FrameNumber}
+use Rattle.mm_frame.specs.declared.judge.FrameFault.{FrameFault}
+use Rattle.mm_frame.specs.Language.Laws.{FilesHaveOneBase}
+use Rattle.mm_frame.specs.Language.Base.{BaseView}
+use Rattle.mm_keep.specs.Code.KeptSession.{IsKept, view_of}
+use Rattle.mm_keep.specs.Code.OfFiles.{IsOf}
+use Rattle.mm_keep.specs.Language.Sessions.{HasItem, HasAssertion, IsAssertion}
+use Rattle.mm_keep.specs.declared.session.Session.TheInside.{Inside}
+
+-- the element at an index
+pub at_index : {X : Type 0} (xs : List X) (i : ℕ) (x : X) → i < length xs → x ≡ get_or xs i x → slice_get xs i ≡ Some x
+at_index xs i x within e = slice_get-get_or xs i x within ∙ ap Some (sym e)
+
+-- no fault is told of a sound item
+pub sound_none : (fault : Option FrameFault) (t : Option (ℕ × FrameNumber)) → option_map (λ (f : FrameFault). (f.word, f.number)) fault ≡ t → fault ≡ None → is_none t ≡ true
+sound_none None t e n = sym (ap is_none e)
+sound_none (Some f) t e n = cc
+
+-- a sound item that is no sound theorem is no theorem
+pub no_theorem : (sound theorem : Bool) → sound ≡ true → (sound && theorem) ≡ false → theorem ≡ false
+no_theorem true theorem e f = f
+no_theorem false theorem e f = cc
+
+pub map_some : {X : Type 0} (P Q : X → Type 0) (one : Option X) → ((x : X) → P x → Q x) → IfSome one P → IfSome one Q
+map_some P Q None f p = p
+map_some P Q (Some x) f p = f x p
+
+-- the items of all files stand where they say
+abbrev pub ItemsStand : Type 0
+ItemsStand = (files : FilesView) (top : List ℕ) (items : List store.Item) → IsExpansion (files_in files) top items → All (StandsIn files) items
+
+-- what a session's base answers is what the items of its files say
+pub kept_of : ItemsStand → (inside : Inside) → (k : IsKept inside) → IsOf inside.names inside.files inside.base k.base
+kept_of stand inside k = record {
+  read_in = record { base = k.by_names; each = k.of_files.each };
+  stand = stand inside.files inside.top.items k.base.found k.of_files.expansion;
+}
+
+-- and its items are those of the files
+pub kept_within : FilesHaveOneBase → (inside : Inside) → (k : IsKept inside) → (i : ℕ) → HasItem (view_of inside) i → i < length k.base.said
+kept_within one inside k i has = subst (λ (base : BaseView). i < length base.said) (one inside.files inside.top.items has.0 k.base has.1 k.of_files) has.2
+
+pub kept_assertion : FilesHaveOneBase → (inside : Inside) → (k : IsKept inside) → (label : List ℕ) → HasAssertion (view_of inside) label → (i : ℕ) × IsAssertion k.base label i
+kept_assertion one inside k label has = subst (λ (base : BaseView). (i : ℕ) × IsAssertion base label i) (one inside.files inside.top.items has.0 k.base has.1 k.of_files) has.2

@@ -1,0 +1,14 @@
+pub mod RunLemmas
+pub mod PlanLemmas
+pub mod CarryLemmas
+pub mod NextLemmas
+pub mod KeepLemmas
+pub mod ChangeLemmas
+pub mod ZipLemmas
+pub mod SpotLemmas
+pub mod ToldLemmas
+pub mod WordCounts
+pub mod NumberLemmas
+pub mod RunLaws
+pub mod FoundLemmas
+pub mod FindingLaws

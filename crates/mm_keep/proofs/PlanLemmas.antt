@@ -1,0 +1,91 @@
+-- What a plan says of an item, and what is carried by it.
+use Rattle.std.proofs.Common.{◌≡◌, ℕ, ◌<◌, ◌&&◌, Bool, true, false, Option, Some, None, List, [], ◌∷◌, ◌++◌, length, refl, sym, ◌∙◌, ap, subst, inl, inr}
+use Rattle.std.specs.Prelude.{slice_get, unwrap_or}
+use Rattle.std.proofs.lemmas.Bool.{false≢true}
+use Rattle.std.proofs.lemmas.Option.{none-some, same_Some}
+use Rattle.mm_store.specs.Language.FilesView.{FilesView}
+use Rattle.mm_frame.specs.Language.Base.{BaseView, said_at, is_sound_at, is_proof_at, is_shown_at}
+use Rattle.mm_frame.specs.Language.Item.{Kind, Constants, Variables, Disjoint, Floating, Essential, Axiom, Theorem, BlockStart, BlockEnd, Missing, Passed, is_labelled, is_theorem}
+use Rattle.mm_frame.specs.Code.KeptBase.{IsBaseBy}
+use Rattle.mm_frame.specs.declared.base.Base.{Base}
+use Rattle.mm_proof.specs.Language.BaseMarks.{Mark, IsMark, mark_at}
+use Rattle.mm_proof.specs.Language.DecodingLaws.{LabelsAreOwn}
+use Rattle.mm_proof.specs.Language.View.{view_at, AreSameViews}
+use Rattle.mm_proof.specs.Language.ViewLaws.{SameViewSameVerdict, SameViewSameCites}
+use Rattle.mm_proof.specs.Language.Work.{Judgement}
+use Rattle.mm_keep.specs.Code.KeptSession.{IsCheckedAt}
+use Rattle.mm_keep.specs.Code.Planned.{AreBothRead, AreMarksBy, HasItemBothRead, IsPlanned, CanCarry}
+use Rattle.mm_keep.specs.Language.Runs.{HasSameView}
+use Rattle.mm_keep.proofs.RunLemmas.{get_front}
+
+-- a theorem has a label
+theorem_shown : (sound : Bool) (kind : Kind) → (sound && is_theorem kind) ≡ true → (sound && is_labelled kind) ≡ true
+theorem_shown true Theorem e = refl
+theorem_shown true Constants e = absurd (false≢true e)
+theorem_shown true Variables e = absurd (false≢true e)
+theorem_shown true Disjoint e = absurd (false≢true e)
+theorem_shown true Floating e = absurd (false≢true e)
+theorem_shown true Essential e = absurd (false≢true e)
+theorem_shown true Axiom e = absurd (false≢true e)
+theorem_shown true BlockStart e = absurd (false≢true e)
+theorem_shown true BlockEnd e = absurd (false≢true e)
+theorem_shown true Missing e = absurd (false≢true e)
+theorem_shown true Passed e = absurd (false≢true e)
+theorem_shown false kind e = absurd (false≢true e)
+
+pub shown : (base : BaseView) (i : ℕ) → is_proof_at base i ≡ true → is_shown_at base i ≡ true
+shown base i e = theorem_shown (is_sound_at base i) (said_at base i).kind e
+
+-- the theorem whose view it had is the one that the mark tells
+pub marked : (base copy : BaseView) (j : ℕ) (mark : Mark) → IsMark base copy j mark → (i : ℕ) → HasSameView base copy i j → mark.old ≡ Some i
+marked base copy j mark is i same = (is.old_is i).1 (record { within = same.within; was = shown base i same.was; is = shown copy j same.is; label = same.label })
+
+pub plans_none : (base copy : BaseView) (j : ℕ) → is_proof_at copy j ≡ false → IsPlanned base copy j None
+plans_none base copy j e had = false≢true (sym e ∙ had.1.is)
+
+pub plans_unmarked : (base copy : BaseView) (j : ℕ) (mark : Mark) → IsMark base copy j mark → mark.old ≡ None → IsPlanned base copy j None
+plans_unmarked base copy j mark is e had = none-some had.0 (sym e ∙ marked base copy j mark is had.0 had.1)
+
+one_had : (base copy : BaseView) (j : ℕ) (mark : Mark) → IsMark base copy j mark → (i : ℕ) → mark.old ≡ Some i → (k : ℕ) → HasSameView base copy k j → k ≡ i
+one_had base copy j mark is i e k same = same_Some k i (sym (marked base copy j mark is k same) ∙ e)
+
+pub plans_no_theorem : (base copy : BaseView) (j : ℕ) (mark : Mark) → IsMark base copy j mark → (i : ℕ) → mark.old ≡ Some i → is_proof_at base i ≡ false → IsPlanned base copy j None
+plans_no_theorem base copy j mark is i e f had = false≢true (sym f ∙ ap (is_proof_at base) (sym (one_had base copy j mark is i e had.0 had.1)) ∙ had.1.was)
+
+pub plans_changed : (base copy : BaseView) (j : ℕ) (mark : Mark) → IsMark base copy j mark → (i : ℕ) → mark.old ≡ Some i → ¬ AreSameViews (view_at base i) (view_at copy j) → IsPlanned base copy j None
+plans_changed base copy j mark is i e not had = not (subst (λ k. AreSameViews (view_at base k) (view_at copy j)) (one_had base copy j mark is i e had.0 had.1) had.1.view)
+
+pub plans_kept : (base copy : BaseView) (j : ℕ) (mark : Mark) → IsMark base copy j mark → (i : ℕ) → mark.old ≡ Some i → is_proof_at base i ≡ true → is_proof_at copy j ≡ true → AreSameViews (view_at base i) (view_at copy j) → IsPlanned base copy j (Some i)
+plans_kept base copy j mark is i e was theorem view = let one = (is.old_is i).0 e in record { within = one.within; was = was; is = theorem; label = one.label; view = view }
+
+-- views of one base have as many items
+pub one_count : (names others : List (List ℕ)) (a b : BaseView) (code : Base) → IsBaseBy names a code → IsBaseBy others b code → length a.said ≡ length b.said
+one_count names others a b code is other = sym is.count ∙ ap length (sym is.found ∙ other.found) ∙ other.count
+
+-- what was checked of a theorem holds of one with an equal view
+pub checked_same : SameViewSameVerdict → SameViewSameCites → (base copy : BaseView) (checked : List (Option Judgement)) (plan : List (Option ℕ)) (ran : List (Option Judgement)) → CanCarry base copy checked plan ran → (i j : ℕ) → HasSameView base copy i j
+    → (one : Option Judgement) → IsCheckedAt base i one → IsCheckedAt copy j one
+checked_same verdicts cites base copy checked plan ran can i j same None is = absurd (false≢true (sym is ∙ same.was))
+checked_same verdicts cites base copy checked plan ran can i j same (Some judgement) is = (
+  same.is,
+  verdicts base copy i j can.old_said can.new_said same.view judgement.verdict is.1,
+  is.2 ∙ cites base copy i j can.old_said can.new_said same.view,
+)
+
+-- what was checked of one theorem is kept by one at most
+pub kept_by_one : LabelsAreOwn → (base copy : BaseView) (checked : List (Option Judgement)) (plan : List (Option ℕ)) (ran : List (Option Judgement)) → CanCarry base copy checked plan ran → (i j k : ℕ) → HasSameView base copy i j → HasSameView base copy i k → j ≡ k
+kept_by_one own base copy checked plan ran can i j k a b =
+    own copy can.new_said j k (shown copy j a.is) (shown copy k b.is) (ap (λ (l : Option (List ℕ)). unwrap_or l []) (sym a.label ∙ b.label))
+
+-- what is marked of an item of the new base
+pub mark_here : (names : List (List ℕ)) (files : FilesView) (old new : Base) (marks : List Mark) (j : ℕ) → HasItemBothRead names files old new j → AreMarksBy names old new marks → (base copy : BaseView) → AreBothRead names files old new base copy
+    → IsMark base copy j (mark_at marks j)
+mark_here names files old new marks j has are base copy both =
+    (are base copy both.old_is.base both.new_is.base).each j (subst (λ n. j < n) (one_count names names has.1 copy new has.2.new_is.base both.new_is.base) has.3)
+
+-- what holds of each element, and of one more
+pub each_more : {X : Type 0} (P : ℕ → X → Type 0) (xs ys : List X) (y : X) → ys ≡ xs ++ y ∷ [] → ((k : ℕ) (x : X) → slice_get xs k ≡ Some x → P k x) → P (length xs) y → (k : ℕ) (x : X) → slice_get ys k ≡ Some x → P k x
+each_more {X} P xs ys y e each last k x is = elim (get_front xs y k x (subst (λ (zs : List X). slice_get zs k ≡ Some x) e is)) [
+  | inl front ↦ each k x front.1
+  | inr p ↦ subst (P k) p.1 (subst (λ i. P i y) (sym p.0) last)
+]

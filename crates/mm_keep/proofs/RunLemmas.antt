@@ -1,0 +1,175 @@
+-- Runs by a plan: one item more.
+use Rattle.std.proofs.Common.{◌≡◌, ℕ, ◌<◌, ◌≤◌, ◌+◌, ◌↔◌, ◌⊎◌, true, Option, Some, None, List, [], ◌∷◌, ◌++◌, length, get_or, refl, sym, ◌∙◌, ap, subst, arith, inl, inr}
+use Rattle.std.specs.Prelude.{slice_get, Contains}
+use Rattle.std.specs.List.{AllZip}
+use native.Mathlib.Decide.{dec_lt}
+use Rattle.std.proofs.lemmas.Bool.{false≢true}
+use Rattle.std.proofs.lemmas.List.{length_push, get_or_append_left}
+use Rattle.std.proofs.Math.Seq.{get_or-append_seam}
+use Rattle.std.proofs.lemmas.List.Elements.{Contains-get_or, Contains-append_left, Contains-push, Contains-push_cases}
+use Rattle.std.proofs.lemmas.List.Quantifiers.{all_pairs_push}
+use Rattle.std.proofs.lemmas.List.Sums.{sum_by_push}
+use Rattle.std.proofs.lemmas.Option.{get_or_from_slice_get, slice_get-get_or, slice_get_within, same_Some}
+use Rattle.mm_frame.specs.Language.Base.{BaseView, is_proof_at}
+use Rattle.mm_proof.specs.Language.VerdictAt.{AreDoneAt}
+use Rattle.mm_proof.specs.Language.Work.{Recorded, Judgement}
+use Rattle.mm_keep.specs.Language.Runs.{AreThose, AreRuns, AreStepsOf, HadView, IsRun}
+use Rattle.mm_keep.specs.Code.KeptSession.{AreChecked}
+use Rattle.mm_keep.specs.Code.Planned.{IsPlanned, ArePlanned, IsRunBy, AreRunBy, RunsBy, AreRecorded, RecordsRun, RecordsIf}
+
+-- an element stands in the list with one more, and is the last or one before it
+pub get_front : {X : Type 0} (xs : List X) (y : X) (k : ℕ) (x : X) → slice_get (xs ++ y ∷ []) k ≡ Some x → ((k < length xs) × (slice_get xs k ≡ Some x)) ⊎ ((k ≡ length xs) × (y ≡ x))
+get_front xs y k x e =
+    let within = slice_get_within (xs ++ y ∷ []) k x e in
+    let long = length_push xs y in
+    let is : get_or (xs ++ y ∷ []) k y ≡ x = get_or_from_slice_get (xs ++ y ∷ []) k x y e in
+    elim (dec_lt k (length xs)) [
+      | yes l ↦ inl (l, slice_get-get_or xs k y l ∙ ap Some (sym (get_or_append_left xs (y ∷ []) y k l) ∙ is))
+      | no n ↦ (
+          let last : k ≡ length xs = omega arith in
+          inr (last, sym (get_or-append_seam xs y [] y) ∙ ap (λ i. get_or (xs ++ y ∷ []) i y) (sym last) ∙ is)
+          )
+    ]
+
+pub zip_push : {A B : Type 0} (R : A → B → Type 0) (xs : List A) (ys : List B) (x : A) (y : B) → AllZip R xs ys → R x y → AllZip R (xs ++ x ∷ []) (ys ++ y ∷ [])
+zip_push R [] [] x y a r = (r, a)
+zip_push R [] (z ∷ ys) x y a r = absurd a
+zip_push R (w ∷ xs) [] x y a r = absurd a
+zip_push R (w ∷ xs) (z ∷ ys) x y a r = (a.0, zip_push R xs ys x y a.1 r)
+
+-- numbers below none
+pub those_none : (P : ℕ → Type 0) → AreThose P 0 []
+those_none P = record { rising = λ i j d l m. absurd (omega arith); each = λ k. (λ c. absurd (omega (arith, c.1)), λ p. absurd (omega (arith, p.0))) }
+
+-- one number more, of which it does not hold
+pub those_skip : (P : ℕ → Type 0) (n : ℕ) (numbers : List ℕ) → AreThose P n numbers → ¬ P n → AreThose P (n + 1) numbers
+those_skip P n numbers those not = record {
+  rising = those.rising;
+  each = λ k. (
+    λ c. let p = (those.each k).0 c in (omega (arith, p.0), p.1),
+    λ p.
+        elim (dec_lt k n) [
+          | yes l ↦ (those.each k).1 (l, p.1)
+          | no m ↦ (let e : k ≡ n = omega (arith, p.0) in absurd (not (subst P e p.1)))
+        ],
+  );
+}
+
+-- one number more, of which it holds
+pub those_more : (P : ℕ → Type 0) (n : ℕ) (numbers : List ℕ) → AreThose P n numbers → P n → AreThose P (n + 1) (numbers ++ n ∷ [])
+those_more P n numbers those holds = record {
+  rising = all_pairs_push (λ a b. a < b) numbers n those.rising (λ k d l. ((those.each (get_or numbers k d)).0 (Contains-get_or numbers k d l)).0);
+  each = λ k. (
+    λ c.
+        elim (Contains-push_cases numbers n k c) [
+          | inl front ↦ (let p = (those.each k).0 front in (omega (arith, p.0), p.1))
+          | inr last ↦ (omega (arith, last), subst P last holds)
+        ],
+    λ p.
+        elim (dec_lt k n) [
+          | yes l ↦ Contains-append_left numbers (n ∷ []) k ((those.each k).1 (l, p.1))
+          | no m ↦ (let e : n ≡ k = omega (arith, p.0) in subst (λ i. Contains (numbers ++ n ∷ []) i) e (Contains-push numbers n))
+        ],
+  );
+}
+
+-- the steps of one run more
+pub steps_more : (base : BaseView) (runs : List ℕ) (total j count : ℕ) → AreStepsOf base runs total → AreDoneAt base j count → AreStepsOf base (runs ++ j ∷ []) (total + count)
+steps_more base runs total j count steps done = record {
+  counts = steps.counts ++ count ∷ [];
+  each = zip_push (AreDoneAt base) runs steps.counts j count steps.each done;
+  total_is = ap (λ t. t + count) steps.total_is ∙ sym (sum_by_push (λ x. x) steps.counts count);
+}
+
+pub steps_none : (base : BaseView) → AreStepsOf base [] 0
+steps_none base = record { counts = []; each = tt; total_is = refl }
+
+-- what one item more gives
+pub run_more : (new : BaseView) (plan : List (Option ℕ)) (checked : List (Option Judgement)) (from : Option ℕ) (one : Option Judgement) → AreRunBy new plan checked → slice_get plan (length checked) ≡ Some from → IsRunBy new from (length checked) one → AreRunBy new plan (checked ++ one ∷ [])
+run_more new plan checked from one ran there is = record {
+  within = let l = slice_get_within plan (length checked) from there in let n = length_push checked one in omega arith;
+  each = λ j other its e f.
+      elim (get_front checked one j its f) [
+        | inl front ↦ ran.each j other its e front.1
+        | inr last ↦ (
+            let same : from ≡ other = same_Some from other (sym there ∙ ap (slice_get plan) (sym last.0) ∙ e) in
+            subst (λ (x : Option Judgement). IsRunBy new other j x) last.1 (subst (λ i. IsRunBy new other i one) (sym last.0) (subst (λ (o : Option ℕ). IsRunBy new o (length checked) one) same is))
+            )
+      ];
+}
+
+none_not_some : (i : ℕ) (plan : List (Option ℕ)) (j : ℕ) → slice_get plan j ≡ Some (Some i) → slice_get plan j ≡ Some None → ⊥
+none_not_some i plan j e f = let g = sym e ∙ f in cc
+
+recorded_skip : (new : BaseView) (plan : List (Option ℕ)) (j : ℕ) (before after : Recorded) → AreRecorded new plan j before → ¬ RunsBy new plan j → after ≡ before → AreRecorded new plan (j + 1) after
+recorded_skip new plan j before after are not e = subst (λ (w : Recorded). AreRecorded new plan (j + 1) w) (sym e) (record { those = those_skip (RunsBy new plan) j before.runs are.those not; steps = are.steps })
+
+recorded_run : (new : BaseView) (plan : List (Option ℕ)) (j : ℕ) (before after : Recorded) → AreRecorded new plan j before → RunsBy new plan j → RecordsRun new j before after → AreRecorded new plan (j + 1) after
+recorded_run new plan j before after are runs run = record {
+  those = subst (λ (ns : List ℕ). AreThose (RunsBy new plan) (j + 1) ns) (sym run.runs) (those_more (RunsBy new plan) j before.runs are.those runs);
+  steps = subst (λ (ns : List ℕ). AreStepsOf new ns after.steps) (sym run.runs) (subst (λ t. AreStepsOf new (before.runs ++ j ∷ []) t) (sym run.steps) (steps_more new before.runs before.steps j run.count are.steps run.done));
+}
+
+-- one item more is recorded, if it runs
+pub recorded_more : (new : BaseView) (plan : List (Option ℕ)) (j : ℕ) (from : Option ℕ) (before after : Recorded) → slice_get plan j ≡ Some from → RecordsIf new from j before after → AreRecorded new plan j before → AreRecorded new plan (j + 1) after
+recorded_more new plan j (Some i) before after there e are = recorded_skip new plan j before after are (λ r. none_not_some i plan j there r.nothing) e
+recorded_more new plan j None before after there (inl p) are = recorded_run new plan j before after are (record { theorem = p.0; nothing = there }) p.1
+recorded_more new plan j None before after there (inr p) are = recorded_skip new plan j before after are (λ r. false≢true (sym p.0 ∙ r.theorem)) p.1
+
+-- no item is recorded yet
+pub recorded_none : (new : BaseView) (plan : List (Option ℕ)) (room : ℕ) → AreRecorded new plan 0 (record { runs = []; steps = 0; room = room })
+recorded_none new plan room = record { those = those_none (RunsBy new plan); steps = steps_none new }
+
+pub run_none : (new : BaseView) (plan : List (Option ℕ)) → AreRunBy new plan []
+run_none new plan = record { within = omega arith; each = λ j from one e f. cc }
+
+-- how much one item more takes of the room and of the steps
+pub takes : (new : BaseView) (from : Option ℕ) (j : ℕ) (before after : Recorded) → RecordsIf new from j before after → (after.steps ≤ before.steps + 4294967295) × (before.room ≤ after.room + 1)
+takes new (Some i) j before after e = let s = ap (λ (w : Recorded). w.steps) e in let r = ap (λ (w : Recorded). w.room) e in (omega arith, omega arith)
+takes new None j before after (inl p) = let run = p.1 in (omega (arith, run.steps, run.few), omega (arith, run.room))
+takes new None j before after (inr p) = let s = ap (λ (w : Recorded). w.steps) p.1 in let r = ap (λ (w : Recorded). w.room) p.1 in (omega arith, omega arith)
+
+-- what holds of the same numbers below the count
+pub those_same : (P Q : ℕ → Type 0) (n : ℕ) (numbers : List ℕ) → AreThose P n numbers → ((k : ℕ) → k < n → P k ↔ Q k) → AreThose Q n numbers
+those_same P Q n numbers those same = record {
+  rising = those.rising;
+  each = λ k. (
+    λ c. let p = (those.each k).0 c in (p.0, (same k p.0).0 p.1),
+    λ q. (those.each k).1 (q.0, (same k q.0).1 q.1),
+  );
+}
+
+-- what runs by a plan that keeps nothing is each theorem
+pub begun_runs : (base : BaseView) (plan : List (Option ℕ)) (runs : List ℕ) → length plan ≡ length base.said → ((k : ℕ) (from : Option ℕ) → slice_get plan k ≡ Some from → from ≡ None) → AreThose (RunsBy base plan) (length plan) runs
+    → AreThose (λ i. is_proof_at base i ≡ true) (length base.said) runs
+begun_runs base plan runs count none those =
+    those_same (RunsBy base plan) (λ i. is_proof_at base i ≡ true) (length base.said) runs (subst (λ n. AreThose (RunsBy base plan) n runs) count those)
+    (λ k l. (λ r. r.theorem, λ t. record { theorem = t; nothing = let w : k < length plan = omega arith in slice_get-get_or plan k None w ∙ ap Some (none k (get_or plan k None) (slice_get-get_or plan k None w)) }))
+
+-- what is checked by it is each theorem
+pub begun_checked : (base : BaseView) (plan : List (Option ℕ)) (checked : List (Option Judgement)) → length plan ≡ length base.said → ((k : ℕ) (from : Option ℕ) → slice_get plan k ≡ Some from → from ≡ None) → AreRunBy base plan checked → length checked ≡ length plan
+    → AreChecked base checked
+begun_checked base plan checked count none ran long = record {
+  count = long ∙ count;
+  each = λ i one e.
+      let w = slice_get_within checked i one e in
+      let v : i < length plan = omega arith in
+      let there = slice_get-get_or plan i None v in
+      ran.each i None one (there ∙ ap Some (none i (get_or plan i None) there)) e;
+}
+
+-- what runs by a plan is what the old base had no equal view of
+pub planned_runs : (old base : BaseView) (plan : List (Option ℕ)) (runs : List ℕ) → ArePlanned old base plan → AreThose (RunsBy base plan) (length plan) runs → AreRuns old base runs
+planned_runs old base plan runs planned those =
+    those_same (RunsBy base plan) (IsRun old base) (length base.said) runs (subst (λ n. AreThose (RunsBy base plan) n runs) planned.count those)
+    (λ k l. (
+      λ r. record { theorem = r.theorem; changed = planned.each k None r.nothing },
+      λ r. record {
+        theorem = r.theorem;
+        nothing = let w : k < length plan = omega (arith, planned.count) in let there = slice_get-get_or plan k None w in there ∙ ap Some (keeps_none old base k (get_or plan k None) (planned.each k (get_or plan k None) there) r.changed);
+      },
+    ))
+  where
+    keeps_none : (old base : BaseView) (k : ℕ) (from : Option ℕ) → IsPlanned old base k from → ¬ HadView old base k → from ≡ None
+    keeps_none old base k None is not = refl
+    keeps_none old base k (Some i) is not = absurd (not (i, is))

@@ -1,0 +1,53 @@
+-- What a base and its files say of one item.
+use Rattle.std.proofs.Common.{◌≡◌, ◌⊎◌, ℕ, zero, suc, ◌+◌, Some, List, [], ◌∷◌, ◌++◌, inl, inr, length-append, length, slice_get, refl, sym, ◌∙◌, ap, subst}
+use Rattle.std.proofs.lemmas.Option.{get_or_from_slice_get, same_Some, slice_get_within}
+use Rattle.mm_store.specs.declared.item.Item as store
+use Rattle.mm_store.specs.Language.FilesView.{FilesView}
+use Rattle.mm_store.specs.Language.FileFacts.{CanBeRead, StandsIn}
+use Rattle.mm_frame.specs.Language.Base.{BaseView, said_at}
+use Rattle.mm_frame.specs.Language.Item.{passed}
+use Rattle.mm_frame.specs.Code.KeptBase.{IsBase}
+use Rattle.mm_frame.specs.Language.Statement.{Says}
+use Rattle.mm_frame.specs.declared.base.Base.{Base}
+use Rattle.mm_keep.specs.Code.OfFiles.{IsOf, HasItemOf}
+use Rattle.mm_keep.specs.Language.Told.{Told, IsRightlyTold}
+use Rattle.mm_keep.proofs.ZipLemmas.{zip_found}
+
+-- what it says
+pub says_at : (names : List (List ℕ)) (files : FilesView) (code : Base) (view : BaseView) (n : ℕ) (item : store.Item) → IsOf names files code view → slice_get view.found n ≡ Some item → Says files item (said_at view n)
+says_at names files code view n item is e =
+    let y = zip_found (Says files) view.found view.said n item is.read_in.each e in
+    subst (Says files item) (sym (get_or_from_slice_get view.said n y.0 passed y.1)) y.2
+
+-- that it can be read
+pub read_at : (names : List (List ℕ)) (files : FilesView) (code : Base) (n : ℕ) (item : store.Item) → HasItemOf names files code n → ((view : BaseView) → IsBase view code → slice_get view.found n ≡ Some item) → CanBeRead files item
+read_at names files code n item has e = (says_at names files code has.0 n item has.1 (e has.0 (names, has.1.read_in.base))).read
+
+-- that it stands where it says
+pub stands_at : (names : List (List ℕ)) (files : FilesView) (code : Base) (n : ℕ) (item : store.Item) → HasItemOf names files code n → ((view : BaseView) → IsBase view code → slice_get view.found n ≡ Some item) → StandsIn files item
+stands_at names files code n item has e =
+    let there = e has.0 (names, has.1.read_in.base) in
+    subst (StandsIn files) (get_or_from_slice_get has.0.found n item item there) (has.1.stand n item (slice_get_within has.0.found n item there))
+
+-- ---- what is told of the items, one after another
+
+-- so many are told rightly
+pub record ToldUpTo (files : FilesView) (view : BaseView) (n : ℕ) (all : List Told) : Type 0 where
+  pub count : length all ≡ n
+  pub each : (k : ℕ) (one : Told) → slice_get all k ≡ Some one → IsRightlyTold files view k one
+
+-- an element of a list with one more
+pushed : {X : Type 0} (xs : List X) (x : X) (k : ℕ) (y : X) → slice_get (xs ++ x ∷ []) k ≡ Some y → (slice_get xs k ≡ Some y) ⊎ ((k ≡ length xs) × (x ≡ y))
+pushed [] x zero y e = inr (refl, same_Some x y e)
+pushed [] x (suc k) y e = cc
+pushed (z ∷ xs) x zero y e = inl e
+pushed (z ∷ xs) x (suc k) y e = elim (pushed xs x k y e) [ inl h ↦ inl h | inr h ↦ inr (ap suc h.0, h.1) ]
+
+pub told_more : (files : FilesView) (view : BaseView) (n : ℕ) (all : List Told) (one : Told) → IsRightlyTold files view n one → ToldUpTo files view n all → ToldUpTo files view (n + 1) (all ++ one ∷ [])
+told_more files view n all one t f = record {
+  count = length-append all (one ∷ []) ∙ ap (λ k. k + 1) f.count;
+  each = λ k other e. elim (pushed all one k other e) [
+    | inl h ↦ f.each k other h
+    | inr h ↦ subst (λ m. IsRightlyTold files view m other) (sym (h.0 ∙ f.count)) (subst (IsRightlyTold files view n) h.1 t)
+  ];
+}

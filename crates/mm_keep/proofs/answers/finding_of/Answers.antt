@@ -1,0 +1,43 @@
+use Rattle.std.proofs.Common.{◌≡◌, ◌<◌, Some, None, length, slice_get, sym, ap, ◌∙◌, subst, arith}
+use Rattle.mm_frame.specs.Language.Base.{said_at, fault_at, is_sound_at}
+use Rattle.mm_frame.specs.Language.Item.{is_theorem}
+use Rattle.mm_proof.specs.Language.VerdictAt.{IsVerdictAt}
+use Rattle.mm_keep.proofs.ToldLemmas.{read_at, stands_at}
+use Rattle.mm_keep.proofs.FoundLemmas.{at_index, sound_none, no_theorem}
+use Rattle.mm_keep.proofs.answers.finding_of.Goals as goal
+
+pub at_fault-requires-clause-read : goal.at_fault-requires-clause-read
+at_fault-requires-clause-read c = let r = c.requires in read_at r.0 c.args.files.now c.args.base.now c.args.i c.item-item.result.now (r.1, r.2, r.4) c.item-item.ensures.found
+
+pub at_fault-requires-clause-stands : goal.at_fault-requires-clause-stands
+at_fault-requires-clause-stands c = let r = c.requires in stands_at r.0 c.args.files.now c.args.base.now c.args.i c.item-item.result.now (r.1, r.2, r.4) c.item-item.ensures.found
+
+pub judged-requires : goal.judged-requires
+judged-requires c =
+    let r = c.requires in
+    let within : c.args.i < length c.args.checked.now = omega (arith, r.4, r.3.count) in
+    let at = at_index c.args.checked.now c.args.i c.index-checked-i.result within c.index-checked-i.is in
+    let one : slice_get c.args.checked.now c.args.i ≡ Some (Some c.in-Some-checked.checked) = let is = c.in-Some-checked.is in cc in
+    let k = r.3.each c.args.i (Some c.in-Some-checked.checked) one in
+    (r.0, r.1, r.2, r.4, k.0, subst (IsVerdictAt r.1 c.args.i) (sym c.verdict.ensures) k.1)
+
+pub returns-in-Some-checked : goal.returns-in-Some-checked
+returns-in-Some-checked c names view is checked =
+    let r = c.requires in
+    let within : c.args.i < length c.args.checked.now = omega (arith, r.4, r.3.count) in
+    let at = at_index c.args.checked.now c.args.i c.index-checked-i.result within c.index-checked-i.is in
+    let one : slice_get c.args.checked.now c.args.i ≡ Some (Some c.in-Some-checked.checked) = let is = c.in-Some-checked.is in cc in
+    let k = checked.each c.args.i (Some c.in-Some-checked.checked) one in
+    c.judged.ensures names view is k.0 (subst (IsVerdictAt view c.args.i) (sym c.verdict.ensures) k.1)
+
+pub returns-in-None : goal.returns-in-None
+returns-in-None c names view is checked =
+    let r = c.requires in
+    let within : c.args.i < length c.args.checked.now = omega (arith, r.4, r.3.count) in
+    let at = at_index c.args.checked.now c.args.i c.index-checked-i.result within c.index-checked-i.is in
+    let one : slice_get c.args.checked.now c.args.i ≡ Some None = let is = c.in-None.is in cc in
+    let none = checked.each c.args.i None one in
+    let sound = sound_none c.fault.result (fault_at view c.args.i) (c.fault.ensures view (names, is.read_in.base)) (let e = c.in_default.is in cc) in
+    let kind = c.item-item.ensures.kind view (names, is.read_in.base) in
+    let other = no_theorem (is_sound_at view c.args.i) (is_theorem (said_at view c.args.i).kind) sound none in
+    c.unproved.ensures c.args.files.now view c.args.i sound (ap is_theorem kind ∙ other) kind

@@ -1,0 +1,11 @@
+use Rattle.std.proofs.Common.{◌≡◌, length}
+use Rattle.mm_frame.specs.Language.Base.{BaseView}
+use Rattle.mm_keep.specs.Code.Planned.{CanCarry}
+use Rattle.mm_keep.proofs.planning.carry.Given as goal
+use Rattle.mm_keep.proofs.CarryLemmas.{AreCarried}
+
+abbrev pub invariant-loop-j : goal.invariant-loop-j
+invariant-loop-j l = record {
+  count : length l.old ≡ length l.initial.old;
+  carried : (base copy : BaseView) → CanCarry base copy l.initial.old l.plan l.initial.new → AreCarried base copy l.plan l.j l.old l.new;
+}

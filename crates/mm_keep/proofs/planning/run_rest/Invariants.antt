@@ -1,0 +1,14 @@
+use Rattle.std.proofs.Common.{◌≡◌, ◌≤◌, ◌+◌, ◌*◌, length}
+use Rattle.mm_frame.specs.Language.Base.{BaseView}
+use Rattle.mm_proof.specs.Code.ReadIn.{IsReadIn}
+use Rattle.mm_keep.specs.Code.Planned.{AreRunBy, AreRecorded}
+use Rattle.mm_keep.proofs.planning.run_rest.Given as goal
+
+abbrev pub invariant-loop-j : goal.invariant-loop-j
+invariant-loop-j l = record {
+  count : length l.checked.items ≡ l.j;
+  room : length l.plan ≤ l.work.room + l.j;
+  steps : l.work.steps ≤ 4294967295 * l.j;
+  checked : (view : BaseView) → IsReadIn l.names l.files l.base view → AreRunBy view l.plan l.checked.items;
+  recorded : (view : BaseView) → IsReadIn l.names l.files l.base view → AreRecorded view l.plan l.j l.work;
+}

@@ -1,0 +1,10 @@
+use Rattle.std.proofs.Common.{map, subst}
+use Rattle.std.specs.Prelude.{IfErr}
+use Rattle.mm_store.specs.Language.Edits.{asked}
+use Rattle.mm_store.specs.Language.FilesView.{plain}
+use Rattle.mm_keep.specs.Code.Changing.{IsChangeError}
+use Rattle.mm_keep.specs.Language.Sessions.{SessionView}
+use Rattle.mm_keep.proofs.session.Session.change_all.Goals as goal
+
+pub returns-clause-refused : goal.returns-clause-refused
+returns-clause-refused c = subst (λ (s : SessionView). IfErr c.change.result (IsChangeError (map asked c.args.edits.now) (plain s.files))) c.self.view_is c.change.ensures.refused

@@ -1,0 +1,20 @@
+use Rattle.std.proofs.Common.{sym, subst}
+use Rattle.mm_keep.specs.Code.Findings.{counted}
+use Rattle.mm_keep.specs.Code.KeptSession.{AreChecked}
+use Rattle.mm_keep.specs.Language.Sessions.{IsTally}
+use Rattle.mm_keep.proofs.FoundLemmas.{kept_of}
+use Rattle.mm_keep.proofs.session.Session.tally.Goals as goal
+
+pub tally_of-requires : goal.tally_of-requires
+tally_of-requires c =
+    let inside = c.self.inside in
+    let k = c.self.invariant in
+    (inside.names, k.base, kept_of c.items_stand.ensures.stand inside k, subst (AreChecked k.base) (sym c.deref.ensures.value) k.checked)
+
+pub returns : goal.returns
+returns c =
+    let inside = c.self.inside in
+    let k = c.self.invariant in
+    let checked = subst (AreChecked k.base) (sym c.deref.ensures.value) k.checked in
+    let t = c.tally_of.ensures inside.names k.base (kept_of c.items_stand.ensures.stand inside k) checked in
+    subst (λ s. IsTally s (counted c.tally_of.result)) c.self.view_is (record { base = k.base; of_files = k.of_files; all = t.0; are_told = t.1; is = t.2 })

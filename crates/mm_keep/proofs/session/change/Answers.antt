@@ -1,0 +1,38 @@
+use Rattle.std.proofs.Common.{map, sym, subst}
+use Rattle.mm_store.specs.declared.batch.BatchError.{BatchError}
+use Rattle.mm_store.specs.Language.Edits.{asked}
+use Rattle.mm_store.specs.Language.FilesView.{plain}
+use Rattle.mm_keep.specs.Code.Changing.{IsChangeError}
+use Rattle.mm_keep.proofs.KeepLemmas.{batch_starts}
+use Rattle.mm_keep.proofs.ChangeLemmas.{were_kept}
+use Rattle.mm_keep.proofs.session.change.Goals as goal
+
+pub go_on-requires : goal.go_on-requires
+go_on-requires c =
+    let e = c.in-Ok.ensures in
+    (c.args.files.now, were_kept c.edits_keep_files.ensures.numbers c.args.files.now c.edit_all.new.self c.in-Ok.undos c.args.top.now c.args.names.now c.args.base.now _ c.requires (map asked c.args.edits.now) e.ok e.reading e.spendable)
+
+pub returns-in-Ok-go_on-clause-kept : goal.returns-in-Ok-go_on-clause-kept
+returns-in-Ok-go_on-clause-kept c =
+    let e = c.in-Ok.ensures in
+    c.go_on.ensures.kept c.args.files.now (were_kept c.edits_keep_files.ensures.numbers c.args.files.now c.edit_all.new.self c.in-Ok.undos c.args.top.now c.args.names.now c.args.base.now _ c.requires (map asked c.args.edits.now) e.ok e.reading e.spendable)
+
+pub returns-in-Ok-go_on-clause-runs : goal.returns-in-Ok-go_on-clause-runs
+returns-in-Ok-go_on-clause-runs c =
+    let e = c.in-Ok.ensures in
+    c.in-Ok-go_on.ensures.runs c.args.files.now (were_kept c.edits_keep_files.ensures.numbers c.args.files.now c.edit_all.new.self c.in-Ok.undos c.args.top.now c.args.names.now c.args.base.now _ c.requires (map asked c.args.edits.now) e.ok e.reading e.spendable)
+
+pub returns-in-Err-go_on-clause-kept : goal.returns-in-Err-go_on-clause-kept
+returns-in-Err-go_on-clause-kept c =
+    let e = c.in-Ok.ensures in
+    c.go_on.ensures.kept c.args.files.now (were_kept c.edits_keep_files.ensures.numbers c.args.files.now c.edit_all.new.self c.in-Ok.undos c.args.top.now c.args.names.now c.args.base.now _ c.requires (map asked c.args.edits.now) e.ok e.reading e.spendable)
+
+pub returns-in-Err-go_on-clause-refused : goal.returns-in-Err-go_on-clause-refused
+returns-in-Err-go_on-clause-refused c =
+    let edits = map asked c.args.edits.now in
+    subst (λ (error : BatchError). IsChangeError edits (plain c.args.files.now) error) (sym c.from.ensures) (batch_starts edits (plain c.args.files.now) (plain c.edit_all.new.self) c.in-Ok.ensures.ok)
+
+pub returns-in-Err-go_on-clause-unchanged : goal.returns-in-Err-go_on-clause-unchanged
+returns-in-Err-go_on-clause-unchanged c =
+    let e = c.in-Ok.ensures in
+    c.in-Err-go_on.ensures.undone c.args.files.now (were_kept c.edits_keep_files.ensures.numbers c.args.files.now c.edit_all.new.self c.in-Ok.undos c.args.top.now c.args.names.now c.args.base.now _ c.requires (map asked c.args.edits.now) e.ok e.reading e.spendable)

@@ -1,0 +1,57 @@
+-- What a session keeps, by its parts, and how it goes on with edited files.
+use Rattle.std.specs.Prelude.{◌≡◌, ◌⊎◌, ℕ, Option, List, []}
+use Rattle.mm_store.specs.declared.batch.BatchError.{BatchError}
+use Rattle.mm_store.specs.declared.batch.BatchError.TheVariants as batch
+use Rattle.mm_store.specs.declared.undo.Undo.{Undo}
+use Rattle.mm_store.specs.Language.Batches.{IsRefusedAt, IsSpendable, KeepsReading, StartsPlaced}
+use Rattle.mm_store.specs.Language.Edits.{Asked}
+use Rattle.mm_store.specs.Language.FileFacts.{parked_in}
+use Rattle.mm_store.specs.Language.FilesView.{File, FilesView}
+use Rattle.mm_frame.specs.Language.Base.{BaseView, IsOfFiles}
+use Rattle.mm_frame.specs.declared.base.Base.{Base}
+use Rattle.mm_proof.specs.Language.Work.{Judgement}
+use Rattle.mm_keep.specs.Code.KeptSession.{AreChecked}
+use Rattle.mm_keep.specs.Code.Next.{GoesOn, HasTop, IsBuilt}
+use Rattle.mm_keep.specs.Language.Sessions.{SessionView}
+use Rattle.mm_keep.specs.declared.keeping.Next.{Next}
+
+abbrev pub session_of : FilesView → List ℕ → SessionView
+session_of files top = record { files = files; top = top }
+
+-- the base is that of the files, and there is what a check says of each item
+pub record AreKept (files : FilesView) (top : List ℕ) (names : List (List ℕ)) (code : Base) (checked : List (Option Judgement)) (base : BaseView) : Type 0 where
+  pub built : IsBuilt names files top code base
+  pub checked_is : AreChecked base checked
+  pub parked : parked_in files ≡ 0
+
+-- there is such a base
+abbrev pub HasKept : FilesView → List ℕ → List (List ℕ) → Base → List (Option Judgement) → Type 0
+HasKept files top names code checked = (base : BaseView) × AreKept files top names code checked base
+
+-- so it was of the files before edits, which can be undone and settled
+pub record WereKept (before after : FilesView) (undos : List Undo) (top : List ℕ) (names : List (List ℕ)) (code : Base) (checked : List (Option Judgement)) : Type 0 where
+  pub base : BaseView
+  pub kept : AreKept before top names code checked base
+  pub reading : KeepsReading before after
+  pub spendable : IsSpendable before after undos
+  pub has_top : HasTop after top
+
+-- so it was of the files of before, and what a session goes on with is there
+pub record CanTake (before after : FilesView) (undos : List Undo) (top : List ℕ) (names : List (List ℕ)) (checked : List (Option Judgement)) (next : Next) : Type 0 where
+  pub spendable : IsSpendable before after undos
+  pub parked : parked_in before ≡ 0
+  pub old : BaseView
+  pub old_is : IsOfFiles before top old
+  pub old_checked : AreChecked old checked
+  pub base : BaseView
+  pub built : IsBuilt names after top next.base base
+  pub goes_on : GoesOn old base next
+
+-- for some files of before
+abbrev pub HasTaking : FilesView → List Undo → List (Option Judgement) → Next → Type 0
+HasTaking after undos checked next = (before : FilesView) × (top : List ℕ) × (names : List (List ℕ)) × CanTake before after undos top names checked next
+
+-- why edits of a session are not done: one is refused; or want of memory, once file and members of the first are known
+abbrev pub IsChangeError : List Asked → List File → BatchError → Type 0
+IsChangeError edits files (batch.Edit n error) = IsRefusedAt edits files n error
+IsChangeError edits files batch.Memory = StartsPlaced edits files ⊎ (edits ≡ [])

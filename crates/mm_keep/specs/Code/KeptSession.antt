@@ -1,0 +1,30 @@
+-- What a session keeps: its files, the base of these, and what the check of each sound theorem said.
+use Rattle.std.specs.Prelude.{◌≡◌, ℕ, true, false, Option, Some, None, List, length, slice_get}
+use Rattle.mm_store.specs.Language.FileFacts.{parked_in}
+use Rattle.mm_frame.specs.Language.Base.{BaseView, IsOfFiles, is_proof_at}
+use Rattle.mm_frame.specs.Code.KeptBase.{IsBaseBy, StandsLater}
+use Rattle.mm_proof.specs.Language.VerdictAt.{IsVerdictAt, cites_at}
+use Rattle.mm_proof.specs.Language.Work.{Judgement}
+use Rattle.mm_keep.specs.declared.session.Session.TheInside.{Inside}
+use Rattle.mm_keep.specs.Language.Sessions.{SessionView}
+
+-- this is what a check of the item with this number says: of a sound theorem, and of no other item
+abbrev pub IsCheckedAt : BaseView → ℕ → Option Judgement → Type 0
+IsCheckedAt base i None = is_proof_at base i ≡ false
+IsCheckedAt base i (Some judgement) = (is_proof_at base i ≡ true) × IsVerdictAt base i judgement.verdict × (judgement.cites ≡ cites_at base i)
+
+-- there is what a check says, of each item
+pub record AreChecked (base : BaseView) (checked : List (Option Judgement)) : Type 0 where
+  pub count : length checked ≡ length base.said
+  pub each : (i : ℕ) (one : Option Judgement) → slice_get checked i ≡ Some one → IsCheckedAt base i one
+
+abbrev pub view_of : Inside → SessionView
+view_of inside = record { files = inside.files; top = inside.top.items }
+
+pub record IsKept (inside : Inside) : Type 0 where
+  pub base : BaseView
+  pub of_files : IsOfFiles inside.files inside.top.items base
+  pub by_names : IsBaseBy inside.names base inside.base
+  pub later : StandsLater inside.names base inside.base
+  pub checked : AreChecked base inside.checked.items
+  pub parked : parked_in inside.files ≡ 0

@@ -1,0 +1,60 @@
+-- What a session goes on with behind a change of its files.
+use Rattle.std.specs.Prelude.{◌≡◌, ◌≢◌, ℕ, true, Option, None, Some, List, length, slice_get}
+use Rattle.std.specs.List.{AllZip}
+use Rattle.mm_store.specs.Language.FilesView.{FilesView, files_in, number_of}
+use Rattle.mm_frame.specs.Language.Base.{BaseView, IsOfFiles, is_proof_at}
+use Rattle.mm_frame.specs.Language.Statement.{Says}
+use Rattle.mm_frame.specs.Code.KeptBase.{IsBaseBy, StandsLater}
+use Rattle.mm_frame.specs.declared.base.Base.{Base}
+use Rattle.mm_keep.specs.Code.KeptSession.{AreChecked}
+use Rattle.mm_keep.specs.Code.Planned.{ArePlanned, AreRunBy}
+use Rattle.mm_keep.specs.Language.Runs.{AreThose, AreRuns, AreStepsOf}
+use Rattle.mm_keep.specs.declared.keeping.Next.{Next}
+
+-- the files have the top file
+abbrev pub HasTop : FilesView → List ℕ → Type 0
+HasTop files top = number_of (files_in files) top ≢ None
+
+-- the plan keeps nothing
+abbrev pub KeepsNothing : List (Option ℕ) → Type 0
+KeepsNothing plan = (k : ℕ) (from : Option ℕ) → slice_get plan k ≡ Some from → from ≡ None
+
+-- the code's base is that of these files, by these names and by any that begin with them
+pub record IsBuilt (names : List (List ℕ)) (files : FilesView) (top : List ℕ) (code : Base) (base : BaseView) : Type 0 where
+  pub of_files : IsOfFiles files top base
+  pub by_names : IsBaseBy names base code
+  pub later : StandsLater names base code
+
+-- the code's old base is read by any names that begin with these, and its items can be read in these files
+pub record IsOldIn (names : List (List ℕ)) (files : FilesView) (code : Base) (base : BaseView) : Type 0 where
+  pub later : StandsLater names base code
+  pub each : AllZip (Says files) base.found base.said
+
+-- there is what it answers
+abbrev pub HasOld : List (List ℕ) → FilesView → Base → Type 0
+HasOld names files code = (base : BaseView) × IsOldIn names files code base
+
+-- each theorem of the new base keeps what was checked before, or is run
+pub record GoesOn (old base : BaseView) (next : Next) : Type 0 where
+  pub planned : ArePlanned old base next.plan.items
+  pub ran : AreRunBy base next.plan.items next.checked.items
+  pub count : length next.checked.items ≡ length next.plan.items
+  pub runs : AreRuns old base next.work.runs
+  pub steps : AreStepsOf base next.work.runs next.work.steps
+
+-- each theorem of the first base is run
+pub record Begins (base : BaseView) (next : Next) : Type 0 where
+  pub checked : AreChecked base next.checked.items
+  pub runs : AreThose (λ i. is_proof_at base i ≡ true) (length base.said) next.work.runs
+  pub steps : AreStepsOf base next.work.runs next.work.steps
+
+-- so it is with the base of these files
+pub record IsNext (names : List (List ℕ)) (files : FilesView) (top : List ℕ) (old : BaseView) (next : Next) : Type 0 where
+  pub base : BaseView
+  pub built : IsBuilt names files top next.base base
+  pub goes_on : GoesOn old base next
+
+pub record IsFirst (names : List (List ℕ)) (files : FilesView) (top : List ℕ) (next : Next) : Type 0 where
+  pub base : BaseView
+  pub built : IsBuilt names files top next.base base
+  pub begins : Begins base next

@@ -1,0 +1,65 @@
+-- A base as that of the files that it was built from, and what its items are there.
+use Rattle.std.specs.Prelude.{◌≡◌, ℕ, ◌<◌, ◌≤◌, true, All, Option, List, length, slice_get, slice_range}
+use Rattle.mm_store.specs.declared.item.Item as store
+use Rattle.mm_store.specs.Language.FilesView.{FilesView}
+use Rattle.mm_store.specs.Language.FileFacts.{CanBeRead, StandsIn}
+use Rattle.mm_frame.specs.Language.Base.{BaseView, said_at, is_proof_at}
+use Rattle.mm_frame.specs.declared.base.Base.{Base}
+use Rattle.mm_proof.specs.Code.ReadIn.{IsReadIn}
+use Rattle.mm_proof.specs.Language.ItemLaws.{IsSpotIn}
+use Rattle.mm_proof.specs.Language.VerdictAt.{IsVerdictAt}
+use Rattle.mm_proof.specs.Language.Work.{Judgement}
+use Rattle.mm_proof.specs.declared.Spot.{Spot}
+use Rattle.mm_proof.specs.declared.Verdict.{Verdict}
+use Rattle.mm_keep.specs.declared.finding.At.{At}
+use Rattle.mm_keep.specs.Code.KeptSession.{AreChecked}
+use Rattle.mm_keep.specs.Language.WordPlaces.{spelled, HasPlace}
+
+-- the code's base answers this by these names, what it answers is what its items say in these files, and the items stand in the files
+pub record IsOf (names : List (List ℕ)) (files : FilesView) (code : Base) (view : BaseView) : Type 0 where
+  pub read_in : IsReadIn names files code view
+  pub stand : All (StandsIn files) view.found
+
+-- there is what the code's base answers
+abbrev pub HasView : List (List ℕ) → FilesView → Base → Type 0
+HasView names files code = (view : BaseView) × IsOf names files code view
+
+-- and it has an item with this number
+abbrev pub HasItemOf : List (List ℕ) → FilesView → Base → ℕ → Type 0
+HasItemOf names files code n = (view : BaseView) × IsOf names files code view × (n < length view.said)
+
+-- and this item is a sound `$p`
+abbrev pub HasTheoremOf : List (List ℕ) → FilesView → Base → ℕ → Type 0
+HasTheoremOf names files code n = (view : BaseView) × IsOf names files code view × (n < length view.said) × (is_proof_at view n ≡ true)
+
+-- and this item is a sound `$p`, and the spot is in its proof, by some names
+abbrev pub HasSpotOf : FilesView → Base → ℕ → Spot → Type 0
+HasSpotOf files code n spot =
+    (names : List (List ℕ)) × (view : BaseView) × IsOf names files code view × (n < length view.said) × (is_proof_at view n ≡ true)
+    × IsSpotIn (said_at view n).proof spot
+
+-- and the verdict on its proof is this, by some names
+abbrev pub HasVerdictOf : FilesView → Base → ℕ → Verdict → Type 0
+HasVerdictOf files code n verdict =
+    (names : List (List ℕ)) × (view : BaseView) × IsOf names files code view × (n < length view.said) × (is_proof_at view n ≡ true)
+    × IsVerdictAt view n verdict
+
+-- there is what the code's base answers, by some names, and what a check of its theorems says
+abbrev pub HasChecked : FilesView → Base → List (Option Judgement) → Type 0
+HasChecked files code checked = (names : List (List ℕ)) × (view : BaseView) × IsOf names files code view × AreChecked view checked
+
+-- and it has an item with this number
+abbrev pub HasCheckedItem : FilesView → Base → List (Option Judgement) → ℕ → Type 0
+HasCheckedItem files code checked n =
+    (names : List (List ℕ)) × (view : BaseView) × IsOf names files code view × AreChecked view checked × (n < length view.said)
+
+-- an item can be read where it stands, and one of its words has so many bytes at least
+pub record HasLetter (files : FilesView) (item : store.Item) (word letter : ℕ) : Type 0 where
+  pub read : CanBeRead files item
+  pub stands : StandsIn files item
+  pub within : letter ≤ length (spelled (slice_range read.text item.start item.end) (slice_get read.words word))
+
+-- the place of a byte of a word of an item, and how the word is spelled
+pub record IsSeen (files : FilesView) (item : store.Item) (word letter : ℕ) (at : At) (bytes : List ℕ) : Type 0 where
+  pub has_place : HasPlace files item word letter at
+  pub is_word : bytes ≡ spelled (slice_range has_place.is_byte.read.text item.start item.end) (slice_get has_place.is_byte.read.words word)

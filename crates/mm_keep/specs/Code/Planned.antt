@@ -1,0 +1,87 @@
+-- Which theorems of a new base keep what was checked in an old one, and what the runs of the others come to.
+use Rattle.std.specs.Prelude.{◌≡◌, ◌≤◌, ◌<◌, ◌+◌, ◌⊎◌, ℕ, true, false, Option, Some, None, List, [], ◌∷◌, ◌++◌, length, slice_get}
+use Rattle.mm_store.specs.Language.FilesView.{FilesView}
+use Rattle.mm_frame.specs.Language.Base.{BaseView, AreSaid, is_proof_at}
+use Rattle.mm_frame.specs.declared.base.Base.{Base}
+use Rattle.mm_frame.specs.Code.KeptBase.{IsBaseBy}
+use Rattle.mm_proof.specs.Language.BaseMarks.{Mark, AreMarks}
+use Rattle.mm_proof.specs.Language.VerdictAt.{AreDoneAt}
+use Rattle.mm_proof.specs.Code.ReadIn.{IsReadIn}
+use Rattle.mm_proof.specs.Language.Work.{Recorded, Judgement}
+use Rattle.mm_keep.specs.Code.KeptSession.{IsCheckedAt, AreChecked}
+use Rattle.mm_keep.specs.Language.Runs.{HasSameView, HadView, AreThose, AreStepsOf}
+
+-- what is planned for item j of the new base: it keeps what was checked of item i of the old one; or it keeps nothing, for there is none
+-- with its label and its view
+abbrev pub IsPlanned : BaseView → BaseView → ℕ → Option ℕ → Type 0
+IsPlanned old new j (Some i) = HasSameView old new i j
+IsPlanned old new j None = ¬ HadView old new j
+
+-- so it is planned for each item of the new base
+pub record ArePlanned (old new : BaseView) (plan : List (Option ℕ)) : Type 0 where
+  pub count : length plan ≡ length new.said
+  pub each : (j : ℕ) (from : Option ℕ) → slice_get plan j ≡ Some from → IsPlanned old new j from
+
+-- what the run of item j gives, by the plan: nothing where it keeps what was checked before or is no sound theorem
+abbrev pub IsRunBy : BaseView → Option ℕ → ℕ → Option Judgement → Type 0
+IsRunBy new (Some i) j one = one ≡ None
+IsRunBy new None j one = IsCheckedAt new j one
+
+-- so it is for each of the first items
+pub record AreRunBy (new : BaseView) (plan : List (Option ℕ)) (checked : List (Option Judgement)) : Type 0 where
+  pub within : length checked ≤ length plan
+  pub each : (j : ℕ) (from : Option ℕ) (one : Option Judgement) → slice_get plan j ≡ Some from → slice_get checked j ≡ Some one → IsRunBy new from j one
+
+-- the item is a sound theorem that keeps nothing
+pub record RunsBy (new : BaseView) (plan : List (Option ℕ)) (j : ℕ) : Type 0 where
+  pub theorem : is_proof_at new j ≡ true
+  pub nothing : slice_get plan j ≡ Some None
+
+-- the runs of the first items, by the plan, are recorded
+pub record AreRecorded (new : BaseView) (plan : List (Option ℕ)) (count : ℕ) (work : Recorded) : Type 0 where
+  pub those : AreThose (RunsBy new plan) count work.runs
+  pub steps : AreStepsOf new work.runs work.steps
+
+-- two bases over the same names, whose items can be read in the same files
+pub record AreBothRead (names : List (List ℕ)) (files : FilesView) (old new : Base) (base copy : BaseView) : Type 0 where
+  pub old_is : IsReadIn names files old base
+  pub new_is : IsReadIn names files new copy
+
+-- the marks of these two bases tell what stays of the old one
+abbrev pub AreMarksBy : List (List ℕ) → Base → Base → List Mark → Type 0
+AreMarksBy names old new marks = (base copy : BaseView) → IsBaseBy names base old → IsBaseBy names copy new → AreMarks base copy marks
+
+-- the new one has an item with this number
+abbrev pub HasItemBothRead : List (List ℕ) → FilesView → Base → Base → ℕ → Type 0
+HasItemBothRead names files old new j = (base : BaseView) × (copy : BaseView) × AreBothRead names files old new base copy × (j < length copy.said)
+
+-- the base has an item with this number, which can be read in these files
+abbrev pub HasItemRead : List (List ℕ) → FilesView → Base → ℕ → Type 0
+HasItemRead names files code j = (view : BaseView) × IsReadIn names files code view × (j < length view.said)
+
+-- one more run is recorded, that of item j, with the steps that are done in it
+pub record RecordsRun (new : BaseView) (j : ℕ) (before after : Recorded) : Type 0 where
+  pub runs : after.runs ≡ before.runs ++ j ∷ []
+  pub room : after.room + 1 ≡ before.room
+  pub count : ℕ
+  pub done : AreDoneAt new j count
+  pub few : count ≤ 4294967295
+  pub steps : after.steps ≡ before.steps + count
+
+-- the run of item j is recorded where it is a sound theorem that keeps nothing, and nothing else is
+abbrev pub RecordsIf : BaseView → Option ℕ → ℕ → Recorded → Recorded → Type 0
+RecordsIf new (Some i) j before after = after ≡ before
+RecordsIf new None j before after = ((is_proof_at new j ≡ true) × RecordsRun new j before after) ⊎ ((is_proof_at new j ≡ false) × (after ≡ before))
+
+-- what there is of two bases before what was checked of the old one is carried to the new one
+pub record CanCarry (base copy : BaseView) (checked : List (Option Judgement)) (plan : List (Option ℕ)) (ran : List (Option Judgement)) : Type 0 where
+  pub old_said : AreSaid base
+  pub new_said : AreSaid copy
+  pub planned : ArePlanned base copy plan
+  pub was : AreChecked base checked
+  pub ran_is : AreRunBy copy plan ran
+  pub count : length ran ≡ length plan
+
+-- there is
+abbrev pub CanBeCarried : List (Option Judgement) → List (Option ℕ) → List (Option Judgement) → Type 0
+CanBeCarried checked plan ran = (base : BaseView) × (copy : BaseView) × CanCarry base copy checked plan ran

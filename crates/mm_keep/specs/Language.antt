@@ -1,0 +1,7 @@
+-- The language: what the contracts of public calls cite, all the way down.
+pub mod WordPlaces
+pub mod Told
+pub mod Runs
+pub mod Sessions
+pub mod Refusals
+pub mod Laws

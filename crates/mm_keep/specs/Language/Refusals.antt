@@ -1,0 +1,20 @@
+-- Why a change of a session is refused.
+use Rattle.std.specs.Prelude.{ℕ, List}
+use Rattle.mm_store.specs.declared.edit.EditError.{EditError}
+use Rattle.mm_store.specs.declared.edit.EditError.TheVariants.{Memory}
+use Rattle.mm_store.specs.declared.batch.BatchError.{BatchError}
+use Rattle.mm_store.specs.declared.batch.BatchError.TheVariants as batch
+use Rattle.mm_store.specs.Language.FilesView.{File}
+use Rattle.mm_store.specs.Language.Answers.{IsEditError}
+use Rattle.mm_store.specs.Language.Batches.{IsRefusedAt}
+use Rattle.mm_store.specs.Language.Edits.{Asked, IsPlaced}
+
+-- an edit is refused as files refuse it; or for want of memory, once file and members are known
+abbrev pub IsRefusal : Asked → List File → EditError → Type 0
+IsRefusal edit files Memory = (number : ℕ) × (file : File) × IsPlaced files edit number file
+IsRefusal edit files error = IsEditError edit files error
+
+-- edits are refused as files refuse the first of them that they refuse; or for want of memory
+abbrev pub IsBatchRefusal : List Asked → List File → BatchError → Type 0
+IsBatchRefusal edits files (batch.Edit n error) = IsRefusedAt edits files n error
+IsBatchRefusal edits files batch.Memory = Unit {0}

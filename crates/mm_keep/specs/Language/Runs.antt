@@ -1,0 +1,47 @@
+-- Which proofs are run between two databases: those of theorems whose view is not that of before.
+use Rattle.std.specs.Prelude.{◌≡◌, ◌↔◌, ◌<◌, ℕ, true, List, Contains, AllPairs, length, sum}
+use Rattle.std.specs.List.{AllZip}
+use Rattle.mm_store.specs.Language.FilesView.{FilesView}
+use Rattle.mm_frame.specs.Language.Base.{BaseView, IsOfFiles, said_at, is_proof_at}
+use Rattle.mm_proof.specs.Language.View.{view_at, AreSameViews}
+use Rattle.mm_proof.specs.Language.VerdictAt.{AreDoneAt}
+
+-- the numbers below the count of which this holds, rising
+pub record AreThose (P : ℕ → Type 0) (count : ℕ) (numbers : List ℕ) : Type 0 where
+  pub rising : AllPairs (λ m n. m < n) numbers
+  pub each : (k : ℕ) → Contains numbers k ↔ ((k < count) × P k)
+
+-- item i of the old database and item j of the new one are sound theorems of one label with equal views
+pub record HasSameView (old new : BaseView) (i j : ℕ) : Type 0 where
+  pub within : i < length old.said
+  pub was : is_proof_at old i ≡ true
+  pub is : is_proof_at new j ≡ true
+  pub label : (said_at old i).label ≡ (said_at new j).label
+  pub view : AreSameViews (view_at old i) (view_at new j)
+
+-- the old database has a sound theorem of the label and the view of this one
+abbrev pub HadView : BaseView → BaseView → ℕ → Type 0
+HadView old new j = (i : ℕ) × HasSameView old new i j
+
+-- the item is a sound theorem, and the old database has none of its label with an equal view
+pub record IsRun (old new : BaseView) (j : ℕ) : Type 0 where
+  pub theorem : is_proof_at new j ≡ true
+  pub changed : ¬ HadView old new j
+
+-- these items of the new database are run, in order, each once
+abbrev pub AreRuns : BaseView → BaseView → List ℕ → Type 0
+AreRuns old new runs = AreThose (IsRun old new) (length new.said) runs
+
+-- so it is between files before and after
+pub record AreRunsOf (before after : FilesView) (top : List ℕ) (runs : List ℕ) : Type 0 where
+  pub old : BaseView
+  pub new : BaseView
+  pub were : IsOfFiles before top old
+  pub are : IsOfFiles after top new
+  pub those : AreRuns old new runs
+
+-- all steps that are done in runs of these items
+pub record AreStepsOf (base : BaseView) (runs : List ℕ) (total : ℕ) : Type 0 where
+  pub counts : List ℕ
+  pub each : AllZip (AreDoneAt base) runs counts
+  pub total_is : total ≡ sum counts

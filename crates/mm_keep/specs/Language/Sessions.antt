@@ -1,0 +1,69 @@
+-- What a session answers: each answer is a relation of its files and the name of the top file, and of nothing else.
+use Rattle.std.specs.Prelude.{◌≡◌, ◌<◌, ℕ, true, Option, Some, List, length}
+use Rattle.mm_store.specs.Language.FilesView.{FilesView}
+use Rattle.mm_frame.specs.Language.Base.{BaseView, IsOfFiles, said_at, is_framed_at, is_proof_at}
+use Rattle.mm_proof.specs.Language.Work.{Recorded}
+use Rattle.mm_keep.specs.Language.Runs.{AreThose, AreRunsOf, AreStepsOf}
+use Rattle.mm_keep.specs.Language.Told.{Told, IsRightlyTold, AreRightlyTold, Counts, counts}
+
+-- What a session stands for: the files, and the name of the one that the database begins with.
+pub record SessionView : Type 0 where
+  pub files : FilesView
+  pub top : List ℕ
+
+-- of the items of the session's files this holds
+abbrev pub OfItems : SessionView → (BaseView → Type 0) → Type 0
+OfItems session P = (base : BaseView) × IsOfFiles session.files session.top base × P base
+
+-- there are so many items
+abbrev pub IsCount : SessionView → ℕ → Type 0
+IsCount session count = OfItems session (λ base. count ≡ length base.said)
+
+-- there is an item with this number
+abbrev pub HasItem : SessionView → ℕ → Type 0
+HasItem session i = OfItems session (λ base. i < length base.said)
+
+-- the item with this number has this label, or none
+abbrev pub IsLabel : SessionView → ℕ → Option (List ℕ) → Type 0
+IsLabel session i label = OfItems session (λ base. label ≡ (said_at base i).label)
+
+-- this is told rightly of the item with this number
+abbrev pub IsFinding : SessionView → ℕ → Told → Type 0
+IsFinding session i told = OfItems session (λ base. IsRightlyTold session.files base i told)
+
+-- the item with this number is a sound `$a` or `$p` with this label
+pub record IsAssertion (base : BaseView) (label : List ℕ) (i : ℕ) : Type 0 where
+  pub within : i < length base.said
+  pub framed : is_framed_at base i ≡ true
+  pub label_is : (said_at base i).label ≡ Some label
+
+-- there is one with this label
+abbrev pub HasAssertion : SessionView → List ℕ → Type 0
+HasAssertion session label = OfItems session (λ base. (i : ℕ) × IsAssertion base label i)
+
+-- this is told rightly of the one with this label
+abbrev pub IsVerdictOf : SessionView → List ℕ → Told → Type 0
+IsVerdictOf session label told = OfItems session (λ base. (i : ℕ) × IsAssertion base label i × IsRightlyTold session.files base i told)
+
+-- what is told rightly of all items is counted so
+pub record IsTally (session : SessionView) (counted : Counts) : Type 0 where
+  pub base : BaseView
+  pub of_files : IsOfFiles session.files session.top base
+  pub all : List Told
+  pub are_told : AreRightlyTold session.files base all
+  pub is : counted ≡ counts all
+
+-- each sound theorem is run once, in order, with its steps
+pub record IsBegun (session : SessionView) (work : Recorded) : Type 0 where
+  pub base : BaseView
+  pub of_files : IsOfFiles session.files session.top base
+  pub those : AreThose (λ i. is_proof_at base i ≡ true) (length base.said) work.runs
+  pub steps : AreStepsOf base work.runs work.steps
+
+-- the theorems are run whose view is not that of before, in order, each once, with its steps; the top file stays
+pub record IsChanged (old new : SessionView) (work : Recorded) : Type 0 where
+  pub top : new.top ≡ old.top
+  pub runs : AreRunsOf old.files new.files old.top work.runs
+  pub base : BaseView
+  pub of_files : IsOfFiles new.files new.top base
+  pub steps : AreStepsOf base work.runs work.steps

@@ -1,0 +1,121 @@
+-- What is told of the items of files: of each whether it is at fault, an axiom or a theorem, and what the verdict on its proof is; and how
+-- many there are of each.
+use Rattle.std.specs.Prelude.{◌≡◌, ◌+◌, ℕ, true, false, Bool, Some, List, length, slice_get, slice_range, count_by}
+use Rattle.mm_store.specs.declared.item.Item as store
+use Rattle.mm_store.specs.Language.FilesView.{FilesView}
+use Rattle.mm_frame.specs.Language.Base.{BaseView, fault_at, is_sound_at, is_proof_at, said_at}
+use Rattle.mm_frame.specs.Language.Item.{Axiom, is_assertion}
+use Rattle.mm_frame.specs.declared.FrameNumber.{FrameNumber}
+use Rattle.mm_proof.specs.Language.VerdictAt.{IsVerdictAt}
+use Rattle.mm_proof.specs.declared.Spot.{Spot}
+use Rattle.mm_proof.specs.declared.Verdict.{Verdict}
+use Rattle.mm_proof.specs.declared.Verdict.TheVariants as verdicts
+use Rattle.mm_proof.specs.declared.ProofNumber.{ProofNumber}
+use Rattle.mm_keep.specs.declared.finding.At.{At}
+use Rattle.mm_keep.specs.Language.WordPlaces.{spelled, HasPlace, IsPlaceOfSpot}
+
+-- A word as a line shows it: its place, and how it is spelled.
+pub record Shown : Type 0 where
+  pub at : At
+  pub word : List ℕ
+
+-- What is told of an item.
+pub data Told : Type 0 where
+  Quiet : Told
+  AnAxiom : Told
+  Proved : Told
+  Incomplete : At → Told
+  Wrong : ProofNumber → At → Told
+  Fault : FrameNumber → Shown → Told
+
+-- a word of an item is shown like this
+pub record IsShown (files : FilesView) (item : store.Item) (word : ℕ) (shown : Shown) : Type 0 where
+  pub has_place : HasPlace files item word 0 shown.at
+  pub is_word : shown.word ≡ spelled (slice_range has_place.is_byte.read.text item.start item.end) (slice_get has_place.is_byte.read.words word)
+
+-- it tells the fault with this number, at this word of an item
+abbrev pub TellsFaultAt : FilesView → store.Item → ℕ → FrameNumber → Told → Type 0
+TellsFaultAt files item word number one = (shown : Shown) × (one ≡ Fault number shown) × IsShown files item word shown
+
+-- the fault of the item with this number, told at its word
+pub record IsFaultOf (files : FilesView) (view : BaseView) (n : ℕ) (number : FrameNumber) (shown : Shown) : Type 0 where
+  pub word : ℕ
+  pub fault : fault_at view n ≡ Some (word, number)
+  pub item : store.Item
+  pub there : slice_get view.found n ≡ Some item
+  pub is_shown : IsShown files item word shown
+
+-- the item with this number is neither at fault nor an assertion
+pub record IsQuiet (view : BaseView) (n : ℕ) : Type 0 where
+  pub sound : is_sound_at view n ≡ true
+  pub kind : is_assertion (said_at view n).kind ≡ false
+
+-- it is a sound `$a`
+pub record IsAxiom (view : BaseView) (n : ℕ) : Type 0 where
+  pub sound : is_sound_at view n ≡ true
+  pub kind : (said_at view n).kind ≡ Axiom
+
+-- it is a sound `$p`, and this is the verdict on its proof
+pub record HasVerdict (view : BaseView) (n : ℕ) (verdict : Verdict) : Type 0 where
+  pub proof : is_proof_at view n ≡ true
+  pub is_verdict : IsVerdictAt view n verdict
+
+-- it is one whose proof has this verdict at a spot, and the spot has this place
+pub record HasVerdictShown (files : FilesView) (view : BaseView) (n : ℕ) (verdict : Spot → Verdict) (at : At) : Type 0 where
+  pub spot : Spot
+  pub has_verdict : HasVerdict view n (verdict spot)
+  pub is_place : IsPlaceOfSpot files view n spot at
+
+-- what is told rightly of the item with this number
+abbrev pub IsRightlyTold : FilesView → BaseView → ℕ → Told → Type 0
+IsRightlyTold files view n Quiet = IsQuiet view n
+IsRightlyTold files view n AnAxiom = IsAxiom view n
+IsRightlyTold files view n Proved = HasVerdict view n verdicts.Proved
+IsRightlyTold files view n (Incomplete at) = HasVerdictShown files view n verdicts.Incomplete at
+IsRightlyTold files view n (Wrong number at) = HasVerdictShown files view n (verdicts.Wrong number) at
+IsRightlyTold files view n (Fault number shown) = IsFaultOf files view n number shown
+
+-- what is told rightly of each item
+pub record AreRightlyTold (files : FilesView) (view : BaseView) (all : List Told) : Type 0 where
+  pub count : length all ≡ length view.said
+  pub each : (n : ℕ) (one : Told) → slice_get all n ≡ Some one → IsRightlyTold files view n one
+
+abbrev pub is_axiom : Told → Bool
+is_axiom AnAxiom = true
+is_axiom _ = false
+
+abbrev pub is_proved : Told → Bool
+is_proved Proved = true
+is_proved _ = false
+
+abbrev pub is_incomplete : Told → Bool
+is_incomplete (Incomplete at) = true
+is_incomplete _ = false
+
+abbrev pub is_wrong : Told → Bool
+is_wrong (Wrong number at) = true
+is_wrong _ = false
+
+abbrev pub is_fault : Told → Bool
+is_fault (Fault number shown) = true
+is_fault _ = false
+
+-- How many there are: sound `$a`; sound `$p`, and of these the proved, the incomplete and the wrong; and faults.
+pub record Counts : Type 0 where
+  pub axioms : ℕ
+  pub theorems : ℕ
+  pub proved : ℕ
+  pub incomplete : ℕ
+  pub wrong : ℕ
+  pub faults : ℕ
+
+-- how many are told
+abbrev pub counts : List Told → Counts
+counts all = record {
+  axioms = count_by is_axiom all;
+  theorems = count_by is_proved all + count_by is_incomplete all + count_by is_wrong all;
+  proved = count_by is_proved all;
+  incomplete = count_by is_incomplete all;
+  wrong = count_by is_wrong all;
+  faults = count_by is_fault all;
+}

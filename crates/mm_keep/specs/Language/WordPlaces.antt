@@ -1,0 +1,47 @@
+-- Where words of items stand, and bytes of these words, in the texts of the files.
+use Rattle.std.specs.Prelude.{◌≡◌, ℕ, ◌+◌, Option, Some, None, List, [], length, slice_get, slice_range}
+use Rattle.mm_text.specs.declared.word.Word.{Word}
+use Rattle.mm_text.specs.Language.Place.{line_at, column_at}
+use Rattle.mm_store.specs.declared.item.Item as store
+use Rattle.mm_store.specs.Language.FilesView.{FilesView}
+use Rattle.mm_store.specs.Language.FileFacts.{CanBeRead, StandsIn, IsByte}
+use Rattle.mm_frame.specs.Language.Base.{BaseView, said_at}
+use Rattle.mm_frame.specs.Language.Item.{Item}
+use Rattle.mm_frame.specs.Language.Statement.{symbols_from}
+use Rattle.mm_proof.specs.declared.Spot.{Spot}
+use Rattle.mm_keep.specs.declared.finding.At.{At}
+
+-- where the word with a number begins; 0 where there are fewer
+abbrev pub start_of : Option Word → ℕ
+start_of None = 0
+start_of (Some word) = word.start
+
+-- how a word is spelled; no bytes where there are fewer
+abbrev pub spelled : List ℕ → Option Word → List ℕ
+spelled text None = []
+spelled text (Some word) = slice_range text word.start word.end
+
+-- a byte of a word of an item, counted from the word's first, is this byte of the text of its file
+pub record IsByteOfWord (files : FilesView) (item : store.Item) (word letter offset : ℕ) : Type 0 where
+  pub stands : StandsIn files item
+  pub read : CanBeRead files item
+  pub text : List ℕ
+  pub byte : IsByte files item.file item.piece (item.start + (start_of (slice_get read.words word) + letter)) text offset
+
+-- a byte of a word of an item has this line and this column, in the file of the item
+pub record HasPlace (files : FilesView) (item : store.Item) (word letter : ℕ) (at : At) : Type 0 where
+  pub offset : ℕ
+  pub is_byte : IsByteOfWord files item word letter offset
+  pub in_file : at.file ≡ item.file
+  pub line : at.line ≡ line_at is_byte.text offset
+  pub column : at.column ≡ column_at is_byte.text offset
+
+-- the number of a word of a proof among all words of its statement: the first one stands behind the symbols and the `$=`
+abbrev pub proof_word : Item → ℕ → ℕ
+proof_word item n = symbols_from item.kind + length item.symbols + 1 + n
+
+-- a spot in the proof of the item with this number has this place; the word behind the last of the proof is the closing `$.`
+pub record IsPlaceOfSpot (files : FilesView) (view : BaseView) (n : ℕ) (spot : Spot) (at : At) : Type 0 where
+  pub item : store.Item
+  pub there : slice_get view.found n ≡ Some item
+  pub has_place : HasPlace files item (proof_word (said_at view n) spot.word) spot.letter at

@@ -1,0 +1,162 @@
+//! What a session answers of its items.
+
+ghost use Rattle.std.specs.Prelude.{◌≡◌, ◌↔◌, ℕ, List, true, false, Some, None, IfOk, IfErr, IfSome, IsErrOf};
+ghost use Rattle.mm_store.specs.Language.FileFacts.{CanBeRead, StandsIn};
+ghost use Rattle.mm_store.specs.Language.FilesView.{FilesView};
+ghost use Rattle.mm_frame.specs.Code.KeptBase.{IsBase};
+ghost use Rattle.mm_frame.specs.Language.Base.{BaseView, said_at, is_sound_at, is_proof_at};
+ghost use Rattle.mm_frame.specs.Language.Item.{is_theorem};
+ghost use Rattle.mm_frame.specs.Language.Statement.{kind_of};
+ghost use Rattle.mm_proof.specs.Language.VerdictAt.{IsVerdictAt};
+ghost use Rattle.mm_keep.specs.Code.Findings.{told, counted};
+ghost use Rattle.mm_keep.specs.Code.KeptSession.{AreChecked};
+ghost use Rattle.mm_keep.specs.Code.OfFiles.{IsOf, HasChecked, HasCheckedItem, HasVerdictOf};
+ghost use Rattle.mm_keep.specs.declared.answers.KeepError.TheVariants.{NoAssertion};
+ghost use Rattle.mm_keep.specs.Language.Sessions.{HasAssertion, HasItem, IsAssertion, IsFinding, IsTally, IsVerdictOf, OfItems};
+ghost use Rattle.mm_keep.specs.Language.Told.{Told, IsRightlyTold, AreRightlyTold, TellsFaultAt, counts};
+
+use crate::finding::Finding;
+use crate::seen::{place_of_spot, seen_at};
+use crate::session::Session;
+use crate::tally::Tally;
+use mm_frame::{Base, Files, FrameFault, Item, ItemKind, files_have_one_base};
+use mm_proof::{Checked, Verdict, spots_are_in};
+use thiserror::Error;
+
+/// Why a session does not answer.
+#[derive(Clone, Copy, Debug, PartialEq, Eq, Error)]
+pub enum KeepError {
+    /// No sound `$a` or `$p` has this label.
+    #[error("no such assertion")]
+    NoAssertion,
+    /// There was not enough memory.
+    #[error("out of memory")]
+    Memory,
+}
+
+/// What is found of an item with a fault.
+fn at_fault<'a>(files: &'a Files, item: &Item, fault: FrameFault) -> Finding<'a>
+    requires read { CanBeRead files.now item.now }
+    requires stands { StandsIn files.now item.now }
+    ensures { TellsFaultAt files.now item.now fault.word fault.number (told result) }
+{
+    let seen = seen_at(files, item, fault.word, 0);
+    Finding::Fault {
+        number: fault.number,
+        at: seen.at,
+        word: seen.word,
+    }
+}
+
+/// What is found of a sound theorem with this verdict.
+fn judged<'a>(files: &'a Files, base: &Base, number: usize, verdict: Verdict) -> Finding<'a>
+    requires { HasVerdictOf files.now base.now number verdict }
+    ensures { (names : List (List ℕ)) (view : BaseView) → IsOf names files.now base.now view → is_proof_at view number ≡ true
+        → IsVerdictAt view number verdict → IsRightlyTold files.now view number (told result) }
+{
+    spots_are_in();
+    match verdict {
+        Verdict::Proved => Finding::Proved,
+        Verdict::Incomplete(spot) => Finding::Incomplete(place_of_spot(files, base, number, spot)),
+        Verdict::Wrong(fault, spot) => {
+            Finding::Wrong(fault, place_of_spot(files, base, number, spot))
+        }
+    }
+}
+
+/// What is found of a sound item that is no theorem.
+fn unproved<'a>(kind: ItemKind) -> Finding<'a>
+    ensures { (files : FilesView) (view : BaseView) (n : ℕ) → is_sound_at view n ≡ true → is_theorem (kind_of kind) ≡ false
+        → kind_of kind ≡ (said_at view n).kind → IsRightlyTold files view n (told result) }
+{
+    match kind {
+        ItemKind::Axiom => Finding::Axiom,
+        _ => Finding::Quiet,
+    }
+}
+
+/// What is found of the item with this number.
+fn finding_of<'a>(
+    files: &'a Files,
+    base: &Base,
+    checked: &[Option<Checked>],
+    i: usize,
+) -> Finding<'a>
+    requires { HasCheckedItem files.now base.now checked.now i }
+    ensures { (names : List (List ℕ)) (view : BaseView) → IsOf names files.now base.now view → AreChecked view checked.now
+        → IsRightlyTold files.now view i (told result) }
+{
+    let item = base.item(i);
+    if let Some(fault) = base.fault(i) {
+        return at_fault(files, item, fault);
+    }
+    match &checked[i] {
+        Some(checked) => judged(files, base, i, checked.verdict()),
+        None => unproved(item.kind),
+    }
+}
+
+/// How many items there are of each kind that a summary counts.
+fn tally_of(files: &Files, base: &Base, checked: &[Option<Checked>]) -> Tally
+    requires { HasChecked files.now base.now checked.now }
+    ensures { (names : List (List ℕ)) (view : BaseView) → IsOf names files.now base.now view → AreChecked view checked.now
+        → (all : List Told) × AreRightlyTold files.now view all × (counted result ≡ counts all) }
+{
+    let mut tally = Tally::none();
+    for i in 0..base.count() {
+        tally = tally.with(&finding_of(files, base, checked, i));
+    }
+    tally
+}
+
+/// The number of the sound `$a` or `$p` with this label.
+fn assertion_in(base: &Base, label: &[u8]) -> Option<usize>
+    ensures some { (view : BaseView) → IsBase view base.now → IfSome result (IsAssertion view label.now) }
+    ensures found { (view : BaseView) (i : ℕ) → IsBase view base.now → IsAssertion view label.now i → result ≡ Some i }
+{
+    let i = base.find(label)?;
+    base.frame(i)?;
+    Some(i)
+}
+
+impl Session {
+    /// What is found of the item with this number, counted from 0. It takes no memory; a place costs one look at its piece.
+    pub fn finding(&self, i: usize) -> Finding<'_>
+        requires { HasItem self.now i }
+        ensures { IsFinding self.now i (told result) }
+    {
+        files_have_one_base();
+        mm_store::items_stand();
+        finding_of(&self.files, &self.base, &self.checked, i)
+    }
+
+    /// The number of the sound `$a` or `$p` with this label.
+    fn assertion(&self, label: &[u8]) -> Option<usize>
+        ensures some { IfSome result (λ i. OfItems self.now (λ base. IsAssertion base label.now i)) }
+        ensures none { result ≡ None → ¬ HasAssertion self.now label.now }
+    {
+        files_have_one_base();
+        assertion_in(&self.base, label)
+    }
+
+    /// What is found of the sound `$a` or `$p` with this label. It takes no memory; the one error is that there is none.
+    pub fn verdict(&self, label: &[u8]) -> Result<Finding<'_>, KeepError>
+        ensures ok { IfOk result (λ finding. IsVerdictOf self.now label.now (told finding)) }
+        ensures none { IsErrOf result NoAssertion ↔ ¬ HasAssertion self.now label.now }
+        ensures err { IfErr result (λ error. error ≡ NoAssertion) }
+    {
+        files_have_one_base();
+        match self.assertion(label) {
+            Some(i) => Ok(self.finding(i)),
+            None => Err(KeepError::NoAssertion),
+        }
+    }
+
+    /// How many items there are of each kind that a summary counts. It takes no memory.
+    pub fn tally(&self) -> Tally
+        ensures { IsTally self.now (counted result) }
+    {
+        mm_store::items_stand();
+        tally_of(&self.files, &self.base, &self.checked)
+    }
+}

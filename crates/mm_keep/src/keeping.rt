@@ -1,0 +1,134 @@
+//! What a session goes on with: the base of its files as they are, and what is checked of it.
+
+ghost use Rattle.std.specs.Prelude.{◌≡◌, ◌↔◌, ℕ, None, IfOk, IfErr, IsErrOf, length};
+ghost use Rattle.mm_store.specs.declared.error.StoreError.TheVariants.{Memory, NoTop};
+ghost use Rattle.mm_store.specs.Language.Answers.{IsExpansionError};
+ghost use Rattle.mm_store.specs.Language.FilesView.{files_in, number_of};
+ghost use Rattle.mm_frame.specs.Language.Base.{BaseView};
+ghost use Rattle.mm_frame.specs.Language.Names.{AreDistinct, Begins as longer};
+ghost use Rattle.mm_proof.specs.Code.ReadIn.{IsReadIn};
+ghost use Rattle.mm_keep.specs.Code.Next.{Begins, GoesOn, HasOld, HasTop, IsBuilt, IsFirst, IsNext, KeepsNothing, IsOldIn};
+ghost use Rattle.mm_keep.specs.Code.Planned.{AreBothRead};
+
+use crate::planning::{planned, run_rest};
+use mm_frame::{Base, Files, Names, StoreError};
+use mm_proof::{Checked, Work};
+use std::alloc::{AllocError, Global};
+
+/// What a session goes on with behind a change of its files: the base of these, what each item keeps of what was checked
+/// before, what is checked of the others, and the record of these runs.
+#[derive(Drop)]
+pub struct Next {
+    pub base: Base,
+    pub plan: Vec<Option<usize>>,
+    pub checked: Vec<Option<Checked>>,
+    pub work: Work,
+}
+
+/// Why there is no base of files that have the top file.
+fn lack(error: StoreError) -> AllocError
+    requires { error ≡ Memory }
+{
+    match error {
+        StoreError::Memory => AllocError,
+        _ => unreachable!(),
+    }
+}
+
+/// The base of files that have the top file.
+fn base_of(alloc: Global, names: &mut Names, files: &Files, top: &[u8]) -> Result<Base, AllocError>
+    requires { HasTop files.now top.now }
+    ensures base { IfOk result (λ built. (base : BaseView) × IsBuilt names.new files.now top.now built base) }
+    ensures grows { longer names.old names.new }
+{
+    match Base::build(alloc, names, files, top) {
+        Ok(base) => Ok(base),
+        Err(error) => Err(lack(error)),
+    }
+}
+
+/// What each item of a new base keeps, and the runs of the others.
+fn rest_of(
+    alloc: Global,
+    names: &Names,
+    files: &Files,
+    old: &Base,
+    base: Base,
+) -> Result<Next, AllocError>
+    requires { (view : BaseView) × (copy : BaseView) × AreBothRead names.now files.now old.now base view copy }
+    ensures base { IfOk result (λ next. next.base ≡ base) }
+    ensures next { IfOk result (λ next. (view copy : BaseView) → AreBothRead names.now files.now old.now base view copy → GoesOn view copy next) }
+{
+    let plan = planned(alloc, names, files, old, &base)?;
+    let (checked, work) = run_rest(alloc, names, files, &base, &plan)?;
+    Ok(Next {
+        base,
+        plan,
+        checked,
+        work,
+    })
+}
+
+/// What a session goes on with behind a change of its files.
+pub fn next_of(
+    alloc: Global,
+    names: &mut Names,
+    files: &Files,
+    top: &[u8],
+    old: &Base,
+) -> Result<Next, AllocError>
+    requires top { HasTop files.now top.now }
+    requires old { HasOld names.old files.now old.now }
+    ensures grows { longer names.old names.new }
+    ensures distinct { AreDistinct names.new }
+    ensures next { IfOk result (λ next. (view : BaseView) → IsOldIn names.old files.now old.now view → IsNext names.new files.now top.now view next) }
+{
+    let built = base_of(alloc, &mut *names, files, top);
+    // No name stands twice.
+    let _count = names.count();
+    rest_of(alloc, names, files, old, built?)
+}
+
+/// A plan for so many items that keeps nothing.
+fn nothing_kept(alloc: Global, count: usize) -> Result<Vec<Option<usize>>, AllocError>
+    ensures count { IfOk result (λ plan. length plan.items ≡ count) }
+    ensures nothing { IfOk result (λ plan. KeepsNothing plan.items) }
+{
+    let mut plan = Vec::with_capacity(alloc, count)?;
+    for _i in 0..count {
+        plan.push(None)?;
+    }
+    Ok(plan)
+}
+
+/// The runs of all theorems of a first base.
+fn first_runs(alloc: Global, names: &Names, files: &Files, base: Base) -> Result<Next, AllocError>
+    requires { (view : BaseView) × IsReadIn names.now files.now base view }
+    ensures base { IfOk result (λ next. next.base ≡ base) }
+    ensures next { IfOk result (λ next. (view : BaseView) → IsReadIn names.now files.now base view → Begins view next) }
+{
+    let count = base.count();
+    let plan = nothing_kept(alloc, count)?;
+    let (checked, work) = run_rest(alloc, names, files, &base, &plan)?;
+    Ok(Next {
+        base,
+        plan,
+        checked,
+        work,
+    })
+}
+
+/// What a session begins with: each item keeps nothing.
+pub fn first_of(
+    alloc: Global,
+    names: &mut Names,
+    files: &Files,
+    top: &[u8],
+) -> Result<Next, StoreError>
+    ensures first { IfOk result (IsFirst names.new files.now top.now) }
+    ensures no_top { IsErrOf result NoTop ↔ (number_of (files_in files.now) top.now ≡ None) }
+    ensures told { IfErr result IsExpansionError }
+{
+    let base = Base::build(alloc, &mut *names, files, top)?;
+    Ok(first_runs(alloc, names, files, base)?)
+}

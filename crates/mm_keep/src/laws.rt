@@ -1,0 +1,19 @@
+//! What is proved of the definitions: each law is the contract of a function.
+
+ghost use Rattle.mm_keep.specs.Language.Laws.{ItemsHaveFindings, OneListOfRuns};
+
+/// Between files before and files after there is one list of runs, whatever keys their pieces have.
+pub fn one_list_of_runs()
+    ensures { OneListOfRuns }
+{
+    mm_frame::files_have_one_base();
+}
+
+/// Of each item of files something is told rightly: so what is promised of findings and tallies can be met, of all files.
+pub fn items_have_findings()
+    ensures { ItemsHaveFindings }
+{
+    mm_store::items_stand();
+    mm_proof::has_verdict_at();
+    mm_proof::spots_are_in();
+}

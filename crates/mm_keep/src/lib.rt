@@ -1,0 +1,25 @@
+//! Sessions: the files of a database, what is found of each of its items, and edits that run again only the proofs whose
+//! view they change.
+#![tactic(auto)]
+
+mod answers;
+mod finding;
+mod keeping;
+mod laws;
+mod planning;
+mod seen;
+mod session;
+mod tally;
+mod unbegun;
+
+pub use answers::KeepError;
+pub use finding::{At, Finding};
+pub use laws::{items_have_findings, one_list_of_runs};
+pub use mm_frame::{
+    BatchError, Edit, EditError, Files, FrameNumber, Place, StoreError, TextFault, TextNumber,
+    nth_word, place,
+};
+pub use mm_proof::{ProofNumber, Work};
+pub use session::Session;
+pub use tally::Tally;
+pub use unbegun::Unbegun;

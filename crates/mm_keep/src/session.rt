@@ -1,0 +1,285 @@
+//! A session: files whose items are verified, and stay so from edit to edit.
+
+ghost use Rattle.std.specs.Prelude.{◌≡◌, ◌≤◌, ◌↔◌, ℕ, List, Ok, Err, Some, None, IfOk, IfErr, OnOk, OnErr, IsErrOf, map};
+ghost use Rattle.std.specs.Option.{option_map};
+ghost use Rattle.mm_store.specs.declared.batch.BatchError.TheVariants as batch;
+ghost use Rattle.mm_store.specs.declared.edit.EditError.{EditError};
+ghost use Rattle.mm_store.specs.declared.edit.EditError.TheVariants.{Memory, NoFile, NoPiece};
+ghost use Rattle.mm_store.specs.declared.error.StoreError.TheVariants.{NoTop};
+ghost use Rattle.mm_store.specs.Language.Answers.{IsExpansionError};
+ghost use Rattle.mm_store.specs.Language.Batches.{IsBatchOf};
+ghost use Rattle.mm_store.specs.Language.Edits.{asked, edited_name, IsEditOf, NamesNoMember};
+ghost use Rattle.mm_store.specs.Language.FileFacts.{parked_in};
+ghost use Rattle.mm_store.specs.Language.FilesView.{FilesView, files_in, file_number, number_of, plain};
+ghost use Rattle.mm_keep.specs.Code.Changing.{AreKept, CanTake, HasKept, HasTaking, IsChangeError, WereKept, session_of};
+ghost use Rattle.mm_keep.specs.Code.Next.{IsFirst};
+ghost use Rattle.mm_keep.specs.Language.Refusals.{IsRefusal, IsBatchRefusal};
+ghost use Rattle.mm_keep.specs.Language.Sessions.{IsBegun, IsChanged, IsCount, IsLabel};
+
+use crate::keeping::{Next, first_of, next_of};
+use crate::planning::carry;
+use crate::unbegun::Unbegun;
+use mm_frame::{Base, BatchError, Edit, EditError, Files, Names, StoreError, Undos};
+use mm_proof::{Checked, Work};
+use std::alloc::{AllocError, Global};
+use std::marker::Model;
+use std::slice;
+
+/// Files that are verified from a top file on, and stay so from edit to edit: an edit runs the proofs whose view it
+/// changes, and no others.
+///
+/// The view of a theorem is all of the database that the verdict on its proof depends on: the words of the proof, the
+/// expression, the mandatory hypotheses, the active pairs, and what each label that the proof names means there. What a
+/// session answers depends on its files and the name of the top file alone.
+#[derive(Drop)]
+pub struct Session {
+    pub(crate) files: Files,
+    pub(crate) top: Vec<u8>,
+    pub(crate) names: Names,
+    pub(crate) base: Base,
+    /// For the number of each item what the check of its proof said; nothing where it is no sound `$p`.
+    pub(crate) checked: Vec<Option<Checked>>,
+}
+
+impl Model for Session {
+    ghost use Rattle.std.specs.Coded.{codes};
+    ghost use Rattle.mm_store.specs.contracts.files.Files as store;
+    ghost use Rattle.mm_keep.specs.Language.Sessions.{SessionView};
+
+    ghost Value = { SessionView };
+
+    ghost coded = { Prim.hlevel (codes, store.the_row.coded) };
+
+    ghost use Rattle.mm_keep.specs.Code.KeptSession.{view_of, IsKept};
+
+    ghost view = { view_of };
+
+    ghost invariant = { IsKept };
+}
+
+/// The reason of a refused batch of one edit.
+fn reason(error: BatchError) -> EditError
+    ensures refused { (n : ℕ) (inner : EditError) → error ≡ batch.Edit n inner → result ≡ inner }
+    ensures memory { error ≡ batch.Memory → result ≡ Memory }
+{
+    match error {
+        BatchError::Edit(_, error) => error,
+        BatchError::Memory => EditError::from(AllocError),
+    }
+}
+
+/// A copy of the name of the top file, and what a session begins with.
+fn begun(
+    alloc: Global,
+    names: &mut Names,
+    files: &Files,
+    top: &[u8],
+) -> Result<(Vec<u8>, Next), StoreError>
+    ensures top { IfOk result (λ begun. begun.0.items ≡ top.now) }
+    ensures first { IfOk result (λ begun. IsFirst names.new files.now top.now begun.1) }
+    ensures no_top { IsErrOf result NoTop ↔ (number_of (files_in files.now) top.now ≡ None) }
+    ensures told { IfErr result IsExpansionError }
+{
+    let next = first_of(alloc, names, files, top)?;
+    let top = Vec::from_slice(alloc, top)?;
+    Ok((top, next))
+}
+
+/// Puts what a session goes on with in the place of what it had, and drops the old pieces of the edits.
+fn take_next(
+    files: &mut Files,
+    base: &mut Base,
+    checked: &mut Vec<Option<Checked>>,
+    next: Next,
+    undos: Undos,
+) -> Work
+    requires { HasTaking files.old undos checked.old.items next }
+    ensures kept { (before : FilesView) (top : List ℕ) (names : List (List ℕ)) → CanTake before files.old undos top names checked.old.items next
+        → HasKept files.new top names base.new checked.new.items }
+    ensures runs { (before : FilesView) (top : List ℕ) (names : List (List ℕ)) → CanTake before files.old undos top names checked.old.items next
+        → IsChanged (session_of before top) (session_of files.new top) result }
+    ensures plain { plain files.new ≡ plain files.old }
+{
+    mm_store::items_stand();
+    let Next {
+        base: new,
+        plan,
+        checked: mut ran,
+        work,
+    } = next;
+    carry(&mut *checked, &plan, &mut ran);
+    *base = new;
+    *checked = ran;
+    files.settle_all(undos);
+    work
+}
+
+/// Goes on with files that were edited, or undoes the edits.
+fn go_on(
+    alloc: Global,
+    files: &mut Files,
+    names: &mut Names,
+    top: &[u8],
+    base: &mut Base,
+    checked: &mut Vec<Option<Checked>>,
+    undos: Undos,
+) -> Result<Work, AllocError>
+    requires { (before : FilesView) × WereKept before files.old undos top.now names.old base.old checked.old.items }
+    ensures kept { (before : FilesView) → WereKept before files.old undos top.now names.old base.old checked.old.items
+        → HasKept files.new top.now names.new base.new checked.new.items }
+    ensures runs { IfOk result (λ work. (before : FilesView) → WereKept before files.old undos top.now names.old base.old checked.old.items
+        → IsChanged (session_of before top.now) (session_of files.new top.now) work) }
+    ensures plain { OnOk result (plain files.new ≡ plain files.old) }
+    ensures undone { OnErr result ((before : FilesView) → WereKept before files.old undos top.now names.old base.old checked.old.items → files.new ≡ before) }
+{
+    match next_of(alloc, names, files, top, base) {
+        Ok(next) => Ok(take_next(files, base, checked, next, undos)),
+        Err(error) => {
+            files.undo_all(undos);
+            Err(error)
+        }
+    }
+}
+
+/// Does edits, and goes on with the edited files; or does nothing.
+fn change(
+    alloc: Global,
+    files: &mut Files,
+    names: &mut Names,
+    top: &[u8],
+    base: &mut Base,
+    checked: &mut Vec<Option<Checked>>,
+    edits: &[Edit<'_>],
+) -> Result<Work, BatchError>
+    requires { HasKept files.old top.now names.old base.old checked.old.items }
+    ensures kept { HasKept files.new top.now names.new base.new checked.new.items }
+    ensures files { OnOk result (IsBatchOf (map asked edits.now) (plain files.old) (plain files.new)) }
+    ensures runs { IfOk result (IsChanged (session_of files.old top.now) (session_of files.new top.now)) }
+    ensures refused { IfErr result (IsChangeError (map asked edits.now) (plain files.old)) }
+    ensures unchanged { OnErr result (files.new ≡ files.old) }
+{
+    mm_store::edits_keep_files();
+    match files.edit_all(alloc, edits) {
+        Ok(undos) => match go_on(alloc, files, names, top, base, checked, undos) {
+            Ok(work) => Ok(work),
+            Err(error) => Err(BatchError::from(error)),
+        },
+        Err(error) => Err(error),
+    }
+}
+
+impl Session {
+    /// Begins a session over these files, from the file of the name `top` on: it runs the proof of each sound `$p`, in
+    /// order, and answers with the record of these runs.
+    ///
+    /// Where no file has the name `top`, or memory lacks, the files are handed back as they were.
+    pub fn begin(alloc: Global, files: Files, top: &[u8]) -> Result<(Session, Work), Unbegun>
+        requires { parked_in files ≡ 0 }
+        ensures files { IfOk result (λ begun. begun.0.files ≡ files) }
+        ensures top { IfOk result (λ begun. begun.0.top ≡ top.now) }
+        ensures runs { IfOk result (λ begun. IsBegun begun.0 begun.1) }
+        ensures back { IfErr result (λ unbegun. unbegun.files ≡ files) }
+        ensures no_top { IfErr result (λ unbegun. (unbegun.fault ≡ NoTop) ↔ (number_of (files_in files) top.now ≡ None)) }
+        ensures told { IfErr result (λ unbegun. IsExpansionError unbegun.fault) }
+    {
+        let mut names = Names::new(alloc);
+        match begun(alloc, &mut names, &files, top) {
+            Ok((top, next)) => {
+                let Next {
+                    base,
+                    plan: _,
+                    checked,
+                    work,
+                } = next;
+                let session = Session {
+                    files,
+                    top,
+                    names,
+                    base,
+                    checked,
+                };
+                Ok((session, work))
+            }
+            Err(fault) => Err(Unbegun { files, fault }),
+        }
+    }
+
+    /// Does an edit of the files, and runs, in order, the proof of each sound `$p` of the edited files for which the files
+    /// before had no sound `$p` of the same label with an equal view. The answer is the record of these runs.
+    ///
+    /// The errors are those of [`Files::edit`], in its order; `Memory` can come in the place of each but the first two,
+    /// and in the place of success. After any error the session is as before.
+    ///
+    /// It takes time near linear in the items of the files and in what it runs; the old base and the new one are kept
+    /// beside each other until it is done.
+    pub fn edit(&mut self, alloc: Global, edit: &Edit<'_>) -> Result<Work, EditError>
+        ensures files { OnOk result (IsEditOf (asked edit.now) (plain self.old.files) (plain self.new.files)) }
+        ensures runs { IfOk result (IsChanged self.old self.new) }
+        ensures no_file { IsErrOf result NoFile ↔ (file_number (plain self.old.files) (edited_name (asked edit.now)) ≡ None) }
+        ensures no_piece { (count : ℕ) → IsErrOf result (NoPiece count) ↔ NamesNoMember (asked edit.now) (plain self.old.files) count }
+        ensures refused { IfErr result (IsRefusal (asked edit.now) (plain self.old.files)) }
+        ensures unchanged { OnErr result (self.new ≡ self.old) }
+    {
+        match self.change_all(alloc, slice::from_ref(edit)) {
+            Ok(work) => Ok(work),
+            Err(error) => Err(reason(error)),
+        }
+    }
+
+    /// Does all these edits, one after another, each on the files after those before it, or none of them. What is run is
+    /// what the whole of them asks for: the proof of each sound `$p` of the files after them all for which the files
+    /// before them all had none of the same label with an equal view; so each is run once at most.
+    ///
+    /// Where an edit is refused, the error has its number, from 0, and the reason, which is never want of memory. After any
+    /// error the session is as before. No edits are accepted, and run nothing.
+    pub fn edit_all(&mut self, alloc: Global, edits: &[Edit<'_>]) -> Result<Work, BatchError>
+        ensures files { OnOk result (IsBatchOf (map asked edits.now) (plain self.old.files) (plain self.new.files)) }
+        ensures runs { IfOk result (IsChanged self.old self.new) }
+        ensures refused { IfErr result (IsBatchRefusal (map asked edits.now) (plain self.old.files)) }
+        ensures unchanged { OnErr result (self.new ≡ self.old) }
+    {
+        self.change_all(alloc, edits)
+    }
+
+    /// Does edits. Want of memory comes once the file and the members of the first are known, or where there are no edits.
+    fn change_all(&mut self, alloc: Global, edits: &[Edit<'_>]) -> Result<Work, BatchError>
+        ensures files { OnOk result (IsBatchOf (map asked edits.now) (plain self.old.files) (plain self.new.files)) }
+        ensures runs { IfOk result (IsChanged self.old self.new) }
+        ensures refused { IfErr result (IsChangeError (map asked edits.now) (plain self.old.files)) }
+        ensures unchanged { OnErr result (self.new ≡ self.old) }
+    {
+        change(
+            alloc,
+            &mut self.files,
+            &mut self.names,
+            &self.top,
+            &mut self.base,
+            &mut self.checked,
+            edits,
+        )
+    }
+
+    /// The files, with all edits that were accepted; none of their pieces is parked.
+    pub fn files(&self) -> &Files
+        ensures files { result.now ≡ self.now.files }
+        ensures parked { parked_in result.now ≡ 0 }
+    {
+        &self.files
+    }
+
+    /// How many items there are: statements, beginnings and ends of blocks, and first references to missing files; at most
+    /// 4,294,967,295.
+    pub fn count(&self) -> usize
+        ensures count { IsCount self.now result }
+        ensures few { result ≤ 4294967295 }
+    {
+        self.base.count()
+    }
+
+    /// The label of the item with this number, counted from 0: of a `$f`, `$e`, `$a` or `$p`, be it sound or not.
+    pub fn label(&self, i: usize) -> Option<&[u8]>
+        ensures { IsLabel self.now i (option_map (λ label. label.now) result) }
+    {
+        self.base.label(i)
+    }
+}

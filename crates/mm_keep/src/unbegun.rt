@@ -1,0 +1,11 @@
+//! What is handed back where a session does not begin.
+
+use mm_frame::{Files, StoreError};
+
+/// The files of a session that did not begin, as they were handed in, and why: no file has the name of the top file, or
+/// want of memory.
+#[derive(Drop)]
+pub struct Unbegun {
+    pub files: Files,
+    pub fault: StoreError,
+}
