@@ -1,0 +1,40 @@
+-- Files by number: their names; and what is told of an item names one of them.
+use Rattle.std.proofs.Common.{◌≡◌, ℕ, ◌<◌, List, [], Some, length, map, slice_get, sym, ap, ◌∙◌, subst}
+use Rattle.std.specs.Prelude.{slice_index_or}
+use Rattle.std.specs.Option.{option_map}
+use Rattle.std.proofs.lemmas.Option.{slice_get-map, slice_get_within, get_or_from_slice_get}
+use Rattle.std.proofs.lemmas.Simd.{map-map}
+use Rattle.mm_store.specs.Language.FilesView.{KeyedFile, FilesView, File, plain, plain_file}
+use Rattle.mm_store.specs.declared.item.Item as store
+use Rattle.mm_frame.specs.Language.Base.{BaseView}
+use Rattle.mm_keep.specs.declared.finding.At.{At}
+use Rattle.mm_keep.specs.Language.Told.{Told, Quiet, AnAxiom, Proved, Incomplete, Wrong, Fault, IsRightlyTold}
+use Rattle.mm_report.specs.Code.InFiles.{IsInFiles}
+use Rattle.mm_report.specs.Language.Report.{names_of}
+use Rattle.mm_keep.specs.Language.WordPlaces.{HasPlace}
+
+-- the names are those of the files by keys
+names_are : (files : FilesView) → names_of (plain files) ≡ map (λ (file : KeyedFile). file.name) files.keyed
+names_are files = map-map (λ (file : File). file.name) (plain_file files.pieces) files.keyed
+
+-- the name of a file, by its number
+pub name_is : (files : FilesView) (n : ℕ) (name : List ℕ) → option_map (λ (file : KeyedFile). file.name) (slice_get files.keyed n) ≡ Some name → slice_index_or (names_of (plain files)) n [] ≡ name
+name_is files n name is =
+    let there : slice_get (names_of (plain files)) n ≡ Some name =
+    ap (λ names. slice_get names n) (names_are files) ∙ slice_get-map (λ (file : KeyedFile). file.name) files.keyed n ∙ is in
+    get_or_from_slice_get (names_of (plain files)) n name [] there
+
+-- a place of a word of an item is in one of the files
+placed_in : (files : FilesView) (item : store.Item) (word letter : ℕ) (at : At) → HasPlace files item word letter at → at.file < length files.keyed
+placed_in files item word letter at place =
+    let stands = place.is_byte.stands in
+    subst (λ n. n < length files.keyed) (sym place.in_file) (slice_get_within files.keyed item.file stands.file stands.there)
+
+-- so is what is told rightly of an item
+pub told_in : (files : FilesView) (view : BaseView) (n : ℕ) (one : Told) → IsRightlyTold files view n one → IsInFiles (length files.keyed) one
+told_in files view n Quiet f = tt
+told_in files view n AnAxiom f = tt
+told_in files view n Proved f = tt
+told_in files view n (Incomplete at) f = placed_in files f.is_place.item _ _ at f.is_place.has_place
+told_in files view n (Wrong number at) f = placed_in files f.is_place.item _ _ at f.is_place.has_place
+told_in files view n (Fault number shown) f = placed_in files f.item _ _ shown.at f.is_shown.has_place

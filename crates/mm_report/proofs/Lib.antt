@@ -1,0 +1,6 @@
+pub mod StreamLemmas
+pub mod FileLemmas
+pub mod ReportLemmas
+pub mod WrittenLemmas
+pub mod DatabaseLemmas
+pub mod AnswerLemmas

@@ -1,0 +1,38 @@
+use Rattle.std.proofs.Common.{◌≡◌, [], arith}
+use Rattle.std.specs.Prelude.{unwrap_or}
+use Rattle.mm_frame.specs.Language.Base.{said_at}
+use Rattle.mm_keep.specs.Code.Findings.{counted, told}
+use Rattle.mm_report.specs.Language.Stream.{written}
+use Rattle.mm_report.proofs.WrittenLemmas.{label_is, within_is, one_written, line_fails}
+use Rattle.mm_report.proofs.report.write_lines.Goals as goal
+
+pub returns-in_err-write_line-clause-err : goal.returns-in_err-write_line-clause-err
+returns-in_err-write_line-clause-err g c =
+    let session = c.args.session.now in
+    let i = c.loop-i.i in
+    let alone = c.files_have_one_base.ensures.base in
+    let found = c.finding-finding.ensures in
+    let base = found.0 in
+    let labelled = label_is session i _ alone c.label.ensures base found.1 in
+    let name : c.unwrap_or-label.result.now ≡ unwrap_or (said_at base i).label [] = grind (arith, labelled, c.unwrap_or-label.ensures) in
+    let within = within_is session c.count-i-end.result i alone c.count-i-end.ensures.count c.loop-i-test.true base found.1 in
+    let stops = rw c.files.ensures.files at (c.in_err-write_line.ensures (said_at base i) name).err in
+    let fails = line_fails g.W.Write.contents session c.args.to.now c.loop-i.to c.write_line.new.to i (counted c.loop-i.tally) (told c.finding-finding.result) alone c.items_have_findings.ensures found within
+    stops c.loop-i.invariant in
+    grind (arith, fails, c.from_residual.ensures)
+
+pub loop-i-preserved : goal.loop-i-preserved
+loop-i-preserved g c =
+    let session = c.args.session.now in
+    let i = c.loop-i.i in
+    let alone = c.files_have_one_base.ensures.base in
+    let found = c.finding-finding.ensures in
+    one_written session (written g.W.Write.contents c.args.to.now) (written g.W.Write.contents c.loop-i.to) i (counted c.loop-i.tally) (told c.finding-finding.result) alone found
+    (written g.W.Write.contents c.write_line.new.to) (counted c.with-tally.result)
+    (λ base is. within_is session c.count-i-end.result i alone c.count-i-end.ensures.count c.loop-i-test.true base is)
+    (λ base is.
+    let labelled = label_is session i _ alone c.label.ensures base is in
+    let name : c.unwrap_or-label.result.now ≡ unwrap_or (said_at base i).label [] = grind (arith, labelled, c.unwrap_or-label.ensures) in
+    (rw c.files.ensures.files at (c.in_ok-write_line.ensures (said_at base i) name)).ok)
+    (λ all so. c.with-tally.ensures all so)
+    c.loop-i.invariant

@@ -1,0 +1,14 @@
+use Rattle.std.proofs.Common.{length, take, ◌-◌, ◌≡◌, ◌≤◌, false}
+use Rattle.std.specs.Io.KnownBytes.{Appends}
+use Rattle.mm_report.proofs.stream.Writing.write_all.Given as goal
+
+abbrev pub invariant-loop-at : goal.invariant-loop-at
+invariant-loop-at g l = record {
+  in_range : l.at ≤ length l.bytes;
+  was_sound : l.initial.self.failed ≡ false;
+  sound : l.self.failed ≡ false;
+  out : Appends (g.W.Write.contents l.initial.self.inner) (g.W.Write.contents l.self.inner) (take l.at l.bytes);
+}
+
+abbrev pub decreases-loop-at : goal.decreases-loop-at
+decreases-loop-at g l = length l.bytes - l.at

@@ -1,0 +1,3 @@
+-- What the code keeps: private contracts and loop invariants cite it.
+pub mod InFiles
+pub mod Written

@@ -1,0 +1,4 @@
+-- The language: what the contracts of public calls cite, all the way down.
+pub mod Stream
+pub mod Report
+pub mod Laws

@@ -1,0 +1,26 @@
+-- What a writer that remembers its failure has written.
+use Rattle.std.specs.Prelude.{◌≡◌, ℕ, Bool, true, Option, List, Result, OnOk, OnErr, take}
+use Rattle.std.specs.Io.KnownBytes.{Appends}
+use Rattle.mm_report.specs.declared.stream.Writing.{Writing}
+
+-- the bytes of the writer within, where it tells them
+abbrev pub written : {W : Type 0} → (W → Option (List ℕ)) → Writing W → Option (List ℕ)
+written contents writing = contents writing.inner
+
+abbrev pub has_failed : {W : Type 0} → Writing W → Bool
+has_failed writing = writing.failed
+
+-- known bytes grow by some of the first of these bytes
+pub record AppendsPart (old new : Option (List ℕ)) (bytes : List ℕ) : Type 0 where
+  pub count : ℕ
+  pub appends : Appends old new (take count bytes)
+
+-- a write of these bytes fails: a part of them is written
+pub record Stops {W : Type 0} (contents : W → Option (List ℕ)) (old new : Writing W) (bytes : List ℕ) : Type 0 where
+  pub failed : has_failed new ≡ true
+  pub part : AppendsPart (written contents old) (written contents new) bytes
+
+-- these bytes are written behind the others; or the answer is an error, and the write of them has failed
+pub record Writes {W T E : Type 0} (contents : W → Option (List ℕ)) (old new : Writing W) (result : Result T E) (bytes : List ℕ) : Type 0 where
+  pub ok : OnOk result (Appends (written contents old) (written contents new) bytes)
+  pub err : OnErr result (Stops contents old new bytes)

@@ -1,0 +1,16 @@
+//! What holds of all reports. The function does nothing; what it promises is the law.
+
+ghost use Rattle.mm_report.specs.Language.Laws.{OneReport};
+
+/// Files have one report at most from a top file on, which the keys of their pieces do not change.
+///
+/// So the bytes that `write_report` writes depend on nothing but the names and the texts of the files, as they are
+/// cut into pieces, and the name of the top file.
+pub fn one_report()
+    ensures { OneReport }
+{
+    mm_text::one_meaning();
+    mm_store::items_stand();
+    mm_frame::files_have_one_base();
+    mm_proof::has_one_verdict_at();
+}

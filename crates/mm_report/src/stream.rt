@@ -1,0 +1,67 @@
+//! A writer that stops at its first failure.
+
+ghost use Rattle.std.specs.Prelude.{◌≡◌, true, false, OnOk};
+
+use std::io::Write;
+
+/// A write that did not go through.
+#[derive(Debug, Drop)]
+pub struct WriteFailed;
+
+/// A writer that remembers that it failed, and calls no more from then on.
+#[derive(Drop)]
+pub struct Writing<W: Write> {
+    inner: W,
+    failed: bool,
+}
+
+impl<W: Write> Writing<W> {
+    ghost use Rattle.mm_report.specs.Language.Stream.{written, has_failed, Writes};
+
+    /// A writer that has not failed.
+    pub fn new(inner: W) -> Writing<W>
+        ensures written { written W.contents result ≡ W.contents inner }
+        ensures failed { has_failed result ≡ false }
+    {
+        Writing {
+            inner,
+            failed: false,
+        }
+    }
+
+    /// Whether a call has failed: it answered an error, or took none of the bytes.
+    pub fn failed(&self) -> bool
+        ensures { result ≡ has_failed self.now }
+    {
+        self.failed
+    }
+
+    /// The writer within.
+    pub fn into_inner(self) -> W
+        ensures { W.contents result ≡ written W.contents self }
+    {
+        self.inner
+    }
+
+    /// Writes all of the bytes, by as many calls of `write` as the writer wants.
+    pub fn write_all(&mut self, bytes: &[u8]) -> Result<(), WriteFailed>
+        ensures writes { Writes W.contents self.old self.new result bytes.now }
+        ensures sound { OnOk result (has_failed self.new ≡ false) }
+        ensures stays { has_failed self.old ≡ true → self.new ≡ self.old }
+    {
+        if self.failed {
+            return Err(WriteFailed);
+        }
+        let mut at = 0;
+        while at < bytes.len() {
+            match self.inner.write(&bytes[at..]) {
+                Ok(n) if n > 0 => at += n,
+                _ => {
+                    self.failed = true;
+                    return Err(WriteFailed);
+                }
+            }
+        }
+        Ok(())
+    }
+}
