@@ -1,9 +1,2 @@
-pub mod PlaceLemmas
-pub mod SpotLemmas
-pub mod StreamLemmas
-pub mod ReportLemmas
-pub mod DatabaseLemmas
-pub mod VerifyLemmas
-pub mod AnswerLemmas
-pub mod ItemLemmas
-pub mod FileLemmas
+pub mod CleanLemmas
+pub mod LoadLemmas

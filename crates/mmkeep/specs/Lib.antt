@@ -1,2 +1,1 @@
 pub mod Language
-pub mod Code

@@ -1,7 +1,7 @@
 //! The order of the faults of statements: small statements behind four lines, and the lines that are told of them.
 
-use crate::stream::Writing;
 use crate::tests::verify_text;
+use mm_report::Writing;
 use std::process::Abort;
 use std::test::Fail;
 

@@ -1,9 +1,8 @@
 //! The reports of databases of several files.
 
-use crate::fault::VerifyError;
-use crate::stream::Writing;
-use crate::verify::verify_files;
-use mm_frame::{Files, StoreError};
+use crate::tests::{VerifyError, verify_files};
+use mm_keep::{Files, StoreError};
+use mm_report::Writing;
 use std::process::Abort;
 use std::test::Fail;
 
@@ -34,7 +33,7 @@ fn reports(
     let files = files_of(rt, texts)?;
     let mut writing = Writing::new(Vec::new(rt.alloc()));
     let top = texts.first().map_or(b"".as_slice(), |named| named.0);
-    let answer = verify_files(rt.alloc(), &files, top, &mut writing);
+    let answer = verify_files(rt.alloc(), files, top, &mut writing);
     assert_eq!(rt; answer, Ok(clean), "of {texts:?}");
     let written = writing.into_inner();
     assert_eq!(rt; written.as_slice(), report, "of {texts:?}");
@@ -97,7 +96,7 @@ fn tells_no_top_file(rt: HostRuntime) -> Result<(), Fail> {
     let texts: [Named; 1] = [(b"a.mm", b"")];
     let files = files_of(&rt, &texts)?;
     let mut writing = Writing::new(Vec::new(rt.alloc()));
-    let answer = verify_files(rt.alloc(), &files, b"a", &mut writing);
+    let answer = verify_files(rt.alloc(), files, b"a", &mut writing);
     assert_eq!(rt; answer, Err(VerifyError::Store(StoreError::NoTop)));
     assert!(rt; writing.into_inner().is_empty());
     Ok(())

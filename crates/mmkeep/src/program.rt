@@ -1,14 +1,18 @@
 //! The program: the words of the command line, the files, the report and the standard error lines.
 
+ghost use Rattle.std.specs.Prelude.{◌≡◌, ◌↔◌, ℕ, List, [], IsTrue, IfOk, OnOk, length};
 ghost use Rattle.mm_store.specs.Language.Answers.{IsAddErrorIn};
+ghost use Rattle.mm_store.specs.Language.FileFacts.{parked_in};
+ghost use Rattle.mm_frame.specs.Language.Item.{Item};
+ghost use Rattle.mm_keep.specs.Code.Findings.{counted};
+ghost use Rattle.mm_keep.specs.Language.Told.{Told, counts};
+ghost use Rattle.mm_report.specs.Language.Report.{lines};
 
 use crate::arguments::Command;
 use crate::asking::command;
-use crate::fault::VerifyError;
 use crate::outcome::Outcome;
-use crate::stream::Writing;
-use crate::verify::verify_files;
-use mm_frame::{Files as Database, Place, StoreError, place};
+use mm_keep::{Files as Database, Place, Session, StoreError, Tally, place};
+use mm_report::{Writing, write_report};
 use std::alloc::{AllocError, Global};
 use std::fs::File;
 use std::io::{BufWriter, ErrorKind, Read, Write};
@@ -54,14 +58,16 @@ fn chosen(alloc: Global, arguments: &[String]) -> Result<Option<Command<'_>>, Al
 /// Loads the files of a database, verifies it, and writes its report to standard output.
 fn verify(rt: &(impl Files + Print + Eprint + AllocGlobal), top: &str) -> Outcome {
     match load(rt, top) {
-        Ok(files) => verify_loaded(rt, &files, top),
+        Ok(files) => verify_loaded(rt, files, top),
         Err(outcome) => outcome,
     }
 }
 
 /// The top file and the files that it includes: each name is opened at its first reference, in the order of the
 /// expansion, once. A name that cannot be opened stays missing. What keeps a file from being loaded is told.
-fn load(rt: &(impl Files + Eprint + AllocGlobal), top: &str) -> Result<Database, Outcome> {
+fn load(rt: &(impl Files + Eprint + AllocGlobal), top: &str) -> Result<Database, Outcome>
+    ensures { IfOk result (λ files. parked_in files ≡ 0) }
+{
     let mut files = Database::new(rt.alloc());
     let Ok(file) = File::open(rt, top) else {
         return Err(unreadable(rt, top));
@@ -86,7 +92,9 @@ fn add_included(
     rt: &(impl Files + Eprint + AllocGlobal),
     files: &mut Database,
     name: &[u8],
-) -> Result<(), Outcome> {
+) -> Result<(), Outcome>
+    ensures { OnOk result (parked_in files.new ≡ parked_in files.old) }
+{
     // The words of a text are ASCII.
     let Ok(path) = str::from_utf8(name) else {
         return Ok(());
@@ -104,7 +112,9 @@ fn add_file(
     files: &mut Database,
     path: &str,
     mut file: impl Read + Drop,
-) -> Result<(), Outcome> {
+) -> Result<(), Outcome>
+    ensures { OnOk result (parked_in files.new ≡ parked_in files.old) }
+{
     let mut text = Vec::new(rt.alloc());
     match file.read_to_end(&mut text) {
         Ok(_) => add_text(rt, files, path, &text),
@@ -119,7 +129,9 @@ fn add_text(
     files: &mut Database,
     path: &str,
     text: &[u8],
-) -> Result<(), Outcome> {
+) -> Result<(), Outcome>
+    ensures { OnOk result (parked_in files.new ≡ parked_in files.old) }
+{
     match files.add(rt.alloc(), path.as_bytes(), text) {
         Ok(()) => Ok(()),
         Err(error) => Err(not_added(rt, path, text, error)),
@@ -150,21 +162,40 @@ fn unreadable(rt: &impl Eprint, path: &str) -> Outcome {
     Outcome::Input
 }
 
-/// Verifies files, and writes their report to standard output.
-fn verify_loaded(rt: &(impl Print + Eprint + AllocGlobal), files: &Database, top: &str) -> Outcome {
+/// Begins a session over files, and writes its report to standard output.
+fn verify_loaded(rt: &(impl Print + Eprint + AllocGlobal), files: Database, top: &str) -> Outcome
+    requires { parked_in files ≡ 0 }
+{
+    match Session::begin(rt.alloc(), files, top.as_bytes()) {
+        Ok((session, _)) => reported(rt, &session),
+        Err(_) => lack_memory(rt),
+    }
+}
+
+/// Writes the report of a session to standard output.
+fn reported(rt: &(impl Print + Eprint + AllocGlobal), session: &Session) -> Outcome {
     let Ok(out) = BufWriter::new(rt.alloc(), io::writer(rt)) else {
         return lack_memory(rt);
     };
     let mut writing = Writing::new(out);
-    let verified = verify_files(rt.alloc(), files, top.as_bytes(), &mut writing);
+    let written = write_report(session, &mut writing);
     let flushed = writing.into_inner().flush();
-    match verified {
-        Ok(_) if flushed.is_err() => fail_to_write(rt),
-        Ok(true) => Outcome::Clean,
-        Ok(false) => Outcome::Findings,
-        Err(VerifyError::Store(_)) => lack_memory(rt),
-        Err(VerifyError::Write) => fail_to_write(rt),
+    if written.is_err() || flushed.is_err() {
+        return fail_to_write(rt);
     }
+    if is_clean(&session.tally()) {
+        Outcome::Clean
+    } else {
+        Outcome::Findings
+    }
+}
+
+/// Whether no line stands before the summary of a report with these counts.
+pub fn is_clean(tally: &Tally) -> bool
+    ensures { (names : List (List ℕ)) (items : List Item) (all : List Told) → length all ≡ length items → counted tally.now ≡ counts all
+        → IsTrue result ↔ (lines names items all ≡ []) }
+{
+    tally.incomplete == 0 && tally.wrong == 0 && tally.faults == 0
 }
 
 fn refuse_arguments(rt: &impl Eprint) -> Outcome {

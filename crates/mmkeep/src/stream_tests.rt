@@ -1,8 +1,7 @@
 //! What is written by writers that take little, or fail.
 
-use crate::fault::VerifyError;
-use crate::stream::Writing;
-use crate::tests::{verify_text, with_line};
+use crate::tests::{VerifyError, verify_text, with_line};
+use mm_report::Writing;
 use std::io;
 use std::io::Write;
 use std::test::Fail;

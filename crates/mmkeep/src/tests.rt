@@ -1,9 +1,8 @@
 //! The reports of small files: blocks, statements and comments, and the errors of texts.
 
-use crate::fault::VerifyError;
-use crate::stream::Writing;
-use crate::verify::verify_files;
-use mm_frame::{Files, Place, StoreError, TextFault, TextNumber, place};
+use crate::program::is_clean;
+use mm_keep::{Files, Place, Session, StoreError, TextFault, TextNumber, place};
+use mm_report::{ReportError, Writing, write_report};
 use std::alloc::Global;
 use std::io::Write;
 use std::process::Abort;
@@ -50,6 +49,47 @@ pub fn with_line(rt: &(impl AllocGlobal + Abort), line: &[u8]) -> Result<Vec<u8>
     joined(rt, FIVE, line)
 }
 
+/// Why there is no report of files.
+#[derive(Clone, Copy, Debug, PartialEq, Eq)]
+pub enum VerifyError {
+    /// The files were not taken, or no session began.
+    Store(StoreError),
+    /// The report was not written in full.
+    Write,
+}
+
+impl From<StoreError> for VerifyError {
+    fn from(error: StoreError) -> Self {
+        VerifyError::Store(error)
+    }
+}
+
+impl From<ReportError> for VerifyError {
+    fn from(_: ReportError) -> Self {
+        VerifyError::Write
+    }
+}
+
+/// Begins a session over files, writes its report, and answers whether that is clean.
+pub fn verify_files<W: Write>(
+    alloc: Global,
+    files: Files,
+    top: &[u8],
+    writing: &mut Writing<W>,
+) -> Result<bool, VerifyError> {
+    // No piece of files that were only added is parked.
+    if files.parked() != 0 {
+        return Err(VerifyError::Write);
+    }
+    match Session::begin(alloc, files, top) {
+        Err(unbegun) => Err(VerifyError::Store(unbegun.fault)),
+        Ok((session, _)) => {
+            write_report(&session, writing)?;
+            Ok(is_clean(&session.tally()))
+        }
+    }
+}
+
 /// Verifies a text as the only file, which has this name.
 pub fn verify_text<W: Write>(
     alloc: Global,
@@ -59,7 +99,7 @@ pub fn verify_text<W: Write>(
 ) -> Result<bool, VerifyError> {
     let mut files = Files::new(alloc);
     files.add(alloc, name, text)?;
-    verify_files(alloc, &files, name, writing)
+    verify_files(alloc, files, name, writing)
 }
 
 /// Checks that a text of this name is verified with this report, and whether that is clean.

@@ -1,0 +1,83 @@
+-- A report is clean: no line stands in it before its summary.
+use Rattle.std.proofs.Common.{◌≡◌, ℕ, Bool, false, cond, zero-add, IsTrue, ◌+◌, List, [], ◌∷◌, length, refl, sym, ◌∙◌, ap, arith, nat_eq}
+use Rattle.std.specs.Prelude.{count_by}
+use Rattle.std.proofs.Common.{eq-eqb}
+use Rattle.std.proofs.lemmas.Bool.{eqb-true}
+use Rattle.std.proofs.lemmas.List.Sums.{sum_by-cons}
+use Rattle.mm_frame.specs.Language.Item.{Item}
+use Rattle.mm_keep.specs.declared.tally.Tally.{Tally}
+use Rattle.mm_keep.specs.Code.Findings.{counted}
+use Rattle.mm_keep.specs.Language.Told.{Told, Quiet, AnAxiom, Proved, Incomplete, Wrong, Fault, Counts, counts, is_incomplete, is_wrong, is_fault}
+use Rattle.mm_report.specs.Language.Report.{lines}
+
+-- ---- counts
+
+abbrev unit : Bool → ℕ
+unit b = cond b 1 0
+
+count_cons : {X : Type 0} (test : X → Bool) (x : X) (xs : List X) → count_by test (x ∷ xs) ≡ unit (test x) + count_by test xs
+count_cons test x xs = sum_by-cons (λ y. unit (test y)) x xs
+
+-- nothing is incomplete, wrong or at fault
+abbrev pub HaveNoLines : List Told → Type 0
+HaveNoLines all = (count_by is_incomplete all ≡ 0) × (count_by is_wrong all ≡ 0) × (count_by is_fault all ≡ 0)
+
+-- what has no line is not counted
+none_more : (one : Told) (all : List Told) → is_incomplete one ≡ false → is_wrong one ≡ false → is_fault one ≡ false → HaveNoLines all → HaveNoLines (one ∷ all)
+none_more one all i w f p = (count_cons is_incomplete one all ∙ rw i (zero-add _ ∙ p.0), count_cons is_wrong one all ∙ rw w (zero-add _ ∙ p.1), count_cons is_fault one all ∙ rw f (zero-add _ ∙ p.2))
+
+none_behind : (one : Told) (all : List Told) → is_incomplete one ≡ false → is_wrong one ≡ false → is_fault one ≡ false → HaveNoLines (one ∷ all) → HaveNoLines all
+none_behind one all i w f p =
+    (sym (zero-add _) ∙ sym (count_cons is_incomplete one all ∙ rw i refl) ∙ p.0, sym (zero-add _) ∙ sym (count_cons is_wrong one all ∙ rw w refl) ∙ p.1, sym (zero-add _) ∙ sym (count_cons is_fault one all ∙ rw f refl) ∙ p.2)
+
+-- no line stands in a report where nothing is incomplete, wrong or at fault
+pub no_lines : (names : List (List ℕ)) (items : List Item) (all : List Told) → HaveNoLines all → lines names items all ≡ []
+no_lines names [] all n = refl
+no_lines names (x ∷ xs) [] n = refl
+no_lines names (x ∷ xs) (Incomplete at ∷ ys) n = absurd (omega (arith, n.0, count_cons is_incomplete (Incomplete at) ys))
+no_lines names (x ∷ xs) (Wrong number at ∷ ys) n = absurd (omega (arith, n.1, count_cons is_wrong (Wrong number at) ys))
+no_lines names (x ∷ xs) (Fault number shown ∷ ys) n = absurd (omega (arith, n.2, count_cons is_fault (Fault number shown) ys))
+no_lines names (x ∷ xs) (Quiet ∷ ys) n = no_lines names xs ys (none_behind Quiet ys refl refl refl n)
+no_lines names (x ∷ xs) (AnAxiom ∷ ys) n = no_lines names xs ys (none_behind AnAxiom ys refl refl refl n)
+no_lines names (x ∷ xs) (Proved ∷ ys) n = no_lines names xs ys (none_behind Proved ys refl refl refl n)
+
+-- and one stands there where something is
+pub some_line : (names : List (List ℕ)) (items : List Item) (all : List Told) → length all ≡ length items → lines names items all ≡ [] → HaveNoLines all
+some_line names [] [] e l = (refl, refl, refl)
+some_line names [] (y ∷ ys) e l = cc
+some_line names (x ∷ xs) [] e l = cc
+some_line names (x ∷ xs) (Incomplete at ∷ ys) e l = cc
+some_line names (x ∷ xs) (Wrong number at ∷ ys) e l = cc
+some_line names (x ∷ xs) (Fault number shown ∷ ys) e l = cc
+some_line names (x ∷ xs) (Quiet ∷ ys) e l = none_more Quiet ys refl refl refl (some_line names xs ys (cc) l)
+some_line names (x ∷ xs) (AnAxiom ∷ ys) e l = none_more AnAxiom ys refl refl refl (some_line names xs ys (cc) l)
+some_line names (x ∷ xs) (Proved ∷ ys) e l = none_more Proved ys refl refl refl (some_line names xs ys (cc) l)
+
+-- ---- the answer
+
+abbrev pub IsAnswer : List (List ℕ) → List Item → List Told → Bool → Type 0
+IsAnswer names items all clean = (IsTrue clean → lines names items all ≡ []) × (lines names items all ≡ [] → IsTrue clean)
+
+module _ (names : List (List ℕ)) (items : List Item) (all : List Told) (tally : Tally) (count : length all ≡ length items) (same : counted tally ≡ counts all) where
+  none_incomplete : HaveNoLines all → tally.incomplete ≡ 0
+  none_incomplete n = ap (λ (k : Counts). k.incomplete) same ∙ n.0
+
+  none_wrong : HaveNoLines all → tally.wrong ≡ 0
+  none_wrong n = ap (λ (k : Counts). k.wrong) same ∙ n.1
+
+  none_fault : HaveNoLines all → tally.faults ≡ 0
+  none_fault n = ap (λ (k : Counts). k.faults) same ∙ n.2
+
+  -- nothing is incomplete or wrong: it is clean where nothing is at fault
+  pub clean_by_faults : tally.incomplete ≡ 0 → tally.wrong ≡ 0 → IsAnswer names items all (nat_eq tally.faults 0)
+  clean_by_faults i w = (
+    λ clean. no_lines names items all (sym (ap (λ (k : Counts). k.incomplete) same) ∙ i, sym (ap (λ (k : Counts). k.wrong) same) ∙ w, sym (ap (λ (k : Counts). k.faults) same) ∙ eqb-true tally.faults 0 clean),
+    λ none. eq-eqb tally.faults 0 (none_fault (some_line names items all count none)),
+  )
+
+  -- it is not clean where something is incomplete or wrong
+  pub not_clean : (clean : Bool) → clean ≡ false → (tally.incomplete ≡ 0 → tally.wrong ≡ 0 → ⊥) → IsAnswer names items all clean
+  not_clean clean is some = (
+    λ yes. absurd (cc),
+    λ none. absurd (some (none_incomplete (some_line names items all count none)) (none_wrong (some_line names items all count none))),
+  )

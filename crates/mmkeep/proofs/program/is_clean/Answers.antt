@@ -1,0 +1,16 @@
+use Rattle.std.proofs.Common.{arith}
+use Rattle.mmkeep.proofs.CleanLemmas.{clean_by_faults, not_clean}
+use Rattle.mmkeep.proofs.program.is_clean.Goals as goal
+use Rattle.mmkeep.proofs.program.is_clean.Goals.{then-tally-eq0, else-tally-eq0}
+
+pub returns-then-tally-eq0-2 : goal.returns-then-tally-eq0-2
+returns-then-tally-eq0-2 c names items all count same = elim c.if-tally-eq0.branch [
+  | then-tally-eq0 w ↦ clean_by_faults names items all c.args.tally.now count same (grind (arith, w.if-tally-eq0)) (grind (arith, w.value-is, c.if-tally-eq0-2.true))
+  | else-tally-eq0 w ↦ absurd (grind (arith, w.value-is, c.if-tally-eq0-2.true))
+]
+
+pub returns-else-tally-eq0-2 : goal.returns-else-tally-eq0-2
+returns-else-tally-eq0-2 c names items all count same = not_clean names items all c.args.tally.now count same c.if-tally-eq0.value c.if-tally-eq0-2.false (λ i w. elim c.if-tally-eq0.branch [
+  | then-tally-eq0 v ↦ grind (arith, v.value-is, c.if-tally-eq0-2.false, w)
+  | else-tally-eq0 v ↦ grind (arith, v.value-is, v.if-tally-eq0, i)
+])

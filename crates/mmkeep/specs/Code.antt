@@ -1,3 +1,0 @@
--- What the code keeps: private contracts and loop invariants cite it.
-pub mod Findings
-pub mod OfFiles
