@@ -196,7 +196,9 @@ module _ (text : List ℕ) (pieces : List (List ℕ)) (from at : ℕ) (phase : m
     inner_skipped : (n : ℕ) → 0 < n → (n ≤ length (tokens_of text h.part)) ⊎ (length (tokens_of text h.part) ≤ n) → ¬ WholeRun (take n (tokens_of text (h.part ++ words_skipped)))
     inner_skipped n some (inl less) whole = h.inner n some less (ap (m.run m.Begin 0) (sym (ap (take n) tokens_skipped ∙ take-append-le n (tokens_of text h.part) (tokens_of text words_skipped) less)) ∙ whole)
     inner_skipped n some (inr more) whole =
-        let same : m.state_of phase (length blocks) ≡ m.state_of m.Begin 0 = let a : m.run m.Begin 0 (take n (tokens_of text (h.part ++ words_skipped))) ≡ Ok (m.state_of phase (length blocks)) = runs_skipped n more in let b : m.run m.Begin 0 (take n (tokens_of text (h.part ++ words_skipped))) ≡ Ok (m.state_of m.Begin 0) = whole in cc in
+        let same : m.state_of phase (length blocks) ≡ m.state_of m.Begin 0 =
+        let a : m.run m.Begin 0 (take n (tokens_of text (h.part ++ words_skipped))) ≡ Ok (m.state_of phase (length blocks)) = runs_skipped n more in
+        let b : m.run m.Begin 0 (take n (tokens_of text (h.part ++ words_skipped))) ≡ Ok (m.state_of m.Begin 0) = whole in cc in
         is_no_begin phase inside (ap (λ (s : m.Phase × ℕ). s.0) same)
 
     tokens_all : tokens_of text (h.before ++ h.part) ++ tokens_of text words_skipped ≡ tokens_of text (h.before ++ (h.part ++ words_skipped))

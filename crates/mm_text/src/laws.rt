@@ -1,6 +1,6 @@
 //! What holds of every text. Each function does nothing; what it promises is the law.
 
-ghost use Rattle.std.specs.Prelude.{◌≡◌, ◌⊎◌, ℕ, true, All, List, [], ◌∷◌, map, slice_range};
+ghost use Rattle.std.specs.Prelude.{◌≡◌, ◌<◌, ◌⊎◌, ℕ, true, All, List, [], ◌∷◌, length, map, slice_range};
 ghost use Rattle.std.specs.List.{AllByRecursion, flat_map};
 ghost use Rattle.mm_text.specs.declared.word.Word.{Word};
 ghost use Rattle.mm_text.specs.declared.fault.TextFault.{TextFault};
@@ -75,6 +75,11 @@ pub fn one_cut()
     ensures cut { (text : List ℕ) (a b : List (List ℕ)) (s t : List ℕ) → IsCut text a s → IsCut text b t → (a ≡ b) × (s ≡ t) }
     ensures fault { (text : List ℕ) (a b : TextFault) → IsFirstFault text a → IsFirstFault text b → a ≡ b }
     ensures not_both { (text : List ℕ) (pieces : List (List ℕ)) (tail : List ℕ) (fault : TextFault) → IsCut text pieces tail → ¬ IsFirstFault text fault }
+{}
+
+/// The first fault of a text is at one of its bytes.
+pub fn first_faults_are_within()
+    ensures { (text : List ℕ) (fault : TextFault) → IsFirstFault text fault → fault.at < length text }
 {}
 
 /// A text whose cut has one piece holds one unit, and no more.

@@ -33,8 +33,8 @@ pub use cutting::{cut, ends_white};
 pub use division::parts;
 pub use fault::{TextError, TextFault, TextNumber};
 pub use laws::{
-    one_cut, one_division, one_layout, one_meaning, one_unit_fault, one_unit_of_cut,
-    parts_are_texts, words_stand_alone,
+    first_faults_are_within, one_cut, one_division, one_layout, one_meaning, one_unit_fault,
+    one_unit_of_cut, parts_are_texts, words_stand_alone,
 };
 pub use lines::place;
 pub use location::Place;

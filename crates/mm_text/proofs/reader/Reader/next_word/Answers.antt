@@ -44,4 +44,5 @@ returns-then-span-clause-word c =
     let run : TakesSpan c.loop-span.self.text.now c.loop-span.self.from c.in-Some.span c.next_run.new.self.from = c.in-Some.ensures.run in
     let here = rw c.loop-span.invariant.text at run in
     let within : c.next_run.new.self.from ≤ length c.next_run.new.self.text.now = c.next_run.new.self.in_text in
-    pass_word c.args.self.now.text.now c.args.self.now.from c.loop-span.self.from c.in-Some.span c.next_run.new.self.from c.loop-span.invariant.passes here Plain (plain_word (slice_range c.args.self.now.text.now c.in-Some.span.start c.in-Some.span.end) (sym here.plain ∙ c.if-span.true)) (rw same at within) c.loop-span.invariant.forward
+    pass_word c.args.self.now.text.now c.args.self.now.from c.loop-span.self.from c.in-Some.span c.next_run.new.self.from c.loop-span.invariant.passes here Plain
+    (plain_word (slice_range c.args.self.now.text.now c.in-Some.span.start c.in-Some.span.end) (sym here.plain ∙ c.if-span.true)) (rw same at within) c.loop-span.invariant.forward
