@@ -7,4 +7,5 @@ pub returns-then-at-count-clause-err : goal.returns-then-at-count-clause-err
 returns-then-at-count-clause-err c = no_member c.args.self.now (Delete c.args.name.now c.args.at) c.in-Some.number c.count_in-count.result c.in-Some.ensures.number c.in-Some.ensures.within c.count_in-count.ensures (λ lt. omega (arith, lt, c.if-at-count.true))
 
 pub returns-clause-ok : goal.returns-clause-ok
-returns-clause-ok c = is_edit c.args.self.now (Delete c.args.name.now c.args.at) c.in-Some.number c.count_in-count.result c.in-Some.ensures.number c.in-Some.ensures.within c.count_in-count.ensures c.delete_piece.new.self (omega arith) tt c.delete_piece.ensures.done.means c.delete_piece.ensures.within
+returns-clause-ok c =
+    is_edit c.args.self.now (Delete c.args.name.now c.args.at) c.in-Some.number c.count_in-count.result c.in-Some.ensures.number c.in-Some.ensures.within c.count_in-count.ensures c.delete_piece.new.self (omega arith) tt c.delete_piece.ensures.done.means c.delete_piece.ensures.within

@@ -11,4 +11,5 @@ returns-then-at-count-clause-err c = no_member c.args.self.now (Move c.args.name
 ])
 
 pub returns-clause-ok : goal.returns-clause-ok
-returns-clause-ok c = is_edit c.args.self.now (Move c.args.name.now c.args.at c.args.to) c.in-Some.number c.count_in-count.result c.in-Some.ensures.number c.in-Some.ensures.within c.count_in-count.ensures c.move_piece.new.self (omega arith, omega arith) tt c.move_piece.ensures.done.means c.move_piece.ensures.within
+returns-clause-ok c =
+    is_edit c.args.self.now (Move c.args.name.now c.args.at c.args.to) c.in-Some.number c.count_in-count.result c.in-Some.ensures.number c.in-Some.ensures.within c.count_in-count.ensures c.move_piece.new.self (omega arith, omega arith) tt c.move_piece.ensures.done.means c.move_piece.ensures.within

@@ -71,4 +71,10 @@ returns-clause-ok c =
     let within : c.args.at < length (pieces_in (plain view) n) = omega (arith, count, c.count_in-count.ensures) in
     let bytes = bytes_other (plain view) n c.args.at (ended c.args.text.now) long within in
     let means = c.in_ok-replace_piece.ensures.ok.done.means ∙ ap (λ (t : List ℕ). with_pieces (plain view) n (set (pieces_in (plain view) n) c.args.at t)) (c.in_ok-kept.ensures.text ∙ c.in_ok-unit.ensures.ok.whole) in
-    is_edit c.args.self.now (Replace c.args.name.now c.args.at c.args.text.now) c.in-Some.number c.count_in-count.result c.in-Some.ensures.number c.in-Some.ensures.within c.count_in-count.ensures c.replace_piece.new.self (omega arith) c.in_ok-unit.ensures.ok.one means (omega (arith, ap bytes_of means, (let small : bytes_of (with_pieces (plain view) n (set (pieces_in (plain view) n) c.args.at (ended c.args.text.now))) ≤ 4294967295 = grind (arith, bytes, c.bytes_without.ensures, c.fits.ensures.0, c.fits.ensures.1, c.in_ok-unit.unit.ok.0, ap length c.in_ok-unit.ensures.ok.whole, c.len.ensures) in small)))
+    is_edit c.args.self.now (Replace c.args.name.now c.args.at c.args.text.now) c.in-Some.number c.count_in-count.result c.in-Some.ensures.number c.in-Some.ensures.within c.count_in-count.ensures c.replace_piece.new.self (omega arith)
+    c.in_ok-unit.ensures.ok.one means (omega (
+      arith,
+      ap bytes_of means,
+      (let small : bytes_of (with_pieces (plain view) n (set (pieces_in (plain view) n) c.args.at (ended c.args.text.now))) ≤ 4294967295 =
+          grind (arith, bytes, c.bytes_without.ensures, c.fits.ensures.0, c.fits.ensures.1, c.in_ok-unit.unit.ok.0, ap length c.in_ok-unit.ensures.ok.whole, c.len.ensures) in small),
+    ))
