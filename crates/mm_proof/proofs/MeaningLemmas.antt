@@ -27,7 +27,7 @@ use Rattle.std.proofs.lemmas.Bool.{and_from}
 
 -- ---- a label that no item carries
 
-labelled : (b : Bool) (o : Option (List ℕ)) (label : List ℕ) → has (cond b (option_to_list o) []) label ≡ true → (b ≡ true) × (o ≡ Some label)
+pub labelled : (b : Bool) (o : Option (List ℕ)) (label : List ℕ) → has (cond b (option_to_list o) []) label ≡ true → (b ≡ true) × (o ≡ Some label)
 labelled true (Some l) label h = elim (cases_Bool (bytes_eq label l)) [
   | inl e ↦ (refl, ap Some (sym ((bytes_eq-Decides label l).0 e)))
   | inr e ↦ absurd (false≢true (rw e at h))
@@ -35,7 +35,7 @@ labelled true (Some l) label h = elim (cases_Bool (bytes_eq label l)) [
 labelled true None label h = absurd (false≢true h)
 labelled false o label h = absurd (false≢true h)
 
-sound_label : (kind : Kind) → is_labelled kind ≡ true → is_none (fault_by kind None) ≡ true
+pub sound_label : (kind : Kind) → is_labelled kind ≡ true → is_none (fault_by kind None) ≡ true
 sound_label Floating e = refl
 sound_label Essential e = refl
 sound_label Axiom e = refl
@@ -46,7 +46,7 @@ joined : {X : Type 0} (P : X → Type 0) (xs ys : List X) → AllByRecursion P x
 joined P [] ys a b = b
 joined P (x ∷ xs) ys a b = (a.0, joined P xs ys a.1 b)
 
-take_end : {X : Type 0} (xs : List X) (n : ℕ) → (n < length xs → ⊥) → take (suc n) xs ≡ take n xs
+pub take_end : {X : Type 0} (xs : List X) (n : ℕ) → (n < length xs → ⊥) → take (suc n) xs ≡ take n xs
 take_end [] zero h = refl
 take_end [] (suc n) h = refl
 take_end (x ∷ xs) zero h = absurd (h (omega arith))

@@ -18,6 +18,7 @@ pub mod Decoding
 pub mod Citing
 pub mod DecodingLaws
 pub mod VerdictAt
+pub mod CitingLaws
 pub mod ItemLaws
 pub mod View
 pub mod ViewLaws

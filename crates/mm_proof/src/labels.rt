@@ -39,8 +39,8 @@ pub fn read_label(base: &Base, i: usize, label: &[u8], n: usize) -> Result<Resol
     }
 }
 
-/// Whether a word ends the list of labels.
-fn is_close(word: &[u8]) -> bool
+/// Whether a word ends the list of labels of a compressed proof.
+pub fn is_close(word: &[u8]) -> bool
     ensures { result ≡ is_close_lem word.now }
 {
     matches!(word, b")")

@@ -77,7 +77,7 @@ fn decode_compressed(
 }
 
 /// Whether a word is a `?`.
-fn is_unknown(word: &[u8]) -> bool
+pub fn is_unknown(word: &[u8]) -> bool
     ensures { result ≡ bytes_eq word.now (codes "?") }
 {
     matches!(word, b"?")
@@ -128,13 +128,20 @@ fn decode_normal(
     Ok(Decoding { labels, steps })
 }
 
+/// Whether a word begins the list of labels of a compressed proof.
+pub fn is_open(word: &[u8]) -> bool
+    ensures { result ≡ bytes_eq word.now (codes "(") }
+{
+    matches!(word, b"(")
+}
+
 /// Whether the words of a proof are those of a compressed one: the first is a `(`.
 pub fn is_compressed(statement: &Statement) -> bool
     ensures { result ≡ is_compressed_lem statement.now.proof }
 {
     let mut words = statement.proof();
     match words.next_word() {
-        Some(word) => matches!(word, b"("),
+        Some(word) => is_open(word),
         None => false,
     }
 }

@@ -5,7 +5,8 @@ ghost use Rattle.std.specs.List.{AllByRecursion, before_first};
 ghost use Rattle.mm_frame.specs.Language.Base.{BaseView, is_proof_at};
 ghost use Rattle.mm_frame.specs.Language.Resolving.{IsCarrier, Resolves};
 ghost use Rattle.mm_frame.specs.Code.KeptBase.{IsBase, IsBaseBy};
-ghost use Rattle.mm_proof.specs.Code.KeptMarks.{OfBasesBy, AreTheorems, SharePairs, ShareStatement, ShareProof, IsUsable, TellsSame, is_label_word};
+ghost use Rattle.mm_proof.specs.Code.KeptMarks.{OfBasesBy, AreMarksOf, AreTheorems, SharePairs, ShareStatement, ShareProof};
+ghost use Rattle.mm_proof.specs.Code.KeptMarks.{IsOneCarrier, IsUsable, TellsSame, is_label_word};
 ghost use Rattle.mm_proof.specs.Code.ReadIn.{IsReadIn, HasTheorem};
 ghost use Rattle.mm_proof.specs.Language.BaseLabels.{setting_at};
 ghost use Rattle.mm_proof.specs.Language.BaseMarks.{AreMarks, mark_at};
@@ -13,32 +14,13 @@ ghost use Rattle.mm_proof.specs.Language.Decoding.{is_close as is_closing};
 ghost use Rattle.mm_proof.specs.Language.SameProof.{IsSameLabel, labels_named};
 ghost use Rattle.mm_proof.specs.Language.View.{view_at, AreSameViews};
 
+use crate::labels::is_close;
 use crate::marks::Marks;
+use crate::reading::{is_open, is_unknown};
 use mm_frame::{
     Base, Files, Names, ProofWords, Resolved, has_own_labels, kept_next, same_active_pairs,
     same_but_pairs, same_expression, same_frame, same_proof, words_of_proof,
 };
-
-/// Whether a word ends the list of labels of a compressed proof.
-fn is_close(word: &[u8]) -> bool
-    ensures { result ≡ bytes_eq word.now (codes ")") }
-{
-    matches!(word, b")")
-}
-
-/// Whether a word begins the list of labels of a compressed proof.
-fn is_open(word: &[u8]) -> bool
-    ensures { result ≡ bytes_eq word.now (codes "(") }
-{
-    matches!(word, b"(")
-}
-
-/// Whether a word is a `?`.
-fn is_unknown(word: &[u8]) -> bool
-    ensures { result ≡ bytes_eq word.now (codes "?") }
-{
-    matches!(word, b"?")
-}
 
 /// Whether what a label means in one base is what one means in another.
 fn same_meaning(names: &Names, old: &Base, mine: Resolved, new: &Base, yours: Resolved) -> bool
@@ -54,7 +36,7 @@ fn same_meaning(names: &Names, old: &Base, mine: Resolved, new: &Base, yours: Re
 
 /// What the label of an item means at the item `i`, where there is such an item, and what one means that none carries.
 fn meaning_of(base: &Base, carrier: Option<usize>, i: usize) -> Resolved
-    ensures { (view : BaseView) (label : List ℕ) → IsBase view base.now → ((n : ℕ) → (carrier ≡ Some n) ↔ IsCarrier view label n) → Resolves view i label result }
+    ensures { (view : BaseView) (label : List ℕ) → IsBase view base.now → IsOneCarrier view label carrier → Resolves view i label result }
 {
     kept_next();
     match carrier {
@@ -94,7 +76,8 @@ fn same_by(
     marks: &Marks,
     label: &[u8],
 ) -> bool
-    ensures { OfBasesBy names.now old.now new.now (λ base copy. AreMarks base copy marks.now → IsTrue result ↔ IsSameLabel (setting_at base i) (setting_at copy j) label.now) }
+    ensures { OfBasesBy names.now old.now new.now (λ base copy. AreMarks base copy marks.now
+        → IsTrue result ↔ IsSameLabel (setting_at base i) (setting_at copy j) label.now) }
 {
     kept_next();
     match new.find(label) {
@@ -116,7 +99,7 @@ fn same_label(
     marks: Option<&Marks>,
     label: &[u8],
 ) -> bool
-    requires { IfSome marks (λ m. OfBasesBy names.now old.now new.now (λ base copy. AreMarks base copy m.now)) }
+    requires { IfSome marks (λ m. AreMarksOf names.now old.now new.now m.now) }
     ensures { OfBasesBy names.now old.now new.now (λ base copy. IsTrue result ↔ IsSameLabel (setting_at base i) (setting_at copy j) label.now) }
 {
     match marks {
@@ -141,7 +124,7 @@ fn same_listed(
     marks: Option<&Marks>,
     words: ProofWords,
 ) -> bool
-    requires { IfSome marks (λ m. OfBasesBy names.now old.now new.now (λ base copy. AreMarks base copy m.now)) }
+    requires { IfSome marks (λ m. AreMarksOf names.now old.now new.now m.now) }
     ensures { OfBasesBy names.now old.now new.now (λ base copy. IsTrue result
         ↔ AllByRecursion (IsSameLabel (setting_at base i) (setting_at copy j)) (before_first is_closing words.entry)) }
 {
@@ -167,7 +150,7 @@ fn same_words(
     marks: Option<&Marks>,
     words: ProofWords,
 ) -> bool
-    requires { IfSome marks (λ m. OfBasesBy names.now old.now new.now (λ base copy. AreMarks base copy m.now)) }
+    requires { IfSome marks (λ m. AreMarksOf names.now old.now new.now m.now) }
     ensures { OfBasesBy names.now old.now new.now (λ base copy. IsTrue result
         ↔ AllByRecursion (IsSameLabel (setting_at base i) (setting_at copy j)) (filter is_label_word words.entry)) }
 {
@@ -190,7 +173,7 @@ fn same_named(
     marks: Option<&Marks>,
     words: ProofWords,
 ) -> bool
-    requires { IfSome marks (λ m. OfBasesBy names.now old.now new.now (λ base copy. AreMarks base copy m.now)) }
+    requires { IfSome marks (λ m. AreMarksOf names.now old.now new.now m.now) }
     ensures { OfBasesBy names.now old.now new.now (λ base copy. IsTrue result
         ↔ AllByRecursion (IsSameLabel (setting_at base i) (setting_at copy j)) (labels_named words.entry)) }
 {
@@ -226,7 +209,7 @@ fn same_pairs(
     j: usize,
     marks: Option<&Marks>,
 ) -> bool
-    requires { IfSome marks (λ m. OfBasesBy names.now old.now new.now (λ base copy. AreMarks base copy m.now)) }
+    requires { IfSome marks (λ m. AreMarksOf names.now old.now new.now m.now) }
     ensures { OfBasesBy names.now old.now new.now (λ base copy. AreTheorems base copy i j → IsTrue result ↔ SharePairs base copy i j) }
 {
     match marks {
@@ -244,7 +227,7 @@ fn same_statement(
     j: usize,
     marks: Option<&Marks>,
 ) -> bool
-    requires { IfSome marks (λ m. OfBasesBy names.now old.now new.now (λ base copy. AreMarks base copy m.now)) }
+    requires { IfSome marks (λ m. AreMarksOf names.now old.now new.now m.now) }
     ensures { OfBasesBy names.now old.now new.now (λ base copy. AreTheorems base copy i j → IsTrue result ↔ ShareStatement base copy i j) }
 {
     same_but_pairs(old, i, new, j) && same_pairs(names, old, i, new, j, marks)
@@ -262,7 +245,7 @@ fn same_written(
 ) -> bool
     requires one { HasTheorem names.now files.now old.now i }
     requires other { HasTheorem names.now files.now new.now j }
-    requires marks { IfSome marks (λ m. OfBasesBy names.now old.now new.now (λ base copy. AreMarks base copy m.now)) }
+    requires marks { IfSome marks (λ m. AreMarksOf names.now old.now new.now m.now) }
     ensures { (base copy : BaseView) → IsReadIn names.now files.now old.now base → IsReadIn names.now files.now new.now copy
         → IsTrue result ↔ ShareProof base copy i j }
 {

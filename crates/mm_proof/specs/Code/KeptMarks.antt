@@ -4,12 +4,13 @@ use Rattle.std.specs.List.{AllByRecursion}
 use Rattle.mm_frame.specs.Language.Base.{BaseView, before, said_at, is_shown_at, is_framed_at, is_proof_at, frame_at}
 use Rattle.mm_frame.specs.Language.Frame.{AreSameFrame, AreSamePairs}
 use Rattle.mm_frame.specs.Language.Framing.{active_pairs, expression}
+use Rattle.mm_frame.specs.Language.Resolving.{IsCarrier}
 use Rattle.mm_frame.specs.Code.KeptBase.{IsBaseBy}
 use Rattle.mm_frame.specs.declared.base.Base.{Base}
 use Rattle.mm_frame.specs.declared.base.Resolved as answer
 use Rattle.mm_frame.specs.declared.base.Resolved.TheVariants as answers
 use Rattle.mm_proof.specs.Language.BaseLabels.{setting_at}
-use Rattle.mm_proof.specs.Language.BaseMarks.{Mark, IsMark, mark_at}
+use Rattle.mm_proof.specs.Language.BaseMarks.{Mark, AreMarks, IsMark, mark_at}
 use Rattle.mm_proof.specs.Language.SameProof.{IsSameLabel, labels_named}
 use Rattle.mm_proof.specs.declared.marks.Compared.{Compared}
 use Rattle.mm_proof.specs.declared.marks.Mark as code
@@ -32,6 +33,14 @@ OfBases old new holds = (names : List (List ℕ)) (base copy : BaseView) → IsB
 -- both by these names
 abbrev pub OfBasesBy : List (List ℕ) → Base → Base → (BaseView → BaseView → Type 0) → Type 0
 OfBasesBy names old new holds = (base copy : BaseView) → IsBaseBy names base old → IsBaseBy names copy new → holds base copy
+
+-- what is told of them is what stays of the old base in the new one
+abbrev pub AreMarksOf : List (List ℕ) → Base → Base → List Mark → Type 0
+AreMarksOf names old new marks = OfBasesBy names old new (λ base copy. AreMarks base copy marks)
+
+-- this is the item that carries the label, or none does
+abbrev pub IsOneCarrier : BaseView → List ℕ → Option ℕ → Type 0
+IsOneCarrier base label carrier = (n : ℕ) → (carrier ≡ Some n) ↔ IsCarrier base label n
 
 -- both items are assertions with the same frame
 pub record ShareFrame (base copy : BaseView) (i j : ℕ) : Type 0 where
