@@ -18,13 +18,6 @@ pub record AreCarried (base copy : BaseView) (plan : List (Option ℕ)) (count :
   pub rest : (k : ℕ) (from : Option ℕ) (one : Option Judgement) → count ≤ k → slice_get plan k ≡ Some from → slice_get new k ≡ Some one → IsRunBy copy from k one
   pub left : (k i : ℕ) (one : Option Judgement) → count ≤ k → slice_get plan k ≡ Some (Some i) → slice_get old i ≡ Some one → IsCheckedAt base i one
 
-pub carried_none : (base copy : BaseView) (old : List (Option Judgement)) (plan : List (Option ℕ)) (new : List (Option Judgement)) → CanCarry base copy old plan new → AreCarried base copy plan 0 old new
-carried_none base copy old plan new can = record {
-  done = λ k one l e. absurd (omega arith);
-  rest = λ k from one l e f. can.ran_is.each k from one e f;
-  left = λ k i one l e f. can.was.each i one f;
-}
-
 -- all are checked
 pub carried_all : (base copy : BaseView) (old : List (Option Judgement)) (plan : List (Option ℕ)) (new : List (Option Judgement)) → CanCarry base copy old plan new → (spent result : List (Option Judgement)) → AreCarried base copy plan (length plan) spent result → length result ≡ length new
     → AreChecked copy result

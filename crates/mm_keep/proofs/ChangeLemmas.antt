@@ -5,18 +5,17 @@ use Rattle.mm_store.specs.Language.Batches.{IsBatchOf, IsSpendable, KeepsReading
 use Rattle.mm_store.specs.Language.Edits.{Asked}
 use Rattle.mm_store.specs.Language.FileFacts.{parked_in}
 use Rattle.mm_store.specs.Language.FilesView.{FilesView, files_in, plain}
-use Rattle.mm_frame.specs.Language.Names.{AreDistinct, Begins as longer}
+use Rattle.mm_frame.specs.Language.Names.{AreDistinct, Begins}
 use Rattle.mm_frame.specs.declared.base.Base.{Base}
 use Rattle.mm_proof.specs.Language.Work.{Judgement, Recorded}
 use Rattle.mm_keep.specs.declared.keeping.Next.{Next}
 use Rattle.mm_keep.specs.Code.Changing.{CanTake, HasKept, WereKept, session_of}
-use Rattle.mm_keep.specs.Code.KeptSession.{AreChecked, IsKept}
-use Rattle.mm_keep.specs.declared.session.Session.TheInside.{Inside}
+use Rattle.mm_keep.specs.Code.KeptSession.{AreChecked}
 use Rattle.mm_keep.specs.Code.Next.{IsBuilt, IsNext, IsOldIn}
 use Rattle.mm_keep.specs.Code.Planned.{CanCarry}
 use Rattle.mm_keep.specs.Language.Sessions.{IsChanged}
 use Rattle.mm_keep.proofs.KeepLemmas.{ItemsStand, KeepsNumbers, batch_top, expansion_top, base_settled, says_edited}
-use Rattle.mm_keep.proofs.NextLemmas.{longer_trans}
+use Rattle.mm_keep.proofs.NextLemmas.{begins_trans}
 
 pub can_carry : (before after : FilesView) (undos : List Undo) (top : List ℕ) (names : List (List ℕ)) (checked : List (Option Judgement)) (next : Next) → (can : CanTake before after undos top names checked next)
     → CanCarry can.old can.base checked next.plan.items next.checked.items
@@ -68,24 +67,17 @@ can_take before after undos top names all code checked next were is = record {
 }
 
 -- what is kept once the edits are undone
-pub kept_undone : (before after files : FilesView) (undos : List Undo) (top : List ℕ) (names all : List (List ℕ)) (code : Base) (checked : List (Option Judgement)) → WereKept before after undos top names code checked → files ≡ before → longer names all → AreDistinct all
+pub kept_undone : (before after files : FilesView) (undos : List Undo) (top : List ℕ) (names all : List (List ℕ)) (code : Base) (checked : List (Option Judgement)) → WereKept before after undos top names code checked → files ≡ before → Begins names all → AreDistinct all
     → HasKept files top all code checked
 kept_undone before after files undos top names all code checked were is grows distinct =
     subst (λ (fs : FilesView). HasKept fs top all code checked) (sym is) (
       were.base,
       record {
-        built = record { of_files = were.kept.built.of_files; by_names = were.kept.built.later all distinct grows; later = λ more apart begins. were.kept.built.later more apart (longer_trans names all more grows begins) };
+        built = record { of_files = were.kept.built.of_files; by_names = were.kept.built.later all distinct grows; later = λ more apart begins. were.kept.built.later more apart (begins_trans names all more grows begins) };
         checked_is = were.kept.checked_is;
         parked = were.kept.parked;
       },
     )
-
--- what a session keeps, by its parts
-pub kept_inside : (inside : Inside) → IsKept inside → HasKept inside.files inside.top.items inside.names inside.base inside.checked.items
-kept_inside inside kept = (kept.base, record { built = record { of_files = kept.of_files; by_names = kept.by_names; later = kept.later }; checked_is = kept.checked; parked = kept.parked })
-
-pub inside_kept : (inside : Inside) → HasKept inside.files inside.top.items inside.names inside.base inside.checked.items → IsKept inside
-inside_kept inside has = record { base = has.0; of_files = has.1.built.of_files; by_names = has.1.built.by_names; later = has.1.built.later; checked = has.1.checked_is; parked = has.1.parked }
 
 -- files that are edited, with what was kept of them before
 pub were_kept : KeepsNumbers → (before after : FilesView) (undos : List Undo) (top : List ℕ) (names : List (List ℕ)) (code : Base) (checked : List (Option Judgement)) → HasKept before top names code checked

@@ -13,7 +13,7 @@ use Rattle.mm_frame.specs.Language.Laws.{FilesHaveOneBase}
 use Rattle.mm_frame.specs.Language.Base.{BaseView}
 use Rattle.mm_keep.specs.Code.KeptSession.{IsKept, view_of}
 use Rattle.mm_keep.specs.Code.OfFiles.{IsOf}
-use Rattle.mm_keep.specs.Language.Sessions.{HasItem, HasAssertion, IsAssertion}
+use Rattle.mm_keep.specs.Language.Sessions.{HasItem, HasAssertion, IsAssertion, OfItems}
 use Rattle.mm_keep.specs.declared.session.Session.TheInside.{Inside}
 
 -- the element at an index
@@ -51,3 +51,7 @@ kept_within one inside k i has = subst (λ (base : BaseView). i < length base.sa
 
 pub kept_assertion : FilesHaveOneBase → (inside : Inside) → (k : IsKept inside) → (label : List ℕ) → HasAssertion (view_of inside) label → (i : ℕ) × IsAssertion k.base label i
 kept_assertion one inside k label has = subst (λ (base : BaseView). (i : ℕ) × IsAssertion base label i) (one inside.files inside.top.items has.0 k.base has.1 k.of_files) has.2
+
+-- what holds of the items of the files holds of what is kept
+pub kept_items : FilesHaveOneBase → (inside : Inside) → (k : IsKept inside) → (P : BaseView → Type 0) → OfItems (view_of inside) P → P k.base
+kept_items one inside k P has = subst P (one inside.files inside.top.items has.0 k.base has.1 k.of_files) has.2

@@ -12,3 +12,7 @@ pub mod NumberLemmas
 pub mod RunLaws
 pub mod FoundLemmas
 pub mod FindingLaws
+pub mod CitedWords
+pub mod CitedItems
+pub mod ChainLemmas
+pub mod CitingLaws

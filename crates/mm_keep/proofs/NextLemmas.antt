@@ -3,7 +3,7 @@ use Rattle.std.specs.Prelude.{IfOk}
 use Rattle.std.proofs.Common.{ℕ, Result, Ok, Err, List}
 use Rattle.mm_store.specs.Language.FilesView.{FilesView}
 use Rattle.mm_frame.specs.Language.Base.{BaseView}
-use Rattle.mm_frame.specs.Language.Names.{AreDistinct, Begins as longer}
+use Rattle.mm_frame.specs.Language.Names.{AreDistinct, Begins}
 use Rattle.mm_frame.specs.declared.base.Base.{Base}
 use Rattle.mm_proof.specs.Code.ReadIn.{IsReadIn}
 use Rattle.mm_keep.specs.Code.Next.{IsBuilt, IsOldIn}
@@ -13,14 +13,14 @@ pub built_read : (names : List (List ℕ)) (files : FilesView) (top : List ℕ) 
 built_read names files top code view built = record { base = built.by_names; each = built.of_files.each }
 
 -- old names have the same numbers among more
-pub both_read : (names all : List (List ℕ)) (files : FilesView) (top : List ℕ) (old new : Base) (view copy : BaseView) → AreDistinct all → longer names all → IsOldIn names files old view → IsBuilt all files top new copy → AreBothRead all files old new view copy
+pub both_read : (names all : List (List ℕ)) (files : FilesView) (top : List ℕ) (old new : Base) (view copy : BaseView) → AreDistinct all → Begins names all → IsOldIn names files old view → IsBuilt all files top new copy → AreBothRead all files old new view copy
 both_read names all files top old new view copy distinct grows is built = record {
   old_is = record { base = is.later all distinct grows; each = is.each };
   new_is = built_read all files top new copy built;
 }
 
-pub longer_trans : (a b c : List (List ℕ)) → longer a b → longer b c → longer a c
-longer_trans a b c f g n name e = g n name (f n name e)
+pub begins_trans : (a b c : List (List ℕ)) → Begins a b → Begins b c → Begins a c
+begins_trans a b c f g n name e = g n name (f n name e)
 
 -- what follows from two clauses on the value in an `Ok`
 pub if_ok : {T E : Type 0} (P Q R : T → Type 0) (r : Result T E) → ((x : T) → P x → Q x → R x) → IfOk r P → IfOk r Q → IfOk r R

@@ -40,9 +40,6 @@ shown base i e = theorem_shown (is_sound_at base i) (said_at base i).kind e
 pub marked : (base copy : BaseView) (j : ℕ) (mark : Mark) → IsMark base copy j mark → (i : ℕ) → HasSameView base copy i j → mark.old ≡ Some i
 marked base copy j mark is i same = (is.old_is i).1 (record { within = same.within; was = shown base i same.was; is = shown copy j same.is; label = same.label })
 
-pub plans_none : (base copy : BaseView) (j : ℕ) → is_proof_at copy j ≡ false → IsPlanned base copy j None
-plans_none base copy j e had = false≢true (sym e ∙ had.1.is)
-
 pub plans_unmarked : (base copy : BaseView) (j : ℕ) (mark : Mark) → IsMark base copy j mark → mark.old ≡ None → IsPlanned base copy j None
 plans_unmarked base copy j mark is e had = none-some had.0 (sym e ∙ marked base copy j mark is had.0 had.1)
 

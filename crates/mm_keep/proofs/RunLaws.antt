@@ -10,7 +10,7 @@ use Rattle.mm_keep.specs.Language.Laws.{OneListOfRuns}
 use Rattle.mm_keep.proofs.NumberLemmas.{one_rising}
 
 -- items that say this, wherever they are
-abbrev saying : List Item → BaseView
+abbrev pub saying : List Item → BaseView
 saying said = record { found = []; said = said }
 
 had_by_said : (old new base other : BaseView) (j : ℕ) → old.said ≡ base.said → new.said ≡ other.said → HadView old new j → HadView base other j

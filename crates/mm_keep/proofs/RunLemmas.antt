@@ -116,13 +116,6 @@ recorded_more new plan j (Some i) before after there e are = recorded_skip new p
 recorded_more new plan j None before after there (inl p) are = recorded_run new plan j before after are (record { theorem = p.0; nothing = there }) p.1
 recorded_more new plan j None before after there (inr p) are = recorded_skip new plan j before after are (λ r. false≢true (sym p.0 ∙ r.theorem)) p.1
 
--- no item is recorded yet
-pub recorded_none : (new : BaseView) (plan : List (Option ℕ)) (room : ℕ) → AreRecorded new plan 0 (record { runs = []; steps = 0; room = room })
-recorded_none new plan room = record { those = those_none (RunsBy new plan); steps = steps_none new }
-
-pub run_none : (new : BaseView) (plan : List (Option ℕ)) → AreRunBy new plan []
-run_none new plan = record { within = omega arith; each = λ j from one e f. cc }
-
 -- how much one item more takes of the room and of the steps
 pub takes : (new : BaseView) (from : Option ℕ) (j : ℕ) (before after : Recorded) → RecordsIf new from j before after → (after.steps ≤ before.steps + 4294967295) × (before.room ≤ after.room + 1)
 takes new (Some i) j before after e = let s = ap (λ (w : Recorded). w.steps) e in let r = ap (λ (w : Recorded). w.room) e in (omega arith, omega arith)

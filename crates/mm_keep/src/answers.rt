@@ -8,7 +8,7 @@ ghost use Rattle.mm_frame.specs.Language.Base.{BaseView, said_at, is_sound_at, i
 ghost use Rattle.mm_frame.specs.Language.Item.{is_theorem};
 ghost use Rattle.mm_frame.specs.Language.Statement.{kind_of};
 ghost use Rattle.mm_proof.specs.Language.VerdictAt.{IsVerdictAt};
-ghost use Rattle.mm_keep.specs.Code.Findings.{told, counted};
+ghost use Rattle.mm_keep.specs.Language.Findings.{told, counted};
 ghost use Rattle.mm_keep.specs.Code.KeptSession.{AreChecked};
 ghost use Rattle.mm_keep.specs.Code.OfFiles.{IsOf, HasChecked, HasCheckedItem, HasVerdictOf};
 ghost use Rattle.mm_keep.specs.declared.answers.KeepError.TheVariants.{NoAssertion};
@@ -21,6 +21,7 @@ use crate::session::Session;
 use crate::tally::Tally;
 use mm_frame::{Base, Files, FrameFault, Item, ItemKind, files_have_one_base};
 use mm_proof::{Checked, Verdict, spots_are_in};
+use std::alloc::AllocError;
 use thiserror::Error;
 
 /// Why a session does not answer.
@@ -32,6 +33,16 @@ pub enum KeepError {
     /// There was not enough memory.
     #[error("out of memory")]
     Memory,
+}
+
+impl From<AllocError> for KeepError {
+    ghost use Rattle.mm_keep.specs.declared.answers.KeepError.TheVariants.{Memory};
+
+    ghost from_gives = { λ _ e. e ≡ Memory };
+
+    fn from(_: AllocError) -> KeepError {
+        KeepError::Memory
+    }
 }
 
 /// What is found of an item with a fault.
@@ -131,7 +142,7 @@ impl Session {
     }
 
     /// The number of the sound `$a` or `$p` with this label.
-    fn assertion(&self, label: &[u8]) -> Option<usize>
+    pub(crate) fn assertion(&self, label: &[u8]) -> Option<usize>
         ensures some { IfSome result (λ i. OfItems self.now (λ base. IsAssertion base label.now i)) }
         ensures none { result ≡ None → ¬ HasAssertion self.now label.now }
     {

@@ -5,9 +5,9 @@ ghost use Rattle.mm_store.specs.declared.error.StoreError.TheVariants.{Memory, N
 ghost use Rattle.mm_store.specs.Language.Answers.{IsExpansionError};
 ghost use Rattle.mm_store.specs.Language.FilesView.{files_in, number_of};
 ghost use Rattle.mm_frame.specs.Language.Base.{BaseView};
-ghost use Rattle.mm_frame.specs.Language.Names.{AreDistinct, Begins as longer};
+ghost use Rattle.mm_frame.specs.Language.Names.{AreDistinct, Begins};
 ghost use Rattle.mm_proof.specs.Code.ReadIn.{IsReadIn};
-ghost use Rattle.mm_keep.specs.Code.Next.{Begins, GoesOn, HasOld, HasTop, IsBuilt, IsFirst, IsNext, KeepsNothing, IsOldIn};
+ghost use Rattle.mm_keep.specs.Code.Next.{GoesOn, HasOld, HasTop, IsBuilt, IsFirst, IsNext, IsOldIn, KeepsNothing, RunsAll};
 ghost use Rattle.mm_keep.specs.Code.Planned.{AreBothRead};
 
 use crate::planning::{planned, run_rest};
@@ -39,7 +39,7 @@ fn lack(error: StoreError) -> AllocError
 fn base_of(alloc: Global, names: &mut Names, files: &Files, top: &[u8]) -> Result<Base, AllocError>
     requires { HasTop files.now top.now }
     ensures base { IfOk result (λ built. (base : BaseView) × IsBuilt names.new files.now top.now built base) }
-    ensures grows { longer names.old names.new }
+    ensures grows { Begins names.old names.new }
 {
     match Base::build(alloc, names, files, top) {
         Ok(base) => Ok(base),
@@ -79,7 +79,7 @@ pub fn next_of(
 ) -> Result<Next, AllocError>
     requires top { HasTop files.now top.now }
     requires old { HasOld names.old files.now old.now }
-    ensures grows { longer names.old names.new }
+    ensures grows { Begins names.old names.new }
     ensures distinct { AreDistinct names.new }
     ensures next { IfOk result (λ next. (view : BaseView) → IsOldIn names.old files.now old.now view → IsNext names.new files.now top.now view next) }
 {
@@ -105,7 +105,7 @@ fn nothing_kept(alloc: Global, count: usize) -> Result<Vec<Option<usize>>, Alloc
 fn first_runs(alloc: Global, names: &Names, files: &Files, base: Base) -> Result<Next, AllocError>
     requires { (view : BaseView) × IsReadIn names.now files.now base view }
     ensures base { IfOk result (λ next. next.base ≡ base) }
-    ensures next { IfOk result (λ next. (view : BaseView) → IsReadIn names.now files.now base view → Begins view next) }
+    ensures next { IfOk result (λ next. (view : BaseView) → IsReadIn names.now files.now base view → RunsAll view next) }
 {
     let count = base.count();
     let plan = nothing_kept(alloc, count)?;

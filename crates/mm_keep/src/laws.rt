@@ -1,6 +1,6 @@
 //! What is proved of the definitions: each law is the contract of a function.
 
-ghost use Rattle.mm_keep.specs.Language.Laws.{ItemsHaveFindings, OneListOfRuns};
+ghost use Rattle.mm_keep.specs.Language.Laws.{AxiomsHaveThemselves, ChainsLeadBack, ItemsHaveFindings, OneListEach, OneListOfRuns};
 
 /// Between files before and files after there is one list of runs, whatever keys their pieces have.
 pub fn one_list_of_runs()
@@ -17,3 +17,22 @@ pub fn items_have_findings()
     mm_proof::has_verdict_at();
     mm_proof::spots_are_in();
 }
+
+/// Of an assertion there is one list each of what it cites, of what cites it, and of its axioms, whatever keys the pieces of
+/// the files have.
+pub fn one_list_each()
+    ensures { OneListEach }
+{
+    mm_frame::files_have_one_base();
+    mm_frame::has_own_labels();
+}
+
+/// The only axiom of a sound `$a` is itself.
+pub fn axioms_have_themselves()
+    ensures { AxiomsHaveThemselves }
+{}
+
+/// A chain of citations leads to no later item.
+pub fn chains_lead_back()
+    ensures { ChainsLeadBack }
+{}

@@ -3,6 +3,10 @@
 #![tactic(auto)]
 
 mod answers;
+mod cited;
+mod citing;
+#[cfg(test)]
+mod citing_tests;
 mod finding;
 mod keeping;
 mod laws;
@@ -14,7 +18,9 @@ mod unbegun;
 
 pub use answers::KeepError;
 pub use finding::{At, Finding};
-pub use laws::{items_have_findings, one_list_of_runs};
+pub use laws::{
+    axioms_have_themselves, chains_lead_back, items_have_findings, one_list_each, one_list_of_runs,
+};
 pub use mm_frame::{
     BatchError, Edit, EditError, Files, FrameNumber, Place, StoreError, TextFault, TextNumber,
     nth_word, place,

@@ -29,7 +29,8 @@ abbrev pub HasKept : FilesView → List ℕ → List (List ℕ) → Base → Lis
 HasKept files top names code checked = (base : BaseView) × AreKept files top names code checked base
 
 -- so it was of the files before edits, which can be undone and settled
-pub record WereKept (before after : FilesView) (undos : List Undo) (top : List ℕ) (names : List (List ℕ)) (code : Base) (checked : List (Option Judgement)) : Type 0 where
+pub record WereKept
+    (before after : FilesView) (undos : List Undo) (top : List ℕ) (names : List (List ℕ)) (code : Base) (checked : List (Option Judgement)) : Type 0 where
   pub base : BaseView
   pub kept : AreKept before top names code checked base
   pub reading : KeepsReading before after
@@ -37,7 +38,8 @@ pub record WereKept (before after : FilesView) (undos : List Undo) (top : List �
   pub has_top : HasTop after top
 
 -- so it was of the files of before, and what a session goes on with is there
-pub record CanTake (before after : FilesView) (undos : List Undo) (top : List ℕ) (names : List (List ℕ)) (checked : List (Option Judgement)) (next : Next) : Type 0 where
+pub record CanTake
+    (before after : FilesView) (undos : List Undo) (top : List ℕ) (names : List (List ℕ)) (checked : List (Option Judgement)) (next : Next) : Type 0 where
   pub spendable : IsSpendable before after undos
   pub parked : parked_in before ≡ 0
   pub old : BaseView

@@ -43,7 +43,7 @@ pub record GoesOn (old base : BaseView) (next : Next) : Type 0 where
   pub steps : AreStepsOf base next.work.runs next.work.steps
 
 -- each theorem of the first base is run
-pub record Begins (base : BaseView) (next : Next) : Type 0 where
+pub record RunsAll (base : BaseView) (next : Next) : Type 0 where
   pub checked : AreChecked base next.checked.items
   pub runs : AreThose (λ i. is_proof_at base i ≡ true) (length base.said) next.work.runs
   pub steps : AreStepsOf base next.work.runs next.work.steps
@@ -57,4 +57,4 @@ pub record IsNext (names : List (List ℕ)) (files : FilesView) (top : List ℕ)
 pub record IsFirst (names : List (List ℕ)) (files : FilesView) (top : List ℕ) (next : Next) : Type 0 where
   pub base : BaseView
   pub built : IsBuilt names files top next.base base
-  pub begins : Begins base next
+  pub begins : RunsAll base next

@@ -20,17 +20,9 @@ pub record IsOf (names : List (List ℕ)) (files : FilesView) (code : Base) (vie
   pub read_in : IsReadIn names files code view
   pub stand : All (StandsIn files) view.found
 
--- there is what the code's base answers
-abbrev pub HasView : List (List ℕ) → FilesView → Base → Type 0
-HasView names files code = (view : BaseView) × IsOf names files code view
-
--- and it has an item with this number
+-- there is what the code's base answers, and it has an item with this number
 abbrev pub HasItemOf : List (List ℕ) → FilesView → Base → ℕ → Type 0
 HasItemOf names files code n = (view : BaseView) × IsOf names files code view × (n < length view.said)
-
--- and this item is a sound `$p`
-abbrev pub HasTheoremOf : List (List ℕ) → FilesView → Base → ℕ → Type 0
-HasTheoremOf names files code n = (view : BaseView) × IsOf names files code view × (n < length view.said) × (is_proof_at view n ≡ true)
 
 -- and this item is a sound `$p`, and the spot is in its proof, by some names
 abbrev pub HasSpotOf : FilesView → Base → ℕ → Spot → Type 0
@@ -48,7 +40,7 @@ HasVerdictOf files code n verdict =
 abbrev pub HasChecked : FilesView → Base → List (Option Judgement) → Type 0
 HasChecked files code checked = (names : List (List ℕ)) × (view : BaseView) × IsOf names files code view × AreChecked view checked
 
--- and it has an item with this number
+-- there is what the code's base answers, and it has an item with this number
 abbrev pub HasCheckedItem : FilesView → Base → List (Option Judgement) → ℕ → Type 0
 HasCheckedItem files code checked n =
     (names : List (List ℕ)) × (view : BaseView) × IsOf names files code view × AreChecked view checked × (n < length view.said)

@@ -1,9 +1,11 @@
 -- What is proved of sessions: each is the contract of a function.
-use Rattle.std.specs.Prelude.{◌≡◌, ◌<◌, ℕ, List, length}
+use Rattle.std.specs.Prelude.{◌≡◌, ◌↔◌, ◌<◌, ◌≤◌, ℕ, List, length}
 use Rattle.mm_store.specs.Language.FilesView.{FilesView, plain}
 use Rattle.mm_frame.specs.Language.Base.{BaseView, IsOfFiles}
+use Rattle.mm_keep.specs.Language.Citations.{IsAxiomOf, LeadsTo}
 use Rattle.mm_keep.specs.Language.Runs.{AreRunsOf}
-use Rattle.mm_keep.specs.Language.Told.{Told, IsRightlyTold}
+use Rattle.mm_keep.specs.Language.Sessions.{SessionView, AreCitesOf, AreUsersOf, AreAxiomsOf}
+use Rattle.mm_keep.specs.Language.Told.{Told, IsAxiom, IsRightlyTold}
 
 -- Between files before and files after there is one list of runs, whatever keys their pieces have.
 abbrev pub OneListOfRuns : Type 0
@@ -16,3 +18,21 @@ abbrev pub ItemsHaveFindings : Type 0
 ItemsHaveFindings =
     (files : FilesView) (top : List ℕ) (base : BaseView) → IsOfFiles files top base → (i : ℕ) → i < length base.said
     → (one : Told) × IsRightlyTold files base i one
+
+-- there is one list at most that stands so to a label in sessions of the same files, whatever keys their pieces have
+abbrev pub IsOneList : (SessionView → List ℕ → List ℕ → Type 0) → Type 0
+IsOneList AreSo =
+    (session other : SessionView) (label numbers copies : List ℕ) → plain session.files ≡ plain other.files → session.top ≡ other.top →
+    AreSo session label numbers → AreSo other label copies → numbers ≡ copies
+
+-- There is one list each of what an assertion cites, of what cites it, and of its axioms.
+abbrev pub OneListEach : Type 0
+OneListEach = IsOneList AreCitesOf × IsOneList AreUsersOf × IsOneList AreAxiomsOf
+
+-- The only axiom of a sound `$a` is itself.
+abbrev pub AxiomsHaveThemselves : Type 0
+AxiomsHaveThemselves = (base : BaseView) (i k : ℕ) → IsAxiom base i → IsAxiomOf base i k ↔ (k ≡ i)
+
+-- A chain of citations leads to no later item.
+abbrev pub ChainsLeadBack : Type 0
+ChainsLeadBack = (base : BaseView) (i k : ℕ) → LeadsTo base k i → k ≤ i

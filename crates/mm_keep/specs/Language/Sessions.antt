@@ -3,6 +3,7 @@ use Rattle.std.specs.Prelude.{◌≡◌, ◌<◌, ℕ, true, Option, Some, List,
 use Rattle.mm_store.specs.Language.FilesView.{FilesView}
 use Rattle.mm_frame.specs.Language.Base.{BaseView, IsOfFiles, said_at, is_framed_at, is_proof_at}
 use Rattle.mm_proof.specs.Language.Work.{Recorded}
+use Rattle.mm_keep.specs.Language.Citations.{Cites, IsAxiomOf}
 use Rattle.mm_keep.specs.Language.Runs.{AreThose, AreRunsOf, AreStepsOf}
 use Rattle.mm_keep.specs.Language.Told.{Told, IsRightlyTold, AreRightlyTold, Counts, counts}
 
@@ -44,6 +45,23 @@ HasAssertion session label = OfItems session (λ base. (i : ℕ) × IsAssertion 
 -- this is told rightly of the one with this label
 abbrev pub IsVerdictOf : SessionView → List ℕ → Told → Type 0
 IsVerdictOf session label told = OfItems session (λ base. (i : ℕ) × IsAssertion base label i × IsRightlyTold session.files base i told)
+
+-- these are the numbers of the items that stand so to the one with this label
+abbrev pub AreNumbersOf : SessionView → List ℕ → (BaseView → ℕ → ℕ → Type 0) → List ℕ → Type 0
+AreNumbersOf session label stands numbers =
+    OfItems session (λ base. (i : ℕ) × IsAssertion base label i × AreThose (stands base i) (length base.said) numbers)
+
+-- the items that it cites
+abbrev pub AreCitesOf : SessionView → List ℕ → List ℕ → Type 0
+AreCitesOf session label numbers = AreNumbersOf session label (λ base i k. Cites base i k) numbers
+
+-- the items that cite it
+abbrev pub AreUsersOf : SessionView → List ℕ → List ℕ → Type 0
+AreUsersOf session label numbers = AreNumbersOf session label (λ base i k. Cites base k i) numbers
+
+-- its axioms
+abbrev pub AreAxiomsOf : SessionView → List ℕ → List ℕ → Type 0
+AreAxiomsOf session label numbers = AreNumbersOf session label (λ base i k. IsAxiomOf base i k) numbers
 
 -- what is told rightly of all items is counted so
 pub record IsTally (session : SessionView) (counted : Counts) : Type 0 where

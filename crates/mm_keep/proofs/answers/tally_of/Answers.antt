@@ -1,5 +1,5 @@
 use Rattle.std.proofs.Common.{[], ◌∷◌, ◌++◌, arith}
-use Rattle.mm_keep.specs.Code.Findings.{told}
+use Rattle.mm_keep.specs.Language.Findings.{told}
 use Rattle.mm_keep.proofs.ToldLemmas.{told_more}
 use Rattle.mm_keep.proofs.answers.tally_of.Goals as goal
 

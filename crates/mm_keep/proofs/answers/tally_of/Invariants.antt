@@ -1,6 +1,6 @@
 use Rattle.std.proofs.Common.{◌≡◌, ℕ, List}
 use Rattle.mm_frame.specs.Language.Base.{BaseView}
-use Rattle.mm_keep.specs.Code.Findings.{counted}
+use Rattle.mm_keep.specs.Language.Findings.{counted}
 use Rattle.mm_keep.specs.Code.KeptSession.{AreChecked}
 use Rattle.mm_keep.specs.Code.OfFiles.{IsOf}
 use Rattle.mm_keep.specs.Language.Told.{Told, counts}

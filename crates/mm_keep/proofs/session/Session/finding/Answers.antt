@@ -1,5 +1,5 @@
 use Rattle.std.proofs.Common.{sym, subst}
-use Rattle.mm_keep.specs.Code.Findings.{told}
+use Rattle.mm_keep.specs.Language.Findings.{told}
 use Rattle.mm_keep.specs.Code.KeptSession.{AreChecked}
 use Rattle.mm_keep.specs.Language.Sessions.{HasItem, IsFinding}
 use Rattle.mm_keep.proofs.FoundLemmas.{kept_of, kept_within}

@@ -1,0 +1,153 @@
+-- Chains of citations, and marks of the items to which they lead.
+use Rattle.std.proofs.Common.{◌≡◌, ◌<◌, ◌≤◌, ℕ, zero, suc, ◌+◌, Bool, true, false, Result, Ok, Err, List, [], ◌∷◌, ◌++◌, length, take, get_or, set, refl, sym, ap, ◌∙◌, subst, inl, inr, arith}
+use Rattle.std.specs.Prelude.{IfOk, replicate}
+use Rattle.std.proofs.Math.Decide.{dec_lt, ℕ_discrete}
+use Rattle.std.proofs.Math.ListN.{get_or-eq_default}
+use Rattle.std.proofs.lemmas.Bool.{false≢true}
+use Rattle.std.proofs.lemmas.List.{get_or-replicate, get_or-set_same, get_or-set_other, length-replicate}
+use Rattle.mm_frame.specs.Language.Base.{BaseView}
+use Rattle.mm_keep.specs.Language.Citations.{Cites, LeadsTo, none, step, IsAxiomOf}
+use Rattle.mm_keep.specs.Language.Runs.{AreThose}
+use Rattle.mm_keep.specs.Language.Told.{IsAxiom}
+use Rattle.mm_keep.specs.Code.Cited.{IsMarked, MarksMore, MarksBehind}
+use Rattle.mm_keep.proofs.CitedItems.{cites_earlier}
+
+-- ---- numbers of which something holds
+
+pub those_moved :
+    (P Q : ℕ → Type 0) (n m : ℕ) (numbers : List ℕ) → AreThose P n numbers → ((k : ℕ) → k < n → P k → (k < m) × Q k) → ((k : ℕ) → k < m → Q k → (k < n) × P k) →
+    AreThose Q m numbers
+those_moved P Q n m numbers those to from = record {
+  rising = those.rising;
+  each = λ k. (λ c. let p = (those.each k).0 c in to k p.0 p.1, λ q. (those.each k).1 (from k q.0 q.1));
+}
+
+-- none below this one
+pub those_behind : (P : ℕ → Type 0) (n : ℕ) → ((k : ℕ) → k < n → P k → ⊥) → AreThose P n []
+those_behind P n no_one = record { rising = λ i j d l m. absurd (omega arith); each = λ k. (λ c. absurd (let l = c.1 in omega (arith, l)), λ p. absurd (no_one k p.0 p.1)) }
+
+-- ---- chains
+
+pub leads_earlier : (view : BaseView) (k i : ℕ) → LeadsTo view k i → k ≤ i
+leads_earlier view k i none = omega arith
+leads_earlier view k i (step {j = j} c rest) = let l = cites_earlier view i j c in let m = leads_earlier view k j rest in omega (arith, l, m)
+
+-- one chain and another behind it
+pub leads_on : (view : BaseView) (k j i : ℕ) → LeadsTo view j i → LeadsTo view k j → LeadsTo view k i
+leads_on view k j i none more = more
+leads_on view k j i (step {j = n} c rest) more = step c (leads_on view k j n rest more)
+
+-- ---- marks
+
+pub marked_within : (marks : List Bool) (k : ℕ) → IsMarked marks k → k < length marks
+marked_within marks k m = elim (dec_lt k (length marks)) [
+  | yes l ↦ l
+  | no n ↦ (let past = get_or-eq_default marks false {n = k} (omega (arith, n)) in absurd (false≢true (sym past ∙ m)))
+]
+
+-- of the marked items from a front on all that they cite is marked
+pub record AreBehind (view : BaseView) (before now : List Bool) (front : ℕ) : Type 0 where
+  pub count : length now ≡ length before
+  pub kept : (k : ℕ) → IsMarked before k → IsMarked now k
+  pub leads : (k : ℕ) → IsMarked now k → (i : ℕ) × IsMarked before i × LeadsTo view k i
+  pub closed : (i k : ℕ) → front ≤ i → IsMarked now i → Cites view i k → IsMarked now k
+
+pub behind_none : (view : BaseView) (marks : List Bool) (front : ℕ) → front ≡ length marks → AreBehind view marks marks front
+behind_none view marks front e = record {
+  count = refl;
+  kept = λ k m. m;
+  leads = λ k m. (k, m, none);
+  closed = λ i k l m c. let w = marked_within marks i m in absurd (omega (arith, l, w, e));
+}
+
+pub behind_skip : (view : BaseView) (before now : List Bool) (j front : ℕ) → front ≡ j + 1 → AreBehind view before now front → (IsMarked now j → ⊥) → AreBehind view before now j
+behind_skip view before now j front e behind not = record {
+  count = behind.count;
+  kept = behind.kept;
+  leads = behind.leads;
+  closed = λ i k l m c. elim (dec_lt j i) [
+    | yes later ↦ behind.closed i k (omega (arith, later, e)) m c
+    | no n ↦ (let same : i ≡ j = omega (arith, l, n) in absurd (not (subst (IsMarked now) same m)))
+  ];
+}
+
+pub behind_more :
+    (view : BaseView) (before now after : List Bool) (j front : ℕ) → front ≡ j + 1 → AreBehind view before now front → IsMarked now j → MarksMore (Cites view j) now after →
+    AreBehind view before after j
+behind_more view before now after j front e behind here more = record {
+  count = more.count ∙ behind.count;
+  kept = λ k m. (more.each k).1 (inl (behind.kept k m));
+  leads = λ k m. elim ((more.each k).0 m) [
+    | inl n ↦ behind.leads k n
+    | inr c ↦ (let first = behind.leads j here in (first.0, first.1, leads_on view k j first.0 first.2 (step c none)))
+  ];
+  closed = λ i k l m c. elim ((more.each i).0 m) [
+    | inl n ↦ elim (dec_lt j i) [
+      | yes later ↦ (more.each k).1 (inl (behind.closed i k (omega (arith, later, e)) n c))
+      | no no_later ↦ (let same : i ≡ j = omega (arith, l, no_later) in (more.each k).1 (inr (subst (λ x. Cites view x k) same c)))
+    ]
+    | inr back ↦ (let earlier = cites_earlier view j i back in absurd (omega (arith, l, earlier)))
+  ];
+}
+
+reached : (view : BaseView) (now : List Bool) → ((i k : ℕ) → IsMarked now i → Cites view i k → IsMarked now k) → (k i : ℕ) → LeadsTo view k i → IsMarked now i → IsMarked now k
+reached view now closed k i none m = m
+reached view now closed k i (step {j = j} c rest) m = reached view now closed k j rest (closed i j m c)
+
+pub behind_all : (view : BaseView) (before now : List Bool) → AreBehind view before now 0 → MarksBehind view before now
+behind_all view before now behind = record {
+  count = behind.count;
+  each = λ k. (behind.leads k, λ from. reached view now (λ i n m c. behind.closed i n (omega arith) m c) k from.0 from.2 (behind.kept from.0 from.1));
+}
+
+-- ---- fresh marks
+
+pub never_marked : (marks : List Bool) (n : ℕ) → marks ≡ replicate n false → (k : ℕ) → IsMarked marks k → ⊥
+never_marked marks n e k m = elim (dec_lt k n) [
+  | yes l ↦ false≢true (sym (get_or-replicate n k false false l) ∙ sym (ap (λ (w : List Bool). get_or w k false) e) ∙ m)
+  | no l ↦ (let w = marked_within marks k m in let count = ap length e ∙ length-replicate n false in absurd (omega (arith, l, w, count)))
+]
+
+pub map_ok : {X E : Type 0} (r : Result X E) (P Q : X → Type 0) → ((x : X) → P x → Q x) → IfOk r P → IfOk r Q
+map_ok (Ok x) P Q f p = f x p
+map_ok (Err e) P Q f p = p
+
+-- what is cited, by the marks
+pub cites_marked :
+    (view : BaseView) (i : ℕ) (fresh marks : List Bool) (numbers : List ℕ) → i < length view.said → length fresh ≡ i → ((k : ℕ) → IsMarked fresh k → ⊥) →
+    MarksMore (Cites view i) fresh marks → AreThose (IsMarked marks) (length marks) numbers → AreThose (Cites view i) (length view.said) numbers
+cites_marked view i fresh marks numbers within count empty more those =
+    let long = more.count in
+    those_moved (IsMarked marks) (Cites view i) (length marks) (length view.said) numbers those
+    (λ k l m. elim ((more.each k).0 m) [
+      | inl f ↦ absurd (empty k f)
+      | inr c ↦ (let e = cites_earlier view i k c in (omega (arith, e, within), c))
+    ])
+    (λ k l c. let e = cites_earlier view i k c in (omega (arith, e, long, count), (more.each k).1 (inr c)))
+
+-- the axioms, by the marks
+pub axioms_marked :
+    (view : BaseView) (i : ℕ) (fresh marks : List Bool) (numbers : List ℕ) → i < length view.said → length fresh ≡ i + 1 → IsMarked fresh i → ((k : ℕ) → IsMarked fresh k → k ≡ i) →
+    MarksBehind view fresh marks → AreThose (λ k. IsMarked marks k × IsAxiom view k) (length marks) numbers → AreThose (IsAxiomOf view i) (length view.said) numbers
+axioms_marked view i fresh marks numbers within count here only behind those =
+    let long = behind.count in
+    those_moved (λ k. IsMarked marks k × IsAxiom view k) (IsAxiomOf view i) (length marks) (length view.said) numbers those
+    (λ k l m.
+    let from = (behind.each k).0 m.0 in
+    (omega (arith, l, long, count, within), record { is_axiom = m.1; leads = subst (λ x. LeadsTo view k x) (only from.0 from.1) from.2 }))
+    (λ k l a. let e = leads_earlier view k i a.leads in (omega (arith, e, long, count), ((behind.each k).1 (i, here, a.leads), a.is_axiom)))
+
+-- the one that is marked first
+pub one_marked : (fresh : List Bool) (i : ℕ) → i < length fresh → ((k : ℕ) → IsMarked fresh k → ⊥) → IsMarked (set fresh i true) i × ((k : ℕ) → IsMarked (set fresh i true) k → k ≡ i)
+one_marked fresh i within empty = (get_or-set_same fresh i true false within, λ k m. by_place k m (ℕ_discrete k i))
+  where
+    by_place : (k : ℕ) → IsMarked (set fresh i true) k → Dec (k ≡ i) → k ≡ i
+    by_place k m (yes e) = e
+    by_place k m (no n) = absurd (empty k (sym (get_or-set_other fresh i k true false n) ∙ m))
+
+-- a whole list that is written over another of its length
+pub take_front : {X : Type 0} (xs ys : List X) (n : ℕ) → n ≡ length xs → take n (xs ++ ys) ≡ xs
+take_front [] ys zero e = refl
+take_front [] ys (suc n) e = absurd (omega (arith, e))
+take_front (x ∷ xs) ys zero e = absurd (omega (arith, e))
+take_front (x ∷ xs) ys (suc n) e = ap (λ w. x ∷ w) (take_front xs ys n (omega (arith, e)))

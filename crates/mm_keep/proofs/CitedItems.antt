@@ -1,0 +1,115 @@
+-- The items that a theorem cites are those whose labels are words that cite.
+use Rattle.std.proofs.Common.{◌≡◌, ◌<◌, ◌⊎◌, ℕ, Bool, true, false, Option, Some, List, length, get_or, slice_get, refl, sym, ap, ◌∙◌, subst, inl, inr, arith}
+use Rattle.std.specs.Prelude.{◌↔◌, Contains, slice_index}
+use Rattle.std.proofs.lemmas.Bool.{and_parts, and_from, false≢true}
+use Rattle.std.proofs.lemmas.List.{get_or_default}
+use Rattle.std.proofs.lemmas.Option.{same_Some}
+use Rattle.mm_frame.specs.Language.Base.{BaseView, AreSaid, said_at, is_proof_at, is_sound_at}
+use Rattle.mm_frame.specs.Language.Item.{Kind, Axiom, Theorem, is_assertion, is_labelled}
+use Rattle.mm_frame.specs.Language.Laws.{HasOwnLabels}
+use Rattle.mm_frame.specs.Language.Resolving.{IsCarrier}
+use Rattle.mm_proof.specs.Language.CitingLaws.{CitesNameAssertions, CitesTellAssertions, IsCiteOf, NamesAssertionAt}
+use Rattle.mm_proof.specs.Language.BaseLabels.{setting_at}
+use Rattle.mm_proof.specs.Language.DecodingLaws.{CitesRise}
+use Rattle.mm_proof.specs.Language.VerdictAt.{cites_at, decoding_at}
+use Rattle.mm_proof.specs.Language.Work.{Judgement}
+use Rattle.mm_keep.specs.Language.Citations.{Cites}
+use Rattle.mm_keep.specs.Language.Sessions.{IsAssertion}
+use Rattle.mm_keep.specs.Code.Cited.{AreRising, HasLabelAmong, IsAmong, MarksMore, IsMarked}
+use Rattle.mm_keep.specs.Code.KeptSession.{AreChecked, IsCheckedAt}
+use Rattle.mm_keep.proofs.CitedWords.{rise_pairs}
+use Rattle.mm_keep.proofs.FoundLemmas.{at_index}
+
+-- ---- assertions have labels
+
+assertion_labelled : (kind : Kind) → is_assertion kind ≡ true → is_labelled kind ≡ true
+assertion_labelled Axiom e = refl
+assertion_labelled Theorem e = refl
+assertion_labelled _ e = absurd (false≢true e)
+
+pub assertion_carries : (view : BaseView) (label : List ℕ) (i : ℕ) → IsAssertion view label i → IsCarrier view label i
+assertion_carries view label i a =
+    let kind = (said_at view i).kind in
+    let p = and_parts (is_sound_at view i) (is_assertion kind) a.framed in
+    record { shown = and_from (is_sound_at view i) (is_labelled kind) p.0 (assertion_labelled kind p.1); label_is = a.label_is }
+
+-- ---- what is cited
+
+names_cite : (view : BaseView) (j k : ℕ) → is_proof_at view j ≡ true → NamesAssertionAt view j k → Cites view j k
+names_cite view j k proof n = record { theorem = proof; decoded = n.decoded; decodes = n.decodes; label = n.label; named = n.named; means = n.means }
+
+cite_names : (view : BaseView) (j k : ℕ) → Cites view j k → NamesAssertionAt view j k
+cite_names view j k c = record { decoded = c.decoded; decodes = c.decodes; label = c.label; named = c.named; means = c.means }
+
+-- citations lead to earlier items
+pub cites_earlier : (view : BaseView) (j k : ℕ) → Cites view j k → k < j
+cites_earlier view j k c = c.means.0.earlier
+
+number_among : (words : List (List ℕ)) (cites : List ℕ) (n : ℕ) (label : List ℕ) → Contains cites n → slice_get words n ≡ Some label → IsAmong words cites (length cites) label
+number_among words cites n label c there =
+    let at : slice_index cites c.0 ≡ n = get_or_default cites c.0 0 n c.1 ∙ c.2 in
+    record { at = c.0; before = c.1; there = ap (slice_get words) at ∙ there }
+
+among_number : (words : List (List ℕ)) (cites : List ℕ) (label : List ℕ) → IsAmong words cites (length cites) label → (n : ℕ) × Contains cites n × (slice_get words n ≡ Some label)
+among_number words cites label a =
+    let n = slice_index cites a.at in
+    (n, (a.at, a.before, get_or_default cites a.at n 0 a.before), a.there)
+
+module _ (each : CitesNameAssertions) (tell : CitesTellAssertions) (own : HasOwnLabels) (view : BaseView) (said : AreSaid view) (j : ℕ) (proof : is_proof_at view j ≡ true) where
+  -- the label of a cited item is among the words that cite
+  cited_among : (k : ℕ) → Cites view j k → HasLabelAmong view (said_at view j).proof (cites_at view j) (length (cites_at view j)) k
+  cited_among k c =
+      let n = (tell view j k said).0 (cite_names view j k c) in
+      let one = n.1 in
+      record { label = one.label; among = number_among (said_at view j).proof (cites_at view j) n.0 one.label one.cites one.there; carrier = one.means.0.carrier }
+
+  -- an item whose label is among them is cited
+  among_cited : (k : ℕ) (label : List ℕ) → IsAmong (said_at view j).proof (cites_at view j) (length (cites_at view j)) label → IsCarrier view label k → Cites view j k
+  among_cited k label a carrier =
+      let words = (said_at view j).proof in
+      let n = among_number words (cites_at view j) label a in
+      let m = each view j n.0 n.1 in
+      let one = m.1 in
+      let same : one.label ≡ label = same_Some one.label label (sym one.there ∙ n.2) in
+      let is : m.0 ≡ k = own view m.0 k label (subst (λ l. IsCarrier view l m.0) same one.means.0.carrier) carrier in
+      names_cite view j k proof ((tell view j k said).1 (n.0, subst (IsCiteOf view j n.0) is one))
+
+  pub marks_cited : (before after : List Bool) → MarksMore (HasLabelAmong view (said_at view j).proof (cites_at view j) (length (cites_at view j))) before after → MarksMore (Cites view j) before after
+  marks_cited before after more = record { count = more.count; each = λ k. (to k, from k) }
+    where
+      to : (k : ℕ) → IsMarked after k → IsMarked before k ⊎ Cites view j k
+      to k m = elim ((more.each k).0 m) [ inl n ↦ inl n | inr h ↦ inr (among_cited k h.label h.among h.carrier) ]
+
+      from : (k : ℕ) → IsMarked before k ⊎ Cites view j k → IsMarked after k
+      from k (inl m) = (more.each k).1 (inl m)
+      from k (inr c) = (more.each k).1 (inr (cited_among k c))
+
+  pub among_earlier : (k : ℕ) → HasLabelAmong view (said_at view j).proof (cites_at view j) (length (cites_at view j)) k → k < j
+  among_earlier k h = cites_earlier view j k (among_cited k h.label h.among h.carrier)
+
+  -- one of them is the label of an assertion exactly where this is cited
+  pub label_cited : (label : List ℕ) (i : ℕ) → IsAssertion view label i → IsAmong (said_at view j).proof (cites_at view j) (length (cites_at view j)) label ↔ Cites view j i
+  label_cited label i a = (λ among. among_cited i label among (assertion_carries view label i a), to)
+    where
+      to : Cites view j i → IsAmong (said_at view j).proof (cites_at view j) (length (cites_at view j)) label
+      to c =
+          let h = cited_among i c in
+          let same : h.label ≡ label = same_Some h.label label (sym h.carrier.label_is ∙ a.label_is) in
+          subst (IsAmong (said_at view j).proof (cites_at view j) (length (cites_at view j))) same h.among
+
+-- no other item cites
+pub none_cited : (view : BaseView) (j k : ℕ) → is_proof_at view j ≡ false → Cites view j k → ⊥
+none_cited view j k none c = false≢true (sym none ∙ c.theorem)
+
+-- ---- what a check of an item says, as it is kept
+
+pub checked_at :
+    (view : BaseView) (checked : List (Option Judgement)) (j : ℕ) (found one : Option Judgement) → AreChecked view checked → j < length view.said →
+    found ≡ get_or checked j found → found ≡ one → IsCheckedAt view j one
+checked_at view checked j found one are within is e =
+    let count = are.count in
+    are.each j one (at_index checked j found (omega (arith, within, count)) is ∙ ap Some e)
+
+-- the numbers of its words rise
+pub cites_rising : CitesRise → (view : BaseView) (j : ℕ) (cites : List ℕ) → cites ≡ cites_at view j → AreRising cites
+cites_rising rise view j cites e = subst AreRising (sym e) (rise_pairs (cites_at view j) (rise (setting_at view j) (said_at view j).proof (decoding_at view j)))

@@ -1,0 +1,132 @@
+-- The words of a proof that cite, one after another, and marks of the items that they are labels of.
+use Rattle.std.proofs.Common.{◌≡◌, ◌⊎◌, ◌<◌, ℕ, zero, suc, ◌+◌, Bool, true, false, Option, Some, None, List, [], ◌∷◌, length, drop, set, get_or, slice_get, refl, sym, ap, ◌∙◌, subst, inl, inr, arith}
+use Rattle.std.specs.Prelude.{◌↔◌, MatchOption, slice_index}
+use Rattle.std.specs.Option.{option_map}
+use Rattle.std.specs.List.{AllByRecursion}
+use Rattle.std.proofs.Math.Decide.{dec_lt, ℕ_discrete}
+use Rattle.std.proofs.Math.Seq.{drop-nil}
+use Rattle.std.proofs.lemmas.List.{get_or-set_same, get_or-set_other, length-set}
+use Rattle.std.proofs.lemmas.Option.{same_Some, none-some}
+use Rattle.mm_frame.specs.Language.Base.{BaseView}
+use Rattle.mm_frame.specs.Language.Resolving.{IsCarrier}
+use Rattle.mm_proof.specs.Language.DecodingLaws.{Rise}
+use Rattle.mm_keep.specs.Code.Cited.{AreRising, HasLabelAmong, IsAmong, IsMarked, MarksMore, passed}
+
+-- ---- words
+
+pub drop_more : {X : Type 0} (xs : List X) (n m k : ℕ) → k ≡ n + m → drop m (drop n xs) ≡ drop k xs
+drop_more xs zero m k e = ap (λ i. drop i xs) (omega (arith, e))
+drop_more [] (suc n) m k e = drop-nil m ∙ sym (drop-nil k)
+drop_more (x ∷ xs) (suc n) m zero e = absurd (omega (arith, e))
+drop_more (x ∷ xs) (suc n) m (suc k) e = drop_more xs n m k (omega (arith, e))
+
+pub get_behind : {X : Type 0} (xs : List X) (n m k : ℕ) → k ≡ n + m → slice_get (drop n xs) m ≡ slice_get xs k
+get_behind xs zero m k e = ap (slice_get xs) (omega (arith, e))
+get_behind [] (suc n) m k e = refl
+get_behind (x ∷ xs) (suc n) m zero e = absurd (omega (arith, e))
+get_behind (x ∷ xs) (suc n) m (suc k) e = get_behind xs n m k (omega (arith, e))
+
+-- a word that is read, and what is left
+pub next_left : {W : Type 0} (f : W → List ℕ) (r : Option W) (old new : List (List ℕ)) → MatchOption r ((old ≡ []) × (new ≡ [])) (λ w. old ≡ f w ∷ new) → (new ≡ drop 1 old) × (option_map f r ≡ slice_get old 0)
+next_left f None old new h = (h.1 ∙ sym (ap (drop 1) h.0), sym (ap (λ ws. slice_get ws 0) h.0))
+next_left f (Some w) old new h = (sym (ap (drop 1) h), sym (ap (λ ws. slice_get ws 0) h))
+
+pub passed_next : (cites : List ℕ) (x : ℕ) → passed cites (x + 1) ≡ slice_index cites x + 1
+passed_next cites x = let e : x + 1 ≡ suc x = omega arith in ap (passed cites) e
+
+-- numbers that rise by recursion, by their places
+above_at : (n d : ℕ) (xs : List ℕ) (j : ℕ) → AllByRecursion (λ m. n < m) xs → j < length xs → n < get_or xs j d
+above_at n d [] j a l = absurd (omega (arith, l))
+above_at n d (x ∷ xs) zero a l = a.0
+above_at n d (x ∷ xs) (suc j) a l = above_at n d xs j a.1 (omega (arith, l))
+
+pub rise_pairs : (xs : List ℕ) → Rise xs → AreRising xs
+rise_pairs [] r i j d l m = absurd (omega (arith, m))
+rise_pairs (x ∷ xs) r zero zero d l m = absurd (omega (arith, l))
+rise_pairs (x ∷ xs) r zero (suc j) d l m = above_at x d xs j r.0 (omega (arith, m))
+rise_pairs (x ∷ xs) r (suc i) zero d l m = absurd (omega (arith, l))
+rise_pairs (x ∷ xs) r (suc i) (suc j) d l m = rise_pairs xs r.1 i j d (omega (arith, l)) (omega (arith, m))
+
+-- ---- marks
+
+pub marks_same : (P : ℕ → Type 0) (marks : List Bool) → ((k : ℕ) → P k → ⊥) → MarksMore P marks marks
+marks_same P marks none = record { count = refl; each = λ k. (λ m. inl m, λ s. elim s [ inl m ↦ m | inr p ↦ absurd (none k p) ]) }
+
+pub mark_one : (P : ℕ → Type 0) (marks : List Bool) (k : ℕ) → k < length marks → P k → ((j : ℕ) → P j → j ≡ k) → MarksMore P marks (set marks k true)
+mark_one P marks k within holds one = record { count = length-set marks k true; each = each }
+  where
+    here : IsMarked (set marks k true) k
+    here = get_or-set_same marks k true false within
+
+    by_place : (j : ℕ) → Dec (j ≡ k) → IsMarked (set marks k true) j ↔ (IsMarked marks j ⊎ P j)
+    by_place j (yes e) = (λ m. inr (subst P (sym e) holds), λ s. subst (IsMarked (set marks k true)) (sym e) here)
+    by_place j (no n) =
+        let same = get_or-set_other marks k j true false n in
+        (λ m. inl (sym same ∙ m), λ s. elim s [ inl m ↦ same ∙ m | inr p ↦ absurd (n (one j p)) ])
+
+    each : (j : ℕ) → IsMarked (set marks k true) j ↔ (IsMarked marks j ⊎ P j)
+    each j = by_place j (ℕ_discrete j k)
+
+-- ---- labels among the first words
+
+pub among_none : (words : List (List ℕ)) (cites : List ℕ) (label : List ℕ) → IsAmong words cites 0 label → ⊥
+among_none words cites label a = let l = a.before in omega (arith, l)
+
+-- a label among more words
+longer : (words : List (List ℕ)) (cites : List ℕ) (x : ℕ) (label : List ℕ) → IsAmong words cites x label → IsAmong words cites (x + 1) label
+longer words cites x label a = let l = a.before in record { at = a.at; before = omega (arith, l); there = a.there }
+
+-- it is among those before, or the last
+pub last_or_before : (words : List (List ℕ)) (cites : List ℕ) (x : ℕ) (label : List ℕ) → IsAmong words cites (x + 1) label → IsAmong words cites x label ⊎ (slice_get words (slice_index cites x) ≡ Some label)
+last_or_before words cites x label a =
+    let l = a.before in
+    elim (dec_lt a.at x) [
+      | yes m ↦ inl (record { at = a.at; before = m; there = a.there })
+      | no n ↦ (let e : a.at ≡ x = omega (arith, l) in inr (subst (λ i. slice_get words (slice_index cites i) ≡ Some label) e a.there))
+    ]
+
+pub words_more :
+    (view : BaseView) (words : List (List ℕ)) (cites : List ℕ) (x : ℕ) (label : List ℕ) (before now after : List Bool) → slice_get words (slice_index cites x) ≡ Some label →
+    MarksMore (HasLabelAmong view words cites x) before now → MarksMore (IsCarrier view label) now after → MarksMore (HasLabelAmong view words cites (x + 1)) before after
+words_more view words cites x label before now after there first second = record { count = second.count ∙ first.count; each = λ k. (to k, from k) }
+  where
+    behind : (k : ℕ) → IsMarked before k ⊎ HasLabelAmong view words cites x k → IsMarked before k ⊎ HasLabelAmong view words cites (x + 1) k
+    behind k (inl m) = inl m
+    behind k (inr h) = inr (record { label = h.label; among = longer words cites x h.label h.among; carrier = h.carrier })
+
+    to : (k : ℕ) → IsMarked after k → IsMarked before k ⊎ HasLabelAmong view words cites (x + 1) k
+    to k m = elim ((second.each k).0 m) [
+      | inl n ↦ behind k ((first.each k).0 n)
+      | inr c ↦ (let one : IsAmong words cites (x + 1) label = record { at = x; before = omega arith; there = there } in inr (record { label = label; among = one; carrier = c }))
+    ]
+
+    by_word : (k : ℕ) (h : HasLabelAmong view words cites (x + 1) k) → IsAmong words cites x h.label ⊎ (slice_get words (slice_index cites x) ≡ Some h.label) → IsMarked after k
+    by_word k h (inl a) = (second.each k).1 (inl ((first.each k).1 (inr (record { label = h.label; among = a; carrier = h.carrier }))))
+    by_word k h (inr e) = (second.each k).1 (inr (subst (λ l. IsCarrier view l k) (same_Some h.label label (sym e ∙ there)) h.carrier))
+
+    from : (k : ℕ) → IsMarked before k ⊎ HasLabelAmong view words cites (x + 1) k → IsMarked after k
+    from k (inl m) = (second.each k).1 (inl ((first.each k).1 (inl m)))
+    from k (inr h) = by_word k h (last_or_before words cites x h.label h.among)
+
+pub words_skip :
+    (view : BaseView) (words : List (List ℕ)) (cites : List ℕ) (x : ℕ) (before now : List Bool) → slice_get words (slice_index cites x) ≡ None →
+    MarksMore (HasLabelAmong view words cites x) before now → MarksMore (HasLabelAmong view words cites (x + 1)) before now
+words_skip view words cites x before now none first = record { count = first.count; each = λ k. (to k, from k) }
+  where
+    behind : (k : ℕ) → IsMarked before k ⊎ HasLabelAmong view words cites x k → IsMarked before k ⊎ HasLabelAmong view words cites (x + 1) k
+    behind k (inl m) = inl m
+    behind k (inr h) = inr (record { label = h.label; among = longer words cites x h.label h.among; carrier = h.carrier })
+
+    to : (k : ℕ) → IsMarked now k → IsMarked before k ⊎ HasLabelAmong view words cites (x + 1) k
+    to k m = behind k ((first.each k).0 m)
+
+    by_word : (k : ℕ) (h : HasLabelAmong view words cites (x + 1) k) → IsAmong words cites x h.label ⊎ (slice_get words (slice_index cites x) ≡ Some h.label) → IsMarked now k
+    by_word k h (inl a) = (first.each k).1 (inr (record { label = h.label; among = a; carrier = h.carrier }))
+    by_word k h (inr e) = absurd (none-some h.label (sym none ∙ e))
+
+    from : (k : ℕ) → IsMarked before k ⊎ HasLabelAmong view words cites (x + 1) k → IsMarked now k
+    from k (inl m) = (first.each k).1 (inl m)
+    from k (inr h) = by_word k h (last_or_before words cites x h.label h.among)
+
+pub words_none : (view : BaseView) (words : List (List ℕ)) (cites : List ℕ) (marks : List Bool) → MarksMore (HasLabelAmong view words cites 0) marks marks
+words_none view words cites marks = marks_same (HasLabelAmong view words cites 0) marks (λ k h. among_none words cites h.label h.among)

@@ -1,0 +1,108 @@
+-- Citations depend on what the items of files say, and on nothing else.
+use Rattle.std.proofs.Common.{◌≡◌, ◌<◌, ℕ, true, List, length, refl, sym, ap, ◌∙◌, subst}
+use Rattle.std.specs.Prelude.{Contains}
+use Rattle.std.proofs.lemmas.Bool.{and_parts, false≢true}
+use Rattle.mm_frame.specs.declared.base.Resolved.TheVariants.{Assertion}
+use Rattle.mm_frame.specs.Language.Base.{BaseView, IsOfFiles, said_at, is_proof_at, is_sound_at}
+use Rattle.mm_frame.specs.Language.Item.{Item, is_theorem}
+use Rattle.mm_frame.specs.Language.Laws.{AlikeFilesSayTheSame, HasOwnLabels}
+use Rattle.mm_frame.specs.Language.Resolving.{Resolves}
+use Rattle.mm_keep.specs.Language.Citations.{Cites, LeadsTo, none, step, IsAxiomOf}
+use Rattle.mm_keep.specs.Language.Laws.{OneListEach, IsOneList, AxiomsHaveThemselves}
+use Rattle.mm_keep.specs.Language.Runs.{AreThose}
+use Rattle.mm_keep.specs.Language.Sessions.{IsAssertion, AreNumbersOf}
+use Rattle.mm_keep.specs.Language.Told.{IsAxiom}
+use Rattle.mm_keep.proofs.CitedItems.{assertion_carries}
+use Rattle.mm_keep.proofs.NumberLemmas.{one_rising}
+use Rattle.mm_keep.proofs.RunLaws.{saying}
+
+-- ---- with what the items say alone, and back
+
+means_to : (base : BaseView) (i k : ℕ) (label : List ℕ) → Resolves base i label (Assertion k) → Resolves (saying base.said) i label (Assertion k)
+means_to base i k label m = (record { earlier = m.0.earlier; carrier = record { shown = m.0.carrier.shown; label_is = m.0.carrier.label_is } }, m.1, m.2)
+
+means_from : (base : BaseView) (i k : ℕ) (label : List ℕ) → Resolves (saying base.said) i label (Assertion k) → Resolves base i label (Assertion k)
+means_from base i k label m = (record { earlier = m.0.earlier; carrier = record { shown = m.0.carrier.shown; label_is = m.0.carrier.label_is } }, m.1, m.2)
+
+cites_to : (base : BaseView) (i k : ℕ) → Cites base i k → Cites (saying base.said) i k
+cites_to base i k c = record { theorem = c.theorem; decoded = c.decoded; decodes = c.decodes; label = c.label; named = c.named; means = means_to base i k c.label c.means }
+
+cites_from : (base : BaseView) (i k : ℕ) → Cites (saying base.said) i k → Cites base i k
+cites_from base i k c = record { theorem = c.theorem; decoded = c.decoded; decodes = c.decodes; label = c.label; named = c.named; means = means_from base i k c.label c.means }
+
+assertion_to : (base : BaseView) (label : List ℕ) (i : ℕ) → IsAssertion base label i → IsAssertion (saying base.said) label i
+assertion_to base label i a = record { within = a.within; framed = a.framed; label_is = a.label_is }
+
+assertion_from : (base : BaseView) (label : List ℕ) (i : ℕ) → IsAssertion (saying base.said) label i → IsAssertion base label i
+assertion_from base label i a = record { within = a.within; framed = a.framed; label_is = a.label_is }
+
+axiom_to : (base : BaseView) (k : ℕ) → IsAxiom base k → IsAxiom (saying base.said) k
+axiom_to base k a = record { sound = a.sound; kind = a.kind }
+
+axiom_from : (base : BaseView) (k : ℕ) → IsAxiom (saying base.said) k → IsAxiom base k
+axiom_from base k a = record { sound = a.sound; kind = a.kind }
+
+-- ---- two bases whose items say the same
+
+cites_alike : (base other : BaseView) → base.said ≡ other.said → (i k : ℕ) → Cites base i k → Cites other i k
+cites_alike base other e i k c = cites_from other i k (subst (λ (said : List Item). Cites (saying said) i k) e (cites_to base i k c))
+
+leads_alike : (base other : BaseView) → base.said ≡ other.said → (k i : ℕ) → LeadsTo base k i → LeadsTo other k i
+leads_alike base other e k i none = none
+leads_alike base other e k i (step {j = j} c rest) = step (cites_alike base other e i j c) (leads_alike base other e k j rest)
+
+axioms_alike : (base other : BaseView) → base.said ≡ other.said → (i k : ℕ) → IsAxiomOf base i k → IsAxiomOf other i k
+axioms_alike base other e i k a = record {
+  is_axiom = axiom_from other k (subst (λ (said : List Item). IsAxiom (saying said) k) e (axiom_to base k a.is_axiom));
+  leads = leads_alike base other e k i a.leads;
+}
+
+-- ---- one list
+
+abbrev AreAlike : (BaseView → ℕ → ℕ → Type 0) → Type 0
+AreAlike stands = (base other : BaseView) → base.said ≡ other.said → (i k : ℕ) → stands base i k → stands other i k
+
+one_side :
+    (stands : BaseView → ℕ → ℕ → Type 0) → AreAlike stands → (base other : BaseView) → base.said ≡ other.said → (i : ℕ) (numbers copies : List ℕ) →
+    AreThose (stands base i) (length base.said) numbers → AreThose (stands other i) (length other.said) copies → (k : ℕ) → Contains numbers k → Contains copies k
+one_side stands alike base other e i numbers copies a b k h =
+    let p = (a.each k).0 h in
+    (b.each k).1 (subst (λ (said : List Item). k < length said) e p.0, alike base other e i k p.1)
+
+one_list_of :
+    AlikeFilesSayTheSame → HasOwnLabels → (stands : BaseView → ℕ → ℕ → Type 0) → AreAlike stands →
+    IsOneList (λ session label numbers. AreNumbersOf session label stands numbers)
+one_list_of say own stands alike session other label numbers copies files top a b =
+    let base = a.0 in
+    let copy = b.0 in
+    let is_other = subst (λ (name : List ℕ). IsOfFiles other.files name copy) (sym top) b.1 in
+    let e : base.said ≡ copy.said = (say session.files other.files session.top base copy (record { files = files; is_base = a.1; is_other = is_other })).1 in
+    let mine = a.2.1 in
+    let yours = b.2.1 in
+    let moved = assertion_from copy label a.2.0 (subst (λ (said : List Item). IsAssertion (saying said) label a.2.0) e (assertion_to base label a.2.0 mine)) in
+    let same : b.2.0 ≡ a.2.0 = own copy b.2.0 a.2.0 label (assertion_carries copy label b.2.0 yours) (assertion_carries copy label a.2.0 moved) in
+    let those = subst (λ i. AreThose (stands copy i) (length copy.said) copies) same b.2.2 in
+    one_rising numbers copies a.2.2.rising those.rising
+    (one_side stands alike base copy e a.2.0 numbers copies a.2.2 those)
+    (one_side stands alike copy base (sym e) a.2.0 copies numbers those a.2.2)
+
+pub one_list_each : AlikeFilesSayTheSame → HasOwnLabels → OneListEach
+one_list_each say own = (
+  one_list_of say own (λ base i k. Cites base i k) cites_alike,
+  one_list_of say own (λ base i k. Cites base k i) (λ base other e i k c. cites_alike base other e k i c),
+  one_list_of say own (λ base i k. IsAxiomOf base i k) axioms_alike,
+)
+
+-- ---- axioms
+
+no_theorem : (base : BaseView) (i : ℕ) → IsAxiom base i → is_proof_at base i ≡ true → ⊥
+no_theorem base i a proof =
+    let p = and_parts (is_sound_at base i) (is_theorem (said_at base i).kind) proof in
+    false≢true (sym (ap is_theorem a.kind) ∙ p.1)
+
+leads_itself : (base : BaseView) (i k : ℕ) → IsAxiom base i → LeadsTo base k i → k ≡ i
+leads_itself base i k a none = refl
+leads_itself base i k a (step c rest) = absurd (no_theorem base i a c.theorem)
+
+pub themselves : AxiomsHaveThemselves
+themselves base i k a = (λ of. leads_itself base i k a of.leads, λ e. record { is_axiom = subst (IsAxiom base) (sym e) a; leads = subst (λ n. LeadsTo base n i) (sym e) none })

@@ -1,0 +1,41 @@
+use Rattle.std.proofs.Common.{◌≡◌, ◌<◌, ℕ, Some, None, List, length, ◌∙◌, subst₂, arith}
+use Rattle.std.specs.Prelude.{◌↔◌, IsTrue}
+use Rattle.std.proofs.lemmas.Bool.{false≢true}
+use Rattle.mm_frame.specs.Language.Base.{said_at}
+use Rattle.mm_proof.specs.Language.VerdictAt.{cites_at}
+use Rattle.mm_keep.specs.Code.Cited.{IsAmong}
+use Rattle.mm_keep.proofs.CitedItems.{checked_at, cites_rising, label_cited, none_cited}
+use Rattle.mm_keep.proofs.ToldLemmas.{read_at, says_at}
+use Rattle.mm_keep.proofs.cited.cites_label.Goals as goal
+
+pub words_of_proof-words-requires : goal.words_of_proof-words-requires
+words_of_proof-words-requires c =
+    let r = c.requires in
+    read_at r.0 c.args.files.now c.args.base.now c.args.j c.item.result.now (r.1, r.2, r.4) c.item.ensures.found
+
+pub has_label-requires : goal.has_label-requires
+has_label-requires c =
+    let r = c.requires in
+    let k = checked_at r.1 c.args.checked.now c.args.j c.index-checked-j.result (Some c.in-Some.checked) r.3 r.4 c.index-checked-j.is c.in-Some.is in
+    cites_rising c.cites_rise.ensures r.1 c.args.j c.cites.result.now (c.cites.ensures ∙ k.2)
+
+pub returns-in-Some : goal.returns-in-Some
+returns-in-Some c names view is are i label =
+    let r = c.requires in
+    let j = c.args.j in
+    let within : j < length view.said = omega (arith, r.4, r.3.count, are.count) in
+    let k = checked_at view c.args.checked.now j c.index-checked-j.result (Some c.in-Some.checked) are within c.index-checked-j.is c.in-Some.is in
+    let cites : c.cites.result.now ≡ cites_at view j = c.cites.ensures ∙ k.2 in
+    let says = says_at names c.args.files.now c.args.base.now view j c.item.result.now is (c.item.ensures.found view (names, is.read_in.base)) in
+    let words = c.words_of_proof-words.ensures.words (said_at view j) says in
+    let has = subst₂ (λ (ws : List (List ℕ)) (ns : List ℕ). IsTrue c.has_label.result ↔ IsAmong ws ns (length ns) c.args.label.now) words cites c.has_label.ensures in
+    let cited = label_cited c.cites_tell.ensures.each c.cites_tell.ensures.tell c.has_own_labels.ensures view (c.args.files.now, is.read_in.each) j k.0 c.args.label.now i label in
+    (λ t. cited.0 (has.0 t), λ one. has.1 (cited.1 one))
+
+pub returns-in-None : goal.returns-in-None
+returns-in-None c names view is are i label =
+    let r = c.requires in
+    let j = c.args.j in
+    let within : j < length view.said = omega (arith, r.4, r.3.count, are.count) in
+    let none = checked_at view c.args.checked.now j c.index-checked-j.result None are within c.index-checked-j.is c.in-None.is in
+    (λ t. absurd (false≢true t), λ one. absurd (none_cited view j i none one))

@@ -1,0 +1,19 @@
+use Rattle.std.proofs.Common.{◌<◌, Bool, List, drop, length, sym, ap, ◌∙◌, subst₂, arith}
+use Rattle.mm_keep.specs.Language.Citations.{Cites}
+use Rattle.mm_keep.specs.Code.Cited.{MarksMore}
+use Rattle.mm_keep.proofs.ChainLemmas.{map_ok, cites_marked, take_front}
+use Rattle.mm_keep.proofs.citing.cites_of.Goals as goal
+
+pub mark_cites-requires-clause-places : goal.mark_cites-requires-clause-places
+mark_cites-requires-clause-places c = let count = ap length c.deref_mut.ensures.value ∙ c.in_ok-marks.ensures.count in omega (arith, count)
+
+pub returns : goal.returns
+returns c = map_ok c.marked.result _ _ (λ numbers those names view is are.
+    let fresh = c.in_ok-marks.marks.items in
+    let after = c.mark_cites.new.marks in
+    let within : c.args.i < length view.said = omega (arith, c.requires.4, c.requires.3.count, are.count) in
+    let cited = c.mark_cites.ensures names view is are in
+    let long = sym c.deref_mut.ensures.len ∙ sym cited.count in
+    let left = c.deref.ensures.value ∙ take_front after (drop (length after) fresh) c.in_ok-marks.marks.len long in
+    let more = subst₂ (λ (old marks : List Bool). MarksMore (Cites view c.args.i) old marks) c.deref_mut.ensures.value (sym left) cited in
+    cites_marked view c.args.i fresh c.deref.result.now numbers.items within c.in_ok-marks.ensures.count c.in_ok-marks.ensures.none more those) c.marked.ensures

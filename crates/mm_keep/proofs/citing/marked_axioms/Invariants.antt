@@ -1,0 +1,9 @@
+use Rattle.mm_frame.specs.Language.Base.{BaseView}
+use Rattle.mm_frame.specs.Code.KeptBase.{IsBase}
+use Rattle.mm_keep.specs.Language.Runs.{AreThose}
+use Rattle.mm_keep.specs.Language.Told.{IsAxiom}
+use Rattle.mm_keep.specs.Code.Cited.{IsMarked}
+use Rattle.mm_keep.proofs.citing.marked_axioms.Given as goal
+
+abbrev pub invariant-loop-k : goal.invariant-loop-k
+invariant-loop-k l = (view : BaseView) → IsBase view l.base → AreThose (λ k. IsMarked l.marks k × IsAxiom view k) l.k l.numbers.items

@@ -1,0 +1,5 @@
+use Rattle.mm_keep.proofs.CitingLaws.{one_list_each}
+use Rattle.mm_keep.proofs.laws.one_list_each.Goals as goal
+
+pub returns : goal.returns
+returns c = one_list_each c.files_have_one_base.ensures.said c.has_own_labels.ensures

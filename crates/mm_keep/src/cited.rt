@@ -1,0 +1,133 @@
+//! Which items a theorem cites, by the words of its proof that cite.
+
+ghost use Rattle.std.specs.Prelude.{◌≡◌, ◌<◌, ◌≤◌, ◌+◌, ◌↔◌, ℕ, List, IsTrue, drop, length, slice_get, slice_index};
+ghost use Rattle.std.specs.Option.{option_map};
+ghost use Rattle.mm_frame.specs.Language.Base.{BaseView};
+ghost use Rattle.mm_frame.specs.Language.Resolving.{IsCarrier};
+ghost use Rattle.mm_frame.specs.Code.KeptBase.{IsBase};
+ghost use Rattle.mm_keep.specs.Language.Citations.{Cites};
+ghost use Rattle.mm_keep.specs.Language.Sessions.{IsAssertion};
+ghost use Rattle.mm_keep.specs.Code.Cited.{AreRising, HasChecks, HasLabelAmong, HasPlaceFor, HasPlaces, IsAmong, MarksMore, OfChecks, passed};
+
+use mm_frame::{Base, Files, ProofWords, has_own_labels, words_of_proof};
+use mm_proof::{Checked, cites_rise, cites_tell};
+
+/// The word behind so many others, if there is one. It is passed, and so are those before it.
+fn word_behind<'a>(words: &mut ProofWords<'a>, count: usize) -> Option<&'a [u8]>
+    ensures word { option_map (λ word. word.now) result ≡ slice_get words.old count }
+    ensures left { words.new ≡ drop (count + 1) words.old }
+{
+    for _i in 0..count {
+        words.next_word();
+    }
+    words.next_word()
+}
+
+/// How many words stand before the cited word at this place, behind the cited word before it.
+fn between(cites: &[usize], x: usize) -> usize
+    requires rise { AreRising cites.now }
+    requires within { x < length cites.now }
+    ensures { passed cites.now x + result ≡ slice_index cites.now x }
+{
+    if x == 0 {
+        cites[0]
+    } else {
+        cites[x] - cites[x - 1] - 1
+    }
+}
+
+/// The word that cites at this place. It is passed, and so are those before it.
+fn cited_word<'a>(words: &mut ProofWords<'a>, cites: &[usize], x: usize) -> Option<&'a [u8]>
+    requires rise { AreRising cites.now }
+    requires within { x < length cites.now }
+    ensures word { (all : List (List ℕ)) → words.old ≡ drop (passed cites.now x) all
+        → option_map (λ word. word.now) result ≡ slice_get all (slice_index cites.now x) }
+    ensures left { (all : List (List ℕ)) → words.old ≡ drop (passed cites.now x) all → words.new ≡ drop (passed cites.now (x + 1)) all }
+{
+    word_behind(words, between(cites, x))
+}
+
+/// Marks the item that has this label.
+fn mark(base: &Base, label: &[u8], marks: &mut [bool])
+    requires { HasPlaceFor base.now label.now (length marks.old) }
+    ensures { (view : BaseView) → IsBase view base.now → MarksMore (IsCarrier view label.now) marks.old marks.new }
+{
+    if let Some(k) = base.find(label) {
+        marks[k] = true;
+    }
+}
+
+/// Marks the items whose labels are words that cite.
+fn mark_words(base: &Base, words: ProofWords, cites: &[usize], marks: &mut [bool])
+    requires rise { AreRising cites.now }
+    requires places { HasPlaces base.now words cites.now (length marks.old) }
+    ensures { (view : BaseView) → IsBase view base.now
+        → MarksMore (HasLabelAmong view words.entry cites.now (length cites.now)) marks.old marks.new }
+{
+    let mut words = words;
+    for x in 0..cites.len() {
+        if let Some(word) = cited_word(&mut words, cites, x) {
+            mark(base, word, &mut *marks);
+        }
+    }
+}
+
+/// Whether one of the words that cite is this label.
+fn has_label(words: ProofWords, cites: &[usize], label: &[u8]) -> bool
+    requires { AreRising cites.now }
+    ensures { IsTrue result ↔ IsAmong words.entry cites.now (length cites.now) label.now }
+{
+    let mut words = words;
+    for x in 0..cites.len() {
+        if let Some(word) = cited_word(&mut words, cites, x) {
+            if word == label {
+                return true;
+            }
+        }
+    }
+    false
+}
+
+/// Marks what the item with this number cites. The words of its proof are read up to the last one that cites.
+pub fn mark_cites(
+    files: &Files,
+    base: &Base,
+    checked: &[Option<Checked>],
+    j: usize,
+    marks: &mut [bool],
+)
+    requires item { HasChecks files.now base.now checked.now (λ view. j < length view.said) }
+    requires places { j ≤ length marks.old }
+    ensures { OfChecks files.now base.now checked.now (λ view. MarksMore (Cites view j) marks.old marks.new) }
+{
+    cites_rise();
+    cites_tell();
+    has_own_labels();
+    if let Some(checked) = &checked[j] {
+        let words = words_of_proof(files, base.item(j));
+        mark_words(base, words, checked.cites(), marks);
+    }
+}
+
+/// Whether the item with this number cites the one with this label.
+pub fn cites_label(
+    files: &Files,
+    base: &Base,
+    checked: &[Option<Checked>],
+    j: usize,
+    label: &[u8],
+) -> bool
+    requires { HasChecks files.now base.now checked.now (λ view. j < length view.said) }
+    ensures { OfChecks files.now base.now checked.now (λ view. (i : ℕ) → IsAssertion view label.now i → IsTrue result ↔ Cites view j i) }
+{
+    cites_rise();
+    cites_tell();
+    has_own_labels();
+    match &checked[j] {
+        Some(checked) => {
+            let words = words_of_proof(files, base.item(j));
+            has_label(words, checked.cites(), label)
+        }
+        None => false,
+    }
+}

@@ -1,0 +1,191 @@
+//! What a session answers of citations: what an assertion cites, what cites it, and its axioms.
+
+ghost use Rattle.std.specs.Prelude.{◌≡◌, ◌<◌, ◌≤◌, ◌↔◌, ℕ, List, IfOk, IsErrOf, IsTrue, length};
+ghost use Rattle.mm_frame.specs.Language.Base.{BaseView};
+ghost use Rattle.mm_frame.specs.Code.KeptBase.{IsBase};
+ghost use Rattle.mm_keep.specs.declared.answers.KeepError.TheVariants.{NoAssertion};
+ghost use Rattle.mm_keep.specs.Language.Citations.{Cites, IsAxiomOf};
+ghost use Rattle.mm_keep.specs.Language.Runs.{AreThose};
+ghost use Rattle.mm_keep.specs.Language.Sessions.{AreAxiomsOf, AreCitesOf, AreUsersOf, HasAssertion, IsAssertion};
+ghost use Rattle.mm_keep.specs.Language.Told.{IsAxiom};
+ghost use Rattle.mm_keep.specs.Code.Cited.{HasChecks, IsMarked, MarksBehind, OfChecks};
+
+use crate::answers::KeepError;
+use crate::cited::{cites_label, mark_cites};
+use crate::session::Session;
+use mm_frame::{Base, Files, ItemKind, files_have_one_base};
+use mm_proof::Checked;
+use std::alloc::{AllocError, Global};
+
+/// The numbers that are marked, rising.
+fn marked(alloc: Global, marks: &[bool]) -> Result<Vec<usize>, AllocError>
+    ensures { IfOk result (λ numbers. AreThose (IsMarked marks.now) (length marks.now) numbers.items) }
+{
+    let mut numbers = Vec::new(alloc);
+    for k in 0..marks.len() {
+        if marks[k] {
+            numbers.push(k)?;
+        }
+    }
+    Ok(numbers)
+}
+
+/// Marks of so many items, none of which is marked.
+fn no_marks(alloc: Global, count: usize) -> Result<Vec<bool>, AllocError>
+    ensures count { IfOk result (λ marks. length marks.items ≡ count) }
+    ensures none { IfOk result (λ marks. (k : ℕ) → ¬ IsMarked marks.items k) }
+{
+    vec![in alloc; false; count]
+}
+
+/// What the item with this number cites, rising.
+fn cites_of(
+    alloc: Global,
+    files: &Files,
+    base: &Base,
+    checked: &[Option<Checked>],
+    i: usize,
+) -> Result<Vec<usize>, AllocError>
+    requires { HasChecks files.now base.now checked.now (λ view. i < length view.said) }
+    ensures { IfOk result (λ numbers. OfChecks files.now base.now checked.now (λ view.
+        AreThose (Cites view i) (length view.said) numbers.items)) }
+{
+    // Citations lead to earlier items.
+    let mut marks = no_marks(alloc, i)?;
+    mark_cites(files, base, checked, i, &mut marks);
+    marked(alloc, &marks)
+}
+
+/// What cites the item with this number, which has this label, rising.
+fn users_of(
+    alloc: Global,
+    files: &Files,
+    base: &Base,
+    checked: &[Option<Checked>],
+    i: usize,
+    label: &[u8],
+) -> Result<Vec<usize>, AllocError>
+    requires { HasChecks files.now base.now checked.now (λ view. IsAssertion view label.now i) }
+    ensures { IfOk result (λ numbers. OfChecks files.now base.now checked.now (λ view.
+        IsAssertion view label.now i → AreThose (λ k. Cites view k i) (length view.said) numbers.items)) }
+{
+    let mut numbers = Vec::new(alloc);
+    for j in i + 1..base.count() {
+        if cites_label(files, base, checked, j, label) {
+            numbers.push(j)?;
+        }
+    }
+    Ok(numbers)
+}
+
+/// Marks that to which chains of citations lead from the marked items, the last of these first: citations lead to earlier
+/// items.
+fn mark_behind(files: &Files, base: &Base, checked: &[Option<Checked>], marks: &mut [bool])
+    requires { HasChecks files.now base.now checked.now (λ view. length marks.old ≤ length view.said) }
+    ensures { OfChecks files.now base.now checked.now (λ view. MarksBehind view marks.old marks.new) }
+{
+    for n in 0..marks.len() {
+        let j = marks.len() - 1 - n;
+        if marks[j] {
+            mark_cites(files, base, checked, j, &mut *marks);
+        }
+    }
+}
+
+/// Whether the item with this number is a sound `$a`.
+fn is_axiom(base: &Base, k: usize) -> bool
+    requires { (view : BaseView) × IsBase view base.now × (k < length view.said) }
+    ensures { (view : BaseView) → IsBase view base.now → IsTrue result ↔ IsAxiom view k }
+{
+    base.fault(k).is_none() && matches!(base.item(k).kind, ItemKind::Axiom)
+}
+
+/// The sound `$a` that are marked, rising.
+fn marked_axioms(alloc: Global, base: &Base, marks: &[bool]) -> Result<Vec<usize>, AllocError>
+    requires { (view : BaseView) × IsBase view base.now × (length marks.now ≤ length view.said) }
+    ensures { IfOk result (λ numbers. (view : BaseView) → IsBase view base.now
+        → AreThose (λ k. IsMarked marks.now k × IsAxiom view k) (length marks.now) numbers.items) }
+{
+    let mut numbers = Vec::new(alloc);
+    for k in 0..marks.len() {
+        if marks[k] && is_axiom(base, k) {
+            numbers.push(k)?;
+        }
+    }
+    Ok(numbers)
+}
+
+/// The axioms of the item with this number, rising.
+fn axioms_of(
+    alloc: Global,
+    files: &Files,
+    base: &Base,
+    checked: &[Option<Checked>],
+    i: usize,
+) -> Result<Vec<usize>, AllocError>
+    requires { HasChecks files.now base.now checked.now (λ view. i < length view.said) }
+    ensures { IfOk result (λ numbers. OfChecks files.now base.now checked.now (λ view.
+        AreThose (IsAxiomOf view i) (length view.said) numbers.items)) }
+{
+    let _count = base.count();
+    let mut marks = no_marks(alloc, i + 1)?;
+    marks[i] = true;
+    mark_behind(files, base, checked, &mut marks);
+    marked_axioms(alloc, base, &marks)
+}
+
+impl Session {
+    /// The numbers, rising, of the items that the sound `$a` or `$p` with this label cites: those that the decoded steps of
+    /// its proof name. A `$a` cites none, and neither does a `$p` whose proof cannot be decoded.
+    ///
+    /// That there is no such assertion is told before memory is taken.
+    pub fn cites(&self, alloc: Global, label: &[u8]) -> Result<Vec<usize>, KeepError>
+        ensures ok { IfOk result (λ numbers. AreCitesOf self.now label.now numbers.items) }
+        ensures none { IsErrOf result NoAssertion ↔ ¬ HasAssertion self.now label.now }
+    {
+        files_have_one_base();
+        mm_store::items_stand();
+        match self.assertion(label) {
+            Some(citing) => Ok(cites_of(alloc, &self.files, &self.base, &self.checked, citing)?),
+            None => Err(KeepError::NoAssertion),
+        }
+    }
+
+    /// The numbers, rising, of the sound `$p` that cite the sound `$a` or `$p` with this label.
+    ///
+    /// That there is no such assertion is told before memory is taken.
+    pub fn users(&self, alloc: Global, label: &[u8]) -> Result<Vec<usize>, KeepError>
+        ensures ok { IfOk result (λ numbers. AreUsersOf self.now label.now numbers.items) }
+        ensures none { IsErrOf result NoAssertion ↔ ¬ HasAssertion self.now label.now }
+    {
+        files_have_one_base();
+        mm_store::items_stand();
+        match self.assertion(label) {
+            Some(cited) => Ok(users_of(
+                alloc,
+                &self.files,
+                &self.base,
+                &self.checked,
+                cited,
+                label,
+            )?),
+            None => Err(KeepError::NoAssertion),
+        }
+    }
+
+    /// The numbers, rising, of the axioms of the sound `$a` or `$p` with this label: the sound `$a` to which chains of
+    /// citations lead from it. Those of a `$a` are itself alone.
+    ///
+    /// That there is no such assertion is told before memory is taken.
+    pub fn axioms(&self, alloc: Global, label: &[u8]) -> Result<Vec<usize>, KeepError>
+        ensures ok { IfOk result (λ numbers. AreAxiomsOf self.now label.now numbers.items) }
+        ensures none { IsErrOf result NoAssertion ↔ ¬ HasAssertion self.now label.now }
+    {
+        files_have_one_base();
+        mm_store::items_stand();
+        match self.assertion(label) {
+            Some(first) => Ok(axioms_of(alloc, &self.files, &self.base, &self.checked, first)?),
+            None => Err(KeepError::NoAssertion),
+        }
+    }
+}
