@@ -127,7 +127,7 @@ same_told_by laws a b n (Wrong number at) (Wrong more other) same f g = same_wro
 same_told_by laws a b n (Fault number shown) (Fault other there) same f g = same_fault laws a b n number other shown there f g
 same_told_by laws a b n one other same f g = absurd (omega arith)
 
-same_told : {means : List File} {top : List ℕ} → Laws → (a b : Database means top) (n : ℕ) (one other : Told) → IsRightlyTold a.files a.view n one → IsRightlyTold b.files b.view n other → one ≡ other
+pub same_told : {means : List File} {top : List ℕ} → Laws → (a b : Database means top) (n : ℕ) (one other : Told) → IsRightlyTold a.files a.view n one → IsRightlyTold b.files b.view n other → one ≡ other
 same_told laws a b n one other f g = same_told_by laws a b n one other (same_class laws a b n one other f g) f g
 
 -- ---- one report

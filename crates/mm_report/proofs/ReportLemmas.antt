@@ -7,7 +7,7 @@ use Rattle.mm_frame.specs.declared.FrameNumber.{FrameNumber}
 use Rattle.mm_proof.specs.declared.ProofNumber.{ProofNumber}
 use Rattle.mm_keep.specs.declared.finding.At.{At}
 use Rattle.mm_keep.specs.declared.tally.Tally.{Tally}
-use Rattle.mm_keep.specs.Code.Findings.{counted}
+use Rattle.mm_keep.specs.Language.Findings.{counted}
 use Rattle.mm_keep.specs.Language.Told.{Told}
 use Rattle.mm_report.specs.Language.Report.{item_line, lines, place_in, fault_line, incomplete_line, wrong_line, code_of, proof_code, summary}
 

@@ -16,7 +16,7 @@ part_front a b xs ys p =
     record { count = n; appends = subst (Appends a b) (sym same) p.appends }
 
 -- all of the first bytes, and a part of those behind
-part_behind : (a b c : Option (List ℕ)) (xs ys : List ℕ) → Appends a b xs → AppendsPart b c ys → AppendsPart a c (xs ++ ys)
+pub part_behind : (a b c : Option (List ℕ)) (xs ys : List ℕ) → Appends a b xs → AppendsPart b c ys → AppendsPart a c (xs ++ ys)
 part_behind a b c xs ys p q =
     record { count = length xs + q.count; appends = subst (Appends a c) (sym (take-append-add xs ys q.count)) (Appends-trans a b c xs (take q.count ys) p q.appends) }
 

@@ -1,13 +1,33 @@
 //! The report of a session, and the streams that it goes out to.
 #![tactic(auto)]
 
+mod answer;
+mod edits;
+mod entry;
+mod input;
 mod laws;
+mod line;
+mod lines;
+mod reading;
 mod report;
+mod script;
+mod script_laws;
 mod stream;
 
+pub use answer::write_axioms;
 pub use laws::one_report;
+pub use reading::{ReadFailed, Reading};
 pub use report::{ReportError, write_report};
+pub use script::{ScriptError, run_script};
+pub use script_laws::{
+    answers_begin, commands_leave_nothing, has_reading, one_reading, one_script_answer,
+    reading_goes_on, scripts_are_read_so,
+};
 pub use stream::{WriteFailed, Writing};
 
+#[cfg(test)]
+mod entry_tests;
+#[cfg(test)]
+mod script_tests;
 #[cfg(test)]
 mod stream_tests;

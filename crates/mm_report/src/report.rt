@@ -4,7 +4,7 @@ ghost use Rattle.std.specs.Prelude.{◌≡◌, ◌<◌, ◌++◌, [], true, code
 ghost use Rattle.std.specs.Io.KnownBytes.{Appends};
 ghost use Rattle.mm_store.specs.Language.FilesView.{plain};
 ghost use Rattle.mm_frame.specs.Language.Item.{Item};
-ghost use Rattle.mm_keep.specs.Code.Findings.{counted, told};
+ghost use Rattle.mm_keep.specs.Language.Findings.{counted, told};
 ghost use Rattle.mm_report.specs.Code.InFiles.{IsInFiles};
 ghost use Rattle.mm_report.specs.Code.Written.{AreAllWritten, FailsWithin};
 ghost use Rattle.mm_report.specs.Language.Report.{code_of, proof_code, place_in, fault_line, incomplete_line};
@@ -33,7 +33,7 @@ impl From<WriteFailed> for ReportError {
 }
 
 /// Writes a number in decimal.
-fn write_number<W: Write>(number: u64, to: &mut Writing<W>) -> Result<(), WriteFailed>
+pub(crate) fn write_number<W: Write>(number: u64, to: &mut Writing<W>) -> Result<(), WriteFailed>
     ensures { Writes W.contents to.old to.new result (decimal number) }
 {
     let mut buffer = Buffer::new();
@@ -41,7 +41,7 @@ fn write_number<W: Write>(number: u64, to: &mut Writing<W>) -> Result<(), WriteF
 }
 
 /// Writes what is counted, and how many there are.
-fn write_count<W: Write>(
+pub(crate) fn write_count<W: Write>(
     counted: &[u8],
     number: u64,
     to: &mut Writing<W>,
@@ -98,7 +98,11 @@ fn code_of_proof(number: ProofNumber) -> &'static [u8]
 }
 
 /// Writes a word and what stands behind it.
-fn write_part<W: Write>(word: &[u8], behind: &[u8], to: &mut Writing<W>) -> Result<(), WriteFailed>
+pub(crate) fn write_part<W: Write>(
+    word: &[u8],
+    behind: &[u8],
+    to: &mut Writing<W>,
+) -> Result<(), WriteFailed>
     ensures { Writes W.contents to.old to.new result (word.now ++ behind.now) }
 {
     to.write_all(word)?;
@@ -134,7 +138,7 @@ fn write_fault<W: Write>(
 }
 
 /// Writes the line of a theorem whose proof is incomplete.
-fn write_incomplete<W: Write>(
+pub(crate) fn write_incomplete<W: Write>(
     files: &Files,
     label: &[u8],
     at: At,
@@ -150,7 +154,7 @@ fn write_incomplete<W: Write>(
 }
 
 /// Writes the line of a theorem whose proof is wrong.
-fn write_wrong<W: Write>(
+pub(crate) fn write_wrong<W: Write>(
     files: &Files,
     label: &[u8],
     number: ProofNumber,

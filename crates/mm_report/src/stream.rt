@@ -1,6 +1,7 @@
 //! A writer that stops at its first failure.
 
-ghost use Rattle.std.specs.Prelude.{◌≡◌, true, false, OnOk};
+ghost use Rattle.std.specs.Prelude.{◌≡◌, true, false, IsErr, OnOk, OnErr};
+ghost use Rattle.std.specs.Io.KnownBytes.{Keeps};
 
 use std::io::Write;
 
@@ -63,5 +64,24 @@ impl<W: Write> Writing<W> {
             }
         }
         Ok(())
+    }
+
+    /// Hands on what the writer within has kept back.
+    pub fn flush(&mut self) -> Result<(), WriteFailed>
+        ensures written { Keeps (written W.contents self.old) (written W.contents self.new) }
+        ensures sound { OnOk result (has_failed self.new ≡ false) }
+        ensures failed { OnErr result (has_failed self.new ≡ true) }
+        ensures stays { has_failed self.old ≡ true → IsErr result × (self.new ≡ self.old) }
+    {
+        if self.failed() {
+            return Err(WriteFailed);
+        }
+        match self.inner.flush() {
+            Ok(()) => Ok(()),
+            Err(_) => {
+                self.failed = true;
+                Err(WriteFailed)
+            }
+        }
     }
 }

@@ -1,6 +1,7 @@
--- What a writer that remembers its failure has written.
+-- What a writer that remembers its failure has written, and what such a reader has left.
 use Rattle.std.specs.Prelude.{◌≡◌, ℕ, Bool, true, Option, List, Result, OnOk, OnErr, take}
 use Rattle.std.specs.Io.KnownBytes.{Appends}
+use Rattle.mm_report.specs.declared.reading.Reading.{Reading}
 use Rattle.mm_report.specs.declared.stream.Writing.{Writing}
 
 -- the bytes of the writer within, where it tells them
@@ -24,3 +25,14 @@ pub record Stops {W : Type 0} (contents : W → Option (List ℕ)) (old new : Wr
 pub record Writes {W T E : Type 0} (contents : W → Option (List ℕ)) (old new : Writing W) (result : Result T E) (bytes : List ℕ) : Type 0 where
   pub ok : OnOk result (Appends (written contents old) (written contents new) bytes)
   pub err : OnErr result (Stops contents old new bytes)
+
+-- the bytes that the reader within has left, where it tells them
+abbrev pub unread : {R : Type 0} → (R → Option (List ℕ)) → Reading R → Option (List ℕ)
+unread remaining reading = remaining reading.inner
+
+-- how many calls the reader may still make
+abbrev pub calls_left : {R : Type 0} → Reading R → ℕ
+calls_left reading = reading.left
+
+abbrev pub cannot_read : {R : Type 0} → Reading R → Bool
+cannot_read reading = reading.failed

@@ -1,5 +1,5 @@
 use Rattle.std.proofs.Common.{arith}
-use Rattle.mm_keep.specs.Code.Findings.{counted}
+use Rattle.mm_keep.specs.Language.Findings.{counted}
 use Rattle.mm_report.proofs.WrittenLemmas.{summary_fails, report_written}
 use Rattle.mm_report.proofs.report.write_report.Goals as goal
 

@@ -1,0 +1,152 @@
+-- What is answered, from what is written.
+use Rattle.std.proofs.Common.{◌≡◌, ◌⊎◌, ℕ, ◌<◌, Option, List, Result, Ok, Err, inl, inr, length, map, refl, sym, ap, ◌∙◌, subst, arith}
+use Rattle.std.specs.Prelude.{codes, IfErr, IfOk, IsErrOf, IsOk, IsTrue, OnOk, Bool, true, false, ◌↔◌, Some, None}
+use Rattle.std.specs.Result.{IsErrAnd}
+use Rattle.std.proofs.Common.{Vec}
+use Rattle.std.proofs.lemmas.List.{take_all}
+use Rattle.std.specs.Global.{Global}
+use Rattle.mm_keep.specs.declared.answers.KeepError.{KeepError}
+use Rattle.mm_keep.specs.declared.answers.KeepError.TheVariants as keep
+use Rattle.std.specs.Io.KnownBytes.{Appends, Keeps}
+use Rattle.mm_proof.specs.Language.Work.{Recorded}
+use Rattle.mm_frame.specs.Language.Base.{BaseView, IsOfFiles}
+use Rattle.std.proofs.Common.{get_or, slice_get}
+use Rattle.std.specs.Option.{option_map}
+use Rattle.std.proofs.lemmas.List.{length-map}
+use Rattle.std.proofs.lemmas.Option.{slice_get-map, slice_get_within, slice_get-get_or, same_Some}
+use Rattle.mm_store.specs.declared.edit.Edit.{Edit}
+use Rattle.mm_store.specs.Language.Batches.{IsRefusedAt}
+use Rattle.mm_store.specs.declared.edit.EditError.{EditError}
+use Rattle.mm_store.specs.Language.Edits.{Asked, asked}
+use Rattle.mm_store.specs.Language.FilesView.{plain}
+use Rattle.mm_keep.specs.Language.Sessions.{SessionView, AreAxiomsOf, IsChanged, HasAssertion}
+use Rattle.mm_report.specs.declared.script.ScriptError.{ScriptError}
+use Rattle.mm_report.specs.declared.script.ScriptError.TheVariants as errors
+use Rattle.mm_report.specs.declared.stream.Writing.{Writing}
+use Rattle.mm_report.specs.Code.Answered.{Answers, FailsSo, Finds, Lacks}
+use Rattle.mm_report.specs.Language.Answers.{IsAnswer, IsBatchRefused, IsRan, batch_refusal_line, numbers_listed, unknown_line}
+use Rattle.mm_report.specs.Language.Script.{Command, Listed, Change, Batch, Report, Verdict, Axioms, Cites, Users}
+use Rattle.mm_report.specs.Language.Stream.{written, has_failed, AppendsPart, Stops}
+
+-- an answer is written
+pub answered_ok : {W T : Type 0} (contents : W → Option (List ℕ)) (command : Command) (old new : SessionView) (a b : Writing W) (done : T) (answer : List ℕ)
+    → IsAnswer old command answer new → Appends (written contents a) (written contents b) answer → Answers contents command old new a b (Ok done)
+answered_ok contents command old new a b done answer is out = record { ok = record { answer = answer; is = is; out = out }; err = tt }
+
+-- the write of an answer has failed
+pub answered_stop : {W T : Type 0} (contents : W → Option (List ℕ)) (command : Command) (old new : SessionView) (a b : Writing W) (r : Result T ScriptError) (answer : List ℕ)
+    → IsErrAnd r (λ e. e ≡ errors.Write) → IsAnswer old command answer new → Stops contents a b answer → Answers contents command old new a b r
+answered_stop contents command old new a b (Ok done) answer err is s = absurd err
+answered_stop contents command old new a b (Err e) answer err is s =
+    record { ok = tt; err = subst (FailsSo contents command old new a b) (sym err) (s.failed, record { answer = answer; is = is; out = s.part }) }
+
+-- memory lacked
+pub answered_lacks : {W T : Type 0} (contents : W → Option (List ℕ)) (command : Command) (old : SessionView) (a : Writing W) (r : Result T ScriptError)
+    → IsErrAnd r (λ e. e ≡ errors.Memory) → Answers contents command old old a a r
+answered_lacks contents command old a (Ok done) err = absurd err
+answered_lacks contents command old a (Err e) err = record { ok = tt; err = subst (FailsSo contents command old old a a) (sym err) (refl, refl) }
+
+-- ---- edits
+
+-- the items of which the labels are told, and what is told
+pub ran_base : (old new : SessionView) (work : Recorded) (changed : IsChanged old new work) → IsOfFiles new.files new.top changed.runs.new
+ran_base old new work changed = subst (λ top. IsOfFiles new.files top changed.runs.new) (sym changed.top) changed.runs.are
+
+pub ran_is : (old new : SessionView) (work : Recorded) (changed : IsChanged old new work) → IsRan old new (numbers_listed (codes "ran") changed.runs.new work.runs)
+ran_is old new work changed = record { top = changed.top; runs = work.runs; are_runs = changed.runs; answer_is = refl }
+
+-- the refusal of a batch, of which the edit with this number is refused
+pub batch_refused_is : (session : SessionView) (edits : List Edit) (listed : List Listed) (n : ℕ) (error : EditError) (d : Edit) → map (λ (one : Listed). one.edit) listed ≡ map asked edits
+    → IsRefusedAt (map asked edits) (plain session.files) n error
+    → IsAnswer session (Batch listed) (batch_refusal_line n (asked (get_or edits n d)) error) session
+batch_refused_is session edits listed n error d same refused =
+    let within : n < length edits = subst (λ k. n < k) (length-map edits asked) (slice_get_within (map asked edits) n refused.edit refused.there) in
+    let there : slice_get (map asked edits) n ≡ Some (asked (get_or edits n d)) = slice_get-map asked edits n ∙ ap (option_map asked) (slice_get-get_or edits n d within) in
+    let one : asked (get_or edits n d) ≡ refused.edit = same_Some (asked (get_or edits n d)) refused.edit (sym there ∙ refused.there) in
+    let so : IsBatchRefused session session (map asked edits) (batch_refusal_line n (asked (get_or edits n d)) error) =
+    record { n = n; error = error; refused = refused; unchanged = refl; answer_is = ap (λ edit. batch_refusal_line n edit error) one } in
+    inr (subst (λ (all : List Asked). IsBatchRefused session session all (batch_refusal_line n (asked (get_or edits n d)) error)) (sym same) so)
+
+-- ---- lists
+
+-- an assertion that has these is there
+pub finds_base : (session : SessionView) (command : Command) (numbers : List ℕ) → Finds session command numbers → (base : BaseView) × IsOfFiles session.files session.top base
+finds_base session (Axioms label) numbers finds = (finds.0, finds.1)
+finds_base session (Cites label) numbers finds = (finds.0, finds.1)
+finds_base session (Users label) numbers finds = (finds.0, finds.1)
+finds_base session (Change edit) numbers finds = absurd finds
+finds_base session (Batch edits) numbers finds = absurd finds
+finds_base session Report numbers finds = absurd finds
+finds_base session (Verdict label) numbers finds = absurd finds
+
+pub found_is : (session : SessionView) (command : Command) (numbers : List ℕ) (finds : Finds session command numbers) (base : BaseView) → IsOfFiles session.files session.top base
+    → IsAnswer session command (numbers_listed (codes "found") base numbers) session
+found_is session (Axioms label) numbers finds base is = (inr (numbers, finds, (base, is, refl)), refl)
+found_is session (Cites label) numbers finds base is = (inr (numbers, finds, (base, is, refl)), refl)
+found_is session (Users label) numbers finds base is = (inr (numbers, finds, (base, is, refl)), refl)
+found_is session (Change edit) numbers finds base is = absurd finds
+found_is session (Batch edits) numbers finds base is = absurd finds
+found_is session Report numbers finds base is = absurd finds
+found_is session (Verdict label) numbers finds base is = absurd finds
+
+pub unknown_is : (session : SessionView) (command : Command) → Lacks session command → IsAnswer session command unknown_line session
+unknown_is session (Axioms label) lacks = (inl (record { none = lacks; answer_is = refl }), refl)
+unknown_is session (Cites label) lacks = (inl (record { none = lacks; answer_is = refl }), refl)
+unknown_is session (Users label) lacks = (inl (record { none = lacks; answer_is = refl }), refl)
+unknown_is session (Change edit) lacks = absurd lacks
+unknown_is session (Batch edits) lacks = absurd lacks
+unknown_is session Report lacks = absurd lacks
+unknown_is session (Verdict label) lacks = absurd lacks
+
+-- ---- the answers of a list of axioms
+
+pub when_ok : {W T : Type 0} {contents : W → Option (List ℕ)} {command : Command} {old new : SessionView} {a b : Writing W} {r : Result T ScriptError} → Answers contents command old new a b r
+    → OnOk r ((answer : List ℕ) × IsAnswer old command answer new × Appends (written contents a) (written contents b) answer)
+when_ok {r = Ok done} so = (so.ok.answer, so.ok.is, so.ok.out)
+when_ok {r = Err e} so = tt
+
+pub when_stops : {W T : Type 0} {contents : W → Option (List ℕ)} {command : Command} {old new : SessionView} {a b : Writing W} {r : Result T ScriptError} → Answers contents command old new a b r
+    → IsErrOf r errors.Write
+    → (has_failed b ≡ true) × ((answer : List ℕ) × IsAnswer old command answer new × AppendsPart (written contents a) (written contents b) answer)
+when_stops {T = T} {contents = contents} {command = command} {old = old} {new = new} {a = a} {b = b} so e =
+    let fails = (subst (λ (s : Result T ScriptError). Answers contents command old new a b s) e so).err in
+    (fails.0, (fails.1.answer, fails.1.is, fails.1.out))
+
+pub when_lacks : {W T : Type 0} {contents : W → Option (List ℕ)} {command : Command} {old new : SessionView} {a b : Writing W} {r : Result T ScriptError} → Answers contents command old new a b r
+    → IsErrOf r errors.Memory → b ≡ a
+when_lacks {T = T} {contents = contents} {command = command} {old = old} {new = new} {a = a} {b = b} so e =
+    (subst (λ (s : Result T ScriptError). Answers contents command old new a b s) e so).err.1
+
+pub only_two : {W T : Type 0} {contents : W → Option (List ℕ)} {command : Command} {old new : SessionView} {a b : Writing W} {r : Result T ScriptError} → Answers contents command old new a b r
+    → IfErr r (λ e. (e ≡ errors.Write) ⊎ (e ≡ errors.Memory))
+only_two {r = Ok done} so = tt
+only_two {r = Err errors.Write} so = inl refl
+only_two {r = Err errors.Memory} so = inr refl
+only_two {r = Err errors.BadLine} so = absurd so.err
+only_two {r = Err errors.Cut} so = absurd so.err
+only_two {r = Err errors.Read} so = absurd so.err
+
+-- the axioms of an assertion are found where it is there
+has_found : (session : SessionView) (label : List ℕ) (found : Result (Vec ℕ Global) KeepError) → IfOk found (λ numbers. AreAxiomsOf session label numbers.items) → IsOk found → HasAssertion session label
+has_found session label (Ok numbers) are ok = (are.0, are.1, (are.2.0, are.2.1))
+has_found session label (Err e) are ok = absurd (cc)
+
+pub axioms_there : (session : SessionView) (label : List ℕ) (found : Result (Vec ℕ Global) KeepError) (r : Result Bool ScriptError) → IfOk found (λ numbers. AreAxiomsOf session label numbers.items)
+    → (IsErrOf found keep.NoAssertion → ¬ HasAssertion session label)
+    → IfOk r (λ there. (IsTrue there × IsOk found) ⊎ ((there ≡ false) × IsErrOf found keep.NoAssertion))
+    → IfOk r (λ there. IsTrue there ↔ HasAssertion session label)
+axioms_there session label found (Err e) are none told = tt
+axioms_there session label found (Ok there) are none (inl h) = (λ t. has_found session label found are h.1, λ t. h.0)
+axioms_there session label found (Ok there) are none (inr h) = (λ t. let e : true ≡ false = sym t ∙ h.0 in (cc), λ has. absurd (none h.1 has))
+
+-- ---- what is written is handed on
+
+kept_appends : (a b c : Option (List ℕ)) (bytes : List ℕ) → Appends a b bytes → Keeps b c → Appends a c bytes
+kept_appends None b c bytes p q = tt
+kept_appends (Some x) None c bytes p q = absurd p
+kept_appends (Some x) (Some y) None bytes p q = absurd q
+kept_appends (Some x) (Some y) (Some z) bytes p q = q ∙ p
+
+pub kept_whole : (a b c : Option (List ℕ)) (bytes : List ℕ) → Appends a b bytes → Keeps b c → AppendsPart a c bytes
+kept_whole a b c bytes p q =
+    record { count = length bytes; appends = subst (Appends a c) (sym (take_all (length bytes) bytes (omega arith))) (kept_appends a b c bytes p q) }

@@ -1,0 +1,318 @@
+-- A script that is answered command by command.
+use Rattle.std.proofs.Common.{◌≡◌, ℕ, zero, suc, true, Option, Some, None, List, [], ◌∷◌, ◌++◌, inl, inr, drop, replicate, refl, sym, ap, ◌∙◌, subst, append_assoc}
+use Rattle.std.specs.Prelude.{◌≢◌, Result, Ok, Err, IfErr, IfSome, IsErrOf}
+use Rattle.std.specs.Result.{IsErrAnd}
+use Rattle.mm_report.specs.declared.script.ScriptError.{ScriptError}
+use Rattle.mm_report.specs.declared.script.ScriptError.TheVariants as errors
+use Rattle.std.specs.Io.KnownBytes.{Consumes, IsAtEnd}
+use Rattle.std.proofs.KnownBytes.{Appends-nil, Appends-trans, Consumes-nil, Consumes-trans}
+use Rattle.std.proofs.lemmas.Grind.{flat_map-append}
+use Rattle.std.proofs.lemmas.List.{append-nil}
+use Rattle.mm_keep.specs.Language.Sessions.{SessionView}
+use Rattle.mm_report.specs.declared.input.Input.{Input}
+use Rattle.mm_report.specs.declared.entry.Next.{Next}
+use Rattle.mm_report.specs.declared.stream.Writing.{Writing}
+use Rattle.mm_report.specs.declared.reading.Reading.{Reading}
+use Rattle.mm_report.specs.Code.Answered.{IsAnswered, BeginsAnswer, FailsSo, GoesOn, HasAnswered, StopsScript}
+use Rattle.mm_report.specs.Code.Pending.{pending, ReadsOn, IsNext, IsWhole, IsLast, IsWholeOrLast}
+use Rattle.mm_report.specs.Code.Stops.{HasNoEntry, StopsSo}
+use Rattle.mm_report.specs.Language.Answers.{AreAnswers}
+use Rattle.mm_report.specs.Language.Script.{Command, End, Done, CutShort, BadLine, Entry, Blank, Given, AreGood, IsGood, AreRead, IsReading, bytes_of, command_bytes, commands_of, entry_bytes}
+use Rattle.mm_report.specs.Language.Scripting.{AnswersScript, AnswersFirst, AnswersRead, BeginsAnswers}
+use Rattle.mm_report.specs.Language.Stream.{cannot_read, unread, written}
+use Rattle.mm_report.proofs.JoinLemmas.{one_more, reading_behind, reading_done, reading_last, so_far_behind}
+use Rattle.mm_report.proofs.StreamLemmas.{part_behind}
+
+-- ---- empty lines, and commands, behind entries
+
+good_join : (entries more : List Entry) → AreGood entries → AreGood more → AreGood (entries ++ more)
+good_join [] more f g = g
+good_join (entry ∷ entries) more f g = (f.0, good_join entries more f.1 g)
+
+blanks_good : (n : ℕ) → AreGood (replicate n Blank)
+blanks_good zero = tt
+blanks_good (suc n) = (tt, blanks_good n)
+
+blank_bytes : (n : ℕ) → bytes_of (replicate n Blank) ≡ replicate n 10
+blank_bytes zero = refl
+blank_bytes (suc n) = ap (λ bytes. 10 ∷ bytes) (blank_bytes n)
+
+no_commands : (n : ℕ) → commands_of (replicate n Blank) ≡ []
+no_commands zero = refl
+no_commands (suc n) = no_commands n
+
+commands_join : (entries : List Entry) (n : ℕ) → commands_of (entries ++ replicate n Blank) ≡ commands_of entries
+commands_join [] n = no_commands n
+commands_join (Blank ∷ entries) n = commands_join entries n
+commands_join (Given command ∷ entries) n = ap (λ commands. command ∷ commands) (commands_join entries n)
+
+bytes_join : (entries more : List Entry) → bytes_of (entries ++ more) ≡ bytes_of entries ++ bytes_of more
+bytes_join entries more = flat_map-append entry_bytes entries more
+
+one_given : (command : Command) → bytes_of (Given command ∷ []) ≡ command_bytes command
+one_given command = append-nil (command_bytes command)
+
+-- ---- what is answered so far
+
+-- nothing yet
+pub none_answered : (session : SessionView) (all before : Option (List ℕ)) → HasAnswered session session all all before before []
+none_answered session all before = record {
+  first = record {
+    bytes = [];
+    consumes = Consumes-nil all;
+    entries = [];
+    rest = [];
+    are = record { good = tt; joined = refl };
+    answers = [];
+    answered = (refl, refl);
+    out = Appends-nil before;
+  };
+  rest = refl;
+}
+
+module _ (old session : SessionView) (all left before after : Option (List ℕ)) where
+  -- bytes are read on, and empty lines passed
+  pub read_more : (pend now part : List ℕ) (blanks : ℕ) (more : Option (List ℕ)) → Consumes left more part → pend ++ part ≡ replicate blanks 10 ++ now
+      → HasAnswered old session all left before after pend → HasAnswered old session all more before after now
+  read_more pend now part blanks more consumes are so =
+      let entries = so.first.entries in
+      let passed = replicate blanks Blank in
+      let joined : so.first.bytes ++ part ≡ bytes_of (entries ++ passed) ++ now =
+      ap (λ bytes. bytes ++ part) so.first.are.joined ∙ append_assoc (bytes_of entries) so.first.rest part
+      ∙ ap (λ bytes. bytes_of entries ++ bytes) (ap (λ bytes. bytes ++ part) so.rest ∙ are ∙ ap (λ bytes. bytes ++ now) (sym (blank_bytes blanks)))
+      ∙ sym (append_assoc (bytes_of entries) (bytes_of passed) now) ∙ ap (λ bytes. bytes ++ now) (sym (bytes_join entries passed)) in
+      record {
+        first = record {
+          bytes = so.first.bytes ++ part;
+          consumes = Consumes-trans all left more so.first.bytes part so.first.consumes consumes;
+          entries = entries ++ passed;
+          rest = now;
+          are = record { good = good_join entries passed so.first.are.good (blanks_good blanks); joined = joined };
+          answers = so.first.answers;
+          answered = subst (λ commands. AreAnswers old commands so.first.answers session) (sym (commands_join entries blanks)) so.first.answered;
+          out = so.first.out;
+        };
+        rest = refl;
+      }
+
+  -- the bytes that are read are the first entries and what is pending
+  read_as : (pend : List ℕ) → (so : HasAnswered old session all left before after pend) → AreRead so.first.bytes so.first.entries pend
+  read_as pend so = record { good = so.first.are.good; joined = so.first.are.joined ∙ ap (λ rest. bytes_of so.first.entries ++ rest) so.rest }
+
+  -- what is read with one command more
+  more_read : (pend : List ℕ) (command : Command) (end : ℕ) (so : HasAnswered old session all left before after pend) → IsGood command → IsWhole pend command end
+      → AreRead so.first.bytes (so.first.entries ++ Given command ∷ []) (drop end pend)
+  more_read pend command end so good whole =
+      let entries = so.first.entries in
+      record {
+        good = good_join entries (Given command ∷ []) so.first.are.good (good, tt);
+        joined = (read_as pend so).joined ∙ ap (λ rest. bytes_of entries ++ rest) whole.are
+            ∙ sym (append_assoc (bytes_of entries) (command_bytes command) (drop end pend))
+            ∙ ap (λ first. (bytes_of entries ++ first) ++ drop end pend) (sym (one_given command))
+            ∙ ap (λ first. first ++ drop end pend) (sym (bytes_join entries (Given command ∷ [])));
+      }
+
+  -- one command more is answered
+  pub whole_answered : (new : SessionView) (now : Option (List ℕ)) (pend : List ℕ) (command : Command) (end : ℕ) → IsGood command → IsWhole pend command end
+      → IsAnswered session new command after now → HasAnswered old session all left before after pend → HasAnswered old new all left before now (drop end pend)
+  whole_answered new now pend command end good whole one so = record {
+    first = record {
+      bytes = so.first.bytes;
+      consumes = so.first.consumes;
+      entries = so.first.entries ++ Given command ∷ [];
+      rest = drop end pend;
+      are = more_read pend command end so good whole;
+      answers = so.first.answers ++ one.answer;
+      answered = one_more old session new so.first.entries command so.first.answers one.answer so.first.answered one.is;
+      out = Appends-trans before after now so.first.answers one.answer so.first.out one.out;
+    };
+    rest = refl;
+  }
+
+  -- the script is what was read and what is left
+  script_is : (script bytes : List ℕ) (more : Option (List ℕ)) → Consumes (Some script) more bytes → IfSome more (λ rest. script ≡ bytes ++ rest)
+  script_is script bytes None consumes = absurd consumes
+  script_is script bytes (Some rest) consumes = consumes
+
+  -- where nothing is left, it is what was read
+  pub all_read : (script bytes : List ℕ) → Consumes (Some script) left bytes → IsAtEnd left → script ≡ bytes
+  all_read script bytes consumes at_end = by left consumes at_end
+    where
+      by : (more : Option (List ℕ)) → Consumes (Some script) more bytes → IsAtEnd more → script ≡ bytes
+      by None c e = absurd c
+      by (Some rest) c e = c ∙ ap (λ w. bytes ++ w) e ∙ append-nil bytes
+
+  -- ---- where the script ends
+
+  -- the last command, whose line lacks its line feed, is answered
+  pub last_answered : (new : SessionView) (now : Option (List ℕ)) (pend : List ℕ) (command : Command) → IsGood command → IsLast pend left command
+      → IsAnswered session new command after now → HasAnswered old session all left before after pend → IfSome all (λ script. AnswersScript old new script Done before now)
+  last_answered new now pend command good last one so = by all so.first.consumes
+    where
+      entries : List Entry
+      entries = so.first.entries
+
+      by : (whole : Option (List ℕ)) → Consumes whole left so.first.bytes → IfSome whole (λ script. AnswersScript old new script Done before now)
+      by None c = tt
+      by (Some script) c =
+          let reading = reading_last so.first.bytes so.first.entries pend command (read_as pend so) good last.in_line last.are in
+          record {
+            answers = so.first.answers ++ one.answer;
+            is = record {
+              entries = so.first.entries ++ Given command ∷ [];
+              rest = [];
+              reading = subst (λ bytes. IsReading bytes (so.first.entries ++ Given command ∷ []) []) (sym (all_read script so.first.bytes c last.at_end)) reading;
+              answered = one_more old session new so.first.entries command so.first.answers one.answer so.first.answered one.is;
+              ends = refl;
+            };
+            out = Appends-trans before after now so.first.answers one.answer so.first.out one.out;
+          }
+
+  -- nothing is left
+  pub done_answered : (pend : List ℕ) → pend ≡ [] → IsAtEnd left → HasAnswered old session all left before after pend → IfSome all (λ script. AnswersScript old session script Done before after)
+  done_answered pend none at_end so = by all so.first.consumes
+    where
+      by : (whole : Option (List ℕ)) → Consumes whole left so.first.bytes → IfSome whole (λ script. AnswersScript old session script Done before after)
+      by None c = tt
+      by (Some script) c =
+          let are = subst (λ rest. AreRead so.first.bytes so.first.entries rest) none (read_as pend so) in
+          record {
+            answers = so.first.answers;
+            is = record {
+              entries = so.first.entries;
+              rest = [];
+              reading = subst (λ bytes. IsReading bytes so.first.entries []) (sym (all_read script so.first.bytes c at_end)) (reading_done so.first.bytes so.first.entries are);
+              answered = so.first.answered;
+              ends = refl;
+            };
+            out = so.first.out;
+          }
+
+  -- it stops before the bytes that are pending
+  pub stop_answered : (pend : List ℕ) (end : End) → IfSome left (λ more. StopsSo (pend ++ more) end) → HasAnswered old session all left before after pend
+      → IfSome all (λ script. AnswersScript old session script end before after)
+  stop_answered pend end stops so = by all left so.first.consumes stops
+    where
+      by : (whole more : Option (List ℕ)) → Consumes whole more so.first.bytes → IfSome more (λ rest. StopsSo (pend ++ rest) end) → IfSome whole (λ script. AnswersScript old session script end before after)
+      by None more c s = tt
+      by (Some script) None c s = absurd c
+      by (Some script) (Some rest) c s =
+          let entries = so.first.entries in
+          let joined : script ≡ bytes_of entries ++ (pend ++ rest) = c ∙ ap (λ bytes. bytes ++ rest) (read_as pend so).joined ∙ append_assoc (bytes_of entries) pend rest in
+          let reading = reading_behind script entries [] (pend ++ rest) (pend ++ rest) (record { good = so.first.are.good; joined = joined }) s.reading in
+          record {
+            answers = so.first.answers;
+            is = record {
+              entries = entries;
+              rest = pend ++ rest;
+              reading = subst (λ (all : List Entry). IsReading script all (pend ++ rest)) (append-nil entries) reading;
+              answered = so.first.answered;
+              ends = s.ends;
+            };
+            out = so.first.out;
+          }
+
+  -- a read has failed
+  pub read_answered : (pend : List ℕ) → HasNoEntry pend → HasAnswered old session all left before after pend → AnswersRead old session all left before after
+  read_answered pend none so = record {
+    bytes = so.first.bytes;
+    consumes = so.first.consumes;
+    entries = so.first.entries;
+    rest = pend;
+    reading = so_far_behind so.first.bytes so.first.entries pend (read_as pend so) none;
+    answers = so.first.answers;
+    answered = so.first.answered;
+    out = so.first.out;
+  }
+
+  -- the write of an answer has failed: that of a whole command
+  pub whole_begun : (new : SessionView) (now : Option (List ℕ)) (pend : List ℕ) (command : Command) (end : ℕ) → IsGood command → IsWhole pend command end
+      → BeginsAnswer session new command after now → HasAnswered old session all left before after pend → BeginsAnswers old new all left before now
+  whole_begun new now pend command end good whole one so = record {
+    bytes = so.first.bytes;
+    consumes = so.first.consumes;
+    entries = so.first.entries ++ Given command ∷ [];
+    rest = drop end pend;
+    are = inl (more_read pend command end so good whole);
+    answers = so.first.answers ++ one.answer;
+    answered = one_more old session new so.first.entries command so.first.answers one.answer so.first.answered one.is;
+    out = part_behind before after now so.first.answers one.answer so.first.out one.out;
+  }
+
+  -- or that of the last one
+  pub last_begun : (new : SessionView) (now : Option (List ℕ)) (pend : List ℕ) (command : Command) → IsGood command → IsLast pend left command
+      → BeginsAnswer session new command after now → HasAnswered old session all left before after pend → BeginsAnswers old new all left before now
+  last_begun new now pend command good last one so = record {
+    bytes = so.first.bytes;
+    consumes = so.first.consumes;
+    entries = so.first.entries ++ Given command ∷ [];
+    rest = [];
+    are = inr (last.at_end, (reading_last so.first.bytes so.first.entries pend command (read_as pend so) good last.in_line last.are).divided);
+    answers = so.first.answers ++ one.answer;
+    answered = one_more old session new so.first.entries command so.first.answers one.answer so.first.answered one.is;
+    out = part_behind before after now so.first.answers one.answer so.first.out one.out;
+  }
+
+-- ---- one step of the loop
+
+-- what an error is that is handed on
+pub if_err_is : {T E : Type 0} (r : Result T E) (P : E → Type 0) (x : E) → IsErrAnd r (λ e. e ≡ x) → P x → IfErr r P
+if_err_is (Ok done) P x is h = absurd is
+if_err_is (Err e) P x is h = subst P (sym is) h
+
+pub when_err : {T E : Type 0} (r : Result T E) (P : E → Type 0) (x : E) → IfErr r P → IsErrOf r x → P x
+when_err {T} {E} r P x h e = subst (λ (s : Result T E). IfErr s P) e h
+
+-- bytes are read on, up to a command or the end
+pub reads_on : (old session : SessionView) (all left before after more : Option (List ℕ)) (input now : Input) → ReadsOn input now left more
+    → HasAnswered old session all left before after (pending input) → HasAnswered old session all more before after (pending now)
+reads_on old session all left before after more input now reads so =
+    read_more old session all left before after (pending input) (pending now) reads.part reads.blanks more reads.consumes reads.are so
+
+module _ {R W : Type 0} (remaining : R → Option (List ℕ)) (contents : W → Option (List ℕ)) (begun session : SessionView) (all before : Option (List ℕ)) (now : Input) (left : Reading R) (a : Writing W) where
+  -- no command is read
+  pub next_stops : {T : Type 0} (r : Result T ScriptError) → HasAnswered begun session all (unread remaining left) before (written contents a) (pending now)
+      → (IsErrOf r errors.BadLine → IfSome (unread remaining left) (λ more. StopsSo (pending now ++ more) BadLine))
+      → (IsErrOf r errors.Cut → IfSome (unread remaining left) (λ more. StopsSo (pending now ++ more) CutShort))
+      → (IsErrOf r errors.Read → HasNoEntry (pending now)) → (IsErrOf r errors.Read → cannot_read left ≡ true) → (r ≢ Err errors.Write)
+      → (e : ScriptError) → r ≡ Err e → StopsScript remaining contents begun session all left before a e
+  next_stops r so bad cut read failed told errors.BadLine is = stop_answered begun session all (unread remaining left) before (written contents a) (pending now) BadLine (bad is) so
+  next_stops r so bad cut read failed told errors.Cut is = stop_answered begun session all (unread remaining left) before (written contents a) (pending now) CutShort (cut is) so
+  next_stops r so bad cut read failed told errors.Read is = (read_answered begun session all (unread remaining left) before (written contents a) (pending now) (read is) so, failed is)
+  next_stops r so bad cut read failed told errors.Write is = absurd (told is)
+  next_stops r so bad cut read failed told errors.Memory is = so.first
+
+  -- the command that is read is not answered, or not in full
+  pub answer_stops : (next : Next) (is : IsNext (pending now) (unread remaining left) next) (new : SessionView) (b : Writing W)
+      → HasAnswered begun session all (unread remaining left) before (written contents a) (pending now)
+      → (e : ScriptError) → FailsSo contents is.command session new a b e → StopsScript remaining contents begun new all left before b e
+  answer_stops next is new b so errors.BadLine fails = absurd fails
+  answer_stops next is new b so errors.Cut fails = absurd fails
+  answer_stops next is new b so errors.Read fails = absurd fails
+  answer_stops next is new b so errors.Write fails = (
+    elim is.whole [
+      | inl h ↦ whole_begun begun session all (unread remaining left) before (written contents a) new (written contents b) (pending now) is.command next.end is.good h.1 fails.1 so
+      | inr h ↦ last_begun begun session all (unread remaining left) before (written contents a) new (written contents b) (pending now) is.command is.good h.1 fails.1 so
+    ],
+    fails.0,
+  )
+  answer_stops next is new b so errors.Memory fails =
+      subst (λ (s : SessionView). AnswersFirst begun s all (unread remaining left) before (written contents b)) (sym fails.0)
+      (subst (λ (w : Writing W). AnswersFirst begun session all (unread remaining left) before (written contents w)) (sym fails.1) so.first)
+
+  -- it is answered
+  pub goes_on : (next : Next) (is : IsNext (pending now) (unread remaining left) next) (new : SessionView) (b : Writing W) (input : Input)
+      → HasAnswered begun session all (unread remaining left) before (written contents a) (pending now)
+      → IsAnswered session new is.command (written contents a) (written contents b)
+      → (next.fed ≡ true → pending input ≡ drop next.end (pending now))
+      → GoesOn begun new all (unread remaining left) before (written contents b) (pending input) next.fed
+  goes_on next is new b input so one passed = by is.whole
+    where
+      by : IsWholeOrLast (pending now) (unread remaining left) next is.command → GoesOn begun new all (unread remaining left) before (written contents b) (pending input) next.fed
+      by (inl h) =
+          let whole = whole_answered begun session all (unread remaining left) before (written contents a) new (written contents b) (pending now) is.command next.end is.good h.1 one so in
+          let there = subst (λ (bytes : List ℕ). HasAnswered begun new all (unread remaining left) before (written contents b) bytes) (sym (passed h.0)) whole in
+          subst (GoesOn begun new all (unread remaining left) before (written contents b) (pending input)) (sym h.0) there
+      by (inr h) =
+          let last = last_answered begun session all (unread remaining left) before (written contents a) new (written contents b) (pending now) is.command is.good h.1 one so in
+          subst (GoesOn begun new all (unread remaining left) before (written contents b) (pending input)) (sym h.0) last

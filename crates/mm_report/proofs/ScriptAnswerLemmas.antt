@@ -1,0 +1,255 @@
+-- The answers of scripts are one, of sessions that are alike.
+use Rattle.std.proofs.Common.{◌≡◌, ◌≢◌, ◌⊎◌, ℕ, zero, suc, ◌<◌, ◌≤◌, Some, List, [], ◌∷◌, ◌++◌, length, map, take, refl, sym, ap, ◌∙◌, subst, inl, inr, arith, append_assoc}
+use Rattle.std.specs.Prelude.{codes, slice_get}
+use Rattle.std.proofs.lemmas.Bool.{cases_lt}
+use Rattle.std.proofs.lemmas.List.{append-nil, take_all}
+use Rattle.std.proofs.lemmas.List.Elements.{filter_map-append}
+use Rattle.std.proofs.lemmas.Option.{same_Some, slice_get_within}
+use Rattle.mm_store.specs.declared.edit.EditError.{EditError}
+use Rattle.mm_store.specs.declared.edit.EditError.TheVariants.{Memory}
+use Rattle.mm_store.specs.Language.Answers.{IsEditError}
+use Rattle.mm_store.specs.Language.Batches.{IsBatchOf, IsRefusedAt}
+use Rattle.mm_store.specs.Language.Edits.{Asked, IsEditOf}
+use Rattle.mm_store.specs.Language.FilesView.{File, plain}
+use Rattle.mm_frame.specs.Language.Base.{BaseView, IsOfFiles}
+use Rattle.mm_frame.specs.Language.Laws.{HasOwnLabels}
+use Rattle.mm_keep.specs.Language.Citations.{Cites, IsAxiomOf}
+use Rattle.mm_keep.specs.Language.Laws.{OneListOfRuns}
+use Rattle.mm_keep.specs.Language.Runs.{AreRunsOf}
+use Rattle.mm_keep.specs.Language.Sessions.{SessionView, AreNumbersOf, HasAssertion}
+use Rattle.mm_keep.specs.Language.Told.{IsRightlyTold}
+use Rattle.mm_report.specs.Language.Answers.{AreAnswers, IsAnswer, IsBatchAnswer, IsEditAnswer, IsFound, IsRan, IsUnknown, IsVerdictAnswer}
+use Rattle.mm_report.specs.Language.Answers.{batch_refusal_line, numbers_listed, refusal_line, told_line}
+use Rattle.mm_report.specs.Language.Report.{names_of}
+use Rattle.mm_report.specs.Language.Script.{Command, Change, Batch, Report, Verdict, Axioms, Cites as CitesOf, Users, EndsSo, Entry, command_of, commands_of, bytes_of, IsDivided}
+use Rattle.mm_report.specs.Language.ScriptLaws.{AnswersBegin, AreAlike, AreTheFirst, HasItems, OneScriptAnswer}
+use Rattle.mm_report.proofs.AnswerLemmas.{same_report, same_told}
+use Rattle.mm_report.proofs.DatabaseLemmas.{Database, Laws, same_items}
+use Rattle.mm_report.proofs.ScriptCitingLemmas.{assertion_by_said, axiom_by_said, cites_by_said, one_assertion, same_those, saying}
+use Rattle.mm_report.proofs.ScriptLemmas.{divisions_agree, one_end, one_reading}
+
+-- what is known of all files, their edits, runs and labels
+pub record AnswerLaws : Type 0 where
+  pub database : Laws
+  pub runs : OneListOfRuns
+  pub labels : HasOwnLabels
+  pub edits : (edit : Asked) (files a b : List File) → IsEditOf edit files a → IsEditOf edit files b → a ≡ b
+  pub refused : (edit : Asked) (files after : List File) (error : EditError) → IsEditOf edit files after → IsEditError edit files error → error ≡ Memory
+  pub reason : (edit : Asked) (files : List File) (a b : EditError) → a ≢ Memory → b ≢ Memory → IsEditError edit files a → IsEditError edit files b → a ≡ b
+
+-- ---- items of sessions that are alike
+
+-- files that mean the same, from one top file on
+record AreOne (s t : SessionView) : Type 0 where
+  files : plain s.files ≡ plain t.files
+  top : s.top ≡ t.top
+
+one_of : (s t : SessionView) → AreAlike s t → AreOne s t
+one_of s t a = record { files = a.files; top = a.top }
+
+abbrev database : (s t : SessionView) (base : BaseView) → AreOne s t → IsOfFiles s.files s.top base → Database (plain t.files) t.top
+database s t base a f = record { files = s.files; view = base; meaning = a.files; of_files = subst (λ (name : List ℕ). IsOfFiles s.files name base) a.top f }
+
+abbrev itself : (t : SessionView) (base : BaseView) → IsOfFiles t.files t.top base → Database (plain t.files) t.top
+itself t base f = record { files = t.files; view = base; meaning = refl; of_files = f }
+
+same_said : Laws → (s t : SessionView) (base other : BaseView) → AreOne s t → IsOfFiles s.files s.top base → IsOfFiles t.files t.top other → base.said ≡ other.said
+same_said laws s t base other a f g = same_items laws (database s t base a f) (itself t other g)
+
+same_listed : (word : List ℕ) (base other : BaseView) (xs ys : List ℕ) → base.said ≡ other.said → xs ≡ ys → numbers_listed word base xs ≡ numbers_listed word other ys
+same_listed word base other xs ys e f = λ i. numbers_listed word (saying (e i)) (f i)
+
+-- ---- edits
+
+-- sessions that were alike stay so where nothing is changed
+unchanged : (s t new copy : SessionView) → AreAlike s t → new ≡ s → copy ≡ t → AreAlike new copy
+unchanged s t new copy a e f = subst (λ (x : SessionView). AreAlike x copy) (sym e) (subst (λ (x : SessionView). AreAlike s x) (sym f) a)
+
+same_ran : AnswerLaws → (s t new copy : SessionView) (x y : List ℕ) → AreAlike s t → plain new.files ≡ plain copy.files → IsRan s new x → IsRan t copy y → (x ≡ y) × AreAlike new copy
+same_ran laws s t new copy x y a files f g =
+    let runs : f.runs ≡ g.runs = laws.runs s.files new.files t.files copy.files t.top f.runs g.runs a.files files (subst (λ (name : List ℕ). AreRunsOf s.files new.files name f.runs) a.top f.are_runs) g.are_runs in
+    let said : f.are_runs.new.said ≡ g.are_runs.new.said = same_said laws.database (record { files = new.files; top = s.top }) (record { files = copy.files; top = t.top }) f.are_runs.new g.are_runs.new (record { files = files; top = a.top }) f.are_runs.are g.are_runs.are in
+    let first : HasItems new = (f.are_runs.new, subst (λ (name : List ℕ). IsOfFiles new.files name f.are_runs.new) (sym f.top) f.are_runs.are) in
+    let second : HasItems copy = (g.are_runs.new, subst (λ (name : List ℕ). IsOfFiles copy.files name g.are_runs.new) (sym g.top) g.are_runs.are) in
+    (f.answer_is ∙ same_listed (codes "ran") f.are_runs.new g.are_runs.new f.runs g.runs said runs ∙ sym g.answer_is, record { files = files; top = f.top ∙ a.top ∙ sym g.top; items = (λ h. second, λ h. first) })
+
+same_edit : AnswerLaws → (s t new copy : SessionView) (edit : Asked) (x y : List ℕ) → AreAlike s t → IsEditAnswer s edit x new → IsEditAnswer t edit y copy → (x ≡ y) × AreAlike new copy
+same_edit laws s t new copy edit x y a (inl f) (inl g) = same_ran laws s t new copy x y a (laws.edits edit (plain t.files) (plain new.files) (plain copy.files) (subst (λ (fs : List File). IsEditOf edit fs (plain new.files)) a.files f.0) g.0) f.1 g.1
+same_edit laws s t new copy edit x y a (inl f) (inr g) = absurd (g.told (laws.refused edit (plain t.files) (plain new.files) g.error (subst (λ (fs : List File). IsEditOf edit fs (plain new.files)) a.files f.0) g.refused))
+same_edit laws s t new copy edit x y a (inr f) (inl g) = absurd (f.told (laws.refused edit (plain s.files) (plain copy.files) f.error (subst (λ (fs : List File). IsEditOf edit fs (plain copy.files)) (sym a.files) g.0) f.refused))
+same_edit laws s t new copy edit x y a (inr f) (inr g) =
+    let why : f.error ≡ g.error = laws.reason edit (plain t.files) f.error g.error f.told g.told (subst (λ (fs : List File). IsEditError edit fs f.error) a.files f.refused) g.refused in
+    (f.answer_is ∙ ap (refusal_line edit) why ∙ sym g.answer_is, unchanged s t new copy a f.unchanged g.unchanged)
+
+-- several edits give one list of files
+same_batch : AnswerLaws → (edits : List Asked) (files a b : List File) → IsBatchOf edits files a → IsBatchOf edits files b → a ≡ b
+same_batch laws [] files a b f g = f ∙ sym g
+same_batch laws (edit ∷ edits) files a b f g =
+    let same : g.0 ≡ f.0 = laws.edits edit files g.0 f.0 g.1 f.1 in
+    same_batch laws edits f.0 a b f.2 (subst (λ (fs : List File). IsBatchOf edits fs b) same g.2)
+
+-- where more edits are accepted, the one behind the first of them is
+accepted : AnswerLaws → (edits : List Asked) (files before after : List File) (n m : ℕ) (edit : Asked) → n < m → slice_get edits n ≡ Some edit → IsBatchOf (take n edits) files before → IsBatchOf (take m edits) files after
+    → (next : List File) × IsEditOf edit before next
+accepted laws [] files before after n m edit less there f g = absurd (let l : n < 0 = slice_get_within [] n edit there in omega arith)
+accepted laws (e ∷ edits) files before after n zero edit less there f g = absurd (omega arith)
+accepted laws (e ∷ edits) files before after zero (suc m) edit less there f g =
+    let same : e ≡ edit = same_Some e edit there in
+    (g.0, subst (λ (fs : List File). IsEditOf edit fs g.0) (sym f) (subst (λ (z : Asked). IsEditOf z files g.0) same g.1))
+accepted laws (e ∷ edits) files before after (suc n) (suc m) edit less there f g =
+    let same : g.0 ≡ f.0 = laws.edits e files g.0 f.0 g.1 f.1 in
+    accepted laws edits f.0 before after n m edit (omega arith) there f.2 (subst (λ (fs : List File). IsBatchOf (take m edits) fs after) same g.2)
+
+-- so no edit before the refused one is refused
+first_refused : AnswerLaws → (edits : List Asked) (files after : List File) (n m : ℕ) (error : EditError) → n < m → IsRefusedAt edits files n error → IsBatchOf (take m edits) files after → ⊥
+first_refused laws edits files after n m error less f g =
+    let w = accepted laws edits files f.before after n m f.edit less f.there f.accepted g in
+    f.told (laws.refused f.edit f.before w.0 error w.1 f.refused)
+
+all_refused : AnswerLaws → (edits : List Asked) (files after : List File) (n : ℕ) (error : EditError) → IsRefusedAt edits files n error → IsBatchOf edits files after → ⊥
+all_refused laws edits files after n error f g =
+    first_refused laws edits files after n (length edits) error (slice_get_within edits n f.edit f.there) f (subst (λ (es : List Asked). IsBatchOf es files after) (sym (take_all (length edits) edits (omega arith))) g)
+
+same_refusal : AnswerLaws → (edits : List Asked) (files : List File) (n m : ℕ) (a b : EditError) → (f : IsRefusedAt edits files n a) (g : IsRefusedAt edits files m b) → batch_refusal_line n f.edit a ≡ batch_refusal_line m g.edit b
+same_refusal laws edits files n m a b f g = by (cases_lt n m) (cases_lt m n)
+  where
+    on : n ≡ m → batch_refusal_line n f.edit a ≡ batch_refusal_line m g.edit b
+    on e =
+        let edit : f.edit ≡ g.edit = same_Some f.edit g.edit (sym f.there ∙ ap (slice_get edits) e ∙ g.there) in
+        let before : f.before ≡ g.before = same_batch laws (take m edits) files f.before g.before (subst (λ (k : ℕ). IsBatchOf (take k edits) files f.before) e f.accepted) g.accepted in
+        let why : a ≡ b = laws.reason g.edit g.before a b f.told g.told (subst (λ (z : Asked). IsEditError z g.before a) edit (subst (λ (fs : List File). IsEditError f.edit fs a) before f.refused)) g.refused in
+        λ i. batch_refusal_line (e i) (edit i) (why i)
+
+    by : (n < m) ⊎ (m ≤ n) → (m < n) ⊎ (n ≤ m) → batch_refusal_line n f.edit a ≡ batch_refusal_line m g.edit b
+    by (inl h) k = absurd (first_refused laws edits files g.before n m a h f g.accepted)
+    by (inr h) (inl k) = absurd (first_refused laws edits files f.before m n b k g f.accepted)
+    by (inr h) (inr k) = on (omega arith)
+
+same_batch_answer : AnswerLaws → (s t new copy : SessionView) (edits : List Asked) (x y : List ℕ) → AreAlike s t → IsBatchAnswer s edits x new → IsBatchAnswer t edits y copy → (x ≡ y) × AreAlike new copy
+same_batch_answer laws s t new copy edits x y a (inl f) (inl g) = same_ran laws s t new copy x y a (same_batch laws edits (plain t.files) (plain new.files) (plain copy.files) (subst (λ (fs : List File). IsBatchOf edits fs (plain new.files)) a.files f.0) g.0) f.1 g.1
+same_batch_answer laws s t new copy edits x y a (inl f) (inr g) = absurd (all_refused laws edits (plain t.files) (plain new.files) g.n g.error g.refused (subst (λ (fs : List File). IsBatchOf edits fs (plain new.files)) a.files f.0))
+same_batch_answer laws s t new copy edits x y a (inr f) (inl g) = absurd (all_refused laws edits (plain s.files) (plain copy.files) f.n f.error f.refused (subst (λ (fs : List File). IsBatchOf edits fs (plain copy.files)) (sym a.files) g.0))
+same_batch_answer laws s t new copy edits x y a (inr f) (inr g) = (by (plain t.files) a.files g.refused g.answer_is, unchanged s t new copy a f.unchanged g.unchanged)
+  where
+    by : (files : List File) → plain s.files ≡ files → (r : IsRefusedAt edits files g.n g.error) → y ≡ batch_refusal_line g.n r.edit g.error → x ≡ y
+    by files e r k =
+        let q : IsRefusedAt edits (plain s.files) g.n g.error = record {
+          before = r.before;
+          accepted = subst (λ (fs : List File). IsBatchOf (take g.n edits) fs r.before) (sym e) r.accepted;
+          edit = r.edit;
+          there = r.there;
+          refused = r.refused;
+          told = r.told;
+        } in
+        f.answer_is ∙ same_refusal laws edits (plain s.files) f.n g.n f.error g.error f.refused q ∙ sym k
+
+-- ---- questions
+
+-- the label has an assertion in both
+has_too : AnswerLaws → (s t : SessionView) (label : List ℕ) → AreAlike s t → HasAssertion t label → HasAssertion s label
+has_too laws s t label a h =
+    let b = a.items.1 (h.0, h.1) in
+    (b.0, b.1, (h.2.0, assertion_by_said h.0 b.0 label h.2.0 (sym (same_said laws.database s t b.0 h.0 (one_of s t a) b.1 h.1)) h.2.1))
+
+has_there : AnswerLaws → (s t : SessionView) (label : List ℕ) → AreAlike s t → HasAssertion s label → HasAssertion t label
+has_there laws s t label a h =
+    let b = a.items.0 (h.0, h.1) in
+    (b.0, b.1, (h.2.0, assertion_by_said h.0 b.0 label h.2.0 (same_said laws.database s t h.0 b.0 (one_of s t a) h.1 b.1) h.2.1))
+
+same_verdict : AnswerLaws → (s t : SessionView) (label x y : List ℕ) → AreAlike s t → IsUnknown s label x ⊎ IsVerdictAnswer s label x → IsUnknown t label y ⊎ IsVerdictAnswer t label y → x ≡ y
+same_verdict laws s t label x y a (inl f) (inl g) = f.answer_is ∙ sym g.answer_is
+same_verdict laws s t label x y a (inl f) (inr g) = absurd (f.none (has_too laws s t label a (g.1.0, g.1.1, (g.1.2.0, g.1.2.1))))
+same_verdict laws s t label x y a (inr f) (inl g) = absurd (g.none (has_there laws s t label a (f.1.0, f.1.1, (f.1.2.0, f.1.2.1))))
+same_verdict laws s t label x y a (inr f) (inr g) =
+    let one = one_of s t a in
+    let said : f.1.0.said ≡ g.1.0.said = same_said laws.database s t f.1.0 g.1.0 one f.1.1 g.1.1 in
+    let number : f.1.2.0 ≡ g.1.2.0 = one_assertion laws.labels f.1.0 g.1.0 label f.1.2.0 g.1.2.0 said f.1.2.1 g.1.2.1 in
+    let told : f.0 ≡ g.0 = same_told laws.database (database s t f.1.0 one f.1.1) (itself t g.1.0 g.1.1) g.1.2.0 f.0 g.0 (subst (λ (i : ℕ). IsRightlyTold s.files f.1.0 i f.0) number f.1.2.2) g.1.2.2 in
+    f.2 ∙ (λ i. told_line (names_of (a.files i)) label (told i)) ∙ sym g.2
+
+-- the numbers that stand so to the assertion of a label
+same_numbers : AnswerLaws → (s t : SessionView) (label : List ℕ) (stands : BaseView → ℕ → ℕ → Type 0) (xs ys : List ℕ) → ((base other : BaseView) (i k : ℕ) → base.said ≡ other.said → stands base i k → stands other i k)
+    → AreAlike s t → AreNumbersOf s label stands xs → AreNumbersOf t label stands ys → xs ≡ ys
+same_numbers laws s t label stands xs ys moves a f g =
+    let said : f.0.said ≡ g.0.said = same_said laws.database s t f.0 g.0 (one_of s t a) f.1 g.1 in
+    let number : f.2.0 ≡ g.2.0 = one_assertion laws.labels f.0 g.0 label f.2.0 g.2.0 said f.2.1 g.2.1 in
+    same_those (stands f.0 f.2.0) (stands g.0 g.2.0) (length f.0.said) (length g.0.said) xs ys (ap length said)
+    (λ k h. moves f.0 g.0 g.2.0 k said (subst (λ (i : ℕ). stands f.0 i k) number h))
+    (λ k h. subst (λ (i : ℕ). stands f.0 i k) (sym number) (moves g.0 f.0 g.2.0 k (sym said) h)) f.2.2 g.2.2
+
+same_found : AnswerLaws → (s t : SessionView) (label : List ℕ) (stands : BaseView → ℕ → ℕ → Type 0) (x y : List ℕ) → ((base other : BaseView) (i k : ℕ) → base.said ≡ other.said → stands base i k → stands other i k)
+    → AreAlike s t → IsUnknown s label x ⊎ IsFound s (AreNumbersOf s label stands) x → IsUnknown t label y ⊎ IsFound t (AreNumbersOf t label stands) y → x ≡ y
+same_found laws s t label stands x y moves a (inl f) (inl g) = f.answer_is ∙ sym g.answer_is
+same_found laws s t label stands x y moves a (inl f) (inr g) = absurd (f.none (has_too laws s t label a (g.1.0, g.1.1, (g.1.2.0, g.1.2.1))))
+same_found laws s t label stands x y moves a (inr f) (inl g) = absurd (g.none (has_there laws s t label a (f.1.0, f.1.1, (f.1.2.0, f.1.2.1))))
+same_found laws s t label stands x y moves a (inr f) (inr g) =
+    let numbers : f.0 ≡ g.0 = same_numbers laws s t label stands f.0 g.0 moves a f.1 g.1 in
+    let said : f.2.0.said ≡ g.2.0.said = same_said laws.database s t f.2.0 g.2.0 (one_of s t a) f.2.1 g.2.1 in
+    f.2.2 ∙ same_listed (codes "found") f.2.0 g.2.0 f.0 g.0 said numbers ∙ sym g.2.2
+
+-- ---- answers
+
+pub same_answer : AnswerLaws → (s t new copy : SessionView) (command : Command) (x y : List ℕ) → AreAlike s t → IsAnswer s command x new → IsAnswer t command y copy → (x ≡ y) × AreAlike new copy
+same_answer laws s t new copy (Change edit) x y a f g = same_edit laws s t new copy edit x y a f g
+same_answer laws s t new copy (Batch edits) x y a f g = same_batch_answer laws s t new copy (map (λ listed. listed.edit) edits) x y a f g
+same_answer laws s t new copy Report x y a f g = (same_report laws.database s t x y a.files a.top f.0 g.0, unchanged s t new copy a f.1 g.1)
+same_answer laws s t new copy (Verdict label) x y a f g = (same_verdict laws s t label x y a f.0 g.0, unchanged s t new copy a f.1 g.1)
+same_answer laws s t new copy (Axioms label) x y a f g = (same_found laws s t label (λ base i k. IsAxiomOf base i k) x y axiom_by_said a f.0 g.0, unchanged s t new copy a f.1 g.1)
+same_answer laws s t new copy (CitesOf label) x y a f g = (same_found laws s t label (λ base i k. Cites base i k) x y cites_by_said a f.0 g.0, unchanged s t new copy a f.1 g.1)
+same_answer laws s t new copy (Users label) x y a f g = (same_found laws s t label (λ base i k. Cites base k i) x y (λ base other i k e c. cites_by_said base other k i e c) a f.0 g.0, unchanged s t new copy a f.1 g.1)
+
+pub same_answers : AnswerLaws → (s t new copy : SessionView) (commands : List Command) (x y : List ℕ) → AreAlike s t → AreAnswers s commands x new → AreAnswers t commands y copy → (x ≡ y) × AreAlike new copy
+same_answers laws s t new copy [] x y a f g = (f.0 ∙ sym g.0, unchanged s t new copy a f.1 g.1)
+same_answers laws s t new copy (command ∷ commands) x y a f g =
+    let first : (f.0 ≡ g.0) × AreAlike f.1 g.1 = same_answer laws s t f.1 g.1 command f.0 g.0 a f.3 g.3 in
+    let rest : (f.2 ≡ g.2) × AreAlike new copy = same_answers laws f.1 g.1 new copy commands f.2 g.2 first.1 f.4 g.4 in
+    (f.5 ∙ (λ i. first.0 i ++ rest.0 i) ∙ sym g.5, rest.1)
+
+pub same_script : AnswerLaws → OneScriptAnswer
+same_script laws s t new copy script x y end ended a f g =
+    let read = one_reading script f.entries g.entries f.rest g.rest f.reading g.reading in
+    let all = same_answers laws s t new copy (commands_of g.entries) x y a (subst (λ (es : List Entry). AreAnswers s (commands_of es) x new) read.0 f.answered) g.answered in
+    record { answers_are = all.0; end_is = one_end g.rest end ended (subst (λ (rest : List ℕ). EndsSo rest end) read.1 f.ends) g.ends; sessions = all.1 }
+
+-- ---- the answers to the first commands
+
+-- answers to commands and more, in two parts
+record AreInParts (s : SessionView) (commands more : List Command) (all : List ℕ) (final : SessionView) : Type 0 where
+  first : List ℕ
+  between : SessionView
+  later : List ℕ
+  answered : AreAnswers s commands first between
+  are : all ≡ first ++ later
+
+in_parts : (s : SessionView) (commands more : List Command) (all : List ℕ) (final : SessionView) → AreAnswers s (commands ++ more) all final → AreInParts s commands more all final
+in_parts s [] more all final f = record { first = []; between = s; later = all; answered = (refl, refl); are = refl }
+in_parts s (command ∷ commands) more all final f =
+    let r : AreInParts f.1 commands more f.2 final = in_parts f.1 commands more f.2 final f.4 in
+    record {
+      first = f.0 ++ r.first;
+      between = r.between;
+      later = r.later;
+      answered = (f.0, f.1, r.first, f.3, r.answered, refl);
+      are = f.5 ∙ ap (λ (w : List ℕ). f.0 ++ w) r.are ∙ sym (append_assoc f.0 r.first r.later);
+    }
+
+divided_of : (bytes more : List ℕ) (entries : List Entry) (rest : List ℕ) → AreTheFirst bytes more entries rest → (left : List ℕ) × IsDivided (bytes ++ more) entries left
+divided_of bytes more entries rest (inl r) = (rest ++ more, record { good = r.good; joined = inl (ap (λ (w : List ℕ). w ++ more) r.joined ∙ append_assoc (bytes_of entries) rest more) })
+divided_of bytes more entries rest (inr d) = (rest, subst (λ (w : List ℕ). IsDivided w entries rest) (sym (append-nil bytes) ∙ ap (λ (w : List ℕ). bytes ++ w) (sym d.0)) d.1)
+
+begin_by : AnswerLaws → (s t new final : SessionView) (commands more : List Command) (answers all : List ℕ) → AreAlike s t → AreAnswers s commands answers new → AreInParts t commands more all final → (later : List ℕ) × (all ≡ answers ++ later)
+begin_by laws s t new final commands more answers all a f parts =
+    let same : answers ≡ parts.first = (same_answers laws s t new parts.between commands answers parts.first a f parts.answered).0 in
+    (parts.later, parts.are ∙ ap (λ (x : List ℕ). x ++ parts.later) (sym same))
+
+pub answers_begin : AnswerLaws → AnswersBegin
+answers_begin laws s t new final bytes more answers all entries rest end a first f g = on (divided_of bytes more entries rest first)
+  where
+    by : (later : List Entry) → entries ++ later ≡ g.entries → (later : List ℕ) × (all ≡ answers ++ later)
+    by later e =
+        let commands : commands_of g.entries ≡ commands_of entries ++ commands_of later = ap commands_of (sym e) ∙ filter_map-append command_of entries later in
+        begin_by laws s t new final (commands_of entries) (commands_of later) answers all a f
+        (in_parts t (commands_of entries) (commands_of later) all final (subst (λ (cs : List Command). AreAnswers t cs all final) commands g.answered))
+
+    on : (left : List ℕ) × IsDivided (bytes ++ more) entries left → (later : List ℕ) × (all ≡ answers ++ later)
+    on d = let w = divisions_agree (bytes ++ more) entries g.entries d.0 g.rest d.1 g.reading.divided (g.reading.longest entries d.0 d.1) in by w.0 w.1

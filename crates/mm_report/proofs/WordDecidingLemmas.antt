@@ -1,0 +1,299 @@
+-- Whether bytes are the line of an edit or of a command.
+use Rattle.std.proofs.Common.{◌≡◌, ◌≢◌, ◌⊎◌, ℕ, ◌<◌, ◌≤◌, Bool, true, false, List, [], ◌∷◌, length, replicate, refl, sym, ap, ◌∙◌, subst, inl, inr, arith}
+use Rattle.std.specs.Prelude.{All, codes, decimal}
+use Rattle.std.specs.List.{AllByRecursion, list_all, join_with_byte, slice_split}
+use Rattle.std.specs.Str.Parse.{digits_value}
+use Rattle.std.proofs.Math.Dec.{eqb}
+use Rattle.std.proofs.lemmas.Bool.{cases_lt, ne_eqb}
+use Rattle.std.proofs.lemmas.Bool.Decides.{eqb_tells}
+use Rattle.std.proofs.lemmas.Fmt.{decimal_is_IsNumeral}
+use Rattle.std.proofs.lemmas.List.{length-replicate}
+use Rattle.std.proofs.lemmas.List.Elements.{All-from_recursion}
+use Rattle.std.proofs.lemmas.List.Splits.{join_with_byte-slice_split, slice_split_none, slice_split_at}
+use Rattle.mm_store.specs.Language.Edits.{Asked, Insert, Replace, Delete, Move}
+use Rattle.mm_report.specs.Language.Script.{Command, Change, Batch, Report, Verdict, Axioms, Cites, Users, edit_line, edit_words, words_of, line_of, is_word_byte, IsName, IsNumber, IsGood, IsGoodEdit}
+use Rattle.mm_report.proofs.SplitLemmas.{Lacks}
+use Rattle.mm_report.proofs.WordLemmas.{words_solid, has_first, small_number, HasFirst, lack_spaces}
+use Rattle.mm_report.proofs.ScriptBatchLemmas.{any_are_good, any_listed}
+
+-- a fact, or that there is none
+abbrev pub IsOrNot : Type 0 → Type 0
+IsOrNot A = A ⊎ (¬ A)
+
+pub same_number : (a b : ℕ) → IsOrNot (a ≡ b)
+same_number a b = by (eqb_tells a b)
+  where
+    by : ((eqb a b ≡ true) × (a ≡ b)) ⊎ ((eqb a b ≡ false) × (a ≢ b)) → IsOrNot (a ≡ b)
+    by (inl w) = inl w.1
+    by (inr w) = inr w.1
+
+pub same_bytes : (xs ys : List ℕ) → IsOrNot (xs ≡ ys)
+same_bytes [] [] = inl refl
+same_bytes [] (y ∷ ys) = inr (λ (e : [] ≡ y ∷ ys). cc)
+same_bytes (x ∷ xs) [] = inr (λ (e : x ∷ xs ≡ []). cc)
+same_bytes (x ∷ xs) (y ∷ ys) = by (same_number x y) (same_bytes xs ys)
+  where
+    by : IsOrNot (x ≡ y) → IsOrNot (xs ≡ ys) → IsOrNot (x ∷ xs ≡ y ∷ ys)
+    by (inl e) (inl f) = inl (λ i. e i ∷ f i)
+    by (inr e) f = inr (λ (k : x ∷ xs ≡ y ∷ ys). let s : x ≡ y = cc in e s)
+    by (inl e) (inr f) = inr (λ (k : x ∷ xs ≡ y ∷ ys). let s : xs ≡ ys = cc in f s)
+
+true_or_not : (b : Bool) → IsOrNot (b ≡ true)
+true_or_not true = inl refl
+true_or_not false = inr (λ (e : false ≡ true). cc)
+
+same_words : (xs ys : List (List ℕ)) → IsOrNot (xs ≡ ys)
+same_words [] [] = inl refl
+same_words [] (y ∷ ys) = inr (λ (e : [] ≡ y ∷ ys). cc)
+same_words (x ∷ xs) [] = inr (λ (e : x ∷ xs ≡ []). cc)
+same_words (x ∷ xs) (y ∷ ys) = by (same_bytes x y) (same_words xs ys)
+  where
+    by : IsOrNot (x ≡ y) → IsOrNot (xs ≡ ys) → IsOrNot (x ∷ xs ≡ y ∷ ys)
+    by (inl e) (inl f) = inl (λ i. e i ∷ f i)
+    by (inr e) f = inr (λ (k : x ∷ xs ≡ y ∷ ys). let s : x ≡ y = cc in e s)
+    by (inl e) (inr f) = inr (λ (k : x ∷ xs ≡ y ∷ ys). let s : xs ≡ ys = cc in f s)
+
+name_or_not : (x : List ℕ) → IsOrNot (IsName x)
+name_or_not [] = inr (λ (h : IsName []). h.some refl)
+name_or_not (b ∷ x) = by (true_or_not (list_all is_word_byte (b ∷ x)))
+  where
+    by : IsOrNot (list_all is_word_byte (b ∷ x) ≡ true) → IsOrNot (IsName (b ∷ x))
+    by (inl e) = inl (record { some = λ (k : b ∷ x ≡ []). cc; bytes = e })
+    by (inr e) = inr (λ (h : IsName (b ∷ x)). e h.bytes)
+
+-- the word is a number that a line can have
+record Spells (word : List ℕ) : Type 0 where
+  number : ℕ
+  small : IsNumber number
+  is : word ≡ decimal number
+
+value_of : (n : ℕ) → IsNumber n → digits_value 10 (decimal n) ≡ n
+value_of n h = (decimal_is_IsNumeral n (small_number n h)).1
+
+number_or_not : (word : List ℕ) → IsOrNot (Spells word)
+number_or_not word = by (cases_lt 4294967295 (digits_value 10 word)) (same_bytes word (decimal (digits_value 10 word)))
+  where
+    value : (s : Spells word) → digits_value 10 word ≡ s.number
+    value s = ap (λ (w : List ℕ). digits_value 10 w) s.is ∙ value_of s.number s.small
+
+    by : (4294967295 < digits_value 10 word) ⊎ (digits_value 10 word ≤ 4294967295) → IsOrNot (word ≡ decimal (digits_value 10 word)) → IsOrNot (Spells word)
+    by (inl h) e = inr (λ (s : Spells word). omega (arith, value s, s.small))
+    by (inr h) (inl e) = inl (record { number = digits_value 10 word; small = h; is = e })
+    by (inr h) (inr e) = inr (λ (s : Spells word). e (s.is ∙ ap decimal (sym (value s))))
+
+-- ---- the words of lines
+
+record Asks (keyword : List ℕ) (words : List (List ℕ)) : Type 0 where
+  label : List ℕ
+  name : IsName label
+  is : words ≡ keyword ∷ label ∷ []
+
+record Deletes (words : List (List ℕ)) : Type 0 where
+  file : List ℕ
+  name : IsName file
+  at : ℕ
+  small : IsNumber at
+  is : words ≡ codes "delete" ∷ file ∷ decimal at ∷ []
+
+record Counts (keyword : List ℕ) (words : List (List ℕ)) : Type 0 where
+  file : List ℕ
+  name : IsName file
+  at : ℕ
+  small : IsNumber at
+  count : ℕ
+  small_count : IsNumber count
+  is : words ≡ keyword ∷ file ∷ decimal at ∷ decimal count ∷ []
+
+asks_or_not : (keyword : List ℕ) (words : List (List ℕ)) → IsOrNot (Asks keyword words)
+asks_or_not keyword (w ∷ l ∷ []) = by (same_bytes w keyword) (name_or_not l)
+  where
+    by : IsOrNot (w ≡ keyword) → IsOrNot (IsName l) → IsOrNot (Asks keyword (w ∷ l ∷ []))
+    by (inl e) (inl n) = inl (record { label = l; name = n; is = ap (λ (x : List ℕ). x ∷ l ∷ []) e })
+    by (inr e) n = inr (λ (a : Asks keyword (w ∷ l ∷ [])). let k : w ∷ l ∷ [] ≡ keyword ∷ a.label ∷ [] = a.is in let s : w ≡ keyword = cc in e s)
+    by (inl e) (inr n) = inr (λ (a : Asks keyword (w ∷ l ∷ [])). let k : w ∷ l ∷ [] ≡ keyword ∷ a.label ∷ [] = a.is in let s : a.label ≡ l = cc in n (subst (λ (x : List ℕ). IsName x) s a.name))
+asks_or_not keyword [] = inr (λ (a : Asks keyword []). let k : [] ≡ keyword ∷ a.label ∷ [] = a.is in cc)
+asks_or_not keyword (w ∷ []) = inr (λ (a : Asks keyword (w ∷ [])). let k : w ∷ [] ≡ keyword ∷ a.label ∷ [] = a.is in cc)
+asks_or_not keyword (w ∷ l ∷ m ∷ words) = inr (λ (a : Asks keyword (w ∷ l ∷ m ∷ words)). let k : w ∷ l ∷ m ∷ words ≡ keyword ∷ a.label ∷ [] = a.is in cc)
+
+deletes_or_not : (words : List (List ℕ)) → IsOrNot (Deletes words)
+deletes_or_not (w ∷ f ∷ n ∷ []) = by (same_bytes w (codes "delete")) (name_or_not f) (number_or_not n)
+  where
+    by : IsOrNot (w ≡ codes "delete") → IsOrNot (IsName f) → IsOrNot (Spells n) → IsOrNot (Deletes (w ∷ f ∷ n ∷ []))
+    by (inl e) (inl k) (inl s) = inl (record { file = f; name = k; at = s.number; small = s.small; is = λ i. e i ∷ f ∷ s.is i ∷ [] })
+    by (inr e) k s = inr (λ (a : Deletes (w ∷ f ∷ n ∷ [])). let g : w ∷ f ∷ n ∷ [] ≡ codes "delete" ∷ a.file ∷ decimal a.at ∷ [] = a.is in let h : w ≡ codes "delete" = cc in e h)
+    by (inl e) (inr k) s = inr (λ (a : Deletes (w ∷ f ∷ n ∷ [])). let g : w ∷ f ∷ n ∷ [] ≡ codes "delete" ∷ a.file ∷ decimal a.at ∷ [] = a.is in let h : a.file ≡ f = cc in k (subst (λ (x : List ℕ). IsName x) h a.name))
+    by (inl e) (inl k) (inr s) = inr (λ (a : Deletes (w ∷ f ∷ n ∷ [])). let g : w ∷ f ∷ n ∷ [] ≡ codes "delete" ∷ a.file ∷ decimal a.at ∷ [] = a.is in let h : n ≡ decimal a.at = cc in s (record { number = a.at; small = a.small; is = h }))
+deletes_or_not [] = inr (λ (a : Deletes []). let k : [] ≡ codes "delete" ∷ a.file ∷ decimal a.at ∷ [] = a.is in cc)
+deletes_or_not (w ∷ []) = inr (λ (a : Deletes (w ∷ [])). let k : w ∷ [] ≡ codes "delete" ∷ a.file ∷ decimal a.at ∷ [] = a.is in cc)
+deletes_or_not (w ∷ f ∷ []) = inr (λ (a : Deletes (w ∷ f ∷ [])). let k : w ∷ f ∷ [] ≡ codes "delete" ∷ a.file ∷ decimal a.at ∷ [] = a.is in cc)
+deletes_or_not (w ∷ f ∷ n ∷ m ∷ words) = inr (λ (a : Deletes (w ∷ f ∷ n ∷ m ∷ words)). let k : w ∷ f ∷ n ∷ m ∷ words ≡ codes "delete" ∷ a.file ∷ decimal a.at ∷ [] = a.is in cc)
+
+counts_or_not : (keyword : List ℕ) (words : List (List ℕ)) → IsOrNot (Counts keyword words)
+counts_or_not keyword (w ∷ f ∷ n ∷ c ∷ []) = by (same_bytes w keyword) (name_or_not f) (number_or_not n) (number_or_not c)
+  where
+    by : IsOrNot (w ≡ keyword) → IsOrNot (IsName f) → IsOrNot (Spells n) → IsOrNot (Spells c) → IsOrNot (Counts keyword (w ∷ f ∷ n ∷ c ∷ []))
+    by (inl e) (inl k) (inl s) (inl t) = inl (record { file = f; name = k; at = s.number; small = s.small; count = t.number; small_count = t.small; is = λ i. e i ∷ f ∷ s.is i ∷ t.is i ∷ [] })
+    by (inr e) k s t = inr (λ (a : Counts keyword (w ∷ f ∷ n ∷ c ∷ [])). let g : w ∷ f ∷ n ∷ c ∷ [] ≡ keyword ∷ a.file ∷ decimal a.at ∷ decimal a.count ∷ [] = a.is in let h : w ≡ keyword = cc in e h)
+    by (inl e) (inr k) s t = inr (λ (a : Counts keyword (w ∷ f ∷ n ∷ c ∷ [])). let g : w ∷ f ∷ n ∷ c ∷ [] ≡ keyword ∷ a.file ∷ decimal a.at ∷ decimal a.count ∷ [] = a.is in let h : a.file ≡ f = cc in k (subst (λ (x : List ℕ). IsName x) h a.name))
+    by (inl e) (inl k) (inr s) t = inr (λ (a : Counts keyword (w ∷ f ∷ n ∷ c ∷ [])). let g : w ∷ f ∷ n ∷ c ∷ [] ≡ keyword ∷ a.file ∷ decimal a.at ∷ decimal a.count ∷ [] = a.is in let h : n ≡ decimal a.at = cc in s (record { number = a.at; small = a.small; is = h }))
+    by (inl e) (inl k) (inl s) (inr t) = inr (λ (a : Counts keyword (w ∷ f ∷ n ∷ c ∷ [])). let g : w ∷ f ∷ n ∷ c ∷ [] ≡ keyword ∷ a.file ∷ decimal a.at ∷ decimal a.count ∷ [] = a.is in let h : c ≡ decimal a.count = cc in t (record { number = a.count; small = a.small_count; is = h }))
+counts_or_not keyword [] = inr (λ (a : Counts keyword []). let k : [] ≡ keyword ∷ a.file ∷ decimal a.at ∷ decimal a.count ∷ [] = a.is in cc)
+counts_or_not keyword (w ∷ []) = inr (λ (a : Counts keyword (w ∷ [])). let k : w ∷ [] ≡ keyword ∷ a.file ∷ decimal a.at ∷ decimal a.count ∷ [] = a.is in cc)
+counts_or_not keyword (w ∷ f ∷ []) = inr (λ (a : Counts keyword (w ∷ f ∷ [])). let k : w ∷ f ∷ [] ≡ keyword ∷ a.file ∷ decimal a.at ∷ decimal a.count ∷ [] = a.is in cc)
+counts_or_not keyword (w ∷ f ∷ n ∷ []) = inr (λ (a : Counts keyword (w ∷ f ∷ n ∷ [])). let k : w ∷ f ∷ n ∷ [] ≡ keyword ∷ a.file ∷ decimal a.at ∷ decimal a.count ∷ [] = a.is in cc)
+counts_or_not keyword (w ∷ f ∷ n ∷ c ∷ m ∷ words) = inr (λ (a : Counts keyword (w ∷ f ∷ n ∷ c ∷ m ∷ words)). let k : w ∷ f ∷ n ∷ c ∷ m ∷ words ≡ keyword ∷ a.file ∷ decimal a.at ∷ decimal a.count ∷ [] = a.is in cc)
+
+record Batches (words : List (List ℕ)) : Type 0 where
+  count : ℕ
+  small : IsNumber count
+  is : words ≡ codes "batch" ∷ decimal count ∷ []
+
+batches_or_not : (words : List (List ℕ)) → IsOrNot (Batches words)
+batches_or_not (w ∷ n ∷ []) = by (same_bytes w (codes "batch")) (number_or_not n)
+  where
+    by : IsOrNot (w ≡ codes "batch") → IsOrNot (Spells n) → IsOrNot (Batches (w ∷ n ∷ []))
+    by (inl e) (inl s) = inl (record { count = s.number; small = s.small; is = λ i. e i ∷ s.is i ∷ [] })
+    by (inr e) s = inr (λ (b : Batches (w ∷ n ∷ [])). let k : w ∷ n ∷ [] ≡ codes "batch" ∷ decimal b.count ∷ [] = b.is in let h : w ≡ codes "batch" = cc in e h)
+    by (inl e) (inr s) = inr (λ (b : Batches (w ∷ n ∷ [])). let k : w ∷ n ∷ [] ≡ codes "batch" ∷ decimal b.count ∷ [] = b.is in let h : n ≡ decimal b.count = cc in s (record { number = b.count; small = b.small; is = h }))
+batches_or_not [] = inr (λ (b : Batches []). let k : [] ≡ codes "batch" ∷ decimal b.count ∷ [] = b.is in cc)
+batches_or_not (w ∷ []) = inr (λ (b : Batches (w ∷ [])). let k : w ∷ [] ≡ codes "batch" ∷ decimal b.count ∷ [] = b.is in cc)
+batches_or_not (w ∷ n ∷ m ∷ words) = inr (λ (b : Batches (w ∷ n ∷ m ∷ words)). let k : w ∷ n ∷ m ∷ words ≡ codes "batch" ∷ decimal b.count ∷ [] = b.is in cc)
+
+-- ---- a line
+
+-- the line of an edit
+pub record IsEditLine (line : List ℕ) : Type 0 where
+  pub edit : Asked
+  pub good : IsGoodEdit edit
+  pub is : line ≡ edit_line edit
+
+-- the line of a command
+pub record IsCommandLine (line : List ℕ) : Type 0 where
+  pub command : Command
+  pub good : IsGood command
+  pub is : line ≡ line_of command
+
+-- the words of a line, which are joined to it
+words_in : List ℕ → List (List ℕ)
+words_in line = slice_split (λ b. eqb b 32) line
+
+joined : (line : List ℕ) → join_with_byte 32 (words_in line) ≡ line
+unfolding words_in
+joined line = join_with_byte-slice_split 32 line
+
+lacks_test : (xs : List ℕ) → Lacks 32 xs → All (λ x. eqb x 32 ≡ false) xs
+lacks_test xs f = All-from_recursion _ xs (by xs f)
+  where
+    by : (xs : List ℕ) → Lacks 32 xs → AllByRecursion (λ x. eqb x 32 ≡ false) xs
+    by [] f = tt
+    by (x ∷ xs) f = (ne_eqb x 32 f.0, by xs f.1)
+
+split_join : (w : List ℕ) (ws : List (List ℕ)) → AllByRecursion (Lacks 32) (w ∷ ws) → words_in (join_with_byte 32 (w ∷ ws)) ≡ w ∷ ws
+unfolding words_in
+split_join w [] f = slice_split_none (λ b. eqb b 32) w (lacks_test w f.0)
+split_join w (v ∷ ws) f = slice_split_at (λ b. eqb b 32) w 32 (join_with_byte 32 (v ∷ ws)) (lacks_test w f.0) refl ∙ ap (λ (x : List (List ℕ)). w ∷ x) (split_join v ws f.1)
+
+words_are : (c : Command) → IsGood c → (line : List ℕ) → line ≡ line_of c → words_of c ≡ words_in line
+words_are c g line e = by (words_of c) (has_first c) (lack_spaces (words_of c) (words_solid c g)) e
+  where
+    by : (words : List (List ℕ)) → HasFirst words → AllByRecursion (Lacks 32) words → line ≡ join_with_byte 32 words → words ≡ words_in line
+    by words f h k =
+        let h' : AllByRecursion (Lacks 32) (f.0 ∷ f.1) = subst (λ (x : List (List ℕ)). AllByRecursion (Lacks 32) x) f.2 h in
+        let k' : join_with_byte 32 (f.0 ∷ f.1) ≡ line = ap (λ (x : List (List ℕ)). join_with_byte 32 x) (sym f.2) ∙ sym k in
+        f.2 ∙ sym (split_join f.0 f.1 h') ∙ ap words_in k'
+
+-- some text of so many bytes, and so many edits
+abbrev some_text : ℕ → List ℕ
+some_text count = replicate count 0
+
+some_long : (count : ℕ) → length (some_text count) ≡ count
+some_long count = length-replicate count 0
+
+-- ---- the line of an edit
+
+-- nothing that the line of an edit could be
+record IsNoEdit (words : List (List ℕ)) : Type 0 where
+  insert : ¬ Counts (codes "insert") words
+  replace : ¬ Counts (codes "replace") words
+  move : ¬ Counts (codes "move") words
+  delete : ¬ Deletes words
+
+no_edit_is : (words : List (List ℕ)) → IsNoEdit words → (e : Asked) → IsGoodEdit e → edit_words e ≡ words → ⊥
+no_edit_is words n (Insert f at text) g e = n.insert (record { file = f; name = g.0; at = at; small = g.1; count = length text; small_count = g.2; is = sym e })
+no_edit_is words n (Replace f at text) g e = n.replace (record { file = f; name = g.0; at = at; small = g.1; count = length text; small_count = g.2; is = sym e })
+no_edit_is words n (Delete f at) g e = n.delete (record { file = f; name = g.0; at = at; small = g.1; is = sym e })
+no_edit_is words n (Move f at to) g e = n.move (record { file = f; name = g.0; at = at; small = g.1; count = to; small_count = g.2; is = sym e })
+
+edit_by_words : (line : List ℕ) (e : Asked) → IsGoodEdit e → words_in line ≡ edit_words e → IsEditLine line
+edit_by_words line e g k = record { edit = e; good = g; is = sym (joined line) ∙ ap (λ (x : List (List ℕ)). join_with_byte 32 x) k }
+
+data EditWords (line : List ℕ) : Type 0 where
+  an_edit : IsEditLine line → EditWords line
+  no_edit : IsNoEdit (words_in line) → EditWords line
+
+with_count : (keyword : List ℕ) (words : List (List ℕ)) → (c : Counts keyword words) → words ≡ keyword ∷ c.file ∷ decimal c.at ∷ decimal (length (some_text c.count)) ∷ []
+with_count keyword words c = c.is ∙ ap (λ (n : ℕ). keyword ∷ c.file ∷ decimal c.at ∷ decimal n ∷ []) (sym (some_long c.count))
+
+edit_words_are : (line : List ℕ) → EditWords line
+edit_words_are line = by (counts_or_not (codes "insert") ws) (counts_or_not (codes "replace") ws) (counts_or_not (codes "move") ws) (deletes_or_not ws)
+  where
+    ws : List (List ℕ)
+    ws = words_in line
+
+    by : IsOrNot (Counts (codes "insert") ws) → IsOrNot (Counts (codes "replace") ws) → IsOrNot (Counts (codes "move") ws) → IsOrNot (Deletes ws) → EditWords line
+    by (inl c) _ _ _ = an_edit (edit_by_words line (Insert c.file c.at (some_text c.count)) (c.name, c.small, subst IsNumber (sym (some_long c.count)) c.small_count) (with_count (codes "insert") ws c))
+    by (inr i) (inl c) _ _ = an_edit (edit_by_words line (Replace c.file c.at (some_text c.count)) (c.name, c.small, subst IsNumber (sym (some_long c.count)) c.small_count) (with_count (codes "replace") ws c))
+    by (inr i) (inr r) (inl c) _ = an_edit (edit_by_words line (Move c.file c.at c.count) (c.name, c.small, c.small_count) c.is)
+    by (inr i) (inr r) (inr m) (inl d) = an_edit (edit_by_words line (Delete d.file d.at) (d.name, d.small) d.is)
+    by (inr i) (inr r) (inr m) (inr d) = no_edit (record { insert = i; replace = r; move = m; delete = d })
+
+pub edit_line_or_not : (line : List ℕ) → IsOrNot (IsEditLine line)
+edit_line_or_not line = by (edit_words_are line)
+  where
+    by : EditWords line → IsOrNot (IsEditLine line)
+    by (an_edit e) = inl e
+    by (no_edit n) = inr (λ (e : IsEditLine line). no_edit_is (words_in line) n e.edit e.good (words_are (Change e.edit) e.good line e.is))
+
+-- ---- the line of a command
+
+-- nothing else that the line of a command could be
+record IsNoOther (words : List (List ℕ)) : Type 0 where
+  batch : ¬ Batches words
+  report : words ≢ codes "report" ∷ []
+  verdict : ¬ Asks (codes "verdict") words
+  axioms : ¬ Asks (codes "axioms") words
+  cites : ¬ Asks (codes "cites") words
+  users : ¬ Asks (codes "users") words
+
+no_command_is : (words : List (List ℕ)) → IsNoEdit words → IsNoOther words → (c : Command) → IsGood c → words_of c ≡ words → ⊥
+no_command_is words n o (Change edit) g e = no_edit_is words n edit g e
+no_command_is words n o (Batch edits) g e = o.batch (record { count = length edits; small = g.0; is = sym e })
+no_command_is words n o Report g e = o.report (sym e)
+no_command_is words n o (Verdict l) g e = o.verdict (record { label = l; name = g; is = sym e })
+no_command_is words n o (Axioms l) g e = o.axioms (record { label = l; name = g; is = sym e })
+no_command_is words n o (Cites l) g e = o.cites (record { label = l; name = g; is = sym e })
+no_command_is words n o (Users l) g e = o.users (record { label = l; name = g; is = sym e })
+
+command_by_words : (line : List ℕ) (c : Command) → IsGood c → words_in line ≡ words_of c → IsCommandLine line
+command_by_words line c g k = record { command = c; good = g; is = sym (joined line) ∙ ap (λ (x : List (List ℕ)). join_with_byte 32 x) k }
+
+pub command_line_or_not : (line : List ℕ) → IsOrNot (IsCommandLine line)
+command_line_or_not line = first (edit_words_are line)
+  where
+    ws : List (List ℕ)
+    ws = words_in line
+
+    by : IsNoEdit ws → IsOrNot (Batches ws) → IsOrNot (ws ≡ codes "report" ∷ []) → IsOrNot (Asks (codes "verdict") ws) → IsOrNot (Asks (codes "axioms") ws) → IsOrNot (Asks (codes "cites") ws) → IsOrNot (Asks (codes "users") ws) → IsOrNot (IsCommandLine line)
+    by n (inl b) _ _ _ _ _ = inl (command_by_words line (Batch (replicate b.count any_listed)) (subst IsNumber (sym (length-replicate b.count any_listed)) b.small, any_are_good b.count)
+        (b.is ∙ ap (λ (k : ℕ). codes "batch" ∷ decimal k ∷ []) (sym (length-replicate b.count any_listed))))
+    by n (inr b) (inl e) _ _ _ _ = inl (command_by_words line Report tt e)
+    by n (inr b) (inr r) (inl a) _ _ _ = inl (command_by_words line (Verdict a.label) a.name a.is)
+    by n (inr b) (inr r) (inr v) (inl a) _ _ = inl (command_by_words line (Axioms a.label) a.name a.is)
+    by n (inr b) (inr r) (inr v) (inr x) (inl a) _ = inl (command_by_words line (Cites a.label) a.name a.is)
+    by n (inr b) (inr r) (inr v) (inr x) (inr c) (inl a) = inl (command_by_words line (Users a.label) a.name a.is)
+    by n (inr b) (inr r) (inr v) (inr x) (inr c) (inr u) =
+        inr (λ (k : IsCommandLine line). no_command_is ws n (record { batch = b; report = r; verdict = v; axioms = x; cites = c; users = u }) k.command k.good (words_are k.command k.good line k.is))
+
+    first : EditWords line → IsOrNot (IsCommandLine line)
+    first (an_edit e) = inl (record { command = Change e.edit; good = e.good; is = e.is })
+    first (no_edit n) = by n (batches_or_not ws) (same_words ws (codes "report" ∷ [])) (asks_or_not (codes "verdict") ws) (asks_or_not (codes "axioms") ws) (asks_or_not (codes "cites") ws) (asks_or_not (codes "users") ws)

@@ -1,0 +1,32 @@
+use Rattle.std.proofs.Common.{inl, sym, subst}
+use Rattle.mm_keep.specs.Language.Sessions.{SessionView}
+use Rattle.mm_store.specs.Language.Edits.{asked}
+use Rattle.mm_report.specs.Code.Answered.{Answers}
+use Rattle.mm_report.specs.Language.Script.{Change}
+use Rattle.mm_report.proofs.AskedLemmas.{answered_ok, answered_stop, ran_base, ran_is}
+use Rattle.mm_report.proofs.answer.answer_edit.Goals as goal
+
+pub returns-in_err-write_labels-in-Ok : goal.returns-in_err-write_labels-in-Ok
+returns-in_err-write_labels-in-Ok g c =
+    let old = c.args.session.now in
+    let new = c.edit.new.self in
+    let changed = c.in-Ok.ensures.runs in
+    let base = ran_base old new c.in-Ok.work changed in
+    let stops = rw c.runs.ensures at (c.in_err-write_labels-in-Ok.ensures changed.runs.new base).err in
+    answered_stop g.W.Write.contents (Change (asked c.args.edit.now)) old new c.args.to.now c.write_labels.new.to c.from_residual.result _ c.from_residual.ensures.1
+    (inl (c.in-Ok.ensures.files, ran_is old new c.in-Ok.work changed)) stops
+
+pub returns-in_ok-write_labels-in-Ok : goal.returns-in_ok-write_labels-in-Ok
+returns-in_ok-write_labels-in-Ok g c =
+    let old = c.args.session.now in
+    let new = c.edit.new.self in
+    let changed = c.in-Ok.ensures.runs in
+    let base = ran_base old new c.in-Ok.work changed in
+    let out = rw c.runs.ensures at (c.in_ok-write_labels-in-Ok.ensures changed.runs.new base).ok in
+    answered_ok g.W.Write.contents (Change (asked c.args.edit.now)) old new c.args.to.now c.write_labels.new.to _ _
+    (inl (c.in-Ok.ensures.files, ran_is old new c.in-Ok.work changed)) out
+
+pub returns-in-Err : goal.returns-in-Err
+returns-in-Err g c =
+    subst (λ (new : SessionView). Answers g.W.Write.contents (Change (asked c.args.edit.now)) c.args.session.now new c.args.to.now c.tell_refused.new.to c.tell_refused.result)
+    (sym c.in-Err.ensures.unchanged) (c.tell_refused.ensures c.args.session.now c.in-Err.ensures.refused)

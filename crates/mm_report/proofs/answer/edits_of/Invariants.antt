@@ -1,0 +1,7 @@
+use Rattle.std.proofs.Common.{◌≡◌, map, take}
+use Rattle.mm_store.specs.Language.Edits.{asked}
+use Rattle.mm_report.specs.Code.Pending.{edit_in}
+use Rattle.mm_report.proofs.answer.edits_of.Given as goal
+
+abbrev pub invariant-loop-one : goal.invariant-loop-one
+invariant-loop-one l = map asked l.edits.items ≡ map (edit_in l.bytes) (take l.one-index l.found)

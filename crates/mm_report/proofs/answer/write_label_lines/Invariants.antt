@@ -1,0 +1,11 @@
+use Rattle.std.proofs.Common.{take}
+use Rattle.std.specs.Io.KnownBytes.{Appends}
+use Rattle.mm_frame.specs.Language.Base.{BaseView, IsOfFiles}
+use Rattle.mm_report.specs.Language.Stream.{written}
+use Rattle.mm_report.proofs.LabelLemmas.{lines_of}
+use Rattle.mm_report.proofs.answer.write_label_lines.Given as goal
+
+abbrev pub invariant-loop-i : goal.invariant-loop-i
+invariant-loop-i g l =
+    (base : BaseView) → IsOfFiles l.session.files l.session.top base
+    → Appends (written g.W.Write.contents l.initial.to) (written g.W.Write.contents l.to) (lines_of base (take l.i-index l.items))

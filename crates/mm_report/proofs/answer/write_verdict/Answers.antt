@@ -1,0 +1,16 @@
+use Rattle.std.proofs.Common.{refl, inr}
+use Rattle.mm_keep.specs.Language.Findings.{told}
+use Rattle.mm_report.proofs.FileLemmas.{told_in}
+use Rattle.mm_report.proofs.answer.write_verdict.Goals as goal
+
+pub write_told-requires : goal.write_told-requires
+write_told-requires g c =
+    let found = c.in-Ok.ensures.ok in
+    rw c.files.ensures.files (told_in c.args.session.now.files found.0 found.2.0 (told c.in-Ok.finding) found.2.2)
+
+pub returns-in-Ok : goal.returns-in-Ok
+returns-in-Ok g c = record {
+  answer = _;
+  is = (inr (told c.in-Ok.finding, c.in-Ok.ensures.ok, refl), refl);
+  writes = rw c.files.ensures.files at c.write_told.ensures;
+}

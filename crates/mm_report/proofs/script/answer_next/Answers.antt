@@ -1,0 +1,49 @@
+use Rattle.std.proofs.Common.{◌≡◌, sym, ap, subst, ◌∙◌, drop, true}
+use Rattle.mm_report.specs.Code.Pending.{pending, IsCommandIn}
+use Rattle.mm_report.specs.Language.Stream.{unread, written}
+use Rattle.mm_report.proofs.LoopLemmas.{answer_stops, done_answered, goes_on, if_err_is, next_stops, reads_on}
+use Rattle.mm_report.proofs.script.answer_next.Goals as goal
+use Rattle.mm_report.proofs.script.answer_next.Goals.{then-next, else-next}
+
+pub returns-in_err-next-clause-err : goal.returns-in_err-next-clause-err
+returns-in_err-next-clause-err g c begun all before so =
+    let next = c.next_command in
+    let had = reads_on begun c.args.session.now all (unread g.R.Read.remaining c.args.reading.now) before (written g.W.Write.contents c.args.writing.now) (unread g.R.Read.remaining next.new.reading)
+    c.args.input.now next.new.input next.ensures.reads so in
+    if_err_is c.from_residual.result _ c.in_err-next.field-0.0 c.from_residual.ensures.1
+    (next_stops g.R.Read.remaining g.W.Write.contents begun c.args.session.now all before next.new.input next.new.reading c.args.writing.now next.result had
+    next.ensures.bad next.ensures.cut next.ensures.read next.ensures.failed next.ensures.told c.in_err-next.field-0.0 c.in_err-next.was)
+
+pub returns-in_default-clause-ok : goal.returns-in_default-clause-ok
+returns-in_default-clause-ok g c begun all before so =
+    let next = c.next_command in
+    let had = reads_on begun c.args.session.now all (unread g.R.Read.remaining c.args.reading.now) before (written g.W.Write.contents c.args.writing.now) (unread g.R.Read.remaining next.new.reading)
+    c.args.input.now next.new.input next.ensures.reads so in
+    let none = c.in_ok-next.ensures.none c.in_default.is in
+    done_answered begun c.args.session.now all (unread g.R.Read.remaining next.new.reading) before (written g.W.Write.contents c.args.writing.now) (pending next.new.input) none.0 none.1 had
+
+pub returns-in_err-answer-clause-err : goal.returns-in_err-answer-clause-err
+returns-in_err-answer-clause-err g c begun all before so =
+    let next = c.next_command in
+    let had = reads_on begun c.args.session.now all (unread g.R.Read.remaining c.args.reading.now) before (written g.W.Write.contents c.args.writing.now) (unread g.R.Read.remaining next.new.reading)
+    c.args.input.now next.new.input next.ensures.reads so in
+    let is = rw c.in-Some.is at c.in_ok-next.ensures.found in
+    let command = subst (λ bytes. IsCommandIn bytes c.in-Some.next.command is.command) (sym c.pending.ensures) is.is_command in
+    if_err_is c.from_residual-in_err-answer.result _ c.in_err-answer.field-0.0 c.from_residual-in_err-answer.ensures.1
+    (answer_stops g.R.Read.remaining g.W.Write.contents begun c.args.session.now all before next.new.input next.new.reading c.args.writing.now c.in-Some.next is c.answer.new.session c.answer.new.to had
+    c.in_err-answer.field-0.0 (c.in_err-answer.ensures is.command command).err)
+
+pub returns-clause-ok : goal.returns-clause-ok
+returns-clause-ok g c begun all before so =
+    let next = c.next_command in
+    let had = reads_on begun c.args.session.now all (unread g.R.Read.remaining c.args.reading.now) before (written g.W.Write.contents c.args.writing.now) (unread g.R.Read.remaining next.new.reading)
+    c.args.input.now next.new.input next.ensures.reads so in
+    let is = rw c.in-Some.is at c.in_ok-next.ensures.found in
+    let command = subst (λ bytes. IsCommandIn bytes c.in-Some.next.command is.command) (sym c.pending.ensures) is.is_command in
+    let passed : c.in-Some.next.fed ≡ true → pending c.if-next.input ≡ drop c.in-Some.next.end (pending next.new.input) =
+    elim c.if-next.branch [
+      | then-next w ↦ λ fed. ap pending w.input-is ∙ w.pass.ensures
+      | else-next w ↦ λ fed. let no = w.if-next in cc
+    ] in
+    goes_on g.R.Read.remaining g.W.Write.contents begun c.args.session.now all before next.new.input next.new.reading c.args.writing.now c.in-Some.next is c.answer.new.session c.answer.new.to c.if-next.input had
+    (c.in_ok-answer.ensures is.command command).ok passed

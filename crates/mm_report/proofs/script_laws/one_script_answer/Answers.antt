@@ -1,0 +1,21 @@
+use Rattle.mm_report.proofs.ScriptAnswerLemmas.{AnswerLaws, same_script as law}
+use Rattle.mm_report.proofs.script_laws.one_script_answer.Goals as goal
+use Rattle.mm_report.proofs.script_laws.one_script_answer.Goals.{After-one_list_of_runs}
+
+laws : After-one_list_of_runs → AnswerLaws
+laws c = record {
+  database = record {
+    words = c.one_meaning.ensures.words;
+    said = c.files_have_one_base.ensures.said;
+    verdict = c.has_one_verdict_at.ensures;
+    stand = c.items_stand.ensures.stand;
+  };
+  runs = c.one_list_of_runs.ensures;
+  labels = c.has_own_labels.ensures;
+  edits = c.one_edit.ensures.files;
+  refused = c.one_edit.ensures.refused;
+  reason = c.one_edit.ensures.reason;
+}
+
+pub returns : goal.returns
+returns c = law (laws c)

@@ -1,0 +1,106 @@
+-- How far a command of a script is answered, and how far a script is.
+use Rattle.std.specs.Prelude.{◌≡◌, ◌≤◌, ◌++◌, ℕ, true, false, Bool, Option, List, [], Result, OnOk, IfErr, IfSome, length, unwrap_or, codes}
+use Rattle.std.specs.List.{flat_map}
+use Rattle.std.specs.Io.KnownBytes.{Appends}
+use Rattle.mm_store.specs.declared.edit.EditError.{EditError}
+use Rattle.mm_store.specs.declared.edit.EditError.TheVariants as edits
+use Rattle.mm_store.specs.Language.Edits.{Asked, edited_text}
+use Rattle.mm_frame.specs.Language.Base.{BaseView, IsOfFiles}
+use Rattle.mm_frame.specs.Language.Item.{Item}
+use Rattle.mm_keep.specs.Language.Sessions.{SessionView, HasAssertion, AreAxiomsOf, AreCitesOf, AreUsersOf}
+use Rattle.mm_report.specs.declared.script.ScriptError.{ScriptError}
+use Rattle.mm_report.specs.declared.script.ScriptError.TheVariants as errors
+use Rattle.mm_report.specs.declared.reading.Reading.{Reading}
+use Rattle.mm_report.specs.declared.stream.Writing.{Writing}
+use Rattle.mm_report.specs.Language.Answers.{IsAnswer}
+use Rattle.mm_report.specs.Language.Script.{Command, Axioms, Cites, Users, Done, CutShort, BadLine}
+use Rattle.mm_report.specs.Language.Scripting.{AnswersScript, AnswersRead, AnswersFirst, BeginsAnswers}
+use Rattle.mm_report.specs.Language.Stream.{written, has_failed, unread, cannot_read, AppendsPart, Writes}
+
+-- a fault of a text that is told is at one of its bytes, or at its end
+abbrev pub IsToldIn : List ℕ → EditError → Type 0
+IsToldIn text (edits.Text fault) = fault.at ≤ length text
+IsToldIn text _ = Unit {0}
+
+-- the text that an edit brings; no bytes where it brings none
+abbrev pub text_of : Asked → List ℕ
+text_of asked = unwrap_or (edited_text asked) []
+
+-- these bytes are written, which the items of a session's files give; or the write of them has failed
+abbrev pub WritesOf : {W T E : Type 0} → (W → Option (List ℕ)) → SessionView → (BaseView → List ℕ) → Writing W → Writing W → Result T E → Type 0
+WritesOf contents session bytes old new result =
+    (base : BaseView) → IsOfFiles session.files session.top base → Writes contents old new result (bytes base)
+
+-- a line with the label of each item
+abbrev pub label_lines : List Item → List ℕ
+label_lines items = flat_map (λ item. unwrap_or item.label [] ++ codes "\n") items
+
+-- these are the numbers that a command asks for which asks for items by a label
+abbrev pub Finds : SessionView → Command → List ℕ → Type 0
+Finds session (Axioms label) numbers = AreAxiomsOf session label numbers
+Finds session (Cites label) numbers = AreCitesOf session label numbers
+Finds session (Users label) numbers = AreUsersOf session label numbers
+Finds session _ numbers = ⊥
+
+-- there is no assertion with the label that it asks by
+abbrev pub Lacks : SessionView → Command → Type 0
+Lacks session (Axioms label) = ¬ HasAssertion session label
+Lacks session (Cites label) = ¬ HasAssertion session label
+Lacks session (Users label) = ¬ HasAssertion session label
+Lacks session _ = ⊥
+
+-- an answer to a command is written that leaves the session as it is; or the write of it has failed
+pub record WritesAnswer {W T E : Type 0} (contents : W → Option (List ℕ)) (session : SessionView) (command : Command) (old new : Writing W)
+    (result : Result T E) : Type 0 where
+  pub answer : List ℕ
+  pub is : IsAnswer session command answer session
+  pub writes : Writes contents old new result answer
+
+-- a command is answered, and the answer is written
+pub record IsAnswered (old new : SessionView) (command : Command) (before after : Option (List ℕ)) : Type 0 where
+  pub answer : List ℕ
+  pub is : IsAnswer old command answer new
+  pub out : Appends before after answer
+
+-- a command is answered, and a beginning of the answer is written, or all of it
+pub record BeginsAnswer (old new : SessionView) (command : Command) (before after : Option (List ℕ)) : Type 0 where
+  pub answer : List ℕ
+  pub is : IsAnswer old command answer new
+  pub out : AppendsPart before after answer
+
+-- why a command is not answered, or not in full: a write has failed in its answer, or behind it; or memory lacks, and nothing is done
+abbrev pub FailsSo : {W : Type 0} → (W → Option (List ℕ)) → Command → SessionView → SessionView → Writing W → Writing W → ScriptError → Type 0
+FailsSo contents command old new before after errors.Write =
+    (has_failed after ≡ true) × BeginsAnswer old new command (written contents before) (written contents after)
+FailsSo contents command old new before after errors.Memory = (new ≡ old) × (after ≡ before)
+FailsSo contents command old new before after _ = ⊥
+
+-- a command is answered; or it is not, or not in full
+pub record Answers {W T : Type 0} (contents : W → Option (List ℕ)) (command : Command) (old new : SessionView) (before after : Writing W)
+    (result : Result T ScriptError) : Type 0 where
+  pub ok : OnOk result (IsAnswered old new command (written contents before) (written contents after))
+  pub err : IfErr result (FailsSo contents command old new before after)
+
+-- the first commands of a script are answered, and these bytes are read and not answered yet
+pub record HasAnswered (old new : SessionView) (unread left before after : Option (List ℕ)) (pending : List ℕ) : Type 0 where
+  pub first : AnswersFirst old new unread left before after
+  pub rest : first.rest ≡ pending
+
+-- where more may follow, it stays so; else the whole script is answered
+abbrev pub GoesOn : SessionView → SessionView → Option (List ℕ) → Option (List ℕ) → Option (List ℕ) → Option (List ℕ) → List ℕ → Bool → Type 0
+GoesOn old new all left before after pending true = HasAnswered old new all left before after pending
+GoesOn old new all left before after pending false = IfSome all (λ script. AnswersScript old new script Done before after)
+
+-- why a script is not answered to its end, and how far it is
+abbrev pub StopsScript : {R W : Type 0} → (R → Option (List ℕ)) → (W → Option (List ℕ)) → SessionView → SessionView → Option (List ℕ) → Reading R
+    → Option (List ℕ) → Writing W → ScriptError → Type 0
+StopsScript remaining contents old new all reading before writing errors.BadLine =
+    IfSome all (λ script. AnswersScript old new script BadLine before (written contents writing))
+StopsScript remaining contents old new all reading before writing errors.Cut =
+    IfSome all (λ script. AnswersScript old new script CutShort before (written contents writing))
+StopsScript remaining contents old new all reading before writing errors.Read =
+    AnswersRead old new all (unread remaining reading) before (written contents writing) × (cannot_read reading ≡ true)
+StopsScript remaining contents old new all reading before writing errors.Write =
+    BeginsAnswers old new all (unread remaining reading) before (written contents writing) × (has_failed writing ≡ true)
+StopsScript remaining contents old new all reading before writing errors.Memory =
+    AnswersFirst old new all (unread remaining reading) before (written contents writing)

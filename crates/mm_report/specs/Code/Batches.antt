@@ -1,0 +1,41 @@
+-- How far the edits of a batch are read.
+use Rattle.std.specs.Prelude.{◌≡◌, ◌≤◌, ◌+◌, ℕ, Bool, true, false, Option, List, [], ◌∷◌, ◌++◌, length, take, drop, IfSome}
+use Rattle.std.specs.List.{flat_map}
+use Rattle.std.specs.Io.KnownBytes.{IsAtEnd}
+use Rattle.mm_report.specs.declared.edits.EditRead.{EditRead}
+use Rattle.mm_report.specs.declared.entry.EditAt.{EditAt}
+use Rattle.mm_report.specs.Code.Growing.{HasBlanks, IsEditRead}
+use Rattle.mm_report.specs.Code.Pending.{AreEditsIn}
+use Rattle.mm_report.specs.Code.Stops.{HasNoEntry, StopsSo, AreListed, batch_line}
+use Rattle.mm_report.specs.Language.Script.{End, Listed, listed_bytes, IsNumber, AreGoodEdits, LastInLine}
+
+-- the bytes begin with the line of a batch, with some of its edits, which end here
+pub record IsFront (bytes : List ℕ) (n : ℕ) (front : List Listed) (at : ℕ) : Type 0 where
+  pub listed : AreListed n front
+  pub within : at ≤ length bytes
+  pub are : take at bytes ≡ batch_line n ++ 10 ∷ flat_map listed_bytes front
+
+-- whatever the batch is of which so many edits are missing: the script ends so
+abbrev pub EndsBatch : ℕ → ℕ → List ℕ → List ℕ → Option (List ℕ) → End → Type 0
+EndsBatch from missing old new left end = (n : ℕ) (front : List Listed) → IsFront old n front from → n ≡ length front + missing
+    → IfSome left (λ more. StopsSo (new ++ more) end)
+
+-- or it is not whole
+abbrev pub HoldsBatch : ℕ → ℕ → List ℕ → List ℕ → Type 0
+HoldsBatch from missing old new = (n : ℕ) (front : List Listed) → IsFront old n front from → n ≡ length front + missing → HasNoEntry new
+
+-- an edit stands there behind empty lines
+pub record IsListedRead (bytes : List ℕ) (left : Option (List ℕ)) (from : ℕ) (read : EditRead) : Type 0 where
+  pub start : ℕ
+  pub blanks : HasBlanks bytes from start
+  pub edit : IsEditRead bytes left start read
+
+-- the line of the batch and some of its edits stand there up to their end, or all of it up to the end of all, where the last line feed lacks
+pub record IsBatchRead (bytes : List ℕ) (left : Option (List ℕ)) (n : ℕ) (found : List EditAt) (end : ℕ) (fed : Bool) : Type 0 where
+  pub number : IsNumber n
+  pub front : List Listed
+  pub good : AreGoodEdits front
+  pub edits : AreEditsIn bytes found front
+  pub within : end ≤ length bytes
+  pub fed_so : fed ≡ true → bytes ≡ batch_line n ++ 10 ∷ (flat_map listed_bytes front ++ drop end bytes)
+  pub unfed : fed ≡ false → (bytes ++ 10 ∷ [] ≡ batch_line n ++ 10 ∷ flat_map listed_bytes front) × LastInLine front × IsAtEnd left × (length front ≡ n)

@@ -1,0 +1,83 @@
+-- Where commands stand in the bytes of a script that are read and not answered yet.
+use Rattle.std.specs.Prelude.{◌≡◌, ◌≤◌, ◌⊎◌, ℕ, true, false, Option, List, Contains, [], ◌∷◌, ◌++◌, length, map, drop, replicate, slice_range}
+use Rattle.std.specs.Io.KnownBytes.{Consumes, IsAtEnd}
+use Rattle.mm_store.specs.Language.Edits.{Asked, Insert, Replace, Delete, Move}
+use Rattle.mm_report.specs.declared.entry.Part.{Part}
+use Rattle.mm_report.specs.declared.entry.EditAt.{EditAt}
+use Rattle.mm_report.specs.declared.entry.EditAt.TheVariants as edits
+use Rattle.mm_report.specs.declared.entry.CommandAt.{CommandAt}
+use Rattle.mm_report.specs.declared.entry.CommandAt.TheVariants as code
+use Rattle.mm_report.specs.declared.entry.Next.{Next}
+use Rattle.mm_report.specs.declared.input.Input.{Input}
+use Rattle.mm_report.specs.Language.Script.{Command, Change, Batch, Report, Verdict, Axioms, Cites, Users}
+use Rattle.mm_report.specs.Language.Script.{Listed, command_bytes, IsGood, EndsInLine}
+
+-- the bytes that are read and not answered yet
+abbrev pub pending : Input → List ℕ
+pending input = drop input.at input.bytes.items
+
+-- bytes are read on, and empty lines passed: those that were there and those that came are the empty lines and what is there now
+pub record ReadsOn (old new : Input) (unread left : Option (List ℕ)) : Type 0 where
+  pub part : List ℕ
+  pub consumes : Consumes unread left part
+  pub blanks : ℕ
+  pub are : pending old ++ part ≡ replicate blanks 10 ++ pending new
+
+-- the bytes of a part
+abbrev pub bytes_in : List ℕ → Part → List ℕ
+bytes_in bytes part = slice_range bytes part.start part.end
+
+-- there are these bytes
+pub record IsWithin (bytes : List ℕ) (part : Part) : Type 0 where
+  pub ordered : part.start ≤ part.end
+  pub within : part.end ≤ length bytes
+
+-- the edit that stands there
+abbrev pub edit_in : List ℕ → EditAt → Asked
+edit_in bytes (edits.Insert file at text) = Insert (bytes_in bytes file) at (bytes_in bytes text)
+edit_in bytes (edits.Replace file at text) = Replace (bytes_in bytes file) at (bytes_in bytes text)
+edit_in bytes (edits.Delete file at) = Delete (bytes_in bytes file) at
+edit_in bytes (edits.Move file at to) = Move (bytes_in bytes file) at to
+
+-- its parts are there
+abbrev pub IsEditWithin : List ℕ → EditAt → Type 0
+IsEditWithin bytes (edits.Insert file at text) = IsWithin bytes file × IsWithin bytes text
+IsEditWithin bytes (edits.Replace file at text) = IsWithin bytes file × IsWithin bytes text
+IsEditWithin bytes (edits.Delete file at) = IsWithin bytes file
+IsEditWithin bytes (edits.Move file at to) = IsWithin bytes file
+
+-- the edits of a batch that stand there, one after another
+pub record AreEditsIn (bytes : List ℕ) (found : List EditAt) (listed : List Listed) : Type 0 where
+  pub within : (k : EditAt) → Contains found k → IsEditWithin bytes k
+  pub are : map (λ one. one.edit) listed ≡ map (edit_in bytes) found
+
+-- the command that stands there
+abbrev pub IsCommandIn : List ℕ → CommandAt → Command → Type 0
+IsCommandIn bytes (code.Change edit) command = IsEditWithin bytes edit × (command ≡ Change (edit_in bytes edit))
+IsCommandIn bytes (code.Batch found) command = (listed : List Listed) × AreEditsIn bytes found.items listed × (command ≡ Batch listed)
+IsCommandIn bytes code.Report command = command ≡ Report
+IsCommandIn bytes (code.Verdict label) command = IsWithin bytes label × (command ≡ Verdict (bytes_in bytes label))
+IsCommandIn bytes (code.Axioms label) command = IsWithin bytes label × (command ≡ Axioms (bytes_in bytes label))
+IsCommandIn bytes (code.Cites label) command = IsWithin bytes label × (command ≡ Cites (bytes_in bytes label))
+IsCommandIn bytes (code.Users label) command = IsWithin bytes label × (command ≡ Users (bytes_in bytes label))
+
+-- the bytes begin with the command, and so many are its
+pub record IsWhole (bytes : List ℕ) (command : Command) (end : ℕ) : Type 0 where
+  pub within : end ≤ length bytes
+  pub are : bytes ≡ command_bytes command ++ drop end bytes
+
+-- they are all of it but the last line feed, and nothing is left to read
+pub record IsLast (bytes : List ℕ) (left : Option (List ℕ)) (command : Command) : Type 0 where
+  pub at_end : IsAtEnd left
+  pub in_line : EndsInLine command
+  pub are : bytes ++ 10 ∷ [] ≡ command_bytes command
+
+abbrev pub IsWholeOrLast : List ℕ → Option (List ℕ) → Next → Command → Type 0
+IsWholeOrLast bytes left next command = ((next.fed ≡ true) × IsWhole bytes command next.end) ⊎ ((next.fed ≡ false) × IsLast bytes left command)
+
+-- a command begins these bytes, and it is whole
+pub record IsNext (bytes : List ℕ) (left : Option (List ℕ)) (next : Next) : Type 0 where
+  pub command : Command
+  pub good : IsGood command
+  pub is_command : IsCommandIn bytes next.command command
+  pub whole : IsWholeOrLast bytes left next command

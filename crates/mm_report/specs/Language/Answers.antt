@@ -1,0 +1,148 @@
+-- The answers of a script, as its commands are asked of a session that they edit.
+use Rattle.std.specs.Prelude.{◌≡◌, ◌≢◌, ◌⊎◌, ℕ, unwrap_or}
+use Rattle.std.specs.Prelude.{List, [], ◌∷◌, ◌++◌, length, map, codes, decimal}
+use Rattle.std.specs.List.{flat_map}
+use Rattle.mm_text.specs.Language.Place.{line_at, column_at}
+use Rattle.mm_text.specs.declared.fault.TextNumber.{TextNumber}
+use Rattle.mm_text.specs.declared.fault.TextNumber.TheVariants.{T01, T02, T03, T04, T05, T06, T07, T08, T09, T10, T11, T12}
+use Rattle.mm_store.specs.declared.edit.EditError.{EditError}
+use Rattle.mm_store.specs.declared.edit.EditError.TheVariants.{NoFile, NoPiece, Text, NotOne, TooMany, Memory}
+use Rattle.mm_store.specs.Language.Answers.{IsEditError}
+use Rattle.mm_store.specs.Language.Batches.{IsBatchOf, IsRefusedAt}
+use Rattle.mm_store.specs.Language.Edits.{Asked, IsEditOf, edited_text}
+use Rattle.mm_store.specs.Language.FilesView.{plain}
+use Rattle.mm_frame.specs.Language.Base.{BaseView, said_at}
+use Rattle.mm_frame.specs.Language.Item.{Item}
+use Rattle.mm_keep.specs.Language.Runs.{AreRunsOf}
+use Rattle.mm_keep.specs.Language.Sessions.{SessionView, OfItems, HasAssertion, IsVerdictOf, AreAxiomsOf, AreCitesOf, AreUsersOf}
+use Rattle.mm_keep.specs.Language.Told.{Told, AnAxiom, Proved, Incomplete, Wrong}
+use Rattle.mm_report.specs.Language.Report.{names_of, incomplete_line, wrong_line, IsReport}
+use Rattle.mm_report.specs.Language.Script.{Command, Change, Batch, Report, Verdict, Axioms, Cites, Users, Entry, commands_of}
+use Rattle.mm_report.specs.Language.Script.{End, EndsSo, IsReading}
+
+-- the number of a fault of a text as it is written
+abbrev pub text_code : TextNumber → List ℕ
+text_code T01 = codes "T01"
+text_code T02 = codes "T02"
+text_code T03 = codes "T03"
+text_code T04 = codes "T04"
+text_code T05 = codes "T05"
+text_code T06 = codes "T06"
+text_code T07 = codes "T07"
+text_code T08 = codes "T08"
+text_code T09 = codes "T09"
+text_code T10 = codes "T10"
+text_code T11 = codes "T11"
+text_code T12 = codes "T12"
+
+-- why an edit is refused, as it is written; the place of a fault is that in the edit's own text
+abbrev pub refusal_words : List ℕ → EditError → List ℕ
+refusal_words text NoFile = codes "S01"
+refusal_words text (NoPiece count) = codes "S02 " ++ decimal count
+refusal_words text (Text fault) =
+    codes "S03 " ++ decimal (line_at text fault.at) ++ codes ":" ++ decimal (column_at text fault.at) ++ codes " " ++ text_code fault.number
+refusal_words text (NotOne count) = codes "S04 " ++ decimal count
+refusal_words text TooMany = codes "S05"
+refusal_words text Memory = []
+
+-- the line of a refused edit
+abbrev pub refusal_line : Asked → EditError → List ℕ
+refusal_line edit error = codes "refused " ++ refusal_words (unwrap_or (edited_text edit) []) error ++ codes "\n"
+
+-- the line of a refused batch: the number of the edit, from 0, and why it is refused
+abbrev pub batch_refusal_line : ℕ → Asked → EditError → List ℕ
+batch_refusal_line n edit error =
+    codes "refused " ++ decimal n ++ codes " " ++ refusal_words (unwrap_or (edited_text edit) []) error ++ codes "\n"
+
+-- the line of a label that no assertion has
+abbrev pub unknown_line : List ℕ
+unknown_line = codes "refused K01\n"
+
+-- a word, a count, and then a line with the label of each item
+abbrev pub labels_listed : List ℕ → List Item → List ℕ
+labels_listed word items = word ++ codes " " ++ decimal (length items) ++ codes "\n" ++ flat_map (λ item. unwrap_or item.label [] ++ codes "\n") items
+
+-- the labels of the items with these numbers
+abbrev pub numbers_listed : List ℕ → BaseView → List ℕ → List ℕ
+numbers_listed word base numbers = labels_listed word (map (said_at base) numbers)
+
+-- the line that tells of an assertion
+abbrev pub told_line : List (List ℕ) → List ℕ → Told → List ℕ
+told_line names label AnAxiom = codes "axiom " ++ label ++ codes "\n"
+told_line names label Proved = codes "proved " ++ label ++ codes "\n"
+told_line names label (Incomplete at) = incomplete_line names label at
+told_line names label (Wrong number at) = wrong_line names label number at
+told_line names label _ = []
+
+-- edits are done, the top file stays, and the labels of the proofs are told that are run
+pub record IsRan (old new : SessionView) (answer : List ℕ) : Type 0 where
+  pub top : new.top ≡ old.top
+  pub runs : List ℕ
+  pub are_runs : AreRunsOf old.files new.files old.top runs
+  pub answer_is : answer ≡ numbers_listed (codes "ran") are_runs.new runs
+
+-- an edit is refused, and nothing is changed
+pub record IsRefused (old new : SessionView) (edit : Asked) (answer : List ℕ) : Type 0 where
+  pub error : EditError
+  pub refused : IsEditError edit (plain old.files) error
+  pub told : error ≢ Memory
+  pub unchanged : new ≡ old
+  pub answer_is : answer ≡ refusal_line edit error
+
+-- the first of several edits that is refused is told, and nothing is changed
+pub record IsBatchRefused (old new : SessionView) (edits : List Asked) (answer : List ℕ) : Type 0 where
+  pub n : ℕ
+  pub error : EditError
+  pub refused : IsRefusedAt edits (plain old.files) n error
+  pub unchanged : new ≡ old
+  pub answer_is : answer ≡ batch_refusal_line n refused.edit error
+
+-- the answer to an edit, and the session behind it
+abbrev pub IsEditAnswer : SessionView → Asked → List ℕ → SessionView → Type 0
+IsEditAnswer old edit answer new =
+    (IsEditOf edit (plain old.files) (plain new.files) × IsRan old new answer) ⊎ IsRefused old new edit answer
+
+-- the answer to several edits at once, and the session behind them
+abbrev pub IsBatchAnswer : SessionView → List Asked → List ℕ → SessionView → Type 0
+IsBatchAnswer old edits answer new =
+    (IsBatchOf edits (plain old.files) (plain new.files) × IsRan old new answer) ⊎ IsBatchRefused old new edits answer
+
+-- no assertion has the label, and so it is told
+pub record IsUnknown (session : SessionView) (label answer : List ℕ) : Type 0 where
+  pub none : ¬ HasAssertion session label
+  pub answer_is : answer ≡ unknown_line
+
+-- what is told of the assertion with a label
+abbrev pub IsVerdictAnswer : SessionView → List ℕ → List ℕ → Type 0
+IsVerdictAnswer session label answer =
+    (told : Told) × IsVerdictOf session label told × (answer ≡ told_line (names_of (plain session.files)) label told)
+
+-- the labels of the items that are asked for
+abbrev pub IsFound : SessionView → (List ℕ → Type 0) → List ℕ → Type 0
+IsFound session are answer =
+    (numbers : List ℕ) × are numbers × OfItems session (λ base. answer ≡ numbers_listed (codes "found") base numbers)
+
+-- what a command is answered, and the session behind it
+abbrev pub IsAnswer : SessionView → Command → List ℕ → SessionView → Type 0
+IsAnswer old (Change edit) answer new = IsEditAnswer old edit answer new
+IsAnswer old (Batch edits) answer new = IsBatchAnswer old (map (λ listed. listed.edit) edits) answer new
+IsAnswer old Report answer new = IsReport old answer × (new ≡ old)
+IsAnswer old (Verdict label) answer new = (IsUnknown old label answer ⊎ IsVerdictAnswer old label answer) × (new ≡ old)
+IsAnswer old (Axioms label) answer new = (IsUnknown old label answer ⊎ IsFound old (AreAxiomsOf old label) answer) × (new ≡ old)
+IsAnswer old (Cites label) answer new = (IsUnknown old label answer ⊎ IsFound old (AreCitesOf old label) answer) × (new ≡ old)
+IsAnswer old (Users label) answer new = (IsUnknown old label answer ⊎ IsFound old (AreUsersOf old label) answer) × (new ≡ old)
+
+-- the answers to commands, each asked of the session behind the one before it, joined; and the session behind them all
+abbrev pub AreAnswers : SessionView → List Command → List ℕ → SessionView → Type 0
+AreAnswers old [] answers new = (answers ≡ []) × (new ≡ old)
+AreAnswers old (command ∷ commands) answers new =
+    (one : List ℕ) × (next : SessionView) × (rest : List ℕ)
+    × IsAnswer old command one next × AreAnswers next commands rest new × (answers ≡ one ++ rest)
+
+-- the answers of a script, the session behind it, and how it ends
+pub record IsScriptAnswer (old : SessionView) (script answers : List ℕ) (new : SessionView) (end : End) : Type 0 where
+  pub entries : List Entry
+  pub rest : List ℕ
+  pub reading : IsReading script entries rest
+  pub answered : AreAnswers old (commands_of entries) answers new
+  pub ends : EndsSo rest end

@@ -1,0 +1,214 @@
+-- The script of a session: lines that each ask one thing of the files, some with a text or with further lines behind them.
+use Rattle.std.specs.Prelude.{◌≡◌, ◌≢◌, ◌≤◌, ◌==◌, ◌⊎◌, ℕ, Bool, not, ◌&&◌, IsTrue, Option, Some, None}
+use Rattle.std.specs.Prelude.{List, [], ◌∷◌, ◌++◌, length, codes, decimal, replicate}
+use Rattle.std.specs.List.{AllByRecursion, flat_map, filter_map, list_all, join_with_byte}
+use Rattle.mm_store.specs.Language.Edits.{Asked, Insert, Replace, Delete, Move, edited_text}
+
+-- An edit of a batch, and how many empty lines stand before it.
+pub record Listed : Type 0 where
+  pub blanks : ℕ
+  pub edit : Asked
+
+-- What a command asks: for an edit, or for several at once; for the report; or for what is known of the assertion with a label.
+pub data Command : Type 0 where
+  Change : Asked → Command
+  Batch : List Listed → Command
+  Report : Command
+  Verdict : List ℕ → Command
+  Axioms : List ℕ → Command
+  Cites : List ℕ → Command
+  Users : List ℕ → Command
+
+-- the words of the line of an edit; where a text stands behind the line, its last word counts the bytes of the text
+abbrev pub edit_words : Asked → List (List ℕ)
+edit_words (Insert file at text) = codes "insert" ∷ file ∷ decimal at ∷ decimal (length text) ∷ []
+edit_words (Replace file at text) = codes "replace" ∷ file ∷ decimal at ∷ decimal (length text) ∷ []
+edit_words (Delete file at) = codes "delete" ∷ file ∷ decimal at ∷ []
+edit_words (Move file at to) = codes "move" ∷ file ∷ decimal at ∷ decimal to ∷ []
+
+-- the words of the line of a command
+abbrev pub words_of : Command → List (List ℕ)
+words_of (Change edit) = edit_words edit
+words_of (Batch edits) = codes "batch" ∷ decimal (length edits) ∷ []
+words_of Report = codes "report" ∷ []
+words_of (Verdict label) = codes "verdict" ∷ label ∷ []
+words_of (Axioms label) = codes "axioms" ∷ label ∷ []
+words_of (Cites label) = codes "cites" ∷ label ∷ []
+words_of (Users label) = codes "users" ∷ label ∷ []
+
+-- a line: its words, with one space between each two
+abbrev pub edit_line : Asked → List ℕ
+edit_line edit = join_with_byte 32 (edit_words edit)
+
+abbrev pub line_of : Command → List ℕ
+line_of command = join_with_byte 32 (words_of command)
+
+-- a text, if there is one, and a line feed behind it
+abbrev pub ended_text : Option (List ℕ) → List ℕ
+ended_text None = []
+ended_text (Some text) = text ++ 10 ∷ []
+
+-- the bytes of an edit: its line with a line feed, and its text with a line feed where it has one
+abbrev pub edit_bytes : Asked → List ℕ
+edit_bytes edit = edit_line edit ++ 10 ∷ ended_text (edited_text edit)
+
+-- those of an edit of a batch, with the empty lines before it
+abbrev pub listed_bytes : Listed → List ℕ
+listed_bytes listed = replicate listed.blanks 10 ++ edit_bytes listed.edit
+
+-- what stands behind the line of a command and its line feed
+abbrev pub behind : Command → List ℕ
+behind (Change edit) = ended_text (edited_text edit)
+behind (Batch edits) = flat_map listed_bytes edits
+behind _ = []
+
+-- the bytes of a command
+abbrev pub command_bytes : Command → List ℕ
+command_bytes command = line_of command ++ 10 ∷ behind command
+
+-- neither a space nor a line feed
+abbrev pub is_word_byte : ℕ → Bool
+is_word_byte b = not (b == 32) && not (b == 10)
+
+-- a file or a label that a line can name: some bytes, and no space or line feed among them
+pub record IsName (name : List ℕ) : Type 0 where
+  pub some : name ≢ []
+  pub bytes : IsTrue (list_all is_word_byte name)
+
+-- a number that a line can have
+abbrev pub IsNumber : ℕ → Type 0
+IsNumber n = n ≤ 4294967295
+
+-- a line can ask for the edit
+abbrev pub IsGoodEdit : Asked → Type 0
+IsGoodEdit (Insert file at text) = IsName file × IsNumber at × IsNumber (length text)
+IsGoodEdit (Replace file at text) = IsName file × IsNumber at × IsNumber (length text)
+IsGoodEdit (Delete file at) = IsName file × IsNumber at
+IsGoodEdit (Move file at to) = IsName file × IsNumber at × IsNumber to
+
+abbrev pub AreGoodEdits : List Listed → Type 0
+AreGoodEdits edits = AllByRecursion (λ listed. IsGoodEdit listed.edit) edits
+
+-- lines can ask for the command
+abbrev pub IsGood : Command → Type 0
+IsGood (Change edit) = IsGoodEdit edit
+IsGood (Batch edits) = IsNumber (length edits) × AreGoodEdits edits
+IsGood Report = Unit {0}
+IsGood (Verdict label) = IsName label
+IsGood (Axioms label) = IsName label
+IsGood (Cites label) = IsName label
+IsGood (Users label) = IsName label
+
+-- the last edit has no text
+abbrev pub LastInLine : List Listed → Type 0
+LastInLine [] = Unit {0}
+LastInLine (listed ∷ []) = edited_text listed.edit ≡ None
+LastInLine (listed ∷ edits) = LastInLine edits
+
+-- the command ends in a line, and not in a text
+abbrev pub EndsInLine : Command → Type 0
+EndsInLine (Change edit) = edited_text edit ≡ None
+EndsInLine (Batch edits) = LastInLine edits
+EndsInLine _ = Unit {0}
+
+-- What a script is made of: empty lines, and commands.
+pub data Entry : Type 0 where
+  Blank : Entry
+  Given : Command → Entry
+
+abbrev pub entry_bytes : Entry → List ℕ
+entry_bytes Blank = 10 ∷ []
+entry_bytes (Given command) = command_bytes command
+
+abbrev pub IsGoodEntry : Entry → Type 0
+IsGoodEntry Blank = Unit {0}
+IsGoodEntry (Given command) = IsGood command
+
+abbrev pub AreGood : List Entry → Type 0
+AreGood entries = AllByRecursion IsGoodEntry entries
+
+abbrev pub bytes_of : List Entry → List ℕ
+bytes_of entries = flat_map entry_bytes entries
+
+-- the command of an entry, if it has one
+abbrev pub command_of : Entry → Option Command
+command_of Blank = None
+command_of (Given command) = Some command
+
+-- the commands, in order
+abbrev pub commands_of : List Entry → List Command
+commands_of entries = filter_map command_of entries
+
+-- the script is these entries but for the last line feed, which would end a line and not a text
+pub record LacksFeed (script : List ℕ) (entries : List Entry) : Type 0 where
+  pub front : List Entry
+  pub last : Command
+  pub are : entries ≡ front ++ Given last ∷ []
+  pub in_line : EndsInLine last
+  pub is : script ++ 10 ∷ [] ≡ bytes_of entries
+
+-- the script is commands and empty lines and then a rest; at its end a line may lack its line feed, if no text has to follow
+pub record IsDivided (script : List ℕ) (entries : List Entry) (rest : List ℕ) : Type 0 where
+  pub good : AreGood entries
+  pub joined : (script ≡ bytes_of entries ++ rest) ⊎ (LacksFeed script entries × (rest ≡ []))
+
+-- the longest list of commands and empty lines with which the script begins, and what is left
+pub record IsReading (script : List ℕ) (entries : List Entry) (rest : List ℕ) : Type 0 where
+  pub divided : IsDivided script entries rest
+  pub longest : (others : List Entry) (left : List ℕ) → IsDivided script others left → length others ≤ length entries
+
+-- the bytes are these entries, each with all its line feeds, and then a rest
+pub record AreRead (bytes : List ℕ) (entries : List Entry) (rest : List ℕ) : Type 0 where
+  pub good : AreGood entries
+  pub joined : bytes ≡ bytes_of entries ++ rest
+
+-- and these are the longest such list: what is complete in these bytes, whatever follows them
+pub record IsReadSoFar (bytes : List ℕ) (entries : List Entry) (rest : List ℕ) : Type 0 where
+  pub are : AreRead bytes entries rest
+  pub longest : (others : List Entry) (left : List ℕ) → AreRead bytes others left → length others ≤ length entries
+
+-- there are no bytes, or they are the whole line of this edit and a part of what belongs behind it
+abbrev pub IsNoneOrLine : Asked → List ℕ → Type 0
+IsNoneOrLine edit bytes =
+    (bytes ≡ []) ⊎ ((more : List ℕ) × (missing : List ℕ) × (bytes ≡ edit_line edit ++ more) × (more ++ missing ≡ 10 ∷ ended_text (edited_text edit)))
+
+-- behind the line of a batch, where edits are missing: some of the edits are whole, and there is nothing of the next but empty lines, or
+-- its whole line and a part of what belongs behind it
+pub record MissesEdits (edits : List Listed) (part : List ℕ) : Type 0 where
+  pub front : List Listed
+  pub next : Listed
+  pub later : List Listed
+  pub are : edits ≡ front ++ next ∷ later
+  pub blanks : ℕ
+  pub inner : List ℕ
+  pub is : part ≡ 10 ∷ (flat_map listed_bytes front ++ (replicate blanks 10 ++ inner))
+  pub none_or_line : IsNoneOrLine next.edit inner
+
+-- behind its line, and this part of what belongs there, the command may break off: inside a text, or where edits are missing
+abbrev pub MayBreak : Command → List ℕ → Type 0
+MayBreak (Change edit) part = edited_text edit ≢ None
+MayBreak (Batch edits) part = ((part ≡ []) × (edits ≢ [])) ⊎ MissesEdits edits part
+MayBreak _ part = ⊥
+
+-- what is left is the line of a command, and a part of what belongs behind it, but not all, where the command may break off
+pub record IsCutShort (rest : List ℕ) : Type 0 where
+  pub command : Command
+  pub good : IsGood command
+  pub part : List ℕ
+  pub missing : List ℕ
+  pub is : rest ≡ line_of command ++ part
+  pub begins : part ++ missing ≡ 10 ∷ behind command
+  pub some_missing : missing ≢ []
+  pub breaks : MayBreak command part
+
+-- How a script ends.
+pub data End : Type 0 where
+  Done : End
+  CutShort : End
+  BadLine : End
+
+-- with nothing left; inside a text, before the line feed behind it or where edits of a batch are missing; or at a bad line
+abbrev pub EndsSo : List ℕ → End → Type 0
+EndsSo rest Done = rest ≡ []
+EndsSo rest CutShort = IsCutShort rest
+EndsSo rest BadLine = (rest ≢ []) × ¬ IsCutShort rest

@@ -1,0 +1,69 @@
+-- What is proved of scripts and their answers: each is the contract of a function.
+use Rattle.std.specs.Prelude.{◌≡◌, ◌↔◌, ◌⊎◌, ℕ, List, [], ◌++◌}
+use Rattle.mm_store.specs.Language.FilesView.{plain}
+use Rattle.mm_frame.specs.Language.Base.{BaseView, IsOfFiles}
+use Rattle.mm_keep.specs.Language.Sessions.{SessionView}
+use Rattle.mm_report.specs.Language.Answers.{AreAnswers, IsScriptAnswer}
+use Rattle.mm_report.specs.Language.Script.{Entry, End, EndsSo, commands_of, AreRead, IsDivided, IsReading, IsReadSoFar}
+
+-- A script is read in one way.
+abbrev pub OneReading : Type 0
+OneReading = (script : List ℕ) (a b : List Entry) (s t : List ℕ) → IsReading script a s → IsReading script b t → (a ≡ b) × (s ≡ t)
+
+-- What is left of it ends it in one way at most.
+abbrev pub OneEnd : Type 0
+OneEnd = (rest : List ℕ) (a b : End) → EndsSo rest a → EndsSo rest b → a ≡ b
+
+-- What is read of some bytes stays so, whatever follows them: it is a beginning of the reading of them all.
+abbrev pub ReadingGoesOn : Type 0
+ReadingGoesOn = (bytes more : List ℕ) (entries all : List Entry) (rest left : List ℕ) → IsReadSoFar bytes entries rest → IsReading (bytes ++ more) all left
+    → (later : List Entry) × (all ≡ entries ++ later)
+
+-- It is one list.
+abbrev pub OneReadSoFar : Type 0
+OneReadSoFar = (bytes : List ℕ) (a b : List Entry) (s t : List ℕ) → IsReadSoFar bytes a s → IsReadSoFar bytes b t → (a ≡ b) × (s ≡ t)
+
+-- Commands and empty lines that leave nothing of a script are its reading.
+abbrev pub CommandsLeaveNothing : Type 0
+CommandsLeaveNothing = (script : List ℕ) (entries : List Entry) → IsDivided script entries [] → IsReading script entries []
+
+-- the files of the session give items
+abbrev pub HasItems : SessionView → Type 0
+HasItems session = (base : BaseView) × IsOfFiles session.files session.top base
+
+-- two sessions whose files are the same but for the keys of their pieces, with one top file; both give items, or neither does
+pub record AreAlike (session other : SessionView) : Type 0 where
+  pub files : plain session.files ≡ plain other.files
+  pub top : session.top ≡ other.top
+  pub items : HasItems session ↔ HasItems other
+
+-- the answers, the end, and what the sessions behind a script stand for
+pub record IsOneOutcome (answers copies : List ℕ) (end other : End) (new copy : SessionView) : Type 0 where
+  pub answers_are : answers ≡ copies
+  pub end_is : end ≡ other
+  pub sessions : AreAlike new copy
+
+-- Asked of sessions that are alike, as each is with itself, a script has one list of answers and one end, and the sessions behind it are
+-- alike again.
+abbrev pub OneScriptAnswer : Type 0
+OneScriptAnswer = (session other new copy : SessionView) (script answers copies : List ℕ) (end ended : End) → AreAlike session other
+    → IsScriptAnswer session script answers new end → IsScriptAnswer other script copies copy ended → IsOneOutcome answers copies end ended new copy
+
+-- bytes begin with these commands and empty lines; where no more bytes follow, the last line may lack its line feed
+abbrev pub AreTheFirst : List ℕ → List ℕ → List Entry → List ℕ → Type 0
+AreTheFirst bytes more entries rest = AreRead bytes entries rest ⊎ ((more ≡ []) × IsDivided bytes entries rest)
+
+-- The answers to the first commands of a script are a beginning of all its answers.
+abbrev pub AnswersBegin : Type 0
+AnswersBegin = (session other new final : SessionView) (bytes more answers all : List ℕ) (entries : List Entry) (rest : List ℕ) (end : End)
+    → AreAlike session other → AreTheFirst bytes more entries rest → AreAnswers session (commands_of entries) answers new
+    → IsScriptAnswer other (bytes ++ more) all final end → (later : List ℕ) × (all ≡ answers ++ later)
+
+-- the script is read so, and what is left of it ends it so
+pub record IsReadSo (script : List ℕ) (entries : List Entry) (rest : List ℕ) (end : End) : Type 0 where
+  pub reading : IsReading script entries rest
+  pub ends : EndsSo rest end
+
+-- Each script has a reading, and ends in some way.
+abbrev pub HasReading : Type 0
+HasReading = (script : List ℕ) → (entries : List Entry) × (rest : List ℕ) × (end : End) × IsReadSo script entries rest end

@@ -1,0 +1,406 @@
+//! The answers to the commands of a script.
+
+ghost use Rattle.std.specs.Prelude.{◌≡◌, ◌≢◌, ◌≤◌, ◌<◌, ◌↔◌, ◌⊎◌, ◌++◌, ℕ};
+ghost use Rattle.std.specs.Prelude.{List, Contains, Err, IsOk, IsTrue, true, false, IfOk, IfErr, IsErrOf, OnOk, codes, decimal, length, map};
+ghost use Rattle.std.specs.Io.KnownBytes.{Appends};
+ghost use Rattle.mm_store.specs.declared.edit.EditError.TheVariants as refusals;
+ghost use Rattle.mm_store.specs.Language.Edits.{asked};
+ghost use Rattle.mm_store.specs.Language.FilesView.{File, plain};
+ghost use Rattle.mm_frame.specs.Language.Base.{said_at};
+ghost use Rattle.mm_keep.specs.declared.answers.KeepError.TheVariants as keep;
+ghost use Rattle.mm_keep.specs.Language.Findings.{told};
+ghost use Rattle.mm_keep.specs.Language.Refusals.{IsRefusal, IsBatchRefusal};
+ghost use Rattle.mm_keep.specs.Language.Sessions.{HasAssertion, SessionView};
+ghost use Rattle.mm_report.specs.declared.script.ScriptError.TheVariants as errors;
+ghost use Rattle.mm_report.specs.Code.Answered.{Answers, Finds, IsToldIn, Lacks, WritesAnswer, WritesOf, label_lines, text_of};
+ghost use Rattle.mm_report.specs.Code.InFiles.{IsInFiles};
+ghost use Rattle.mm_report.specs.Code.Pending.{IsCommandIn, IsEditWithin, edit_in};
+ghost use Rattle.mm_report.specs.Language.Answers.{IsAnswer, batch_refusal_line, numbers_listed, refusal_line, refusal_words, text_code, told_line};
+ghost use Rattle.mm_report.specs.Language.Report.{names_of};
+ghost use Rattle.mm_report.specs.Language.Script.{Command, Listed, Change, Batch, Verdict, Axioms};
+ghost use Rattle.mm_report.specs.Language.Stream.{AppendsPart, written, has_failed, Writes};
+
+use crate::entry::{CommandAt, EditAt, bytes_of, edit_of};
+use crate::report::{
+    write_count, write_incomplete, write_number, write_part, write_report, write_wrong,
+};
+use crate::script::ScriptError;
+use crate::stream::{WriteFailed, Writing};
+use mm_frame::files_have_one_base;
+use mm_keep::{
+    BatchError, Edit, EditError, Files, Finding, KeepError, Session, TextFault, TextNumber, place,
+};
+use std::alloc::{AllocError, Global};
+use std::io::Write;
+
+/// The number of a fault of a text as it is written.
+fn code_of_text(number: TextNumber) -> &'static [u8]
+    ensures { result.now ≡ text_code number }
+{
+    match number {
+        TextNumber::T01 => b"T01",
+        TextNumber::T02 => b"T02",
+        TextNumber::T03 => b"T03",
+        TextNumber::T04 => b"T04",
+        TextNumber::T05 => b"T05",
+        TextNumber::T06 => b"T06",
+        TextNumber::T07 => b"T07",
+        TextNumber::T08 => b"T08",
+        TextNumber::T09 => b"T09",
+        TextNumber::T10 => b"T10",
+        TextNumber::T11 => b"T11",
+        TextNumber::T12 => b"T12",
+    }
+}
+
+/// The text that an edit brings; no bytes where it brings none.
+fn text_of_edit<'a>(edit: &Edit<'a>) -> &'a [u8]
+    ensures { result.now ≡ text_of (asked edit.now) }
+{
+    match *edit {
+        Edit::Insert { text, .. } | Edit::Replace { text, .. } => text,
+        Edit::Delete { .. } | Edit::Move { .. } => &[],
+    }
+}
+
+/// Writes the fault of a text: its place in the text, and its number.
+fn write_text_fault<W: Write>(
+    text: &[u8],
+    fault: TextFault,
+    to: &mut Writing<W>,
+) -> Result<(), WriteFailed>
+    requires { fault.at ≤ length text.now }
+    ensures { Writes W.contents to.old to.new result (refusal_words text.now (refusals.Text fault)) }
+{
+    let at = place(text, fault.at);
+    write_count(b"S03 ", at.line, to)?;
+    write_count(b":", at.column, to)?;
+    write_part(b" ", code_of_text(fault.number), to)
+}
+
+/// Writes why an edit that brings this text is refused.
+fn write_reason<W: Write>(
+    text: &[u8],
+    error: EditError,
+    to: &mut Writing<W>,
+) -> Result<(), WriteFailed>
+    requires { IsToldIn text.now error }
+    ensures { Writes W.contents to.old to.new result (refusal_words text.now error) }
+{
+    match error {
+        EditError::NoFile => to.write_all(b"S01"),
+        EditError::NoPiece(count) => write_count(b"S02 ", count as u64, to),
+        EditError::Text(fault) => write_text_fault(text, fault, to),
+        EditError::NotOne(count) => write_count(b"S04 ", count as u64, to),
+        EditError::TooMany => to.write_all(b"S05"),
+        EditError::Memory => to.write_all(b""),
+    }
+}
+
+/// Writes the line of a refused edit.
+fn write_refused<W: Write>(
+    edit: &Edit<'_>,
+    error: EditError,
+    to: &mut Writing<W>,
+) -> Result<(), WriteFailed>
+    requires { IsToldIn (text_of (asked edit.now)) error }
+    ensures { Writes W.contents to.old to.new result (refusal_line (asked edit.now) error) }
+{
+    to.write_all(b"refused ")?;
+    write_reason(text_of_edit(edit), error, to)?;
+    to.write_all(b"\n")
+}
+
+/// Writes the line of a refused batch, of which the edit with this number, from 0, is refused.
+fn write_batch_refused<W: Write>(
+    number: usize,
+    edit: &Edit<'_>,
+    error: EditError,
+    to: &mut Writing<W>,
+) -> Result<(), WriteFailed>
+    requires { IsToldIn (text_of (asked edit.now)) error }
+    ensures { Writes W.contents to.old to.new result (batch_refusal_line number (asked edit.now) error) }
+{
+    write_count(b"refused ", number as u64, to)?;
+    to.write_all(b" ")?;
+    write_reason(text_of_edit(edit), error, to)?;
+    to.write_all(b"\n")
+}
+
+/// Writes a line with the label of each of these items.
+fn write_label_lines<W: Write>(
+    session: &Session,
+    items: &[usize],
+    to: &mut Writing<W>,
+) -> Result<(), WriteFailed>
+    ensures { WritesOf W.contents session.now (λ base. label_lines (map (said_at base) items.now)) to.old to.new result }
+{
+    files_have_one_base();
+    for i in items {
+        let label = session.label(*i).unwrap_or(&[]);
+        write_part(label, b"\n", to)?;
+    }
+    Ok(())
+}
+
+/// Writes a word, how many items there are, and a line with the label of each.
+fn write_labels<W: Write>(
+    session: &Session,
+    word: &[u8],
+    items: &[usize],
+    to: &mut Writing<W>,
+) -> Result<(), WriteFailed>
+    ensures { WritesOf W.contents session.now (λ base. numbers_listed word.now base items.now) to.old to.new result }
+{
+    write_part(word, b" ", to)?;
+    write_number(items.len() as u64, to)?;
+    to.write_all(b"\n")?;
+    write_label_lines(session, items, to)
+}
+
+/// Writes what was found for a label, and answers whether an assertion has it.
+fn write_found<W: Write>(
+    session: &Session,
+    found: Result<Vec<usize>, KeepError>,
+    to: &mut Writing<W>,
+) -> Result<bool, ScriptError>
+    ensures answers { (command : Command) → IfOk found (λ numbers. Finds session.now command numbers.items)
+        → (IsErrOf found keep.NoAssertion → Lacks session.now command)
+        → Answers W.contents command session.now session.now to.old to.new result }
+    ensures there { IfOk result (λ there. (IsTrue there × IsOk found) ⊎ ((there ≡ false) × IsErrOf found keep.NoAssertion)) }
+    ensures told { IsErrOf found keep.NoAssertion → result ≢ Err errors.Memory }
+{
+    match found {
+        Ok(numbers) => {
+            write_labels(session, b"found", &numbers, to)?;
+            Ok(true)
+        }
+        Err(error) => match error {
+            KeepError::NoAssertion => {
+                to.write_all(b"refused K01\n")?;
+                Ok(false)
+            }
+            KeepError::Memory => Err(ScriptError::from(AllocError)),
+        },
+    }
+}
+
+/// Writes what was found for a label.
+fn write_list<W: Write>(
+    session: &Session,
+    found: Result<Vec<usize>, KeepError>,
+    to: &mut Writing<W>,
+) -> Result<(), ScriptError>
+    ensures { (command : Command) → IfOk found (λ numbers. Finds session.now command numbers.items)
+        → (IsErrOf found keep.NoAssertion → Lacks session.now command)
+        → Answers W.contents command session.now session.now to.old to.new result }
+{
+    match write_found(session, found, to) {
+        Ok(_) => Ok(()),
+        Err(error) => Err(error),
+    }
+}
+
+/// Writes what is answered when a script asks for the axioms of the assertion with this label: the labels of the sound `$a`
+/// to which chains of citations lead from it. The answer tells whether there is such an assertion; that there is none is
+/// written too.
+///
+/// The errors are `Write`, where the writing has failed and the beginning of the answer went out, and `Memory`, where
+/// memory lacks and nothing is written; that there is no such assertion is told before memory is taken.
+pub fn write_axioms<W: Write>(
+    alloc: Global,
+    session: &Session,
+    label: &[u8],
+    writing: &mut Writing<W>,
+) -> Result<bool, ScriptError>
+    ensures answer { OnOk result ((answer : List ℕ) × IsAnswer session.now (Axioms label.now) answer session.now
+        × Appends (written W.contents writing.old) (written W.contents writing.new) answer) }
+    ensures there { IfOk result (λ there. IsTrue there ↔ HasAssertion session.now label.now) }
+    ensures write { IsErrOf result errors.Write → (answer : List ℕ) × IsAnswer session.now (Axioms label.now) answer session.now
+        × AppendsPart (written W.contents writing.old) (written W.contents writing.new) answer }
+    ensures write_failed { IsErrOf result errors.Write → has_failed writing.new ≡ true }
+    ensures memory { IsErrOf result errors.Memory → writing.new ≡ writing.old }
+    ensures known { ¬ HasAssertion session.now label.now → result ≢ Err errors.Memory }
+    ensures told { IfErr result (λ error. (error ≡ errors.Write) ⊎ (error ≡ errors.Memory)) }
+{
+    write_found(session, session.axioms(alloc, label), writing)
+}
+
+/// Writes a line of a word and a label.
+fn write_line_of<W: Write>(
+    word: &[u8],
+    label: &[u8],
+    to: &mut Writing<W>,
+) -> Result<(), WriteFailed>
+    ensures { Writes W.contents to.old to.new result (word.now ++ label.now ++ codes "\n") }
+{
+    write_part(word, label, to)?;
+    to.write_all(b"\n")
+}
+
+/// Writes the line that tells what is found of the assertion with this label.
+fn write_told<W: Write>(
+    files: &Files,
+    label: &[u8],
+    finding: &Finding,
+    to: &mut Writing<W>,
+) -> Result<(), WriteFailed>
+    requires { IsInFiles (length files.now.keyed) (told finding.now) }
+    ensures { Writes W.contents to.old to.new result (told_line (names_of (plain files.now)) label.now (told finding.now)) }
+{
+    match *finding {
+        Finding::Axiom => write_line_of(b"axiom ", label, to),
+        Finding::Proved => write_line_of(b"proved ", label, to),
+        Finding::Incomplete(at) => write_incomplete(files, label, at, to),
+        Finding::Wrong(number, at) => write_wrong(files, label, number, at, to),
+        _ => to.write_all(b""),
+    }
+}
+
+/// Writes the verdict on the assertion with this label, or that there is none.
+fn write_verdict<W: Write>(
+    session: &Session,
+    label: &[u8],
+    to: &mut Writing<W>,
+) -> Result<(), WriteFailed>
+    ensures { WritesAnswer W.contents session.now (Verdict label.now) to.old to.new result }
+{
+    match session.verdict(label) {
+        Ok(finding) => write_told(session.files(), label, &finding, to),
+        Err(_) => to.write_all(b"refused K01\n"),
+    }
+}
+
+/// Writes why an edit is refused; where memory lacked, nothing.
+fn tell_refused<W: Write>(
+    edit: &Edit<'_>,
+    error: EditError,
+    to: &mut Writing<W>,
+) -> Result<(), ScriptError>
+    requires { (files : List File) × IsRefusal (asked edit.now) files error }
+    ensures { (session : SessionView) → IsRefusal (asked edit.now) (plain session.files) error
+        → Answers W.contents (Change (asked edit.now)) session session to.old to.new result }
+{
+    mm_text::first_faults_are_within();
+    match error {
+        EditError::Memory => Err(ScriptError::from(AllocError)),
+        _ => Ok(write_refused(edit, error, to)?),
+    }
+}
+
+/// Writes why edits that were to be done together are refused; where memory lacked, nothing.
+fn tell_batch_refused<W: Write>(
+    edits: &[Edit<'_>],
+    error: BatchError,
+    to: &mut Writing<W>,
+) -> Result<(), ScriptError>
+    requires { (files : List File) × IsBatchRefusal (map asked edits.now) files error }
+    ensures { (session : SessionView) (listed : List Listed) → map (λ one. one.edit) listed ≡ map asked edits.now
+        → IsBatchRefusal (map asked edits.now) (plain session.files) error
+        → Answers W.contents (Batch listed) session session to.old to.new result }
+{
+    mm_text::first_faults_are_within();
+    match error {
+        BatchError::Edit(number, error) => {
+            Ok(write_batch_refused(number, &edits[number], error, to)?)
+        }
+        BatchError::Memory => Err(ScriptError::from(AllocError)),
+    }
+}
+
+/// Does an edit, and writes what it runs, or why it is refused.
+fn answer_edit<W: Write>(
+    alloc: Global,
+    session: &mut Session,
+    edit: &Edit<'_>,
+    to: &mut Writing<W>,
+) -> Result<(), ScriptError>
+    ensures { Answers W.contents (Change (asked edit.now)) session.old session.new to.old to.new result }
+{
+    match session.edit(alloc, edit) {
+        Ok(work) => Ok(write_labels(session, b"ran", work.runs(), to)?),
+        Err(error) => tell_refused(edit, error, to),
+    }
+}
+
+/// The edits that stand there.
+fn edits_of<'a>(
+    alloc: Global,
+    bytes: &'a [u8],
+    found: &[EditAt],
+) -> Result<Vec<Edit<'a>>, AllocError>
+    requires { (one : EditAt) → Contains found.now one → IsEditWithin bytes.now one }
+    ensures { IfOk result (λ edits. map asked edits.items ≡ map (edit_in bytes.now) found.now) }
+{
+    let mut edits = Vec::with_capacity(alloc, found.len())?;
+    for one in found {
+        edits.push(edit_of(bytes, one))?;
+    }
+    Ok(edits)
+}
+
+/// Does the edits of a batch, and writes what they run, or which of them is refused, and why.
+fn answer_batch<W: Write>(
+    alloc: Global,
+    session: &mut Session,
+    bytes: &[u8],
+    found: &[EditAt],
+    to: &mut Writing<W>,
+) -> Result<(), ScriptError>
+    requires { (one : EditAt) → Contains found.now one → IsEditWithin bytes.now one }
+    ensures { (listed : List Listed) → map (λ one. one.edit) listed ≡ map (edit_in bytes.now) found.now
+        → Answers W.contents (Batch listed) session.old session.new to.old to.new result }
+{
+    let edits = edits_of(alloc, bytes, found)?;
+    match session.edit_all(alloc, &edits) {
+        Ok(work) => Ok(write_labels(session, b"ran", work.runs(), to)?),
+        Err(error) => tell_batch_refused(&edits, error, to),
+    }
+}
+
+/// Asks the session the command that stands there, and writes the answer.
+fn ask<W: Write>(
+    alloc: Global,
+    session: &mut Session,
+    bytes: &[u8],
+    command: &CommandAt,
+    to: &mut Writing<W>,
+) -> Result<(), ScriptError>
+    requires { (one : Command) × IsCommandIn bytes.now command.now one }
+    ensures { (one : Command) → IsCommandIn bytes.now command.now one
+        → Answers W.contents one session.old session.new to.old to.new result }
+{
+    match command {
+        CommandAt::Change(edit) => answer_edit(alloc, session, &edit_of(bytes, edit), to),
+        CommandAt::Batch(edits) => answer_batch(alloc, session, bytes, edits, to),
+        CommandAt::Report => Ok(write_report(session, to)?),
+        CommandAt::Verdict(label) => Ok(write_verdict(session, bytes_of(bytes, *label), to)?),
+        CommandAt::Axioms(label) => {
+            write_list(session, session.axioms(alloc, bytes_of(bytes, *label)), to)
+        }
+        CommandAt::Cites(label) => {
+            write_list(session, session.cites(alloc, bytes_of(bytes, *label)), to)
+        }
+        CommandAt::Users(label) => {
+            write_list(session, session.users(alloc, bytes_of(bytes, *label)), to)
+        }
+    }
+}
+
+/// Asks the session the command that stands there, writes the answer and hands it on to the system.
+///
+/// Where memory lacks, nothing is done and nothing written. Where a write fails, the command is done.
+pub(crate) fn answer<W: Write>(
+    alloc: Global,
+    session: &mut Session,
+    bytes: &[u8],
+    command: &CommandAt,
+    to: &mut Writing<W>,
+) -> Result<(), ScriptError>
+    requires { (one : Command) × IsCommandIn bytes.now command.now one }
+    ensures { (one : Command) → IsCommandIn bytes.now command.now one
+        → Answers W.contents one session.old session.new to.old to.new result }
+{
+    ask(alloc, session, bytes, command, to)?;
+    Ok(to.flush()?)
+}

@@ -1,0 +1,90 @@
+//! The bytes of a script that are read and not answered yet.
+
+ghost use Rattle.std.specs.Prelude.{◌≤◌, vec_len};
+
+use crate::reading::Reading;
+use crate::script::ScriptError;
+use std::alloc::Global;
+use std::io::Read;
+
+/// How many bytes a read may bring.
+const ROOM: usize = 4096;
+
+/// The bytes of a script that are read and not answered yet: those from `at` on.
+#[derive(Drop)]
+pub(crate) struct Input {
+    bytes: Vec<u8>,
+    at: usize,
+    ghost within: { at ≤ vec_len bytes },
+}
+
+impl Input {
+    ghost use Rattle.std.specs.Prelude.{◌≡◌, ◌+◌, ◌⊎◌, [], true, false, drop, length, Err, IfOk, IsErrOf, OnErr};
+    ghost use Rattle.std.specs.Io.KnownBytes.{IsAtEnd};
+    ghost use Rattle.mm_report.specs.declared.script.ScriptError.TheVariants as errors;
+    ghost use Rattle.mm_report.specs.Code.Growing.{Grows, to_come};
+    ghost use Rattle.mm_report.specs.Code.Pending.{pending};
+    ghost use Rattle.mm_report.specs.Language.Stream.{cannot_read, unread};
+
+    /// No bytes yet.
+    pub(crate) fn new(alloc: Global) -> Input
+        ensures { pending result ≡ [] }
+    {
+        Input {
+            bytes: Vec::new(alloc),
+            at: 0,
+        }
+    }
+
+    /// The bytes that are read and not answered yet.
+    pub(crate) fn pending(&self) -> &[u8]
+        ensures { result.now ≡ pending self.now }
+    {
+        &self.bytes[self.at..]
+    }
+
+    /// Passes the first of these bytes, so many of them.
+    pub(crate) fn pass(&mut self, count: usize)
+        requires { count ≤ length (pending self.old) }
+        ensures { pending self.new ≡ drop count (pending self.old) }
+    {
+        self.at += count;
+    }
+
+    /// Drops the bytes that are passed.
+    fn compact(&mut self)
+        ensures pending { pending self.new ≡ pending self.old }
+        ensures all { pending self.new ≡ self.new.bytes.items }
+        ensures at { self.new.at ≡ 0 }
+    {
+        let kept = self.bytes.len() - self.at;
+        self.bytes.as_mut_slice().rotate_left(self.at);
+        self.at = 0;
+        self.bytes.truncate(kept);
+    }
+
+    /// Reads once: whether bytes came. None come at the end.
+    pub(crate) fn read_on<R: Read>(&mut self, reading: &mut Reading<R>) -> Result<bool, ScriptError>
+        ensures grows { Grows self.old self.new (unread R.remaining reading.old) (unread R.remaining reading.new) }
+        ensures more { IfOk result (λ more. more ≡ true → to_come self.new reading.new + 1 ≤ to_come self.old reading.old) }
+        ensures end { IfOk result (λ more. more ≡ false → (pending self.new ≡ pending self.old) × IsAtEnd (unread R.remaining reading.new)) }
+        ensures fewer { IfOk result (λ _. to_come self.new reading.new ≤ to_come self.old reading.old) }
+        ensures kept { OnErr result (pending self.new ≡ pending self.old) }
+        ensures failed { IsErrOf result errors.Read → cannot_read reading.new ≡ true }
+        ensures told { OnErr result ((result ≡ Err errors.Read) ⊎ (result ≡ Err errors.Memory)) }
+    {
+        self.compact();
+        let kept = self.bytes.len();
+        self.bytes.resize(kept + ROOM, 0)?;
+        match reading.read(&mut self.bytes[kept..]) {
+            Ok(count) => {
+                self.bytes.truncate(kept + count);
+                Ok(count > 0)
+            }
+            Err(_) => {
+                self.bytes.truncate(kept);
+                Err(ScriptError::Read)
+            }
+        }
+    }
+}

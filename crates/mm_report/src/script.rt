@@ -1,0 +1,131 @@
+//! Scripts: the commands that are asked of a session, and their answers.
+
+ghost use Rattle.std.specs.Prelude.{◌≡◌, ◌≤◌, ◌+◌, ℕ, List, Option, true, OnOk, IfErr, IfOk, IfSome, IsErrOf};
+ghost use Rattle.mm_keep.specs.Language.Sessions.{SessionView};
+ghost use Rattle.mm_report.specs.Code.Answered.{HasAnswered, GoesOn, StopsScript};
+ghost use Rattle.mm_report.specs.Code.Growing.{to_come};
+ghost use Rattle.mm_report.specs.Code.Pending.{pending};
+ghost use Rattle.mm_report.specs.declared.script.ScriptError.TheVariants as errors;
+ghost use Rattle.mm_report.specs.Language.Script.{Done, CutShort, BadLine};
+ghost use Rattle.mm_report.specs.Language.Scripting.{AnswersScript, AnswersFirst, AnswersRead, BeginsAnswers};
+ghost use Rattle.mm_report.specs.Language.Stream.{cannot_read, has_failed, unread, written};
+
+use crate::answer::answer;
+use crate::entry::next_command;
+use crate::input::Input;
+use crate::reading::Reading;
+use crate::report::ReportError;
+use crate::stream::{WriteFailed, Writing};
+use mm_keep::Session;
+use std::alloc::{AllocError, AllocFailed, Global};
+use std::io::{Read, Write};
+use thiserror::Error;
+
+/// Why a script is not answered to its end.
+#[derive(Clone, Copy, Debug, PartialEq, Eq, Error)]
+pub enum ScriptError {
+    /// A line is that of no command, or a text is not followed by a line feed.
+    #[error("a line is no command")]
+    BadLine,
+    /// The script ends inside a text, before the line feed behind it, or where edits of a batch are missing.
+    #[error("the script is cut short")]
+    Cut,
+    /// The reading has failed.
+    #[error("a read failed")]
+    Read,
+    /// The writing has failed.
+    #[error("a write failed")]
+    Write,
+    /// There was not enough memory.
+    #[error("out of memory")]
+    Memory,
+}
+
+impl From<AllocError> for ScriptError {
+    ghost from_gives = { λ _ e. e ≡ errors.Memory };
+
+    fn from(_: AllocError) -> Self {
+        ScriptError::Memory
+    }
+}
+
+impl From<WriteFailed> for ScriptError {
+    ghost from_gives = { λ _ e. e ≡ errors.Write };
+
+    fn from(_: WriteFailed) -> Self {
+        ScriptError::Write
+    }
+}
+
+impl From<ReportError> for ScriptError {
+    ghost from_gives = { λ _ e. e ≡ errors.Write };
+
+    fn from(_: ReportError) -> Self {
+        ScriptError::Write
+    }
+}
+
+impl<T: Drop> From<AllocFailed<T>> for ScriptError {
+    ghost from_gives = { λ _ e. e ≡ errors.Memory };
+
+    fn from(_: AllocFailed<T>) -> Self {
+        ScriptError::Memory
+    }
+}
+
+/// Reads the next command of a script and answers it; whether more may follow, or the script is answered to its end.
+fn answer_next<R: Read, W: Write>(
+    alloc: Global,
+    session: &mut Session,
+    input: &mut Input,
+    reading: &mut Reading<R>,
+    writing: &mut Writing<W>,
+) -> Result<bool, ScriptError>
+    ensures ok { (begun : SessionView) (all before : Option (List ℕ))
+        → HasAnswered begun session.old all (unread R.remaining reading.old) before (written W.contents writing.old) (pending input.old)
+        → IfOk result (GoesOn begun session.new all (unread R.remaining reading.new) before (written W.contents writing.new) (pending input.new)) }
+    ensures err { (begun : SessionView) (all before : Option (List ℕ))
+        → HasAnswered begun session.old all (unread R.remaining reading.old) before (written W.contents writing.old) (pending input.old)
+        → IfErr result (StopsScript R.remaining W.contents begun session.new all reading.new before writing.new) }
+    ensures fewer { IfOk result (λ more. more ≡ true → to_come input.new reading.new + 1 ≤ to_come input.old reading.old) }
+{
+    let Some(next) = next_command(alloc, input, reading)? else {
+        return Ok(false);
+    };
+    answer(alloc, session, input.pending(), &next.command, writing)?;
+    if next.fed {
+        input.pass(next.end);
+    }
+    Ok(next.fed)
+}
+
+/// Reads a script, asks its commands of the session one after another, and writes their answers.
+///
+/// A command is answered before more is read than it takes to complete it. A line that is no command ends the script at
+/// once. Where memory lacks, the command at which it did is not done, and nothing of its answer is written; where a write
+/// fails, the command whose answer it was is done.
+pub fn run_script<R: Read, W: Write>(
+    alloc: Global,
+    session: &mut Session,
+    reading: &mut Reading<R>,
+    writing: &mut Writing<W>,
+) -> Result<(), ScriptError>
+    ensures done { OnOk result (IfSome (unread R.remaining reading.old) (λ script.
+        AnswersScript session.old session.new script Done (written W.contents writing.old) (written W.contents writing.new))) }
+    ensures bad { IsErrOf result errors.BadLine → IfSome (unread R.remaining reading.old) (λ script.
+        AnswersScript session.old session.new script BadLine (written W.contents writing.old) (written W.contents writing.new)) }
+    ensures cut { IsErrOf result errors.Cut → IfSome (unread R.remaining reading.old) (λ script.
+        AnswersScript session.old session.new script CutShort (written W.contents writing.old) (written W.contents writing.new)) }
+    ensures read { IsErrOf result errors.Read → AnswersRead session.old session.new (unread R.remaining reading.old) (unread R.remaining reading.new)
+        (written W.contents writing.old) (written W.contents writing.new) }
+    ensures read_failed { IsErrOf result errors.Read → cannot_read reading.new ≡ true }
+    ensures write { IsErrOf result errors.Write → BeginsAnswers session.old session.new (unread R.remaining reading.old) (unread R.remaining reading.new)
+        (written W.contents writing.old) (written W.contents writing.new) }
+    ensures write_failed { IsErrOf result errors.Write → has_failed writing.new ≡ true }
+    ensures memory { IsErrOf result errors.Memory → AnswersFirst session.old session.new (unread R.remaining reading.old) (unread R.remaining reading.new)
+        (written W.contents writing.old) (written W.contents writing.new) }
+{
+    let mut input = Input::new(alloc);
+    while answer_next(alloc, session, &mut input, reading, writing)? {}
+    Ok(())
+}

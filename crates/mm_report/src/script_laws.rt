@@ -1,0 +1,72 @@
+//! What holds of all scripts and their answers. Each function does nothing; what it promises is the law.
+
+ghost use Rattle.mm_report.specs.Language.ScriptExamples.{CutsBatch, CutsFeed, CutsLine, CutsText};
+ghost use Rattle.mm_report.specs.Language.ScriptExamples.{EndsAtLine, EndsAtText, EndsInEdit, ReadsBatch, ReadsLastEdit, ReadsText};
+ghost use Rattle.mm_report.specs.Language.ScriptLaws.{AnswersBegin, CommandsLeaveNothing, HasReading, OneScriptAnswer};
+ghost use Rattle.mm_report.specs.Language.ScriptLaws.{OneEnd, OneReading, OneReadSoFar, ReadingGoesOn};
+
+/// A script is read in one way, and what is left of it ends it in one way at most.
+pub fn one_reading()
+    ensures reading { OneReading }
+    ensures end { OneEnd }
+{}
+
+/// Each script has a reading, and ends in some way: with nothing left, cut short or at a bad line.
+pub fn has_reading()
+    ensures { HasReading }
+{}
+
+/// What is read of some bytes stays so, whatever follows them: it is a beginning of the reading of them all. It is one
+/// list.
+pub fn reading_goes_on()
+    ensures on { ReadingGoesOn }
+    ensures one { OneReadSoFar }
+{}
+
+/// Commands and empty lines that leave nothing of a script are its reading.
+pub fn commands_leave_nothing()
+    ensures { CommandsLeaveNothing }
+{}
+
+/// A script has one list of answers and one end, and the files behind it are the same but for the keys of their pieces.
+///
+/// So what `run_script` writes depends on nothing but the script, the names and the texts of the files, as they are cut
+/// into pieces, and the name of the top file.
+pub fn one_script_answer()
+    ensures { OneScriptAnswer }
+{
+    mm_text::one_meaning();
+    mm_store::items_stand();
+    mm_store::one_edit();
+    mm_frame::files_have_one_base();
+    mm_frame::has_own_labels();
+    mm_proof::has_one_verdict_at();
+    mm_keep::one_list_of_runs();
+}
+
+/// The answers to the first commands of a script are a beginning of all its answers.
+pub fn answers_begin()
+    ensures { AnswersBegin }
+{
+    mm_text::one_meaning();
+    mm_store::items_stand();
+    mm_store::one_edit();
+    mm_frame::files_have_one_base();
+    mm_frame::has_own_labels();
+    mm_proof::has_one_verdict_at();
+    mm_keep::one_list_of_runs();
+}
+
+/// Some scripts, and how they are read: with texts and batches, cut short, and with bad lines.
+pub fn scripts_are_read_so()
+    ensures text { ReadsText }
+    ensures batch { ReadsBatch }
+    ensures last_edit { ReadsLastEdit }
+    ensures cut_text { CutsText }
+    ensures cut_feed { CutsFeed }
+    ensures cut_line { CutsLine }
+    ensures cut_batch { CutsBatch }
+    ensures bad_edit { EndsInEdit }
+    ensures bad_line { EndsAtLine }
+    ensures bad_text { EndsAtText }
+{}
