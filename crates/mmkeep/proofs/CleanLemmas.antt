@@ -6,7 +6,7 @@ use Rattle.std.proofs.lemmas.Bool.{eqb-true}
 use Rattle.std.proofs.lemmas.List.Sums.{sum_by-cons}
 use Rattle.mm_frame.specs.Language.Item.{Item}
 use Rattle.mm_keep.specs.declared.tally.Tally.{Tally}
-use Rattle.mm_keep.specs.Code.Findings.{counted}
+use Rattle.mm_keep.specs.Language.Findings.{counted}
 use Rattle.mm_keep.specs.Language.Told.{Told, Quiet, AnAxiom, Proved, Incomplete, Wrong, Fault, Counts, counts, is_incomplete, is_wrong, is_fault}
 use Rattle.mm_report.specs.Language.Report.{lines}
 

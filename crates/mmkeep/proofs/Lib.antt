@@ -1,2 +1,3 @@
+pub mod AskingLemmas
 pub mod CleanLemmas
 pub mod LoadLemmas

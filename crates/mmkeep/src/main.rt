@@ -3,14 +3,19 @@
 
 mod arguments;
 mod asking;
+mod complaints;
+mod loading;
 mod outcome;
 mod program;
 
 pub use arguments::Command;
 pub use asking::command;
-pub use outcome::{Outcome, status};
+pub use loading::{FileError, read_all};
+pub use outcome::{Outcome, outcome_of_stop, status};
 use std::process::ExitCode;
 
+#[cfg(test)]
+mod chance_tests;
 #[cfg(test)]
 mod command_tests;
 #[cfg(test)]
@@ -18,9 +23,15 @@ mod fault_tests;
 #[cfg(test)]
 mod files_tests;
 #[cfg(test)]
+mod loading_tests;
+#[cfg(test)]
 mod proof_tests;
 #[cfg(test)]
+mod script_tests;
+#[cfg(test)]
 mod session_tests;
+#[cfg(test)]
+mod story_tests;
 #[cfg(test)]
 mod stream_tests;
 #[cfg(test)]

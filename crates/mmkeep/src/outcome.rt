@@ -1,7 +1,9 @@
 //! How the program ends.
 
 ghost use Rattle.std.specs.Prelude.{◌≡◌};
-ghost use Rattle.mmkeep.specs.Language.Status.{status_of};
+ghost use Rattle.mmkeep.specs.Language.Status.{status_of, outcome_of};
+
+use mm_report::ScriptError;
 
 /// What came of a run.
 #[derive(Clone, Copy, Debug, PartialEq, Eq)]
@@ -10,13 +12,15 @@ pub enum Outcome {
     Clean,
     /// Something wrong was found in the database.
     Findings,
-    /// The file cannot be read or has a fault.
+    /// No assertion has the label.
+    NoLabel,
+    /// A file cannot be read or has a fault.
     Input,
     /// The arguments are no command.
     Words,
     /// Memory ran out.
     Memory,
-    /// A write failed.
+    /// The script has a bad line or is cut short, or a read or a write failed.
     Stream,
 }
 
@@ -26,10 +30,22 @@ pub fn status(outcome: &Outcome) -> u8
 {
     match outcome {
         Outcome::Clean => 0,
-        Outcome::Findings => 1,
+        Outcome::Findings | Outcome::NoLabel => 1,
         Outcome::Input => 2,
         Outcome::Words => 3,
         Outcome::Memory => 4,
         Outcome::Stream => 5,
+    }
+}
+
+/// What comes of a script that is not answered to its end.
+pub fn outcome_of_stop(stop: ScriptError) -> Outcome
+    ensures { result ≡ outcome_of stop }
+{
+    match stop {
+        ScriptError::BadLine | ScriptError::Cut | ScriptError::Read | ScriptError::Write => {
+            Outcome::Stream
+        }
+        _ => Outcome::Memory,
     }
 }

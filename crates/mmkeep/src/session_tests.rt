@@ -1,8 +1,9 @@
 //! Sessions: which theorems edits run, and the report behind them.
 
-use mm_keep::{BatchError, Edit, EditError, Files, Session, Work};
+use crate::story_tests::Named;
+use mm_keep::{BatchError, Edit, EditError, Files, Session, StoreError, Work};
 use mm_report::{Writing, write_report};
-use std::process::Abort;
+use std::alloc::Global;
 use std::test::Fail;
 
 /// A logic, a theorem by its rule, and one with a compressed proof: eight pieces.
@@ -100,21 +101,37 @@ const ROWS: [Row; 7] = [
     },
 ];
 
-/// A session over the logic, and what its begin ran.
-fn begun(rt: &(impl AllocGlobal + Abort)) -> Result<Option<(Session, Work)>, Fail> {
-    let mut files = Files::new(rt.alloc());
-    files.add(rt.alloc(), NAME, LOGIC)?;
-    if files.parked() != 0 {
-        return Ok(None);
+/// Files with these texts.
+fn files_of(alloc: Global, texts: &[Named]) -> Result<Files, StoreError> {
+    let mut files = Files::new(alloc);
+    for (name, text) in texts {
+        files.add(alloc, name, text)?;
     }
-    match Session::begin(rt.alloc(), files, NAME) {
-        Ok(begun) => Ok(Some(begun)),
-        Err(_) => Ok(None),
+    Ok(files)
+}
+
+/// A session over files, and what its begin ran.
+pub fn begun_files(alloc: Global, files: Files, top: &[u8]) -> Result<(Session, Work), StoreError> {
+    // No piece of files that were only added is parked.
+    if files.parked() != 0 {
+        return Err(StoreError::NoTop);
+    }
+    match Session::begin(alloc, files, top) {
+        Ok(begun) => Ok(begun),
+        Err(unbegun) => Err(unbegun.fault),
     }
 }
 
+/// A session over these files, from the first of them on.
+pub fn begun(alloc: Global, texts: &[Named]) -> Result<Session, StoreError> {
+    let files = files_of(alloc, texts)?;
+    let top = texts.first().map_or(b"".as_slice(), |named| named.0);
+    let (session, _) = begun_files(alloc, files, top)?;
+    Ok(session)
+}
+
 /// Whether the items with these numbers have these labels.
-fn are_labels(session: &Session, runs: &[usize], labels: &[&[u8]]) -> bool {
+pub fn are_labels(session: &Session, runs: &[usize], labels: &[&[u8]]) -> bool {
     if runs.len() != labels.len() {
         return false;
     }
@@ -126,64 +143,62 @@ fn are_labels(session: &Session, runs: &[usize], labels: &[&[u8]]) -> bool {
     true
 }
 
-/// Whether a session has this report.
-fn has_report(
-    rt: &(impl AllocGlobal + Abort),
-    session: &Session,
-    report: &[u8],
-) -> Result<bool, Fail> {
-    let mut writing = Writing::new(Vec::new(rt.alloc()));
+/// The report of a session, where it is written in full.
+pub fn report_of(alloc: Global, session: &Session) -> Option<Vec<u8>> {
+    let mut writing = Writing::new(Vec::new(alloc));
     let written = write_report(session, &mut writing);
     let bytes = writing.into_inner();
-    Ok(written.is_ok() && bytes.as_slice() == report)
+    if written.is_ok() { Some(bytes) } else { None }
+}
+
+/// Whether a session has this report.
+pub fn has_report(alloc: Global, session: &Session, report: &[u8]) -> bool {
+    match report_of(alloc, session) {
+        Some(bytes) => bytes.as_slice() == report,
+        None => false,
+    }
 }
 
 /// Whether edits run these theorems, and leave this report and no parked piece.
-fn holds(rt: &(impl AllocGlobal + Abort), row: &Row) -> Result<bool, Fail> {
-    let Some((mut session, _)) = begun(rt)? else {
+fn holds(alloc: Global, row: &Row) -> Result<bool, StoreError> {
+    let mut session = begun(alloc, &[(NAME, LOGIC)])?;
+    let Ok(work) = session.edit_all(alloc, row.edits) else {
         return Ok(false);
     };
-    let Ok(work) = session.edit_all(rt.alloc(), row.edits) else {
-        return Ok(false);
-    };
-    if !are_labels(&session, work.runs(), row.runs) || session.files().parked() != 0 {
-        return Ok(false);
-    }
-    has_report(rt, &session, row.report)
+    Ok(
+        are_labels(&session, work.runs(), row.runs)
+            && session.files().parked() == 0
+            && has_report(alloc, &session, row.report),
+    )
 }
 
 #[test]
 fn edits_run_what_they_change(rt: HostRuntime) -> Result<(), Fail> {
     for n in 0..ROWS.len() {
-        assert!(rt; holds(&rt, &ROWS[n])?, "row {n}");
+        assert!(rt; holds(rt.alloc(), &ROWS[n])?, "row {n}");
     }
     Ok(())
 }
 
 #[test]
 fn a_session_begins_with_each_theorem(rt: HostRuntime) -> Result<(), Fail> {
-    let Some((session, work)) = begun(&rt)? else {
-        assert!(rt; false, "no session");
-        return Ok(());
-    };
+    let files = files_of(rt.alloc(), &[(NAME, LOGIC)])?;
+    let (session, work) = begun_files(rt.alloc(), files, NAME)?;
     assert!(rt; are_labels(&session, work.runs(), &[b"th", b"id"]));
     assert_eq!(rt; work.steps(), 11);
-    assert!(rt; has_report(&rt, &session, CLEAN)?);
+    assert!(rt; has_report(rt.alloc(), &session, CLEAN));
     Ok(())
 }
 
 #[test]
 fn a_refused_edit_leaves_a_session(rt: HostRuntime) -> Result<(), Fail> {
-    let Some((mut session, _)) = begun(&rt)? else {
-        assert!(rt; false, "no session");
-        return Ok(());
-    };
+    let mut session = begun(rt.alloc(), &[(NAME, LOGIC)])?;
     let beyond = Edit::Delete { file: NAME, at: 9 };
     let both = session.edit_all(rt.alloc(), &[EXCHANGED, beyond]).err();
     assert!(rt; both == Some(BatchError::Edit(1, EditError::NoPiece(8))));
     let one = session.edit(rt.alloc(), &beyond).err();
     assert!(rt; one == Some(EditError::NoPiece(8)));
-    assert!(rt; has_report(&rt, &session, CLEAN)?);
+    assert!(rt; has_report(rt.alloc(), &session, CLEAN));
     assert!(rt; session.edit(rt.alloc(), &EXCHANGED).is_ok());
     Ok(())
 }

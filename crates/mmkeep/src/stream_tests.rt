@@ -2,15 +2,26 @@
 
 use crate::tests::{VerifyError, verify_text, with_line};
 use mm_report::Writing;
+use std::alloc::Global;
 use std::io;
 use std::io::Write;
 use std::test::Fail;
 
 /// A writer that takes one byte a call, and none from a call on.
 #[derive(Drop)]
-struct Slow {
+pub struct Slow {
     calls: usize,
-    taken: Vec<u8>,
+    pub taken: Vec<u8>,
+}
+
+impl Slow {
+    /// One that takes so many bytes.
+    pub fn new(alloc: Global, calls: usize) -> Slow {
+        Slow {
+            calls,
+            taken: Vec::new(alloc),
+        }
+    }
 }
 
 impl Write for Slow {
@@ -41,10 +52,7 @@ fn writes_slowly_and_fails(rt: HostRuntime) -> Result<(), Fail> {
     let report =
         b"fault a.mm:6:10 F10 r\nwrong t a.mm:6:32 P15\naxioms 1 theorems 1 proved 0 incomplete 0 wrong 1 faults 1\n";
     for calls in 0..report.len() + 2 {
-        let mut writing = Writing::new(Slow {
-            calls,
-            taken: Vec::new(rt.alloc()),
-        });
+        let mut writing = Writing::new(Slow::new(rt.alloc(), calls));
         let answer = verify_text(rt.alloc(), b"a.mm", &text, &mut writing);
         let failed = writing.failed();
         let taken = writing.into_inner().taken;
@@ -63,10 +71,21 @@ fn writes_slowly_and_fails(rt: HostRuntime) -> Result<(), Fail> {
 
 /// A writer that fails at one call, would take everything before and behind it, and counts the calls.
 #[derive(Drop)]
-struct Broken {
+pub struct Broken {
     at: usize,
-    calls: usize,
-    taken: Vec<u8>,
+    pub calls: usize,
+    pub taken: Vec<u8>,
+}
+
+impl Broken {
+    /// One that fails at this call, counted from 1.
+    pub fn new(alloc: Global, at: usize) -> Broken {
+        Broken {
+            at,
+            calls: 0,
+            taken: Vec::new(alloc),
+        }
+    }
 }
 
 impl Write for Broken {
@@ -91,11 +110,7 @@ fn calls_no_more_after_a_failure(rt: HostRuntime) -> Result<(), Fail> {
         b"fault a.mm:6:10 F10 r\nwrong t a.mm:6:32 P15\naxioms 1 theorems 1 proved 0 incomplete 0 wrong 1 faults 1\n";
     let mut whole = 0_usize;
     for at in 1..64 {
-        let mut writing = Writing::new(Broken {
-            at,
-            calls: 0,
-            taken: Vec::new(rt.alloc()),
-        });
+        let mut writing = Writing::new(Broken::new(rt.alloc(), at));
         let answer = verify_text(rt.alloc(), b"a.mm", &text, &mut writing);
         let broken = writing.into_inner();
         if broken.calls < at {

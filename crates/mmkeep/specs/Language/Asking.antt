@@ -2,15 +2,13 @@
 use Rattle.std.specs.Prelude.{ℕ, List, [], ◌∷◌, map, codes}
 use Rattle.std.specs.Borrow.{Bor}
 use Rattle.mmkeep.specs.declared.arguments.Command.{Command}
-use Rattle.mmkeep.specs.declared.arguments.Command.TheVariants.{Verify}
+use Rattle.mmkeep.specs.declared.arguments.Command.TheVariants.{Verify, Axioms, Session}
 
--- the words behind the program's name that ask to verify a file
-abbrev pub verify_words : List ℕ → List (List ℕ)
-verify_words file = codes "verify" ∷ file ∷ []
-
--- the words of a command
+-- the words of a command, behind the program's name: what is asked, the file, and for its axioms the label of an assertion
 abbrev pub words_of : Command → List (List ℕ)
-words_of (Verify file) = verify_words file.now
+words_of (Verify file) = codes "verify" ∷ file.now ∷ []
+words_of (Axioms file label) = codes "axioms" ∷ file.now ∷ label.now ∷ []
+words_of (Session file) = codes "session" ∷ file.now ∷ []
 
 -- the words that are given
 abbrev pub said : List (Bor (List ℕ)) → List (List ℕ)

@@ -1,15 +1,23 @@
-use Rattle.std.proofs.Common.{◌≡◌, ℕ, List, [], ◌∷◌, length, get_or, sym, ap, arith}
+use Rattle.std.proofs.Common.{get_or, sym, arith}
 use Rattle.std.specs.Prelude.{codes}
 use Rattle.std.proofs.lemmas.Slice.Eq.{bytes_eq-Decides}
-use Rattle.std.specs.Borrow.{Bor}
-use Rattle.mmkeep.specs.Language.Asking.{said, verify_words}
+use Rattle.mmkeep.proofs.AskingLemmas.{differs, said_two, said_three, no_two, no_three, no_other}
 use Rattle.mmkeep.proofs.asking.command.Goals as goal
-
-said_two : (words : List (Bor (List ℕ))) (d : Bor (List ℕ)) → length words ≡ 2 → (get_or words 0 d).now ≡ codes "verify" → said words ≡ verify_words (get_or words 1 d).now
-said_two [] d l v = cc
-said_two (x ∷ []) d l v = absurd (omega arith)
-said_two (x ∷ (y ∷ [])) d l v = ap (λ (first : List ℕ). first ∷ (y.now ∷ [])) v
-said_two (x ∷ (y ∷ (z ∷ words))) d l v = absurd (omega arith)
+use Rattle.mmkeep.proofs.asking.command.Goals.{in_default-via-then-words-lt2, in_default-via-in-len2-2+else-eq-2, in_default-via-in-len3+else-eq-3, in_default-via-else-words-lt2+else-words-lt3+else-words-lt4}
 
 pub returns-in-len2-clause-some : goal.returns-in-len2-clause-some
-returns-in-len2-clause-some c = said_two c.args.words.now _ (omega arith) ((bytes_eq-Decides (get_or c.args.words.now 0 _).now (codes "verify")).0 (sym c.if-eq.ensures))
+returns-in-len2-clause-some c = said_two c.args.words.now _ (codes "verify") (omega arith) ((bytes_eq-Decides (get_or c.args.words.now 0 _).now (codes "verify")).0 (sym c.if-eq.ensures))
+
+pub returns-in-len2-2-clause-some : goal.returns-in-len2-2-clause-some
+returns-in-len2-2-clause-some c = said_two c.args.words.now _ (codes "session") (omega arith) ((bytes_eq-Decides (get_or c.args.words.now 0 _).now (codes "session")).0 (sym c.if-eq-2.ensures))
+
+pub returns-in-len3-clause-some : goal.returns-in-len3-clause-some
+returns-in-len3-clause-some c = said_three c.args.words.now _ (codes "axioms") (omega arith) ((bytes_eq-Decides (get_or c.args.words.now 0 _).now (codes "axioms")).0 (sym c.if-eq-3.ensures))
+
+pub returns-in_default-clause-none : goal.returns-in_default-clause-none
+returns-in_default-clause-none c n = elim c.in_default.branch [
+  | in_default-via-then-words-lt2 w ↦ no_other c.args.words.now (λ e. grind (arith, e)) (λ e. grind (arith, e))
+  | in_default-via-in-len2-2+else-eq-2 w ↦ no_two c.args.words.now _ (omega arith) (differs (get_or c.args.words.now 0 _).now (codes "verify") w.if-eq.ensures) (differs (get_or c.args.words.now 0 _).now (codes "session") w.if-eq-2.ensures)
+  | in_default-via-in-len3+else-eq-3 w ↦ no_three c.args.words.now _ (omega arith) (differs (get_or c.args.words.now 0 _).now (codes "axioms") w.if-eq-3.ensures)
+  | in_default-via-else-words-lt2+else-words-lt3+else-words-lt4 w ↦ no_other c.args.words.now (λ e. grind (arith, e)) (λ e. grind (arith, e))
+]

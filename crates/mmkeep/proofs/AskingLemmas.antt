@@ -1,0 +1,69 @@
+-- The words that are a command, by how many there are.
+use Rattle.std.proofs.Common.{◌≡◌, ◌≢◌, ℕ, true, false, List, [], ◌∷◌, length, get_or, refl, sym, ◌∙◌, ap, arith}
+use Rattle.std.proofs.lemmas.List.{length-map}
+use Rattle.std.specs.Prelude.{codes, bytes_eq}
+use Rattle.std.proofs.lemmas.Slice.Eq.{bytes_eq-Decides}
+use Rattle.std.specs.Borrow.{Bor}
+use Rattle.mmkeep.specs.declared.arguments.Command.{Command}
+use Rattle.mmkeep.specs.declared.arguments.Command.TheVariants.{Verify, Axioms, Session}
+use Rattle.mmkeep.specs.Language.Asking.{said, words_of}
+
+-- the words that are given, where there are two or three
+two_words : (words : List (Bor (List ℕ))) (d : Bor (List ℕ)) → length words ≡ 2 → said words ≡ (get_or words 0 d).now ∷ ((get_or words 1 d).now ∷ [])
+two_words [] d l = cc
+two_words (x ∷ []) d l = absurd (omega arith)
+two_words (x ∷ (y ∷ [])) d l = refl
+two_words (x ∷ (y ∷ (z ∷ words))) d l = absurd (omega arith)
+
+three_words : (words : List (Bor (List ℕ))) (d : Bor (List ℕ)) → length words ≡ 3
+    → said words ≡ (get_or words 0 d).now ∷ ((get_or words 1 d).now ∷ ((get_or words 2 d).now ∷ []))
+three_words [] d l = cc
+three_words (x ∷ []) d l = absurd (omega arith)
+three_words (x ∷ (y ∷ [])) d l = absurd (omega arith)
+three_words (x ∷ (y ∷ (z ∷ []))) d l = refl
+three_words (x ∷ (y ∷ (z ∷ (v ∷ words)))) d l = absurd (omega arith)
+
+-- the first of them is this one
+pub said_two : (words : List (Bor (List ℕ))) (d : Bor (List ℕ)) (first : List ℕ) → length words ≡ 2 → (get_or words 0 d).now ≡ first
+    → said words ≡ first ∷ ((get_or words 1 d).now ∷ [])
+said_two words d first l e = two_words words d l ∙ ap (λ (w : List ℕ). w ∷ ((get_or words 1 d).now ∷ [])) e
+
+pub said_three : (words : List (Bor (List ℕ))) (d : Bor (List ℕ)) (first : List ℕ) → length words ≡ 3 → (get_or words 0 d).now ≡ first
+    → said words ≡ first ∷ ((get_or words 1 d).now ∷ ((get_or words 2 d).now ∷ []))
+said_three words d first l e = three_words words d l ∙ ap (λ (w : List ℕ). w ∷ ((get_or words 1 d).now ∷ ((get_or words 2 d).now ∷ []))) e
+
+-- ---- no command
+
+-- words that are not the same
+pub differs : (xs ys : List ℕ) → false ≡ bytes_eq xs ys → xs ≢ ys
+differs xs ys f e = let t : bytes_eq xs ys ≡ true = (bytes_eq-Decides xs ys).1 e in absurd (cc)
+
+first_of : List (List ℕ) → List ℕ
+first_of [] = []
+first_of (word ∷ words) = word
+
+-- as many words are given as are said
+same_length : (words : List (Bor (List ℕ))) (asked : Command) → said words ≡ words_of asked → length words ≡ length (words_of asked)
+same_length words asked e = sym (length-map words (λ (word : Bor (List ℕ)). word.now)) ∙ ap length e
+
+-- two words, the first of which is neither of those that a command of two words begins with
+pub no_two : (words : List (Bor (List ℕ))) (d : Bor (List ℕ)) → length words ≡ 2
+    → (get_or words 0 d).now ≢ codes "verify" → (get_or words 0 d).now ≢ codes "session" → (asked : Command) → said words ≡ words_of asked → ⊥
+unfolding first_of
+no_two words d l v s (Verify file) e = v (ap first_of (sym (two_words words d l) ∙ e))
+no_two words d l v s (Axioms file label) e = let n : length words ≡ 3 = same_length words (Axioms file label) e in absurd (omega (arith, l, n))
+no_two words d l v s (Session file) e = s (ap first_of (sym (two_words words d l) ∙ e))
+
+-- three words, the first of which is not that of a command of three words
+pub no_three : (words : List (Bor (List ℕ))) (d : Bor (List ℕ)) → length words ≡ 3
+    → (get_or words 0 d).now ≢ codes "axioms" → (asked : Command) → said words ≡ words_of asked → ⊥
+unfolding first_of
+no_three words d l a (Verify file) e = let n : length words ≡ 2 = same_length words (Verify file) e in absurd (omega (arith, l, n))
+no_three words d l a (Axioms file label) e = a (ap first_of (sym (three_words words d l) ∙ e))
+no_three words d l a (Session file) e = let n : length words ≡ 2 = same_length words (Session file) e in absurd (omega (arith, l, n))
+
+-- neither two words nor three
+pub no_other : (words : List (Bor (List ℕ))) → length words ≢ 2 → length words ≢ 3 → (asked : Command) → said words ≡ words_of asked → ⊥
+no_other words t s (Verify file) e = t (same_length words (Verify file) e)
+no_other words t s (Axioms file label) e = s (same_length words (Axioms file label) e)
+no_other words t s (Session file) e = t (same_length words (Session file) e)

@@ -1,0 +1,6 @@
+use Rattle.std.proofs.Common.{◌≡◌}
+use Rattle.mm_store.specs.Language.FileFacts.{parked_in}
+use Rattle.mmkeep.proofs.loading.load.Given as goal
+
+abbrev pub invariant-loop : goal.invariant-loop
+invariant-loop g l = parked_in l.files ≡ 0

@@ -1,0 +1,10 @@
+use Rattle.std.proofs.Common.{◌≡◌, length}
+use Rattle.std.specs.Io.KnownBytes.{Consumes}
+use Rattle.mm_report.specs.Language.Stream.{calls_left, unread}
+use Rattle.mmkeep.proofs.loading.read_all.Given as goal
+
+abbrev pub invariant-loop-text : goal.invariant-loop-text
+invariant-loop-text g l = Consumes (unread g.R.Read.remaining l.initial.reading) (unread g.R.Read.remaining l.reading) l.text.items × (length l.chunk ≡ 16384)
+
+abbrev pub decreases-loop-text : goal.decreases-loop-text
+decreases-loop-text g l = calls_left l.reading

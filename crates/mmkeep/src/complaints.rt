@@ -1,0 +1,52 @@
+//! What keeps the program from its work, told by a line on standard error.
+
+ghost use Rattle.std.specs.Prelude.{◌≤◌, length};
+
+use crate::outcome::{Outcome, outcome_of_stop};
+use mm_keep::{Place, TextFault, place};
+use mm_report::ScriptError;
+
+/// The words of the command line are no command.
+pub(crate) fn refuse_arguments(rt: &impl Eprint) -> Outcome {
+    let _ = eprintln!(rt; "mmkeep: arguments");
+    Outcome::Words
+}
+
+pub(crate) fn lack_memory(rt: &impl Eprint) -> Outcome {
+    let _ = eprintln!(rt; "mmkeep: out of memory");
+    Outcome::Memory
+}
+
+/// A file cannot be opened, or a read of it failed.
+pub(crate) fn unreadable(rt: &impl Eprint, path: &str) -> Outcome {
+    let _ = eprintln!(rt; "mmkeep: {path}: cannot be read");
+    Outcome::Input
+}
+
+/// The text of a file has a fault.
+pub(crate) fn refuse_text(rt: &impl Eprint, path: &str, text: &[u8], fault: TextFault) -> Outcome
+    requires { fault.at ≤ length text.now }
+{
+    let Place { line, column } = place(text, fault.at);
+    let number = fault.number;
+    let _ = eprintln!(rt; "mmkeep: {path}:{line}:{column} {number:?}");
+    Outcome::Input
+}
+
+/// The files have too many bytes together.
+pub(crate) fn too_many(rt: &impl Eprint) -> Outcome {
+    let _ = eprintln!(rt; "mmkeep: S05");
+    Outcome::Input
+}
+
+/// A script is not answered to its end, or an answer is not written.
+pub(crate) fn stop(rt: &impl Eprint, error: ScriptError) -> Outcome {
+    let _ = match error {
+        ScriptError::BadLine => eprintln!(rt; "mmkeep: C01"),
+        ScriptError::Cut => eprintln!(rt; "mmkeep: C02"),
+        ScriptError::Read => eprintln!(rt; "mmkeep: C03"),
+        ScriptError::Write => eprintln!(rt; "mmkeep: C04"),
+        ScriptError::Memory => eprintln!(rt; "mmkeep: out of memory"),
+    };
+    outcome_of_stop(error)
+}

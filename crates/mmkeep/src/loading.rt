@@ -1,0 +1,146 @@
+//! The files of a database, from the system.
+
+ghost use Rattle.std.specs.Prelude.{◌≡◌, IfOk, IfSome, OnOk};
+ghost use Rattle.mm_store.specs.Language.Answers.{IsAddErrorIn};
+ghost use Rattle.mm_store.specs.Language.FileFacts.{parked_in};
+ghost use Rattle.mm_report.specs.Language.Stream.{unread};
+
+use crate::complaints::{lack_memory, refuse_text, too_many, unreadable};
+use crate::outcome::Outcome;
+use mm_keep::{Files as Database, StoreError};
+use mm_report::{ReadFailed, Reading};
+use std::alloc::{AllocError, Global};
+use std::fs::File;
+use std::io::{ErrorKind, Read};
+use std::rt::Files;
+use std::str;
+
+/// Why a file is not read to its end.
+#[derive(Clone, Copy, Debug, PartialEq, Eq)]
+pub enum FileError {
+    /// A read failed, or more were needed than a reading may make.
+    Read,
+    /// There was not enough memory.
+    Memory,
+}
+
+impl From<ReadFailed> for FileError {
+    fn from(_: ReadFailed) -> Self {
+        FileError::Read
+    }
+}
+
+impl From<AllocError> for FileError {
+    fn from(_: AllocError) -> Self {
+        FileError::Memory
+    }
+}
+
+/// All bytes that are left to read.
+pub fn read_all<R: Read>(alloc: Global, reading: &mut Reading<R>) -> Result<Vec<u8>, FileError>
+    ensures { IfOk result (λ text. IfSome (unread R.remaining reading.old) (λ bytes. text.items ≡ bytes)) }
+{
+    let mut text = Vec::new(alloc);
+    let mut chunk = [0; 16_384];
+    loop {
+        let count = reading.read(&mut chunk)?;
+        if count == 0 {
+            return Ok(text);
+        }
+        text.extend_from_slice(&chunk[..count])?;
+    }
+}
+
+/// The top file and the files that it includes: each name is opened at its first reference, in the order of the
+/// expansion, once. A name that cannot be opened stays missing. What keeps a file from being loaded is told.
+pub(crate) fn load(rt: &(impl Files + Eprint + AllocGlobal), top: &str) -> Result<Database, Outcome>
+    ensures { IfOk result (λ files. parked_in files ≡ 0) }
+{
+    let mut files = Database::new(rt.alloc());
+    match File::open(rt, top) {
+        Ok(file) => add_file(rt, &mut files, top, file)?,
+        Err(error) if error.kind() == ErrorKind::OutOfMemory => return Err(lack_memory(rt)),
+        Err(_) => return Err(unreadable(rt, top)),
+    }
+    let Ok(mut walk) = files.walk(rt.alloc(), top.as_bytes()) else {
+        return Err(lack_memory(rt));
+    };
+    // The texts have fewer inclusions than bytes.
+    for _ in 0..u32::MAX {
+        match walk.next_missing(rt.alloc(), &files) {
+            Ok(Some(name)) => add_included(rt, &mut files, &name)?,
+            Ok(None) => return Ok(files),
+            Err(_) => return Err(lack_memory(rt)),
+        }
+    }
+    Ok(files)
+}
+
+/// Adds the file of this name, if it can be opened.
+fn add_included(
+    rt: &(impl Files + Eprint + AllocGlobal),
+    files: &mut Database,
+    name: &[u8],
+) -> Result<(), Outcome>
+    ensures { OnOk result (parked_in files.new ≡ parked_in files.old) }
+{
+    // The words of a text are ASCII.
+    let Ok(path) = str::from_utf8(name) else {
+        return Ok(());
+    };
+    match File::open(rt, path) {
+        Ok(file) => add_file(rt, files, path, file),
+        Err(error) if error.kind() == ErrorKind::OutOfMemory => Err(lack_memory(rt)),
+        Err(_) => Ok(()),
+    }
+}
+
+/// Reads a file and adds it under its path.
+fn add_file(
+    rt: &(impl Eprint + AllocGlobal),
+    files: &mut Database,
+    path: &str,
+    file: impl Read + Drop,
+) -> Result<(), Outcome>
+    ensures { OnOk result (parked_in files.new ≡ parked_in files.old) }
+{
+    let mut reading = Reading::new(file);
+    match read_all(rt.alloc(), &mut reading) {
+        Ok(text) => add_text(rt, files, path, &text),
+        Err(error) => Err(not_read(rt, path, error)),
+    }
+}
+
+/// Tells why a file was not read.
+fn not_read(rt: &impl Eprint, path: &str, error: FileError) -> Outcome {
+    match error {
+        FileError::Read => unreadable(rt, path),
+        FileError::Memory => lack_memory(rt),
+    }
+}
+
+/// Adds a text under a path.
+fn add_text(
+    rt: &(impl Eprint + AllocGlobal),
+    files: &mut Database,
+    path: &str,
+    text: &[u8],
+) -> Result<(), Outcome>
+    ensures { OnOk result (parked_in files.new ≡ parked_in files.old) }
+{
+    match files.add(rt.alloc(), path.as_bytes(), text) {
+        Ok(()) => Ok(()),
+        Err(error) => Err(not_added(rt, path, text, error)),
+    }
+}
+
+/// Tells why a text was not added; no path is loaded twice.
+fn not_added(rt: &impl Eprint, path: &str, text: &[u8], error: StoreError) -> Outcome
+    requires { IsAddErrorIn text.now error }
+{
+    match error {
+        StoreError::Text(fault) => refuse_text(rt, path, text, fault),
+        StoreError::Memory => lack_memory(rt),
+        _ => too_many(rt),
+    }
+}

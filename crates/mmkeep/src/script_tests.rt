@@ -1,0 +1,190 @@
+//! Scripts over readers that give little at a time or fail, and over writers that do.
+
+use crate::session_tests::{begun, has_report};
+use crate::story_tests::Named;
+use crate::stream_tests::{Broken, Slow};
+use mm_keep::{Session, StoreError};
+use mm_report::{Reading, ScriptError, Writing, run_script};
+use std::alloc::Global;
+use std::io;
+use std::io::Read;
+use std::test::Fail;
+
+/// A logic, a theorem by its rule, and one with a compressed proof.
+const FILES: &[Named] = &[(
+    b"a.mm",
+    b"$c wff |- -> ( ) $.\n$v p q $.\nwp $f wff p $.\nwq $f wff q $.\nwi $a wff ( p -> q ) $.\n\
+        ${ mi $e |- p $. ma $e |- ( p -> q ) $. mp $a |- q $. $}\n\
+        ${ h1 $e |- p $. h2 $e |- ( p -> q ) $. th $p |- q $= wp wq h1 h2 mp $. $}\n\
+        id $p wff ( ( p -> p ) -> ( p -> p ) ) $= ( wi ) AABZCB $.\n",
+)];
+
+/// Its report, and that where the hypotheses of the rule are exchanged.
+const CLEAN: &[u8] = b"axioms 2 theorems 2 proved 2 incomplete 0 wrong 0 faults 0\n";
+
+const EXCHANGED: &[u8] =
+    b"wrong th a.mm:7:67 P09\naxioms 2 theorems 2 proved 1 incomplete 0 wrong 1 faults 0\n";
+
+/// A script that exchanges them: its line ends behind 18 bytes, the line feed behind its text behind 76.
+const SCRIPT: &[u8] =
+    b"replace a.mm 5 57\n${ ma $e |- ( p -> q ) $. mi $e |- p $. mp $a |- q $. $}\n\nreport\n";
+
+/// What it is answered; the first answer has 9 bytes.
+const ANSWERS: &[u8] =
+    b"ran 1\nth\nwrong th a.mm:7:67 P09\naxioms 2 theorems 2 proved 1 incomplete 0 wrong 1 faults 0\n";
+
+/// A reader that gives some bytes a call, counts its calls, and fails at one of them, counted from 1.
+#[derive(Drop)]
+pub struct Given {
+    bytes: &'static [u8],
+    most: usize,
+    pub fails_at: usize,
+    pub calls: usize,
+}
+
+impl Read for Given {
+    fn read(&mut self, buf: &mut [u8]) -> io::Result<usize> {
+        self.calls = self.calls.saturating_add(1);
+        if self.calls == self.fails_at {
+            return Err(io::Error::from(io::ErrorKind::BrokenPipe));
+        }
+        let count = self.most.min(buf.len()).min(self.bytes.len());
+        buf[..count].copy_from_slice(&self.bytes[..count]);
+        self.bytes = &self.bytes[count..];
+        Ok(count)
+    }
+}
+
+/// A reader of these bytes, so many a call.
+pub fn reader_of(bytes: &'static [u8], most: usize) -> Given {
+    Given {
+        bytes,
+        most,
+        fails_at: 0,
+        calls: 0,
+    }
+}
+
+/// Whether a script over so many calls of a reader ends so, with these answers, and leaves this report.
+fn ends_so(
+    alloc: Global,
+    from: Given,
+    calls: u32,
+    end: Result<(), ScriptError>,
+    answers: &[u8],
+    report: &[u8],
+) -> Result<bool, StoreError> {
+    let mut session = begun(alloc, FILES)?;
+    let mut reading = Reading::within(from, calls);
+    let mut writing = Writing::new(Vec::new(alloc));
+    let ended = run_script(alloc, &mut session, &mut reading, &mut writing);
+    let written = writing.into_inner();
+    let failed = ended == Err(ScriptError::Read);
+    Ok(
+        ended == end
+            && reading.failed() == failed
+            && written.as_slice() == answers
+            && has_report(alloc, &session, report),
+    )
+}
+
+/// The read that gives the end counts, too.
+#[test]
+fn reads_as_often_as_it_may(rt: HostRuntime) -> Result<(), Fail> {
+    let asked = || reader_of(b"report\n", 4096);
+    assert!(rt; ends_so(rt.alloc(), asked(), 2, Ok(()), CLEAN, CLEAN)?);
+    assert!(rt; ends_so(rt.alloc(), asked(), 1, Err(ScriptError::Read), CLEAN, CLEAN)?);
+    let feeds = reader_of(b"\n\n\n\n\n\n\n\n\n\n", 1);
+    assert!(rt; ends_so(rt.alloc(), feeds, 8, Err(ScriptError::Read), b"", CLEAN)?);
+    Ok(())
+}
+
+/// The script, seven bytes a call, where one of the thirteen reads fails.
+fn ends_at_read(alloc: Global, n: usize) -> Result<bool, StoreError> {
+    let mut from = reader_of(SCRIPT, 7);
+    from.fails_at = n;
+    let end = if n < 14 {
+        Err(ScriptError::Read)
+    } else {
+        Ok(())
+    };
+    let come = n.saturating_sub(1).saturating_mul(7);
+    if come < 76 {
+        return ends_so(alloc, from, 99, end, b"", CLEAN);
+    }
+    if come < 83 {
+        return ends_so(alloc, from, 99, end, b"ran 1\nth\n", EXCHANGED);
+    }
+    ends_so(alloc, from, 99, end, ANSWERS, EXCHANGED)
+}
+
+#[test]
+fn a_failed_read_ends_a_script(rt: HostRuntime) -> Result<(), Fail> {
+    assert_eq!(rt; SCRIPT.len(), 83);
+    for n in 1..16 {
+        assert!(rt; ends_at_read(rt.alloc(), n)?, "at read {n}");
+    }
+    Ok(())
+}
+
+/// The script, cut inside the text or right behind it.
+#[test]
+fn a_cut_text_is_not_put_in(rt: HostRuntime) -> Result<(), Fail> {
+    for n in 18..76 {
+        let cut = reader_of(&SCRIPT[..n], 4096);
+        let ends = ends_so(rt.alloc(), cut, 99, Err(ScriptError::Cut), b"", CLEAN)?;
+        assert!(rt; ends, "at byte {n}");
+    }
+    Ok(())
+}
+
+/// Whether a script whose write of this number fails ends so: what went out is a beginning of the answers, and the edit is
+/// done. Where no write has this number, all answers are out.
+fn ends_at_write(alloc: Global, session: &mut Session, n: usize) -> bool {
+    let mut reading = Reading::new(reader_of(SCRIPT, 4096));
+    let mut writing = Writing::new(Broken::new(alloc, n));
+    let ended = run_script(alloc, session, &mut reading, &mut writing);
+    let broken = writing.into_inner();
+    if broken.calls < n {
+        return ended.is_ok() && broken.taken.as_slice() == ANSWERS;
+    }
+    ended == Err(ScriptError::Write)
+        && broken.calls == n
+        && ANSWERS.starts_with(&broken.taken)
+        && broken.taken.len() < ANSWERS.len()
+}
+
+#[test]
+fn a_failed_write_ends_a_script(rt: HostRuntime) -> Result<(), Fail> {
+    for n in 1..48 {
+        let mut session = begun(rt.alloc(), FILES)?;
+        assert!(rt; ends_at_write(rt.alloc(), &mut session, n), "at write {n}");
+        assert!(rt; has_report(rt.alloc(), &session, EXCHANGED), "at write {n}");
+    }
+    Ok(())
+}
+
+/// A writer that takes one byte a call gets what one gets that takes all.
+#[test]
+fn answers_are_written_slowly(rt: HostRuntime) -> Result<(), Fail> {
+    let mut session = begun(rt.alloc(), FILES)?;
+    let mut reading = Reading::new(reader_of(SCRIPT, 1));
+    let mut writing = Writing::new(Slow::new(rt.alloc(), ANSWERS.len()));
+    let ended = run_script(rt.alloc(), &mut session, &mut reading, &mut writing);
+    assert_eq!(rt; ended, Ok(()));
+    assert_eq!(rt; writing.into_inner().taken.as_slice(), ANSWERS);
+    Ok(())
+}
+
+/// A line a call, and a writer that fails: nothing is read behind the first command.
+#[test]
+fn reads_no_further_than_it_has_answered(rt: HostRuntime) -> Result<(), Fail> {
+    let mut session = begun(rt.alloc(), FILES)?;
+    let mut reading = Reading::new(reader_of(b"report\nverdict th\n", 7));
+    let mut writing = Writing::new(Broken::new(rt.alloc(), 1));
+    let ended = run_script(rt.alloc(), &mut session, &mut reading, &mut writing);
+    assert_eq!(rt; ended, Err(ScriptError::Write));
+    assert!(rt; writing.failed());
+    assert_eq!(rt; reading.into_inner().calls, 1);
+    Ok(())
+}
