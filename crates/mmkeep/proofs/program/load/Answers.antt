@@ -1,7 +1,0 @@
-use Rattle.std.proofs.Common.{ap, ◌∙◌}
-use Rattle.mm_store.specs.Language.FileFacts.{parked_in}
-use Rattle.mmkeep.proofs.LoadLemmas.{nothing_parked}
-use Rattle.mmkeep.proofs.program.load.Goals as goal
-
-pub loop-init : goal.loop-init
-loop-init g c = c.in_ok-add_file.ensures ∙ ap parked_in c.new-files.ensures ∙ nothing_parked

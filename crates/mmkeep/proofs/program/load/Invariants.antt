@@ -1,6 +1,0 @@
-use Rattle.std.proofs.Common.{◌≡◌}
-use Rattle.mm_store.specs.Language.FileFacts.{parked_in}
-use Rattle.mmkeep.proofs.program.load.Given as goal
-
-abbrev pub invariant-loop : goal.invariant-loop
-invariant-loop g l = parked_in l.files ≡ 0
