@@ -35,15 +35,9 @@ assertion_carries view label i a =
 
 -- ---- what is cited
 
-names_cite : (view : BaseView) (j k : ℕ) → is_proof_at view j ≡ true → NamesAssertionAt view j k → Cites view j k
-names_cite view j k proof n = record { theorem = proof; decoded = n.decoded; decodes = n.decodes; label = n.label; named = n.named; means = n.means }
-
-cite_names : (view : BaseView) (j k : ℕ) → Cites view j k → NamesAssertionAt view j k
-cite_names view j k c = record { decoded = c.decoded; decodes = c.decodes; label = c.label; named = c.named; means = c.means }
-
 -- citations lead to earlier items
 pub cites_earlier : (view : BaseView) (j k : ℕ) → Cites view j k → k < j
-cites_earlier view j k c = c.means.0.earlier
+cites_earlier view j k c = c.names.means.0.earlier
 
 number_among : (words : List (List ℕ)) (cites : List ℕ) (n : ℕ) (label : List ℕ) → Contains cites n → slice_get words n ≡ Some label → IsAmong words cites (length cites) label
 number_among words cites n label c there =
@@ -59,7 +53,7 @@ module _ (each : CitesNameAssertions) (tell : CitesTellAssertions) (own : HasOwn
   -- the label of a cited item is among the words that cite
   cited_among : (k : ℕ) → Cites view j k → HasLabelAmong view (said_at view j).proof (cites_at view j) (length (cites_at view j)) k
   cited_among k c =
-      let n = (tell view j k said).0 (cite_names view j k c) in
+      let n = (tell view j k said).0 c.names in
       let one = n.1 in
       record { label = one.label; among = number_among (said_at view j).proof (cites_at view j) n.0 one.label one.cites one.there; carrier = one.means.0.carrier }
 
@@ -72,7 +66,7 @@ module _ (each : CitesNameAssertions) (tell : CitesTellAssertions) (own : HasOwn
       let one = m.1 in
       let same : one.label ≡ label = same_Some one.label label (sym one.there ∙ n.2) in
       let is : m.0 ≡ k = own view m.0 k label (subst (λ l. IsCarrier view l m.0) same one.means.0.carrier) carrier in
-      names_cite view j k proof ((tell view j k said).1 (n.0, subst (IsCiteOf view j n.0) is one))
+      record { theorem = proof; names = (tell view j k said).1 (n.0, subst (IsCiteOf view j n.0) is one) }
 
   pub marks_cited : (before after : List Bool) → MarksMore (HasLabelAmong view (said_at view j).proof (cites_at view j) (length (cites_at view j))) before after → MarksMore (Cites view j) before after
   marks_cited before after more = record { count = more.count; each = λ k. (to k, from k) }

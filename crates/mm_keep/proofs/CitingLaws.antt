@@ -25,10 +25,14 @@ means_from : (base : BaseView) (i k : ℕ) (label : List ℕ) → Resolves (sayi
 means_from base i k label m = (record { earlier = m.0.earlier; carrier = record { shown = m.0.carrier.shown; label_is = m.0.carrier.label_is } }, m.1, m.2)
 
 cites_to : (base : BaseView) (i k : ℕ) → Cites base i k → Cites (saying base.said) i k
-cites_to base i k c = record { theorem = c.theorem; decoded = c.decoded; decodes = c.decodes; label = c.label; named = c.named; means = means_to base i k c.label c.means }
+cites_to base i k c =
+    let n = c.names in
+    record { theorem = c.theorem; names = record { decoded = n.decoded; decodes = n.decodes; label = n.label; named = n.named; means = means_to base i k n.label n.means } }
 
 cites_from : (base : BaseView) (i k : ℕ) → Cites (saying base.said) i k → Cites base i k
-cites_from base i k c = record { theorem = c.theorem; decoded = c.decoded; decodes = c.decodes; label = c.label; named = c.named; means = means_from base i k c.label c.means }
+cites_from base i k c =
+    let n = c.names in
+    record { theorem = c.theorem; names = record { decoded = n.decoded; decodes = n.decodes; label = n.label; named = n.named; means = means_from base i k n.label n.means } }
 
 assertion_to : (base : BaseView) (label : List ℕ) (i : ℕ) → IsAssertion base label i → IsAssertion (saying base.said) label i
 assertion_to base label i a = record { within = a.within; framed = a.framed; label_is = a.label_is }

@@ -81,9 +81,6 @@ steps_more base runs total j count steps done = record {
   total_is = ap (λ t. t + count) steps.total_is ∙ sym (sum_by_push (λ x. x) steps.counts count);
 }
 
-pub steps_none : (base : BaseView) → AreStepsOf base [] 0
-steps_none base = record { counts = []; each = tt; total_is = refl }
-
 -- what one item more gives
 pub run_more : (new : BaseView) (plan : List (Option ℕ)) (checked : List (Option Judgement)) (from : Option ℕ) (one : Option Judgement) → AreRunBy new plan checked → slice_get plan (length checked) ≡ Some from → IsRunBy new from (length checked) one → AreRunBy new plan (checked ++ one ∷ [])
 run_more new plan checked from one ran there is = record {

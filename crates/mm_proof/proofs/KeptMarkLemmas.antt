@@ -128,9 +128,6 @@ marked_more base copy n marks mark are is = record {
         subst (λ m. IsMark base copy j m) (sym here) (subst (λ k. IsMark base copy k mark) (sym e) is)
     by_case j l (no other) = subst (λ m. IsMark base copy j m) (sym (at_front marks (mark ∷ []) j no_mark (omega (arith, l, other, are.count_is)))) (are.each j (omega (arith, l, other)))
 
-pub none_marked : (base copy : BaseView) → AreMarked base copy 0 []
-none_marked base copy = record { count_is = refl; each = λ j l. absurd (omega (arith, l)) }
-
 -- all are marked
 pub all_marked : (base copy : BaseView) (n : ℕ) (marks : List Mark) → AreMarked base copy n marks → n ≡ length copy.said → AreMarks base copy marks
 all_marked base copy n marks are e = record { count = are.count_is ∙ e; each = λ j l. are.each j (omega (arith, l, e)) }

@@ -40,12 +40,6 @@ answered_stop contents command old new a b (Ok done) answer err is s = absurd er
 answered_stop contents command old new a b (Err e) answer err is s =
     record { ok = tt; err = subst (FailsSo contents command old new a b) (sym err) (s.failed, record { answer = answer; is = is; out = s.part }) }
 
--- memory lacked
-pub answered_lacks : {W T : Type 0} (contents : W → Option (List ℕ)) (command : Command) (old : SessionView) (a : Writing W) (r : Result T ScriptError)
-    → IsErrAnd r (λ e. e ≡ errors.Memory) → Answers contents command old old a a r
-answered_lacks contents command old a (Ok done) err = absurd err
-answered_lacks contents command old a (Err e) err = record { ok = tt; err = subst (FailsSo contents command old old a a) (sym err) (refl, refl) }
-
 -- ---- edits
 
 -- the items of which the labels are told, and what is told

@@ -136,12 +136,6 @@ blanks_grown a b u v from to p h =
       are = first ∙ ap (λ (xs : List ℕ). xs ++ p.part) h.are ∙ append_assoc (replicate (to - from) 10) (drop to (pending a)) p.part ∙ ap (λ (xs : List ℕ). replicate (to - from) 10 ++ xs) (sym last);
     }
 
-pub no_blanks : (bytes : List ℕ) (from : ℕ) → from ≤ length bytes → HasBlanks bytes from from
-no_blanks bytes from within = record { ordered = omega arith; within = within; are = ap (λ (n : ℕ). replicate n 10 ++ drop from bytes) (sym none) }
-  where
-    none : from - from ≡ 0
-    none = omega arith
-
 -- an empty line is where a line is fed and has no bytes
 pub blank_line : (bytes : List ℕ) (left : Option (List ℕ)) (line : LineAt) → IsLineAt bytes left line → line.fed ≡ true → line.end ≤ line.start
     → drop line.start bytes ≡ 10 ∷ drop (line.start + 1) bytes

@@ -15,8 +15,7 @@ pub mod ScriptLemmas
 pub mod ScriptLineLemmas
 pub mod ScriptBatchLemmas
 pub mod WordDecidingLemmas
-pub mod ScriptNumberLemmas
-pub mod ScriptCitingLemmas
+pub mod AssertionLemmas
 pub mod ScriptAnswerLemmas
 pub mod ScriptReadingLemmas
 pub mod ScriptLawLemmas

@@ -61,9 +61,6 @@ back_lacks c (x ∷ xs) ys f = back_lacks c xs ys f.1
 pub head_line : (bytes head tail : List ℕ) → CutsAt bytes head tail → IsOneLine bytes → IsOneLine head
 head_line bytes head tail cut one = front_lacks 10 head (32 ∷ tail) (subst (Lacks 10) cut.is one)
 
-pub tail_line : (bytes head tail : List ℕ) → CutsAt bytes head tail → IsOneLine bytes → IsOneLine tail
-tail_line bytes head tail cut one = (back_lacks 10 head (32 ∷ tail) (subst (Lacks 10) cut.is one)).1
-
 -- an answer that is none, by its test
 pub none_by : {X : Type 0} (found : Option X) (none : Bool) → is_some found ≡ not none → none ≡ true → found ≡ None
 none_by None none e h = refl
@@ -149,23 +146,5 @@ command_verb (commands.Axioms label) = inr (record { verb = Axioms; rest = label
 command_verb (commands.Cites label) = inr (record { verb = Cites; rest = label; is = refl })
 command_verb (commands.Users label) = inr (record { verb = Users; rest = label; is = refl })
 
--- a line without a space, or with another first word, has no verb
-pub no_verb_uncut : (line : List ℕ) → HasNoSpace line → HasVerb line → ⊥
-no_verb_uncut line none has = uncut line (verb_word has.verb) has.rest none has.is
-
 pub no_verb : (line head tail : List ℕ) → CutsAt line head tail → ((verb : Verb) → head ≢ verb_word verb) → HasVerb line → ⊥
 no_verb line head tail cut none has = none has.verb (cut_so line head tail (verb_word has.verb) has.rest cut (verb_space has.verb) has.is).0
-
--- the line begins with its verb
-pub begins_so : (line head tail : List ℕ) (verb : Verb) → CutsAt line head tail → head ≡ verb_word verb → BeginsWith line verb (length head + 1)
-begins_so line head tail verb cut is =
-    let long : length line ≡ length head + (length tail + 1) = omega (arith, ap length cut.is, length-append head (32 ∷ tail)) in
-    let behind : drop (length head + 1) line ≡ tail = ap (drop (length head + 1)) cut.is ∙ drop_behind head tail in
-    record {
-      within = omega (arith, long);
-      from_is = ap (λ (xs : List ℕ). length xs + 1) is;
-      is = cut.is ∙ ap (λ (xs : List ℕ). xs ++ 32 ∷ tail) is ∙ ap (λ (xs : List ℕ). verb_word verb ++ 32 ∷ xs) (sym behind);
-    }
-  where
-    drop_behind : (xs ys : List ℕ) → drop (length xs + 1) (xs ++ 32 ∷ ys) ≡ ys
-    drop_behind xs ys = ap (drop (length xs + 1)) (sym (append_assoc xs (32 ∷ []) ys)) ∙ drop_at (xs ++ 32 ∷ []) ys (length xs + 1) (length-append xs (32 ∷ []))

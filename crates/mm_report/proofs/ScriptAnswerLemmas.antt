@@ -14,7 +14,7 @@ use Rattle.mm_store.specs.Language.FilesView.{File, plain}
 use Rattle.mm_frame.specs.Language.Base.{BaseView, IsOfFiles}
 use Rattle.mm_frame.specs.Language.Laws.{HasOwnLabels}
 use Rattle.mm_keep.specs.Language.Citations.{Cites, IsAxiomOf}
-use Rattle.mm_keep.specs.Language.Laws.{OneListOfRuns}
+use Rattle.mm_keep.specs.Language.Laws.{IsOneList, OneListEach, OneListOfRuns}
 use Rattle.mm_keep.specs.Language.Runs.{AreRunsOf}
 use Rattle.mm_keep.specs.Language.Sessions.{SessionView, AreNumbersOf, HasAssertion}
 use Rattle.mm_keep.specs.Language.Told.{IsRightlyTold}
@@ -25,13 +25,14 @@ use Rattle.mm_report.specs.Language.Script.{Command, Change, Batch, Report, Verd
 use Rattle.mm_report.specs.Language.ScriptLaws.{AnswersBegin, AreAlike, AreTheFirst, HasItems, OneScriptAnswer}
 use Rattle.mm_report.proofs.AnswerLemmas.{same_report, same_told}
 use Rattle.mm_report.proofs.DatabaseLemmas.{Database, Laws, same_items}
-use Rattle.mm_report.proofs.ScriptCitingLemmas.{assertion_by_said, axiom_by_said, cites_by_said, one_assertion, same_those, saying}
+use Rattle.mm_report.proofs.AssertionLemmas.{assertion_by_said, one_assertion, saying}
 use Rattle.mm_report.proofs.ScriptLemmas.{divisions_agree, one_end, one_reading}
 
 -- what is known of all files, their edits, runs and labels
 pub record AnswerLaws : Type 0 where
   pub database : Laws
   pub runs : OneListOfRuns
+  pub lists : OneListEach
   pub labels : HasOwnLabels
   pub edits : (edit : Asked) (files a b : List File) → IsEditOf edit files a → IsEditOf edit files b → a ≡ b
   pub refused : (edit : Asked) (files after : List File) (error : EditError) → IsEditOf edit files after → IsEditError edit files error → error ≡ Memory
@@ -167,23 +168,14 @@ same_verdict laws s t label x y a (inr f) (inr g) =
     let told : f.0 ≡ g.0 = same_told laws.database (database s t f.1.0 one f.1.1) (itself t g.1.0 g.1.1) g.1.2.0 f.0 g.0 (subst (λ (i : ℕ). IsRightlyTold s.files f.1.0 i f.0) number f.1.2.2) g.1.2.2 in
     f.2 ∙ (λ i. told_line (names_of (a.files i)) label (told i)) ∙ sym g.2
 
--- the numbers that stand so to the assertion of a label
-same_numbers : AnswerLaws → (s t : SessionView) (label : List ℕ) (stands : BaseView → ℕ → ℕ → Type 0) (xs ys : List ℕ) → ((base other : BaseView) (i k : ℕ) → base.said ≡ other.said → stands base i k → stands other i k)
-    → AreAlike s t → AreNumbersOf s label stands xs → AreNumbersOf t label stands ys → xs ≡ ys
-same_numbers laws s t label stands xs ys moves a f g =
-    let said : f.0.said ≡ g.0.said = same_said laws.database s t f.0 g.0 (one_of s t a) f.1 g.1 in
-    let number : f.2.0 ≡ g.2.0 = one_assertion laws.labels f.0 g.0 label f.2.0 g.2.0 said f.2.1 g.2.1 in
-    same_those (stands f.0 f.2.0) (stands g.0 g.2.0) (length f.0.said) (length g.0.said) xs ys (ap length said)
-    (λ k h. moves f.0 g.0 g.2.0 k said (subst (λ (i : ℕ). stands f.0 i k) number h))
-    (λ k h. subst (λ (i : ℕ). stands f.0 i k) (sym number) (moves g.0 f.0 g.2.0 k (sym said) h)) f.2.2 g.2.2
-
-same_found : AnswerLaws → (s t : SessionView) (label : List ℕ) (stands : BaseView → ℕ → ℕ → Type 0) (x y : List ℕ) → ((base other : BaseView) (i k : ℕ) → base.said ≡ other.said → stands base i k → stands other i k)
+-- the items that stand so to the assertion of a label, where they are one list
+same_found : AnswerLaws → (s t : SessionView) (label : List ℕ) (stands : BaseView → ℕ → ℕ → Type 0) (x y : List ℕ) → IsOneList (λ session label numbers. AreNumbersOf session label stands numbers)
     → AreAlike s t → IsUnknown s label x ⊎ IsFound s (AreNumbersOf s label stands) x → IsUnknown t label y ⊎ IsFound t (AreNumbersOf t label stands) y → x ≡ y
-same_found laws s t label stands x y moves a (inl f) (inl g) = f.answer_is ∙ sym g.answer_is
-same_found laws s t label stands x y moves a (inl f) (inr g) = absurd (f.none (has_too laws s t label a (g.1.0, g.1.1, (g.1.2.0, g.1.2.1))))
-same_found laws s t label stands x y moves a (inr f) (inl g) = absurd (g.none (has_there laws s t label a (f.1.0, f.1.1, (f.1.2.0, f.1.2.1))))
-same_found laws s t label stands x y moves a (inr f) (inr g) =
-    let numbers : f.0 ≡ g.0 = same_numbers laws s t label stands f.0 g.0 moves a f.1 g.1 in
+same_found laws s t label stands x y one a (inl f) (inl g) = f.answer_is ∙ sym g.answer_is
+same_found laws s t label stands x y one a (inl f) (inr g) = absurd (f.none (has_too laws s t label a (g.1.0, g.1.1, (g.1.2.0, g.1.2.1))))
+same_found laws s t label stands x y one a (inr f) (inl g) = absurd (g.none (has_there laws s t label a (f.1.0, f.1.1, (f.1.2.0, f.1.2.1))))
+same_found laws s t label stands x y one a (inr f) (inr g) =
+    let numbers : f.0 ≡ g.0 = one s t label f.0 g.0 a.files a.top f.1 g.1 in
     let said : f.2.0.said ≡ g.2.0.said = same_said laws.database s t f.2.0 g.2.0 (one_of s t a) f.2.1 g.2.1 in
     f.2.2 ∙ same_listed (codes "found") f.2.0 g.2.0 f.0 g.0 said numbers ∙ sym g.2.2
 
@@ -194,9 +186,9 @@ same_answer laws s t new copy (Change edit) x y a f g = same_edit laws s t new c
 same_answer laws s t new copy (Batch edits) x y a f g = same_batch_answer laws s t new copy (map (λ listed. listed.edit) edits) x y a f g
 same_answer laws s t new copy Report x y a f g = (same_report laws.database s t x y a.files a.top f.0 g.0, unchanged s t new copy a f.1 g.1)
 same_answer laws s t new copy (Verdict label) x y a f g = (same_verdict laws s t label x y a f.0 g.0, unchanged s t new copy a f.1 g.1)
-same_answer laws s t new copy (Axioms label) x y a f g = (same_found laws s t label (λ base i k. IsAxiomOf base i k) x y axiom_by_said a f.0 g.0, unchanged s t new copy a f.1 g.1)
-same_answer laws s t new copy (CitesOf label) x y a f g = (same_found laws s t label (λ base i k. Cites base i k) x y cites_by_said a f.0 g.0, unchanged s t new copy a f.1 g.1)
-same_answer laws s t new copy (Users label) x y a f g = (same_found laws s t label (λ base i k. Cites base k i) x y (λ base other i k e c. cites_by_said base other k i e c) a f.0 g.0, unchanged s t new copy a f.1 g.1)
+same_answer laws s t new copy (Axioms label) x y a f g = (same_found laws s t label (λ base i k. IsAxiomOf base i k) x y laws.lists.2 a f.0 g.0, unchanged s t new copy a f.1 g.1)
+same_answer laws s t new copy (CitesOf label) x y a f g = (same_found laws s t label (λ base i k. Cites base i k) x y laws.lists.0 a f.0 g.0, unchanged s t new copy a f.1 g.1)
+same_answer laws s t new copy (Users label) x y a f g = (same_found laws s t label (λ base i k. Cites base k i) x y laws.lists.1 a f.0 g.0, unchanged s t new copy a f.1 g.1)
 
 pub same_answers : AnswerLaws → (s t new copy : SessionView) (commands : List Command) (x y : List ℕ) → AreAlike s t → AreAnswers s commands x new → AreAnswers t commands y copy → (x ≡ y) × AreAlike new copy
 same_answers laws s t new copy [] x y a f g = (f.0 ∙ sym g.0, unchanged s t new copy a f.1 g.1)

@@ -270,17 +270,6 @@ none_so_far bytes none = record { are = record { good = tt; joined = refl }; lon
 pub none_is_read : (bytes : List ℕ) → NoEntry bytes → NoLast bytes → IsReading bytes [] bytes
 none_is_read bytes none plain = reading_ended bytes [] bytes tt refl none plain
 
--- and the other way round
-pub so_far_none : (bytes : List ℕ) → IsReadSoFar bytes [] bytes → NoEntry bytes
-so_far_none bytes r x left g e =
-    let l : 1 ≤ 0 = r.longest (x ∷ []) left (record { good = (g, tt); joined = e ∙ ap (λ (w : List ℕ). w ++ left) (sym (append-nil (entry_bytes x))) }) in
-    omega arith
-
-pub read_none : (bytes : List ℕ) → IsReading bytes [] bytes → NoEntry bytes
-read_none bytes r x left g e =
-    let l : 1 ≤ 0 = r.longest (x ∷ []) left (record { good = (g, tt); joined = inl (e ∙ ap (λ (w : List ℕ). w ++ left) (sym (append-nil (entry_bytes x)))) }) in
-    omega arith
-
 pub good_more : (a b : List Entry) → AreGood a → AreGood b → AreGood (a ++ b)
 good_more [] b g h = h
 good_more (x ∷ a) b g h = (g.0, good_more a b g.1 h)

@@ -27,9 +27,6 @@ pushed [] x (suc k) y e = cc
 pushed (z ∷ xs) x zero y e = inl e
 pushed (z ∷ xs) x (suc k) y e = elim (pushed xs x k y e) [ inl h ↦ inl h | inr h ↦ inr (ap suc h.0, h.1) ]
 
-told_none : (files : FilesView) (base : BaseView) → ToldUpTo files base 0 []
-told_none files base = record { count = refl; each = λ k other e. absurd (cc) }
-
 told_more : (files : FilesView) (base : BaseView) (n : ℕ) (all : List Told) (one : Told) → IsRightlyTold files base n one → ToldUpTo files base n all → ToldUpTo files base (n + 1) (all ++ one ∷ [])
 told_more files base n all one t f = record {
   count = length-append all (one ∷ []) ∙ ap (λ k. k + 1) f.count;
@@ -73,10 +70,6 @@ label_is session i label alone labelled base is =
     labelled.2 ∙ ap (λ (view : BaseView). (said_at view i).label) same
 
 -- ---- what is written
-
--- nothing yet
-pub none_written : (session : SessionView) (now : Option (List ℕ)) (tally : Counts) → Appends now now [] → tally ≡ counts [] → AreWrittenUpTo session 0 now now tally
-none_written session now tally nothing counted base is = record { all = []; are_told = told_none session.files base; appends = nothing; are_counted = counted }
 
 module _ (session : SessionView) (old now : Option (List ℕ)) (n : ℕ) (tally : Counts) (one : Told) (alone : FilesHaveOneBase) (found : IsFinding session n one) where
   -- what is told of an item is told of it in whatever base of the session

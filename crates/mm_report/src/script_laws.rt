@@ -42,6 +42,7 @@ pub fn one_script_answer()
     mm_frame::has_own_labels();
     mm_proof::has_one_verdict_at();
     mm_keep::one_list_of_runs();
+    mm_keep::one_list_each();
 }
 
 /// The answers to the first commands of a script are a beginning of all its answers.
@@ -55,6 +56,7 @@ pub fn answers_begin()
     mm_frame::has_own_labels();
     mm_proof::has_one_verdict_at();
     mm_keep::one_list_of_runs();
+    mm_keep::one_list_each();
 }
 
 /// Some scripts, and how they are read: with texts and batches, cut short, and with bad lines.

@@ -94,7 +94,7 @@ const TEXTS: [&[u8]; 32] = [
 ];
 
 /// The next of a row of numbers, below a bound; 0 where the bound is 0.
-fn next_below(seed: &mut u64, bound: usize) -> usize {
+pub fn next_below(seed: &mut u64, bound: usize) -> usize {
     *seed = seed
         .wrapping_mul(6_364_136_223_846_793_005)
         .wrapping_add(1_442_695_040_888_963_407);

@@ -15,17 +15,15 @@ pub use outcome::{Outcome, outcome_of_stop, status};
 use std::process::ExitCode;
 
 #[cfg(test)]
+mod chance_script_tests;
+#[cfg(test)]
 mod chance_tests;
 #[cfg(test)]
 mod command_tests;
 #[cfg(test)]
-mod fault_tests;
-#[cfg(test)]
 mod files_tests;
 #[cfg(test)]
 mod loading_tests;
-#[cfg(test)]
-mod proof_tests;
 #[cfg(test)]
 mod script_tests;
 #[cfg(test)]
@@ -36,8 +34,6 @@ mod story_tests;
 mod stream_tests;
 #[cfg(test)]
 mod tests;
-#[cfg(test)]
-mod theorem_tests;
 
 fn main(rt: HostRuntime) -> ExitCode {
     ExitCode::from(status(&program::run(&rt)))

@@ -1,21 +1,13 @@
 -- What the assertions of a database cite: directly, and by chains of citations.
-use Rattle.std.specs.Prelude.{◌≡◌, ℕ, true, Ok, List, Contains}
+use Rattle.std.specs.Prelude.{◌≡◌, ℕ, true}
 use Rattle.mm_frame.specs.Language.Base.{BaseView, is_proof_at}
-use Rattle.mm_frame.specs.Language.Resolving.{Resolves}
-use Rattle.mm_frame.specs.declared.base.Resolved.TheVariants.{Assertion}
-use Rattle.mm_proof.specs.Language.Expansion.{Named}
-use Rattle.mm_proof.specs.Language.Verdict.{Decoded}
-use Rattle.mm_proof.specs.Language.VerdictAt.{decoding_at}
+use Rattle.mm_proof.specs.Language.CitingLaws.{NamesAssertionAt}
 use Rattle.mm_keep.specs.Language.Told.{IsAxiom}
 
 -- item i cites item k: it is a sound `$p`, and a decoded step of its proof names a label that means the assertion k there
 pub record Cites (base : BaseView) (i k : ℕ) : Type 0 where
   pub theorem : is_proof_at base i ≡ true
-  pub decoded : Decoded
-  pub decodes : decoding_at base i ≡ Ok decoded
-  pub label : List ℕ
-  pub named : Contains decoded.steps (Named label)
-  pub means : Resolves base i label (Assertion k)
+  pub names : NamesAssertionAt base i k
 
 -- a chain of citations leads from an item to item k; the chain of no citation leads from k to itself
 pub data LeadsTo (base : BaseView) (k : ℕ) : ℕ → Type 0 where

@@ -1,8 +1,8 @@
 use Rattle.mm_report.proofs.ScriptAnswerLemmas.{AnswerLaws, answers_begin as law}
 use Rattle.mm_report.proofs.script_laws.answers_begin.Goals as goal
-use Rattle.mm_report.proofs.script_laws.answers_begin.Goals.{After-one_list_of_runs}
+use Rattle.mm_report.proofs.script_laws.answers_begin.Goals.{After-one_list_each}
 
-laws : After-one_list_of_runs → AnswerLaws
+laws : After-one_list_each → AnswerLaws
 laws c = record {
   database = record {
     words = c.one_meaning.ensures.words;
@@ -11,6 +11,7 @@ laws c = record {
     stand = c.items_stand.ensures.stand;
   };
   runs = c.one_list_of_runs.ensures;
+  lists = c.one_list_each.ensures;
   labels = c.has_own_labels.ensures;
   edits = c.one_edit.ensures.files;
   refused = c.one_edit.ensures.refused;

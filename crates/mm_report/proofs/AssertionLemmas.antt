@@ -1,0 +1,31 @@
+-- The assertion of a label depends on what the items say, and on nothing else.
+use Rattle.std.proofs.Common.{◌≡◌, ℕ, ◌<◌, Bool, true, false, ◌&&◌, List, [], length, sym, ap, ◌∙◌, subst}
+use Rattle.mm_frame.specs.Language.Base.{BaseView, said_at, is_framed_at, is_sound_at}
+use Rattle.mm_frame.specs.Language.Item.{Kind, Axiom, Theorem, Item, item_at, is_assertion, is_labelled}
+use Rattle.mm_frame.specs.Language.Laws.{HasOwnLabels}
+use Rattle.mm_frame.specs.Language.Resolving.{IsCarrier}
+use Rattle.mm_keep.specs.Language.Sessions.{IsAssertion}
+
+-- items that say this, wherever they are
+abbrev pub saying : List Item → BaseView
+saying said = record { found = []; said = said }
+
+pub assertion_by_said : (base other : BaseView) (label : List ℕ) (i : ℕ) → base.said ≡ other.said → IsAssertion base label i → IsAssertion other label i
+assertion_by_said base other label i e a = record {
+  within = subst (λ (said : List Item). i < length said) e a.within;
+  framed = sym (ap (λ (said : List Item). is_framed_at (saying said) i) e) ∙ a.framed;
+  label_is = sym (ap (λ (said : List Item). (item_at said i).label) e) ∙ a.label_is;
+}
+
+shown_by : (sound : Bool) (kind : Kind) → (sound && is_assertion kind) ≡ true → (sound && is_labelled kind) ≡ true
+shown_by false kind e = cc
+shown_by true Axiom e = e
+shown_by true Theorem e = e
+shown_by true _ e = absurd (cc)
+
+carrier : (base : BaseView) (label : List ℕ) (i : ℕ) → IsAssertion base label i → IsCarrier base label i
+carrier base label i a = record { shown = shown_by (is_sound_at base i) (said_at base i).kind a.framed; label_is = a.label_is }
+
+-- one label has one assertion
+pub one_assertion : HasOwnLabels → (base other : BaseView) (label : List ℕ) (i j : ℕ) → base.said ≡ other.said → IsAssertion base label i → IsAssertion other label j → i ≡ j
+one_assertion own base other label i j e a b = own other i j label (carrier other label i (assertion_by_said base other label i e a)) (carrier other label j b)
