@@ -38,8 +38,6 @@ pub use symbol::{NamedSymbol, NumberedSymbol, Symbol};
 #[cfg(test)]
 mod base_tests;
 #[cfg(test)]
-mod fault_tests;
-#[cfg(test)]
 mod frame_tests;
 #[cfg(test)]
 mod tests;

@@ -13,7 +13,7 @@ use std::alloc::{AllocError, Global};
 use std::test::Fail;
 
 /// Ten sound items: x is declared again behind its block, and keeps its `$f`.
-pub const ROWS: &[u8] =
+const ROWS: &[u8] =
     b"$c wff |- $.\n${ $v x $.\nwx $f wff x $.\nex $e |- x $. $}\n$v y x $.\nwy $f wff y $.\nax $a |- y $.\nth $p |- y $= wy ax $.\n";
 
 /// Files with one text, and its items.

@@ -9,7 +9,7 @@ use std::process::Abort;
 use std::test::Fail;
 
 /// The first five lines of the small logic that most texts here begin with.
-pub const FIVE: &[u8] =
+const FIVE: &[u8] =
     b"$c wff |- -> ( ) $.\n$v p q $.\nwp $f wff p $.\nwq $f wff q $.\nwi $a wff ( p -> q ) $.\n";
 
 /// Its sixth line.
@@ -34,7 +34,7 @@ const FAULTS: &[u8] =
         ${ $v x $. vx $f |- x $. $}\nx $a wff $.\na $a wff y $.\n$v a $.\n$c $.\n";
 
 /// Some lines and more behind them.
-pub fn joined(
+fn joined(
     rt: &(impl AllocGlobal + Abort),
     first: &[u8],
     behind: &[u8],
@@ -120,7 +120,7 @@ fn reports_as(
 }
 
 /// Checks so of a text by the name that most have here.
-pub fn reports(
+fn reports(
     rt: &(impl AllocGlobal + Abort),
     text: &[u8],
     clean: bool,
