@@ -34,11 +34,7 @@ const FAULTS: &[u8] =
         ${ $v x $. vx $f |- x $. $}\nx $a wff $.\na $a wff y $.\n$v a $.\n$c $.\n";
 
 /// Some lines and more behind them.
-fn joined(
-    rt: &(impl AllocGlobal + Abort),
-    first: &[u8],
-    behind: &[u8],
-) -> Result<Vec<u8>, Fail> {
+fn joined(rt: &(impl AllocGlobal + Abort), first: &[u8], behind: &[u8]) -> Result<Vec<u8>, Fail> {
     let mut text = Vec::from_slice(rt.alloc(), first)?;
     text.extend_from_slice(behind)?;
     Ok(text)
