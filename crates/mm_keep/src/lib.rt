@@ -5,8 +5,6 @@
 mod answers;
 mod cited;
 mod citing;
-#[cfg(test)]
-mod citing_tests;
 mod finding;
 mod keeping;
 mod laws;

@@ -53,10 +53,6 @@ front_lacks : (c : ℕ) (xs ys : List ℕ) → Lacks c (xs ++ ys) → Lacks c xs
 front_lacks c [] ys f = tt
 front_lacks c (x ∷ xs) ys f = (f.0, front_lacks c xs ys f.1)
 
-back_lacks : (c : ℕ) (xs ys : List ℕ) → Lacks c (xs ++ ys) → Lacks c ys
-back_lacks c [] ys f = f
-back_lacks c (x ∷ xs) ys f = back_lacks c xs ys f.1
-
 -- the parts of one line are of one line
 pub head_line : (bytes head tail : List ℕ) → CutsAt bytes head tail → IsOneLine bytes → IsOneLine head
 head_line bytes head tail cut one = front_lacks 10 head (32 ∷ tail) (subst (Lacks 10) cut.is one)

@@ -24,10 +24,3 @@ pub use script_laws::{
     reading_goes_on, scripts_are_read_so,
 };
 pub use stream::{WriteFailed, Writing};
-
-#[cfg(test)]
-mod entry_tests;
-#[cfg(test)]
-mod script_tests;
-#[cfg(test)]
-mod stream_tests;

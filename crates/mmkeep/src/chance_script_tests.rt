@@ -2,23 +2,13 @@
 //! and the session behind it are the same.
 
 use crate::chance_tests::next_below;
-use crate::session_tests::{begun, report_of};
-use crate::story_tests::Named;
+use crate::session_tests::{FILES, begun, report_of};
 use mm_keep::StoreError;
 use mm_report::{Reading, ScriptError, Writing, run_script};
 use std::alloc::{AllocError, Global};
 use std::io;
 use std::io::{Read, Write};
 use std::test::Fail;
-
-/// A logic, a theorem by its rule, and one with a compressed proof.
-const FILES: &[Named] = &[(
-    b"a.mm",
-    b"$c wff |- -> ( ) $.\n$v p q $.\nwp $f wff p $.\nwq $f wff q $.\nwi $a wff ( p -> q ) $.\n\
-        ${ mi $e |- p $. ma $e |- ( p -> q ) $. mp $a |- q $. $}\n\
-        ${ h1 $e |- p $. h2 $e |- ( p -> q ) $. th $p |- q $= wp wq h1 h2 mp $. $}\n\
-        id $p wff ( ( p -> p ) -> ( p -> p ) ) $= ( wi ) AABZCB $.\n",
-)];
 
 /// What a script is made of: commands that are done and refused, empty lines, and, last, some that end it.
 const LINES: [&[u8]; 32] = [
@@ -92,7 +82,7 @@ fn add_long(script: &mut Vec<u8>) -> Result<(), AllocError> {
     Ok(())
 }
 
-/// A reader that gives some bytes a call, by chance, and a most of them.
+/// A reader that gives some bytes a call, by chance, `most` of them at most.
 #[derive(Drop)]
 struct Parts<'a> {
     left: &'a [u8],
@@ -110,7 +100,7 @@ impl Read for Parts<'_> {
     }
 }
 
-/// A writer that takes some bytes a call, by chance, and a most of them.
+/// A writer that takes some bytes a call, by chance, `most` of them at most.
 #[derive(Drop)]
 struct Taken {
     bytes: Vec<u8>,

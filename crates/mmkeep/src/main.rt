@@ -21,8 +21,6 @@ mod chance_tests;
 #[cfg(test)]
 mod command_tests;
 #[cfg(test)]
-mod files_tests;
-#[cfg(test)]
 mod loading_tests;
 #[cfg(test)]
 mod script_tests;
@@ -32,8 +30,6 @@ mod session_tests;
 mod story_tests;
 #[cfg(test)]
 mod stream_tests;
-#[cfg(test)]
-mod tests;
 
 fn main(rt: HostRuntime) -> ExitCode {
     ExitCode::from(status(&program::run(&rt)))

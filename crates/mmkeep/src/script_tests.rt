@@ -1,7 +1,6 @@
 //! Scripts over readers that give little at a time or fail, and over writers that do.
 
-use crate::session_tests::{begun, has_report};
-use crate::story_tests::Named;
+use crate::session_tests::{CLEAN, FILES, begun, has_report};
 use crate::stream_tests::{Broken, Slow};
 use mm_keep::{Session, StoreError};
 use mm_report::{Reading, ScriptError, Writing, run_script};
@@ -10,22 +9,12 @@ use std::io;
 use std::io::Read;
 use std::test::Fail;
 
-/// A logic, a theorem by its rule, and one with a compressed proof.
-const FILES: &[Named] = &[(
-    b"a.mm",
-    b"$c wff |- -> ( ) $.\n$v p q $.\nwp $f wff p $.\nwq $f wff q $.\nwi $a wff ( p -> q ) $.\n\
-        ${ mi $e |- p $. ma $e |- ( p -> q ) $. mp $a |- q $. $}\n\
-        ${ h1 $e |- p $. h2 $e |- ( p -> q ) $. th $p |- q $= wp wq h1 h2 mp $. $}\n\
-        id $p wff ( ( p -> p ) -> ( p -> p ) ) $= ( wi ) AABZCB $.\n",
-)];
-
-/// Its report, and that where the hypotheses of the rule are exchanged.
-const CLEAN: &[u8] = b"axioms 2 theorems 2 proved 2 incomplete 0 wrong 0 faults 0\n";
-
-const EXCHANGED: &[u8] =
+/// The report where the hypotheses of the rule are exchanged.
+const BROKEN: &[u8] =
     b"wrong th a.mm:7:67 P09\naxioms 2 theorems 2 proved 1 incomplete 0 wrong 1 faults 0\n";
 
-/// A script that exchanges them: its line ends behind 18 bytes, the line feed behind its text behind 76.
+/// A script that exchanges the hypotheses of the rule: its line ends behind 18 bytes, the line feed behind its text behind
+/// 76.
 const SCRIPT: &[u8] =
     b"replace a.mm 5 57\n${ ma $e |- ( p -> q ) $. mi $e |- p $. mp $a |- q $. $}\n\nreport\n";
 
@@ -113,9 +102,9 @@ fn ends_at_read(alloc: Global, n: usize) -> Result<bool, StoreError> {
         return ends_so(alloc, from, 99, end, b"", CLEAN);
     }
     if come < 83 {
-        return ends_so(alloc, from, 99, end, b"ran 1\nth\n", EXCHANGED);
+        return ends_so(alloc, from, 99, end, b"ran 1\nth\n", BROKEN);
     }
-    ends_so(alloc, from, 99, end, ANSWERS, EXCHANGED)
+    ends_so(alloc, from, 99, end, ANSWERS, BROKEN)
 }
 
 #[test]
@@ -159,7 +148,7 @@ fn a_failed_write_ends_a_script(rt: HostRuntime) -> Result<(), Fail> {
     for n in 1..48 {
         let mut session = begun(rt.alloc(), FILES)?;
         assert!(rt; ends_at_write(rt.alloc(), &mut session, n), "at write {n}");
-        assert!(rt; has_report(rt.alloc(), &session, EXCHANGED), "at write {n}");
+        assert!(rt; has_report(rt.alloc(), &session, BROKEN), "at write {n}");
     }
     Ok(())
 }
@@ -173,6 +162,37 @@ fn answers_are_written_slowly(rt: HostRuntime) -> Result<(), Fail> {
     let ended = run_script(rt.alloc(), &mut session, &mut reading, &mut writing);
     assert_eq!(rt; ended, Ok(()));
     assert_eq!(rt; writing.into_inner().taken.as_slice(), ANSWERS);
+    Ok(())
+}
+
+/// Commands, and what each is answered, as soon as it is whole: a byte a call, and the read behind it fails.
+const WHOLE: [(&[u8], &[u8]); 9] = [
+    (b"\n\nreport\n", CLEAN),
+    (b"verdict th\r\n", b"refused K01\n"),
+    (b"axioms th\n", b"found 1\nmp\n"),
+    (b"delete a.mm 8\n", b"refused S02 8\n"),
+    (b"move a.mm 4294967295 0\n", b"refused S02 8\n"),
+    (b"insert a.mm 0 0\n\n", b"refused S04 0\n"),
+    (b"replace a.mm 8 3\na\nb\n", b"refused S02 8\n"),
+    (b"batch 0\n", b"ran 0\n"),
+    (
+        b"batch 2\n\n\nmove a.mm 6 7\n\ninsert a.mm 0 2\n\n\n\n",
+        b"refused 1 S04 0\n",
+    ),
+];
+
+#[test]
+fn answers_a_command_that_is_whole(rt: HostRuntime) -> Result<(), Fail> {
+    for n in 0..WHOLE.len() {
+        let (script, answers) = WHOLE[n];
+        let mut from = reader_of(script, 1);
+        from.fails_at = script.len().saturating_add(1);
+        let end = Err(ScriptError::Read);
+        assert!(rt;
+            ends_so(rt.alloc(), from, 99, end, answers, CLEAN)?,
+            "row {n}"
+        );
+    }
     Ok(())
 }
 

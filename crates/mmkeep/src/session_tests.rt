@@ -15,8 +15,11 @@ const LOGIC: &[u8] =
 
 const NAME: &[u8] = b"a.mm";
 
+/// Its file.
+pub const FILES: &[Named] = &[(NAME, LOGIC)];
+
 /// The report where nothing is wrong.
-const CLEAN: &[u8] = b"axioms 2 theorems 2 proved 2 incomplete 0 wrong 0 faults 0\n";
+pub const CLEAN: &[u8] = b"axioms 2 theorems 2 proved 2 incomplete 0 wrong 0 faults 0\n";
 
 /// Edits that are done together, the labels of the theorems that they run, and the report behind them.
 #[derive(Clone, Copy)]
@@ -161,7 +164,7 @@ pub fn has_report(alloc: Global, session: &Session, report: &[u8]) -> bool {
 
 /// Whether edits run these theorems, and leave this report and no parked piece.
 fn holds(alloc: Global, row: &Row) -> Result<bool, StoreError> {
-    let mut session = begun(alloc, &[(NAME, LOGIC)])?;
+    let mut session = begun(alloc, FILES)?;
     let Ok(work) = session.edit_all(alloc, row.edits) else {
         return Ok(false);
     };
@@ -182,7 +185,7 @@ fn edits_run_what_they_change(rt: HostRuntime) -> Result<(), Fail> {
 
 #[test]
 fn a_session_begins_with_each_theorem(rt: HostRuntime) -> Result<(), Fail> {
-    let files = files_of(rt.alloc(), &[(NAME, LOGIC)])?;
+    let files = files_of(rt.alloc(), FILES)?;
     let (session, work) = begun_files(rt.alloc(), files, NAME)?;
     assert!(rt; are_labels(&session, work.runs(), &[b"th", b"id"]));
     assert_eq!(rt; work.steps(), 11);
@@ -192,7 +195,7 @@ fn a_session_begins_with_each_theorem(rt: HostRuntime) -> Result<(), Fail> {
 
 #[test]
 fn a_refused_edit_leaves_a_session(rt: HostRuntime) -> Result<(), Fail> {
-    let mut session = begun(rt.alloc(), &[(NAME, LOGIC)])?;
+    let mut session = begun(rt.alloc(), FILES)?;
     let beyond = Edit::Delete { file: NAME, at: 9 };
     let both = session.edit_all(rt.alloc(), &[EXCHANGED, beyond]).err();
     assert!(rt; both == Some(BatchError::Edit(1, EditError::NoPiece(8))));

@@ -1,11 +1,18 @@
 //! What is written by writers that take little, or fail.
 
-use crate::tests::{VerifyError, verify_text, with_line};
-use mm_report::Writing;
+use crate::session_tests::begun;
+use mm_report::{ReportError, Writing, write_report};
 use std::alloc::Global;
 use std::io;
 use std::io::Write;
 use std::test::Fail;
+
+/// A text with a fault and a wrong proof, and its report.
+const TEXT: &[u8] =
+    b"$c wff |- -> ( ) $.\n$v p q $.\nwp $f wff p $.\nwq $f wff q $.\na $a wff r $. t $p wff p $= wq $.\n";
+
+const REPORT: &[u8] =
+    b"fault a.mm:5:10 F10 r\nwrong t a.mm:5:32 P15\naxioms 0 theorems 1 proved 0 incomplete 0 wrong 1 faults 1\n";
 
 /// A writer that takes one byte a call, and none from a call on.
 #[derive(Drop)]
@@ -48,22 +55,20 @@ impl Write for Slow {
 
 #[test]
 fn writes_slowly_and_fails(rt: HostRuntime) -> Result<(), Fail> {
-    let text = with_line(&rt, b"a $a wff r $. t $p wff p $= wq $.\n")?;
-    let report =
-        b"fault a.mm:6:10 F10 r\nwrong t a.mm:6:32 P15\naxioms 1 theorems 1 proved 0 incomplete 0 wrong 1 faults 1\n";
-    for calls in 0..report.len() + 2 {
+    let session = begun(rt.alloc(), &[(b"a.mm", TEXT)])?;
+    for calls in 0..REPORT.len() + 2 {
         let mut writing = Writing::new(Slow::new(rt.alloc(), calls));
-        let answer = verify_text(rt.alloc(), b"a.mm", &text, &mut writing);
+        let answer = write_report(&session, &mut writing);
         let failed = writing.failed();
         let taken = writing.into_inner().taken;
-        if calls < report.len() {
-            assert_eq!(rt; answer, Err(VerifyError::Write));
+        if calls < REPORT.len() {
+            assert_eq!(rt; answer, Err(ReportError::Write));
             assert!(rt; failed);
-            assert_eq!(rt; taken.as_slice(), &report[..calls]);
+            assert_eq!(rt; taken.as_slice(), &REPORT[..calls]);
         } else {
-            assert_eq!(rt; answer, Ok(false));
+            assert_eq!(rt; answer, Ok(()));
             assert!(rt; !failed);
-            assert_eq!(rt; taken.as_slice(), report.as_slice());
+            assert_eq!(rt; taken.as_slice(), REPORT);
         }
     }
     Ok(())
@@ -105,22 +110,20 @@ impl Write for Broken {
 /// Behind a call that failed there is none.
 #[test]
 fn calls_no_more_after_a_failure(rt: HostRuntime) -> Result<(), Fail> {
-    let text = with_line(&rt, b"a $a wff r $. t $p wff p $= wq $.\n")?;
-    let report =
-        b"fault a.mm:6:10 F10 r\nwrong t a.mm:6:32 P15\naxioms 1 theorems 1 proved 0 incomplete 0 wrong 1 faults 1\n";
+    let session = begun(rt.alloc(), &[(b"a.mm", TEXT)])?;
     let mut whole = 0_usize;
     for at in 1..64 {
         let mut writing = Writing::new(Broken::new(rt.alloc(), at));
-        let answer = verify_text(rt.alloc(), b"a.mm", &text, &mut writing);
+        let answer = write_report(&session, &mut writing);
         let broken = writing.into_inner();
         if broken.calls < at {
-            assert_eq!(rt; answer, Ok(false));
-            assert_eq!(rt; broken.taken.as_slice(), report.as_slice());
+            assert_eq!(rt; answer, Ok(()));
+            assert_eq!(rt; broken.taken.as_slice(), REPORT);
             whole = whole.saturating_add(1);
         } else {
-            assert_eq!(rt; answer, Err(VerifyError::Write));
+            assert_eq!(rt; answer, Err(ReportError::Write));
             assert_eq!(rt; broken.calls, at);
-            assert!(rt; report.starts_with(&broken.taken) && broken.taken.len() < report.len());
+            assert!(rt; REPORT.starts_with(&broken.taken) && broken.taken.len() < REPORT.len());
         }
     }
     assert!(rt; 0 < whole && whole < 63);
