@@ -215,19 +215,24 @@ fn add_rewriting<'a>(
     Ok(())
 }
 
-/// What a session runs where all pieces of its files are taken out and these put in.
-fn rewritten_runs(
+/// Edits that take out all pieces of the two files and put in these.
+fn rewriting<'a>(
     alloc: Global,
-    session: &mut Session,
-    first: &Cut,
-    second: &Cut,
-) -> Result<Vec<u8>, Odd> {
+    files: &Files,
+    first: &'a Cut,
+    second: &'a Cut,
+) -> Result<Vec<Edit<'a>>, AllocError> {
     let mut edits = Vec::new(alloc);
-    let before = session.files().piece_count(A).unwrap_or(0);
+    let before = files.piece_count(A).unwrap_or(0);
     add_rewriting(&mut edits, A, before, &first.pieces)?;
-    let before = session.files().piece_count(B).unwrap_or(0);
+    let before = files.piece_count(B).unwrap_or(0);
     add_rewriting(&mut edits, B, before, &second.pieces)?;
-    match session.edit_all(alloc, &edits) {
+    Ok(edits)
+}
+
+/// The labels of what edits run in a session, where they are done.
+fn runs_of(alloc: Global, session: &mut Session, edits: &[Edit<'_>]) -> Result<Vec<u8>, Odd> {
+    match session.edit_all(alloc, edits) {
         Ok(work) => Ok(labels_of(alloc, session, work.runs())?),
         Err(_) => Err(Odd::Lacks),
     }
@@ -238,7 +243,8 @@ fn runs_between(alloc: Global, from: &Texts, to: &Texts) -> Result<Vec<u8>, Odd>
     let mut session = session_of(alloc, from)?;
     let first = cut(alloc, &to.first)?;
     let second = cut(alloc, &to.second)?;
-    rewritten_runs(alloc, &mut session, &first, &second)
+    let edits = rewriting(alloc, session.files(), &first, &second)?;
+    runs_of(alloc, &mut session, &edits)
 }
 
 /// Whether two sessions have the same report.

@@ -1,7 +1,7 @@
 //! How a file is read.
 
 use crate::loading::{FileError, read_all};
-use crate::script_tests::reader_of;
+use crate::stream_tests::reader_of;
 use mm_report::Reading;
 use std::test::Fail;
 

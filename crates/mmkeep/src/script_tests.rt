@@ -1,12 +1,10 @@
 //! Scripts over readers that give little at a time or fail, and over writers that do.
 
 use crate::session_tests::{CLEAN, FILES, begun, has_report};
-use crate::stream_tests::{Broken, Slow};
+use crate::stream_tests::{Broken, Given, Slow, reader_of};
 use mm_keep::{Session, StoreError};
 use mm_report::{Reading, ScriptError, Writing, run_script};
 use std::alloc::Global;
-use std::io;
-use std::io::Read;
 use std::test::Fail;
 
 /// The report where the hypotheses of the rule are exchanged.
@@ -21,38 +19,6 @@ const SCRIPT: &[u8] =
 /// What it is answered; the first answer has 9 bytes.
 const ANSWERS: &[u8] =
     b"ran 1\nth\nwrong th a.mm:7:67 P09\naxioms 2 theorems 2 proved 1 incomplete 0 wrong 1 faults 0\n";
-
-/// A reader that gives some bytes a call, counts its calls, and fails at one of them, counted from 1.
-#[derive(Drop)]
-pub struct Given {
-    bytes: &'static [u8],
-    most: usize,
-    pub fails_at: usize,
-    pub calls: usize,
-}
-
-impl Read for Given {
-    fn read(&mut self, buf: &mut [u8]) -> io::Result<usize> {
-        self.calls = self.calls.saturating_add(1);
-        if self.calls == self.fails_at {
-            return Err(io::Error::from(io::ErrorKind::BrokenPipe));
-        }
-        let count = self.most.min(buf.len()).min(self.bytes.len());
-        buf[..count].copy_from_slice(&self.bytes[..count]);
-        self.bytes = &self.bytes[count..];
-        Ok(count)
-    }
-}
-
-/// A reader of these bytes, so many a call.
-pub fn reader_of(bytes: &'static [u8], most: usize) -> Given {
-    Given {
-        bytes,
-        most,
-        fails_at: 0,
-        calls: 0,
-    }
-}
 
 /// Whether a script over so many calls of a reader ends so, with these answers, and leaves this report.
 fn ends_so(
@@ -153,15 +119,32 @@ fn a_failed_write_ends_a_script(rt: HostRuntime) -> Result<(), Fail> {
     Ok(())
 }
 
-/// A writer that takes one byte a call gets what one gets that takes all.
+/// Whether a script ends so whose answers go to a writer that takes one byte a call, and no more than so many.
+fn ends_slowly(alloc: Global, session: &mut Session, bytes: usize) -> bool {
+    let mut reading = Reading::new(reader_of(b"report\nverdict th\n", 1));
+    let mut writing = Writing::new(Slow::new(alloc, bytes));
+    let ended = run_script(alloc, session, &mut reading, &mut writing);
+    let written = writing.into_inner().taken;
+    let end = if bytes < SLOW.len() {
+        Err(ScriptError::Write)
+    } else {
+        Ok(())
+    };
+    ended == end && written.as_slice() == &SLOW[..bytes.min(SLOW.len())]
+}
+
+/// What is answered then.
+const SLOW: &[u8] = b"axioms 2 theorems 2 proved 2 incomplete 0 wrong 0 faults 0\nproved th\n";
+
 #[test]
 fn answers_are_written_slowly(rt: HostRuntime) -> Result<(), Fail> {
     let mut session = begun(rt.alloc(), FILES)?;
-    let mut reading = Reading::new(reader_of(SCRIPT, 1));
-    let mut writing = Writing::new(Slow::new(rt.alloc(), ANSWERS.len()));
-    let ended = run_script(rt.alloc(), &mut session, &mut reading, &mut writing);
-    assert_eq!(rt; ended, Ok(()));
-    assert_eq!(rt; writing.into_inner().taken.as_slice(), ANSWERS);
+    for bytes in 0..72 {
+        assert!(rt;
+            ends_slowly(rt.alloc(), &mut session, bytes),
+            "{bytes} bytes"
+        );
+    }
     Ok(())
 }
 

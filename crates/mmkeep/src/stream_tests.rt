@@ -1,18 +1,40 @@
-//! What is written by writers that take little, or fail.
+//! A reader and writers that give or take little, or fail.
 
-use crate::session_tests::begun;
-use mm_report::{ReportError, Writing, write_report};
 use std::alloc::Global;
 use std::io;
-use std::io::Write;
-use std::test::Fail;
+use std::io::{Read, Write};
 
-/// A text with a fault and a wrong proof, and its report.
-const TEXT: &[u8] =
-    b"$c wff |- -> ( ) $.\n$v p q $.\nwp $f wff p $.\nwq $f wff q $.\na $a wff r $. t $p wff p $= wq $.\n";
+/// A reader that gives some bytes a call, counts its calls, and fails at one of them, counted from 1.
+#[derive(Drop)]
+pub struct Given {
+    bytes: &'static [u8],
+    most: usize,
+    pub fails_at: usize,
+    pub calls: usize,
+}
 
-const REPORT: &[u8] =
-    b"fault a.mm:5:10 F10 r\nwrong t a.mm:5:32 P15\naxioms 0 theorems 1 proved 0 incomplete 0 wrong 1 faults 1\n";
+impl Read for Given {
+    fn read(&mut self, buf: &mut [u8]) -> io::Result<usize> {
+        self.calls = self.calls.saturating_add(1);
+        if self.calls == self.fails_at {
+            return Err(io::Error::from(io::ErrorKind::BrokenPipe));
+        }
+        let count = self.most.min(buf.len()).min(self.bytes.len());
+        buf[..count].copy_from_slice(&self.bytes[..count]);
+        self.bytes = &self.bytes[count..];
+        Ok(count)
+    }
+}
+
+/// A reader of these bytes, so many a call.
+pub fn reader_of(bytes: &'static [u8], most: usize) -> Given {
+    Given {
+        bytes,
+        most,
+        fails_at: 0,
+        calls: 0,
+    }
+}
 
 /// A writer that takes one byte a call, and none from a call on.
 #[derive(Drop)]
@@ -53,27 +75,6 @@ impl Write for Slow {
     }
 }
 
-#[test]
-fn writes_slowly_and_fails(rt: HostRuntime) -> Result<(), Fail> {
-    let session = begun(rt.alloc(), &[(b"a.mm", TEXT)])?;
-    for calls in 0..REPORT.len() + 2 {
-        let mut writing = Writing::new(Slow::new(rt.alloc(), calls));
-        let answer = write_report(&session, &mut writing);
-        let failed = writing.failed();
-        let taken = writing.into_inner().taken;
-        if calls < REPORT.len() {
-            assert_eq!(rt; answer, Err(ReportError::Write));
-            assert!(rt; failed);
-            assert_eq!(rt; taken.as_slice(), &REPORT[..calls]);
-        } else {
-            assert_eq!(rt; answer, Ok(()));
-            assert!(rt; !failed);
-            assert_eq!(rt; taken.as_slice(), REPORT);
-        }
-    }
-    Ok(())
-}
-
 /// A writer that fails at one call, would take everything before and behind it, and counts the calls.
 #[derive(Drop)]
 pub struct Broken {
@@ -105,27 +106,4 @@ impl Write for Broken {
     fn flush(&mut self) -> io::Result<()> {
         Ok(())
     }
-}
-
-/// Behind a call that failed there is none.
-#[test]
-fn calls_no_more_after_a_failure(rt: HostRuntime) -> Result<(), Fail> {
-    let session = begun(rt.alloc(), &[(b"a.mm", TEXT)])?;
-    let mut whole = 0_usize;
-    for at in 1..64 {
-        let mut writing = Writing::new(Broken::new(rt.alloc(), at));
-        let answer = write_report(&session, &mut writing);
-        let broken = writing.into_inner();
-        if broken.calls < at {
-            assert_eq!(rt; answer, Ok(()));
-            assert_eq!(rt; broken.taken.as_slice(), REPORT);
-            whole = whole.saturating_add(1);
-        } else {
-            assert_eq!(rt; answer, Err(ReportError::Write));
-            assert_eq!(rt; broken.calls, at);
-            assert!(rt; REPORT.starts_with(&broken.taken) && broken.taken.len() < REPORT.len());
-        }
-    }
-    assert!(rt; 0 < whole && whole < 63);
-    Ok(())
 }
