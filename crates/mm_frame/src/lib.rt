@@ -20,6 +20,10 @@ mod statement;
 mod symbol;
 mod tables;
 
+ghost use Rattle.mm_frame.specs.Language.Laws.{ActiveByBlocks, FaultIsFound, HasFaultOrIsSound, HasOneStatementFault, KeptNext, NeverFaultAndSound};
+ghost use Rattle.mm_frame.specs.Language.Laws.{PlacesHaveFrames, ReaderIsActive};
+ghost use Rattle.mm_frame.specs.Language.Laws.{SoundHasNone, StaysByCounts};
+
 pub use base::{Base, Resolved};
 pub use draft::Frame;
 pub use judge::FrameFault;
@@ -34,17 +38,6 @@ pub use proof_words::ProofWords;
 pub use same::{same_active_pairs, same_but_pairs, same_expression, same_frame};
 pub use statement::{Statement, same_proof, words_of_proof};
 pub use symbol::{NamedSymbol, NumberedSymbol, Symbol};
-
-#[cfg(test)]
-mod base_tests;
-#[cfg(test)]
-mod frame_tests;
-#[cfg(test)]
-mod tests;
-
-ghost use Rattle.mm_frame.specs.Language.Laws.{ActiveByBlocks, FaultIsFound, HasFaultOrIsSound, HasOneStatementFault, KeptNext, NeverFaultAndSound};
-ghost use Rattle.mm_frame.specs.Language.Laws.{PlacesHaveFrames, ReaderIsActive};
-ghost use Rattle.mm_frame.specs.Language.Laws.{SoundHasNone, StaysByCounts};
 
 /// The number of a fault of a statement, or of a missing inclusion.
 #[derive(Clone, Copy, Debug, PartialEq, Eq)]

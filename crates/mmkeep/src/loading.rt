@@ -9,6 +9,7 @@ use crate::complaints::{lack_memory, refuse_text, too_many, unreadable};
 use crate::outcome::Outcome;
 use mm_keep::{Files as Database, StoreError};
 use mm_report::{ReadFailed, Reading};
+use mm_store::Walk;
 use std::alloc::{AllocError, Global};
 use std::fs::File;
 use std::io::{ErrorKind, Read};
@@ -57,23 +58,59 @@ pub(crate) fn load(rt: &(impl Files + Eprint + AllocGlobal), top: &str) -> Resul
     ensures { IfOk result (λ files. parked_in files ≡ 0) }
 {
     let mut files = Database::new(rt.alloc());
-    match File::open(rt, top) {
-        Ok(file) => add_file(rt, &mut files, top, file)?,
-        Err(error) if error.kind() == ErrorKind::OutOfMemory => return Err(lack_memory(rt)),
-        Err(_) => return Err(unreadable(rt, top)),
+    match add_all(rt, &mut files, top) {
+        Ok(()) => Ok(files),
+        Err(outcome) => Err(outcome),
     }
-    let Ok(mut walk) = files.walk(rt.alloc(), top.as_bytes()) else {
-        return Err(lack_memory(rt));
-    };
+}
+
+/// Adds the top file and the files that it includes.
+fn add_all(
+    rt: &(impl Files + Eprint + AllocGlobal),
+    files: &mut Database,
+    top: &str,
+) -> Result<(), Outcome>
+    ensures { OnOk result (parked_in files.new ≡ parked_in files.old) }
+{
+    add_top(rt, files, top)?;
+    match files.walk(rt.alloc(), top.as_bytes()) {
+        Ok(mut walk) => add_missing(rt, files, &mut walk),
+        Err(_) => Err(lack_memory(rt)),
+    }
+}
+
+/// Adds the top file, which has to be there.
+fn add_top(
+    rt: &(impl Files + Eprint + AllocGlobal),
+    files: &mut Database,
+    top: &str,
+) -> Result<(), Outcome>
+    ensures { OnOk result (parked_in files.new ≡ parked_in files.old) }
+{
+    match File::open(rt, top) {
+        Ok(file) => add_file(rt, files, top, file),
+        Err(error) if error.kind() == ErrorKind::OutOfMemory => Err(lack_memory(rt)),
+        Err(_) => Err(unreadable(rt, top)),
+    }
+}
+
+/// Adds the files that are missing, as they are come upon.
+fn add_missing(
+    rt: &(impl Files + Eprint + AllocGlobal),
+    files: &mut Database,
+    walk: &mut Walk,
+) -> Result<(), Outcome>
+    ensures { OnOk result (parked_in files.new ≡ parked_in files.old) }
+{
     // The texts have fewer inclusions than bytes.
     for _ in 0..u32::MAX {
-        match walk.next_missing(rt.alloc(), &files) {
-            Ok(Some(name)) => add_included(rt, &mut files, &name)?,
-            Ok(None) => return Ok(files),
+        match walk.next_missing(rt.alloc(), files) {
+            Ok(Some(name)) => add_included(rt, files, &name)?,
+            Ok(None) => return Ok(()),
             Err(_) => return Err(lack_memory(rt)),
         }
     }
-    Ok(files)
+    Ok(())
 }
 
 /// Adds the file of this name, if it can be opened.

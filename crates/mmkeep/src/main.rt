@@ -15,11 +15,9 @@ pub use outcome::{Outcome, outcome_of_stop, status};
 use std::process::ExitCode;
 
 #[cfg(test)]
-mod chance_script_tests;
-#[cfg(test)]
-mod chance_tests;
-#[cfg(test)]
 mod command_tests;
+#[cfg(test)]
+mod frame_tests;
 #[cfg(test)]
 mod loading_tests;
 #[cfg(test)]

@@ -1,6 +1,6 @@
 use Rattle.std.proofs.Common.{◌≡◌}
 use Rattle.mm_store.specs.Language.FileFacts.{parked_in}
-use Rattle.mmkeep.proofs.loading.load.Given as goal
+use Rattle.mmkeep.proofs.loading.add_missing.Given as goal
 
 abbrev pub invariant-loop : goal.invariant-loop
-invariant-loop g l = parked_in l.files ≡ 0
+invariant-loop g l = parked_in l.files ≡ parked_in l.initial.files
