@@ -1,12 +1,9 @@
 -- What the tables of names and labels keep, and what one more item makes of what is declared.
-use Rattle.std.proofs.Common.{◌≡◌, ℕ, zero, suc, ◌<◌, ◌≤◌, Bool, true, false, cond, ◌&&◌, ◌||◌, Option, Some, None, List, [], ◌∷◌, ◌++◌, length, take, take_all, get_or, set, slice_get, nat_eq, bytes_eq, Vec, refl, sym, ◌∙◌, ap, subst, inl, inr, ◌⊎◌, arith}
+use Rattle.std.proofs.Common.{◌≡◌, ℕ, zero, suc, ◌<◌, ◌≤◌, Bool, true, false, cond, ◌&&◌, ◌||◌, Option, Some, None, List, [], ◌∷◌, ◌++◌, length, take, take_all, get_or, set, slice_get, nat_eq, bytes_eq, refl, sym, ◌∙◌, ap, subst, inl, inr, ◌⊎◌, arith}
 use Rattle.std.specs.Prelude.{is_some, option_to_list}
-use Rattle.std.specs.Global.{Global}
-use Rattle.std.specs.HashMap.{HashMap, UpdatesBy, get_by}
-use Rattle.std.specs.Map.{KeepsOthers, IsKeyTest, AreApart, lookup}
 use Rattle.std.specs.Cmp.Lexicographic.{nat_list_eq_equiv}
 use Rattle.std.proofs.Math.Seq.{take-suc}
-use Rattle.std.proofs.lemmas.Bool.{false≢true, cases_Bool, cond-true, cond-false, false_from_ne_true}
+use Rattle.std.proofs.lemmas.Bool.{false≢true, false_from_ne_true}
 use Rattle.std.proofs.lemmas.Bool.Decides.{Decides-eqb}
 use Rattle.std.proofs.lemmas.Option.{same_Some}
 use Rattle.std.proofs.lemmas.Grind.{get_or-set_at}
@@ -26,6 +23,7 @@ use Rattle.mm_frame.specs.Language.Sound.{is_declared, IsSound, AreSound}
 use Rattle.mm_frame.specs.Code.LastItems.{last_where, declares_variable, types, carries}
 use Rattle.mm_frame.specs.Language.Names.{AreDistinct}
 use Rattle.mm_frame.specs.Code.Numbers.{number_in, IsName, AreNumbersOf}
+use Rattle.mm_frame.specs.Code.KeptLabels.{label_number}
 use Rattle.mm_frame.specs.Code.KeptTables.{declared_at, declared_for, table_name, table_label, variable_at, is_constant_as, declared_in, variable_number, float_of, typed_by, Knows, Declares, Types, Carries}
 use Rattle.mm_frame.proofs.NumberLemmas.{number_names, number_of_named, same_number, other_number, number_at, declared_named}
 use Rattle.mm_frame.proofs.Members.{In, in_has, from_symbols, to_symbols, in_left}
@@ -34,21 +32,6 @@ use Rattle.mm_frame.proofs.Facts.{and_both, float_variable, float_two}
 use Rattle.mm_frame.proofs.SoundItems.{sound_front}
 use Rattle.mm_frame.proofs.TableLemmas.{last_where_next, last_cases, last_none, Last, constants_next, variable_last, constant_or_variable, float_second, typed_by as types_it}
 
-apart : (bs cs ks : List ℕ) → bytes_eq bs cs ≡ false → bytes_eq bs ks ≡ true → bytes_eq cs ks ≡ false
-apart bs cs ks n y = nat_list_eq_equiv.symm cs ks ∙ sym (nat_list_eq_equiv.congr bs ks cs y) ∙ n
-
-other_entries : {K X : Type 0} (eq : K → K → Bool) (test : K → Bool) (old new : List (K × X)) → KeepsOthers eq test old new → (other : K → Bool) → IsKeyTest eq other → AreApart test other → lookup other new ≡ lookup other old
-unfolding KeepsOthers
-other_entries eq test old new h = h
-
--- the look-ups by bytes behind a write at one key
-pub written : {X S : Type 0} (bs : List ℕ) (m n : HashMap (Vec ℕ Global) X S) (x : X) → UpdatesBy (λ a b. bytes_eq a.items b.items) (λ k. bytes_eq bs k.items) m n (Some x) → (cs : List ℕ) → get_by (λ k. bytes_eq cs k.items) n ≡ cond (bytes_eq bs cs) (Some x) (get_by (λ k. bytes_eq cs k.items) m)
-written bs m n x h cs = elim (cases_Bool (bytes_eq bs cs)) [
-  | inl y ↦ subst (λ (l : List ℕ). get_by (λ k. bytes_eq l k.items) n ≡ Some x) ((bytes_eq-Decides bs cs).0 y) h.1 ∙ sym (cond-true (bytes_eq bs cs) (Some x) (get_by (λ k. bytes_eq cs k.items) m) y)
-  | inr e ↦ other_entries (λ a b. bytes_eq a.items b.items) (λ k. bytes_eq bs k.items) m.entries n.entries h.3 (λ k. bytes_eq cs k.items) (λ a b. nat_list_eq_equiv.congr cs a.items b.items) (λ k. apart bs cs k.items e)
-      ∙ sym (cond-false (bytes_eq bs cs) (Some x) (get_by (λ k. bytes_eq cs k.items) m) e)
-]
-
 or_none : (b : Bool) → (b || false) ≡ b
 or_none true = refl
 or_none false = refl
@@ -56,11 +39,6 @@ or_none false = refl
 -- a name is one of the names of a list of one
 pub has_one : (bs cs : List ℕ) → bytes_eq bs cs ≡ has (bs ∷ []) cs
 has_one bs cs = nat_list_eq_equiv.symm bs cs ∙ sym (or_none (bytes_eq cs bs))
-
--- the look-ups behind an `insert`, with the bytes of the key by an equation
-pub inserted : {X S : Type 0} (ks bs : List ℕ) (m n : HashMap (Vec ℕ Global) X S) (x : X) → ks ≡ bs → UpdatesBy (λ a b. bytes_eq a.items b.items) (λ k. bytes_eq ks k.items) m n (Some x) → (cs : List ℕ)
-    → get_by (λ k. bytes_eq cs k.items) n ≡ cond (has (bs ∷ []) cs) (Some x) (get_by (λ k. bytes_eq cs k.items) m)
-inserted ks bs m n x e h cs = subst (λ (l : List ℕ). get_by (λ k. bytes_eq cs k.items) n ≡ cond (bytes_eq l cs) (Some x) (get_by (λ k. bytes_eq cs k.items) m)) e (written ks m n x h cs) ∙ ap (λ b. cond b (Some x) (get_by (λ k. bytes_eq cs k.items) m)) (has_one bs cs)
 
 -- what is told of names, where what is told by one number changes
 told_of : (all : List (List ℕ)) (old new : Tables) (n : ℕ) (name other : List ℕ) (f : Option Declared → Option Declared) → AreDistinct all → IsName all n name → ((m : ℕ) → declared_at new m ≡ cond (nat_eq m n) (f (declared_at old m)) (declared_at old m))
@@ -81,13 +59,13 @@ pub declares_one : (all : List (List ℕ)) (old new : Tables) (n : ℕ) (name : 
     → Declares all old (name ∷ []) (λ _. declared) new
 declares_one all old new n name declared distinct there put l = record {
   names = λ other. told_of all old new n name other (λ _. Some declared) distinct there put ∙ ap (λ b. cond b (Some declared) (table_name all old other)) (has_one name other);
-  labels = λ label. ap (get_by (λ key. bytes_eq label key.items)) l;
+  labels = λ label. ap (λ labels. label_number labels label) l;
 }
 
 pub types_one : (all : List (List ℕ)) (old new : Tables) (n : ℕ) (name : List ℕ) (number : ℕ) → AreDistinct all → IsName all n name → ((m : ℕ) → declared_at new m ≡ cond (nat_eq m n) (typed_by number (declared_at old m)) (declared_at old m)) → new.labels ≡ old.labels → Types all old name number new
 types_one all old new n name number distinct there put l = record {
   names = λ other. told_of all old new n name other (typed_by number) distinct there put;
-  labels = λ label. ap (get_by (λ key. bytes_eq label key.items)) l;
+  labels = λ label. ap (λ labels. label_number labels label) l;
 }
 
 -- a variable is typed in its place, and what is no variable stays as it is

@@ -36,3 +36,4 @@ pub mod OneBase
 pub mod PieceLemmas
 pub mod SharedPairs
 pub mod SaidLabels
+pub mod LabelCodes

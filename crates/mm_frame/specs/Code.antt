@@ -6,6 +6,7 @@ pub mod LastItems
 pub mod FaultInOrder
 pub mod Numbers
 pub mod KeptNames
+pub mod KeptLabels
 pub mod KeptTables
 pub mod PlainWords
 pub mod KeptStatement

@@ -294,6 +294,18 @@ impl Base {
         }
     }
 
+    /// What the label of the sound assertion `j` means at the item `i`. Nothing is looked at for it.
+    pub fn assertion_meaning(&self, j: usize, i: usize) -> Resolved
+        ensures { (base : BaseView) (label : List ℕ) → IsBase base self.now → IsCarrier base label j → is_framed_at base j ≡ true
+            → Resolves base i label result }
+    {
+        if j < i {
+            Resolved::Assertion(j)
+        } else {
+            Resolved::Unknown
+        }
+    }
+
     /// What a label means at the item with this number, by the sound statements before that item alone: a label that
     /// none of them has is unknown there, also the item's own.
     pub fn resolve(&self, label: &[u8], i: usize) -> Resolved

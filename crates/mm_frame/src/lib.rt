@@ -7,6 +7,7 @@ mod blocks;
 mod draft;
 mod expressions;
 mod judge;
+mod label_numbers;
 mod mandatory;
 mod names;
 mod one_base;

@@ -9,11 +9,11 @@ ghost use Rattle.mm_frame.specs.Code.LastItems as numbered;
 ghost use Rattle.mm_frame.specs.Language.Names.{AreDistinct};
 ghost use Rattle.mm_frame.specs.Code.Numbers.{IsName, AreNumbersOf};
 
+use crate::label_numbers::LabelNumbers;
 use crate::names::Names;
 use crate::statement::Statement;
 use mm_store::ItemKind;
 use std::alloc::{AllocError, Global};
-use std::collections::HashMap;
 
 /// What a name is declared as.
 #[derive(Clone, Copy, Debug, PartialEq, Eq)]
@@ -34,7 +34,7 @@ pub enum Declared {
 pub struct Tables {
     /// What each name is declared as, by its number.
     declared: Vec<Option<Declared>>,
-    labels: HashMap<Vec<u8>, usize>,
+    labels: LabelNumbers,
 }
 
 impl Tables {
@@ -47,7 +47,7 @@ impl Tables {
     {
         Tables {
             declared: Vec::new(alloc),
-            labels: HashMap::new(alloc),
+            labels: LabelNumbers::new(alloc),
         }
     }
 
@@ -65,7 +65,7 @@ impl Tables {
     pub fn label(&self, label: &[u8]) -> Option<usize>
         ensures { result ≡ table_label self.now label.now }
     {
-        self.labels.get(label).copied()
+        self.labels.get(label)
     }
 
     /// Whether the name with this number is a constant.
@@ -211,8 +211,7 @@ impl Tables {
         ensures { OnOk result ((all : List (List ℕ)) → Carries all self.old (option_to_list statement.now.label) number self.new) }
     {
         if let Some(label) = statement.label() {
-            let key = Vec::from_slice(alloc, label)?;
-            self.labels.insert(key, number)?;
+            self.labels.insert(alloc, label, number)?;
         }
         Ok(())
     }

@@ -9,7 +9,7 @@ use Rattle.std.proofs.lemmas.Slice.Eq.{bytes_eq-Decides}
 use Rattle.mm_frame.specs.declared.FrameNumber.{FrameNumber}
 use Rattle.mm_frame.specs.declared.base.Resolved as answer
 use Rattle.mm_frame.specs.declared.base.Resolved.TheVariants as answers
-use Rattle.mm_frame.specs.Language.Base.{BaseView, said_at, before, is_sound_at, is_framed_at, frame_at, fault_by}
+use Rattle.mm_frame.specs.Language.Base.{BaseView, said_at, before, is_sound_at, is_shown_at, is_framed_at, frame_at, fault_by}
 use Rattle.mm_frame.specs.Language.Frame.{Resolved, Assertion, Inactive, Unknown, AreSameFrame}
 use Rattle.mm_frame.specs.Language.Framing.{resolve, resolve_from}
 use Rattle.mm_frame.specs.Language.Item.{Kind, Floating, Essential, Axiom, Theorem, Item, passed, is_labelled, labels_of, has}
@@ -158,6 +158,19 @@ old_carries base copy marks are label m carrier n =
     let is = (are.each m (shown_within copy m carrier.shown)).old_is n in
     let one = one_label base copy n m label carrier.shown carrier.label_is in
     (λ e. one.1 (is.0 e), λ c. is.1 (one.0 c))
+
+-- where the mark tells the same frame, both are assertions
+pub old_framed :
+    (base copy : BaseView) (marks : List Mark) → AreMarks base copy marks → (m : ℕ) → is_shown_at copy m ≡ true → (mark_at marks m).frame ≡ true → (n : ℕ) →
+    (mark_at marks m).old ≡ Some n → is_framed_at base n ≡ true
+old_framed base copy marks are m shown told n old =
+    let is = are.each m (shown_within copy m shown) in
+    let kept = is.frame_is.0 told in
+    subst (λ (k : ℕ). is_framed_at base k ≡ true) (same_Some kept.i n (sym ((is.old_is kept.i).1 kept.one_label) ∙ old)) kept.was
+
+pub new_framed :
+    (base copy : BaseView) (marks : List Mark) → AreMarks base copy marks → (m : ℕ) → is_shown_at copy m ≡ true → (mark_at marks m).frame ≡ true → is_framed_at copy m ≡ true
+new_framed base copy marks are m shown told = ((are.each m (shown_within copy m shown)).frame_is.0 told).is
 
 -- the active pairs are the same where the mark of this item of the old base tells so
 pub pairs_marked :

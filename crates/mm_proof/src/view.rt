@@ -2,7 +2,7 @@
 
 ghost use Rattle.std.specs.Prelude.{◌≡◌, ◌↔◌, true, ℕ, List, Some, IsTrue, IfSome, bytes_eq, codes, filter};
 ghost use Rattle.std.specs.List.{AllByRecursion, before_first};
-ghost use Rattle.mm_frame.specs.Language.Base.{BaseView, is_proof_at};
+ghost use Rattle.mm_frame.specs.Language.Base.{BaseView, is_framed_at, is_proof_at};
 ghost use Rattle.mm_frame.specs.Language.Resolving.{IsCarrier, Resolves};
 ghost use Rattle.mm_frame.specs.Code.KeptBase.{IsBase, IsBaseBy};
 ghost use Rattle.mm_proof.specs.Code.KeptMarks.{OfBasesBy, AreMarksOf, AreTheorems, SharePairs, ShareStatement, ShareProof};
@@ -34,12 +34,15 @@ fn same_meaning(names: &Names, old: &Base, mine: Resolved, new: &Base, yours: Re
     }
 }
 
-/// What the label of an item means at the item `i`, where there is such an item, and what one means that none carries.
-fn meaning_of(base: &Base, carrier: Option<usize>, i: usize) -> Resolved
-    ensures { (view : BaseView) (label : List ℕ) → IsBase view base.now → IsOneCarrier view label carrier → Resolves view i label result }
+/// What the label of an item means at the item `i`, where there is such an item, and what one means that none carries. Of an
+/// item that is known to be an assertion nothing is looked at.
+fn meaning_of(base: &Base, carrier: Option<usize>, framed: bool, i: usize) -> Resolved
+    ensures { (view : BaseView) (label : List ℕ) → IsBase view base.now → IsOneCarrier view label carrier
+        → (framed ≡ true → (n : ℕ) → carrier ≡ Some n → is_framed_at view n ≡ true) → Resolves view i label result }
 {
     kept_next();
     match carrier {
+        Some(k) if framed => base.assertion_meaning(k, i),
         Some(k) => base.meaning(k, i),
         None => Resolved::Unknown,
     }
@@ -82,8 +85,10 @@ fn same_by(
     kept_next();
     match new.find(label) {
         Some(m) => {
-            let mine = meaning_of(old, marks.old(m), i);
-            same_marked(names, old, mine, new, new.meaning(m, j), marks, m)
+            let framed = marks.same(m);
+            let mine = meaning_of(old, marks.old(m), framed, i);
+            let yours = meaning_of(new, Some(m), framed, j);
+            same_marked(names, old, mine, new, yours, marks, m)
         }
         None => same_meaning(names, old, old.resolve(label, i), new, Resolved::Unknown),
     }

@@ -1,6 +1,5 @@
 -- What the items so far declare, as the code keeps it: of each name what it is declared as, and of each label the number of its item.
 use Rattle.std.specs.Prelude.{◌≡◌, ℕ, Bool, true, false, if◌then◌else◌, Option, Some, None, List, slice_index_or, bytes_eq}
-use Rattle.std.specs.HashMap.{get_by}
 use Rattle.mm_frame.specs.declared.tables.Tables.{Tables}
 use Rattle.mm_frame.specs.declared.tables.Declared.{Declared}
 use Rattle.mm_frame.specs.declared.tables.Declared.TheVariants.{Constant, Variable}
@@ -8,6 +7,7 @@ use Rattle.mm_frame.specs.Language.Item.{Item, has}
 use Rattle.mm_frame.specs.Language.Scope.{constants}
 use Rattle.mm_frame.specs.Language.Names.{AreDistinct}
 use Rattle.mm_frame.specs.Code.Numbers.{number_in}
+use Rattle.mm_frame.specs.Code.KeptLabels.{label_number}
 use Rattle.mm_frame.specs.Code.LastItems.{last_where, declares_variable, types, carries}
 
 -- what the tables tell of the name with a number
@@ -24,7 +24,7 @@ table_name all tables name = declared_for tables (number_in all name)
 
 -- what the tables tell of a label
 abbrev pub table_label : Tables → List ℕ → Option ℕ
-table_label tables label = get_by (λ key. bytes_eq label key.items) tables.labels
+table_label tables label = label_number tables.labels label
 
 -- a variable, if there is a number of a `$v` that declares it
 abbrev pub variable_at : Option ℕ → Option ℕ → Option Declared

@@ -6,4 +6,4 @@ none_is : (n : ℕ) → ◌≡◌ {A = Option ℕ} None (Some n) → ⊥
 none_is n e = cc
 
 pub returns-in-None : goal.returns-in-None
-returns-in-None c view label is carries = none_means view label (λ n h. none_is n ((rw c.in-None.is at carries n).1 h)) c.kept_next.ensures c.args.i
+returns-in-None c view label is carries framed = none_means view label (λ n h. none_is n ((rw c.in-None.is at carries n).1 h)) c.kept_next.ensures c.args.i

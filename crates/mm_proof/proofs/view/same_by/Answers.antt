@@ -1,10 +1,11 @@
-use Rattle.std.proofs.Common.{◌≡◌, ℕ, Option, Some, None, refl, subst, sym}
+use Rattle.std.proofs.Common.{◌≡◌, ℕ, Option, Some, None, true, refl, subst, sym, ◌∙◌}
 use Rattle.std.specs.Prelude.{◌↔◌}
-use Rattle.mm_frame.specs.Language.Base.{before}
+use Rattle.std.proofs.lemmas.Option.{same_Some}
+use Rattle.mm_frame.specs.Language.Base.{before, is_framed_at}
 use Rattle.mm_frame.specs.Language.Framing.{resolve}
 use Rattle.mm_frame.specs.Language.Resolving.{IsCarrier}
 use Rattle.mm_frame.specs.declared.base.Resolved.TheVariants as answers
-use Rattle.mm_proof.proofs.MeaningLemmas.{none_means, old_carries, tells_same, usable}
+use Rattle.mm_proof.proofs.MeaningLemmas.{none_means, new_framed, old_carries, old_framed, tells_same, usable}
 use Rattle.mm_proof.proofs.view.same_by.Goals as goal
 
 none_is : (n : ℕ) → ◌≡◌ {A = Option ℕ} None (Some n) → ⊥
@@ -14,10 +15,16 @@ pub returns-in-Some : goal.returns-in-Some
 returns-in-Some c base copy f g are =
     let names = c.args.names.now in
     let label = c.args.label.now in
+    let marks = c.args.marks.now in
     let m = c.in-Some.m in
-    let carrier = (c.in-Some.ensures copy m (names, g)).0 refl in
-    let carries = λ (n : ℕ). subst (λ (o : Option ℕ). (o ≡ Some n) ↔ IsCarrier base label n) (sym c.old.ensures) (old_carries base copy c.args.marks.now are label m carrier n) in
-    c.same_marked.ensures base copy f g are c.args.i c.args.j label carrier (c.meaning_of-mine.ensures base label (names, f) carries) (c.meaning.ensures copy label (names, g) carrier)
+    let found = λ (n : ℕ). c.in-Some.ensures copy n (names, g) in
+    let carrier = (found m).0 refl in
+    let carries = λ (n : ℕ). subst (λ (o : Option ℕ). (o ≡ Some n) ↔ IsCarrier base label n) (sym c.old.ensures) (old_carries base copy marks are label m carrier n) in
+    let was = λ (t : c.same-framed.result ≡ true) (n : ℕ) (e : c.old.result ≡ Some n). old_framed base copy marks are m carrier.shown (sym c.same-framed.ensures ∙ t) n (sym c.old.ensures ∙ e) in
+    let is = λ (t : c.same-framed.result ≡ true) (n : ℕ) (e : Some m ≡ Some n).
+    subst (λ (k : ℕ). is_framed_at copy k ≡ true) (same_Some m n e) (new_framed base copy marks are m carrier.shown (sym c.same-framed.ensures ∙ t)) in
+    c.same_marked.ensures base copy f g are c.args.i c.args.j label carrier (c.meaning_of-mine.ensures base label (names, f) carries was)
+    (c.meaning_of-yours.ensures copy label (names, g) found is)
 
 pub returns-in-None : goal.returns-in-None
 returns-in-None c base copy f g are =
