@@ -6,6 +6,8 @@ use Rattle.std.specs.List.{AllByRecursion, flat_map, prefix_len}
 use Rattle.std.proofs.lemmas.List.{drop-map, drop-drop, take-map, append-nil, length-drop, length-take}
 use Rattle.std.proofs.lemmas.Simd.{map-map}
 use Rattle.mm_text.specs.declared.word.Word.{Word}
+use Rattle.mm_text.specs.declared.word.WordKind.TheVariants.{Plain}
+use Rattle.mm_text.specs.Code.WordsLeft.{SkipsPlainWords}
 use Rattle.mm_text.specs.Language.Unit.{Token, token_of, tokens_of, spellings}
 use Rattle.mm_frame.specs.Language.Item.{Kind, Item, is_labelled}
 use Rattle.mm_frame.specs.Code.PlainWords.{TakesLabel, bytes_in, plain_words, plain_bytes}
@@ -68,6 +70,22 @@ pub symbols_closed : (words left new symbols : List Word) (word : Word) → Symb
 symbols_closed words left new symbols word h e keyword =
     let all = h.joined ∙ ap (λ l. symbols ++ plain_words l) e ∙ ap (λ l. symbols ++ l) (plain_end word new keyword) ∙ append-nil symbols in
     rest_is words left new symbols all h.behind (ap (drop 1) (sym e))
+
+-- no word is left
+pub symbols_ended : (words left new symbols : List Word) → Symbols words left symbols → left ≡ [] → new ≡ [] → AllSymbols words new symbols
+symbols_ended words left new symbols h none e =
+    let all = h.joined ∙ ap (λ l. symbols ++ plain_words l) none ∙ append-nil symbols in
+    rest_is words left new symbols all h.behind (e ∙ ap (drop 1) (sym none))
+
+-- plain words are symbols
+passed_more : (passed words left new symbols : List Word) → left ≡ passed ++ new → AllByRecursion (λ (word : Word). word.kind ≡ Plain) passed → Symbols words left symbols → Symbols words new (symbols ++ passed)
+passed_more [] words left new symbols e plain h = subst (λ s. Symbols words new s) (sym (append-nil symbols)) (subst (λ l. Symbols words l symbols) e h)
+passed_more (word ∷ passed) words left new symbols e plain h =
+    subst (λ s. Symbols words new s) (append_assoc symbols (word ∷ []) passed)
+    (passed_more passed words (passed ++ new) new (symbols ++ word ∷ []) refl plain.1 (symbols_more words left (passed ++ new) symbols word h e (ap is_plain_kind plain.0)))
+
+pub symbols_passed : (words left new symbols : List Word) (skips : SkipsPlainWords left new) → Symbols words left symbols → Symbols words new (symbols ++ skips.passed)
+symbols_passed words left new symbols skips h = passed_more skips.passed words left new symbols skips.joined skips.plain h
 
 -- ---- a statement
 

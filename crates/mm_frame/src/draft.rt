@@ -307,22 +307,26 @@ fn follow_pairs(
 impl<'a> Draft<'a> {
     ghost use Rattle.mm_frame.specs.Code.KeptBase.{IsDraft, StandsFor, AreParts};
 
-    /// No items. It takes no memory.
-    pub fn new(alloc: Global) -> Self
-        ensures { (all : List (List ℕ)) → AreDistinct all → IsDraft all [] result }
+    /// No items, with room for this many.
+    pub fn with_room(alloc: Global, count: usize) -> Result<Self, AllocError>
+        ensures { IfOk result (λ draft. (all : List (List ℕ)) → AreDistinct all → IsDraft all [] draft) }
     {
-        Draft {
+        let rows = Vec::with_capacity(alloc, count)?;
+        let expressions = Expressions::with_room(alloc, count)?;
+        let frames = Vec::with_capacity(alloc, count)?;
+        let pair_numbers = Vec::with_capacity(alloc, count)?;
+        Ok(Draft {
             scope: Scope::new(alloc),
             numbers: Vec::new(alloc),
-            rows: Vec::new(alloc),
-            expressions: Expressions::new(alloc),
-            frames: Vec::new(alloc),
+            rows,
+            expressions,
+            frames,
             essentials: ActiveNumbers::new(alloc),
             disjoints: ActiveNumbers::new(alloc),
             pair_lists: PairLists::new(alloc),
-            pair_numbers: Vec::new(alloc),
+            pair_numbers,
             pair_table: PairTable::new(alloc),
-        }
+        })
     }
 
     /// What is known of the items so far.
@@ -444,7 +448,7 @@ impl<'a> Draft<'a> {
         ensures grows { Begins names.old names.new }
         ensures read { IfOk result (λ draft. (said : List meant.Item) × AllZip (Says files.now) items.now said × StandsFor names.new said draft) }
     {
-        let mut draft = Draft::new(alloc);
+        let mut draft = Draft::with_room(alloc, items.len())?;
         for item in items {
             draft.read(alloc, names, files, item)?;
         }

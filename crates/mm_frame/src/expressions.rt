@@ -1,6 +1,6 @@
 //! The symbols of the items, one item's behind another's in one list.
 
-ghost use Rattle.std.specs.Prelude.{◌≡◌, ◌<◌, ◌≤◌, List, [], ◌∷◌, ◌++◌, OnOk, length, slice_index_or, slice_range};
+ghost use Rattle.std.specs.Prelude.{◌≡◌, ◌<◌, ◌≤◌, List, [], ◌∷◌, ◌++◌, IfOk, OnOk, length, slice_index_or, slice_range};
 ghost use Rattle.mm_frame.specs.Code.KeptSymbols.{expression_kept};
 ghost use Rattle.mm_frame.specs.Code.KeptExpressions.{start_at};
 
@@ -57,14 +57,15 @@ fn part(symbols: &[NumberedSymbol], start: usize, end: usize) -> &[NumberedSymbo
 }
 
 impl Expressions {
-    /// No items. It takes no memory.
-    pub fn new(alloc: Global) -> Expressions
-        ensures { result ≡ [] }
+    /// No items, with room for the ends of this many.
+    pub fn with_room(alloc: Global, count: usize) -> Result<Expressions, AllocError>
+        ensures { IfOk result (λ expressions. expressions ≡ []) }
     {
-        Expressions {
+        let ends = Vec::with_capacity(alloc, count)?;
+        Ok(Expressions {
             symbols: Vec::new(alloc),
-            ends: Vec::new(alloc),
-        }
+            ends,
+        })
     }
 
     /// How many items there are.

@@ -227,14 +227,16 @@ pub fn words_of_proof<'a>(files: &'a Files, item: &Item) -> ProofWords<'a>
     ProofWords::new(text, words)
 }
 
-/// Goes behind the next keyword.
+/// Goes behind the next keyword. Most often its `$` is the next one, and the words before it are not looked at.
 fn pass_symbols(words: &mut WordCursor)
     ensures text { words.new.text ≡ words.old.text }
     ensures rest { words.new.words ≡ drop (length (plain_words words.old.words) + 1) words.old.words }
 {
-    while let Some(word) = words.next_word() {
-        if !is_plain(word.kind) {
-            return;
+    loop {
+        words.skip_plain();
+        match words.next_word() {
+            Some(word) if is_plain(word.kind) => (),
+            _ => return,
         }
     }
 }

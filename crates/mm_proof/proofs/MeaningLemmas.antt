@@ -16,7 +16,7 @@ use Rattle.mm_frame.specs.Language.Item.{Kind, Floating, Essential, Axiom, Theor
 use Rattle.mm_frame.specs.Language.Laws as frame
 use Rattle.mm_frame.specs.Language.Resolving.{IsCarrier, IsMeaning, Resolves}
 use Rattle.mm_frame.specs.Language.Sound.{fault, judged, sound_items}
-use Rattle.mm_proof.specs.Code.KeptMarks.{AreTheorems, IsUsable, SharePairs, TellsSame}
+use Rattle.mm_proof.specs.Code.KeptMarks.{AreTheorems, IsUsable, ShareHypotheses, SharePairs, TellsSame}
 use Rattle.mm_proof.proofs.FrameLemmas.{shown_proof}
 use Rattle.std.proofs.lemmas.Option.{same_Some}
 use Rattle.mm_proof.specs.Language.BaseLabels.{setting_at}
@@ -183,3 +183,13 @@ pairs_marked base copy marks are i j same these old told =
           subst (λ (n : ℕ). SharePairs base copy n j) (same_Some kept.i i (sym ((is.old_is kept.i).1 kept.one_label) ∙ old)) kept.same),
       λ s. told ∙ is.pairs_is.1 (record { i = i; one_label = (is.old_is i).0 old; was = these.was; is = these.is; same = s }),
     )
+
+-- the mandatory hypotheses are the same where the mark of this item of the old base tells so
+pub hypotheses_marked :
+    (base copy : BaseView) (marks : List Mark) → AreMarks base copy marks → (i j : ℕ) → AreTheorems base copy i j → (mark_at marks j).old ≡ Some i → (mark_at marks j).frame ≡ true →
+    ShareHypotheses base copy i j
+hypotheses_marked base copy marks are i j these old told =
+    let is = are.each j (shown_within copy j (shown_proof copy j these.is)) in
+    let kept = is.frame_is.0 told in
+    let same = subst (λ (n : ℕ). AreSameFrame (frame_at base n) (frame_at copy j)) (same_Some kept.i i (sym ((is.old_is kept.i).1 kept.one_label) ∙ old)) kept.same in
+    record { expression = same.expression; hypotheses = same.hypotheses }

@@ -88,15 +88,15 @@ shared_view base copy i j s p =
     let yours = resolve (before copy j) in
     record {
       proof = p.words;
-      expression = s.expression;
-      hypotheses = s.hypotheses;
+      expression = s.but_pairs.expression;
+      hypotheses = s.but_pairs.hypotheses;
       active = s.pairs;
       meanings = subst (λ (words : List (List ℕ)). AllZip AreSameMeaning (map mine (labels_named words)) (map yours (labels_named (said_at copy j).proof))) (sym p.words)
           (zip_labels mine yours (labels_named (said_at copy j).proof) p.labels);
     }
 
 pub view_statement : (base copy : BaseView) (i j : ℕ) → AreSameViews (view_at base i) (view_at copy j) → ShareStatement base copy i j
-view_statement base copy i j v = record { expression = v.expression; hypotheses = v.hypotheses; pairs = v.active }
+view_statement base copy i j v = record { but_pairs = record { expression = v.expression; hypotheses = v.hypotheses }; pairs = v.active }
 
 pub view_proof : (base copy : BaseView) (i j : ℕ) → AreSameViews (view_at base i) (view_at copy j) → ShareProof base copy i j
 view_proof base copy i j v =

@@ -5,7 +5,7 @@ ghost use Rattle.std.specs.List.{AllByRecursion, before_first};
 ghost use Rattle.mm_frame.specs.Language.Base.{BaseView, is_framed_at, is_proof_at};
 ghost use Rattle.mm_frame.specs.Language.Resolving.{IsCarrier, Resolves};
 ghost use Rattle.mm_frame.specs.Code.KeptBase.{IsBase, IsBaseBy};
-ghost use Rattle.mm_proof.specs.Code.KeptMarks.{OfBasesBy, AreMarksOf, AreTheorems, SharePairs, ShareStatement, ShareProof};
+ghost use Rattle.mm_proof.specs.Code.KeptMarks.{OfBasesBy, AreMarksOf, AreTheorems, SharePairs, ShareHypotheses, ShareStatement, ShareProof};
 ghost use Rattle.mm_proof.specs.Code.KeptMarks.{IsOneCarrier, IsUsable, TellsSame, is_label_word};
 ghost use Rattle.mm_proof.specs.Code.ReadIn.{IsReadIn, HasTheorem};
 ghost use Rattle.mm_proof.specs.Language.BaseLabels.{setting_at};
@@ -223,6 +223,32 @@ fn same_pairs(
     }
 }
 
+/// Whether the marks tell that the items are assertions with the same label and the same frame.
+fn is_frame_marked(marks: &Marks, i: usize, j: usize) -> bool
+    ensures { IsTrue result ↔ ((mark_at marks.now j).old ≡ Some i) × ((mark_at marks.now j).frame ≡ true) }
+{
+    is_marked(marks, i, j) && marks.same(j)
+}
+
+/// Whether two sound `$p` have the same expression and the same mandatory hypotheses. Nothing is compared where the marks
+/// tell that their frames are the same.
+fn same_but_active(
+    names: &Names,
+    old: &Base,
+    i: usize,
+    new: &Base,
+    j: usize,
+    marks: Option<&Marks>,
+) -> bool
+    requires { IfSome marks (λ m. AreMarksOf names.now old.now new.now m.now) }
+    ensures { OfBasesBy names.now old.now new.now (λ base copy. AreTheorems base copy i j → IsTrue result ↔ ShareHypotheses base copy i j) }
+{
+    match marks {
+        Some(marks) if is_frame_marked(marks, i, j) => true,
+        _ => same_but_pairs(old, i, new, j),
+    }
+}
+
 /// Whether two sound `$p` have the same expression, the same mandatory hypotheses and the same active pairs.
 fn same_statement(
     names: &Names,
@@ -235,7 +261,7 @@ fn same_statement(
     requires { IfSome marks (λ m. AreMarksOf names.now old.now new.now m.now) }
     ensures { OfBasesBy names.now old.now new.now (λ base copy. AreTheorems base copy i j → IsTrue result ↔ ShareStatement base copy i j) }
 {
-    same_but_pairs(old, i, new, j) && same_pairs(names, old, i, new, j, marks)
+    same_but_active(names, old, i, new, j, marks) && same_pairs(names, old, i, new, j, marks)
 }
 
 /// Whether the proofs of two sound `$p` have the same words, and the labels that these name mean the same.

@@ -7,11 +7,14 @@ use Rattle.mm_text.specs.declared.word.Word.{Word}
 use Rattle.mm_text.specs.declared.fault.TextFault.{TextFault}
 use Rattle.mm_text.specs.Language.Reading.{HasWords, LiesIn, AreWithin}
 use Rattle.mm_text.specs.Language.Unit.{spellings}
-use Rattle.mm_text.specs.Code.LeftToRight.{read_runs}
-use Rattle.mm_text.specs.Language.Run.{runs}
-use Rattle.mm_text.specs.Code.Reader.{runs_at, TakesWord}
+use Rattle.mm_text.specs.declared.word.WordKind.TheVariants.{Plain}
+use Rattle.mm_text.specs.Code.LeftToRight.{read_runs, with_words}
+use Rattle.mm_text.specs.Language.Run.{Run, runs}
+use Rattle.mm_text.specs.Code.Reader.{runs_at, TakesWord, SkipsPlain}
+use Rattle.mm_text.specs.Code.WordsLeft.{SkipsPlainWords}
 use Rattle.mm_text.specs.Code.Cursor.{words_read, words_from, AreLast}
-use Rattle.mm_text.proofs.ReadingLemmas.{read_words}
+use Rattle.mm_text.proofs.ReadingLemmas.{read_words, read_whole}
+use Rattle.mm_text.proofs.SkipLemmas.{plain_words, are_plain_words, read_on}
 use Rattle.mm_text.proofs.ReaderLemmas.{slice_length, word_read}
 use Rattle.mm_text.proofs.NthLemmas.{first_word}
 use Rattle.mm_text.proofs.PositionLemmas.{Lying, words_lie, are_within, nth_lies}
@@ -57,6 +60,34 @@ one_taken text from word to at taken =
       at_seam : (front : List Word) (word : Word) (more : List Word) → slice_get (front ++ word ∷ more) (length front) ≡ Some word
       at_seam [] word more = refl
       at_seam (x ∷ front) word more = at_seam front word more
+
+-- plain words are passed over
+pub record Passed (text : List ℕ) (from to : ℕ) : Type 0 where
+  pub words : SkipsPlainWords (words_from text from) (words_from text to)
+  pub last : AreLast text to
+
+are_plain : (runs : List Run) → AllByRecursion (λ (word : Word). word.kind ≡ Plain) (plain_words runs)
+are_plain [] = tt
+are_plain (run ∷ runs) = (refl, are_plain runs)
+
+pub plain_passed : (text : List ℕ) (from to : ℕ) → AreLast text from → SkipsPlain text from to → Passed text from to
+plain_passed text from to at skips =
+    let passed = plain_words skips.inside in
+    let whole = read_whole skips.inside passed (are_plain_words skips.inside skips.plain) (runs_at text to) in
+    let read : with_words passed (read_runs None (runs_at text to)) ≡ Ok (words_from text from) = sym (ap (read_runs None) skips.joined ∙ whole) ∙ at.no_fault in
+    let more = read_on passed (read_runs None (runs_at text to)) (words_from text from) read in
+    let rest : words_from text to ≡ more.0 = ap words_read more.1 in
+    let joined : words_from text from ≡ passed ++ words_from text to = more.2 ∙ ap (λ l. passed ++ l) (sym rest) in
+    record {
+      words = record { passed = passed; joined = joined; plain = are_plain skips.inside };
+      last = record {
+        whole = at.whole;
+        front = at.front ++ passed;
+        has_words = at.has_words;
+        divided = at.divided ∙ ap (λ l. at.front ++ l) joined ∙ sym (append_assoc at.front passed (words_from text to));
+        no_fault = more.1 ∙ ap Ok (sym rest);
+      };
+    }
 
 -- no word is left
 pub none_left : (text : List ℕ) (from : ℕ) → read_runs None (runs_at text from) ≡ Ok [] → words_from text from ≡ []

@@ -24,7 +24,7 @@ use Rattle.mm_text.proofs.ReadingLemmas.{none_read, word_step, read_words, read_
 use Rattle.mm_text.proofs.ReaderLemmas.{words-append, slice_length, word_read, fails_read}
 use Rattle.mm_text.proofs.PieceLemmas.{Seam, runs-append, shift_run, shift_word, runs-shift, words_unshift}
 use Rattle.mm_text.proofs.PieceUnitLemmas.{allowed_part, or_true}
-use Rattle.mm_text.proofs.SkipLemmas.{plain_words, are_plain_words, plain_tokens}
+use Rattle.mm_text.proofs.SkipLemmas.{plain_words, are_plain_words, plain_tokens, read_on}
 use Rattle.mm_text.proofs.NthLemmas.{first_word}
 
 -- ---- units
@@ -270,10 +270,6 @@ module _ (text : List ℕ) (found : List Part) (first : Option ℕ) (kind : Part
 
 -- ---- plain words inside a part
 
-read_behind : (words : List Word) (r : Read) (all : List Word) → with_words words r ≡ Ok all → (more : List Word) × (r ≡ Ok more) × (all ≡ words ++ more)
-read_behind words (Ok more) all e = (more, refl, cc)
-read_behind words (Err fault) all e = absurd cc
-
 module _ (text : List ℕ) (found : List Part) (start : ℕ) (kind : PartKind) (at to : ℕ) (h : Divides text found (Some start) kind at) (s : SkipsPlain text at to) where
   begun_skip : at ≤ to → Begun text start at → Begun text start to
   begun_skip le b = record {
@@ -289,7 +285,7 @@ module _ (text : List ℕ) (found : List Part) (start : ℕ) (kind : PartKind) (
   rest_behind units has =
       let left = h.rest units has in
       let read : with_words (plain_words s.inside) (read_runs None (runs_at text to)) ≡ Ok left.0 = sym (ap (read_runs None) s.joined ∙ read_whole s.inside (plain_words s.inside) (are_plain_words s.inside s.plain) (runs_at text to)) ∙ left.1 in
-      let more = read_behind (plain_words s.inside) (read_runs None (runs_at text to)) left.0 read in
+      let more = read_on (plain_words s.inside) (read_runs None (runs_at text to)) left.0 read in
       let emitted : emit (Some start) kind (tokens_of text left.0) ≡ emit (Some start) kind (tokens_of text more.0) =
       ap (λ (ws : List Word). emit (Some start) kind (tokens_of text ws)) more.2 ∙ ap (emit (Some start) kind) (map-append (token_of text) (plain_words s.inside) more.0)
       ∙ emit_symbols start kind (tokens_of text (plain_words s.inside)) (tokens_of text more.0) (plain_tokens text s.inside) in

@@ -1,5 +1,5 @@
 -- Runs without a `$`, passed over at once.
-use Rattle.std.proofs.Common.{◌≡◌, ℕ, zero, suc, get_or, ◌+◌, ◌≤◌, ◌<◌, Bool, true, false, not, ◌||◌, eqb, List, [], ◌∷◌, ◌++◌, append_assoc, length, take, drop, map, refl, sym, ap, ◌∙◌, inl, inr, arith}
+use Rattle.std.proofs.Common.{◌≡◌, ℕ, zero, suc, get_or, ◌+◌, ◌≤◌, ◌<◌, Bool, true, false, not, ◌||◌, eqb, Ok, Err, List, [], ◌∷◌, ◌++◌, append_assoc, length, take, drop, map, refl, sym, ap, ◌∙◌, inl, inr, arith}
 use Rattle.std.proofs.lemmas.Bool.{cases_Bool, false_from_ne_true}
 use Rattle.std.proofs.lemmas.List.{drop-drop, length-take-le, take-append-drop}
 use Rattle.std.specs.List.{AllByRecursion}
@@ -8,7 +8,7 @@ use Rattle.mm_text.specs.declared.word.WordKind.TheVariants as kinds
 use Rattle.mm_text.specs.Language.Run.{Run, is_white, ends_run, with_front, runs_from}
 use Rattle.mm_text.specs.Language.Reading.{HoldNoMarks, AreWords}
 use Rattle.mm_text.specs.Language.Unit.{tokens_of, IsPlain}
-use Rattle.mm_text.specs.Code.LeftToRight.{has_dollar, word_at}
+use Rattle.mm_text.specs.Code.LeftToRight.{Read, with_words, has_dollar, word_at}
 use Rattle.mm_text.specs.Code.Reader.{runs_at, ArePlain, SkipsPlain}
 use Rattle.mm_text.proofs.KindLemmas.{kind_spelled, plain_word, no_mark}
 use Rattle.mm_text.proofs.PieceLemmas.{Seam, runs-append}
@@ -83,3 +83,8 @@ are_plain_words (run ∷ runs) h =
 pub plain_tokens : (text : List ℕ) (runs : List Run) → AllByRecursion IsPlain (tokens_of text (plain_words runs))
 plain_tokens text [] = tt
 plain_tokens text (run ∷ runs) = (refl, plain_tokens text runs)
+
+-- what is read with words in front is read behind them, too
+pub read_on : (words : List Word) (r : Read) (all : List Word) → with_words words r ≡ Ok all → (more : List Word) × (r ≡ Ok more) × (all ≡ words ++ more)
+read_on words (Ok more) all e = (more, refl, cc)
+read_on words (Err fault) all e = absurd cc

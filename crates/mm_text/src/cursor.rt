@@ -5,6 +5,7 @@ ghost use Rattle.std.specs.List.{AllByRecursion, flat_map};
 ghost use Rattle.mm_text.specs.declared.word.Word.{Word};
 ghost use Rattle.mm_text.specs.Language.Reading.{HasWords, LiesIn};
 ghost use Rattle.mm_text.specs.Language.Unit.{spellings};
+ghost use Rattle.mm_text.specs.Code.WordsLeft.{SkipsPlainWords};
 
 use crate::reader::Reader;
 use crate::word::Word;
@@ -56,7 +57,16 @@ impl<'a> WordCursor<'a> {
         }
     }
 
+    /// Goes on over plain words alone, as far as that can be told by looking for the next `$`: most often to the next keyword.
+    pub fn skip_plain(&mut self)
+        ensures text { self.new.text ≡ self.old.text }
+        ensures skips { SkipsPlainWords self.old.words self.new.words }
+    {
+        self.reader.skip_plain();
+    }
+
     /// Goes on by a word, and gives it; `None` where no word is left.
+    #[inline(always)]
     pub fn next_word(&mut self) -> Option<Word>
         ensures text { self.new.text ≡ self.old.text }
         ensures word { MatchOption result ((self.old.words ≡ []) × (self.new.words ≡ [])) (λ word. self.old.words ≡ word ∷ self.new.words) }

@@ -93,8 +93,29 @@ impl<'a> Reader<'a> {
         })
     }
 
-    /// The next word outside comments, or `None` where there is none before the end of the text.
+    /// The next word outside comments, or `None` where there is none before the end of the text. Most words have no `$`,
+    /// and are told at once.
+    #[inline(always)]
     pub fn next_word(&mut self) -> Result<Option<Word>, TextFault>
+        ensures text { self.new.text.now ≡ self.old.text.now }
+        ensures word { GivesWord self.old.text.now self.old.from result self.new.from }
+    {
+        let mut ahead = *self;
+        match ahead.next_run() {
+            Some(span) if span.plain => {
+                *self = ahead;
+                Ok(Some(Word {
+                    kind: WordKind::Plain,
+                    start: span.start,
+                    end: span.end,
+                }))
+            }
+            _ => self.any_word(),
+        }
+    }
+
+    /// The next word outside comments, whatever stands before it.
+    fn any_word(&mut self) -> Result<Option<Word>, TextFault>
         ensures text { self.new.text.now ≡ self.old.text.now }
         ensures word { GivesWord self.old.text.now self.old.from result self.new.from }
     {

@@ -92,10 +92,14 @@ TellsSame base copy _ _ same = same ≡ false
 abbrev pub is_label_word : List ℕ → Bool
 is_label_word word = not (bytes_eq word (codes "?"))
 
--- two theorems have the same expression, mandatory hypotheses and active pairs
-pub record ShareStatement (base copy : BaseView) (i j : ℕ) : Type 0 where
+-- two theorems have the same expression and mandatory hypotheses
+pub record ShareHypotheses (base copy : BaseView) (i j : ℕ) : Type 0 where
   pub expression : (frame_at base i).expression ≡ (frame_at copy j).expression
   pub hypotheses : (frame_at base i).hypotheses ≡ (frame_at copy j).hypotheses
+
+-- they have the same active pairs, too
+pub record ShareStatement (base copy : BaseView) (i j : ℕ) : Type 0 where
+  pub but_pairs : ShareHypotheses base copy i j
   pub pairs : SharePairs base copy i j
 
 -- the same words stand in their proofs, and the labels that these name mean the same

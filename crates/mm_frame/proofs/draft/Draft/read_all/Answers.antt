@@ -6,7 +6,7 @@ use Rattle.mm_frame.proofs.BaseLemmas.{zip_more}
 use Rattle.mm_frame.proofs.draft.Draft.read_all.Goals as goal
 
 pub loop-item-init : goal.loop-item-init
-loop-item-init c = (λ n name there. there, [], tt, λ all distinct more. c.new-draft.ensures all distinct)
+loop-item-init c = (λ n name there. there, [], tt, λ all distinct more. c.in_ok-draft.ensures all distinct)
 
 pub loop-item-preserved : goal.loop-item-preserved
 loop-item-preserved c =

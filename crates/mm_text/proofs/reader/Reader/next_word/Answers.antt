@@ -1,48 +1,15 @@
-use Rattle.std.proofs.Common.{◌≡◌, ◌≤◌, length, slice_range, sym, ◌∙◌, Some, arith}
-use Rattle.std.proofs.lemmas.Result.{err_from_is_err_and}
-use Rattle.mm_text.specs.Language.Spelling.{opening}
+use Rattle.std.proofs.Common.{◌≤◌, length, slice_range, sym, ◌∙◌, arith}
 use Rattle.mm_text.specs.declared.word.WordKind.TheVariants.{Plain}
-use Rattle.mm_text.specs.Code.LeftToRight.{word_kind}
-use Rattle.mm_text.specs.Code.Reader.{runs_at, TakesSpan, SkipsComment, FailsInside}
 use Rattle.mm_text.proofs.KindLemmas.{plain_word}
-use Rattle.mm_text.proofs.ReaderLemmas.{pass_word, pass_comment, pass_fails}
+use Rattle.mm_text.proofs.ReaderLemmas.{pass_none, pass_word}
 use Rattle.mm_text.proofs.reader.Reader.next_word.Goals as goal
 
-pub returns-in_err-skip_comment-clause-word : goal.returns-in_err-skip_comment-clause-word
-returns-in_err-skip_comment-clause-word c =
-    let p = err_from_is_err_and c.from_residual.result c.from_residual.ensures.1 in
-    let same = c.next_run.ensures.text ∙ c.loop-span.invariant.text in
-    let opens : slice_range c.next_run.new.self.text.now c.in-Some.span.start c.in-Some.span.end ≡ opening = c.is_opening.ensures.0 c.if-is_opening.true in
-    let fails : FailsInside (runs_at c.next_run.new.self.text.now c.next_run.new.self.from) c.in-Some.span.start c.in_err-skip_comment.field-0.0.number c.in_err-skip_comment.field-0.0.at = c.in_err-skip_comment.ensures.end in
-    rw (p.1, p.2) (pass_fails c.args.self.now.text.now c.args.self.now.from c.loop-span.self.from c.in-Some.span c.next_run.new.self.from c.loop-span.invariant.passes (rw c.loop-span.invariant.text at c.in-Some.ensures.run) _ _ (rw same at opens) (rw same at fails))
-
-pub loop-span-preserved : goal.loop-span-preserved
-loop-span-preserved c =
-    let same = c.next_run.ensures.text ∙ c.loop-span.invariant.text in
-    let opens : slice_range c.next_run.new.self.text.now c.in-Some.span.start c.in-Some.span.end ≡ opening = c.is_opening.ensures.0 c.if-is_opening.true in
-    let skips : SkipsComment c.next_run.new.self.text.now c.next_run.new.self.from c.skip_comment.new.self.from = c.in_ok-skip_comment.ensures.end in
-    let forward : c.loop-span.self.from ≤ c.next_run.new.self.from = c.in-Some.ensures.forward in
-    let more : c.next_run.new.self.from ≤ c.skip_comment.new.self.from = c.in_ok-skip_comment.ensures.forward in
-    let before : c.args.self.now.from ≤ c.loop-span.self.from = c.loop-span.invariant.forward in
-    record {
-      text = c.in_ok-skip_comment.ensures.text ∙ same;
-      forward = omega arith;
-      passes = pass_comment c.args.self.now.text.now c.args.self.now.from c.loop-span.self.from c.in-Some.span c.next_run.new.self.from c.loop-span.invariant.passes (rw c.loop-span.invariant.text at c.in-Some.ensures.run) c.skip_comment.new.self.from (rw same at opens) (rw same at skips);
-    }
-
-pub returns-in-Some-kind-clause-word : goal.returns-in-Some-kind-clause-word
-returns-in-Some-kind-clause-word c =
-    let same = c.next_run.ensures.text ∙ c.loop-span.invariant.text in
-    let is : word_kind (slice_range c.next_run.new.self.text.now c.in-Some.span.start c.in-Some.span.end) ≡ Some c.in-Some-kind.kind = sym c.kind.ensures ∙ c.in-Some-kind.is in
-    let run : TakesSpan c.loop-span.self.text.now c.loop-span.self.from c.in-Some.span c.next_run.new.self.from = c.in-Some.ensures.run in
+pub returns-in-Some-clause-word : goal.returns-in-Some-clause-word
+returns-in-Some-clause-word c =
+    let text = c.args.self.now.text.now in
+    let from = c.args.self.now.from in
+    let same = c.next_run.ensures.text in
+    let here = c.in-Some.ensures.run in
     let within : c.next_run.new.self.from ≤ length c.next_run.new.self.text.now = c.next_run.new.self.in_text in
-    pass_word c.args.self.now.text.now c.args.self.now.from c.loop-span.self.from c.in-Some.span c.next_run.new.self.from c.loop-span.invariant.passes (rw c.loop-span.invariant.text at run) c.in-Some-kind.kind (rw same at is) (rw same at within) c.loop-span.invariant.forward
-
-pub returns-then-span-clause-word : goal.returns-then-span-clause-word
-returns-then-span-clause-word c =
-    let same = c.next_run.ensures.text ∙ c.loop-span.invariant.text in
-    let run : TakesSpan c.loop-span.self.text.now c.loop-span.self.from c.in-Some.span c.next_run.new.self.from = c.in-Some.ensures.run in
-    let here = rw c.loop-span.invariant.text at run in
-    let within : c.next_run.new.self.from ≤ length c.next_run.new.self.text.now = c.next_run.new.self.in_text in
-    pass_word c.args.self.now.text.now c.args.self.now.from c.loop-span.self.from c.in-Some.span c.next_run.new.self.from c.loop-span.invariant.passes here Plain
-    (plain_word (slice_range c.args.self.now.text.now c.in-Some.span.start c.in-Some.span.end) (sym here.plain ∙ c.if-span.true)) (rw same at within) c.loop-span.invariant.forward
+    pass_word text from from c.in-Some.span c.next_run.new.self.from (pass_none text from) here Plain
+    (plain_word (slice_range text c.in-Some.span.start c.in-Some.span.end) (sym here.plain ∙ c.if-span.true)) (rw same at within) (omega arith)

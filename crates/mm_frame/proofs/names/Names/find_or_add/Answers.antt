@@ -3,7 +3,7 @@ use Rattle.std.specs.Prelude.{slice_get}
 use Rattle.std.specs.Str.{bytes_eq}
 use Rattle.std.specs.List.{list_any}
 use Rattle.mm_frame.proofs.NumberLemmas.{number_by_keys, any_by_keys, number_names, added_named, added_grows}
-use Rattle.mm_frame.proofs.names.Names.take.Goals as goal
+use Rattle.mm_frame.proofs.names.Names.find_or_add.Goals as goal
 
 pub returns-in-Some-clause-named : goal.returns-in-Some-clause-named
 returns-in-Some-clause-named c = subst (λ names. slice_get names c.in-Some.number ≡ Some c.args.name.now) c.self.view_is (number_names _ c.args.name.now c.in-Some.number (sym (number_by_keys c.args.name.now c.self.inside.names.keys) ∙ sym c.get_index_of.ensures.index ∙ c.in-Some.is))

@@ -1,6 +1,6 @@
 use Rattle.std.proofs.Common.{◌≡◌, ◌≤◌, ◌-◌, length}
 use Rattle.mm_text.proofs.ReaderLemmas.{Passing}
-use Rattle.mm_text.proofs.reader.Reader.next_word.Given as goal
+use Rattle.mm_text.proofs.reader.Reader.any_word.Given as goal
 
 abbrev pub invariant-loop-span : goal.invariant-loop-span
 invariant-loop-span l = record {

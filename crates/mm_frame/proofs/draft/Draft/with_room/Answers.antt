@@ -1,0 +1,19 @@
+use Rattle.std.proofs.Common.{[], sym, subst}
+use Rattle.mm_frame.specs.Code.KeptBase.{AreRows, TellsRow, TellsFrame, TellsPairs}
+use Rattle.mm_frame.specs.Code.KeptSymbols.{AreSymbols}
+use Rattle.mm_frame.specs.Code.LastItems.{is_essential_item, is_disjoint_item}
+use Rattle.mm_frame.proofs.BaseLemmas.{rows_none, symbols_none}
+use Rattle.mm_frame.proofs.draft.Draft.with_room.Goals as goal
+
+pub returns : goal.returns
+returns c = λ all distinct. record {
+  scope = c.new.ensures all distinct;
+  rows = subst (AreRows TellsRow []) (sym c.in_ok-rows.ensures.items) (rows_none TellsRow);
+  symbols = subst (AreSymbols all []) (sym c.in_ok-expressions.ensures) (symbols_none all);
+  frames = subst (AreRows (TellsFrame all) []) (sym c.in_ok-frames.ensures.items) (rows_none (TellsFrame all));
+  essentials = c.new-3.ensures.first is_essential_item;
+  disjoints = c.new-4.ensures.first is_disjoint_item;
+  made = c.new-5.ensures all;
+  pair_numbers = subst (AreRows (TellsPairs all c.new-5.result) []) (sym c.in_ok-pair_numbers.ensures.items) (rows_none (TellsPairs all c.new-5.result));
+  pair_table = c.new-6.ensures all;
+}
