@@ -23,7 +23,9 @@ use std::collections::HashSet;
 /// A fault of a statement: its number, and the word that it is told at, counted from 0 in the statement.
 #[derive(Clone, Copy, Debug, PartialEq, Eq)]
 pub struct FrameFault {
+    /// Its number.
     pub number: FrameNumber,
+    /// The word that it is told at, from 0: the label if there is one, else the keyword, is word 0.
     pub word: usize,
 }
 

@@ -11,8 +11,8 @@ const MOST_SHORT: usize = 9;
 
 /// Labels, each with the number of an item.
 ///
-/// Nearly all labels have few bytes. Such a one is kept as the number that its bytes make, beside the others: so a look-up
-/// reads little memory. A longer one is kept by its bytes.
+/// Nearly all labels that proofs name have few bytes. Such a one is kept as the number that its bytes make, beside the
+/// others: so a look-up reads little memory. A longer one is kept by its bytes.
 #[derive(Drop)]
 pub struct LabelNumbers {
     short: HashMap<u64, usize>,

@@ -9,11 +9,17 @@ use crate::finding::Finding;
 /// How many there are: sound `$a`; sound `$p`, and of these the proved, the incomplete and the wrong; and faults.
 #[derive(Clone, Copy, Debug, PartialEq, Eq)]
 pub struct Tally {
+    /// The sound `$a`.
     pub axioms: u64,
+    /// The sound `$p`.
     pub theorems: u64,
+    /// The sound `$p` whose verdict is Proved.
     pub proved: u64,
+    /// The sound `$p` whose verdict is Incomplete.
     pub incomplete: u64,
+    /// The sound `$p` whose verdict is Wrong.
     pub wrong: u64,
+    /// The items at fault, missing files among them.
     pub faults: u64,
 }
 

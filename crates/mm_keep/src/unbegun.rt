@@ -6,6 +6,8 @@ use mm_frame::{Files, StoreError};
 /// want of memory.
 #[derive(Drop)]
 pub struct Unbegun {
+    /// The files, as they were handed in.
     pub files: Files,
+    /// Why: `NoTop` or `Memory`.
     pub fault: StoreError,
 }

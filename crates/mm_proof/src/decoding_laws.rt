@@ -42,6 +42,8 @@ pub fn tells_first_fault()
 {}
 
 /// What decoding makes sure of.
+///
+/// For `check`, which runs the decoded steps.
 pub fn decodes_surely()
     ensures { DecodesSurely }
 {}
@@ -55,21 +57,21 @@ pub fn letters_read_on()
 
 /// Proofs with the same words decode to the same where their labels mean the same.
 ///
-/// For sessions, which keep verdicts; no code calls on it yet.
+/// For the law that equal views have equal verdicts.
 pub fn same_decodes_same()
     ensures { SameDecodesSame }
 {}
 
 /// Proofs with the same words cite by the same words where their labels mean the same.
 ///
-/// For sessions, which keep what is cited; no code calls on it yet.
+/// For the law that with equal views the same words cite.
 pub fn same_cites_same()
     ensures { SameCitesSame }
 {}
 
 /// The words that cite rise.
 ///
-/// For the lists of what is cited; no code calls on it yet.
+/// For sessions, which look for what a proof cites among the words that cite.
 pub fn cites_rise()
     ensures { CitesRise }
 {}

@@ -7,7 +7,7 @@ use mm_frame::{items_have_labels, mandatory_means, mandatory_stand_before, place
 
 /// The label of each mandatory hypothesis of an item means it there.
 ///
-/// It shows what the definitions mean; no code calls on it.
+/// For the laws on views and on citations.
 pub fn mandatory_labels_mean()
     ensures { MandatoryLabelsMean }
 {
@@ -17,6 +17,8 @@ pub fn mandatory_labels_mean()
 }
 
 /// There is one verdict at most on the proof of an item.
+///
+/// For the laws that there is one report and one list of answers to a script.
 pub fn has_one_verdict_at()
     ensures { HasOneVerdictAt }
 {
@@ -24,6 +26,8 @@ pub fn has_one_verdict_at()
 }
 
 /// There is a verdict on the proof of each item of a base of files.
+///
+/// For the law that each item has a finding.
 pub fn has_verdict_at()
     ensures { HasVerdictAt }
 {
@@ -35,13 +39,15 @@ pub fn has_verdict_at()
 
 /// Proved is the verdict on the proof of an item exactly where it decodes, no step is unknown, and its expanded labels
 /// derive the statement.
+///
+/// It shows what the definitions mean; no code calls on it.
 pub fn proved_is_derived_at()
     ensures { ProvedIsDerivedAt }
 {}
 
 /// There is one number at most of the steps of the proof of an item that are done.
 ///
-/// For the steps of a run, which are counted; no code calls on it yet.
+/// It shows what the definitions mean; no code calls on it.
 pub fn has_one_count_at()
     ensures { HasOneCountAt }
 {
@@ -50,7 +56,7 @@ pub fn has_one_count_at()
 
 /// There is a number of the steps that are done, on the proof of each item of a base of files.
 ///
-/// For the steps of a run, which are counted; no code calls on it yet.
+/// It shows what the definitions mean; no code calls on it.
 pub fn has_count_at()
     ensures { HasCountAt }
 {
