@@ -1,12 +1,12 @@
 -- What is kept of an item at its number, and the hypotheses of a frame by their numbers.
-use Rattle.std.proofs.Common.{◌≡◌, ◌↔◌, ℕ, zero, suc, ◌<◌, ◌≤◌, Bool, true, false, ◌&&◌, ◌||◌, Option, Some, None, List, [], ◌∷◌, length, take, take_all, slice_get, get_or, is_none, is_some, refl, sym, ◌∙◌, ap, subst, arith, inl, inr}
+use Rattle.std.proofs.Common.{◌≡◌, ◌↔◌, ℕ, zero, suc, ◌<◌, ◌≤◌, Bool, true, false, ◌&&◌, ◌||◌, Option, Some, None, List, [], ◌∷◌, length, map, take, take_all, slice_get, get_or, is_none, is_some, refl, sym, ◌∙◌, ap, subst, arith, inl, inr}
 use Rattle.std.specs.Option.{option_map, IfSome}
 use Rattle.std.specs.Prelude.{Contains}
 use Rattle.std.specs.List.{AllZip}
 use Rattle.std.proofs.lemmas.Bool.{false≢true, and_from, and_parts}
 use Rattle.std.proofs.lemmas.List.{take-take}
 use Rattle.std.proofs.lemmas.List.Elements.{All-from_get_or}
-use Rattle.std.proofs.lemmas.Option.{none-some, slice_get_within, slice_get_cases, slice_get-get_or, get_or_from_slice_get}
+use Rattle.std.proofs.lemmas.Option.{none-some, same_Some, slice_get_within, slice_get_cases, slice_get-get_or, get_or_from_slice_get}
 use Rattle.mm_store.specs.declared.item.Item as store
 use Rattle.mm_store.specs.Language.FilesView.{FilesView}
 use Rattle.mm_frame.specs.declared.FrameNumber.{FrameNumber}
@@ -15,7 +15,7 @@ use Rattle.mm_frame.specs.Language.Sound.{fault, judged, sound_items}
 use Rattle.mm_frame.specs.Language.Framing.{is_mandatory, mandatory_variables, expression, hypothesis, mandatory_numbers}
 use Rattle.mm_frame.specs.Language.Statement.{kind_of, Says}
 use Rattle.mm_frame.specs.Language.Base.{BaseView, before, said_at, fault_by, hypothesis_at, is_sound_at, is_shown_at, is_framed_at, IsMandatoryAt, AreHypotheses}
-use Rattle.mm_frame.specs.Code.KeptBase.{numbers_if, hypotheses_at}
+use Rattle.mm_frame.specs.Code.KeptBase.{is_float_item, numbers_if, hypotheses_at}
 use Rattle.mm_frame.proofs.Members.{In, in_contains, contains_in}
 use Rattle.mm_frame.proofs.Frames.{in_at}
 use Rattle.mm_frame.proofs.SoundItems.{map_same}
@@ -186,6 +186,13 @@ kind_at [] said i item z e = cc
 kind_at (x ∷ found) [] i item z e = absurd z
 kind_at (x ∷ found) (y ∷ said) zero item z e = let q : x ≡ item = cc in sym (ap (λ (w : store.Item). kind_of w.kind) q) ∙ z.0
 kind_at (x ∷ found) (y ∷ said) (suc i) item z e = kind_at found said i item z.1 e
+
+-- whether it is a `$f` is kept of each item
+pub float_at : (found : List store.Item) (said : List Item) (i : ℕ) (b : Bool) → AllZip HasKind found said → slice_get (map is_float_item found) i ≡ Some b → b ≡ is_floating (item_at said i).kind
+float_at [] said i b z e = cc
+float_at (x ∷ found) [] i b z e = absurd z
+float_at (x ∷ found) (y ∷ said) zero b z e = sym (same_Some _ _ e) ∙ ap is_floating z.0
+float_at (x ∷ found) (y ∷ said) (suc i) b z e = float_at found said i b z.1 e
 
 -- where none is found there is none
 pub none_past : (found : List store.Item) (said : List Item) (i : ℕ) → length found ≡ length said → slice_get found i ≡ None → length said ≤ i

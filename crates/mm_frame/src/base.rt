@@ -1,19 +1,20 @@
 //! What the items of files mean, from a top file on.
 
 ghost use Rattle.std.specs.Prelude.{All, true, ◌≡◌, ◌<◌, ◌≤◌, ◌↔◌, ◌&&◌, is_none, is_some, Some, None, List, length, ℕ};
-ghost use Rattle.std.specs.Prelude.{IfSome, IfOk, IfErr, IsErrOf, IsTrue, slice_get};
+ghost use Rattle.std.specs.Prelude.{IfSome, IfOk, IfErr, IsErrOf, IsTrue, map, slice_get};
 ghost use Rattle.std.specs.Option.{option_map};
 ghost use Rattle.mm_store.specs.Language.FilesView.{files_in, number_of};
 ghost use Rattle.mm_store.specs.Language.Answers.{IsExpansionError};
 ghost use Rattle.mm_store.specs.declared.error.StoreError.TheVariants.{NoTop};
 ghost use Rattle.mm_frame.specs.Language.Item.{is_labelled};
 ghost use Rattle.mm_frame.specs.Language.Frame.{AreSamePairs};
-ghost use Rattle.mm_frame.specs.Language.Framing.{active_pairs, mandatory_numbers, resolve};
-ghost use Rattle.mm_frame.specs.Language.Base.{BaseView, IsOfFiles, before, said_at, is_proof_at, is_framed_at, is_sound_at, fault_at, expression_at, frame_at};
+ghost use Rattle.mm_frame.specs.Language.Framing.{active_pairs, expression, mandatory_numbers, resolve};
+ghost use Rattle.mm_frame.specs.Language.Base.{BaseView, IsOfFiles, before, said_at, is_proof_at, is_framed_at, is_shown_at, is_sound_at, fault_at, expression_at, frame_at};
 ghost use Rattle.mm_frame.specs.Language.Base.{AreHypotheses};
 ghost use Rattle.mm_frame.specs.Language.Names.{Begins};
 ghost use Rattle.mm_frame.specs.Code.CodeSymbols.{symbols_of, kept_pairs, IsNumbered, IsPairNumbered, ArePairsRead};
 ghost use Rattle.mm_frame.specs.Code.KeptSymbols.{expression_kept};
+ghost use Rattle.mm_frame.specs.Code.KeptBase.{is_float_item};
 ghost use Rattle.mm_frame.specs.Code.PairOrder.{pairs_in_order};
 ghost use Rattle.mm_frame.specs.Language.Item as meant;
 ghost use Rattle.mm_frame.specs.Language.Statement.{kind_of};
@@ -24,7 +25,7 @@ use crate::judge::FrameFault;
 use crate::names::Names;
 use crate::symbol::NumberedSymbol;
 use mm_store::{Files, Item, ItemKind, StoreError};
-use std::alloc::Global;
+use std::alloc::{AllocError, Global};
 
 /// The items of files from a top file on, which of them are sound, and the frames of the assertions.
 ///
@@ -33,6 +34,8 @@ use std::alloc::Global;
 #[derive(Drop)]
 pub struct Base {
     items: Vec<Item>,
+    /// For each item whether it is a `$f`.
+    floats: Vec<bool>,
     parts: Parts,
 }
 
@@ -75,6 +78,17 @@ fn is_floating(kind: ItemKind) -> bool
     matches!(kind, ItemKind::Floating)
 }
 
+/// For each of some items whether it is a `$f`.
+fn floats_among(alloc: Global, items: &[Item]) -> Result<Vec<bool>, AllocError>
+    ensures { IfOk result (λ floats. floats.items ≡ map is_float_item items.now) }
+{
+    let mut floats = Vec::with_capacity(alloc, items.len())?;
+    for item in items {
+        floats.push(is_floating(item.kind))?;
+    }
+    Ok(floats)
+}
+
 /// Whether a row is that of a sound item with a label.
 fn is_shown_row(row: &Row) -> bool
     ensures { result ≡ (is_none row.now.fault && is_some row.now.label) }
@@ -106,8 +120,10 @@ impl Base {
         let items = files.statements(alloc, top)?;
         let draft = Draft::read_all(alloc, names, files, &items)?;
         names.distinct();
+        let floats = floats_among(alloc, &items)?;
         Ok(Base {
             items,
+            floats,
             parts: draft.parts(),
         })
     }
@@ -143,19 +159,12 @@ impl Base {
         self.parts.expressions.at(i)
     }
 
-    /// The item of the files with this number, if there is one.
-    fn found(&self, i: usize) -> Option<&Item>
-        ensures { option_map (λ item. item.now) result ≡ slice_get self.now.items.items i }
-    {
-        self.items.get(i)
-    }
-
-    /// Whether the item with this number is a `$f`.
-    pub(crate) fn is_floating(&self, i: usize) -> bool
+    /// Whether the item with this number is a `$f`. The items themselves are not looked at.
+    pub fn is_floating(&self, i: usize) -> bool
         ensures { (base : BaseView) → IsBase base self.now → result ≡ meant.is_floating (said_at base i).kind }
     {
-        match self.found(i) {
-            Some(item) => is_floating(item.kind),
+        match self.floats.get(i) {
+            Some(floating) => *floating,
             None => false,
         }
     }
@@ -209,6 +218,16 @@ impl Base {
         } else {
             None
         }
+    }
+
+    /// The expression of the item with this number, which is known to be a sound `$f`, `$e`, `$a` or `$p`: no look is taken
+    /// whether it is.
+    pub fn known_expression(&self, i: usize) -> &[NumberedSymbol]
+        ensures symbols { (names : List (List ℕ)) (base : BaseView) → IsBaseBy names base self.now → is_shown_at base i ≡ true
+            → symbols_of names result.now ≡ expression (before base i) (said_at base i) }
+        ensures numbered { (names : List (List ℕ)) (base : BaseView) → IsBaseBy names base self.now → All (IsNumbered names) result.now }
+    {
+        self.symbols(i)
     }
 
     /// The frame that is kept of the item with this number, if one is kept; its pairs stand in the order of its `$f`.

@@ -2,13 +2,13 @@
 
 ghost use Rattle.std.specs.Prelude.{◌≡◌, ◌<◌, true, All, IfOk, length, map};
 ghost use Rattle.mm_frame.specs.Language.Base.{BaseView, is_shown_at, is_framed_at, is_proof_at};
-ghost use Rattle.mm_frame.specs.Code.KeptBase.{IsBase, HasItem};
+ghost use Rattle.mm_frame.specs.Code.KeptBase.{IsBase};
 ghost use Rattle.mm_frame.specs.Language.Frame.{AreSameFrame, AreSamePairs};
 ghost use Rattle.mm_proof.specs.Code.Citation.{mandatory_of, frame_of, pairs_of};
 ghost use Rattle.mm_frame.specs.Code.CodeSymbols.{by_number};
 ghost use Rattle.mm_proof.specs.Code.NumberedBase.{ByNames, all_by_number, numbered_hypothesis, numbered_frame, numbered_setting};
 
-use mm_frame::{Base, ItemKind, NumberedSymbol};
+use mm_frame::{Base, NumberedSymbol};
 use std::alloc::{AllocError, Global};
 
 /// A mandatory hypothesis of an assertion.
@@ -29,12 +29,12 @@ pub struct Cited<'a, S> {
     pub pairs: &'a [(S, S)],
 }
 
-/// The expression of the item with this number; no symbols where it has none.
+/// The expression of the item with this number, which is one that has an expression.
 pub fn expression(base: &Base, number: usize) -> &[NumberedSymbol]
     ensures { ByNames base.now (λ names view. is_shown_at view number ≡ true
         → all_by_number result.now ≡ (numbered_hypothesis names view number).expression) }
 {
-    base.expression(number).unwrap_or(&[])
+    base.known_expression(number)
 }
 
 /// The active pairs at a theorem; none where the item with this number is no theorem.
@@ -47,11 +47,10 @@ pub fn active(base: &Base, number: usize) -> &[(NumberedSymbol, NumberedSymbol)]
 
 /// The hypothesis with this number.
 fn hypothesis_of(base: &Base, number: usize) -> Hypothesis<'_, NumberedSymbol>
-    requires { HasItem base.now number }
     ensures { ByNames base.now (λ names view. is_shown_at view number ≡ true → mandatory_of by_number result ≡ numbered_hypothesis names view number) }
 {
     Hypothesis {
-        floating: matches!(base.item(number).kind, ItemKind::Floating),
+        floating: base.is_floating(number),
         expression: expression(base, number),
     }
 }
@@ -62,7 +61,6 @@ fn hypotheses<'a>(
     base: &'a Base,
     numbers: &[usize],
 ) -> Result<Vec<Hypothesis<'a, NumberedSymbol>>, AllocError>
-    requires { All (HasItem base.now) numbers.now }
     ensures { IfOk result (λ found. ByNames base.now (λ names view. All (λ n. is_shown_at view n ≡ true) numbers.now →
         map (mandatory_of by_number) found.items ≡ map (numbered_hypothesis names view) numbers.now)) }
 {

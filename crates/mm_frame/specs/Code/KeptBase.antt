@@ -1,7 +1,8 @@
 -- What the code keeps of the items for a base.
-use Rattle.std.specs.Prelude.{◌≡◌, ℕ, ◌<◌, ◌≤◌, Bool, true, ◌&&◌, if◌then◌else◌, Some, None, is_some, is_none, List, length, take, slice_get, Option}
+use Rattle.std.specs.Prelude.{◌≡◌, ℕ, ◌<◌, ◌≤◌, Bool, true, ◌&&◌, if◌then◌else◌, Some, None, is_some, is_none, List, length, map, take, slice_get, Option}
 use Rattle.std.specs.Option.{option_map}
 use Rattle.std.specs.List.{AllZip}
+use Rattle.mm_store.specs.declared.item.Item as store
 use Rattle.mm_frame.specs.declared.base.Base.{Base}
 use Rattle.mm_frame.specs.declared.draft.Draft.{Draft}
 use Rattle.mm_frame.specs.declared.draft.Parts.{Parts}
@@ -12,7 +13,7 @@ use Rattle.mm_frame.specs.Language.Names.{AreDistinct, Begins}
 use Rattle.mm_frame.specs.Code.CodeSymbols.{ArePairsRead}
 use Rattle.mm_frame.specs.Code.KeptSymbols.{AreSymbols}
 use Rattle.mm_frame.specs.Code.KeptPairTable.{KnowsPairs}
-use Rattle.mm_frame.specs.Language.Item.{Item, is_labelled, is_assertion, is_theorem, item_at}
+use Rattle.mm_frame.specs.Language.Item.{Item, is_floating, is_labelled, is_assertion, is_theorem, item_at}
 use Rattle.mm_frame.specs.Language.Statement.{kind_of}
 use Rattle.mm_frame.specs.Language.Sound.{sound_items}
 use Rattle.mm_frame.specs.declared.pair_lists.PairLists.{PairLists}
@@ -101,10 +102,15 @@ pub record AreParts (all : List (List ℕ)) (said : List Item) (parts : Parts) :
   pub marks : parts.blocks ≡ marks_of (sound_items said)
   pub pair_numbers : AreRows (TellsPairs all parts.pair_lists) said parts.pair_numbers.items
 
+-- the item is a `$f`
+abbrev pub is_float_item : store.Item → Bool
+is_float_item item = is_floating (kind_of item.kind)
+
 -- the code keeps what this base answers, where names have the numbers of this list
 pub record IsBaseBy (names : List (List ℕ)) (base : BaseView) (code : Base) : Type 0 where
   pub distinct : AreDistinct names
   pub found : code.items.items ≡ base.found
+  pub floats : code.floats.items ≡ map is_float_item base.found
   pub count : length base.found ≡ length base.said
   pub few : length base.said ≤ 4294967295
   pub kinds : AllZip (λ item said. kind_of item.kind ≡ said.kind) base.found base.said
