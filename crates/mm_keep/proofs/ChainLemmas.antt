@@ -6,7 +6,7 @@ use Rattle.std.proofs.Math.ListN.{get_or-eq_default}
 use Rattle.std.proofs.lemmas.Bool.{false≢true}
 use Rattle.std.proofs.lemmas.List.{get_or-replicate, get_or-set_same, get_or-set_other, length-replicate}
 use Rattle.mm_frame.specs.Language.Base.{BaseView}
-use Rattle.mm_keep.specs.Language.Citations.{Cites, LeadsTo, none, step, IsAxiomOf}
+use Rattle.mm_keep.specs.Language.Citations.{CitesItem, LeadsTo, none, step, IsAxiomOf}
 use Rattle.mm_keep.specs.Language.Runs.{AreThose}
 use Rattle.mm_keep.specs.Language.Told.{IsAxiom}
 use Rattle.mm_keep.specs.Code.Cited.{IsMarked, MarksMore, MarksBehind}
@@ -50,7 +50,7 @@ pub record AreBehind (view : BaseView) (before now : List Bool) (front : ℕ) : 
   pub count : length now ≡ length before
   pub kept : (k : ℕ) → IsMarked before k → IsMarked now k
   pub leads : (k : ℕ) → IsMarked now k → (i : ℕ) × IsMarked before i × LeadsTo view k i
-  pub closed : (i k : ℕ) → front ≤ i → IsMarked now i → Cites view i k → IsMarked now k
+  pub closed : (i k : ℕ) → front ≤ i → IsMarked now i → CitesItem view i k → IsMarked now k
 
 pub behind_none : (view : BaseView) (marks : List Bool) (front : ℕ) → front ≡ length marks → AreBehind view marks marks front
 behind_none view marks front e = record {
@@ -72,7 +72,7 @@ behind_skip view before now j front e behind not = record {
 }
 
 pub behind_more :
-    (view : BaseView) (before now after : List Bool) (j front : ℕ) → front ≡ j + 1 → AreBehind view before now front → IsMarked now j → MarksMore (Cites view j) now after →
+    (view : BaseView) (before now after : List Bool) (j front : ℕ) → front ≡ j + 1 → AreBehind view before now front → IsMarked now j → MarksMore (CitesItem view j) now after →
     AreBehind view before after j
 behind_more view before now after j front e behind here more = record {
   count = more.count ∙ behind.count;
@@ -84,13 +84,13 @@ behind_more view before now after j front e behind here more = record {
   closed = λ i k l m c. elim ((more.each i).0 m) [
     | inl n ↦ elim (dec_lt j i) [
       | yes later ↦ (more.each k).1 (inl (behind.closed i k (omega (arith, later, e)) n c))
-      | no no_later ↦ (let same : i ≡ j = omega (arith, l, no_later) in (more.each k).1 (inr (subst (λ x. Cites view x k) same c)))
+      | no no_later ↦ (let same : i ≡ j = omega (arith, l, no_later) in (more.each k).1 (inr (subst (λ x. CitesItem view x k) same c)))
     ]
     | inr back ↦ (let earlier = cites_earlier view j i back in absurd (omega (arith, l, earlier)))
   ];
 }
 
-reached : (view : BaseView) (now : List Bool) → ((i k : ℕ) → IsMarked now i → Cites view i k → IsMarked now k) → (k i : ℕ) → LeadsTo view k i → IsMarked now i → IsMarked now k
+reached : (view : BaseView) (now : List Bool) → ((i k : ℕ) → IsMarked now i → CitesItem view i k → IsMarked now k) → (k i : ℕ) → LeadsTo view k i → IsMarked now i → IsMarked now k
 reached view now closed k i none m = m
 reached view now closed k i (step {j = j} c rest) m = reached view now closed k j rest (closed i j m c)
 
@@ -115,10 +115,10 @@ map_ok (Err e) P Q f p = p
 -- what is cited, by the marks
 pub cites_marked :
     (view : BaseView) (i : ℕ) (fresh marks : List Bool) (numbers : List ℕ) → i < length view.said → length fresh ≡ i → ((k : ℕ) → IsMarked fresh k → ⊥) →
-    MarksMore (Cites view i) fresh marks → AreThose (IsMarked marks) (length marks) numbers → AreThose (Cites view i) (length view.said) numbers
+    MarksMore (CitesItem view i) fresh marks → AreThose (IsMarked marks) (length marks) numbers → AreThose (CitesItem view i) (length view.said) numbers
 cites_marked view i fresh marks numbers within count empty more those =
     let long = more.count in
-    those_moved (IsMarked marks) (Cites view i) (length marks) (length view.said) numbers those
+    those_moved (IsMarked marks) (CitesItem view i) (length marks) (length view.said) numbers those
     (λ k l m. elim ((more.each k).0 m) [
       | inl f ↦ absurd (empty k f)
       | inr c ↦ (let e = cites_earlier view i k c in (omega (arith, e, within), c))

@@ -13,7 +13,7 @@ use Rattle.mm_proof.specs.Language.BaseLabels.{setting_at}
 use Rattle.mm_proof.specs.Language.DecodingLaws.{CitesRise}
 use Rattle.mm_proof.specs.Language.VerdictAt.{cites_at, decoding_at}
 use Rattle.mm_proof.specs.Language.Work.{Judgement}
-use Rattle.mm_keep.specs.Language.Citations.{Cites}
+use Rattle.mm_keep.specs.Language.Citations.{CitesItem}
 use Rattle.mm_keep.specs.Language.Sessions.{IsAssertion}
 use Rattle.mm_keep.specs.Code.Cited.{AreRising, HasLabelAmong, IsAmong, MarksMore, IsMarked}
 use Rattle.mm_keep.specs.Code.KeptSession.{AreChecked, IsCheckedAt}
@@ -36,7 +36,7 @@ assertion_carries view label i a =
 -- ---- what is cited
 
 -- citations lead to earlier items
-pub cites_earlier : (view : BaseView) (j k : ℕ) → Cites view j k → k < j
+pub cites_earlier : (view : BaseView) (j k : ℕ) → CitesItem view j k → k < j
 cites_earlier view j k c = c.names.means.0.earlier
 
 number_among : (words : List (List ℕ)) (cites : List ℕ) (n : ℕ) (label : List ℕ) → Contains cites n → slice_get words n ≡ Some label → IsAmong words cites (length cites) label
@@ -51,14 +51,14 @@ among_number words cites label a =
 
 module _ (each : CitesNameAssertions) (tell : CitesTellAssertions) (own : HasOwnLabels) (view : BaseView) (said : AreSaid view) (j : ℕ) (proof : is_proof_at view j ≡ true) where
   -- the label of a cited item is among the words that cite
-  cited_among : (k : ℕ) → Cites view j k → HasLabelAmong view (said_at view j).proof (cites_at view j) (length (cites_at view j)) k
+  cited_among : (k : ℕ) → CitesItem view j k → HasLabelAmong view (said_at view j).proof (cites_at view j) (length (cites_at view j)) k
   cited_among k c =
       let n = (tell view j k said).0 c.names in
       let one = n.1 in
       record { label = one.label; among = number_among (said_at view j).proof (cites_at view j) n.0 one.label one.cites one.there; carrier = one.means.0.carrier }
 
   -- an item whose label is among them is cited
-  among_cited : (k : ℕ) (label : List ℕ) → IsAmong (said_at view j).proof (cites_at view j) (length (cites_at view j)) label → IsCarrier view label k → Cites view j k
+  among_cited : (k : ℕ) (label : List ℕ) → IsAmong (said_at view j).proof (cites_at view j) (length (cites_at view j)) label → IsCarrier view label k → CitesItem view j k
   among_cited k label a carrier =
       let words = (said_at view j).proof in
       let n = among_number words (cites_at view j) label a in
@@ -68,13 +68,13 @@ module _ (each : CitesNameAssertions) (tell : CitesTellAssertions) (own : HasOwn
       let is : m.0 ≡ k = own view m.0 k label (subst (λ l. IsCarrier view l m.0) same one.means.0.carrier) carrier in
       record { theorem = proof; names = (tell view j k said).1 (n.0, subst (IsCiteOf view j n.0) is one) }
 
-  pub marks_cited : (before after : List Bool) → MarksMore (HasLabelAmong view (said_at view j).proof (cites_at view j) (length (cites_at view j))) before after → MarksMore (Cites view j) before after
+  pub marks_cited : (before after : List Bool) → MarksMore (HasLabelAmong view (said_at view j).proof (cites_at view j) (length (cites_at view j))) before after → MarksMore (CitesItem view j) before after
   marks_cited before after more = record { count = more.count; each = λ k. (to k, from k) }
     where
-      to : (k : ℕ) → IsMarked after k → IsMarked before k ⊎ Cites view j k
+      to : (k : ℕ) → IsMarked after k → IsMarked before k ⊎ CitesItem view j k
       to k m = elim ((more.each k).0 m) [ inl n ↦ inl n | inr h ↦ inr (among_cited k h.label h.among h.carrier) ]
 
-      from : (k : ℕ) → IsMarked before k ⊎ Cites view j k → IsMarked after k
+      from : (k : ℕ) → IsMarked before k ⊎ CitesItem view j k → IsMarked after k
       from k (inl m) = (more.each k).1 (inl m)
       from k (inr c) = (more.each k).1 (inr (cited_among k c))
 
@@ -82,17 +82,17 @@ module _ (each : CitesNameAssertions) (tell : CitesTellAssertions) (own : HasOwn
   among_earlier k h = cites_earlier view j k (among_cited k h.label h.among h.carrier)
 
   -- one of them is the label of an assertion exactly where this is cited
-  pub label_cited : (label : List ℕ) (i : ℕ) → IsAssertion view label i → IsAmong (said_at view j).proof (cites_at view j) (length (cites_at view j)) label ↔ Cites view j i
+  pub label_cited : (label : List ℕ) (i : ℕ) → IsAssertion view label i → IsAmong (said_at view j).proof (cites_at view j) (length (cites_at view j)) label ↔ CitesItem view j i
   label_cited label i a = (λ among. among_cited i label among (assertion_carries view label i a), to)
     where
-      to : Cites view j i → IsAmong (said_at view j).proof (cites_at view j) (length (cites_at view j)) label
+      to : CitesItem view j i → IsAmong (said_at view j).proof (cites_at view j) (length (cites_at view j)) label
       to c =
           let h = cited_among i c in
           let same : h.label ≡ label = same_Some h.label label (sym h.carrier.label_is ∙ a.label_is) in
           subst (IsAmong (said_at view j).proof (cites_at view j) (length (cites_at view j))) same h.among
 
 -- no other item cites
-pub none_cited : (view : BaseView) (j k : ℕ) → is_proof_at view j ≡ false → Cites view j k → ⊥
+pub none_cited : (view : BaseView) (j k : ℕ) → is_proof_at view j ≡ false → CitesItem view j k → ⊥
 none_cited view j k none c = false≢true (sym none ∙ c.theorem)
 
 -- ---- what a check of an item says, as it is kept

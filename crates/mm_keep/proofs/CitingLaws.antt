@@ -7,7 +7,7 @@ use Rattle.mm_frame.specs.Language.Base.{BaseView, IsOfFiles, said_at, is_proof_
 use Rattle.mm_frame.specs.Language.Item.{Item, is_theorem}
 use Rattle.mm_frame.specs.Language.Laws.{AlikeFilesSayTheSame, HasOwnLabels}
 use Rattle.mm_frame.specs.Language.Resolving.{Resolves}
-use Rattle.mm_keep.specs.Language.Citations.{Cites, LeadsTo, none, step, IsAxiomOf}
+use Rattle.mm_keep.specs.Language.Citations.{CitesItem, LeadsTo, none, step, IsAxiomOf}
 use Rattle.mm_keep.specs.Language.Laws.{OneListEach, IsOneList, AxiomsHaveThemselves}
 use Rattle.mm_keep.specs.Language.Runs.{AreThose}
 use Rattle.mm_keep.specs.Language.Sessions.{IsAssertion, AreNumbersOf}
@@ -24,12 +24,12 @@ means_to base i k label m = (record { earlier = m.0.earlier; carrier = record { 
 means_from : (base : BaseView) (i k : ℕ) (label : List ℕ) → Resolves (saying base.said) i label (Assertion k) → Resolves base i label (Assertion k)
 means_from base i k label m = (record { earlier = m.0.earlier; carrier = record { shown = m.0.carrier.shown; label_is = m.0.carrier.label_is } }, m.1, m.2)
 
-cites_to : (base : BaseView) (i k : ℕ) → Cites base i k → Cites (saying base.said) i k
+cites_to : (base : BaseView) (i k : ℕ) → CitesItem base i k → CitesItem (saying base.said) i k
 cites_to base i k c =
     let n = c.names in
     record { theorem = c.theorem; names = record { decoded = n.decoded; decodes = n.decodes; label = n.label; named = n.named; means = means_to base i k n.label n.means } }
 
-cites_from : (base : BaseView) (i k : ℕ) → Cites (saying base.said) i k → Cites base i k
+cites_from : (base : BaseView) (i k : ℕ) → CitesItem (saying base.said) i k → CitesItem base i k
 cites_from base i k c =
     let n = c.names in
     record { theorem = c.theorem; names = record { decoded = n.decoded; decodes = n.decodes; label = n.label; named = n.named; means = means_from base i k n.label n.means } }
@@ -48,8 +48,8 @@ axiom_from base k a = record { sound = a.sound; kind = a.kind }
 
 -- ---- two bases whose items say the same
 
-cites_alike : (base other : BaseView) → base.said ≡ other.said → (i k : ℕ) → Cites base i k → Cites other i k
-cites_alike base other e i k c = cites_from other i k (subst (λ (said : List Item). Cites (saying said) i k) e (cites_to base i k c))
+cites_alike : (base other : BaseView) → base.said ≡ other.said → (i k : ℕ) → CitesItem base i k → CitesItem other i k
+cites_alike base other e i k c = cites_from other i k (subst (λ (said : List Item). CitesItem (saying said) i k) e (cites_to base i k c))
 
 leads_alike : (base other : BaseView) → base.said ≡ other.said → (k i : ℕ) → LeadsTo base k i → LeadsTo other k i
 leads_alike base other e k i none = none
@@ -92,8 +92,8 @@ one_list_of say own stands alike session other label numbers copies files top a 
 
 pub one_list_each : AlikeFilesSayTheSame → HasOwnLabels → OneListEach
 one_list_each say own = (
-  one_list_of say own (λ base i k. Cites base i k) cites_alike,
-  one_list_of say own (λ base i k. Cites base k i) (λ base other e i k c. cites_alike base other e k i c),
+  one_list_of say own (λ base i k. CitesItem base i k) cites_alike,
+  one_list_of say own (λ base i k. CitesItem base k i) (λ base other e i k c. cites_alike base other e k i c),
   one_list_of say own (λ base i k. IsAxiomOf base i k) axioms_alike,
 )
 

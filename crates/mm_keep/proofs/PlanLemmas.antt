@@ -8,7 +8,7 @@ use Rattle.mm_frame.specs.Language.Base.{BaseView, said_at, is_sound_at, is_proo
 use Rattle.mm_frame.specs.Language.Item.{Kind, Constants, Variables, Disjoint, Floating, Essential, Axiom, Theorem, BlockStart, BlockEnd, Missing, Passed, is_labelled, is_theorem}
 use Rattle.mm_frame.specs.Code.KeptBase.{IsBaseBy}
 use Rattle.mm_frame.specs.declared.base.Base.{Base}
-use Rattle.mm_proof.specs.Language.BaseMarks.{Mark, IsMark, mark_at}
+use Rattle.mm_proof.specs.Language.BaseMarks.{ItemMark, IsMark, mark_at}
 use Rattle.mm_proof.specs.Language.DecodingLaws.{LabelsAreOwn}
 use Rattle.mm_proof.specs.Language.View.{view_at, AreSameViews}
 use Rattle.mm_proof.specs.Language.ViewLaws.{SameViewSameVerdict, SameViewSameCites}
@@ -37,22 +37,22 @@ pub shown : (base : BaseView) (i : ℕ) → is_proof_at base i ≡ true → is_s
 shown base i e = theorem_shown (is_sound_at base i) (said_at base i).kind e
 
 -- the theorem whose view it had is the one that the mark tells
-pub marked : (base copy : BaseView) (j : ℕ) (mark : Mark) → IsMark base copy j mark → (i : ℕ) → HasSameView base copy i j → mark.old ≡ Some i
+pub marked : (base copy : BaseView) (j : ℕ) (mark : ItemMark) → IsMark base copy j mark → (i : ℕ) → HasSameView base copy i j → mark.old ≡ Some i
 marked base copy j mark is i same = (is.old_is i).1 (record { within = same.within; was = shown base i same.was; is = shown copy j same.is; label = same.label })
 
-pub plans_unmarked : (base copy : BaseView) (j : ℕ) (mark : Mark) → IsMark base copy j mark → mark.old ≡ None → IsPlanned base copy j None
+pub plans_unmarked : (base copy : BaseView) (j : ℕ) (mark : ItemMark) → IsMark base copy j mark → mark.old ≡ None → IsPlanned base copy j None
 plans_unmarked base copy j mark is e had = none-some had.0 (sym e ∙ marked base copy j mark is had.0 had.1)
 
-one_had : (base copy : BaseView) (j : ℕ) (mark : Mark) → IsMark base copy j mark → (i : ℕ) → mark.old ≡ Some i → (k : ℕ) → HasSameView base copy k j → k ≡ i
+one_had : (base copy : BaseView) (j : ℕ) (mark : ItemMark) → IsMark base copy j mark → (i : ℕ) → mark.old ≡ Some i → (k : ℕ) → HasSameView base copy k j → k ≡ i
 one_had base copy j mark is i e k same = same_Some k i (sym (marked base copy j mark is k same) ∙ e)
 
-pub plans_no_theorem : (base copy : BaseView) (j : ℕ) (mark : Mark) → IsMark base copy j mark → (i : ℕ) → mark.old ≡ Some i → is_proof_at base i ≡ false → IsPlanned base copy j None
+pub plans_no_theorem : (base copy : BaseView) (j : ℕ) (mark : ItemMark) → IsMark base copy j mark → (i : ℕ) → mark.old ≡ Some i → is_proof_at base i ≡ false → IsPlanned base copy j None
 plans_no_theorem base copy j mark is i e f had = false≢true (sym f ∙ ap (is_proof_at base) (sym (one_had base copy j mark is i e had.0 had.1)) ∙ had.1.was)
 
-pub plans_changed : (base copy : BaseView) (j : ℕ) (mark : Mark) → IsMark base copy j mark → (i : ℕ) → mark.old ≡ Some i → ¬ AreSameViews (view_at base i) (view_at copy j) → IsPlanned base copy j None
+pub plans_changed : (base copy : BaseView) (j : ℕ) (mark : ItemMark) → IsMark base copy j mark → (i : ℕ) → mark.old ≡ Some i → ¬ AreSameViews (view_at base i) (view_at copy j) → IsPlanned base copy j None
 plans_changed base copy j mark is i e not had = not (subst (λ k. AreSameViews (view_at base k) (view_at copy j)) (one_had base copy j mark is i e had.0 had.1) had.1.view)
 
-pub plans_kept : (base copy : BaseView) (j : ℕ) (mark : Mark) → IsMark base copy j mark → (i : ℕ) → mark.old ≡ Some i → is_proof_at base i ≡ true → is_proof_at copy j ≡ true → AreSameViews (view_at base i) (view_at copy j) → IsPlanned base copy j (Some i)
+pub plans_kept : (base copy : BaseView) (j : ℕ) (mark : ItemMark) → IsMark base copy j mark → (i : ℕ) → mark.old ≡ Some i → is_proof_at base i ≡ true → is_proof_at copy j ≡ true → AreSameViews (view_at base i) (view_at copy j) → IsPlanned base copy j (Some i)
 plans_kept base copy j mark is i e was theorem view = let one = (is.old_is i).0 e in record { within = one.within; was = was; is = theorem; label = one.label; view = view }
 
 -- views of one base have as many items
@@ -75,7 +75,7 @@ kept_by_one own base copy checked plan ran can i j k a b =
     own copy can.new_said j k (shown copy j a.is) (shown copy k b.is) (ap (λ (l : Option (List ℕ)). unwrap_or l []) (sym a.label ∙ b.label))
 
 -- what is marked of an item of the new base
-pub mark_here : (names : List (List ℕ)) (files : FilesView) (old new : Base) (marks : List Mark) (j : ℕ) → HasItemBothRead names files old new j → AreMarksBy names old new marks → (base copy : BaseView) → AreBothRead names files old new base copy
+pub mark_here : (names : List (List ℕ)) (files : FilesView) (old new : Base) (marks : List ItemMark) (j : ℕ) → HasItemBothRead names files old new j → AreMarksBy names old new marks → (base copy : BaseView) → AreBothRead names files old new base copy
     → IsMark base copy j (mark_at marks j)
 mark_here names files old new marks j has are base copy both =
     (are base copy both.old_is.base both.new_is.base).each j (subst (λ n. j < n) (one_count names names has.1 copy new has.2.new_is.base both.new_is.base) has.3)

@@ -5,7 +5,7 @@ ghost use Rattle.std.specs.Option.{option_map};
 ghost use Rattle.mm_frame.specs.Language.Base.{BaseView};
 ghost use Rattle.mm_frame.specs.Language.Resolving.{IsCarrier};
 ghost use Rattle.mm_frame.specs.Code.KeptBase.{IsBase};
-ghost use Rattle.mm_keep.specs.Language.Citations.{Cites};
+ghost use Rattle.mm_keep.specs.Language.Citations.{CitesItem};
 ghost use Rattle.mm_keep.specs.Language.Sessions.{IsAssertion};
 ghost use Rattle.mm_keep.specs.Code.Cited.{AreRising, HasChecks, HasLabelAmong, HasPlaceFor, HasPlaces, IsAmong, MarksMore, OfChecks, passed};
 
@@ -98,7 +98,7 @@ pub fn mark_cites(
 )
     requires item { HasChecks files.now base.now checked.now (λ view. j < length view.said) }
     requires places { j ≤ length marks.old }
-    ensures { OfChecks files.now base.now checked.now (λ view. MarksMore (Cites view j) marks.old marks.new) }
+    ensures { OfChecks files.now base.now checked.now (λ view. MarksMore (CitesItem view j) marks.old marks.new) }
 {
     cites_rise();
     cites_tell();
@@ -118,7 +118,7 @@ pub fn cites_label(
     label: &[u8],
 ) -> bool
     requires { HasChecks files.now base.now checked.now (λ view. j < length view.said) }
-    ensures { OfChecks files.now base.now checked.now (λ view. (i : ℕ) → IsAssertion view label.now i → IsTrue result ↔ Cites view j i) }
+    ensures { OfChecks files.now base.now checked.now (λ view. (i : ℕ) → IsAssertion view label.now i → IsTrue result ↔ CitesItem view j i) }
 {
     cites_rise();
     cites_tell();

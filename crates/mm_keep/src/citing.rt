@@ -4,7 +4,7 @@ ghost use Rattle.std.specs.Prelude.{◌≡◌, ◌<◌, ◌≤◌, ◌↔◌, �
 ghost use Rattle.mm_frame.specs.Language.Base.{BaseView};
 ghost use Rattle.mm_frame.specs.Code.KeptBase.{IsBase};
 ghost use Rattle.mm_keep.specs.declared.answers.KeepError.TheVariants.{NoAssertion};
-ghost use Rattle.mm_keep.specs.Language.Citations.{Cites, IsAxiomOf};
+ghost use Rattle.mm_keep.specs.Language.Citations.{CitesItem, IsAxiomOf};
 ghost use Rattle.mm_keep.specs.Language.Runs.{AreThose};
 ghost use Rattle.mm_keep.specs.Language.Sessions.{AreAxiomsOf, AreCitesOf, AreUsersOf, HasAssertion, IsAssertion};
 ghost use Rattle.mm_keep.specs.Language.Told.{IsAxiom};
@@ -48,7 +48,7 @@ fn cites_of(
 ) -> Result<Vec<usize>, AllocError>
     requires { HasChecks files.now base.now checked.now (λ view. i < length view.said) }
     ensures { IfOk result (λ numbers. OfChecks files.now base.now checked.now (λ view.
-        AreThose (Cites view i) (length view.said) numbers.items)) }
+        AreThose (CitesItem view i) (length view.said) numbers.items)) }
 {
     // Citations lead to earlier items.
     let mut marks = no_marks(alloc, i)?;
@@ -67,7 +67,7 @@ fn users_of(
 ) -> Result<Vec<usize>, AllocError>
     requires { HasChecks files.now base.now checked.now (λ view. IsAssertion view label.now i) }
     ensures { IfOk result (λ numbers. OfChecks files.now base.now checked.now (λ view.
-        IsAssertion view label.now i → AreThose (λ k. Cites view k i) (length view.said) numbers.items)) }
+        IsAssertion view label.now i → AreThose (λ k. CitesItem view k i) (length view.said) numbers.items)) }
 {
     let mut numbers = Vec::new(alloc);
     for j in i + 1..base.count() {

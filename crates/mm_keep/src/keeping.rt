@@ -7,7 +7,7 @@ ghost use Rattle.mm_store.specs.Language.FilesView.{files_in, number_of};
 ghost use Rattle.mm_frame.specs.Language.Base.{BaseView};
 ghost use Rattle.mm_frame.specs.Language.Names.{AreDistinct, Begins};
 ghost use Rattle.mm_proof.specs.Code.ReadIn.{IsReadIn};
-ghost use Rattle.mm_keep.specs.Code.Next.{GoesOn, HasOld, HasTop, IsBuilt, IsFirst, IsNext, IsOldIn, KeepsNothing, RunsAll};
+ghost use Rattle.mm_keep.specs.Code.Next.{KeepsOrRuns, HasOld, HasTop, IsBuilt, IsFirst, IsNext, IsOldIn, KeepsNothing, RunsAll};
 ghost use Rattle.mm_keep.specs.Code.Planned.{AreBothRead};
 
 use crate::planning::{planned, run_rest};
@@ -57,7 +57,7 @@ fn rest_of(
 ) -> Result<Next, AllocError>
     requires { (view : BaseView) × (copy : BaseView) × AreBothRead names.now files.now old.now base view copy }
     ensures base { IfOk result (λ next. next.base ≡ base) }
-    ensures next { IfOk result (λ next. (view copy : BaseView) → AreBothRead names.now files.now old.now base view copy → GoesOn view copy next) }
+    ensures next { IfOk result (λ next. (view copy : BaseView) → AreBothRead names.now files.now old.now base view copy → KeepsOrRuns view copy next) }
 {
     let plan = planned(alloc, names, files, old, &base)?;
     let (checked, work) = run_rest(alloc, names, files, &base, &plan)?;

@@ -14,7 +14,7 @@ ghost use Rattle.mm_store.specs.Language.FilesView.{FilesView, files_in, file_nu
 ghost use Rattle.mm_keep.specs.Code.Changing.{AreKept, CanTake, HasKept, HasTaking, IsChangeError, WereKept, session_of};
 ghost use Rattle.mm_keep.specs.Code.Next.{IsFirst};
 ghost use Rattle.mm_keep.specs.Language.Refusals.{IsRefusal, IsBatchRefusal};
-ghost use Rattle.mm_keep.specs.Language.Sessions.{IsBegun, IsChanged, IsCount, IsLabel};
+ghost use Rattle.mm_keep.specs.Language.Sessions.{IsBegun, IsChanged, IsCount, IsLabelOfItem};
 
 use crate::keeping::{Next, first_of, next_of};
 use crate::planning::carry;
@@ -278,7 +278,7 @@ impl Session {
 
     /// The label of the item with this number, counted from 0: of a `$f`, `$e`, `$a` or `$p`, be it sound or not.
     pub fn label(&self, i: usize) -> Option<&[u8]>
-        ensures { IsLabel self.now i (option_map (λ label. label.now) result) }
+        ensures { IsLabelOfItem self.now i (option_map (λ label. label.now) result) }
     {
         self.base.label(i)
     }

@@ -20,7 +20,7 @@ use Rattle.mm_proof.specs.Code.KeptMarks.{AreTheorems, IsUsable, ShareHypotheses
 use Rattle.mm_proof.proofs.FrameLemmas.{shown_proof}
 use Rattle.std.proofs.lemmas.Option.{same_Some}
 use Rattle.mm_proof.specs.Language.BaseLabels.{setting_at}
-use Rattle.mm_proof.specs.Language.BaseMarks.{Mark, AreMarks, mark_at}
+use Rattle.mm_proof.specs.Language.BaseMarks.{ItemMark, AreMarks, mark_at}
 use Rattle.mm_proof.specs.Language.SameProof.{AreSameMeaning, IsSameLabel}
 use Rattle.mm_proof.proofs.KeptMarkLemmas.{shown_within, one_label}
 use Rattle.std.proofs.lemmas.Bool.{and_from}
@@ -130,7 +130,7 @@ tells_same base copy i j label other answers.Unknown answers.Inactive m y same h
 
 -- the label of an assertion means the same where its mark tells that the frame is kept
 pub frames_marked :
-    frame.HasOwnLabels → (base copy : BaseView) (marks : List Mark) → AreMarks base copy marks → (i j : ℕ) (label : List ℕ) (m a b : ℕ) (same : Bool) → IsCarrier copy label m →
+    frame.HasOwnLabels → (base copy : BaseView) (marks : List ItemMark) → AreMarks base copy marks → (i j : ℕ) (label : List ℕ) (m a b : ℕ) (same : Bool) → IsCarrier copy label m →
     Resolves base i label (answers.Assertion a) → Resolves copy j label (answers.Assertion b) → same ≡ (mark_at marks m).frame →
     IsTrue same ↔ IsSameLabel (setting_at base i) (setting_at copy j) label
 frames_marked own base copy marks are i j label m a b same carrier h k told =
@@ -152,7 +152,7 @@ frames_marked own base copy marks are i j label m a b same carrier h k told =
 
 -- the item of the old base that a mark tells carries the label
 pub old_carries :
-    (base copy : BaseView) (marks : List Mark) → AreMarks base copy marks → (label : List ℕ) (m : ℕ) → IsCarrier copy label m → (n : ℕ) →
+    (base copy : BaseView) (marks : List ItemMark) → AreMarks base copy marks → (label : List ℕ) (m : ℕ) → IsCarrier copy label m → (n : ℕ) →
     ((mark_at marks m).old ≡ Some n) ↔ IsCarrier base label n
 old_carries base copy marks are label m carrier n =
     let is = (are.each m (shown_within copy m carrier.shown)).old_is n in
@@ -161,7 +161,7 @@ old_carries base copy marks are label m carrier n =
 
 -- where the mark tells the same frame, both are assertions
 pub old_framed :
-    (base copy : BaseView) (marks : List Mark) → AreMarks base copy marks → (m : ℕ) → is_shown_at copy m ≡ true → (mark_at marks m).frame ≡ true → (n : ℕ) →
+    (base copy : BaseView) (marks : List ItemMark) → AreMarks base copy marks → (m : ℕ) → is_shown_at copy m ≡ true → (mark_at marks m).frame ≡ true → (n : ℕ) →
     (mark_at marks m).old ≡ Some n → is_framed_at base n ≡ true
 old_framed base copy marks are m shown told n old =
     let is = are.each m (shown_within copy m shown) in
@@ -169,12 +169,12 @@ old_framed base copy marks are m shown told n old =
     subst (λ (k : ℕ). is_framed_at base k ≡ true) (same_Some kept.i n (sym ((is.old_is kept.i).1 kept.one_label) ∙ old)) kept.was
 
 pub new_framed :
-    (base copy : BaseView) (marks : List Mark) → AreMarks base copy marks → (m : ℕ) → is_shown_at copy m ≡ true → (mark_at marks m).frame ≡ true → is_framed_at copy m ≡ true
+    (base copy : BaseView) (marks : List ItemMark) → AreMarks base copy marks → (m : ℕ) → is_shown_at copy m ≡ true → (mark_at marks m).frame ≡ true → is_framed_at copy m ≡ true
 new_framed base copy marks are m shown told = ((are.each m (shown_within copy m shown)).frame_is.0 told).is
 
 -- the active pairs are the same where the mark of this item of the old base tells so
 pub pairs_marked :
-    (base copy : BaseView) (marks : List Mark) → AreMarks base copy marks → (i j : ℕ) (same : Bool) → AreTheorems base copy i j → (mark_at marks j).old ≡ Some i →
+    (base copy : BaseView) (marks : List ItemMark) → AreMarks base copy marks → (i j : ℕ) (same : Bool) → AreTheorems base copy i j → (mark_at marks j).old ≡ Some i →
     same ≡ (mark_at marks j).pairs → IsTrue same ↔ SharePairs base copy i j
 pairs_marked base copy marks are i j same these old told =
     let is = are.each j (shown_within copy j (shown_proof copy j these.is)) in (
@@ -186,7 +186,7 @@ pairs_marked base copy marks are i j same these old told =
 
 -- the mandatory hypotheses are the same where the mark of this item of the old base tells so
 pub hypotheses_marked :
-    (base copy : BaseView) (marks : List Mark) → AreMarks base copy marks → (i j : ℕ) → AreTheorems base copy i j → (mark_at marks j).old ≡ Some i → (mark_at marks j).frame ≡ true →
+    (base copy : BaseView) (marks : List ItemMark) → AreMarks base copy marks → (i j : ℕ) → AreTheorems base copy i j → (mark_at marks j).old ≡ Some i → (mark_at marks j).frame ≡ true →
     ShareHypotheses base copy i j
 hypotheses_marked base copy marks are i j these old told =
     let is = are.each j (shown_within copy j (shown_proof copy j these.is)) in

@@ -8,7 +8,7 @@ use Rattle.mm_frame.specs.Language.Frame.{Symbol}
 use Rattle.mm_proof.specs.declared.pattern.Entry.{Entry}
 use Rattle.mm_proof.specs.Code.Flat.{read, read_all, IsWithin}
 use Rattle.std.proofs.Math.Decide.{ℕ_discrete}
-use Rattle.mm_proof.specs.Code.Ranges.{IsWhole}
+use Rattle.mm_proof.specs.Code.Ranges.{AreOrderedRanges}
 use Rattle.mm_proof.specs.Language.Faults.{entries_for}
 use Rattle.mm_proof.specs.declared.assertion.Hypothesis.{Hypothesis}
 use Rattle.mm_proof.specs.Code.Citation.{frame_from, mandatory_of}
@@ -38,8 +38,8 @@ one_more P es new all p = All-append P es (new ∷ []) all (All-cons P new [] p 
 -- the list grows by an expression that is kept
 pub whole_loaded :
     {S : Type 0} (means : S → Symbol) (before : List S) (expression : List S) (after : List S) (kept end : ℕ) (stack saved next : List Entry) (new : Entry) →
-    IsWhole (length before) kept stack saved → map means after ≡ map means before ++ map means expression → next ≡ saved ++ new ∷ [] →
-    new.start ≡ length before → new.end ≡ length after → end ≡ length after → IsWhole (length after) end stack next
+    AreOrderedRanges (length before) kept stack saved → map means after ≡ map means before ++ map means expression → next ≡ saved ++ new ∷ [] →
+    new.start ≡ length before → new.end ≡ length after → end ≡ length after → AreOrderedRanges (length after) end stack next
 whole_loaded means before expression after kept end stack saved next new whole e s a b l =
     let grown : length before ≤ length after = let c = ap length e in omega (arith, length-map after means, length-map before means, length-append (map means before) (map means expression)) in
     record {
@@ -118,8 +118,8 @@ cut_or_last es below k new s l at = by_case (ℕ_discrete k below)
         let high : k < length es = omega arith in
         inl (low, slice_get-get_or es k s high ∙ ap Some (sym (get_or-take below es k s low) ∙ get_or_from_slice_get (take below es) k s s in_front))
 
-pub whole_replaced : (n m kept f below : ℕ) (es saved next : List Entry) (new : Entry) → IsWhole n kept es saved → below ≤ length es → kept ≤ f → f ≤ m → ((i : ℕ) (e : Entry) → i < below → slice_get es i ≡ Some e → (e.end ≤ f) × (e.floor ≤ f)) → next ≡ take below es ++ new ∷ [] →
-    new.start ≡ f → new.end ≡ m → new.floor ≡ f → IsWhole m kept next saved
+pub whole_replaced : (n m kept f below : ℕ) (es saved next : List Entry) (new : Entry) → AreOrderedRanges n kept es saved → below ≤ length es → kept ≤ f → f ≤ m → ((i : ℕ) (e : Entry) → i < below → slice_get es i ≡ Some e → (e.end ≤ f) × (e.floor ≤ f)) → next ≡ take below es ++ new ∷ [] →
+    new.start ≡ f → new.end ≡ m → new.floor ≡ f → AreOrderedRanges m kept next saved
 whole_replaced n m kept f below es saved next new whole l low high front e a b c = record {
   kept_within = omega arith;
   within = λ k d i. within_at k (get_or next k d) (slice_get-get_or next k d i);

@@ -1,7 +1,7 @@
 //! The machine: a stack of expressions and what was saved, as ranges of one flat list of symbols.
 
 ghost use Rattle.std.specs.Prelude.{◌≡◌, ◌++◌, ◌∷◌, [], ◌<◌, ◌≤◌, ◌-◌, ℕ, IfOk, OnOk, MatchBool, MatchOption, Some, length, map, take, slice_get};
-ghost use Rattle.mm_proof.specs.Code.Ranges.{IsWhole, Saves};
+ghost use Rattle.mm_proof.specs.Code.Ranges.{AreOrderedRanges, Saves};
 ghost use Rattle.mm_proof.specs.Code.Citation.{IsLowestCiting, frame_from, frame_of, pairs_of};
 ghost use Rattle.mm_frame.specs.Language.Typing.{IsFrame};
 ghost use Rattle.mm_proof.specs.Language.Steps.{Cites};
@@ -49,7 +49,7 @@ pub fn widen(places: &mut Vec<usize>, keys: usize) -> Result<(), AllocError> {
 
 /// Where the symbols begin that belong to the entries from a place on alone.
 fn floor_of(stack: &[Entry], below: usize, kept: usize, count: usize) -> usize
-    requires whole { IsWhole count kept stack.now [] }
+    requires whole { AreOrderedRanges count kept stack.now [] }
     requires in_range { below ≤ length stack.now }
     ensures within { result ≤ count }
     ensures saved { kept ≤ result }

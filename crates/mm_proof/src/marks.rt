@@ -35,9 +35,9 @@ pub struct Marks {
 
 impl Model for Marks {
     ghost use Rattle.std.specs.Prelude.{List};
-    ghost use Rattle.mm_proof.specs.Language.BaseMarks.{Mark};
+    ghost use Rattle.mm_proof.specs.Language.BaseMarks.{ItemMark};
 
-    ghost Value = { List Mark };
+    ghost Value = { List ItemMark };
 
     ghost use Rattle.mm_proof.specs.Code.KeptMarks.{marks_of};
 

@@ -13,7 +13,7 @@ use Rattle.mm_proof.specs.declared.Spot.{Spot}
 use Rattle.mm_proof.specs.declared.Verdict.{Verdict}
 use Rattle.mm_proof.specs.declared.Verdict.TheVariants as verdicts
 use Rattle.mm_keep.specs.Language.Sessions.{SessionView}
-use Rattle.mm_keep.specs.Language.Told.{Shown, Told, Quiet, AnAxiom, Proved, Incomplete, Wrong, Fault, IsRightlyTold, IsFaultOf, HasVerdict, HasVerdictShown, AreRightlyTold}
+use Rattle.mm_keep.specs.Language.Told.{Shown, Told, Quiet, AnAxiom, Proved, Incomplete, Wrong, Fault, IsRightlyTold, IsFaultOf, HasProofVerdict, HasVerdictShown, AreRightlyTold}
 use Rattle.mm_report.specs.Language.Laws.{OneReport}
 use Rattle.mm_report.specs.Language.Report.{names_of, report, IsReport}
 use Rattle.mm_report.proofs.DatabaseLemmas.{Laws, Database, same_items, same_spot_place, same_shown_word}
@@ -75,7 +75,7 @@ same_class laws a b n one other f g =
     told_class a.files a.view n one f ∙ classes ∙ sym (told_class b.files b.view n other g)
 
 -- the items with one number have one verdict
-one_verdict : {means : List File} {top : List ℕ} → Laws → (a b : Database means top) (n : ℕ) (v w : Verdict) → HasVerdict a.view n v → HasVerdict b.view n w → v ≡ w
+one_verdict : {means : List File} {top : List ℕ} → Laws → (a b : Database means top) (n : ℕ) (v w : Verdict) → HasProofVerdict a.view n v → HasProofVerdict b.view n w → v ≡ w
 one_verdict laws a b n v w f g =
     laws.verdict b.view n v w (subst (λ (items : List Item). IsVerdictAt (record { found = b.view.found; said = items }) n v) (same_items laws a b) f.is_verdict) g.is_verdict
 

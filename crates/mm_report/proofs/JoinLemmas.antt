@@ -6,29 +6,29 @@ use Rattle.std.proofs.lemmas.List.Concat.{flat_map-append}
 use Rattle.mm_keep.specs.Language.Sessions.{SessionView}
 use Rattle.mm_report.specs.Code.Stops.{HasNoEntry}
 use Rattle.mm_report.specs.Language.Answers.{IsAnswer, AreAnswers}
-use Rattle.mm_report.specs.Language.Script.{Command, Entry, Blank, Given, entry_bytes, bytes_of, commands_of, command_bytes, AreRead, IsDivided, IsReading, IsReadSoFar, IsGood, EndsInLine}
+use Rattle.mm_report.specs.Language.Script.{Command, Entry, Blank, Given, entry_bytes, entries_bytes, commands_of, command_bytes, AreRead, HasEntries, IsLongestReading, IsReadSoFar, IsGood, EndsInLine}
 use Rattle.mm_report.proofs.ScriptLemmas.{IsBeginning, NoEntry, NoLast, blank_no, divisions_agree, entry_some, good_more, one_begins, read_less, read_more, reading_ended, reading_unended}
 
 -- what is the reading of the rest is that behind the commands before it
-pub reading_behind : (bytes : List ℕ) (entries more : List Entry) (rest left : List ℕ) → AreRead bytes entries rest → IsReading rest more left
-    → IsReading bytes (entries ++ more) left
+pub reading_behind : (bytes : List ℕ) (entries more : List Entry) (rest left : List ℕ) → AreRead bytes entries rest → IsLongestReading rest more left
+    → IsLongestReading bytes (entries ++ more) left
 reading_behind bytes entries more rest left are reading = record { divided = read_more bytes entries more rest left are reading.divided; longest = longest }
   where
     total : length (entries ++ more) ≡ length entries + length more
     total = length-append entries more
 
-    before : IsDivided bytes entries rest
+    before : HasEntries bytes entries rest
     before = record { good = are.good; joined = inl are.joined }
 
-    on : (others later : List Entry) (end : List ℕ) → entries ++ later ≡ others → IsDivided bytes others end → length others ≤ length (entries ++ more)
+    on : (others later : List Entry) (end : List ℕ) → entries ++ later ≡ others → HasEntries bytes others end → length others ≤ length (entries ++ more)
     on others [] end e d = let l : length others ≡ length entries + 0 = ap length (sym e) ∙ length-append entries [] in omega (arith, total)
     on others (x ∷ xs) end e d =
-        let inner : IsDivided rest (x ∷ xs) end = read_less bytes entries x xs rest end are (subst (λ (zs : List Entry). IsDivided bytes zs end) (sym e) d) in
+        let inner : HasEntries rest (x ∷ xs) end = read_less bytes entries x xs rest end are (subst (λ (zs : List Entry). HasEntries bytes zs end) (sym e) d) in
         let l : length others ≡ length entries + length (x ∷ xs) = ap length (sym e) ∙ length-append entries (x ∷ xs) in
         let m : length (x ∷ xs) ≤ length more = reading.longest (x ∷ xs) end inner in
         omega (arith, total)
 
-    longest : (others : List Entry) (end : List ℕ) → IsDivided bytes others end → length others ≤ length (entries ++ more)
+    longest : (others : List Entry) (end : List ℕ) → HasEntries bytes others end → length others ≤ length (entries ++ more)
     longest others end d = by (cases_lt (length others) (length entries))
       where
         by : (length others < length entries) ⊎ (length entries ≤ length others) → length others ≤ length (entries ++ more)
@@ -55,18 +55,18 @@ no_last : NoLast []
 no_last c g ends e = blank_no c [] [] g (e ∙ sym (append-nil (command_bytes c)))
 
 -- commands that leave nothing are the reading
-pub reading_done : (bytes : List ℕ) (entries : List Entry) → AreRead bytes entries [] → IsReading bytes entries []
+pub reading_done : (bytes : List ℕ) (entries : List Entry) → AreRead bytes entries [] → IsLongestReading bytes entries []
 reading_done bytes entries are = reading_ended bytes entries [] are.good are.joined no_entry no_last
 
 -- so they are with a last one that lacks its line feed
 pub reading_last : (bytes : List ℕ) (entries : List Entry) (rest : List ℕ) (command : Command) → AreRead bytes entries rest → IsGood command → EndsInLine command
-    → rest ++ 10 ∷ [] ≡ command_bytes command → IsReading bytes (entries ++ Given command ∷ []) []
+    → rest ++ 10 ∷ [] ≡ command_bytes command → IsLongestReading bytes (entries ++ Given command ∷ []) []
 reading_last bytes entries rest command are good in_line is = reading_unended bytes (entries ++ Given command ∷ []) (good_more entries (Given command ∷ []) are.good (good, tt)) (record {
   front = entries;
   last = command;
   are = refl;
   in_line = in_line;
-  is = ap (λ (w : List ℕ). w ++ 10 ∷ []) are.joined ∙ append_assoc (bytes_of entries) rest (10 ∷ []) ∙ ap (λ (w : List ℕ). bytes_of entries ++ w) (is ∙ sym (append-nil (command_bytes command)))
+  is = ap (λ (w : List ℕ). w ++ 10 ∷ []) are.joined ∙ append_assoc (entries_bytes entries) rest (10 ∷ []) ∙ ap (λ (w : List ℕ). entries_bytes entries ++ w) (is ∙ sym (append-nil (command_bytes command)))
       ∙ sym (flat_map-append entry_bytes entries (Given command ∷ []));
 })
 

@@ -13,11 +13,11 @@ use Rattle.mm_report.specs.declared.input.Input.{Input}
 use Rattle.mm_report.specs.declared.entry.Next.{Next}
 use Rattle.mm_report.specs.declared.stream.Writing.{Writing}
 use Rattle.mm_report.specs.declared.reading.Reading.{Reading}
-use Rattle.mm_report.specs.Code.Answered.{IsAnswered, BeginsAnswer, FailsSo, GoesOn, HasAnswered, StopsScript}
-use Rattle.mm_report.specs.Code.Pending.{pending, ReadsOn, IsNext, IsWhole, IsLast, IsWholeOrLast}
+use Rattle.mm_report.specs.Code.Answered.{IsAnswered, BeginsAnswer, FailsSo, AnswersSoFar, HasAnswered, StopsScript}
+use Rattle.mm_report.specs.Code.Pending.{pending, ReadsOn, IsNext, IsWholeCommand, IsLast, IsWholeOrLast}
 use Rattle.mm_report.specs.Code.Stops.{HasNoEntry, StopsSo}
 use Rattle.mm_report.specs.Language.Answers.{AreAnswers}
-use Rattle.mm_report.specs.Language.Script.{Command, End, Done, CutShort, BadLine, Entry, Blank, Given, AreGood, IsGood, AreRead, IsReading, bytes_of, command_bytes, commands_of, entry_bytes}
+use Rattle.mm_report.specs.Language.Script.{Command, End, Done, CutShort, BadLine, Entry, Blank, Given, AreGood, IsGood, AreRead, IsLongestReading, entries_bytes, command_bytes, commands_of, entry_bytes}
 use Rattle.mm_report.specs.Language.Scripting.{AnswersScript, AnswersFirst, AnswersRead, BeginsAnswers}
 use Rattle.mm_report.specs.Language.Stream.{cannot_read, unread, written}
 use Rattle.mm_report.proofs.JoinLemmas.{one_more, reading_behind, reading_done, reading_last, so_far_behind}
@@ -33,7 +33,7 @@ blanks_good : (n : ℕ) → AreGood (replicate n Blank)
 blanks_good zero = tt
 blanks_good (suc n) = (tt, blanks_good n)
 
-blank_bytes : (n : ℕ) → bytes_of (replicate n Blank) ≡ replicate n 10
+blank_bytes : (n : ℕ) → entries_bytes (replicate n Blank) ≡ replicate n 10
 blank_bytes zero = refl
 blank_bytes (suc n) = ap (λ bytes. 10 ∷ bytes) (blank_bytes n)
 
@@ -46,10 +46,10 @@ commands_join [] n = no_commands n
 commands_join (Blank ∷ entries) n = commands_join entries n
 commands_join (Given command ∷ entries) n = ap (λ commands. command ∷ commands) (commands_join entries n)
 
-bytes_join : (entries more : List Entry) → bytes_of (entries ++ more) ≡ bytes_of entries ++ bytes_of more
+bytes_join : (entries more : List Entry) → entries_bytes (entries ++ more) ≡ entries_bytes entries ++ entries_bytes more
 bytes_join entries more = flat_map-append entry_bytes entries more
 
-one_given : (command : Command) → bytes_of (Given command ∷ []) ≡ command_bytes command
+one_given : (command : Command) → entries_bytes (Given command ∷ []) ≡ command_bytes command
 one_given command = append-nil (command_bytes command)
 
 -- ---- what is answered so far
@@ -77,10 +77,10 @@ module _ (old session : SessionView) (all left before after : Option (List ℕ))
   read_more pend now part blanks more consumes are so =
       let entries = so.first.entries in
       let passed = replicate blanks Blank in
-      let joined : so.first.bytes ++ part ≡ bytes_of (entries ++ passed) ++ now =
-      ap (λ bytes. bytes ++ part) so.first.are.joined ∙ append_assoc (bytes_of entries) so.first.rest part
-      ∙ ap (λ bytes. bytes_of entries ++ bytes) (ap (λ bytes. bytes ++ part) so.rest ∙ are ∙ ap (λ bytes. bytes ++ now) (sym (blank_bytes blanks)))
-      ∙ sym (append_assoc (bytes_of entries) (bytes_of passed) now) ∙ ap (λ bytes. bytes ++ now) (sym (bytes_join entries passed)) in
+      let joined : so.first.bytes ++ part ≡ entries_bytes (entries ++ passed) ++ now =
+      ap (λ bytes. bytes ++ part) so.first.are.joined ∙ append_assoc (entries_bytes entries) so.first.rest part
+      ∙ ap (λ bytes. entries_bytes entries ++ bytes) (ap (λ bytes. bytes ++ part) so.rest ∙ are ∙ ap (λ bytes. bytes ++ now) (sym (blank_bytes blanks)))
+      ∙ sym (append_assoc (entries_bytes entries) (entries_bytes passed) now) ∙ ap (λ bytes. bytes ++ now) (sym (bytes_join entries passed)) in
       record {
         first = record {
           bytes = so.first.bytes ++ part;
@@ -97,23 +97,23 @@ module _ (old session : SessionView) (all left before after : Option (List ℕ))
 
   -- the bytes that are read are the first entries and what is pending
   read_as : (pend : List ℕ) → (so : HasAnswered old session all left before after pend) → AreRead so.first.bytes so.first.entries pend
-  read_as pend so = record { good = so.first.are.good; joined = so.first.are.joined ∙ ap (λ rest. bytes_of so.first.entries ++ rest) so.rest }
+  read_as pend so = record { good = so.first.are.good; joined = so.first.are.joined ∙ ap (λ rest. entries_bytes so.first.entries ++ rest) so.rest }
 
   -- what is read with one command more
-  more_read : (pend : List ℕ) (command : Command) (end : ℕ) (so : HasAnswered old session all left before after pend) → IsGood command → IsWhole pend command end
+  more_read : (pend : List ℕ) (command : Command) (end : ℕ) (so : HasAnswered old session all left before after pend) → IsGood command → IsWholeCommand pend command end
       → AreRead so.first.bytes (so.first.entries ++ Given command ∷ []) (drop end pend)
   more_read pend command end so good whole =
       let entries = so.first.entries in
       record {
         good = good_join entries (Given command ∷ []) so.first.are.good (good, tt);
-        joined = (read_as pend so).joined ∙ ap (λ rest. bytes_of entries ++ rest) whole.are
-            ∙ sym (append_assoc (bytes_of entries) (command_bytes command) (drop end pend))
-            ∙ ap (λ first. (bytes_of entries ++ first) ++ drop end pend) (sym (one_given command))
+        joined = (read_as pend so).joined ∙ ap (λ rest. entries_bytes entries ++ rest) whole.are
+            ∙ sym (append_assoc (entries_bytes entries) (command_bytes command) (drop end pend))
+            ∙ ap (λ first. (entries_bytes entries ++ first) ++ drop end pend) (sym (one_given command))
             ∙ ap (λ first. first ++ drop end pend) (sym (bytes_join entries (Given command ∷ [])));
       }
 
   -- one command more is answered
-  pub whole_answered : (new : SessionView) (now : Option (List ℕ)) (pend : List ℕ) (command : Command) (end : ℕ) → IsGood command → IsWhole pend command end
+  pub whole_answered : (new : SessionView) (now : Option (List ℕ)) (pend : List ℕ) (command : Command) (end : ℕ) → IsGood command → IsWholeCommand pend command end
       → IsAnswered session new command after now → HasAnswered old session all left before after pend → HasAnswered old new all left before now (drop end pend)
   whole_answered new now pend command end good whole one so = record {
     first = record {
@@ -161,7 +161,7 @@ module _ (old session : SessionView) (all left before after : Option (List ℕ))
             is = record {
               entries = so.first.entries ++ Given command ∷ [];
               rest = [];
-              reading = subst (λ bytes. IsReading bytes (so.first.entries ++ Given command ∷ []) []) (sym (all_read script so.first.bytes c last.at_end)) reading;
+              reading = subst (λ bytes. IsLongestReading bytes (so.first.entries ++ Given command ∷ []) []) (sym (all_read script so.first.bytes c last.at_end)) reading;
               answered = one_more old session new so.first.entries command so.first.answers one.answer so.first.answered one.is;
               ends = refl;
             };
@@ -181,7 +181,7 @@ module _ (old session : SessionView) (all left before after : Option (List ℕ))
             is = record {
               entries = so.first.entries;
               rest = [];
-              reading = subst (λ bytes. IsReading bytes so.first.entries []) (sym (all_read script so.first.bytes c at_end)) (reading_done so.first.bytes so.first.entries are);
+              reading = subst (λ bytes. IsLongestReading bytes so.first.entries []) (sym (all_read script so.first.bytes c at_end)) (reading_done so.first.bytes so.first.entries are);
               answered = so.first.answered;
               ends = refl;
             };
@@ -198,14 +198,14 @@ module _ (old session : SessionView) (all left before after : Option (List ℕ))
       by (Some script) None c s = absurd c
       by (Some script) (Some rest) c s =
           let entries = so.first.entries in
-          let joined : script ≡ bytes_of entries ++ (pend ++ rest) = c ∙ ap (λ bytes. bytes ++ rest) (read_as pend so).joined ∙ append_assoc (bytes_of entries) pend rest in
+          let joined : script ≡ entries_bytes entries ++ (pend ++ rest) = c ∙ ap (λ bytes. bytes ++ rest) (read_as pend so).joined ∙ append_assoc (entries_bytes entries) pend rest in
           let reading = reading_behind script entries [] (pend ++ rest) (pend ++ rest) (record { good = so.first.are.good; joined = joined }) s.reading in
           record {
             answers = so.first.answers;
             is = record {
               entries = entries;
               rest = pend ++ rest;
-              reading = subst (λ (all : List Entry). IsReading script all (pend ++ rest)) (append-nil entries) reading;
+              reading = subst (λ (all : List Entry). IsLongestReading script all (pend ++ rest)) (append-nil entries) reading;
               answered = so.first.answered;
               ends = s.ends;
             };
@@ -226,7 +226,7 @@ module _ (old session : SessionView) (all left before after : Option (List ℕ))
   }
 
   -- the write of an answer has failed: that of a whole command
-  pub whole_begun : (new : SessionView) (now : Option (List ℕ)) (pend : List ℕ) (command : Command) (end : ℕ) → IsGood command → IsWhole pend command end
+  pub whole_begun : (new : SessionView) (now : Option (List ℕ)) (pend : List ℕ) (command : Command) (end : ℕ) → IsGood command → IsWholeCommand pend command end
       → BeginsAnswer session new command after now → HasAnswered old session all left before after pend → BeginsAnswers old new all left before now
   whole_begun new now pend command end good whole one so = record {
     bytes = so.first.bytes;
@@ -305,14 +305,14 @@ module _ {R W : Type 0} (remaining : R → Option (List ℕ)) (contents : W → 
       → HasAnswered begun session all (unread remaining left) before (written contents a) (pending now)
       → IsAnswered session new is.command (written contents a) (written contents b)
       → (next.fed ≡ true → pending input ≡ drop next.end (pending now))
-      → GoesOn begun new all (unread remaining left) before (written contents b) (pending input) next.fed
+      → AnswersSoFar begun new all (unread remaining left) before (written contents b) (pending input) next.fed
   goes_on next is new b input so one passed = by is.whole
     where
-      by : IsWholeOrLast (pending now) (unread remaining left) next is.command → GoesOn begun new all (unread remaining left) before (written contents b) (pending input) next.fed
+      by : IsWholeOrLast (pending now) (unread remaining left) next is.command → AnswersSoFar begun new all (unread remaining left) before (written contents b) (pending input) next.fed
       by (inl h) =
           let whole = whole_answered begun session all (unread remaining left) before (written contents a) new (written contents b) (pending now) is.command next.end is.good h.1 one so in
           let there = subst (λ (bytes : List ℕ). HasAnswered begun new all (unread remaining left) before (written contents b) bytes) (sym (passed h.0)) whole in
-          subst (GoesOn begun new all (unread remaining left) before (written contents b) (pending input)) (sym h.0) there
+          subst (AnswersSoFar begun new all (unread remaining left) before (written contents b) (pending input)) (sym h.0) there
       by (inr h) =
           let last = last_answered begun session all (unread remaining left) before (written contents a) new (written contents b) (pending now) is.command is.good h.1 one so in
-          subst (GoesOn begun new all (unread remaining left) before (written contents b) (pending input)) (sym h.0) last
+          subst (AnswersSoFar begun new all (unread remaining left) before (written contents b) (pending input)) (sym h.0) last

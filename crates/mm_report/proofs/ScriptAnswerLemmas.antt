@@ -21,7 +21,7 @@ use Rattle.mm_keep.specs.Language.Told.{IsRightlyTold}
 use Rattle.mm_report.specs.Language.Answers.{AreAnswers, IsAnswer, IsBatchAnswer, IsEditAnswer, IsFound, IsRan, IsUnknown, IsVerdictAnswer}
 use Rattle.mm_report.specs.Language.Answers.{batch_refusal_line, numbers_listed, refusal_line, told_line}
 use Rattle.mm_report.specs.Language.Report.{names_of}
-use Rattle.mm_report.specs.Language.Script.{Command, Change, Batch, Report, Verdict, Axioms, Cites as CitesOf, Users, EndsSo, Entry, command_of, commands_of, bytes_of, IsDivided}
+use Rattle.mm_report.specs.Language.Script.{Command, Change, Batch, Report, Verdict, Axioms, Cites as CitesOf, Users, EndsSo, Entry, command_of, commands_of, entries_bytes, HasEntries}
 use Rattle.mm_report.specs.Language.ScriptLaws.{AnswersBegin, AreAlike, AreTheFirst, HasItems, OneScriptAnswer}
 use Rattle.mm_report.proofs.AnswerLemmas.{same_report, same_told}
 use Rattle.mm_report.proofs.DatabaseLemmas.{Database, Laws, same_items}
@@ -225,9 +225,9 @@ in_parts s (command ∷ commands) more all final f =
       are = f.5 ∙ ap (λ (w : List ℕ). f.0 ++ w) r.are ∙ sym (append_assoc f.0 r.first r.later);
     }
 
-divided_of : (bytes more : List ℕ) (entries : List Entry) (rest : List ℕ) → AreTheFirst bytes more entries rest → (left : List ℕ) × IsDivided (bytes ++ more) entries left
-divided_of bytes more entries rest (inl r) = (rest ++ more, record { good = r.good; joined = inl (ap (λ (w : List ℕ). w ++ more) r.joined ∙ append_assoc (bytes_of entries) rest more) })
-divided_of bytes more entries rest (inr d) = (rest, subst (λ (w : List ℕ). IsDivided w entries rest) (sym (append-nil bytes) ∙ ap (λ (w : List ℕ). bytes ++ w) (sym d.0)) d.1)
+divided_of : (bytes more : List ℕ) (entries : List Entry) (rest : List ℕ) → AreTheFirst bytes more entries rest → (left : List ℕ) × HasEntries (bytes ++ more) entries left
+divided_of bytes more entries rest (inl r) = (rest ++ more, record { good = r.good; joined = inl (ap (λ (w : List ℕ). w ++ more) r.joined ∙ append_assoc (entries_bytes entries) rest more) })
+divided_of bytes more entries rest (inr d) = (rest, subst (λ (w : List ℕ). HasEntries w entries rest) (sym (append-nil bytes) ∙ ap (λ (w : List ℕ). bytes ++ w) (sym d.0)) d.1)
 
 begin_by : AnswerLaws → (s t new final : SessionView) (commands more : List Command) (answers all : List ℕ) → AreAlike s t → AreAnswers s commands answers new → AreInParts t commands more all final → (later : List ℕ) × (all ≡ answers ++ later)
 begin_by laws s t new final commands more answers all a f parts =
@@ -243,5 +243,5 @@ answers_begin laws s t new final bytes more answers all entries rest end a first
         begin_by laws s t new final (commands_of entries) (commands_of later) answers all a f
         (in_parts t (commands_of entries) (commands_of later) all final (subst (λ (cs : List Command). AreAnswers t cs all final) commands g.answered))
 
-    on : (left : List ℕ) × IsDivided (bytes ++ more) entries left → (later : List ℕ) × (all ≡ answers ++ later)
+    on : (left : List ℕ) × HasEntries (bytes ++ more) entries left → (later : List ℕ) × (all ≡ answers ++ later)
     on d = let w = divisions_agree (bytes ++ more) entries g.entries d.0 g.rest d.1 g.reading.divided (g.reading.longest entries d.0 d.1) in by w.0 w.1

@@ -9,7 +9,7 @@ use Rattle.std.proofs.lemmas.List.Concat.{flat_map-append}
 use Rattle.mm_store.specs.Language.Edits.{Asked, Delete, edited_text}
 use Rattle.mm_report.specs.Code.Stops.{AreListed, batch_line, batch_bytes}
 use Rattle.mm_report.specs.Language.Script.{Listed, Command, Change, Batch, Report, Verdict, Axioms, Cites, Users, AreGoodEdits, EndsInLine, IsCutShort, IsGood, IsGoodEdit, IsNoneOrLine, IsNumber, MayBreak, MissesEdits}
-use Rattle.mm_report.specs.Language.Script.{behind, edit_bytes, edit_line, ended_text, line_of, listed_bytes, words_of}
+use Rattle.mm_report.specs.Language.Script.{behind, edit_bytes, edit_line, ended_text, line_of, listed_bytes, command_words}
 use Rattle.mm_report.proofs.SplitLemmas.{Lacks, join_lacks, not_inside}
 use Rattle.mm_report.proofs.WordLemmas.{AreSolid, BeginsEdits, edit_head, edit_tag, edits_begin, has_first, lack_feeds, listed_parts, same_blanks, same_words_by_line, small_number, solid_decimal, tag, words_solid}
 use Rattle.mm_report.proofs.ScriptLemmas.{NoEntry, NoLast}
@@ -36,7 +36,7 @@ pub record IsBatch (n : ℕ) (c : Command) : Type 0 where
   pub count : n ≡ length edits
   pub good : AreGoodEdits edits
 
-batch_by_words : (n : ℕ) → IsNumber n → (c : Command) → IsGood c → batch_words n ≡ words_of c → IsBatch n c
+batch_by_words : (n : ℕ) → IsNumber n → (c : Command) → IsGood c → batch_words n ≡ command_words c → IsBatch n c
 batch_by_words n h (Batch edits) g e = let word : decimal n ≡ decimal (length edits) = cc in record { edits = edits; is = refl; count = decimal_injective n (length edits) (small_number n h) (small_number (length edits) g.0) word; good = g.1 }
 batch_by_words n h (Change edit) g e = absurd (omega (arith, edit_tag edit, ap tag e))
 batch_by_words n h Report g e = absurd (omega (arith, ap tag e))
@@ -46,7 +46,7 @@ batch_by_words n h (Cites label) g e = absurd (omega (arith, ap tag e))
 batch_by_words n h (Users label) g e = absurd (omega (arith, ap tag e))
 
 pub batch_by_line : (n : ℕ) → IsNumber n → (c : Command) → IsGood c → batch_line n ≡ line_of c → IsBatch n c
-batch_by_line n h c g e = batch_by_words n h c g (same_words_by_line (batch_words n) (words_of c) (codes "batch", decimal n ∷ [], refl) (has_first c) (batch_solid n h) (words_solid c g) e)
+batch_by_line n h c g e = batch_by_words n h c g (same_words_by_line (batch_words n) (command_words c) (codes "batch", decimal n ∷ [], refl) (has_first c) (batch_solid n h) (words_solid c g) e)
 
 -- an edit has some bytes
 pub listed_some : (x : Listed) (xs : List Listed) → 0 < length (flat_map listed_bytes (x ∷ xs))

@@ -1,6 +1,6 @@
 -- The laws of readings.
 use Rattle.std.proofs.Common.{◌≡◌, ◌⊎◌, ℕ, List, [], ◌++◌, sym, inl, inr}
-use Rattle.mm_report.specs.Language.Script.{bytes_of, IsReading, LacksFeed}
+use Rattle.mm_report.specs.Language.Script.{entries_bytes, IsLongestReading, LacksFeed}
 use Rattle.mm_report.specs.Language.ScriptLaws.{CommandsLeaveNothing, OneReading, OneEnd, ReadingGoesOn, OneReadSoFar}
 use Rattle.mm_report.proofs.ScriptLemmas.{goes_on, one_end, one_reading, one_so_far, reading_unended}
 use Rattle.mm_report.proofs.JoinLemmas.{reading_done}
@@ -20,6 +20,6 @@ later bytes more entries all rest left r q = let w = goes_on bytes more entries 
 pub done : CommandsLeaveNothing
 done script entries d = by d.joined
   where
-    by : (script ≡ bytes_of entries ++ []) ⊎ (LacksFeed script entries × (◌≡◌ {A = List ℕ} [] [])) → IsReading script entries []
+    by : (script ≡ entries_bytes entries ++ []) ⊎ (LacksFeed script entries × (◌≡◌ {A = List ℕ} [] [])) → IsLongestReading script entries []
     by (inl e) = reading_done script entries (record { good = d.good; joined = e })
     by (inr l) = reading_unended script entries d.good l.0

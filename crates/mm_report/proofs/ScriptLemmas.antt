@@ -5,8 +5,8 @@ use Rattle.std.proofs.lemmas.Bool.{cases_lt}
 use Rattle.std.proofs.lemmas.List.{append-nil, append_cancel_left, append_cancel_right}
 use Rattle.std.proofs.lemmas.List.Concat.{flat_map-append}
 use Rattle.mm_store.specs.Language.Edits.{edited_text}
-use Rattle.mm_report.specs.Language.Script.{Listed, Command, Change, Batch, Report, Verdict, Axioms, Cites, Users, Entry, Blank, Given, listed_bytes, edit_line, entry_bytes, IsGoodEntry, AreGood, IsGood, bytes_of, line_of, ended_text, behind, command_bytes, EndsInLine}
-use Rattle.mm_report.specs.Language.Script.{LacksFeed, IsDivided, IsReading, AreRead, IsReadSoFar, IsCutShort, End, Done, CutShort, BadLine, EndsSo}
+use Rattle.mm_report.specs.Language.Script.{Listed, Command, Change, Batch, Report, Verdict, Axioms, Cites, Users, Entry, Blank, Given, listed_bytes, edit_line, entry_bytes, IsGoodEntry, AreGood, IsGood, entries_bytes, line_of, ended_text, behind, command_bytes, EndsInLine}
+use Rattle.mm_report.specs.Language.Script.{LacksFeed, HasEntries, IsLongestReading, AreRead, IsReadSoFar, IsCutShort, End, Done, CutShort, BadLine, EndsSo}
 use Rattle.mm_report.proofs.SplitLemmas.{split_at}
 use Rattle.mm_report.proofs.WordLemmas.{line_lacks_feed, same_first, line_some}
 
@@ -26,13 +26,13 @@ pub record IsBeginning (a b : List Entry) (s t : List ℕ) : Type 0 where
   pub more : List Entry
   pub good : AreGood more
   pub longer : a ++ more ≡ b
-  pub left : s ≡ bytes_of more ++ t
+  pub left : s ≡ entries_bytes more ++ t
 
-pub one_begins : (a b : List Entry) (s t : List ℕ) → AreGood a → AreGood b → bytes_of a ++ s ≡ bytes_of b ++ t → IsBeginning a b s t ⊎ IsBeginning b a t s
+pub one_begins : (a b : List Entry) (s t : List ℕ) → AreGood a → AreGood b → entries_bytes a ++ s ≡ entries_bytes b ++ t → IsBeginning a b s t ⊎ IsBeginning b a t s
 one_begins [] b s t g h e = inl (record { more = b; good = h; longer = refl; left = e })
 one_begins (x ∷ a) [] s t g h e = inr (record { more = x ∷ a; good = g; longer = refl; left = sym e })
 one_begins (x ∷ a) (y ∷ b) s t g h e =
-    let both : (x ≡ y) × (bytes_of a ++ s ≡ bytes_of b ++ t) = same_entry x y (bytes_of a ++ s) (bytes_of b ++ t) g.0 h.0 (sym (append_assoc (entry_bytes x) (bytes_of a) s) ∙ e ∙ append_assoc (entry_bytes y) (bytes_of b) t) in
+    let both : (x ≡ y) × (entries_bytes a ++ s ≡ entries_bytes b ++ t) = same_entry x y (entries_bytes a ++ s) (entries_bytes b ++ t) g.0 h.0 (sym (append_assoc (entry_bytes x) (entries_bytes a) s) ∙ e ∙ append_assoc (entry_bytes y) (entries_bytes b) t) in
     on both.0 (one_begins a b s t g.1 h.1 both.1)
   where
     on : x ≡ y → IsBeginning a b s t ⊎ IsBeginning b a t s → IsBeginning (x ∷ a) (y ∷ b) s t ⊎ IsBeginning (y ∷ b) (x ∷ a) t s
@@ -41,21 +41,21 @@ one_begins (x ∷ a) (y ∷ b) s t g h e =
 
 -- what stands behind the entries in the script with one more line feed
 pub record IsTail (script : List ℕ) (entries : List Entry) (rest tail : List ℕ) : Type 0 where
-  pub joined : script ++ 10 ∷ [] ≡ bytes_of entries ++ tail
+  pub joined : script ++ 10 ∷ [] ≡ entries_bytes entries ++ tail
   pub is : (tail ≡ rest ++ 10 ∷ []) ⊎ ((tail ≡ []) × (rest ≡ []))
 
-pub has_tail : (script : List ℕ) (entries : List Entry) (rest : List ℕ) → IsDivided script entries rest → (tail : List ℕ) × IsTail script entries rest tail
+pub has_tail : (script : List ℕ) (entries : List Entry) (rest : List ℕ) → HasEntries script entries rest → (tail : List ℕ) × IsTail script entries rest tail
 has_tail script entries rest d = by d.joined
   where
-    by : (script ≡ bytes_of entries ++ rest) ⊎ (LacksFeed script entries × (rest ≡ [])) → (tail : List ℕ) × IsTail script entries rest tail
-    by (inl e) = (rest ++ 10 ∷ [], record { joined = ap (λ (x : List ℕ). x ++ 10 ∷ []) e ∙ append_assoc (bytes_of entries) rest (10 ∷ []); is = inl refl })
-    by (inr l) = ([], record { joined = l.0.is ∙ sym (append-nil (bytes_of entries)); is = inr (refl, l.1) })
+    by : (script ≡ entries_bytes entries ++ rest) ⊎ (LacksFeed script entries × (rest ≡ [])) → (tail : List ℕ) × IsTail script entries rest tail
+    by (inl e) = (rest ++ 10 ∷ [], record { joined = ap (λ (x : List ℕ). x ++ 10 ∷ []) e ∙ append_assoc (entries_bytes entries) rest (10 ∷ []); is = inl refl })
+    by (inr l) = ([], record { joined = l.0.is ∙ sym (append-nil (entries_bytes entries)); is = inr (refl, l.1) })
 
 pub no_more : (a b more : List Entry) → a ++ more ≡ b → length b ≤ length a → more ≡ []
 no_more a b [] e h = refl
 no_more a b (x ∷ more) e h = let l : length a + length (x ∷ more) ≡ length b = sym (length-append a (x ∷ more)) ∙ ap length e in absurd (omega arith)
 
-pub divisions_agree : (script : List ℕ) (a b : List Entry) (s t : List ℕ) → IsDivided script a s → IsDivided script b t → length a ≤ length b → (more : List Entry) × (a ++ more ≡ b)
+pub divisions_agree : (script : List ℕ) (a b : List Entry) (s t : List ℕ) → HasEntries script a s → HasEntries script b t → length a ≤ length b → (more : List Entry) × (a ++ more ≡ b)
 divisions_agree script a b s t d f h = by (has_tail script a s d) (has_tail script b t f)
   where
     on : (u v : List ℕ) → IsBeginning a b u v ⊎ IsBeginning b a v u → (more : List Entry) × (a ++ more ≡ b)
@@ -74,19 +74,19 @@ not_both bytes s e =
     let m : length (bytes ++ s) ≡ length bytes + length s = length-append bytes s in
     omega arith
 
-same_rest : (script : List ℕ) (a b : List Entry) (s t : List ℕ) → a ≡ b → IsDivided script a s → IsDivided script b t → s ≡ t
+same_rest : (script : List ℕ) (a b : List Entry) (s t : List ℕ) → a ≡ b → HasEntries script a s → HasEntries script b t → s ≡ t
 same_rest script a b s t p d f = by d.joined f.joined
   where
-    same : bytes_of a ≡ bytes_of b
-    same = ap bytes_of p
+    same : entries_bytes a ≡ entries_bytes b
+    same = ap entries_bytes p
 
-    by : (script ≡ bytes_of a ++ s) ⊎ (LacksFeed script a × (s ≡ [])) → (script ≡ bytes_of b ++ t) ⊎ (LacksFeed script b × (t ≡ [])) → s ≡ t
-    by (inl e) (inl k) = append_cancel_left (bytes_of a) s t (sym e ∙ k ∙ ap (λ (x : List ℕ). x ++ t) (sym same))
-    by (inl e) (inr k) = absurd (not_both (bytes_of a) s (ap (λ (x : List ℕ). x ++ 10 ∷ []) (sym e) ∙ k.0.is ∙ sym same))
-    by (inr e) (inl k) = absurd (not_both (bytes_of b) t (ap (λ (x : List ℕ). x ++ 10 ∷ []) (sym k) ∙ e.0.is ∙ same))
+    by : (script ≡ entries_bytes a ++ s) ⊎ (LacksFeed script a × (s ≡ [])) → (script ≡ entries_bytes b ++ t) ⊎ (LacksFeed script b × (t ≡ [])) → s ≡ t
+    by (inl e) (inl k) = append_cancel_left (entries_bytes a) s t (sym e ∙ k ∙ ap (λ (x : List ℕ). x ++ t) (sym same))
+    by (inl e) (inr k) = absurd (not_both (entries_bytes a) s (ap (λ (x : List ℕ). x ++ 10 ∷ []) (sym e) ∙ k.0.is ∙ sym same))
+    by (inr e) (inl k) = absurd (not_both (entries_bytes b) t (ap (λ (x : List ℕ). x ++ 10 ∷ []) (sym k) ∙ e.0.is ∙ same))
     by (inr e) (inr k) = e.1 ∙ sym k.1
 
-pub one_reading : (script : List ℕ) (a b : List Entry) (s t : List ℕ) → IsReading script a s → IsReading script b t → (a ≡ b) × (s ≡ t)
+pub one_reading : (script : List ℕ) (a b : List Entry) (s t : List ℕ) → IsLongestReading script a s → IsLongestReading script b t → (a ≡ b) × (s ≡ t)
 one_reading script a b s t r q =
     let longer : length a ≤ length b = q.longest a s r.divided in
     let shorter : length b ≤ length a = r.longest b t q.divided in
@@ -115,18 +115,18 @@ one_end rest BadLine BadLine f g = refl
 
 -- ---- what is read so far
 
-pub goes_on : (bytes more : List ℕ) (entries all : List Entry) (rest left : List ℕ) → IsReadSoFar bytes entries rest → IsReading (bytes ++ more) all left → (later : List Entry) × (entries ++ later ≡ all)
+pub goes_on : (bytes more : List ℕ) (entries all : List Entry) (rest left : List ℕ) → IsReadSoFar bytes entries rest → IsLongestReading (bytes ++ more) all left → (later : List Entry) × (entries ++ later ≡ all)
 goes_on bytes more entries all rest left r q =
-    let whole : bytes ++ more ≡ bytes_of entries ++ (rest ++ more) = ap (λ (w : List ℕ). w ++ more) r.are.joined ∙ append_assoc (bytes_of entries) rest more in
-    let d : IsDivided (bytes ++ more) entries (rest ++ more) = record { good = r.are.good; joined = inl whole } in
+    let whole : bytes ++ more ≡ entries_bytes entries ++ (rest ++ more) = ap (λ (w : List ℕ). w ++ more) r.are.joined ∙ append_assoc (entries_bytes entries) rest more in
+    let d : HasEntries (bytes ++ more) entries (rest ++ more) = record { good = r.are.good; joined = inl whole } in
     divisions_agree (bytes ++ more) entries all (rest ++ more) left d q.divided (q.longest entries (rest ++ more) d)
 
 pub one_so_far : (bytes : List ℕ) (a b : List Entry) (s t : List ℕ) → IsReadSoFar bytes a s → IsReadSoFar bytes b t → (a ≡ b) × (s ≡ t)
 one_so_far bytes a b s t r q =
     let longer : length a ≤ length b = q.longest a s r.are in
     let shorter : length b ≤ length a = r.longest b t q.are in
-    let d : IsDivided bytes a s = record { good = r.are.good; joined = inl r.are.joined } in
-    let e : IsDivided bytes b t = record { good = q.are.good; joined = inl q.are.joined } in
+    let d : HasEntries bytes a s = record { good = r.are.good; joined = inl r.are.joined } in
+    let e : HasEntries bytes b t = record { good = q.are.good; joined = inl q.are.joined } in
     let w = divisions_agree bytes a b s t d e longer in
     let none : w.0 ≡ [] = no_more a b w.0 w.1 shorter in
     let same : a ≡ b = sym (append-nil a) ∙ ap (λ (x : List Entry). a ++ x) (sym none) ∙ w.1 in
@@ -161,7 +161,7 @@ pub entry_ends : (x : Entry) → EndsInFeed (entry_bytes x)
 entry_ends Blank = ([], refl)
 entry_ends (Given c) = command_ends c
 
-entries_end : (x : Entry) (xs : List Entry) → EndsInFeed (bytes_of (x ∷ xs))
+entries_end : (x : Entry) (xs : List Entry) → EndsInFeed (entries_bytes (x ∷ xs))
 entries_end x [] = let e = entry_ends x in (e.0, append-nil (entry_bytes x) ∙ e.1)
 entries_end x (y ∷ xs) = let e = entries_end y xs in (entry_bytes x ++ e.0, ap (λ (w : List ℕ). entry_bytes x ++ w) e.1 ∙ sym (append_assoc (entry_bytes x) e.0 (10 ∷ [])))
 
@@ -191,13 +191,13 @@ NoEntry rest = (x : Entry) (left : List ℕ) → IsGoodEntry x → rest ≡ entr
 abbrev pub NoLast : List ℕ → Type 0
 NoLast rest = (c : Command) → IsGood c → EndsInLine c → rest ++ 10 ∷ [] ≡ command_bytes c → ⊥
 
-bytes_more : (a : List Entry) (x : Entry) (xs b : List Entry) → a ++ x ∷ xs ≡ b → bytes_of b ≡ bytes_of a ++ (entry_bytes x ++ bytes_of xs)
-bytes_more a x xs b e = ap bytes_of (sym e) ∙ flat_map-append entry_bytes a (x ∷ xs)
+bytes_more : (a : List Entry) (x : Entry) (xs b : List Entry) → a ++ x ∷ xs ≡ b → entries_bytes b ≡ entries_bytes a ++ (entry_bytes x ++ entries_bytes xs)
+bytes_more a x xs b e = ap entries_bytes (sym e) ∙ flat_map-append entry_bytes a (x ∷ xs)
 
-longer_no : (script rest : List ℕ) (a b : List Entry) (left : List ℕ) (x : Entry) (xs : List Entry) → script ≡ bytes_of a ++ rest → NoEntry rest → NoLast rest → IsGoodEntry x → a ++ x ∷ xs ≡ b → IsDivided script b left → ⊥
+longer_no : (script rest : List ℕ) (a b : List Entry) (left : List ℕ) (x : Entry) (xs : List Entry) → script ≡ entries_bytes a ++ rest → NoEntry rest → NoLast rest → IsGoodEntry x → a ++ x ∷ xs ≡ b → HasEntries script b left → ⊥
 longer_no script rest a b left x xs is none plain good e d = by d.joined
   where
-    more : bytes_of b ≡ bytes_of a ++ (entry_bytes x ++ bytes_of xs)
+    more : entries_bytes b ≡ entries_bytes a ++ (entry_bytes x ++ entries_bytes xs)
     more = bytes_more a x xs b e
 
     lone : (c : Command) → x ≡ Given c → EndsInLine c → rest ++ 10 ∷ [] ≡ entry_bytes x → ⊥
@@ -208,22 +208,22 @@ longer_no script rest a b left x xs is none plain good e d = by d.joined
     unended : (l : LacksFeed script b) (ys : List Entry) → ys ≡ xs → ⊥
     unended l [] s =
         let same : x ≡ Given l.last = same_last a l.front x (Given l.last) (ap (λ (zs : List Entry). a ++ x ∷ zs) s ∙ e ∙ l.are) in
-        let tail : rest ++ 10 ∷ [] ≡ entry_bytes x ++ bytes_of xs = append_cancel_left (bytes_of a) (rest ++ 10 ∷ []) (entry_bytes x ++ bytes_of xs) (sym (append_assoc (bytes_of a) rest (10 ∷ [])) ∙ ap (λ (w : List ℕ). w ++ 10 ∷ []) (sym is) ∙ l.is ∙ more) in
-        lone l.last same l.in_line (tail ∙ ap (λ (zs : List Entry). entry_bytes x ++ bytes_of zs) (sym s) ∙ append-nil (entry_bytes x))
+        let tail : rest ++ 10 ∷ [] ≡ entry_bytes x ++ entries_bytes xs = append_cancel_left (entries_bytes a) (rest ++ 10 ∷ []) (entry_bytes x ++ entries_bytes xs) (sym (append_assoc (entries_bytes a) rest (10 ∷ [])) ∙ ap (λ (w : List ℕ). w ++ 10 ∷ []) (sym is) ∙ l.is ∙ more) in
+        lone l.last same l.in_line (tail ∙ ap (λ (zs : List Entry). entry_bytes x ++ entries_bytes zs) (sym s) ∙ append-nil (entry_bytes x))
     unended l (y ∷ ys) s =
-        let tail : rest ++ 10 ∷ [] ≡ entry_bytes x ++ bytes_of xs = append_cancel_left (bytes_of a) (rest ++ 10 ∷ []) (entry_bytes x ++ bytes_of xs) (sym (append_assoc (bytes_of a) rest (10 ∷ [])) ∙ ap (λ (w : List ℕ). w ++ 10 ∷ []) (sym is) ∙ l.is ∙ more) in
+        let tail : rest ++ 10 ∷ [] ≡ entry_bytes x ++ entries_bytes xs = append_cancel_left (entries_bytes a) (rest ++ 10 ∷ []) (entry_bytes x ++ entries_bytes xs) (sym (append_assoc (entries_bytes a) rest (10 ∷ [])) ∙ ap (λ (w : List ℕ). w ++ 10 ∷ []) (sym is) ∙ l.is ∙ more) in
         let f = entries_end y ys in
-        let split : rest ++ 10 ∷ [] ≡ (entry_bytes x ++ f.0) ++ 10 ∷ [] = tail ∙ ap (λ (zs : List Entry). entry_bytes x ++ bytes_of zs) (sym s) ∙ ap (λ (w : List ℕ). entry_bytes x ++ w) f.1 ∙ sym (append_assoc (entry_bytes x) f.0 (10 ∷ [])) in
+        let split : rest ++ 10 ∷ [] ≡ (entry_bytes x ++ f.0) ++ 10 ∷ [] = tail ∙ ap (λ (zs : List Entry). entry_bytes x ++ entries_bytes zs) (sym s) ∙ ap (λ (w : List ℕ). entry_bytes x ++ w) f.1 ∙ sym (append_assoc (entry_bytes x) f.0 (10 ∷ [])) in
         none x f.0 good (append_cancel_right rest (entry_bytes x ++ f.0) (10 ∷ []) split)
 
-    by : (script ≡ bytes_of b ++ left) ⊎ (LacksFeed script b × (left ≡ [])) → ⊥
-    by (inl k) = none x (bytes_of xs ++ left) good (append_cancel_left (bytes_of a) rest (entry_bytes x ++ (bytes_of xs ++ left))
-        (sym is ∙ k ∙ ap (λ (w : List ℕ). w ++ left) more ∙ append_assoc (bytes_of a) (entry_bytes x ++ bytes_of xs) left ∙ ap (λ (w : List ℕ). bytes_of a ++ w) (append_assoc (entry_bytes x) (bytes_of xs) left)))
+    by : (script ≡ entries_bytes b ++ left) ⊎ (LacksFeed script b × (left ≡ [])) → ⊥
+    by (inl k) = none x (entries_bytes xs ++ left) good (append_cancel_left (entries_bytes a) rest (entry_bytes x ++ (entries_bytes xs ++ left))
+        (sym is ∙ k ∙ ap (λ (w : List ℕ). w ++ left) more ∙ append_assoc (entries_bytes a) (entry_bytes x ++ entries_bytes xs) left ∙ ap (λ (w : List ℕ). entries_bytes a ++ w) (append_assoc (entry_bytes x) (entries_bytes xs) left)))
     by (inr k) = unended k.0 xs refl
 
 -- a list of entries is the longest, if each longer one that begins with it is refused
-longest_by : (script : List ℕ) (a : List Entry) (s : List ℕ) → IsDivided script a s
-    → ((b : List Entry) (left : List ℕ) (x : Entry) (xs : List Entry) → IsGoodEntry x → a ++ x ∷ xs ≡ b → IsDivided script b left → ⊥) → (b : List Entry) (left : List ℕ) → IsDivided script b left → length b ≤ length a
+longest_by : (script : List ℕ) (a : List Entry) (s : List ℕ) → HasEntries script a s
+    → ((b : List Entry) (left : List ℕ) (x : Entry) (xs : List Entry) → IsGoodEntry x → a ++ x ∷ xs ≡ b → HasEntries script b left → ⊥) → (b : List Entry) (left : List ℕ) → HasEntries script b left → length b ≤ length a
 longest_by script a s d refused b left f = by (cases_lt (length a) (length b))
   where
     on : (more : List Entry) → a ++ more ≡ b → length a < length b → ⊥
@@ -234,27 +234,27 @@ longest_by script a s d refused b left f = by (cases_lt (length a) (length b))
     by (inr h) = h
     by (inl h) = let w = divisions_agree script a b s left d f (omega arith) in absurd (on w.0 w.1 h)
 
-pub reading_ended : (script : List ℕ) (a : List Entry) (rest : List ℕ) → AreGood a → script ≡ bytes_of a ++ rest → NoEntry rest → NoLast rest → IsReading script a rest
+pub reading_ended : (script : List ℕ) (a : List Entry) (rest : List ℕ) → AreGood a → script ≡ entries_bytes a ++ rest → NoEntry rest → NoLast rest → IsLongestReading script a rest
 reading_ended script a rest good is none plain =
-    let d : IsDivided script a rest = record { good = good; joined = inl is } in
+    let d : HasEntries script a rest = record { good = good; joined = inl is } in
     record { divided = d; longest = longest_by script a rest d (λ b left x xs g e f. longer_no script rest a b left x xs is none plain g e f) }
 
-feed_no : (script : List ℕ) (a b : List Entry) (left : List ℕ) (x : Entry) (xs : List Entry) → script ++ 10 ∷ [] ≡ bytes_of a → a ++ x ∷ xs ≡ b → IsDivided script b left → ⊥
+feed_no : (script : List ℕ) (a b : List Entry) (left : List ℕ) (x : Entry) (xs : List Entry) → script ++ 10 ∷ [] ≡ entries_bytes a → a ++ x ∷ xs ≡ b → HasEntries script b left → ⊥
 feed_no script a b left x xs is e d = by d.joined
   where
-    long : length script + 1 ≡ length (bytes_of a)
+    long : length script + 1 ≡ length (entries_bytes a)
     long = sym (length-append script (10 ∷ [])) ∙ ap length is
 
-    longer : length (bytes_of b) ≡ length (bytes_of a) + (length (entry_bytes x) + length (bytes_of xs))
-    longer = ap length (bytes_more a x xs b e) ∙ length-append (bytes_of a) (entry_bytes x ++ bytes_of xs) ∙ ap (λ (n : ℕ). length (bytes_of a) + n) (length-append (entry_bytes x) (bytes_of xs))
+    longer : length (entries_bytes b) ≡ length (entries_bytes a) + (length (entry_bytes x) + length (entries_bytes xs))
+    longer = ap length (bytes_more a x xs b e) ∙ length-append (entries_bytes a) (entry_bytes x ++ entries_bytes xs) ∙ ap (λ (n : ℕ). length (entries_bytes a) + n) (length-append (entry_bytes x) (entries_bytes xs))
 
-    by : (script ≡ bytes_of b ++ left) ⊎ (LacksFeed script b × (left ≡ [])) → ⊥
-    by (inl k) = let l : length script ≡ length (bytes_of b) + length left = ap length k ∙ length-append (bytes_of b) left in omega (arith, long, longer, entry_some x)
-    by (inr k) = let l : length script + 1 ≡ length (bytes_of b) = sym (length-append script (10 ∷ [])) ∙ ap length k.0.is in omega (arith, long, longer, entry_some x)
+    by : (script ≡ entries_bytes b ++ left) ⊎ (LacksFeed script b × (left ≡ [])) → ⊥
+    by (inl k) = let l : length script ≡ length (entries_bytes b) + length left = ap length k ∙ length-append (entries_bytes b) left in omega (arith, long, longer, entry_some x)
+    by (inr k) = let l : length script + 1 ≡ length (entries_bytes b) = sym (length-append script (10 ∷ [])) ∙ ap length k.0.is in omega (arith, long, longer, entry_some x)
 
-pub reading_unended : (script : List ℕ) (a : List Entry) → AreGood a → LacksFeed script a → IsReading script a []
+pub reading_unended : (script : List ℕ) (a : List Entry) → AreGood a → LacksFeed script a → IsLongestReading script a []
 reading_unended script a good l =
-    let d : IsDivided script a [] = record { good = good; joined = inr (l, refl) } in
+    let d : HasEntries script a [] = record { good = good; joined = inr (l, refl) } in
     record { divided = d; longest = longest_by script a [] d (λ b left x xs g e f. feed_no script a b left x xs l.is e f) }
 
 -- ---- bytes that begin with no entry
@@ -265,9 +265,9 @@ none_so_far bytes none = record { are = record { good = tt; joined = refl }; lon
   where
     longest : (others : List Entry) (left : List ℕ) → AreRead bytes others left → length others ≤ 0
     longest [] left r = omega arith
-    longest (x ∷ xs) left r = absurd (none x (bytes_of xs ++ left) r.good.0 (r.joined ∙ append_assoc (entry_bytes x) (bytes_of xs) left))
+    longest (x ∷ xs) left r = absurd (none x (entries_bytes xs ++ left) r.good.0 (r.joined ∙ append_assoc (entry_bytes x) (entries_bytes xs) left))
 
-pub none_is_read : (bytes : List ℕ) → NoEntry bytes → NoLast bytes → IsReading bytes [] bytes
+pub none_is_read : (bytes : List ℕ) → NoEntry bytes → NoLast bytes → IsLongestReading bytes [] bytes
 none_is_read bytes none plain = reading_ended bytes [] bytes tt refl none plain
 
 pub good_more : (a b : List Entry) → AreGood a → AreGood b → AreGood (a ++ b)
@@ -275,18 +275,18 @@ good_more [] b g h = h
 good_more (x ∷ a) b g h = (g.0, good_more a b g.1 h)
 
 -- what is divided behind what is read
-pub read_more : (bytes : List ℕ) (entries more : List Entry) (rest left : List ℕ) → AreRead bytes entries rest → IsDivided rest more left → IsDivided bytes (entries ++ more) left
+pub read_more : (bytes : List ℕ) (entries more : List Entry) (rest left : List ℕ) → AreRead bytes entries rest → HasEntries rest more left → HasEntries bytes (entries ++ more) left
 read_more bytes entries more rest left r d = record { good = good_more entries more r.good d.good; joined = by d.joined }
   where
-    by : (rest ≡ bytes_of more ++ left) ⊎ (LacksFeed rest more × (left ≡ [])) → (bytes ≡ bytes_of (entries ++ more) ++ left) ⊎ (LacksFeed bytes (entries ++ more) × (left ≡ []))
-    by (inl e) = inl (r.joined ∙ ap (λ (w : List ℕ). bytes_of entries ++ w) e ∙ sym (append_assoc (bytes_of entries) (bytes_of more) left) ∙ ap (λ (w : List ℕ). w ++ left) (sym (flat_map-append entry_bytes entries more)))
+    by : (rest ≡ entries_bytes more ++ left) ⊎ (LacksFeed rest more × (left ≡ [])) → (bytes ≡ entries_bytes (entries ++ more) ++ left) ⊎ (LacksFeed bytes (entries ++ more) × (left ≡ []))
+    by (inl e) = inl (r.joined ∙ ap (λ (w : List ℕ). entries_bytes entries ++ w) e ∙ sym (append_assoc (entries_bytes entries) (entries_bytes more) left) ∙ ap (λ (w : List ℕ). w ++ left) (sym (flat_map-append entry_bytes entries more)))
     by (inr l) = inr (
       record {
         front = entries ++ l.0.front;
         last = l.0.last;
         are = ap (λ (w : List Entry). entries ++ w) l.0.are ∙ sym (append_assoc entries l.0.front (Given l.0.last ∷ []));
         in_line = l.0.in_line;
-        is = ap (λ (w : List ℕ). w ++ 10 ∷ []) r.joined ∙ append_assoc (bytes_of entries) rest (10 ∷ []) ∙ ap (λ (w : List ℕ). bytes_of entries ++ w) l.0.is ∙ sym (flat_map-append entry_bytes entries more);
+        is = ap (λ (w : List ℕ). w ++ 10 ∷ []) r.joined ∙ append_assoc (entries_bytes entries) rest (10 ∷ []) ∙ ap (λ (w : List ℕ). entries_bytes entries ++ w) l.0.is ∙ sym (flat_map-append entry_bytes entries more);
       },
       l.1,
     )
@@ -296,14 +296,14 @@ last_of x [] = ([], x, refl)
 last_of x (y ∷ xs) = let w = last_of y xs in (x ∷ w.0, w.1, ap (λ (zs : List Entry). x ∷ zs) w.2)
 
 -- and what is divided of the rest, where all is
-pub read_less : (bytes : List ℕ) (entries : List Entry) (x : Entry) (xs : List Entry) (rest left : List ℕ) → AreRead bytes entries rest → IsDivided bytes (entries ++ x ∷ xs) left → IsDivided rest (x ∷ xs) left
+pub read_less : (bytes : List ℕ) (entries : List Entry) (x : Entry) (xs : List Entry) (rest left : List ℕ) → AreRead bytes entries rest → HasEntries bytes (entries ++ x ∷ xs) left → HasEntries rest (x ∷ xs) left
 read_less bytes entries x xs rest left r d = record { good = good_tail entries (x ∷ xs) d.good; joined = by d.joined }
   where
-    split : bytes_of (entries ++ x ∷ xs) ≡ bytes_of entries ++ bytes_of (x ∷ xs)
+    split : entries_bytes (entries ++ x ∷ xs) ≡ entries_bytes entries ++ entries_bytes (x ∷ xs)
     split = flat_map-append entry_bytes entries (x ∷ xs)
 
-    by : (bytes ≡ bytes_of (entries ++ x ∷ xs) ++ left) ⊎ (LacksFeed bytes (entries ++ x ∷ xs) × (left ≡ [])) → (rest ≡ bytes_of (x ∷ xs) ++ left) ⊎ (LacksFeed rest (x ∷ xs) × (left ≡ []))
-    by (inl e) = inl (append_cancel_left (bytes_of entries) rest (bytes_of (x ∷ xs) ++ left) (sym r.joined ∙ e ∙ ap (λ (w : List ℕ). w ++ left) split ∙ append_assoc (bytes_of entries) (bytes_of (x ∷ xs)) left))
+    by : (bytes ≡ entries_bytes (entries ++ x ∷ xs) ++ left) ⊎ (LacksFeed bytes (entries ++ x ∷ xs) × (left ≡ [])) → (rest ≡ entries_bytes (x ∷ xs) ++ left) ⊎ (LacksFeed rest (x ∷ xs) × (left ≡ []))
+    by (inl e) = inl (append_cancel_left (entries_bytes entries) rest (entries_bytes (x ∷ xs) ++ left) (sym r.joined ∙ e ∙ ap (λ (w : List ℕ). w ++ left) split ∙ append_assoc (entries_bytes entries) (entries_bytes (x ∷ xs)) left))
     by (inr l) =
         let w = last_of x xs in
         let same : w.1 ≡ Given l.0.last = same_last (entries ++ w.0) l.0.front w.1 (Given l.0.last) (append_assoc entries w.0 (w.1 ∷ []) ∙ ap (λ (zs : List Entry). entries ++ zs) (sym w.2) ∙ l.0.are) in
@@ -313,7 +313,7 @@ read_less bytes entries x xs rest left r d = record { good = good_tail entries (
             last = l.0.last;
             are = w.2 ∙ ap (λ (z : Entry). w.0 ++ z ∷ []) same;
             in_line = l.0.in_line;
-            is = append_cancel_left (bytes_of entries) (rest ++ 10 ∷ []) (bytes_of (x ∷ xs)) (sym (append_assoc (bytes_of entries) rest (10 ∷ [])) ∙ ap (λ (v : List ℕ). v ++ 10 ∷ []) (sym r.joined) ∙ l.0.is ∙ split);
+            is = append_cancel_left (entries_bytes entries) (rest ++ 10 ∷ []) (entries_bytes (x ∷ xs)) (sym (append_assoc (entries_bytes entries) rest (10 ∷ [])) ∙ ap (λ (v : List ℕ). v ++ 10 ∷ []) (sym r.joined) ∙ l.0.is ∙ split);
           },
           l.1,
         )

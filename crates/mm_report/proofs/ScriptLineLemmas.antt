@@ -7,7 +7,7 @@ use Rattle.std.proofs.lemmas.List.{append-nil, length-replicate}
 use Rattle.mm_store.specs.Language.Edits.{Asked, Insert, Replace, Delete, Move, edited_text}
 use Rattle.mm_report.specs.Code.Stops.{StopsSo, HasTextOf}
 use Rattle.mm_report.specs.Language.Script.{Command, Change, Blank, Given, CutShort, BadLine, EndsInLine, MayBreak, IsCutShort, IsGood, IsGoodEdit, IsNumber}
-use Rattle.mm_report.specs.Language.Script.{behind, edit_line, edit_words, line_of, words_of}
+use Rattle.mm_report.specs.Language.Script.{behind, edit_line, edit_words, line_of, command_words}
 use Rattle.mm_report.proofs.SplitLemmas.{Lacks, not_inside, split_at}
 use Rattle.mm_report.proofs.WordLemmas.{edit_head, has_first, line_lacks_feed, same_words_by_line, small_number, tag, words_solid}
 use Rattle.mm_report.proofs.ScriptLemmas.{NoEntry, NoLast, entry_ends, none_is_read}
@@ -106,7 +106,7 @@ counted_text keyword f f' t t' a a' g h e =
 its_count : (text : List ℕ) (t : List ℕ) (count : ℕ) → Some t ≡ Some text → length text ≡ count → length t ≡ count
 its_count text t count e l = ap length (same_some t text e) ∙ l
 
-text_behind : (e : Asked) (count : ℕ) → HasTextOf e count → (c : Command) → IsGood c → edit_words e ≡ words_of c → HasTextBehind c count
+text_behind : (e : Asked) (count : ℕ) → HasTextOf e count → (c : Command) → IsGood c → edit_words e ≡ command_words c → HasTextBehind c count
 text_behind (Insert f a t) count h (Change (Insert f' a' t')) g e = record {
   text = t';
   is_behind = refl;
@@ -124,7 +124,7 @@ text_behind (Move f a b) count h c g e = absurd (some_none h.text (sym h.is_text
 text_behind _ count h _ g e = absurd (omega (arith, ap tag e))
 
 pub text_of_line : (e : Asked) (count : ℕ) → HasTextOf e count → (c : Command) → IsGood c → edit_line e ≡ line_of c → HasTextBehind c count
-text_of_line e count h c g k = text_behind e count h c g (same_words_by_line (edit_words e) (words_of c) (has_first (Change e)) (has_first c) (words_solid (Change e) h.good) (words_solid c g) k)
+text_of_line e count h c g k = text_behind e count h c g (same_words_by_line (edit_words e) (command_words c) (has_first (Change e)) (has_first c) (words_solid (Change e) h.good) (words_solid c g) k)
 
 -- an edit of the same line with another text
 pub record WithText (e : Asked) (text : List ℕ) : Type 0 where

@@ -11,7 +11,7 @@ use Rattle.std.proofs.lemmas.List.{length-replicate}
 use Rattle.std.proofs.lemmas.List.Elements.{All-from_recursion}
 use Rattle.std.proofs.lemmas.List.Splits.{join_with_byte-slice_split, slice_split_none, slice_split_at}
 use Rattle.mm_store.specs.Language.Edits.{Asked, Insert, Replace, Delete, Move}
-use Rattle.mm_report.specs.Language.Script.{Command, Change, Batch, Report, Verdict, Axioms, Cites, Users, edit_line, edit_words, words_of, line_of, is_word_byte, IsName, IsNumber, IsGood, IsGoodEdit}
+use Rattle.mm_report.specs.Language.Script.{Command, Change, Batch, Report, Verdict, Axioms, Cites, Users, edit_line, edit_words, command_words, line_of, is_word_byte, IsName, IsNumber, IsGood, IsGoodEdit}
 use Rattle.mm_report.proofs.SplitLemmas.{Lacks}
 use Rattle.mm_report.proofs.WordLemmas.{words_solid, has_first, small_number, HasFirst, lack_spaces}
 use Rattle.mm_report.proofs.ScriptBatchLemmas.{any_are_good, any_listed}
@@ -193,8 +193,8 @@ unfolding words_in
 split_join w [] f = slice_split_none (λ b. eqb b 32) w (lacks_test w f.0)
 split_join w (v ∷ ws) f = slice_split_at (λ b. eqb b 32) w 32 (join_with_byte 32 (v ∷ ws)) (lacks_test w f.0) refl ∙ ap (λ (x : List (List ℕ)). w ∷ x) (split_join v ws f.1)
 
-words_are : (c : Command) → IsGood c → (line : List ℕ) → line ≡ line_of c → words_of c ≡ words_in line
-words_are c g line e = by (words_of c) (has_first c) (lack_spaces (words_of c) (words_solid c g)) e
+words_are : (c : Command) → IsGood c → (line : List ℕ) → line ≡ line_of c → command_words c ≡ words_in line
+words_are c g line e = by (command_words c) (has_first c) (lack_spaces (command_words c) (words_solid c g)) e
   where
     by : (words : List (List ℕ)) → HasFirst words → AllByRecursion (Lacks 32) words → line ≡ join_with_byte 32 words → words ≡ words_in line
     by words f h k =
@@ -265,7 +265,7 @@ record IsNoOther (words : List (List ℕ)) : Type 0 where
   cites : ¬ Asks (codes "cites") words
   users : ¬ Asks (codes "users") words
 
-no_command_is : (words : List (List ℕ)) → IsNoEdit words → IsNoOther words → (c : Command) → IsGood c → words_of c ≡ words → ⊥
+no_command_is : (words : List (List ℕ)) → IsNoEdit words → IsNoOther words → (c : Command) → IsGood c → command_words c ≡ words → ⊥
 no_command_is words n o (Change edit) g e = no_edit_is words n edit g e
 no_command_is words n o (Batch edits) g e = o.batch (record { count = length edits; small = g.0; is = sym e })
 no_command_is words n o Report g e = o.report (sym e)
@@ -274,7 +274,7 @@ no_command_is words n o (Axioms l) g e = o.axioms (record { label = l; name = g;
 no_command_is words n o (Cites l) g e = o.cites (record { label = l; name = g; is = sym e })
 no_command_is words n o (Users l) g e = o.users (record { label = l; name = g; is = sym e })
 
-command_by_words : (line : List ℕ) (c : Command) → IsGood c → words_in line ≡ words_of c → IsCommandLine line
+command_by_words : (line : List ℕ) (c : Command) → IsGood c → words_in line ≡ command_words c → IsCommandLine line
 command_by_words line c g k = record { command = c; good = g; is = sym (joined line) ∙ ap (λ (x : List (List ℕ)). join_with_byte 32 x) k }
 
 pub command_line_or_not : (line : List ℕ) → IsOrNot (IsCommandLine line)

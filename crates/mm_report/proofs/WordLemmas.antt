@@ -6,7 +6,7 @@ use Rattle.std.proofs.lemmas.Bool.{ne_eqb}
 use Rattle.std.proofs.lemmas.List.{append-nil}
 use Rattle.std.proofs.lemmas.Fmt.{decimal_by_steps, decimal_injective}
 use Rattle.mm_store.specs.Language.Edits.{Asked, Insert, Replace, Delete, Move, edited_text}
-use Rattle.mm_report.specs.Language.Script.{Listed, Command, Change, Report, Verdict, Axioms, Cites, Users, Batch, edit_line, listed_bytes, edit_words, words_of, line_of, ended_text, behind, command_bytes}
+use Rattle.mm_report.specs.Language.Script.{Listed, Command, Change, Report, Verdict, Axioms, Cites, Users, Batch, edit_line, listed_bytes, edit_words, command_words, line_of, ended_text, behind, command_bytes}
 use Rattle.mm_report.specs.Language.Script.{is_word_byte, IsName, IsNumber, IsGoodEdit, AreGoodEdits, IsGood}
 use Rattle.mm_report.proofs.SplitLemmas.{Lacks, split_at, same_words, join_lacks, solid_space, solid_feed}
 
@@ -52,7 +52,7 @@ AreSolid words = AllByRecursion IsSolid words
 counted_solid : (keyword file text : List ℕ) (at : ℕ) → IsSolid keyword → IsName file → IsNumber at → IsNumber (length text) → AreSolid (keyword ∷ file ∷ decimal at ∷ decimal (length text) ∷ [])
 counted_solid keyword file text at h name a n = (h, (name.bytes, (solid_decimal at (small_number at a), (solid_decimal (length text) (small_number (length text) n), tt))))
 
-pub words_solid : (c : Command) → IsGood c → AreSolid (words_of c)
+pub words_solid : (c : Command) → IsGood c → AreSolid (command_words c)
 words_solid (Change (Insert file at text)) g = counted_solid (codes "insert") file text at refl g.0 g.1 g.2
 words_solid (Change (Replace file at text)) g = counted_solid (codes "replace") file text at refl g.0 g.1 g.2
 words_solid (Change (Delete file at)) g = (refl, (g.0.bytes, (solid_decimal at (small_number at g.1), tt)))
@@ -73,13 +73,13 @@ lack_feeds [] h = tt
 lack_feeds (w ∷ words) h = (solid_feed w h.0, lack_feeds words h.1)
 
 pub line_lacks_feed : (c : Command) → IsGood c → Lacks 10 (line_of c)
-line_lacks_feed c g = join_lacks 32 10 (words_of c) (λ (e : 32 ≡ 10). omega arith) (lack_feeds (words_of c) (words_solid c g))
+line_lacks_feed c g = join_lacks 32 10 (command_words c) (λ (e : 32 ≡ 10). omega arith) (lack_feeds (command_words c) (words_solid c g))
 
 -- each line has a word
 abbrev pub HasFirst : List (List ℕ) → Type 0
 HasFirst words = (w : List ℕ) × (ws : List (List ℕ)) × (words ≡ w ∷ ws)
 
-pub has_first : (c : Command) → HasFirst (words_of c)
+pub has_first : (c : Command) → HasFirst (command_words c)
 has_first (Change (Insert file at text)) = (codes "insert", file ∷ decimal at ∷ decimal (length text) ∷ [], refl)
 has_first (Change (Replace file at text)) = (codes "replace", file ∷ decimal at ∷ decimal (length text) ∷ [], refl)
 has_first (Change (Delete file at)) = (codes "delete", file ∷ decimal at ∷ [], refl)
@@ -230,7 +230,7 @@ same_edits xs ys s t g h l e = by (edits_begin xs ys s t g h (omega arith) e)
         on [] p q = (sym (p ∙ append-nil xs), q)
         on (z ∷ zs) p q = let n : length ys ≡ length xs + length (z ∷ zs) = ap length p ∙ length-append xs (z ∷ zs) in absurd (omega arith)
 
-pub same_command : (c d : Command) (s t : List ℕ) → IsGood c → IsGood d → words_of c ≡ words_of d → behind c ++ s ≡ behind d ++ t → (c ≡ d) × (s ≡ t)
+pub same_command : (c d : Command) (s t : List ℕ) → IsGood c → IsGood d → command_words c ≡ command_words d → behind c ++ s ≡ behind d ++ t → (c ≡ d) × (s ≡ t)
 same_command (Batch xs) (Batch ys) s t g h e k =
     let count_word : decimal (length xs) ≡ decimal (length ys) = cc in
     let counts : length xs ≡ length ys = decimal_injective (length xs) (length ys) (small_number _ g.0) (small_number _ h.0) count_word in
@@ -251,7 +251,7 @@ pub same_first : (c d : Command) (s t : List ℕ) → IsGood c → IsGood d → 
 same_first c d s t g h e =
     let lines : (line_of c ≡ line_of d) × (behind c ++ s ≡ behind d ++ t) = split_at 10 (line_of c) (line_of d) (behind c ++ s) (behind d ++ t) (line_lacks_feed c g) (line_lacks_feed d h)
     (sym (append_assoc (line_of c) (10 ∷ behind c) s) ∙ e ∙ append_assoc (line_of d) (10 ∷ behind d) t) in
-    let words : words_of c ≡ words_of d = same_words_by_line (words_of c) (words_of d) (has_first c) (has_first d) (words_solid c g) (words_solid d h) lines.0 in
+    let words : command_words c ≡ command_words d = same_words_by_line (command_words c) (command_words d) (has_first c) (has_first d) (words_solid c g) (words_solid d h) lines.0 in
     same_command c d s t g h words lines.1
 
 empty_line : (words : List (List ℕ)) → join_with_byte 32 words ≡ [] → slice_index (slice_index_or words 0 []) 0 ≡ 0
@@ -262,13 +262,13 @@ empty_line ((b ∷ w) ∷ v ∷ words) e = cc
 
 -- no line of a command is empty
 pub line_some : (c : Command) → line_of c ≡ [] → ⊥
-line_some (Change (Insert file at text)) e = let n : slice_index (slice_index_or (words_of (Change (Insert file at text))) 0 []) 0 ≡ 0 = empty_line (words_of (Change (Insert file at text))) e in omega arith
-line_some (Change (Replace file at text)) e = let n : slice_index (slice_index_or (words_of (Change (Replace file at text))) 0 []) 0 ≡ 0 = empty_line (words_of (Change (Replace file at text))) e in omega arith
-line_some (Change (Delete file at)) e = let n : slice_index (slice_index_or (words_of (Change (Delete file at))) 0 []) 0 ≡ 0 = empty_line (words_of (Change (Delete file at))) e in omega arith
-line_some (Change (Move file at to)) e = let n : slice_index (slice_index_or (words_of (Change (Move file at to))) 0 []) 0 ≡ 0 = empty_line (words_of (Change (Move file at to))) e in omega arith
-line_some (Batch edits) e = let n : slice_index (slice_index_or (words_of (Batch edits)) 0 []) 0 ≡ 0 = empty_line (words_of (Batch edits)) e in omega arith
-line_some Report e = let n : slice_index (slice_index_or (words_of Report) 0 []) 0 ≡ 0 = empty_line (words_of Report) e in omega arith
-line_some (Verdict label) e = let n : slice_index (slice_index_or (words_of (Verdict label)) 0 []) 0 ≡ 0 = empty_line (words_of (Verdict label)) e in omega arith
-line_some (Axioms label) e = let n : slice_index (slice_index_or (words_of (Axioms label)) 0 []) 0 ≡ 0 = empty_line (words_of (Axioms label)) e in omega arith
-line_some (Cites label) e = let n : slice_index (slice_index_or (words_of (Cites label)) 0 []) 0 ≡ 0 = empty_line (words_of (Cites label)) e in omega arith
-line_some (Users label) e = let n : slice_index (slice_index_or (words_of (Users label)) 0 []) 0 ≡ 0 = empty_line (words_of (Users label)) e in omega arith
+line_some (Change (Insert file at text)) e = let n : slice_index (slice_index_or (command_words (Change (Insert file at text))) 0 []) 0 ≡ 0 = empty_line (command_words (Change (Insert file at text))) e in omega arith
+line_some (Change (Replace file at text)) e = let n : slice_index (slice_index_or (command_words (Change (Replace file at text))) 0 []) 0 ≡ 0 = empty_line (command_words (Change (Replace file at text))) e in omega arith
+line_some (Change (Delete file at)) e = let n : slice_index (slice_index_or (command_words (Change (Delete file at))) 0 []) 0 ≡ 0 = empty_line (command_words (Change (Delete file at))) e in omega arith
+line_some (Change (Move file at to)) e = let n : slice_index (slice_index_or (command_words (Change (Move file at to))) 0 []) 0 ≡ 0 = empty_line (command_words (Change (Move file at to))) e in omega arith
+line_some (Batch edits) e = let n : slice_index (slice_index_or (command_words (Batch edits)) 0 []) 0 ≡ 0 = empty_line (command_words (Batch edits)) e in omega arith
+line_some Report e = let n : slice_index (slice_index_or (command_words Report) 0 []) 0 ≡ 0 = empty_line (command_words Report) e in omega arith
+line_some (Verdict label) e = let n : slice_index (slice_index_or (command_words (Verdict label)) 0 []) 0 ≡ 0 = empty_line (command_words (Verdict label)) e in omega arith
+line_some (Axioms label) e = let n : slice_index (slice_index_or (command_words (Axioms label)) 0 []) 0 ≡ 0 = empty_line (command_words (Axioms label)) e in omega arith
+line_some (Cites label) e = let n : slice_index (slice_index_or (command_words (Cites label)) 0 []) 0 ≡ 0 = empty_line (command_words (Cites label)) e in omega arith
+line_some (Users label) e = let n : slice_index (slice_index_or (command_words (Users label)) 0 []) 0 ≡ 0 = empty_line (command_words (Users label)) e in omega arith

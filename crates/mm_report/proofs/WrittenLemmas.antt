@@ -9,7 +9,7 @@ use Rattle.mm_frame.specs.Language.Base.{BaseView, IsOfFiles, said_at}
 use Rattle.mm_frame.specs.Language.Item.{Item, passed}
 use Rattle.mm_frame.specs.Language.Laws.{FilesHaveOneBase}
 use Rattle.mm_keep.specs.Language.Laws.{ItemsHaveFindings}
-use Rattle.mm_keep.specs.Language.Sessions.{SessionView, IsCount, IsFinding, IsLabel}
+use Rattle.mm_keep.specs.Language.Sessions.{SessionView, IsCount, IsFinding, IsLabelOfItem}
 use Rattle.mm_keep.specs.Language.Told.{Told, IsRightlyTold, Counts, counts}
 use Rattle.mm_report.specs.declared.stream.Writing.{Writing}
 use Rattle.mm_report.specs.Code.Written.{ToldUpTo, AreWrittenUpTo, AreAllWritten, FailsWithin}
@@ -64,7 +64,7 @@ within_is session count i alone counted less base is =
     let same : counted.0 ≡ base = alone session.files session.top counted.0 base counted.1 is in
     subst (λ (n : ℕ). i < n) (counted.2 ∙ ap (λ (view : BaseView). length view.said) same) less
 
-pub label_is : (session : SessionView) (i : ℕ) (label : Option (List ℕ)) → FilesHaveOneBase → IsLabel session i label → (base : BaseView) → IsOfFiles session.files session.top base → label ≡ (said_at base i).label
+pub label_is : (session : SessionView) (i : ℕ) (label : Option (List ℕ)) → FilesHaveOneBase → IsLabelOfItem session i label → (base : BaseView) → IsOfFiles session.files session.top base → label ≡ (said_at base i).label
 label_is session i label alone labelled base is =
     let same : labelled.0 ≡ base = alone session.files session.top labelled.0 base labelled.1 is in
     labelled.2 ∙ ap (λ (view : BaseView). (said_at view i).label) same

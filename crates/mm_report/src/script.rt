@@ -2,7 +2,7 @@
 
 ghost use Rattle.std.specs.Prelude.{◌≡◌, ◌≤◌, ◌+◌, ℕ, List, Option, true, OnOk, IfErr, IfOk, IfSome, IsErrOf};
 ghost use Rattle.mm_keep.specs.Language.Sessions.{SessionView};
-ghost use Rattle.mm_report.specs.Code.Answered.{HasAnswered, GoesOn, StopsScript};
+ghost use Rattle.mm_report.specs.Code.Answered.{HasAnswered, AnswersSoFar, StopsScript};
 ghost use Rattle.mm_report.specs.Code.Growing.{to_come};
 ghost use Rattle.mm_report.specs.Code.Pending.{pending};
 ghost use Rattle.mm_report.specs.declared.script.ScriptError.TheVariants as errors;
@@ -83,7 +83,7 @@ fn answer_next<R: Read, W: Write>(
 ) -> Result<bool, ScriptError>
     ensures ok { (begun : SessionView) (all before : Option (List ℕ))
         → HasAnswered begun session.old all (unread R.remaining reading.old) before (written W.contents writing.old) (pending input.old)
-        → IfOk result (GoesOn begun session.new all (unread R.remaining reading.new) before (written W.contents writing.new) (pending input.new)) }
+        → IfOk result (AnswersSoFar begun session.new all (unread R.remaining reading.new) before (written W.contents writing.new) (pending input.new)) }
     ensures err { (begun : SessionView) (all before : Option (List ℕ))
         → HasAnswered begun session.old all (unread R.remaining reading.old) before (written W.contents writing.old) (pending input.old)
         → IfErr result (StopsScript R.remaining W.contents begun session.new all reading.new before writing.new) }

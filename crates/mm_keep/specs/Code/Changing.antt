@@ -11,7 +11,7 @@ use Rattle.mm_frame.specs.Language.Base.{BaseView, IsOfFiles}
 use Rattle.mm_frame.specs.declared.base.Base.{Base}
 use Rattle.mm_proof.specs.Language.Work.{Judgement}
 use Rattle.mm_keep.specs.Code.KeptSession.{AreChecked}
-use Rattle.mm_keep.specs.Code.Next.{GoesOn, HasTop, IsBuilt}
+use Rattle.mm_keep.specs.Code.Next.{KeepsOrRuns, HasTop, IsBuilt}
 use Rattle.mm_keep.specs.Language.Sessions.{SessionView}
 use Rattle.mm_keep.specs.declared.keeping.Next.{Next}
 
@@ -47,7 +47,7 @@ pub record CanTake
   pub old_checked : AreChecked old checked
   pub base : BaseView
   pub built : IsBuilt names after top next.base base
-  pub goes_on : GoesOn old base next
+  pub goes_on : KeepsOrRuns old base next
 
 -- for some files of before
 abbrev pub HasTaking : FilesView → List Undo → List (Option Judgement) → Next → Type 0

@@ -35,7 +35,7 @@ abbrev pub HasOld : List (List ℕ) → FilesView → Base → Type 0
 HasOld names files code = (base : BaseView) × IsOldIn names files code base
 
 -- each theorem of the new base keeps what was checked before, or is run
-pub record GoesOn (old base : BaseView) (next : Next) : Type 0 where
+pub record KeepsOrRuns (old base : BaseView) (next : Next) : Type 0 where
   pub planned : ArePlanned old base next.plan.items
   pub ran : AreRunBy base next.plan.items next.checked.items
   pub count : length next.checked.items ≡ length next.plan.items
@@ -52,7 +52,7 @@ pub record RunsAll (base : BaseView) (next : Next) : Type 0 where
 pub record IsNext (names : List (List ℕ)) (files : FilesView) (top : List ℕ) (old : BaseView) (next : Next) : Type 0 where
   pub base : BaseView
   pub built : IsBuilt names files top next.base base
-  pub goes_on : GoesOn old base next
+  pub goes_on : KeepsOrRuns old base next
 
 pub record IsFirst (names : List (List ℕ)) (files : FilesView) (top : List ℕ) (next : Next) : Type 0 where
   pub base : BaseView

@@ -3,7 +3,7 @@ use Rattle.std.specs.Prelude.{◌≡◌, ◌<◌, ℕ, true, Option, Some, List,
 use Rattle.mm_store.specs.Language.FilesView.{FilesView}
 use Rattle.mm_frame.specs.Language.Base.{BaseView, IsOfFiles, said_at, is_framed_at, is_proof_at}
 use Rattle.mm_proof.specs.Language.Work.{Recorded}
-use Rattle.mm_keep.specs.Language.Citations.{Cites, IsAxiomOf}
+use Rattle.mm_keep.specs.Language.Citations.{CitesItem, IsAxiomOf}
 use Rattle.mm_keep.specs.Language.Runs.{AreThose, AreRunsOf, AreStepsOf}
 use Rattle.mm_keep.specs.Language.Told.{Told, IsRightlyTold, AreRightlyTold, Counts, counts}
 
@@ -25,8 +25,8 @@ abbrev pub HasItem : SessionView → ℕ → Type 0
 HasItem session i = OfItems session (λ base. i < length base.said)
 
 -- the item with this number has this label, or none
-abbrev pub IsLabel : SessionView → ℕ → Option (List ℕ) → Type 0
-IsLabel session i label = OfItems session (λ base. label ≡ (said_at base i).label)
+abbrev pub IsLabelOfItem : SessionView → ℕ → Option (List ℕ) → Type 0
+IsLabelOfItem session i label = OfItems session (λ base. label ≡ (said_at base i).label)
 
 -- this is told rightly of the item with this number
 abbrev pub IsFinding : SessionView → ℕ → Told → Type 0
@@ -53,11 +53,11 @@ AreNumbersOf session label stands numbers =
 
 -- the items that it cites
 abbrev pub AreCitesOf : SessionView → List ℕ → List ℕ → Type 0
-AreCitesOf session label numbers = AreNumbersOf session label (λ base i k. Cites base i k) numbers
+AreCitesOf session label numbers = AreNumbersOf session label (λ base i k. CitesItem base i k) numbers
 
 -- the items that cite it
 abbrev pub AreUsersOf : SessionView → List ℕ → List ℕ → Type 0
-AreUsersOf session label numbers = AreNumbersOf session label (λ base i k. Cites base k i) numbers
+AreUsersOf session label numbers = AreNumbersOf session label (λ base i k. CitesItem base k i) numbers
 
 -- its axioms
 abbrev pub AreAxiomsOf : SessionView → List ℕ → List ℕ → Type 0

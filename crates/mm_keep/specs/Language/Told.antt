@@ -56,21 +56,21 @@ pub record IsAxiom (view : BaseView) (n : ℕ) : Type 0 where
   pub kind : (said_at view n).kind ≡ Axiom
 
 -- it is a sound `$p`, and this is the verdict on its proof
-pub record HasVerdict (view : BaseView) (n : ℕ) (verdict : Verdict) : Type 0 where
+pub record HasProofVerdict (view : BaseView) (n : ℕ) (verdict : Verdict) : Type 0 where
   pub proof : is_proof_at view n ≡ true
   pub is_verdict : IsVerdictAt view n verdict
 
 -- it is one whose proof has this verdict at a spot, and the spot has this place
 pub record HasVerdictShown (files : FilesView) (view : BaseView) (n : ℕ) (verdict : Spot → Verdict) (at : At) : Type 0 where
   pub spot : Spot
-  pub has_verdict : HasVerdict view n (verdict spot)
+  pub has_verdict : HasProofVerdict view n (verdict spot)
   pub is_place : IsPlaceOfSpot files view n spot at
 
 -- what is told rightly of the item with this number
 abbrev pub IsRightlyTold : FilesView → BaseView → ℕ → Told → Type 0
 IsRightlyTold files view n Quiet = IsQuiet view n
 IsRightlyTold files view n AnAxiom = IsAxiom view n
-IsRightlyTold files view n Proved = HasVerdict view n verdicts.Proved
+IsRightlyTold files view n Proved = HasProofVerdict view n verdicts.Proved
 IsRightlyTold files view n (Incomplete at) = HasVerdictShown files view n verdicts.Incomplete at
 IsRightlyTold files view n (Wrong number at) = HasVerdictShown files view n (verdicts.Wrong number) at
 IsRightlyTold files view n (Fault number shown) = IsFaultOf files view n number shown

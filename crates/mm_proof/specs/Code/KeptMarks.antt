@@ -10,20 +10,20 @@ use Rattle.mm_frame.specs.declared.base.Base.{Base}
 use Rattle.mm_frame.specs.declared.base.Resolved as answer
 use Rattle.mm_frame.specs.declared.base.Resolved.TheVariants as answers
 use Rattle.mm_proof.specs.Language.BaseLabels.{setting_at}
-use Rattle.mm_proof.specs.Language.BaseMarks.{Mark, AreMarks, IsMark, mark_at}
+use Rattle.mm_proof.specs.Language.BaseMarks.{ItemMark, AreMarks, IsMark, mark_at}
 use Rattle.mm_proof.specs.Language.SameProof.{IsSameLabel, labels_named}
 use Rattle.mm_proof.specs.declared.marks.Compared.{Compared}
 use Rattle.mm_proof.specs.declared.marks.Mark as code
 use Rattle.mm_proof.specs.declared.marks.Marks.TheInside.{Inside}
 
 -- what is kept of an item
-abbrev pub kept_mark : code.Mark → Mark
+abbrev pub kept_mark : code.Mark → ItemMark
 kept_mark mark = record { old = mark.old; frame = mark.frame; pairs = mark.pairs }
 
-abbrev pub kept_marks : List code.Mark → List Mark
+abbrev pub kept_marks : List code.Mark → List ItemMark
 kept_marks marks = map kept_mark marks
 
-abbrev pub marks_of : Inside → List Mark
+abbrev pub marks_of : Inside → List ItemMark
 marks_of inside = kept_marks inside.marks.items
 
 -- it is so of what an old base and a new one answer, both by the same names
@@ -35,7 +35,7 @@ abbrev pub OfBasesBy : List (List ℕ) → Base → Base → (BaseView → BaseV
 OfBasesBy names old new holds = (base copy : BaseView) → IsBaseBy names base old → IsBaseBy names copy new → holds base copy
 
 -- what is told of them is what stays of the old base in the new one
-abbrev pub AreMarksOf : List (List ℕ) → Base → Base → List Mark → Type 0
+abbrev pub AreMarksOf : List (List ℕ) → Base → Base → List ItemMark → Type 0
 AreMarksOf names old new marks = OfBasesBy names old new (λ base copy. AreMarks base copy marks)
 
 -- this is the item that carries the label, or none does
@@ -68,7 +68,7 @@ IsComparedOf old new i j None = OfBases old new (λ base copy. AreTheorems base 
 IsComparedOf old new i j (Some c) = OfBases old new (λ base copy. AreTheorems base copy i j × ((c.same ≡ true) ↔ SharePairs base copy i j))
 
 -- the marks of so many items are kept
-pub record AreMarked (base copy : BaseView) (count : ℕ) (marks : List Mark) : Type 0 where
+pub record AreMarked (base copy : BaseView) (count : ℕ) (marks : List ItemMark) : Type 0 where
   pub count_is : length marks ≡ count
   pub each : (j : ℕ) → j < count → IsMark base copy j (mark_at marks j)
 

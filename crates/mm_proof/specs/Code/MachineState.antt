@@ -2,11 +2,11 @@
 use Rattle.std.specs.Prelude.{length, map}
 use Rattle.mm_frame.specs.Language.Frame.{Symbol}
 use Rattle.mm_proof.specs.Language.Machine.{State}
-use Rattle.mm_proof.specs.Code.Ranges.{IsWhole, expressions}
+use Rattle.mm_proof.specs.Code.Ranges.{AreOrderedRanges, expressions}
 use Rattle.mm_proof.specs.declared.machine.Machine.{Machine}
 
 abbrev pub state_of : {S : Type 0} → (S → Symbol) → Machine S → State
 state_of means m = expressions (map means m.symbols.items) m.stack.items m.saved.items
 
 abbrev pub AreRanges : {S : Type 0} → Machine S → Type 0
-AreRanges m = IsWhole (length m.symbols.items) m.kept m.stack.items m.saved.items
+AreRanges m = AreOrderedRanges (length m.symbols.items) m.kept m.stack.items m.saved.items

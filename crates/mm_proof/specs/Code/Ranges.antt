@@ -6,7 +6,7 @@ use Rattle.mm_proof.specs.declared.pattern.Entry.{Entry}
 use Rattle.mm_proof.specs.Code.Flat.{read_all, IsWithin}
 
 -- the ranges lie within the list, those that are saved in its front, and no entry reaches into what a later one owns
-pub record IsWhole (n kept : ℕ) (stack saved : List Entry) : Type 0 where
+pub record AreOrderedRanges (n kept : ℕ) (stack saved : List Entry) : Type 0 where
   pub kept_within : kept ≤ n
   pub within : All (IsWithin n) stack
   pub floors_within : All (λ e. e.floor ≤ n) stack

@@ -6,16 +6,16 @@ use Rattle.mm_frame.specs.Language.Framing.{active_pairs}
 
 -- What is told of an item: the number of the sound item of the old base that has its label, whether both are assertions with the same
 -- frame, and whether both are theorems with the same active pairs.
-pub record Mark : Type 0 where
+pub record ItemMark : Type 0 where
   pub old : Option ℕ
   pub frame : Bool
   pub pairs : Bool
 
 -- nothing stays
-abbrev pub no_mark : Mark
+abbrev pub no_mark : ItemMark
 no_mark = record { old = None; frame = false; pairs = false }
 
-abbrev pub mark_at : List Mark → ℕ → Mark
+abbrev pub mark_at : List ItemMark → ℕ → ItemMark
 mark_at marks j = slice_index_or marks j no_mark
 
 -- item i of the old base and item j of the new one are sound and have one label
@@ -42,12 +42,12 @@ pub record KeepsPairs (old new : BaseView) (j : ℕ) : Type 0 where
   pub same : AreSamePairs (active_pairs (before old i)) (active_pairs (before new j))
 
 -- the mark tells this of item j of the new base
-pub record IsMark (old new : BaseView) (j : ℕ) (mark : Mark) : Type 0 where
+pub record IsMark (old new : BaseView) (j : ℕ) (mark : ItemMark) : Type 0 where
   pub old_is : (i : ℕ) → (mark.old ≡ Some i) ↔ HaveOneLabel old new i j
   pub frame_is : (mark.frame ≡ true) ↔ KeepsFrame old new j
   pub pairs_is : (mark.pairs ≡ true) ↔ KeepsPairs old new j
 
 -- the marks tell this of each item of the new base
-pub record AreMarks (old new : BaseView) (marks : List Mark) : Type 0 where
+pub record AreMarks (old new : BaseView) (marks : List ItemMark) : Type 0 where
   pub count : length marks ≡ length new.said
   pub each : (j : ℕ) → j < length new.said → IsMark old new j (mark_at marks j)

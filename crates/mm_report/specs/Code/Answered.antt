@@ -87,9 +87,9 @@ pub record HasAnswered (old new : SessionView) (unread left before after : Optio
   pub rest : first.rest ≡ pending
 
 -- where more may follow, it stays so; else the whole script is answered
-abbrev pub GoesOn : SessionView → SessionView → Option (List ℕ) → Option (List ℕ) → Option (List ℕ) → Option (List ℕ) → List ℕ → Bool → Type 0
-GoesOn old new all left before after pending true = HasAnswered old new all left before after pending
-GoesOn old new all left before after pending false = IfSome all (λ script. AnswersScript old new script Done before after)
+abbrev pub AnswersSoFar : SessionView → SessionView → Option (List ℕ) → Option (List ℕ) → Option (List ℕ) → Option (List ℕ) → List ℕ → Bool → Type 0
+AnswersSoFar old new all left before after pending true = HasAnswered old new all left before after pending
+AnswersSoFar old new all left before after pending false = IfSome all (λ script. AnswersScript old new script Done before after)
 
 -- why a script is not answered to its end, and how far it is
 abbrev pub StopsScript : {R W : Type 0} → (R → Option (List ℕ)) → (W → Option (List ℕ)) → SessionView → SessionView → Option (List ℕ) → Reading R

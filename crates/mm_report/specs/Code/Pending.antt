@@ -62,7 +62,7 @@ IsCommandIn bytes (code.Cites label) command = IsWithin bytes label × (command 
 IsCommandIn bytes (code.Users label) command = IsWithin bytes label × (command ≡ Users (bytes_in bytes label))
 
 -- the bytes begin with the command, and so many are its
-pub record IsWhole (bytes : List ℕ) (command : Command) (end : ℕ) : Type 0 where
+pub record IsWholeCommand (bytes : List ℕ) (command : Command) (end : ℕ) : Type 0 where
   pub within : end ≤ length bytes
   pub are : bytes ≡ command_bytes command ++ drop end bytes
 
@@ -73,7 +73,7 @@ pub record IsLast (bytes : List ℕ) (left : Option (List ℕ)) (command : Comma
   pub are : bytes ++ 10 ∷ [] ≡ command_bytes command
 
 abbrev pub IsWholeOrLast : List ℕ → Option (List ℕ) → Next → Command → Type 0
-IsWholeOrLast bytes left next command = ((next.fed ≡ true) × IsWhole bytes command next.end) ⊎ ((next.fed ≡ false) × IsLast bytes left command)
+IsWholeOrLast bytes left next command = ((next.fed ≡ true) × IsWholeCommand bytes command next.end) ⊎ ((next.fed ≡ false) × IsLast bytes left command)
 
 -- a command begins these bytes, and it is whole
 pub record IsNext (bytes : List ℕ) (left : Option (List ℕ)) (next : Next) : Type 0 where

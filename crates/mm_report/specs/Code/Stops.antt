@@ -2,12 +2,12 @@
 use Rattle.std.specs.Prelude.{◌≡◌, ◌≢◌, ◌<◌, ℕ, Some, List, [], ◌∷◌, ◌++◌, length, codes, decimal, replicate}
 use Rattle.std.specs.List.{AllByRecursion, flat_map, join_with_byte}
 use Rattle.mm_store.specs.Language.Edits.{Asked, edited_text}
-use Rattle.mm_report.specs.Language.Script.{Command, End, EndsSo, IsReading, IsReadSoFar, IsGood, IsGoodEdit, AreGoodEdits, IsNumber}
+use Rattle.mm_report.specs.Language.Script.{Command, End, EndsSo, IsLongestReading, IsReadSoFar, IsGood, IsGoodEdit, AreGoodEdits, IsNumber}
 use Rattle.mm_report.specs.Language.Script.{Listed, listed_bytes, line_of, edit_line}
 
 -- these bytes begin with no command and no empty line, and end the script so
 pub record StopsSo (bytes : List ℕ) (end : End) : Type 0 where
-  pub reading : IsReading bytes [] bytes
+  pub reading : IsLongestReading bytes [] bytes
   pub ends : EndsSo bytes end
 
 -- no command and no empty line is whole in these bytes, whatever follows them

@@ -18,7 +18,7 @@ use Rattle.mm_keep.specs.Language.Sessions.{SessionView, OfItems, HasAssertion, 
 use Rattle.mm_keep.specs.Language.Told.{Told, AnAxiom, Proved, Incomplete, Wrong}
 use Rattle.mm_report.specs.Language.Report.{names_of, incomplete_line, wrong_line, IsReport}
 use Rattle.mm_report.specs.Language.Script.{Command, Change, Batch, Report, Verdict, Axioms, Cites, Users, Entry, commands_of}
-use Rattle.mm_report.specs.Language.Script.{End, EndsSo, IsReading}
+use Rattle.mm_report.specs.Language.Script.{End, EndsSo, IsLongestReading}
 
 -- the number of a fault of a text as it is written
 abbrev pub text_code : TextNumber → List ℕ
@@ -143,6 +143,6 @@ AreAnswers old (command ∷ commands) answers new =
 pub record IsScriptAnswer (old : SessionView) (script answers : List ℕ) (new : SessionView) (end : End) : Type 0 where
   pub entries : List Entry
   pub rest : List ℕ
-  pub reading : IsReading script entries rest
+  pub reading : IsLongestReading script entries rest
   pub answered : AreAnswers old (commands_of entries) answers new
   pub ends : EndsSo rest end

@@ -27,21 +27,21 @@ edit_words (Delete file at) = codes "delete" ∷ file ∷ decimal at ∷ []
 edit_words (Move file at to) = codes "move" ∷ file ∷ decimal at ∷ decimal to ∷ []
 
 -- the words of the line of a command
-abbrev pub words_of : Command → List (List ℕ)
-words_of (Change edit) = edit_words edit
-words_of (Batch edits) = codes "batch" ∷ decimal (length edits) ∷ []
-words_of Report = codes "report" ∷ []
-words_of (Verdict label) = codes "verdict" ∷ label ∷ []
-words_of (Axioms label) = codes "axioms" ∷ label ∷ []
-words_of (Cites label) = codes "cites" ∷ label ∷ []
-words_of (Users label) = codes "users" ∷ label ∷ []
+abbrev pub command_words : Command → List (List ℕ)
+command_words (Change edit) = edit_words edit
+command_words (Batch edits) = codes "batch" ∷ decimal (length edits) ∷ []
+command_words Report = codes "report" ∷ []
+command_words (Verdict label) = codes "verdict" ∷ label ∷ []
+command_words (Axioms label) = codes "axioms" ∷ label ∷ []
+command_words (Cites label) = codes "cites" ∷ label ∷ []
+command_words (Users label) = codes "users" ∷ label ∷ []
 
 -- a line: its words, with one space between each two
 abbrev pub edit_line : Asked → List ℕ
 edit_line edit = join_with_byte 32 (edit_words edit)
 
 abbrev pub line_of : Command → List ℕ
-line_of command = join_with_byte 32 (words_of command)
+line_of command = join_with_byte 32 (command_words command)
 
 -- a text, if there is one, and a line feed behind it
 abbrev pub ended_text : Option (List ℕ) → List ℕ
@@ -127,8 +127,8 @@ IsGoodEntry (Given command) = IsGood command
 abbrev pub AreGood : List Entry → Type 0
 AreGood entries = AllByRecursion IsGoodEntry entries
 
-abbrev pub bytes_of : List Entry → List ℕ
-bytes_of entries = flat_map entry_bytes entries
+abbrev pub entries_bytes : List Entry → List ℕ
+entries_bytes entries = flat_map entry_bytes entries
 
 -- the command of an entry, if it has one
 abbrev pub command_of : Entry → Option Command
@@ -145,22 +145,22 @@ pub record LacksFeed (script : List ℕ) (entries : List Entry) : Type 0 where
   pub last : Command
   pub are : entries ≡ front ++ Given last ∷ []
   pub in_line : EndsInLine last
-  pub is : script ++ 10 ∷ [] ≡ bytes_of entries
+  pub is : script ++ 10 ∷ [] ≡ entries_bytes entries
 
 -- the script is commands and empty lines and then a rest; at its end a line may lack its line feed, if no text has to follow
-pub record IsDivided (script : List ℕ) (entries : List Entry) (rest : List ℕ) : Type 0 where
+pub record HasEntries (script : List ℕ) (entries : List Entry) (rest : List ℕ) : Type 0 where
   pub good : AreGood entries
-  pub joined : (script ≡ bytes_of entries ++ rest) ⊎ (LacksFeed script entries × (rest ≡ []))
+  pub joined : (script ≡ entries_bytes entries ++ rest) ⊎ (LacksFeed script entries × (rest ≡ []))
 
 -- the longest list of commands and empty lines with which the script begins, and what is left
-pub record IsReading (script : List ℕ) (entries : List Entry) (rest : List ℕ) : Type 0 where
-  pub divided : IsDivided script entries rest
-  pub longest : (others : List Entry) (left : List ℕ) → IsDivided script others left → length others ≤ length entries
+pub record IsLongestReading (script : List ℕ) (entries : List Entry) (rest : List ℕ) : Type 0 where
+  pub divided : HasEntries script entries rest
+  pub longest : (others : List Entry) (left : List ℕ) → HasEntries script others left → length others ≤ length entries
 
 -- the bytes are these entries, each with all its line feeds, and then a rest
 pub record AreRead (bytes : List ℕ) (entries : List Entry) (rest : List ℕ) : Type 0 where
   pub good : AreGood entries
-  pub joined : bytes ≡ bytes_of entries ++ rest
+  pub joined : bytes ≡ entries_bytes entries ++ rest
 
 -- and these are the longest such list: what is complete in these bytes, whatever follows them
 pub record IsReadSoFar (bytes : List ℕ) (entries : List Entry) (rest : List ℕ) : Type 0 where

@@ -4,11 +4,11 @@ use Rattle.mm_store.specs.Language.FilesView.{plain}
 use Rattle.mm_frame.specs.Language.Base.{BaseView, IsOfFiles}
 use Rattle.mm_keep.specs.Language.Sessions.{SessionView}
 use Rattle.mm_report.specs.Language.Answers.{AreAnswers, IsScriptAnswer}
-use Rattle.mm_report.specs.Language.Script.{Entry, End, EndsSo, commands_of, AreRead, IsDivided, IsReading, IsReadSoFar}
+use Rattle.mm_report.specs.Language.Script.{Entry, End, EndsSo, commands_of, AreRead, HasEntries, IsLongestReading, IsReadSoFar}
 
 -- A script is read in one way.
 abbrev pub OneReading : Type 0
-OneReading = (script : List ℕ) (a b : List Entry) (s t : List ℕ) → IsReading script a s → IsReading script b t → (a ≡ b) × (s ≡ t)
+OneReading = (script : List ℕ) (a b : List Entry) (s t : List ℕ) → IsLongestReading script a s → IsLongestReading script b t → (a ≡ b) × (s ≡ t)
 
 -- What is left of it ends it in one way at most.
 abbrev pub OneEnd : Type 0
@@ -16,7 +16,7 @@ OneEnd = (rest : List ℕ) (a b : End) → EndsSo rest a → EndsSo rest b → a
 
 -- What is read of some bytes stays so, whatever follows them: it is a beginning of the reading of them all.
 abbrev pub ReadingGoesOn : Type 0
-ReadingGoesOn = (bytes more : List ℕ) (entries all : List Entry) (rest left : List ℕ) → IsReadSoFar bytes entries rest → IsReading (bytes ++ more) all left
+ReadingGoesOn = (bytes more : List ℕ) (entries all : List Entry) (rest left : List ℕ) → IsReadSoFar bytes entries rest → IsLongestReading (bytes ++ more) all left
     → (later : List Entry) × (all ≡ entries ++ later)
 
 -- It is one list.
@@ -25,7 +25,7 @@ OneReadSoFar = (bytes : List ℕ) (a b : List Entry) (s t : List ℕ) → IsRead
 
 -- Commands and empty lines that leave nothing of a script are its reading.
 abbrev pub CommandsLeaveNothing : Type 0
-CommandsLeaveNothing = (script : List ℕ) (entries : List Entry) → IsDivided script entries [] → IsReading script entries []
+CommandsLeaveNothing = (script : List ℕ) (entries : List Entry) → HasEntries script entries [] → IsLongestReading script entries []
 
 -- the files of the session give items
 abbrev pub HasItems : SessionView → Type 0
@@ -51,7 +51,7 @@ OneScriptAnswer = (session other new copy : SessionView) (script answers copies 
 
 -- bytes begin with these commands and empty lines; where no more bytes follow, the last line may lack its line feed
 abbrev pub AreTheFirst : List ℕ → List ℕ → List Entry → List ℕ → Type 0
-AreTheFirst bytes more entries rest = AreRead bytes entries rest ⊎ ((more ≡ []) × IsDivided bytes entries rest)
+AreTheFirst bytes more entries rest = AreRead bytes entries rest ⊎ ((more ≡ []) × HasEntries bytes entries rest)
 
 -- The answers to the first commands of a script are a beginning of all its answers.
 abbrev pub AnswersBegin : Type 0
@@ -61,7 +61,7 @@ AnswersBegin = (session other new final : SessionView) (bytes more answers all :
 
 -- the script is read so, and what is left of it ends it so
 pub record IsReadSo (script : List ℕ) (entries : List Entry) (rest : List ℕ) (end : End) : Type 0 where
-  pub reading : IsReading script entries rest
+  pub reading : IsLongestReading script entries rest
   pub ends : EndsSo rest end
 
 -- Each script has a reading, and ends in some way.

@@ -3,7 +3,7 @@ use Rattle.std.specs.Prelude.{◌⊎◌, ℕ, Option, List}
 use Rattle.std.specs.Io.KnownBytes.{Appends, Consumes, IsAtEnd}
 use Rattle.mm_keep.specs.Language.Sessions.{SessionView}
 use Rattle.mm_report.specs.Language.Answers.{AreAnswers, IsScriptAnswer}
-use Rattle.mm_report.specs.Language.Script.{End, Entry, commands_of, AreRead, IsDivided, IsReadSoFar}
+use Rattle.mm_report.specs.Language.Script.{End, Entry, commands_of, AreRead, HasEntries, IsReadSoFar}
 use Rattle.mm_report.specs.Language.Stream.{AppendsPart}
 
 -- the answers of the whole script are written, and nothing else
@@ -36,7 +36,7 @@ pub record AnswersFirst (old new : SessionView) (unread left before after : Opti
 
 -- the bytes are these entries and then a rest; where no byte is left to read, the last line may lack its line feed
 abbrev pub AreFirst : Option (List ℕ) → List ℕ → List Entry → List ℕ → Type 0
-AreFirst left bytes entries rest = AreRead bytes entries rest ⊎ (IsAtEnd left × IsDivided bytes entries rest)
+AreFirst left bytes entries rest = AreRead bytes entries rest ⊎ (IsAtEnd left × HasEntries bytes entries rest)
 
 -- of the bytes that were read, the first commands are answered, and these answers or a beginning of them are written: the session is that
 -- behind them all, the one included whose answer is not whole

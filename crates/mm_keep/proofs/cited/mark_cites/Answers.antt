@@ -1,7 +1,7 @@
 use Rattle.std.proofs.Common.{◌≡◌, ◌<◌, ℕ, Some, None, List, length, ◌∙◌, subst₂, arith}
 use Rattle.mm_frame.specs.Language.Base.{said_at}
 use Rattle.mm_proof.specs.Language.VerdictAt.{cites_at}
-use Rattle.mm_keep.specs.Language.Citations.{Cites}
+use Rattle.mm_keep.specs.Language.Citations.{CitesItem}
 use Rattle.mm_keep.specs.Code.Cited.{HasLabelAmong, MarksMore}
 use Rattle.mm_keep.proofs.CitedItems.{among_earlier, checked_at, cites_rising, marks_cited, none_cited}
 use Rattle.mm_keep.proofs.CitedWords.{marks_same}
@@ -54,4 +54,4 @@ returns-in_default c names view is are =
     let j = c.args.j in
     let within : j < length view.said = omega (arith, c.requires.item.4, c.requires.item.3.count, are.count) in
     let none = checked_at view c.args.checked.now j c.index-checked-j.result None are within c.index-checked-j.is c.in_default.is in
-    marks_same (Cites view j) c.args.marks.now (λ k. none_cited view j k none)
+    marks_same (CitesItem view j) c.args.marks.now (λ k. none_cited view j k none)

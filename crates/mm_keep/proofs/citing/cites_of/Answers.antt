@@ -1,5 +1,5 @@
 use Rattle.std.proofs.Common.{◌<◌, Bool, List, drop, length, sym, ap, ◌∙◌, subst₂, arith}
-use Rattle.mm_keep.specs.Language.Citations.{Cites}
+use Rattle.mm_keep.specs.Language.Citations.{CitesItem}
 use Rattle.mm_keep.specs.Code.Cited.{MarksMore}
 use Rattle.mm_keep.proofs.ChainLemmas.{map_ok, cites_marked, take_front}
 use Rattle.mm_keep.proofs.citing.cites_of.Goals as goal
@@ -15,5 +15,5 @@ returns c = map_ok c.marked.result _ _ (λ numbers those names view is are.
     let cited = c.mark_cites.ensures names view is are in
     let long = sym c.deref_mut.ensures.len ∙ sym cited.count in
     let left = c.deref.ensures.value ∙ take_front after (drop (length after) fresh) c.in_ok-marks.marks.len long in
-    let more = subst₂ (λ (old marks : List Bool). MarksMore (Cites view c.args.i) old marks) c.deref_mut.ensures.value (sym left) cited in
+    let more = subst₂ (λ (old marks : List Bool). MarksMore (CitesItem view c.args.i) old marks) c.deref_mut.ensures.value (sym left) cited in
     cites_marked view c.args.i fresh c.deref.result.now numbers.items within c.in_ok-marks.ensures.count c.in_ok-marks.ensures.none more those) c.marked.ensures

@@ -1,6 +1,6 @@
 use Rattle.std.proofs.Common.{◌≡◌, ◌+◌, ◌-◌, List, Bool, length, sym, subst, ◌∙◌, arith}
 use Rattle.std.proofs.lemmas.Bool.{false≢true}
-use Rattle.mm_keep.specs.Language.Citations.{Cites}
+use Rattle.mm_keep.specs.Language.Citations.{CitesItem}
 use Rattle.mm_keep.specs.Code.Cited.{IsMarked, MarksMore}
 use Rattle.mm_keep.proofs.ChainLemmas.{AreBehind, behind_none, behind_skip, behind_more, behind_all}
 use Rattle.mm_keep.proofs.citing.mark_behind.Goals.{then-marks-j, else-marks-j}
@@ -24,9 +24,9 @@ loop-n-preserved c names view is are front e =
     let behind = c.loop-n.invariant names view is are (front + 1) (omega (arith, e)) in
     elim c.if-marks-j.branch [
       | then-marks-j w ↦
-          let more = subst (MarksMore (Cites view j) c.loop-n.marks) (sym w.marks-is) (w.mark_cites.ensures names view is are) in
+          let more = subst (MarksMore (CitesItem view j) c.loop-n.marks) (sym w.marks-is) (w.mark_cites.ensures names view is are) in
           behind_more view c.args.marks.now c.loop-n.marks c.if-marks-j.marks front (front + 1) (omega arith) behind (subst (IsMarked c.loop-n.marks) same w.if-marks-j.true)
-          (subst (λ i. MarksMore (Cites view i) c.loop-n.marks c.if-marks-j.marks) same more)
+          (subst (λ i. MarksMore (CitesItem view i) c.loop-n.marks c.if-marks-j.marks) same more)
       | else-marks-j w ↦
           subst (λ (marks : List Bool). AreBehind view c.args.marks.now marks front) (sym w.marks-is)
           (behind_skip view c.args.marks.now c.loop-n.marks front (front + 1) (omega arith) behind (λ m. false≢true (sym w.if-marks-j.false ∙ subst (IsMarked c.loop-n.marks) (sym same) m)))

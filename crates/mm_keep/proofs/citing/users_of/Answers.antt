@@ -1,7 +1,7 @@
 use Rattle.std.proofs.Common.{◌≡◌, ◌+◌, ◌<◌, ℕ, length, sym, ap, subst, ◌∙◌, arith}
 use Rattle.std.proofs.lemmas.Bool.{false≢true}
 use Rattle.mm_frame.specs.Language.Base.{BaseView}
-use Rattle.mm_keep.specs.Language.Citations.{Cites}
+use Rattle.mm_keep.specs.Language.Citations.{CitesItem}
 use Rattle.mm_keep.specs.Language.Runs.{AreThose}
 use Rattle.mm_keep.proofs.ChainLemmas.{those_behind}
 use Rattle.mm_keep.proofs.CitedItems.{cites_earlier}
@@ -10,16 +10,16 @@ use Rattle.mm_keep.proofs.citing.users_of.Goals.{then-cites_label+in_ok-push, el
 use Rattle.mm_keep.proofs.citing.users_of.Goals as goal
 
 -- an item cites no later one
-none_before : (view : BaseView) (i k : ℕ) → k < i + 1 → Cites view k i → ⊥
+none_before : (view : BaseView) (i k : ℕ) → k < i + 1 → CitesItem view k i → ⊥
 none_before view i k l cites = let m = cites_earlier view k i cites in omega (arith, l, m)
 
 pub loop-j-init : goal.loop-j-init
 loop-j-init c names view is are label =
-    subst (AreThose (λ k. Cites view k c.args.i) (c.args.i + 1)) (sym c.new-numbers.ensures.items) (those_behind (λ k. Cites view k c.args.i) (c.args.i + 1) (none_before view c.args.i))
+    subst (AreThose (λ k. CitesItem view k c.args.i) (c.args.i + 1)) (sym c.new-numbers.ensures.items) (those_behind (λ k. CitesItem view k c.args.i) (c.args.i + 1) (none_before view c.args.i))
 
 pub loop-j-preserved : goal.loop-j-preserved
 loop-j-preserved c names view is are label =
-    let P : ℕ → Type 0 = λ k. Cites view k c.args.i in
+    let P : ℕ → Type 0 = λ k. CitesItem view k c.args.i in
     let those = c.loop-j.invariant names view is are label in
     let cited = c.cites_label.ensures names view is are c.args.i label in
     elim c.if-cites_label.branch [
@@ -36,7 +36,7 @@ returns c names view is are label =
     let count = c.count-j-end.ensures.count view (names, is.read_in.base) in
     let within = label.within in
     let e : c.loop-j.j ≡ length view.said = omega (arith, c.loop-j-test.false, c.loop-j.auto.j-end, count, within) in
-    subst (λ n. AreThose (λ k. Cites view k c.args.i) n c.loop-j.numbers.items) e (c.loop-j.invariant names view is are label)
+    subst (λ n. AreThose (λ k. CitesItem view k c.args.i) n c.loop-j.numbers.items) e (c.loop-j.invariant names view is are label)
 
 pub cites_label-requires : goal.cites_label-requires
 cites_label-requires c =
