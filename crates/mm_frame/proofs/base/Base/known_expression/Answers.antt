@@ -12,7 +12,7 @@ pub returns-clause-symbols : goal.returns-clause-symbols
 returns-clause-symbols c names base is shown =
     ap (symbols_of names) c.symbols.ensures
     ∙ same_Some _ _ (sym (expression_some names base c.args.i (expressions_of c.args.self.now) is.parts.symbols shown)
-        ∙ ap (λ b. cond b (Some (expression (before base c.args.i) (said_at base c.args.i))) None) shown)
+    ∙ ap (λ b. cond b (Some (expression (before base c.args.i) (said_at base c.args.i))) None) shown)
 
 pub returns-clause-numbered : goal.returns-clause-numbered
 returns-clause-numbered c names base is = subst (All (IsNumbered names)) (sym c.symbols.ensures) (is.parts.symbols.numbered c.args.i)
