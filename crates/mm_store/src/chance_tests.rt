@@ -195,6 +195,7 @@ fn is_settled(
 }
 
 /// The lists of the two files that are edited.
+#[derive(Drop)]
 struct Lists {
     top: Vec<Vec<u8>>,
     other: Vec<Vec<u8>>,
