@@ -117,21 +117,24 @@ fn a_failed_write_ends_a_script(rt: HostRuntime) -> Result<(), Fail> {
     Ok(())
 }
 
-/// Whether a script ends so whose answers go to a writer that takes one byte a call, and no more than so many.
+/// Whether a script ends so whose answers go to a writer that takes one byte a call, and no more than so many. Where these
+/// are all of an answer, it is the handing on that fails; behind it nothing is read.
 fn ends_slowly(alloc: Global, session: &mut Session, bytes: usize) -> bool {
     let mut reading = Reading::new(reader_of(b"report\nverdict th\n", 1));
     let mut writing = Writing::new(Slow::new(alloc, bytes));
     let ended = run_script(alloc, session, &mut reading, &mut writing);
     let written = writing.into_inner().taken;
-    let end = if bytes < SLOW.len() {
-        Err(ScriptError::Write)
-    } else {
-        Ok(())
+    let (end, calls) = match bytes {
+        0..=59 => (Err(ScriptError::Write), 7),
+        60..=69 => (Err(ScriptError::Write), 18),
+        _ => (Ok(()), 19),
     };
-    ended == end && written.as_slice() == &SLOW[..bytes.min(SLOW.len())]
+    ended == end
+        && reading.into_inner().calls == calls
+        && written.as_slice() == &SLOW[..bytes.min(SLOW.len())]
 }
 
-/// What is answered then.
+/// What is answered then; the first answer has 59 bytes.
 const SLOW: &[u8] = b"axioms 2 theorems 2 proved 2 incomplete 0 wrong 0 faults 0\nproved th\n";
 
 #[test]
@@ -146,8 +149,9 @@ fn answers_are_written_slowly(rt: HostRuntime) -> Result<(), Fail> {
     Ok(())
 }
 
-/// Commands, and what each is answered, as soon as it is whole: a byte a call, and the read behind it fails.
-const WHOLE: [(&[u8], &[u8]); 9] = [
+/// Commands, and what each is answered, as soon as it is whole; and, at the end, what is none yet, be it bad so far or to be
+/// refused, and is answered nothing. A byte a call, and the read behind it fails.
+const WHOLE: [(&[u8], &[u8]); 12] = [
     (b"\n\nreport\n", CLEAN),
     (b"verdict th\r\n", b"refused K01\n"),
     (b"axioms th\n", b"found 1\nmp\n"),
@@ -160,6 +164,9 @@ const WHOLE: [(&[u8], &[u8]); 9] = [
         b"batch 2\n\n\nmove a.mm 6 7\n\ninsert a.mm 0 2\n\n\n\n",
         b"refused 1 S04 0\n",
     ),
+    (b"bog", b""),
+    (b"verdict th\n ", b"proved th\n"),
+    (b"batch 2\ndelete a.mm 7\ndelete z.mm 0 ", b""),
 ];
 
 #[test]
@@ -177,20 +184,36 @@ fn answers_a_command_that_is_whole(rt: HostRuntime) -> Result<(), Fail> {
     Ok(())
 }
 
-/// How a script of two lines, a line a call, ends with a writer that fails, and how often it is read.
-fn read_until_failed(alloc: Global, session: &mut Session) -> (Result<(), ScriptError>, usize) {
-    let mut reading = Reading::new(reader_of(b"report\nverdict th\n", 7));
+/// How a script, so many bytes a call, ends with a writer that fails, and how often it is read.
+fn read_until_failed(
+    alloc: Global,
+    session: &mut Session,
+    script: &'static [u8],
+    most: usize,
+) -> (Result<(), ScriptError>, usize) {
+    let mut reading = Reading::new(reader_of(script, most));
     let mut writing = Writing::new(Broken::new(alloc, 1));
     let ended = run_script(alloc, session, &mut reading, &mut writing);
     (ended, reading.into_inner().calls)
 }
 
-/// Nothing is read behind the first command.
+/// Two edits.
+const DELETIONS: &[u8] = b"delete a.mm 7\ndelete a.mm 6\n";
+
+/// The report where the first of them is done, and the other is not.
+const ONE_LESS: &[u8] = b"axioms 2 theorems 1 proved 1 incomplete 0 wrong 0 faults 0\n";
+
+/// Nothing is read behind the first command; and an edit that has been read with it is not done.
 #[test]
-fn reads_no_further_than_it_has_answered(rt: HostRuntime) -> Result<(), Fail> {
+fn goes_no_further_than_it_has_answered(rt: HostRuntime) -> Result<(), Fail> {
     let mut session = begun(rt.alloc(), FILES)?;
-    let (ended, calls) = read_until_failed(rt.alloc(), &mut session);
+    let script = b"report\nverdict th\n";
+    let (ended, calls) = read_until_failed(rt.alloc(), &mut session, script, 7);
     assert_eq!(rt; ended, Err(ScriptError::Write));
     assert_eq!(rt; calls, 1);
+    let (ended, calls) = read_until_failed(rt.alloc(), &mut session, DELETIONS, 4096);
+    assert_eq!(rt; ended, Err(ScriptError::Write));
+    assert_eq!(rt; calls, 1);
+    assert!(rt; has_report(rt.alloc(), &session, ONE_LESS));
     Ok(())
 }

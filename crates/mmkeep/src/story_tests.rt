@@ -209,7 +209,7 @@ const SECOND_INCLUSION: Story = Story {
     ],
 };
 
-/// An axiom is taken out, and comes back.
+/// An axiom is taken out, and comes back; at once that runs nothing.
 const DELETED_AXIOM: Story = Story {
     files: &[(A, THEOREMS)],
     steps: &[
@@ -221,6 +221,11 @@ const DELETED_AXIOM: Story = Story {
         Step {
             edits: &[RULE],
             runs: &[b"th"],
+            report: CLEAN,
+        },
+        Step {
+            edits: &[Edit::Delete { file: A, at: 5 }, RULE],
+            runs: &[],
             report: CLEAN,
         },
     ],
@@ -497,8 +502,11 @@ fn same_pieces_run_nothing(rt: HostRuntime) -> Result<(), Fail> {
     Ok(())
 }
 
-/// Edits of the six pieces that are refused, and why.
-const REFUSED: [(Edit<'static>, EditError); 8] = [
+/// An edit that is refused, and why.
+type Refusal = (Edit<'static>, EditError);
+
+/// Edits of the six pieces that are refused.
+const REFUSED: &[Refusal] = &[
     (Edit::Delete { file: A, at: 6 }, EditError::NoPiece(6)),
     (
         Edit::Insert {
@@ -560,18 +568,26 @@ const REFUSED: [(Edit<'static>, EditError); 8] = [
     ),
 ];
 
-/// Whether an edit is refused so, alone and in a batch behind another, and leaves everything as it was.
+/// Edits of eight pieces that are refused.
+const REFUSED_OF_EIGHT: &[Refusal] = &[
+    (Edit::Delete { file: A, at: 9 }, EditError::NoPiece(8)),
+    (
+        Edit::Move {
+            file: A,
+            at: 0,
+            to: 8,
+        },
+        EditError::NoPiece(8),
+    ),
+];
+
+/// Whether an edit is refused so, alone and in a batch behind another, and leaves nothing parked.
 fn is_refused(alloc: Global, session: &mut Session, edit: Edit<'static>, error: EditError) -> bool {
     let alone = session.edit(alloc, &edit).err();
     let behind = session.edit_all(alloc, &[EXCHANGED, edit]).err();
     alone == Some(error)
         && behind == Some(BatchError::Edit(1, error))
         && session.files().parked() == 0
-        && has_report(
-            alloc,
-            session,
-            b"axioms 2 theorems 0 proved 0 incomplete 0 wrong 0 faults 0\n",
-        )
 }
 
 /// Whether a file of a session has this text.
@@ -582,20 +598,32 @@ fn has_text(alloc: Global, session: &Session, file: &[u8], wanted: &[u8]) -> boo
     }
 }
 
-/// The first of the refused edits that is done, told otherwise, or changes something.
-fn refused_otherwise(alloc: Global, session: &mut Session) -> Option<usize> {
-    for n in 0..REFUSED.len() {
-        let (edit, error) = REFUSED[n];
-        if !is_refused(alloc, session, edit, error) || !has_text(alloc, session, A, LOGIC) {
-            return Some(n);
+/// The first of the refused edits of a text that is done, told otherwise, or changes the text or its report.
+fn refused_otherwise(
+    alloc: Global,
+    text: &'static [u8],
+    rows: &[Refusal],
+    report: &[u8],
+) -> Result<Option<usize>, StoreError> {
+    let mut session = begun(alloc, &[(A, text)])?;
+    for n in 0..rows.len() {
+        let (edit, error) = rows[n];
+        let refused = is_refused(alloc, &mut session, edit, error);
+        if !refused || !has_text(alloc, &session, A, text) || !has_report(alloc, &session, report) {
+            return Ok(Some(n));
         }
     }
-    None
+    Ok(None)
 }
+
+/// The report of the logic alone.
+const NO_THEOREM: &[u8] = b"axioms 2 theorems 0 proved 0 incomplete 0 wrong 0 faults 0\n";
 
 #[test]
 fn refused_edits_change_nothing(rt: HostRuntime) -> Result<(), Fail> {
-    let mut session = begun(rt.alloc(), &[(A, LOGIC)])?;
-    assert_eq!(rt; refused_otherwise(rt.alloc(), &mut session), None);
+    let of_six = refused_otherwise(rt.alloc(), LOGIC, REFUSED, NO_THEOREM)?;
+    assert_eq!(rt; of_six, None);
+    let of_eight = refused_otherwise(rt.alloc(), THEOREMS, REFUSED_OF_EIGHT, CLEAN)?;
+    assert_eq!(rt; of_eight, None);
     Ok(())
 }

@@ -36,7 +36,7 @@ pub fn reader_of(bytes: &'static [u8], most: usize) -> Given {
     }
 }
 
-/// A writer that takes one byte a call, and none from a call on.
+/// A writer that takes one byte a call, and none from a call on; what it has then taken is handed on no more.
 #[derive(Drop)]
 pub struct Slow {
     calls: usize,
@@ -71,6 +71,9 @@ impl Write for Slow {
     }
 
     fn flush(&mut self) -> io::Result<()> {
+        if self.calls == 0 {
+            return Err(io::Error::from(io::ErrorKind::BrokenPipe));
+        }
         Ok(())
     }
 }
