@@ -1,4 +1,4 @@
-//! Edits by chance, against lists of texts that are edited as well.
+//! Edits by chance, against a list of texts that is edited as well.
 
 ghost use Rattle.std.specs.Prelude.{◌≡◌};
 
@@ -25,8 +25,9 @@ const TEXTS: [&[u8]; 4] = [
     b"$[ b.mm $]\n",
 ];
 
-/// An edit of a file with so many pieces, by chance. Some are refused.
-fn any_edit(seed: &mut u64, file: &'static [u8], count: usize) -> Edit<'static> {
+/// An edit of the file `top`, by chance. Some are refused.
+fn any_edit(seed: &mut u64, count: usize) -> Edit<'static> {
+    let file: &'static [u8] = b"top";
     let at = next_below(seed, count.saturating_add(1));
     let text = TEXTS[next_below(seed, 4) & 3];
     match next_below(seed, 4) {
@@ -113,15 +114,10 @@ fn joined(alloc: Global, list: &[Vec<u8>]) -> Result<Vec<u8>, AllocError> {
     Ok(text)
 }
 
-/// Whether the texts of a list, joined, are the text of a file.
-fn has_joined(
-    files: &Files,
-    alloc: Global,
-    name: &[u8],
-    list: &[Vec<u8>],
-) -> Result<bool, AllocError> {
+/// Whether the texts of a list, joined, are the text of the file.
+fn has_joined(files: &Files, alloc: Global, list: &[Vec<u8>]) -> Result<bool, AllocError> {
     let text = joined(alloc, list)?;
-    has_text(files, alloc, name, &text)
+    has_text(files, alloc, b"top", &text)
 }
 
 /// Why an edit is refused. One that is not is undone.
@@ -137,25 +133,6 @@ fn undone_refusal(files: &mut Files, alloc: Global, edit: &Edit<'_>) -> Option<E
     }
 }
 
-/// Why one of two edits is refused. Those that are not are undone, the newest first.
-fn undone_refusals(
-    files: &mut Files,
-    alloc: Global,
-    edit: &Edit<'_>,
-    other: &Edit<'_>,
-) -> Option<EditError>
-    ensures { files.new ≡ files.old }
-{
-    match files.edit(alloc, edit) {
-        Ok(undo) => {
-            let inner = undone_refusal(files, alloc, other);
-            files.undo(undo);
-            inner
-        }
-        Err(error) => Some(error),
-    }
-}
-
 /// Whether the error, if there is one, is that there is no such piece.
 fn is_no_piece(error: Option<EditError>) -> bool {
     match error {
@@ -164,18 +141,18 @@ fn is_no_piece(error: Option<EditError>) -> bool {
     }
 }
 
-/// Whether an edit of so many pieces is done and undone, with two more in between; or refused, as there is no such
+/// Whether an edit of so many pieces is done and undone, with another in between; or refused, as there is no such
 /// piece.
 fn is_undone(
     files: &mut Files,
     alloc: Global,
     edit: &Edit<'_>,
-    others: &[Edit<'_>; 2],
+    other: &Edit<'_>,
     count: usize,
 ) -> bool {
     match files.edit(alloc, edit) {
         Ok(undo) => {
-            let inner = undone_refusals(files, alloc, &others[0], &others[1]);
+            let inner = undone_refusal(files, alloc, other);
             files.undo(undo);
             is_no_piece(inner)
         }
@@ -183,7 +160,7 @@ fn is_undone(
     }
 }
 
-/// Whether an edit makes of its file what it makes of the list, and is refused where that refuses it.
+/// Whether an edit makes of the file what it makes of the list, and is refused where that refuses it.
 fn is_settled(
     files: &mut Files,
     alloc: Global,
@@ -191,79 +168,43 @@ fn is_settled(
     edit: &Edit<'_>,
 ) -> Result<bool, AllocError> {
     let accepted = edit_list(alloc, list, edit)?;
-    Ok(refusal(files, alloc, edit).is_none() == accepted && files.parked() == 0)
+    let alike = refusal(files, alloc, edit).is_none() == accepted;
+    Ok(alike && has_joined(files, alloc, list)? && files.parked() == 0)
 }
 
-/// The lists of the two files that are edited.
-#[derive(Drop)]
-struct Lists {
-    top: Vec<Vec<u8>>,
-    other: Vec<Vec<u8>>,
-}
-
-/// A file that is not edited: one piece, and a tail.
-const REST: &[u8] = b"$c r $.\n$( end $)\n";
-
-/// Whether all files have the texts that they have to have.
-fn go_with(files: &Files, alloc: Global, lists: &Lists) -> Result<bool, AllocError> {
-    Ok(
-        has_joined(files, alloc, b"top", &lists.top)?
-            && has_joined(files, alloc, b"b.mm", &lists.other)?
-            && has_text(files, alloc, b"rest", REST)?,
-    )
-}
-
-/// Whether the files go with the lists at an edit by chance: undone, with one of each file in between, and then settled.
+/// Whether the file goes with the list at an edit by chance: undone, and then settled.
 fn goes_with(
     files: &mut Files,
     alloc: Global,
-    lists: &mut Lists,
+    list: &mut Vec<Vec<u8>>,
     seed: &mut u64,
 ) -> Result<bool, AllocError> {
-    let top = any_edit(seed, b"top", lists.top.len());
-    let other = any_edit(seed, b"b.mm", lists.other.len());
-    let again = any_edit(seed, b"top", lists.top.len());
-    if next_below(seed, 3) == 0 {
-        let undone = is_undone(files, alloc, &other, &[top, again], lists.other.len());
-        let same = undone && go_with(files, alloc, lists)?;
-        return Ok(
-            same && is_settled(files, alloc, &mut lists.other, &other)?
-                && go_with(files, alloc, lists)?,
-        );
-    }
-    let undone = is_undone(files, alloc, &top, &[other, again], lists.top.len());
-    let same = undone && go_with(files, alloc, lists)?;
-    Ok(same && is_settled(files, alloc, &mut lists.top, &top)? && go_with(files, alloc, lists)?)
+    let edit = any_edit(seed, list.len());
+    let other = any_edit(seed, list.len());
+    let undone = is_undone(files, alloc, &edit, &other, list.len());
+    Ok(undone && has_joined(files, alloc, list)? && is_settled(files, alloc, list, &edit)?)
 }
 
-fn three_files(alloc: Global) -> Result<Files, StoreError> {
+fn two_pieces(alloc: Global) -> Result<Files, StoreError> {
     let mut files = Files::new(alloc);
     files.add(alloc, b"top", b"$c a $.\n$v x $.\n")?;
-    files.add(alloc, b"rest", REST)?;
-    files.add(alloc, b"b.mm", b"$c b $.\n$v z $.\n")?;
     Ok(files)
 }
 
-fn list_of(alloc: Global, first: &[u8], second: &[u8]) -> Result<Vec<Vec<u8>>, AllocError> {
+fn two_texts(alloc: Global) -> Result<Vec<Vec<u8>>, AllocError> {
     let mut list = Vec::new(alloc);
-    list.push(Vec::from_slice(alloc, first)?)?;
-    list.push(Vec::from_slice(alloc, second)?)?;
+    list.push(Vec::from_slice(alloc, b"$c a $.\n")?)?;
+    list.push(Vec::from_slice(alloc, b"$v x $.\n")?)?;
     Ok(list)
 }
 
-fn lists_of(alloc: Global) -> Result<Lists, AllocError> {
-    let top = list_of(alloc, b"$c a $.\n", b"$v x $.\n")?;
-    let other = list_of(alloc, b"$c b $.\n", b"$v z $.\n")?;
-    Ok(Lists { top, other })
-}
-
-/// The first of a hundred edits by chance at which the files do not go with the lists.
+/// The first of a hundred edits by chance at which the file does not go with the list.
 fn goes_otherwise(alloc: Global, start: u64) -> Result<Option<usize>, StoreError> {
-    let mut files = three_files(alloc)?;
-    let mut lists = lists_of(alloc)?;
+    let mut files = two_pieces(alloc)?;
+    let mut list = two_texts(alloc)?;
     let mut seed = start;
     for k in 0..100 {
-        if !goes_with(&mut files, alloc, &mut lists, &mut seed)? {
+        if !goes_with(&mut files, alloc, &mut list, &mut seed)? {
             return Ok(Some(k));
         }
     }
@@ -273,7 +214,7 @@ fn goes_otherwise(alloc: Global, start: u64) -> Result<Option<usize>, StoreError
 const STARTS: [u64; 6] = [1, 2, 3, 5, 8, 13];
 
 #[test]
-fn edits_as_lists_of_texts_are_edited(rt: HostRuntime) -> Result<(), Fail> {
+fn edits_as_a_list_of_texts_is_edited(rt: HostRuntime) -> Result<(), Fail> {
     for start in STARTS {
         assert_eq!(rt; goes_otherwise(rt.alloc(), start)?, None, "of {start}");
     }

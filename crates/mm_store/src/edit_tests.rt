@@ -1,9 +1,8 @@
 //! Edits, and what undoes them.
 
-ghost use Rattle.std.specs.Prelude.{All, ◌≡◌};
-ghost use Rattle.mm_store.specs.Language.FileFacts.{CanBeRead};
+ghost use Rattle.std.specs.Prelude.{◌≡◌};
 
-use crate::{Edit, EditError, Files, Item, StoreError, TextFault, TextNumber};
+use crate::{Edit, EditError, Files, StoreError, TextFault, TextNumber};
 use std::alloc::{AllocError, Global};
 use std::test::Fail;
 
@@ -244,29 +243,14 @@ const DELETION: Row = Row {
     parked: 1,
 };
 
-/// Whether the piece of the first of some items has this text.
-fn begin_with(files: &Files, items: &[Item], text: &[u8]) -> bool
-    requires { All (CanBeRead files.now) items.now }
-{
-    !items.is_empty() && files.piece(items[0].key) == text
-}
-
-/// Whether the first piece of six, or of seven, has this text.
-fn has_first(files: &Files, alloc: Global, text: &[u8]) -> Result<bool, StoreError> {
-    let items = files.statements(alloc, b"a.mm")?;
-    Ok(begin_with(files, &items, text))
-}
-
 #[test]
 fn inserts_a_text_as_it_is(rt: HostRuntime) -> Result<(), Fail> {
     let alloc = rt.alloc();
     let mut files = with_six(alloc)?;
     assert!(rt; goes_through(&mut files, alloc, b"a.mm", &INSERTION) == Ok(true));
     assert!(rt; files.piece_count(b"a.mm") == Some(7));
-    assert!(rt; has_first(&files, alloc, b"$c k $. $( x $)\n")?);
     assert!(rt; goes_through(&mut files, alloc, b"a.mm", &DELETION) == Ok(true));
     assert!(rt; files.piece_count(b"a.mm") == Some(6));
-    assert!(rt; has_first(&files, alloc, b"$c wff |- -> ( ) $.\n")?);
     Ok(())
 }
 
