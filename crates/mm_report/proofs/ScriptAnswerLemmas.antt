@@ -13,7 +13,7 @@ use Rattle.mm_store.specs.Language.Edits.{Asked, IsEditOf}
 use Rattle.mm_store.specs.Language.FilesView.{File, plain}
 use Rattle.mm_frame.specs.Language.Base.{BaseView, IsOfFiles}
 use Rattle.mm_frame.specs.Language.Laws.{HasOwnLabels}
-use Rattle.mm_keep.specs.Language.Citations.{Cites, IsAxiomOf}
+use Rattle.mm_keep.specs.Language.Citations.{CitesItem, IsAxiomOf}
 use Rattle.mm_keep.specs.Language.Laws.{IsOneList, OneListEach, OneListOfRuns}
 use Rattle.mm_keep.specs.Language.Runs.{AreRunsOf}
 use Rattle.mm_keep.specs.Language.Sessions.{SessionView, AreNumbersOf, HasAssertion}
@@ -187,8 +187,8 @@ same_answer laws s t new copy (Batch edits) x y a f g = same_batch_answer laws s
 same_answer laws s t new copy Report x y a f g = (same_report laws.database s t x y a.files a.top f.0 g.0, unchanged s t new copy a f.1 g.1)
 same_answer laws s t new copy (Verdict label) x y a f g = (same_verdict laws s t label x y a f.0 g.0, unchanged s t new copy a f.1 g.1)
 same_answer laws s t new copy (Axioms label) x y a f g = (same_found laws s t label (λ base i k. IsAxiomOf base i k) x y laws.lists.2 a f.0 g.0, unchanged s t new copy a f.1 g.1)
-same_answer laws s t new copy (CitesOf label) x y a f g = (same_found laws s t label (λ base i k. Cites base i k) x y laws.lists.0 a f.0 g.0, unchanged s t new copy a f.1 g.1)
-same_answer laws s t new copy (Users label) x y a f g = (same_found laws s t label (λ base i k. Cites base k i) x y laws.lists.1 a f.0 g.0, unchanged s t new copy a f.1 g.1)
+same_answer laws s t new copy (CitesOf label) x y a f g = (same_found laws s t label (λ base i k. CitesItem base i k) x y laws.lists.0 a f.0 g.0, unchanged s t new copy a f.1 g.1)
+same_answer laws s t new copy (Users label) x y a f g = (same_found laws s t label (λ base i k. CitesItem base k i) x y laws.lists.1 a f.0 g.0, unchanged s t new copy a f.1 g.1)
 
 pub same_answers : AnswerLaws → (s t new copy : SessionView) (commands : List Command) (x y : List ℕ) → AreAlike s t → AreAnswers s commands x new → AreAnswers t commands y copy → (x ≡ y) × AreAlike new copy
 same_answers laws s t new copy [] x y a f g = (f.0 ∙ sym g.0, unchanged s t new copy a f.1 g.1)
