@@ -16,8 +16,8 @@ use Rattle.mm_frame.specs.Language.Item.{Kind, Essential, Axiom, Theorem, Missin
 use Rattle.mm_frame.specs.Language.Sound.{IsSound, AreSound, fault, judged, sound_items, sound_items_after}
 use Rattle.mm_frame.specs.Language.Framing.{expression, frame}
 use Rattle.mm_frame.specs.Language.Scope.{Mark, Closes, Neither, mark_of, closes, active_numbers}
-use Rattle.mm_frame.specs.Code.Numbers.{IsName, AreNumbersOf}
-use Rattle.mm_frame.specs.Code.CodeSymbols.{symbols_of, kept_pairs, IsNumbered, IsPairNumbered, ArePairsRead}
+use Rattle.mm_frame.specs.Code.Numbers.{IsNameNumber, AreNameNumbers}
+use Rattle.mm_frame.specs.Language.NumberedSymbols.{symbols_of, kept_pairs, IsNumbered, IsPairNumbered, ArePairsRead}
 use Rattle.mm_frame.specs.Code.KeptSymbols.{expression_kept, kept_or_none, is_read, AreSymbols, AreExpressions}
 use Rattle.mm_frame.specs.Code.LastItems.{IsSort}
 use Rattle.mm_frame.specs.Code.KeptScope.{taken}
@@ -28,9 +28,9 @@ use Rattle.mm_frame.specs.Language.Frame.{AreSamePairs}
 use Rattle.mm_frame.specs.Code.PairOrder.{pairs_in_order}
 use Rattle.mm_frame.specs.declared.draft.Frame.{Frame}
 use Rattle.mm_frame.proofs.FramePairs.{same_pairs}
-use Rattle.mm_frame.proofs.Judged.{no_fault_sound, sound_found, passed_sound, kept_is_sound, kept_next, kept_after_append}
+use Rattle.mm_frame.proofs.FoundFaults.{no_fault_sound, sound_found, passed_sound, kept_is_sound, kept_next, kept_after_append}
 use Rattle.mm_frame.proofs.SoundItems.{kept_sound, split_at}
-use Rattle.mm_frame.proofs.PairLemmas.{disjoint_neither}
+use Rattle.mm_frame.proofs.ActivePairLemmas.{disjoint_neither}
 use Rattle.mm_frame.proofs.TableLemmas.{item_between, take_between}
 use Rattle.mm_frame.proofs.BlockLemmas.{get_cases, get_last}
 use Rattle.mm_frame.proofs.NamedLemmas.{get_before}
@@ -320,20 +320,20 @@ pub same_frame_kept : (frame kept : Frame) → Some frame ≡ Some kept → fram
 same_frame_kept frame kept e = cc
 
 -- one more name with its number
-numbers_push : (all : List (List ℕ)) (numbers : List ℕ) (names : List (List ℕ)) (number : ℕ) (name : List ℕ) → AreNumbersOf all numbers names → IsName all number name → AreNumbersOf all (numbers ++ number ∷ []) (names ++ name ∷ [])
+numbers_push : (all : List (List ℕ)) (numbers : List ℕ) (names : List (List ℕ)) (number : ℕ) (name : List ℕ) → AreNameNumbers all numbers names → IsNameNumber all number name → AreNameNumbers all (numbers ++ number ∷ []) (names ++ name ∷ [])
 numbers_push all numbers names number name a there = record {
   count = (let c = a.count in let p = length_push numbers number in let q = length_push names name in omega arith);
   each = λ i n e. elim (get_cases numbers number n i e) [
-    | inl old ↦ (let c = a.count in let w = slice_get_within numbers i n old in subst (IsName all n) (sym (get_or-append names (name ∷ []) [] i (omega arith))) (a.each i n old))
-    | inr last ↦ (let here = get_or_push names name [] i (sym (last.0 ∙ a.count)) in subst (λ k. IsName all k (get_or (names ++ name ∷ []) i [])) last.1 (subst (IsName all number) (sym here) there))
+    | inl old ↦ (let c = a.count in let w = slice_get_within numbers i n old in subst (IsNameNumber all n) (sym (get_or-append names (name ∷ []) [] i (omega arith))) (a.each i n old))
+    | inr last ↦ (let here = get_or_push names name [] i (sym (last.0 ∙ a.count)) in subst (λ k. IsNameNumber all k (get_or (names ++ name ∷ []) i [])) last.1 (subst (IsNameNumber all number) (sym here) there))
   ];
 }
 
-pub numbers_more : (all : List (List ℕ)) (numbers : List ℕ) (names : List (List ℕ)) (n more number : ℕ) (name : List ℕ) → more ≡ suc n → n < length names → name ≡ get_or names n [] → AreNumbersOf all numbers (take n names) → IsName all number name
-    → AreNumbersOf all (numbers ++ number ∷ []) (take more names)
+pub numbers_more : (all : List (List ℕ)) (numbers : List ℕ) (names : List (List ℕ)) (n more number : ℕ) (name : List ℕ) → more ≡ suc n → n < length names → name ≡ get_or names n [] → AreNameNumbers all numbers (take n names) → IsNameNumber all number name
+    → AreNameNumbers all (numbers ++ number ∷ []) (take more names)
 numbers_more all numbers names n more number name m l e a there =
     let longer = ap (λ k. take k names) m ∙ take-suc names n [] l ∙ ap (λ x. take n names ++ x ∷ []) (sym e) in
-    subst (AreNumbersOf all (numbers ++ number ∷ [])) (sym longer) (numbers_push all numbers (take n names) number name a there)
+    subst (AreNameNumbers all (numbers ++ number ∷ [])) (sym longer) (numbers_push all numbers (take n names) number name a there)
 
-pub numbers_none : (all : List (List ℕ)) → AreNumbersOf all [] []
+pub numbers_none : (all : List (List ℕ)) → AreNameNumbers all [] []
 numbers_none all = record { count = refl; each = λ i n e. cc }

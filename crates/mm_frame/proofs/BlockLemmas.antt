@@ -9,17 +9,17 @@ use Rattle.std.proofs.lemmas.Option.{slice_get_within, slice_get-get_or, same_So
 use native.Mathlib.Decide.{dec_lt}
 use Rattle.mm_frame.specs.Language.Item.{Item}
 use Rattle.mm_frame.specs.Language.Scope.{Mark, Opens, Closes, Neither, mark_of, closed_at, closed, is_zero, stays, opens, closes}
-use Rattle.mm_frame.specs.Code.BlockMarks.{closed_by, stays_by, marks_of}
+use Rattle.mm_frame.specs.Code.BlockMarks.{closed_by, stays_by, block_marks}
 use Rattle.mm_frame.specs.Code.BlockEnds.{end_of_block}
 use Rattle.mm_frame.specs.Code.KeptBlocks.{is_at, mark_between, marks_from, last_block, LeavesOpen, StandsOpen, StandsEnded, Stands, AreBlocks, AreBlockEndsKept}
-use Rattle.mm_frame.proofs.Scopes.{closed_more}
+use Rattle.mm_frame.proofs.ActiveBySplit.{closed_more}
 
 -- marks and items
-closed_of : (items : List Item) → closed items ≡ closed_by (marks_of items)
+closed_of : (items : List Item) → closed items ≡ closed_by (block_marks items)
 closed_of [] = refl
 closed_of (item ∷ items) = ap (closed_at (mark_of item.kind)) (closed_of items)
 
-pub stays_of : (items : List Item) → stays items ≡ stays_by (marks_of items)
+pub stays_of : (items : List Item) → stays items ≡ stays_by (block_marks items)
 stays_of items = ap is_zero (closed_of items)
 
 -- a list with one more element

@@ -7,11 +7,11 @@ use Rattle.std.proofs.Math.Seq.{get_or-append_seam, drop-nil}
 use Rattle.std.proofs.lemmas.List.{drop-append-le, drop-map, length_push, get_or_append_left}
 use Rattle.mm_frame.specs.Language.Item.{Item}
 use Rattle.mm_frame.specs.Language.Scope.{Mark, Neither, mark_of, closed_at, closed, is_zero, stays, active_numbers}
-use Rattle.mm_frame.specs.Code.BlockMarks.{stays_by, marks_of}
+use Rattle.mm_frame.specs.Code.BlockMarks.{stays_by, block_marks}
 use Rattle.mm_frame.specs.Code.LastItems.{is_active_at, IsRising}
 use Rattle.mm_frame.specs.Code.KeptActive.{IsPruned}
 use Rattle.mm_frame.proofs.Members.{In, in_contains, contains_in, in_left, in_right, in_cases, in_get}
-use Rattle.mm_frame.proofs.Scopes.{closed_none, stays_front}
+use Rattle.mm_frame.proofs.ActiveBySplit.{closed_none, stays_front}
 use Rattle.mm_frame.proofs.SoundItems.{split_at}
 use Rattle.mm_frame.proofs.SpokenLemmas.{get_drop}
 use Rattle.mm_frame.proofs.TableLemmas.{not_closing}
@@ -119,12 +119,12 @@ pruned_numbers test before item kept gone t e ended last =
     ]
 
 -- activity by the marks of the items
-pub active_by_marks : (items : List Item) (n : ℕ) → is_active_at items n ≡ stays_by (drop (n + 1) (marks_of items))
+pub active_by_marks : (items : List Item) (n : ℕ) → is_active_at items n ≡ stays_by (drop (n + 1) (block_marks items))
 active_by_marks items n =
     let z : suc n ≡ n + 1 = omega arith in
-    stays_of (drop (suc n) items) ∙ ap stays_by (sym (drop-map (λ (i : Item). mark_of i.kind) (suc n) items)) ∙ ap (λ k. stays_by (drop k (marks_of items))) z
+    stays_of (drop (suc n) items) ∙ ap stays_by (sym (drop-map (λ (i : Item). mark_of i.kind) (suc n) items)) ∙ ap (λ k. stays_by (drop k (block_marks items))) z
 
-pub pruned_by_marks : (marks : List Mark) (old new : List ℕ) → IsPruned marks old new → (test : Item → Bool) (before : List Item) (item : Item) → test item ≡ false → marks ≡ marks_of (before ++ item ∷ []) → old ≡ active_numbers test before → new ≡ active_numbers test (before ++ item ∷ [])
+pub pruned_by_marks : (marks : List Mark) (old new : List ℕ) → IsPruned marks old new → (test : Item → Bool) (before : List Item) (item : Item) → test item ≡ false → marks ≡ block_marks (before ++ item ∷ []) → old ≡ active_numbers test before → new ≡ active_numbers test (before ++ item ∷ [])
 pruned_by_marks marks old new p test before item t m o =
     pruned_numbers test before item new p.gone t (sym o ∙ p.parts)
     (λ n h. active_by_marks (before ++ item ∷ []) n ∙ ap (λ w. stays_by (drop (n + 1) w)) (sym m) ∙ p.ended n (in_contains n p.gone h))

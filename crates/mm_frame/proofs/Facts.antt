@@ -6,7 +6,7 @@ use Rattle.mm_frame.specs.Language.Scope.{active, symbols_by, constants, variabl
 use Rattle.mm_frame.specs.declared.FrameNumber.TheVariants.{F01, F04, F08, F09, F10, F11, F12}
 use Rattle.mm_frame.specs.Language.Sound.{first_symbol, closing_word, passes, at_symbol, each, first, second, later, is_third, is_declared, is_active_symbol, is_no_constant, is_no_variable, is_no_active_symbol, is_untyped, is_typed, is_short, IsSound}
 use Rattle.mm_frame.proofs.Members.{In, in_cases, in_get, has_in, in_has, from_symbols, to_symbols}
-use Rattle.mm_frame.proofs.Scopes.{active_in}
+use Rattle.mm_frame.proofs.ActiveBySplit.{active_in}
 
 pub and_rest : (x y : Bool) → (x && y) ≡ false → x ≡ true → y ≡ false
 and_rest true y h e = h

@@ -1,12 +1,12 @@
 -- What is kept of an item at its number, and the hypotheses of a frame by their numbers.
-use Rattle.std.proofs.Common.{◌≡◌, ◌↔◌, ℕ, zero, suc, ◌<◌, ◌≤◌, Bool, true, false, ◌&&◌, ◌||◌, Option, Some, None, List, [], ◌∷◌, length, map, take, take_all, slice_get, get_or, is_none, is_some, refl, sym, ◌∙◌, ap, subst, arith, inl, inr}
+use Rattle.std.proofs.Common.{◌≡◌, ◌↔◌, ℕ, zero, suc, ◌<◌, Bool, true, false, ◌&&◌, ◌||◌, Option, Some, None, List, [], ◌∷◌, length, map, take, take_all, slice_get, get_or, is_none, is_some, refl, sym, ◌∙◌, ap, subst, arith, inl, inr}
 use Rattle.std.specs.Option.{option_map, IfSome}
 use Rattle.std.specs.Prelude.{Contains}
 use Rattle.std.specs.List.{AllZip}
 use Rattle.std.proofs.lemmas.Bool.{false≢true, and_from, and_parts}
 use Rattle.std.proofs.lemmas.List.{take-take}
 use Rattle.std.proofs.lemmas.List.Elements.{All-from_get_or}
-use Rattle.std.proofs.lemmas.Option.{none-some, same_Some, slice_get_within, slice_get_cases, slice_get-get_or, get_or_from_slice_get}
+use Rattle.std.proofs.lemmas.Option.{same_Some, slice_get_within, slice_get_cases, slice_get-get_or, get_or_from_slice_get}
 use Rattle.mm_store.specs.declared.item.Item as store
 use Rattle.mm_store.specs.Language.FilesView.{FilesView}
 use Rattle.mm_frame.specs.declared.FrameNumber.{FrameNumber}
@@ -19,7 +19,7 @@ use Rattle.mm_frame.specs.Code.KeptBase.{is_float_item, numbers_if, hypotheses_a
 use Rattle.mm_frame.proofs.Members.{In, in_contains, contains_in}
 use Rattle.mm_frame.proofs.Frames.{in_at}
 use Rattle.mm_frame.proofs.SoundItems.{map_same}
-use Rattle.mm_frame.proofs.PairLemmas.{expression_at_number}
+use Rattle.mm_frame.proofs.ActivePairLemmas.{expression_at_number}
 use Rattle.mm_frame.proofs.HypothesisNumbers.{to_active_number, from_active_number, active_numbers_rise, hypotheses_by_numbers}
 use Rattle.mm_frame.proofs.BaseLemmas.{kept_item_at, none_told, labelled_there, kept_count, kept_at, kept_front_at, kept_are_sound, get_between}
 
@@ -193,10 +193,3 @@ float_at [] said i b z e = cc
 float_at (x ∷ found) [] i b z e = absurd z
 float_at (x ∷ found) (y ∷ said) zero b z e = sym (same_Some _ _ e) ∙ ap is_floating z.0
 float_at (x ∷ found) (y ∷ said) (suc i) b z e = float_at found said i b z.1 e
-
--- where none is found there is none
-pub none_past : (found : List store.Item) (said : List Item) (i : ℕ) → length found ≡ length said → slice_get found i ≡ None → length said ≤ i
-none_past found said i c e = elim (slice_get_cases found i).1 [
-  | inl there ↦ absurd (none-some there.0 (sym e ∙ there.2))
-  | inr past ↦ (let p = past.0 in omega arith)
-]

@@ -17,7 +17,7 @@ use Rattle.mm_frame.specs.Language.Scope.{Mark, active, active_numbers}
 use Rattle.mm_frame.specs.Language.Sound.{IsSound, AreSound}
 use Rattle.mm_frame.specs.Language.Framing.{symbol, expression, mandatory_variables, is_mandatory, hypothesis, mandatory_hypotheses, pairs_of, active_pairs, is_mandatory_pair, frame, mandatory_numbers}
 use Rattle.mm_frame.specs.Code.LastItems.{is_active_at, is_essential_item}
-use Rattle.mm_frame.specs.Code.CodeSymbols.{symbol_of, symbols_of, pair_of, IsNumbered, IsPairNumbered, ArePairsRead}
+use Rattle.mm_frame.specs.Language.NumberedSymbols.{symbol_of, symbols_of, pair_of, IsNumbered, IsPairNumbered, ArePairsRead}
 use Rattle.mm_frame.specs.Code.KeptSymbols.{expression_kept, AreExpressions, AreNumbered}
 use Rattle.mm_frame.specs.Code.KeptPairTable.{row_at, ReadsPairs}
 use Rattle.mm_frame.specs.Code.PairOrder.{are_paired, typed_variables, pairs_in_order, is_among, float_variable, float_variables}
@@ -29,7 +29,7 @@ use Rattle.mm_frame.proofs.NumberLemmas.{name_there}
 use Rattle.mm_frame.proofs.HypothesisNumbers.{to_active_number, from_active_number, hypotheses_by_numbers}
 use Rattle.mm_frame.proofs.Rising.{in_among, among_in}
 use Rattle.mm_frame.proofs.MandatoryLemmas.{not_both}
-use Rattle.mm_frame.proofs.PairLemmas.{expression_at_number, flat_same, flat_of_map, pairs_with, row_last, all_more, in_order, is_pair, SameNames, same_names, found_pair, to_paired, pair_here, pair_turned, apart_active}
+use Rattle.mm_frame.proofs.ActivePairLemmas.{expression_at_number, flat_same, flat_of_map, pairs_with, row_last, all_more, in_order, is_pair, SameNames, same_names, found_pair, to_paired, pair_here, pair_turned, apart_active}
 use Rattle.mm_frame.proofs.PairTableLemmas.{none_told}
 
 -- the variables of the mandatory `$f`

@@ -10,9 +10,9 @@ use Rattle.mm_frame.specs.Language.Scope.{Neither, mark_of, stays, active, symbo
 use Rattle.mm_frame.specs.Language.Sound.{IsSound, sound_items}
 use Rattle.mm_frame.specs.Language.Framing.{symbol, expression, mandatory_variables, is_mandatory, hypothesis, mandatory_hypotheses, pairs_of, active_pairs, is_mandatory_pair, frame, meaning, resolve_from, setting_of}
 use Rattle.mm_frame.proofs.Members.{In, in_contains, contains_in, in_left, in_right, in_cases, in_map, from_map, in_filter, from_filter, from_flat, in_get, has_in, in_has, from_symbols, to_symbols}
-use Rattle.mm_frame.proofs.Scopes.{active_split, split_active, active_later, stays_front}
+use Rattle.mm_frame.proofs.ActiveBySplit.{active_split, split_active, active_later, stays_front}
 use Rattle.mm_frame.proofs.Facts.{and_both, AreKept, sound_at, kept_front, not_constant, first_constant, known, typed_there, float_variable, float_new, float_two}
-use Rattle.mm_frame.proofs.Judged.{kept_is_sound}
+use Rattle.mm_frame.proofs.FoundFaults.{kept_is_sound}
 
 -- kinds
 pub float_labelled : (k : Kind) → is_floating k ≡ true → is_labelled k ≡ true

@@ -13,7 +13,7 @@ use Rattle.mm_frame.specs.Language.Sound.{IsSound, AreSound}
 use Rattle.mm_frame.specs.Language.Framing.{mandatory_variables, is_mandatory, hypothesis, mandatory_hypotheses, mandatory_numbers}
 use Rattle.mm_frame.specs.Code.LastItems.{last_where, is_active_at, is_active_last, types, is_essential_item, IsHypothesisNumber, IsRising}
 use Rattle.mm_frame.proofs.Members.{In, in_contains, contains_in, in_get, has_in, in_has}
-use Rattle.mm_frame.proofs.Scopes.{split_active, in_first, in_later, stays_front}
+use Rattle.mm_frame.proofs.ActiveBySplit.{split_active, in_first, in_later, stays_front}
 use Rattle.mm_frame.proofs.Facts.{and_both, float_new}
 use Rattle.mm_frame.proofs.Frames.{to_typed, mandatory_typed, in_at}
 use Rattle.mm_frame.proofs.SoundItems.{split_at, sound_kept}

@@ -22,12 +22,12 @@ use Rattle.mm_frame.specs.Language.Scope.{constants, variables, active}
 use Rattle.mm_frame.specs.Language.Sound.{is_declared, IsSound, AreSound}
 use Rattle.mm_frame.specs.Code.LastItems.{last_where, declares_variable, types, carries}
 use Rattle.mm_frame.specs.Language.Names.{AreDistinct}
-use Rattle.mm_frame.specs.Code.Numbers.{number_in, IsName, AreNumbersOf}
+use Rattle.mm_frame.specs.Code.Numbers.{number_in, IsNameNumber, AreNameNumbers}
 use Rattle.mm_frame.specs.Code.KeptLabels.{label_number}
-use Rattle.mm_frame.specs.Code.KeptTables.{declared_at, declared_for, table_name, table_label, variable_at, is_constant_as, declared_in, variable_number, float_of, typed_by, Knows, Declares, Types, Carries}
+use Rattle.mm_frame.specs.Code.KeptTables.{declared_at, declared_for, table_name, table_label, variable_at, is_constant_as, declared_in, variable_number, float_of, typed_by, Knows, Declares, TypesName, Carries}
 use Rattle.mm_frame.proofs.NumberLemmas.{number_names, number_of_named, same_number, other_number, number_at, declared_named}
 use Rattle.mm_frame.proofs.Members.{In, in_has, from_symbols, to_symbols, in_left}
-use Rattle.mm_frame.proofs.Scopes.{active_in}
+use Rattle.mm_frame.proofs.ActiveBySplit.{active_in}
 use Rattle.mm_frame.proofs.Facts.{and_both, float_variable, float_two}
 use Rattle.mm_frame.proofs.SoundItems.{sound_front}
 use Rattle.mm_frame.proofs.TableLemmas.{last_where_next, last_cases, last_none, Last, constants_next, variable_last, constant_or_variable, float_second, typed_by as types_it}
@@ -41,7 +41,7 @@ pub has_one : (bs cs : List ℕ) → bytes_eq bs cs ≡ has (bs ∷ []) cs
 has_one bs cs = nat_list_eq_equiv.symm bs cs ∙ sym (or_none (bytes_eq cs bs))
 
 -- what is told of names, where what is told by one number changes
-told_of : (all : List (List ℕ)) (old new : Tables) (n : ℕ) (name other : List ℕ) (f : Option Declared → Option Declared) → AreDistinct all → IsName all n name → ((m : ℕ) → declared_at new m ≡ cond (nat_eq m n) (f (declared_at old m)) (declared_at old m))
+told_of : (all : List (List ℕ)) (old new : Tables) (n : ℕ) (name other : List ℕ) (f : Option Declared → Option Declared) → AreDistinct all → IsNameNumber all n name → ((m : ℕ) → declared_at new m ≡ cond (nat_eq m n) (f (declared_at old m)) (declared_at old m))
     → table_name all new other ≡ cond (bytes_eq name other) (f (table_name all old other)) (table_name all old other)
 told_of all old new n name other f distinct there put = by_test (bytes_eq name other) refl (number_in all other) refl
   where
@@ -55,14 +55,15 @@ told_of all old new n name other f distinct there put = by_test (bytes_eq name o
         put m ∙ ap (λ b. cond b (f (declared_at old m)) (declared_at old m)) (other_number m n other_name)
 
 -- what is put at the number of a name
-pub declares_one : (all : List (List ℕ)) (old new : Tables) (n : ℕ) (name : List ℕ) (declared : Declared) → AreDistinct all → IsName all n name → ((m : ℕ) → declared_at new m ≡ cond (nat_eq m n) (Some declared) (declared_at old m)) → new.labels ≡ old.labels
+pub declares_one : (all : List (List ℕ)) (old new : Tables) (n : ℕ) (name : List ℕ) (declared : Declared) → AreDistinct all → IsNameNumber all n name → ((m : ℕ) → declared_at new m ≡ cond (nat_eq m n) (Some declared) (declared_at old m)) → new.labels ≡ old.labels
     → Declares all old (name ∷ []) (λ _. declared) new
 declares_one all old new n name declared distinct there put l = record {
   names = λ other. told_of all old new n name other (λ _. Some declared) distinct there put ∙ ap (λ b. cond b (Some declared) (table_name all old other)) (has_one name other);
   labels = λ label. ap (λ labels. label_number labels label) l;
 }
 
-pub types_one : (all : List (List ℕ)) (old new : Tables) (n : ℕ) (name : List ℕ) (number : ℕ) → AreDistinct all → IsName all n name → ((m : ℕ) → declared_at new m ≡ cond (nat_eq m n) (typed_by number (declared_at old m)) (declared_at old m)) → new.labels ≡ old.labels → Types all old name number new
+pub types_one : (all : List (List ℕ)) (old new : Tables) (n : ℕ) (name : List ℕ) (number : ℕ) → AreDistinct all → IsNameNumber all n name
+    → ((m : ℕ) → declared_at new m ≡ cond (nat_eq m n) (typed_by number (declared_at old m)) (declared_at old m)) → new.labels ≡ old.labels → TypesName all old name number new
 types_one all old new n name number distinct there put l = record {
   names = λ other. told_of all old new n name other (typed_by number) distinct there put;
   labels = λ label. ap (λ labels. label_number labels label) l;
@@ -114,11 +115,11 @@ declares_more all old mid new symbols n more declared name last s again l e d w 
 
 -- the names of the first of some numbers are declared
 abbrev pub DeclaresFirst : List ℕ → ℕ → Tables → (Option Declared → Declared) → Tables → Type 0
-DeclaresFirst numbers n old declared new = (all symbols : List (List ℕ)) → AreDistinct all → AreNumbersOf all numbers symbols → Declares all old (take n symbols) declared new
+DeclaresFirst numbers n old declared new = (all symbols : List (List ℕ)) → AreDistinct all → AreNameNumbers all numbers symbols → Declares all old (take n symbols) declared new
 
 -- so is the name of the next one
 pub declares_first : (numbers : List ℕ) (n more d : ℕ) (old mid new : Tables) (declared : Option Declared → Declared) (last : Declared) → more ≡ suc n → n < length numbers → ((o : Option Declared) → declared (Some (declared o)) ≡ declared o) → DeclaresFirst numbers n old declared mid
-    → last ≡ declared (declared_at mid (get_or numbers n d)) → ((all : List (List ℕ)) (name : List ℕ) → AreDistinct all → IsName all (get_or numbers n d) name → Declares all mid (name ∷ []) (λ _. last) new) → DeclaresFirst numbers more old declared new
+    → last ≡ declared (declared_at mid (get_or numbers n d)) → ((all : List (List ℕ)) (name : List ℕ) → AreDistinct all → IsNameNumber all (get_or numbers n d) name → Declares all mid (name ∷ []) (λ _. last) new) → DeclaresFirst numbers more old declared new
 declares_first numbers n more d old mid new declared last s l again first w m all symbols distinct are =
     let there = number_at all numbers symbols n d are l in
     let count = are.count in
@@ -126,7 +127,7 @@ declares_first numbers n more d old mid new declared last s l again first w m al
     (w ∙ ap declared (declared_named all mid (get_or numbers n d) (get_or symbols n []) distinct there)) (m all (get_or symbols n []) distinct there)
 
 -- and so are all
-pub declares_all : (numbers : List ℕ) (n : ℕ) (old new : Tables) (declared : Option Declared → Declared) → length numbers ≤ n → DeclaresFirst numbers n old declared new → (all symbols : List (List ℕ)) → AreDistinct all → AreNumbersOf all numbers symbols → Declares all old symbols declared new
+pub declares_all : (numbers : List ℕ) (n : ℕ) (old new : Tables) (declared : Option Declared → Declared) → length numbers ≤ n → DeclaresFirst numbers n old declared new → (all symbols : List (List ℕ)) → AreDistinct all → AreNameNumbers all numbers symbols → Declares all old symbols declared new
 declares_all numbers n old new declared l first all symbols distinct are =
     let count = are.count in
     subst (λ names. Declares all old names declared new) (take_all n symbols (omega (arith, l, count))) (first all symbols distinct are)
@@ -193,7 +194,7 @@ constant_in before name = by_test (has (constants before) name) (last_where (dec
     by_test false (Some d) t = refl
 
 -- what is told by the number of a name
-pub known_at : (all : List (List ℕ)) (before : List Item) (tables : Tables) (n : ℕ) (name : List ℕ) → Knows all before tables → IsName all n name → declared_at tables n ≡ declared_in before name
+pub known_at : (all : List (List ℕ)) (before : List Item) (tables : Tables) (n : ℕ) (name : List ℕ) → Knows all before tables → IsNameNumber all n name → declared_at tables n ≡ declared_in before name
 known_at all before tables n name k there = declared_named all tables n name k.distinct there ∙ k.names name
 
 -- what one more item of a kind makes of what a name is declared as
@@ -300,11 +301,12 @@ takes_constants all item number old new d = record { names = d.names; labels = d
 pub takes_variables : (all : List (List ℕ)) (item : Item) (number : ℕ) (old new : Tables) → Declares all old item.symbols (λ told. Variable number (float_of told)) new → Takes all Variables item number old new
 takes_variables all item number old new d = record { names = d.names; labels = d.labels }
 
-pub takes_float : (all : List (List ℕ)) (item : Item) (number : ℕ) (old mid new : Tables) → Types all old (meant.variable_of item) number mid → Carries all mid (option_to_list item.label) number new → Takes all Floating item number old new
+pub takes_float : (all : List (List ℕ)) (item : Item) (number : ℕ) (old mid new : Tables) → TypesName all old (meant.variable_of item) number mid → Carries all mid (option_to_list item.label) number new → Takes all Floating item number old new
 takes_float all item number old mid new t c = record { names = λ name. c.names name ∙ t.names name; labels = λ label. c.labels label ∙ ap (cond (has (option_to_list item.label) label) (Some number)) (t.labels label) }
 
 -- a sound `$f` has a second symbol
-pub takes_sound_float : (all : List (List ℕ)) (before : List Item) (item : Item) (number : ℕ) (old mid new : Tables) → IsSound before item → Floating ≡ item.kind → (1 < length item.symbols → Types all old (meant.variable_of item) number mid) → Carries all mid (option_to_list item.label) number new
+pub takes_sound_float : (all : List (List ℕ)) (before : List Item) (item : Item) (number : ℕ) (old mid new : Tables) → IsSound before item → Floating ≡ item.kind
+    → (1 < length item.symbols → TypesName all old (meant.variable_of item) number mid) → Carries all mid (option_to_list item.label) number new
     → Takes all Floating item number old new
 takes_sound_float all before item number old mid new s e t c =
     let two = float_two before item s (ap is_floating (sym e)) in

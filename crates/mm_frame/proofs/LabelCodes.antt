@@ -9,7 +9,7 @@ use Rattle.std.proofs.lemmas.Bool.{false≢true, cases_Bool, cond-true, cond-fal
 use Rattle.std.proofs.lemmas.Bool.Decides.{Decides-eqb}
 use Rattle.std.proofs.lemmas.Slice.Eq.{bytes_eq-Decides}
 use Rattle.mm_frame.specs.declared.label_numbers.LabelNumbers.{LabelNumbers}
-use Rattle.mm_frame.specs.Code.KeptLabels.{are_ascii, label_code, is_short, label_number}
+use Rattle.mm_frame.specs.Code.KeptLabels.{are_ascii, label_code, is_coded, label_number}
 use Rattle.mm_frame.proofs.Facts.{and_both}
 
 code_positive : (bs : List ℕ) → 1 ≤ label_code bs
@@ -49,8 +49,8 @@ same_code xs ys s t = elim (cases_Bool (bytes_eq xs ys)) [
 ]
 
 -- a label that is short is no other than one that is
-other_length : (xs ys : List ℕ) (b : Bool) → is_short xs ≡ b → is_short ys ≡ not b → bytes_eq xs ys ≡ false
-other_length xs ys b s t = false_from_ne_true (bytes_eq xs ys) (λ e. apart b (sym s ∙ ap is_short ((bytes_eq-Decides xs ys).0 e) ∙ t))
+other_length : (xs ys : List ℕ) (b : Bool) → is_coded xs ≡ b → is_coded ys ≡ not b → bytes_eq xs ys ≡ false
+other_length xs ys b s t = false_from_ne_true (bytes_eq xs ys) (λ e. apart b (sym s ∙ ap is_coded ((bytes_eq-Decides xs ys).0 e) ∙ t))
   where
     apart : (b : Bool) → b ≡ not b → ⊥
     apart true e = false≢true (sym e)
@@ -79,13 +79,13 @@ inserted ks bs m n x e h cs =
     written ks m n x h cs ∙ ap (λ l. cond (bytes_eq l cs) (Some x) (get_by (λ k. bytes_eq cs k.items) m)) e
 
 -- what is kept behind one more short label
-pub short_put : (old new : LabelNumbers) (label other : List ℕ) (number : ℕ) → is_short label ≡ true → new.long ≡ old.long
+pub short_put : (old new : LabelNumbers) (label other : List ℕ) (number : ℕ) → is_coded label ≡ true → new.long ≡ old.long
     → ((d : ℕ) → get_by (nat_eq d) new.short ≡ cond (nat_eq (label_code label) d) (Some number) (get_by (nat_eq d) old.short))
     → label_number new other ≡ cond (bytes_eq label other) (Some number) (label_number old other)
 unfolding label_number
-short_put old new label other number s long put = by_length (is_short other) refl
+short_put old new label other number s long put = by_length (is_coded other) refl
   where
-    by_length : (b : Bool) → is_short other ≡ b
+    by_length : (b : Bool) → is_coded other ≡ b
         → cond b (get_by (nat_eq (label_code other)) new.short) (get_by (λ key. bytes_eq other key.items) new.long)
         ≡ cond (bytes_eq label other) (Some number) (cond b (get_by (nat_eq (label_code other)) old.short) (get_by (λ key. bytes_eq other key.items) old.long))
     by_length true t =
@@ -96,13 +96,13 @@ short_put old new label other number s long put = by_length (is_short other) ref
         ∙ ap (λ b. cond b (Some number) (get_by (λ key. bytes_eq other key.items) old.long)) (sym (other_length label other true s t))
 
 -- what is kept behind one more long label
-pub long_put : (old new : LabelNumbers) (label other : List ℕ) (number : ℕ) → is_short label ≡ false → new.short ≡ old.short
+pub long_put : (old new : LabelNumbers) (label other : List ℕ) (number : ℕ) → is_coded label ≡ false → new.short ≡ old.short
     → ((cs : List ℕ) → get_by (λ key. bytes_eq cs key.items) new.long ≡ cond (bytes_eq label cs) (Some number) (get_by (λ key. bytes_eq cs key.items) old.long))
     → label_number new other ≡ cond (bytes_eq label other) (Some number) (label_number old other)
 unfolding label_number
-long_put old new label other number s short put = by_length (is_short other) refl
+long_put old new label other number s short put = by_length (is_coded other) refl
   where
-    by_length : (b : Bool) → is_short other ≡ b
+    by_length : (b : Bool) → is_coded other ≡ b
         → cond b (get_by (nat_eq (label_code other)) new.short) (get_by (λ key. bytes_eq other key.items) new.long)
         ≡ cond (bytes_eq label other) (Some number) (cond b (get_by (nat_eq (label_code other)) old.short) (get_by (λ key. bytes_eq other key.items) old.long))
     by_length true t =

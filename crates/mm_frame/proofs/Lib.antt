@@ -1,7 +1,7 @@
 pub mod Members
-pub mod Scopes
+pub mod ActiveBySplit
 pub mod Facts
-pub mod Judged
+pub mod FoundFaults
 pub mod Stack
 pub mod Rows
 pub mod Heights
@@ -13,11 +13,11 @@ pub mod NumberLemmas
 pub mod TableLemmas
 pub mod HypothesisNumbers
 pub mod BlockLemmas
-pub mod JudgingLemmas
-pub mod PairLemmas
+pub mod FaultReading
+pub mod ActivePairLemmas
 pub mod KnownLemmas
 pub mod FaultLemmas
-pub mod ScopingLemmas
+pub mod KeptScopeLemmas
 pub mod Rising
 pub mod EndLemmas
 pub mod MandatoryLemmas

@@ -20,16 +20,16 @@ use Rattle.mm_frame.specs.Language.Framing.{symbol, expression, mandatory_variab
 use Rattle.mm_frame.specs.Code.LastItems.{last_where, types, is_active_at, is_essential_item, IsHypothesisNumber}
 use Rattle.mm_frame.specs.declared.symbol.NumberedSymbol.{NumberedSymbol}
 use Rattle.mm_frame.specs.declared.tables.Tables.{Tables}
-use Rattle.mm_frame.specs.Code.Numbers.{IsName}
+use Rattle.mm_frame.specs.Code.Numbers.{IsNameNumber}
 use Rattle.mm_frame.specs.Code.KeptTables.{Knows, declared_at, float_of}
-use Rattle.mm_frame.specs.Code.CodeSymbols.{symbol_of, symbols_of, IsNumbered, AreRead}
+use Rattle.mm_frame.specs.Language.NumberedSymbols.{symbol_of, symbols_of, IsNumbered, AreSymbolsRead}
 use Rattle.mm_frame.specs.Code.KeptSymbols.{expression_kept, AreExpressions, AreNumbered, float_number, float_numbers}
 use Rattle.mm_frame.proofs.Members.{In, in_contains, contains_in, in_left, in_right, in_cases, in_map, from_map, in_filter, from_filter, in_flat, from_flat, from_symbols, to_symbols}
 use Rattle.mm_frame.proofs.Frames.{assertion_expression, essential_expression, expression_labelled}
 use Rattle.mm_frame.proofs.NumberLemmas.{declared_named, name_there}
 use Rattle.mm_frame.proofs.KnownLemmas.{float_in}
 use Rattle.mm_frame.proofs.HypothesisNumbers.{to_active_number, from_active_number, sound_typed, mandatory_numbers_built}
-use Rattle.mm_frame.proofs.PairLemmas.{expression_at_number, active_at_number, number_of_active}
+use Rattle.mm_frame.proofs.ActivePairLemmas.{expression_at_number, active_at_number, number_of_active}
 
 -- the number of the `$f` of a variable
 under : (b : Bool) (n : ℕ) (o : Option ℕ) → In n (cond b (option_to_list o) []) → (b ≡ true) × (o ≡ Some n)
@@ -41,11 +41,11 @@ under false n o h = absurd h
 to_under : (b : Bool) (n : ℕ) (o : Option ℕ) → b ≡ true → o ≡ Some n → In n (cond b (option_to_list o) [])
 to_under b n o t e = subst (λ c. In n (cond c (option_to_list o) [])) (sym t) (subst (λ p. In n (option_to_list p)) (sym e) (inl refl))
 
-float_last : (all : List (List ℕ)) (before : List Item) (tables : Tables) (n : ℕ) (name : List ℕ) → AreSound before → Knows all before tables → IsName all n name → float_of (declared_at tables n) ≡ last_where (types name) before
+float_last : (all : List (List ℕ)) (before : List Item) (tables : Tables) (n : ℕ) (name : List ℕ) → AreSound before → Knows all before tables → IsNameNumber all n name → float_of (declared_at tables n) ≡ last_where (types name) before
 float_last all before tables n name h k there = ap float_of (declared_named all tables n name k.distinct there ∙ k.names name) ∙ float_in before h name
 
 -- a symbol that is kept, and its name
-name_of : (all : List (List ℕ)) (kept : List NumberedSymbol) (symbol : NumberedSymbol) → All (IsNumbered all) kept → In symbol kept → IsName all symbol.name (name_at all symbol.name)
+name_of : (all : List (List ℕ)) (kept : List NumberedSymbol) (symbol : NumberedSymbol) → All (IsNumbered all) kept → In symbol kept → IsNameNumber all symbol.name (name_at all symbol.name)
 name_of all kept symbol a m = name_there all symbol.name (All-contains (IsNumbered all) kept symbol a (in_contains symbol kept m))
 
 float_from : (all : List (List ℕ)) (before : List Item) (tables : Tables) (kept : List NumberedSymbol) (n : ℕ) → AreSound before → Knows all before tables → All (IsNumbered all) kept → In n (float_numbers tables kept)
@@ -95,7 +95,7 @@ pub record IsAssertionBehind (all : List (List ℕ)) (before : List Item) (item 
   pub numbered : AreNumbered all kept
   pub item_sound : IsSound before item
   pub assertion : is_assertion item.kind ≡ true
-  pub symbols : AreRead all (expression before item) own
+  pub symbols : AreSymbolsRead all (expression before item) own
 
 -- the numbers that are collected
 abbrev pub collected : Tables → List (List NumberedSymbol) → List ℕ → List NumberedSymbol → List ℕ

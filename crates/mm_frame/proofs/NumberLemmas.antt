@@ -12,7 +12,7 @@ use Rattle.std.proofs.lemmas.Option.{same_Some, slice_get_within, slice_get-get_
 use native.Mathlib.Decide.{dec_lt}
 use Rattle.indexmap.specs.IndexSet.{insert_key}
 use Rattle.mm_frame.specs.Language.Names.{Begins, AreDistinct, name_at}
-use Rattle.mm_frame.specs.Code.Numbers.{number_in, IsName, AreNumbersOf}
+use Rattle.mm_frame.specs.Code.Numbers.{number_in, IsNameNumber, AreNameNumbers}
 use Rattle.mm_frame.specs.declared.tables.Tables.{Tables}
 use Rattle.mm_frame.specs.Code.KeptTables.{declared_at, declared_for, table_name}
 
@@ -145,19 +145,19 @@ pub other_number : (m n : ℕ) → (m ≡ n → ⊥) → nat_eq m n ≡ false
 other_number m n h = elim (eqb_tells m n) [ inl p ↦ absurd (h p.1) | inr p ↦ p.0 ]
 
 -- what the tables tell of a name is what they tell by its number
-pub declared_named : (all : List (List ℕ)) (tables : Tables) (n : ℕ) (name : List ℕ) → AreDistinct all → IsName all n name → declared_at tables n ≡ table_name all tables name
+pub declared_named : (all : List (List ℕ)) (tables : Tables) (n : ℕ) (name : List ℕ) → AreDistinct all → IsNameNumber all n name → declared_at tables n ≡ table_name all tables name
 declared_named all tables n name distinct there = ap (declared_for tables) (sym (number_of_named all name n distinct there))
 
 -- the number of a name is below the count of all, and names what stands there
-pub name_within : (all : List (List ℕ)) (n : ℕ) (name : List ℕ) → IsName all n name → n < length all
+pub name_within : (all : List (List ℕ)) (n : ℕ) (name : List ℕ) → IsNameNumber all n name → n < length all
 name_within all n name there = slice_get_within all n name there
 
-pub name_there : (all : List (List ℕ)) (n : ℕ) → n < length all → IsName all n (name_at all n)
+pub name_there : (all : List (List ℕ)) (n : ℕ) → n < length all → IsNameNumber all n (name_at all n)
 name_there all n l = slice_get-get_or all n [] l
 
-pub name_read : (all : List (List ℕ)) (n : ℕ) (name : List ℕ) → IsName all n name → name_at all n ≡ name
+pub name_read : (all : List (List ℕ)) (n : ℕ) (name : List ℕ) → IsNameNumber all n name → name_at all n ≡ name
 name_read all n name there = get_or_from_slice_get all n name [] there
 
 -- one of some numbers is that of the name at its place
-pub number_at : (all : List (List ℕ)) (numbers : List ℕ) (names : List (List ℕ)) (i d : ℕ) → AreNumbersOf all numbers names → i < length numbers → IsName all (get_or numbers i d) (get_or names i [])
+pub number_at : (all : List (List ℕ)) (numbers : List ℕ) (names : List (List ℕ)) (i d : ℕ) → AreNameNumbers all numbers names → i < length numbers → IsNameNumber all (get_or numbers i d) (get_or names i [])
 number_at all numbers names i d h l = h.each i (get_or numbers i d) (slice_get-get_or numbers i d l)

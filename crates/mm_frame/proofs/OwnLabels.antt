@@ -3,7 +3,7 @@ use Rattle.std.proofs.Common.{◌≡◌, ℕ, Bool, true, false, ◌&&◌, ◌||
 use Rattle.std.proofs.lemmas.Bool.{false≢true}
 use Rattle.mm_frame.specs.declared.base.Resolved.TheVariants as answers
 use Rattle.mm_frame.specs.Language.Item.{Kind, Axiom, Theorem, is_assertion, is_essential, is_floating, has, variable_of}
-use Rattle.mm_frame.specs.Code.BlockMarks.{marks_of}
+use Rattle.mm_frame.specs.Code.BlockMarks.{block_marks}
 use Rattle.mm_frame.specs.Language.Sound.{sound_items}
 use Rattle.mm_frame.specs.Language.Framing.{mandatory_variables}
 use Rattle.mm_frame.specs.Language.Base.{BaseView, before, said_at, is_sound_at, IsMandatoryAt}
@@ -30,4 +30,4 @@ pub mandatory_means : (base : BaseView) (i n : ℕ) (label : List ℕ) → IsCar
 mandatory_means base i n label c m =
     let item = said_at base n in
     let kind = hypothesis_kind item.kind (has (mandatory_variables (before base i) (said_at base i)) (variable_of item)) m.mandatory in
-    active_means base i label n (marks_of (sound_items base.said)) refl c m.earlier (no_frame (is_sound_at base n) (is_assertion item.kind) kind) (active_by base (marks_of (sound_items base.said)) i n refl ∙ m.active)
+    active_means base i label n (block_marks (sound_items base.said)) refl c m.earlier (no_frame (is_sound_at base n) (is_assertion item.kind) kind) (active_by base (block_marks (sound_items base.said)) i n refl ∙ m.active)

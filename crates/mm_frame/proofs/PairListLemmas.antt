@@ -28,17 +28,17 @@ use Rattle.mm_frame.specs.Language.Scope.{stays, active_numbers}
 use Rattle.mm_frame.specs.Language.Sound.{AreSound, sound_items}
 use Rattle.mm_frame.specs.Language.Framing.{expression, pairs_of, active_pairs}
 use Rattle.mm_frame.specs.Code.LastItems.{is_active_at, is_disjoint_item, IsRising}
-use Rattle.mm_frame.specs.Code.CodeSymbols.{symbol_of, symbols_of, pair_of, kept_pairs, IsNumbered, IsPairNumbered, ArePairsRead, AreSamePairsRead}
+use Rattle.mm_frame.specs.Language.NumberedSymbols.{symbol_of, symbols_of, pair_of, kept_pairs, IsNumbered, IsPairNumbered, ArePairsRead, AreSamePairsRead}
 use Rattle.mm_frame.specs.Code.KeptSymbols.{expression_kept, AreSymbols, AreNumbered}
-use Rattle.mm_frame.specs.Code.KeptPairLists.{pairs_among, with_low_first, pairs_or_none, list_kept, IsThere, IsList, list_made, IsMadeFor, AreMade, KeepsLists, IsFront, HasEach, HasSame}
+use Rattle.mm_frame.specs.Code.KeptPairLists.{pairs_among, with_low_first, pairs_or_none, list_kept, IsThere, IsList, list_made, IsMadeFor, AreMade, KeepsLists, AreFrontNumbers, HasEach, HasSame}
 use Rattle.mm_frame.specs.Code.KeptBase.{AreRows, TellsPairs, is_told_proof}
 use Rattle.mm_frame.proofs.Members.{In, in_left, in_right, in_cases, in_get, get_in, in_contains, contains_in, in_map, from_map}
-use Rattle.mm_frame.proofs.Scopes.{stays_join, stays_front}
+use Rattle.mm_frame.proofs.ActiveBySplit.{stays_join, stays_front}
 use Rattle.mm_frame.proofs.SoundItems.{sound_take}
 use Rattle.mm_frame.proofs.BaseLemmas.{rows_more}
 use Rattle.mm_frame.proofs.HypothesisNumbers.{to_active_number, from_active_number, active_numbers_rise, same_rising, above, behind}
 use Rattle.mm_frame.proofs.Rising.{rising_front}
-use Rattle.mm_frame.proofs.PairLemmas.{pairs_at, flat_same, active_pairs_by_numbers}
+use Rattle.mm_frame.proofs.ActivePairLemmas.{pairs_at, flat_same, active_pairs_by_numbers}
 
 -- the last of rising numbers is the greatest
 at_most_last : (numbers : List ℕ) (n : ℕ) → IsRising numbers → slice_get numbers (length numbers - 1) ≡ Some n → (m : ℕ) → In m numbers → m ≤ n
@@ -144,7 +144,7 @@ pairs_of_front a d m h =
     λ i. pairs_of (expression (sym front i) (same i))
 
 -- the active pairs behind so many of the items are those of their active `$d`
-pub front_pairs : (before : List Item) (numbers : List ℕ) (count : ℕ) → AreSound before → IsFront before numbers count → active_pairs (take count before) ≡ flat_map (pairs_at before) numbers
+pub front_pairs : (before : List Item) (numbers : List ℕ) (count : ℕ) → AreSound before → AreFrontNumbers before numbers count → active_pairs (take count before) ≡ flat_map (pairs_at before) numbers
 front_pairs before numbers count h front =
     let a = take count before in
     let d = drop count before in
@@ -153,7 +153,7 @@ front_pairs before numbers count h front =
     active_pairs_by_numbers a (sound_take before count h) ∙ same ∙ (λ i. flat_map (pairs_at (whole i)) (sym front.active i))
 
 -- so the items up to the last active `$d` have the active pairs
-pub whole_front : (before : List Item) (numbers : List ℕ) (count : ℕ) → AreSound before → numbers ≡ active_numbers is_disjoint_item before → IsFront before numbers count → active_pairs (take count before) ≡ active_pairs before
+pub whole_front : (before : List Item) (numbers : List ℕ) (count : ℕ) → AreSound before → numbers ≡ active_numbers is_disjoint_item before → AreFrontNumbers before numbers count → active_pairs (take count before) ≡ active_pairs before
 whole_front before numbers count h e front = front_pairs before numbers count h front ∙ ap (flat_map (pairs_at before)) e ∙ sym (active_pairs_by_numbers before h)
 
 -- the items up to the last of the first active `$d`, and none where there is none
@@ -166,7 +166,7 @@ number_there before numbers rest n e last =
     let r = from_active_number is_disjoint_item before n (subst (In n) e (in_left n numbers rest (get_in n numbers (length numbers - 1) last))) in
     slice_get_within before n r.0 r.1
 
-pub count_of_last : (before : List Item) (numbers rest : List ℕ) (n count : ℕ) → numbers ++ rest ≡ active_numbers is_disjoint_item before → number_last numbers ≡ Some n → count ≡ n + 1 → IsFront before numbers count
+pub count_of_last : (before : List Item) (numbers rest : List ℕ) (n count : ℕ) → numbers ++ rest ≡ active_numbers is_disjoint_item before → number_last numbers ≡ Some n → count ≡ n + 1 → AreFrontNumbers before numbers count
 count_of_last before numbers rest n count e last c =
     let w = number_there before numbers rest n e last in
     let z : suc n ≡ count = omega arith in
@@ -175,7 +175,7 @@ count_of_last before numbers rest n count e last c =
       active = sym (front_numbers is_disjoint_item before numbers rest n e last) ∙ ap (λ k. active_numbers is_disjoint_item (take k before)) z;
     }
 
-pub count_of_none : (before : List Item) (numbers : List ℕ) → number_last numbers ≡ None → IsFront before numbers 0
+pub count_of_none : (before : List Item) (numbers : List ℕ) → number_last numbers ≡ None → AreFrontNumbers before numbers 0
 count_of_none before numbers last = record { within = omega arith; active = none_last numbers last }
 
 pub number_within : (all : List (List ℕ)) (before : List Item) (expressions : List (List NumberedSymbol)) (numbers rest : List ℕ) (n : ℕ) → AreSymbols all before expressions → numbers ++ rest ≡ active_numbers is_disjoint_item before → number_last numbers ≡ Some n → n < length expressions
@@ -345,7 +345,7 @@ pub active_read : (all : List (List ℕ)) (before : List Item) (expressions : Li
     → AreSamePairsRead all (flat_map (pairs_at before) numbers) (flat_map (λ n. pairs_among (expression_kept expressions n)) numbers)
 active_read all before expressions numbers a active = low_read all before expressions numbers a (λ n h. let r = from_active_number is_disjoint_item before n (active n h) in (r.0, r.1, r.3))
 
-pub front_read : (all : List (List ℕ)) (before : List Item) (expressions : List (List NumberedSymbol)) (numbers : List ℕ) (count : ℕ) → AreSound before → AreSymbols all before expressions → IsFront before numbers count
+pub front_read : (all : List (List ℕ)) (before : List Item) (expressions : List (List NumberedSymbol)) (numbers : List ℕ) (count : ℕ) → AreSound before → AreSymbols all before expressions → AreFrontNumbers before numbers count
     → AreSamePairsRead all (active_pairs (take count before)) (flat_map (λ n. pairs_among (expression_kept expressions n)) numbers)
 front_read all before expressions numbers count h a front =
     let listed = flat_map (λ n. pairs_among (expression_kept expressions n)) numbers in
@@ -357,7 +357,7 @@ front_read all before expressions numbers count h a front =
         (r.0, subst (λ w. slice_get w n ≡ Some r.0) (take-append-drop count before) (get_join (take count before) (drop count before) n r.0 r.1), r.3)
 
 -- the pairs behind so many of the items, with those of the `$d` behind, are the active ones
-pub front_and_own : (before : List Item) (outer own : List ℕ) (count : ℕ) → AreSound before → outer ++ own ≡ active_numbers is_disjoint_item before → IsFront before outer count → active_pairs (take count before) ++ flat_map (pairs_at before) own ≡ active_pairs before
+pub front_and_own : (before : List Item) (outer own : List ℕ) (count : ℕ) → AreSound before → outer ++ own ≡ active_numbers is_disjoint_item before → AreFrontNumbers before outer count → active_pairs (take count before) ++ flat_map (pairs_at before) own ≡ active_pairs before
 front_and_own before outer own count h e front =
     ap (λ w. w ++ flat_map (pairs_at before) own) (front_pairs before outer count h front) ∙ sym (flat_map-append (pairs_at before) outer own) ∙ ap (flat_map (pairs_at before)) e ∙ sym (active_pairs_by_numbers before h)
 

@@ -11,11 +11,11 @@ use Rattle.mm_frame.specs.Language.Names.{AreDistinct}
 use Rattle.mm_frame.specs.Language.Scope.{Mark, active}
 use Rattle.mm_frame.specs.Language.Sound.{IsSound, AreSound}
 use Rattle.mm_frame.specs.Language.Framing.{symbol, expression, active_pairs}
-use Rattle.mm_frame.specs.Code.BlockMarks.{stays_by, marks_of}
-use Rattle.mm_frame.specs.Code.CodeSymbols.{as_variable}
+use Rattle.mm_frame.specs.Code.BlockMarks.{stays_by, block_marks}
+use Rattle.mm_frame.specs.Language.NumberedSymbols.{as_variable}
 use Rattle.mm_frame.specs.Code.KeptActive.{IsPruned}
 use Rattle.mm_frame.specs.Code.LastItems.{IsRising, is_active_at}
-use Rattle.mm_frame.specs.Code.Numbers.{IsName, AreNumbersOf}
+use Rattle.mm_frame.specs.Code.Numbers.{IsNameNumber, AreNameNumbers}
 use Rattle.mm_frame.specs.Code.PairOrder.{are_paired, is_among}
 use Rattle.mm_frame.specs.Code.KeptScope.{taken}
 use Rattle.mm_frame.specs.Code.KeptPairTable.{row_at, Puts, PutsAll, AreOnce, IsDisjointAt, IsRow, KnowsPairs, IsCommon, ReadsPairs}
@@ -24,7 +24,7 @@ use Rattle.mm_frame.proofs.Frames.{from_pairs}
 use Rattle.mm_frame.proofs.BlockLemmas.{get_front, get_last, get_cases}
 use Rattle.mm_frame.proofs.Rising.{rising_front, rising_more, in_among, among_in}
 use Rattle.mm_frame.proofs.EndLemmas.{active_at_front, active_by_marks}
-use Rattle.mm_frame.proofs.PairLemmas.{active_at_number, number_of_active, SameNames, in_order, found_pair, to_paired, pair_here, pair_turned, AreUnrepeated, disjoint_unrepeated, from_active_pairs, to_active_pairs, apart_active}
+use Rattle.mm_frame.proofs.ActivePairLemmas.{active_at_number, number_of_active, SameNames, in_order, found_pair, to_paired, pair_here, pair_turned, AreUnrepeated, disjoint_unrepeated, from_active_pairs, to_active_pairs, apart_active}
 
 -- a number is put into one row after another
 in_take : (names : List ℕ) (k n : ℕ) → In n (take k names) → (i : ℕ) × (i < k) × (slice_get names i ≡ Some n)
@@ -105,7 +105,7 @@ pub pairs_passed : (all : List (List ℕ)) (before : List Item) (item : Item) (s
 pairs_passed all before item sound table h k = pairs_other all before (taken sound item) table (not_disjoint item sound h) k
 
 -- which is a `$d` that has the name
-row_next : (before : List Item) (item : Item) (name : List ℕ) (row left : List ℕ) (marks : List Mark) → is_disjoint item.kind ≡ true → has item.symbols name ≡ true → marks ≡ marks_of before → IsRow before name row → IsPruned marks row left
+row_next : (before : List Item) (item : Item) (name : List ℕ) (row left : List ℕ) (marks : List Mark) → is_disjoint item.kind ≡ true → has item.symbols name ≡ true → marks ≡ block_marks before → IsRow before name row → IsPruned marks row left
     → IsRow (before ++ item ∷ []) name (left ++ length before ∷ [])
 row_next before item name row left marks d h m r p = record {
   rising = rising_more left (length before) (rising_front left p.gone (subst IsRising p.parts r.rising)) (λ n i. (let at = old n i in slice_get_within before n at.item at.there));
@@ -131,13 +131,13 @@ row_next before item name row left marks d h m r p = record {
     ]
 
 -- the numbers of names
-name_at_place : (all : List (List ℕ)) (numbers : List ℕ) (names : List (List ℕ)) (i n : ℕ) (name : List ℕ) → AreNumbersOf all numbers names → slice_get numbers i ≡ Some n → IsName all n name → slice_get names i ≡ Some name
+name_at_place : (all : List (List ℕ)) (numbers : List ℕ) (names : List (List ℕ)) (i n : ℕ) (name : List ℕ) → AreNameNumbers all numbers names → slice_get numbers i ≡ Some n → IsNameNumber all n name → slice_get names i ≡ Some name
 name_at_place all numbers names i n name a e there =
     let w = slice_get_within numbers i n e in
     let count = a.count in
     slice_get-get_or names i [] (omega arith) ∙ sym (a.each i n e) ∙ there
 
-number_at_place : (all : List (List ℕ)) (numbers : List ℕ) (names : List (List ℕ)) (i n : ℕ) (name : List ℕ) → AreDistinct all → AreNumbersOf all numbers names → slice_get names i ≡ Some name → IsName all n name → slice_get numbers i ≡ Some n
+number_at_place : (all : List (List ℕ)) (numbers : List ℕ) (names : List (List ℕ)) (i n : ℕ) (name : List ℕ) → AreDistinct all → AreNameNumbers all numbers names → slice_get names i ≡ Some name → IsNameNumber all n name → slice_get numbers i ≡ Some n
 number_at_place all numbers names i n name distinct a e there =
     let w = slice_get_within names i name e in
     let count = a.count in
@@ -151,7 +151,7 @@ place_in (x ∷ names) i zero name e l = absurd (omega arith)
 place_in (x ∷ names) zero (suc k) name e l = inl (same_Some x name e)
 place_in (x ∷ names) (suc i) (suc k) name e l = inr (place_in names i k name e (omega arith))
 
-numbers_once : (all : List (List ℕ)) (numbers : List ℕ) (names : List (List ℕ)) → AreNumbersOf all numbers names → AreUnrepeated names → AreOnce numbers
+numbers_once : (all : List (List ℕ)) (numbers : List ℕ) (names : List (List ℕ)) → AreNameNumbers all numbers names → AreUnrepeated names → AreOnce numbers
 numbers_once all numbers names a u i j n p q = elim (dec_lt i j) [
   | yes l ↦ absurd (later i j p q l)
   | no no_less ↦ elim (dec_lt j i) [
@@ -170,8 +170,8 @@ numbers_once all numbers names a u i j n p q = elim (dec_lt i j) [
         false≢true (sym (u j name second) ∙ in_has (take j names) name (place_in names i j name first l))
 
 -- a sound `$d` goes into the rows of its variables
-pub pairs_taken : (all : List (List ℕ)) (before : List Item) (item : Item) (numbers : List ℕ) (old new : PairTable) (marks : List Mark) (number : ℕ) → AreDistinct all → IsSound before item → is_disjoint item.kind ≡ true → AreNumbersOf all numbers item.symbols
-    → length before ≡ number → marks ≡ marks_of before → KnowsPairs all before old → (AreOnce numbers → PutsAll old marks numbers number new) → KnowsPairs all (before ++ item ∷ []) new
+pub pairs_taken : (all : List (List ℕ)) (before : List Item) (item : Item) (numbers : List ℕ) (old new : PairTable) (marks : List Mark) (number : ℕ) → AreDistinct all → IsSound before item → is_disjoint item.kind ≡ true → AreNameNumbers all numbers item.symbols
+    → length before ≡ number → marks ≡ block_marks before → KnowsPairs all before old → (AreOnce numbers → PutsAll old marks numbers number new) → KnowsPairs all (before ++ item ∷ []) new
 pairs_taken all before item numbers old new marks number distinct sound d are l m k takes n name there = by_test (is_among numbers n) refl
   where
     puts : PutsAll old marks numbers number new
@@ -246,7 +246,7 @@ paired_to before x y n apart p = elim (in_order (symbol before x) (symbol before
     there name h = in_map (symbol before) name item.symbols (has_in item.symbols name h)
 
 -- activity by the marks, as a question reads it
-active_at_marks : (before : List Item) (marks : List Mark) (n : ℕ) → marks ≡ marks_of before → is_active_at before n ≡ stays_by (drop (suc n) marks)
+active_at_marks : (before : List Item) (marks : List Mark) (n : ℕ) → marks ≡ block_marks before → is_active_at before n ≡ stays_by (drop (suc n) marks)
 active_at_marks before marks n e = let z : n + 1 ≡ suc n = omega arith in active_by_marks before n ∙ (λ i. stays_by (drop (z i) (sym e i)))
 
 -- what two rows have in common tells whether the names are an active pair
@@ -256,7 +256,7 @@ HaveCommon marks row other = (n : ℕ) × IsCommon marks row other n
 abbrev HaveNone : List Mark → List ℕ → List ℕ → Type 0
 HaveNone marks row other = (n : ℕ) → IsCommon marks row other n → ⊥
 
-rows_told : (all : List (List ℕ)) (before : List Item) (table : PairTable) (blocks : List Mark) (first second : ℕ) (x y : List ℕ) (r : Bool) → ReadsPairs all before table blocks → IsName all first x → IsName all second y → (first ≡ second → ⊥)
+rows_told : (all : List (List ℕ)) (before : List Item) (table : PairTable) (blocks : List Mark) (first second : ℕ) (x y : List ℕ) (r : Bool) → ReadsPairs all before table blocks → IsNameNumber all first x → IsNameNumber all second y → (first ≡ second → ⊥)
     → MatchBool r (HaveCommon blocks (row_at table first) (row_at table second)) (HaveNone blocks (row_at table first) (row_at table second)) → r ≡ are_paired (active_pairs before) (as_variable x, as_variable y)
 rows_told all before table blocks first second x y true k a b apart c =
     let common = c.1 in
@@ -271,7 +271,7 @@ rows_told all before table blocks first second x y false k a b apart c = sym (fa
     c p.1 ((k.knows first x a).cover p.1 have.first have.stayed, (k.knows second y b).cover p.1 have.second have.stayed, sym (active_at_marks before blocks p.1 k.marks) ∙ have.stayed)))
 
 pub pair_told : (all : List (List ℕ)) (before : List Item) (table : PairTable) (blocks : List Mark) (first second : ℕ) (row other : List ℕ) (x y : List ℕ) (r : Bool) → row ≡ row_at table first → other ≡ row_at table second → ReadsPairs all before table blocks
-    → IsName all first x → IsName all second y → (first ≡ second → ⊥) → (IsRising other → MatchBool r (HaveCommon blocks row other) (HaveNone blocks row other)) → r ≡ are_paired (active_pairs before) (as_variable x, as_variable y)
+    → IsNameNumber all first x → IsNameNumber all second y → (first ≡ second → ⊥) → (IsRising other → MatchBool r (HaveCommon blocks row other) (HaveNone blocks row other)) → r ≡ are_paired (active_pairs before) (as_variable x, as_variable y)
 pair_told all before table blocks first second row other x y r e f k a b apart c =
     rows_told all before table blocks first second x y r k a b apart (subst (λ w. MatchBool r (HaveCommon blocks w (row_at table second)) (HaveNone blocks w (row_at table second))) e
     (subst (λ w. MatchBool r (HaveCommon blocks row w) (HaveNone blocks row w)) f (c (subst IsRising (sym f) (k.knows second y b).rising))))
@@ -282,15 +282,15 @@ common_turned marks row other true c = let common = c.1 in (c.0, (common.1, comm
 common_turned marks row other false c = λ n common. c n (common.1, common.0, common.2)
 
 pub pair_turned_told : (all : List (List ℕ)) (before : List Item) (table : PairTable) (blocks : List Mark) (first second : ℕ) (row other : List ℕ) (x y : List ℕ) (r : Bool) → row ≡ row_at table first → other ≡ row_at table second → ReadsPairs all before table blocks
-    → IsName all first x → IsName all second y → (first ≡ second → ⊥) → (IsRising row → MatchBool r (HaveCommon blocks other row) (HaveNone blocks other row)) → r ≡ are_paired (active_pairs before) (as_variable x, as_variable y)
+    → IsNameNumber all first x → IsNameNumber all second y → (first ≡ second → ⊥) → (IsRising row → MatchBool r (HaveCommon blocks other row) (HaveNone blocks other row)) → r ≡ are_paired (active_pairs before) (as_variable x, as_variable y)
 pair_turned_told all before table blocks first second row other x y r e f k a b apart c =
     pair_told all before table blocks first second row other x y r e f k a b apart (λ _. common_turned blocks other row r (c (subst IsRising (sym e) (k.knows first x a).rising)))
 
 -- a name and itself are no active pair, and a name that no `$d` has is in none
-pub same_told : (all : List (List ℕ)) (before : List Item) (n : ℕ) (x y : List ℕ) → AreSound before → IsName all n x → IsName all n y → are_paired (active_pairs before) (as_variable x, as_variable y) ≡ false
+pub same_told : (all : List (List ℕ)) (before : List Item) (n : ℕ) (x y : List ℕ) → AreSound before → IsNameNumber all n x → IsNameNumber all n y → are_paired (active_pairs before) (as_variable x, as_variable y) ≡ false
 same_told all before n x y h a b = false_from_ne_true (are_paired (active_pairs before) (as_variable x, as_variable y)) (λ t. (paired_from before x y h t).0 (same_Some x y (sym a ∙ b)))
 
-pub none_told : (all : List (List ℕ)) (before : List Item) (table : PairTable) (blocks : List Mark) (n : ℕ) (x y : List ℕ) → ReadsPairs all before table blocks → IsName all n x → row_at table n ≡ [] → are_paired (active_pairs before) (as_variable x, as_variable y) ≡ false
+pub none_told : (all : List (List ℕ)) (before : List Item) (table : PairTable) (blocks : List Mark) (n : ℕ) (x y : List ℕ) → ReadsPairs all before table blocks → IsNameNumber all n x → row_at table n ≡ [] → are_paired (active_pairs before) (as_variable x, as_variable y) ≡ false
 none_told all before table blocks n x y k a e = false_from_ne_true (are_paired (active_pairs before) (as_variable x, as_variable y)) (λ t.
     let p = paired_from before x y k.sound t in
     let have = p.2 in

@@ -9,7 +9,7 @@ use Rattle.mm_frame.specs.declared.base.Resolved.TheVariants as answers
 use Rattle.mm_frame.specs.Language.Frame.{Hypothesis, Assertion, Inactive, Unknown}
 use Rattle.mm_frame.specs.Language.Item.{Item, is_labelled, is_assertion, has, labels_of}
 use Rattle.mm_frame.specs.Language.Scope.{Mark, mark_of, stays}
-use Rattle.mm_frame.specs.Code.BlockMarks.{stays_by, marks_of}
+use Rattle.mm_frame.specs.Code.BlockMarks.{stays_by, block_marks}
 use Rattle.mm_frame.specs.Language.Sound.{sound_items}
 use Rattle.mm_frame.specs.Language.Framing.{expression, meaning, resolve}
 use Rattle.mm_frame.specs.Code.LastItems.{carries}
@@ -18,7 +18,7 @@ use Rattle.mm_frame.specs.Code.KeptBase.{find_in}
 use Rattle.mm_frame.specs.Language.Resolving.{IsCarrier, IsLabelOf, Resolves}
 use Rattle.mm_frame.proofs.Members.{in_get}
 use Rattle.mm_frame.proofs.SoundItems.{split_at, resolve_meaning, no_item_unknown}
-use Rattle.mm_frame.proofs.PairLemmas.{expression_at_number}
+use Rattle.mm_frame.proofs.ActivePairLemmas.{expression_at_number}
 use Rattle.mm_frame.proofs.TableLemmas.{label_first}
 use Rattle.mm_frame.proofs.HypothesisNumbers.{last_there}
 use Rattle.mm_frame.proofs.BlockLemmas.{stays_of}
@@ -96,7 +96,7 @@ hypothesis_means : (base : BaseView) (i : ℕ) (label : List ℕ) (j : ℕ) → 
 hypothesis_means base i label j f t = f.means ∙ ap (λ b. cond b (Assertion (frame_at base j)) (cond (stays (drop (suc j) (before base i))) (Hypothesis (expression (before base i) (said_at base j))) Inactive)) (no_assertion base j f.labels.carrier.shown t)
 
 -- activity by what the items do to the blocks
-pub active_by : (base : BaseView) (marks : List Mark) (i j : ℕ) → marks ≡ marks_of (sound_items base.said) → stays_by (drop (suc j) (take i marks)) ≡ stays (drop (suc j) (before base i))
+pub active_by : (base : BaseView) (marks : List Mark) (i j : ℕ) → marks ≡ block_marks (sound_items base.said) → stays_by (drop (suc j) (take i marks)) ≡ stays (drop (suc j) (before base i))
 active_by base marks i j m =
     ap (λ w. stays_by (drop (suc j) (take i w))) m
     ∙ ap (λ w. stays_by (drop (suc j) w)) (take-map (λ (item : Item). mark_of item.kind) i (sound_items base.said))
@@ -104,7 +104,7 @@ active_by base marks i j m =
     ∙ sym (stays_of (drop (suc j) (take i (sound_items base.said))))
     ∙ ap (λ w. stays (drop (suc j) w)) (kept_front base.said i)
 
-pub active_means : (base : BaseView) (i : ℕ) (label : List ℕ) (j : ℕ) (marks : List Mark) → marks ≡ marks_of (sound_items base.said) → IsCarrier base label j → j < i → is_framed_at base j ≡ false → stays_by (drop (suc j) (take i marks)) ≡ true → Resolves base i label (answers.Hypothesis j)
+pub active_means : (base : BaseView) (i : ℕ) (label : List ℕ) (j : ℕ) (marks : List Mark) → marks ≡ block_marks (sound_items base.said) → IsCarrier base label j → j < i → is_framed_at base j ≡ false → stays_by (drop (suc j) (take i marks)) ≡ true → Resolves base i label (answers.Hypothesis j)
 active_means base i label j marks m e l t a =
     let f = is_found base i label j e l in
     let item = said_at base j in
@@ -113,7 +113,7 @@ active_means base i label j marks m e l t a =
     let read = expression_at_number (before base i) (kept_are_sound (take i base.said)) j item f.there s p.1 ∙ ap (λ w. expression w item) f.front in
     (f.labels, hypothesis_means base i label j f t ∙ ap (λ b. cond b (Hypothesis (expression (before base i) item)) Inactive) s ∙ ap Hypothesis read)
 
-pub inactive_means : (base : BaseView) (i : ℕ) (label : List ℕ) (j : ℕ) (marks : List Mark) → marks ≡ marks_of (sound_items base.said) → IsCarrier base label j → j < i → is_framed_at base j ≡ false → stays_by (drop (suc j) (take i marks)) ≡ false → Resolves base i label answers.Inactive
+pub inactive_means : (base : BaseView) (i : ℕ) (label : List ℕ) (j : ℕ) (marks : List Mark) → marks ≡ block_marks (sound_items base.said) → IsCarrier base label j → j < i → is_framed_at base j ≡ false → stays_by (drop (suc j) (take i marks)) ≡ false → Resolves base i label answers.Inactive
 inactive_means base i label j marks m e l t a =
     let f = is_found base i label j e l in
     let s = sym (active_by base marks i j m) ∙ a in

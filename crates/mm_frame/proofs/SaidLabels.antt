@@ -11,7 +11,7 @@ use Rattle.mm_frame.specs.Language.Sound.{closing_word, at_symbol, is_third, is_
 use Rattle.mm_frame.specs.Language.Statement.{kind_of, token_names, symbols_in, label_in, item_of, Says}
 use Rattle.mm_frame.specs.Language.Item.{item_at}
 use Rattle.mm_frame.specs.Language.Base.{BaseView, AreSaid, before, said_at, is_sound_at, is_shown_at}
-use Rattle.mm_frame.proofs.Judged.{no_fault_sound}
+use Rattle.mm_frame.proofs.FoundFaults.{no_fault_sound}
 use Rattle.mm_frame.proofs.BaseLemmas.{none_told}
 
 short_kind : (kind : Kind) → is_labelled kind ≡ true → is_short kind 0 ≡ true

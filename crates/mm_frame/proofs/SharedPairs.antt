@@ -12,7 +12,7 @@ use Rattle.mm_frame.specs.Language.Frame.{Symbol, ArePair, AreSamePairs}
 use Rattle.mm_frame.specs.Language.Framing.{active_pairs}
 use Rattle.mm_frame.specs.Language.Names.{AreDistinct}
 use Rattle.mm_frame.specs.Language.Base.{BaseView, before, said_at, is_proof_at}
-use Rattle.mm_frame.specs.Code.CodeSymbols.{pair_of, kept_pairs, IsPairNumbered}
+use Rattle.mm_frame.specs.Language.NumberedSymbols.{pair_of, kept_pairs, IsPairNumbered}
 use Rattle.mm_frame.specs.Code.KeptPairLists.{list_kept}
 use Rattle.mm_frame.specs.Code.KeptBase.{TellsPairs}
 use Rattle.mm_frame.proofs.Members.{in_contains, contains_in, contains_cases, get_in, in_map, from_map}

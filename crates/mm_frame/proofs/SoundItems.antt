@@ -11,7 +11,7 @@ use Rattle.mm_frame.specs.Language.Sound.{is_label, IsSound, AreSound}
 use Rattle.mm_frame.specs.Language.Framing.{symbol, expression, meaning, resolve_from, resolve}
 use Rattle.mm_frame.proofs.Members.{In, in_flat, in_get, has_in, in_has}
 use Rattle.mm_frame.proofs.Facts.{AreKept, sound_at, kept_front, not_constant, first_constant, known, float_variable, float_two}
-use Rattle.mm_frame.proofs.Judged.{kept_more}
+use Rattle.mm_frame.proofs.FoundFaults.{kept_more}
 use Rattle.mm_frame.proofs.Frames.{constants_later, variables_later}
 
 -- an item by its number

@@ -7,10 +7,10 @@ use Rattle.std.proofs.lemmas.List.{drop-map, drop-drop, take-map, append-nil, le
 use Rattle.std.proofs.lemmas.Simd.{map-map}
 use Rattle.mm_text.specs.declared.word.Word.{Word}
 use Rattle.mm_text.specs.declared.word.WordKind.TheVariants.{Plain}
-use Rattle.mm_text.specs.Code.WordsLeft.{SkipsPlainWords}
+use Rattle.mm_text.specs.Language.WordsLeft.{SkipsPlainWords}
 use Rattle.mm_text.specs.Language.Unit.{Token, token_of, tokens_of, spellings}
 use Rattle.mm_frame.specs.Language.Item.{Kind, Item, is_labelled}
-use Rattle.mm_frame.specs.Code.PlainWords.{TakesLabel, bytes_in, plain_words, plain_bytes}
+use Rattle.mm_frame.specs.Code.PlainWords.{TakesLabel, word_bytes, plain_words, plain_bytes}
 use Rattle.mm_frame.specs.Language.Statement.{is_plain_kind, is_plain, token_names, plain_from, symbols_from, symbols_in, proof_in, label_in, item_of}
 
 prefix_len-map : {X Y : Type 0} (f : X → Y) (p : Y → Bool) (xs : List X) → prefix_len p (map f xs) ≡ prefix_len (λ x. p (f x)) xs
@@ -37,8 +37,8 @@ pub plain_end : (word : Word) (words : List Word) → is_plain_kind word.kind �
 plain_end word words keyword = ap (λ b. take (cond b (1 + prefix_len (λ (w : Word). is_plain_kind w.kind) words) 0) (word ∷ words)) keyword
 
 -- the words of a proof with a word in front
-pub proof_more : (text : List ℕ) (old new : List Word) (word : Word) → old ≡ word ∷ new → is_plain_kind word.kind ≡ true → plain_bytes text old ≡ bytes_in text word ∷ plain_bytes text new
-proof_more text old new word e plain = ap (plain_bytes text) e ∙ ap (map (bytes_in text)) (plain_more word new plain)
+pub proof_more : (text : List ℕ) (old new : List Word) (word : Word) → old ≡ word ∷ new → is_plain_kind word.kind ≡ true → plain_bytes text old ≡ word_bytes text word ∷ plain_bytes text new
+proof_more text old new word e plain = ap (plain_bytes text) e ∙ ap (map (word_bytes text)) (plain_more word new plain)
 
 -- ---- symbols
 
@@ -110,7 +110,7 @@ count_names : (tokens : List Token) → length (token_names tokens) ≡ length t
 count_names [] = refl
 count_names (token ∷ tokens) = ap suc (count_names tokens)
 
-count_bytes : (text : List ℕ) (words : List Word) → length (map (bytes_in text) words) ≡ length words
+count_bytes : (text : List ℕ) (words : List Word) → length (map (word_bytes text) words) ≡ length words
 count_bytes text [] = refl
 count_bytes text (word ∷ words) = ap suc (count_bytes text words)
 
@@ -121,7 +121,7 @@ behind_label false words new None h = ap (drop 1) h
 behind_label true words new None h = absurd h
 behind_label false words new (Some word) h = absurd h
 
-label_is : (labelled : Bool) (text : List ℕ) (words new : List Word) (label : Option Word) → TakesLabel labelled words label new → option_map (bytes_in text) label ≡ (if labelled then option_map (λ (token : Token). token.bytes) (slice_get (tokens_of text words) 0) else None)
+label_is : (labelled : Bool) (text : List ℕ) (words new : List Word) (label : Option Word) → TakesLabel labelled words label new → option_map (word_bytes text) label ≡ (if labelled then option_map (λ (token : Token). token.bytes) (slice_get (tokens_of text words) 0) else None)
 label_is true text words new (Some word) h = sym (ap (λ (ws : List Word). option_map (λ (token : Token). token.bytes) (slice_get (tokens_of text ws) 0)) h)
 label_is false text words new None h = refl
 label_is true text words new None h = absurd h
@@ -143,16 +143,16 @@ pub record Reads (kind : Kind) (words : List Word) (label : Option Word) (symbol
   pub all : AllSymbols first rest symbols
 
 pub item_read : (kind : Kind) (text : List ℕ) (words : List Word) (label : Option Word) (symbols rest : List Word) → Reads kind words label symbols rest
-    → ◌≡◌ {A = Item} (record { kind = kind; label = option_map (bytes_in text) label; symbols = map (bytes_in text) symbols; proof = plain_bytes text rest }) (item_of kind (tokens_of text words))
+    → ◌≡◌ {A = Item} (record { kind = kind; label = option_map (word_bytes text) label; symbols = map (word_bytes text) symbols; proof = plain_bytes text rest }) (item_of kind (tokens_of text words))
 item_read kind text words label symbols rest h =
     let from = symbols_from kind in
     let first : h.first ≡ drop from words = h.keyword ∙ behind_label (is_labelled kind) words h.behind label h.takes in
-    let spelled : map (bytes_in text) symbols ≡ token_names (symbols_in kind (tokens_of text words)) = ap (map (bytes_in text)) h.all.are ∙ ap (plain_bytes text) first ∙ sym (names_from text words from) in
+    let spelled : map (word_bytes text) symbols ≡ token_names (symbols_in kind (tokens_of text words)) = ap (map (word_bytes text)) h.all.are ∙ ap (plain_bytes text) first ∙ sym (names_from text words from) in
     let count : length (plain_words h.first) ≡ length (symbols_in kind (tokens_of text words)) = ap length (sym h.all.are) ∙ sym (count_bytes text symbols) ∙ ap length spelled ∙ count_names (symbols_in kind (tokens_of text words)) in
     let places : from + (length (plain_words h.first) + 1) ≡ from + length (symbols_in kind (tokens_of text words)) + 1 = omega (arith, count) in
     let behind : rest ≡ drop (from + length (symbols_in kind (tokens_of text words)) + 1) words = h.all.rest ∙ ap (drop (length (plain_words h.first) + 1)) first ∙ drop-drop (length (plain_words h.first) + 1) from words ∙ ap (λ k. drop k words) places in
     let proof : plain_bytes text rest ≡ token_names (proof_in kind (tokens_of text words)) = ap (plain_bytes text) behind ∙ sym (names_from text words (from + length (symbols_in kind (tokens_of text words)) + 1)) in
-    let labelled : option_map (bytes_in text) label ≡ label_in kind (tokens_of text words) = label_is (is_labelled kind) text words h.behind label h.takes in
+    let labelled : option_map (word_bytes text) label ≡ label_in kind (tokens_of text words) = label_is (is_labelled kind) text words h.behind label h.takes in
     λ i. record { kind = kind; label = labelled i; symbols = spelled i; proof = proof i }
 
 -- ---- how many words are left, and their bytes
@@ -192,7 +192,7 @@ module _ (text : List ℕ) (words : List Word) where
   proof_spelled : take (prefix_len (λ (w : Word). is_plain_kind w.kind) words) (spellings text words) ≡ plain_bytes text words
   proof_spelled =
       let n = prefix_len (λ (w : Word). is_plain_kind w.kind) words in
-      ap (take n) (map-map (λ (token : Token). token.bytes) (token_of text) words) ∙ take-map (bytes_in text) n words
+      ap (take n) (map-map (λ (token : Token). token.bytes) (token_of text) words) ∙ take-map (word_bytes text) n words
 
   pub proof_some : AreSome (spellings text words) → AreSome (plain_bytes text words)
   proof_some h = subst AreSome proof_spelled (some_before (prefix_len (λ (w : Word). is_plain_kind w.kind) words) (spellings text words) h)

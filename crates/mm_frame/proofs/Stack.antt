@@ -4,7 +4,7 @@ use Rattle.std.proofs.lemmas.List.Sums.{sum_by-cons}
 use Rattle.mm_frame.specs.Language.Item.{Item}
 use Rattle.mm_frame.specs.Language.Scope.{Mark, Opens, Closes, Neither, mark_of, closed_at, closed, is_zero, stays, active, opens, closes, is_start, is_end}
 use Rattle.mm_frame.specs.Language.ScopeStack.{all_of, turn, read_scopes, is_statement_mark, statements}
-use Rattle.mm_frame.proofs.Scopes.{closed_none}
+use Rattle.mm_frame.proofs.ActiveBySplit.{closed_none}
 
 -- staying by counts
 pub ends_cons : (x : Item) (xs : List Item) → count_by is_end (x ∷ xs) ≡ cond (closes (mark_of x.kind)) 1 0 + count_by is_end xs

@@ -11,7 +11,7 @@ use Rattle.mm_frame.specs.declared.FrameNumber.TheVariants.{F04, F13}
 use Rattle.mm_frame.specs.Language.Sound.{each, second, is_active_symbol, is_typed_otherwise, IsSound, AreSound}
 use Rattle.mm_frame.specs.Code.LastItems.{number_or_first, last_where, is_active_at, is_active_last, declares_variable, types, carries, is_otherwise_at}
 use Rattle.mm_frame.proofs.Members.{In, in_right, in_cases, in_filter, from_filter, in_flat, from_flat, in_get, has_in, in_has, from_symbols, to_symbols}
-use Rattle.mm_frame.proofs.Scopes.{active_in, split_active, in_first, in_later, closed_join, stays_front}
+use Rattle.mm_frame.proofs.ActiveBySplit.{active_in, split_active, in_first, in_later, closed_join, stays_front}
 use Rattle.mm_frame.proofs.Facts.{and_both, no_symbol_of, apart, float_two, float_new}
 use Rattle.mm_frame.proofs.Frames.{from_typed, to_typed}
 use Rattle.mm_frame.proofs.SoundItems.{sound_kept, label_new}

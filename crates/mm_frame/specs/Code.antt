@@ -13,7 +13,6 @@ pub mod KeptStatement
 pub mod SpokenProof
 pub mod KeptScope
 pub mod SeenNames
-pub mod CodeSymbols
 pub mod KeptSymbols
 pub mod KeptExpressions
 pub mod KeptEarlier

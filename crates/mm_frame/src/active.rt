@@ -3,7 +3,7 @@
 ghost use Rattle.std.specs.Prelude.{◌≡◌, ◌+◌, ℕ, Bool, true, false, List, [], ◌∷◌, ◌++◌, length, drop, OnOk, OnErr};
 ghost use Rattle.mm_frame.specs.Language.Item as meant;
 ghost use Rattle.mm_frame.specs.Language.Scope.{Neither, mark_of, active_numbers};
-ghost use Rattle.mm_frame.specs.Code.BlockMarks.{stays_by, marks_of};
+ghost use Rattle.mm_frame.specs.Code.BlockMarks.{stays_by, block_marks};
 ghost use Rattle.mm_frame.specs.Code.KeptActive.{IsPruned};
 
 use crate::blocks::Blocks;
@@ -75,7 +75,7 @@ impl ActiveNumbers {
     /// Drops the numbers of what is no longer active behind one more item that is not of this sort. Only a `$}` can
     /// make a difference: so it is called behind each.
     pub fn prune(&mut self, blocks: &Blocks)
-        ensures { (test : meant.Item → Bool) (before : List meant.Item) (item : meant.Item) → test item ≡ false → blocks.now ≡ marks_of (before ++ item ∷ [])
+        ensures { (test : meant.Item → Bool) (before : List meant.Item) (item : meant.Item) → test item ≡ false → blocks.now ≡ block_marks (before ++ item ∷ [])
             → self.old ≡ active_numbers test before → self.new ≡ active_numbers test (before ++ item ∷ []) }
     {
         drop_ended(&mut self.numbers, blocks);

@@ -10,18 +10,18 @@ ghost use Rattle.mm_frame.specs.Language.Sound.{AreSound, IsSound, sound_items};
 ghost use Rattle.mm_frame.specs.Language.Framing.{expression};
 ghost use Rattle.mm_frame.specs.Code.KeptTables.{Knows};
 ghost use Rattle.mm_frame.specs.Language.Names.{AreDistinct, Begins};
-ghost use Rattle.mm_frame.specs.Code.Numbers.{AreNumbersOf};
-ghost use Rattle.mm_frame.specs.Code.CodeSymbols.{symbols_of, IsNumbered};
+ghost use Rattle.mm_frame.specs.Code.Numbers.{AreNameNumbers};
+ghost use Rattle.mm_frame.specs.Language.NumberedSymbols.{symbols_of, IsNumbered};
 ghost use Rattle.mm_frame.specs.Code.KeptSymbols.{is_read, AreExpressions, AreSymbols};
 ghost use Rattle.mm_frame.specs.Language.Scope.{closes, mark_of, active_numbers};
 ghost use Rattle.mm_frame.specs.Code.KeptScope.{taken};
-ghost use Rattle.mm_frame.specs.Code.BlockMarks.{marks_of};
+ghost use Rattle.mm_frame.specs.Code.BlockMarks.{block_marks};
 ghost use Rattle.mm_frame.specs.Code.KeptEarlier.{IsFramed, KnowsEarlier};
 ghost use Rattle.mm_frame.specs.Code.LastItems.{is_essential_item, is_disjoint_item, IsSort};
 ghost use Rattle.mm_frame.specs.Language.Base.{fault_by};
 ghost use Rattle.mm_frame.specs.Code.KeptPairLists.{AreMade};
 ghost use Rattle.mm_frame.specs.Code.KeptPairTable.{KnowsPairs};
-ghost use Rattle.mm_frame.specs.Code.KeptBase.{AreRows, KeepsFrame, TellsPairs, is_told_proof};
+ghost use Rattle.mm_frame.specs.Code.KeptBase.{AreRows, HoldsFrame, TellsPairs, is_told_proof};
 
 use crate::FrameNumber;
 use crate::active::ActiveNumbers;
@@ -152,7 +152,7 @@ pub fn number_all(
 ) -> Result<(), AllocError>
     ensures grows { Begins names.old names.new }
     ensures count { OnOk result (length numbers.new.items ≡ length statement.now.symbols) }
-    ensures numbers { OnOk result ((all : List (List ℕ)) → Begins names.new all → AreNumbersOf all numbers.new.items statement.now.symbols) }
+    ensures numbers { OnOk result ((all : List (List ℕ)) → Begins names.new all → AreNameNumbers all numbers.new.items statement.now.symbols) }
 {
     numbers.clear();
     for n in 0..statement.symbol_count() {
@@ -170,10 +170,10 @@ fn symbols_kept(
     numbers: &[usize],
     sound: bool,
 ) -> Result<Vec<NumberedSymbol>, AllocError>
-    ensures numbered { IfOk result (λ symbols. (all : List (List ℕ)) → AreNumbersOf all numbers.now statement.now.symbols
+    ensures numbered { IfOk result (λ symbols. (all : List (List ℕ)) → AreNameNumbers all numbers.now statement.now.symbols
         → All (IsNumbered all) symbols.items) }
     ensures read { IfOk result (λ symbols. (all : List (List ℕ)) (before : List meant.Item) → AreSound before → Knows all before tables.now
-        → AreNumbersOf all numbers.now statement.now.symbols → sound ≡ true → IsSound before statement.now
+        → AreNameNumbers all numbers.now statement.now.symbols → sound ≡ true → IsSound before statement.now
         → is_read statement.now.kind ≡ true → symbols_of all symbols.items ≡ expression before statement.now) }
 {
     if !sound {
@@ -210,7 +210,7 @@ fn frame_of(
     framed: bool,
 ) -> Result<Option<Frame>, AllocError>
     ensures { IfOk result (λ frame. (all : List (List ℕ)) (before : List meant.Item) (item : meant.Item) → KnowsEarlier all before earlier.now
-        → (framed ≡ true → IsFramed all before item own.now) → KeepsFrame all framed before item frame) }
+        → (framed ≡ true → IsFramed all before item own.now) → HoldsFrame all framed before item frame) }
 {
     if !framed {
         return Ok(None);
@@ -243,7 +243,7 @@ fn follow(
     sound: bool,
 ) -> Result<(), AllocError>
     ensures { OnOk result ((test : meant.Kind → Bool) (before : List meant.Item) (item : meant.Item) → IsSort test → kind_of kind ≡ item.kind
-        → of_sort ≡ test item.kind → number ≡ length before → blocks.now ≡ marks_of (before ++ taken sound item ∷ [])
+        → of_sort ≡ test item.kind → number ≡ length before → blocks.now ≡ block_marks (before ++ taken sound item ∷ [])
         → numbers.old ≡ active_numbers (λ i. test i.kind) before → numbers.new ≡ active_numbers (λ i. test i.kind) (before ++ taken sound item ∷ [])) }
 {
     if !sound {
@@ -295,7 +295,7 @@ fn follow_pairs(
     sound: bool,
 ) -> Result<(), AllocError>
     ensures { OnOk result ((all : List (List ℕ)) (before : List meant.Item) (item : meant.Item) → AreDistinct all → AreSound before → kind_of kind ≡ item.kind
-        → number ≡ length before → blocks.now ≡ marks_of before → AreNumbersOf all numbers.now item.symbols → (sound ≡ true → IsSound before item)
+        → number ≡ length before → blocks.now ≡ block_marks before → AreNameNumbers all numbers.now item.symbols → (sound ≡ true → IsSound before item)
         → KnowsPairs all before pairs.old → KnowsPairs all (before ++ taken sound item ∷ []) pairs.new) }
 {
     if sound && is_disjoint(kind) {
@@ -305,7 +305,7 @@ fn follow_pairs(
 }
 
 impl<'a> Draft<'a> {
-    ghost use Rattle.mm_frame.specs.Code.KeptBase.{IsDraft, StandsFor, AreParts};
+    ghost use Rattle.mm_frame.specs.Code.KeptBase.{IsDraft, IsDraftLater, AreParts};
 
     /// No items, with room for this many.
     pub fn with_room(alloc: Global, count: usize) -> Result<Self, AllocError>
@@ -350,7 +350,7 @@ impl<'a> Draft<'a> {
         framed: bool,
     ) -> Result<Option<Frame>, AllocError>
         ensures { IfOk result (λ frame. (all : List (List ℕ)) (said : List meant.Item) (item : meant.Item) → IsDraft all said self.now
-            → (framed ≡ true → IsFramed all (sound_items said) item own.now) → KeepsFrame all framed (sound_items said) item frame) }
+            → (framed ≡ true → IsFramed all (sound_items said) item own.now) → HoldsFrame all framed (sound_items said) item frame) }
     {
         Ok(frame_of(alloc, &self.earlier(), own, framed)?)
     }
@@ -365,7 +365,7 @@ impl<'a> Draft<'a> {
     ) -> Result<(), AllocError>
         requires { length self.old.numbers.items ≡ length statement.now.symbols }
         ensures { OnOk result ((all : List (List ℕ)) (said : List meant.Item) → IsDraft names.now said self.old → IsDraft all said self.old
-            → AreNumbersOf names.now self.old.numbers.items statement.now.symbols → AreNumbersOf all self.old.numbers.items statement.now.symbols
+            → AreNameNumbers names.now self.old.numbers.items statement.now.symbols → AreNameNumbers all self.old.numbers.items statement.now.symbols
             → IsDraft all (said ++ statement.now ∷ []) self.new) }
     {
         let fault = fault_of(alloc, names, &self.scope, statement, &self.numbers)?;
@@ -429,7 +429,7 @@ impl<'a> Draft<'a> {
         requires { CanBeRead files.now item.now }
         ensures grows { Begins names.old names.new }
         ensures read { OnOk result ((one : meant.Item) × Says files.now item.now one
-            × ((said : List meant.Item) → StandsFor names.old said self.old → StandsFor names.new (said ++ one ∷ []) self.new)) }
+            × ((said : List meant.Item) → IsDraftLater names.old said self.old → IsDraftLater names.new (said ++ one ∷ []) self.new)) }
     {
         let statement = Statement::read(alloc, files, item)?;
         number_all(alloc, names, &statement, &mut self.numbers)?;
@@ -446,7 +446,7 @@ impl<'a> Draft<'a> {
     ) -> Result<Draft<'a>, AllocError>
         requires { All (CanBeRead files.now) items.now }
         ensures grows { Begins names.old names.new }
-        ensures read { IfOk result (λ draft. (said : List meant.Item) × AllZip (Says files.now) items.now said × StandsFor names.new said draft) }
+        ensures read { IfOk result (λ draft. (said : List meant.Item) × AllZip (Says files.now) items.now said × IsDraftLater names.new said draft) }
     {
         let mut draft = Draft::with_room(alloc, items.len())?;
         for item in items {

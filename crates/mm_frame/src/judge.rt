@@ -10,7 +10,7 @@ ghost use Rattle.mm_frame.specs.Language.Sound.{AreSound};
 ghost use Rattle.mm_frame.specs.Code.KeptScope.{ScopeHolds};
 ghost use Rattle.mm_frame.specs.Code.SeenNames.{HasSeen};
 ghost use Rattle.mm_frame.specs.Language.Statement.{kind_of};
-ghost use Rattle.mm_frame.specs.Code.Numbers.{IsName, AreNumbersOf};
+ghost use Rattle.mm_frame.specs.Code.Numbers.{IsNameNumber, AreNameNumbers};
 
 use crate::FrameNumber;
 use crate::names::Names;
@@ -77,7 +77,7 @@ fn declared_fault(scope: &Scope, name: &[u8], repeated: bool, declared: bool) ->
 /// same statement.
 fn disjoint_fault(scope: &Scope, number: usize, repeated: bool) -> Option<FrameNumber>
     ensures { (all : List (List ℕ)) (before : List Item) (item : Item) (n : ℕ) (name : List ℕ) → AreSound before → ScopeHolds all before scope.now
-        → IsName all number name → repeated ≡ sound.is_repeated item n name → result ≡ judging.disjoint_fault before item n name }
+        → IsNameNumber all number name → repeated ≡ sound.is_repeated item n name → result ≡ judging.disjoint_fault before item n name }
 {
     if repeated {
         Some(FrameNumber::F03)
@@ -90,7 +90,7 @@ fn disjoint_fault(scope: &Scope, number: usize, repeated: bool) -> Option<FrameN
 
 /// What is wrong with the typecode that has this number.
 fn typecode_fault(scope: &Scope, number: usize) -> Option<FrameNumber>
-    ensures { (all : List (List ℕ)) (before : List Item) (name : List ℕ) → AreSound before → ScopeHolds all before scope.now → IsName all number name
+    ensures { (all : List (List ℕ)) (before : List Item) (name : List ℕ) → AreSound before → ScopeHolds all before scope.now → IsNameNumber all number name
         → result ≡ judging.typecode_fault before name }
 {
     if !scope.is_constant(number) {
@@ -102,7 +102,7 @@ fn typecode_fault(scope: &Scope, number: usize) -> Option<FrameNumber>
 /// What is wrong with the variable of a `$f`, told by its number, that gives it this typecode.
 fn typed_fault(scope: &Scope, number: usize, typecode: &[u8]) -> Option<FrameNumber>
     ensures { (all : List (List ℕ)) (before : List Item) (item : Item) (name : List ℕ) → AreSound before → ScopeHolds all before scope.now
-        → IsName all number name → meant.typecode_of item ≡ typecode.now → result ≡ judging.typed_fault before item name }
+        → IsNameNumber all number name → meant.typecode_of item ≡ typecode.now → result ≡ judging.typed_fault before item name }
 {
     if !scope.is_active_variable(number) {
         Some(FrameNumber::F09)
@@ -124,7 +124,7 @@ fn floating_fault(
 ) -> Option<FrameNumber>
     requires { n < length statement.now.symbols }
     ensures { (all : List (List ℕ)) (before : List Item) → AreSound before → ScopeHolds all before scope.now
-        → IsName all number (slice_index_or statement.now.symbols n [])
+        → IsNameNumber all number (slice_index_or statement.now.symbols n [])
         → result ≡ judging.floating_fault before statement.now n (slice_index_or statement.now.symbols n []) }
 {
     match n {
@@ -136,7 +136,7 @@ fn floating_fault(
 
 /// What is wrong with the symbol behind a typecode that has this number.
 fn later_fault(scope: &Scope, number: usize) -> Option<FrameNumber>
-    ensures { (all : List (List ℕ)) (before : List Item) (name : List ℕ) → AreSound before → ScopeHolds all before scope.now → IsName all number name
+    ensures { (all : List (List ℕ)) (before : List Item) (name : List ℕ) → AreSound before → ScopeHolds all before scope.now → IsNameNumber all number name
         → result ≡ judging.later_fault before name }
 {
     if scope.may_follow(number) {
@@ -150,7 +150,7 @@ fn later_fault(scope: &Scope, number: usize) -> Option<FrameNumber>
 
 /// What is wrong with the n-th symbol of a `$e`, `$a` or `$p`, counted from 0, which has this number.
 fn expression_fault(scope: &Scope, n: usize, number: usize) -> Option<FrameNumber>
-    ensures { (all : List (List ℕ)) (before : List Item) (name : List ℕ) → AreSound before → ScopeHolds all before scope.now → IsName all number name
+    ensures { (all : List (List ℕ)) (before : List Item) (name : List ℕ) → AreSound before → ScopeHolds all before scope.now → IsNameNumber all number name
         → result ≡ judging.expression_fault before n name }
 {
     if n == 0 {
@@ -181,7 +181,7 @@ fn symbol_fault(
 ) -> Option<FrameNumber>
     requires { n < length statement.now.symbols }
     ensures { (all : List (List ℕ)) (before : List Item) → AreSound before → ScopeHolds all before scope.now
-        → IsName all number (slice_index_or statement.now.symbols n [])
+        → IsNameNumber all number (slice_index_or statement.now.symbols n [])
         → (judging.must_differ statement.now.kind ≡ true → repeated ≡ sound.is_repeated statement.now n (slice_index_or statement.now.symbols n []))
         → result ≡ judging.symbol_fault before statement.now n (slice_index_or statement.now.symbols n []) }
 {
@@ -246,7 +246,7 @@ fn symbols_fault(
 ) -> Result<Option<FrameFault>, AllocError>
     requires { length numbers.now ≡ length statement.now.symbols }
     ensures { (all : List (List ℕ)) (before : List Item) → AreSound before → ScopeHolds all before scope.now
-        → AreNumbersOf all numbers.now statement.now.symbols
+        → AreNameNumbers all numbers.now statement.now.symbols
         → IfOk result (λ found. option_map (λ f. (f.word, f.number)) found ≡ judging.symbols_fault before statement.now) }
 {
     let differ = must_differ(statement.kind());
@@ -299,7 +299,7 @@ pub fn fault_of(
     numbers: &[usize],
 ) -> Result<Option<FrameFault>, AllocError>
     requires { length numbers.now ≡ length statement.now.symbols }
-    ensures { (before : List Item) → AreSound before → ScopeHolds names.now before scope.now → AreNumbersOf names.now numbers.now statement.now.symbols
+    ensures { (before : List Item) → AreSound before → ScopeHolds names.now before scope.now → AreNameNumbers names.now numbers.now statement.now.symbols
         → IfOk result (λ found. option_map (λ f. (f.word, f.number)) found ≡ sound.fault before statement.now) }
 {
     if let Some(number) = front_fault(names, scope, statement) {

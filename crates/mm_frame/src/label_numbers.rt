@@ -1,7 +1,7 @@
 //! Labels with the numbers of their items, found by hash.
 
 ghost use Rattle.std.specs.Prelude.{◌≡◌, ℕ, List, true, false, None, Some, MatchOption, OnOk, bytes_eq, if◌then◌else◌};
-ghost use Rattle.mm_frame.specs.Code.KeptLabels.{is_short, label_code, label_number};
+ghost use Rattle.mm_frame.specs.Code.KeptLabels.{is_coded, label_code, label_number};
 
 use std::alloc::{AllocError, Global};
 use std::collections::HashMap;
@@ -22,7 +22,7 @@ pub struct LabelNumbers {
 /// The number whose digits to the base 128 are these bytes, the first one the lowest, with a 1 on top; none where there
 /// are more bytes than it has room for, or one is no ASCII.
 fn code_of(label: &[u8]) -> Option<u64>
-    ensures { MatchOption result (is_short label.now ≡ false) (λ code. (is_short label.now ≡ true) × (code ≡ label_code label.now)) }
+    ensures { MatchOption result (is_coded label.now ≡ false) (λ code. (is_coded label.now ≡ true) × (code ≡ label_code label.now)) }
 {
     if label.len() > MOST_SHORT {
         return None;

@@ -9,8 +9,8 @@ ghost use Rattle.mm_frame.specs.Language.Framing.{active_pairs};
 ghost use Rattle.mm_frame.specs.Code.LastItems.{is_disjoint_item};
 ghost use Rattle.mm_frame.specs.Language.Scope.{active_numbers};
 ghost use Rattle.mm_frame.specs.Code.KeptSymbols.{AreSymbols, expression_kept};
-ghost use Rattle.mm_frame.specs.Code.CodeSymbols.{AreSamePairsRead};
-ghost use Rattle.mm_frame.specs.Code.KeptPairLists.{IsFront, HasSame, HasEach, pairs_among, with_low_first};
+ghost use Rattle.mm_frame.specs.Language.NumberedSymbols.{AreSamePairsRead};
+ghost use Rattle.mm_frame.specs.Code.KeptPairLists.{AreFrontNumbers, HasSame, HasEach, pairs_among, with_low_first};
 
 use crate::expressions::Expressions;
 use crate::symbol::NumberedSymbol;
@@ -157,7 +157,7 @@ fn count_to(number: usize, count: usize) -> usize
 /// The count of items up to the last of the first active `$d`: 0 where there is none.
 fn count_to_last(disjoints: &[usize], expressions: &Expressions) -> usize
     ensures { (all : List (List ℕ)) (before : List meant.Item) (rest : List ℕ) → AreSymbols all before expressions.now
-        → disjoints.now ++ rest ≡ active_numbers is_disjoint_item before → IsFront before disjoints.now result }
+        → disjoints.now ++ rest ≡ active_numbers is_disjoint_item before → AreFrontNumbers before disjoints.now result }
 {
     match disjoints.last() {
         Some(number) => count_to(*number, expressions.count()),
@@ -220,9 +220,9 @@ impl PairLists {
         expressions: &Expressions,
     ) -> Result<usize, AllocError>
         ensures pairs { IfOk result (λ k. (all : List (List ℕ)) (before : List meant.Item) → AreSound before → AreSymbols all before expressions.now
-            → IsFront before outer.now count → AreMade all before self.old → IsList all self.new k (active_pairs (take count before))) }
+            → AreFrontNumbers before outer.now count → AreMade all before self.old → IsList all self.new k (active_pairs (take count before))) }
         ensures made { OnOk result ((all : List (List ℕ)) (before : List meant.Item) → AreSound before → AreSymbols all before expressions.now
-            → IsFront before outer.now count → AreMade all before self.old → AreMade all before self.new) }
+            → AreFrontNumbers before outer.now count → AreMade all before self.old → AreMade all before self.new) }
         ensures kept { OnOk result (KeepsLists self.old self.new) }
     {
         if let Some(k) = self.made_for(count) {

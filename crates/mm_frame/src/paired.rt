@@ -5,10 +5,10 @@ ghost use Rattle.mm_frame.specs.Language.Item as meant;
 ghost use Rattle.mm_frame.specs.Language.Names.{AreDistinct};
 ghost use Rattle.mm_frame.specs.Language.Sound.{IsSound};
 ghost use Rattle.mm_frame.specs.Language.Framing.{active_pairs};
-ghost use Rattle.mm_frame.specs.Code.BlockMarks.{marks_of, stays_by};
-ghost use Rattle.mm_frame.specs.Code.CodeSymbols.{as_variable};
+ghost use Rattle.mm_frame.specs.Code.BlockMarks.{block_marks, stays_by};
+ghost use Rattle.mm_frame.specs.Language.NumberedSymbols.{as_variable};
 ghost use Rattle.mm_frame.specs.Code.LastItems.{IsRising};
-ghost use Rattle.mm_frame.specs.Code.Numbers.{IsName, AreNumbersOf};
+ghost use Rattle.mm_frame.specs.Code.Numbers.{IsNameNumber, AreNameNumbers};
 ghost use Rattle.mm_frame.specs.Code.PairOrder.{are_paired};
 ghost use Rattle.mm_frame.specs.Code.KeptPairTable.{IsCommon, ReadsPairs};
 
@@ -72,8 +72,8 @@ impl PairTable {
 
     /// Whether an active `$d` has the two names with these numbers.
     pub fn is_active_pair(&self, blocks: &Blocks, first: usize, second: usize) -> bool
-        ensures { (all : List (List ℕ)) (before : List meant.Item) (x y : List ℕ) → ReadsPairs all before self.now blocks.now → IsName all first x
-            → IsName all second y → result ≡ are_paired (active_pairs before) (as_variable x, as_variable y) }
+        ensures { (all : List (List ℕ)) (before : List meant.Item) (x y : List ℕ) → ReadsPairs all before self.now blocks.now → IsNameNumber all first x
+            → IsNameNumber all second y → result ≡ are_paired (active_pairs before) (as_variable x, as_variable y) }
     {
         if first == second {
             return false;

@@ -9,10 +9,10 @@ ghost use Rattle.mm_frame.specs.Language.Sound as sound;
 ghost use Rattle.mm_frame.specs.Language.Sound.{AreSound};
 ghost use Rattle.mm_frame.specs.Code.FaultInOrder as judging;
 ghost use Rattle.mm_frame.specs.Code.LastItems as numbered;
-ghost use Rattle.mm_frame.specs.Code.BlockMarks.{marks_of};
+ghost use Rattle.mm_frame.specs.Code.BlockMarks.{block_marks};
 ghost use Rattle.mm_frame.specs.Code.KeptTables.{Knows};
 ghost use Rattle.mm_frame.specs.Language.Names.{AreDistinct};
-ghost use Rattle.mm_frame.specs.Code.Numbers.{IsName, AreNumbersOf};
+ghost use Rattle.mm_frame.specs.Code.Numbers.{IsNameNumber, AreNameNumbers};
 
 use crate::blocks::Blocks;
 use crate::names::Names;
@@ -79,7 +79,7 @@ impl<'a> Scope<'a> {
     /// Whether the name with this number is a constant.
     pub fn is_constant(&self, number: usize) -> bool
         ensures { (all : List (List ℕ)) (before : List meant.Item) (name : List ℕ) → AreSound before → ScopeHolds all before self.now
-            → IsName all number name → result ≡ meant.has (scopes.constants before) name }
+            → IsNameNumber all number name → result ≡ meant.has (scopes.constants before) name }
     {
         self.tables.is_constant(number)
     }
@@ -87,7 +87,7 @@ impl<'a> Scope<'a> {
     /// Whether the name with this number is a constant or a variable, active or not.
     pub fn is_declared(&self, number: usize) -> bool
         ensures { (all : List (List ℕ)) (before : List meant.Item) (name : List ℕ) → AreSound before → ScopeHolds all before self.now
-            → IsName all number name → result ≡ sound.is_declared before name }
+            → IsNameNumber all number name → result ≡ sound.is_declared before name }
     {
         self.tables.is_declared(number)
     }
@@ -103,7 +103,7 @@ impl<'a> Scope<'a> {
     /// Whether the name with this number is an active variable.
     pub fn is_active_variable(&self, number: usize) -> bool
         ensures { (all : List (List ℕ)) (before : List meant.Item) (name : List ℕ) → AreSound before → ScopeHolds all before self.now
-            → IsName all number name → result ≡ meant.has (scopes.active_variables before) name }
+            → IsNameNumber all number name → result ≡ meant.has (scopes.active_variables before) name }
     {
         match self.tables.variable(number) {
             Some(declared) => self.blocks.is_active_now(declared),
@@ -114,7 +114,7 @@ impl<'a> Scope<'a> {
     /// Whether the name with this number is a constant or an active variable.
     pub fn is_active_symbol(&self, number: usize) -> bool
         ensures { (all : List (List ℕ)) (before : List meant.Item) (name : List ℕ) → AreSound before → ScopeHolds all before self.now
-            → IsName all number name → result ≡ sound.is_active_symbol before name }
+            → IsNameNumber all number name → result ≡ sound.is_active_symbol before name }
     {
         self.is_constant(number) || self.is_active_variable(number)
     }
@@ -133,7 +133,7 @@ impl<'a> Scope<'a> {
     /// typed.
     pub fn may_follow(&self, number: usize) -> bool
         ensures { (all : List (List ℕ)) (before : List meant.Item) (name : List ℕ) → AreSound before → ScopeHolds all before self.now
-            → IsName all number name → result ≡ is_none (judging.later_fault before name) }
+            → IsNameNumber all number name → result ≡ is_none (judging.later_fault before name) }
     {
         match self.tables.name(number) {
             Some(Declared::Constant) => true,
@@ -147,7 +147,7 @@ impl<'a> Scope<'a> {
     /// The number of the last `$f` of the variable whose name has this number, active or not.
     pub fn float(&self, number: usize) -> Option<usize>
         ensures { (all : List (List ℕ)) (before : List meant.Item) (name : List ℕ) → AreSound before → ScopeHolds all before self.now
-            → IsName all number name → result ≡ numbered.last_where (numbered.types name) before }
+            → IsNameNumber all number name → result ≡ numbered.last_where (numbered.types name) before }
     {
         self.tables.float(number)
     }
@@ -155,7 +155,7 @@ impl<'a> Scope<'a> {
     /// Whether an active `$f` types the name with this number.
     pub fn is_typed(&self, number: usize) -> bool
         ensures { (all : List (List ℕ)) (before : List meant.Item) (name : List ℕ) → AreSound before → ScopeHolds all before self.now
-            → IsName all number name → result ≡ sound.is_typed before name }
+            → IsNameNumber all number name → result ≡ sound.is_typed before name }
     {
         match self.float(number) {
             Some(float) => self.blocks.is_active_now(float),
@@ -173,7 +173,7 @@ impl<'a> Scope<'a> {
     /// Whether a `$f`, active or not, gives the name with this number another typecode than this one.
     pub fn is_typed_otherwise(&self, number: usize, typecode: &[u8]) -> bool
         ensures { (all : List (List ℕ)) (before : List meant.Item) (item : meant.Item) (name : List ℕ) → AreSound before → ScopeHolds all before self.now
-            → meant.typecode_of item ≡ typecode.now → IsName all number name → result ≡ sound.is_typed_otherwise before item name }
+            → meant.typecode_of item ≡ typecode.now → IsNameNumber all number name → result ≡ sound.is_typed_otherwise before item name }
     {
         match self.float(number) {
             Some(float) => self.typecode(float) != typecode,
@@ -240,7 +240,7 @@ impl<'a> Scope<'a> {
     /// What the sound items declare, and their blocks.
     pub fn tables_and_blocks(self) -> (Tables, Blocks)
         ensures { (all : List (List ℕ)) (before : List meant.Item) → ScopeHolds all before self.entry
-            → Knows all before result.0 × (result.1 ≡ marks_of before) }
+            → Knows all before result.0 × (result.1 ≡ block_marks before) }
     {
         (self.tables, self.blocks)
     }

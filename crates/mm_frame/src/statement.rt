@@ -6,7 +6,7 @@ ghost use Rattle.std.specs.Option.{option_map};
 ghost use Rattle.mm_store.specs.Language.FileFacts.{CanBeRead};
 ghost use Rattle.mm_frame.specs.Language.Item as meant;
 ghost use Rattle.mm_frame.specs.Language.Sound.{first_symbol};
-ghost use Rattle.mm_frame.specs.Code.PlainWords.{LiesInText, TakesLabel, bytes_in, plain_words};
+ghost use Rattle.mm_frame.specs.Code.PlainWords.{LiesInText, TakesLabel, word_bytes, plain_words};
 ghost use Rattle.mm_frame.specs.Language.Statement as spoken;
 ghost use Rattle.mm_frame.specs.Language.Statement.{Says};
 ghost use Rattle.mm_text.specs.Language.Unit.{spellings, tokens_of};
@@ -70,7 +70,7 @@ fn symbols_from(kind: ItemKind) -> usize
 /// The bytes of a word.
 pub(crate) fn bytes_of(text: &[u8], word: Word) -> &[u8]
     requires { LiesInText text.now word }
-    ensures { result.now ≡ bytes_in text.now word }
+    ensures { result.now ≡ word_bytes text.now word }
 {
     &text[word.start..word.end]
 }

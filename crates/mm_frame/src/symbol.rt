@@ -1,7 +1,7 @@
 //! Symbols of expressions, as they are kept.
 
 ghost use Rattle.std.specs.Prelude.{◌≡◌, ◌↔◌, IsTrue, IfOk, map};
-ghost use Rattle.mm_frame.specs.Code.CodeSymbols.{by_number, named_symbol};
+ghost use Rattle.mm_frame.specs.Language.NumberedSymbols.{by_number, named_symbol};
 ghost use Rattle.mm_frame.specs.Language.Frame.{Symbol as Meaning};
 ghost use Rattle.mm_frame.specs.Code.KeptSymbols.{symbol_by, variable_by};
 

@@ -7,7 +7,7 @@ ghost use Rattle.mm_frame.specs.Language.Scope.{constants};
 ghost use Rattle.mm_frame.specs.Language.Sound as sound;
 ghost use Rattle.mm_frame.specs.Code.LastItems as numbered;
 ghost use Rattle.mm_frame.specs.Language.Names.{AreDistinct};
-ghost use Rattle.mm_frame.specs.Code.Numbers.{IsName, AreNumbersOf};
+ghost use Rattle.mm_frame.specs.Code.Numbers.{IsNameNumber, AreNameNumbers};
 
 use crate::label_numbers::LabelNumbers;
 use crate::names::Names;
@@ -39,7 +39,7 @@ pub struct Tables {
 
 impl Tables {
     ghost use Rattle.mm_frame.specs.Code.KeptTables.{declared_at, is_constant_as, table_name, table_label, variable_number, float_of};
-    ghost use Rattle.mm_frame.specs.Code.KeptTables.{Knows, Declares, Types, Carries};
+    ghost use Rattle.mm_frame.specs.Code.KeptTables.{Knows, Declares, TypesName, Carries};
 
     /// No item is taken yet. Takes no memory.
     pub fn new(alloc: Global) -> Self
@@ -71,7 +71,7 @@ impl Tables {
     /// Whether the name with this number is a constant.
     pub fn is_constant(&self, number: usize) -> bool
         ensures value { result ≡ is_constant_as (declared_at self.now number) }
-        ensures declared { (all : List (List ℕ)) (before : List meant.Item) (name : List ℕ) → Knows all before self.now → IsName all number name
+        ensures declared { (all : List (List ℕ)) (before : List meant.Item) (name : List ℕ) → Knows all before self.now → IsNameNumber all number name
             → result ≡ meant.has (constants before) name }
     {
         matches!(self.name(number), Some(Declared::Constant))
@@ -79,7 +79,7 @@ impl Tables {
 
     /// Whether the name with this number is a constant or a variable, active or not.
     pub fn is_declared(&self, number: usize) -> bool
-        ensures { (all : List (List ℕ)) (before : List meant.Item) (name : List ℕ) → Knows all before self.now → IsName all number name
+        ensures { (all : List (List ℕ)) (before : List meant.Item) (name : List ℕ) → Knows all before self.now → IsNameNumber all number name
             → result ≡ sound.is_declared before name }
     {
         self.name(number).is_some()
@@ -105,7 +105,7 @@ impl Tables {
     /// The number of the last `$v` that declares the name with this number: none for a constant.
     pub fn variable(&self, number: usize) -> Option<usize>
         ensures { (all : List (List ℕ)) (before : List meant.Item) (name : List ℕ) → sound.AreSound before → Knows all before self.now
-            → IsName all number name → result ≡ numbered.last_where (numbered.declares_variable name) before }
+            → IsNameNumber all number name → result ≡ numbered.last_where (numbered.declares_variable name) before }
     {
         match self.name(number)? {
             Declared::Variable { declared, .. } => Some(declared),
@@ -117,7 +117,7 @@ impl Tables {
     pub fn float(&self, number: usize) -> Option<usize>
         ensures value { result ≡ float_of (declared_at self.now number) }
         ensures last { (all : List (List ℕ)) (before : List meant.Item) (name : List ℕ) → sound.AreSound before → Knows all before self.now
-            → IsName all number name → result ≡ numbered.last_where (numbered.types name) before }
+            → IsNameNumber all number name → result ≡ numbered.last_where (numbered.types name) before }
     {
         match self.name(number)? {
             Declared::Variable { float, .. } => float,
@@ -149,7 +149,7 @@ impl Tables {
 
     /// Declares the name with this number, or declares it anew.
     fn declare(&mut self, number: usize, declared: Declared) -> Result<(), AllocError>
-        ensures { OnOk result ((all : List (List ℕ)) (name : List ℕ) → AreDistinct all → IsName all number name
+        ensures { OnOk result ((all : List (List ℕ)) (name : List ℕ) → AreDistinct all → IsNameNumber all number name
             → Declares all self.old (name ∷ []) (λ _. declared) self.new) }
     {
         self.put(number, declared)
@@ -157,7 +157,7 @@ impl Tables {
 
     /// Declares the names with these numbers as constants.
     fn take_constants(&mut self, numbers: &[usize]) -> Result<(), AllocError>
-        ensures { OnOk result ((all symbols : List (List ℕ)) → AreDistinct all → AreNumbersOf all numbers.now symbols
+        ensures { OnOk result ((all symbols : List (List ℕ)) → AreDistinct all → AreNameNumbers all numbers.now symbols
             → Declares all self.old symbols (λ _. Declared.Constant) self.new) }
     {
         for n in 0..numbers.len() {
@@ -168,7 +168,7 @@ impl Tables {
 
     /// Declares the names with these numbers as variables. One that was a variable before keeps its `$f`.
     fn take_variables(&mut self, numbers: &[usize], number: usize) -> Result<(), AllocError>
-        ensures { OnOk result ((all symbols : List (List ℕ)) → AreDistinct all → AreNumbersOf all numbers.now symbols
+        ensures { OnOk result ((all symbols : List (List ℕ)) → AreDistinct all → AreNameNumbers all numbers.now symbols
             → Declares all self.old symbols (λ old. Declared.Variable number (float_of old)) self.new) }
     {
         for n in 0..numbers.len() {
@@ -183,7 +183,8 @@ impl Tables {
 
     /// Types the variable whose name has the number `name` by the `$f` with this number.
     fn type_variable(&mut self, name: usize, number: usize)
-        ensures { (all : List (List ℕ)) (variable : List ℕ) → AreDistinct all → IsName all name variable → Types all self.old variable number self.new }
+        ensures { (all : List (List ℕ)) (variable : List ℕ) → AreDistinct all → IsNameNumber all name variable
+            → TypesName all self.old variable number self.new }
     {
         if let Some(Declared::Variable { declared, .. }) = self.name(name) {
             let float = Some(number);
@@ -193,8 +194,8 @@ impl Tables {
 
     /// Types the variable of a `$f`, which is the second symbol.
     fn take_float(&mut self, numbers: &[usize], number: usize)
-        ensures { (all symbols : List (List ℕ)) → AreDistinct all → AreNumbersOf all numbers.now symbols → 1 < length symbols
-            → Types all self.old (slice_index_or symbols 1 []) number self.new }
+        ensures { (all symbols : List (List ℕ)) → AreDistinct all → AreNameNumbers all numbers.now symbols → 1 < length symbols
+            → TypesName all self.old (slice_index_or symbols 1 []) number self.new }
     {
         if numbers.len() > 1 {
             self.type_variable(numbers[1], number);
@@ -226,7 +227,7 @@ impl Tables {
         number: usize,
     ) -> Result<(), AllocError>
         ensures { OnOk result ((all : List (List ℕ)) (before : List meant.Item) → sound.AreSound (before ++ statement.now ∷ []) → length before ≡ number
-            → AreNumbersOf all numbers.now statement.now.symbols → Knows all before self.old → Knows all (before ++ statement.now ∷ []) self.new) }
+            → AreNameNumbers all numbers.now statement.now.symbols → Knows all before self.old → Knows all (before ++ statement.now ∷ []) self.new) }
     {
         match statement.kind() {
             ItemKind::Constants => self.take_constants(numbers),

@@ -1,6 +1,6 @@
 -- How a session goes on with edited files.
 use Rattle.std.proofs.Common.{◌≡◌, ℕ, Option, List, refl, sym, ◌∙◌, subst}
-use Rattle.mm_store.specs.declared.undo.Undo.{Undo}
+use Rattle.mm_store.specs.Language.Undoing.{UndoView}
 use Rattle.mm_store.specs.Language.Batches.{IsBatchOf, IsSpendable, KeepsReading, KeepsStanding}
 use Rattle.mm_store.specs.Language.Edits.{Asked}
 use Rattle.mm_store.specs.Language.FileFacts.{parked_in}
@@ -11,13 +11,13 @@ use Rattle.mm_proof.specs.Language.Work.{Judgement, Recorded}
 use Rattle.mm_keep.specs.declared.keeping.Next.{Next}
 use Rattle.mm_keep.specs.Code.Changing.{CanTake, HasKept, WereKept, session_of}
 use Rattle.mm_keep.specs.Code.KeptSession.{AreChecked}
-use Rattle.mm_keep.specs.Code.Next.{IsBuilt, IsNext, IsOldIn}
+use Rattle.mm_keep.specs.Code.Next.{IsBuilt, IsNextBase, IsOldIn}
 use Rattle.mm_keep.specs.Code.Planned.{CanCarry}
 use Rattle.mm_keep.specs.Language.Sessions.{IsChanged}
 use Rattle.mm_keep.proofs.KeepLemmas.{ItemsStand, KeepsNumbers, batch_top, expansion_top, base_settled, says_edited}
 use Rattle.mm_keep.proofs.NextLemmas.{begins_trans}
 
-pub can_carry : (before after : FilesView) (undos : List Undo) (top : List ℕ) (names : List (List ℕ)) (checked : List (Option Judgement)) (next : Next) → (can : CanTake before after undos top names checked next)
+pub can_carry : (before after : FilesView) (undos : List UndoView) (top : List ℕ) (names : List (List ℕ)) (checked : List (Option Judgement)) (next : Next) → (can : CanTake before after undos top names checked next)
     → CanCarry can.old can.base checked next.plan.items next.checked.items
 can_carry before after undos top names checked next can = record {
   old_said = (before, can.old_is.each);
@@ -29,7 +29,7 @@ can_carry before after undos top names checked next can = record {
 }
 
 -- what is kept once the edits are settled
-pub kept_settled : ItemsStand → (before after settled : FilesView) (undos : List Undo) (top : List ℕ) (names : List (List ℕ)) (checked : List (Option Judgement)) (next : Next) → (can : CanTake before after undos top names checked next)
+pub kept_settled : ItemsStand → (before after settled : FilesView) (undos : List UndoView) (top : List ℕ) (names : List (List ℕ)) (checked : List (Option Judgement)) (next : Next) → (can : CanTake before after undos top names checked next)
     → files_in settled ≡ files_in after → KeepsStanding after settled → parked_in settled ≡ parked_in before
     → (code : Base) (now : List (Option Judgement)) → code ≡ next.base → AreChecked can.base now → HasKept settled top names code now
 kept_settled stand before after settled undos top names checked next can same keeps parked code now is are = (
@@ -42,7 +42,7 @@ kept_settled stand before after settled undos top names checked next can same ke
 )
 
 -- what was run
-pub changed_settled : ItemsStand → (before after settled : FilesView) (undos : List Undo) (top : List ℕ) (names : List (List ℕ)) (checked : List (Option Judgement)) (next : Next) → (can : CanTake before after undos top names checked next)
+pub changed_settled : ItemsStand → (before after settled : FilesView) (undos : List UndoView) (top : List ℕ) (names : List (List ℕ)) (checked : List (Option Judgement)) (next : Next) → (can : CanTake before after undos top names checked next)
     → files_in settled ≡ files_in after → KeepsStanding after settled → (work : Recorded) → work ≡ next.work → IsChanged (session_of before top) (session_of settled top) work
 changed_settled stand before after settled undos top names checked next can same keeps work is =
     let of_files = base_settled stand after settled top can.base same keeps can.built.of_files in
@@ -50,10 +50,10 @@ changed_settled stand before after settled undos top names checked next can same
     (record { top = refl; runs = record { old = can.old; new = can.base; were = can.old_is; are = of_files; those = can.goes_on.runs }; base = can.base; of_files = of_files; steps = can.goes_on.steps })
 
 -- the old base can be read in edited files
-pub old_in : (before after : FilesView) (undos : List Undo) (top : List ℕ) (names : List (List ℕ)) (code : Base) (checked : List (Option Judgement)) → (were : WereKept before after undos top names code checked) → IsOldIn names after code were.base
+pub old_in : (before after : FilesView) (undos : List UndoView) (top : List ℕ) (names : List (List ℕ)) (code : Base) (checked : List (Option Judgement)) → (were : WereKept before after undos top names code checked) → IsOldIn names after code were.base
 old_in before after undos top names code checked were = record { later = were.kept.built.later; each = says_edited before after were.reading were.base.found were.base.said were.kept.built.of_files.each }
 
-pub can_take : (before after : FilesView) (undos : List Undo) (top : List ℕ) (names all : List (List ℕ)) (code : Base) (checked : List (Option Judgement)) (next : Next) → (were : WereKept before after undos top names code checked) → IsNext all after top were.base next
+pub can_take : (before after : FilesView) (undos : List UndoView) (top : List ℕ) (names all : List (List ℕ)) (code : Base) (checked : List (Option Judgement)) (next : Next) → (were : WereKept before after undos top names code checked) → IsNextBase all after top were.base next
     → CanTake before after undos top all checked next
 can_take before after undos top names all code checked next were is = record {
   spendable = were.spendable;
@@ -67,7 +67,7 @@ can_take before after undos top names all code checked next were is = record {
 }
 
 -- what is kept once the edits are undone
-pub kept_undone : (before after files : FilesView) (undos : List Undo) (top : List ℕ) (names all : List (List ℕ)) (code : Base) (checked : List (Option Judgement)) → WereKept before after undos top names code checked → files ≡ before → Begins names all → AreDistinct all
+pub kept_undone : (before after files : FilesView) (undos : List UndoView) (top : List ℕ) (names all : List (List ℕ)) (code : Base) (checked : List (Option Judgement)) → WereKept before after undos top names code checked → files ≡ before → Begins names all → AreDistinct all
     → HasKept files top all code checked
 kept_undone before after files undos top names all code checked were is grows distinct =
     subst (λ (fs : FilesView). HasKept fs top all code checked) (sym is) (
@@ -80,7 +80,7 @@ kept_undone before after files undos top names all code checked were is grows di
     )
 
 -- files that are edited, with what was kept of them before
-pub were_kept : KeepsNumbers → (before after : FilesView) (undos : List Undo) (top : List ℕ) (names : List (List ℕ)) (code : Base) (checked : List (Option Judgement)) → HasKept before top names code checked
+pub were_kept : KeepsNumbers → (before after : FilesView) (undos : List UndoView) (top : List ℕ) (names : List (List ℕ)) (code : Base) (checked : List (Option Judgement)) → HasKept before top names code checked
     → (edits : List Asked) → IsBatchOf edits (plain before) (plain after) → KeepsReading before after → IsSpendable before after undos → WereKept before after undos top names code checked
 were_kept keeps before after undos top names code checked has edits done reading spendable = record {
   base = has.0;
@@ -91,7 +91,7 @@ were_kept keeps before after undos top names code checked has edits done reading
 }
 
 -- so it is of lists that are the same
-pub can_carry_by : (before after : FilesView) (undos : List Undo) (top : List ℕ) (names : List (List ℕ)) (checked : List (Option Judgement)) (next : Next) → (can : CanTake before after undos top names checked next)
+pub can_carry_by : (before after : FilesView) (undos : List UndoView) (top : List ℕ) (names : List (List ℕ)) (checked : List (Option Judgement)) (next : Next) → (can : CanTake before after undos top names checked next)
     → (was : List (Option Judgement)) (plan : List (Option ℕ)) (ran : List (Option Judgement)) → was ≡ checked → plan ≡ next.plan.items → ran ≡ next.checked.items → CanCarry can.old can.base was plan ran
 can_carry_by before after undos top names checked next can was plan ran a b d =
     subst (λ (xs : List (Option Judgement)). CanCarry can.old can.base xs plan ran) (sym a) (subst (λ (xs : List (Option ℕ)). CanCarry can.old can.base checked xs ran) (sym b)

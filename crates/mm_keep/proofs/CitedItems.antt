@@ -15,7 +15,7 @@ use Rattle.mm_proof.specs.Language.VerdictAt.{cites_at, decoding_at}
 use Rattle.mm_proof.specs.Language.Work.{Judgement}
 use Rattle.mm_keep.specs.Language.Citations.{CitesItem}
 use Rattle.mm_keep.specs.Language.Sessions.{IsAssertion}
-use Rattle.mm_keep.specs.Code.Cited.{AreRising, HasLabelAmong, IsAmong, MarksMore, IsMarked}
+use Rattle.mm_keep.specs.Code.Cited.{AreRising, HasLabelAmong, IsAmongCited, MarksMore, IsMarked}
 use Rattle.mm_keep.specs.Code.KeptSession.{AreChecked, IsCheckedAt}
 use Rattle.mm_keep.proofs.CitedWords.{rise_pairs}
 use Rattle.mm_keep.proofs.FoundLemmas.{at_index}
@@ -39,12 +39,12 @@ assertion_carries view label i a =
 pub cites_earlier : (view : BaseView) (j k : ℕ) → CitesItem view j k → k < j
 cites_earlier view j k c = c.names.means.0.earlier
 
-number_among : (words : List (List ℕ)) (cites : List ℕ) (n : ℕ) (label : List ℕ) → Contains cites n → slice_get words n ≡ Some label → IsAmong words cites (length cites) label
+number_among : (words : List (List ℕ)) (cites : List ℕ) (n : ℕ) (label : List ℕ) → Contains cites n → slice_get words n ≡ Some label → IsAmongCited words cites (length cites) label
 number_among words cites n label c there =
     let at : slice_index cites c.0 ≡ n = get_or_default cites c.0 0 n c.1 ∙ c.2 in
     record { at = c.0; before = c.1; there = ap (slice_get words) at ∙ there }
 
-among_number : (words : List (List ℕ)) (cites : List ℕ) (label : List ℕ) → IsAmong words cites (length cites) label → (n : ℕ) × Contains cites n × (slice_get words n ≡ Some label)
+among_number : (words : List (List ℕ)) (cites : List ℕ) (label : List ℕ) → IsAmongCited words cites (length cites) label → (n : ℕ) × Contains cites n × (slice_get words n ≡ Some label)
 among_number words cites label a =
     let n = slice_index cites a.at in
     (n, (a.at, a.before, get_or_default cites a.at n 0 a.before), a.there)
@@ -58,7 +58,7 @@ module _ (each : CitesNameAssertions) (tell : CitesTellAssertions) (own : HasOwn
       record { label = one.label; among = number_among (said_at view j).proof (cites_at view j) n.0 one.label one.cites one.there; carrier = one.means.0.carrier }
 
   -- an item whose label is among them is cited
-  among_cited : (k : ℕ) (label : List ℕ) → IsAmong (said_at view j).proof (cites_at view j) (length (cites_at view j)) label → IsCarrier view label k → CitesItem view j k
+  among_cited : (k : ℕ) (label : List ℕ) → IsAmongCited (said_at view j).proof (cites_at view j) (length (cites_at view j)) label → IsCarrier view label k → CitesItem view j k
   among_cited k label a carrier =
       let words = (said_at view j).proof in
       let n = among_number words (cites_at view j) label a in
@@ -82,14 +82,14 @@ module _ (each : CitesNameAssertions) (tell : CitesTellAssertions) (own : HasOwn
   among_earlier k h = cites_earlier view j k (among_cited k h.label h.among h.carrier)
 
   -- one of them is the label of an assertion exactly where this is cited
-  pub label_cited : (label : List ℕ) (i : ℕ) → IsAssertion view label i → IsAmong (said_at view j).proof (cites_at view j) (length (cites_at view j)) label ↔ CitesItem view j i
+  pub label_cited : (label : List ℕ) (i : ℕ) → IsAssertion view label i → IsAmongCited (said_at view j).proof (cites_at view j) (length (cites_at view j)) label ↔ CitesItem view j i
   label_cited label i a = (λ among. among_cited i label among (assertion_carries view label i a), to)
     where
-      to : CitesItem view j i → IsAmong (said_at view j).proof (cites_at view j) (length (cites_at view j)) label
+      to : CitesItem view j i → IsAmongCited (said_at view j).proof (cites_at view j) (length (cites_at view j)) label
       to c =
           let h = cited_among i c in
           let same : h.label ≡ label = same_Some h.label label (sym h.carrier.label_is ∙ a.label_is) in
-          subst (IsAmong (said_at view j).proof (cites_at view j) (length (cites_at view j))) same h.among
+          subst (IsAmongCited (said_at view j).proof (cites_at view j) (length (cites_at view j))) same h.among
 
 -- no other item cites
 pub none_cited : (view : BaseView) (j k : ℕ) → is_proof_at view j ≡ false → CitesItem view j k → ⊥

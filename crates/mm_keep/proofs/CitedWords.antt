@@ -10,7 +10,7 @@ use Rattle.std.proofs.lemmas.Option.{same_Some, none-some}
 use Rattle.mm_frame.specs.Language.Base.{BaseView}
 use Rattle.mm_frame.specs.Language.Resolving.{IsCarrier}
 use Rattle.mm_proof.specs.Language.DecodingLaws.{Rise}
-use Rattle.mm_keep.specs.Code.Cited.{AreRising, HasLabelAmong, IsAmong, IsMarked, MarksMore, passed}
+use Rattle.mm_keep.specs.Code.Cited.{AreRising, HasLabelAmong, IsAmongCited, IsMarked, MarksMore, passed_words}
 
 -- ---- words
 
@@ -31,8 +31,8 @@ pub next_left : {W : Type 0} (f : W → List ℕ) (r : Option W) (old new : List
 next_left f None old new h = (h.1 ∙ sym (ap (drop 1) h.0), sym (ap (λ ws. slice_get ws 0) h.0))
 next_left f (Some w) old new h = (sym (ap (drop 1) h), sym (ap (λ ws. slice_get ws 0) h))
 
-pub passed_next : (cites : List ℕ) (x : ℕ) → passed cites (x + 1) ≡ slice_index cites x + 1
-passed_next cites x = let e : x + 1 ≡ suc x = omega arith in ap (passed cites) e
+pub passed_next : (cites : List ℕ) (x : ℕ) → passed_words cites (x + 1) ≡ slice_index cites x + 1
+passed_next cites x = let e : x + 1 ≡ suc x = omega arith in ap (passed_words cites) e
 
 -- numbers that rise by recursion, by their places
 above_at : (n d : ℕ) (xs : List ℕ) (j : ℕ) → AllByRecursion (λ m. n < m) xs → j < length xs → n < get_or xs j d
@@ -69,15 +69,15 @@ mark_one P marks k within holds one = record { count = length-set marks k true; 
 
 -- ---- labels among the first words
 
-pub among_none : (words : List (List ℕ)) (cites : List ℕ) (label : List ℕ) → IsAmong words cites 0 label → ⊥
+pub among_none : (words : List (List ℕ)) (cites : List ℕ) (label : List ℕ) → IsAmongCited words cites 0 label → ⊥
 among_none words cites label a = let l = a.before in omega (arith, l)
 
 -- a label among more words
-longer : (words : List (List ℕ)) (cites : List ℕ) (x : ℕ) (label : List ℕ) → IsAmong words cites x label → IsAmong words cites (x + 1) label
+longer : (words : List (List ℕ)) (cites : List ℕ) (x : ℕ) (label : List ℕ) → IsAmongCited words cites x label → IsAmongCited words cites (x + 1) label
 longer words cites x label a = let l = a.before in record { at = a.at; before = omega (arith, l); there = a.there }
 
 -- it is among those before, or the last
-pub last_or_before : (words : List (List ℕ)) (cites : List ℕ) (x : ℕ) (label : List ℕ) → IsAmong words cites (x + 1) label → IsAmong words cites x label ⊎ (slice_get words (slice_index cites x) ≡ Some label)
+pub last_or_before : (words : List (List ℕ)) (cites : List ℕ) (x : ℕ) (label : List ℕ) → IsAmongCited words cites (x + 1) label → IsAmongCited words cites x label ⊎ (slice_get words (slice_index cites x) ≡ Some label)
 last_or_before words cites x label a =
     let l = a.before in
     elim (dec_lt a.at x) [
@@ -97,10 +97,10 @@ words_more view words cites x label before now after there first second = record
     to : (k : ℕ) → IsMarked after k → IsMarked before k ⊎ HasLabelAmong view words cites (x + 1) k
     to k m = elim ((second.each k).0 m) [
       | inl n ↦ behind k ((first.each k).0 n)
-      | inr c ↦ (let one : IsAmong words cites (x + 1) label = record { at = x; before = omega arith; there = there } in inr (record { label = label; among = one; carrier = c }))
+      | inr c ↦ (let one : IsAmongCited words cites (x + 1) label = record { at = x; before = omega arith; there = there } in inr (record { label = label; among = one; carrier = c }))
     ]
 
-    by_word : (k : ℕ) (h : HasLabelAmong view words cites (x + 1) k) → IsAmong words cites x h.label ⊎ (slice_get words (slice_index cites x) ≡ Some h.label) → IsMarked after k
+    by_word : (k : ℕ) (h : HasLabelAmong view words cites (x + 1) k) → IsAmongCited words cites x h.label ⊎ (slice_get words (slice_index cites x) ≡ Some h.label) → IsMarked after k
     by_word k h (inl a) = (second.each k).1 (inl ((first.each k).1 (inr (record { label = h.label; among = a; carrier = h.carrier }))))
     by_word k h (inr e) = (second.each k).1 (inr (subst (λ l. IsCarrier view l k) (same_Some h.label label (sym e ∙ there)) h.carrier))
 
@@ -120,7 +120,7 @@ words_skip view words cites x before now none first = record { count = first.cou
     to : (k : ℕ) → IsMarked now k → IsMarked before k ⊎ HasLabelAmong view words cites (x + 1) k
     to k m = behind k ((first.each k).0 m)
 
-    by_word : (k : ℕ) (h : HasLabelAmong view words cites (x + 1) k) → IsAmong words cites x h.label ⊎ (slice_get words (slice_index cites x) ≡ Some h.label) → IsMarked now k
+    by_word : (k : ℕ) (h : HasLabelAmong view words cites (x + 1) k) → IsAmongCited words cites x h.label ⊎ (slice_get words (slice_index cites x) ≡ Some h.label) → IsMarked now k
     by_word k h (inl a) = (first.each k).1 (inr (record { label = h.label; among = a; carrier = h.carrier }))
     by_word k h (inr e) = absurd (none-some h.label (sym none ∙ e))
 

@@ -15,4 +15,4 @@ pub mod FindingLaws
 pub mod CitedWords
 pub mod CitedItems
 pub mod ChainLemmas
-pub mod CitingLaws
+pub mod CitationLemmas

@@ -7,7 +7,7 @@ ghost use Rattle.mm_frame.specs.Language.Resolving.{IsCarrier};
 ghost use Rattle.mm_frame.specs.Code.KeptBase.{IsBase};
 ghost use Rattle.mm_keep.specs.Language.Citations.{CitesItem};
 ghost use Rattle.mm_keep.specs.Language.Sessions.{IsAssertion};
-ghost use Rattle.mm_keep.specs.Code.Cited.{AreRising, HasChecks, HasLabelAmong, HasPlaceFor, HasPlaces, IsAmong, MarksMore, OfChecks, passed};
+ghost use Rattle.mm_keep.specs.Code.Cited.{AreRising, HasChecks, HasLabelAmong, HasPlaceFor, HasPlaces, IsAmongCited, MarksMore, OfChecks, passed_words};
 
 use mm_frame::{Base, Files, ProofWords, has_own_labels, words_of_proof};
 use mm_proof::{Checked, cites_rise, cites_tell};
@@ -27,7 +27,7 @@ fn word_behind<'a>(words: &mut ProofWords<'a>, count: usize) -> Option<&'a [u8]>
 fn between(cites: &[usize], x: usize) -> usize
     requires rise { AreRising cites.now }
     requires within { x < length cites.now }
-    ensures { passed cites.now x + result ≡ slice_index cites.now x }
+    ensures { passed_words cites.now x + result ≡ slice_index cites.now x }
 {
     if x == 0 {
         cites[0]
@@ -40,9 +40,9 @@ fn between(cites: &[usize], x: usize) -> usize
 fn cited_word<'a>(words: &mut ProofWords<'a>, cites: &[usize], x: usize) -> Option<&'a [u8]>
     requires rise { AreRising cites.now }
     requires within { x < length cites.now }
-    ensures word { (all : List (List ℕ)) → words.old ≡ drop (passed cites.now x) all
+    ensures word { (all : List (List ℕ)) → words.old ≡ drop (passed_words cites.now x) all
         → option_map (λ word. word.now) result ≡ slice_get all (slice_index cites.now x) }
-    ensures left { (all : List (List ℕ)) → words.old ≡ drop (passed cites.now x) all → words.new ≡ drop (passed cites.now (x + 1)) all }
+    ensures left { (all : List (List ℕ)) → words.old ≡ drop (passed_words cites.now x) all → words.new ≡ drop (passed_words cites.now (x + 1)) all }
 {
     word_behind(words, between(cites, x))
 }
@@ -75,7 +75,7 @@ fn mark_words(base: &Base, words: ProofWords, cites: &[usize], marks: &mut [bool
 /// Whether one of the words that cite is this label.
 fn has_label(words: ProofWords, cites: &[usize], label: &[u8]) -> bool
     requires { AreRising cites.now }
-    ensures { IsTrue result ↔ IsAmong words.entry cites.now (length cites.now) label.now }
+    ensures { IsTrue result ↔ IsAmongCited words.entry cites.now (length cites.now) label.now }
 {
     let mut words = words;
     for x in 0..cites.len() {

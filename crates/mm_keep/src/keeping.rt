@@ -7,7 +7,7 @@ ghost use Rattle.mm_store.specs.Language.FilesView.{files_in, number_of};
 ghost use Rattle.mm_frame.specs.Language.Base.{BaseView};
 ghost use Rattle.mm_frame.specs.Language.Names.{AreDistinct, Begins};
 ghost use Rattle.mm_proof.specs.Code.ReadIn.{IsReadIn};
-ghost use Rattle.mm_keep.specs.Code.Next.{KeepsOrRuns, HasOld, HasTop, IsBuilt, IsFirst, IsNext, IsOldIn, KeepsNothing, RunsAll};
+ghost use Rattle.mm_keep.specs.Code.Next.{KeepsOrRuns, HasOld, HasTop, IsBuilt, IsFirst, IsNextBase, IsOldIn, KeepsNothing, RunsAll};
 ghost use Rattle.mm_keep.specs.Code.Planned.{AreBothRead};
 
 use crate::planning::{planned, run_rest};
@@ -81,7 +81,7 @@ pub fn next_of(
     requires old { HasOld names.old files.now old.now }
     ensures grows { Begins names.old names.new }
     ensures distinct { AreDistinct names.new }
-    ensures next { IfOk result (λ next. (view : BaseView) → IsOldIn names.old files.now old.now view → IsNext names.new files.now top.now view next) }
+    ensures next { IfOk result (λ next. (view : BaseView) → IsOldIn names.old files.now old.now view → IsNextBase names.new files.now top.now view next) }
 {
     let built = base_of(alloc, &mut *names, files, top);
     // No name stands twice.

@@ -8,10 +8,10 @@ use Rattle.mm_frame.specs.Language.Frame.{Symbol, Mandatory}
 use Rattle.mm_proof.specs.Language.Substitution.{substituted, replacement}
 use Rattle.mm_proof.specs.declared.pattern.Entry.{Entry}
 use Rattle.mm_proof.specs.Code.Flat.{read, read_all}
-use Rattle.mm_proof.specs.Code.Citation.{Gives}
+use Rattle.mm_proof.specs.Code.Citation.{GivesVariables}
 use Rattle.mm_proof.proofs.Unique.{replacement-variable, replacement-constant}
 use Rattle.mm_proof.proofs.FlatLemmas.{mapped_or}
-use Rattle.mm_proof.proofs.PairLemmas.{contains_at, contains_get}
+use Rattle.mm_proof.proofs.ApartLemmas.{contains_at, contains_get}
 
 -- where nothing that stands for a symbol is longer than this
 pub short_by : (given : Symbol → List Symbol) (n : ℕ) (expression : List Symbol) → ((k : ℕ) (s : Symbol) → slice_get expression k ≡ Some s → length (replacement given s) ≤ n) → length (substituted given expression) ≤ length expression * n
@@ -29,7 +29,8 @@ entry_short symbols es j e at =
     let is = mapped_or (read symbols) es j d e (omega (arith, slice_get_within (read_all symbols es) j e at, length-map es (read symbols))) at in
     omega (arith, ap length is, length-take (x.end - x.start) (drop x.start symbols), length-drop x.start symbols)
 
-pub given_short : (given : Symbol → List Symbol) (hs : List Mandatory) (symbols : List Symbol) (es : List Entry) (expression : List Symbol) → Gives given hs (read_all symbols es) expression → (k : ℕ) (s : Symbol) → slice_get expression k ≡ Some s → length (replacement given s) ≤ length symbols + 1
+pub given_short : (given : Symbol → List Symbol) (hs : List Mandatory) (symbols : List Symbol) (es : List Entry) (expression : List Symbol)
+    → GivesVariables given hs (read_all symbols es) expression → (k : ℕ) (s : Symbol) → slice_get expression k ≡ Some s → length (replacement given s) ≤ length symbols + 1
 given_short given hs symbols es expression gives k s at = elim (cases_Bool s.variable) [
   | inl f ↦
       let t = gives.typed s (contains_at expression k s at, f) in

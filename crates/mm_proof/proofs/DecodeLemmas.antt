@@ -2,9 +2,8 @@
 use Rattle.std.proofs.Common.{◌≡◌, ℕ, true, false, Ok, List, [], ◌∷◌, length, map, drop, refl, ap}
 use Rattle.mm_frame.specs.Language.Frame.{Setting}
 use Rattle.mm_proof.specs.Language.Expansion.{Step}
-use Rattle.mm_proof.specs.Code.Coded.{meant, meant_steps, TellsSteps}
-use Rattle.mm_proof.specs.Code.Decoded.{TellsFault}
-use Rattle.mm_proof.specs.Code.Labels.{label_table, word_step}
+use Rattle.mm_proof.specs.Language.DecodedSteps.{meant, TellsFault, label_table, word_step}
+use Rattle.mm_proof.specs.Code.Coded.{meant_steps, TellsSteps}
 use Rattle.mm_proof.specs.Language.Decoding.{in_order, each_word, read_word, compressed_steps, is_compressed, word_spot, decoded, decoding}
 use Rattle.mm_proof.specs.Language.Verdict.{Decoded}
 use Rattle.mm_proof.specs.declared.Spot.{Spot}

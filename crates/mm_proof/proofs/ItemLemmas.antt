@@ -20,7 +20,7 @@ use Rattle.mm_proof.specs.declared.Verdict.TheVariants.{Proved, Wrong}
 use Rattle.mm_proof.specs.declared.step.ProofFault.{ProofFault}
 use Rattle.mm_proof.proofs.BaseLemmas.{mandatory_are_active}
 use Rattle.mm_proof.proofs.Counting.{one_count, some_count}
-use Rattle.mm_proof.proofs.Judging.{proved_derived, same_verdict, some_verdict}
+use Rattle.mm_proof.proofs.OneVerdict.{proved_derived, same_verdict, some_verdict}
 use Rattle.mm_proof.proofs.SureLemmas.{decodes_surely}
 
 -- labels of active hypotheses mean them

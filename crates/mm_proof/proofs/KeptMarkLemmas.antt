@@ -11,7 +11,7 @@ use Rattle.mm_frame.specs.Language.Resolving.{IsCarrier}
 use Rattle.mm_frame.specs.declared.base.Base.{Base}
 use Rattle.mm_frame.specs.Code.KeptBase.{IsBaseBy}
 use Rattle.mm_proof.specs.Language.BaseMarks.{ItemMark, IsMark, HaveOneLabel, AreMarks, no_mark, mark_at}
-use Rattle.mm_proof.specs.Code.KeptMarks.{AreTheorems, ShareFrame, SharePairs, AreMarked}
+use Rattle.mm_proof.specs.Code.KeptMarks.{AreTheorems, ShareFrame, SharePairs, AreItemMarks}
 use Rattle.std.proofs.Math.Decide.{ℕ_discrete}
 use Rattle.std.proofs.lemmas.List.{length-append}
 
@@ -116,7 +116,7 @@ at_end [] y d = refl
 at_end (x ∷ xs) y d = at_end xs y d
 
 -- one more mark
-pub marked_more : (base copy : BaseView) (n : ℕ) (marks : List ItemMark) (mark : ItemMark) → AreMarked base copy n marks → IsMark base copy n mark → AreMarked base copy (n + 1) (marks ++ mark ∷ [])
+pub marked_more : (base copy : BaseView) (n : ℕ) (marks : List ItemMark) (mark : ItemMark) → AreItemMarks base copy n marks → IsMark base copy n mark → AreItemMarks base copy (n + 1) (marks ++ mark ∷ [])
 marked_more base copy n marks mark are is = record {
   count_is = length-append marks (mark ∷ []) ∙ ap (λ k. k + 1) are.count_is;
   each = λ j l. by_case j l (ℕ_discrete j n);
@@ -129,5 +129,5 @@ marked_more base copy n marks mark are is = record {
     by_case j l (no other) = subst (λ m. IsMark base copy j m) (sym (at_front marks (mark ∷ []) j no_mark (omega (arith, l, other, are.count_is)))) (are.each j (omega (arith, l, other)))
 
 -- all are marked
-pub all_marked : (base copy : BaseView) (n : ℕ) (marks : List ItemMark) → AreMarked base copy n marks → n ≡ length copy.said → AreMarks base copy marks
+pub all_marked : (base copy : BaseView) (n : ℕ) (marks : List ItemMark) → AreItemMarks base copy n marks → n ≡ length copy.said → AreMarks base copy marks
 all_marked base copy n marks are e = record { count = are.count_is ∙ e; each = λ j l. are.each j (omega (arith, l, e)) }

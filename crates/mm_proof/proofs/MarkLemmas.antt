@@ -5,10 +5,10 @@ use Rattle.std.proofs.Math.Decide.{ℕ_discrete}
 use Rattle.std.proofs.lemmas.List.{length-set, get_or-set_same, get_or-set_other}
 use Rattle.std.proofs.lemmas.Option.{same_Some}
 use Rattle.mm_frame.specs.Language.Frame.{Symbol}
-use Rattle.mm_proof.specs.Code.PairClause.{AreMarked}
-use Rattle.mm_proof.proofs.PairLemmas.{contains_get}
+use Rattle.mm_proof.specs.Code.PairClause.{AreKeyPlaces}
+use Rattle.mm_proof.proofs.ApartLemmas.{contains_get}
 
-pub marked_more : (key : Symbol → ℕ) (xs : List Symbol) (before after : List ℕ) (n : ℕ) (x : Symbol) → slice_get xs n ≡ Some x → after ≡ slice_set before (key x) n → AreMarked key xs before n → AreMarked key xs after (n + 1)
+pub marked_more : (key : Symbol → ℕ) (xs : List Symbol) (before after : List ℕ) (n : ℕ) (x : Symbol) → slice_get xs n ≡ Some x → after ≡ slice_set before (key x) n → AreKeyPlaces key xs before n → AreKeyPlaces key xs after (n + 1)
 marked_more key xs before after n x at e f i y l at_y room = by_case (ℕ_discrete (key y) (key x))
   where
     count : length after ≡ length before
@@ -29,5 +29,5 @@ marked_more key xs before after n x at e f i y l at_y room = by_case (ℕ_discre
         (omega arith, (b.1.0, ap (slice_get xs) here ∙ b.1.1, b.1.2))
 
 -- what stands in the list is found by its key
-pub marked_found : (key : Symbol → ℕ) (xs : List Symbol) (places : List ℕ) (n : ℕ) (y : Symbol) → length xs ≤ n → AreMarked key xs places n → Contains xs y → key y < length places → (x : Symbol) × (slice_get xs (slice_index places (key y)) ≡ Some x) × (key x ≡ key y)
+pub marked_found : (key : Symbol → ℕ) (xs : List Symbol) (places : List ℕ) (n : ℕ) (y : Symbol) → length xs ≤ n → AreKeyPlaces key xs places n → Contains xs y → key y < length places → (x : Symbol) × (slice_get xs (slice_index places (key y)) ≡ Some x) × (key x ≡ key y)
 marked_found key xs places n y l f c room = let w = c.1 in (f c.0 y (omega arith) (contains_get xs y c) room).1

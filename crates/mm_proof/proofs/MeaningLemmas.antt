@@ -16,7 +16,7 @@ use Rattle.mm_frame.specs.Language.Item.{Kind, Floating, Essential, Axiom, Theor
 use Rattle.mm_frame.specs.Language.Laws as frame
 use Rattle.mm_frame.specs.Language.Resolving.{IsCarrier, IsMeaning, Resolves}
 use Rattle.mm_frame.specs.Language.Sound.{fault, judged, sound_items}
-use Rattle.mm_proof.specs.Code.KeptMarks.{AreTheorems, IsUsable, ShareHypotheses, SharePairs, TellsSame}
+use Rattle.mm_proof.specs.Code.KeptMarks.{AreTheorems, IsShownItem, ShareHypotheses, SharePairs, TellsSame}
 use Rattle.mm_proof.proofs.FrameLemmas.{shown_proof}
 use Rattle.std.proofs.lemmas.Option.{same_Some}
 use Rattle.mm_proof.specs.Language.BaseLabels.{setting_at}
@@ -90,7 +90,7 @@ module _ (view : BaseView) (label : List ℕ) (none : (n : ℕ) → IsCarrier vi
 
 -- ---- what two answers mean
 
-pub usable : (base : BaseView) (i : ℕ) (label : List ℕ) (told : answer.Resolved) (meaning : Resolved) → IsMeaning base i label told meaning → IsUsable base told
+pub usable : (base : BaseView) (i : ℕ) (label : List ℕ) (told : answer.Resolved) (meaning : Resolved) → IsMeaning base i label told meaning → IsShownItem base told
 usable base i label (answers.Hypothesis n) m h = h.0.carrier.shown
 usable base i label (answers.Assertion n) m h = h.1
 usable base i label answers.Inactive m h = tt

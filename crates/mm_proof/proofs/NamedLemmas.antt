@@ -10,8 +10,8 @@ use Rattle.mm_frame.specs.declared.base.Resolved.TheVariants as answers
 use Rattle.mm_frame.specs.Language.Base.{BaseView}
 use Rattle.mm_frame.specs.Language.Frame.{Hypothesis}
 use Rattle.mm_frame.specs.Code.KeptBase.{IsBaseBy}
-use Rattle.mm_proof.specs.Code.Labels.{AreEntries, IsEntry, entry_step, entry_steps}
-use Rattle.mm_proof.specs.Code.NamedItems.{AreNamed, Grows, StandsFor, Stays, expressions_named, frames_named}
+use Rattle.mm_proof.specs.Language.DecodedSteps.{AreEntries, IsEntry, entry_step, entry_steps}
+use Rattle.mm_proof.specs.Code.NamedItems.{AreNamed, NamingGrows, IsUseOf, Stays, expressions_named, frames_named}
 use Rattle.mm_proof.specs.Language.Renaming.{renamed_meaning}
 use Rattle.mm_proof.specs.Code.Numbering.{unnaming}
 use Rattle.mm_proof.specs.Code.NumberedBase.{numbered_frame, numbered_setting}
@@ -60,13 +60,13 @@ stands_last old new n j e f = ap (λ w. slice_get w n) e ∙ ap (slice_get (old 
 
 -- ---- all uses
 
-pub uses_grow : (old new : Naming) → Grows old new → (all : List Use) (labels : List Resolved) → AllZip (StandsFor old) all labels → AllZip (StandsFor new) all labels
+pub uses_grow : (old new : Naming) → NamingGrows old new → (all : List Use) (labels : List Resolved) → AllZip (IsUseOf old) all labels → AllZip (IsUseOf new) all labels
 uses_grow old new g [] [] z = tt
 uses_grow old new g [] (l ∷ labels) z = absurd z
 uses_grow old new g (u ∷ all) [] z = absurd z
 uses_grow old new g (u ∷ all) (l ∷ labels) z = (one u l z.0, uses_grow old new g all labels z.1)
   where
-    one : (u : Use) (l : Resolved) → StandsFor old u l → StandsFor new u l
+    one : (u : Use) (l : Resolved) → IsUseOf old u l → IsUseOf new u l
     one (uses.Hypothesis n) (answers.Hypothesis j) s = g.hypotheses n j s
     one (uses.Assertion n) (answers.Assertion j) s = g.assertions n j s
     one uses.Nothing answers.Inactive s = tt
@@ -80,14 +80,14 @@ uses_grow old new g (u ∷ all) (l ∷ labels) z = (one u l z.0, uses_grow old n
     one uses.Nothing (answers.Hypothesis j) s = absurd s
     one uses.Nothing (answers.Assertion j) s = absurd s
 
-pub uses_more : (naming : Naming) (all : List Use) (labels : List Resolved) (u : Use) (l : Resolved) → AllZip (StandsFor naming) all labels → StandsFor naming u l → AllZip (StandsFor naming) (all ++ u ∷ []) (labels ++ l ∷ [])
+pub uses_more : (naming : Naming) (all : List Use) (labels : List Resolved) (u : Use) (l : Resolved) → AllZip (IsUseOf naming) all labels → IsUseOf naming u l → AllZip (IsUseOf naming) (all ++ u ∷ []) (labels ++ l ∷ [])
 uses_more naming [] [] u l z s = (s, tt)
 uses_more naming [] (m ∷ labels) u l z s = absurd z
 uses_more naming (v ∷ all) [] u l z s = absurd z
 uses_more naming (v ∷ all) (m ∷ labels) u l z s = (z.0, uses_more naming all labels u l z.1 s)
 
 -- they are in range
-one_within : (code : Base) (naming : Naming) → AreNamed code naming → (u : Use) (l : Resolved) → StandsFor naming u l → IsUseWithin (length naming.hypotheses.items) (length naming.assertions.items) u
+one_within : (code : Base) (naming : Naming) → AreNamed code naming → (u : Use) (l : Resolved) → IsUseOf naming u l → IsUseWithin (length naming.hypotheses.items) (length naming.assertions.items) u
 one_within code naming is (uses.Hypothesis n) (answers.Hypothesis j) s = let w = slice_get_within naming.hypothesis_numbers.items.items n j s in omega (arith, is.hypothesis_count)
 one_within code naming is (uses.Assertion n) (answers.Assertion j) s = let w = slice_get_within naming.assertion_numbers.items.items n j s in omega (arith, is.assertion_count)
 one_within code naming is uses.Nothing l s = tt
@@ -98,7 +98,7 @@ one_within code naming is (uses.Assertion n) (answers.Hypothesis j) s = absurd s
 one_within code naming is (uses.Assertion n) answers.Inactive s = absurd s
 one_within code naming is (uses.Assertion n) answers.Unknown s = absurd s
 
-pub uses_within : (code : Base) (naming : Naming) → AreNamed code naming → (all : List Use) (labels : List Resolved) → AllZip (StandsFor naming) all labels → All (IsUseWithin (length naming.hypotheses.items) (length naming.assertions.items)) all
+pub uses_within : (code : Base) (naming : Naming) → AreNamed code naming → (all : List Use) (labels : List Resolved) → AllZip (IsUseOf naming) all labels → All (IsUseWithin (length naming.hypotheses.items) (length naming.assertions.items)) all
 uses_within code naming is [] labels z = All-nil (IsUseWithin (length naming.hypotheses.items) (length naming.assertions.items))
 uses_within code naming is (u ∷ all) [] z = absurd z
 uses_within code naming is (u ∷ all) (l ∷ labels) z = All-cons (IsUseWithin (length naming.hypotheses.items) (length naming.assertions.items)) u all (one_within code naming is u l z.0) (uses_within code naming is all labels z.1)
@@ -106,7 +106,7 @@ uses_within code naming is (u ∷ all) (l ∷ labels) z = All-cons (IsUseWithin 
 -- and mean what the entries mean
 one_means :
     (code : Base) (naming : Naming) → AreNamed code naming → (names : List (List ℕ)) (view : BaseView) (i : ℕ) → IsBaseBy names view code →
-    (u : Use) (l : Resolved) → StandsFor naming u l → IsEntry view i l → MeansUse (expressions_named naming) (frames_named naming) (numbered_setting names view i) u (entry_step view l)
+    (u : Use) (l : Resolved) → IsUseOf naming u l → IsEntry view i l → MeansUse (expressions_named naming) (frames_named naming) (numbered_setting names view i) u (entry_step view l)
 one_means code naming is names view i base (uses.Hypothesis n) (answers.Hypothesis j) s e = let h = is.hypotheses names view base n j s e.0.carrier.shown in (h.0, h.1, ap (renamed_meaning (unnaming names)) e.1 ∙ ap Hypothesis (sym h.2))
 one_means code naming is names view i base (uses.Assertion n) (answers.Assertion j) s e = let h = is.assertions names view base n j s e.1 in (h.0, numbered_frame names view j, h.1, ap (renamed_meaning (unnaming names)) e.2, h.2)
 one_means code naming is names view i base uses.Nothing answers.Inactive s e = tt
@@ -122,7 +122,7 @@ one_means code naming is names view i base uses.Nothing (answers.Assertion j) s 
 
 pub uses_mean :
     (code : Base) (naming : Naming) → AreNamed code naming → (names : List (List ℕ)) (view : BaseView) (i : ℕ) → IsBaseBy names view code → (all : List Use) (labels : List Resolved) →
-    AllZip (StandsFor naming) all labels → AreEntries view i labels → AllZip (MeansUse (expressions_named naming) (frames_named naming) (numbered_setting names view i)) all (entry_steps view labels)
+    AllZip (IsUseOf naming) all labels → AreEntries view i labels → AllZip (MeansUse (expressions_named naming) (frames_named naming) (numbered_setting names view i)) all (entry_steps view labels)
 uses_mean code naming is names view i base [] [] z e = tt
 uses_mean code naming is names view i base [] (l ∷ labels) z e = absurd z
 uses_mean code naming is names view i base (u ∷ all) [] z e = absurd z

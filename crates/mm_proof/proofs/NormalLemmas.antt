@@ -9,9 +9,10 @@ use Rattle.mm_frame.specs.Language.Frame.{Setting}
 use Rattle.mm_proof.specs.Language.Expansion.{Step}
 use Rattle.mm_frame.specs.Language.Base.{BaseView}
 use Rattle.mm_proof.specs.Language.BaseLabels.{setting_at}
-use Rattle.mm_proof.specs.Code.Coded.{TellsSteps, meant, meant_steps}
+use Rattle.mm_proof.specs.Language.DecodedSteps.{meant, entry_step, entry_steps, IsEntry, word_step}
+use Rattle.mm_proof.specs.Code.Coded.{TellsSteps, meant_steps}
 use Rattle.mm_proof.specs.Language.Decoding.{read_first, in_order, each_word, read_word, word_spot}
-use Rattle.mm_proof.specs.Code.Labels.{entry_step, entry_steps, IsEntry, TellsWord, word_step, Normal}
+use Rattle.mm_proof.specs.Code.Labels.{TellsWord, Normal}
 use Rattle.mm_proof.specs.Code.LeftToRight.{with_steps}
 use Rattle.mm_proof.specs.declared.Spot.{Spot}
 use Rattle.mm_frame.specs.declared.base.Resolved.{Resolved}

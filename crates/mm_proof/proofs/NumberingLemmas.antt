@@ -7,10 +7,10 @@ use Rattle.std.proofs.lemmas.Option.{slice_get-get_or}
 use Rattle.std.proofs.lemmas.Slice.Eq.{bytes_eq-Decides}
 use Rattle.mm_frame.specs.declared.symbol.NumberedSymbol.{NumberedSymbol}
 use Rattle.mm_frame.specs.Language.Names.{AreDistinct, name_at}
-use Rattle.mm_frame.specs.Code.CodeSymbols.{symbol_of, symbols_of, pair_of, kept_pairs, IsNumbered, IsPairNumbered}
+use Rattle.mm_frame.specs.Language.NumberedSymbols.{symbol_of, symbols_of, pair_of, kept_pairs, IsNumbered, IsPairNumbered}
 use Rattle.mm_proof.specs.Language.Renaming.{IsRenaming, renamed_pair, renamed_pairs}
-use Rattle.mm_proof.specs.Code.Citation.{pairs_of}
-use Rattle.mm_frame.specs.Code.CodeSymbols.{by_number}
+use Rattle.mm_proof.specs.Code.Citation.{meant_pairs}
+use Rattle.mm_frame.specs.Language.NumberedSymbols.{by_number}
 use Rattle.mm_proof.specs.Code.NumberedBase.{all_by_number}
 use Rattle.mm_proof.specs.Code.Numbering.{exchanged, named_from, numbered_from, naming, unnaming}
 
@@ -111,7 +111,7 @@ module _ (names : List (List ℕ)) (distinct : AreDistinct names) where
   symbols_numbered (s ∷ symbols) all =
       ap₂ ◌∷◌ (symbol_numbered s (All-head (IsNumbered names) s symbols all)) (symbols_numbered symbols (All-tail (IsNumbered names) s symbols all))
 
-  pub pairs_numbered : (pairs : List (NumberedSymbol × NumberedSymbol)) → All (IsPairNumbered names) pairs → renamed_pairs (unnaming names) (kept_pairs names pairs) ≡ pairs_of by_number pairs
+  pub pairs_numbered : (pairs : List (NumberedSymbol × NumberedSymbol)) → All (IsPairNumbered names) pairs → renamed_pairs (unnaming names) (kept_pairs names pairs) ≡ meant_pairs by_number pairs
   pairs_numbered [] all = refl
   pairs_numbered (pair ∷ pairs) all =
       let both = All-head (IsPairNumbered names) pair pairs all in

@@ -11,13 +11,13 @@ use Rattle.mm_proof.specs.Language.SameProof.{AreSameMeaning}
 use Rattle.mm_proof.specs.Language.Renaming.{IsRenaming, renamed_pair, renamed_pairs, renamed_mandatory, renamed_frame, renamed_meaning, IsRenamedSetting}
 use Rattle.mm_frame.specs.declared.symbol.NumberedSymbol.{NumberedSymbol}
 use Rattle.mm_frame.specs.Language.Names.{AreDistinct}
-use Rattle.mm_frame.specs.Code.CodeSymbols.{kept_pairs, IsPairNumbered}
+use Rattle.mm_frame.specs.Language.NumberedSymbols.{kept_pairs, IsPairNumbered}
 use Rattle.mm_proof.specs.Language.Expansion.{Step}
-use Rattle.mm_proof.specs.Code.Citation.{pairs_of}
+use Rattle.mm_proof.specs.Code.Citation.{meant_pairs}
 use Rattle.mm_proof.specs.Code.Tasks.{RunSays}
 use Rattle.mm_proof.specs.declared.stepping.Outcome.{Outcome}
 use Rattle.mm_proof.specs.Code.Numbering.{naming, unnaming}
-use Rattle.mm_frame.specs.Code.CodeSymbols.{by_number}
+use Rattle.mm_frame.specs.Language.NumberedSymbols.{by_number}
 use Rattle.mm_proof.specs.Code.NumberedBase.{renamed_setting}
 use Rattle.mm_proof.proofs.NumberingLemmas.{naming_is_renaming, pairs_numbered}
 use Rattle.mm_proof.proofs.RenamingLemmas.{map_back, contains_map, contains_back, pair_there, pair_back, renaming_back, mandatory_there, has_there, has_back, setting_back, run_renamed}
@@ -99,7 +99,7 @@ module _ (names : List (List ℕ)) where
   by_numbers = renaming_back (naming names) (unnaming names) (naming_is_renaming names)
 
   pub pairs_by_number : AreDistinct names → (pairs : List (NumberedSymbol × NumberedSymbol)) (others : List (Symbol × Symbol)) → All (IsPairNumbered names) pairs →
-      AreSamePairs (kept_pairs names pairs) others → AreSamePairs (pairs_of by_number pairs) (renamed_pairs (unnaming names) others)
+      AreSamePairs (kept_pairs names pairs) others → AreSamePairs (meant_pairs by_number pairs) (renamed_pairs (unnaming names) others)
   pairs_by_number distinct pairs others all same =
       subst (λ (ps : List (Symbol × Symbol)). AreSamePairs ps (renamed_pairs (unnaming names) others)) (pairs_numbered names distinct pairs all)
       (pairs_renamed (unnaming names) (naming names) by_numbers (kept_pairs names pairs) others same)

@@ -9,7 +9,7 @@ use Rattle.mm_frame.specs.Language.Frame.{Setting}
 use Rattle.mm_proof.specs.Language.DecodingLaws.{Rise}
 use Rattle.mm_proof.specs.Language.Verdict.{Decoded}
 use Rattle.mm_proof.specs.declared.step.ProofFault.{ProofFault}
-use Rattle.mm_proof.proofs.CiteLemmas.{kept_all}
+use Rattle.mm_proof.proofs.SameCites.{kept_all}
 
 -- words with numbers that rise
 abbrev Rising : List (ℕ × List ℕ) → Type 0

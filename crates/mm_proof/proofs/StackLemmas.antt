@@ -6,13 +6,13 @@ use Rattle.std.proofs.lemmas.List.Elements.{All-head, All-tail, All-append, All-
 use Rattle.std.proofs.lemmas.Option.{slice_get_within, get_or_from_slice_get, slice_get-get_or, same_Some}
 use Rattle.mm_frame.specs.Language.Frame.{Symbol}
 use Rattle.mm_proof.specs.declared.pattern.Entry.{Entry}
-use Rattle.mm_proof.specs.Code.Flat.{read, read_all, IsWithin}
+use Rattle.mm_proof.specs.Code.Flat.{read, read_all, IsEntryWithin}
 use Rattle.std.proofs.Math.Decide.{ℕ_discrete}
 use Rattle.mm_proof.specs.Code.Ranges.{AreOrderedRanges}
 use Rattle.mm_proof.specs.Language.Faults.{entries_for}
 use Rattle.mm_proof.specs.declared.assertion.Hypothesis.{Hypothesis}
 use Rattle.mm_proof.specs.Code.Citation.{frame_from, mandatory_of}
-use Rattle.mm_proof.proofs.PairLemmas.{read_kept, last_at, front_at}
+use Rattle.mm_proof.proofs.ApartLemmas.{read_kept, last_at, front_at}
 
 -- entries that lie in the front read the same
 pub read_all_kept : (before after : List Symbol) (es : List Entry) → All (λ e. e.end ≤ length before) es → take (length before) after ≡ before → read_all after es ≡ read_all before es
@@ -22,13 +22,13 @@ read_all_kept before after (e ∷ es) all kept =
     let rest = read_all_kept before after es (All-tail (λ (e : Entry). e.end ≤ length before) e es all) kept in
     cc
 
-pub ends_of : (n m : ℕ) (es : List Entry) → n ≤ m → All (IsWithin n) es → All (λ e. e.end ≤ m) es
+pub ends_of : (n m : ℕ) (es : List Entry) → n ≤ m → All (IsEntryWithin n) es → All (λ e. e.end ≤ m) es
 ends_of n m es l all k d i = let w = all k d i in let h = w.1 in omega arith
 
-pub grown_all : (before more after : List Symbol) (n : ℕ) (es : List Entry) → after ≡ before ++ more → n ≤ length before → All (IsWithin n) es → read_all after es ≡ read_all before es
+pub grown_all : (before more after : List Symbol) (n : ℕ) (es : List Entry) → after ≡ before ++ more → n ≤ length before → All (IsEntryWithin n) es → read_all after es ≡ read_all before es
 grown_all before more after n es e l all = read_all_kept before after es (ends_of n (length before) es l all) (ap (take (length before)) e ∙ take_at before more (length before) refl)
 
-pub wider : (n m : ℕ) (es : List Entry) → n ≤ m → All (IsWithin n) es → All (IsWithin m) es
+pub wider : (n m : ℕ) (es : List Entry) → n ≤ m → All (IsEntryWithin n) es → All (IsEntryWithin m) es
 wider n m es l all k d i = let w = all k d i in let h = w.1 in (w.0, omega arith)
 
 -- so it is with one more
@@ -46,11 +46,11 @@ whole_loaded means before expression after kept end stack saved next new whole e
       kept_within = omega arith;
       within = wider (length before) (length after) stack grown whole.within;
       floors_within = λ k d i. (let w = whole.floors_within k d i in omega arith);
-      saved_within = subst (λ es. All (IsWithin end) es) (sym s) (one_more (IsWithin end) saved new (wider kept end saved (let w = whole.kept_within in omega arith) whole.saved_within) (omega arith, omega arith));
+      saved_within = subst (λ es. All (IsEntryWithin end) es) (sym s) (one_more (IsEntryWithin end) saved new (wider kept end saved (let w = whole.kept_within in omega arith) whole.saved_within) (omega arith, omega arith));
       apart = whole.apart;
     }
 
-pub pushed_all : (before more after : List Symbol) (n : ℕ) (es next : List Entry) (new : Entry) → after ≡ before ++ more → n ≡ length before → All (IsWithin n) es → next ≡ es ++ new ∷ [] → new.start ≡ length before → new.end ≡ length after → read_all after next ≡ read_all before es ++ more ∷ []
+pub pushed_all : (before more after : List Symbol) (n : ℕ) (es next : List Entry) (new : Entry) → after ≡ before ++ more → n ≡ length before → All (IsEntryWithin n) es → next ≡ es ++ new ∷ [] → new.start ≡ length before → new.end ≡ length after → read_all after next ≡ read_all before es ++ more ∷ []
 pushed_all before more after n es next new e l all s a b =
     let last : read after new ≡ more =
     ap (λ k. take (new.end - new.start) (drop k after)) a
@@ -131,10 +131,10 @@ whole_replaced n m kept f below es saved next new whole l low high front e a b c
     cases : (k : ℕ) (s : Entry) → slice_get next k ≡ Some s → ((k < below) × (slice_get es k ≡ Some s)) ⊎ ((k ≡ below) × (new ≡ s))
     cases k s at = cut_or_last es below k new s l (ap (λ w. slice_get w k) (sym e) ∙ at)
 
-    within_at : (k : ℕ) (s : Entry) → slice_get next k ≡ Some s → IsWithin m s
+    within_at : (k : ℕ) (s : Entry) → slice_get next k ≡ Some s → IsEntryWithin m s
     within_at k s at = elim (cases k s at) [
-      | inl h ↦ (let w = subst (IsWithin n) (get_or_from_slice_get es k s s h.1) (whole.within k s (slice_get_within es k s h.1)) in let x = front k s h.0 h.1 in let y = x.0 in (w.0, omega arith))
-      | inr h ↦ subst (IsWithin m) h.1 (omega arith, omega arith)
+      | inl h ↦ (let w = subst (IsEntryWithin n) (get_or_from_slice_get es k s s h.1) (whole.within k s (slice_get_within es k s h.1)) in let x = front k s h.0 h.1 in let y = x.0 in (w.0, omega arith))
+      | inr h ↦ subst (IsEntryWithin m) h.1 (omega arith, omega arith)
     ]
 
     floor_at : (k : ℕ) (s : Entry) → slice_get next k ≡ Some s → s.floor ≤ m

@@ -28,7 +28,7 @@ use Rattle.mm_proof.specs.Code.Citation.{IsLowestCiting}
 use Rattle.mm_proof.specs.Code.MachineState.{state_of}
 use Rattle.mm_proof.specs.Code.Ranges.{Saves}
 use Rattle.mm_proof.specs.declared.step.ProofStep.{ProofStep}
-use Rattle.mm_proof.specs.Code.Coded.{meant}
+use Rattle.mm_proof.specs.Language.DecodedSteps.{meant}
 use Rattle.mm_proof.specs.Code.Tasks.{HasState, MeansTask, MeansUse, actions_mean, saves_by, saves_in}
 use Rattle.mm_proof.proofs.FlatLemmas.{mapped_or_get}
 use Rattle.std.proofs.lemmas.List.Sums.{sum_by-cons, sum_by-append}

@@ -8,7 +8,8 @@ use Rattle.mm_frame.specs.Language.Base.{BaseView}
 use Rattle.mm_proof.specs.Language.BaseLabels.{label_at, setting_at, AreActive}
 use Rattle.mm_proof.specs.Code.Coded.{TellsSteps, meant_steps, letters_give}
 use Rattle.mm_proof.specs.Language.Decoding.{read_label, is_close, compressed_steps, word_spot}
-use Rattle.mm_proof.specs.Code.Labels.{labels_at, entry_step, entry_steps, IsEntry, AreEntries, Lists, IsListed, TellsWord, Begins}
+use Rattle.mm_proof.specs.Language.DecodedSteps.{labels_at, entry_step, entry_steps, IsEntry, AreEntries}
+use Rattle.mm_proof.specs.Code.Labels.{Lists, IsListed, TellsWord, BeginsTable}
 use Rattle.mm_proof.specs.Code.Left.{AreLeft}
 use Rattle.mm_proof.specs.Code.LeftToRight.{list_on}
 use Rattle.mm_frame.specs.declared.base.Resolved.{Resolved}
@@ -89,7 +90,7 @@ hypothesis_entries view i [] all = tt
 hypothesis_entries view i (j ∷ numbers) all = (all.0, hypothesis_entries view i numbers all.1)
 
 -- behind the `(`, with the mandatory hypotheses as entries
-pub list_begins : (view : BaseView) (i : ℕ) (numbers : List ℕ) (words behind : List (List ℕ)) (labels : List Resolved) → labels ≡ map answers.Hypothesis numbers → AreActive view i numbers → AreLeft words behind 1 → Begins view i (labels_at view numbers) words behind labels
+pub list_begins : (view : BaseView) (i : ℕ) (numbers : List ℕ) (words behind : List (List ℕ)) (labels : List Resolved) → labels ≡ map answers.Hypothesis numbers → AreActive view i numbers → AreLeft words behind 1 → BeginsTable view i (labels_at view numbers) words behind labels
 list_begins view i numbers words behind labels e active left = record { left = left; labels_are = rw e (hypothesis_steps view numbers); entries = rw e (hypothesis_entries view i numbers active) }
 
 -- the letters behind the list

@@ -15,6 +15,7 @@ pub mod BaseLabels
 pub mod Numbers
 pub mod Letters
 pub mod Decoding
+pub mod DecodedSteps
 pub mod Citing
 pub mod DecodingLaws
 pub mod VerdictAt

@@ -2,9 +2,9 @@
 
 ghost use Rattle.std.specs.Prelude.{◌≡◌, ◌≢◌, ◌↔◌, ◌<◌, ◌≤◌, ℕ, IsTrue, IfOk, MatchBool, Some, Contains, length, map, slice_get, slice_set};
 ghost use Rattle.mm_frame.specs.Language.Frame.{Symbol as Meaning, ArePair};
-ghost use Rattle.mm_proof.specs.Code.Citation.{pairs_of};
+ghost use Rattle.mm_proof.specs.Code.Citation.{meant_pairs};
 ghost use Rattle.mm_proof.specs.Code.Keys.{home as home_lem, home_at};
-ghost use Rattle.mm_proof.specs.Code.PairClause.{IsPair, Apart, NotApart, EachApart, SomeNotApart, SomeShared, AreMarked};
+ghost use Rattle.mm_proof.specs.Code.PairClause.{IsPair, Apart, NotApart, EachApart, SomeNotApart, SomeShared, AreKeyPlaces};
 
 use crate::slots::home;
 use crate::symbol::Kept;
@@ -54,7 +54,7 @@ impl<'a, S: Kept> Active<'a, S> {
     /// Whether the pair at a place is that of two symbols.
     fn is_at(&self, place: usize, x: &S, y: &S) -> bool
         requires { place < length self.now.pairs.now }
-        ensures { (p : Meaning × Meaning) → slice_get (pairs_of S.means self.now.pairs.now) place ≡ Some p
+        ensures { (p : Meaning × Meaning) → slice_get (meant_pairs S.means self.now.pairs.now) place ≡ Some p
             → IsTrue result ↔ IsPair p (S.means x.now) (S.means y.now) }
     {
         let pair = &self.pairs[place];
@@ -63,7 +63,7 @@ impl<'a, S: Kept> Active<'a, S> {
 
     /// Whether two symbols are an active pair.
     pub fn has(&self, x: &S, y: &S) -> bool
-        ensures { IsTrue result ↔ ArePair (pairs_of S.means self.now.pairs.now) (S.means x.now) (S.means y.now) }
+        ensures { IsTrue result ↔ ArePair (meant_pairs S.means self.now.pairs.now) (S.means x.now) (S.means y.now) }
     {
         let guess = self.guess(x, y);
         if guess < self.pairs.len() && self.is_at(guess, x, y) {
@@ -79,8 +79,8 @@ impl<'a, S: Kept> Active<'a, S> {
 
     /// Whether two variables are different, and an active pair.
     fn is_apart(&self, x: &S, y: &S) -> bool
-        ensures { MatchBool result (Apart (pairs_of S.means self.now.pairs.now) (S.means x.now) (S.means y.now)) (NotApart
-            (pairs_of S.means self.now.pairs.now) (S.means x.now) (S.means y.now)) }
+        ensures { MatchBool result (Apart (meant_pairs S.means self.now.pairs.now) (S.means x.now) (S.means y.now)) (NotApart
+            (meant_pairs S.means self.now.pairs.now) (S.means x.now) (S.means y.now)) }
     {
         if x.same(y) {
             return false;
@@ -91,8 +91,8 @@ impl<'a, S: Kept> Active<'a, S> {
     /// Whether a variable is apart from each of these.
     fn is_apart_from(&self, x: &S, ys: &[S]) -> bool
         ensures { MatchBool result
-            ((y : Meaning) → Contains (map S.means ys.now) y → Apart (pairs_of S.means self.now.pairs.now) (S.means x.now) y)
-            ((y : Meaning) × Contains (map S.means ys.now) y × NotApart (pairs_of S.means self.now.pairs.now) (S.means x.now) y) }
+            ((y : Meaning) → Contains (map S.means ys.now) y → Apart (meant_pairs S.means self.now.pairs.now) (S.means x.now) y)
+            ((y : Meaning) × Contains (map S.means ys.now) y × NotApart (meant_pairs S.means self.now.pairs.now) (S.means x.now) y) }
     {
         for i in 0..ys.len() {
             if !self.is_apart(x, &ys[i]) {
@@ -105,8 +105,8 @@ impl<'a, S: Kept> Active<'a, S> {
     /// Whether each of the one is apart from each of the other.
     pub fn are_apart(&self, xs: &[S], ys: &[S]) -> bool
         ensures { MatchBool result
-            (EachApart (pairs_of S.means self.now.pairs.now) (map S.means xs.now) (map S.means ys.now))
-            (SomeNotApart (pairs_of S.means self.now.pairs.now) (map S.means xs.now) (map S.means ys.now)) }
+            (EachApart (meant_pairs S.means self.now.pairs.now) (map S.means xs.now) (map S.means ys.now))
+            (SomeNotApart (meant_pairs S.means self.now.pairs.now) (map S.means xs.now) (map S.means ys.now)) }
     {
         for i in 0..xs.len() {
             if !self.is_apart_from(&xs[i], ys) {
@@ -147,7 +147,7 @@ fn note(places: &mut [usize], at: usize, place: usize)
 
 /// Notes for each symbol of a list where one stands that the table has at the same place.
 fn mark<S: Kept>(xs: &[S], places: &mut [usize])
-    ensures marks { AreMarked (home_at S.key_of (length places.old)) (map S.means xs.now) places.new (length xs.now) }
+    ensures marks { AreKeyPlaces (home_at S.key_of (length places.old)) (map S.means xs.now) places.new (length xs.now) }
     ensures count { length places.new ≡ length places.old }
 {
     for i in 0..xs.len() {
@@ -158,7 +158,7 @@ fn mark<S: Kept>(xs: &[S], places: &mut [usize])
 
 /// Whether a symbol stands in a list whose symbols are noted.
 fn is_marked<S: Kept>(xs: &[S], places: &[usize], y: &S) -> bool
-    requires { AreMarked (home_at S.key_of (length places.now)) (map S.means xs.now) places.now (length xs.now) }
+    requires { AreKeyPlaces (home_at S.key_of (length places.now)) (map S.means xs.now) places.now (length xs.now) }
     ensures { IsTrue result ↔ Contains (map S.means xs.now) (S.means y.now) }
 {
     let at = home_of(y, places.len());

@@ -4,8 +4,8 @@ ghost use Rattle.std.specs.Prelude.{◌≡◌, ◌<◌, true, All, IfOk, length,
 ghost use Rattle.mm_frame.specs.Language.Base.{BaseView, is_shown_at, is_framed_at, is_proof_at};
 ghost use Rattle.mm_frame.specs.Code.KeptBase.{IsBase};
 ghost use Rattle.mm_frame.specs.Language.Frame.{AreSameFrame, AreSamePairs};
-ghost use Rattle.mm_proof.specs.Code.Citation.{mandatory_of, frame_of, pairs_of};
-ghost use Rattle.mm_frame.specs.Code.CodeSymbols.{by_number};
+ghost use Rattle.mm_proof.specs.Code.Citation.{mandatory_of, frame_of, meant_pairs};
+ghost use Rattle.mm_frame.specs.Language.NumberedSymbols.{by_number};
 ghost use Rattle.mm_proof.specs.Code.NumberedBase.{ByNames, all_by_number, numbered_hypothesis, numbered_frame, numbered_setting};
 
 use mm_frame::{Base, NumberedSymbol};
@@ -37,12 +37,13 @@ pub fn expression(base: &Base, number: usize) -> &[NumberedSymbol]
     base.known_expression(number)
 }
 
-/// The active pairs at a theorem; none where the item with this number is no theorem.
+/// The active pairs at the sound theorem with this number.
 pub fn active(base: &Base, number: usize) -> &[(NumberedSymbol, NumberedSymbol)]
+    requires { (view : BaseView) × IsBase view base.now × (is_proof_at view number ≡ true) }
     ensures { ByNames base.now (λ names view. is_proof_at view number ≡ true
-        → AreSamePairs (pairs_of by_number result.now) (numbered_setting names view number).active) }
+        → AreSamePairs (meant_pairs by_number result.now) (numbered_setting names view number).active) }
 {
-    base.pairs(number).unwrap_or(&[])
+    base.pairs(number).unwrap()
 }
 
 /// The hypothesis with this number.

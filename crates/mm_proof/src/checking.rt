@@ -1,15 +1,15 @@
 //! The check of a proof.
 
-ghost use Rattle.std.specs.Prelude.{true, ◌≡◌, ◌<◌, ◌≤◌, ◌+◌, ◌++◌, ◌∷◌, ◌^◌, [], ℕ, List, Err, All, IfOk, OnOk, OnErr, length};
+ghost use Rattle.std.specs.Prelude.{true, ◌≡◌, ◌<◌, ◌≤◌, ◌+◌, ◌++◌, ◌∷◌, ◌^◌, [], ℕ, List, Err, IfOk, OnOk, OnErr, length};
 ghost use Rattle.mm_frame.specs.Language.Base.{BaseView, before, said_at, is_framed_at};
 ghost use Rattle.mm_frame.specs.Language.Framing.{mandatory_numbers};
 ghost use Rattle.mm_frame.specs.Code.KeptBase.{IsBase};
 ghost use Rattle.mm_proof.specs.Language.BaseLabels.{setting_at};
 ghost use Rattle.mm_proof.specs.Language.Decoding.{word_spot};
 ghost use Rattle.mm_proof.specs.Language.Verdict.{IsVerdictOnSteps};
-ghost use Rattle.mm_proof.specs.Language.VerdictAt.{IsVerdictAt, AreDoneAt, cites_at, decoding_at, statement_at};
+ghost use Rattle.mm_proof.specs.Language.VerdictAt.{IsVerdictAt, AreDoneAt, cites_at, statement_at};
 ghost use Rattle.mm_frame.specs.Language.Frame.{Symbol, Setting};
-ghost use Rattle.mm_proof.specs.Code.Decoded.{TellsFault, decoded_steps};
+ghost use Rattle.mm_proof.specs.Language.DecodedSteps.{decoded_steps};
 ghost use Rattle.mm_proof.specs.Code.Judged.{HasDecoding, HasStatement, IsOutcomeWithin, OfDecoding, OfStatement, done_by};
 ghost use Rattle.mm_proof.specs.Code.ReadIn.{HasTheorem, OfTheorem};
 ghost use Rattle.mm_proof.specs.Code.Tasks.{RunSays};
@@ -29,14 +29,13 @@ use mm_frame::{Base, Files, Names, NumberedSymbol, ProofWords, Statement, places
 use std::alloc::{AllocError, Global};
 use std::mem;
 
-/// The numbers of the mandatory hypotheses of an assertion; none where the item with this number is none.
+/// The numbers of the mandatory hypotheses of the sound assertion with this number.
 pub fn mandatory(base: &Base, i: usize) -> &[usize]
+    requires { (view : BaseView) × IsBase view base.now × (is_framed_at view i ≡ true) }
     ensures { (view : BaseView) → IsBase view base.now → is_framed_at view i ≡ true → result.now ≡ mandatory_numbers (before view i) (said_at view i) }
 {
-    match base.frame(i) {
-        Some(frame) => &frame.hypotheses,
-        None => &[],
-    }
+    let frame = base.frame(i).unwrap();
+    &frame.hypotheses
 }
 
 /// The fault that decoding tells; want of memory stays what it is.
@@ -125,8 +124,7 @@ fn run_steps(
     )
 }
 
-/// What a check says of a proof that decodes, and how many steps are done. It takes how many mandatory hypotheses there
-/// are.
+/// What a check says of a proof that decodes, and how many steps are done.
 fn judge_steps(
     alloc: Global,
     scratch: &mut Scratch,
@@ -135,10 +133,8 @@ fn judge_steps(
     i: usize,
     statement: &Statement,
     decoding: &Decoding,
-    mandatory: usize,
 ) -> Result<(Checked, u64), AllocError>
-    requires decoding { HasDecoding base.now i statement.now decoding.now }
-    requires mandatory { OfDecoding base.now i statement.now decoding.now (λ view. mandatory ≡ length (mandatory_numbers (before view i) (said_at view i))) }
+    requires { HasDecoding base.now i statement.now decoding.now }
     ensures verdict { IfOk result (λ judged. OfDecoding base.now i statement.now decoding.now (λ view. IsVerdictAt view i judged.0.verdict)) }
     ensures cites { IfOk result (λ judged. OfDecoding base.now i statement.now decoding.now (λ view. judged.0.cites ≡ cites_at view i)) }
     ensures done { IfOk result (λ judged. OfDecoding base.now i statement.now decoding.now (λ view. AreDoneAt view i judged.1)) }
@@ -147,7 +143,8 @@ fn judge_steps(
     decodes_short();
     labels_are_own();
     scratch.widen(base.count())?;
-    let cites = cites(alloc, &mut scratch.marks, decoding, mandatory, statement)?;
+    let hypotheses = mandatory(base, i).len();
+    let cites = cites(alloc, &mut scratch.marks, decoding, hypotheses, statement)?;
     let outcome = run_steps(alloc, &mut *scratch, keys, base, i, statement, decoding)?;
     let done = done(outcome, decoding.steps.len());
     let verdict = verdict(outcome, decoding, statement.proof());
@@ -174,16 +171,7 @@ fn judge(
     let room = mem::replace(&mut scratch.decoding, Decoding::new(alloc));
     match decode(base, i, mandatory, statement, room) {
         Ok(decoding) => {
-            let judged = judge_steps(
-                alloc,
-                &mut *scratch,
-                keys,
-                base,
-                i,
-                statement,
-                &decoding,
-                mandatory.len(),
-            )?;
+            let judged = judge_steps(alloc, &mut *scratch, keys, base, i, statement, &decoding)?;
             scratch.decoding = decoding;
             Ok(judged)
         }

@@ -4,8 +4,8 @@ ghost use Rattle.std.specs.Prelude.{◌≡◌, ◌↔◌, ◌<◌, List, false, 
 ghost use Rattle.mm_frame.specs.Language.Frame.{Symbol as Meaning};
 ghost use Rattle.mm_frame.specs.Language.Typing.{IsFrame};
 ghost use Rattle.mm_proof.specs.Language.Faults.{AnyZip};
-ghost use Rattle.mm_proof.specs.Code.Flat.{IsWithin};
-ghost use Rattle.mm_proof.specs.Code.Citation.{entries_of, mandatory_of, hypotheses_of, frame_from, pairs_of, Gives, AreHypotheses, GivesEntries};
+ghost use Rattle.mm_proof.specs.Code.Flat.{IsEntryWithin};
+ghost use Rattle.mm_proof.specs.Code.Citation.{entries_of, mandatory_of, hypotheses_of, frame_from, meant_pairs, GivesVariables, AreAllTyped, GivesEntries};
 ghost use Rattle.mm_proof.specs.Code.Citation.{OtherTypecode, OtherEssential, CitingSays};
 
 use crate::ProofNumber;
@@ -20,7 +20,7 @@ use std::alloc::{AllocError, Global};
 
 /// The symbols of an entry.
 pub fn entry_at<'s, 'a, S: Kept>(taken: &Taken<'s, 'a, S>, place: usize) -> &'s [S]
-    requires within { All (IsWithin (length taken.now.symbols.now)) taken.now.entries.now }
+    requires within { All (IsEntryWithin (length taken.now.symbols.now)) taken.now.entries.now }
     requires in_range { place < length taken.now.entries.now }
     ensures { slice_get (entries_of S.means taken.now) place ≡ Some (map S.means result.now) }
 {
@@ -47,7 +47,7 @@ fn is_other_typecode<'a, S: Kept>(hypothesis: &Hypothesis<'a, S>, entry: &[S]) -
 
 /// Whether each entry of a `$f` has its typecode.
 fn typecodes_match<'s, 'a, S: Kept>(taken: &Taken<'s, 'a, S>) -> bool
-    requires within { All (IsWithin (length taken.now.symbols.now)) taken.now.entries.now }
+    requires within { All (IsEntryWithin (length taken.now.symbols.now)) taken.now.entries.now }
     requires count { length taken.now.entries.now ≡ length taken.now.hypotheses.now }
     ensures { MatchBool result
         (AnyZip OtherTypecode (hypotheses_of S.means taken.now.hypotheses.now) (entries_of S.means taken.now) → ⊥)
@@ -67,9 +67,9 @@ fn is_other_essential<'s, 'a, S: Kept>(
     hypothesis: &Hypothesis<'a, S>,
     entry: &[S],
 ) -> bool
-    requires within { All (IsWithin (length taken.now.symbols.now)) taken.now.entries.now }
+    requires within { All (IsEntryWithin (length taken.now.symbols.now)) taken.now.entries.now }
     ensures { (given : Meaning → List Meaning) → (hypothesis.now.floating ≡ false
-        → Gives given (hypotheses_of S.means taken.now.hypotheses.now) (entries_of S.means taken.now) (map S.means hypothesis.now.expression.now))
+        → GivesVariables given (hypotheses_of S.means taken.now.hypotheses.now) (entries_of S.means taken.now) (map S.means hypothesis.now.expression.now))
         → IsTrue result ↔ OtherEssential given (mandatory_of S.means hypothesis.now) (map S.means entry.now) }
 {
     !hypothesis.floating && !fits(&*taken, hypothesis.expression, entry)
@@ -77,9 +77,9 @@ fn is_other_essential<'s, 'a, S: Kept>(
 
 /// Whether each entry of a `$e` is the `$e` under the substitution.
 fn essentials_fit<'s, 'a, S: Kept>(taken: &Taken<'s, 'a, S>) -> bool
-    requires within { All (IsWithin (length taken.now.symbols.now)) taken.now.entries.now }
+    requires within { All (IsEntryWithin (length taken.now.symbols.now)) taken.now.entries.now }
     requires count { length taken.now.entries.now ≡ length taken.now.hypotheses.now }
-    requires typed { AreHypotheses (hypotheses_of S.means taken.now.hypotheses.now) }
+    requires typed { AreAllTyped (hypotheses_of S.means taken.now.hypotheses.now) }
     ensures { (given : Meaning → List Meaning) → GivesEntries given (hypotheses_of S.means taken.now.hypotheses.now) (entries_of S.means taken.now)
         → MatchBool result
         (AnyZip (OtherEssential given) (hypotheses_of S.means taken.now.hypotheses.now) (entries_of S.means taken.now) → ⊥)
@@ -103,10 +103,10 @@ pub fn citing_fault<'s, 'a, S: Kept>(
     gathered: &mut Gathered<S>,
     marks: &mut [usize],
 ) -> Result<Option<ProofNumber>, AllocError>
-    requires within { All (IsWithin (length taken.now.symbols.now)) taken.now.entries.now }
+    requires within { All (IsEntryWithin (length taken.now.symbols.now)) taken.now.entries.now }
     requires count { length taken.now.entries.now ≡ length taken.now.hypotheses.now }
     requires frame { IsFrame (frame_from S.means taken.now.hypotheses.now expression.now pairs.now) }
-    ensures { IfOk result (λ found. CitingSays (pairs_of S.means active.now.pairs.now)
+    ensures { IfOk result (λ found. CitingSays (meant_pairs S.means active.now.pairs.now)
         (frame_from S.means taken.now.hypotheses.now expression.now pairs.now) (entries_of S.means taken.now) found) }
 {
     if !typecodes_match(&*taken) {

@@ -2,15 +2,14 @@
 
 ghost use Rattle.std.specs.Prelude.{◌≡◌, ◌≤◌, true, false, ℕ, ◌+◌, ◌++◌, ◌∷◌, ◌||◌, nat_eq, List, IfOk, OnOk, drop, length};
 ghost use Rattle.std.specs.List.{list_any};
-ghost use Rattle.mm_proof.specs.Code.Cited.{item_named, names_item, item_cites, without, mark_at, is_listed};
+ghost use Rattle.mm_proof.specs.Code.Cited.{item_named, names_item, item_cites, without, marked_at, is_listed};
 ghost use Rattle.mm_frame.specs.declared.base.Resolved as labels;
 ghost use Rattle.mm_frame.specs.Language.Base.{BaseView};
 ghost use Rattle.mm_proof.specs.Language.BaseLabels.{NoLabelTwice};
 ghost use Rattle.mm_proof.specs.Language.BaseLabels.{label_at, setting_at};
 ghost use Rattle.mm_frame.specs.Language.Base.{is_shown_at};
 ghost use Rattle.mm_proof.specs.Language.Citing.{cited_words};
-ghost use Rattle.mm_proof.specs.Code.Decoded.{decoded_steps};
-ghost use Rattle.mm_proof.specs.Code.Labels.{AreEntries, entry_steps, label_table, labels_at};
+ghost use Rattle.mm_proof.specs.Language.DecodedSteps.{decoded_steps, AreEntries, entry_steps, label_table, labels_at};
 
 use crate::reading::{Decoding, is_compressed};
 use crate::step::{Action, ProofStep};
@@ -32,7 +31,7 @@ fn assertion_of(labels: &[Resolved], action: Action) -> Option<usize>
 
 /// Marks a number.
 fn put(marks: &mut Vec<bool>, j: usize) -> Result<(), AllocError>
-    ensures { OnOk result ((i : ℕ) → mark_at marks.new.items i ≡ (mark_at marks.old.items i || nat_eq j i)) }
+    ensures { OnOk result ((i : ℕ) → marked_at marks.new.items i ≡ (marked_at marks.old.items i || nat_eq j i)) }
 {
     if j < marks.len() {
         marks[j] = true;
@@ -45,8 +44,8 @@ fn put(marks: &mut Vec<bool>, j: usize) -> Result<(), AllocError>
 
 /// Takes the mark from a number. Answers whether it was there.
 fn take(marks: &mut Vec<bool>, j: usize) -> bool
-    ensures was { result ≡ mark_at marks.old.items j }
-    ensures left { (i : ℕ) → mark_at marks.new.items i ≡ without (mark_at marks.old.items) j i }
+    ensures was { result ≡ marked_at marks.old.items j }
+    ensures left { (i : ℕ) → marked_at marks.new.items i ≡ without (marked_at marks.old.items) j i }
 {
     if j >= marks.len() {
         return false;
@@ -58,7 +57,7 @@ fn take(marks: &mut Vec<bool>, j: usize) -> bool
 
 /// Takes the marks from the assertions that labels name.
 fn forget(marks: &mut Vec<bool>, labels: &[Resolved])
-    ensures { (j : ℕ) → is_listed labels.now j ≡ true → mark_at marks.new.items j ≡ false }
+    ensures { (j : ℕ) → is_listed labels.now j ≡ true → marked_at marks.new.items j ≡ false }
 {
     for label in labels {
         if let Resolved::Assertion(j) = *label {
@@ -69,7 +68,7 @@ fn forget(marks: &mut Vec<bool>, labels: &[Resolved])
 
 /// Marks, of the assertions that labels name, those that steps name. Of others the marks do not count.
 fn named(marks: &mut Vec<bool>, labels: &[Resolved], steps: &[ProofStep]) -> Result<(), AllocError>
-    ensures { OnOk result ((j : ℕ) → is_listed labels.now j ≡ true → mark_at marks.new.items j ≡ list_any (names_item labels.now j) steps.now) }
+    ensures { OnOk result ((j : ℕ) → is_listed labels.now j ≡ true → marked_at marks.new.items j ≡ list_any (names_item labels.now j) steps.now) }
 {
     forget(&mut *marks, labels);
     for step in steps {
@@ -88,8 +87,8 @@ fn cite(
     word: usize,
 ) -> Result<(), AllocError>
     ensures { OnOk result ((labels : List labels.Resolved) →
-        words.new.items ++ item_cites (mark_at left.new.items) (word + 1) labels
-        ≡ words.old.items ++ item_cites (mark_at left.old.items) word (label ∷ labels)) }
+        words.new.items ++ item_cites (marked_at left.new.items) (word + 1) labels
+        ≡ words.old.items ++ item_cites (marked_at left.old.items) word (label ∷ labels)) }
 {
     if let Resolved::Assertion(j) = label {
         if take(&mut *left, j) {

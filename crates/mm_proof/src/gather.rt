@@ -2,7 +2,7 @@
 
 ghost use Rattle.std.specs.Prelude.{◌≡◌, ◌<◌, ◌≤◌, true, List, IsTrue, OnOk, All, Some, Contains, drop, length, map, slice_get};
 ghost use Rattle.mm_frame.specs.Language.Frame.{Symbol as Meaning};
-ghost use Rattle.mm_proof.specs.Code.Flat.{IsWithin};
+ghost use Rattle.mm_proof.specs.Code.Flat.{IsEntryWithin};
 ghost use Rattle.mm_proof.specs.Code.Citation.{entries_of};
 ghost use Rattle.mm_proof.specs.Code.PairClause.{GatheredUpTo, GathersOne, GathersEntry, Gathers};
 
@@ -96,7 +96,7 @@ impl<S: Kept> Gathered<S> {
         floating: bool,
         place: usize,
     ) -> Result<(), AllocError>
-        requires { All (IsWithin (length taken.now.symbols.now)) taken.now.entries.now }
+        requires { All (IsEntryWithin (length taken.now.symbols.now)) taken.now.entries.now }
         ensures { OnOk result ((e : List Meaning) → slice_get (entries_of S.means taken.now) place ≡ Some e
             → GathersEntry floating e (map S.means self.old.variables.items)
             (map S.means self.new.variables.items) self.old.spans.items self.new.spans.items) }
@@ -131,7 +131,7 @@ impl<S: Kept> Gathered<S> {
         alloc: Global,
         taken: &Taken<'s, 'a, S>,
     ) -> Result<(), AllocError>
-        requires within { All (IsWithin (length taken.now.symbols.now)) taken.now.entries.now }
+        requires within { All (IsEntryWithin (length taken.now.symbols.now)) taken.now.entries.now }
         requires count { length taken.now.entries.now ≡ length taken.now.hypotheses.now }
         ensures { OnOk result (Gathers taken.now.hypotheses.now (entries_of S.means taken.now)
             (map S.means self.new.variables.items) self.new.spans.items (length taken.now.hypotheses.now)) }

@@ -7,7 +7,8 @@ ghost use Rattle.mm_frame.specs.Language.Resolving.{Resolves};
 ghost use Rattle.mm_proof.specs.Language.BaseLabels.{label_at, setting_at};
 ghost use Rattle.mm_proof.specs.Language.Decoding.{word_spot, read_label as read_label_lem, is_close as is_close_lem};
 ghost use Rattle.mm_proof.specs.declared.step.Undecoded.TheVariants as errors;
-ghost use Rattle.mm_proof.specs.Code.Labels.{TellsWord, FromBegin, IsListed, TellsListed, IsEntry, entry_step};
+ghost use Rattle.mm_proof.specs.Language.DecodedSteps.{IsEntry, entry_step};
+ghost use Rattle.mm_proof.specs.Code.Labels.{TellsWord, FromBegin, IsListed, TellsListed};
 ghost use Rattle.mm_proof.specs.Code.Left.{AreLeft};
 
 use crate::step::{ProofFault, Undecoded};

@@ -5,7 +5,8 @@ ghost use Rattle.mm_proof.specs.Language.Expansion.{Step};
 ghost use Rattle.mm_proof.specs.Language.Numbers as numbers;
 ghost use Rattle.mm_proof.specs.Language.Decoding.{nameable, named as named_lem};
 ghost use Rattle.mm_proof.specs.Code.LeftToRight.{read_behind, alone_behind, read_on};
-ghost use Rattle.mm_proof.specs.Code.Coded.{TellsSteps, meant, meant_or, meant_steps, LettersGive};
+ghost use Rattle.mm_proof.specs.Language.DecodedSteps.{meant};
+ghost use Rattle.mm_proof.specs.Code.Coded.{TellsSteps, meant_or, meant_steps, LettersGive};
 
 use crate::step::{Action, ProofFault, ProofStep, Undecoded};
 use crate::{ProofNumber, Spot};
@@ -84,13 +85,13 @@ pub struct LetterReader {
 impl LetterReader {
     ghost use Rattle.std.specs.Prelude.{[], ◌∷◌, ◌++◌, OnOk};
     ghost use Rattle.mm_proof.specs.Language.Letters.{Letter, letters_in};
-    ghost use Rattle.mm_proof.specs.Code.Reader.{Aim, Goes};
+    ghost use Rattle.mm_proof.specs.Code.Reader.{Aim, ReadsLetters};
 
     /// A reader before the first letter, where numbers name this many labels. It puts the steps in place of what a list
     /// has.
     fn new(room: Vec<ProofStep>, labels: usize) -> Self
         requires { labels < 2 ^ 63 }
-        ensures { (aim : Aim) (ls : List Letter) → length aim.names ≡ labels → aim.total ≡ read_on aim.names aim.close 0 0 ls → Goes aim result ls }
+        ensures { (aim : Aim) (ls : List Letter) → length aim.names ≡ labels → aim.total ≡ read_on aim.names aim.close 0 0 ls → ReadsLetters aim result ls }
     {
         let mut steps = room;
         steps.clear();
@@ -104,9 +105,10 @@ impl LetterReader {
 
     /// Reads one letter.
     fn read(&mut self, byte: u8, spot: Spot) -> Result<(), Undecoded>
-        ensures ok { OnOk result ((aim : Aim) (ls : List Letter) → Goes aim self.old (record { byte = byte; spot = spot } ∷ ls) → Goes aim self.new ls) }
+        ensures ok { OnOk result ((aim : Aim) (ls : List Letter)
+            → ReadsLetters aim self.old (record { byte = byte; spot = spot } ∷ ls) → ReadsLetters aim self.new ls) }
         ensures err { IfErr result (λ e. (aim : Aim) (ls : List Letter)
-            → Goes aim self.old (record { byte = byte; spot = spot } ∷ ls) → TellsSteps e aim.total) }
+            → ReadsLetters aim self.old (record { byte = byte; spot = spot } ∷ ls) → TellsSteps e aim.total) }
     {
         if is_digit(byte) {
             self.digits = with_digit(self.digits, usize::from(byte - b'T'));
@@ -127,8 +129,8 @@ impl LetterReader {
 
     /// Reads the letters of the word with this number.
     fn read_word(&mut self, n: usize, word: &[u8]) -> Result<(), Undecoded>
-        ensures ok { OnOk result ((aim : Aim) (ls : List Letter) → Goes aim self.old (letters_in (n, word.now) ++ ls) → Goes aim self.new ls) }
-        ensures err { IfErr result (λ e. (aim : Aim) (ls : List Letter) → Goes aim self.old (letters_in (n, word.now) ++ ls) → TellsSteps e aim.total) }
+        ensures ok { OnOk result ((aim : Aim) (ls : List Letter) → ReadsLetters aim self.old (letters_in (n, word.now) ++ ls) → ReadsLetters aim self.new ls) }
+        ensures err { IfErr result (λ e. (aim : Aim) (ls : List Letter) → ReadsLetters aim self.old (letters_in (n, word.now) ++ ls) → TellsSteps e aim.total) }
     {
         for (letter, byte) in word.iter().enumerate() {
             self.read(*byte, Spot { word: n, letter })?;
@@ -138,8 +140,8 @@ impl LetterReader {
 
     /// The steps, or the fault of digits that no letter follows.
     fn end(self, close: Spot) -> Result<Vec<ProofStep>, Undecoded>
-        ensures ok { IfOk result (λ steps. (aim : Aim) → aim.close ≡ close → Goes aim self [] → aim.total ≡ Ok (meant_steps aim.names steps.items)) }
-        ensures err { IfErr result (λ e. (aim : Aim) → aim.close ≡ close → Goes aim self [] → TellsSteps e aim.total) }
+        ensures ok { IfOk result (λ steps. (aim : Aim) → aim.close ≡ close → ReadsLetters aim self [] → aim.total ≡ Ok (meant_steps aim.names steps.items)) }
+        ensures err { IfErr result (λ e. (aim : Aim) → aim.close ≡ close → ReadsLetters aim self [] → TellsSteps e aim.total) }
     {
         if self.digits == 0 {
             Ok(self.steps)

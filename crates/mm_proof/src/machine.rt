@@ -2,7 +2,7 @@
 
 ghost use Rattle.std.specs.Prelude.{◌≡◌, ◌++◌, ◌∷◌, [], ◌<◌, ◌≤◌, ◌-◌, ℕ, IfOk, OnOk, MatchBool, MatchOption, Some, length, map, take, slice_get};
 ghost use Rattle.mm_proof.specs.Code.Ranges.{AreOrderedRanges, Saves};
-ghost use Rattle.mm_proof.specs.Code.Citation.{IsLowestCiting, frame_from, frame_of, pairs_of};
+ghost use Rattle.mm_proof.specs.Code.Citation.{IsLowestCiting, frame_from, frame_of, meant_pairs};
 ghost use Rattle.mm_frame.specs.Language.Typing.{IsFrame};
 ghost use Rattle.mm_proof.specs.Language.Steps.{Cites};
 ghost use Rattle.mm_proof.specs.Language.Machine.{nothing_yet};
@@ -194,9 +194,9 @@ impl<S: Kept> Machine<S> {
         requires frame { IsFrame (frame_from S.means hypotheses.now expression.now pairs.now) }
         ensures whole { OnOk result (AreRanges self.new) }
         ensures cites { IfOk result (λ found. MatchOption found
-            (Cites (pairs_of S.means active.now.pairs.now) (frame_from S.means hypotheses.now expression.now pairs.now) (state_of S.means self.old).stack
+            (Cites (meant_pairs S.means active.now.pairs.now) (frame_from S.means hypotheses.now expression.now pairs.now) (state_of S.means self.old).stack
             (state_of S.means self.new).stack)
-            (IsLowestCiting (pairs_of S.means active.now.pairs.now) (frame_from S.means hypotheses.now expression.now pairs.now)
+            (IsLowestCiting (meant_pairs S.means active.now.pairs.now) (frame_from S.means hypotheses.now expression.now pairs.now)
             (state_of S.means self.old).stack)) }
         ensures saved { OnOk result ((state_of S.means self.new).saved ≡ (state_of S.means self.old).saved) }
     {
@@ -240,8 +240,8 @@ impl<S: Kept> Machine<S> {
         requires frame { IsFrame (frame_of S.means cited.now) }
         ensures whole { OnOk result (AreRanges self.new) }
         ensures cites { IfOk result (λ found. MatchOption found
-            (Cites (pairs_of S.means active.now.pairs.now) (frame_of S.means cited.now) (state_of S.means self.old).stack (state_of S.means self.new).stack)
-            (IsLowestCiting (pairs_of S.means active.now.pairs.now) (frame_of S.means cited.now) (state_of S.means self.old).stack)) }
+            (Cites (meant_pairs S.means active.now.pairs.now) (frame_of S.means cited.now) (state_of S.means self.old).stack (state_of S.means self.new).stack)
+            (IsLowestCiting (meant_pairs S.means active.now.pairs.now) (frame_of S.means cited.now) (state_of S.means self.old).stack)) }
         ensures saved { OnOk result ((state_of S.means self.new).saved ≡ (state_of S.means self.old).saved) }
     {
         self.take(

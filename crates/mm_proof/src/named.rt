@@ -4,9 +4,9 @@ ghost use Rattle.std.specs.Prelude.{◌≡◌, ◌++◌, ◌∷◌, ◌<◌, [],
 ghost use Rattle.mm_frame.specs.declared.base.Resolved.TheVariants as answers;
 ghost use Rattle.mm_frame.specs.Language.Typing.{IsFrame};
 ghost use Rattle.mm_proof.specs.Code.Citation.{frame_of};
-ghost use Rattle.mm_proof.specs.Code.Labels.{AreEntries, entry_steps};
-ghost use Rattle.mm_proof.specs.Code.NamedItems.{AreNamed, Grows, IsNamedBy, StandsFor};
-ghost use Rattle.mm_frame.specs.Code.CodeSymbols.{by_number};
+ghost use Rattle.mm_proof.specs.Language.DecodedSteps.{AreEntries, entry_steps};
+ghost use Rattle.mm_proof.specs.Code.NamedItems.{AreNamed, NamingGrows, IsNamedBy, IsUseOf};
+ghost use Rattle.mm_frame.specs.Language.NumberedSymbols.{by_number};
 ghost use Rattle.mm_proof.specs.Code.NumberedBase.{ByNames, numbered_setting};
 ghost use Rattle.mm_proof.specs.Code.Tasks.{AreUses, AreUsesWithin};
 
@@ -152,8 +152,8 @@ impl<'a> Naming<'a> {
     fn hypothesis(&mut self, base: &'a Base, number: usize) -> Result<Use, AllocError>
         requires { AreNamed base.now self.old }
         ensures named { OnOk result (AreNamed base.now self.new) }
-        ensures grows { OnOk result (Grows self.old self.new) }
-        ensures stands { IfOk result (λ used. StandsFor self.new used (answers.Hypothesis number)) }
+        ensures grows { OnOk result (NamingGrows self.old self.new) }
+        ensures stands { IfOk result (λ used. IsUseOf self.new used (answers.Hypothesis number)) }
     {
         if let Some(place) = self.hypothesis_numbers.find(number) {
             return Ok(Use::Hypothesis(place));
@@ -167,8 +167,8 @@ impl<'a> Naming<'a> {
         requires named { AreNamed base.now self.old }
         requires entry { IsNamedBy base.now (answers.Assertion number) }
         ensures named { OnOk result (AreNamed base.now self.new) }
-        ensures grows { OnOk result (Grows self.old self.new) }
-        ensures stands { IfOk result (λ used. StandsFor self.new used (answers.Assertion number)) }
+        ensures grows { OnOk result (NamingGrows self.old self.new) }
+        ensures stands { IfOk result (λ used. IsUseOf self.new used (answers.Assertion number)) }
     {
         places_have_frames();
         if let Some(place) = self.assertion_numbers.find(number) {
@@ -183,8 +183,8 @@ impl<'a> Naming<'a> {
         requires named { AreNamed base.now self.old }
         requires entry { IsNamedBy base.now label }
         ensures named { OnOk result (AreNamed base.now self.new) }
-        ensures grows { OnOk result (Grows self.old self.new) }
-        ensures stands { IfOk result (λ used. StandsFor self.new used label) }
+        ensures grows { OnOk result (NamingGrows self.old self.new) }
+        ensures stands { IfOk result (λ used. IsUseOf self.new used label) }
     {
         match label {
             Resolved::Hypothesis(number) => self.hypothesis(base, number),

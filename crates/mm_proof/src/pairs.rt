@@ -3,8 +3,8 @@
 ghost use Rattle.std.specs.Prelude.{◌≡◌, ◌<◌, ℕ, List, IfOk, MatchBool, All, Some, length, map, slice_get};
 ghost use Rattle.mm_frame.specs.Language.Frame.{Symbol as Meaning};
 ghost use Rattle.mm_frame.specs.Language.Typing.{IsTyped};
-ghost use Rattle.mm_proof.specs.Code.Flat.{IsWithin};
-ghost use Rattle.mm_proof.specs.Code.Citation.{entries_of, AreHypotheses, GivesEntries, pairs_of, hypotheses_of};
+ghost use Rattle.mm_proof.specs.Code.Flat.{IsEntryWithin};
+ghost use Rattle.mm_proof.specs.Code.Citation.{entries_of, AreAllTyped, GivesEntries, meant_pairs, hypotheses_of};
 ghost use Rattle.mm_proof.specs.Code.PairClause.{EachApart, SomeNotApart, SomeShared, AreSpans, AreTypedPairs, AtSlot, AtEachPair, AtSomePair, PairsSay};
 
 use crate::ProofNumber;
@@ -42,10 +42,10 @@ fn all_apart<'s, 'a, S: Kept>(
 ) -> bool
     requires spans { AreSpans (length gathered.now.variables.items) gathered.now.spans.items }
     requires count { length gathered.now.spans.items ≡ length taken.now.hypotheses.now }
-    requires typed { AreTypedPairs (hypotheses_of S.means taken.now.hypotheses.now) (pairs_of S.means pairs.now) }
+    requires typed { AreTypedPairs (hypotheses_of S.means taken.now.hypotheses.now) (meant_pairs S.means pairs.now) }
     ensures { MatchBool result
-        (AtEachPair S.means (EachApart (pairs_of S.means active.now.pairs.now)) taken.now gathered.now pairs.now)
-        (AtSomePair S.means (SomeNotApart (pairs_of S.means active.now.pairs.now)) taken.now gathered.now pairs.now) }
+        (AtEachPair S.means (EachApart (meant_pairs S.means active.now.pairs.now)) taken.now gathered.now pairs.now)
+        (AtSomePair S.means (SomeNotApart (meant_pairs S.means active.now.pairs.now)) taken.now gathered.now pairs.now) }
 {
     for n in 0..pairs.len() {
         let pair = &pairs[n];
@@ -67,7 +67,7 @@ fn any_share<'s, 'a, S: Kept>(
 ) -> bool
     requires spans { AreSpans (length gathered.now.variables.items) gathered.now.spans.items }
     requires count { length gathered.now.spans.items ≡ length taken.now.hypotheses.now }
-    requires typed { AreTypedPairs (hypotheses_of S.means taken.now.hypotheses.now) (pairs_of S.means pairs.now) }
+    requires typed { AreTypedPairs (hypotheses_of S.means taken.now.hypotheses.now) (meant_pairs S.means pairs.now) }
     ensures { MatchBool result
         (AtSomePair S.means SomeShared taken.now gathered.now pairs.now)
         (AtEachPair S.means (λ xs ys. SomeShared xs ys → ⊥) taken.now gathered.now pairs.now) }
@@ -92,13 +92,13 @@ pub fn pairs_fault<'s, 'a, S: Kept>(
     gathered: &mut Gathered<S>,
     marks: &mut [usize],
 ) -> Result<Option<ProofNumber>, AllocError>
-    requires within { All (IsWithin (length taken.now.symbols.now)) taken.now.entries.now }
+    requires within { All (IsEntryWithin (length taken.now.symbols.now)) taken.now.entries.now }
     requires count { length taken.now.entries.now ≡ length taken.now.hypotheses.now }
-    requires hypotheses { AreHypotheses (hypotheses_of S.means taken.now.hypotheses.now) }
-    requires typed { AreTypedPairs (hypotheses_of S.means taken.now.hypotheses.now) (pairs_of S.means pairs.now) }
+    requires hypotheses { AreAllTyped (hypotheses_of S.means taken.now.hypotheses.now) }
+    requires typed { AreTypedPairs (hypotheses_of S.means taken.now.hypotheses.now) (meant_pairs S.means pairs.now) }
     ensures { IfOk result (λ found. (given : Meaning → List Meaning)
         → GivesEntries given (hypotheses_of S.means taken.now.hypotheses.now) (entries_of S.means taken.now)
-        → PairsSay (pairs_of S.means active.now.pairs.now) given (pairs_of S.means pairs.now) found) }
+        → PairsSay (meant_pairs S.means active.now.pairs.now) given (meant_pairs S.means pairs.now) found) }
 {
     if pairs.is_empty() {
         return Ok(None);

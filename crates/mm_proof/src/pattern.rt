@@ -3,8 +3,8 @@
 ghost use Rattle.std.specs.Prelude.{◌≡◌, ◌↔◌, ◌++◌, ◌<◌, ◌≤◌, ◌+◌, ℕ, List, IsTrue, OnOk, All, MatchBool, Some, drop, length, map, slice_get, take};
 ghost use Rattle.mm_frame.specs.Language.Frame.{Symbol as Meaning};
 ghost use Rattle.mm_proof.specs.Language.Substitution.{replacement, substituted};
-ghost use Rattle.mm_proof.specs.Code.Flat.{IsWithin, read_all};
-ghost use Rattle.mm_proof.specs.Code.Citation.{Gives, hypotheses_of, entries_of, replaced_by};
+ghost use Rattle.mm_proof.specs.Code.Flat.{IsEntryWithin, read_all};
+ghost use Rattle.mm_proof.specs.Code.Citation.{GivesVariables, hypotheses_of, entries_of, replaced_by};
 
 use crate::assertion::Hypothesis;
 use crate::slots::slot_of;
@@ -40,7 +40,7 @@ pub struct Taken<'s, 'a, S> {
 
 /// What an entry gives: its symbols behind the typecode. None where there is no such entry.
 pub fn given<'s, 'a, S: Kept>(taken: &Taken<'s, 'a, S>, slot: usize) -> &'s [S]
-    requires { All (IsWithin (length taken.now.symbols.now)) taken.now.entries.now }
+    requires { All (IsEntryWithin (length taken.now.symbols.now)) taken.now.entries.now }
     ensures { (e : List Meaning) → slice_get (entries_of S.means taken.now) slot ≡ Some e → map S.means result.now ≡ drop 1 e }
 {
     if slot >= taken.entries.len() {
@@ -107,9 +107,10 @@ fn part<'s, 'a, S: Kept>(
     expression: &'a [S],
     place: usize,
 ) -> Replacement<'s, 'a, S>
-    requires within { All (IsWithin (length taken.now.symbols.now)) taken.now.entries.now }
+    requires within { All (IsEntryWithin (length taken.now.symbols.now)) taken.now.entries.now }
     requires in_range { place < length expression.now }
-    ensures { (given : Meaning → List Meaning) (s : Meaning) → Gives given (hypotheses_of S.means taken.now.hypotheses.now) (entries_of S.means taken.now)
+    ensures { (given : Meaning → List Meaning) (s : Meaning)
+        → GivesVariables given (hypotheses_of S.means taken.now.hypotheses.now) (entries_of S.means taken.now)
         (map S.means expression.now)
         → slice_get (map S.means expression.now) place ≡ Some s → replaced_by S.means result ≡ replacement given s }
 {
@@ -134,8 +135,9 @@ pub fn substitute<'s, 'a, S: Kept>(
     expression: &'a [S],
     to: &mut Vec<S>,
 ) -> Result<(), AllocError>
-    requires within { All (IsWithin (length taken.now.symbols.now)) taken.now.entries.now }
-    ensures { OnOk result ((given : Meaning → List Meaning) → Gives given (hypotheses_of S.means taken.now.hypotheses.now) (entries_of S.means taken.now)
+    requires within { All (IsEntryWithin (length taken.now.symbols.now)) taken.now.entries.now }
+    ensures { OnOk result ((given : Meaning → List Meaning)
+        → GivesVariables given (hypotheses_of S.means taken.now.hypotheses.now) (entries_of S.means taken.now)
         (map S.means expression.now)
         → map S.means to.new.items ≡ map S.means to.old.items ++ substituted given (map S.means expression.now)) }
 {
@@ -147,8 +149,8 @@ pub fn substitute<'s, 'a, S: Kept>(
 
 /// Whether an expression under the substitution has at most 1,000,000 symbols.
 pub fn is_short<'s, 'a, S: Kept>(taken: &Taken<'s, 'a, S>, expression: &'a [S]) -> bool
-    requires within { All (IsWithin (length taken.now.symbols.now)) taken.now.entries.now }
-    ensures { (given : Meaning → List Meaning) → Gives given (hypotheses_of S.means taken.now.hypotheses.now) (entries_of S.means taken.now)
+    requires within { All (IsEntryWithin (length taken.now.symbols.now)) taken.now.entries.now }
+    ensures { (given : Meaning → List Meaning) → GivesVariables given (hypotheses_of S.means taken.now.hypotheses.now) (entries_of S.means taken.now)
         (map S.means expression.now)
         → MatchBool result (length (substituted given (map S.means expression.now)) ≤ 1000000) (1000000 < length (substituted given
         (map S.means expression.now))) }
@@ -186,8 +188,8 @@ pub fn are_same<S: Kept>(a: &[S], b: &[S]) -> bool
 
 /// Whether an entry is an expression under the substitution.
 pub fn fits<'s, 'a, S: Kept>(taken: &Taken<'s, 'a, S>, expression: &'a [S], entry: &[S]) -> bool
-    requires within { All (IsWithin (length taken.now.symbols.now)) taken.now.entries.now }
-    ensures { (given : Meaning → List Meaning) → Gives given (hypotheses_of S.means taken.now.hypotheses.now) (entries_of S.means taken.now)
+    requires within { All (IsEntryWithin (length taken.now.symbols.now)) taken.now.entries.now }
+    ensures { (given : Meaning → List Meaning) → GivesVariables given (hypotheses_of S.means taken.now.hypotheses.now) (entries_of S.means taken.now)
         (map S.means expression.now)
         → IsTrue result ↔ (substituted given (map S.means expression.now) ≡ map S.means entry.now) }
 {

@@ -4,13 +4,15 @@ ghost use Rattle.std.specs.Prelude.{◌≡◌, true, ℕ, ◌+◌, List, Ok, IfO
 ghost use Rattle.mm_proof.specs.Language.Expansion.{Step};
 ghost use Rattle.mm_frame.specs.Language.Base.{BaseView};
 ghost use Rattle.mm_frame.specs.Code.KeptBase.{IsBase};
-ghost use Rattle.mm_proof.specs.Language.BaseLabels.{setting_at};
+ghost use Rattle.mm_proof.specs.Language.BaseLabels.{setting_at, AreActive};
 ghost use Rattle.mm_proof.specs.Language.Decoding.{read_word as read_word_lem, is_compressed as is_compressed_lem};
 ghost use Rattle.mm_frame.specs.declared.base.Resolved.TheVariants as answers;
-ghost use Rattle.mm_proof.specs.Code.Coded.{TellsSteps, meant};
-ghost use Rattle.mm_proof.specs.Code.Decoded.{decoded_steps, TellsFault, InViews, WhereActive, compressed_at, normal_at, decoding_of};
+ghost use Rattle.mm_proof.specs.Language.DecodedSteps.{decoded_steps, TellsFault, decoding_of, labels_at, label_table};
+ghost use Rattle.mm_proof.specs.Language.DecodedSteps.{meant, AreEntries, IsEntry, entry_step, entry_steps, word_step};
+ghost use Rattle.mm_proof.specs.Code.Coded.{TellsSteps};
+ghost use Rattle.mm_proof.specs.Code.Decoded.{InViews, WhereActive, compressed_at, normal_at};
 ghost use Rattle.mm_proof.specs.Code.Decoded.{steps_by, listed_table};
-ghost use Rattle.mm_proof.specs.Code.Labels.{TellsWord, AreEntries, IsEntry, entry_step, entry_steps, labels_at, label_table, word_step};
+ghost use Rattle.mm_proof.specs.Code.Labels.{TellsWord};
 
 use crate::Spot;
 use crate::labels::{read_label, read_list};
@@ -157,13 +159,13 @@ pub fn decode(
     statement: &Statement,
     room: Decoding,
 ) -> Result<Decoding, Undecoded>
-    ensures ok { IfOk result (λ d. WhereActive base.now i mandatory.now (λ view.
-        decoding_of view i mandatory.now statement.now.proof ≡ Ok (decoded_steps view d statement.now.proof))) }
-    ensures entries { IfOk result (λ d. WhereActive base.now i mandatory.now (λ view. AreEntries view i d.labels.items)) }
-    ensures table { IfOk result (λ d. WhereActive base.now i mandatory.now (λ view.
-        entry_steps view d.labels.items ≡ label_table (labels_at view mandatory.now) statement.now.proof)) }
-    ensures err { IfErr result (λ e. WhereActive base.now i mandatory.now (λ view.
-        TellsFault e (decoding_of view i mandatory.now statement.now.proof))) }
+    ensures ok { IfOk result (λ d. (view : BaseView) → IsBase view base.now → AreActive view i mandatory.now →
+        decoding_of view i mandatory.now statement.now.proof ≡ Ok (decoded_steps view d statement.now.proof)) }
+    ensures entries { IfOk result (λ d. (view : BaseView) → IsBase view base.now → AreActive view i mandatory.now → AreEntries view i d.labels.items) }
+    ensures table { IfOk result (λ d. (view : BaseView) → IsBase view base.now → AreActive view i mandatory.now →
+        entry_steps view d.labels.items ≡ label_table (labels_at view mandatory.now) statement.now.proof) }
+    ensures err { IfErr result (λ e. (view : BaseView) → IsBase view base.now → AreActive view i mandatory.now →
+        TellsFault e (decoding_of view i mandatory.now statement.now.proof)) }
 {
     if is_compressed(statement) {
         decode_compressed(base, i, mandatory, statement, room)

@@ -2,7 +2,7 @@
 
 ghost use Rattle.std.specs.Prelude.{◌≡◌, ◌↔◌, ◌<◌, true, IsTrue, OnOk, length, map};
 ghost use Rattle.mm_frame.specs.Language.Typing.{IsTyped};
-ghost use Rattle.mm_proof.specs.Code.Citation.{IsSlot, Types, mandatory_of, hypotheses_of};
+ghost use Rattle.mm_proof.specs.Code.Citation.{IsSlot, IsTypingOf, mandatory_of, hypotheses_of};
 ghost use Rattle.mm_proof.specs.Code.Keys.{home as home_lem};
 
 use crate::assertion::Hypothesis;
@@ -22,7 +22,7 @@ pub fn home(key: usize, count: usize) -> usize
 
 /// Whether a hypothesis is the `$f` of a variable.
 fn is_float_of<'a, S: Kept>(hypothesis: &Hypothesis<'a, S>, variable: &S) -> bool
-    ensures { IsTrue result ↔ Types (mandatory_of S.means hypothesis.now) (S.means variable.now) }
+    ensures { IsTrue result ↔ IsTypingOf (mandatory_of S.means hypothesis.now) (S.means variable.now) }
 {
     if !hypothesis.floating {
         return false;

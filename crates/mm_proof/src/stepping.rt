@@ -8,12 +8,12 @@ ghost use Rattle.mm_frame.specs.Language.Typing.{HasFrames, IsFrame};
 ghost use Rattle.mm_proof.specs.Language.Expansion.{Step, NotKnown};
 ghost use Rattle.mm_proof.specs.Language.Faults.{IsLowest};
 ghost use Rattle.mm_proof.specs.Language.Machine.{State, Turns, nothing_yet};
-ghost use Rattle.mm_proof.specs.Code.Citation.{frame_of, pairs_of};
-ghost use Rattle.mm_proof.specs.Code.Coded.{meant};
+ghost use Rattle.mm_proof.specs.Code.Citation.{frame_of, meant_pairs};
+ghost use Rattle.mm_proof.specs.Language.DecodedSteps.{meant};
 ghost use Rattle.mm_proof.specs.Code.Judged.{IsOutcomeWithin};
 ghost use Rattle.mm_proof.specs.Code.MachineState.{state_of, AreRanges};
 ghost use Rattle.mm_proof.specs.Code.Tasks.{AreSavedBefore, AreUses, AreUsesWithin, HasState, IsSavedWithin, IsTaskWithin, MeansTask, RunSays};
-ghost use Rattle.mm_proof.specs.Code.Tasks.{IsUseWithin, MeansUse, actions_mean, expressions_of, frames_of, saves_by, saves_of};
+ghost use Rattle.mm_proof.specs.Code.Tasks.{IsUseWithin, MeansUse, actions_mean, named_expressions, named_frames, saves_by, saves_of};
 
 use crate::ProofNumber;
 use crate::active::Active;
@@ -71,7 +71,7 @@ fn used(uses: &[Use], k: usize) -> Use
 fn todo<'a, S: Kept>(named: &Named<'a, S>, action: Action) -> Option<Task>
     ensures means { (place : Setting) (names : List Step) → AreUses S.means named.now place names
         → MatchOption result (meant names action ≡ NotKnown)
-        (λ task. MeansTask (expressions_of S.means named.now) (frames_of S.means named.now) place task (meant names action)) }
+        (λ task. MeansTask (named_expressions S.means named.now) (named_frames S.means named.now) place task (meant names action)) }
     ensures within { (saves : ℕ) → AreUsesWithin named.now → IsSavedWithin saves action
         → IfSome result (λ task. IsTaskWithin (length named.now.hypotheses.items) (length named.now.assertions.items) saves task) }
     ensures saves { IfSome result (λ task. saves_of task ≡ saves_by action) }
@@ -102,10 +102,11 @@ fn turn<'a, S: Kept>(
     requires within { IsTaskWithin (length named.now.hypotheses.items) (length named.now.assertions.items)
         (length machine.old.saved.items - length named.now.hypotheses.items) task }
     ensures whole { OnOk result (AreRanges machine.new) }
-    ensures turns { IfOk result (λ found. (place : Setting) (step : Step) (before : State) → AreSamePairs (pairs_of S.means active.now.pairs.now) place.active
-        → HasState S.means (expressions_of S.means named.now) machine.old before
-        → MeansTask (expressions_of S.means named.now) (frames_of S.means named.now) place task step
-        → MatchOption found ((after : State) × HasState S.means (expressions_of S.means named.now) machine.new after × Turns place step before after)
+    ensures turns { IfOk result (λ found. (place : Setting) (step : Step) (before : State)
+        → AreSamePairs (meant_pairs S.means active.now.pairs.now) place.active
+        → HasState S.means (named_expressions S.means named.now) machine.old before
+        → MeansTask (named_expressions S.means named.now) (named_frames S.means named.now) place task step
+        → MatchOption found ((after : State) × HasState S.means (named_expressions S.means named.now) machine.new after × Turns place step before after)
         (IsLowest place step before.stack)) }
     ensures saves { IfOk result (λ found. IfNone found (length machine.new.saved.items ≡ length machine.old.saved.items + saves_of task)) }
 {
@@ -151,7 +152,7 @@ fn load<'a, S: Kept>(
     requires whole { AreRanges machine.old }
     requires nothing { state_of S.means machine.old ≡ nothing_yet }
     ensures whole { OnOk result (AreRanges machine.new) }
-    ensures state { OnOk result (HasState S.means (expressions_of S.means named.now) machine.new nothing_yet) }
+    ensures state { OnOk result (HasState S.means (named_expressions S.means named.now) machine.new nothing_yet) }
 {
     for n in 0..named.hypotheses.len() {
         let expression = named.hypotheses[n];
@@ -176,7 +177,7 @@ pub fn run<'a, S: Kept>(
     requires saved { AreSavedBefore steps.now }
     ensures within { IfOk result (IsOutcomeWithin (length steps.now)) }
     ensures says { IfOk result (λ outcome. (place : Setting) (names : List Step) → HasFrames place
-        → AreSamePairs (pairs_of S.means active.now.pairs.now) place.active
+        → AreSamePairs (meant_pairs S.means active.now.pairs.now) place.active
         → AreUses S.means named.now place names → RunSays place (actions_mean names steps.now) (map S.means statement.now) outcome) }
 {
     machine.clear(keys)?;

@@ -6,7 +6,7 @@ ghost use Rattle.mm_frame.specs.Language.Base.{BaseView, is_framed_at, is_proof_
 ghost use Rattle.mm_frame.specs.Language.Resolving.{IsCarrier, Resolves};
 ghost use Rattle.mm_frame.specs.Code.KeptBase.{IsBase, IsBaseBy};
 ghost use Rattle.mm_proof.specs.Code.KeptMarks.{OfBasesBy, AreMarksOf, AreTheorems, SharePairs, ShareHypotheses, ShareStatement, ShareProof};
-ghost use Rattle.mm_proof.specs.Code.KeptMarks.{IsOneCarrier, IsUsable, TellsSame, is_label_word};
+ghost use Rattle.mm_proof.specs.Code.KeptMarks.{IsOneCarrier, IsShownItem, TellsSame, is_label_word};
 ghost use Rattle.mm_proof.specs.Code.ReadIn.{IsReadIn, HasTheorem};
 ghost use Rattle.mm_proof.specs.Language.BaseLabels.{setting_at};
 ghost use Rattle.mm_proof.specs.Language.BaseMarks.{AreMarks, mark_at};
@@ -24,7 +24,7 @@ use mm_frame::{
 
 /// Whether what a label means in one base is what one means in another.
 fn same_meaning(names: &Names, old: &Base, mine: Resolved, new: &Base, yours: Resolved) -> bool
-    ensures { OfBasesBy names.now old.now new.now (λ base copy. IsUsable base mine → IsUsable copy yours → TellsSame base copy mine yours result) }
+    ensures { OfBasesBy names.now old.now new.now (λ base copy. IsShownItem base mine → IsShownItem copy yours → TellsSame base copy mine yours result) }
 {
     match (mine, yours) {
         (Resolved::Hypothesis(a), Resolved::Hypothesis(b)) => same_expression(old, a, new, b),

@@ -5,8 +5,8 @@ use Rattle.std.specs.Io.KnownBytes.{IsAtEnd}
 use Rattle.std.proofs.lemmas.List.{append-nil, length-drop, length-take, take-append-drop, take-append-le, drop_all}
 use Rattle.mm_report.specs.declared.input.Input.{Input}
 use Rattle.mm_report.specs.declared.lines.LineAt.{LineAt}
-use Rattle.mm_report.specs.Code.Batches.{IsFront}
-use Rattle.mm_report.specs.Code.Growing.{Grows, HasBlanks, IsLineAt, IsTextBad, IsTextLine, IsTextShort, line_bytes}
+use Rattle.mm_report.specs.Code.Batches.{IsBatchFront}
+use Rattle.mm_report.specs.Code.Growing.{InputGrows, HasBlanks, IsLineAt, IsTextBad, IsTextLine, IsTextShort, line_bytes}
 use Rattle.mm_report.specs.Code.Pending.{pending}
 use Rattle.mm_report.specs.Code.Stops.{StopsSo, HasNoEntry, IsBadEditLine, IsOneLine, batch_bytes, batch_line}
 use Rattle.mm_store.specs.Language.Edits.{Asked, edited_text}
@@ -30,7 +30,7 @@ not_fed true h = absurd (h refl)
 not_fed false h = refl
 
 -- the bytes are those of a batch, with what stands behind some of its edits and empty lines
-pub front_bytes : (a b : Input) (u v : Option (List ℕ)) (n : ℕ) (front : List Listed) (from start : ℕ) → IsFront (pending a) n front from → Grows a b u v → HasBlanks (pending b) from start
+pub front_bytes : (a b : Input) (u v : Option (List ℕ)) (n : ℕ) (front : List Listed) (from start : ℕ) → IsBatchFront (pending a) n front from → InputGrows a b u v → HasBlanks (pending b) from start
     → pending b ≡ batch_bytes n front (start - from) (drop start (pending b))
 front_bytes a b u v n front from start f grows blanks =
     let bytes = pending b in
@@ -53,7 +53,7 @@ batch_more n front blanks bytes inner more is =
 
 -- ---- the ends of a batch, from its first edits on
 
-module _ (a b : Input) (u v : Option (List ℕ)) (n : ℕ) (front : List Listed) (from start : ℕ) (f : IsFront (pending a) n front from) (grows : Grows a b u v) (blanks : HasBlanks (pending b) from start) where
+module _ (a b : Input) (u v : Option (List ℕ)) (n : ℕ) (front : List Listed) (from start : ℕ) (f : IsBatchFront (pending a) n front from) (grows : InputGrows a b u v) (blanks : HasBlanks (pending b) from start) where
   whole : pending b ≡ batch_bytes n front (start - from) (drop start (pending b))
   whole = front_bytes a b u v n front from start f grows blanks
 
@@ -103,7 +103,7 @@ module _ (a b : Input) (u v : Option (List ℕ)) (n : ℕ) (front : List Listed)
   edit_missing edit is good none fewer end = ends_here (λ (xs : List ℕ). StopsSo xs CutShort) _ is end (batch_edit_cut n front (start - from) edit f.listed good none fewer)
 
 -- a line that is that of no edit
-pub bad_listed : (a b : Input) (u v : Option (List ℕ)) (n : ℕ) (front : List Listed) (from : ℕ) (line : LineAt) → IsFront (pending a) n front from → Grows a b u v → HasBlanks (pending b) from line.start
+pub bad_listed : (a b : Input) (u v : Option (List ℕ)) (n : ℕ) (front : List Listed) (from : ℕ) (line : LineAt) → IsBatchFront (pending a) n front from → InputGrows a b u v → HasBlanks (pending b) from line.start
     → IsLineAt (pending b) v line → IsBadEditLine (line_bytes (pending b) line) → IfSome v (λ more. StopsSo (pending b ++ more) BadLine)
 bad_listed a b u v n front from line f grows blanks is bad = by line.fed refl
   where

@@ -12,9 +12,9 @@ use Rattle.mm_report.specs.declared.entry.EditAt.{EditAt}
 use Rattle.mm_report.specs.declared.entry.EditAt.TheVariants.{Insert, Replace, Delete, Move}
 use Rattle.mm_report.specs.declared.input.Input.{Input}
 use Rattle.mm_report.specs.declared.lines.LineAt.{LineAt}
-use Rattle.mm_report.specs.Code.Batches.{IsBatchRead, IsFront, IsListedRead}
-use Rattle.mm_report.specs.Code.Growing.{Grows, IsLineAt, line_bytes}
-use Rattle.mm_report.specs.Code.Pending.{pending, bytes_in, edit_in, AreEditsIn, IsEditWithin}
+use Rattle.mm_report.specs.Code.Batches.{IsBatchRead, IsBatchFront, IsListedRead}
+use Rattle.mm_report.specs.Code.Growing.{InputGrows, IsLineAt, line_bytes}
+use Rattle.mm_report.specs.Code.Pending.{pending, bytes_of_part, edit_in, AreEditsIn, IsEditWithin}
 use Rattle.mm_report.specs.Code.Stops.{StopsSo, batch_bytes, batch_line}
 use Rattle.mm_report.specs.Language.Script.{CutShort, Listed, AreGoodEdits, IsGoodEdit, IsNumber, LastInLine, edit_bytes, edit_line, ended_text, listed_bytes}
 use Rattle.mm_report.proofs.BatchLemmas.{at_end, batch_more, front_bytes}
@@ -23,23 +23,23 @@ use Rattle.mm_report.proofs.GrowLemmas.{grows_not}
 use Rattle.mm_report.proofs.StopLemmas.{batch_line_cut}
 
 -- the parts of an edit stand in the bytes as they grow
-pub edit_within_grown : (a b : Input) (u v : Option (List ℕ)) (k : EditAt) → Grows a b u v → IsEditWithin (pending a) k → IsEditWithin (pending b) k
+pub edit_within_grown : (a b : Input) (u v : Option (List ℕ)) (k : EditAt) → InputGrows a b u v → IsEditWithin (pending a) k → IsEditWithin (pending b) k
 edit_within_grown a b u v (Insert file at text) grows w = (within_grown a b u v file grows w.0, within_grown a b u v text grows w.1)
 edit_within_grown a b u v (Replace file at text) grows w = (within_grown a b u v file grows w.0, within_grown a b u v text grows w.1)
 edit_within_grown a b u v (Delete file at) grows w = within_grown a b u v file grows w
 edit_within_grown a b u v (Move file at to) grows w = within_grown a b u v file grows w
 
-pub edit_in_grown : (a b : Input) (u v : Option (List ℕ)) (k : EditAt) → Grows a b u v → IsEditWithin (pending a) k → edit_in (pending b) k ≡ edit_in (pending a) k
+pub edit_in_grown : (a b : Input) (u v : Option (List ℕ)) (k : EditAt) → InputGrows a b u v → IsEditWithin (pending a) k → edit_in (pending b) k ≡ edit_in (pending a) k
 edit_in_grown a b u v (Insert file at text) grows w =
-    ap (λ (xs : List ℕ). ask.Insert xs at (bytes_in (pending b) text)) (bytes_grown a b u v file grows w.0)
-    ∙ ap (λ (xs : List ℕ). ask.Insert (bytes_in (pending a) file) at xs) (bytes_grown a b u v text grows w.1)
+    ap (λ (xs : List ℕ). ask.Insert xs at (bytes_of_part (pending b) text)) (bytes_grown a b u v file grows w.0)
+    ∙ ap (λ (xs : List ℕ). ask.Insert (bytes_of_part (pending a) file) at xs) (bytes_grown a b u v text grows w.1)
 edit_in_grown a b u v (Replace file at text) grows w =
-    ap (λ (xs : List ℕ). ask.Replace xs at (bytes_in (pending b) text)) (bytes_grown a b u v file grows w.0)
-    ∙ ap (λ (xs : List ℕ). ask.Replace (bytes_in (pending a) file) at xs) (bytes_grown a b u v text grows w.1)
+    ap (λ (xs : List ℕ). ask.Replace xs at (bytes_of_part (pending b) text)) (bytes_grown a b u v file grows w.0)
+    ∙ ap (λ (xs : List ℕ). ask.Replace (bytes_of_part (pending a) file) at xs) (bytes_grown a b u v text grows w.1)
 edit_in_grown a b u v (Delete file at) grows w = ap (λ (xs : List ℕ). ask.Delete xs at) (bytes_grown a b u v file grows w)
 edit_in_grown a b u v (Move file at to) grows w = ap (λ (xs : List ℕ). ask.Move xs at to) (bytes_grown a b u v file grows w)
 
-all_in_grown : (a b : Input) (u v : Option (List ℕ)) (found : List EditAt) → Grows a b u v → ((k : EditAt) → Contains found k → IsEditWithin (pending a) k)
+all_in_grown : (a b : Input) (u v : Option (List ℕ)) (found : List EditAt) → InputGrows a b u v → ((k : EditAt) → Contains found k → IsEditWithin (pending a) k)
     → map (edit_in (pending b)) found ≡ map (edit_in (pending a)) found
 all_in_grown a b u v [] grows w = refl
 all_in_grown a b u v (k ∷ found) grows w =
@@ -49,7 +49,7 @@ all_in_grown a b u v (k ∷ found) grows w =
     cc
 
 -- one edit more
-edits_more : (a b : Input) (u v : Option (List ℕ)) (found : List EditAt) (front : List Listed) (k : EditAt) (blanks : ℕ) → Grows a b u v → AreEditsIn (pending a) found front → IsEditWithin (pending b) k
+edits_more : (a b : Input) (u v : Option (List ℕ)) (found : List EditAt) (front : List Listed) (k : EditAt) (blanks : ℕ) → InputGrows a b u v → AreEditsIn (pending a) found front → IsEditWithin (pending b) k
     → AreEditsIn (pending b) (found ++ k ∷ []) (front ++ record { blanks = blanks; edit = edit_in (pending b) k } ∷ [])
 edits_more a b u v found front k blanks grows are w = record {
   within = λ j c. elim (Contains-push_cases found k j c) [
@@ -74,7 +74,7 @@ pub edits_counted : (bytes : List ℕ) (found : List EditAt) (front : List Liste
 edits_counted bytes found front are = omega (arith, ap length are.are, length-map front (λ (one : Listed). one.edit), length-map found (edit_in bytes))
 
 -- some edits of a batch whose line has its line feed
-pub batch_front : (bytes : List ℕ) (left : Option (List ℕ)) (n end : ℕ) (found : List EditAt) (fed : Bool) (b : IsBatchRead bytes left n found end fed) → fed ≡ true → length found < n → IsFront bytes n b.front end
+pub batch_front : (bytes : List ℕ) (left : Option (List ℕ)) (n end : ℕ) (found : List EditAt) (fed : Bool) (b : IsBatchRead bytes left n found end fed) → fed ≡ true → length found < n → IsBatchFront bytes n b.front end
 batch_front bytes left n end found fed b yes_fed fewer =
     let front = batch_line n ++ 10 ∷ flat_map listed_bytes b.front in
     let is : bytes ≡ front ++ drop end bytes = b.fed_so yes_fed ∙ sym (append_assoc (batch_line n) (10 ∷ flat_map listed_bytes b.front) (drop end bytes)) in
@@ -87,7 +87,7 @@ batch_front bytes left n end found fed b yes_fed fewer =
 
 -- one edit more is read
 pub batch_one_more : (a b : Input) (u v : Option (List ℕ)) (n end : ℕ) (found : List EditAt) (fed : Bool) (read : EditRead) → IsBatchRead (pending a) u n found end fed → fed ≡ true → length found < n
-    → Grows a b u v → IsListedRead (pending b) v end read → (read.fed ≡ false → length found + 1 ≡ n) → IsBatchRead (pending b) v n (found ++ read.edit ∷ []) read.end read.fed
+    → InputGrows a b u v → IsListedRead (pending b) v end read → (read.fed ≡ false → length found + 1 ≡ n) → IsBatchRead (pending b) v n (found ++ read.edit ∷ []) read.end read.fed
 batch_one_more a b u v n end found fed read s yes_fed fewer grows r last =
     let bytes = pending b in
     let edit = edit_in bytes read.edit in

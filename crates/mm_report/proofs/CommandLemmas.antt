@@ -11,9 +11,9 @@ use Rattle.mm_report.specs.declared.lines.LineAt.{LineAt}
 use Rattle.mm_report.specs.Code.Batches.{IsBatchRead}
 use Rattle.mm_report.specs.Code.Growing.{IsLineAt, IsTextBad, IsTextLine, IsTextShort, line_bytes}
 use Rattle.mm_report.specs.Code.Lines.{SaysLabel}
-use Rattle.mm_report.specs.Code.Pending.{bytes_in, AreEditsIn, IsCommandIn, IsNext, IsWholeOrLast, IsWithin}
+use Rattle.mm_report.specs.Code.Pending.{bytes_of_part, AreEditsIn, IsCommandIn, IsNextCommand, IsWholeOrLast, IsPartWithin}
 use Rattle.mm_report.specs.Code.Stops.{StopsSo, HasNoEntry, IsBadLine, batch_line}
-use Rattle.mm_report.specs.Language.Script.{CutShort, BadLine, Command, Batch, IsGood, IsName, EndsInLine, IsNumber, Listed, behind, edit_line, line_of, listed_bytes}
+use Rattle.mm_report.specs.Language.Script.{CutShort, BadLine, Command, Batch, IsGood, IsName, EndsInLine, IsNumber, Listed, behind_line, edit_line, line_of, listed_bytes}
 use Rattle.mm_report.proofs.BatchLemmas.{always, at_end}
 use Rattle.mm_report.proofs.BatchReadLemmas.{edits_counted}
 use Rattle.mm_report.proofs.EditLemmas.{IsShifted, shifted_is, shifted_within, unfed_line}
@@ -59,8 +59,8 @@ held_edit bytes start none t = subst HasNoEntry (sym (all_bytes bytes start none
 
 -- a command that is no more than its line
 pub line_next : (bytes : List ℕ) (left : Option (List ℕ)) (line : LineAt) (command : Command) (next : Next) → IsLineAt bytes left line → line.start ≡ 0
-    → line_bytes bytes line ≡ line_of command → behind command ≡ [] → IsGood command → IsCommandIn bytes next.command command → EndsInLine command
-    → next.fed ≡ line.fed → (line.fed ≡ true → next.end ≡ line.end + 1) → IsNext bytes left next
+    → line_bytes bytes line ≡ line_of command → behind_line command ≡ [] → IsGood command → IsCommandIn bytes next.command command → EndsInLine command
+    → next.fed ≡ line.fed → (line.fed ≡ true → next.end ≡ line.end + 1) → IsNextCommand bytes left next
 line_next bytes left line command next is start says none good is_command in_line fed end = record {
   command = command;
   good = good;
@@ -81,7 +81,7 @@ line_next bytes left line command next is start says none good is_command in_lin
                 ∙ ap (λ (xs : List ℕ). xs ++ 10 ∷ drop (line.end + 1) bytes) says
                 ∙ ap (λ (n : ℕ). line_of command ++ 10 ∷ drop n bytes) (sym place)
                 ∙ ap (λ (xs : List ℕ). line_of command ++ 10 ∷ (xs ++ rest)) (sym none)
-                ∙ sym (append_assoc (line_of command) (10 ∷ behind command) rest);
+                ∙ sym (append_assoc (line_of command) (10 ∷ behind_line command) rest);
           },
         )
     by false e = inr (
@@ -95,21 +95,21 @@ line_next bytes left line command next is start says none good is_command in_lin
 
 -- one with a label
 pub label_next : (bytes : List ℕ) (left : Option (List ℕ)) (line : LineAt) (label : Part) (word : List ℕ) (make : List ℕ → Command) (next : Next) → IsLineAt bytes left line → line.start ≡ 0
-    → SaysLabel (line_bytes bytes line) word label → ((name : List ℕ) → line_of (make name) ≡ word ++ 32 ∷ name) → ((name : List ℕ) → behind (make name) ≡ [])
+    → SaysLabel (line_bytes bytes line) word label → ((name : List ℕ) → line_of (make name) ≡ word ++ 32 ∷ name) → ((name : List ℕ) → behind_line (make name) ≡ [])
     → ((name : List ℕ) → IsName name → IsGood (make name)) → ((name : List ℕ) → EndsInLine (make name))
-    → (IsWithin bytes label → IsCommandIn bytes next.command (make (bytes_in bytes label)))
-    → next.fed ≡ line.fed → (line.fed ≡ true → next.end ≡ line.end + 1) → IsNext bytes left next
+    → (IsPartWithin bytes label → IsCommandIn bytes next.command (make (bytes_of_part bytes label)))
+    → next.fed ≡ line.fed → (line.fed ≡ true → next.end ≡ line.end + 1) → IsNextCommand bytes left next
 label_next bytes left line label word make next is start says line_is none good in_line is_command fed end =
     let at : IsShifted label label line.start = record { start = omega arith; end = omega arith } in
-    let same : bytes_in bytes label ≡ bytes_in (line_bytes bytes line) label = shifted_is bytes left line label label is says.good.within at in
-    line_next bytes left line (make (bytes_in bytes label)) next is start
-    (says.is ∙ ap (λ (xs : List ℕ). word ++ 32 ∷ xs) (sym same) ∙ sym (line_is (bytes_in bytes label)))
-    (none (bytes_in bytes label)) (good (bytes_in bytes label) (subst IsName (sym same) says.good.name))
-    (is_command (shifted_within bytes left line label label is says.good.within at)) (in_line (bytes_in bytes label)) fed end
+    let same : bytes_of_part bytes label ≡ bytes_of_part (line_bytes bytes line) label = shifted_is bytes left line label label is says.good.within at in
+    line_next bytes left line (make (bytes_of_part bytes label)) next is start
+    (says.is ∙ ap (λ (xs : List ℕ). word ++ 32 ∷ xs) (sym same) ∙ sym (line_is (bytes_of_part bytes label)))
+    (none (bytes_of_part bytes label)) (good (bytes_of_part bytes label) (subst IsName (sym same) says.good.name))
+    (is_command (shifted_within bytes left line label label is says.good.within at)) (in_line (bytes_of_part bytes label)) fed end
 
 -- a batch
 pub batch_next : (bytes : List ℕ) (left : Option (List ℕ)) (n : ℕ) (next : Next) (found : List EditAt) → IsBatchRead bytes left n found next.end next.fed → length found ≡ n
-    → ((command : Command) → ((listed : List Listed) × AreEditsIn bytes found listed × (command ≡ Batch listed)) → IsCommandIn bytes next.command command) → IsNext bytes left next
+    → ((command : Command) → ((listed : List Listed) × AreEditsIn bytes found listed × (command ≡ Batch listed)) → IsCommandIn bytes next.command command) → IsNextCommand bytes left next
 batch_next bytes left n next found b count is_command =
     let long : n ≡ length b.front = sym count ∙ sym (edits_counted bytes found b.front b.edits) in
     record {

@@ -11,9 +11,9 @@ use Rattle.mm_report.specs.declared.entry.Part.{Part}
 use Rattle.mm_report.specs.declared.input.Input.{Input}
 use Rattle.mm_report.specs.declared.line.EditLine.TheVariants as lines
 use Rattle.mm_report.specs.declared.lines.LineAt.{LineAt}
-use Rattle.mm_report.specs.Code.Growing.{Grows, IsEditRead, IsLineAt, IsOtherByte, IsTextBad, IsTextLine, IsTextShort, line_bytes}
+use Rattle.mm_report.specs.Code.Growing.{InputGrows, IsEditRead, IsLineAt, IsOtherByte, IsTextBad, IsTextLine, IsTextShort, line_bytes}
 use Rattle.mm_report.specs.Code.Lines.{SaysEdit}
-use Rattle.mm_report.specs.Code.Pending.{pending, bytes_in, edit_in, IsEditWithin, IsWithin}
+use Rattle.mm_report.specs.Code.Pending.{pending, bytes_of_part, edit_in, IsEditWithin, IsPartWithin}
 use Rattle.mm_report.specs.Code.Stops.{HasTextOf}
 use Rattle.mm_report.specs.Language.Script.{IsGoodEdit, IsNumber, edit_bytes, edit_line, ended_text}
 use Rattle.mm_report.proofs.GrowLemmas.{grown_long, part_grown, rest_grown}
@@ -24,16 +24,16 @@ pub record AsksText (line : List ℕ) (count : ℕ) (edit : List ℕ → Asked) 
   pub good : (text : List ℕ) → length text ≡ count → IsGoodEdit (edit text)
   pub text_is : (text : List ℕ) → edited_text (edit text) ≡ Some text
 
-pub asks_insert : (line : List ℕ) (file : Part) (at count : ℕ) → SaysEdit line (lines.Insert file at count) → AsksText line count (λ text. ask.Insert (bytes_in line file) at text)
+pub asks_insert : (line : List ℕ) (file : Part) (at count : ℕ) → SaysEdit line (lines.Insert file at count) → AsksText line count (λ text. ask.Insert (bytes_of_part line file) at text)
 asks_insert line file at count says = record {
-  line_is = λ text is. ap (λ (n : ℕ). join_with_byte 32 (codes "insert" ∷ bytes_in line file ∷ decimal at ∷ decimal n ∷ [])) is ∙ sym says.is;
+  line_is = λ text is. ap (λ (n : ℕ). join_with_byte 32 (codes "insert" ∷ bytes_of_part line file ∷ decimal at ∷ decimal n ∷ [])) is ∙ sym says.is;
   good = λ text is. (says.good.0.name, says.good.1, subst IsNumber (sym is) says.good.2);
   text_is = λ text. refl;
 }
 
-pub asks_replace : (line : List ℕ) (file : Part) (at count : ℕ) → SaysEdit line (lines.Replace file at count) → AsksText line count (λ text. ask.Replace (bytes_in line file) at text)
+pub asks_replace : (line : List ℕ) (file : Part) (at count : ℕ) → SaysEdit line (lines.Replace file at count) → AsksText line count (λ text. ask.Replace (bytes_of_part line file) at text)
 asks_replace line file at count says = record {
-  line_is = λ text is. ap (λ (n : ℕ). join_with_byte 32 (codes "replace" ∷ bytes_in line file ∷ decimal at ∷ decimal n ∷ [])) is ∙ sym says.is;
+  line_is = λ text is. ap (λ (n : ℕ). join_with_byte 32 (codes "replace" ∷ bytes_of_part line file ∷ decimal at ∷ decimal n ∷ [])) is ∙ sym says.is;
   good = λ text is. (says.good.0.name, says.good.1, subst IsNumber (sym is) says.good.2);
   text_is = λ text. refl;
 }
@@ -83,7 +83,7 @@ text_bad line count edit bytes all from asks is other = record {
 }
 
 -- a line that has its line feed, as the bytes grow
-pub fed_line : (a b : Input) (u v : Option (List ℕ)) (line : LineAt) → IsLineAt (pending a) u line → Grows a b u v → line.fed ≡ true
+pub fed_line : (a b : Input) (u v : Option (List ℕ)) (line : LineAt) → IsLineAt (pending a) u line → InputGrows a b u v → line.fed ≡ true
     → drop line.start (pending b) ≡ line_bytes (pending a) line ++ 10 ∷ drop (line.end + 1) (pending b)
 fed_line a b u v line is grows fed =
     let some : length (drop line.end (pending a)) ≡ length (drop (line.end + 1) (pending a)) + 1 = omega (arith, ap length (is.fed fed)) in
@@ -116,13 +116,13 @@ pub record IsShifted (part shifted : Part) (by : ℕ) : Type 0 where
   pub start : shifted.start ≡ by + part.start
   pub end : shifted.end ≡ by + part.end
 
-pub shifted_is : (bytes : List ℕ) (left : Option (List ℕ)) (line : LineAt) (part shifted : Part) → IsLineAt bytes left line → IsWithin (line_bytes bytes line) part → IsShifted part shifted line.start
-    → bytes_in bytes shifted ≡ bytes_in (line_bytes bytes line) part
+pub shifted_is : (bytes : List ℕ) (left : Option (List ℕ)) (line : LineAt) (part shifted : Part) → IsLineAt bytes left line → IsPartWithin (line_bytes bytes line) part → IsShifted part shifted line.start
+    → bytes_of_part bytes shifted ≡ bytes_of_part (line_bytes bytes line) part
 shifted_is bytes left line part shifted is within at =
     ap (λ (n : ℕ). slice_range bytes n shifted.end) at.start ∙ ap (λ (n : ℕ). slice_range bytes (line.start + part.start) n) at.end
     ∙ part_of_line bytes line.start line.end part.start part.end within.ordered within.within
 
-pub shifted_within : (bytes : List ℕ) (left : Option (List ℕ)) (line : LineAt) (part shifted : Part) → IsLineAt bytes left line → IsWithin (line_bytes bytes line) part → IsShifted part shifted line.start → IsWithin bytes shifted
+pub shifted_within : (bytes : List ℕ) (left : Option (List ℕ)) (line : LineAt) (part shifted : Part) → IsLineAt bytes left line → IsPartWithin (line_bytes bytes line) part → IsShifted part shifted line.start → IsPartWithin bytes shifted
 shifted_within bytes left line part shifted is within at =
     let long = length-take (line.end - line.start) (drop line.start bytes) in
     let rest = length-drop line.start bytes in
@@ -131,21 +131,21 @@ shifted_within bytes left line part shifted is within at =
       within = omega (arith, within.within, at.end, is.ordered, is.within, long, rest);
     }
 
-pub within_grown : (a b : Input) (u v : Option (List ℕ)) (part : Part) → Grows a b u v → IsWithin (pending a) part → IsWithin (pending b) part
+pub within_grown : (a b : Input) (u v : Option (List ℕ)) (part : Part) → InputGrows a b u v → IsPartWithin (pending a) part → IsPartWithin (pending b) part
 within_grown a b u v part grows within = record { ordered = within.ordered; within = omega (arith, within.within, grown_long a b u v grows) }
 
-pub bytes_grown : (a b : Input) (u v : Option (List ℕ)) (part : Part) → Grows a b u v → IsWithin (pending a) part → bytes_in (pending b) part ≡ bytes_in (pending a) part
+pub bytes_grown : (a b : Input) (u v : Option (List ℕ)) (part : Part) → InputGrows a b u v → IsPartWithin (pending a) part → bytes_of_part (pending b) part ≡ bytes_of_part (pending a) part
 bytes_grown a b u v part grows within = part_grown a b u v part.start part.end grows within.ordered within.within
 
 -- an edit whose text is read
 pub text_read : (a b : Input) (u v : Option (List ℕ)) (line : LineAt) (count : ℕ) (edit : List ℕ → Asked) (text : Part) (at : EditAt)
-    → AsksText (line_bytes (pending a) line) count edit → IsLineAt (pending a) u line → Grows a b u v → line.fed ≡ true
-    → IsWithin (pending b) text → text.start ≡ line.end + 1 → text.end ≡ (line.end + 1) + count → drop text.end (pending b) ≡ 10 ∷ drop (text.end + 1) (pending b)
-    → edit_in (pending b) at ≡ edit (bytes_in (pending b) text) → IsEditWithin (pending b) at
+    → AsksText (line_bytes (pending a) line) count edit → IsLineAt (pending a) u line → InputGrows a b u v → line.fed ≡ true
+    → IsPartWithin (pending b) text → text.start ≡ line.end + 1 → text.end ≡ (line.end + 1) + count → drop text.end (pending b) ≡ 10 ∷ drop (text.end + 1) (pending b)
+    → edit_in (pending b) at ≡ edit (bytes_of_part (pending b) text) → IsEditWithin (pending b) at
     → IsEditRead (pending b) v line.start record { edit = at; end = text.end + 1; fed = true }
 text_read a b u v line count edit text at asks is grows fed within start end feed same parts =
     let bytes = pending b in
-    let body = bytes_in bytes text in
+    let body = bytes_of_part bytes text in
     let long : length body ≡ count = omega (arith, length-take (text.end - text.start) (drop text.start bytes), length-drop text.start bytes, within.within, start, end) in
     let some : length (drop text.end bytes) ≡ length (drop (text.end + 1) bytes) + 1 = omega (arith, ap length feed) in
     let rest : drop (line.end + 1) bytes ≡ body ++ 10 ∷ drop (text.end + 1) bytes =

@@ -11,21 +11,21 @@ use Rattle.std.specs.Io.KnownBytes.{IsAtEnd}
 use Rattle.std.proofs.lemmas.List.{append-nil, length-drop, take-append-le, drop-append-le, drop-drop, drop_more, length-take-le, take-append-drop, take_all, take_rest}
 use Rattle.std.proofs.Math.Seq.{take-add}
 use Rattle.mm_report.specs.declared.input.Input.{Input}
-use Rattle.mm_report.specs.Code.Growing.{Grows, HasBlanks, IsLineAt, IsOtherByte}
+use Rattle.mm_report.specs.Code.Growing.{InputGrows, HasBlanks, IsLineAt, IsOtherByte}
 use Rattle.mm_report.specs.Code.Pending.{pending, ReadsOn}
 use Rattle.mm_report.specs.Code.Stops.{IsOneLine}
 
-pub grows_not : (a : Input) (u : Option (List ℕ)) → Grows a a u u
+pub grows_not : (a : Input) (u : Option (List ℕ)) → InputGrows a a u u
 grows_not a u = record { part = []; consumes = Consumes-nil u; are = sym (append-nil (pending a)) }
 
-pub grows_then : (a b c : Input) (u v w : Option (List ℕ)) → Grows a b u v → Grows b c v w → Grows a c u w
+pub grows_then : (a b c : Input) (u v w : Option (List ℕ)) → InputGrows a b u v → InputGrows b c v w → InputGrows a c u w
 grows_then a b c u v w p q = record {
   part = p.part ++ q.part;
   consumes = Consumes-trans u v w p.part q.part p.consumes q.consumes;
   are = q.are ∙ ap (λ (xs : List ℕ). xs ++ q.part) p.are ∙ append_assoc (pending a) p.part q.part;
 }
 
-pub grown_long : (a b : Input) (u v : Option (List ℕ)) → Grows a b u v → length (pending a) ≤ length (pending b)
+pub grown_long : (a b : Input) (u v : Option (List ℕ)) → InputGrows a b u v → length (pending a) ≤ length (pending b)
 grown_long a b u v p = omega (arith, ap length p.are, length-append (pending a) p.part)
 
 -- a part of bytes that grow
@@ -35,10 +35,10 @@ part_kept new old more i j is low within =
     ∙ ap (take (j - i)) (drop-append-le i old more (omega arith))
     ∙ take-append-le (j - i) (drop i old) more (omega (arith, length-drop i old))
 
-pub part_grown : (a b : Input) (u v : Option (List ℕ)) (i j : ℕ) → Grows a b u v → i ≤ j → j ≤ length (pending a) → slice_range (pending b) i j ≡ slice_range (pending a) i j
+pub part_grown : (a b : Input) (u v : Option (List ℕ)) (i j : ℕ) → InputGrows a b u v → i ≤ j → j ≤ length (pending a) → slice_range (pending b) i j ≡ slice_range (pending a) i j
 part_grown a b u v i j p low within = part_kept (pending b) (pending a) p.part i j p.are low within
 
-pub rest_grown : (a b : Input) (u v : Option (List ℕ)) (i : ℕ) (p : Grows a b u v) → i ≤ length (pending a) → drop i (pending b) ≡ drop i (pending a) ++ p.part
+pub rest_grown : (a b : Input) (u v : Option (List ℕ)) (i : ℕ) (p : InputGrows a b u v) → i ≤ length (pending a) → drop i (pending b) ≡ drop i (pending a) ++ p.part
 rest_grown a b u v i p within = ap (drop i) p.are ∙ drop-append-le i (pending a) p.part within
 
 -- a longer part
@@ -126,7 +126,7 @@ blank_more bytes from to b is =
       are = b.are ∙ ap (λ (xs : List ℕ). replicate (to - from) 10 ++ xs) is ∙ feeds (to - from) (drop (to + 1) bytes) ∙ ap (λ (n : ℕ). replicate n 10 ++ drop (to + 1) bytes) (sym count);
     }
 
-pub blanks_grown : (a b : Input) (u v : Option (List ℕ)) (from to : ℕ) → Grows a b u v → HasBlanks (pending a) from to → HasBlanks (pending b) from to
+pub blanks_grown : (a b : Input) (u v : Option (List ℕ)) (from to : ℕ) → InputGrows a b u v → HasBlanks (pending a) from to → HasBlanks (pending b) from to
 blanks_grown a b u v from to p h =
     let first = rest_grown a b u v from p (omega (arith, h.ordered, h.within)) in
     let last = rest_grown a b u v to p h.within in
@@ -147,7 +147,7 @@ blank_line bytes left line is fed none =
 pub reads_not : (a : Input) (u : Option (List ℕ)) → ReadsOn a a u u
 reads_not a u = record { part = []; consumes = Consumes-nil u; blanks = 0; are = append-nil (pending a) }
 
-pub reads_then : (a b c : Input) (u v w : Option (List ℕ)) → ReadsOn a b u v → Grows b c v w → ReadsOn a c u w
+pub reads_then : (a b c : Input) (u v w : Option (List ℕ)) → ReadsOn a b u v → InputGrows b c v w → ReadsOn a c u w
 reads_then a b c u v w p q = record {
   part = p.part ++ q.part;
   consumes = Consumes-trans u v w p.part q.part p.consumes q.consumes;

@@ -10,7 +10,7 @@ use Rattle.mm_store.specs.declared.edit.EditError.TheVariants as refusals
 use Rattle.mm_store.specs.Language.Edits.{Asked}
 use Rattle.mm_frame.specs.Language.Base.{BaseView, said_at}
 use Rattle.mm_frame.specs.Language.Item.{Item}
-use Rattle.mm_report.specs.Code.Answered.{label_lines, text_of}
+use Rattle.mm_report.specs.Code.Answered.{label_lines, text_brought}
 use Rattle.mm_report.specs.Language.Answers.{batch_refusal_line, numbers_listed, refusal_line, refusal_words, text_code}
 
 -- ---- part by part
@@ -24,12 +24,12 @@ pub fault_words : (text : List ℕ) (fault : TextFault) → refusal_words text (
 fault_words text fault = simp append_assoc
 
 -- the line of a refused edit
-pub refusal_parts : (edit : Asked) (error : EditError) → refusal_line edit error ≡ codes "refused " ++ (refusal_words (text_of edit) error ++ codes "\n")
+pub refusal_parts : (edit : Asked) (error : EditError) → refusal_line edit error ≡ codes "refused " ++ (refusal_words (text_brought edit) error ++ codes "\n")
 refusal_parts edit error = simp append_assoc
 
 -- that of a refused batch
 pub batch_refusal_parts : (n : ℕ) (edit : Asked) (error : EditError)
-    → batch_refusal_line n edit error ≡ (codes "refused " ++ decimal n) ++ (codes " " ++ (refusal_words (text_of edit) error ++ codes "\n"))
+    → batch_refusal_line n edit error ≡ (codes "refused " ++ decimal n) ++ (codes " " ++ (refusal_words (text_brought edit) error ++ codes "\n"))
 batch_refusal_parts n edit error = simp append_assoc
 
 -- labels that are listed

@@ -14,7 +14,7 @@ use Rattle.mm_store.specs.Language.Edits.{Asked}
 use Rattle.mm_store.specs.Language.Edits as ask
 use Rattle.mm_report.specs.declared.line.Verb.{Verb}
 use Rattle.mm_report.specs.declared.line.Verb.TheVariants.{Insert, Replace, Delete, Move, Batch, Verdict, Axioms, Cites, Users}
-use Rattle.mm_report.specs.Code.Lines.{BeginsWith, CutsAt, HasNoSpace, IsFileAnd, IsFileAndTwo, verb_word}
+use Rattle.mm_report.specs.Code.Lines.{BeginsWithVerb, CutsAt, HasNoSpace, IsFileAnd, IsFileAndTwo, verb_word}
 use Rattle.mm_report.specs.Code.Stops.{IsOneLine}
 use Rattle.mm_report.specs.Language.Script as commands
 use Rattle.mm_report.specs.Language.Script.{Command, Change, Report, IsName, IsNumber, IsGood, IsGoodEdit, edit_line, line_of, is_word_byte}

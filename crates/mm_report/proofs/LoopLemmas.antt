@@ -1,5 +1,5 @@
 -- A script that is answered command by command.
-use Rattle.std.proofs.Common.{◌≡◌, ℕ, zero, suc, true, Option, Some, None, List, [], ◌∷◌, ◌++◌, inl, inr, drop, replicate, refl, sym, ap, ◌∙◌, subst, append_assoc}
+use Rattle.std.proofs.Common.{◌≡◌, ℕ, zero, suc, true, Option, Some, None, List, [], ◌∷◌, ◌++◌, inl, inr, drop, take, replicate, refl, sym, ap, ◌∙◌, subst, append_assoc}
 use Rattle.std.specs.Prelude.{◌≢◌, Result, Ok, Err, IfErr, IfSome, IsErrOf}
 use Rattle.std.specs.Result.{IsErrAnd}
 use Rattle.mm_report.specs.declared.script.ScriptError.{ScriptError}
@@ -14,14 +14,13 @@ use Rattle.mm_report.specs.declared.entry.Next.{Next}
 use Rattle.mm_report.specs.declared.stream.Writing.{Writing}
 use Rattle.mm_report.specs.declared.reading.Reading.{Reading}
 use Rattle.mm_report.specs.Code.Answered.{IsAnswered, BeginsAnswer, FailsSo, AnswersSoFar, HasAnswered, StopsScript}
-use Rattle.mm_report.specs.Code.Pending.{pending, ReadsOn, IsNext, IsWholeCommand, IsLast, IsWholeOrLast}
+use Rattle.mm_report.specs.Code.Pending.{pending, ReadsOn, IsNextCommand, IsWholeCommand, IsLast, IsWholeOrLast}
 use Rattle.mm_report.specs.Code.Stops.{HasNoEntry, StopsSo}
 use Rattle.mm_report.specs.Language.Answers.{AreAnswers}
 use Rattle.mm_report.specs.Language.Script.{Command, End, Done, CutShort, BadLine, Entry, Blank, Given, AreGood, IsGood, AreRead, IsLongestReading, entries_bytes, command_bytes, commands_of, entry_bytes}
 use Rattle.mm_report.specs.Language.Scripting.{AnswersScript, AnswersFirst, AnswersRead, BeginsAnswers}
 use Rattle.mm_report.specs.Language.Stream.{cannot_read, unread, written}
 use Rattle.mm_report.proofs.JoinLemmas.{one_more, reading_behind, reading_done, reading_last, so_far_behind}
-use Rattle.mm_report.proofs.StreamLemmas.{part_behind}
 
 -- ---- empty lines, and commands, behind entries
 
@@ -231,12 +230,17 @@ module _ (old session : SessionView) (all left before after : Option (List ℕ))
   whole_begun new now pend command end good whole one so = record {
     bytes = so.first.bytes;
     consumes = so.first.consumes;
-    entries = so.first.entries ++ Given command ∷ [];
+    entries = so.first.entries;
+    last = command;
     rest = drop end pend;
     are = inl (more_read pend command end so good whole);
-    answers = so.first.answers ++ one.answer;
-    answered = one_more old session new so.first.entries command so.first.answers one.answer so.first.answered one.is;
-    out = part_behind before after now so.first.answers one.answer so.first.out one.out;
+    answers = so.first.answers;
+    between = session;
+    answered = so.first.answered;
+    answer = one.answer;
+    is = one.is;
+    count = one.out.count;
+    out = Appends-trans before after now so.first.answers (take one.out.count one.answer) so.first.out one.out.appends;
   }
 
   -- or that of the last one
@@ -245,12 +249,17 @@ module _ (old session : SessionView) (all left before after : Option (List ℕ))
   last_begun new now pend command good last one so = record {
     bytes = so.first.bytes;
     consumes = so.first.consumes;
-    entries = so.first.entries ++ Given command ∷ [];
+    entries = so.first.entries;
+    last = command;
     rest = [];
     are = inr (last.at_end, (reading_last so.first.bytes so.first.entries pend command (read_as pend so) good last.in_line last.are).divided);
-    answers = so.first.answers ++ one.answer;
-    answered = one_more old session new so.first.entries command so.first.answers one.answer so.first.answered one.is;
-    out = part_behind before after now so.first.answers one.answer so.first.out one.out;
+    answers = so.first.answers;
+    between = session;
+    answered = so.first.answered;
+    answer = one.answer;
+    is = one.is;
+    count = one.out.count;
+    out = Appends-trans before after now so.first.answers (take one.out.count one.answer) so.first.out one.out.appends;
   }
 
 -- ---- one step of the loop
@@ -283,7 +292,7 @@ module _ {R W : Type 0} (remaining : R → Option (List ℕ)) (contents : W → 
   next_stops r so bad cut read failed told errors.Memory is = so.first
 
   -- the command that is read is not answered, or not in full
-  pub answer_stops : (next : Next) (is : IsNext (pending now) (unread remaining left) next) (new : SessionView) (b : Writing W)
+  pub answer_stops : (next : Next) (is : IsNextCommand (pending now) (unread remaining left) next) (new : SessionView) (b : Writing W)
       → HasAnswered begun session all (unread remaining left) before (written contents a) (pending now)
       → (e : ScriptError) → FailsSo contents is.command session new a b e → StopsScript remaining contents begun new all left before b e
   answer_stops next is new b so errors.BadLine fails = absurd fails
@@ -301,7 +310,7 @@ module _ {R W : Type 0} (remaining : R → Option (List ℕ)) (contents : W → 
       (subst (λ (w : Writing W). AnswersFirst begun session all (unread remaining left) before (written contents w)) (sym fails.1) so.first)
 
   -- it is answered
-  pub goes_on : (next : Next) (is : IsNext (pending now) (unread remaining left) next) (new : SessionView) (b : Writing W) (input : Input)
+  pub goes_on : (next : Next) (is : IsNextCommand (pending now) (unread remaining left) next) (new : SessionView) (b : Writing W) (input : Input)
       → HasAnswered begun session all (unread remaining left) before (written contents a) (pending now)
       → IsAnswered session new is.command (written contents a) (written contents b)
       → (next.fed ≡ true → pending input ≡ drop next.end (pending now))

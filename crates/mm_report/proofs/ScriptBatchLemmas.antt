@@ -9,7 +9,7 @@ use Rattle.std.proofs.lemmas.List.Concat.{flat_map-append}
 use Rattle.mm_store.specs.Language.Edits.{Asked, Delete, edited_text}
 use Rattle.mm_report.specs.Code.Stops.{AreListed, batch_line, batch_bytes}
 use Rattle.mm_report.specs.Language.Script.{Listed, Command, Change, Batch, Report, Verdict, Axioms, Cites, Users, AreGoodEdits, EndsInLine, IsCutShort, IsGood, IsGoodEdit, IsNoneOrLine, IsNumber, MayBreak, MissesEdits}
-use Rattle.mm_report.specs.Language.Script.{behind, edit_bytes, edit_line, ended_text, line_of, listed_bytes, command_words}
+use Rattle.mm_report.specs.Language.Script.{behind_line, edit_bytes, edit_line, ended_text, line_of, listed_bytes, command_words}
 use Rattle.mm_report.proofs.SplitLemmas.{Lacks, join_lacks, not_inside}
 use Rattle.mm_report.proofs.WordLemmas.{AreSolid, BeginsEdits, edit_head, edit_tag, edits_begin, has_first, lack_feeds, listed_parts, same_blanks, same_words_by_line, small_number, solid_decimal, tag, words_solid}
 use Rattle.mm_report.proofs.ScriptLemmas.{NoEntry, NoLast}
@@ -89,7 +89,7 @@ good_tail [] ys h = h
 good_tail (x ∷ xs) ys h = good_tail xs ys h.1
 
 pub next_edit : (n : ℕ) (front : List Listed) (blanks : ℕ) (w t : List ℕ) → AreListed n front → (c : Command) → IsGood c → batch_line n ≡ line_of c
-    → flat_map listed_bytes front ++ (replicate blanks 10 ++ w) ≡ behind c ++ t → NextEdit n front blanks w t c
+    → flat_map listed_bytes front ++ (replicate blanks 10 ++ w) ≡ behind_line c ++ t → NextEdit n front blanks w t c
 next_edit n front blanks w t are c g e k = on (batch_by_line n are.number c g e)
   where
     by : (edits : List Listed) → c ≡ Batch edits → n ≡ length edits → AreGoodEdits edits → (later : List Listed) → edits ≡ front ++ later → replicate blanks 10 ++ w ≡ flat_map listed_bytes later ++ t → NextEdit n front blanks w t c
@@ -105,7 +105,7 @@ next_edit n front blanks w t are c g e k = on (batch_by_line n are.number c g e)
 
     on : IsBatch n c → NextEdit n front blanks w t c
     on b =
-        let f : BeginsEdits front b.edits (replicate blanks 10 ++ w) t = edits_begin front b.edits (replicate blanks 10 ++ w) t are.good b.good (omega (arith, are.fewer, b.count)) (k ∙ ap (λ (d : Command). behind d ++ t) b.is) in
+        let f : BeginsEdits front b.edits (replicate blanks 10 ++ w) t = edits_begin front b.edits (replicate blanks 10 ++ w) t are.good b.good (omega (arith, are.fewer, b.count)) (k ∙ ap (λ (d : Command). behind_line d ++ t) b.is) in
         by b.edits b.is b.count b.good f.later f.are f.left
 
 -- ---- what follows the line of the batch and the edits
@@ -121,12 +121,12 @@ batch_no_entry n front blanks inner are none = no_entry_by (batch_line n) (insid
 
 pub batch_no_last : (n : ℕ) (front : List Listed) (blanks : ℕ) (inner : List ℕ) → AreListed n front → ((c : Command) → EndsInLine c → NextEdit n front blanks (inner ++ 10 ∷ []) [] c → ⊥) → NoLast (batch_bytes n front blanks inner)
 batch_no_last n front blanks inner are none = no_last_by (batch_line n) (inside front blanks inner) (batch_lacks n are.number)
-    (λ c g ends e k. none c ends (next_edit n front blanks (inner ++ 10 ∷ []) [] are c g e (sym (inside_more front blanks inner (10 ∷ [])) ∙ k ∙ sym (append-nil (behind c)))))
+    (λ c g ends e k. none c ends (next_edit n front blanks (inner ++ 10 ∷ []) [] are c g e (sym (inside_more front blanks inner (10 ∷ [])) ∙ k ∙ sym (append-nil (behind_line c)))))
 
 pub batch_not_cut : (n : ℕ) (front : List Listed) (blanks : ℕ) (inner : List ℕ) → AreListed n front
     → ((c : Command) (missing : List ℕ) → IsGood c → NextEdit n front blanks (inner ++ missing) [] c → MayBreak c (10 ∷ inside front blanks inner) → ⊥) → ¬ IsCutShort (batch_bytes n front blanks inner)
 batch_not_cut n front blanks inner are none = not_cut_by (batch_line n) (inside front blanks inner) (batch_lacks n are.number)
-    (λ c missing g e k m b. none c missing g (next_edit n front blanks (inner ++ missing) [] are c g e (sym (inside_more front blanks inner missing) ∙ k ∙ sym (append-nil (behind c)))) b)
+    (λ c missing g e k m b. none c missing g (next_edit n front blanks (inner ++ missing) [] are c g e (sym (inside_more front blanks inner missing) ∙ k ∙ sym (append-nil (behind_line c)))) b)
 
 -- ---- a batch that is cut short
 

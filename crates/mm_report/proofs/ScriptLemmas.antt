@@ -5,14 +5,14 @@ use Rattle.std.proofs.lemmas.Bool.{cases_lt}
 use Rattle.std.proofs.lemmas.List.{append-nil, append_cancel_left, append_cancel_right}
 use Rattle.std.proofs.lemmas.List.Concat.{flat_map-append}
 use Rattle.mm_store.specs.Language.Edits.{edited_text}
-use Rattle.mm_report.specs.Language.Script.{Listed, Command, Change, Batch, Report, Verdict, Axioms, Cites, Users, Entry, Blank, Given, listed_bytes, edit_line, entry_bytes, IsGoodEntry, AreGood, IsGood, entries_bytes, line_of, ended_text, behind, command_bytes, EndsInLine}
+use Rattle.mm_report.specs.Language.Script.{Listed, Command, Change, Batch, Report, Verdict, Axioms, Cites, Users, Entry, Blank, Given, listed_bytes, edit_line, entry_bytes, IsGoodEntry, AreGood, IsGood, entries_bytes, line_of, ended_text, behind_line, command_bytes, EndsInLine}
 use Rattle.mm_report.specs.Language.Script.{LacksFeed, HasEntries, IsLongestReading, AreRead, IsReadSoFar, IsCutShort, End, Done, CutShort, BadLine, EndsSo}
 use Rattle.mm_report.proofs.SplitLemmas.{split_at}
 use Rattle.mm_report.proofs.WordLemmas.{line_lacks_feed, same_first, line_some}
 
 pub blank_no : (d : Command) (s t : List ℕ) → IsGood d → 10 ∷ s ≡ command_bytes d ++ t → ⊥
 blank_no d s t h e =
-    let both : ([] ≡ line_of d) × (s ≡ behind d ++ t) = split_at 10 [] (line_of d) s (behind d ++ t) tt (line_lacks_feed d h) (e ∙ append_assoc (line_of d) (10 ∷ behind d) t) in
+    let both : ([] ≡ line_of d) × (s ≡ behind_line d ++ t) = split_at 10 [] (line_of d) s (behind_line d ++ t) tt (line_lacks_feed d h) (e ∙ append_assoc (line_of d) (10 ∷ behind_line d) t) in
     line_some d (sym both.0)
 
 pub same_entry : (x y : Entry) (s t : List ℕ) → IsGoodEntry x → IsGoodEntry y → entry_bytes x ++ s ≡ entry_bytes y ++ t → (x ≡ y) × (s ≡ t)

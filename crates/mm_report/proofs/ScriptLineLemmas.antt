@@ -7,7 +7,7 @@ use Rattle.std.proofs.lemmas.List.{append-nil, length-replicate}
 use Rattle.mm_store.specs.Language.Edits.{Asked, Insert, Replace, Delete, Move, edited_text}
 use Rattle.mm_report.specs.Code.Stops.{StopsSo, HasTextOf}
 use Rattle.mm_report.specs.Language.Script.{Command, Change, Blank, Given, CutShort, BadLine, EndsInLine, MayBreak, IsCutShort, IsGood, IsGoodEdit, IsNumber}
-use Rattle.mm_report.specs.Language.Script.{behind, edit_line, edit_words, line_of, command_words}
+use Rattle.mm_report.specs.Language.Script.{behind_line, edit_line, edit_words, line_of, command_words}
 use Rattle.mm_report.proofs.SplitLemmas.{Lacks, not_inside, split_at}
 use Rattle.mm_report.proofs.WordLemmas.{edit_head, has_first, line_lacks_feed, same_words_by_line, small_number, tag, words_solid}
 use Rattle.mm_report.proofs.ScriptLemmas.{NoEntry, NoLast, entry_ends, none_is_read}
@@ -17,13 +17,13 @@ use Rattle.mm_report.proofs.ScriptLemmas.{NoEntry, NoLast, entry_ends, none_is_r
 pub line_no_entry : (line : List ℕ) → Lacks 10 line → NoEntry line
 line_no_entry line l x left g e = let f = entry_ends x in not_inside 10 line f.0 left l (e ∙ ap (λ (w : List ℕ). w ++ left) f.1 ∙ append_assoc f.0 (10 ∷ []) left)
 
-pub line_no_last : (line : List ℕ) → Lacks 10 line → ((c : Command) → IsGood c → EndsInLine c → line ≡ line_of c → [] ≡ behind c → ⊥) → NoLast line
-line_no_last line l none c g ends e = let both = split_at 10 line (line_of c) [] (behind c) l (line_lacks_feed c g) e in none c g ends both.0 both.1
+pub line_no_last : (line : List ℕ) → Lacks 10 line → ((c : Command) → IsGood c → EndsInLine c → line ≡ line_of c → [] ≡ behind_line c → ⊥) → NoLast line
+line_no_last line l none c g ends e = let both = split_at 10 line (line_of c) [] (behind_line c) l (line_lacks_feed c g) e in none c g ends both.0 both.1
 
 pub line_not_cut : (line : List ℕ) → Lacks 10 line → ((c : Command) → IsGood c → line ≡ line_of c → ⊥) → ¬ IsCutShort line
 line_not_cut line l none c = by c.part c.is c.begins
   where
-    by : (part : List ℕ) → line ≡ line_of c.command ++ part → part ++ c.missing ≡ 10 ∷ behind c.command → ⊥
+    by : (part : List ℕ) → line ≡ line_of c.command ++ part → part ++ c.missing ≡ 10 ∷ behind_line c.command → ⊥
     by [] e k = none c.command c.good (e ∙ append-nil (line_of c.command))
     by (b ∷ part) e k = let same : b ≡ 10 = cc in not_inside 10 line (line_of c.command) part l (e ∙ ap (λ (x : ℕ). line_of c.command ++ x ∷ part) same)
 
@@ -31,31 +31,31 @@ line_not_cut line l none c = by c.part c.is c.begins
 
 -- no command of this line is whole
 abbrev pub LacksWhole : List ℕ → List ℕ → Type 0
-LacksWhole line more = (c : Command) (left : List ℕ) → IsGood c → line ≡ line_of c → more ≡ behind c ++ left → ⊥
+LacksWhole line more = (c : Command) (left : List ℕ) → IsGood c → line ≡ line_of c → more ≡ behind_line c ++ left → ⊥
 
 -- none is whole but for its last line feed
 abbrev pub LacksLast : List ℕ → List ℕ → Type 0
-LacksLast line more = (c : Command) → IsGood c → EndsInLine c → line ≡ line_of c → more ++ 10 ∷ [] ≡ behind c → ⊥
+LacksLast line more = (c : Command) → IsGood c → EndsInLine c → line ≡ line_of c → more ++ 10 ∷ [] ≡ behind_line c → ⊥
 
 -- there is no beginning of one, where it may break off
 abbrev pub LacksBeginning : List ℕ → List ℕ → Type 0
-LacksBeginning line more = (c : Command) (missing : List ℕ) → IsGood c → line ≡ line_of c → more ++ missing ≡ behind c → missing ≢ [] → MayBreak c (10 ∷ more) → ⊥
+LacksBeginning line more = (c : Command) (missing : List ℕ) → IsGood c → line ≡ line_of c → more ++ missing ≡ behind_line c → missing ≢ [] → MayBreak c (10 ∷ more) → ⊥
 
 pub no_entry_by : (line more : List ℕ) → Lacks 10 line → line ≢ [] → LacksWhole line more → NoEntry (line ++ 10 ∷ more)
 no_entry_by line more l some none Blank left g e = let both = split_at 10 line [] more left l tt e in some both.0
-no_entry_by line more l some none (Given c) left g e = let both = split_at 10 line (line_of c) more (behind c ++ left) l (line_lacks_feed c g) (e ∙ append_assoc (line_of c) (10 ∷ behind c) left) in none c left g both.0 both.1
+no_entry_by line more l some none (Given c) left g e = let both = split_at 10 line (line_of c) more (behind_line c ++ left) l (line_lacks_feed c g) (e ∙ append_assoc (line_of c) (10 ∷ behind_line c) left) in none c left g both.0 both.1
 
 pub no_last_by : (line more : List ℕ) → Lacks 10 line → LacksLast line more → NoLast (line ++ 10 ∷ more)
-no_last_by line more l none c g ends e = let both = split_at 10 line (line_of c) (more ++ 10 ∷ []) (behind c) l (line_lacks_feed c g) (sym (append_assoc line (10 ∷ more) (10 ∷ [])) ∙ e) in none c g ends both.0 both.1
+no_last_by line more l none c g ends e = let both = split_at 10 line (line_of c) (more ++ 10 ∷ []) (behind_line c) l (line_lacks_feed c g) (sym (append_assoc line (10 ∷ more) (10 ∷ [])) ∙ e) in none c g ends both.0 both.1
 
 pub not_cut_by : (line more : List ℕ) → Lacks 10 line → LacksBeginning line more → ¬ IsCutShort (line ++ 10 ∷ more)
 not_cut_by line more l none c = by c.part c.is c.begins c.breaks
   where
-    by : (part : List ℕ) → line ++ 10 ∷ more ≡ line_of c.command ++ part → part ++ c.missing ≡ 10 ∷ behind c.command → MayBreak c.command part → ⊥
+    by : (part : List ℕ) → line ++ 10 ∷ more ≡ line_of c.command ++ part → part ++ c.missing ≡ 10 ∷ behind_line c.command → MayBreak c.command part → ⊥
     by [] e k b = not_inside 10 (line_of c.command) line more (line_lacks_feed c.command c.good) (sym (append-nil (line_of c.command)) ∙ sym e)
     by (x ∷ part) e k b =
         let same : x ≡ 10 = cc in
-        let tail : part ++ c.missing ≡ behind c.command = cc in
+        let tail : part ++ c.missing ≡ behind_line c.command = cc in
         let both = split_at 10 line (line_of c.command) more part l (line_lacks_feed c.command c.good) (e ∙ ap (λ (y : ℕ). line_of c.command ++ y ∷ part) same) in
         none c.command c.missing c.good both.0 (ap (λ (w : List ℕ). w ++ c.missing) both.1 ∙ tail) c.some_missing (breaks part x same both.1 b)
       where
@@ -73,7 +73,7 @@ pub stops_bad : (line more : List ℕ) → NoEntry (line ++ 10 ∷ more) → NoL
 stops_bad line more none last whole = record { reading = none_is_read (line ++ 10 ∷ more) none last; ends = (some_with line more, whole) }
 
 -- where there is no beginning at all, the last line feed cannot lack either
-pub stops_bad_by : (line more : List ℕ) → Lacks 10 line → line ≢ [] → LacksWhole line more → ((c : Command) (missing : List ℕ) → IsGood c → line ≡ line_of c → more ++ missing ≡ behind c → missing ≢ [] → ⊥) → StopsSo (line ++ 10 ∷ more) BadLine
+pub stops_bad_by : (line more : List ℕ) → Lacks 10 line → line ≢ [] → LacksWhole line more → ((c : Command) (missing : List ℕ) → IsGood c → line ≡ line_of c → more ++ missing ≡ behind_line c → missing ≢ [] → ⊥) → StopsSo (line ++ 10 ∷ more) BadLine
 stops_bad_by line more l some whole begun =
     stops_bad line more (no_entry_by line more l some whole) (no_last_by line more l (λ c g ends e k. begun c (10 ∷ []) g e k feed)) (not_cut_by line more l (λ c missing g e k m b. begun c missing g e k m))
   where
@@ -88,7 +88,7 @@ edit_line_some e k = let p = edit_head e in let w : p.0 ∷ p.1 ≡ [] = sym p.2
 -- what is behind the line of a command is a text of so many bytes
 pub record HasTextBehind (c : Command) (count : ℕ) : Type 0 where
   pub text : List ℕ
-  pub is_behind : behind c ≡ text ++ 10 ∷ []
+  pub is_behind : behind_line c ≡ text ++ 10 ∷ []
   pub count_is : length text ≡ count
   pub not_in_line : EndsInLine c → ⊥
 

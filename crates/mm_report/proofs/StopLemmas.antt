@@ -5,7 +5,7 @@ use Rattle.std.proofs.lemmas.List.{append-nil, length-replicate, replicate_more}
 use Rattle.mm_store.specs.Language.Edits.{Asked, edited_text}
 use Rattle.mm_report.specs.Code.Stops.{StopsSo, HasNoEntry, IsOneLine, IsBadLine, IsBadEditLine, HasTextOf, AreListed, batch_line, batch_bytes}
 use Rattle.mm_report.specs.Language.Script.{Command, Batch, Change, Listed, CutShort, BadLine, EndsInLine, IsCutShort, IsGood, IsGoodEdit, IsNumber, LastInLine, MayBreak}
-use Rattle.mm_report.specs.Language.Script.{behind, edit_bytes, edit_line, ended_text, line_of, listed_bytes}
+use Rattle.mm_report.specs.Language.Script.{behind_line, edit_bytes, edit_line, ended_text, line_of, listed_bytes}
 use Rattle.mm_report.proofs.ScriptLemmas.{NoEntry, NoLast, none_is_read, none_so_far}
 use Rattle.mm_report.proofs.ScriptLineLemmas.{LacksWhole, HasTextBehind, WithText, edit_line_some, filled, filling, filling_ends, line_no_entry, line_no_last, line_not_cut, no_entry_by, no_last_by, stops_bad, stops_bad_by, stops_cut, text_of_line, too_long, with_text}
 use Rattle.mm_report.proofs.ScriptBatchLemmas.{NextEdit, any_are_good, any_edit, any_good, any_listed, batch_by_line, batch_is_cut, batch_lacks, batch_no_entry, batch_no_last, batch_not_cut, feeds_no_line, inside, line_behind_feeds, listed_some, no_break}
@@ -90,7 +90,7 @@ text_bad edit count text more byte has is other = stops_bad_by (edit_line edit) 
     whole : LacksWhole (edit_line edit) (text ++ byte ∷ more)
     whole c left g e k = let t = text_of_line edit count has c g e in feed t.text more left t.count_is (k ∙ ap (λ (bytes : List ℕ). bytes ++ left) t.is_behind)
 
-    begun : (c : Command) (missing : List ℕ) → IsGood c → edit_line edit ≡ line_of c → (text ++ byte ∷ more) ++ missing ≡ behind c → missing ≢ [] → ⊥
+    begun : (c : Command) (missing : List ℕ) → IsGood c → edit_line edit ≡ line_of c → (text ++ byte ∷ more) ++ missing ≡ behind_line c → missing ≢ [] → ⊥
     begun c missing g e k m =
         let t = text_of_line edit count has c g e in
         feed t.text (more ++ missing) [] t.count_is (sym (append_assoc text (byte ∷ more) missing) ∙ k ∙ t.is_behind ∙ sym (append-nil (t.text ++ 10 ∷ [])))
@@ -106,8 +106,8 @@ batch_line_cut n number some = stops_cut (batch_line n) (line_no_entry (batch_li
     nothing [] e k = omega arith
     nothing (x ∷ xs) e k = let p = listed_some x xs in omega (arith, p, ap length k)
 
-    last : (c : Command) → IsGood c → EndsInLine c → batch_line n ≡ line_of c → [] ≡ behind c → ⊥
-    last c g ends e k = let b = batch_by_line n number c g e in nothing b.edits b.count (k ∙ ap behind b.is)
+    last : (c : Command) → IsGood c → EndsInLine c → batch_line n ≡ line_of c → [] ≡ behind_line c → ⊥
+    last c g ends e k = let b = batch_by_line n number c g e in nothing b.edits b.count (k ∙ ap behind_line b.is)
 
     all : List Listed
     all = replicate n any_listed

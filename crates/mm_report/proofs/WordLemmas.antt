@@ -6,7 +6,7 @@ use Rattle.std.proofs.lemmas.Bool.{ne_eqb}
 use Rattle.std.proofs.lemmas.List.{append-nil}
 use Rattle.std.proofs.lemmas.Fmt.{decimal_by_steps, decimal_injective}
 use Rattle.mm_store.specs.Language.Edits.{Asked, Insert, Replace, Delete, Move, edited_text}
-use Rattle.mm_report.specs.Language.Script.{Listed, Command, Change, Report, Verdict, Axioms, Cites, Users, Batch, edit_line, listed_bytes, edit_words, command_words, line_of, ended_text, behind, command_bytes}
+use Rattle.mm_report.specs.Language.Script.{Listed, Command, Change, Report, Verdict, Axioms, Cites, Users, Batch, edit_line, listed_bytes, edit_words, command_words, line_of, ended_text, behind_line, command_bytes}
 use Rattle.mm_report.specs.Language.Script.{is_word_byte, IsName, IsNumber, IsGoodEdit, AreGoodEdits, IsGood}
 use Rattle.mm_report.proofs.SplitLemmas.{Lacks, split_at, same_words, join_lacks, solid_space, solid_feed}
 
@@ -230,7 +230,7 @@ same_edits xs ys s t g h l e = by (edits_begin xs ys s t g h (omega arith) e)
         on [] p q = (sym (p ∙ append-nil xs), q)
         on (z ∷ zs) p q = let n : length ys ≡ length xs + length (z ∷ zs) = ap length p ∙ length-append xs (z ∷ zs) in absurd (omega arith)
 
-pub same_command : (c d : Command) (s t : List ℕ) → IsGood c → IsGood d → command_words c ≡ command_words d → behind c ++ s ≡ behind d ++ t → (c ≡ d) × (s ≡ t)
+pub same_command : (c d : Command) (s t : List ℕ) → IsGood c → IsGood d → command_words c ≡ command_words d → behind_line c ++ s ≡ behind_line d ++ t → (c ≡ d) × (s ≡ t)
 same_command (Batch xs) (Batch ys) s t g h e k =
     let count_word : decimal (length xs) ≡ decimal (length ys) = cc in
     let counts : length xs ≡ length ys = decimal_injective (length xs) (length ys) (small_number _ g.0) (small_number _ h.0) count_word in
@@ -249,8 +249,8 @@ same_command _ _ s t g h e k = absurd (omega (arith, ap tag e))
 -- the first command of some bytes is known, and what is behind it
 pub same_first : (c d : Command) (s t : List ℕ) → IsGood c → IsGood d → command_bytes c ++ s ≡ command_bytes d ++ t → (c ≡ d) × (s ≡ t)
 same_first c d s t g h e =
-    let lines : (line_of c ≡ line_of d) × (behind c ++ s ≡ behind d ++ t) = split_at 10 (line_of c) (line_of d) (behind c ++ s) (behind d ++ t) (line_lacks_feed c g) (line_lacks_feed d h)
-    (sym (append_assoc (line_of c) (10 ∷ behind c) s) ∙ e ∙ append_assoc (line_of d) (10 ∷ behind d) t) in
+    let lines : (line_of c ≡ line_of d) × (behind_line c ++ s ≡ behind_line d ++ t) = split_at 10 (line_of c) (line_of d) (behind_line c ++ s) (behind_line d ++ t) (line_lacks_feed c g) (line_lacks_feed d h)
+    (sym (append_assoc (line_of c) (10 ∷ behind_line c) s) ∙ e ∙ append_assoc (line_of d) (10 ∷ behind_line d) t) in
     let words : command_words c ≡ command_words d = same_words_by_line (command_words c) (command_words d) (has_first c) (has_first d) (words_solid c g) (words_solid d h) lines.0 in
     same_command c d s t g h words lines.1
 

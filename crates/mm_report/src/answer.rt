@@ -12,7 +12,7 @@ ghost use Rattle.mm_keep.specs.Language.Findings.{told};
 ghost use Rattle.mm_keep.specs.Language.Refusals.{IsRefusal, IsBatchRefusal};
 ghost use Rattle.mm_keep.specs.Language.Sessions.{HasAssertion, SessionView};
 ghost use Rattle.mm_report.specs.declared.script.ScriptError.TheVariants as errors;
-ghost use Rattle.mm_report.specs.Code.Answered.{Answers, Finds, IsToldIn, Lacks, WritesAnswer, WritesOf, label_lines, text_of};
+ghost use Rattle.mm_report.specs.Code.Answered.{Answers, Finds, IsToldIn, Lacks, WritesAnswer, WritesOf, label_lines, text_brought};
 ghost use Rattle.mm_report.specs.Code.InFiles.{IsInFiles};
 ghost use Rattle.mm_report.specs.Code.Pending.{IsCommandIn, IsEditWithin, edit_in};
 ghost use Rattle.mm_report.specs.Language.Answers.{IsAnswer, batch_refusal_line, numbers_listed, refusal_line, refusal_words, text_code, told_line};
@@ -55,7 +55,7 @@ fn code_of_text(number: TextNumber) -> &'static [u8]
 
 /// The text that an edit brings; no bytes where it brings none.
 fn text_of_edit<'a>(edit: &Edit<'a>) -> &'a [u8]
-    ensures { result.now ≡ text_of (asked edit.now) }
+    ensures { result.now ≡ text_brought (asked edit.now) }
 {
     match *edit {
         Edit::Insert { text, .. } | Edit::Replace { text, .. } => text,
@@ -103,7 +103,7 @@ fn write_refused<W: Write>(
     error: EditError,
     to: &mut Writing<W>,
 ) -> Result<(), WriteFailed>
-    requires { IsToldIn (text_of (asked edit.now)) error }
+    requires { IsToldIn (text_brought (asked edit.now)) error }
     ensures { Writes W.contents to.old to.new result (refusal_line (asked edit.now) error) }
 {
     to.write_all(b"refused ")?;
@@ -118,7 +118,7 @@ fn write_batch_refused<W: Write>(
     error: EditError,
     to: &mut Writing<W>,
 ) -> Result<(), WriteFailed>
-    requires { IsToldIn (text_of (asked edit.now)) error }
+    requires { IsToldIn (text_brought (asked edit.now)) error }
     ensures { Writes W.contents to.old to.new result (batch_refusal_line number (asked edit.now) error) }
 {
     write_count(b"refused ", number as u64, to)?;

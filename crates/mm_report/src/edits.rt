@@ -4,9 +4,9 @@ ghost use Rattle.std.specs.Prelude.{◌≡◌, ◌≢◌, ◌≤◌, ◌<◌, �
 ghost use Rattle.std.specs.Io.KnownBytes.{IsAtEnd};
 ghost use Rattle.mm_report.specs.declared.script.ScriptError.TheVariants as errors;
 ghost use Rattle.mm_report.specs.Code.Batches.{EndsBatch, HoldsBatch, IsBatchRead, IsListedRead};
-ghost use Rattle.mm_report.specs.Code.Growing.{Grows, to_come, IsEditRead, IsLineAt, IsOtherByte, IsTextBad, IsTextLine, IsTextShort, line_bytes};
+ghost use Rattle.mm_report.specs.Code.Growing.{InputGrows, to_come, IsEditRead, IsLineAt, IsOtherByte, IsTextBad, IsTextLine, IsTextShort, line_bytes};
 ghost use Rattle.mm_report.specs.Code.Lines.{SaysEdit};
-ghost use Rattle.mm_report.specs.Code.Pending.{pending, bytes_in, IsWithin};
+ghost use Rattle.mm_report.specs.Code.Pending.{pending, bytes_of_part, IsPartWithin};
 ghost use Rattle.mm_report.specs.Code.Stops.{HasNoEntry, StopsSo, batch_line};
 ghost use Rattle.mm_report.specs.Language.Script.{BadLine, CutShort, IsNumber};
 ghost use Rattle.mm_report.specs.Language.Stream.{cannot_read, unread};
@@ -59,7 +59,7 @@ pub(crate) fn read_edit<R: Read>(
 ) -> Result<EditRead, ScriptError>
     requires line { IsLineAt (pending input.old) (unread R.remaining reading.old) line }
     requires says { SaysEdit (line_bytes (pending input.old) line) asked }
-    ensures grows { Grows input.old input.new (unread R.remaining reading.old) (unread R.remaining reading.new) }
+    ensures grows { InputGrows input.old input.new (unread R.remaining reading.old) (unread R.remaining reading.new) }
     ensures edit { IfOk result (IsEditRead (pending input.new) (unread R.remaining reading.new) line.start) }
     ensures fewer { OnOk result (to_come input.new reading.new ≤ to_come input.old reading.old) }
     ensures bad { IsErrOf result errors.BadLine → IsTextBad (drop line.start (pending input.new)) }
@@ -122,7 +122,7 @@ fn read_listed<R: Read>(
     missing: usize,
 ) -> Result<EditRead, ScriptError>
     requires { from ≤ length (pending input.old) }
-    ensures grows { Grows input.old input.new (unread R.remaining reading.old) (unread R.remaining reading.new) }
+    ensures grows { InputGrows input.old input.new (unread R.remaining reading.old) (unread R.remaining reading.new) }
     ensures edit { IfOk result (IsListedRead (pending input.new) (unread R.remaining reading.new) from) }
     ensures last { IfOk result (λ read. read.fed ≡ false → missing ≤ 1) }
     ensures fewer { OnOk result (to_come input.new reading.new ≤ to_come input.old reading.old) }
@@ -160,7 +160,7 @@ pub(crate) fn read_batch<R: Read>(
     requires start { line.start ≡ 0 }
     requires number { IsNumber count }
     requires says { line_bytes (pending input.old) line ≡ batch_line count }
-    ensures grows { Grows input.old input.new (unread R.remaining reading.old) (unread R.remaining reading.new) }
+    ensures grows { InputGrows input.old input.new (unread R.remaining reading.old) (unread R.remaining reading.new) }
     ensures batch { IfOk result (λ read. IsBatchRead (pending input.new) (unread R.remaining reading.new) count read.edits.items read.end read.fed) }
     ensures all { IfOk result (λ read. length read.edits.items ≡ count) }
     ensures fewer { OnOk result (to_come input.new reading.new ≤ to_come input.old reading.old) }

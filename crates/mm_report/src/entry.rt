@@ -4,8 +4,8 @@ ghost use Rattle.std.specs.Prelude.{◌≡◌, ◌≢◌, ◌<◌, ◌≤◌, �
 ghost use Rattle.std.specs.Io.KnownBytes.{IsAtEnd};
 ghost use Rattle.mm_store.specs.Language.Edits.{asked};
 ghost use Rattle.mm_report.specs.declared.script.ScriptError.TheVariants as errors;
-ghost use Rattle.mm_report.specs.Code.Pending.{pending, bytes_in, edit_in, IsEditWithin, IsNext, IsWithin, ReadsOn};
-ghost use Rattle.mm_report.specs.Code.Growing.{Grows, IsLineAt, to_come};
+ghost use Rattle.mm_report.specs.Code.Pending.{pending, bytes_of_part, edit_in, IsEditWithin, IsNextCommand, IsPartWithin, ReadsOn};
+ghost use Rattle.mm_report.specs.Code.Growing.{InputGrows, IsLineAt, to_come};
 ghost use Rattle.mm_report.specs.Code.Stops.{HasNoEntry, IsOneLine, StopsSo};
 ghost use Rattle.mm_report.specs.Language.Script.{CutShort, BadLine};
 ghost use Rattle.mm_report.specs.Language.Stream.{cannot_read, unread};
@@ -60,8 +60,8 @@ pub(crate) struct Next {
 
 /// The bytes of a part.
 pub(crate) fn bytes_of<'a>(bytes: &'a [u8], part: Part) -> &'a [u8]
-    requires { IsWithin bytes.now part }
-    ensures { result.now ≡ bytes_in bytes.now part }
+    requires { IsPartWithin bytes.now part }
+    ensures { result.now ≡ bytes_of_part bytes.now part }
 {
     &bytes[part.start..part.end]
 }
@@ -138,8 +138,8 @@ fn read_command<R: Read>(
     requires line { IsLineAt (pending input.old) (unread R.remaining reading.old) line }
     requires start { line.start ≡ 0 }
     requires some { 0 < line.end }
-    ensures grows { Grows input.old input.new (unread R.remaining reading.old) (unread R.remaining reading.new) }
-    ensures found { IfOk result (IsNext (pending input.new) (unread R.remaining reading.new)) }
+    ensures grows { InputGrows input.old input.new (unread R.remaining reading.old) (unread R.remaining reading.new) }
+    ensures found { IfOk result (IsNextCommand (pending input.new) (unread R.remaining reading.new)) }
     ensures fewer { OnOk result (to_come input.new reading.new ≤ to_come input.old reading.old) }
     ensures bad { IsErrOf result errors.BadLine → IfSome (unread R.remaining reading.new) (λ more. StopsSo (pending input.new ++ more) BadLine) }
     ensures cut { IsErrOf result errors.Cut → IfSome (unread R.remaining reading.new) (λ more. StopsSo (pending input.new ++ more) CutShort) }
@@ -184,7 +184,7 @@ pub(crate) fn next_command<R: Read>(
     reading: &mut Reading<R>,
 ) -> Result<Option<Next>, ScriptError>
     ensures reads { ReadsOn input.old input.new (unread R.remaining reading.old) (unread R.remaining reading.new) }
-    ensures found { IfOk result (λ next. IfSome next (IsNext (pending input.new) (unread R.remaining reading.new))) }
+    ensures found { IfOk result (λ next. IfSome next (IsNextCommand (pending input.new) (unread R.remaining reading.new))) }
     ensures none { IfOk result (λ next. next ≡ None → (pending input.new ≡ []) × IsAtEnd (unread R.remaining reading.new)) }
     ensures fewer { OnOk result (to_come input.new reading.new ≤ to_come input.old reading.old) }
     ensures bad { IsErrOf result errors.BadLine → IfSome (unread R.remaining reading.new) (λ more. StopsSo (pending input.new ++ more) BadLine) }

@@ -22,7 +22,7 @@ impl Input {
     ghost use Rattle.std.specs.Prelude.{◌≡◌, ◌+◌, ◌⊎◌, [], true, false, drop, length, Err, IfOk, IsErrOf, OnErr};
     ghost use Rattle.std.specs.Io.KnownBytes.{IsAtEnd};
     ghost use Rattle.mm_report.specs.declared.script.ScriptError.TheVariants as errors;
-    ghost use Rattle.mm_report.specs.Code.Growing.{Grows, to_come};
+    ghost use Rattle.mm_report.specs.Code.Growing.{InputGrows, to_come};
     ghost use Rattle.mm_report.specs.Code.Pending.{pending};
     ghost use Rattle.mm_report.specs.Language.Stream.{cannot_read, unread};
 
@@ -65,7 +65,7 @@ impl Input {
 
     /// Reads once: whether bytes came. None come at the end.
     pub(crate) fn read_on<R: Read>(&mut self, reading: &mut Reading<R>) -> Result<bool, ScriptError>
-        ensures grows { Grows self.old self.new (unread R.remaining reading.old) (unread R.remaining reading.new) }
+        ensures grows { InputGrows self.old self.new (unread R.remaining reading.old) (unread R.remaining reading.new) }
         ensures more { IfOk result (λ more. more ≡ true → to_come self.new reading.new + 1 ≤ to_come self.old reading.old) }
         ensures end { IfOk result (λ more. more ≡ false → (pending self.new ≡ pending self.old) × IsAtEnd (unread R.remaining reading.new)) }
         ensures fewer { IfOk result (λ _. to_come self.new reading.new ≤ to_come self.old reading.old) }

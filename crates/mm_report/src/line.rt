@@ -3,8 +3,8 @@
 ghost use Rattle.std.specs.Prelude.{◌≡◌, ◌≢◌, ◌≤◌, ◌+◌, ◌++◌, ◌∷◌, true, false, None, decimal, drop, length, IfSome, List, ℕ};
 ghost use Rattle.mm_store.specs.Language.Edits.{Asked};
 ghost use Rattle.mm_report.specs.declared.line.Verb.{Verb};
-ghost use Rattle.mm_report.specs.Code.Lines.{BeginsWith, CutsAt, HasNoSpace, IsFileAnd, IsFileAndTwo, IsNameIn, SaysEdit, Says, verb_word};
-ghost use Rattle.mm_report.specs.Code.Pending.{bytes_in};
+ghost use Rattle.mm_report.specs.Code.Lines.{BeginsWithVerb, CutsAt, HasNoSpace, IsFileAnd, IsFileAndTwo, IsNameIn, SaysEdit, SaysLine, verb_word};
+ghost use Rattle.mm_report.specs.Code.Pending.{bytes_of_part};
 ghost use Rattle.mm_report.specs.Code.Stops.{IsOneLine};
 ghost use Rattle.mm_report.specs.Language.Script.{Command, IsGood, IsGoodEdit, IsName, IsNumber, edit_line, line_of};
 
@@ -150,7 +150,7 @@ fn name_part(line: &[u8], from: usize, count: usize) -> Part
 
 /// The edit that a line with this first word asks for, which goes on from `from` on.
 fn edit_with(verb: Verb, line: &[u8], from: usize) -> Option<EditLine>
-    requires begins { BeginsWith line.now verb from }
+    requires begins { BeginsWithVerb line.now verb from }
     requires one_line { IsOneLine line.now }
     ensures some { IfSome result (SaysEdit line.now) }
     ensures none { result ≡ None → (edit : Asked) → IsGoodEdit edit → line.now ≢ edit_line edit }
@@ -195,7 +195,7 @@ pub(crate) fn edit_asked(line: &[u8]) -> Option<EditLine>
 fn label(line: &[u8], from: usize) -> Option<Part>
     requires within { from ≤ length line.now }
     requires one_line { IsOneLine line.now }
-    ensures some { IfSome result (λ label. IsNameIn line.now label × (bytes_in line.now label ≡ drop from line.now)) }
+    ensures some { IfSome result (λ label. IsNameIn line.now label × (bytes_of_part line.now label ≡ drop from line.now)) }
     ensures none { result ≡ None → ¬ IsName (drop from line.now) }
 {
     let end = line.len();
@@ -208,9 +208,9 @@ fn label(line: &[u8], from: usize) -> Option<Part>
 
 /// What a line with this first word asks for, which goes on from `from` on.
 fn command_with(verb: Verb, line: &[u8], from: usize) -> Option<CommandLine>
-    requires begins { BeginsWith line.now verb from }
+    requires begins { BeginsWithVerb line.now verb from }
     requires one_line { IsOneLine line.now }
-    ensures some { IfSome result (Says line.now) }
+    ensures some { IfSome result (SaysLine line.now) }
     ensures none { result ≡ None → (command : Command) → IsGood command → line.now ≢ line_of command }
 {
     match verb {
@@ -226,7 +226,7 @@ fn command_with(verb: Verb, line: &[u8], from: usize) -> Option<CommandLine>
 /// What a line asks for; none where the line is that of no command.
 pub(crate) fn command_asked(line: &[u8]) -> Option<CommandLine>
     requires { IsOneLine line.now }
-    ensures some { IfSome result (Says line.now) }
+    ensures some { IfSome result (SaysLine line.now) }
     ensures none { result ≡ None → (command : Command) → IsGood command → line.now ≢ line_of command }
 {
     if line == b"report".as_slice() {

@@ -3,8 +3,8 @@
 ghost use Rattle.std.specs.Prelude.{◌≡◌, ◌≢◌, ◌≤◌, ◌<◌, ◌+◌, ◌^◌, ◌⊎◌, ◌∷◌, ◌++◌, true, false, drop, length, Err, IfOk, IsErrOf, OnOk, OnErr};
 ghost use Rattle.std.specs.Io.KnownBytes.{IsAtEnd};
 ghost use Rattle.mm_report.specs.declared.script.ScriptError.TheVariants as errors;
-ghost use Rattle.mm_report.specs.Code.Growing.{Grows, to_come, HasBlanks, IsLineAt, IsLineBegun, IsOtherByte};
-ghost use Rattle.mm_report.specs.Code.Pending.{pending, IsWithin};
+ghost use Rattle.mm_report.specs.Code.Growing.{InputGrows, to_come, HasBlanks, IsLineAt, IsLineBegun, IsOtherByte};
+ghost use Rattle.mm_report.specs.Code.Pending.{pending, IsPartWithin};
 ghost use Rattle.mm_report.specs.Code.Stops.{IsOneLine};
 ghost use Rattle.mm_report.specs.Language.Stream.{cannot_read, unread};
 
@@ -42,7 +42,7 @@ pub(crate) fn read_line<R: Read>(
     start: usize,
 ) -> Result<LineAt, ScriptError>
     requires { start ≤ length (pending input.old) }
-    ensures grows { Grows input.old input.new (unread R.remaining reading.old) (unread R.remaining reading.new) }
+    ensures grows { InputGrows input.old input.new (unread R.remaining reading.old) (unread R.remaining reading.new) }
     ensures line { IfOk result (IsLineAt (pending input.new) (unread R.remaining reading.new)) }
     ensures start { IfOk result (λ line. line.start ≡ start) }
     ensures fewer { OnOk result (to_come input.new reading.new ≤ to_come input.old reading.old) }
@@ -80,8 +80,8 @@ pub(crate) fn read_text<R: Read>(
     count: usize,
 ) -> Result<Part, ScriptError>
     requires { start ≤ length (pending input.old) }
-    ensures grows { Grows input.old input.new (unread R.remaining reading.old) (unread R.remaining reading.new) }
-    ensures within { IfOk result (λ text. IsWithin (pending input.new) text × (text.start ≡ start) × (text.end ≡ start + count)) }
+    ensures grows { InputGrows input.old input.new (unread R.remaining reading.old) (unread R.remaining reading.new) }
+    ensures within { IfOk result (λ text. IsPartWithin (pending input.new) text × (text.start ≡ start) × (text.end ≡ start + count)) }
     ensures feed { IfOk result (λ text. drop text.end (pending input.new) ≡ 10 ∷ drop (text.end + 1) (pending input.new)) }
     ensures fewer { OnOk result (to_come input.new reading.new ≤ to_come input.old reading.old) }
     ensures bad { IsErrOf result errors.BadLine → IsOtherByte (pending input.new) start count }
@@ -113,7 +113,7 @@ pub(crate) fn read_some_line<R: Read>(
     from: usize,
 ) -> Result<LineAt, ScriptError>
     requires { from ≤ length (pending input.old) }
-    ensures grows { Grows input.old input.new (unread R.remaining reading.old) (unread R.remaining reading.new) }
+    ensures grows { InputGrows input.old input.new (unread R.remaining reading.old) (unread R.remaining reading.new) }
     ensures line { IfOk result (IsLineAt (pending input.new) (unread R.remaining reading.new)) }
     ensures start { IfOk result (λ line. HasBlanks (pending input.new) from line.start) }
     ensures some { IfOk result (λ line. line.fed ≡ true → line.start < line.end) }

@@ -19,7 +19,7 @@ pub struct Reading<R: Read> {
 }
 
 impl<R: Read> Reading<R> {
-    ghost use Rattle.mm_report.specs.Language.Stream.{unread, calls_left, cannot_read};
+    ghost use Rattle.mm_report.specs.Language.Stream.{unread, calls_left, cannot_read, HasTried};
 
     /// A reader that has not failed, and may be called 4,294,967,295 times.
     pub fn new(inner: R) -> Reading<R>
@@ -64,6 +64,7 @@ impl<R: Read> Reading<R> {
         ensures calls { OnOk result (calls_left self.old ≡ calls_left self.new + 1) }
         ensures sound { OnOk result (cannot_read self.new ≡ false) }
         ensures failed { OnErr result (cannot_read self.new ≡ true) }
+        ensures tried { OnErr result (HasTried self.old self.new) }
         ensures last { calls_left self.old ≡ 0 → IsErr result }
         ensures stays { cannot_read self.old ≡ true → IsErr result × (self.new ≡ self.old) }
     {

@@ -102,8 +102,8 @@ fn answer_next<R: Read, W: Write>(
 /// Reads a script, asks its commands of the session one after another, and writes their answers.
 ///
 /// A command is answered before more is read than it takes to complete it. A line that is no command ends the script at
-/// once. Where memory lacks, the command at which it did is not done, and nothing of its answer is written; where a write
-/// fails, the command whose answer it was is done.
+/// once. Where memory lacks, the command at which it did is not done, and nothing of its answer is written. Where a write
+/// fails, the command whose answer it was is done, and is the last that is: the answers before its own are written whole.
 pub fn run_script<R: Read, W: Write>(
     alloc: Global,
     session: &mut Session,

@@ -5,13 +5,12 @@ use Rattle.std.specs.List.{AllByRecursion}
 use Rattle.std.specs.Option.{option_map}
 use Rattle.std.proofs.lemmas.Option.{slice_get-map}
 use Rattle.mm_text.specs.Language.Cut.{HoldsOne}
-use Rattle.mm_store.specs.declared.walk.Level.{Level}
 use Rattle.mm_store.specs.declared.walk.Spot.{Spot}
 use Rattle.mm_store.specs.declared.walk.Step.TheVariants as steps
 use Rattle.mm_store.specs.Language.FilesView.{PieceView, FileView, FilesView, files_in, plain, number_of}
 use Rattle.mm_store.specs.Language.Expansion.{Placed, IsInclusion}
 use Rattle.mm_store.specs.Language.Keyless.{bare, keyless_placed}
-use Rattle.mm_store.specs.Language.Walking.{WalkView}
+use Rattle.mm_store.specs.Language.Walking.{LevelView, WalkView}
 use Rattle.mm_store.specs.Code.Gains.{HoldUnits}
 use Rattle.mm_store.specs.Code.Steps.{piece_in, piece_at, IsHere, IncludesNothing, Includes, spot_at, Tells, IsStep}
 use Rattle.mm_store.proofs.ViewLemmas.{there_from_map}
@@ -33,10 +32,10 @@ includes_keyless file n piece name h =
     record { part = keyless_placed h.part; are_parts = parts_keyless file n piece (h.part ∷ []) h.are_parts; is_inclusion = h.is_inclusion; is_name = h.is_name }
 
 module _ (files : List FileView) where
-  at_keyless : (level : Level) → piece_at (map keyless_file files) level ≡ option_map keyless_piece (piece_at files level)
+  at_keyless : (level : LevelView) → piece_at (map keyless_file files) level ≡ option_map keyless_piece (piece_at files level)
   at_keyless level = ap (λ file. piece_in file level.piece) (slice_get-map keyless_file files level.file) ∙ in_keyless (slice_get files level.file) level.piece
 
-  here_keyless : (levels front : List Level) (level : Level) (piece : PieceView) → IsHere files levels front level piece → IsHere (map keyless_file files) levels front level (keyless_piece piece)
+  here_keyless : (levels front : List LevelView) (level : LevelView) (piece : PieceView) → IsHere files levels front level piece → IsHere (map keyless_file files) levels front level (keyless_piece piece)
   here_keyless levels front level piece h = record { last = h.last; there = at_keyless level ∙ ap (option_map keyless_piece) h.there }
 
   module _ (old new : WalkView) where

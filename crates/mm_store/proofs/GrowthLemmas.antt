@@ -10,10 +10,9 @@ use Rattle.std.proofs.lemmas.List.Folds.{position_or_len_push}
 use Rattle.std.proofs.lemmas.List.Quantifiers.{position-Some}
 use Rattle.std.proofs.lemmas.Option.{none-some, same_Some, get_or_from_slice_get}
 use Rattle.mm_store.specs.declared.item.Item.{Item}
-use Rattle.mm_store.specs.declared.walk.Level.{Level}
 use Rattle.mm_store.specs.Language.FilesView.{FileView, number_of}
 use Rattle.mm_store.specs.Language.Expansion.{Placed}
-use Rattle.mm_store.specs.Language.Walking.{WalkView, IsRest, ArePending, Goes, here, own, again, missing, included, IsWalk}
+use Rattle.mm_store.specs.Language.Walking.{LevelView, WalkView, IsRest, ArePending, Goes, here, own, again, missing, included, IsWalk}
 use Rattle.mm_store.proofs.GoesLemmas.{goes_grows}
 
 some_place : (b : Bool) (m k : ℕ) → cond b (Some m) None ≡ Some k → (b ≡ true) × (m ≡ k)
@@ -85,10 +84,10 @@ module _ (files : List FileView) (file : FileView) where
   pub none_stays : (name : List ℕ) → number_of files name ≡ None → (name ≡ file.name → ⊥) → number_of (files ++ file ∷ []) name ≡ None
   none_stays name e other = none_kept (λ (file : FileView). bytes_eq name file.name) files file e (false_from_ne_true (bytes_eq name file.name) (λ t. other ((bytes_eq-Decides name file.name).0 t)))
 
-  rest_kept : (level : Level) (parts : List Placed) → IsRest files level parts → IsRest (files ++ file ∷ []) level parts
+  rest_kept : (level : LevelView) (parts : List Placed) → IsRest files level parts → IsRest (files ++ file ∷ []) level parts
   rest_kept level parts r = record { file = r.file; there = file_kept level.file r.file r.there; placed = r.placed }
 
-  pub pending_kept : (levels : List Level) (parts : List Placed) → ArePending files levels parts → ArePending (files ++ file ∷ []) levels parts
+  pub pending_kept : (levels : List LevelView) (parts : List Placed) → ArePending files levels parts → ArePending (files ++ file ∷ []) levels parts
   pending_kept [] parts are = are
   pending_kept (level ∷ inner) parts are = (are.0, are.1, pending_kept inner are.0 are.2, rest_kept level are.1 are.3, are.4)
 

@@ -9,7 +9,6 @@ use Rattle.std.specs.FinMap as finite
 use Rattle.indexmap.specs.IndexMap.{set_value_at, with_value_at}
 use Rattle.mm_store.specs.declared.file_text.FileText.{FileText}
 use Rattle.mm_store.specs.declared.files.Files.TheInside.{Inside}
-use Rattle.mm_store.specs.declared.state.EditKind.TheVariants.{Replaced}
 use Rattle.mm_store.proofs.PieceLemmas.{stands_settled, text_drop_other}
 use Rattle.mm_store.proofs.WeightLemmas.{weight_dropped}
 use Rattle.mm_store.proofs.ReplaceLemmas.{replaced_weight}
@@ -24,7 +23,7 @@ use Rattle.mm_store.specs.Code.Edited.{pieces_in, with_pieces}
 use Rattle.mm_store.proofs.EntryLemmas.{texts_of, keys_at, view_set, room_at, room_same, room_set, starts_at, starts_set, tail_at, same_view}
 use Rattle.mm_store.specs.Code.Kept.{view_of, file_of, places, standing_count, deleted_state, deletions, HaveStarts, IsKept}
 use Rattle.mm_store.specs.Language.FilesView.{plain, KeyedFile, plain_file, bytes_of}
-use Rattle.mm_store.specs.Language.Pieces.{text_under, HeldPiece, Pieces, IsParked}
+use Rattle.mm_store.specs.Language.Pieces.{Replaced, text_under, HeldPiece, Pieces, IsParked}
 use Rattle.mm_store.specs.Language.Undoing.{keys_in, with_keys}
 
 pub length_set : {Y : Type 0} (es : List (Vec ℕ Y × FileText)) (n : ℕ) (w : FileText) → length (set_value_at es n w) ≡ length es

@@ -2,13 +2,10 @@
 use Rattle.std.proofs.Common.{◌≡◌, ◌≢◌, ◌⊎◌, inl, inr, ℕ, ◌+◌, List, Option, Some, None, refl, sym, ap, ◌∙◌, arith}
 use Rattle.std.proofs.lemmas.Bool.{cases_eq}
 use Rattle.std.specs.FinMap as finite
-use Rattle.mm_store.specs.declared.state.State.{State}
-use Rattle.mm_store.specs.declared.state.State.TheVariants.{Standing, Parked}
-use Rattle.mm_store.specs.declared.state.EditKind.{EditKind}
 use Rattle.mm_store.proofs.MapLemmas.{get_put_same, get_put_other, get_drop_same, get_drop_other}
 use Rattle.mm_store.proofs.ListLemmas.{one_same, one_other}
 use Rattle.mm_store.specs.Code.Kept.{one, standing_state, standing_count}
-use Rattle.mm_store.specs.Language.Pieces.{HeldPiece, Pieces, in_state, with_state, standing_piece, text_in, text_under}
+use Rattle.mm_store.specs.Language.Pieces.{PieceState, Standing, Parked, Removal, HeldPiece, Pieces, in_state, with_state, standing_piece, text_in, text_under}
 
 module _ (p : Pieces) (k : ℕ) where
   pub text_put_same : (v : HeldPiece) → text_under (finite.insert p k v) k ≡ v.text
@@ -20,25 +17,25 @@ module _ (p : Pieces) (k : ℕ) where
   pub text_drop_other : (q : ℕ) → q ≢ k → text_under (finite.remove p k) q ≡ text_under p q
   text_drop_other q differs = ap text_in (get_drop_other p k q differs)
 
-  kept_text : (o : Option HeldPiece) (state : State) → (in_state o state).text ≡ text_in o
+  kept_text : (o : Option HeldPiece) (state : PieceState) → (in_state o state).text ≡ text_in o
   kept_text None state = refl
   kept_text (Some piece) state = refl
 
   -- a change of state keeps all texts
-  pub text_state : (state : State) (q : ℕ) → text_under (with_state p k state) q ≡ text_under p q
+  pub text_state : (state : PieceState) (q : ℕ) → text_under (with_state p k state) q ≡ text_under p q
   text_state state q = elim (cases_eq q k) [
     | inl is ↦ ap (text_under (with_state p k state)) is ∙ text_put_same (in_state (finite.get p k) state) ∙ kept_text (finite.get p k) state ∙ ap (text_under p) (sym is)
     | inr differs ↦ text_put_other (in_state (finite.get p k) state) q differs
   ]
 
-  kept_state : (o : Option HeldPiece) (state : State) → (in_state o state).state ≡ state
+  kept_state : (o : Option HeldPiece) (state : PieceState) → (in_state o state).state ≡ state
   kept_state None state = refl
   kept_state (Some piece) state = refl
 
-  pub get_state_same : (state : State) → finite.get (with_state p k state) k ≡ Some (in_state (finite.get p k) state)
+  pub get_state_same : (state : PieceState) → finite.get (with_state p k state) k ≡ Some (in_state (finite.get p k) state)
   get_state_same state = get_put_same p k (in_state (finite.get p k) state)
 
-  pub get_state_other : (state : State) (q : ℕ) → q ≢ k → finite.get (with_state p k state) q ≡ finite.get p q
+  pub get_state_other : (state : PieceState) (q : ℕ) → q ≢ k → finite.get (with_state p k state) q ≡ finite.get p q
   get_state_other state q differs = get_put_other p k (in_state (finite.get p k) state) q differs
 
   -- at each key, what stands after a change under `k`
@@ -65,7 +62,7 @@ module _ (p : Pieces) (k : ℕ) where
   pub stands_put : (text : List ℕ) (q : ℕ) → finite.get p k ≡ None → standing_count (finite.get (finite.insert p k (standing_piece text)) q) ≡ standing_count (finite.get p q) + one q k
   stands_put text q fresh = stands_more (finite.insert p k (standing_piece text)) q (omega (arith, ap standing_count (get_put_same p k (standing_piece text)), ap standing_count fresh)) (λ d. get_put_other p k (standing_piece text) q d)
 
-module _ (p : Pieces) (k : ℕ) (n : ℕ) (kind : EditKind) (q : ℕ) where
+module _ (p : Pieces) (k : ℕ) (n : ℕ) (kind : Removal) (q : ℕ) where
   stand_parked : standing_count (finite.get (with_state p k (Parked n kind)) k) ≡ 0
   stand_parked = ap standing_count (get_state_same p k (Parked n kind)) ∙ ap standing_state (kept_state p k (finite.get p k) (Parked n kind))
 

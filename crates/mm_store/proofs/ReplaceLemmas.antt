@@ -3,9 +3,6 @@ use Rattle.std.proofs.Common.{◌≡◌, ◌≢◌, ℕ, ◌+◌, ◌<◌, ◌�
 use Rattle.std.proofs.lemmas.List.{map-set, get_or-map, length-map}
 use Rattle.std.proofs.lemmas.List.Sums.{sum_by-set}
 use Rattle.std.specs.FinMap as finite
-use Rattle.mm_store.specs.declared.state.State.{State}
-use Rattle.mm_store.specs.declared.state.State.TheVariants.{Standing, Parked}
-use Rattle.mm_store.specs.declared.state.EditKind.TheVariants.{Replaced}
 use Rattle.mm_store.proofs.MapLemmas.{get_put_other}
 use Rattle.mm_store.proofs.ListLemmas.{times_at, places_with, places_in, in_files, texts_same, plain_same, plain_with, plain_pieces, bytes_with}
 use Rattle.mm_store.proofs.PieceLemmas.{text_put_same, text_put_other, text_state, stands_put, stands_parked}
@@ -13,7 +10,7 @@ use Rattle.mm_store.proofs.WeightLemmas.{weight_fresh, weight_put}
 use Rattle.mm_store.specs.Code.Edited.{pieces_in, with_pieces}
 use Rattle.mm_store.specs.Code.Kept.{one, places, standing_state, standing_count, deleted_state, deletions}
 use Rattle.mm_store.specs.Language.FilesView.{KeyedFile, plain_file, bytes_of}
-use Rattle.mm_store.specs.Language.Pieces.{HeldPiece, Pieces, in_state, with_state, standing_piece, text_under}
+use Rattle.mm_store.specs.Language.Pieces.{PieceState, Standing, Parked, Replaced, HeldPiece, Pieces, in_state, with_state, standing_piece, text_under}
 use Rattle.mm_store.specs.Language.Undoing.{keys_in, with_keys}
 
 -- at most one piece stands under a key
@@ -21,11 +18,11 @@ pub at_most_one : (o : Option HeldPiece) → standing_count o ≤ 1
 at_most_one None = omega arith
 at_most_one (Some piece) = by piece.state
   where
-    by : (s : State) → standing_state s ≤ 1
+    by : (s : PieceState) → standing_state s ≤ 1
     by Standing = omega arith
     by (Parked n kind) = omega arith
 
-not_deleted : (m : ℕ) (s : State) → standing_state s ≡ 1 → deleted_state m s ≡ 0
+not_deleted : (m : ℕ) (s : PieceState) → standing_state s ≡ 1 → deleted_state m s ≡ 0
 not_deleted m Standing is = refl
 not_deleted m (Parked n kind) is = absurd (omega arith)
 

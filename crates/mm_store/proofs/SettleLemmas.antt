@@ -5,13 +5,11 @@ use Rattle.std.specs.FinMap as finite
 use Rattle.std.proofs.lemmas.Bool.{cases_eq}
 use Rattle.std.proofs.lemmas.List.Sums.{sum_by-cons}
 use Rattle.std.proofs.lemmas.Option.{none-some, same_Some}
-use Rattle.mm_store.specs.declared.state.EditKind.{EditKind}
-use Rattle.mm_store.specs.declared.undo.Action.{Action}
-use Rattle.mm_store.specs.declared.undo.Action.TheVariants as action
+use Rattle.mm_store.specs.Language.Undoing as action
 use Rattle.mm_store.specs.Language.Batches.{KeepsStanding}
 use Rattle.mm_store.specs.Language.FilesView.{FilesView, KeyedFile, PieceView, file_view, files_in, piece_view, plain}
-use Rattle.mm_store.specs.Language.Pieces.{IsParked, Pieces, text_under}
-use Rattle.mm_store.specs.Language.Undoing.{CanSettle, spent}
+use Rattle.mm_store.specs.Language.Pieces.{Removal, IsParked, Pieces, text_under}
+use Rattle.mm_store.specs.Language.Undoing.{EditAction, CanSettle, spent}
 use Rattle.mm_store.specs.Code.Batched.{StandOnce}
 use Rattle.mm_store.specs.Code.Kept.{one, places, times}
 use Rattle.mm_store.proofs.ListLemmas.{one_same, plain_same}
@@ -69,7 +67,7 @@ stays_then a b c first then = record {
 }
 
 -- a piece that is parked is dropped
-dropped_stays : (view : FilesView) (k n : ℕ) (kind : EditKind) → StandOnce view → IsParked view.pieces k n kind → Stays view (record { keyed = view.keyed; pieces = finite.remove view.pieces k })
+dropped_stays : (view : FilesView) (k n : ℕ) (kind : Removal) → StandOnce view → IsParked view.pieces k n kind → Stays view (record { keyed = view.keyed; pieces = finite.remove view.pieces k })
 dropped_stays view k n kind once is =
     let p = view.pieces in
     let none : places k view.keyed ≡ 0 = once k ∙ (parked (finite.get p k) n kind is).none in
@@ -95,7 +93,7 @@ dropped_stays view k n kind once is =
           };
     }
 
-pub spent_stays : (view : FilesView) (n : ℕ) (act : Action) → StandOnce view → CanSettle n act view → Stays view (spent act view)
+pub spent_stays : (view : FilesView) (n : ℕ) (act : EditAction) → StandOnce view → CanSettle n act view → Stays view (spent act view)
 spent_stays view n (action.Inserted at) once can = stays_same view
 spent_stays view n (action.Replaced at k) once can = dropped_stays view k n _ once can
 spent_stays view n (action.Deleted at k) once can = dropped_stays view k n _ once can

@@ -10,6 +10,7 @@ use Rattle.slab.proofs.SlabLemmas.{Updates-with_value}
 use Rattle.mm_store.specs.declared.state.State.{State}
 use Rattle.mm_store.specs.declared.pieces.Piece.{Piece}
 use Rattle.mm_store.proofs.MapLemmas.{same_key, other_key, same_but, get_put_same, get_put_other, get_drop_same, get_drop_other}
+use Rattle.mm_store.specs.Code.States.{piece_state}
 use Rattle.mm_store.specs.Code.Slots.{held, entry_view, pieces_of}
 use Rattle.mm_store.specs.Language.Pieces.{Pieces, in_state, with_state, text_in, text_under}
 
@@ -52,11 +53,11 @@ drop_is old new key updates =
     (get_is new key ∙ ap (option_map held) updates.changed ∙ sym (get_drop_same (pieces_of old) key))
     (λ q differs. get_is new q ∙ ap (option_map held) (updates.others q differs) ∙ sym (get_is old q) ∙ sym (get_drop_other (pieces_of old) key q differs))
 
-pub state_is : (slab : Slab Piece) (key : ℕ) (piece : Piece) (state : State) → get slab key ≡ Some piece → pieces_of (with_value slab key (record { kept = piece.kept; state = state })) ≡ with_state (pieces_of slab) key state
+pub state_is : (slab : Slab Piece) (key : ℕ) (piece : Piece) (state : State) → get slab key ≡ Some piece → pieces_of (with_value slab key (record { kept = piece.kept; state = state })) ≡ with_state (pieces_of slab) key (piece_state state)
 state_is slab key piece state is =
     let there : is_some (get slab key) ≡ true = ap is_some is in
     put_is slab (with_value slab key (record { kept = piece.kept; state = state })) key (record { kept = piece.kept; state = state }) (Updates-with_value slab key (record { kept = piece.kept; state = state }) there)
-    ∙ ap (λ o. finite.insert (pieces_of slab) key (in_state o state)) (sym (get_is slab key ∙ ap (option_map held) is))
+    ∙ ap (λ o. finite.insert (pieces_of slab) key (in_state o (piece_state state))) (sym (get_is slab key ∙ ap (option_map held) is))
 
 -- what the map has, the slab has
 pub some_slot : (slab : Slab Piece) (key : ℕ) (m : Pieces) → pieces_of slab ≡ m → is_some (finite.get m key) ≡ true → is_some (get slab key) ≡ true

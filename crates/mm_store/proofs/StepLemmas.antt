@@ -6,9 +6,6 @@ use Rattle.std.proofs.lemmas.List.Sums.{sum_by-set, sum_by-insert, sum_by-remove
 use Rattle.std.proofs.lemmas.Option.{same_Some, none-some}
 use Rattle.std.proofs.lemmas.Bool.Decides.{nat_tests}
 use Rattle.std.specs.FinMap as finite
-use Rattle.mm_store.specs.declared.state.State.TheVariants.{Standing, Parked}
-use Rattle.mm_store.specs.declared.state.EditKind.{EditKind}
-use Rattle.mm_store.specs.declared.state.EditKind.TheVariants.{Replaced, Deleted}
 use Rattle.mm_store.proofs.MapLemmas.{get_drop_other}
 use Rattle.mm_store.proofs.ListLemmas.{one_same, one_other, places_with, places_in, in_files, texts_same, plain_same, plain_with, plain_pieces, bytes_with, keys_with}
 use Rattle.mm_store.proofs.PieceLemmas.{text_put_same, text_put_other, text_drop_other, text_state, stands_put, stands_parked, stands_again, stands_dropped}
@@ -17,7 +14,7 @@ use Rattle.mm_store.proofs.ReplaceLemmas.{stands, key_stands, replaced_weight}
 use Rattle.mm_store.specs.Code.Edited.{pieces_in, with_pieces}
 use Rattle.mm_store.specs.Code.Kept.{one, times, places, standing_state, standing_count, deleted_state, deletions}
 use Rattle.mm_store.specs.Language.FilesView.{File, KeyedFile, plain_file, bytes_of}
-use Rattle.mm_store.specs.Language.Pieces.{HeldPiece, Pieces, in_state, with_state, standing_piece, text_in, text_under, state_in, IsParked}
+use Rattle.mm_store.specs.Language.Pieces.{Standing, Parked, Removal, Replaced, Deleted, HeldPiece, Pieces, in_state, with_state, standing_piece, text_in, text_under, state_in, IsParked}
 use Rattle.mm_store.specs.Language.Undoing.{keys_in, with_keys, moved_list}
 
 pub map_insert : {X Y : Type 0} (f : X → Y) (xs : List X) (i : ℕ) (y : X) → map f (insert xs i y) ≡ insert (map f xs) i (f y)
@@ -32,13 +29,13 @@ map_remove f [] (suc i) = refl
 map_remove f (x ∷ xs) (suc i) = ap (λ ys. f x ∷ ys) (map_remove f xs i)
 
 -- a parked piece
-pub record IsParkedPiece (o : Option HeldPiece) (n : ℕ) (kind : EditKind) : Type 0 where
+pub record IsParkedPiece (o : Option HeldPiece) (n : ℕ) (kind : Removal) : Type 0 where
   pub piece : HeldPiece
   pub is : o ≡ Some piece
   pub state : piece.state ≡ Parked n kind
   pub none : standing_count o ≡ 0
 
-pub parked : (o : Option HeldPiece) (n : ℕ) (kind : EditKind) → state_in o ≡ Some (Parked n kind) → IsParkedPiece o n kind
+pub parked : (o : Option HeldPiece) (n : ℕ) (kind : Removal) → state_in o ≡ Some (Parked n kind) → IsParkedPiece o n kind
 parked None n kind is = absurd (none-some (Parked n kind) is)
 parked (Some piece) n kind is =
     let state = same_Some piece.state (Parked n kind) is in

@@ -2,12 +2,11 @@
 use Rattle.std.proofs.Common.{◌≡◌, ℕ, ◌+◌, ◌*◌, ◌-◌, ◌<◌, ◌≤◌, Bool, true, false, List, [], ◌∷◌, ◌++◌, Option, Some, None, length, refl, ap, ◌∙◌, arith, inl, inr}
 use Rattle.std.specs.Prelude.{slice_get}
 use Rattle.std.proofs.lemmas.Option.{none-some, slice_get_within}
-use Rattle.mm_store.specs.declared.walk.Level.{Level}
 use Rattle.mm_store.specs.declared.walk.Spot.{Spot}
 use Rattle.mm_store.specs.declared.walk.Step.{Step}
 use Rattle.mm_store.specs.declared.walk.Step.TheVariants as steps
 use Rattle.mm_store.specs.Language.FilesView.{PieceView, FileView}
-use Rattle.mm_store.specs.Language.Walking.{WalkView}
+use Rattle.mm_store.specs.Language.Walking.{LevelView, WalkView}
 use Rattle.mm_store.specs.Code.Steps.{piece_in, behind, beginning, IsHere, Leaves, ComesAgain, Enters, Passes, PassesTold, Tells, IsStep}
 use Rattle.mm_store.proofs.GrowthLemmas.{name_of_number, there_number}
 use Rattle.mm_store.proofs.BudgetLemmas.{weight, weight_less, weight_entered}
@@ -21,7 +20,7 @@ turns_in None piece = 1
 turns_in (Some file) piece = (length file.pieces - piece) + 1
 
 -- how many turns are left in entered files
-abbrev pub level_turns : List FileView → List Level → ℕ
+abbrev pub level_turns : List FileView → List LevelView → ℕ
 level_turns files [] = 0
 level_turns files (level ∷ levels) = turns_in (slice_get files level.file) level.piece + level_turns files levels
 
@@ -33,7 +32,7 @@ untold false = 1
 abbrev pub turns : List FileView → WalkView → ℕ
 turns files walk = 2 * (weight file_turns files walk.names + level_turns files walk.levels) + untold walk.told
 
-level_turns_last : (files : List FileView) (front : List Level) (level : Level) → level_turns files (front ++ level ∷ []) ≡ level_turns files front + turns_in (slice_get files level.file) level.piece
+level_turns_last : (files : List FileView) (front : List LevelView) (level : LevelView) → level_turns files (front ++ level ∷ []) ≡ level_turns files front + turns_in (slice_get files level.file) level.piece
 level_turns_last files [] level = omega arith
 level_turns_last files (first ∷ front) level = omega (arith, level_turns_last files front level)
 
@@ -50,7 +49,7 @@ most true = omega arith
 most false = omega arith
 
 -- the turns that are left behind a piece
-moved : (files : List FileView) (levels front : List Level) (level : Level) (piece : PieceView) → IsHere files levels front level piece → level_turns files (front ++ behind level ∷ []) + 1 ≡ level_turns files levels
+moved : (files : List FileView) (levels front : List LevelView) (level : LevelView) (piece : PieceView) → IsHere files levels front level piece → level_turns files (front ++ behind level ∷ []) + 1 ≡ level_turns files levels
 moved files levels front level piece h =
     omega (arith, level_turns_last files front level, level_turns_last files front (behind level), turn_in (slice_get files level.file) level.piece piece h.there, ap (level_turns files) h.last)
 

@@ -5,15 +5,11 @@ use Rattle.std.proofs.lemmas.Bool.{cases_eq}
 use Rattle.std.proofs.lemmas.List.{set-set, set-get_or, get_or-set_same, length-set}
 use Rattle.std.proofs.lemmas.List.Edits.{length-insert, length-remove, get_or-insert_at}
 use Rattle.std.specs.FinMap as finite
-use Rattle.mm_store.specs.declared.state.State.{State}
-use Rattle.mm_store.specs.declared.state.State.TheVariants.{Standing, Parked}
-use Rattle.mm_store.specs.declared.state.EditKind.{EditKind}
-use Rattle.mm_store.specs.declared.state.EditKind.TheVariants.{Replaced, Deleted}
-use Rattle.mm_store.specs.declared.undo.Undo.{Undo}
 use Rattle.mm_store.specs.declared.undo.Action.{Action}
-use Rattle.mm_store.specs.Language.Undoing.{KeepsOthers, reversed, spent, undone_key, settled_key}
+use Rattle.mm_store.specs.declared.undo.Undo.TheInside.{Inside}
+use Rattle.mm_store.specs.Code.Undone.{undo_by, view_of}
 use Rattle.mm_store.proofs.PieceLemmas.{text_drop_other}
-use Rattle.mm_store.specs.declared.undo.Action.TheVariants as action
+use Rattle.mm_store.specs.Language.Undoing as action
 use Rattle.mm_store.proofs.MapLemmas.{get_put_other, get_drop_same, get_drop_other, same_but}
 use Rattle.mm_store.proofs.ListLemmas.{in_files, back, keys_with}
 use Rattle.mm_store.proofs.EntryLemmas.{same_view}
@@ -23,8 +19,12 @@ use Rattle.mm_store.proofs.StepLemmas.{plain_inserted, plain_deleted, plain_move
 use Rattle.mm_store.specs.Code.Edited.{replaced, inserted, deleted, IsReplaced, IsInserted, IsDeleted, IsMoved}
 use Rattle.mm_store.specs.Code.Kept.{places, standing_state, standing_count}
 use Rattle.mm_store.specs.Language.FilesView.{KeyedFile, FilesView, plain, bytes_of}
-use Rattle.mm_store.specs.Language.Pieces.{HeldPiece, Pieces, in_state, with_state, standing_piece, state_in, IsParked}
-use Rattle.mm_store.specs.Language.Undoing.{keys_in, key_at, moved_list, moved, undone}
+use Rattle.mm_store.specs.Language.Pieces.{PieceState, Standing, Parked, Removal, Replaced, Deleted, HeldPiece, Pieces, in_state, with_state, standing_piece, state_in, IsParked}
+use Rattle.mm_store.specs.Language.Undoing.{UndoView, EditAction, KeepsOthers, reversed, spent, undone_key, settled_key, keys_in, key_at, moved_list, moved, undone}
+
+-- what an undo says, by what was done
+pub undo_is : (inside : Inside) (did : Action) (undo : UndoView) → view_of inside ≡ undo → inside.action ≡ did → undo_by inside.file did ≡ undo
+undo_is inside did undo is same = ap (undo_by inside.file) (sym same) ∙ is
 
 pub insert_removed : (xs : List ℕ) (i : ℕ) → i < length xs → insert (remove xs i) i (get_or xs i 0) ≡ xs
 insert_removed [] i lt = absurd (omega arith)
@@ -42,7 +42,7 @@ pub record StandsIn (o : Option HeldPiece) : Type 0 where
   pub is : o ≡ Some piece
   pub state : piece.state ≡ Standing
 
-standing_is : (s : State) → standing_state s ≡ 1 → s ≡ Standing
+standing_is : (s : PieceState) → standing_state s ≡ 1 → s ≡ Standing
 standing_is Standing e = refl
 standing_is (Parked n kind) e = absurd (omega arith)
 
@@ -50,14 +50,14 @@ stands_in : (o : Option HeldPiece) → standing_count o ≡ 1 → StandsIn o
 stands_in None e = absurd (omega arith)
 stands_in (Some piece) e = record { piece = piece; is = refl; state = standing_is piece.state e }
 
-same_piece : (piece : HeldPiece) (s : State) → piece.state ≡ s → record { text = piece.text; state = s } ≡ piece
+same_piece : (piece : HeldPiece) (s : PieceState) → piece.state ≡ s → record { text = piece.text; state = s } ≡ piece
 same_piece piece s e = λ i. record { text = piece.text; state = sym e i }
 
-twice : (o : Option HeldPiece) (s t : State) → in_state (Some (in_state o s)) t ≡ in_state o t
+twice : (o : Option HeldPiece) (s t : PieceState) → in_state (Some (in_state o s)) t ≡ in_state o t
 twice None s t = refl
 twice (Some piece) s t = refl
 
-state_is : (o : Option HeldPiece) (s : State) → (in_state o s).state ≡ s
+state_is : (o : Option HeldPiece) (s : PieceState) → (in_state o s).state ≡ s
 state_is None s = refl
 state_is (Some piece) s = refl
 
@@ -66,7 +66,7 @@ module _ (p : Pieces) (old : ℕ) (stands : StandsIn (finite.get p old)) where
   revived = ap (λ o. in_state o Standing) stands.is ∙ same_piece stands.piece Standing stands.state
 
   -- parked, and standing again
-  pub parked_back : (n : ℕ) (kind : EditKind) → with_state (with_state p old (Parked n kind)) old Standing ≡ p
+  pub parked_back : (n : ℕ) (kind : Removal) → with_state (with_state p old (Parked n kind)) old Standing ≡ p
   parked_back n kind = same_but _ _ old
       (get_state_same (with_state p old (Parked n kind)) old Standing ∙ ap Some (ap (λ o. in_state o Standing) (get_state_same p old (Parked n kind)) ∙ twice (finite.get p old) (Parked n kind) Standing ∙ revived) ∙ sym stands.is)
       (λ q d. get_state_other (with_state p old (Parked n kind)) old Standing q d ∙ get_state_other p old (Parked n kind) q d)
@@ -76,7 +76,7 @@ pub put_back : (p : Pieces) (k : ℕ) (v : HeldPiece) → finite.get p k ≡ Non
 put_back p k v fresh = same_but _ _ k (get_drop_same (finite.insert p k v) k ∙ sym fresh) (λ q d. get_drop_other (finite.insert p k v) k q d ∙ get_put_other p k v q d)
 
 -- changes of two keys in either order
-state_drop : (p : Pieces) (old k : ℕ) (s : State) → old ≢ k → finite.remove (with_state p old s) k ≡ with_state (finite.remove p k) old s
+state_drop : (p : Pieces) (old k : ℕ) (s : PieceState) → old ≢ k → finite.remove (with_state p old s) k ≡ with_state (finite.remove p k) old s
 state_drop p old k s differs = same_but _ _ k
     (get_drop_same (with_state p old s) k ∙ sym (get_state_other (finite.remove p k) old s k (λ e. differs (sym e)) ∙ get_drop_same p k))
     (λ q d. get_drop_other (with_state p old s) k q d ∙ elim (cases_eq q old) [
@@ -84,11 +84,11 @@ state_drop p old k s differs = same_but _ _ k
       | inr other ↦ get_state_other p old s q other ∙ sym (get_drop_other p k q d) ∙ sym (get_state_other (finite.remove p k) old s q other)
     ])
 
-parked_is : (p : Pieces) (old n : ℕ) (kind : EditKind) → IsParked (with_state p old (Parked n kind)) old n kind
+parked_is : (p : Pieces) (old n : ℕ) (kind : Removal) → IsParked (with_state p old (Parked n kind)) old n kind
 parked_is p old n kind = ap state_in (get_state_same p old (Parked n kind)) ∙ ap Some (state_is (finite.get p old) (Parked n kind))
 
 -- a key that has a piece keeps it
-kept_state : (p : Pieces) (old : ℕ) (s : State) (q : ℕ) → is_some (finite.get p q) ≡ true → is_some (finite.get (with_state p old s) q) ≡ true
+kept_state : (p : Pieces) (old : ℕ) (s : PieceState) (q : ℕ) → is_some (finite.get p q) ≡ true → is_some (finite.get (with_state p old s) q) ≡ true
 kept_state p old s q some = elim (cases_eq q old) [
   | inl is ↦ ap (λ q. is_some (finite.get (with_state p old s) q)) is ∙ ap is_some (get_state_same p old s)
   | inr differs ↦ ap is_some (get_state_other p old s q differs) ∙ some
@@ -112,12 +112,12 @@ module _ (view : FilesView) (n at : ℕ)
   abbrev old : ℕ
   old = get_or keys at 0
 
-  within : (undo : Undo) (new : FilesView) → undone undo new ≡ view → bytes_of (plain (undone undo new)) ≤ 4294967295
+  within : (undo : UndoView) (new : FilesView) → undone undo new ≡ view → bytes_of (plain (undone undo new)) ≤ 4294967295
   within undo new is = subst (λ v. bytes_of (plain v) ≤ 4294967295) (sym is) small
 
   pub is_inserted : (k : ℕ) (text : List ℕ) → n < length fs → at ≤ length keys → finite.get p k ≡ None → IsInserted view (inserted view n at k text) n at text (record { file = n; action = action.Inserted at })
   is_inserted k text file there fresh =
-      let undo : Undo = record { file = n; action = action.Inserted at } in
+      let undo : UndoView = record { file = n; action = action.Inserted at } in
       let new = inserted view n at k text in
       let has = keys_with fs n (insert keys at k) file in
       let key : key_at new n at ≡ k = ap (λ ks. get_or ks at 0) has ∙ get_or-insert_at keys at k 0 there in
@@ -150,7 +150,7 @@ module _ (view : FilesView) (n at : ℕ)
 
     pub is_replaced : (k : ℕ) (text : List ℕ) → finite.get p k ≡ None → IsReplaced view (replaced view n at k text) n at text (record { file = n; action = action.Replaced at old })
     is_replaced k text fresh =
-        let undo : Undo = record { file = n; action = action.Replaced at old } in
+        let undo : UndoView = record { file = n; action = action.Replaced at old } in
         let new = replaced view n at k text in
         let p1 = finite.insert p k (standing_piece text) in
         let differs : old ≢ k = old_other fs p n at k text once there fresh in
@@ -182,7 +182,7 @@ module _ (view : FilesView) (n at : ℕ)
 
     pub is_deleted : IsDeleted view (deleted view n at) n at (record { file = n; action = action.Deleted at old })
     is_deleted =
-        let undo : Undo = record { file = n; action = action.Deleted at old } in
+        let undo : UndoView = record { file = n; action = action.Deleted at old } in
         let new = deleted view n at in
         let has = keys_with fs n (remove keys at) file_there in
         let again : undone undo new ≡ view = same_view _ _
@@ -203,7 +203,7 @@ module _ (view : FilesView) (n at : ℕ)
 
     pub is_moved : (to : ℕ) → to < length keys → IsMoved view (moved view n at to) n at to (record { file = n; action = action.Moved at to })
     is_moved to too =
-        let undo : Undo = record { file = n; action = action.Moved at to } in
+        let undo : UndoView = record { file = n; action = action.Moved at to } in
         let new = moved view n at to in
         let has = keys_with fs n (moved_list keys at to) file_there in
         let shorter = length-remove keys at there in
@@ -226,7 +226,7 @@ module _ (view : FilesView) (n at : ℕ)
         }
 
 -- every key but the dropped one keeps its piece, with its text
-pub keeps_undone : (n : ℕ) (a : Action) (view : FilesView) → KeepsOthers (undone_key n a view) view (reversed n a view)
+pub keeps_undone : (n : ℕ) (a : EditAction) (view : FilesView) → KeepsOthers (undone_key n a view) view (reversed n a view)
 keeps_undone n (action.Inserted at) view = λ key other some.
     let p = view.pieces in
     let k = key_at view n at in
@@ -243,7 +243,7 @@ keeps_undone n (action.Replaced at old) view = λ key other some.
 keeps_undone n (action.Deleted at old) view = λ key other some. record { there = kept_state view.pieces old Standing key some; text = text_state view.pieces old Standing key }
 keeps_undone n (action.Moved at to) view = λ key other some. record { there = some; text = refl }
 
-pub keeps_settled : (a : Action) (view : FilesView) → KeepsOthers (settled_key a) view (spent a view)
+pub keeps_settled : (a : EditAction) (view : FilesView) → KeepsOthers (settled_key a) view (spent a view)
 keeps_settled (action.Inserted at) view = λ key other some. record { there = some; text = refl }
 keeps_settled (action.Replaced at old) view = λ key other some.
     let differs : key ≢ old = λ e. other (ap Some (sym e)) in

@@ -6,7 +6,7 @@ use Rattle.std.specs.Option.{option_map}
 use Rattle.std.specs.FinMap as finite
 use Rattle.std.proofs.lemmas.List.{length-map}
 use Rattle.std.proofs.lemmas.Option.{none-some, same_Some, slice_get-map, slice_get_within, get_or_from_slice_get}
-use Rattle.mm_store.specs.declared.walk.Level.{Level}
+use Rattle.mm_store.specs.Language.Walking.{LevelView}
 use Rattle.mm_store.specs.Language.Pieces.{text_under}
 use Rattle.mm_store.specs.Language.FilesView.{KeyedFile, PieceView, FileView, FilesView, files_in, file_number, file_view, number_of, piece_view, plain, plain_file}
 use Rattle.mm_store.specs.Language.FileFacts.{HoldsPieces}
@@ -33,7 +33,7 @@ piece_there view number file n piece there here =
     record { file = f.0; there = f.1; is_key = k.1 ∙ ap Some (sym at); text = ap (λ (piece : PieceView). piece.text) k.2 ∙ ap (text_under view.pieces) (sym at) }
 
 -- the piece that is next in a file stands there
-pub next_there : (view : FilesView) (level : Level) (piece : PieceView) → piece_at (files_in view) level ≡ Some piece → PieceThere view level.file level.piece piece
+pub next_there : (view : FilesView) (level : LevelView) (piece : PieceView) → piece_at (files_in view) level ≡ Some piece → PieceThere view level.file level.piece piece
 next_there view level piece there = case (slice_get (files_in view) level.file) refl there
   where
     case : (o : Option FileView) → slice_get (files_in view) level.file ≡ o → piece_in o level.piece ≡ Some piece → PieceThere view level.file level.piece piece

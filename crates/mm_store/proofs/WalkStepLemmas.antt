@@ -5,11 +5,10 @@ use Rattle.std.proofs.Math.Seq.{drop-cons}
 use Rattle.std.proofs.lemmas.List.{drop_all, get_or_at}
 use Rattle.std.proofs.lemmas.Option.{none-some, slice_get_within, slice_get-get_or, get_or_from_slice_get}
 use Rattle.mm_store.specs.declared.item.Item.{Item}
-use Rattle.mm_store.specs.declared.walk.Level.{Level}
 use Rattle.mm_store.specs.declared.walk.Spot.{Spot}
 use Rattle.mm_store.specs.Language.FilesView.{PieceView, FileView, number_of}
 use Rattle.mm_store.specs.Language.Expansion.{Placed, placed_item, named_parts, placed_part, ArePartsOf, ArePlaced, IsExpansion}
-use Rattle.mm_store.specs.Language.Walking.{WalkView, IsRest, ArePending, Goes, here, again, missing, included, IsWalk}
+use Rattle.mm_store.specs.Language.Walking.{LevelView, WalkView, IsRest, ArePending, Goes, here, again, missing, included, IsWalk}
 use Rattle.mm_store.specs.Code.Gains.{HoldUnits}
 use Rattle.mm_store.specs.Code.Steps.{piece_in, piece_at, behind, beginning, IsHere, Includes, Leaves, ComesAgain, Enters, Passes, PassesTold}
 use Rattle.mm_store.proofs.ExpansionLemmas.{OneReading, OneDivision, parts_one}
@@ -17,26 +16,26 @@ use Rattle.mm_store.proofs.GoesLemmas.{goes_joined, goes_own, expands_from_goes}
 use Rattle.mm_store.proofs.GrowthLemmas.{there_number}
 
 -- the innermost file comes first
-pub record Innermost (files : List FileView) (front : List Level) (level : Level) (parts : List Placed) : Type 0 where
+pub record Innermost (files : List FileView) (front : List LevelView) (level : LevelView) (parts : List Placed) : Type 0 where
   pub own : List Placed
   pub outer : List Placed
   pub rest : IsRest files level own
   pub are_outer : ArePending files front outer
   pub joined : parts ≡ own ++ outer
 
-pub innermost : (files : List FileView) (front : List Level) (level : Level) (parts : List Placed) → ArePending files (front ++ level ∷ []) parts → Innermost files front level parts
+pub innermost : (files : List FileView) (front : List LevelView) (level : LevelView) (parts : List Placed) → ArePending files (front ++ level ∷ []) parts → Innermost files front level parts
 innermost files [] level parts are = record { own = are.1; outer = []; rest = are.3; are_outer = refl; joined = are.4 ∙ ap (λ l. l ++ are.1) are.2 ∙ sym (append-nil are.1) }
 innermost files (first ∷ front) level parts are =
     let h = innermost files front level are.0 are.2 in
     record { own = h.own; outer = h.outer ++ are.1; rest = h.rest; are_outer = (h.outer, are.1, h.are_outer, are.3, refl); joined = are.4 ∙ ap (λ l. l ++ are.1) h.joined ∙ append_assoc h.own h.outer are.1 }
 
-pub pending_behind : (files : List FileView) (front : List Level) (level : Level) (own outer : List Placed) → IsRest files level own → ArePending files front outer → ArePending files (front ++ level ∷ []) (own ++ outer)
+pub pending_behind : (files : List FileView) (front : List LevelView) (level : LevelView) (own outer : List Placed) → IsRest files level own → ArePending files front outer → ArePending files (front ++ level ∷ []) (own ++ outer)
 pending_behind files [] level own outer rest are = ([], own, refl, rest, ap (λ l. own ++ l) are ∙ append-nil own)
 pending_behind files (first ∷ front) level own outer rest are =
     (own ++ are.0, are.1, pending_behind files front level own are.0 rest are.2, are.3, ap (λ l. own ++ l) are.4 ∙ sym (append_assoc own are.0 are.1))
 
 -- the next piece of a file comes first
-pub record NextPiece (files : List FileView) (level : Level) (piece : PieceView) (parts : List Placed) : Type 0 where
+pub record NextPiece (files : List FileView) (level : LevelView) (piece : PieceView) (parts : List Placed) : Type 0 where
   pub first : List Placed
   pub later : List Placed
   pub are_parts : ArePartsOf level.file level.piece piece first
@@ -50,13 +49,13 @@ next_placed file n piece pieces parts there placed =
     let same : drop n pieces ≡ piece ∷ drop (n + 1) pieces = drop-cons pieces n piece within ∙ ap (λ p. p ∷ drop (suc n) pieces) (get_or_from_slice_get pieces n piece piece there) ∙ ap (λ k. piece ∷ drop k pieces) next in
     subst (λ l. ArePlaced file n l parts) same placed
 
-pub next_piece : (files : List FileView) (level : Level) (piece : PieceView) (parts : List Placed) → IsRest files level parts → piece_at files level ≡ Some piece → NextPiece files level piece parts
+pub next_piece : (files : List FileView) (level : LevelView) (piece : PieceView) (parts : List Placed) → IsRest files level parts → piece_at files level ≡ Some piece → NextPiece files level piece parts
 next_piece files level piece parts rest there =
     let here : slice_get rest.file.pieces level.piece ≡ Some piece = ap (λ file. piece_in file level.piece) (sym rest.there) ∙ there in
     let p = next_placed level.file level.piece piece rest.file.pieces parts here rest.placed in
     record { first = p.0; later = p.1; are_parts = p.2; rest = record { file = rest.file; there = rest.there; placed = p.3 }; joined = p.4 }
 
-pub no_piece : (files : List FileView) (level : Level) (parts : List Placed) → IsRest files level parts → piece_at files level ≡ None → parts ≡ []
+pub no_piece : (files : List FileView) (level : LevelView) (parts : List Placed) → IsRest files level parts → piece_at files level ≡ None → parts ≡ []
 no_piece files level parts rest none =
     let past : slice_get rest.file.pieces level.piece ≡ None = ap (λ file. piece_in file level.piece) (sym rest.there) ∙ none in
     subst (λ l. ArePlaced level.file level.piece l parts) (drop_all level.piece rest.file.pieces (gone rest.file.pieces level.piece past)) rest.placed
@@ -88,7 +87,7 @@ pub record Went (files : List FileView) (old new : WalkView) (pending : List Pla
   pub goes : Goes files pending old.names items rest new.names
 
 -- what is still to come at a piece
-pub record Before (files : List FileView) (front : List Level) (level : Level) (piece : PieceView) (pending : List Placed) : Type 0 where
+pub record Before (files : List FileView) (front : List LevelView) (level : LevelView) (piece : PieceView) (pending : List Placed) : Type 0 where
   pub first : List Placed
   pub later : List Placed
   pub outer : List Placed
@@ -97,7 +96,7 @@ pub record Before (files : List FileView) (front : List Level) (level : Level) (
   pub are_outer : ArePending files front outer
   pub joined : pending ≡ first ++ (later ++ outer)
 
-pub before : (files : List FileView) (levels front : List Level) (level : Level) (piece : PieceView) (pending : List Placed) → IsHere files levels front level piece → ArePending files levels pending → Before files front level piece pending
+pub before : (files : List FileView) (levels front : List LevelView) (level : LevelView) (piece : PieceView) (pending : List Placed) → IsHere files levels front level piece → ArePending files levels pending → Before files front level piece pending
 before files levels front level piece pending h are =
     let i = innermost files front level pending (subst (λ levels. ArePending files levels pending) h.last are) in
     let n = next_piece files level piece i.own i.rest h.there in
@@ -113,7 +112,7 @@ leaves files old new pending l are =
     subst (λ new. Went files old new pending []) (sym l.after) went
 
 module _ (one_reading : OneReading) (one_division : OneDivision) (files : List FileView) where
-  pub included_first : (front : List Level) (level : Level) (piece : PieceView) (name : List ℕ) (pending : List Placed) (b : Before files front level piece pending) (i : Includes level.file level.piece piece name) → pending ≡ i.part ∷ (b.later ++ b.outer)
+  pub included_first : (front : List LevelView) (level : LevelView) (piece : PieceView) (name : List ℕ) (pending : List Placed) (b : Before files front level piece pending) (i : Includes level.file level.piece piece name) → pending ≡ i.part ∷ (b.later ++ b.outer)
   included_first front level piece name pending b i =
       b.joined ∙ ap (λ l. l ++ (b.later ++ b.outer)) (parts_one one_reading one_division level.file level.piece piece b.first (i.part ∷ []) b.are_parts i.are_parts)
 

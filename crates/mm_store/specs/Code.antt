@@ -1,5 +1,6 @@
 -- What the code keeps: private contracts and loop invariants cite it.
 pub mod Inside
+pub mod States
 pub mod Slots
 pub mod Room
 pub mod Kept
@@ -9,4 +10,5 @@ pub mod Lines
 pub mod Gains
 pub mod Steps
 pub mod Walked
+pub mod Undone
 pub mod Batched

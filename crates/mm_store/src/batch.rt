@@ -45,9 +45,9 @@ pub struct Undos {
 
 impl Model for Undos {
     ghost use Rattle.std.specs.Prelude.{List};
-    ghost use Rattle.mm_store.specs.declared.undo.Undo.{Undo};
+    ghost use Rattle.mm_store.specs.Language.Undoing.{UndoView};
 
-    ghost Value = { List Undo };
+    ghost Value = { List UndoView };
 
     ghost use Rattle.mm_store.specs.Code.Batched.{undos_of};
 

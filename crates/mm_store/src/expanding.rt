@@ -11,7 +11,7 @@ ghost use Rattle.mm_store.specs.Language.FilesView.{files_in};
 ghost use Rattle.mm_store.specs.Language.FileFacts.{second_word};
 ghost use Rattle.mm_store.specs.Language.Expansion.{item_kind, IsExpansion};
 ghost use Rattle.mm_store.specs.Language.Walking.{IsWalk};
-ghost use Rattle.mm_store.specs.Code.Gains.{item_at};
+ghost use Rattle.mm_store.specs.Code.Gains.{item_of_part};
 ghost use Rattle.mm_store.specs.Code.Inside.{HasParts};
 ghost use Rattle.mm_store.specs.Code.Steps.{Includes, IncludesNothing};
 
@@ -45,7 +45,7 @@ fn is_inclusion(kind: PartKind) -> bool
 }
 
 fn item_of(spot: Spot, part: Part) -> Item
-    ensures { result ≡ item_at spot part }
+    ensures { result ≡ item_of_part spot part }
 {
     Item {
         kind: item_kind(part.kind),
@@ -98,7 +98,7 @@ pub(crate) fn included_name<'a>(text: &'a [u8], parts: &[Part]) -> Option<&'a [u
 
 /// Puts the items of a piece behind others.
 fn push_items(spot: Spot, parts: &[Part], items: &mut Vec<Item>) -> Result<(), AllocError>
-    ensures { OnOk result (items.new.items ≡ items.old.items ++ map (item_at spot) parts.now) }
+    ensures { OnOk result (items.new.items ≡ items.old.items ++ map (item_of_part spot) parts.now) }
 {
     for part in parts {
         items.push(item_of(spot, *part))?;

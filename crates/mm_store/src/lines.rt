@@ -1,7 +1,7 @@
 //! Line feeds, counted once for each kilobyte of a text.
 
 ghost use Rattle.std.specs.Prelude.{◌≡◌, ℕ, ◌+◌, ◌≤◌, ◌++◌, List, [], IfOk, length, take};
-ghost use Rattle.mm_store.specs.Code.Lines.{AreLines, AreMarks, Follow};
+ghost use Rattle.mm_store.specs.Code.Lines.{AreLines, AreLineMarks, Follow};
 
 use mm_text::{Place, place};
 use std::alloc::{AllocError, Global};
@@ -72,7 +72,7 @@ impl Lines {
 /// through the text once.
 pub(crate) fn marks(alloc: Global, text: &[u8]) -> Result<Vec<Lines>, AllocError>
     requires { length text.now ≤ 4294967295 }
-    ensures { IfOk result (λ marks. AreMarks text.now marks.items) }
+    ensures { IfOk result (λ marks. AreLineMarks text.now marks.items) }
 {
     let count = text.len() / MARK_STEP;
     let mut marks = Vec::with_capacity(alloc, count)?;
@@ -87,7 +87,7 @@ pub(crate) fn marks(alloc: Global, text: &[u8]) -> Result<Vec<Lines>, AllocError
 
 /// The lines of the first bytes of a text that has these marks. It goes through a kilobyte at most.
 pub(crate) fn lines_before(text: &[u8], marks: &[Lines], at: usize) -> Lines
-    requires marked { AreMarks text.now marks.now }
+    requires marked { AreLineMarks text.now marks.now }
     requires small { length text.now ≤ 4294967295 }
     requires within { at ≤ length text.now }
     ensures { AreLines (take at text.now) result }

@@ -8,6 +8,7 @@ ghost use Rattle.mm_store.specs.Language.Pieces.{standing_piece, text_under, wit
 ghost use Rattle.mm_store.specs.Code.Inside.{HasParts, IsPieceKept, ArePut};
 ghost use Rattle.mm_store.specs.Code.Lines.{AreLines, IsStart, StaysSmall};
 ghost use Rattle.mm_store.specs.Code.Slots.{ArePutIn};
+ghost use Rattle.mm_store.specs.Code.States.{piece_state};
 
 use crate::lines::{Lines, lines_before};
 use crate::piece_text::PieceText;
@@ -36,12 +37,12 @@ impl Model for PieceStore {
     ghost use Rattle.std.specs.Ordering.{nat_cmp};
     ghost use Rattle.std.specs.FinMap as finite;
     ghost use Rattle.std.specs.Coded.{coded_ℕ, codes};
-    ghost use Rattle.mm_store.specs.contracts.state.State as state;
-    ghost use Rattle.mm_store.specs.Language.Pieces.{HeldPiece, Pieces};
+    ghost use Rattle.mm_store.specs.Language.Pieces.{Pieces};
+    ghost use Rattle.mm_store.specs.Code.States.{state_code};
 
     ghost Value = { Pieces };
 
-    ghost coded = { finite.code coded_ℕ (Prim.hlevel (codes, state.the_row.coded)) };
+    ghost coded = { finite.code coded_ℕ (Prim.hlevel (codes, state_code)) };
 
     ghost use Rattle.mm_store.specs.Code.Slots.{view_of, IsKept};
 
@@ -52,7 +53,7 @@ impl Model for PieceStore {
 
 /// One for a parked piece.
 fn count_parked(state: State) -> usize
-    ensures { result ≡ parked_state state }
+    ensures { result ≡ parked_state (piece_state state) }
 {
     match state {
         State::Standing => 0,
@@ -129,7 +130,7 @@ impl PieceStore {
     /// Gives a piece another state, and answers how many bytes its text has.
     pub(crate) fn set_state(&mut self, key: usize, state: State) -> usize
         requires { IsSome (finite.get self.old key) }
-        ensures pieces { self.new ≡ with_state self.old key state }
+        ensures pieces { self.new ≡ with_state self.old key (piece_state state) }
         ensures len { result ≡ length (text_under self.old key) }
     {
         let others = self.parked - self.parked_under(key);

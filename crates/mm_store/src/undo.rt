@@ -1,5 +1,7 @@
 //! What an edit leaves to be undone or settled.
 
+use std::marker::Model;
+
 /// What was done: an insertion at a place, a replacement or a deletion there of the piece with this key, a move
 /// from a place to another.
 #[derive(Drop)]
@@ -16,4 +18,14 @@ pub(crate) enum Action {
 pub struct Undo {
     pub(crate) file: usize,
     pub(crate) action: Action,
+}
+
+impl Model for Undo {
+    ghost use Rattle.mm_store.specs.Language.Undoing.{UndoView};
+
+    ghost Value = { UndoView };
+
+    ghost use Rattle.mm_store.specs.Code.Undone.{view_of};
+
+    ghost view = { view_of };
 }

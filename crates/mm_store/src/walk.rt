@@ -21,6 +21,16 @@ pub struct Level {
     pub(crate) piece: usize,
 }
 
+impl Model for Level {
+    ghost use Rattle.mm_store.specs.Language.Walking.{LevelView};
+
+    ghost Value = { LevelView };
+
+    ghost view = { λ level. record { file = level.file; piece = level.piece } };
+
+    ghost inverse = { λ view. record { file = view.file; piece = view.piece } };
+}
+
 /// Where a piece stands, and its key.
 #[derive(Clone, Copy)]
 pub struct Spot {
@@ -71,7 +81,8 @@ fn advance(levels: &mut Vec<Level>)
     ensures capacity { vec_capacity levels.old ≤ vec_capacity levels.new }
 {
     let last = levels.len() - 1;
-    levels[last].piece += 1;
+    let level = &mut levels[last];
+    level.piece += 1;
 }
 
 /// Puts a name into the set that is not there.

@@ -11,7 +11,7 @@ use Rattle.mm_text.specs.declared.word.WordKind.TheVariants.{Plain}
 use Rattle.mm_text.specs.Code.LeftToRight.{read_runs, with_words}
 use Rattle.mm_text.specs.Language.Run.{Run, runs}
 use Rattle.mm_text.specs.Code.Reader.{runs_at, TakesWord, SkipsPlain}
-use Rattle.mm_text.specs.Code.WordsLeft.{SkipsPlainWords}
+use Rattle.mm_text.specs.Language.WordsLeft.{SkipsPlainWords}
 use Rattle.mm_text.specs.Code.Cursor.{words_read, words_from, AreLast}
 use Rattle.mm_text.proofs.ReadingLemmas.{read_words, read_whole}
 use Rattle.mm_text.proofs.SkipLemmas.{plain_words, are_plain_words, read_on}

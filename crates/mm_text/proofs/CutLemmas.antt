@@ -140,8 +140,8 @@ module _ (text : List ℕ) (pieces : List (List ℕ)) (from at : ℕ) (phase : m
   part_none is none [] e = refl
   part_none is none (word ∷ part) e =
       let tokens = tokens_of text h.part in
-      let state : m.run m.Begin 0 (tokens_of text h.part) ≡ Ok (m.state_of phase (length blocks)) = part_state h.part (phase, length blocks) h.stands.state in
-      let whole : WholeRun (tokens_of text h.part) = state ∙ ap (λ (p : m.Phase). Ok (m.state_of p (length blocks))) is ∙ ap (λ (bs : List ℕ). Ok (m.state_of m.Begin (length bs))) none in
+      let state : m.run m.Begin 0 (tokens_of text h.part) ≡ Ok (m.phase_state phase (length blocks)) = part_state h.part (phase, length blocks) h.stands.state in
+      let whole : WholeRun (tokens_of text h.part) = state ∙ ap (λ (p : m.Phase). Ok (m.phase_state p (length blocks))) is ∙ ap (λ (bs : List ℕ). Ok (m.phase_state m.Begin (length bs))) none in
       let long : length (tokens_of text h.part) ≡ length h.part = length-map h.part (token_of text) in
       let some : length h.part ≡ length (word ∷ part) = ap length e in
       absurd (h.inner (length tokens) (omega arith) (omega arith) (ap (m.run m.Begin 0) (take_all (length tokens) tokens (omega arith)) ∙ whole))
@@ -182,11 +182,11 @@ module _ (text : List ℕ) (pieces : List (List ℕ)) (from at : ℕ) (phase : m
     tokens_skipped : tokens_of text (h.part ++ words_skipped) ≡ tokens_of text h.part ++ tokens_of text words_skipped
     tokens_skipped = map-append (token_of text) h.part words_skipped
 
-    runs_skipped : (n : ℕ) → length (tokens_of text h.part) ≤ n → m.run m.Begin 0 (take n (tokens_of text (h.part ++ words_skipped))) ≡ Ok (m.state_of phase (length blocks))
+    runs_skipped : (n : ℕ) → length (tokens_of text h.part) ≤ n → m.run m.Begin 0 (take n (tokens_of text (h.part ++ words_skipped))) ≡ Ok (m.phase_state phase (length blocks))
     runs_skipped n le =
         let count : length (tokens_of text h.part) + (n - length (tokens_of text h.part)) ≡ n = omega arith in
         let taken = take-append-add (tokens_of text h.part) (tokens_of text words_skipped) (n - length (tokens_of text h.part)) in
-        let front : m.run m.Begin 0 (tokens_of text h.part) ≡ Ok (m.state_of phase (length blocks)) = part_state h.part (phase, length blocks) h.stands.state in
+        let front : m.run m.Begin 0 (tokens_of text h.part) ≡ Ok (m.phase_state phase (length blocks)) = part_state h.part (phase, length blocks) h.stands.state in
         ap (λ (ts : List Token). m.run m.Begin 0 (take n ts)) tokens_skipped
         ∙ ap (λ (k : ℕ). m.run m.Begin 0 (take k (tokens_of text h.part ++ tokens_of text words_skipped))) (sym count)
         ∙ ap (m.run m.Begin 0) taken
@@ -196,9 +196,9 @@ module _ (text : List ℕ) (pieces : List (List ℕ)) (from at : ℕ) (phase : m
     inner_skipped : (n : ℕ) → 0 < n → (n ≤ length (tokens_of text h.part)) ⊎ (length (tokens_of text h.part) ≤ n) → ¬ WholeRun (take n (tokens_of text (h.part ++ words_skipped)))
     inner_skipped n some (inl less) whole = h.inner n some less (ap (m.run m.Begin 0) (sym (ap (take n) tokens_skipped ∙ take-append-le n (tokens_of text h.part) (tokens_of text words_skipped) less)) ∙ whole)
     inner_skipped n some (inr more) whole =
-        let same : m.state_of phase (length blocks) ≡ m.state_of m.Begin 0 =
-        let a : m.run m.Begin 0 (take n (tokens_of text (h.part ++ words_skipped))) ≡ Ok (m.state_of phase (length blocks)) = runs_skipped n more in
-        let b : m.run m.Begin 0 (take n (tokens_of text (h.part ++ words_skipped))) ≡ Ok (m.state_of m.Begin 0) = whole in cc in
+        let same : m.phase_state phase (length blocks) ≡ m.phase_state m.Begin 0 =
+        let a : m.run m.Begin 0 (take n (tokens_of text (h.part ++ words_skipped))) ≡ Ok (m.phase_state phase (length blocks)) = runs_skipped n more in
+        let b : m.run m.Begin 0 (take n (tokens_of text (h.part ++ words_skipped))) ≡ Ok (m.phase_state m.Begin 0) = whole in cc in
         is_no_begin phase inside (ap (λ (s : m.Phase × ℕ). s.0) same)
 
     tokens_all : tokens_of text (h.before ++ h.part) ++ tokens_of text words_skipped ≡ tokens_of text (h.before ++ (h.part ++ words_skipped))
@@ -253,7 +253,7 @@ module _ (text : List ℕ) (pieces : List (List ℕ)) (from at : ℕ) (phase : m
         first_of_units text (h.before ++ h.part) word (h.front ++ more_runs) (runs_at text to) phase (length blocks) number allowed runs_next
         (subst (λ (ws : List Word). AreWords (h.front ++ more_runs) ws) (sym (append_assoc h.before h.part (word ∷ []))) reads_next) h.stands.state refused
 
-    module _ (next : m.Phase) (depth : ℕ) (step : m.next phase (length blocks) word.kind (m.could_label (token_of text word)) ≡ Ok (m.state_of next depth)) where
+    module _ (next : m.Phase) (depth : ℕ) (step : m.next phase (length blocks) word.kind (m.could_label (token_of text word)) ≡ Ok (m.phase_state next depth)) where
       abbrev next_first : ℕ
       next_first = first_behind phase first word.start
 
@@ -263,7 +263,7 @@ module _ (text : List ℕ) (pieces : List (List ℕ)) (from at : ℕ) (phase : m
       stands_next : Stands (tokens_of text (h.before ++ more_words)) next next_first next_blocks
       stands_next = subst (λ (ts : List Token). Stands ts next next_first next_blocks) tokens_next (stands_more (tokens_of text (h.before ++ h.part)) phase first blocks h.stands (token_of text word) next depth step)
 
-      part_next : m.run m.Begin 0 (tokens_of text more_words) ≡ Ok (m.state_of next (length next_blocks))
+      part_next : m.run m.Begin 0 (tokens_of text more_words) ≡ Ok (m.phase_state next (length next_blocks))
       part_next = part_state more_words (next, length next_blocks) stands_next.state
 
       long : length (tokens_of text more_words) ≡ length (tokens_of text h.part) + 1
@@ -291,8 +291,8 @@ module _ (text : List ℕ) (pieces : List (List ℕ)) (from at : ℕ) (phase : m
       } where
         all : (n : ℕ) → length (tokens_of text more_words) ≤ n → ¬ WholeRun (take n (tokens_of text more_words))
         all n le whole =
-            let same : m.state_of next (length next_blocks) ≡ m.state_of m.Begin 0 =
-            let a : m.run m.Begin 0 (tokens_of text more_words) ≡ Ok (m.state_of m.Begin 0) = ap (m.run m.Begin 0) (sym (take_all n (tokens_of text more_words) le)) ∙ whole in let b : m.run m.Begin 0 (tokens_of text more_words) ≡ Ok (m.state_of next (length next_blocks)) = part_next in cc in
+            let same : m.phase_state next (length next_blocks) ≡ m.phase_state m.Begin 0 =
+            let a : m.run m.Begin 0 (tokens_of text more_words) ≡ Ok (m.phase_state m.Begin 0) = ap (m.run m.Begin 0) (sym (take_all n (tokens_of text more_words) le)) ∙ whole in let b : m.run m.Begin 0 (tokens_of text more_words) ≡ Ok (m.phase_state next (length next_blocks)) = part_next in cc in
             on (ap (λ (s : m.Phase × ℕ). s.0) same, no_blocks next_blocks (ap (λ (s : m.Phase × ℕ). s.1) same))
 
       pub progress_piece : first_bad text ≡ None → to ≤ length text → next ≡ m.Begin → next_blocks ≡ []

@@ -18,8 +18,8 @@ use Rattle.mm_text.specs.Code.Reader.{runs_at, TakesWord}
 use Rattle.mm_text.specs.Language.Cut.{ended, IsCut, IsFirstFaultAt, IsCutError}
 use Rattle.mm_text.proofs.CutLemmas.{Progress, word_lies, units_fault, unit_end, block_end, cut_end, progress_more, progress_piece}
 
-step_to : (step : m.UnitStep) (next : m.Phase) → phase_of step ≡ Ok next → (depth : ℕ) × (step ≡ Ok (m.state_of next depth))
-step_to (Ok s) next e = let same : s.0 ≡ next = cc in (s.1, ap (λ (p : m.Phase). Ok (m.state_of p s.1)) same)
+step_to : (step : m.UnitStep) (next : m.Phase) → phase_of step ≡ Ok next → (depth : ℕ) × (step ≡ Ok (m.phase_state next depth))
+step_to (Ok s) next e = let same : s.0 ≡ next = cc in (s.1, ap (λ (p : m.Phase). Ok (m.phase_state p s.1)) same)
 step_to (Err number) next e = absurd cc
 
 step_refused : (step : m.UnitStep) (number : TextNumber) → phase_of step ≡ Err number → step ≡ Err number
@@ -55,7 +55,7 @@ module _ (text : List ℕ) (pieces : List (List ℕ)) (from at : ℕ) (g : Gramm
           (step_refused (m.next g.phase (length g.blocks.items) word.kind (m.could_label (token_of text word))) fault.number (sym told ∙ fails.number)))
 
       module _ (takes : TakesUnit g word could new) where
-        step : (depth : ℕ) × (m.next g.phase (length g.blocks.items) word.kind (m.could_label (token_of text word)) ≡ Ok (m.state_of new.phase depth))
+        step : (depth : ℕ) × (m.next g.phase (length g.blocks.items) word.kind (m.could_label (token_of text word)) ≡ Ok (m.phase_state new.phase depth))
         step = step_to (m.next g.phase (length g.blocks.items) word.kind (m.could_label (token_of text word))) new.phase (sym told ∙ takes.phase)
 
         kept : (pieces : List (List ℕ)) (from : ℕ) → Progress text pieces from to new.phase (first_behind g.phase g.first word.start) (blocks_behind word.kind g.blocks.items word.start) → Keeps text pieces from to new

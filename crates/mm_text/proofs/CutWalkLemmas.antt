@@ -142,7 +142,7 @@ module _ (text : List ℕ) (allowed : first_bad text ≡ None) where
       onward : at < to
       onward = omega (arith, taken.begins, taken.some, taken.next)
 
-      by_whole : (next : m.Phase) (depth : ℕ) → m.next phase (length blocks) word.kind (m.could_label (token_of text word)) ≡ Ok (m.state_of next depth) → (next ≡ m.Begin) ⊎ (next ≢ m.Begin) → (bs : List ℕ) → blocks_behind word.kind blocks word.start ≡ bs → CutOrFault text
+      by_whole : (next : m.Phase) (depth : ℕ) → m.next phase (length blocks) word.kind (m.could_label (token_of text word)) ≡ Ok (m.phase_state next depth) → (next ≡ m.Begin) ⊎ (next ≢ m.Begin) → (bs : List ℕ) → blocks_behind word.kind blocks word.start ≡ bs → CutOrFault text
       by_whole next depth e (inl is) [] none =
           go (pieces ++ ended (slice_range text from (to + prefix_len is_white (drop to text))) ∷ []) (to + prefix_len is_white (drop to text)) to next (first_behind phase first word.start) (blocks_behind word.kind blocks word.start) onward within
           (progress_piece text pieces from at phase first blocks h word to taken next depth e allowed within is none)

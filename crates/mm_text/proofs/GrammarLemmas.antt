@@ -143,11 +143,11 @@ pub record Unfinished (tokens : List Token) (first : ℕ) : Type 0 where
   pub depth : ℕ
   pub joined : tokens ≡ before ++ begin ∷ inner
   pub place : begin.start ≡ first
-  pub begins : m.run m.Begin 0 before ≡ Ok (m.state_of m.Begin depth)
-  pub later : (n : ℕ) → length before < n → n ≤ length tokens → (phase : m.Phase) × (d : ℕ) × (m.run m.Begin 0 (take n tokens) ≡ Ok (m.state_of phase d)) × (phase ≢ m.Begin)
+  pub begins : m.run m.Begin 0 before ≡ Ok (m.phase_state m.Begin depth)
+  pub later : (n : ℕ) → length before < n → n ≤ length tokens → (phase : m.Phase) × (d : ℕ) × (m.run m.Begin 0 (take n tokens) ≡ Ok (m.phase_state phase d)) × (phase ≢ m.Begin)
 
 pub record Stands (tokens : List Token) (phase : m.Phase) (first : ℕ) (blocks : List ℕ) : Type 0 where
-  pub state : m.run m.Begin 0 tokens ≡ Ok (m.state_of phase (length blocks))
+  pub state : m.run m.Begin 0 tokens ≡ Ok (m.phase_state phase (length blocks))
   pub unit : phase ≢ m.Begin → Unfinished tokens first
   pub opens : Opens tokens blocks
 
@@ -178,14 +178,14 @@ blocks_more _ blocks tokens token depth is e h = opens_more blocks tokens token 
 -- ---- one more word
 
 module _ (tokens : List Token) (phase : m.Phase) (first : ℕ) (blocks : List ℕ) (h : Stands tokens phase first blocks) (token : Token) where
-  pub stands_more : (next : m.Phase) (depth : ℕ) → m.next phase (length blocks) token.kind (m.could_label token) ≡ Ok (m.state_of next depth)
+  pub stands_more : (next : m.Phase) (depth : ℕ) → m.next phase (length blocks) token.kind (m.could_label token) ≡ Ok (m.phase_state next depth)
       → Stands (tokens ++ token ∷ []) next (first_behind phase first token.start) (blocks_behind token.kind blocks token.start)
   stands_more next depth e = record {
     state = all ∙ ap (λ (d : ℕ). Ok (next, d)) (sym (blocks_count token.kind blocks token.start depth counts));
     unit = λ other. unfinished other (is_begin phase);
     opens = blocks_more token.kind blocks tokens token depth refl counts h.opens;
   } where
-    all : m.run m.Begin 0 (tokens ++ token ∷ []) ≡ Ok (m.state_of next depth)
+    all : m.run m.Begin 0 (tokens ++ token ∷ []) ≡ Ok (m.phase_state next depth)
     all = run_push tokens token phase (length blocks) h.state ∙ e
 
     counts : length blocks + is_start_word token.kind ≡ depth + is_end_word token.kind
@@ -194,7 +194,7 @@ module _ (tokens : List Token) (phase : m.Phase) (first : ℕ) (blocks : List �
     long : length (tokens ++ token ∷ []) ≡ length tokens + 1
     long = length-append tokens (token ∷ [])
 
-    here : next ≢ m.Begin → (n : ℕ) → length tokens < n → n ≤ length (tokens ++ token ∷ []) → (phase : m.Phase) × (d : ℕ) × (m.run m.Begin 0 (take n (tokens ++ token ∷ [])) ≡ Ok (m.state_of phase d)) × (phase ≢ m.Begin)
+    here : next ≢ m.Begin → (n : ℕ) → length tokens < n → n ≤ length (tokens ++ token ∷ []) → (phase : m.Phase) × (d : ℕ) × (m.run m.Begin 0 (take n (tokens ++ token ∷ [])) ≡ Ok (m.phase_state phase d)) × (phase ≢ m.Begin)
     here other n l g = (next, depth, ap (m.run m.Begin 0) (take_all n (tokens ++ token ∷ []) (omega (arith, long))) ∙ all, other)
 
     first_is : (p : m.Phase) → p ≢ m.Begin → first_behind p first token.start ≡ first
@@ -241,7 +241,7 @@ stands_unit tokens phase first blocks h other = (length u.before, u.begin, ends_
   within : length u.before < length tokens
   within = let long : length (u.before ++ u.begin ∷ u.inner) ≡ length u.before + length (u.begin ∷ u.inner) = length-append u.before (u.begin ∷ u.inner) in let same : length tokens ≡ length (u.before ++ u.begin ∷ u.inner) = ap length u.joined in omega arith
 
-  begins : m.run m.Begin 0 (take (length u.before) tokens) ≡ Ok (m.state_of m.Begin u.depth)
+  begins : m.run m.Begin 0 (take (length u.before) tokens) ≡ Ok (m.phase_state m.Begin u.depth)
   begins = ap (λ (ts : List Token). m.run m.Begin 0 (take (length u.before) ts)) u.joined ∙ ap (m.run m.Begin 0) (take-append_seam u.before (u.begin ∷ u.inner)) ∙ u.begins
 
   there : slice_get tokens (length u.before) ≡ Some u.begin
@@ -273,7 +273,7 @@ stands_block tokens first outer at h = (length i.before, i.begin, ends_in_block 
 -- ---- a word that is refused
 
 pub first_of_units : (text : List ℕ) (found : List Word) (word : Word) (front rest : List Run) (phase : m.Phase) (depth : ℕ) (number : TextNumber) → first_bad text ≡ None → runs text ≡ front ++ rest → AreWords front (found ++ word ∷ [])
-    → m.run m.Begin 0 (tokens_of text found) ≡ Ok (m.state_of phase depth) → m.next phase depth word.kind (m.could_label (token_of text word)) ≡ Err number → IsFirstFaultAt text number word.start
+    → m.run m.Begin 0 (tokens_of text found) ≡ Ok (m.phase_state phase depth) → m.next phase depth word.kind (m.could_label (token_of text word)) ≡ Err number → IsFirstFaultAt text number word.start
 first_of_units text found word front rest phase depth number allowed joined reads state refused = told number stops where
   tokens : tokens_of text (found ++ word ∷ []) ≡ tokens_of text found ++ token_of text word ∷ []
   tokens = map-append (token_of text) found (word ∷ [])
@@ -284,7 +284,7 @@ first_of_units text found word front rest phase depth number allowed joined read
   there : slice_get (tokens_of text (found ++ word ∷ [])) n ≡ Some (token_of text word)
   there = ap (λ (ts : List Token). slice_get ts n) tokens ∙ slice_get_at (tokens_of text found) [] (token_of text word)
 
-  before : m.run m.Begin 0 (take n (tokens_of text (found ++ word ∷ []))) ≡ Ok (m.state_of phase depth)
+  before : m.run m.Begin 0 (take n (tokens_of text (found ++ word ∷ []))) ≡ Ok (m.phase_state phase depth)
   before = ap (λ (ts : List Token). m.run m.Begin 0 (take n ts)) tokens ∙ ap (m.run m.Begin 0) (take-append_seam (tokens_of text found) (token_of text word ∷ [])) ∙ state
 
   long : length (found ++ word ∷ []) ≡ n + 1
@@ -313,13 +313,13 @@ first_of_units text found word front rest phase depth number allowed joined read
 
 -- ---- plain words inside a statement
 
-pub plain_step : (phase : m.Phase) (depth : ℕ) (token : Token) → is_within phase ≡ true → IsPlain token → m.next phase depth token.kind (m.could_label token) ≡ Ok (m.state_of phase depth)
+pub plain_step : (phase : m.Phase) (depth : ℕ) (token : Token) → is_within phase ≡ true → IsPlain token → m.next phase depth token.kind (m.could_label token) ≡ Ok (m.phase_state phase depth)
 plain_step m.Symbols depth token within plain = ap (λ (kind : WordKind). m.next m.Symbols depth kind (m.could_label token)) plain
 plain_step m.Expression depth token within plain = ap (λ (kind : WordKind). m.next m.Expression depth kind (m.could_label token)) plain
 plain_step _ depth token within plain = absurd (false≢true within)
 
 -- any number of them leave the phase as it is
-pub plain_run : (phase : m.Phase) (depth : ℕ) → is_within phase ≡ true → (tokens : List Token) → AllByRecursion IsPlain tokens → (k : ℕ) → m.run phase depth (take k tokens) ≡ Ok (m.state_of phase depth)
+pub plain_run : (phase : m.Phase) (depth : ℕ) → is_within phase ≡ true → (tokens : List Token) → AllByRecursion IsPlain tokens → (k : ℕ) → m.run phase depth (take k tokens) ≡ Ok (m.phase_state phase depth)
 plain_run phase depth within tokens plain zero = refl
 plain_run phase depth within [] plain (suc k) = refl
 plain_run phase depth within (token ∷ tokens) plain (suc k) =

@@ -164,7 +164,7 @@ run_bare (x ∷ a) (y ∷ b) phase depth e =
 -- ---- one unit
 
 abbrev pub WholeRun : List Token → Type 0
-WholeRun tokens = m.run m.Begin 0 tokens ≡ Ok (m.state_of m.Begin 0)
+WholeRun tokens = m.run m.Begin 0 tokens ≡ Ok (m.phase_state m.Begin 0)
 
 -- no words at the front, but all of them, are whole
 abbrev pub HasOne : List Token → Type 0

@@ -4,7 +4,7 @@ use Rattle.std.proofs.lemmas.Bool.{cases_Bool, ne_eqb}
 use Rattle.std.proofs.lemmas.List.{take_rest}
 use Rattle.std.specs.List.{prefix_len}
 use Rattle.mm_text.specs.Language.Run.{is_white, is_solid}
-use Rattle.mm_text.specs.Code.LeftToRight.{is_plain, has_dollar}
+use Rattle.mm_text.specs.Code.LeftToRight.{is_dollarless, has_dollar}
 
 one_more_taken : (n b : ℕ) (bytes : List ℕ) → take (1 + n) (b ∷ bytes) ≡ b ∷ take n bytes
 one_more_taken n b bytes = let e : 1 + n ≡ suc n = omega arith in rw e refl
@@ -16,26 +16,26 @@ one_more_is_some : (n : ℕ) → eqb (1 + n) 0 ≡ false
 one_more_is_some n = ne_eqb (1 + n) 0 (λ e. omega (arith, e))
 
 -- the bytes before the first `$`, and those from it on
-parts_of_run : (bytes : List ℕ) → prefix_len is_plain bytes + prefix_len is_solid (drop (prefix_len is_plain bytes) bytes) ≡ prefix_len is_solid bytes
+parts_of_run : (bytes : List ℕ) → prefix_len is_dollarless bytes + prefix_len is_solid (drop (prefix_len is_dollarless bytes) bytes) ≡ prefix_len is_solid bytes
 parts_of_run [] = refl
 parts_of_run (b ∷ bytes) =
     elim (cases_Bool (is_white b)) [
       | inl white ↦ rw (white, white) refl
       | inr solid ↦ elim (cases_Bool (eqb b 36)) [
         | inl dollar ↦ rw (solid, dollar, solid) (omega arith)
-        | inr other ↦ let more = parts_of_run bytes in rw (solid, other, one_more_dropped (prefix_len is_plain bytes) b bytes) (omega (arith, more))
+        | inr other ↦ let more = parts_of_run bytes in rw (solid, other, one_more_dropped (prefix_len is_dollarless bytes) b bytes) (omega (arith, more))
       ]
     ]
 
 -- a `$` stands in a run where its bytes go on behind those before the first `$`
-dollar_behind : (bytes : List ℕ) → has_dollar (take (prefix_len is_solid bytes) bytes) ≡ not (eqb (prefix_len is_solid (drop (prefix_len is_plain bytes) bytes)) 0)
+dollar_behind : (bytes : List ℕ) → has_dollar (take (prefix_len is_solid bytes) bytes) ≡ not (eqb (prefix_len is_solid (drop (prefix_len is_dollarless bytes) bytes)) 0)
 dollar_behind [] = refl
 dollar_behind (b ∷ bytes) =
     elim (cases_Bool (is_white b)) [
       | inl white ↦ rw (white, white) refl
       | inr solid ↦ elim (cases_Bool (eqb b 36)) [
         | inl dollar ↦ rw (solid, dollar, solid, one_more_taken (prefix_len is_solid bytes) b bytes, dollar, one_more_is_some (prefix_len is_solid bytes)) refl
-        | inr other ↦ rw (solid, other, one_more_taken (prefix_len is_solid bytes) b bytes, other, one_more_dropped (prefix_len is_plain bytes) b bytes) (dollar_behind bytes)
+        | inr other ↦ rw (solid, other, one_more_taken (prefix_len is_solid bytes) b bytes, other, one_more_dropped (prefix_len is_dollarless bytes) b bytes) (dollar_behind bytes)
       ]
     ]
 
@@ -44,8 +44,8 @@ twice true = refl
 twice false = refl
 
 -- the two parts as the code measures them
-module _ (bytes : List ℕ) (p m : ℕ) (p-is : p ≡ prefix_len is_plain bytes) (m-is : m ≡ prefix_len is_solid (take (length bytes - p) (drop p bytes))) where
-  behind : m ≡ prefix_len is_solid (drop (prefix_len is_plain bytes) bytes)
+module _ (bytes : List ℕ) (p m : ℕ) (p-is : p ≡ prefix_len is_dollarless bytes) (m-is : m ≡ prefix_len is_solid (take (length bytes - p) (drop p bytes))) where
+  behind : m ≡ prefix_len is_solid (drop (prefix_len is_dollarless bytes) bytes)
   behind = m-is ∙ ap (prefix_len is_solid) (take_rest bytes p) ∙ ap (λ (k : ℕ). prefix_len is_solid (drop k bytes)) p-is
 
   pub whole : p + m ≡ prefix_len is_solid bytes

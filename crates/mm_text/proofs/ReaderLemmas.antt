@@ -14,7 +14,7 @@ use Rattle.mm_text.specs.Language.Reading.{segment_runs, segment_words, HoldNoMa
 use Rattle.mm_text.specs.Language.Cut.{EndsInComment, HoldWords, StopsWords, IsFirstFaultAt}
 use Rattle.mm_text.specs.Language.Unit.{tokens_of, IsViable}
 use Rattle.mm_text.specs.Code.LeftToRight.{Read, read_runs, cons_word, with_words, word_kind, word_alone, words_fault_at}
-use Rattle.mm_text.specs.Code.Reader.{runs_at, run_of, TakesSpan, SkipsComment, FailsInside, TakesWord, IsRefused, MeetsRun, FailsBehind}
+use Rattle.mm_text.specs.Code.Reader.{runs_at, run_of, TakesSpan, SkipsComment, FailsInside, TakesWord, IsRunRefused, MeetsRun, FailsBehind}
 use Rattle.mm_text.proofs.KindLemmas.{kind_spelled, spelled_kind, no_kind, stands_mark}
 use Rattle.mm_text.proofs.ReadLemmas.{inside_mark, outside_close, outside_word}
 use Rattle.mm_text.proofs.ReadingLemmas.{none_read, all_append, InComment, Behind, word_step, read_whole, stops, is_whole, goes_on, is_open, not_whole, stop_fault, open_fault}
@@ -174,7 +174,7 @@ record Refusal (number : TextNumber) (front : List Run) (found : List Word) (run
   fails : (tail : List Run) → read_runs state (run ∷ tail) ≡ Err (words_fault_at number run.start)
   is_number : words.IsRunNumber number front run
 
-refusal : (number : TextNumber) (front : List Run) (found : List Word) (run : Run) → IsRefused number front found run → Refusal number front found run
+refusal : (number : TextNumber) (front : List Run) (found : List Word) (run : Run) → IsRunRefused number front found run → Refusal number front found run
 unfolding in_comment
 refusal T03 front found run h = record {
   state = Some h.0.first.start;
@@ -228,13 +228,13 @@ fails_more a b ws vs number at f g = record {
   place = g.place;
   refused = refused_more number g.front g.run g.refused;
 } where
-  refused_more : (number : TextNumber) (front : List Run) (run : Run) → IsRefused number front vs run → IsRefused number (a ++ front) (ws ++ vs) run
+  refused_more : (number : TextNumber) (front : List Run) (run : Run) → IsRunRefused number front vs run → IsRunRefused number (a ++ front) (ws ++ vs) run
   refused_more T03 front run h = (comment-append a front ws vs f h.0, h.1, h.2)
   refused_more T04 front run h = (words-append a front ws vs f h.0, h.1)
   refused_more T05 front run h = (words-append a front ws vs f h.0, h.1, h.2, h.3)
   refused_more _ front run h = absurd h
 
-held : (number : TextNumber) (front : List Run) (found : List Word) (run : Run) → IsRefused number front found run → HoldWords front found
+held : (number : TextNumber) (front : List Run) (found : List Word) (run : Run) → IsRunRefused number front found run → HoldWords front found
 held T03 front found run h = inr h.0
 held T04 front found run h = inl h.0
 held T05 front found run h = inl h.0

@@ -34,7 +34,7 @@ alone : (step : m.UnitStep) → m.after step (λ p d. m.run p d []) ≡ step
 alone (Ok s) = refl
 alone (Err number) = refl
 
-pub run_push : (front : List Token) (token : Token) (phase : m.Phase) (depth : ℕ) → m.run m.Begin 0 front ≡ Ok (m.state_of phase depth) → m.run m.Begin 0 (front ++ token ∷ []) ≡ m.next phase depth token.kind (m.could_label token)
+pub run_push : (front : List Token) (token : Token) (phase : m.Phase) (depth : ℕ) → m.run m.Begin 0 front ≡ Ok (m.phase_state phase depth) → m.run m.Begin 0 (front ++ token ∷ []) ≡ m.next phase depth token.kind (m.could_label token)
 run_push front token phase depth e = run-append front (token ∷ []) m.Begin 0 (phase, depth) e ∙ alone (m.next phase depth token.kind (m.could_label token))
 
 take_push : (tokens : List Token) (word : ℕ) (token : Token) → slice_get tokens word ≡ Some token → take (suc word) tokens ≡ take word tokens ++ token ∷ []
@@ -45,7 +45,7 @@ take_push (first ∷ tokens) (suc word) token e = ap (λ (ts : List Token). firs
 pub take_next : (tokens : List Token) (word : ℕ) (token : Token) → slice_get tokens word ≡ Some token → take (word + 1) tokens ≡ take word tokens ++ token ∷ []
 take_next tokens word token e = let one : word + 1 ≡ suc word = omega arith in ap (λ (n : ℕ). take n tokens) one ∙ take_push tokens word token e
 
-pub run_next : (tokens : List Token) (word : ℕ) (token : Token) (phase : m.Phase) (depth : ℕ) → slice_get tokens word ≡ Some token → m.run m.Begin 0 (take word tokens) ≡ Ok (m.state_of phase depth)
+pub run_next : (tokens : List Token) (word : ℕ) (token : Token) (phase : m.Phase) (depth : ℕ) → slice_get tokens word ≡ Some token → m.run m.Begin 0 (take word tokens) ≡ Ok (m.phase_state phase depth)
     → m.run m.Begin 0 (take (word + 1) tokens) ≡ m.next phase depth token.kind (m.could_label token)
 run_next tokens word token phase depth there e = ap (m.run m.Begin 0) (take_next tokens word token there) ∙ run_push (take word tokens) token phase depth e
 
@@ -59,10 +59,10 @@ begins_only m.Expression depth b s e = absurd cc
 begins_only m.Including depth b s e = absurd cc
 begins_only m.Named depth b s e = absurd cc
 
-pub may_begin_from : (front : List Token) (depth : ℕ) → m.run m.Begin 0 front ≡ Ok (m.state_of m.Begin depth) → MayBegin front
+pub may_begin_from : (front : List Token) (depth : ℕ) → m.run m.Begin 0 front ≡ Ok (m.phase_state m.Begin depth) → MayBegin front
 may_begin_from front depth e = run-IsViable (front ++ a_block ∷ []) (m.Begin, suc depth) (run_push front a_block m.Begin depth e)
 
-pub may_begin_phase : (front : List Token) (phase : m.Phase) (depth : ℕ) → m.run m.Begin 0 front ≡ Ok (m.state_of phase depth) → MayBegin front → phase ≡ m.Begin
+pub may_begin_phase : (front : List Token) (phase : m.Phase) (depth : ℕ) → m.run m.Begin 0 front ≡ Ok (m.phase_state phase depth) → MayBegin front → phase ≡ m.Begin
 may_begin_phase front phase depth e h =
     let all = viable_run (front ++ a_block ∷ []) h in
     begins_only phase depth (m.could_label a_block) all.0 (sym (run_push front a_block phase depth e) ∙ all.1)
@@ -78,7 +78,7 @@ may_begin front = (to, λ h. may_begin_from front h.0 h.1) where
 -- ---- where an inclusion has begun
 
 including_only : (phase : m.Phase) (depth : ℕ) (b : Bool) (s : m.Phase × ℕ) → m.next phase depth (kinds.Keyword InclusionStart) b ≡ Ok s → s.0 ≡ m.Including
-including_only m.Begin zero b s e = let same : m.state_of m.Including 0 ≡ s = cc in sym (ap (λ (s : m.Phase × ℕ). s.0) same)
+including_only m.Begin zero b s e = let same : m.phase_state m.Including 0 ≡ s = cc in sym (ap (λ (s : m.Phase × ℕ). s.0) same)
 including_only m.Begin (suc depth) b s e = absurd cc
 including_only m.Labelled depth b s e = absurd cc
 including_only m.Symbols depth b s e = absurd cc
@@ -86,9 +86,9 @@ including_only m.Expression depth b s e = absurd cc
 including_only m.Including depth b s e = absurd cc
 including_only m.Named depth b s e = absurd cc
 
-pub inclusion_phase : (front : List Token) (phase : m.Phase) (depth : ℕ) → m.run m.Begin 0 front ≡ Ok (m.state_of phase depth) → EndsInInclusion front → phase ≡ m.Including
+pub inclusion_phase : (front : List Token) (phase : m.Phase) (depth : ℕ) → m.run m.Begin 0 front ≡ Ok (m.phase_state phase depth) → EndsInInclusion front → phase ≡ m.Including
 inclusion_phase front phase depth e (before, begin, joined, is) =
-    let all : m.run m.Begin 0 (before ++ begin ∷ []) ≡ Ok (m.state_of phase depth) = ap (m.run m.Begin 0) (sym joined) ∙ e in
+    let all : m.run m.Begin 0 (before ++ begin ∷ []) ≡ Ok (m.phase_state phase depth) = ap (m.run m.Begin 0) (sym joined) ∙ e in
     let first = viable_run before (viable_front before (begin ∷ []) (run-IsViable (before ++ begin ∷ []) (phase, depth) all)) in
     let step : m.next first.0.0 first.0.1 begin.kind (m.could_label begin) ≡ Ok (phase, depth) = sym (run_push before begin first.0.0 first.0.1 first.1) ∙ all in
     including_only first.0.0 first.0.1 (m.could_label begin) (phase, depth) (ap (λ (k : WordKind). m.next first.0.0 first.0.1 k (m.could_label begin)) (sym is) ∙ step)
@@ -121,19 +121,19 @@ to_including m.Named depth kinds.Plain b e = absurd cc
 to_including m.Named depth (kinds.Keyword InclusionStart) b e = refl
 to_including m.Named depth (kinds.Keyword _) b e = absurd cc
 
-ends_at : (front : List Token) (phase : m.Phase) (depth d : ℕ) → m.run phase depth front ≡ Ok (m.state_of m.Including d) → ((front ≡ []) × (phase ≡ m.Including)) ⊎ EndsInInclusion front
+ends_at : (front : List Token) (phase : m.Phase) (depth d : ℕ) → m.run phase depth front ≡ Ok (m.phase_state m.Including d) → ((front ≡ []) × (phase ≡ m.Including)) ⊎ EndsInInclusion front
 ends_at [] phase depth d e = inl (refl, ap reached e)
 ends_at (token ∷ front) phase depth d e = inr (by_step (λ p q h. ends_at front p q d h) (m.next phase depth token.kind (m.could_label token)) refl e) where
   onto : (s : m.Phase × ℕ) → m.next phase depth token.kind (m.could_label token) ≡ Ok s → ((front ≡ []) × (s.0 ≡ m.Including)) ⊎ EndsInInclusion front → EndsInInclusion (token ∷ front)
   onto s is (inl (none, including)) = ([], token, ap (λ (ts : List Token). token ∷ ts) none, to_including phase depth token.kind (m.could_label token) (ap reached is ∙ including))
   onto s is (inr (before, begin, joined, begins)) = (token ∷ before, begin, ap (λ (ts : List Token). token ∷ ts) joined, begins)
 
-  by_step : ((p : m.Phase) (q : ℕ) → m.run p q front ≡ Ok (m.state_of m.Including d) → ((front ≡ []) × (p ≡ m.Including)) ⊎ EndsInInclusion front)
-      → (step : m.UnitStep) → m.next phase depth token.kind (m.could_label token) ≡ step → m.after step (λ p d. m.run p d front) ≡ Ok (m.state_of m.Including d) → EndsInInclusion (token ∷ front)
+  by_step : ((p : m.Phase) (q : ℕ) → m.run p q front ≡ Ok (m.phase_state m.Including d) → ((front ≡ []) × (p ≡ m.Including)) ⊎ EndsInInclusion front)
+      → (step : m.UnitStep) → m.next phase depth token.kind (m.could_label token) ≡ step → m.after step (λ p d. m.run p d front) ≡ Ok (m.phase_state m.Including d) → EndsInInclusion (token ∷ front)
   by_step more (Ok s) is e = onto s is (more s.0 s.1 e)
   by_step more (Err number) is e = absurd cc
 
-pub inclusion_from : (front : List Token) (depth : ℕ) → m.run m.Begin 0 front ≡ Ok (m.state_of m.Including depth) → EndsInInclusion front
+pub inclusion_from : (front : List Token) (depth : ℕ) → m.run m.Begin 0 front ≡ Ok (m.phase_state m.Including depth) → EndsInInclusion front
 inclusion_from front depth e = got (ends_at front m.Begin 0 depth e) where
   got : ((front ≡ []) × (m.Begin ≡ m.Including)) ⊎ EndsInInclusion front → EndsInInclusion front
   got (inl (none, is)) = absurd cc
@@ -144,24 +144,24 @@ inclusion_from front depth e = got (ends_at front m.Begin 0 depth e) where
 abbrev refused : TextNumber → m.UnitStep
 refused number = Err number
 
-six : (front : List Token) (token : Token) (phase : m.Phase) (depth : ℕ) → m.run m.Begin 0 front ≡ Ok (m.state_of phase depth) → ¬ ((phase ≡ m.Including) × ¬ IsPlain token) → ¬ IsKeyword InclusionStart token → ¬ ((phase ≡ m.Begin) × (IsKeyword BlockEnd token ⊎ IsPlain token))
+six : (front : List Token) (token : Token) (phase : m.Phase) (depth : ℕ) → m.run m.Begin 0 front ≡ Ok (m.phase_state phase depth) → ¬ ((phase ≡ m.Including) × ¬ IsPlain token) → ¬ IsKeyword InclusionStart token → ¬ ((phase ≡ m.Begin) × (IsKeyword BlockEnd token ⊎ IsPlain token))
     → IsUnitNumber T06 front token
 six front token phase depth e f g h = (λ x. f (inclusion_phase front phase depth e x.0, x.1), g, λ x. h (may_begin_phase front phase depth e x.0, x.1))
 
-ten : (front : List Token) (token : Token) (phase : m.Phase) (depth : ℕ) → m.run m.Begin 0 front ≡ Ok (m.state_of phase depth) → phase ≢ m.Including → IsKeyword InclusionStart token → IsUnitNumber T10 front token
+ten : (front : List Token) (token : Token) (phase : m.Phase) (depth : ℕ) → m.run m.Begin 0 front ≡ Ok (m.phase_state phase depth) → phase ≢ m.Including → IsKeyword InclusionStart token → IsUnitNumber T10 front token
 ten front token phase depth e f is = (λ x. f (inclusion_phase front phase depth e x), is)
 
 neither : (token : Token) (k : Keyword) → IsKeyword k token → k ≢ BlockEnd → ¬ (IsKeyword BlockEnd token ⊎ IsPlain token)
 neither token k is other (inl end) = other (let same : kinds.Keyword k ≡ kinds.Keyword BlockEnd = cc in cc)
 neither token k is other (inr plain) = cc
 
-inside : (front : List Token) (token : Token) (phase : m.Phase) (depth : ℕ) → m.run m.Begin 0 front ≡ Ok (m.state_of phase depth) → phase ≢ m.Including → phase ≢ m.Begin → ¬ IsKeyword InclusionStart token → IsUnitNumber T06 front token
+inside : (front : List Token) (token : Token) (phase : m.Phase) (depth : ℕ) → m.run m.Begin 0 front ≡ Ok (m.phase_state phase depth) → phase ≢ m.Including → phase ≢ m.Begin → ¬ IsKeyword InclusionStart token → IsUnitNumber T06 front token
 inside front token phase depth e f g h = six front token phase depth e (λ x. f x.0) h (λ x. g x.0)
 
 numbered : (a number : TextNumber) (front : List Token) (token : Token) → refused a ≡ refused number → IsUnitNumber a front token → IsUnitNumber number front token
 numbered a number front token e h = let same : a ≡ number = cc in subst (λ (n : TextNumber). IsUnitNumber n front token) same h
 
-pub number_of : (phase : m.Phase) (depth : ℕ) (kind : WordKind) (b : Bool) (front : List Token) (token : Token) (number : TextNumber) → m.run m.Begin 0 front ≡ Ok (m.state_of phase depth) → token.kind ≡ kind → m.next phase depth kind b ≡ Err number → IsUnitNumber number front token
+pub number_of : (phase : m.Phase) (depth : ℕ) (kind : WordKind) (b : Bool) (front : List Token) (token : Token) (number : TextNumber) → m.run m.Begin 0 front ≡ Ok (m.phase_state phase depth) → token.kind ≡ kind → m.next phase depth kind b ≡ Err number → IsUnitNumber number front token
 number_of m.Begin depth kinds.Plain true front token number e is stops = absurd cc
 number_of m.Begin depth kinds.Plain false front token number e is stops = numbered T11 number front token stops (may_begin_from front depth e, is)
 number_of m.Begin zero (kinds.Keyword BlockEnd) b front token number e is stops = numbered T09 number front token stops (may_begin_from front 0 e, is)
@@ -201,7 +201,7 @@ stops_fault tokens T07 word h = absurd h.is_number
 stops_fault tokens T08 word h = absurd h.is_number
 stops_fault tokens _ word h = h
 
-abbrev pub stop_at : (tokens : List Token) (word : ℕ) (token : Token) (phase : m.Phase) (depth : ℕ) (number : TextNumber) → slice_get tokens word ≡ Some token → m.run m.Begin 0 (take word tokens) ≡ Ok (m.state_of phase depth)
+abbrev pub stop_at : (tokens : List Token) (word : ℕ) (token : Token) (phase : m.Phase) (depth : ℕ) (number : TextNumber) → slice_get tokens word ≡ Some token → m.run m.Begin 0 (take word tokens) ≡ Ok (m.phase_state phase depth)
     → m.next phase depth token.kind (m.could_label token) ≡ Err number → StopsAtWord tokens number word
 stop_at tokens word token phase depth number there e stops = record {
   token = token;
@@ -211,14 +211,14 @@ stop_at tokens word token phase depth number there e stops = record {
   is_number = number_of phase depth token.kind (m.could_label token) (take word tokens) token number e refl stops;
 }
 
-pub stops_at : (tokens : List Token) (word : ℕ) (token : Token) (phase : m.Phase) (depth : ℕ) (number : TextNumber) → slice_get tokens word ≡ Some token → m.run m.Begin 0 (take word tokens) ≡ Ok (m.state_of phase depth)
+pub stops_at : (tokens : List Token) (word : ℕ) (token : Token) (phase : m.Phase) (depth : ℕ) (number : TextNumber) → slice_get tokens word ≡ Some token → m.run m.Begin 0 (take word tokens) ≡ Ok (m.phase_state phase depth)
     → m.next phase depth token.kind (m.could_label token) ≡ Err number → IsUnitFault tokens number word
 stops_at tokens word token phase depth number there e stops = stops_fault tokens number word (stop_at tokens word token phase depth number there e stops)
 
 -- ---- a unit that is not finished
 
-pub ends_in_unit : (tokens : List Token) (word depth : ℕ) → word < length tokens → m.run m.Begin 0 (take word tokens) ≡ Ok (m.state_of m.Begin depth)
-    → ((n : ℕ) → word < n → n ≤ length tokens → (phase : m.Phase) × (d : ℕ) × (m.run m.Begin 0 (take n tokens) ≡ Ok (m.state_of phase d)) × (phase ≢ m.Begin)) → IsUnitFault tokens T07 word
+pub ends_in_unit : (tokens : List Token) (word depth : ℕ) → word < length tokens → m.run m.Begin 0 (take word tokens) ≡ Ok (m.phase_state m.Begin depth)
+    → ((n : ℕ) → word < n → n ≤ length tokens → (phase : m.Phase) × (d : ℕ) × (m.run m.Begin 0 (take n tokens) ≡ Ok (m.phase_state phase d)) × (phase ≢ m.Begin)) → IsUnitFault tokens T07 word
 ends_in_unit tokens word depth within e later = record {
   within = within;
   viable = let last = later (length tokens) within (omega arith) in subst (λ (ts : List Token). IsViable ts) (take_all (length tokens) tokens (omega arith)) (run-IsViable (take (length tokens) tokens) (last.0, last.1) last.2);
@@ -444,10 +444,10 @@ one_open tokens v w f g l =
     omega arith
 
 -- the machine has a block open at the end
-pub block_run : (tokens : List Token) (word : ℕ) → EndsInBlock tokens word → (depth : ℕ) × (m.run m.Begin 0 tokens ≡ Ok (m.state_of m.Begin (suc depth)))
+pub block_run : (tokens : List Token) (word : ℕ) → EndsInBlock tokens word → (depth : ℕ) × (m.run m.Begin 0 tokens ≡ Ok (m.phase_state m.Begin (suc depth)))
 block_run tokens word h =
     let front = (may_begin (take word tokens)).0 h.begins in
-    let begins : m.run m.Begin 0 (take (word + 1) tokens) ≡ Ok (m.state_of m.Begin (suc front.0)) =
+    let begins : m.run m.Begin 0 (take (word + 1) tokens) ≡ Ok (m.phase_state m.Begin (suc front.0)) =
     run_next tokens word h.begin m.Begin front.0 h.there front.1 ∙ ap (λ (k : WordKind). m.next m.Begin front.0 k (m.could_label h.begin)) h.opens in (
       front.0,
       ap (m.run m.Begin 0) (sym (take-append-drop (word + 1) tokens))
@@ -494,7 +494,7 @@ whole_has_no_fault tokens number word whole h = none (sorted tokens number word 
   none (inr (inl f)) = not_all tokens word f.1 (may_begin_from tokens 0 (IsWhole-run tokens whole))
   none (inr (inr f)) =
       let last = block_run tokens word f.1 in
-      let same : m.state_of m.Begin (suc last.0) ≡ m.state_of m.Begin 0 = let x : m.run m.Begin 0 tokens ≡ Ok (m.state_of m.Begin 0) = IsWhole-run tokens whole in let y : m.run m.Begin 0 tokens ≡ Ok (m.state_of m.Begin (suc last.0)) = last.1 in cc in
+      let same : m.phase_state m.Begin (suc last.0) ≡ m.phase_state m.Begin 0 = let x : m.run m.Begin 0 tokens ≡ Ok (m.phase_state m.Begin 0) = IsWhole-run tokens whole in let y : m.run m.Begin 0 tokens ≡ Ok (m.phase_state m.Begin (suc last.0)) = last.1 in cc in
       let depth : suc last.0 ≡ 0 = ap (λ (s : m.Phase × ℕ). s.1) same in
       omega arith
 
@@ -557,7 +557,7 @@ shorter xs us zs later z d joined rest even inside =
     let z_start : is_start_word z.kind ≡ 0 = (end_counts z is).0 in
     omega arith
 
-pub closed_units : (xs : List Token) (depth d : ℕ) → m.run m.Begin (suc depth) xs ≡ Ok (m.state_of m.Begin d) → starts xs ≡ ends xs → Covered xs → (inner : Units) × AreUnits false inner × (xs ≡ unit_tokens inner)
+pub closed_units : (xs : List Token) (depth d : ℕ) → m.run m.Begin (suc depth) xs ≡ Ok (m.phase_state m.Begin d) → starts xs ≡ ends xs → Covered xs → (inner : Units) × AreUnits false inner × (xs ≡ unit_tokens inner)
 closed_units xs depth d e even h = both (cut_twice xs (blocks d) (unit_tokens closes.inner) (closes.end ∷ closes.later) closes.joined) where
   closes : Closes (Completes depth) (xs ++ blocks d)
   closes = whole_run (xs ++ blocks d) m.Begin (suc depth) (run-append xs (blocks d) m.Begin (suc depth) (m.Begin, d) e ∙ blocks_run d)
@@ -571,7 +571,7 @@ closed_units xs depth d e even h = both (cut_twice xs (blocks d) (unit_tokens cl
   both (inr ([], joined, rest)) = (closes.inner, closes.inside, sym (joined ∙ append-nil xs))
   both (inr (z ∷ zs, joined, rest)) = absurd (shorter xs (unit_tokens closes.inner) zs (closes.end ∷ closes.later) z d joined (sym rest) even inside)
 
-pub ends_in_block : (tokens : List Token) (word d : ℕ) (token : Token) → m.run m.Begin 0 tokens ≡ Ok (m.state_of m.Begin d) → slice_get tokens word ≡ Some token → IsKeyword BlockStart token
+pub ends_in_block : (tokens : List Token) (word d : ℕ) (token : Token) → m.run m.Begin 0 tokens ≡ Ok (m.phase_state m.Begin d) → slice_get tokens word ≡ Some token → IsKeyword BlockStart token
     → starts (drop (word + 1) tokens) ≡ ends (drop (word + 1) tokens) → ((n : ℕ) → word < n → starts (drop n tokens) ≤ ends (drop n tokens)) → IsUnitFault tokens T08 word
 ends_in_block tokens word d token e there opens even fewer = record {
   begin = token;
@@ -597,13 +597,13 @@ ends_in_block tokens word d token e there opens even fewer = record {
   is_begin : front.0.0 ≡ m.Begin
   is_begin = begins_only front.0.0 front.0.1 (m.could_label token) more.0 step
 
-  front_begins : m.run m.Begin 0 (take word tokens) ≡ Ok (m.state_of m.Begin front.0.1)
+  front_begins : m.run m.Begin 0 (take word tokens) ≡ Ok (m.phase_state m.Begin front.0.1)
   front_begins = front.1 ∙ ap (λ (p : m.Phase). Ok (p, front.0.1)) is_begin
 
-  more_begins : m.run m.Begin 0 (take (word + 1) tokens) ≡ Ok (m.state_of m.Begin (suc front.0.1))
+  more_begins : m.run m.Begin 0 (take (word + 1) tokens) ≡ Ok (m.phase_state m.Begin (suc front.0.1))
   more_begins = run_next tokens word token m.Begin front.0.1 there front_begins ∙ ap (λ (k : WordKind). m.next m.Begin front.0.1 k (m.could_label token)) opens
 
-  rest : m.run m.Begin (suc front.0.1) (drop (word + 1) tokens) ≡ Ok (m.state_of m.Begin d)
+  rest : m.run m.Begin (suc front.0.1) (drop (word + 1) tokens) ≡ Ok (m.phase_state m.Begin d)
   rest = sym (run-append (take (word + 1) tokens) (drop (word + 1) tokens) m.Begin 0 (m.Begin, suc front.0.1) more_begins) ∙ ap (m.run m.Begin 0) (take-append-drop (word + 1) tokens) ∙ e
 
   fewer_behind : (n : ℕ) → starts (drop n (drop (word + 1) tokens)) ≤ ends (drop n (drop (word + 1) tokens))

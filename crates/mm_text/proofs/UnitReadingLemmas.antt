@@ -195,7 +195,7 @@ one_step m.Named depth token tokens (kinds.Keyword _) b later is label e = absur
 
 pub stands : (phase : m.Phase) (depth : ℕ) → m.run phase depth [] ≡ Ok (m.Begin, 0) → (phase ≡ m.Begin) × (depth ≡ 0)
 stands phase depth e =
-    let pair : m.state_of phase depth ≡ m.state_of m.Begin 0 = cc in
+    let pair : m.phase_state phase depth ≡ m.phase_state m.Begin 0 = cc in
     (ap (λ (s : m.Phase × ℕ). s.0) pair, ap (λ (s : m.Phase × ℕ). s.1) pair)
 
 pub whole_run : (tokens : List Token) (phase : m.Phase) (depth : ℕ) → m.run phase depth tokens ≡ Ok (m.Begin, 0) → Meaning phase depth tokens
@@ -272,7 +272,7 @@ after_ok (Err number) more front s e later = absurd cc
 
 pub run-append : (front more : List Token) (phase : m.Phase) (depth : ℕ) (s : m.Phase × ℕ) → m.run phase depth front ≡ Ok s → m.run phase depth (front ++ more) ≡ m.run s.0 s.1 more
 run-append [] more phase depth s e =
-    let same : m.state_of phase depth ≡ s = cc in
+    let same : m.phase_state phase depth ≡ s = cc in
     ap (λ (s : m.Phase × ℕ). m.run s.0 s.1 more) same
 run-append (token ∷ front) more phase depth s e = after_ok (m.next phase depth token.kind (m.could_label token)) more front s e (λ p d h. run-append front more p d s h)
 

@@ -52,7 +52,7 @@ step_counts m.Named depth (kinds.Keyword _) b = tt
 
 pub run_counts : (tokens : List Token) (phase : m.Phase) (depth : ℕ) (s : m.Phase × ℕ) → m.run phase depth tokens ≡ Ok s → depth + starts tokens ≡ s.1 + ends tokens
 run_counts [] phase depth s e =
-    let same : m.state_of phase depth ≡ s = cc in
+    let same : m.phase_state phase depth ≡ s = cc in
     let last : depth ≡ s.1 = ap (λ (s : m.Phase × ℕ). s.1) same in
     omega arith
 run_counts (token ∷ tokens) phase depth s e = by_step (λ p d h. run_counts tokens p d s h) (m.next phase depth token.kind (m.could_label token)) (step_counts phase depth token.kind (m.could_label token)) e where
@@ -109,13 +109,13 @@ pub scan_other : (tokens : List Token) (word level : ℕ) (token : Token) → sl
 scan_other tokens word level token there f g h = let counts : (is_start_word token.kind ≡ 0) × (is_end_word token.kind ≡ 0) = other_counts token token.kind refl f g in scan_more tokens word level level token there (omega arith) h
 
 -- the scan stops at a `${` that nothing behind it closes
-pub scan_found : (tokens : List Token) (word d : ℕ) (token : Token) → m.run m.Begin 0 tokens ≡ Ok (m.state_of m.Begin d) → slice_get tokens word ≡ Some token → IsKeyword BlockStart token → Scan tokens (word + 1) 0 → IsUnitFault tokens T08 word
+pub scan_found : (tokens : List Token) (word d : ℕ) (token : Token) → m.run m.Begin 0 tokens ≡ Ok (m.phase_state m.Begin d) → slice_get tokens word ≡ Some token → IsKeyword BlockStart token → Scan tokens (word + 1) 0 → IsUnitFault tokens T08 word
 scan_found tokens word d token e there is h =
     let same : 0 + starts (drop (word + 1) tokens) ≡ ends (drop (word + 1) tokens) = h.even in
     ends_in_block tokens word d token e there is (omega arith) (λ n l. h.fewer n (omega arith))
 
 -- the scan does not come to the first word where a block is open
-pub scan_all : (tokens : List Token) (level d : ℕ) → m.run m.Begin 0 tokens ≡ Ok (m.state_of m.Begin (suc d)) → Scan tokens 0 level → ⊥
+pub scan_all : (tokens : List Token) (level d : ℕ) → m.run m.Begin 0 tokens ≡ Ok (m.phase_state m.Begin (suc d)) → Scan tokens 0 level → ⊥
 scan_all tokens level d e h =
     let same : level + starts tokens ≡ ends tokens = h.even in
     let count : 0 + starts tokens ≡ suc d + ends tokens = run_counts tokens m.Begin 0 (m.Begin, suc d) e in
@@ -126,7 +126,7 @@ place_here [] word l = absurd (omega arith)
 place_here (token ∷ tokens) zero l = (token, refl)
 place_here (token ∷ tokens) (suc word) l = place_here tokens word (omega arith)
 
-scan_on : (tokens : List Token) (d : ℕ) → m.run m.Begin 0 tokens ≡ Ok (m.state_of m.Begin (suc d)) → (from level : ℕ) → from ≤ length tokens → Scan tokens from level → (word : ℕ) × IsUnitFault tokens T08 word
+scan_on : (tokens : List Token) (d : ℕ) → m.run m.Begin 0 tokens ≡ Ok (m.phase_state m.Begin (suc d)) → (from level : ℕ) → from ≤ length tokens → Scan tokens from level → (word : ℕ) × IsUnitFault tokens T08 word
 scan_on tokens d e zero level l h = absurd (scan_all tokens level d e h)
 scan_on tokens d e (suc from) level l h = by_kind there.0.kind refl (λ next g. scan_on tokens d e from next (omega arith) g) where
   there : (token : Token) × (slice_get tokens from ≡ Some token)
@@ -148,7 +148,7 @@ scan_on tokens d e (suc from) level l h = by_kind there.0.kind refl (λ next g. 
   by_kind kinds.Plain is more = more level (scan_other tokens from level there.0 there.1 (λ x. cc) (λ x. cc) scan)
   by_kind (kinds.Keyword _) is more = more level (scan_other tokens from level there.0 there.1 (λ x. cc) (λ x. cc) scan)
 
-pub open_block : (tokens : List Token) (d : ℕ) → m.run m.Begin 0 tokens ≡ Ok (m.state_of m.Begin (suc d)) → (word : ℕ) × IsUnitFault tokens T08 word
+pub open_block : (tokens : List Token) (d : ℕ) → m.run m.Begin 0 tokens ≡ Ok (m.phase_state m.Begin (suc d)) → (word : ℕ) × IsUnitFault tokens T08 word
 open_block tokens d e = scan_on tokens d e (length tokens) 0 (omega arith) (scan_none tokens)
 
 -- the first word that stops
@@ -159,7 +159,7 @@ slice_get_at (first ∷ front) rest token = slice_get_at front rest token
 abbrev HasFault : List Token → TextNumber → Type 0
 HasFault tokens number = (word : ℕ) × IsUnitFault tokens number word
 
-pub stop_from : (rest front : List Token) (phase : m.Phase) (depth : ℕ) (number : TextNumber) → m.run m.Begin 0 front ≡ Ok (m.state_of phase depth) → m.run phase depth rest ≡ Err number → (word : ℕ) × IsUnitFault (front ++ rest) number word
+pub stop_from : (rest front : List Token) (phase : m.Phase) (depth : ℕ) (number : TextNumber) → m.run m.Begin 0 front ≡ Ok (m.phase_state phase depth) → m.run phase depth rest ≡ Err number → (word : ℕ) × IsUnitFault (front ++ rest) number word
 stop_from [] front phase depth number e f = absurd cc
 stop_from (token ∷ rest) front phase depth number e f =
     by_step (λ s is h. stop_from rest (front ++ token ∷ []) s.0 s.1 number (run_push front token phase depth e ∙ is) h) (m.next phase depth token.kind (m.could_label token)) refl f where
@@ -177,18 +177,18 @@ pub record LastBegin (tokens : List Token) (n : ℕ) : Type 0 where
   pub word : ℕ
   pub depth : ℕ
   pub within : word ≤ n
-  pub begins : m.run m.Begin 0 (take word tokens) ≡ Ok (m.state_of m.Begin depth)
-  pub later : (k : ℕ) → word < k → k ≤ n → (phase : m.Phase) × (d : ℕ) × (m.run m.Begin 0 (take k tokens) ≡ Ok (m.state_of phase d)) × (phase ≢ m.Begin)
+  pub begins : m.run m.Begin 0 (take word tokens) ≡ Ok (m.phase_state m.Begin depth)
+  pub later : (k : ℕ) → word < k → k ≤ n → (phase : m.Phase) × (d : ℕ) × (m.run m.Begin 0 (take k tokens) ≡ Ok (m.phase_state phase d)) × (phase ≢ m.Begin)
 
-pub last_here : (tokens : List Token) (n depth : ℕ) → m.run m.Begin 0 (take n tokens) ≡ Ok (m.state_of m.Begin depth) → LastBegin tokens n
+pub last_here : (tokens : List Token) (n depth : ℕ) → m.run m.Begin 0 (take n tokens) ≡ Ok (m.phase_state m.Begin depth) → LastBegin tokens n
 last_here tokens n depth e = record { word = n; depth = depth; within = omega arith; begins = e; later = λ k l g. absurd (omega arith) }
 
-pub last_more : (tokens : List Token) (n : ℕ) (phase : m.Phase) (depth : ℕ) → m.run m.Begin 0 (take (n + 1) tokens) ≡ Ok (m.state_of phase depth) → phase ≢ m.Begin → LastBegin tokens n → LastBegin tokens (n + 1)
+pub last_more : (tokens : List Token) (n : ℕ) (phase : m.Phase) (depth : ℕ) → m.run m.Begin 0 (take (n + 1) tokens) ≡ Ok (m.phase_state phase depth) → phase ≢ m.Begin → LastBegin tokens n → LastBegin tokens (n + 1)
 last_more tokens n phase depth e other h = record { word = h.word; depth = h.depth; within = omega (arith, h.within); begins = h.begins; later = later } where
-  here : (k : ℕ) → k ≡ n + 1 → (phase : m.Phase) × (d : ℕ) × (m.run m.Begin 0 (take k tokens) ≡ Ok (m.state_of phase d)) × (phase ≢ m.Begin)
+  here : (k : ℕ) → k ≡ n + 1 → (phase : m.Phase) × (d : ℕ) × (m.run m.Begin 0 (take k tokens) ≡ Ok (m.phase_state phase d)) × (phase ≢ m.Begin)
   here k same = (phase, depth, ap (λ (i : ℕ). m.run m.Begin 0 (take i tokens)) same ∙ e, other)
 
-  later : (k : ℕ) → h.word < k → k ≤ n + 1 → (phase : m.Phase) × (d : ℕ) × (m.run m.Begin 0 (take k tokens) ≡ Ok (m.state_of phase d)) × (phase ≢ m.Begin)
+  later : (k : ℕ) → h.word < k → k ≤ n + 1 → (phase : m.Phase) × (d : ℕ) × (m.run m.Begin 0 (take k tokens) ≡ Ok (m.phase_state phase d)) × (phase ≢ m.Begin)
   later k l g = ⊎_elim (λ above. here k (omega arith)) (λ below. h.later k l below) (cases_lt n k)
 
 pub is_begin : (phase : m.Phase) → (phase ≡ m.Begin) ⊎ (phase ≢ m.Begin)
@@ -208,7 +208,7 @@ last_begin tokens (suc n) viable = by_phase state.0.0 state.0.1 state.1 (is_begi
   one : n + 1 ≡ suc n
   one = omega arith
 
-  by_phase : (phase : m.Phase) (depth : ℕ) → m.run m.Begin 0 (take (suc n) tokens) ≡ Ok (m.state_of phase depth) → (phase ≡ m.Begin) ⊎ (phase ≢ m.Begin) → LastBegin tokens n → LastBegin tokens (suc n)
+  by_phase : (phase : m.Phase) (depth : ℕ) → m.run m.Begin 0 (take (suc n) tokens) ≡ Ok (m.phase_state phase depth) → (phase ≡ m.Begin) ⊎ (phase ≢ m.Begin) → LastBegin tokens n → LastBegin tokens (suc n)
   by_phase phase depth e (inl is) h = last_here tokens (suc n) depth (e ∙ ap (λ (p : m.Phase). Ok (p, depth)) is)
   by_phase phase depth e (inr other) h = subst (λ (k : ℕ). LastBegin tokens k) one (last_more tokens n phase depth (ap (λ (k : ℕ). m.run m.Begin 0 (take k tokens)) one ∙ e) other h)
 
@@ -216,24 +216,24 @@ below : (v w : ℕ) → v ≤ w → v ≢ w → v < w
 below v w l other = omega arith
 
 -- the unit that is not finished begins at the last place where one may
-pub last_fault : (tokens : List Token) (phase : m.Phase) (depth : ℕ) → m.run m.Begin 0 tokens ≡ Ok (m.state_of phase depth) → phase ≢ m.Begin → (last : LastBegin tokens (length tokens)) → IsUnitFault tokens T07 last.word
+pub last_fault : (tokens : List Token) (phase : m.Phase) (depth : ℕ) → m.run m.Begin 0 tokens ≡ Ok (m.phase_state phase depth) → phase ≢ m.Begin → (last : LastBegin tokens (length tokens)) → IsUnitFault tokens T07 last.word
 last_fault tokens phase depth e other last = ends_in_unit tokens last.word last.depth (below last.word (length tokens) last.within apart) last.begins last.later where
   apart : last.word ≢ length tokens
   apart is =
       let all : take last.word tokens ≡ tokens = ap (λ (n : ℕ). take n tokens) is ∙ take_all (length tokens) tokens (omega arith) in
       other (may_begin_phase tokens phase depth e (may_begin_from tokens last.depth (ap (m.run m.Begin 0) (sym all) ∙ last.begins)))
 
-pub open_unit : (tokens : List Token) (phase : m.Phase) (depth : ℕ) → m.run m.Begin 0 tokens ≡ Ok (m.state_of phase depth) → phase ≢ m.Begin → (word : ℕ) × IsUnitFault tokens T07 word
+pub open_unit : (tokens : List Token) (phase : m.Phase) (depth : ℕ) → m.run m.Begin 0 tokens ≡ Ok (m.phase_state phase depth) → phase ≢ m.Begin → (word : ℕ) × IsUnitFault tokens T07 word
 open_unit tokens phase depth e other =
     let last : LastBegin tokens (length tokens) = last_begin tokens (length tokens) (run-IsViable tokens (phase, depth) e) in
     (last.word, last_fault tokens phase depth e other last)
 
 pub whole_or_fault : (tokens : List Token) → IsWhole tokens ⊎ ((number : TextNumber) × (word : ℕ) × IsUnitFault tokens number word)
 whole_or_fault tokens = by_run (m.run m.Begin 0 tokens) refl where
-  open_at : (phase : m.Phase) (depth : ℕ) → m.run m.Begin 0 tokens ≡ Ok (m.state_of phase depth) → (phase ≢ m.Begin) → IsWhole tokens ⊎ ((number : TextNumber) × (word : ℕ) × IsUnitFault tokens number word)
+  open_at : (phase : m.Phase) (depth : ℕ) → m.run m.Begin 0 tokens ≡ Ok (m.phase_state phase depth) → (phase ≢ m.Begin) → IsWhole tokens ⊎ ((number : TextNumber) × (word : ℕ) × IsUnitFault tokens number word)
   open_at phase depth e other = let fault : (word : ℕ) × IsUnitFault tokens T07 word = open_unit tokens phase depth e other in inr (T07, fault.0, fault.1)
 
-  by_state : (phase : m.Phase) (depth : ℕ) → m.run m.Begin 0 tokens ≡ Ok (m.state_of phase depth) → IsWhole tokens ⊎ ((number : TextNumber) × (word : ℕ) × IsUnitFault tokens number word)
+  by_state : (phase : m.Phase) (depth : ℕ) → m.run m.Begin 0 tokens ≡ Ok (m.phase_state phase depth) → IsWhole tokens ⊎ ((number : TextNumber) × (word : ℕ) × IsUnitFault tokens number word)
   by_state m.Begin zero e = inl (run-IsWhole tokens e)
   by_state m.Begin (suc depth) e = let fault : (word : ℕ) × IsUnitFault tokens T08 word = open_block tokens depth e in inr (T08, fault.0, fault.1)
   by_state m.Labelled depth e = open_at m.Labelled depth e (λ e. cc)

@@ -1,7 +1,6 @@
 -- What the code keeps: private contracts and loop invariants cite it.
 pub mod LeftToRight
 pub mod Reader
-pub mod WordsLeft
 pub mod Cursor
 pub mod UnitReading
 pub mod BlockCounts

@@ -7,3 +7,4 @@ pub mod Place
 pub mod Unit
 pub mod Cut
 pub mod Part
+pub mod WordsLeft

@@ -5,7 +5,7 @@ ghost use Rattle.std.specs.List.{AllByRecursion, flat_map};
 ghost use Rattle.mm_text.specs.declared.word.Word.{Word};
 ghost use Rattle.mm_text.specs.Language.Reading.{HasWords, LiesIn};
 ghost use Rattle.mm_text.specs.Language.Unit.{spellings};
-ghost use Rattle.mm_text.specs.Code.WordsLeft.{SkipsPlainWords};
+ghost use Rattle.mm_text.specs.Language.WordsLeft.{SkipsPlainWords};
 
 use crate::reader::Reader;
 use crate::word::Word;
@@ -20,7 +20,7 @@ pub struct WordCursor<'a> {
 }
 
 impl<'a> Model for WordCursor<'a> {
-    ghost use Rattle.mm_text.specs.Code.WordsLeft.{WordsLeft};
+    ghost use Rattle.mm_text.specs.Language.WordsLeft.{WordsLeft};
 
     ghost Value = { WordsLeft };
 

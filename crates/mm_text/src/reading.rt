@@ -4,7 +4,7 @@ ghost use Rattle.std.specs.Prelude.{◌≡◌, ◌<◌, List, None, IfOk, IfErr,
 ghost use Rattle.mm_text.specs.declared.word.Word.{Word};
 ghost use Rattle.std.specs.List.{list_all};
 ghost use Rattle.mm_text.specs.Language.Run.{runs};
-ghost use Rattle.mm_text.specs.Code.LeftToRight.{read_runs, read_text, Gives};
+ghost use Rattle.mm_text.specs.Code.LeftToRight.{read_runs, read_text, GivesWords};
 ghost use Rattle.mm_text.specs.Language.Reading.{first_bad, is_allowed, HasWords, IsWordsError, IsTextErrorIn, LiesIn, AreWithin};
 
 use crate::cursor::WordCursor;
@@ -36,7 +36,7 @@ pub fn first_bad_byte(text: &[u8]) -> Option<usize>
 }
 
 fn read_words(alloc: Global, text: &[u8]) -> Result<Vec<Word>, TextError>
-    ensures { Gives result (read_runs None (runs text.now)) }
+    ensures { GivesWords result (read_runs None (runs text.now)) }
 {
     let mut words = Vec::new(alloc);
     let mut reader = Reader::new(text);
@@ -47,7 +47,7 @@ fn read_words(alloc: Global, text: &[u8]) -> Result<Vec<Word>, TextError>
 }
 
 fn read_all(alloc: Global, text: &[u8]) -> Result<Vec<Word>, TextError>
-    ensures { Gives result (read_text text.now) }
+    ensures { GivesWords result (read_text text.now) }
 {
     if let Some(at) = first_bad_byte(text) {
         return Err(TextError::Fault(TextFault {

@@ -6,7 +6,7 @@ ghost use Rattle.mm_text.specs.Language.Unit as labels;
 ghost use Rattle.mm_text.specs.Language.Run.{is_white, is_solid};
 ghost use Rattle.mm_text.specs.Language.Reading.{is_allowed};
 ghost use Rattle.mm_text.specs.Language.Spelling.{opening, closing};
-ghost use Rattle.mm_text.specs.Code.LeftToRight.{has_dollar, is_plain, keyword_at, word_kind, is_mark, holds_mark};
+ghost use Rattle.mm_text.specs.Code.LeftToRight.{has_dollar, is_dollarless, keyword_at, word_kind, is_mark, holds_mark};
 
 use crate::word::{Keyword, WordKind};
 
@@ -51,7 +51,7 @@ fn run_len(bytes: &[u8]) -> usize
 /// Whether a byte is neither white space nor a `$`. Most bytes are told by one comparison.
 #[tactic(auto, unfolding(crate::specs::Language::Run::is_white))]
 fn is_plain_byte(byte: u8) -> bool
-    ensures { result ≡ is_plain byte }
+    ensures { result ≡ is_dollarless byte }
 {
     byte > b'$' || !(byte == b'$' || is_white_space(byte))
 }
@@ -59,7 +59,7 @@ fn is_plain_byte(byte: u8) -> bool
 /// How many bytes stand before the first white space or `$`, or before the end.
 fn plain_len(bytes: &[u8]) -> usize
     ensures within { result ≤ length bytes.now }
-    ensures value { result ≡ prefix_len is_plain bytes.now }
+    ensures value { result ≡ prefix_len is_dollarless bytes.now }
 {
     bytes
         .iter()

@@ -1,12 +1,88 @@
--- Files to which nothing was done have no parked piece.
-use Rattle.std.proofs.Common.{◌≡◌, ℕ, sym, ap, ◌∙◌}
-use Rattle.std.specs.List.{sum_by}
+-- Files that are loaded: none is parked, those that are there stay, and a walk goes on among them.
+use Rattle.std.proofs.Common.{◌≡◌, ◌≢◌, ℕ, ◌+◌, ◌<◌, suc, Bool, true, false, not, cond, List, [], ◌∷◌, ◌++◌, Some, None, length, map, sym, ap, ◌∙◌, subst, refl, inl, inr, arith}
+use Rattle.std.specs.Prelude.{Contains, position}
+use Rattle.std.specs.List.{position_or_len, sum_by}
+use Rattle.std.specs.Str.{bytes_eq}
 use Rattle.std.specs.FinMap as finite
 use Rattle.std.specs.Ordering.{nat_cmp}
-use Rattle.std.proofs.lemmas.List.{nil_from_length}
-use Rattle.mm_store.specs.Language.FileFacts.{parked_in}
-use Rattle.mm_store.specs.Language.FilesView.{no_files}
+use Rattle.std.proofs.lemmas.Bool.{lt-ltb}
+use Rattle.std.proofs.lemmas.List.{length-map, nil_from_length}
+use Rattle.std.proofs.lemmas.Option.{none-some}
+use Rattle.std.proofs.lemmas.Slice.Eq.{bytes_eq-Decides}
+use Rattle.mm_store.specs.declared.error.StoreError.{StoreError}
+use Rattle.mm_store.specs.declared.error.StoreError.TheVariants.{Memory, NoTop}
+use Rattle.mm_store.specs.Language.Answers.{IsExpansionError}
+use Rattle.mm_store.specs.declared.item.Item.{Item}
+use Rattle.mm_store.specs.Language.FileFacts.{IsAdded, parked_in}
+use Rattle.mm_store.specs.Language.FilesView.{File, FilesView, file_number, file_view, files_in, no_files, number_of, plain, plain_file}
+use Rattle.mm_store.specs.Language.Keyless.{bare, bare_file}
 use Rattle.mm_store.specs.Language.Pieces.{HeldPiece, parked_state}
+use Rattle.mm_store.specs.Language.Walking.{WalkView, IsWalk, FindsMissing}
+use Rattle.mmkeep.specs.Code.Loaded.{HasFile, HasWalked, IsNew, MayHaveAdded}
 
 pub nothing_parked : parked_in no_files ≡ 0
 nothing_parked = ap (sum_by (λ (entry : ℕ × HeldPiece). parked_state entry.1.state)) (nil_from_length (finite.entries finite.empty) (sym (finite.len-entries finite.empty) ∙ finite.len-empty nat_cmp HeldPiece))
+
+-- ---- the first that passes a test
+
+module _ {X : Type 0} (test : X → Bool) where
+  step : (b : Bool) (k n : ℕ) → k < n → cond (not b) (1 + k) 0 < suc n
+  step true k n h = omega arith
+  step false k n h = omega arith
+
+  place_last : (xs : List X) (y : X) → test y ≡ true → position_or_len test (xs ++ y ∷ []) < length (xs ++ y ∷ [])
+  place_last [] y t = subst (λ (b : Bool). cond (not b) (1 + 0) 0 < 1) (sym t) (omega arith)
+  place_last (x ∷ xs) y t = step (test x) (position_or_len test (xs ++ y ∷ [])) (length (xs ++ y ∷ [])) (place_last xs y t)
+
+  -- one is there, where its place is within
+  there : (xs : List X) → position_or_len test xs < length xs → position test xs ≢ None
+  there xs h e = none-some (position_or_len test xs) (sym e ∙ ap (λ b. cond b (Some (position_or_len test xs)) None) (lt-ltb (position_or_len test xs) (length xs) h))
+
+-- ---- a file that is added
+
+pub added_there : (old new : FilesView) (name text : List ℕ) → IsAdded (plain old) (plain new) name text → HasFile new name
+added_there old new name text a =
+    let test : File → Bool = λ file. bytes_eq name file.name in
+    let same : test a.file ≡ true = (bytes_eq-Decides name a.file.name).1 (sym a.is_name) in
+    subst (λ (files : List File). file_number files name ≢ None) (sym a.last) (there test (plain old ++ a.file ∷ []) (place_last test (plain old) a.file same))
+
+-- ---- why files that have the top file are not gone through
+
+before_map : {X Y : Type 0} (test : Y → Bool) (f : X → Y) (xs : List X) → position_or_len test (map f xs) ≡ position_or_len (λ x. test (f x)) xs
+before_map test f [] = refl
+before_map test f (x ∷ xs) = ap (λ (k : ℕ). cond (not (test (f x))) (1 + k) 0) (before_map test f xs)
+
+position_map : {X Y : Type 0} (test : Y → Bool) (f : X → Y) (xs : List X) → position test (map f xs) ≡ position (λ x. test (f x)) xs
+position_map test f xs = rw (before_map test f xs, length-map xs f) refl
+
+-- a name has one number, with keys and without
+number_plain : (files : FilesView) (name : List ℕ) → file_number (plain files) name ≡ number_of (files_in files) name
+number_plain files name = position_map (λ file. bytes_eq name file.name) (plain_file files.pieces) files.keyed ∙ sym (position_map (λ file. bytes_eq name file.name) (file_view files.pieces) files.keyed)
+
+pub has_number : (files : FilesView) (name : List ℕ) → HasFile files name → number_of (files_in files) name ≢ None
+has_number files name has e = has (number_plain files name ∙ e)
+
+-- it is want of memory
+pub is_memory : (error : StoreError) → IsExpansionError error → (error ≡ NoTop → ⊥) → error ≡ Memory
+is_memory error (inl e) some = absurd (some e)
+is_memory error (inr e) some = e
+
+-- ---- a name that a walk finds missing
+
+-- it is new
+pub missing_new : (files : FilesView) (top name : List ℕ) (items : List Item) (before after : WalkView)
+    → FindsMissing (bare (plain files)) top items before after name → IsNew files name
+missing_new files top name items before after finds = sym (position_map (λ file. bytes_eq name file.name) bare_file (plain files)) ∙ finds.none
+
+-- a walk goes on among more files, where it has not taken the name that is added
+abbrev pub WalksOn : Type 0
+WalksOn = (old new : List File) (name text top : List ℕ) (items : List Item) (walk : WalkView)
+    → IsAdded old new name text → ¬ Contains walk.names name → IsWalk (bare old) top items walk → IsWalk (bare new) top items walk
+
+pub walked_on : WalksOn → (old new : FilesView) (top name : List ℕ) (items : List Item) (before after : WalkView)
+    → FindsMissing (bare (plain old)) top items before after name → MayHaveAdded old new name → HasWalked new after
+walked_on law old new top name items before after finds (inl same) =
+    (top, items ++ finds.goes_on.more, subst (λ (files : FilesView). IsWalk (bare (plain files)) top (items ++ finds.goes_on.more) after) (sym same) finds.goes_on.is_walk)
+walked_on law old new top name items before after finds (inr added) =
+    let untaken : ¬ Contains after.names name = λ taken. finds.stands.new (subst (Contains after.names) (sym finds.is_name) taken) in
+    (top, items ++ finds.goes_on.more, law (plain old) (plain new) name added.0 top (items ++ finds.goes_on.more) after added.1 untaken finds.goes_on.is_walk)

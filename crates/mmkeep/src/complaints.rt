@@ -1,9 +1,10 @@
 //! What keeps the program from its work, told by a line on standard error.
 
-ghost use Rattle.std.specs.Prelude.{◌≤◌, length};
+ghost use Rattle.std.specs.Prelude.{◌≡◌, ◌≤◌, length};
+ghost use Rattle.mm_store.specs.declared.error.StoreError.TheVariants.{Memory};
 
 use crate::outcome::{Outcome, outcome_of_stop};
-use mm_keep::{Place, TextFault, place};
+use mm_keep::{Place, StoreError, TextFault, place};
 use mm_report::ScriptError;
 
 /// The words of the command line are no command.
@@ -15,6 +16,16 @@ pub(crate) fn refuse_arguments(rt: &impl Eprint) -> Outcome {
 pub(crate) fn lack_memory(rt: &impl Eprint) -> Outcome {
     let _ = eprintln!(rt; "mmkeep: out of memory");
     Outcome::Memory
+}
+
+/// Files that have the top file are not gone through: no reason is left but memory.
+pub(crate) fn lack(rt: &impl Eprint, error: StoreError) -> Outcome
+    requires { error ≡ Memory }
+{
+    match error {
+        StoreError::Memory => lack_memory(rt),
+        _ => unreachable!(),
+    }
 }
 
 /// A file cannot be opened, or a read of it failed.

@@ -4,12 +4,13 @@ ghost use Rattle.std.specs.Prelude.{◌≡◌, IfOk, IfSome, OnOk};
 ghost use Rattle.mm_store.specs.Language.Answers.{IsAddErrorIn};
 ghost use Rattle.mm_store.specs.Language.FileFacts.{parked_in};
 ghost use Rattle.mm_report.specs.Language.Stream.{unread};
+ghost use Rattle.mmkeep.specs.Code.Loaded.{HasAdded, HasFile, HasWalked, IsNew, IsNewError, KeepsFiles, MayHaveAdded};
 
-use crate::complaints::{lack_memory, refuse_text, too_many, unreadable};
+use crate::complaints::{lack, lack_memory, refuse_text, too_many, unreadable};
 use crate::outcome::Outcome;
 use mm_keep::{Files as Database, StoreError};
 use mm_report::{ReadFailed, Reading};
-use mm_store::Walk;
+use mm_store::{Walk, walks_go_on};
 use std::alloc::{AllocError, Global};
 use std::fs::File;
 use std::io::{ErrorKind, Read};
@@ -55,7 +56,8 @@ pub fn read_all<R: Read>(alloc: Global, reading: &mut Reading<R>) -> Result<Vec<
 /// The top file and the files that it includes: each name is opened at its first reference, in the order of the
 /// expansion, once. A name that cannot be opened stays missing. What keeps a file from being loaded is told.
 pub(crate) fn load(rt: &(impl Files + Eprint + AllocGlobal), top: &str) -> Result<Database, Outcome>
-    ensures { IfOk result (λ files. parked_in files ≡ 0) }
+    ensures parked { IfOk result (λ files. parked_in files ≡ 0) }
+    ensures top { IfOk result (λ files. HasFile files top.now) }
 {
     let mut files = Database::new(rt.alloc());
     match add_all(rt, &mut files, top) {
@@ -70,12 +72,14 @@ fn add_all(
     files: &mut Database,
     top: &str,
 ) -> Result<(), Outcome>
-    ensures { OnOk result (parked_in files.new ≡ parked_in files.old) }
+    requires { IsNew files.old top.now }
+    ensures parked { OnOk result (parked_in files.new ≡ parked_in files.old) }
+    ensures top { OnOk result (HasFile files.new top.now) }
 {
     add_top(rt, files, top)?;
     match files.walk(rt.alloc(), top.as_bytes()) {
         Ok(mut walk) => add_missing(rt, files, &mut walk),
-        Err(_) => Err(lack_memory(rt)),
+        Err(error) => Err(lack(rt, error)),
     }
 }
 
@@ -85,7 +89,9 @@ fn add_top(
     files: &mut Database,
     top: &str,
 ) -> Result<(), Outcome>
-    ensures { OnOk result (parked_in files.new ≡ parked_in files.old) }
+    requires { IsNew files.old top.now }
+    ensures parked { OnOk result (parked_in files.new ≡ parked_in files.old) }
+    ensures top { OnOk result (HasFile files.new top.now) }
 {
     match File::open(rt, top) {
         Ok(file) => add_file(rt, files, top, file),
@@ -100,8 +106,11 @@ fn add_missing(
     files: &mut Database,
     walk: &mut Walk,
 ) -> Result<(), Outcome>
-    ensures { OnOk result (parked_in files.new ≡ parked_in files.old) }
+    requires { HasWalked files.old walk.old }
+    ensures parked { OnOk result (parked_in files.new ≡ parked_in files.old) }
+    ensures kept { OnOk result (KeepsFiles files.old files.new) }
 {
+    walks_go_on();
     // The texts have fewer inclusions than bytes.
     for _ in 0..u32::MAX {
         match walk.next_missing(rt.alloc(), files) {
@@ -119,7 +128,10 @@ fn add_included(
     files: &mut Database,
     name: &[u8],
 ) -> Result<(), Outcome>
-    ensures { OnOk result (parked_in files.new ≡ parked_in files.old) }
+    requires { IsNew files.old name.now }
+    ensures parked { OnOk result (parked_in files.new ≡ parked_in files.old) }
+    ensures kept { OnOk result (KeepsFiles files.old files.new) }
+    ensures added { OnOk result (MayHaveAdded files.old files.new name.now) }
 {
     // The words of a text are ASCII.
     let Ok(path) = str::from_utf8(name) else {
@@ -139,7 +151,11 @@ fn add_file(
     path: &str,
     file: impl Read + Drop,
 ) -> Result<(), Outcome>
-    ensures { OnOk result (parked_in files.new ≡ parked_in files.old) }
+    requires { IsNew files.old path.now }
+    ensures parked { OnOk result (parked_in files.new ≡ parked_in files.old) }
+    ensures there { OnOk result (HasFile files.new path.now) }
+    ensures kept { OnOk result (KeepsFiles files.old files.new) }
+    ensures added { OnOk result (HasAdded files.old files.new path.now) }
 {
     let mut reading = Reading::new(file);
     match read_all(rt.alloc(), &mut reading) {
@@ -163,7 +179,11 @@ fn add_text(
     path: &str,
     text: &[u8],
 ) -> Result<(), Outcome>
-    ensures { OnOk result (parked_in files.new ≡ parked_in files.old) }
+    requires { IsNew files.old path.now }
+    ensures parked { OnOk result (parked_in files.new ≡ parked_in files.old) }
+    ensures there { OnOk result (HasFile files.new path.now) }
+    ensures kept { OnOk result (KeepsFiles files.old files.new) }
+    ensures added { OnOk result (HasAdded files.old files.new path.now) }
 {
     match files.add(rt.alloc(), path.as_bytes(), text) {
         Ok(()) => Ok(()),
@@ -171,13 +191,15 @@ fn add_text(
     }
 }
 
-/// Tells why a text was not added; no path is loaded twice.
+/// Tells why a text was not added under a path that no file had.
 fn not_added(rt: &impl Eprint, path: &str, text: &[u8], error: StoreError) -> Outcome
-    requires { IsAddErrorIn text.now error }
+    requires within { IsAddErrorIn text.now error }
+    requires new { IsNewError error }
 {
     match error {
         StoreError::Text(fault) => refuse_text(rt, path, text, fault),
         StoreError::Memory => lack_memory(rt),
-        _ => too_many(rt),
+        StoreError::TooMany => too_many(rt),
+        _ => unreachable!(),
     }
 }

@@ -25,8 +25,6 @@ mod script_tests;
 #[cfg(test)]
 mod session_tests;
 #[cfg(test)]
-mod story_tests;
-#[cfg(test)]
 mod stream_tests;
 
 fn main(rt: HostRuntime) -> ExitCode {

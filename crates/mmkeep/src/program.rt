@@ -8,7 +8,7 @@ ghost use Rattle.mm_report.specs.Language.Report.{lines};
 
 use crate::arguments::Command;
 use crate::asking::command;
-use crate::complaints::{lack_memory, refuse_arguments, stop};
+use crate::complaints::{lack, lack_memory, refuse_arguments, stop};
 use crate::loading::load;
 use crate::outcome::Outcome;
 use mm_keep::{Session, Tally};
@@ -82,7 +82,7 @@ fn begun(rt: &(impl Files + Eprint + AllocGlobal), top: &str) -> Result<Session,
     let files = load(rt, top)?;
     match Session::begin(rt.alloc(), files, top.as_bytes()) {
         Ok((session, _)) => Ok(session),
-        Err(_) => Err(lack_memory(rt)),
+        Err(unbegun) => Err(lack(rt, unbegun.fault)),
     }
 }
 

@@ -1,10 +1,12 @@
-//! Sessions as they begin, and what is asked of them.
+//! Sessions as they begin.
 
-use crate::story_tests::Named;
 use mm_keep::{Files, Session, StoreError, Work};
 use mm_report::{Writing, write_report};
 use std::alloc::Global;
 use std::test::Fail;
+
+/// A name and a text.
+pub type Named = (&'static [u8], &'static [u8]);
 
 /// A logic, a theorem by its rule, and one with a compressed proof: eight pieces.
 const LOGIC: &[u8] =
@@ -57,7 +59,7 @@ pub fn begun(alloc: Global, texts: &[Named]) -> Result<Session, StoreError> {
 }
 
 /// Whether the items with these numbers have these labels.
-pub fn are_labels(session: &Session, runs: &[usize], labels: &[&[u8]]) -> bool {
+fn are_labels(session: &Session, runs: &[usize], labels: &[&[u8]]) -> bool {
     if runs.len() != labels.len() {
         return false;
     }

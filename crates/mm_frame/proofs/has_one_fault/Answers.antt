@@ -1,4 +1,4 @@
-use Rattle.mm_frame.proofs.Judged.{one_fault}
+use Rattle.mm_frame.proofs.FoundFaults.{one_fault}
 use Rattle.mm_frame.proofs.has_one_fault.Goals as goal
 
 pub returns : goal.returns

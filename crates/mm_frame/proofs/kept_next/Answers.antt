@@ -1,4 +1,4 @@
-use Rattle.mm_frame.proofs.Judged.{kept_next}
+use Rattle.mm_frame.proofs.FoundFaults.{kept_next}
 use Rattle.mm_frame.proofs.kept_next.Goals as goal
 
 pub returns : goal.returns

@@ -1,4 +1,4 @@
-use Rattle.mm_frame.proofs.Judged.{no_fault_sound, sound_found}
+use Rattle.mm_frame.proofs.FoundFaults.{no_fault_sound, sound_found}
 use Rattle.mm_frame.proofs.sound_has_none.Goals as goal
 
 pub returns : goal.returns

@@ -13,8 +13,8 @@ abbrev pub stays_by : List Mark → Bool
 stays_by marks = is_zero (closed_by marks)
 
 -- what each of the items does to the blocks
-abbrev pub marks_of : List Item → List Mark
-marks_of items = map (λ item. mark_of item.kind) items
+abbrev pub block_marks : List Item → List Mark
+block_marks items = map (λ item. mark_of item.kind) items
 
 -- a block is open at the end
 abbrev pub is_inside_by : List Mark → Bool

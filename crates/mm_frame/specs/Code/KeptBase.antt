@@ -1,5 +1,5 @@
 -- What the code keeps of the items for a base.
-use Rattle.std.specs.Prelude.{◌≡◌, ℕ, ◌<◌, ◌≤◌, Bool, true, ◌&&◌, if◌then◌else◌, Some, None, is_some, is_none, List, length, map, take, slice_get, Option}
+use Rattle.std.specs.Prelude.{◌≡◌, ℕ, ◌≤◌, Bool, true, ◌&&◌, if◌then◌else◌, Some, None, is_some, is_none, List, length, map, take, slice_get, Option}
 use Rattle.std.specs.Option.{option_map}
 use Rattle.std.specs.List.{AllZip}
 use Rattle.mm_store.specs.declared.item.Item as store
@@ -10,7 +10,7 @@ use Rattle.mm_frame.specs.declared.draft.Row.{Row}
 use Rattle.mm_frame.specs.declared.draft.Frame.{Frame}
 use Rattle.mm_frame.specs.declared.symbol.NumberedSymbol.{NumberedSymbol}
 use Rattle.mm_frame.specs.Language.Names.{AreDistinct, Begins}
-use Rattle.mm_frame.specs.Code.CodeSymbols.{ArePairsRead}
+use Rattle.mm_frame.specs.Language.NumberedSymbols.{ArePairsRead}
 use Rattle.mm_frame.specs.Code.KeptSymbols.{AreSymbols}
 use Rattle.mm_frame.specs.Code.KeptPairTable.{KnowsPairs}
 use Rattle.mm_frame.specs.Language.Item.{Item, is_floating, is_labelled, is_assertion, is_theorem, item_at}
@@ -22,7 +22,7 @@ use Rattle.mm_frame.specs.Code.KeptPairLists.{IsList, AreMade}
 use Rattle.mm_frame.specs.Code.LastItems.{last_where, carries, is_essential_item, is_disjoint_item}
 use Rattle.mm_frame.specs.Language.Scope.{active_numbers}
 use Rattle.mm_frame.specs.Code.PairOrder.{pairs_in_order}
-use Rattle.mm_frame.specs.Code.BlockMarks.{marks_of}
+use Rattle.mm_frame.specs.Code.BlockMarks.{block_marks}
 use Rattle.mm_frame.specs.Code.KeptTables.{table_label}
 use Rattle.mm_frame.specs.declared.tables.Tables.{Tables}
 use Rattle.mm_frame.specs.Code.KeptScope.{ScopeHolds}
@@ -51,13 +51,13 @@ abbrev pub find_in : BaseView → List ℕ → Option ℕ
 find_in base label = last_where (carries label) (sound_items base.said)
 
 -- where a frame is to be kept, one is, and has the numbers and pairs of that of an assertion
-pub record KeepsFrame (all : List (List ℕ)) (framed : Bool) (before : List Item) (item : Item) (kept_frame : Option Frame) : Type 0 where
+pub record HoldsFrame (all : List (List ℕ)) (framed : Bool) (before : List Item) (item : Item) (kept_frame : Option Frame) : Type 0 where
   pub hypotheses : option_map (λ frame. frame.hypotheses.items) kept_frame ≡ numbers_if framed before item
   pub pairs : framed ≡ true → (kept : Frame) → kept_frame ≡ Some kept → ArePairsRead all (pairs_in_order (frame before item)) kept.pairs.items
 
 -- the frame, where one is kept, is that of an item behind the sound items before it
 abbrev pub TellsFrame : List (List ℕ) → List Item → Item → Option Frame → Type 0
-TellsFrame all before item kept_frame = KeepsFrame all (is_none (told_fault before item) && is_assertion item.kind) before item kept_frame
+TellsFrame all before item kept_frame = HoldsFrame all (is_none (told_fault before item) && is_assertion item.kind) before item kept_frame
 
 -- the item is a sound `$p` behind the sound items before it
 abbrev pub is_told_proof : List Item → Item → Bool
@@ -86,8 +86,8 @@ pub record IsDraft (all : List (List ℕ)) (said : List Item) (draft : Draft) : 
   pub pair_table : KnowsPairs all (sound_items said) draft.pair_table
 
 -- so it is for each list of names that begins with these
-abbrev pub StandsFor : List (List ℕ) → List Item → Draft → Type 0
-StandsFor names said draft = (all : List (List ℕ)) → AreDistinct all → Begins names all → IsDraft all said draft
+abbrev pub IsDraftLater : List (List ℕ) → List Item → Draft → Type 0
+IsDraftLater names said draft = (all : List (List ℕ)) → AreDistinct all → Begins names all → IsDraft all said draft
 
 -- the tables tell which of these items carries a label
 abbrev pub KnowsLabels : List Item → Tables → Type 0
@@ -99,7 +99,7 @@ pub record AreParts (all : List (List ℕ)) (said : List Item) (parts : Parts) :
   pub symbols : AreSymbols all (sound_items said) parts.expressions
   pub frames : AreRows (TellsFrame all) said parts.frames.items
   pub labels : KnowsLabels (sound_items said) parts.tables
-  pub marks : parts.blocks ≡ marks_of (sound_items said)
+  pub marks : parts.blocks ≡ block_marks (sound_items said)
   pub pair_numbers : AreRows (TellsPairs all parts.pair_lists) said parts.pair_numbers.items
 
 -- the item is a `$f`
@@ -135,7 +135,3 @@ expressions_of code = code.parts.expressions
 -- the frames that the code keeps
 abbrev pub frames_of : Base → List (Option Frame)
 frames_of code = code.parts.frames.items
-
--- the base has an item with this number
-abbrev pub HasItem : Base → ℕ → Type 0
-HasItem code i = (base : BaseView) × IsBase base code × (i < length base.said)

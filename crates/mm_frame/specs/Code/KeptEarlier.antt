@@ -5,12 +5,12 @@ use Rattle.mm_frame.specs.declared.symbol.NumberedSymbol.{NumberedSymbol}
 use Rattle.mm_frame.specs.Language.Item.{Item, is_assertion}
 use Rattle.mm_frame.specs.Language.Sound.{AreSound, IsSound}
 use Rattle.mm_frame.specs.Language.Framing.{expression}
-use Rattle.mm_frame.specs.Code.BlockMarks.{marks_of}
+use Rattle.mm_frame.specs.Code.BlockMarks.{block_marks}
 use Rattle.mm_frame.specs.Code.LastItems.{is_essential_item}
 use Rattle.mm_frame.specs.Language.Scope.{active_numbers}
 use Rattle.mm_frame.specs.Code.KeptTables.{Knows}
 use Rattle.mm_frame.specs.Code.KeptPairTable.{KnowsPairs}
-use Rattle.mm_frame.specs.Code.CodeSymbols.{AreRead}
+use Rattle.mm_frame.specs.Language.NumberedSymbols.{AreSymbolsRead}
 use Rattle.mm_frame.specs.Code.KeptSymbols.{AreExpressions, AreNumbered}
 
 -- the items are sound, and this is known of them
@@ -18,7 +18,7 @@ pub record KnowsEarlier (all : List (List ℕ)) (before : List Item) (earlier : 
   pub sound : AreSound before
   pub known : Knows all before earlier.tables.now
   pub pairs : KnowsPairs all before earlier.pairs.now
-  pub marks : earlier.blocks.now ≡ marks_of before
+  pub marks : earlier.blocks.now ≡ block_marks before
   pub essentials : earlier.essentials.now ≡ active_numbers is_essential_item before
   pub expressions : AreExpressions all before earlier.expressions.now
   pub numbered : AreNumbered all earlier.expressions.now
@@ -27,4 +27,4 @@ pub record KnowsEarlier (all : List (List ℕ)) (before : List Item) (earlier : 
 pub record IsFramed (all : List (List ℕ)) (before : List Item) (item : Item) (own : List NumberedSymbol) : Type 0 where
   pub sound : IsSound before item
   pub assertion : is_assertion item.kind ≡ true
-  pub symbols : AreRead all (expression before item) own
+  pub symbols : AreSymbolsRead all (expression before item) own

@@ -14,10 +14,10 @@ label_code [] = 1
 label_code (byte ∷ bytes) = label_code bytes * 128 + byte
 
 -- it is looked up by its code, which has 64 bits at most
-abbrev pub is_short : List ℕ → Bool
-is_short label = nat_le (length label) 9 && are_ascii label
+abbrev pub is_coded : List ℕ → Bool
+is_coded label = nat_le (length label) 9 && are_ascii label
 
 -- the number that is kept of a label
 unfoldable pub label_number : LabelNumbers → List ℕ → Option ℕ
 label_number labels label =
-    if is_short label then get_by (nat_eq (label_code label)) labels.short else get_by (λ key. bytes_eq label key.items) labels.long
+    if is_coded label then get_by (nat_eq (label_code label)) labels.short else get_by (λ key. bytes_eq label key.items) labels.long

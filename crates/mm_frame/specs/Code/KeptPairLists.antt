@@ -9,7 +9,7 @@ use Rattle.mm_frame.specs.Language.Item.{Item}
 use Rattle.mm_frame.specs.Language.Framing.{active_pairs}
 use Rattle.mm_frame.specs.Language.Scope.{active_numbers}
 use Rattle.mm_frame.specs.Code.LastItems.{is_disjoint_item}
-use Rattle.mm_frame.specs.Code.CodeSymbols.{AreSamePairsRead}
+use Rattle.mm_frame.specs.Language.NumberedSymbols.{AreSamePairsRead}
 
 -- the pairs of a list: none where there is no list
 abbrev pub pairs_or_none : Option (Vec (NumberedSymbol × NumberedSymbol) Global) → List (NumberedSymbol × NumberedSymbol)
@@ -60,7 +60,7 @@ pub record KeepsLists (old new : PairLists) : Type 0 where
   pub whole : new.lists.items ≡ old.lists.items ++ more
 
 -- behind so many of the items these are the numbers of the active `$d`
-pub record IsFront (before : List Item) (numbers : List ℕ) (count : ℕ) : Type 0 where
+pub record AreFrontNumbers (before : List Item) (numbers : List ℕ) (count : ℕ) : Type 0 where
   pub within : count ≤ length before
   pub active : numbers ≡ active_numbers is_disjoint_item (take count before)
 

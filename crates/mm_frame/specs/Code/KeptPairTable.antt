@@ -6,10 +6,10 @@ use Rattle.mm_frame.specs.Language.Item.{Item, is_disjoint, has}
 use Rattle.mm_frame.specs.Language.Names.{AreDistinct}
 use Rattle.mm_frame.specs.Language.Scope.{Mark}
 use Rattle.mm_frame.specs.Language.Sound.{AreSound}
-use Rattle.mm_frame.specs.Code.BlockMarks.{stays_by, marks_of}
+use Rattle.mm_frame.specs.Code.BlockMarks.{stays_by, block_marks}
 use Rattle.mm_frame.specs.Code.KeptActive.{IsPruned}
 use Rattle.mm_frame.specs.Code.LastItems.{IsRising, is_active_at}
-use Rattle.mm_frame.specs.Code.Numbers.{IsName}
+use Rattle.mm_frame.specs.Code.Numbers.{IsNameNumber}
 
 -- the numbers of a row: none where there is no row
 abbrev pub numbers_or_none : Option (Vec ℕ Global) → List ℕ
@@ -51,7 +51,7 @@ pub record IsRow (before : List Item) (name : List ℕ) (row : List ℕ) : Type 
 
 -- so it is for each name
 abbrev pub KnowsPairs : List (List ℕ) → List Item → PairTable → Type 0
-KnowsPairs all before table = (n : ℕ) (name : List ℕ) → IsName all n name → IsRow before name (row_at table n)
+KnowsPairs all before table = (n : ℕ) (name : List ℕ) → IsNameNumber all n name → IsRow before name (row_at table n)
 
 -- the number is one of an active `$d`, and in both rows
 abbrev pub IsCommon : List Mark → List ℕ → List ℕ → ℕ → Type 0
@@ -62,4 +62,4 @@ pub record ReadsPairs (all : List (List ℕ)) (before : List Item) (table : Pair
   pub distinct : AreDistinct all
   pub sound : AreSound before
   pub knows : KnowsPairs all before table
-  pub marks : blocks ≡ marks_of before
+  pub marks : blocks ≡ block_marks before

@@ -2,9 +2,9 @@
 use Rattle.std.specs.Prelude.{◌≡◌, ℕ, Bool, true, if◌then◌else◌, List, [], ◌∷◌, ◌++◌, map}
 use Rattle.mm_frame.specs.declared.scope.Scope.{Scope}
 use Rattle.mm_frame.specs.Language.Item.{Item, passed, typecode_of}
-use Rattle.mm_frame.specs.Code.BlockMarks.{marks_of}
+use Rattle.mm_frame.specs.Code.BlockMarks.{block_marks}
 use Rattle.mm_frame.specs.Language.Sound.{IsSound, AreSound}
-use Rattle.mm_frame.specs.Code.Numbers.{AreNumbersOf}
+use Rattle.mm_frame.specs.Code.Numbers.{AreNameNumbers}
 use Rattle.mm_frame.specs.Code.KeptTables.{Knows}
 
 -- the typecodes that are kept, by the numbers of the items
@@ -14,7 +14,7 @@ typecodes_of scope = map (λ typecode. typecode.now) scope.typecodes.items
 -- the scope is that behind these items, by the numbers of names in the list of all
 pub record ScopeHolds (all : List (List ℕ)) (before : List Item) (scope : Scope) : Type 0 where
   pub knows : Knows all before scope.tables
-  pub marks : scope.blocks ≡ marks_of before
+  pub marks : scope.blocks ≡ block_marks before
   pub types : typecodes_of scope ≡ map typecode_of before
 
 -- what is kept of an item: the item where it is sound, and else what stands in its place
@@ -24,4 +24,4 @@ taken sound item = if sound then item else passed
 -- the scope takes one more item, whose symbols have these numbers, and which is sound if it is said to be so
 abbrev pub ScopeTakes : List ℕ → Scope → Item → Bool → Scope → Type 0
 ScopeTakes numbers old item sound new = (all : List (List ℕ)) (before : List Item) → AreSound before → ScopeHolds all before old
-    → (sound ≡ true → IsSound before item) → AreNumbersOf all numbers item.symbols → ScopeHolds all (before ++ taken sound item ∷ []) new
+    → (sound ≡ true → IsSound before item) → AreNameNumbers all numbers item.symbols → ScopeHolds all (before ++ taken sound item ∷ []) new

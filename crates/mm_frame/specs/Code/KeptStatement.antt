@@ -5,14 +5,14 @@ use Rattle.std.specs.Option.{option_map}
 use Rattle.mm_text.specs.Language.Unit.{spellings}
 use Rattle.mm_frame.specs.declared.statement.Statement.TheInside.{Inside}
 use Rattle.mm_frame.specs.Language.Item.{Item, is_labelled}
-use Rattle.mm_frame.specs.Code.PlainWords.{LiesInText, bytes_in, plain_bytes}
+use Rattle.mm_frame.specs.Code.PlainWords.{LiesInText, word_bytes, plain_bytes}
 use Rattle.mm_frame.specs.Language.Statement.{kind_of}
 
 abbrev pub item_inside : Inside → Item
 item_inside inside = record {
   kind = kind_of inside.kind;
-  label = option_map (bytes_in inside.text.now) inside.label;
-  symbols = map (bytes_in inside.text.now) inside.symbols.items;
+  label = option_map (word_bytes inside.text.now) inside.label;
+  symbols = map (word_bytes inside.text.now) inside.symbols.items;
   proof = plain_bytes inside.text.now inside.rest.words;
 }
 

@@ -8,7 +8,7 @@ use Rattle.mm_frame.specs.Language.Item.{Kind, Item, has, is_labelled, is_disjoi
 use Rattle.mm_frame.specs.Language.Scope.{constants}
 use Rattle.mm_frame.specs.Language.Framing.{expression}
 use Rattle.mm_frame.specs.Code.KeptTables.{declared_at, is_constant_as, float_of}
-use Rattle.mm_frame.specs.Code.CodeSymbols.{symbols_of, IsNumbered}
+use Rattle.mm_frame.specs.Language.NumberedSymbols.{symbols_of, IsNumbered}
 
 -- a name as a symbol, where what is no declared constant is a variable
 abbrev pub by_constants : List Item → List ℕ → Symbol

@@ -72,7 +72,7 @@ pub record Declares (all : List (List ℕ)) (old : Tables) (symbols : List (List
   pub labels : (label : List ℕ) → table_label new label ≡ table_label old label
 
 -- this name, if it is a variable, is typed by the `$f` with this number from now on, and nothing else changes
-pub record Types (all : List (List ℕ)) (old : Tables) (variable : List ℕ) (number : ℕ) (new : Tables) : Type 0 where
+pub record TypesName (all : List (List ℕ)) (old : Tables) (variable : List ℕ) (number : ℕ) (new : Tables) : Type 0 where
   pub names : (name : List ℕ) →
       table_name all new name ≡ (if bytes_eq variable name then typed_by number (table_name all old name) else table_name all old name)
   pub labels : (label : List ℕ) → table_label new label ≡ table_label old label

@@ -6,10 +6,10 @@ abbrev pub number_in : List (List ℕ) → List ℕ → Option ℕ
 number_in all name = position (bytes_eq name) all
 
 -- the number is that of the name
-abbrev pub IsName : List (List ℕ) → ℕ → List ℕ → Type 0
-IsName all n name = slice_get all n ≡ Some name
+abbrev pub IsNameNumber : List (List ℕ) → ℕ → List ℕ → Type 0
+IsNameNumber all n name = slice_get all n ≡ Some name
 
 -- the numbers are those of the names, one by one
-pub record AreNumbersOf (all : List (List ℕ)) (numbers : List ℕ) (names : List (List ℕ)) : Type 0 where
+pub record AreNameNumbers (all : List (List ℕ)) (numbers : List ℕ) (names : List (List ℕ)) : Type 0 where
   pub count : length numbers ≡ length names
-  pub each : (i n : ℕ) → slice_get numbers i ≡ Some n → IsName all n (slice_index_or names i [])
+  pub each : (i n : ℕ) → slice_get numbers i ≡ Some n → IsNameNumber all n (slice_index_or names i [])

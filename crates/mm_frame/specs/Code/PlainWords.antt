@@ -5,8 +5,8 @@ use Rattle.mm_text.specs.declared.word.Word.{Word}
 use Rattle.mm_frame.specs.Language.Statement.{is_plain_kind}
 
 -- how a word is spelled
-abbrev pub bytes_in : List ℕ → Word → List ℕ
-bytes_in text word = slice_range text word.start word.end
+abbrev pub word_bytes : List ℕ → Word → List ℕ
+word_bytes text word = slice_range text word.start word.end
 
 -- the words before the first keyword
 abbrev pub plain_words : List Word → List Word
@@ -14,7 +14,7 @@ plain_words words = take (prefix_len (λ word. is_plain_kind word.kind) words) w
 
 -- how they are spelled
 abbrev pub plain_bytes : List ℕ → List Word → List (List ℕ)
-plain_bytes text words = map (bytes_in text) (plain_words words)
+plain_bytes text words = map (word_bytes text) (plain_words words)
 
 -- the first word is taken where it is a label
 abbrev pub TakesLabel : Bool → List Word → Option Word → List Word → Type 0

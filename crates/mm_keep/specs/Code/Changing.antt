@@ -2,7 +2,7 @@
 use Rattle.std.specs.Prelude.{◌≡◌, ◌⊎◌, ℕ, Option, List, []}
 use Rattle.mm_store.specs.declared.batch.BatchError.{BatchError}
 use Rattle.mm_store.specs.declared.batch.BatchError.TheVariants as batch
-use Rattle.mm_store.specs.declared.undo.Undo.{Undo}
+use Rattle.mm_store.specs.Language.Undoing.{UndoView}
 use Rattle.mm_store.specs.Language.Batches.{IsRefusedAt, IsSpendable, KeepsReading, StartsPlaced}
 use Rattle.mm_store.specs.Language.Edits.{Asked}
 use Rattle.mm_store.specs.Language.FileFacts.{parked_in}
@@ -30,7 +30,7 @@ HasKept files top names code checked = (base : BaseView) × AreKept files top na
 
 -- so it was of the files before edits, which can be undone and settled
 pub record WereKept
-    (before after : FilesView) (undos : List Undo) (top : List ℕ) (names : List (List ℕ)) (code : Base) (checked : List (Option Judgement)) : Type 0 where
+    (before after : FilesView) (undos : List UndoView) (top : List ℕ) (names : List (List ℕ)) (code : Base) (checked : List (Option Judgement)) : Type 0 where
   pub base : BaseView
   pub kept : AreKept before top names code checked base
   pub reading : KeepsReading before after
@@ -39,7 +39,7 @@ pub record WereKept
 
 -- so it was of the files of before, and what a session goes on with is there
 pub record CanTake
-    (before after : FilesView) (undos : List Undo) (top : List ℕ) (names : List (List ℕ)) (checked : List (Option Judgement)) (next : Next) : Type 0 where
+    (before after : FilesView) (undos : List UndoView) (top : List ℕ) (names : List (List ℕ)) (checked : List (Option Judgement)) (next : Next) : Type 0 where
   pub spendable : IsSpendable before after undos
   pub parked : parked_in before ≡ 0
   pub old : BaseView
@@ -50,7 +50,7 @@ pub record CanTake
   pub goes_on : KeepsOrRuns old base next
 
 -- for some files of before
-abbrev pub HasTaking : FilesView → List Undo → List (Option Judgement) → Next → Type 0
+abbrev pub HasTaking : FilesView → List UndoView → List (Option Judgement) → Next → Type 0
 HasTaking after undos checked next = (before : FilesView) × (top : List ℕ) × (names : List (List ℕ)) × CanTake before after undos top names checked next
 
 -- why edits of a session are not done: one is refused; or want of memory, once file and members of the first are known

@@ -30,12 +30,12 @@ abbrev pub AreRising : List ℕ → Type 0
 AreRising numbers = AllPairs (λ m n. m < n) numbers
 
 -- how many words are passed where the next word that cites is the one at this place
-abbrev pub passed : List ℕ → ℕ → ℕ
-passed cites zero = 0
-passed cites (suc x) = slice_index cites x + 1
+abbrev pub passed_words : List ℕ → ℕ → ℕ
+passed_words cites zero = 0
+passed_words cites (suc x) = slice_index cites x + 1
 
 -- one of the first words that cite is this label
-pub record IsAmong (words : List (List ℕ)) (cites : List ℕ) (count : ℕ) (label : List ℕ) : Type 0 where
+pub record IsAmongCited (words : List (List ℕ)) (cites : List ℕ) (count : ℕ) (label : List ℕ) : Type 0 where
   pub at : ℕ
   pub before : at < count
   pub there : slice_get words (slice_index cites at) ≡ Some label
@@ -43,7 +43,7 @@ pub record IsAmong (words : List (List ℕ)) (cites : List ℕ) (count : ℕ) (l
 -- one of them is the label of item k
 pub record HasLabelAmong (view : BaseView) (words : List (List ℕ)) (cites : List ℕ) (count k : ℕ) : Type 0 where
   pub label : List ℕ
-  pub among : IsAmong words cites count label
+  pub among : IsAmongCited words cites count label
   pub carrier : IsCarrier view label k
 
 -- the item with this label, if there is one, has a place among so many marks

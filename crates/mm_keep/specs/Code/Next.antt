@@ -49,7 +49,7 @@ pub record RunsAll (base : BaseView) (next : Next) : Type 0 where
   pub steps : AreStepsOf base next.work.runs next.work.steps
 
 -- so it is with the base of these files
-pub record IsNext (names : List (List ℕ)) (files : FilesView) (top : List ℕ) (old : BaseView) (next : Next) : Type 0 where
+pub record IsNextBase (names : List (List ℕ)) (files : FilesView) (top : List ℕ) (old : BaseView) (next : Next) : Type 0 where
   pub base : BaseView
   pub built : IsBuilt names files top next.base base
   pub goes_on : KeepsOrRuns old base next

@@ -21,15 +21,15 @@ abbrev pub hypotheses_of : {S : Type 0} → (S → Symbol) → List (Hypothesis 
 hypotheses_of means hs = map (mandatory_of means) hs
 
 -- a pair of symbols
-abbrev pub pair_of : {S : Type 0} → (S → Symbol) → S × S → Symbol × Symbol
-pair_of means p = (means p.0, means p.1)
+abbrev pub meant_pair : {S : Type 0} → (S → Symbol) → S × S → Symbol × Symbol
+meant_pair means p = (means p.0, means p.1)
 
-abbrev pub pairs_of : {S : Type 0} → (S → Symbol) → List (S × S) → List (Symbol × Symbol)
-pairs_of means ps = map (pair_of means) ps
+abbrev pub meant_pairs : {S : Type 0} → (S → Symbol) → List (S × S) → List (Symbol × Symbol)
+meant_pairs means ps = map (meant_pair means) ps
 
 -- a frame, by its parts
 abbrev pub frame_from : {S : Type 0} → (S → Symbol) → List (Hypothesis S) → List S → List (S × S) → Frame
-frame_from means hs expression pairs = record { expression = map means expression; hypotheses = hypotheses_of means hs; pairs = pairs_of means pairs }
+frame_from means hs expression pairs = record { expression = map means expression; hypotheses = hypotheses_of means hs; pairs = meant_pairs means pairs }
 
 abbrev pub frame_of : {S : Type 0} → (S → Symbol) → Cited S → Frame
 frame_of means cited = frame_from means cited.hypotheses.items cited.expression.now cited.pairs.now
@@ -39,16 +39,16 @@ abbrev pub IsSlot : List Mandatory → ℕ → Symbol → Type 0
 IsSlot hs j v = (h : Mandatory) × (slice_get hs j ≡ Some h) × (h.floating ≡ true) × (slice_get h.expression 1 ≡ Some v)
 
 -- it is the `$f` of this variable
-abbrev pub Types : Mandatory → Symbol → Type 0
-Types h v = (h.floating ≡ true) × (slice_get h.expression 1 ≡ Some v)
+abbrev pub IsTypingOf : Mandatory → Symbol → Type 0
+IsTypingOf h v = (h.floating ≡ true) × (slice_get h.expression 1 ≡ Some v)
 
 -- each variable of the expression has a `$f`, and is given what the entry of that has behind the typecode
-pub record Gives (given : Symbol → List Symbol) (hs : List Mandatory) (es : List (List Symbol)) (expression : List Symbol) : Type 0 where
+pub record GivesVariables (given : Symbol → List Symbol) (hs : List Mandatory) (es : List (List Symbol)) (expression : List Symbol) : Type 0 where
   pub typed : (v : Symbol) → HasVariable expression v → IsTyped hs v
   pub slots : (j : ℕ) (v : Symbol) → IsSlot hs j v → (e : List Symbol) × (slice_get es j ≡ Some e) × (given v ≡ drop 1 e)
 
 -- what is known of the hypotheses of a frame
-pub record AreHypotheses (hs : List Mandatory) : Type 0 where
+pub record AreAllTyped (hs : List Mandatory) : Type 0 where
   pub typings : All (λ h. h.floating ≡ true → IsTyping h.expression) hs
   pub typed : (h : Mandatory) → Contains hs h → (v : Symbol) → HasVariable h.expression v → IsTyped hs v
 

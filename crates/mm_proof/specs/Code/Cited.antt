@@ -34,8 +34,8 @@ abbrev pub is_listed : List Resolved → ℕ → Bool
 is_listed labels j = list_any (λ label. is_item (cited_item (Some label)) j) labels
 
 -- whether a number is marked
-abbrev pub mark_at : List Bool → ℕ → Bool
-mark_at marks j = slice_index_or marks j false
+abbrev pub marked_at : List Bool → ℕ → Bool
+marked_at marks j = slice_index_or marks j false
 
 -- the assertions that are left once this one is told
 abbrev pub without : (ℕ → Bool) → ℕ → ℕ → Bool

@@ -1,25 +1,18 @@
 -- What the code's steps and faults stand for.
-use Rattle.std.specs.Prelude.{◌≡◌, ℕ, Result, Ok, Err, List, length, drop, map, slice_index_or}
-use Rattle.mm_proof.specs.Language.Expansion.{Step, Saved, Save, NotKnown}
+use Rattle.std.specs.Prelude.{◌≡◌, ℕ, Result, Ok, Err, List, length, drop, map}
+use Rattle.mm_proof.specs.Language.Expansion.{Step}
 use Rattle.mm_proof.specs.Language.Letters.{groups, letters_from}
 use Rattle.mm_proof.specs.Code.Left.{AreLeft}
 use Rattle.mm_proof.specs.Language.Decoding.{Steps, in_order, each_group, word_spot}
+use Rattle.mm_proof.specs.Language.DecodedSteps.{meant}
 use Rattle.mm_proof.specs.declared.Spot.{Spot}
 use Rattle.mm_proof.specs.declared.ProofNumber.{ProofNumber}
 use Rattle.mm_proof.specs.declared.step.Action.{Action}
-use Rattle.mm_proof.specs.declared.step.Action.TheVariants as actions
 use Rattle.mm_proof.specs.declared.step.ProofStep.{ProofStep}
 use Rattle.mm_proof.specs.declared.step.Undecoded.{Undecoded}
 use Rattle.mm_proof.specs.declared.step.Undecoded.TheVariants as errors
 
--- the step that an action stands for, where the labels of the proof's table are these steps
-abbrev pub meant : List Step → Action → Step
-meant names (actions.Label k) = slice_index_or names k NotKnown
-meant names (actions.Saved n) = Saved n
-meant names actions.Save = Save
-meant names actions.Unknown = NotKnown
-
--- or its fault
+-- the step that an action stands for, or its fault
 abbrev pub meant_or : List Step → Result Action ProofNumber → Result Step ProofNumber
 meant_or names (Ok action) = Ok (meant names action)
 meant_or names (Err number) = Err number

@@ -1,33 +1,16 @@
--- What the code's decoding stands for.
-use Rattle.std.specs.Prelude.{◌≡◌, ℕ, Result, Err, List, ◌++◌, length, map, drop}
+-- The steps and the tables of compressed proofs and of normal ones, each kind by itself, as the code makes them.
+use Rattle.std.specs.Prelude.{ℕ, List, ◌++◌, length, map, drop}
 use Rattle.std.specs.List.{before_first}
 use Rattle.mm_frame.specs.Language.Base.{BaseView}
 use Rattle.mm_frame.specs.Code.KeptBase.{IsBase}
 use Rattle.mm_frame.specs.declared.base.Base.{Base}
 use Rattle.mm_proof.specs.Language.BaseLabels.{setting_at, AreActive}
-use Rattle.mm_proof.specs.Code.Coded.{meant, meant_steps}
-use Rattle.mm_proof.specs.Language.Decoding.{Steps, word_spot, read_word, in_order, each_word, is_close, compressed_steps, decoding}
+use Rattle.mm_proof.specs.Language.DecodedSteps.{entry_steps, labels_at}
+use Rattle.mm_proof.specs.Code.Coded.{meant_steps}
+use Rattle.mm_proof.specs.Language.Decoding.{Steps, word_spot, read_word, in_order, each_word, is_close, compressed_steps}
 use Rattle.mm_proof.specs.Language.Expansion.{Step, Named}
-use Rattle.mm_proof.specs.Code.Labels.{entry_steps, labels_at}
-use Rattle.mm_proof.specs.Language.Verdict.{Decoded}
 use Rattle.mm_proof.specs.declared.Spot.{Spot}
 use Rattle.mm_proof.specs.declared.reading.Decoding.{Decoding}
-use Rattle.mm_proof.specs.declared.step.Undecoded.{Undecoded}
-use Rattle.mm_proof.specs.declared.step.Undecoded.TheVariants as errors
-use Rattle.mm_proof.specs.declared.step.ProofFault.{ProofFault}
-
--- the steps that the code has, with their spots, and the spot behind these words
-abbrev pub decoded_steps : BaseView → Decoding → List (List ℕ) → Decoded
-decoded_steps base d words = record {
-  steps = map (λ step. meant (entry_steps base d.labels.items) step.action) d.steps.items;
-  spots = map (λ step. step.spot) d.steps.items;
-  close = word_spot (length words);
-}
-
--- a fault that is told is the fault; want of memory tells none
-abbrev pub TellsFault : Undecoded → Result Decoded ProofFault → Type 0
-TellsFault (errors.Fault fault) decoding = decoding ≡ Err fault
-TellsFault errors.Memory decoding = Unit {0}
 
 -- in each view that the base stands for
 abbrev pub InViews : Base → (BaseView → Type 0) → Type 0
@@ -44,10 +27,6 @@ compressed_at view i mandatory words = compressed_steps (setting_at view i) (lab
 -- those of a normal one
 abbrev pub normal_at : BaseView → ℕ → List (List ℕ) → Steps
 normal_at view i words = in_order (each_word (read_word (setting_at view i)) 0 words)
-
--- what a proof of item i decodes to
-abbrev pub decoding_of : BaseView → ℕ → List ℕ → List (List ℕ) → Result Decoded ProofFault
-decoding_of view i mandatory words = decoding (setting_at view i) (labels_at view mandatory) words
 
 -- the steps that the code has, with their spots
 abbrev pub steps_by : BaseView → Decoding → List (Step × Spot)

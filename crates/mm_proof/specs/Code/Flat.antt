@@ -12,5 +12,5 @@ abbrev pub read_all : List Symbol → List Entry → List (List Symbol)
 read_all symbols es = map (read symbols) es
 
 -- the range lies within a list of this length
-abbrev pub IsWithin : ℕ → Entry → Type 0
-IsWithin n e = (e.start ≤ e.end) × (e.end ≤ n)
+abbrev pub IsEntryWithin : ℕ → Entry → Type 0
+IsEntryWithin n e = (e.start ≤ e.end) × (e.end ≤ n)

@@ -5,8 +5,7 @@ use Rattle.mm_frame.specs.Language.Base.{BaseView, AreSaid, said_at, is_proof_at
 use Rattle.mm_frame.specs.Language.Item.{Item}
 use Rattle.mm_frame.specs.Code.KeptBase.{IsBase}
 use Rattle.mm_proof.specs.Language.VerdictAt.{decoding_at, mandatory_labels}
-use Rattle.mm_proof.specs.Code.Decoded.{decoded_steps}
-use Rattle.mm_proof.specs.Code.Labels.{AreEntries, entry_steps, label_table}
+use Rattle.mm_proof.specs.Language.DecodedSteps.{decoded_steps, AreEntries, entry_steps, label_table}
 use Rattle.mm_proof.specs.declared.reading.Decoding.{Decoding}
 use Rattle.mm_proof.specs.declared.stepping.Outcome.{Outcome}
 use Rattle.mm_proof.specs.declared.stepping.Outcome.TheVariants.{Proved, Fault, Unknown, NotOne, Other}

@@ -68,16 +68,16 @@ IsComparedOf old new i j None = OfBases old new (λ base copy. AreTheorems base 
 IsComparedOf old new i j (Some c) = OfBases old new (λ base copy. AreTheorems base copy i j × ((c.same ≡ true) ↔ SharePairs base copy i j))
 
 -- the marks of so many items are kept
-pub record AreMarked (base copy : BaseView) (count : ℕ) (marks : List ItemMark) : Type 0 where
+pub record AreItemMarks (base copy : BaseView) (count : ℕ) (marks : List ItemMark) : Type 0 where
   pub count_is : length marks ≡ count
   pub each : (j : ℕ) → j < count → IsMark base copy j (mark_at marks j)
 
 -- the item that an answer tells is one that has an expression, or a frame
-abbrev pub IsUsable : BaseView → answer.Resolved → Type 0
-IsUsable base (answers.Hypothesis n) = is_shown_at base n ≡ true
-IsUsable base (answers.Assertion n) = is_framed_at base n ≡ true
-IsUsable base answers.Inactive = Unit {0}
-IsUsable base answers.Unknown = Unit {0}
+abbrev pub IsShownItem : BaseView → answer.Resolved → Type 0
+IsShownItem base (answers.Hypothesis n) = is_shown_at base n ≡ true
+IsShownItem base (answers.Assertion n) = is_framed_at base n ≡ true
+IsShownItem base answers.Inactive = Unit {0}
+IsShownItem base answers.Unknown = Unit {0}
 
 -- it is told whether two answers mean the same
 abbrev pub TellsSame : BaseView → BaseView → answer.Resolved → answer.Resolved → Bool → Type 0

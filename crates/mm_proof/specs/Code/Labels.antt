@@ -1,62 +1,29 @@
 -- What the code keeps of the labels of a proof.
-use Rattle.std.specs.Prelude.{◌≡◌, ◌<◌, ℕ, ◌+◌, Result, Err, List, ◌++◌, length, map, take, drop, false, if◌then◌else◌, bytes_eq, codes}
-use Rattle.std.specs.List.{AllByRecursion, list_any, before_first}
+use Rattle.std.specs.Prelude.{◌≡◌, ◌<◌, ℕ, ◌+◌, Result, Err, List, ◌++◌, length, map, take, drop, false}
+use Rattle.std.specs.List.{list_any, before_first}
 use Rattle.mm_frame.specs.declared.base.Resolved.{Resolved}
-use Rattle.mm_frame.specs.declared.base.Resolved.TheVariants as answers
 use Rattle.mm_proof.specs.declared.ProofNumber.{ProofNumber}
 use Rattle.mm_proof.specs.declared.step.Undecoded.{Undecoded}
 use Rattle.mm_proof.specs.declared.step.Undecoded.TheVariants as errors
 use Rattle.mm_frame.specs.Language.Base.{BaseView}
 use Rattle.mm_frame.specs.Code.KeptBase.{IsBase}
 use Rattle.mm_frame.specs.declared.base.Base.{Base}
-use Rattle.mm_frame.specs.Language.Resolving.{Resolves}
-use Rattle.mm_proof.specs.Language.BaseLabels.{label_at, setting_at}
-use Rattle.mm_proof.specs.Language.Expansion.{Step, Named, NotKnown}
-use Rattle.mm_proof.specs.Language.Decoding.{word_spot, compressed_steps, letter_steps, in_order, each_word, read_word, is_close, is_compressed}
+use Rattle.mm_proof.specs.Language.BaseLabels.{setting_at}
+use Rattle.mm_proof.specs.Language.Expansion.{Step, Named}
+use Rattle.mm_proof.specs.Language.DecodedSteps.{entry_steps, AreEntries, word_step}
+use Rattle.mm_proof.specs.Language.Decoding.{word_spot, compressed_steps, letter_steps, in_order, each_word, read_word, is_close}
 use Rattle.mm_proof.specs.Code.LeftToRight.{list_on, with_steps}
 use Rattle.mm_proof.specs.Code.Coded.{TellsSteps, meant_steps}
 use Rattle.mm_proof.specs.Code.Left.{AreLeft}
 use Rattle.mm_proof.specs.declared.step.ProofStep.{ProofStep}
-
--- the step that an entry of the table stands for: its label, or `?`
-abbrev pub entry_step : BaseView → Resolved → Step
-entry_step base (answers.Hypothesis j) = Named (label_at base j)
-entry_step base (answers.Assertion j) = Named (label_at base j)
-entry_step base answers.Inactive = NotKnown
-entry_step base answers.Unknown = NotKnown
-
-abbrev pub entry_steps : BaseView → List Resolved → List Step
-entry_steps base labels = map (entry_step base) labels
-
--- the label of an entry means there what the entry says
-abbrev pub IsEntry : BaseView → ℕ → Resolved → Type 0
-IsEntry base i (answers.Hypothesis j) = Resolves base i (label_at base j) (answers.Hypothesis j)
-IsEntry base i (answers.Assertion j) = Resolves base i (label_at base j) (answers.Assertion j)
-IsEntry base i answers.Inactive = Unit {0}
-IsEntry base i answers.Unknown = Unit {0}
-
-abbrev pub AreEntries : BaseView → ℕ → List Resolved → Type 0
-AreEntries base i labels = AllByRecursion (IsEntry base i) labels
-
--- the labels of items
-abbrev pub labels_at : BaseView → List ℕ → List (List ℕ)
-labels_at base numbers = map (label_at base) numbers
 
 -- a fault that is told is that of a word
 abbrev pub TellsWord : Undecoded → ℕ → Result Step ProofNumber → Type 0
 TellsWord (errors.Fault fault) n read = (read ≡ Err fault.number) × (fault.spot ≡ word_spot n)
 TellsWord errors.Memory n read = Unit {0}
 
--- a word of a normal proof as a step: a label, or `?`
-abbrev pub word_step : List ℕ → Step
-word_step word = if bytes_eq word (codes "?") then NotKnown else Named word
-
--- what the table of a proof has: the mandatory hypotheses and the listed labels, or each word
-abbrev pub label_table : List (List ℕ) → List (List ℕ) → List Step
-label_table mandatory words = if is_compressed words then map Named (mandatory ++ before_first is_close (drop 1 words)) else map word_step words
-
 -- before the list: these words are left behind the `(`, and the entries are those of the mandatory hypotheses
-pub record Begins (base : BaseView) (i : ℕ) (mandatory words behind : List (List ℕ)) (labels : List Resolved) : Type 0 where
+pub record BeginsTable (base : BaseView) (i : ℕ) (mandatory words behind : List (List ℕ)) (labels : List Resolved) : Type 0 where
   pub left : AreLeft words behind 1
   pub labels_are : entry_steps base labels ≡ map Named mandatory
   pub entries : AreEntries base i labels
@@ -64,7 +31,7 @@ pub record Begins (base : BaseView) (i : ℕ) (mandatory words behind : List (Li
 -- so it is with each such proof at an item of the base
 abbrev pub FromBegin : Base → ℕ → List (List ℕ) → List Resolved → (BaseView → List (List ℕ) → List (List ℕ) → Type 0) → Type 0
 FromBegin code i behind labels holds =
-    (base : BaseView) (mandatory words : List (List ℕ)) → IsBase base code → Begins base i mandatory words behind labels → holds base mandatory words
+    (base : BaseView) (mandatory words : List (List ℕ)) → IsBase base code → BeginsTable base i mandatory words behind labels → holds base mandatory words
 
 -- a fault that is told is that of the compressed proof
 abbrev pub TellsListed : Undecoded → BaseView → ℕ → List (List ℕ) → List (List ℕ) → Type 0

@@ -8,8 +8,8 @@ use Rattle.mm_frame.specs.Language.Frame.{Symbol, Frame, AreSameFrame}
 use Rattle.mm_frame.specs.Language.Typing.{IsFrame}
 use Rattle.mm_frame.specs.Code.KeptBase.{IsBase}
 use Rattle.mm_proof.specs.Code.Citation.{frame_of}
-use Rattle.mm_proof.specs.Code.Labels.{IsEntry}
-use Rattle.mm_frame.specs.Code.CodeSymbols.{by_number}
+use Rattle.mm_proof.specs.Language.DecodedSteps.{IsEntry}
+use Rattle.mm_frame.specs.Language.NumberedSymbols.{by_number}
 use Rattle.mm_proof.specs.Code.NumberedBase.{ByNames, all_by_number, numbered_hypothesis, numbered_frame}
 use Rattle.mm_proof.specs.declared.named.Naming.{Naming}
 use Rattle.mm_proof.specs.declared.named.Use.{Use}
@@ -29,8 +29,8 @@ HasHypothesis names view naming n j =
     (e : List Symbol) × (slice_get (expressions_named naming) n ≡ Some e) × (e ≡ (numbered_hypothesis names view j).expression)
 
 -- this place has the frame of the assertion with a number
-abbrev pub HasAssertion : List (List ℕ) → BaseView → Naming → ℕ → ℕ → Type 0
-HasAssertion names view naming n j =
+abbrev pub HasNamedFrame : List (List ℕ) → BaseView → Naming → ℕ → ℕ → Type 0
+HasNamedFrame names view naming n j =
     (kept : Frame) × (slice_get (frames_named naming) n ≡ Some kept) × AreSameFrame kept (numbered_frame names view j)
 
 -- what was named is what the base has under the numbers
@@ -40,7 +40,7 @@ pub record AreNamed (code : Base) (naming : Naming) : Type 0 where
   pub hypotheses : ByNames code (λ names view. (n j : ℕ) → slice_get naming.hypothesis_numbers.items.items n ≡ Some j → is_shown_at view j ≡ true
       → HasHypothesis names view naming n j)
   pub assertions : ByNames code (λ names view. (n j : ℕ) → slice_get naming.assertion_numbers.items.items n ≡ Some j → is_framed_at view j ≡ true
-      → HasAssertion names view naming n j)
+      → HasNamedFrame names view naming n j)
   pub frames : All (λ a. IsFrame (frame_of by_number a)) naming.assertions.items
 
 -- what stood in the list stands there still
@@ -48,17 +48,17 @@ abbrev pub Stays : List ℕ → List ℕ → Type 0
 Stays old new = (n j : ℕ) → slice_get old n ≡ Some j → slice_get new n ≡ Some j
 
 -- no number moves
-pub record Grows (old new : Naming) : Type 0 where
+pub record NamingGrows (old new : Naming) : Type 0 where
   pub hypotheses : Stays old.hypothesis_numbers.items.items new.hypothesis_numbers.items.items
   pub assertions : Stays old.assertion_numbers.items.items new.assertion_numbers.items.items
 
 -- the use is of what the label resolves to
-abbrev pub StandsFor : Naming → Use → Resolved → Type 0
-StandsFor naming (uses.Hypothesis n) (answers.Hypothesis j) = slice_get naming.hypothesis_numbers.items.items n ≡ Some j
-StandsFor naming (uses.Assertion n) (answers.Assertion j) = slice_get naming.assertion_numbers.items.items n ≡ Some j
-StandsFor naming uses.Nothing answers.Inactive = Unit {0}
-StandsFor naming uses.Nothing answers.Unknown = Unit {0}
-StandsFor naming _ _ = ⊥
+abbrev pub IsUseOf : Naming → Use → Resolved → Type 0
+IsUseOf naming (uses.Hypothesis n) (answers.Hypothesis j) = slice_get naming.hypothesis_numbers.items.items n ≡ Some j
+IsUseOf naming (uses.Assertion n) (answers.Assertion j) = slice_get naming.assertion_numbers.items.items n ≡ Some j
+IsUseOf naming uses.Nothing answers.Inactive = Unit {0}
+IsUseOf naming uses.Nothing answers.Unknown = Unit {0}
+IsUseOf naming _ _ = ⊥
 
 -- the label is an entry of the table of a proof in this base
 pub record IsNamedBy (code : Base) (label : Resolved) : Type 0 where

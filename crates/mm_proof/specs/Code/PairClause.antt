@@ -3,7 +3,7 @@ use Rattle.std.specs.Prelude.{◌≡◌, ◌≢◌, ℕ, ◌≤◌, ◌<◌, Boo
 use Rattle.std.specs.Prelude.{Contains, All, Any, slice_index}
 use Rattle.mm_frame.specs.Language.Frame.{Symbol, Mandatory, ArePair, HasVariable}
 use Rattle.mm_frame.specs.Language.Typing.{IsTyped}
-use Rattle.mm_proof.specs.Code.Citation.{IsSlot, hypotheses_of, pairs_of}
+use Rattle.mm_proof.specs.Code.Citation.{IsSlot, hypotheses_of, meant_pairs}
 use Rattle.mm_proof.specs.Language.Derivation.{AreApart, ShareVariable}
 use Rattle.mm_proof.specs.Language.Faults.{LackPair}
 use Rattle.mm_proof.specs.declared.ProofNumber.{ProofNumber}
@@ -12,7 +12,7 @@ use Rattle.mm_proof.specs.declared.pattern.Entry.{Entry}
 use Rattle.mm_proof.specs.declared.assertion.Hypothesis.{Hypothesis}
 use Rattle.mm_proof.specs.declared.pattern.Taken.{Taken}
 use Rattle.mm_proof.specs.declared.gather.Gathered.{Gathered}
-use Rattle.mm_proof.specs.Code.Flat.{read, IsWithin}
+use Rattle.mm_proof.specs.Code.Flat.{read, IsEntryWithin}
 
 -- it is the pair of these two, in one order or the other
 abbrev pub IsPair : Symbol × Symbol → Symbol → Symbol → Type 0
@@ -52,7 +52,7 @@ IsGathered variables s e = (v : Symbol) → HasVariable (drop 1 e) v ↔ Contain
 pub record Gathers {S : Type 0} (hypotheses : List (Hypothesis S)) (es : List (List Symbol)) (variables : List Symbol) (spans : List Entry)
     (n : ℕ) : Type 0 where
   pub count : length spans ≡ n
-  pub within : (k : ℕ) (s : Entry) → slice_get spans k ≡ Some s → IsWithin (length variables) s
+  pub within : (k : ℕ) (s : Entry) → slice_get spans k ≡ Some s → IsEntryWithin (length variables) s
   pub right : (k : ℕ) (s : Entry) (h : Hypothesis S) (e : List Symbol) → slice_get spans k ≡ Some s → slice_get hypotheses k ≡ Some h → h.floating ≡ true →
       slice_get es k ≡ Some e → IsGathered variables s e
 
@@ -78,7 +78,7 @@ pub record GathersEntry (floating : Bool) (e before after : List Symbol) (spans 
 
 -- the ranges lie within a list of this length
 abbrev pub AreSpans : ℕ → List Entry → Type 0
-AreSpans n spans = (k : ℕ) (s : Entry) → slice_get spans k ≡ Some s → IsWithin n s
+AreSpans n spans = (k : ℕ) (s : Entry) → slice_get spans k ≡ Some s → IsEntryWithin n s
 
 -- what is found of mandatory pairs: they are kept apart, or the lower of the two numbers that hold
 abbrev pub PairsSay : List (Symbol × Symbol) → (Symbol → List Symbol) → List (Symbol × Symbol) → Option ProofNumber → Type 0
@@ -106,13 +106,13 @@ AtPair means P taken gathered p = AtSlots P (hypotheses_of means taken.hypothese
 
 -- it is said at each pair
 abbrev pub AtEachPair : {S : Type 0} → (S → Symbol) → (List Symbol → List Symbol → Type 0) → Taken S → Gathered S → List (S × S) → Type 0
-AtEachPair means P taken gathered pairs = (k : ℕ) (p : Symbol × Symbol) → slice_get (pairs_of means pairs) k ≡ Some p → AtPair means P taken gathered p
+AtEachPair means P taken gathered pairs = (k : ℕ) (p : Symbol × Symbol) → slice_get (meant_pairs means pairs) k ≡ Some p → AtPair means P taken gathered p
 
 -- it is said at some pair
 abbrev pub AtSomePair : {S : Type 0} → (S → Symbol) → (List Symbol → List Symbol → Type 0) → Taken S → Gathered S → List (S × S) → Type 0
-AtSomePair means P taken gathered pairs = (k : ℕ) × (p : Symbol × Symbol) × (slice_get (pairs_of means pairs) k ≡ Some p) × AtPair means P taken gathered p
+AtSomePair means P taken gathered pairs = (k : ℕ) × (p : Symbol × Symbol) × (slice_get (meant_pairs means pairs) k ≡ Some p) × AtPair means P taken gathered p
 
 -- for the key of each of the first symbols that the table has, it has the place of one with that key
-abbrev pub AreMarked : (Symbol → ℕ) → List Symbol → List ℕ → ℕ → Type 0
-AreMarked key xs places n = (i : ℕ) (x : Symbol) → i < n → slice_get xs i ≡ Some x → key x < length places →
+abbrev pub AreKeyPlaces : (Symbol → ℕ) → List Symbol → List ℕ → ℕ → Type 0
+AreKeyPlaces key xs places n = (i : ℕ) (x : Symbol) → i < n → slice_get xs i ≡ Some x → key x < length places →
     (slice_index places (key x) < n) × ((y : Symbol) × (slice_get xs (slice_index places (key x)) ≡ Some y) × (key y ≡ key x))

@@ -3,14 +3,14 @@ use Rattle.std.specs.Prelude.{◌≡◌, ℕ, ◌<◌, ◌≤◌, Some, List, []
 use Rattle.mm_frame.specs.Language.Frame.{Symbol}
 use Rattle.mm_proof.specs.Language.Machine.{State}
 use Rattle.mm_proof.specs.declared.pattern.Entry.{Entry}
-use Rattle.mm_proof.specs.Code.Flat.{read_all, IsWithin}
+use Rattle.mm_proof.specs.Code.Flat.{read_all, IsEntryWithin}
 
 -- the ranges lie within the list, those that are saved in its front, and no entry reaches into what a later one owns
 pub record AreOrderedRanges (n kept : ℕ) (stack saved : List Entry) : Type 0 where
   pub kept_within : kept ≤ n
-  pub within : All (IsWithin n) stack
+  pub within : All (IsEntryWithin n) stack
   pub floors_within : All (λ e. e.floor ≤ n) stack
-  pub saved_within : All (IsWithin kept) saved
+  pub saved_within : All (IsEntryWithin kept) saved
   pub apart : (i j : ℕ) (a b : Entry) → i < j → slice_get stack i ≡ Some a → slice_get stack j ≡ Some b → (a.end ≤ b.floor) × (a.floor ≤ b.floor)
 
 -- the expressions

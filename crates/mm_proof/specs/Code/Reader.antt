@@ -15,7 +15,7 @@ pub record Aim : Type 0 where
   pub total : Steps
 
 -- with the letters that are left the reader gives the total
-pub record Goes (aim : Aim) (reader : LetterReader) (letters : List Letter) : Type 0 where
+pub record ReadsLetters (aim : Aim) (reader : LetterReader) (letters : List Letter) : Type 0 where
   pub digits : ℕ
   pub labels_are : length aim.names ≡ reader.labels
   pub digits_are : reader.digits ≡ min digits (2 ^ 64 - 1)

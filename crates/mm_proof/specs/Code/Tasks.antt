@@ -19,16 +19,16 @@ use Rattle.mm_proof.specs.declared.named.Use.TheVariants as uses
 use Rattle.mm_proof.specs.declared.named.Named.{Named as Listed}
 use Rattle.mm_proof.specs.declared.machine.Machine.{Machine}
 use Rattle.mm_proof.specs.Code.Citation.{frame_of}
-use Rattle.mm_proof.specs.Code.Coded.{meant}
+use Rattle.mm_proof.specs.Language.DecodedSteps.{meant}
 use Rattle.mm_proof.specs.Code.MachineState.{state_of}
 
 -- the expressions of the hypotheses that are named
-abbrev pub expressions_of : {S : Type 0} → (S → Symbol) → Listed S → List (List Symbol)
-expressions_of means named = map (λ e. map means e.now) named.hypotheses.items
+abbrev pub named_expressions : {S : Type 0} → (S → Symbol) → Listed S → List (List Symbol)
+named_expressions means named = map (λ e. map means e.now) named.hypotheses.items
 
 -- the frames of the assertions that are named
-abbrev pub frames_of : {S : Type 0} → (S → Symbol) → Listed S → List Frame
-frames_of means named = map (frame_of means) named.assertions.items
+abbrev pub named_frames : {S : Type 0} → (S → Symbol) → Listed S → List Frame
+named_frames means named = map (frame_of means) named.assertions.items
 
 -- what a label that is used so means at a place
 abbrev pub MeansUse : List (List Symbol) → List Frame → Setting → Use → Step → Type 0
@@ -41,7 +41,7 @@ MeansUse expressions frames place _ _ = ⊥
 
 -- what the entries of a proof's table mean at a place
 abbrev pub AreUses : {S : Type 0} → (S → Symbol) → Listed S → Setting → List Step → Type 0
-AreUses means named place names = AllZip (MeansUse (expressions_of means named) (frames_of means named) place) named.uses.items names
+AreUses means named place names = AllZip (MeansUse (named_expressions means named) (named_frames means named) place) named.uses.items names
 
 -- what a task means at a place
 abbrev pub MeansTask : List (List Symbol) → List Frame → Setting → Task → Step → Type 0

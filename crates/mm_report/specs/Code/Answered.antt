@@ -23,8 +23,8 @@ IsToldIn text (edits.Text fault) = fault.at ≤ length text
 IsToldIn text _ = Unit {0}
 
 -- the text that an edit brings; no bytes where it brings none
-abbrev pub text_of : Asked → List ℕ
-text_of asked = unwrap_or (edited_text asked) []
+abbrev pub text_brought : Asked → List ℕ
+text_brought asked = unwrap_or (edited_text asked) []
 
 -- these bytes are written, which the items of a session's files give; or the write of them has failed
 abbrev pub WritesOf : {W T E : Type 0} → (W → Option (List ℕ)) → SessionView → (BaseView → List ℕ) → Writing W → Writing W → Result T E → Type 0

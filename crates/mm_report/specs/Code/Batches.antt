@@ -10,19 +10,19 @@ use Rattle.mm_report.specs.Code.Stops.{HasNoEntry, StopsSo, AreListed, batch_lin
 use Rattle.mm_report.specs.Language.Script.{End, Listed, listed_bytes, IsNumber, AreGoodEdits, LastInLine}
 
 -- the bytes begin with the line of a batch, with some of its edits, which end here
-pub record IsFront (bytes : List ℕ) (n : ℕ) (front : List Listed) (at : ℕ) : Type 0 where
+pub record IsBatchFront (bytes : List ℕ) (n : ℕ) (front : List Listed) (at : ℕ) : Type 0 where
   pub listed : AreListed n front
   pub within : at ≤ length bytes
   pub are : take at bytes ≡ batch_line n ++ 10 ∷ flat_map listed_bytes front
 
 -- whatever the batch is of which so many edits are missing: the script ends so
 abbrev pub EndsBatch : ℕ → ℕ → List ℕ → List ℕ → Option (List ℕ) → End → Type 0
-EndsBatch from missing old new left end = (n : ℕ) (front : List Listed) → IsFront old n front from → n ≡ length front + missing
+EndsBatch from missing old new left end = (n : ℕ) (front : List Listed) → IsBatchFront old n front from → n ≡ length front + missing
     → IfSome left (λ more. StopsSo (new ++ more) end)
 
 -- or it is not whole
 abbrev pub HoldsBatch : ℕ → ℕ → List ℕ → List ℕ → Type 0
-HoldsBatch from missing old new = (n : ℕ) (front : List Listed) → IsFront old n front from → n ≡ length front + missing → HasNoEntry new
+HoldsBatch from missing old new = (n : ℕ) (front : List Listed) → IsBatchFront old n front from → n ≡ length front + missing → HasNoEntry new
 
 -- an edit stands there behind empty lines
 pub record IsListedRead (bytes : List ℕ) (left : Option (List ℕ)) (from : ℕ) (read : EditRead) : Type 0 where

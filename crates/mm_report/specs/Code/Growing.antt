@@ -13,7 +13,7 @@ use Rattle.mm_report.specs.Language.Script.{IsGoodEdit, edit_bytes, edit_line}
 use Rattle.mm_report.specs.Language.Stream.{calls_left}
 
 -- bytes are read on, behind those that were there
-pub record Grows (old new : Input) (unread left : Option (List ℕ)) : Type 0 where
+pub record InputGrows (old new : Input) (unread left : Option (List ℕ)) : Type 0 where
   pub part : List ℕ
   pub consumes : Consumes unread left part
   pub are : pending new ≡ pending old ++ part

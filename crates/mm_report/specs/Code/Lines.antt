@@ -8,7 +8,7 @@ use Rattle.mm_report.specs.declared.line.CommandLine.{CommandLine}
 use Rattle.mm_report.specs.declared.line.CommandLine.TheVariants as code
 use Rattle.mm_report.specs.declared.line.Verb.{Verb}
 use Rattle.mm_report.specs.declared.line.Verb.TheVariants.{Insert, Replace, Delete, Move, Batch, Verdict, Axioms, Cites, Users}
-use Rattle.mm_report.specs.Code.Pending.{bytes_in, IsWithin}
+use Rattle.mm_report.specs.Code.Pending.{bytes_of_part, IsPartWithin}
 use Rattle.mm_report.specs.Language.Script.{IsName, IsNumber}
 use Rattle.mm_report.specs.Code.Stops.{batch_line}
 
@@ -34,7 +34,7 @@ verb_word Cites = codes "cites"
 verb_word Users = codes "users"
 
 -- the line begins with the word and a space, and goes on from here
-pub record BeginsWith (line : List ℕ) (verb : Verb) (from : ℕ) : Type 0 where
+pub record BeginsWithVerb (line : List ℕ) (verb : Verb) (from : ℕ) : Type 0 where
   pub within : from ≤ length line
   pub from_is : from ≡ length (verb_word verb) + 1
   pub is : line ≡ verb_word verb ++ 32 ∷ drop from line
@@ -56,15 +56,15 @@ pub record IsFileAndTwo (bytes : List ℕ) (count n m : ℕ) : Type 0 where
 
 -- the words of the line that asks for an edit
 abbrev pub words_said : List ℕ → EditLine → List (List ℕ)
-words_said line (edits.Insert file at count) = codes "insert" ∷ bytes_in line file ∷ decimal at ∷ decimal count ∷ []
-words_said line (edits.Replace file at count) = codes "replace" ∷ bytes_in line file ∷ decimal at ∷ decimal count ∷ []
-words_said line (edits.Delete file at) = codes "delete" ∷ bytes_in line file ∷ decimal at ∷ []
-words_said line (edits.Move file at to) = codes "move" ∷ bytes_in line file ∷ decimal at ∷ decimal to ∷ []
+words_said line (edits.Insert file at count) = codes "insert" ∷ bytes_of_part line file ∷ decimal at ∷ decimal count ∷ []
+words_said line (edits.Replace file at count) = codes "replace" ∷ bytes_of_part line file ∷ decimal at ∷ decimal count ∷ []
+words_said line (edits.Delete file at) = codes "delete" ∷ bytes_of_part line file ∷ decimal at ∷ []
+words_said line (edits.Move file at to) = codes "move" ∷ bytes_of_part line file ∷ decimal at ∷ decimal to ∷ []
 
 -- there is a name
 pub record IsNameIn (line : List ℕ) (part : Part) : Type 0 where
-  pub within : IsWithin line part
-  pub name : IsName (bytes_in line part)
+  pub within : IsPartWithin line part
+  pub name : IsName (bytes_of_part line part)
 
 abbrev pub IsGoodLine : List ℕ → EditLine → Type 0
 IsGoodLine line (edits.Insert file at count) = IsNameIn line file × IsNumber at × IsNumber count
@@ -80,14 +80,14 @@ pub record SaysEdit (line : List ℕ) (asked : EditLine) : Type 0 where
 -- a word and a label
 pub record SaysLabel (line word : List ℕ) (label : Part) : Type 0 where
   pub good : IsNameIn line label
-  pub is : line ≡ word ++ 32 ∷ bytes_in line label
+  pub is : line ≡ word ++ 32 ∷ bytes_of_part line label
 
 -- what a line asks for
-abbrev pub Says : List ℕ → CommandLine → Type 0
-Says line (code.Change asked) = SaysEdit line asked
-Says line (code.Batch n) = IsNumber n × (line ≡ batch_line n)
-Says line code.Report = line ≡ codes "report"
-Says line (code.Verdict label) = SaysLabel line (codes "verdict") label
-Says line (code.Axioms label) = SaysLabel line (codes "axioms") label
-Says line (code.Cites label) = SaysLabel line (codes "cites") label
-Says line (code.Users label) = SaysLabel line (codes "users") label
+abbrev pub SaysLine : List ℕ → CommandLine → Type 0
+SaysLine line (code.Change asked) = SaysEdit line asked
+SaysLine line (code.Batch n) = IsNumber n × (line ≡ batch_line n)
+SaysLine line code.Report = line ≡ codes "report"
+SaysLine line (code.Verdict label) = SaysLabel line (codes "verdict") label
+SaysLine line (code.Axioms label) = SaysLabel line (codes "axioms") label
+SaysLine line (code.Cites label) = SaysLabel line (codes "cites") label
+SaysLine line (code.Users label) = SaysLabel line (codes "users") label

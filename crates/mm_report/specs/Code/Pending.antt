@@ -24,27 +24,27 @@ pub record ReadsOn (old new : Input) (unread left : Option (List ℕ)) : Type 0 
   pub are : pending old ++ part ≡ replicate blanks 10 ++ pending new
 
 -- the bytes of a part
-abbrev pub bytes_in : List ℕ → Part → List ℕ
-bytes_in bytes part = slice_range bytes part.start part.end
+abbrev pub bytes_of_part : List ℕ → Part → List ℕ
+bytes_of_part bytes part = slice_range bytes part.start part.end
 
 -- there are these bytes
-pub record IsWithin (bytes : List ℕ) (part : Part) : Type 0 where
+pub record IsPartWithin (bytes : List ℕ) (part : Part) : Type 0 where
   pub ordered : part.start ≤ part.end
   pub within : part.end ≤ length bytes
 
 -- the edit that stands there
 abbrev pub edit_in : List ℕ → EditAt → Asked
-edit_in bytes (edits.Insert file at text) = Insert (bytes_in bytes file) at (bytes_in bytes text)
-edit_in bytes (edits.Replace file at text) = Replace (bytes_in bytes file) at (bytes_in bytes text)
-edit_in bytes (edits.Delete file at) = Delete (bytes_in bytes file) at
-edit_in bytes (edits.Move file at to) = Move (bytes_in bytes file) at to
+edit_in bytes (edits.Insert file at text) = Insert (bytes_of_part bytes file) at (bytes_of_part bytes text)
+edit_in bytes (edits.Replace file at text) = Replace (bytes_of_part bytes file) at (bytes_of_part bytes text)
+edit_in bytes (edits.Delete file at) = Delete (bytes_of_part bytes file) at
+edit_in bytes (edits.Move file at to) = Move (bytes_of_part bytes file) at to
 
 -- its parts are there
 abbrev pub IsEditWithin : List ℕ → EditAt → Type 0
-IsEditWithin bytes (edits.Insert file at text) = IsWithin bytes file × IsWithin bytes text
-IsEditWithin bytes (edits.Replace file at text) = IsWithin bytes file × IsWithin bytes text
-IsEditWithin bytes (edits.Delete file at) = IsWithin bytes file
-IsEditWithin bytes (edits.Move file at to) = IsWithin bytes file
+IsEditWithin bytes (edits.Insert file at text) = IsPartWithin bytes file × IsPartWithin bytes text
+IsEditWithin bytes (edits.Replace file at text) = IsPartWithin bytes file × IsPartWithin bytes text
+IsEditWithin bytes (edits.Delete file at) = IsPartWithin bytes file
+IsEditWithin bytes (edits.Move file at to) = IsPartWithin bytes file
 
 -- the edits of a batch that stand there, one after another
 pub record AreEditsIn (bytes : List ℕ) (found : List EditAt) (listed : List Listed) : Type 0 where
@@ -56,10 +56,10 @@ abbrev pub IsCommandIn : List ℕ → CommandAt → Command → Type 0
 IsCommandIn bytes (code.Change edit) command = IsEditWithin bytes edit × (command ≡ Change (edit_in bytes edit))
 IsCommandIn bytes (code.Batch found) command = (listed : List Listed) × AreEditsIn bytes found.items listed × (command ≡ Batch listed)
 IsCommandIn bytes code.Report command = command ≡ Report
-IsCommandIn bytes (code.Verdict label) command = IsWithin bytes label × (command ≡ Verdict (bytes_in bytes label))
-IsCommandIn bytes (code.Axioms label) command = IsWithin bytes label × (command ≡ Axioms (bytes_in bytes label))
-IsCommandIn bytes (code.Cites label) command = IsWithin bytes label × (command ≡ Cites (bytes_in bytes label))
-IsCommandIn bytes (code.Users label) command = IsWithin bytes label × (command ≡ Users (bytes_in bytes label))
+IsCommandIn bytes (code.Verdict label) command = IsPartWithin bytes label × (command ≡ Verdict (bytes_of_part bytes label))
+IsCommandIn bytes (code.Axioms label) command = IsPartWithin bytes label × (command ≡ Axioms (bytes_of_part bytes label))
+IsCommandIn bytes (code.Cites label) command = IsPartWithin bytes label × (command ≡ Cites (bytes_of_part bytes label))
+IsCommandIn bytes (code.Users label) command = IsPartWithin bytes label × (command ≡ Users (bytes_of_part bytes label))
 
 -- the bytes begin with the command, and so many are its
 pub record IsWholeCommand (bytes : List ℕ) (command : Command) (end : ℕ) : Type 0 where
@@ -76,7 +76,7 @@ abbrev pub IsWholeOrLast : List ℕ → Option (List ℕ) → Next → Command �
 IsWholeOrLast bytes left next command = ((next.fed ≡ true) × IsWholeCommand bytes command next.end) ⊎ ((next.fed ≡ false) × IsLast bytes left command)
 
 -- a command begins these bytes, and it is whole
-pub record IsNext (bytes : List ℕ) (left : Option (List ℕ)) (next : Next) : Type 0 where
+pub record IsNextCommand (bytes : List ℕ) (left : Option (List ℕ)) (next : Next) : Type 0 where
   pub command : Command
   pub good : IsGood command
   pub is_command : IsCommandIn bytes next.command command

@@ -57,14 +57,14 @@ abbrev pub listed_bytes : Listed → List ℕ
 listed_bytes listed = replicate listed.blanks 10 ++ edit_bytes listed.edit
 
 -- what stands behind the line of a command and its line feed
-abbrev pub behind : Command → List ℕ
-behind (Change edit) = ended_text (edited_text edit)
-behind (Batch edits) = flat_map listed_bytes edits
-behind _ = []
+abbrev pub behind_line : Command → List ℕ
+behind_line (Change edit) = ended_text (edited_text edit)
+behind_line (Batch edits) = flat_map listed_bytes edits
+behind_line _ = []
 
 -- the bytes of a command
 abbrev pub command_bytes : Command → List ℕ
-command_bytes command = line_of command ++ 10 ∷ behind command
+command_bytes command = line_of command ++ 10 ∷ behind_line command
 
 -- neither a space nor a line feed
 abbrev pub is_word_byte : ℕ → Bool
@@ -197,7 +197,7 @@ pub record IsCutShort (rest : List ℕ) : Type 0 where
   pub part : List ℕ
   pub missing : List ℕ
   pub is : rest ≡ line_of command ++ part
-  pub begins : part ++ missing ≡ 10 ∷ behind command
+  pub begins : part ++ missing ≡ 10 ∷ behind_line command
   pub some_missing : missing ≢ []
   pub breaks : MayBreak command part
 

@@ -16,7 +16,8 @@ OneEnd = (rest : List ℕ) (a b : End) → EndsSo rest a → EndsSo rest b → a
 
 -- What is read of some bytes stays so, whatever follows them: it is a beginning of the reading of them all.
 abbrev pub ReadingGoesOn : Type 0
-ReadingGoesOn = (bytes more : List ℕ) (entries all : List Entry) (rest left : List ℕ) → IsReadSoFar bytes entries rest → IsLongestReading (bytes ++ more) all left
+ReadingGoesOn = (bytes more : List ℕ) (entries all : List Entry) (rest left : List ℕ)
+    → IsReadSoFar bytes entries rest → IsLongestReading (bytes ++ more) all left
     → (later : List Entry) × (all ≡ entries ++ later)
 
 -- It is one list.

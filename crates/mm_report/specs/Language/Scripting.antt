@@ -1,10 +1,9 @@
 -- What a call that reads a script and writes its answers has done, wherever it ends.
-use Rattle.std.specs.Prelude.{◌⊎◌, ℕ, Option, List}
+use Rattle.std.specs.Prelude.{◌⊎◌, ℕ, Option, List, [], ◌∷◌, ◌++◌, take}
 use Rattle.std.specs.Io.KnownBytes.{Appends, Consumes, IsAtEnd}
 use Rattle.mm_keep.specs.Language.Sessions.{SessionView}
-use Rattle.mm_report.specs.Language.Answers.{AreAnswers, IsScriptAnswer}
-use Rattle.mm_report.specs.Language.Script.{End, Entry, commands_of, AreRead, HasEntries, IsReadSoFar}
-use Rattle.mm_report.specs.Language.Stream.{AppendsPart}
+use Rattle.mm_report.specs.Language.Answers.{AreAnswers, IsAnswer, IsScriptAnswer}
+use Rattle.mm_report.specs.Language.Script.{Command, End, Entry, Given, commands_of, AreRead, HasEntries, IsReadSoFar}
 
 -- the answers of the whole script are written, and nothing else
 pub record AnswersScript (old new : SessionView) (script : List ℕ) (end : End) (before after : Option (List ℕ)) : Type 0 where
@@ -38,14 +37,19 @@ pub record AnswersFirst (old new : SessionView) (unread left before after : Opti
 abbrev pub AreFirst : Option (List ℕ) → List ℕ → List Entry → List ℕ → Type 0
 AreFirst left bytes entries rest = AreRead bytes entries rest ⊎ (IsAtEnd left × HasEntries bytes entries rest)
 
--- of the bytes that were read, the first commands are answered, and these answers or a beginning of them are written: the session is that
--- behind them all, the one included whose answer is not whole
+-- of the bytes that were read, the first commands are done, and the session is that behind the last of them; the answers to those before it
+-- are written whole, and of its own a beginning, or all of it, and nothing else
 pub record BeginsAnswers (old new : SessionView) (unread left before after : Option (List ℕ)) : Type 0 where
   pub bytes : List ℕ
   pub consumes : Consumes unread left bytes
   pub entries : List Entry
+  pub last : Command
   pub rest : List ℕ
-  pub are : AreFirst left bytes entries rest
+  pub are : AreFirst left bytes (entries ++ Given last ∷ []) rest
   pub answers : List ℕ
-  pub answered : AreAnswers old (commands_of entries) answers new
-  pub out : AppendsPart before after answers
+  pub between : SessionView
+  pub answered : AreAnswers old (commands_of entries) answers between
+  pub answer : List ℕ
+  pub is : IsAnswer between last answer new
+  pub count : ℕ
+  pub out : Appends before after (answers ++ take count answer)

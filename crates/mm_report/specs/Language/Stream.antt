@@ -1,5 +1,5 @@
 -- What a writer that remembers its failure has written, and what such a reader has left.
-use Rattle.std.specs.Prelude.{◌≡◌, ℕ, Bool, true, Option, List, Result, OnOk, OnErr, take}
+use Rattle.std.specs.Prelude.{◌≡◌, ◌⊎◌, ◌+◌, ℕ, Bool, true, Option, List, Result, OnOk, OnErr, take}
 use Rattle.std.specs.Io.KnownBytes.{Appends}
 use Rattle.mm_report.specs.declared.reading.Reading.{Reading}
 use Rattle.mm_report.specs.declared.stream.Writing.{Writing}
@@ -36,3 +36,7 @@ calls_left reading = reading.left
 
 abbrev pub cannot_read : {R : Type 0} → Reading R → Bool
 cannot_read reading = reading.failed
+
+-- a read that fails did not give up: it had failed before, or no call was left, or exactly one more call was made
+abbrev pub HasTried : {R : Type 0} → Reading R → Reading R → Type 0
+HasTried old new = (cannot_read old ≡ true) ⊎ ((calls_left old ≡ 0) ⊎ (calls_left old ≡ calls_left new + 1))

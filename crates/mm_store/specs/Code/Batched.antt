@@ -5,14 +5,14 @@ use Rattle.mm_store.specs.declared.edit.EditError.{EditError}
 use Rattle.mm_store.specs.declared.edit.EditError.TheVariants as edits
 use Rattle.mm_store.specs.declared.batch.BatchError.{BatchError}
 use Rattle.mm_store.specs.declared.batch.BatchError.TheVariants as batch
-use Rattle.mm_store.specs.declared.undo.Undo.{Undo}
+use Rattle.mm_store.specs.Language.Undoing.{UndoView}
 use Rattle.mm_store.specs.declared.batch.Undos.TheInside.{Inside}
 use Rattle.mm_store.specs.Language.Answers.{IsEditError}
 use Rattle.mm_store.specs.Language.Edits.{Asked, IsPlaced}
 use Rattle.mm_store.specs.Language.FilesView.{File, FilesView}
 use Rattle.mm_store.specs.Code.Kept.{places, standing_count}
 
-abbrev pub undos_of : Inside → List Undo
+abbrev pub undos_of : Inside → List UndoView
 undos_of inside = inside.undos.items
 
 -- a piece that stands is at one place of the files, and a parked one at none

@@ -2,13 +2,10 @@
 use Rattle.std.specs.Prelude.{◌≡◌, ℕ, ◌≤◌, zero, suc, List, [], ◌∷◌, ◌++◌, None, IsSome, slice_set, slice_index_or}
 use Rattle.std.specs.List.{insert, remove}
 use Rattle.std.specs.FinMap as finite
-use Rattle.mm_store.specs.declared.state.State.TheVariants.{Parked}
-use Rattle.mm_store.specs.declared.state.EditKind.TheVariants.{Replaced, Deleted}
-use Rattle.mm_store.specs.declared.undo.Undo.{Undo}
-use Rattle.mm_store.specs.declared.undo.Action.TheVariants as action
-use Rattle.mm_store.specs.Language.Pieces.{standing_piece, with_state}
+use Rattle.mm_store.specs.Language.Undoing as action
+use Rattle.mm_store.specs.Language.Pieces.{Parked, Replaced, Deleted, standing_piece, with_state}
 use Rattle.mm_store.specs.Language.FilesView.{File, FilesView, plain, bytes_of}
-use Rattle.mm_store.specs.Language.Undoing.{keys_in, with_keys, key_at, moved, undone, CanUndo, CanSettle, KeepsText}
+use Rattle.mm_store.specs.Language.Undoing.{UndoView, keys_in, with_keys, key_at, moved, undone, CanUndo, CanSettle, KeepsText}
 
 -- the members of the file of this number
 abbrev pub pieces_in : List File → ℕ → List (List ℕ)
@@ -44,7 +41,7 @@ deleted view number at = record {
 }
 
 -- an edit of the file of this number: its members become these, and the undo gives the files of before
-pub record IsDone (old new : FilesView) (number : ℕ) (members : List (List ℕ)) (undo : Undo) : Type 0 where
+pub record IsDone (old new : FilesView) (number : ℕ) (members : List (List ℕ)) (undo : UndoView) : Type 0 where
   pub means : plain new ≡ with_pieces (plain old) number members
   pub keeps : (key : ℕ) → IsSome (finite.get old.pieces key) → KeepsText old new key
   pub can_undo : CanUndo undo new
@@ -55,7 +52,7 @@ abbrev pub members_of : FilesView → ℕ → List (List ℕ)
 members_of view number = pieces_in (plain view) number
 
 -- the member has a new piece under a key that no piece had, and the old one is parked
-pub record IsReplaced (old new : FilesView) (number at : ℕ) (text : List ℕ) (undo : Undo) : Type 0 where
+pub record IsReplaced (old new : FilesView) (number at : ℕ) (text : List ℕ) (undo : UndoView) : Type 0 where
   pub key : ℕ
   pub fresh : finite.get old.pieces key ≡ None
   pub is : new ≡ replaced old number at key text
@@ -63,7 +60,7 @@ pub record IsReplaced (old new : FilesView) (number at : ℕ) (text : List ℕ) 
   pub done : IsDone old new number (slice_set (members_of old number) at text) undo
 
 -- a new piece stands before the member, under a key that no piece had
-pub record IsInserted (old new : FilesView) (number at : ℕ) (text : List ℕ) (undo : Undo) : Type 0 where
+pub record IsInserted (old new : FilesView) (number at : ℕ) (text : List ℕ) (undo : UndoView) : Type 0 where
   pub key : ℕ
   pub fresh : finite.get old.pieces key ≡ None
   pub is : new ≡ inserted old number at key text
@@ -71,14 +68,14 @@ pub record IsInserted (old new : FilesView) (number at : ℕ) (text : List ℕ) 
   pub done : IsDone old new number (insert (members_of old number) at text) undo
 
 -- the member is taken out, and its piece is parked
-pub record IsDeleted (old new : FilesView) (number at : ℕ) (undo : Undo) : Type 0 where
+pub record IsDeleted (old new : FilesView) (number at : ℕ) (undo : UndoView) : Type 0 where
   pub is : new ≡ deleted old number at
   pub undo_is : undo ≡ record { file = number; action = action.Deleted at (key_at old number at) }
   pub within : bytes_of (plain new) ≤ 4294967295
   pub done : IsDone old new number (remove (members_of old number) at) undo
 
 -- the member is taken out and put where it is member `to`
-pub record IsMoved (old new : FilesView) (number at to : ℕ) (undo : Undo) : Type 0 where
+pub record IsMoved (old new : FilesView) (number at to : ℕ) (undo : UndoView) : Type 0 where
   pub is : new ≡ moved old number at to
   pub undo_is : undo ≡ record { file = number; action = action.Moved at to }
   pub within : bytes_of (plain new) ≤ 4294967295

@@ -23,8 +23,8 @@ IsNamed text named =
     → named.name ≡ second_word (part_bytes text named.part) words
 
 -- the item that a part of a piece is
-abbrev pub item_at : Spot → Part → Item
-item_at spot part = placed_item (placed_part spot.file spot.piece spot.key (nameless part))
+abbrev pub item_of_part : Spot → Part → Item
+item_of_part spot part = placed_item (placed_part spot.file spot.piece spot.key (nameless part))
 
 -- each piece of these files holds one unit
 abbrev pub HoldUnits : List FileView → Type 0

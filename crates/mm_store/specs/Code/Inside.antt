@@ -7,7 +7,7 @@ use Rattle.mm_text.specs.declared.part.Part.{Part}
 use Rattle.mm_text.specs.Language.Part.{HasUnits, parts_of}
 use Rattle.mm_store.specs.declared.piece_text.PieceText.{PieceText}
 use Rattle.mm_store.specs.Language.Pieces.{Pieces, standing_piece}
-use Rattle.mm_store.specs.Code.Lines.{AreLines, AreMarks}
+use Rattle.mm_store.specs.Code.Lines.{AreLines, AreLineMarks}
 
 -- these are the parts of a text
 abbrev pub HasParts : List ℕ → List Part → Type 0
@@ -22,7 +22,7 @@ pub record CanBeKept (text : List ℕ) : Type 0 where
 pub record IsPieceKept (piece : PieceText) : Type 0 where
   pub text : CanBeKept piece.text.items
   pub divided : HasParts piece.text.items piece.parts.items
-  pub marked : AreMarks piece.text.items piece.marks.items
+  pub marked : AreLineMarks piece.text.items piece.marks.items
   pub lined : AreLines piece.text.items piece.lines
 
 -- standing pieces with these texts were put, one after another, each under a key that no piece had

@@ -3,13 +3,9 @@ use Rattle.std.specs.Prelude.{◌≡◌, ℕ, suc, ◌+◌, ◌≤◌, cond, nat
 use Rattle.std.specs.List.{sum_by}
 use Rattle.std.specs.FinMap as finite
 use Rattle.mm_text.specs.Language.Reading.{HasWords}
-use Rattle.mm_store.specs.declared.state.State.{State}
-use Rattle.mm_store.specs.declared.state.State.TheVariants.{Standing, Parked}
-use Rattle.mm_store.specs.declared.state.EditKind.{EditKind}
-use Rattle.mm_store.specs.declared.state.EditKind.TheVariants.{Replaced, Deleted}
 use Rattle.mm_store.specs.declared.file_text.FileText.{FileText}
 use Rattle.mm_store.specs.declared.files.Files.TheInside.{Inside}
-use Rattle.mm_store.specs.Language.Pieces.{HeldPiece, Pieces}
+use Rattle.mm_store.specs.Language.Pieces.{PieceState, Standing, Parked, Removal, Replaced, Deleted, HeldPiece, Pieces}
 use Rattle.mm_store.specs.Language.FilesView.{KeyedFile, FilesView, File, plain, bytes_of}
 use Rattle.mm_store.specs.Code.Lines.{AreStarts}
 use Rattle.mm_store.specs.Code.Room.{HasRoom}
@@ -33,7 +29,7 @@ abbrev pub places : ℕ → List KeyedFile → ℕ
 places k [] = 0
 places k (file ∷ files) = times k file.keys + places k files
 
-abbrev pub standing_state : State → ℕ
+abbrev pub standing_state : PieceState → ℕ
 standing_state Standing = 1
 standing_state (Parked file kind) = 0
 
@@ -42,11 +38,11 @@ abbrev pub standing_count : Option HeldPiece → ℕ
 standing_count None = 0
 standing_count (Some piece) = standing_state piece.state
 
-abbrev pub deleted_kind : EditKind → ℕ
+abbrev pub deleted_kind : Removal → ℕ
 deleted_kind Replaced = 0
 deleted_kind Deleted = 1
 
-abbrev pub deleted_state : ℕ → State → ℕ
+abbrev pub deleted_state : ℕ → PieceState → ℕ
 deleted_state n Standing = 0
 deleted_state n (Parked file kind) = cond (nat_eq n file) (deleted_kind kind) 0
 

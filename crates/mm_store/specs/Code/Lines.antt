@@ -19,7 +19,7 @@ pub record Follow (lines later : Lines) : Type 0 where
   pub small : length first + length second ≤ 4294967295
 
 -- the marks of a text: the lines of its first kilobyte, of its first two, and so on, as far as it has whole ones
-pub record AreMarks (text : List ℕ) (marks : List Lines) : Type 0 where
+pub record AreLineMarks (text : List ℕ) (marks : List Lines) : Type 0 where
   pub many : length marks ≡ length text / 1024
   pub each : (number : ℕ) (default : Lines) → number < length marks → AreLines (take ((number + 1) * 1024) text) (slice_index_or marks number default)
 

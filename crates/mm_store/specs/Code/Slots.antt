@@ -8,9 +8,10 @@ use Rattle.mm_store.specs.declared.pieces.Piece.{Piece}
 use Rattle.mm_store.specs.declared.pieces.PieceStore.TheInside.{Inside}
 use Rattle.mm_store.specs.Language.Pieces.{HeldPiece, Pieces, parked_pieces}
 use Rattle.mm_store.specs.Code.Inside.{IsPieceKept}
+use Rattle.mm_store.specs.Code.States.{piece_state}
 
 abbrev pub held : Piece → HeldPiece
-held piece = record { text = piece.kept.text.items; state = piece.state }
+held piece = record { text = piece.kept.text.items; state = piece_state piece.state }
 
 abbrev pub entry_view : ℕ × Piece → ℕ × HeldPiece
 entry_view entry = (entry.0, held entry.1)

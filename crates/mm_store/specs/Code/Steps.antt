@@ -1,32 +1,31 @@
 -- The steps of a walk through the files.
 use Rattle.std.specs.Prelude.{◌≡◌, ℕ, ◌+◌, ◌<◌, true, false, List, [], ◌∷◌, ◌++◌, Option, Some, None, Contains, slice_get, ◌⊎◌}
 use Rattle.std.specs.List.{AllByRecursion}
-use Rattle.mm_store.specs.declared.walk.Level.{Level}
 use Rattle.mm_store.specs.declared.walk.Spot.{Spot}
 use Rattle.mm_store.specs.declared.walk.Step.{Step}
 use Rattle.mm_store.specs.declared.walk.Step.TheVariants as steps
 use Rattle.mm_store.specs.Language.FilesView.{PieceView, FileView, number_of}
 use Rattle.mm_store.specs.Language.Expansion.{Placed, IsInclusion, ArePartsOf}
-use Rattle.mm_store.specs.Language.Walking.{WalkView}
+use Rattle.mm_store.specs.Language.Walking.{LevelView, WalkView}
 
 abbrev pub piece_in : Option FileView → ℕ → Option PieceView
 piece_in None piece = None
 piece_in (Some file) piece = slice_get file.pieces piece
 
 -- the piece that is next in an entered file
-abbrev pub piece_at : List FileView → Level → Option PieceView
+abbrev pub piece_at : List FileView → LevelView → Option PieceView
 piece_at files level = piece_in (slice_get files level.file) level.piece
 
 -- behind the next piece of a file
-abbrev pub behind : Level → Level
+abbrev pub behind : LevelView → LevelView
 behind level = record { file = level.file; piece = level.piece + 1 }
 
 -- the beginning of a file
-abbrev pub beginning : ℕ → Level
+abbrev pub beginning : ℕ → LevelView
 beginning number = record { file = number; piece = 0 }
 
 -- the innermost of the entered files, and its next piece
-pub record IsHere (files : List FileView) (levels : List Level) (front : List Level) (level : Level) (piece : PieceView) : Type 0 where
+pub record IsHere (files : List FileView) (levels : List LevelView) (front : List LevelView) (level : LevelView) (piece : PieceView) : Type 0 where
   pub last : levels ≡ front ++ level ∷ []
   pub there : piece_at files level ≡ Some piece
 
@@ -47,21 +46,21 @@ pub record Includes (file number : ℕ) (piece : PieceView) (name : List ℕ) : 
   pub is_inclusion : IsInclusion part
   pub is_name : part.name ≡ name
 
-abbrev pub spot_at : Level → PieceView → Spot
+abbrev pub spot_at : LevelView → PieceView → Spot
 spot_at level piece = record { file = level.file; piece = level.piece; key = piece.key }
 
 -- the walk leaves a file that has no more pieces, or that is not there
 pub record Leaves (files : List FileView) (old new : WalkView) : Type 0 where
-  pub front : List Level
-  pub level : Level
+  pub front : List LevelView
+  pub level : LevelView
   pub last : old.levels ≡ front ++ level ∷ []
   pub none : piece_at files level ≡ None
   pub after : new ≡ record { names = old.names; levels = front; told = false }
 
 -- the walk goes past a reference to a name that was taken
 pub record ComesAgain (files : List FileView) (old new : WalkView) : Type 0 where
-  pub front : List Level
-  pub level : Level
+  pub front : List LevelView
+  pub level : LevelView
   pub piece : PieceView
   pub is_here : IsHere files old.levels front level piece
   pub name : List ℕ
@@ -71,8 +70,8 @@ pub record ComesAgain (files : List FileView) (old new : WalkView) : Type 0 wher
 
 -- the walk enters a file that is included
 pub record Enters (files : List FileView) (old new : WalkView) : Type 0 where
-  pub front : List Level
-  pub level : Level
+  pub front : List LevelView
+  pub level : LevelView
   pub piece : PieceView
   pub is_here : IsHere files old.levels front level piece
   pub name : List ℕ
@@ -84,8 +83,8 @@ pub record Enters (files : List FileView) (old new : WalkView) : Type 0 where
 
 -- the walk goes past a piece that includes nothing
 pub record Passes (files : List FileView) (old : WalkView) (spot : Spot) (new : WalkView) : Type 0 where
-  pub front : List Level
-  pub level : Level
+  pub front : List LevelView
+  pub level : LevelView
   pub piece : PieceView
   pub is_here : IsHere files old.levels front level piece
   pub is_spot : spot ≡ spot_at level piece
@@ -94,8 +93,8 @@ pub record Passes (files : List FileView) (old : WalkView) (spot : Spot) (new : 
 
 -- the walk goes past a reference to a missing file that was told
 pub record PassesTold (files : List FileView) (old : WalkView) (spot : Spot) (new : WalkView) : Type 0 where
-  pub front : List Level
-  pub level : Level
+  pub front : List LevelView
+  pub level : LevelView
   pub piece : PieceView
   pub is_here : IsHere files old.levels front level piece
   pub is_spot : spot ≡ spot_at level piece
@@ -108,8 +107,8 @@ pub record PassesTold (files : List FileView) (old : WalkView) (spot : Spot) (ne
 
 -- the walk comes to a reference to a missing file of this name that was not told, and stands before it
 pub record Tells (files : List FileView) (old : WalkView) (name : List ℕ) (new : WalkView) : Type 0 where
-  pub front : List Level
-  pub level : Level
+  pub front : List LevelView
+  pub level : LevelView
   pub piece : PieceView
   pub is_here : IsHere files old.levels front level piece
   pub includes : Includes level.file level.piece piece name
@@ -126,9 +125,9 @@ IsStep files old (steps.Items spot) new = Passes files old spot new ⊎ PassesTo
 IsStep files old (steps.Missing name) new = Tells files old name.items new
 
 -- the next piece of the innermost file is a reference to this name
-pub record IsReference (files : List FileView) (levels : List Level) (spot : Spot) (name : List ℕ) : Type 0 where
-  pub front : List Level
-  pub level : Level
+pub record IsReference (files : List FileView) (levels : List LevelView) (spot : Spot) (name : List ℕ) : Type 0 where
+  pub front : List LevelView
+  pub level : LevelView
   pub piece : PieceView
   pub is_here : IsHere files levels front level piece
   pub is_spot : spot ≡ spot_at level piece

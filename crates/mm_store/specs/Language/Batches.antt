@@ -5,12 +5,11 @@ use Rattle.mm_store.specs.declared.edit.EditError.TheVariants.{Memory}
 use Rattle.mm_store.specs.declared.batch.BatchError.{BatchError}
 use Rattle.mm_store.specs.declared.batch.BatchError.TheVariants as batch
 use Rattle.mm_store.specs.declared.item.Item.{Item}
-use Rattle.mm_store.specs.declared.undo.Undo.{Undo}
 use Rattle.mm_store.specs.Language.Answers.{IsEditError}
 use Rattle.mm_store.specs.Language.Edits.{Asked, IsEditOf, IsPlaced}
 use Rattle.mm_store.specs.Language.FileFacts.{CanBeRead, StandsIn, parked_in}
 use Rattle.mm_store.specs.Language.FilesView.{File, FilesView}
-use Rattle.mm_store.specs.Language.Undoing.{CanSettle, CanUndo, undone, settled}
+use Rattle.mm_store.specs.Language.Undoing.{UndoView, CanSettle, CanUndo, undone, settled}
 
 -- the edits are accepted one after another, each on the files after those before it, and these are the files after them all
 abbrev pub IsBatchOf : List Asked → List File → List File → Type 0
@@ -36,27 +35,27 @@ IsBatchError edits files (batch.Edit n error) = IsRefusedAt edits files n error
 IsBatchError edits files batch.Memory = StartsPlaced edits files
 
 -- the files with edits undone, the last of them first
-abbrev pub undone_all : List Undo → FilesView → FilesView
+abbrev pub undone_all : List UndoView → FilesView → FilesView
 undone_all [] view = view
 undone_all (undo ∷ undos) view = undone undo (undone_all undos view)
 
 -- when they may be undone
-abbrev pub CanUndoAll : List Undo → FilesView → Type 0
+abbrev pub CanUndoAll : List UndoView → FilesView → Type 0
 CanUndoAll [] view = Unit {0}
 CanUndoAll (undo ∷ undos) view = CanUndoAll undos view × CanUndo undo (undone_all undos view)
 
 -- the files with the old pieces of edits dropped, that of the last first
-abbrev pub settled_all : List Undo → FilesView → FilesView
+abbrev pub settled_all : List UndoView → FilesView → FilesView
 settled_all [] view = view
 settled_all (undo ∷ undos) view = settled undo (settled_all undos view)
 
 -- when they may be settled
-abbrev pub CanSettleAll : List Undo → FilesView → Type 0
+abbrev pub CanSettleAll : List UndoView → FilesView → Type 0
 CanSettleAll [] view = Unit {0}
 CanSettleAll (undo ∷ undos) view = CanSettleAll undos view × CanSettle undo.file undo.action (settled_all undos view)
 
 -- what edits left may be spent in these files, in either way: undoing gives the files of before, and settling as many parked pieces
-pub record IsSpendable (old new : FilesView) (undos : List Undo) : Type 0 where
+pub record IsSpendable (old new : FilesView) (undos : List UndoView) : Type 0 where
   pub can_undo : CanUndoAll undos new
   pub back : undone_all undos new ≡ old
   pub can_settle : CanSettleAll undos new

@@ -3,14 +3,21 @@ use Rattle.std.specs.Prelude.{◌≡◌, ℕ, List, [], Option, Some, None}
 use Rattle.std.specs.Ordering.{nat_cmp}
 use Rattle.std.specs.List.{sum_by}
 use Rattle.std.specs.FinMap as finite
-use Rattle.mm_store.specs.declared.state.State.{State}
-use Rattle.mm_store.specs.declared.state.State.TheVariants.{Standing, Parked}
-use Rattle.mm_store.specs.declared.state.EditKind.{EditKind}
+
+-- how an edit took a piece out of a file: another stands in its place, or none
+pub data Removal : Type 0 where
+  Replaced : Removal
+  Deleted : Removal
+
+-- a piece stands in a file, or is parked: an edit took it out of the file of this number, in this way
+pub data PieceState : Type 0 where
+  Standing : PieceState
+  Parked : ℕ → Removal → PieceState
 
 -- a piece that is held: its text, and whether it stands in a file or is parked
 pub record HeldPiece : Type 0 where
   pub text : List ℕ
-  pub state : State
+  pub state : PieceState
 
 -- the pieces, each under its key
 abbrev pub Pieces : Type 0
@@ -20,12 +27,12 @@ abbrev pub standing_piece : List ℕ → HeldPiece
 standing_piece text = record { text = text; state = Standing }
 
 -- the piece with its text, in another state
-abbrev pub in_state : Option HeldPiece → State → HeldPiece
+abbrev pub in_state : Option HeldPiece → PieceState → HeldPiece
 in_state None state = record { text = []; state = state }
 in_state (Some piece) state = record { text = piece.text; state = state }
 
 -- the pieces after the state of one has changed
-abbrev pub with_state : Pieces → ℕ → State → Pieces
+abbrev pub with_state : Pieces → ℕ → PieceState → Pieces
 with_state pieces key state = finite.insert pieces key (in_state (finite.get pieces key) state)
 
 abbrev pub text_in : Option HeldPiece → List ℕ
@@ -36,17 +43,17 @@ text_in (Some piece) = piece.text
 abbrev pub text_under : Pieces → ℕ → List ℕ
 text_under pieces key = text_in (finite.get pieces key)
 
-abbrev pub state_in : Option HeldPiece → Option State
+abbrev pub state_in : Option HeldPiece → Option PieceState
 state_in None = None
 state_in (Some piece) = Some piece.state
 
--- the piece under the key is parked in the file of this number, by an edit of this kind
-abbrev pub IsParked : Pieces → ℕ → ℕ → EditKind → Type 0
-IsParked pieces key file kind = state_in (finite.get pieces key) ≡ Some (Parked file kind)
+-- the piece under the key is parked: an edit took it out of the file of this number, in this way
+abbrev pub IsParked : Pieces → ℕ → ℕ → Removal → Type 0
+IsParked pieces key file removal = state_in (finite.get pieces key) ≡ Some (Parked file removal)
 
-abbrev pub parked_state : State → ℕ
+abbrev pub parked_state : PieceState → ℕ
 parked_state Standing = 0
-parked_state (Parked file kind) = 1
+parked_state (Parked file removal) = 1
 
 -- one for a piece that is parked
 abbrev pub parked_count : Option HeldPiece → ℕ

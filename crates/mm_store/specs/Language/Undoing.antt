@@ -2,13 +2,22 @@
 use Rattle.std.specs.Prelude.{◌≡◌, ◌≢◌, ℕ, zero, suc, ◌<◌, ◌≤◌, List, [], ◌∷◌, Option, Some, None, IsSome, length, slice_index_or, slice_set}
 use Rattle.std.specs.List.{insert, remove}
 use Rattle.std.specs.FinMap as finite
-use Rattle.mm_store.specs.declared.state.State.TheVariants.{Standing}
-use Rattle.mm_store.specs.declared.state.EditKind.TheVariants.{Replaced, Deleted}
-use Rattle.mm_store.specs.declared.undo.Undo.{Undo}
-use Rattle.mm_store.specs.declared.undo.Action.{Action}
-use Rattle.mm_store.specs.declared.undo.Action.TheVariants as action
-use Rattle.mm_store.specs.Language.Pieces.{with_state, IsParked, text_under}
+use Rattle.mm_store.specs.Language.Pieces.{Standing, with_state, IsParked, text_under}
+use Rattle.mm_store.specs.Language.Pieces as removal
 use Rattle.mm_store.specs.Language.FilesView.{KeyedFile, FilesView, plain, bytes_of}
+
+-- what an edit did in its file: it put in a new member with this number; it put a new member in the place of the one with this number, or took
+-- that out, whose piece is parked under this key; or it moved a member from the first number to the second
+pub data EditAction : Type 0 where
+  Inserted : ℕ → EditAction
+  Replaced : ℕ → ℕ → EditAction
+  Deleted : ℕ → ℕ → EditAction
+  Moved : ℕ → ℕ → EditAction
+
+-- what is kept of an edit until it is undone or settled: the number of its file, and what it did there
+pub record UndoView : Type 0 where
+  pub file : ℕ
+  pub action : EditAction
 
 -- the keys of the file of this number
 abbrev pub keys_in : List KeyedFile → ℕ → List ℕ
@@ -38,55 +47,55 @@ moved view number at to = record {
 }
 
 -- the files with an edit undone: its new piece is dropped, its old piece stands in its place again
-abbrev pub reversed : ℕ → Action → FilesView → FilesView
-reversed number (action.Inserted at) view = record {
+abbrev pub reversed : ℕ → EditAction → FilesView → FilesView
+reversed number (Inserted at) view = record {
   keyed = with_keys view.keyed number (remove (keys_in view.keyed number) at);
   pieces = finite.remove view.pieces (key_at view number at);
 }
-reversed number (action.Replaced at key) view = record {
+reversed number (Replaced at key) view = record {
   keyed = with_keys view.keyed number (slice_set (keys_in view.keyed number) at key);
   pieces = with_state (finite.remove view.pieces (key_at view number at)) key Standing;
 }
-reversed number (action.Deleted at key) view = record {
+reversed number (Deleted at key) view = record {
   keyed = with_keys view.keyed number (insert (keys_in view.keyed number) at key);
   pieces = with_state view.pieces key Standing;
 }
-reversed number (action.Moved at to) view = moved view number to at
+reversed number (Moved at to) view = moved view number to at
 
-abbrev pub undone : Undo → FilesView → FilesView
+abbrev pub undone : UndoView → FilesView → FilesView
 undone undo view = reversed undo.file undo.action view
 
 -- the members that the undo speaks of are there, and its old piece is parked by an edit of its kind in its file
-abbrev pub Fits : ℕ → Action → FilesView → Type 0
-Fits number (action.Inserted at) view = at < length (keys_in view.keyed number)
-Fits number (action.Replaced at key) view = (at < length (keys_in view.keyed number)) × IsParked view.pieces key number Replaced
-Fits number (action.Deleted at key) view = (at ≤ length (keys_in view.keyed number)) × IsParked view.pieces key number Deleted
-Fits number (action.Moved at to) view = (at < length (keys_in view.keyed number)) × (to < length (keys_in view.keyed number))
+abbrev pub Fits : ℕ → EditAction → FilesView → Type 0
+Fits number (Inserted at) view = at < length (keys_in view.keyed number)
+Fits number (Replaced at key) view = (at < length (keys_in view.keyed number)) × IsParked view.pieces key number removal.Replaced
+Fits number (Deleted at key) view = (at ≤ length (keys_in view.keyed number)) × IsParked view.pieces key number removal.Deleted
+Fits number (Moved at to) view = (at < length (keys_in view.keyed number)) × (to < length (keys_in view.keyed number))
 
 -- when an edit may be undone in these files
-pub record CanUndo (undo : Undo) (view : FilesView) : Type 0 where
+pub record CanUndo (undo : UndoView) (view : FilesView) : Type 0 where
   pub fits : Fits undo.file undo.action view
   pub within : bytes_of (plain (undone undo view)) ≤ 4294967295
 
 -- the files with the old piece of an edit dropped
-abbrev pub spent : Action → FilesView → FilesView
-spent (action.Inserted at) view = view
-spent (action.Replaced at key) view = record { keyed = view.keyed; pieces = finite.remove view.pieces key }
-spent (action.Deleted at key) view = record { keyed = view.keyed; pieces = finite.remove view.pieces key }
-spent (action.Moved at to) view = view
+abbrev pub spent : EditAction → FilesView → FilesView
+spent (Inserted at) view = view
+spent (Replaced at key) view = record { keyed = view.keyed; pieces = finite.remove view.pieces key }
+spent (Deleted at key) view = record { keyed = view.keyed; pieces = finite.remove view.pieces key }
+spent (Moved at to) view = view
 
-abbrev pub settled : Undo → FilesView → FilesView
+abbrev pub settled : UndoView → FilesView → FilesView
 settled undo view = spent undo.action view
 
 -- when an edit may be settled: its old piece is parked
-abbrev pub CanSettle : ℕ → Action → FilesView → Type 0
-CanSettle number (action.Inserted at) view = Unit {0}
-CanSettle number (action.Replaced at key) view = IsParked view.pieces key number Replaced
-CanSettle number (action.Deleted at key) view = IsParked view.pieces key number Deleted
-CanSettle number (action.Moved at to) view = Unit {0}
+abbrev pub CanSettle : ℕ → EditAction → FilesView → Type 0
+CanSettle number (Inserted at) view = Unit {0}
+CanSettle number (Replaced at key) view = IsParked view.pieces key number removal.Replaced
+CanSettle number (Deleted at key) view = IsParked view.pieces key number removal.Deleted
+CanSettle number (Moved at to) view = Unit {0}
 
 -- an undo may be spent in these files and in files that equal them, in either way, and undoing gives the files of before
-pub record IsUndoable (old new : FilesView) (undo : Undo) : Type 0 where
+pub record IsUndoable (old new : FilesView) (undo : UndoView) : Type 0 where
   pub can_undo : CanUndo undo new
   pub can_settle : CanSettle undo.file undo.action new
   pub back : undone undo new ≡ old
@@ -105,14 +114,14 @@ abbrev pub KeepsOthers : Option ℕ → FilesView → FilesView → Type 0
 KeepsOthers dropped old new = (key : ℕ) → dropped ≢ Some key → IsSome (finite.get old.pieces key) → KeepsText old new key
 
 -- the key whose piece is dropped when an edit is undone, and when it is settled
-abbrev pub undone_key : ℕ → Action → FilesView → Option ℕ
-undone_key number (action.Inserted at) view = Some (key_at view number at)
-undone_key number (action.Replaced at key) view = Some (key_at view number at)
-undone_key number (action.Deleted at key) view = None
-undone_key number (action.Moved at to) view = None
+abbrev pub undone_key : ℕ → EditAction → FilesView → Option ℕ
+undone_key number (Inserted at) view = Some (key_at view number at)
+undone_key number (Replaced at key) view = Some (key_at view number at)
+undone_key number (Deleted at key) view = None
+undone_key number (Moved at to) view = None
 
-abbrev pub settled_key : Action → Option ℕ
-settled_key (action.Inserted at) = None
-settled_key (action.Replaced at key) = Some key
-settled_key (action.Deleted at key) = Some key
-settled_key (action.Moved at to) = None
+abbrev pub settled_key : EditAction → Option ℕ
+settled_key (Inserted at) = None
+settled_key (Replaced at key) = Some key
+settled_key (Deleted at key) = Some key
+settled_key (Moved at to) = None

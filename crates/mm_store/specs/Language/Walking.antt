@@ -3,25 +3,29 @@
 use Rattle.std.specs.Prelude.{◌≡◌, ◌≢◌, ℕ, Bool, true, List, [], ◌∷◌, ◌++◌, Some, None, Contains, All, drop, slice_get, ◌⊎◌}
 use Rattle.mm_store.specs.declared.item.Item.{Item}
 use Rattle.mm_store.specs.declared.item.ItemKind.TheVariants.{Missing}
-use Rattle.mm_store.specs.declared.walk.Level.{Level}
 use Rattle.mm_store.specs.Language.FilesView.{FileView, number_of}
 use Rattle.mm_store.specs.Language.Expansion.{Placed, IsInclusion, placed_item, ArePlaced, IsExpansion}
+
+-- a file that a walk has entered and not left: its number, and which of its pieces is next, both from 0
+pub record LevelView : Type 0 where
+  pub file : ℕ
+  pub piece : ℕ
 
 -- a walk: the names taken so far, the files that it has entered and not left, the innermost behind the others, and whether the reference that it
 -- stands before was told as missing
 pub record WalkView : Type 0 where
   pub names : List (List ℕ)
-  pub levels : List Level
+  pub levels : List LevelView
   pub told : Bool
 
 -- what a file has from a piece of it on
-pub record IsRest (files : List FileView) (level : Level) (parts : List Placed) : Type 0 where
+pub record IsRest (files : List FileView) (level : LevelView) (parts : List Placed) : Type 0 where
   pub file : FileView
   pub there : slice_get files level.file ≡ Some file
   pub placed : ArePlaced level.file level.piece (drop level.piece file.pieces) parts
 
 -- what is still to come: the rest of the innermost file, then the rest of the one that includes it, and so on
-abbrev pub ArePending : List FileView → List Level → List Placed → Type 0
+abbrev pub ArePending : List FileView → List LevelView → List Placed → Type 0
 ArePending files [] parts = parts ≡ []
 ArePending files (level ∷ inner) parts =
     (first : List Placed) × (own : List Placed) × ArePending files inner first × IsRest files level own × (parts ≡ first ++ own)

@@ -5,7 +5,7 @@ use Rattle.mm_text.specs.declared.word.Word.{Word}
 use Rattle.mm_text.specs.Code.LeftToRight.{Read, read_runs}
 use Rattle.mm_text.specs.Code.Reader.{runs_at}
 use Rattle.mm_text.specs.Language.Reading.{HasWords}
-use Rattle.mm_text.specs.Code.WordsLeft.{WordsLeft}
+use Rattle.mm_text.specs.Language.WordsLeft.{WordsLeft}
 
 -- the words that are read, if there is no fault
 abbrev pub words_read : Read → List Word

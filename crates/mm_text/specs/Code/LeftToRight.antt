@@ -21,8 +21,8 @@ use Rattle.mm_text.specs.Language.Reading.{first_bad}
 use Rattle.mm_text.specs.Language.Spelling.{opening, closing}
 
 -- whether a byte is neither white space nor a `$`
-abbrev pub is_plain : ℕ → Bool
-is_plain b = is_solid b && not (b == 36)
+abbrev pub is_dollarless : ℕ → Bool
+is_dollarless b = is_solid b && not (b == 36)
 
 -- whether a `$` stands in these bytes
 abbrev pub has_dollar : List ℕ → Bool
@@ -114,6 +114,6 @@ abbrev pub Fails : TextError → Read → Type 0
 Fails errors.Memory read_runs = Unit {0}
 Fails (errors.Fault fault) read_runs = read_runs ≡ Err fault
 
-abbrev pub Gives : Result (Vec Word Global) TextError → Read → Type 0
-Gives (Ok v) read_runs = read_runs ≡ Ok v.items
-Gives (Err e) read_runs = Fails e read_runs
+abbrev pub GivesWords : Result (Vec Word Global) TextError → Read → Type 0
+GivesWords (Ok v) read_runs = read_runs ≡ Ok v.items
+GivesWords (Err e) read_runs = Fails e read_runs

@@ -88,11 +88,11 @@ pub record TakesWord (text : List ℕ) (from : ℕ) (word : Word) (to : ℕ) : T
   pub ends : ends_run (drop to text) ≡ true
 
 -- a run at which the runs behind these words cannot go on
-abbrev pub IsRefused : TextNumber → List Run → List Word → Run → Type 0
-IsRefused T03 front found run = EndsInComment front found × HoldsMark run.bytes × (run.bytes ≢ closing)
-IsRefused T04 front found run = AreWords front found × (run.bytes ≡ closing)
-IsRefused T05 front found run = AreWords front found × (run.bytes ≢ opening) × (run.bytes ≢ closing) × (word_kind run.bytes ≡ None)
-IsRefused _ front found run = ⊥
+abbrev pub IsRunRefused : TextNumber → List Run → List Word → Run → Type 0
+IsRunRefused T03 front found run = EndsInComment front found × HoldsMark run.bytes × (run.bytes ≢ closing)
+IsRunRefused T04 front found run = AreWords front found × (run.bytes ≡ closing)
+IsRunRefused T05 front found run = AreWords front found × (run.bytes ≢ opening) × (run.bytes ≢ closing) × (word_kind run.bytes ≡ None)
+IsRunRefused _ front found run = ⊥
 
 pub record MeetsRun (runs : List Run) (found : List Word) (number : TextNumber) (at : ℕ) : Type 0 where
   pub front : List Run
@@ -100,7 +100,7 @@ pub record MeetsRun (runs : List Run) (found : List Word) (number : TextNumber) 
   pub rest : List Run
   pub joined : runs ≡ front ++ run ∷ rest
   pub place : at ≡ run.start
-  pub refused : IsRefused number front found run
+  pub refused : IsRunRefused number front found run
 
 -- behind these words a fault is met
 abbrev pub FailsBehind : List Run → List Word → TextNumber → ℕ → Type 0

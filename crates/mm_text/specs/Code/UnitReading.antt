@@ -15,8 +15,8 @@ use Rattle.mm_text.specs.Language.Unit.{Token, is_label_byte}
 abbrev pub UnitStep : Type 0
 UnitStep = Result (Phase × ℕ) TextNumber
 
-abbrev pub state_of : Phase → ℕ → Phase × ℕ
-state_of phase depth = (phase, depth)
+abbrev pub phase_state : Phase → ℕ → Phase × ℕ
+phase_state phase depth = (phase, depth)
 
 abbrev pub begin : ℕ → Keyword → UnitStep
 begin depth BlockStart = Ok (Begin, suc depth)

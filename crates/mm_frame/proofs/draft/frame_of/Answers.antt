@@ -1,6 +1,6 @@
 use Rattle.std.proofs.Common.{Some, ◌∙◌, ap, sym, subst}
 use Rattle.mm_frame.specs.Language.Framing.{frame}
-use Rattle.mm_frame.specs.Code.CodeSymbols.{ArePairsRead}
+use Rattle.mm_frame.specs.Language.NumberedSymbols.{ArePairsRead}
 use Rattle.mm_frame.specs.Code.KeptBase.{numbers_if}
 use Rattle.mm_frame.specs.Code.PairOrder.{pairs_in_order}
 use Rattle.mm_frame.specs.declared.draft.Frame.{Frame}

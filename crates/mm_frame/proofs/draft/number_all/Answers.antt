@@ -1,6 +1,6 @@
 use Rattle.std.proofs.Common.{◌+◌, refl, take_all, subst, arith}
 use Rattle.std.proofs.lemmas.List.{length_push}
-use Rattle.mm_frame.specs.Code.Numbers.{AreNumbersOf}
+use Rattle.mm_frame.specs.Code.Numbers.{AreNameNumbers}
 use Rattle.mm_frame.proofs.NumberLemmas.{begins_on}
 use Rattle.mm_frame.proofs.BaseLemmas.{numbers_more, numbers_none}
 use Rattle.mm_frame.proofs.draft.number_all.Goals as goal
@@ -26,4 +26,4 @@ pub returns-clause-count : goal.returns-clause-count
 returns-clause-count c = let count = c.loop-n.invariant.1 in omega (arith, c.symbol_count-n-end.ensures, c.loop-n-test.false, c.loop-n.auto.n-end)
 
 pub returns-clause-numbers : goal.returns-clause-numbers
-returns-clause-numbers c = λ all more. subst (AreNumbersOf all c.loop-n.numbers.items) (take_all c.loop-n.n c.args.statement.now.symbols (omega (arith, c.symbol_count-n-end.ensures, c.loop-n-test.false))) (c.loop-n.invariant.2 all more)
+returns-clause-numbers c = λ all more. subst (AreNameNumbers all c.loop-n.numbers.items) (take_all c.loop-n.n c.args.statement.now.symbols (omega (arith, c.symbol_count-n-end.ensures, c.loop-n-test.false))) (c.loop-n.invariant.2 all more)

@@ -1,7 +1,7 @@
 use Rattle.std.proofs.Common.{◌++◌, ◌∷◌, [], ◌∙◌, sym, subst, filter}
 use Rattle.mm_frame.specs.Language.Names.{name_at}
 use Rattle.mm_frame.specs.Language.Framing.{active_pairs}
-use Rattle.mm_frame.specs.Code.CodeSymbols.{symbol_of, ArePairsRead}
+use Rattle.mm_frame.specs.Language.NumberedSymbols.{symbol_of, ArePairsRead}
 use Rattle.mm_frame.specs.Code.PairOrder.{are_paired}
 use Rattle.mm_frame.proofs.NumberLemmas.{name_there}
 use Rattle.mm_frame.proofs.FramePairs.{pair_added, pair_left}

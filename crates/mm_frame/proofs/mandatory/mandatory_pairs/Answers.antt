@@ -3,7 +3,7 @@ use Rattle.std.specs.Prelude.{All}
 use Rattle.std.proofs.lemmas.Result.{IfOk-weaker}
 use Rattle.mm_frame.specs.Language.Framing.{pairs_of, active_pairs}
 use Rattle.mm_frame.specs.Code.LastItems.{is_essential_item, IsRising}
-use Rattle.mm_frame.specs.Code.CodeSymbols.{symbols_of, IsNumbered, ArePairsRead}
+use Rattle.mm_frame.specs.Language.NumberedSymbols.{symbols_of, IsNumbered, ArePairsRead}
 use Rattle.mm_frame.specs.Code.KeptPairTable.{ReadsPairs}
 use Rattle.mm_frame.specs.Code.PairOrder.{are_paired}
 use Rattle.mm_frame.proofs.HypothesisNumbers.{active_numbers_rise}

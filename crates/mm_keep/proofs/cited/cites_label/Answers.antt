@@ -3,7 +3,7 @@ use Rattle.std.specs.Prelude.{◌↔◌, IsTrue}
 use Rattle.std.proofs.lemmas.Bool.{false≢true}
 use Rattle.mm_frame.specs.Language.Base.{said_at}
 use Rattle.mm_proof.specs.Language.VerdictAt.{cites_at}
-use Rattle.mm_keep.specs.Code.Cited.{IsAmong}
+use Rattle.mm_keep.specs.Code.Cited.{IsAmongCited}
 use Rattle.mm_keep.proofs.CitedItems.{checked_at, cites_rising, label_cited, none_cited}
 use Rattle.mm_keep.proofs.ToldLemmas.{read_at, says_at}
 use Rattle.mm_keep.proofs.cited.cites_label.Goals as goal
@@ -28,7 +28,7 @@ returns-in-Some c names view is are i label =
     let cites : c.cites.result.now ≡ cites_at view j = c.cites.ensures ∙ k.2 in
     let says = says_at names c.args.files.now c.args.base.now view j c.item.result.now is (c.item.ensures.found view (names, is.read_in.base)) in
     let words = c.words_of_proof-words.ensures.words (said_at view j) says in
-    let has = subst₂ (λ (ws : List (List ℕ)) (ns : List ℕ). IsTrue c.has_label.result ↔ IsAmong ws ns (length ns) c.args.label.now) words cites c.has_label.ensures in
+    let has = subst₂ (λ (ws : List (List ℕ)) (ns : List ℕ). IsTrue c.has_label.result ↔ IsAmongCited ws ns (length ns) c.args.label.now) words cites c.has_label.ensures in
     let cited = label_cited c.cites_tell.ensures.each c.cites_tell.ensures.tell c.has_own_labels.ensures view (c.args.files.now, is.read_in.each) j k.0 c.args.label.now i label in
     (λ t. cited.0 (has.0 t), λ one. has.1 (cited.1 one))
 

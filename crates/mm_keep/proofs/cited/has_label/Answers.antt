@@ -2,7 +2,7 @@ use Rattle.std.proofs.Common.{◌≡◌, length, sym, subst, ◌∙◌, refl, ar
 use Rattle.std.proofs.lemmas.Bool.{false≢true}
 use Rattle.std.proofs.lemmas.Option.{none-some, same_Some}
 use Rattle.std.proofs.lemmas.Slice.Eq.{bytes_eq-Decides}
-use Rattle.mm_keep.specs.Code.Cited.{IsAmong}
+use Rattle.mm_keep.specs.Code.Cited.{IsAmongCited}
 use Rattle.mm_keep.proofs.CitedWords.{among_none, last_or_before}
 use Rattle.mm_keep.proofs.cited.has_label.Goals.{in-Some+else-eq, in_default}
 use Rattle.mm_keep.proofs.cited.has_label.Goals as goal
@@ -27,4 +27,4 @@ loop-x-preserved c = record {
 pub returns : goal.returns
 returns c =
     let e : c.loop-x.x ≡ length c.args.cites.now = omega (arith, c.loop-x-test.false, c.loop-x.auto.x-end) in
-    (λ t. absurd (false≢true t), λ a. absurd (c.loop-x.invariant.none (subst (λ x. IsAmong c.args.words c.args.cites.now x c.args.label.now) (sym e) a)))
+    (λ t. absurd (false≢true t), λ a. absurd (c.loop-x.invariant.none (subst (λ x. IsAmongCited c.args.words c.args.cites.now x c.args.label.now) (sym e) a)))

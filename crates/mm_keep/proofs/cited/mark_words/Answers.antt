@@ -1,6 +1,6 @@
 use Rattle.std.proofs.Common.{◌≡◌, ℕ, length, sym, subst, refl, arith}
 use Rattle.mm_frame.specs.Language.Resolving.{IsCarrier}
-use Rattle.mm_keep.specs.Code.Cited.{HasLabelAmong, IsAmong, MarksMore}
+use Rattle.mm_keep.specs.Code.Cited.{HasLabelAmong, IsAmongCited, MarksMore}
 use Rattle.mm_keep.proofs.CitedWords.{words_none, words_more, words_skip}
 use Rattle.mm_keep.proofs.cited.mark_words.Goals.{in-Some, in_default}
 use Rattle.mm_keep.proofs.cited.mark_words.Goals as goal
@@ -11,7 +11,7 @@ mark-requires c =
     let cites = c.args.cites.now in
     let there = sym (c.in-Some.ensures.word c.args.words c.loop-x.invariant.left) in
     let within : length c.loop-x.marks ≡ length c.args.marks.now = (c.loop-x.invariant.marks r.0 r.1).count in
-    let among : IsAmong c.args.words cites (length cites) c.in-Some.word.now = record { at = c.loop-x.x; before = c.loop-x-test.true; there = there } in
+    let among : IsAmongCited c.args.words cites (length cites) c.in-Some.word.now = record { at = c.loop-x.x; before = c.loop-x-test.true; there = there } in
     let has : (k : ℕ) → IsCarrier r.0 c.in-Some.word.now k → HasLabelAmong r.0 c.args.words cites (length cites) k = λ k carrier. record { label = c.in-Some.word.now; among = among; carrier = carrier } in
     (r.0, r.1, λ k carrier. let l = r.2 k (has k carrier) in omega (arith, l, within))
 

@@ -1,4 +1,4 @@
-use Rattle.mm_keep.proofs.CitingLaws.{one_list_each}
+use Rattle.mm_keep.proofs.CitationLemmas.{one_list_each}
 use Rattle.mm_keep.proofs.laws.one_list_each.Goals as goal
 
 pub returns : goal.returns

@@ -5,7 +5,7 @@ use Rattle.std.proofs.lemmas.List.{length-map}
 use Rattle.std.proofs.lemmas.Option.{slice_get_within}
 use Rattle.mm_proof.specs.Code.Keys.{home_at}
 use Rattle.mm_proof.proofs.FlatLemmas.{mapped_get, mapped_at}
-use Rattle.mm_proof.proofs.PairLemmas.{contains_at}
+use Rattle.mm_proof.proofs.ApartLemmas.{contains_at}
 use Rattle.mm_proof.proofs.MarkLemmas.{marked_found}
 use Rattle.mm_proof.proofs.active.is_marked.Goals as goal
 

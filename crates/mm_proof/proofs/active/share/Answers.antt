@@ -3,7 +3,7 @@ use Rattle.std.specs.Prelude.{Contains}
 use Rattle.std.proofs.lemmas.Bool.{false≢true}
 use Rattle.std.proofs.lemmas.List.{length-map}
 use Rattle.mm_proof.proofs.FlatLemmas.{mapped_get}
-use Rattle.mm_proof.proofs.PairLemmas.{each_more, each_all}
+use Rattle.mm_proof.proofs.ApartLemmas.{each_more, each_all}
 use Rattle.mm_proof.proofs.active.share.Goals as goal
 
 pub loop-i-preserved : goal.loop-i-preserved

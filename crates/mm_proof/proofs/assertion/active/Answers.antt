@@ -1,17 +1,16 @@
-use Rattle.std.proofs.Common.{◌≡◌, true, Option, None, Some, ℕ, List, ◌∙◌, sym, subst}
-use Rattle.std.specs.Prelude.{is_some, IfSome, All, unwrap_or}
+use Rattle.std.proofs.Common.{◌≡◌, Option, Some, ℕ, List, ◌∙◌, subst}
+use Rattle.std.specs.Prelude.{IfSome, All}
 use Rattle.std.specs.Borrow.{Bor}
-use Rattle.std.proofs.lemmas.Bool.{false≢true}
 use Rattle.mm_frame.specs.Language.Base.{before}
 use Rattle.mm_frame.specs.Language.Frame.{Symbol, AreSamePairs}
 use Rattle.mm_frame.specs.Language.Framing.{active_pairs}
 use Rattle.mm_frame.specs.Language.Names.{AreDistinct}
-use Rattle.mm_frame.specs.Code.CodeSymbols.{kept_pairs, IsPairNumbered}
+use Rattle.mm_frame.specs.Language.NumberedSymbols.{kept_pairs, IsPairNumbered}
 use Rattle.mm_frame.specs.declared.symbol.NumberedSymbol.{NumberedSymbol}
 use Rattle.mm_proof.specs.Language.Renaming.{renamed_pairs}
-use Rattle.mm_proof.specs.Code.Citation.{pairs_of}
+use Rattle.mm_proof.specs.Code.Citation.{meant_pairs}
 use Rattle.mm_proof.specs.Code.Numbering.{unnaming}
-use Rattle.mm_frame.specs.Code.CodeSymbols.{by_number}
+use Rattle.mm_frame.specs.Language.NumberedSymbols.{by_number}
 use Rattle.mm_proof.proofs.RenamedFrames.{pairs_by_number}
 use Rattle.mm_proof.proofs.assertion.active.Goals as goal
 
@@ -19,12 +18,16 @@ abbrev Kept : Type 0
 Kept = Bor (List (NumberedSymbol × NumberedSymbol))
 
 -- what is kept is answered
-answered : (names : List (List ℕ)) (active : List (Symbol × Symbol)) (found : Option Kept) (d read : Kept) → AreDistinct names → read ≡ unwrap_or found d → is_some found ≡ true →
-    IfSome found (λ pairs. AreSamePairs (kept_pairs names pairs.now) active) → IfSome found (λ pairs. All (IsPairNumbered names) pairs.now) → AreSamePairs (pairs_of by_number read.now) (renamed_pairs (unnaming names) active)
-answered names active None d read distinct e s p n = absurd (false≢true s)
-answered names active (Some pairs) d read distinct e s p n = subst (λ (w : Kept). AreSamePairs (pairs_of by_number w.now) (renamed_pairs (unnaming names) active)) (sym e) (pairs_by_number names distinct pairs.now active n p)
+answered : (names : List (List ℕ)) (active : List (Symbol × Symbol)) (found : Option Kept) (read : Kept) → AreDistinct names → found ≡ Some read →
+    IfSome found (λ pairs. AreSamePairs (kept_pairs names pairs.now) active) → IfSome found (λ pairs. All (IsPairNumbered names) pairs.now) → AreSamePairs (meant_pairs by_number read.now) (renamed_pairs (unnaming names) active)
+answered names active found read distinct e same numbered =
+    pairs_by_number names distinct read.now active (subst (λ (o : Option Kept). IfSome o (λ pairs. All (IsPairNumbered names) pairs.now)) e numbered)
+    (subst (λ (o : Option Kept). IfSome o (λ pairs. AreSamePairs (kept_pairs names pairs.now) active)) e same)
+
+pub unwrap-requires : goal.unwrap-requires
+unwrap-requires c = c.pairs.ensures.some c.requires.0 c.requires.1 ∙ c.requires.2
 
 pub returns : goal.returns
 returns c names view is proof =
-    answered names (active_pairs (before view c.args.number)) c.pairs.result _ c.unwrap_or.result is.distinct c.unwrap_or.ensures
-    (c.pairs.ensures.some view (names, is) ∙ proof) (c.pairs.ensures.pairs names view is) (c.pairs.ensures.numbered names view is)
+    answered names (active_pairs (before view c.args.number)) c.pairs.result c.unwrap.result is.distinct c.unwrap.ensures
+    (c.pairs.ensures.pairs names view is) (c.pairs.ensures.numbered names view is)

@@ -2,7 +2,7 @@ use Rattle.std.proofs.Common.{◌≡◌, true, map, take}
 use Rattle.std.specs.Prelude.{All}
 use Rattle.mm_frame.specs.Language.Base.{is_shown_at}
 use Rattle.mm_proof.specs.Code.Citation.{mandatory_of}
-use Rattle.mm_frame.specs.Code.CodeSymbols.{by_number}
+use Rattle.mm_frame.specs.Language.NumberedSymbols.{by_number}
 use Rattle.mm_proof.specs.Code.NumberedBase.{ByNames, numbered_hypothesis}
 use Rattle.mm_proof.proofs.assertion.hypotheses.Given as goal
 

@@ -1,8 +1,8 @@
-use Rattle.mm_proof.proofs.JudgedLemmas.{decoded}
+use Rattle.mm_proof.proofs.DecodedProofs.{decoded}
 use Rattle.mm_proof.proofs.checking.judge.Goals as goal
 
-pub judge_steps-requires-clause-decoding : goal.judge_steps-requires-clause-decoding
-judge_steps-requires-clause-decoding c =
+pub judge_steps-requires : goal.judge_steps-requires
+judge_steps-requires c =
     let has = c.requires in (
       has.0,
       decoded c.args.base.now c.args.i c.args.statement.now c.in-Ok.decoding c.mandatory-mandatory.result.now has.0 has.1 c.mandatory-mandatory.ensures (c.mandatory_are_active.ensures has.0 c.args.i has.1.said)

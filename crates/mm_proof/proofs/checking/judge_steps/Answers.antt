@@ -12,12 +12,11 @@ use Rattle.mm_proof.specs.Language.Run.{AreDone}
 use Rattle.mm_proof.specs.declared.step.ProofFault.{ProofFault}
 use Rattle.mm_proof.specs.declared.step.ProofStep.{ProofStep}
 use Rattle.mm_proof.specs.declared.Verdict.{Verdict}
-use Rattle.mm_proof.specs.Code.Coded.{meant}
-use Rattle.mm_proof.specs.Code.Decoded.{decoded_steps}
+use Rattle.mm_proof.specs.Language.DecodedSteps.{meant, decoded_steps, entry_steps}
 use Rattle.mm_proof.specs.Code.Judged.{done_by}
-use Rattle.mm_proof.specs.Code.Labels.{entry_steps}
 use Rattle.mm_proof.specs.Code.Tasks.{actions_mean}
-use Rattle.mm_proof.proofs.JudgedLemmas.{done_says}
+use Rattle.mm_proof.proofs.FrameLemmas.{framed_proof}
+use Rattle.mm_proof.proofs.DecodedProofs.{done_says}
 use Rattle.mm_proof.proofs.checking.judge_steps.Goals as goal
 
 pub returns-clause-verdict : goal.returns-clause-verdict
@@ -40,8 +39,9 @@ returns-clause-cites c view is =
     let steps = actions_mean (entry_steps view d.labels.items) d.steps.items in
     let numbers = mandatory_numbers (before view i) (said_at view i) in
     let own = c.labels_are_own.ensures view is.theorem.said in
+    let count = ap length (c.mandatory-hypotheses.ensures view is.theorem.base (framed_proof view i is.theorem.is_sound)) in
     ap (λ j. j.cites) c.new.ensures
-    ∙ c.in_ok-cites.ensures view i numbers own (sym (c.requires.mandatory view is)) is.entries is.table
+    ∙ c.in_ok-cites.ensures view i numbers own (sym count) is.entries is.table
     ∙ sym (ap (λ (o : Result Decoded ProofFault). cites place (said_at view i).proof o) is.decodes ∙ ap (λ (it : Item). cited_words place it.proof steps) is.theorem.says)
 
 pub returns-clause-done : goal.returns-clause-done
@@ -58,7 +58,7 @@ returns-clause-done c view is =
 
 pub returns-clause-few : goal.returns-clause-few
 returns-clause-few c =
-    let has = c.requires.decoding in
+    let has = c.requires in
     let view = has.0 in
     let i = c.args.i in
     let d = c.args.decoding.now in

@@ -7,16 +7,16 @@ use Rattle.mm_frame.specs.declared.symbol.NumberedSymbol.{NumberedSymbol}
 use Rattle.mm_frame.specs.declared.base.Resolved.{Resolved}
 use Rattle.mm_proof.specs.Language.BaseLabels.{setting_at}
 use Rattle.mm_proof.specs.Language.VerdictAt.{mandatory_labels, statement_at}
-use Rattle.mm_proof.specs.Code.Citation.{pairs_of}
+use Rattle.mm_proof.specs.Code.Citation.{meant_pairs}
 use Rattle.mm_proof.specs.Code.NamedItems.{IsNamedBy}
-use Rattle.mm_frame.specs.Code.CodeSymbols.{by_number}
+use Rattle.mm_frame.specs.Language.NumberedSymbols.{by_number}
 use Rattle.mm_proof.specs.Code.NumberedBase.{all_by_number, numbered_setting}
-use Rattle.mm_proof.specs.Code.Labels.{AreEntries, entry_steps}
+use Rattle.mm_proof.specs.Language.DecodedSteps.{AreEntries, entry_steps}
 use Rattle.mm_proof.specs.Code.Tasks.{AreSavedBefore, AreUses, RunSays, actions_mean}
 use Rattle.mm_proof.specs.declared.step.ProofStep.{ProofStep}
 use Rattle.mm_proof.proofs.FrameLemmas.{shown_proof}
 use Rattle.mm_proof.proofs.ItemLemmas.{active_usable}
-use Rattle.mm_proof.proofs.JudgedLemmas.{named_by, saved_before}
+use Rattle.mm_proof.proofs.DecodedProofs.{named_by, saved_before}
 use Rattle.mm_proof.proofs.ReaderLemmas.{if_ok}
 use Rattle.mm_proof.proofs.RenamedFrames.{frames_by_number, run_named}
 use Rattle.mm_proof.proofs.checking.run_steps.Goals as goal
@@ -46,7 +46,7 @@ returns-clause-says c = if_ok _ _ c.run.result (λ outcome says view is. (
     let base = theorem.base.1 in
     let shown = shown_proof view i theorem.is_sound in
     let numbered = numbered_setting names view i in
-    let pairs = subst (λ (ps : List (NumberedSymbol × NumberedSymbol)). AreSamePairs (pairs_of by_number ps) numbered.active) (sym c.new-active.ensures) (c.active.ensures names view base theorem.is_sound) in
+    let pairs = subst (λ (ps : List (NumberedSymbol × NumberedSymbol)). AreSamePairs (meant_pairs by_number ps) numbered.active) (sym c.new-active.ensures) (c.active.ensures names view base theorem.is_sound) in
     let uses = c.in_ok-named.ensures.means names view base i (subst (λ (ls : List Resolved). AreEntries view i ls) (sym c.deref.ensures.value) is.entries) in
     let mean = subst (λ (ls : List Resolved). AreUses by_number c.in_ok-named.named numbered (entry_steps view ls)) c.deref.ensures.value uses in
     let frames = frames_by_number names (setting_at view i) (c.places_have_frames.ensures view.said i) in

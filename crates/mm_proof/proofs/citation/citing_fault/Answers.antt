@@ -1,8 +1,8 @@
 use Rattle.std.proofs.Common.{map}
 use Rattle.mm_proof.specs.Code.Flat.{read_all}
 use Rattle.mm_proof.specs.Code.Citation.{frame_from}
-use Rattle.mm_proof.specs.Code.Citation.{pairs_of}
-use Rattle.mm_proof.proofs.CitingLemmas.{gives_all, hypotheses_known, count_of}
+use Rattle.mm_proof.specs.Code.Citation.{meant_pairs}
+use Rattle.mm_proof.proofs.EntryFaults.{gives_all, hypotheses_known, count_of}
 use Rattle.mm_proof.proofs.CitingFaults.{says08, says09, says_pairs, says12}
 use Rattle.mm_proof.proofs.citation.citing_fault.Goals as goal
 
@@ -20,21 +20,21 @@ returns-then-not-typecodes_match g c =
     let m = g.S.Symbol.means in
     let frame = frame_from m c.args.taken.now.hypotheses.now c.args.expression.now c.args.pairs.now in
     let es = read_all (map m c.args.taken.now.symbols.now) c.args.taken.now.entries.now in
-    says08 (pairs_of m c.args.active.now.pairs.now) frame es c.requires.frame (count_of m (map m c.args.taken.now.symbols.now) c.args.taken.now.entries.now c.args.taken.now.hypotheses.now c.requires.count) c.if-not-typecodes_match.ensures
+    says08 (meant_pairs m c.args.active.now.pairs.now) frame es c.requires.frame (count_of m (map m c.args.taken.now.symbols.now) c.args.taken.now.entries.now c.args.taken.now.hypotheses.now c.requires.count) c.if-not-typecodes_match.ensures
 
 pub returns-then-not-essentials_fit : goal.returns-then-not-essentials_fit
 returns-then-not-essentials_fit g c =
     let m = g.S.Symbol.means in
     let frame = frame_from m c.args.taken.now.hypotheses.now c.args.expression.now c.args.pairs.now in
     let es = read_all (map m c.args.taken.now.symbols.now) c.args.taken.now.entries.now in
-    says09 (pairs_of m c.args.active.now.pairs.now) frame es c.requires.frame (count_of m (map m c.args.taken.now.symbols.now) c.args.taken.now.entries.now c.args.taken.now.hypotheses.now c.requires.count) c.if-not-typecodes_match.ensures c.if-not-essentials_fit.ensures
+    says09 (meant_pairs m c.args.active.now.pairs.now) frame es c.requires.frame (count_of m (map m c.args.taken.now.symbols.now) c.args.taken.now.entries.now c.args.taken.now.hypotheses.now c.requires.count) c.if-not-typecodes_match.ensures c.if-not-essentials_fit.ensures
 
 pub returns-in-Some : goal.returns-in-Some
 returns-in-Some g c =
     let m = g.S.Symbol.means in
     let frame = frame_from m c.args.taken.now.hypotheses.now c.args.expression.now c.args.pairs.now in
     let es = read_all (map m c.args.taken.now.symbols.now) c.args.taken.now.entries.now in
-    says_pairs (pairs_of m c.args.active.now.pairs.now) frame es c.requires.frame (count_of m (map m c.args.taken.now.symbols.now) c.args.taken.now.entries.now c.args.taken.now.hypotheses.now c.requires.count) c.if-not-typecodes_match.ensures c.if-not-essentials_fit.ensures
+    says_pairs (meant_pairs m c.args.active.now.pairs.now) frame es c.requires.frame (count_of m (map m c.args.taken.now.symbols.now) c.args.taken.now.entries.now c.args.taken.now.hypotheses.now c.requires.count) c.if-not-typecodes_match.ensures c.if-not-essentials_fit.ensures
     c.in-Some.number (rw c.in-Some.is at c.in_ok-number.ensures)
 
 pub returns-then-not-is_short : goal.returns-then-not-is_short
@@ -42,7 +42,7 @@ returns-then-not-is_short g c =
     let m = g.S.Symbol.means in
     let frame = frame_from m c.args.taken.now.hypotheses.now c.args.expression.now c.args.pairs.now in
     let es = read_all (map m c.args.taken.now.symbols.now) c.args.taken.now.entries.now in
-    says12 (pairs_of m c.args.active.now.pairs.now) frame es c.requires.frame (count_of m (map m c.args.taken.now.symbols.now) c.args.taken.now.entries.now c.args.taken.now.hypotheses.now c.requires.count) c.if-not-typecodes_match.ensures c.if-not-essentials_fit.ensures
+    says12 (meant_pairs m c.args.active.now.pairs.now) frame es c.requires.frame (count_of m (map m c.args.taken.now.symbols.now) c.args.taken.now.entries.now c.args.taken.now.hypotheses.now c.requires.count) c.if-not-typecodes_match.ensures c.if-not-essentials_fit.ensures
     (rw c.in_default.is at c.in_ok-number.ensures)
     (λ given gives. c.if-not-is_short.ensures given (gives_all frame.hypotheses given es frame.expression (hypotheses_known frame c.requires.frame) gives c.requires.frame.expression_typed))
 

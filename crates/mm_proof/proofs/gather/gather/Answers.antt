@@ -1,7 +1,7 @@
 use Rattle.std.proofs.Common.{map, ℕ, subst}
 use Rattle.mm_proof.specs.Code.PairClause.{GathersOne}
 use Rattle.mm_proof.proofs.FlatLemmas.{mapped_get}
-use Rattle.mm_proof.proofs.PairLemmas.{gathered_more}
+use Rattle.mm_proof.proofs.ApartLemmas.{gathered_more}
 use Rattle.mm_proof.proofs.gather.gather.Goals as goal
 
 pub loop-i-preserved : goal.loop-i-preserved

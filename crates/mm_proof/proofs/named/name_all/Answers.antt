@@ -4,7 +4,7 @@ use Rattle.std.proofs.lemmas.List.{take_all}
 use Rattle.std.proofs.lemmas.Option.{slice_get-get_or}
 use Rattle.mm_frame.specs.declared.base.Resolved.{Resolved}
 use Rattle.mm_frame.specs.declared.base.Resolved.TheVariants as answers
-use Rattle.mm_proof.specs.Code.NamedItems.{StandsFor}
+use Rattle.mm_proof.specs.Code.NamedItems.{IsUseOf}
 use Rattle.mm_proof.specs.declared.named.Use.{Use}
 use Rattle.mm_proof.proofs.StepLemmas.{take_next}
 use Rattle.mm_proof.proofs.NamedLemmas.{uses_grow, uses_more, uses_within, uses_mean}
@@ -21,8 +21,8 @@ loop-label-preserved c =
     let more = uses_more new uses (take k labels) c.in_ok-name.field-0 label grown c.in_ok-name.ensures.stands in
     record {
       named = c.in_ok-name.ensures.named;
-      stand = subst (λ (us : List Use). AllZip (StandsFor new) us (take (k + 1) labels)) (sym c.in_ok-push.ensures.items)
-          (subst (λ (ls : List Resolved). AllZip (StandsFor new) (uses ++ c.in_ok-name.field-0 ∷ []) ls) (sym (take_next labels k label (slice_get-get_or labels k (answers.Hypothesis 0) (omega (arith, c.loop-label-test.true))))) more);
+      stand = subst (λ (us : List Use). AllZip (IsUseOf new) us (take (k + 1) labels)) (sym c.in_ok-push.ensures.items)
+          (subst (λ (ls : List Resolved). AllZip (IsUseOf new) (uses ++ c.in_ok-name.field-0 ∷ []) ls) (sym (take_next labels k label (slice_get-get_or labels k (answers.Hypothesis 0) (omega (arith, c.loop-label-test.true))))) more);
     }
 
 pub returns-clause-within : goal.returns-clause-within
@@ -31,5 +31,5 @@ returns-clause-within c = uses_within c.args.base.now c.loop-label.naming c.loop
 pub returns-clause-means : goal.returns-clause-means
 returns-clause-means c names view base i entries =
     let labels = c.args.labels.now in
-    let all = subst (λ (ls : List Resolved). AllZip (StandsFor c.loop-label.naming) c.loop-label.uses.items ls) (take_all c.loop-label.label-index labels (omega (arith, c.loop-label-test.false))) c.loop-label.invariant.stand in
+    let all = subst (λ (ls : List Resolved). AllZip (IsUseOf c.loop-label.naming) c.loop-label.uses.items ls) (take_all c.loop-label.label-index labels (omega (arith, c.loop-label-test.false))) c.loop-label.invariant.stand in
     uses_mean c.args.base.now c.loop-label.naming c.loop-label.invariant.named names view i base c.loop-label.uses.items labels all entries

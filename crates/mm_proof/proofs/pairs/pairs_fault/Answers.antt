@@ -1,8 +1,8 @@
 use Rattle.std.proofs.Common.{map, arith}
 use Rattle.std.proofs.lemmas.List.{length-map}
 use Rattle.mm_proof.specs.Code.Flat.{read_all}
-use Rattle.mm_proof.specs.Code.Citation.{pairs_of}
-use Rattle.mm_proof.proofs.PairsLemmas.{apart_given, shared_given, none_shared, lack_given}
+use Rattle.mm_proof.specs.Code.Citation.{meant_pairs}
+use Rattle.mm_proof.proofs.PairClauseLemmas.{apart_given, shared_given, none_shared, lack_given}
 use Rattle.mm_proof.proofs.pairs.pairs_fault.Goals as goal
 
 pub all_apart-requires-clause-spans : goal.all_apart-requires-clause-spans
@@ -15,14 +15,14 @@ pub returns-then-all_apart : goal.returns-then-all_apart
 returns-then-all_apart g c given gives =
     let m = g.S.Symbol.means in
     apart_given m c.args.taken.now.hypotheses.now (read_all (map m c.args.taken.now.symbols.now) c.args.taken.now.entries.now) (map m c.gather_all.new.self.variables.items) c.gather_all.new.self.spans.items given c.requires.hypotheses gives c.in_ok-gather_all.ensures
-    (pairs_of m c.args.active.now.pairs.now) (pairs_of m c.args.pairs.now) c.if-all_apart.ensures
+    (meant_pairs m c.args.active.now.pairs.now) (meant_pairs m c.args.pairs.now) c.if-all_apart.ensures
 
 pub returns-then-any_share : goal.returns-then-any_share
 returns-then-any_share g c given gives =
     let m = g.S.Symbol.means in
     let h = c.if-any_share.ensures in
     shared_given m c.args.taken.now.hypotheses.now (read_all (map m c.args.taken.now.symbols.now) c.args.taken.now.entries.now) (map m c.gather_all.new.self.variables.items) c.gather_all.new.self.spans.items given c.requires.hypotheses gives c.in_ok-gather_all.ensures
-    (pairs_of m c.args.pairs.now) h.0 h.1 h.2 h.3
+    (meant_pairs m c.args.pairs.now) h.0 h.1 h.2 h.3
 
 pub returns : goal.returns
 returns g c given gives =
@@ -31,9 +31,9 @@ returns g c given gives =
     let es = read_all (map m c.args.taken.now.symbols.now) c.args.taken.now.entries.now in
     let all = map m c.gather_all.new.self.variables.items in
     let spans = c.gather_all.new.self.spans.items in
-    let pairs = pairs_of m c.args.pairs.now in
+    let pairs = meant_pairs m c.args.pairs.now in
     let none = c.if-any_share.ensures in
     let lack = c.if-all_apart.ensures in (
       none_shared m hypotheses es all spans given c.requires.hypotheses gives c.in_ok-gather_all.ensures pairs none,
-      lack_given m hypotheses es all spans given c.requires.hypotheses gives c.in_ok-gather_all.ensures (pairs_of m c.args.active.now.pairs.now) pairs lack.0 lack.1 lack.2 lack.3 none,
+      lack_given m hypotheses es all spans given c.requires.hypotheses gives c.in_ok-gather_all.ensures (meant_pairs m c.args.active.now.pairs.now) pairs lack.0 lack.1 lack.2 lack.3 none,
     )

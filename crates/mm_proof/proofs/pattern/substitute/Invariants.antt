@@ -1,9 +1,9 @@
 use Rattle.std.proofs.Common.{◌≡◌, ◌++◌, List, map, take}
 use Rattle.mm_frame.specs.Language.Frame.{Symbol}
 use Rattle.mm_proof.specs.Language.Substitution.{substituted}
-use Rattle.mm_proof.specs.Code.Citation.{Gives, hypotheses_of, entries_of}
+use Rattle.mm_proof.specs.Code.Citation.{GivesVariables, hypotheses_of, entries_of}
 use Rattle.mm_proof.proofs.pattern.substitute.Given as goal
 
 abbrev pub invariant-loop-place : goal.invariant-loop-place
-invariant-loop-place g l = (given : Symbol → List Symbol) → Gives given (hypotheses_of g.S.Symbol.means l.taken.hypotheses.now) (entries_of g.S.Symbol.means l.taken) (map g.S.Symbol.means l.expression) →
+invariant-loop-place g l = (given : Symbol → List Symbol) → GivesVariables given (hypotheses_of g.S.Symbol.means l.taken.hypotheses.now) (entries_of g.S.Symbol.means l.taken) (map g.S.Symbol.means l.expression) →
     map g.S.Symbol.means l.to.items ≡ map g.S.Symbol.means l.initial.to.items ++ substituted given (take l.place (map g.S.Symbol.means l.expression))

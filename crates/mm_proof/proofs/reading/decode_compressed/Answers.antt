@@ -2,7 +2,7 @@ use Rattle.std.proofs.Common.{◌≡◌, ℕ, List, length, arith}
 use Rattle.std.specs.Borrow.{Bor}
 use Rattle.std.proofs.lemmas.List.{length-map}
 use Rattle.std.proofs.lemmas.Result.{err_from_is_err_and}
-use Rattle.mm_proof.specs.Code.Labels.{labels_at, entry_step, entry_steps}
+use Rattle.mm_proof.specs.Language.DecodedSteps.{labels_at, entry_step, entry_steps}
 use Rattle.mm_proof.proofs.LeftLemmas.{behind_open}
 use Rattle.mm_proof.proofs.TableLemmas.{list_begins, compressed_ok, compressed_err, compressed_table}
 use Rattle.mm_proof.proofs.reading.decode_compressed.Goals as goal

@@ -1,9 +1,9 @@
 use Rattle.std.proofs.Common.{get_or, sym, ◌∙◌, arith}
 use Rattle.std.proofs.lemmas.Bool.{false≢true}
 use Rattle.std.proofs.lemmas.List.{length-map}
-use Rattle.mm_proof.specs.Code.Citation.{mandatory_of, hypotheses_of, Types}
+use Rattle.mm_proof.specs.Code.Citation.{mandatory_of, hypotheses_of, IsTypingOf}
 use Rattle.mm_proof.proofs.FlatLemmas.{mapped_get}
-use Rattle.mm_proof.proofs.PairLemmas.{each_more}
+use Rattle.mm_proof.proofs.ApartLemmas.{each_more}
 use Rattle.mm_proof.proofs.SlotLemmas.{not_typed}
 use Rattle.mm_proof.proofs.slots.slot_of.Goals as goal
 
@@ -25,7 +25,7 @@ pub loop-place-preserved : goal.loop-place-preserved
 loop-place-preserved g c =
     let m = g.S.Symbol.means in
     let h = c.index-hypotheses-place.result in
-    each_more (λ h. Types h (m c.args.variable.now) → ⊥) (hypotheses_of m c.args.hypotheses.now) c.loop-place.place (mandatory_of m h)
+    each_more (λ h. IsTypingOf h (m c.args.variable.now) → ⊥) (hypotheses_of m c.args.hypotheses.now) c.loop-place.place (mandatory_of m h)
     (mapped_get (mandatory_of m) c.args.hypotheses.now c.loop-place.place h c.loop-place-test.true c.index-hypotheses-place.is)
     (λ t. false≢true (sym c.if-is_float_of-2.false ∙ c.is_float_of-in-loop-place.ensures.1 t)) c.loop-place.invariant
 

@@ -1,6 +1,6 @@
 use Rattle.std.proofs.Common.{◌++◌, ◌∷◌, [], map, sym, ◌∙◌, ap, arith}
 use Rattle.std.proofs.lemmas.List.{append-nil, length-map, take_all}
-use Rattle.mm_proof.specs.Code.Tasks.{expressions_of}
+use Rattle.mm_proof.specs.Code.Tasks.{named_expressions}
 use Rattle.mm_proof.proofs.FlatLemmas.{mapped_get}
 use Rattle.mm_proof.proofs.StepLemmas.{take_next}
 use Rattle.mm_proof.proofs.stepping.load.Goals as goal
@@ -8,7 +8,7 @@ use Rattle.mm_proof.proofs.stepping.load.Goals as goal
 pub loop-n-preserved : goal.loop-n-preserved
 loop-n-preserved g c =
     let m = g.S.Symbol.means in
-    let expressions = expressions_of m c.args.named.now in
+    let expressions = named_expressions m c.args.named.now in
     let e = map m c.index-expression.result.now.now in
     record {
       whole = c.in_ok-load.ensures.whole;
@@ -20,7 +20,7 @@ loop-n-preserved g c =
 pub returns-clause-state : goal.returns-clause-state
 returns-clause-state g c =
     let m = g.S.Symbol.means in
-    let expressions = expressions_of m c.args.named.now in
+    let expressions = named_expressions m c.args.named.now in
     record {
       stack = c.loop-n.invariant.stack;
       saved = c.loop-n.invariant.saved ∙ take_all c.loop-n.n expressions (omega (arith, c.loop-n-test.false, c.len-n-end.ensures, c.args.named.now.hypotheses.ok, length-map c.args.named.now.hypotheses.items (λ e. map m e.now))) ∙ sym (append-nil expressions);

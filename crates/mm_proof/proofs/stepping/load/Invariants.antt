@@ -1,11 +1,11 @@
 use Rattle.std.proofs.Common.{◌≡◌, [], take}
 use Rattle.mm_proof.specs.Code.MachineState.{state_of, AreRanges}
-use Rattle.mm_proof.specs.Code.Tasks.{expressions_of}
+use Rattle.mm_proof.specs.Code.Tasks.{named_expressions}
 use Rattle.mm_proof.proofs.stepping.load.Given as goal
 
 abbrev pub invariant-loop-n : goal.invariant-loop-n
 invariant-loop-n g l = record {
   whole : AreRanges l.machine;
   stack : (state_of g.S.Symbol.means l.machine).stack ≡ [];
-  saved : (state_of g.S.Symbol.means l.machine).saved ≡ take l.n (expressions_of g.S.Symbol.means l.named);
+  saved : (state_of g.S.Symbol.means l.machine).saved ≡ take l.n (named_expressions g.S.Symbol.means l.named);
 }

@@ -7,9 +7,9 @@ use Rattle.mm_proof.specs.Language.Reaches.{Reaches}
 use Rattle.mm_proof.specs.declared.pattern.Entry.{Entry}
 use Rattle.mm_proof.specs.declared.step.Action.TheVariants as actions
 use Rattle.mm_proof.specs.declared.step.ProofStep.{ProofStep}
-use Rattle.mm_proof.specs.Code.Coded.{meant}
+use Rattle.mm_proof.specs.Language.DecodedSteps.{meant}
 use Rattle.mm_proof.specs.Code.Flat.{read, read_all}
-use Rattle.mm_proof.specs.Code.Tasks.{IsSavedWithin, actions_mean, expressions_of, frames_of, saves_in}
+use Rattle.mm_proof.specs.Code.Tasks.{IsSavedWithin, actions_mean, named_expressions, named_frames, saves_in}
 use Rattle.mm_proof.proofs.Reaching.{at_start}
 use Rattle.mm_proof.proofs.StackLemmas.{top_of}
 use Rattle.mm_proof.proofs.StepLemmas.{nothing_known, known_more, known_all, follows_more, fault_here, unknown_here, reached_all, means_known, action_at, saves_next}
@@ -22,7 +22,7 @@ nowhere = record { action = actions.Label 0; spot = record { word = 0; letter = 
 pub loop-place-init : goal.loop-place-init
 loop-place-init g c =
     let m = g.S.Symbol.means in
-    let expressions = expressions_of m c.args.named.now in
+    let expressions = named_expressions m c.args.named.now in
     let state = c.in_ok-load.ensures.state in
     let machine = c.load.new.machine in
     let e = ap length state.saved in
@@ -59,7 +59,7 @@ returns-in-Some-2-clause-says g c place names is pairs all =
     let f = c.loop-place.invariant.follows place names is pairs all in
     let at = action_at names c.args.steps.now k nowhere (omega (arith, c.loop-place-test.true)) in
     let means = c.in-Some.ensures.means place names all in
-    let known = means_known (expressions_of m c.args.named.now) (frames_of m c.args.named.now) place c.in-Some.task step means in
+    let known = means_known (named_expressions m c.args.named.now) (named_frames m c.args.named.now) place c.in-Some.task step means in
     let turns = rw c.in-Some-2.is at c.in_ok-number.ensures.turns in
     fault_here place is steps k step f.1 c.in-Some-2.number f.0 at known f.3 (turns place step f.1 pairs f.2 means)
 
@@ -79,7 +79,7 @@ loop-place-preserved g c =
           let f = c.loop-place.invariant.follows place names is pairs all in
           let at = action_at names c.args.steps.now k nowhere within in
           let means = c.in-Some.ensures.means place names all in
-          let known = means_known (expressions_of m c.args.named.now) (frames_of m c.args.named.now) place c.in-Some.task step means in
+          let known = means_known (named_expressions m c.args.named.now) (named_frames m c.args.named.now) place c.in-Some.task step means in
           let t = turns place step f.1 pairs f.2 means in
           (known_more steps k step at known f.0, t.0, t.1, follows_more place steps k step f.1 t.0 at f.3 t.2);
     }

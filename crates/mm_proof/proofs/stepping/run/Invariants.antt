@@ -5,15 +5,15 @@ use Rattle.mm_proof.specs.Language.Expansion.{Step}
 use Rattle.mm_proof.specs.Language.Machine.{State}
 use Rattle.mm_proof.proofs.Reaching.{Follows}
 use Rattle.mm_proof.proofs.StepLemmas.{KnownUpTo}
-use Rattle.mm_proof.specs.Code.Citation.{pairs_of}
+use Rattle.mm_proof.specs.Code.Citation.{meant_pairs}
 use Rattle.mm_proof.specs.Code.MachineState.{AreRanges}
-use Rattle.mm_proof.specs.Code.Tasks.{AreUses, HasState, actions_mean, expressions_of, saves_in}
+use Rattle.mm_proof.specs.Code.Tasks.{AreUses, HasState, actions_mean, named_expressions, saves_in}
 use Rattle.mm_proof.proofs.stepping.run.Given as goal
 
 abbrev pub invariant-loop-place : goal.invariant-loop-place
 invariant-loop-place g l = record {
   whole : AreRanges l.machine;
   count : length l.machine.saved.items ≡ length l.named.hypotheses.items + saves_in (take l.place l.steps);
-  follows : (place : Setting) (names : List Step) → HasFrames place → AreSamePairs (pairs_of g.S.Symbol.means l.active.pairs.now) place.active → AreUses g.S.Symbol.means l.named place names →
-      KnownUpTo (actions_mean names l.steps) l.place × (state : State) × HasState g.S.Symbol.means (expressions_of g.S.Symbol.means l.named) l.machine state × Follows place (take l.place (actions_mean names l.steps)) state;
+  follows : (place : Setting) (names : List Step) → HasFrames place → AreSamePairs (meant_pairs g.S.Symbol.means l.active.pairs.now) place.active → AreUses g.S.Symbol.means l.named place names →
+      KnownUpTo (actions_mean names l.steps) l.place × (state : State) × HasState g.S.Symbol.means (named_expressions g.S.Symbol.means l.named) l.machine state × Follows place (take l.place (actions_mean names l.steps)) state;
 }

@@ -6,8 +6,8 @@ use Rattle.mm_proof.specs.Language.Expansion.{Step, NotKnown}
 use Rattle.mm_proof.specs.declared.step.Action.{Action}
 use Rattle.mm_proof.specs.declared.step.Action.TheVariants as actions
 use Rattle.mm_proof.specs.declared.named.Use.{Use}
-use Rattle.mm_proof.specs.Code.Coded.{meant}
-use Rattle.mm_proof.specs.Code.Tasks.{IsUseWithin, MeansUse, expressions_of, frames_of}
+use Rattle.mm_proof.specs.Language.DecodedSteps.{meant}
+use Rattle.mm_proof.specs.Code.Tasks.{IsUseWithin, MeansUse, named_expressions, named_frames}
 use Rattle.mm_proof.proofs.StepLemmas.{push_means, cite_means, nothing_means}
 use Rattle.mm_proof.proofs.stepping.todo.Goals as goal
 
@@ -23,22 +23,22 @@ of_action expressions frames place names action k used found kept read is same d
 
 pub returns-in-Hypothesis-clause-means : goal.returns-in-Hypothesis-clause-means
 returns-in-Hypothesis-clause-means g c place names all =
-    let es = expressions_of g.S.Symbol.means c.args.named.now in
-    let fs = frames_of g.S.Symbol.means c.args.named.now in
+    let es = named_expressions g.S.Symbol.means c.args.named.now in
+    let fs = named_frames g.S.Symbol.means c.args.named.now in
     push_means es fs place c.in-Hypothesis.n (meant names c.args.action)
     (of_action es fs place names c.args.action c.in-Label.k c.used.result _ c.args.named.now.uses.items c.deref.result.now c.in-Label.is c.in-Hypothesis.is c.deref.ensures.value all (c.used.ensures.means es fs place names))
 
 pub returns-in-Assertion-clause-means : goal.returns-in-Assertion-clause-means
 returns-in-Assertion-clause-means g c place names all =
-    let es = expressions_of g.S.Symbol.means c.args.named.now in
-    let fs = frames_of g.S.Symbol.means c.args.named.now in
+    let es = named_expressions g.S.Symbol.means c.args.named.now in
+    let fs = named_frames g.S.Symbol.means c.args.named.now in
     cite_means es fs place c.in-Assertion.n (meant names c.args.action)
     (of_action es fs place names c.args.action c.in-Label.k c.used.result _ c.args.named.now.uses.items c.deref.result.now c.in-Label.is c.in-Assertion.is c.deref.ensures.value all (c.used.ensures.means es fs place names))
 
 pub returns-in-Nothing-clause-means : goal.returns-in-Nothing-clause-means
 returns-in-Nothing-clause-means g c place names all =
-    let es = expressions_of g.S.Symbol.means c.args.named.now in
-    let fs = frames_of g.S.Symbol.means c.args.named.now in
+    let es = named_expressions g.S.Symbol.means c.args.named.now in
+    let fs = named_frames g.S.Symbol.means c.args.named.now in
     nothing_means es fs place (meant names c.args.action)
     (of_action es fs place names c.args.action c.in-Label.k c.used.result _ c.args.named.now.uses.items c.deref.result.now c.in-Label.is c.in-Nothing.is c.deref.ensures.value all (c.used.ensures.means es fs place names))
 

@@ -8,10 +8,10 @@ use Rattle.mm_proof.specs.Language.Faults.{IsLowest}
 use Rattle.mm_proof.specs.Language.Machine.{State}
 use Rattle.mm_proof.specs.declared.pattern.Entry.{Entry}
 use Rattle.mm_proof.specs.declared.stepping.Task.{Task}
-use Rattle.mm_proof.specs.Code.Citation.{frame_of, pairs_of}
+use Rattle.mm_proof.specs.Code.Citation.{frame_of, meant_pairs}
 use Rattle.mm_proof.specs.Code.Flat.{read}
 use Rattle.mm_proof.specs.Code.MachineState.{state_of}
-use Rattle.mm_proof.specs.Code.Tasks.{HasState, IsTaskWithin, expressions_of, frames_of}
+use Rattle.mm_proof.specs.Code.Tasks.{HasState, IsTaskWithin, named_expressions, named_frames}
 use Rattle.mm_proof.proofs.FlatLemmas.{mapped_or, mapped_or_get}
 use Rattle.mm_proof.proofs.StepLemmas.{means_push, means_cite, means_again, means_keep, cite_turns, kept_at, saved_at, TurnsTo, pushed_turns, again_turns, kept_turns, cited_turns}
 use Rattle.mm_proof.proofs.stepping.turn.Goals as goal
@@ -25,8 +25,8 @@ cite-requires-clause-frame g c =
 pub returns-in_ok-push_saved-in-Push-clause-turns : goal.returns-in_ok-push_saved-in-Push-clause-turns
 returns-in_ok-push_saved-in-Push-clause-turns g c place step before pairs state means =
     let m = g.S.Symbol.means in
-    let expressions = expressions_of m c.args.named.now in
-    let k = means_push expressions (frames_of m c.args.named.now) place c.in-Push.n c.args.task step c.in-Push.is means in
+    let expressions = named_expressions m c.args.named.now in
+    let k = means_push expressions (named_frames m c.args.named.now) place c.in-Push.n c.args.task step c.in-Push.is means in
     let at = ap (λ w. slice_get w c.in-Push.n) state.saved ∙ kept_at expressions before.saved c.in-Push.n k.1 k.3 in
     pushed_turns m expressions place k.0 step k.1 before c.args.machine.now c.push_saved.new.self k.2 k.4 state (c.in_ok-push_saved-in-Push.ensures.stack k.1 at) c.in_ok-push_saved-in-Push.ensures.saved
 
@@ -37,23 +37,23 @@ returns-in_ok-found-in-Cite-clause-turns g c place step before pairs state means
     let x = c.index.result.now in
     let found = c.in_ok-found-in-Cite.found in
     let named = c.args.named.now in
-    let expressions = expressions_of m named in
+    let expressions = named_expressions m named in
     let after : State = record { stack = (state_of m c.cite.new.self).stack; saved = before.saved } in
     let within = subst (λ (w : Task). IsTaskWithin (length named.hypotheses.items) (length named.assertions.items) (length c.args.machine.now.saved.items - length named.hypotheses.items) w) c.in-Cite.is c.requires.within in
-    let k = means_cite expressions (frames_of m named) place n c.args.task step c.in-Cite.is means in
+    let k = means_cite expressions (named_frames m named) place n c.args.task step c.in-Cite.is means in
     let kept = mapped_or (frame_of m) named.assertions.items n x k.1 within k.4 in
     let same = subst (λ (f : Frame). AreSameFrame f k.2) (kept ∙ ap (frame_of m) (sym c.index.ensures)) k.6 in
     let has : HasState m expressions c.cite.new.self after = record { stack = refl; saved = c.in_ok-found-in-Cite.ensures.saved ∙ state.saved } in
     subst (λ (s : Step). MatchOption found (TurnsTo m expressions c.cite.new.self place s before) (IsLowest place s before.stack)) (sym k.3)
     (cited_turns m expressions place k.0 before after c.cite.new.self found has
-    (cite_turns (pairs_of m c.args.active.now.pairs.now) place k.0 (frame_of m x) k.2 (state_of m c.args.machine.now).stack before after found pairs k.5 same state.stack refl c.in_ok-found-in-Cite.ensures.cites))
+    (cite_turns (meant_pairs m c.args.active.now.pairs.now) place k.0 (frame_of m x) k.2 (state_of m c.args.machine.now).stack before after found pairs k.5 same state.stack refl c.in_ok-found-in-Cite.ensures.cites))
 
 pub returns-in_ok-push_saved-in-Again-clause-turns : goal.returns-in_ok-push_saved-in-Again-clause-turns
 returns-in_ok-push_saved-in-Again-clause-turns g c place step before pairs state means =
     let m = g.S.Symbol.means in
     let n = c.in-Again.n in
     let named = c.args.named.now in
-    let expressions = expressions_of m named in
+    let expressions = named_expressions m named in
     let d : Entry = record { start = 0; end = 0; floor = 0 } in
     let within = subst (λ (w : Task). IsTaskWithin (length named.hypotheses.items) (length named.assertions.items) (length c.args.machine.now.saved.items - length named.hypotheses.items) w) c.in-Again.is c.requires.within in
     let symbols = map m c.args.machine.now.symbols.items in
@@ -62,12 +62,12 @@ returns-in_ok-push_saved-in-Again-clause-turns g c place step before pairs state
     let at = mapped_or_get (read symbols) c.args.machine.now.saved.items place_of d (omega (arith, c.len.ensures, named.hypotheses.ok, within, c.requires.loaded)) in
     let count : length expressions + n ≡ place_of = omega (arith, c.len.ensures, named.hypotheses.ok, length-map named.hypotheses.items (λ e. map m e.now)) in
     let saved = sym (saved_at expressions before.saved n) ∙ ap (slice_get (expressions ++ before.saved)) count ∙ ap (λ w. slice_get w place_of) (sym state.saved) ∙ at in
-    let is = means_again expressions (frames_of m named) place n c.args.task step c.in-Again.is means in
+    let is = means_again expressions (named_frames m named) place n c.args.task step c.in-Again.is means in
     again_turns m expressions place n step e before c.args.machine.now c.push_saved-in-Again.new.self is saved state (c.in_ok-push_saved-in-Again.ensures.stack e at) c.in_ok-push_saved-in-Again.ensures.saved
 
 pub returns-then-branch-clause-turns : goal.returns-then-branch-clause-turns
 returns-then-branch-clause-turns g c place step before pairs state means =
     let m = g.S.Symbol.means in
-    let expressions = expressions_of m c.args.named.now in
-    let is = means_keep expressions (frames_of m c.args.named.now) place c.args.task step c.in-Keep.is means in
+    let expressions = named_expressions m c.args.named.now in
+    let is = means_keep expressions (named_frames m c.args.named.now) place c.args.task step c.in-Keep.is means in
     kept_turns m expressions place step before c.args.machine.now c.save.new.self is state (rw c.if-branch.true at c.in_ok-save-in-Keep.ensures.saves)

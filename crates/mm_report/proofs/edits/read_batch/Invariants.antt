@@ -1,12 +1,12 @@
 use Rattle.std.proofs.Common.{◌≡◌, ◌-◌, ◌≤◌, false, length}
 use Rattle.mm_report.specs.Code.Batches.{IsBatchRead}
-use Rattle.mm_report.specs.Code.Growing.{Grows, to_come}
+use Rattle.mm_report.specs.Code.Growing.{InputGrows, to_come}
 use Rattle.mm_report.specs.Code.Pending.{pending}
 use Rattle.mm_report.proofs.edits.read_batch.Given as goal
 
 abbrev pub invariant-loop-input : goal.invariant-loop-input
 invariant-loop-input g l = record {
-  grows : Grows l.initial.input l.input (g.R.Read.remaining l.initial.reading.inner) (g.R.Read.remaining l.reading.inner);
+  grows : InputGrows l.initial.input l.input (g.R.Read.remaining l.initial.reading.inner) (g.R.Read.remaining l.reading.inner);
   read : IsBatchRead (pending l.input) (g.R.Read.remaining l.reading.inner) l.count l.edits.items l.end l.fed;
   last : l.fed ≡ false → length l.edits.items ≡ l.count;
   most : length l.edits.items ≤ l.count;

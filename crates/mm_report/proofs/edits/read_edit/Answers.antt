@@ -7,7 +7,7 @@ use Rattle.mm_report.specs.declared.entry.EditAt.TheVariants as found
 use Rattle.mm_report.specs.declared.line.EditLine.TheVariants as lines
 use Rattle.mm_report.specs.Code.Growing.{line_bytes}
 use Rattle.mm_report.specs.Code.Lines.{SaysEdit}
-use Rattle.mm_report.specs.Code.Pending.{pending, bytes_in}
+use Rattle.mm_report.specs.Code.Pending.{pending, bytes_of_part}
 use Rattle.mm_report.specs.Language.Script.{IsName}
 use Rattle.mm_report.proofs.GrowLemmas.{not_not, not_true, same_error}
 use Rattle.mm_report.proofs.EditLemmas.{AsksText, IsShifted, asks_insert, asks_replace, behind_within, bytes_grown, fed_line, plain_read, shifted_is, shifted_within, text_bad, text_line, text_read, text_short, unfed_line, within_grown}
@@ -17,7 +17,7 @@ pub returns-then-not-line-clause-cut : goal.returns-then-not-line-clause-cut
 returns-then-not-line-clause-cut g c = λ cut.
     let line = line_bytes (pending c.args.input.now) c.args.line in
     let says : SaysEdit line (lines.Insert c.in-Insert.file c.in-Insert.at c.in-Insert.count) = subst (SaysEdit line) c.in-Insert.is c.requires.says in
-    let edit : List ℕ → Asked = λ text. ask.Insert (bytes_in line c.in-Insert.file) c.in-Insert.at text in
+    let edit : List ℕ → Asked = λ text. ask.Insert (bytes_of_part line c.in-Insert.file) c.in-Insert.at text in
     let asks : AsksText line c.in-Insert.count edit = asks_insert line c.in-Insert.file c.in-Insert.at c.in-Insert.count says in
     ((c.requires.line.unfed (not_true _ c.if-not-line.true)).1, inr (text_line line c.in-Insert.count edit _ asks (unfed_line (pending c.args.input.now) _ c.args.line c.requires.line (not_true _ c.if-not-line.true))))
 
@@ -25,7 +25,7 @@ pub returns-in_err-text-in-Insert-clause-bad : goal.returns-in_err-text-in-Inser
 returns-in_err-text-in-Insert-clause-bad g c = λ bad.
     let line = line_bytes (pending c.args.input.now) c.args.line in
     let says : SaysEdit line (lines.Insert c.in-Insert.file c.in-Insert.at c.in-Insert.count) = subst (SaysEdit line) c.in-Insert.is c.requires.says in
-    let edit : List ℕ → Asked = λ text. ask.Insert (bytes_in line c.in-Insert.file) c.in-Insert.at text in
+    let edit : List ℕ → Asked = λ text. ask.Insert (bytes_of_part line c.in-Insert.file) c.in-Insert.at text in
     let asks : AsksText line c.in-Insert.count edit = asks_insert line c.in-Insert.file c.in-Insert.at c.in-Insert.count says in
     let stands = fed_line c.args.input.now c.read_text.new.input _ _ c.args.line c.requires.line c.in_err-text-in-Insert.ensures.grows (not_not _ c.if-not-line.false) in
     text_bad line c.in-Insert.count edit _ (pending c.read_text.new.input) (c.args.line.end + 1) asks stands (c.in_err-text-in-Insert.ensures.bad (same_error c.from_residual.result c.in_err-text-in-Insert.field-0.0 _ c.from_residual.ensures.1 bad))
@@ -34,7 +34,7 @@ pub returns-in_err-text-in-Insert-clause-cut : goal.returns-in_err-text-in-Inser
 returns-in_err-text-in-Insert-clause-cut g c = λ cut.
     let line = line_bytes (pending c.args.input.now) c.args.line in
     let says : SaysEdit line (lines.Insert c.in-Insert.file c.in-Insert.at c.in-Insert.count) = subst (SaysEdit line) c.in-Insert.is c.requires.says in
-    let edit : List ℕ → Asked = λ text. ask.Insert (bytes_in line c.in-Insert.file) c.in-Insert.at text in
+    let edit : List ℕ → Asked = λ text. ask.Insert (bytes_of_part line c.in-Insert.file) c.in-Insert.at text in
     let asks : AsksText line c.in-Insert.count edit = asks_insert line c.in-Insert.file c.in-Insert.at c.in-Insert.count says in
     let stands = fed_line c.args.input.now c.read_text.new.input _ _ c.args.line c.requires.line c.in_err-text-in-Insert.ensures.grows (not_not _ c.if-not-line.false) in
     let ended = c.in_err-text-in-Insert.ensures.cut (same_error c.from_residual.result c.in_err-text-in-Insert.field-0.0 _ c.from_residual.ensures.1 cut) in
@@ -44,7 +44,7 @@ pub returns-in_err-text-in-Insert-clause-read : goal.returns-in_err-text-in-Inse
 returns-in_err-text-in-Insert-clause-read g c = λ read.
     let line = line_bytes (pending c.args.input.now) c.args.line in
     let says : SaysEdit line (lines.Insert c.in-Insert.file c.in-Insert.at c.in-Insert.count) = subst (SaysEdit line) c.in-Insert.is c.requires.says in
-    let edit : List ℕ → Asked = λ text. ask.Insert (bytes_in line c.in-Insert.file) c.in-Insert.at text in
+    let edit : List ℕ → Asked = λ text. ask.Insert (bytes_of_part line c.in-Insert.file) c.in-Insert.at text in
     let asks : AsksText line c.in-Insert.count edit = asks_insert line c.in-Insert.file c.in-Insert.at c.in-Insert.count says in
     let stands = fed_line c.args.input.now c.read_text.new.input _ _ c.args.line c.requires.line c.in_err-text-in-Insert.ensures.grows (not_not _ c.if-not-line.false) in
     text_short line c.in-Insert.count edit _ _ asks stands (c.in_err-text-in-Insert.ensures.read (same_error c.from_residual.result c.in_err-text-in-Insert.field-0.0 _ c.from_residual.ensures.1 read))
@@ -53,7 +53,7 @@ pub returns-in_ok-text-in-Insert-clause-edit : goal.returns-in_ok-text-in-Insert
 returns-in_ok-text-in-Insert-clause-edit g c =
     let line = line_bytes (pending c.args.input.now) c.args.line in
     let says : SaysEdit line (lines.Insert c.in-Insert.file c.in-Insert.at c.in-Insert.count) = subst (SaysEdit line) c.in-Insert.is c.requires.says in
-    let edit : List ℕ → Asked = λ text. ask.Insert (bytes_in line c.in-Insert.file) c.in-Insert.at text in
+    let edit : List ℕ → Asked = λ text. ask.Insert (bytes_of_part line c.in-Insert.file) c.in-Insert.at text in
     let asks : AsksText line c.in-Insert.count edit = asks_insert line c.in-Insert.file c.in-Insert.at c.in-Insert.count says in
     let file = c.shifted-file.result in
     let shifted : IsShifted c.in-Insert.file file c.args.line.start = record { start = c.shifted-file.ensures.start; end = c.shifted-file.ensures.end } in
@@ -64,13 +64,13 @@ returns-in_ok-text-in-Insert-clause-edit g c =
     let text = c.in_ok-text-in-Insert.text in
     text_read c.args.input.now c.read_text.new.input _ _ c.args.line c.in-Insert.count edit text (found.Insert file c.in-Insert.at text) asks c.requires.line grows (not_not _ c.if-not-line.false)
     c.in_ok-text-in-Insert.ensures.within.0 c.in_ok-text-in-Insert.ensures.within.1 c.in_ok-text-in-Insert.ensures.within.2 c.in_ok-text-in-Insert.ensures.feed
-    (ap (λ xs. ask.Insert xs c.in-Insert.at (bytes_in (pending c.read_text.new.input) text)) (later ∙ name)) (within_grown c.args.input.now c.read_text.new.input _ _ file grows inside, c.in_ok-text-in-Insert.ensures.within.0)
+    (ap (λ xs. ask.Insert xs c.in-Insert.at (bytes_of_part (pending c.read_text.new.input) text)) (later ∙ name)) (within_grown c.args.input.now c.read_text.new.input _ _ file grows inside, c.in_ok-text-in-Insert.ensures.within.0)
 
 pub returns-then-not-line-2-clause-cut : goal.returns-then-not-line-2-clause-cut
 returns-then-not-line-2-clause-cut g c = λ cut.
     let line = line_bytes (pending c.args.input.now) c.args.line in
     let says : SaysEdit line (lines.Replace c.in-Replace.file c.in-Replace.at c.in-Replace.count) = subst (SaysEdit line) c.in-Replace.is c.requires.says in
-    let edit : List ℕ → Asked = λ text. ask.Replace (bytes_in line c.in-Replace.file) c.in-Replace.at text in
+    let edit : List ℕ → Asked = λ text. ask.Replace (bytes_of_part line c.in-Replace.file) c.in-Replace.at text in
     let asks : AsksText line c.in-Replace.count edit = asks_replace line c.in-Replace.file c.in-Replace.at c.in-Replace.count says in
     ((c.requires.line.unfed (not_true _ c.if-not-line-2.true)).1, inr (text_line line c.in-Replace.count edit _ asks (unfed_line (pending c.args.input.now) _ c.args.line c.requires.line (not_true _ c.if-not-line-2.true))))
 
@@ -78,7 +78,7 @@ pub returns-in_err-text-in-Replace-clause-bad : goal.returns-in_err-text-in-Repl
 returns-in_err-text-in-Replace-clause-bad g c = λ bad.
     let line = line_bytes (pending c.args.input.now) c.args.line in
     let says : SaysEdit line (lines.Replace c.in-Replace.file c.in-Replace.at c.in-Replace.count) = subst (SaysEdit line) c.in-Replace.is c.requires.says in
-    let edit : List ℕ → Asked = λ text. ask.Replace (bytes_in line c.in-Replace.file) c.in-Replace.at text in
+    let edit : List ℕ → Asked = λ text. ask.Replace (bytes_of_part line c.in-Replace.file) c.in-Replace.at text in
     let asks : AsksText line c.in-Replace.count edit = asks_replace line c.in-Replace.file c.in-Replace.at c.in-Replace.count says in
     let stands = fed_line c.args.input.now c.read_text-in-Replace.new.input _ _ c.args.line c.requires.line c.in_err-text-in-Replace.ensures.grows (not_not _ c.if-not-line-2.false) in
     text_bad line c.in-Replace.count edit _ (pending c.read_text-in-Replace.new.input) (c.args.line.end + 1) asks stands
@@ -88,7 +88,7 @@ pub returns-in_err-text-in-Replace-clause-cut : goal.returns-in_err-text-in-Repl
 returns-in_err-text-in-Replace-clause-cut g c = λ cut.
     let line = line_bytes (pending c.args.input.now) c.args.line in
     let says : SaysEdit line (lines.Replace c.in-Replace.file c.in-Replace.at c.in-Replace.count) = subst (SaysEdit line) c.in-Replace.is c.requires.says in
-    let edit : List ℕ → Asked = λ text. ask.Replace (bytes_in line c.in-Replace.file) c.in-Replace.at text in
+    let edit : List ℕ → Asked = λ text. ask.Replace (bytes_of_part line c.in-Replace.file) c.in-Replace.at text in
     let asks : AsksText line c.in-Replace.count edit = asks_replace line c.in-Replace.file c.in-Replace.at c.in-Replace.count says in
     let stands = fed_line c.args.input.now c.read_text-in-Replace.new.input _ _ c.args.line c.requires.line c.in_err-text-in-Replace.ensures.grows (not_not _ c.if-not-line-2.false) in
     let ended = c.in_err-text-in-Replace.ensures.cut (same_error c.from_residual-in_err-text-in-Replace.result c.in_err-text-in-Replace.field-0.0 _ c.from_residual-in_err-text-in-Replace.ensures.1 cut) in
@@ -98,7 +98,7 @@ pub returns-in_err-text-in-Replace-clause-read : goal.returns-in_err-text-in-Rep
 returns-in_err-text-in-Replace-clause-read g c = λ read.
     let line = line_bytes (pending c.args.input.now) c.args.line in
     let says : SaysEdit line (lines.Replace c.in-Replace.file c.in-Replace.at c.in-Replace.count) = subst (SaysEdit line) c.in-Replace.is c.requires.says in
-    let edit : List ℕ → Asked = λ text. ask.Replace (bytes_in line c.in-Replace.file) c.in-Replace.at text in
+    let edit : List ℕ → Asked = λ text. ask.Replace (bytes_of_part line c.in-Replace.file) c.in-Replace.at text in
     let asks : AsksText line c.in-Replace.count edit = asks_replace line c.in-Replace.file c.in-Replace.at c.in-Replace.count says in
     let stands = fed_line c.args.input.now c.read_text-in-Replace.new.input _ _ c.args.line c.requires.line c.in_err-text-in-Replace.ensures.grows (not_not _ c.if-not-line-2.false) in
     text_short line c.in-Replace.count edit _ _ asks stands (c.in_err-text-in-Replace.ensures.read (same_error c.from_residual-in_err-text-in-Replace.result c.in_err-text-in-Replace.field-0.0 _ c.from_residual-in_err-text-in-Replace.ensures.1 read))
@@ -107,7 +107,7 @@ pub returns-in_ok-text-in-Replace-clause-edit : goal.returns-in_ok-text-in-Repla
 returns-in_ok-text-in-Replace-clause-edit g c =
     let line = line_bytes (pending c.args.input.now) c.args.line in
     let says : SaysEdit line (lines.Replace c.in-Replace.file c.in-Replace.at c.in-Replace.count) = subst (SaysEdit line) c.in-Replace.is c.requires.says in
-    let edit : List ℕ → Asked = λ text. ask.Replace (bytes_in line c.in-Replace.file) c.in-Replace.at text in
+    let edit : List ℕ → Asked = λ text. ask.Replace (bytes_of_part line c.in-Replace.file) c.in-Replace.at text in
     let asks : AsksText line c.in-Replace.count edit = asks_replace line c.in-Replace.file c.in-Replace.at c.in-Replace.count says in
     let file = c.shifted-file-in-Replace.result in
     let shifted : IsShifted c.in-Replace.file file c.args.line.start = record { start = c.shifted-file-in-Replace.ensures.start; end = c.shifted-file-in-Replace.ensures.end } in
@@ -118,7 +118,7 @@ returns-in_ok-text-in-Replace-clause-edit g c =
     let text = c.in_ok-text-in-Replace.text in
     text_read c.args.input.now c.read_text-in-Replace.new.input _ _ c.args.line c.in-Replace.count edit text (found.Replace file c.in-Replace.at text) asks c.requires.line grows (not_not _ c.if-not-line-2.false)
     c.in_ok-text-in-Replace.ensures.within.0 c.in_ok-text-in-Replace.ensures.within.1 c.in_ok-text-in-Replace.ensures.within.2 c.in_ok-text-in-Replace.ensures.feed
-    (ap (λ xs. ask.Replace xs c.in-Replace.at (bytes_in (pending c.read_text-in-Replace.new.input) text)) (later ∙ name)) (within_grown c.args.input.now c.read_text-in-Replace.new.input _ _ file grows inside, c.in_ok-text-in-Replace.ensures.within.0)
+    (ap (λ xs. ask.Replace xs c.in-Replace.at (bytes_of_part (pending c.read_text-in-Replace.new.input) text)) (later ∙ name)) (within_grown c.args.input.now c.read_text-in-Replace.new.input _ _ file grows inside, c.in_ok-text-in-Replace.ensures.within.0)
 
 pub returns-in-Delete-clause-edit : goal.returns-in-Delete-clause-edit
 returns-in-Delete-clause-edit g c =

@@ -1,11 +1,11 @@
 use Rattle.std.proofs.Common.{◌≤◌, ◌-◌}
-use Rattle.mm_report.specs.Code.Growing.{Grows, HasBlanks, to_come}
+use Rattle.mm_report.specs.Code.Growing.{InputGrows, HasBlanks, to_come}
 use Rattle.mm_report.specs.Code.Pending.{pending}
 use Rattle.mm_report.proofs.lines.read_some_line.Given as goal
 
 abbrev pub invariant-loop-line : goal.invariant-loop-line
 invariant-loop-line g l = record {
-  grows : Grows l.initial.input l.input (g.R.Read.remaining l.initial.reading.inner) (g.R.Read.remaining l.reading.inner);
+  grows : InputGrows l.initial.input l.input (g.R.Read.remaining l.initial.reading.inner) (g.R.Read.remaining l.reading.inner);
   blanks : HasBlanks (pending l.input) l.from l.start;
   fewer : to_come l.input l.reading ≤ to_come l.initial.input l.initial.reading;
 }

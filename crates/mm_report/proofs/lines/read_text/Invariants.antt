@@ -1,11 +1,11 @@
 use Rattle.std.proofs.Common.{◌≤◌, length}
-use Rattle.mm_report.specs.Code.Growing.{Grows, to_come}
+use Rattle.mm_report.specs.Code.Growing.{InputGrows, to_come}
 use Rattle.mm_report.specs.Code.Pending.{pending}
 use Rattle.mm_report.proofs.lines.read_text.Given as goal
 
 abbrev pub invariant-loop-byte : goal.invariant-loop-byte
 invariant-loop-byte g l = record {
-  grows : Grows l.initial.input l.input (g.R.Read.remaining l.initial.reading.inner) (g.R.Read.remaining l.reading.inner);
+  grows : InputGrows l.initial.input l.input (g.R.Read.remaining l.initial.reading.inner) (g.R.Read.remaining l.reading.inner);
   within : l.start ≤ length (pending l.input);
   fewer : to_come l.input l.reading ≤ to_come l.initial.input l.initial.reading;
 }

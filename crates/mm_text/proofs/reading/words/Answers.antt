@@ -4,16 +4,16 @@ use Rattle.mm_text.specs.declared.word.Word.{Word}
 use Rattle.mm_text.specs.declared.fault.TextError.{TextError}
 use Rattle.mm_text.specs.declared.fault.TextError.TheVariants as errors
 use Rattle.mm_text.specs.Language.Reading.{HasWords, IsWordsError, IsTextErrorIn, AreWithin}
-use Rattle.mm_text.specs.Code.LeftToRight.{Gives, read_text}
+use Rattle.mm_text.specs.Code.LeftToRight.{GivesWords, read_text}
 use Rattle.mm_text.proofs.ReadingLemmas.{words_of_text, fault_of_text}
 use Rattle.mm_text.proofs.PositionLemmas.{are_within, all_below, fault_lies}
 use Rattle.mm_text.proofs.reading.words.Goals as goal
 
-given_words : (text : List ℕ) (r : Result (Vec Word Global) TextError) → Gives r (read_text text) → IfOk r (λ found. HasWords text found.items)
+given_words : (text : List ℕ) (r : Result (Vec Word Global) TextError) → GivesWords r (read_text text) → IfOk r (λ found. HasWords text found.items)
 given_words text (Ok v) h = words_of_text text v.items h
 given_words text (Err e) h = tt
 
-given_fault : (text : List ℕ) (r : Result (Vec Word Global) TextError) → Gives r (read_text text) → IfErr r (IsWordsError text)
+given_fault : (text : List ℕ) (r : Result (Vec Word Global) TextError) → GivesWords r (read_text text) → IfErr r (IsWordsError text)
 given_fault text (Ok v) h = tt
 given_fault text (Err errors.Memory) h = tt
 given_fault text (Err (errors.Fault fault)) h = fault_of_text text fault h

@@ -1,6 +1,11 @@
 use Rattle.std.proofs.Common.{◌≡◌}
 use Rattle.mm_store.specs.Language.FileFacts.{parked_in}
+use Rattle.mmkeep.specs.Code.Loaded.{HasWalked, KeepsFiles}
 use Rattle.mmkeep.proofs.loading.add_missing.Given as goal
 
 abbrev pub invariant-loop : goal.invariant-loop
-invariant-loop g l = parked_in l.files ≡ parked_in l.initial.files
+invariant-loop g l = record {
+  parked : parked_in l.files ≡ parked_in l.initial.files;
+  kept : KeepsFiles l.initial.files l.files;
+  walked : HasWalked l.files l.walk;
+}

@@ -1,6 +1,6 @@
 use Rattle.std.proofs.Common.{Some, ◌∙◌, ap, sym, subst}
 use Rattle.std.specs.Prelude.{All}
-use Rattle.mm_frame.specs.Code.CodeSymbols.{symbols_of, IsNumbered}
+use Rattle.mm_frame.specs.Language.NumberedSymbols.{symbols_of, IsNumbered}
 use Rattle.mm_frame.specs.Code.KeptBase.{expressions_of}
 use Rattle.mm_frame.proofs.BaseLemmas.{expression_some, expression_none}
 use Rattle.mm_frame.proofs.base.Base.expression.Goals as goal

@@ -3,7 +3,7 @@ use Rattle.std.specs.Prelude.{All}
 use Rattle.std.proofs.lemmas.Option.{same_Some}
 use Rattle.mm_frame.specs.Language.Base.{before, said_at}
 use Rattle.mm_frame.specs.Language.Framing.{expression}
-use Rattle.mm_frame.specs.Code.CodeSymbols.{symbols_of, IsNumbered}
+use Rattle.mm_frame.specs.Language.NumberedSymbols.{symbols_of, IsNumbered}
 use Rattle.mm_frame.specs.Code.KeptBase.{expressions_of}
 use Rattle.mm_frame.proofs.BaseLemmas.{expression_some}
 use Rattle.mm_frame.proofs.base.Base.known_expression.Goals as goal

@@ -3,7 +3,7 @@ use Rattle.std.specs.Prelude.{All}
 use Rattle.mm_frame.specs.Language.Base.{before}
 use Rattle.mm_frame.specs.Language.Frame.{AreSamePairs}
 use Rattle.mm_frame.specs.Language.Framing.{active_pairs}
-use Rattle.mm_frame.specs.Code.CodeSymbols.{kept_pairs, IsPairNumbered}
+use Rattle.mm_frame.specs.Language.NumberedSymbols.{kept_pairs, IsPairNumbered}
 use Rattle.mm_frame.proofs.PairListLemmas.{list_read}
 use Rattle.mm_frame.proofs.base.Base.pairs.Goals as goal
 

@@ -1,10 +1,10 @@
 use Rattle.std.proofs.Common.{◌≡◌, true, length, ◌∷◌, ◌++◌, [], ◌∙◌, ap, sym, subst, arith}
 use Rattle.mm_frame.specs.Language.Base.{fault_by}
-use Rattle.mm_frame.specs.Code.KeptBase.{AreRows, TellsRow, TellsFrame, KeepsFrame}
+use Rattle.mm_frame.specs.Code.KeptBase.{AreRows, TellsRow, TellsFrame, HoldsFrame}
 use Rattle.mm_frame.specs.Code.KeptPairTable.{KnowsPairs}
 use Rattle.mm_frame.specs.Code.KeptTables.{Knows}
-use Rattle.mm_frame.specs.Code.Numbers.{AreNumbersOf}
-use Rattle.mm_frame.specs.Code.CodeSymbols.{AreRead}
+use Rattle.mm_frame.specs.Code.Numbers.{AreNameNumbers}
+use Rattle.mm_frame.specs.Language.NumberedSymbols.{AreSymbolsRead}
 use Rattle.mm_frame.specs.Code.KeptSymbols.{AreSymbols, is_read}
 use Rattle.mm_frame.specs.Language.Framing.{expression}
 use Rattle.mm_frame.specs.Language.Statement.{kind_of}
@@ -27,12 +27,12 @@ returns c all said first d numbers_first numbers =
     let flag = c.is_none-sound.result in
     let framed = c.is_framed-framed.result in
     let are_sound = kept_are_sound said in
-    let told = c.in_ok-fault.ensures before are_sound first.scope (subst (λ w. AreNumbersOf names w item.symbols) (sym c.deref.ensures.value) numbers_first) in
+    let told = c.in_ok-fault.ensures before are_sound first.scope (subst (λ w. AreNameNumbers names w item.symbols) (sym c.deref.ensures.value) numbers_first) in
     let none = none_found found flag c.is_none-sound.ensures in
     let is_sound = λ (t : flag ≡ true). sound_found_none (λ f. (f.word, f.number)) before item found told (none ∙ t) in
     let more = ap (λ b. before ++ taken b item ∷ []) (sym none) ∙ kept_taken (λ f. (f.word, f.number)) said item found told in
     let knows = subst (λ w. Knows all before w) (sym c.tables-tables.ensures) d.scope.knows in
-    let kept_numbers = subst (λ w. AreNumbersOf all w item.symbols) (sym c.deref-2.ensures.value) numbers in
+    let kept_numbers = subst (λ w. AreNameNumbers all w item.symbols) (sym c.deref-2.ensures.value) numbers in
     let symbols = c.in_ok-symbols.symbols in
     let numbered = c.in_ok-symbols.ensures.numbered all kept_numbers in
     let own = λ (t : flag ≡ true) (r : is_read item.kind ≡ true). c.in_ok-symbols.ensures.read all before are_sound knows kept_numbers t (is_sound t) r in
@@ -42,13 +42,13 @@ returns c all said first d numbers_first numbers =
     let frame = c.in_ok-frame.ensures all said item d (λ t. record {
       sound = is_sound (parts t).0;
       assertion = (parts t).1;
-      symbols = subst (AreRead all (expression before item)) (sym c.deref-3.ensures.value) (record { symbols = own (parts t).0 (parts t).2; numbered = numbered });
+      symbols = subst (AreSymbolsRead all (expression before item)) (sym c.deref-3.ensures.value) (record { symbols = own (parts t).0 (parts t).2; numbered = numbered });
     }) in
-    let frame_told = subst (λ b. KeepsFrame all b before item c.in_ok-frame.frame) (framed_told before item flag framed (kind_of c.kind.result) kind c.is_framed-framed.ensures (none_fault (λ f. (f.word, f.number)) before item found told ∙ none)) frame in
-    let holds = c.in_ok-next.ensures all before are_sound d.scope is_sound (subst (λ w. AreNumbersOf all w item.symbols) (sym c.deref-6.ensures.value) numbers) in
+    let frame_told = subst (λ b. HoldsFrame all b before item c.in_ok-frame.frame) (framed_told before item flag framed (kind_of c.kind.result) kind c.is_framed-framed.ensures (none_fault (λ f. (f.word, f.number)) before item found told ∙ none)) frame in
+    let holds = c.in_ok-next.ensures all before are_sound d.scope is_sound (subst (λ w. AreNameNumbers all w item.symbols) (sym c.deref-6.ensures.value) numbers) in
     let number : c.len-number.result ≡ length before = omega (arith, c.len-number.ensures, kept_count said, d.rows.count, c.args.self.now.rows.ok.0) in
     let pairs = c.in_ok-follow_pairs.ensures all before item d.scope.knows.distinct are_sound c.kind-3.ensures.kind number (c.blocks-2.ensures ∙ d.scope.marks)
-    (subst (λ w. AreNumbersOf all w item.symbols) (sym c.deref-4.ensures.value) numbers) is_sound d.pair_table in
+    (subst (λ w. AreNameNumbers all w item.symbols) (sym c.deref-4.ensures.value) numbers) is_sound d.pair_table in
     let this = c.kind-kind.ensures.kind in
     let marks = c.blocks-blocks.ensures ∙ holds.marks in
     let essentials = c.in_ok-follow.ensures is_essential before item essential_sort this (c.is_essential.ensures ∙ ap is_essential this) number marks d.essentials in

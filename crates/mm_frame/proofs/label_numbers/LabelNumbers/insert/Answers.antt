@@ -1,7 +1,7 @@
 use Rattle.std.proofs.Common.{◌≡◌, true, false, refl, ◌∙◌, ap, cond, Some}
 use Rattle.std.specs.Prelude.{nat_eq}
 use Rattle.std.specs.HashMap.{get_by}
-use Rattle.mm_frame.specs.Code.KeptLabels.{is_short}
+use Rattle.mm_frame.specs.Code.KeptLabels.{is_coded}
 use Rattle.mm_frame.proofs.LabelCodes.{inserted, short_put, long_put}
 use Rattle.mm_frame.proofs.label_numbers.LabelNumbers.insert.Goals as goal
 
@@ -10,7 +10,7 @@ returns-in_ok-insert-in-Some c other =
     let label = c.args.label.now in
     let number = c.args.number in
     let old = c.args.self.now in
-    let short : is_short label ≡ true = c.in-Some.ensures.0 in
+    let short : is_coded label ≡ true = c.in-Some.ensures.0 in
     short_put old (record { short = c.insert.new.self; long = old.long }) label other number short refl
     (λ d. c.in_ok-insert-in-Some.ensures.updates.0 d ∙ ap (λ k. cond (nat_eq k d) (Some number) (get_by (nat_eq d) old.short)) c.in-Some.ensures.1)
 
@@ -19,6 +19,6 @@ returns-in_ok-insert-in-None c other =
     let label = c.args.label.now in
     let number = c.args.number in
     let old = c.args.self.now in
-    let long : is_short label ≡ false = c.in-None.ensures in
+    let long : is_coded label ≡ false = c.in-None.ensures in
     long_put old (record { short = old.short; long = c.insert-in-None.new.self }) label other number long refl
     (inserted c.in_ok-key-in-None.key.items label old.long c.insert-in-None.new.self number c.in_ok-key-in-None.ensures.items c.in_ok-insert-in-None.ensures.updates)

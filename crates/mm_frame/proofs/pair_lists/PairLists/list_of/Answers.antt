@@ -3,11 +3,11 @@ use Rattle.std.proofs.lemmas.List.{take_rest}
 use Rattle.std.specs.HashMap.{get}
 use Rattle.mm_frame.specs.Language.Framing.{active_pairs}
 use Rattle.mm_frame.specs.declared.pair_lists.PairLists.{PairLists}
-use Rattle.mm_frame.specs.Code.CodeSymbols.{AreSamePairsRead}
+use Rattle.mm_frame.specs.Language.NumberedSymbols.{AreSamePairsRead}
 use Rattle.mm_frame.specs.Code.KeptPairLists.{KeepsLists, IsList, pairs_among}
 use Rattle.mm_frame.specs.Code.KeptSymbols.{expression_kept}
 use Rattle.mm_frame.proofs.Members.{In, in_right}
-use Rattle.mm_frame.proofs.PairLemmas.{pairs_at}
+use Rattle.mm_frame.proofs.ActivePairLemmas.{pairs_at}
 use Rattle.mm_frame.proofs.PairListLemmas.{made_one_more, whole_front, front_and_own, active_read}
 use Rattle.mm_frame.proofs.pair_lists.PairLists.list_of.Goals as goal
 

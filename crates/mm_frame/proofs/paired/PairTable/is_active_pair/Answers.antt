@@ -1,10 +1,10 @@
 use Rattle.std.proofs.Common.{sym, subst}
-use Rattle.mm_frame.specs.Code.Numbers.{IsName}
+use Rattle.mm_frame.specs.Code.Numbers.{IsNameNumber}
 use Rattle.mm_frame.proofs.PairTableLemmas.{pair_told, pair_turned_told, same_told}
 use Rattle.mm_frame.proofs.paired.PairTable.is_active_pair.Goals as goal
 
 pub returns-then-first-second : goal.returns-then-first-second
-returns-then-first-second c all before x y reads a b = sym (same_told all before c.args.second x y reads.sound (subst (λ n. IsName all n x) c.if-first-second.true a) b)
+returns-then-first-second c all before x y reads a b = sym (same_told all before c.args.second x y reads.sound (subst (λ n. IsNameNumber all n x) c.if-first-second.true a) b)
 
 pub returns-then-row-other : goal.returns-then-row-other
 returns-then-row-other c all before x y reads a b =

@@ -5,7 +5,7 @@ use Rattle.mm_frame.specs.Language.Sound.{AreSound}
 use Rattle.mm_frame.specs.declared.scope.Scope.{Scope}
 use Rattle.mm_frame.specs.declared.tables.Declared.{Declared}
 use Rattle.mm_frame.specs.Code.FaultInOrder.{later_fault}
-use Rattle.mm_frame.specs.Code.Numbers.{IsName}
+use Rattle.mm_frame.specs.Code.Numbers.{IsNameNumber}
 use Rattle.mm_frame.specs.Code.KeptScope.{ScopeHolds}
 use Rattle.mm_frame.specs.Code.KeptTables.{declared_at}
 use Rattle.mm_frame.specs.Code.LastItems.{is_active_last}
@@ -13,7 +13,7 @@ use Rattle.mm_frame.proofs.KnownLemmas.{known_at}
 use Rattle.mm_frame.proofs.FaultLemmas.{may_follow_as, follows_later}
 use Rattle.mm_frame.proofs.scope.Scope.may_follow.Goals as goal
 
-told : (scope : Scope) (n : ℕ) (found given : Option Declared) (all : List (List ℕ)) (before : List Item) (name : List ℕ) → AreSound before → ScopeHolds all before scope → IsName all n name → found ≡ declared_at scope.tables n → found ≡ given
+told : (scope : Scope) (n : ℕ) (found given : Option Declared) (all : List (List ℕ)) (before : List Item) (name : List ℕ) → AreSound before → ScopeHolds all before scope → IsNameNumber all n name → found ≡ declared_at scope.tables n → found ≡ given
     → may_follow_as before given ≡ is_none (later_fault before name)
 told scope n found given all before name h k t is e = ap (may_follow_as before) (sym e ∙ is ∙ known_at all before scope.tables n name k.knows t) ∙ follows_later before h name
 

@@ -2,9 +2,9 @@ use Rattle.std.proofs.Common.{map}
 use Rattle.std.specs.Prelude.{Contains}
 use Rattle.mm_frame.specs.Language.Frame.{Symbol}
 use Rattle.mm_proof.specs.Code.PairClause.{Apart}
-use Rattle.mm_proof.specs.Code.Citation.{pairs_of}
-use Rattle.mm_proof.proofs.PairLemmas.{EachUpTo}
+use Rattle.mm_proof.specs.Code.Citation.{meant_pairs}
+use Rattle.mm_proof.proofs.ApartLemmas.{EachUpTo}
 use Rattle.mm_proof.proofs.active.Active.are_apart.Given as goal
 
 abbrev pub invariant-loop-i : goal.invariant-loop-i
-invariant-loop-i g l = EachUpTo (λ x. (y : Symbol) → Contains (map g.S.Symbol.means l.ys) y → Apart (pairs_of g.S.Symbol.means l.self.pairs.now) x y) (map g.S.Symbol.means l.xs) l.i
+invariant-loop-i g l = EachUpTo (λ x. (y : Symbol) → Contains (map g.S.Symbol.means l.ys) y → Apart (meant_pairs g.S.Symbol.means l.self.pairs.now) x y) (map g.S.Symbol.means l.xs) l.i

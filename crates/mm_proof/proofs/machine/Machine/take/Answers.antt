@@ -5,8 +5,8 @@ use Rattle.mm_proof.specs.Language.Substitution.{substituted}
 use Rattle.mm_proof.specs.declared.pattern.Entry.{Entry}
 use Rattle.mm_proof.specs.Code.Flat.{read, read_all}
 use Rattle.mm_proof.specs.Code.Citation.{frame_from, mandatory_of}
-use Rattle.mm_proof.specs.Code.Citation.{pairs_of}
-use Rattle.mm_proof.proofs.CitingLemmas.{gives_all, hypotheses_known}
+use Rattle.mm_proof.specs.Code.Citation.{meant_pairs}
+use Rattle.mm_proof.proofs.EntryFaults.{gives_all, hypotheses_known}
 use Rattle.mm_proof.proofs.CitingFaults.{cited_by}
 use Rattle.mm_proof.proofs.StackLemmas.{entries_taken, slice_taken}
 use Rattle.mm_proof.proofs.machine.Machine.take.Goals as goal
@@ -40,7 +40,7 @@ returns-clause-cites g c =
     let entries : List Entry = take (length c.deref-2.result.now - below) (drop below c.deref-2.result.now) in
     let taken = slice_taken c.deref.result.now symbols m c.deref-2.result.now es below c.deref.ensures.value c.deref-2.ensures.value in
     let says = rw c.in_default.is at c.in_ok-number.ensures in
-    let active = pairs_of m c.args.active.now.pairs.now in
+    let active = meant_pairs m c.args.active.now.pairs.now in
     let here : length stack - length frame.hypotheses ≡ below = omega (arith, length-map es (read (map m symbols)), length-map hs (mandatory_of m), k, c.len-2.ensures) in
     let result = map m c.substitute.new.to.items in
     let whole = cited_by active frame stack (read_all (map m c.deref.result.now) entries) c.requires.frame

@@ -2,7 +2,7 @@ use Rattle.std.proofs.Common.{◌≡◌, ◌+◌, List, [], ◌∷◌, sym, subs
 use Rattle.std.proofs.lemmas.List.{map-append}
 use Rattle.mm_proof.specs.Language.BaseMarks.{ItemMark}
 use Rattle.mm_proof.specs.declared.marks.Mark as code
-use Rattle.mm_proof.specs.Code.KeptMarks.{AreMarked, kept_mark, kept_marks}
+use Rattle.mm_proof.specs.Code.KeptMarks.{AreItemMarks, kept_mark, kept_marks}
 use Rattle.mm_proof.proofs.KeptMarkLemmas.{marked_more, all_marked}
 use Rattle.mm_proof.proofs.marks.Marks.build.Goals as goal
 
@@ -14,8 +14,8 @@ loop-j-preserved c = record {
       let old = c.loop-j.marks.items in
       let mark = c.mark_of-compared.result.0 in
       let more = marked_more base copy j (kept_marks old) (kept_mark mark) (c.loop-j.invariant.marks base copy f g) (c.mark_of-compared.ensures.mark base copy f g) in
-      let joined = subst (λ (ms : List ItemMark). AreMarked base copy (j + 1) ms) (sym (map-append kept_mark old (mark ∷ []))) more in
-      subst (λ (ms : List code.Mark). AreMarked base copy (j + 1) (kept_marks ms)) (sym c.in_ok-push.ensures.items) joined);
+      let joined = subst (λ (ms : List ItemMark). AreItemMarks base copy (j + 1) ms) (sym (map-append kept_mark old (mark ∷ []))) more in
+      subst (λ (ms : List code.Mark). AreItemMarks base copy (j + 1) (kept_marks ms)) (sym c.in_ok-push.ensures.items) joined);
 }
 
 pub returns : goal.returns

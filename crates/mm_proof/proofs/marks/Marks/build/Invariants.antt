@@ -1,8 +1,8 @@
-use Rattle.mm_proof.specs.Code.KeptMarks.{OfBasesBy, IsCompared, AreMarked, kept_marks}
+use Rattle.mm_proof.specs.Code.KeptMarks.{OfBasesBy, IsCompared, AreItemMarks, kept_marks}
 use Rattle.mm_proof.proofs.marks.Marks.build.Given as goal
 
 abbrev pub invariant-loop-j : goal.invariant-loop-j
 invariant-loop-j l = record {
   last : IsCompared l.old l.new l.last;
-  marks : OfBasesBy l.names l.old l.new (λ base copy. AreMarked base copy l.j (kept_marks l.marks.items));
+  marks : OfBasesBy l.names l.old l.new (λ base copy. AreItemMarks base copy l.j (kept_marks l.marks.items));
 }

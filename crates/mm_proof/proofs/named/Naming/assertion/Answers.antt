@@ -8,7 +8,7 @@ use Rattle.mm_frame.specs.Language.Typing.{IsFrame}
 use Rattle.mm_frame.specs.declared.symbol.NumberedSymbol.{NumberedSymbol}
 use Rattle.mm_proof.specs.declared.assertion.Cited.{Cited}
 use Rattle.mm_proof.specs.Code.Citation.{frame_of}
-use Rattle.mm_frame.specs.Code.CodeSymbols.{by_number}
+use Rattle.mm_frame.specs.Language.NumberedSymbols.{by_number}
 use Rattle.mm_proof.specs.Code.NumberedBase.{numbered_frame}
 use Rattle.mm_proof.proofs.FrameLemmas.{frame_moved}
 use Rattle.mm_proof.proofs.RenamedFrames.{frame_by_number}

@@ -1,5 +1,5 @@
 use Rattle.std.proofs.Common.{◌≡◌, ◌++◌, map, take}
-use Rattle.mm_frame.specs.Code.CodeSymbols.{named_symbol}
+use Rattle.mm_frame.specs.Language.NumberedSymbols.{named_symbol}
 use Rattle.mm_proof.proofs.symbol.NamedSymbolKept.append.Given as goal
 
 abbrev pub invariant-loop-symbol : goal.invariant-loop-symbol

@@ -5,9 +5,7 @@ use Rattle.std.specs.List.{remove}
 use Rattle.std.specs.Option.{option_copied_mut}
 use Rattle.std.specs.FinMap as finite
 use Rattle.std.proofs.lemmas.List.{length-map}
-use Rattle.mm_store.specs.declared.state.State.TheVariants.{Parked}
-use Rattle.mm_store.specs.declared.state.EditKind.TheVariants.{Deleted}
-use Rattle.mm_store.specs.declared.undo.Action.TheVariants as action
+use Rattle.mm_store.specs.Language.Undoing as action
 use Rattle.mm_store.proofs.EntryLemmas.{texts_of, keys_at, room_at}
 use Rattle.mm_store.proofs.ListLemmas.{in_files, text_within}
 use Rattle.mm_store.proofs.KeptLemmas.{view_after, kept_after}
@@ -17,14 +15,13 @@ use Rattle.mm_store.proofs.files.Files.delete_piece.Goals as goal
 use Rattle.mm_store.specs.Code.Edited.{deleted, IsDeleted}
 use Rattle.mm_store.specs.Code.Kept.{file_of, places, standing_count}
 use Rattle.mm_store.specs.Language.FilesView.{FilesView, KeyedFile, plain, plain_file, bytes_of}
-use Rattle.mm_store.specs.Language.Pieces.{with_state, text_under}
 use Rattle.mm_store.proofs.ChangeLemmas.{starts_here, small_after, starts_after}
 use Rattle.mm_store.proofs.StepLemmas.{texts_all}
 use Rattle.mm_store.proofs.PieceLemmas.{text_state}
 use Rattle.std.proofs.Common.{ℕ, ◌≤◌, ◌<◌, refl, sym, List, length, map, get_or, subst}
 use Rattle.std.specs.List.{concat, remove}
 use Rattle.mm_store.specs.Code.Edited.{pieces_in}
-use Rattle.mm_store.specs.Language.Pieces.{text_under}
+use Rattle.mm_store.specs.Language.Pieces.{Parked, Deleted, with_state, text_under}
 use Rattle.mm_store.specs.Language.Undoing.{keys_in, key_at}
 
 pub unwrap-file-requires : goal.unwrap-file-requires

@@ -2,7 +2,6 @@ use Rattle.std.proofs.Common.{◌≡◌, List, Some, length, map, sym, ap, ◌�
 use Rattle.std.specs.Prelude.{slice_get, vec_len, vec_capacity}
 use Rattle.std.specs.Option.{option_copied_mut}
 use Rattle.std.specs.FinMap as finite
-use Rattle.mm_store.specs.declared.state.EditKind.TheVariants.{Deleted}
 use Rattle.mm_store.proofs.EntryLemmas.{texts_of, keys_at, room_at}
 use Rattle.mm_store.proofs.ListLemmas.{plain_same, with_same}
 use Rattle.mm_store.proofs.KeptLemmas.{below_bound, view_after, kept_after}
@@ -11,7 +10,7 @@ use Rattle.mm_store.proofs.StepLemmas as lemmas
 use Rattle.mm_store.proofs.files.Files.drop_deleted.Goals as goal
 use Rattle.mm_store.specs.Code.Kept.{file_of, places, deletions}
 use Rattle.mm_store.specs.Language.FilesView.{FilesView, KeyedFile, plain_file, bytes_of}
-use Rattle.mm_store.specs.Language.Pieces.{IsParked}
+use Rattle.mm_store.specs.Language.Pieces.{Deleted, IsParked}
 use Rattle.std.specs.Prelude.{Vec}
 use Rattle.mm_store.specs.declared.start.Start.{Start}
 use Rattle.std.specs.Global.{Global}

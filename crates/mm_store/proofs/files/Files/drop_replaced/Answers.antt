@@ -1,13 +1,12 @@
 use Rattle.std.proofs.Common.{◌≡◌, List, map, refl, sym, ap, ◌∙◌, subst}
 use Rattle.std.specs.FinMap as finite
-use Rattle.mm_store.specs.declared.state.EditKind.TheVariants.{Replaced}
 use Rattle.mm_store.proofs.EntryLemmas.{same_view}
 use Rattle.mm_store.proofs.KeptLemmas.{settled_kept}
 use Rattle.mm_store.proofs.files.Files.drop_replaced.Goals as goal
 use Rattle.mm_store.specs.Code.Kept.{file_of}
 use Rattle.mm_store.specs.Language.FilesView.{FilesView, KeyedFile}
 use Rattle.std.proofs.Common.{refl}
-use Rattle.mm_store.specs.Language.Pieces.{IsParked}
+use Rattle.mm_store.specs.Language.Pieces.{Replaced, IsParked}
 
 pub invariant_of-self : goal.invariant_of-self
 invariant_of-self c =

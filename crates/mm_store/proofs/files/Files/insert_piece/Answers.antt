@@ -10,7 +10,7 @@ use Rattle.std.specs.Result.{OnErr}
 use Rattle.std.proofs.Common.{Result, Ok, Err}
 use Rattle.std.proofs.lemmas.Option.{same_Some}
 use Rattle.mm_store.specs.declared.files.Files.TheInside.{Inside}
-use Rattle.mm_store.specs.declared.undo.Action.TheVariants as action
+use Rattle.mm_store.specs.Language.Undoing as action
 use Rattle.mm_store.proofs.EntryLemmas.{texts_of, keys_at, room_at}
 use Rattle.mm_store.proofs.KeptLemmas.{file_in, length_set, reserved_view, reserved_kept, texts_set, view_after, kept_after}
 use Rattle.mm_store.proofs.UndoLemmas.{is_inserted}
@@ -19,17 +19,15 @@ use Rattle.mm_store.proofs.files.Files.insert_piece.Goals as goal
 use Rattle.mm_store.specs.Code.Edited.{pieces_in, with_pieces, inserted, IsInserted}
 use Rattle.mm_store.specs.Code.Kept.{view_of, file_of, places, standing_count, IsKept}
 use Rattle.mm_store.specs.Language.FilesView.{FilesView, KeyedFile, plain, plain_file, bytes_of}
-use Rattle.mm_store.specs.Language.Pieces.{standing_piece}
 use Rattle.std.proofs.Common.{◌≡◌, ℕ, ◌≤◌, ◌<◌, ◌+◌, refl, sym, List, length, map, subst}
 use Rattle.std.specs.List.{concat, insert}
 use Rattle.mm_store.specs.Code.Room.{HasRoom, HasRoomForOne}
 use Rattle.mm_store.specs.Code.Edited.{pieces_in}
-use Rattle.mm_store.specs.Language.Pieces.{text_under}
+use Rattle.mm_store.specs.Language.Pieces.{standing_piece, text_under}
 use Rattle.mm_store.specs.Code.Lines.{AreStarts}
 use Rattle.mm_store.proofs.ChangeLemmas.{starts_here, small_after, starts_after}
 use Rattle.mm_store.proofs.StepLemmas.{texts_all}
-use Rattle.mm_store.specs.Language.Undoing.{with_keys}
-use Rattle.mm_store.specs.Language.Undoing.{keys_in}
+use Rattle.mm_store.specs.Language.Undoing.{with_keys, keys_in}
 
 on_err : {T E : Type 0} (r : Result T E) (P : Type 0) → P → OnErr r P
 on_err (Ok x) P p = tt

@@ -4,7 +4,7 @@ use Rattle.std.specs.Global.{Global}
 use Rattle.std.specs.Option.{option_copied_mut}
 use Rattle.std.specs.FinMap as finite
 use Rattle.std.proofs.lemmas.List.{length-map}
-use Rattle.mm_store.specs.declared.undo.Action.TheVariants as action
+use Rattle.mm_store.specs.Language.Undoing as action
 use Rattle.mm_store.proofs.EntryLemmas.{texts_of, keys_at, room_at}
 use Rattle.mm_store.proofs.ListLemmas.{in_files}
 use Rattle.mm_store.proofs.KeptLemmas.{view_after, kept_after}

@@ -5,9 +5,7 @@ use Rattle.std.specs.Prelude.{slice_get}
 use Rattle.std.specs.Option.{option_copied_mut}
 use Rattle.std.specs.FinMap as finite
 use Rattle.indexmap.specs.IndexMap.{set_value_at}
-use Rattle.mm_store.specs.declared.state.State.TheVariants.{Parked}
-use Rattle.mm_store.specs.declared.state.EditKind.TheVariants.{Replaced}
-use Rattle.mm_store.specs.declared.undo.Action.TheVariants as action
+use Rattle.mm_store.specs.Language.Undoing as action
 use Rattle.mm_store.proofs.EntryLemmas.{texts_of, keys_at, view_set, room_at}
 use Rattle.mm_store.proofs.ListLemmas.{in_files, text_within}
 use Rattle.mm_store.proofs.UndoLemmas.{is_replaced}
@@ -17,11 +15,10 @@ use Rattle.mm_store.proofs.files.Files.replace_piece.Goals as goal
 use Rattle.mm_store.specs.Code.Edited.{pieces_in, with_pieces, replaced, IsReplaced}
 use Rattle.mm_store.specs.Code.Kept.{file_of, places, standing_count}
 use Rattle.mm_store.specs.Language.FilesView.{FilesView, KeyedFile, plain, plain_file, bytes_of}
-use Rattle.mm_store.specs.Language.Pieces.{standing_piece, with_state, text_under}
 use Rattle.std.proofs.Common.{◌≡◌, ℕ, ◌≤◌, ◌<◌, ◌+◌, ◌-◌, sym, List, length, map, get_or, set, subst}
 use Rattle.std.specs.List.{concat}
 use Rattle.mm_store.specs.Code.Edited.{pieces_in}
-use Rattle.mm_store.specs.Language.Pieces.{text_under}
+use Rattle.mm_store.specs.Language.Pieces.{Parked, Replaced, standing_piece, with_state, text_under}
 use Rattle.mm_store.specs.Code.Lines.{AreStarts}
 use Rattle.mm_store.proofs.ChangeLemmas.{starts_here, small_after, starts_after}
 use Rattle.mm_store.proofs.KeptLemmas.{kept_after}

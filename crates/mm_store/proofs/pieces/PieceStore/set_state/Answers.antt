@@ -5,6 +5,7 @@ use Rattle.slab.specs.Slab.{get, with_value}
 use Rattle.slab.proofs.SlabLemmas.{Updates-with_value}
 use Rattle.mm_store.specs.declared.pieces.Piece.{Piece}
 use Rattle.mm_store.specs.Language.Pieces.{with_state, parked_pieces}
+use Rattle.mm_store.specs.Code.States.{piece_state}
 use Rattle.mm_store.specs.Code.Slots.{pieces_of, held}
 use Rattle.mm_store.proofs.SlabLemmas.{get_is, state_is, text_is}
 use Rattle.mm_store.proofs.StoreLemmas.{kept_put, parked_changed, parked_dropped, others_parked, slot_there, parked_there}
@@ -42,9 +43,9 @@ invariant_of-self-in-Some c =
     let some : is_some (get slab c.args.key) ≡ true = ap is_some there in
     let new = with_value slab c.args.key after in
     let is = get_is slab c.args.key ∙ ap (option_map held) there in
-    let changed = parked_changed (pieces_of slab) c.args.key (held piece) c.args.state is in
+    let changed = parked_changed (pieces_of slab) c.args.key (held piece) (piece_state c.args.state) is in
     let dropped = parked_dropped (pieces_of slab) c.args.key (held piece) is in
-    let now : parked_pieces (pieces_of new) ≡ parked_pieces (with_state (pieces_of slab) c.args.key c.args.state) = ap parked_pieces (state_is slab c.args.key piece c.args.state there) in
+    let now : parked_pieces (pieces_of new) ≡ parked_pieces (with_state (pieces_of slab) c.args.key (piece_state c.args.state)) = ap parked_pieces (state_is slab c.args.key piece c.args.state there) in
     let under = parked_there slab c.args.key (pieces_of slab) piece refl there in
     record {
       kept = kept_put slab new c.args.key after (Updates-with_value slab c.args.key after some) (c.self.invariant.kept c.args.key piece there) c.self.invariant.kept;
@@ -63,7 +64,7 @@ returns-in-None-clause-len c =
 
 pub returns-in-Some-clause-pieces : goal.returns-in-Some-clause-pieces
 returns-in-Some-clause-pieces c =
-    state_is c.self.inside.slab c.args.key c.in-Some.piece.now c.args.state (sym c.in-Some.ensures.value) ∙ ap (λ m. with_state m c.args.key c.args.state) c.self.view_is
+    state_is c.self.inside.slab c.args.key c.in-Some.piece.now c.args.state (sym c.in-Some.ensures.value) ∙ ap (λ m. with_state m c.args.key (piece_state c.args.state)) c.self.view_is
 
 pub returns-in-Some-clause-len : goal.returns-in-Some-clause-len
 returns-in-Some-clause-len c =

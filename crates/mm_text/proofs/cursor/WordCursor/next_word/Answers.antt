@@ -1,6 +1,6 @@
 use Rattle.std.proofs.Common.{◌≡◌, [], ◌∷◌, sym, ◌∙◌, ap, subst}
 use Rattle.mm_text.specs.Code.Cursor.{words_from, AreLast}
-use Rattle.mm_text.specs.Code.WordsLeft.{WordsLeft}
+use Rattle.mm_text.specs.Language.WordsLeft.{WordsLeft}
 use Rattle.mm_text.proofs.CursorLemmas.{one_taken, none_left, no_fault}
 use Rattle.mm_text.proofs.ReaderLemmas.{fails_read}
 use Rattle.mm_text.proofs.ReadingLemmas.{read_words}

@@ -1,0 +1,57 @@
+-- Which symbols, expressions and pairs those are that are told by numbers of names, where the numbers are read by a list of all names.
+use Rattle.std.specs.Prelude.{◌≡◌, ℕ, ◌<◌, true, List, [], ◌∷◌, All, length, map}
+use Rattle.mm_frame.specs.declared.symbol.NamedSymbol.{NamedSymbol}
+use Rattle.mm_frame.specs.declared.symbol.NumberedSymbol.{NumberedSymbol}
+use Rattle.mm_frame.specs.Language.Frame.{Symbol, AreSamePairs}
+use Rattle.mm_frame.specs.Language.Names.{name_at}
+
+-- what symbol it is, with its name in it
+abbrev pub named_symbol : NamedSymbol → Symbol
+named_symbol kept = record { name = kept.name.items; variable = kept.variable }
+
+-- the symbol whose name is its number
+abbrev pub by_number : NumberedSymbol → Symbol
+by_number kept = record { name = kept.name ∷ []; variable = kept.variable }
+
+-- what symbol it is
+abbrev pub symbol_of : List (List ℕ) → NumberedSymbol → Symbol
+symbol_of all kept = record { name = name_at all kept.name; variable = kept.variable }
+
+-- what expression they are
+abbrev pub symbols_of : List (List ℕ) → List NumberedSymbol → List Symbol
+symbols_of all kept = map (symbol_of all) kept
+
+-- a name as a variable
+abbrev pub as_variable : List ℕ → Symbol
+as_variable name = record { name = name; variable = true }
+
+-- what pair of symbols it is
+abbrev pub pair_of : List (List ℕ) → NumberedSymbol × NumberedSymbol → Symbol × Symbol
+pair_of all kept = (symbol_of all kept.0, symbol_of all kept.1)
+
+-- what pairs they are
+abbrev pub kept_pairs : List (List ℕ) → List (NumberedSymbol × NumberedSymbol) → List (Symbol × Symbol)
+kept_pairs all kept = map (pair_of all) kept
+
+-- the number of its name is that of a name
+abbrev pub IsNumbered : List (List ℕ) → NumberedSymbol → Type 0
+IsNumbered all kept = kept.name < length all
+
+-- so are those of both
+abbrev pub IsPairNumbered : List (List ℕ) → NumberedSymbol × NumberedSymbol → Type 0
+IsPairNumbered all kept = IsNumbered all kept.0 × IsNumbered all kept.1
+
+-- the symbols that are kept are read as these
+pub record AreSymbolsRead (all : List (List ℕ)) (said : List Symbol) (kept : List NumberedSymbol) : Type 0 where
+  pub symbols : symbols_of all kept ≡ said
+  pub numbered : All (IsNumbered all) kept
+
+-- the pairs that are kept are read as these
+pub record ArePairsRead (all : List (List ℕ)) (said : List (Symbol × Symbol)) (kept : List (NumberedSymbol × NumberedSymbol)) : Type 0 where
+  pub pairs : kept_pairs all kept ≡ said
+  pub numbered : All (IsPairNumbered all) kept
+
+-- the pairs that are kept are the same as these, in whatever order
+pub record AreSamePairsRead (all : List (List ℕ)) (said : List (Symbol × Symbol)) (kept : List (NumberedSymbol × NumberedSymbol)) : Type 0 where
+  pub pairs : AreSamePairs (kept_pairs all kept) said
+  pub numbered : All (IsPairNumbered all) kept

@@ -1,0 +1,2 @@
+-- What the code keeps: private contracts and loop invariants cite it.
+pub mod Loaded
