@@ -10,7 +10,7 @@ use Rattle.mm_frame.specs.declared.FrameNumber.TheVariants.{F03, F09}
 use Rattle.mm_frame.specs.Language.Sound.{each, is_no_variable, is_repeated, IsSound, AreSound}
 use Rattle.mm_frame.specs.Language.Framing.{symbol, expression, pairs_of, active_pairs}
 use Rattle.mm_frame.specs.Code.LastItems.{is_active_at, is_disjoint_item}
-use Rattle.mm_frame.specs.Code.PairOrder.{are_paired}
+use Rattle.mm_frame.specs.Language.Answering.{are_paired}
 use Rattle.mm_frame.proofs.Members.{In, in_left, in_right, in_cases, in_map, from_map, in_flat, from_flat, in_get, has_in, in_has}
 use Rattle.mm_frame.proofs.ActiveBySplit.{active_split, split_active}
 use Rattle.mm_frame.proofs.Facts.{and_both, not_not, no_symbol_of}

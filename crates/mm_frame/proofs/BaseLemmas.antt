@@ -22,10 +22,10 @@ use Rattle.mm_frame.specs.Code.KeptSymbols.{expression_kept, kept_or_none, is_re
 use Rattle.mm_frame.specs.Code.LastItems.{IsSort}
 use Rattle.mm_frame.specs.Code.KeptScope.{taken}
 use Rattle.mm_frame.specs.Language.Base.{BaseView, before, said_at, fault_by, told_fault, is_sound_at, expression_at, is_framed_at, frame_at}
-use Rattle.mm_frame.specs.Code.KeptBase.{told_numbers, numbers_if}
-use Rattle.mm_frame.specs.Code.KeptBase.{AreRows, TellsFrame, is_told_proof}
+use Rattle.mm_frame.specs.Language.Answering.{told_numbers, numbers_if}
+use Rattle.mm_frame.specs.Language.Answering.{AreRows, is_told_proof}
 use Rattle.mm_frame.specs.Language.Frame.{AreSamePairs}
-use Rattle.mm_frame.specs.Code.PairOrder.{pairs_in_order}
+use Rattle.mm_frame.specs.Language.Answering.{pairs_in_order}
 use Rattle.mm_frame.specs.declared.draft.Frame.{Frame}
 use Rattle.mm_frame.proofs.FramePairs.{same_pairs}
 use Rattle.mm_frame.proofs.FoundFaults.{no_fault_sound, sound_found, passed_sound, kept_is_sound, kept_next, kept_after_append}
@@ -286,7 +286,7 @@ pub frame_numbers : (lent : Option (Bor Frame)) (kept_frame : Option Frame) → 
 frame_numbers None kept_frame e = ap (option_map (λ (frame : Frame). frame.hypotheses.items)) e
 frame_numbers (Some frame) kept_frame e = ap (option_map (λ (frame : Frame). frame.hypotheses.items)) e
 
-framed_from : (framed : Bool) (before : List Item) (item : Item) (numbers : List ℕ) → Some numbers ≡ numbers_if framed before item → framed ≡ true
+pub framed_from : (framed : Bool) (before : List Item) (item : Item) (numbers : List ℕ) → Some numbers ≡ numbers_if framed before item → framed ≡ true
 framed_from true before item numbers e = refl
 framed_from false before item numbers e = cc
 
@@ -297,13 +297,6 @@ framed_in_order base i t =
     let parts = and_parts (is_sound_at base i) (is_assertion item.kind) t in
     let sound = no_fault_sound (before base i) item (none_told item.kind (fault (before base i) item) parts.0) in
     same_pairs (before base i) item (kept_are_sound (take i base.said)) sound parts.1
-
-pub frame_order : (all : List (List ℕ)) (base : BaseView) (i : ℕ) (lent : Option (Bor Frame)) (kept_frame : Option Frame) → option_map (λ frame. frame.now) lent ≡ kept_frame → TellsFrame all (before base i) (said_at base i) kept_frame
-    → IfSome lent (λ frame. ArePairsRead all (pairs_in_order (frame_at base i)) frame.now.pairs.items)
-frame_order all base i None kept_frame e t = tt
-frame_order all base i (Some frame) kept_frame e t =
-    let framed = framed_from (is_framed_at base i) (before base i) (said_at base i) frame.now.hypotheses.items (ap (option_map (λ (f : Frame). f.hypotheses.items)) e ∙ t.hypotheses) in
-    t.pairs framed frame.now (sym e)
 
 -- pairs in this order are those of the frame of an assertion
 pub ordered_pairs : {X : Type 0} (all : List (List ℕ)) (kept : X → List (NumberedSymbol × NumberedSymbol)) (base : BaseView) (i : ℕ) (found : Option X) → is_some found ≡ is_framed_at base i

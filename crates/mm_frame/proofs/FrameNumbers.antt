@@ -15,7 +15,8 @@ use Rattle.mm_frame.specs.Language.Sound.{fault, judged, sound_items}
 use Rattle.mm_frame.specs.Language.Framing.{is_mandatory, mandatory_variables, expression, hypothesis, mandatory_numbers}
 use Rattle.mm_frame.specs.Language.Statement.{kind_of, Says}
 use Rattle.mm_frame.specs.Language.Base.{BaseView, before, said_at, fault_by, hypothesis_at, is_sound_at, is_shown_at, is_framed_at, IsMandatoryAt, AreHypotheses}
-use Rattle.mm_frame.specs.Code.KeptBase.{is_float_item, numbers_if, hypotheses_at}
+use Rattle.mm_frame.specs.Code.KeptBase.{is_float_item, hypotheses_at}
+use Rattle.mm_frame.specs.Language.Answering.{numbers_if}
 use Rattle.mm_frame.proofs.Members.{In, in_contains, contains_in}
 use Rattle.mm_frame.proofs.Frames.{in_at}
 use Rattle.mm_frame.proofs.SoundItems.{map_same}

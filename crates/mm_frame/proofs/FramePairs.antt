@@ -20,7 +20,8 @@ use Rattle.mm_frame.specs.Code.LastItems.{is_active_at, is_essential_item}
 use Rattle.mm_frame.specs.Language.NumberedSymbols.{symbol_of, symbols_of, pair_of, IsNumbered, IsPairNumbered, ArePairsRead}
 use Rattle.mm_frame.specs.Code.KeptSymbols.{expression_kept, AreExpressions, AreNumbered}
 use Rattle.mm_frame.specs.Code.KeptPairTable.{row_at, ReadsPairs}
-use Rattle.mm_frame.specs.Code.PairOrder.{are_paired, typed_variables, pairs_in_order, is_among, float_variable, float_variables}
+use Rattle.mm_frame.specs.Code.PairOrder.{is_among, float_variable, float_variables}
+use Rattle.mm_frame.specs.Language.Answering.{are_paired, typed_variables, pairs_in_order}
 use Rattle.mm_frame.proofs.Members.{In, in_contains, contains_in, from_map, in_filter, from_filter, in_flat, from_flat}
 use Rattle.mm_frame.proofs.Facts.{and_both, float_two}
 use Rattle.mm_frame.proofs.Frames.{in_at, float_of, float_name, float_labelled, from_pairs, pairs_typed_at, assertion_expression}

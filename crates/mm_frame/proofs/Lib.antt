@@ -35,5 +35,6 @@ pub mod OwnLabels
 pub mod OneBase
 pub mod PieceLemmas
 pub mod SharedPairs
+pub mod AnswerLemmas
 pub mod SaidLabels
 pub mod LabelCodes

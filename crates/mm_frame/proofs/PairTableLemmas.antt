@@ -16,7 +16,8 @@ use Rattle.mm_frame.specs.Language.NumberedSymbols.{as_variable}
 use Rattle.mm_frame.specs.Code.KeptActive.{IsPruned}
 use Rattle.mm_frame.specs.Code.LastItems.{IsRising, is_active_at}
 use Rattle.mm_frame.specs.Code.Numbers.{IsNameNumber, AreNameNumbers}
-use Rattle.mm_frame.specs.Code.PairOrder.{are_paired, is_among}
+use Rattle.mm_frame.specs.Code.PairOrder.{is_among}
+use Rattle.mm_frame.specs.Language.Answering.{are_paired}
 use Rattle.mm_frame.specs.Code.KeptScope.{taken}
 use Rattle.mm_frame.specs.Code.KeptPairTable.{row_at, Puts, PutsAll, AreOnce, IsDisjointAt, IsRow, KnowsPairs, IsCommon, ReadsPairs}
 use Rattle.mm_frame.proofs.Members.{In, in_contains, contains_in, in_left, in_right, in_cases, in_map, from_map, in_get, get_in, has_in, in_has}

@@ -6,7 +6,7 @@ use Rattle.mm_frame.specs.Language.Frame.{Symbol, Mandatory, Frame, ArePair, Are
 use Rattle.mm_frame.specs.Language.Item.{Kind, Axiom, Theorem, is_assertion, is_labelled}
 use Rattle.mm_frame.specs.Language.Base.{BaseView, said_at, is_sound_at, is_shown_at, is_framed_at, hypothesis_at, frame_at, AreHypotheses}
 use Rattle.mm_frame.specs.Language.Framing.{pairs_of}
-use Rattle.mm_frame.specs.Code.PairOrder.{are_paired, typed_variables, pairs_in_order}
+use Rattle.mm_frame.specs.Language.Answering.{are_paired, typed_variables, pairs_in_order}
 use Rattle.mm_frame.proofs.Members.{in_contains, contains_in}
 use Rattle.mm_frame.proofs.SoundItems.{filter_same}
 use Rattle.mm_frame.proofs.TableLemmas.{any_in, in_any}

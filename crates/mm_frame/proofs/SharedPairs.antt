@@ -1,22 +1,13 @@
 -- Lists of pairs that are shared, and lists that are compared as sets of unordered pairs.
-use Rattle.std.proofs.Common.{◌≡◌, ◌<◌, ◌+◌, ℕ, suc, true, Option, Some, None, List, [], ◌∷◌, ◌++◌, length, take, get_or, nat_eq, refl, sym, ◌∙◌, ap, subst, take-suc, arith, inl, inr}
+use Rattle.std.proofs.Common.{◌≡◌, ◌<◌, ◌+◌, ℕ, suc, List, [], ◌∷◌, ◌++◌, length, take, get_or, sym, ◌∙◌, ap, subst, take-suc, arith, inl, inr}
 use Rattle.std.specs.Prelude.{Contains, All, ◌↔◌, ◌⊎◌}
-use Rattle.std.specs.Option.{option_eq}
-use Rattle.std.proofs.lemmas.Bool.{false≢true}
-use Rattle.std.proofs.lemmas.Bool.Decides.{Decides-eqb}
 use Rattle.std.proofs.lemmas.Option.{slice_get-get_or}
 use Rattle.std.proofs.lemmas.List.Elements.{All-contains, Contains-append_cases}
 use Rattle.mm_frame.specs.declared.symbol.NumberedSymbol.{NumberedSymbol}
-use Rattle.mm_frame.specs.declared.pair_lists.PairLists.{PairLists}
 use Rattle.mm_frame.specs.Language.Frame.{Symbol, ArePair, AreSamePairs}
-use Rattle.mm_frame.specs.Language.Framing.{active_pairs}
 use Rattle.mm_frame.specs.Language.Names.{AreDistinct}
-use Rattle.mm_frame.specs.Language.Base.{BaseView, before, said_at, is_proof_at}
 use Rattle.mm_frame.specs.Language.NumberedSymbols.{pair_of, kept_pairs, IsPairNumbered}
-use Rattle.mm_frame.specs.Code.KeptPairLists.{list_kept}
-use Rattle.mm_frame.specs.Code.KeptBase.{TellsPairs}
 use Rattle.mm_frame.proofs.Members.{in_contains, contains_in, contains_cases, get_in, in_map, from_map}
-use Rattle.mm_frame.proofs.PairListLemmas.{list_read}
 use Rattle.mm_frame.proofs.SameLemmas.{pair_from_reading}
 
 -- ---- the same unordered pairs
@@ -26,19 +17,6 @@ same_turned pairs others s x y = ((s x y).1, (s x y).0)
 
 pub same_joined : (a b c : List (Symbol × Symbol)) → AreSamePairs a b → AreSamePairs b c → AreSamePairs a c
 same_joined a b c s t x y = (λ p. (t x y).0 ((s x y).0 p), λ p. (s x y).1 ((t x y).1 p))
-
--- ---- a list that two `$p` share
-
-pub shared_pairs : (all : List (List ℕ)) (lists : PairLists) (base : BaseView) (i j : ℕ) (mine yours : Option ℕ) → TellsPairs all lists (before base i) (said_at base i) mine → TellsPairs all lists (before base j) (said_at base j) yours
-    → is_proof_at base i ≡ true → option_eq nat_eq mine yours ≡ true → AreSamePairs (active_pairs (before base i)) (active_pairs (before base j))
-shared_pairs all lists base i j None yours a b s e = absurd (false≢true (a.some ∙ s))
-shared_pairs all lists base i j (Some k) None a b s e = absurd (false≢true e)
-shared_pairs all lists base i j (Some k) (Some l) a b s e =
-    let same : k ≡ l = (Decides-eqb k l).0 e in
-    let one = list_read all lists k (active_pairs (before base i)) (a.list k refl) in
-    let other = list_read all lists l (active_pairs (before base j)) (b.list l refl) in
-    same_joined (active_pairs (before base i)) (kept_pairs all (list_kept lists l)) (active_pairs (before base j))
-    (same_turned (kept_pairs all (list_kept lists l)) (active_pairs (before base i)) (subst (λ n. AreSamePairs (kept_pairs all (list_kept lists n)) (active_pairs (before base i))) same one.pairs)) other.pairs
 
 -- ---- lists compared by numbers
 

@@ -21,3 +21,4 @@ pub mod KeptPairLists
 pub mod KeptBase
 pub mod PairOrder
 pub mod KeptPairTable
+pub mod BaseInside

@@ -14,8 +14,8 @@ ghost use Rattle.mm_frame.specs.Language.Base.{is_proof_at, is_framed_at, is_sho
 ghost use Rattle.mm_frame.specs.Language.Names.{Begins};
 ghost use Rattle.mm_frame.specs.Language.NumberedSymbols.{symbols_of, kept_pairs, IsNumbered, IsPairNumbered, ArePairsRead};
 ghost use Rattle.mm_frame.specs.Code.KeptSymbols.{expression_kept};
-ghost use Rattle.mm_frame.specs.Code.KeptBase.{is_float_item};
-ghost use Rattle.mm_frame.specs.Code.PairOrder.{pairs_in_order};
+ghost use Rattle.mm_frame.specs.Language.Answering.{IsBase, IsBaseBy, StandsLater, pairs_in_order};
+ghost use Rattle.mm_frame.specs.Code.KeptBase.{is_float_item, hypotheses_at, row_told, frame_told, number_kept};
 ghost use Rattle.mm_frame.specs.Language.Item as meant;
 ghost use Rattle.mm_frame.specs.Language.Statement.{kind_of};
 ghost use Rattle.mm_frame.specs.Language.Resolving.{IsCarrier, IsMeaning, Resolves};
@@ -26,6 +26,7 @@ use crate::names::Names;
 use crate::symbol::NumberedSymbol;
 use mm_store::{Files, Item, ItemKind, StoreError};
 use std::alloc::{AllocError, Global};
+use std::marker::Model;
 
 /// The items of files from a top file on, which of them are sound, and the frames of the assertions.
 ///
@@ -39,6 +40,18 @@ pub struct Base {
     parts: Parts,
 }
 
+impl Model for Base {
+    ghost use Rattle.mm_frame.specs.Language.Answering.{BaseAnswers};
+
+    ghost Value = { BaseAnswers };
+
+    ghost use Rattle.mm_frame.specs.Code.BaseInside.{answers_of, KnowsItems};
+
+    ghost view = { answers_of };
+
+    ghost invariant = { KnowsItems };
+}
+
 /// What a label means at an item.
 #[derive(Clone, Copy, Debug, PartialEq, Eq)]
 pub enum Resolved {
@@ -50,6 +63,23 @@ pub enum Resolved {
     Inactive,
     /// No label of a sound statement before it.
     Unknown,
+}
+
+/// What is kept at a place of a list, if there is such a place.
+fn at<T>(list: &[T], i: usize) -> Option<&T>
+    ensures { option_map (λ kept. kept.now) result ≡ slice_get list.now i }
+{
+    list.get(i)
+}
+
+/// The number that is kept at a place, if there is such a place and a number there.
+fn number_at(numbers: &[Option<usize>], i: usize) -> Option<usize>
+    ensures { result ≡ number_kept (slice_get numbers.now i) }
+{
+    match at(numbers, i) {
+        Some(number) => *number,
+        None => None,
+    }
 }
 
 /// The label of a row.
@@ -97,8 +127,6 @@ fn is_shown_row(row: &Row) -> bool
 }
 
 impl Base {
-    ghost use Rattle.mm_frame.specs.Code.KeptBase.{IsBase, IsBaseBy, StandsLater, TellsPairs, hypotheses_at, rows_of, expressions_of, frames_of};
-
     /// Builds the base of the files from a top file on. `NoTop` comes where no file has the name `top`; any other
     /// error is `Memory`. It reads each item once, in time near linear in the texts and in the lists of active pairs,
     /// of which it makes one for each last active `$d` of a sound `$p`.
@@ -130,16 +158,16 @@ impl Base {
 
     /// What is kept of the item with this number.
     fn row(&self, i: usize) -> Option<&Row>
-        ensures { option_map (λ row. row.now) result ≡ slice_get (rows_of self.now) i }
+        ensures { option_map (λ row. row_told row.now) result ≡ slice_get self.now.rows i }
     {
-        self.parts.rows.get(i)
+        at(&self.parts.rows, i)
     }
 
     /// What is kept of the frame of the item with this number.
     fn frame_row(&self, i: usize) -> Option<&Option<Frame>>
-        ensures { option_map (λ frame. frame.now) result ≡ slice_get (frames_of self.now) i }
+        ensures { option_map (λ frame. frame_told frame.now) result ≡ slice_get self.now.frames i }
     {
-        self.parts.frames.get(i)
+        at(&self.parts.frames, i)
     }
 
     /// Whether the item with this number is a sound `$f`, `$e`, `$a` or `$p`.
@@ -154,7 +182,7 @@ impl Base {
 
     /// The symbols that are kept of the item with this number: none where none are kept.
     fn symbols(&self, i: usize) -> &[NumberedSymbol]
-        ensures { result.now ≡ expression_kept (expressions_of self.now) i }
+        ensures { result.now ≡ expression_kept self.now.expressions i }
     {
         self.parts.expressions.at(i)
     }
@@ -163,7 +191,7 @@ impl Base {
     pub fn is_floating(&self, i: usize) -> bool
         ensures { (base : BaseView) → IsBase base self.now → result ≡ meant.is_floating (said_at base i).kind }
     {
-        match self.floats.get(i) {
+        match at(&self.floats, i) {
             Some(floating) => *floating,
             None => false,
         }
@@ -256,17 +284,6 @@ impl Base {
         self.kept_frame(i)
     }
 
-    /// The number of the list of active pairs that is kept of the item with this number, if one is kept.
-    fn pair_number(&self, i: usize) -> Option<usize>
-        ensures { (names : List (List ℕ)) (base : BaseView) → IsBaseBy names base self.now
-            → TellsPairs names self.now.parts.pair_lists (before base i) (said_at base i) result }
-    {
-        match self.parts.pair_numbers.get(i) {
-            Some(number) => *number,
-            None => None,
-        }
-    }
-
     /// All active pairs at the item with this number, where it is a sound `$p`: its own and those of its scope,
     /// mandatory or not. They are sorted by the numbers of the names, the lower one first, and each stands there once.
     pub fn pairs(&self, i: usize) -> Option<&[(NumberedSymbol, NumberedSymbol)]>
@@ -276,7 +293,7 @@ impl Base {
         ensures numbered { (names : List (List ℕ)) (base : BaseView) → IsBaseBy names base self.now
             → IfSome result (λ pairs. All (IsPairNumbered names) pairs.now) }
     {
-        match self.pair_number(i) {
+        match number_at(&self.parts.pair_numbers, i) {
             Some(k) => Some(self.parts.pair_lists.list(k)),
             None => None,
         }
@@ -288,7 +305,7 @@ impl Base {
         ensures { (base : BaseView) → IsBase base self.now → is_proof_at base i ≡ true → is_proof_at base j ≡ true
             → IsTrue result → AreSamePairs (active_pairs (before base i)) (active_pairs (before base j)) }
     {
-        self.pair_number(i) == self.pair_number(j)
+        number_at(&self.parts.pair_numbers, i) == number_at(&self.parts.pair_numbers, j)
     }
 
     /// The number of the sound item that has a label, if one has it, active or not.

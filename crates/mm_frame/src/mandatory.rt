@@ -7,10 +7,11 @@ ghost use Rattle.mm_frame.specs.Language.Item as meant;
 ghost use Rattle.mm_frame.specs.Language.Framing.{pairs_of, active_pairs, frame, mandatory_numbers};
 ghost use Rattle.mm_frame.specs.Code.KeptEarlier.{IsFramed, KnowsEarlier};
 ghost use Rattle.mm_frame.specs.Code.LastItems.{IsRising};
-ghost use Rattle.mm_frame.specs.Language.NumberedSymbols.{symbol_of, symbols_of, IsNumbered, AreSymbolsRead, ArePairsRead};
+ghost use Rattle.mm_frame.specs.Language.NumberedSymbols.{symbol_of, symbols_of, IsNumbered, ArePairsRead};
 ghost use Rattle.mm_frame.specs.Code.KeptSymbols.{float_number, float_numbers, expression_kept};
 ghost use Rattle.mm_frame.specs.Code.PairOrder as paired;
-ghost use Rattle.mm_frame.specs.Code.PairOrder.{are_paired, pairs_in_order, float_variable, float_variables};
+ghost use Rattle.mm_frame.specs.Code.PairOrder.{float_variable, float_variables};
+ghost use Rattle.mm_frame.specs.Language.Answering.{are_paired, pairs_in_order};
 ghost use Rattle.mm_frame.specs.Code.KeptPairTable.{ReadsPairs};
 
 use crate::blocks::Blocks;

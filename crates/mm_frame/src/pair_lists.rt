@@ -1,6 +1,6 @@
 //! The lists of active pairs, which neighbours share.
 
-ghost use Rattle.std.specs.Prelude.{◌≡◌, ◌<◌, ◌≤◌, ◌+◌, ◌-◌, ◌++◌, ◌∷◌, ℕ, List, [], OnOk, IfOk, IsTrue, Contains, length, map, take};
+ghost use Rattle.std.specs.Prelude.{◌≡◌, ◌<◌, ◌≤◌, ◌+◌, ◌-◌, ◌++◌, ℕ, List, [], OnOk, IfOk, IsTrue, Contains, length, map, take};
 ghost use Rattle.std.specs.List.{flat_map};
 ghost use Rattle.mm_frame.specs.Language.Item as meant;
 ghost use Rattle.mm_frame.specs.Language.Sound.{AreSound};

@@ -1,15 +1,12 @@
 //! Which pairs of variables the active `$d` have.
 
-ghost use Rattle.std.specs.Prelude.{◌≡◌, ◌∷◌, ◌++◌, ◌<◌, ℕ, suc, Bool, true, false, List, [], Some, Contains, MatchBool, OnOk, length, drop, slice_get};
+ghost use Rattle.std.specs.Prelude.{◌≡◌, ◌<◌, ℕ, true, false, List, [], Some, MatchBool, OnOk, length};
 ghost use Rattle.mm_frame.specs.Language.Item as meant;
-ghost use Rattle.mm_frame.specs.Language.Names.{AreDistinct};
-ghost use Rattle.mm_frame.specs.Language.Sound.{IsSound};
 ghost use Rattle.mm_frame.specs.Language.Framing.{active_pairs};
-ghost use Rattle.mm_frame.specs.Code.BlockMarks.{block_marks, stays_by};
 ghost use Rattle.mm_frame.specs.Language.NumberedSymbols.{as_variable};
 ghost use Rattle.mm_frame.specs.Code.LastItems.{IsRising};
-ghost use Rattle.mm_frame.specs.Code.Numbers.{IsNameNumber, AreNameNumbers};
-ghost use Rattle.mm_frame.specs.Code.PairOrder.{are_paired};
+ghost use Rattle.mm_frame.specs.Code.Numbers.{IsNameNumber};
+ghost use Rattle.mm_frame.specs.Language.Answering.{are_paired};
 ghost use Rattle.mm_frame.specs.Code.KeptPairTable.{IsCommon, ReadsPairs};
 
 use crate::active::drop_ended;

@@ -1,6 +1,6 @@
 //! The words of a proof.
 
-ghost use Rattle.std.specs.Prelude.{◌≡◌, ◌∷◌, ◌≤◌, [], MatchOption, length};
+ghost use Rattle.std.specs.Prelude.{◌≡◌, ◌∷◌, [], MatchOption};
 ghost use Rattle.mm_frame.specs.Code.PlainWords.{plain_bytes};
 
 use crate::statement::{bytes_of, is_plain};

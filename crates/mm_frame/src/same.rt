@@ -3,7 +3,7 @@
 ghost use Rattle.std.specs.Prelude.{◌≡◌, ◌↔◌, ◌⊎◌, ℕ, List, IsTrue, true, All, Contains, map};
 ghost use Rattle.mm_frame.specs.Language.Base.{BaseView, before, said_at, is_shown_at, is_framed_at, is_proof_at, hypothesis_at, frame_at};
 ghost use Rattle.mm_frame.specs.Language.Framing.{active_pairs, expression};
-ghost use Rattle.mm_frame.specs.Code.KeptBase.{IsBaseBy};
+ghost use Rattle.mm_frame.specs.Language.Answering.{IsBaseBy};
 ghost use Rattle.mm_frame.specs.Language.Frame.{AreSameFrame, AreSamePairs};
 
 use crate::base::Base;

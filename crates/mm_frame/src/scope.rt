@@ -12,7 +12,7 @@ ghost use Rattle.mm_frame.specs.Code.LastItems as numbered;
 ghost use Rattle.mm_frame.specs.Code.BlockMarks.{block_marks};
 ghost use Rattle.mm_frame.specs.Code.KeptTables.{Knows};
 ghost use Rattle.mm_frame.specs.Language.Names.{AreDistinct};
-ghost use Rattle.mm_frame.specs.Code.Numbers.{IsNameNumber, AreNameNumbers};
+ghost use Rattle.mm_frame.specs.Code.Numbers.{IsNameNumber};
 
 use crate::blocks::Blocks;
 use crate::names::Names;

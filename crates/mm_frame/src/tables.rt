@@ -1,7 +1,7 @@
 //! What the items so far declare, found by hash.
 
-ghost use Rattle.std.specs.Prelude.{◌≡◌, ◌<◌, ◌++◌, ◌∷◌, ◌||◌, ℕ, OnOk, OnErr, List, [], None, Some, length, is_some, nat_eq, option_to_list};
-ghost use Rattle.std.specs.Prelude.{if◌then◌else◌, slice_index_or, bytes_eq};
+ghost use Rattle.std.specs.Prelude.{◌≡◌, ◌<◌, ◌++◌, ◌∷◌, ℕ, OnOk, List, [], None, Some, length, nat_eq, option_to_list};
+ghost use Rattle.std.specs.Prelude.{if◌then◌else◌, slice_index_or};
 ghost use Rattle.mm_frame.specs.Language.Item as meant;
 ghost use Rattle.mm_frame.specs.Language.Scope.{constants};
 ghost use Rattle.mm_frame.specs.Language.Sound as sound;
@@ -38,7 +38,7 @@ pub struct Tables {
 }
 
 impl Tables {
-    ghost use Rattle.mm_frame.specs.Code.KeptTables.{declared_at, is_constant_as, table_name, table_label, variable_number, float_of};
+    ghost use Rattle.mm_frame.specs.Code.KeptTables.{declared_at, is_constant_as, table_label, float_of};
     ghost use Rattle.mm_frame.specs.Code.KeptTables.{Knows, Declares, TypesName, Carries};
 
     /// No item is taken yet. Takes no memory.

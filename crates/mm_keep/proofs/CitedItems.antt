@@ -8,7 +8,7 @@ use Rattle.mm_frame.specs.Language.Base.{BaseView, AreSaid, said_at, is_proof_at
 use Rattle.mm_frame.specs.Language.Item.{Kind, Axiom, Theorem, is_assertion, is_labelled}
 use Rattle.mm_frame.specs.Language.Laws.{HasOwnLabels}
 use Rattle.mm_frame.specs.Language.Resolving.{IsCarrier}
-use Rattle.mm_proof.specs.Language.CitingLaws.{CitesNameAssertions, CitesTellAssertions, IsCiteOf, NamesAssertionAt}
+use Rattle.mm_proof.specs.Language.CitingLaws.{CitesNameAssertions, CitesTellAssertions, IsCiteOf}
 use Rattle.mm_proof.specs.Language.BaseLabels.{setting_at}
 use Rattle.mm_proof.specs.Language.DecodingLaws.{CitesRise}
 use Rattle.mm_proof.specs.Language.VerdictAt.{cites_at, decoding_at}

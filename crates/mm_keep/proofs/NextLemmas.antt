@@ -5,7 +5,7 @@ use Rattle.mm_store.specs.Language.FilesView.{FilesView}
 use Rattle.mm_frame.specs.Language.Base.{BaseView}
 use Rattle.mm_frame.specs.Language.Names.{AreDistinct, Begins}
 use Rattle.mm_frame.specs.declared.base.Base.{Base}
-use Rattle.mm_proof.specs.Code.ReadIn.{IsReadIn}
+use Rattle.mm_proof.specs.Language.ReadIn.{IsReadIn}
 use Rattle.mm_keep.specs.Code.Next.{IsBuilt, IsOldIn}
 use Rattle.mm_keep.specs.Code.Planned.{AreBothRead}
 

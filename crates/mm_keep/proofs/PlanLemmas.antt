@@ -6,7 +6,7 @@ use Rattle.std.proofs.lemmas.Option.{none-some, same_Some}
 use Rattle.mm_store.specs.Language.FilesView.{FilesView}
 use Rattle.mm_frame.specs.Language.Base.{BaseView, said_at, is_sound_at, is_proof_at, is_shown_at}
 use Rattle.mm_frame.specs.Language.Item.{Kind, Constants, Variables, Disjoint, Floating, Essential, Axiom, Theorem, BlockStart, BlockEnd, Missing, Passed, is_labelled, is_theorem}
-use Rattle.mm_frame.specs.Code.KeptBase.{IsBaseBy}
+use Rattle.mm_frame.specs.Language.Answering.{IsBaseBy}
 use Rattle.mm_frame.specs.declared.base.Base.{Base}
 use Rattle.mm_proof.specs.Language.BaseMarks.{ItemMark, IsMark, mark_at}
 use Rattle.mm_proof.specs.Language.DecodingLaws.{LabelsAreOwn}

@@ -6,7 +6,7 @@ use Rattle.mm_store.specs.Language.FilesView.{FilesView}
 use Rattle.mm_store.specs.Language.FileFacts.{CanBeRead, StandsIn}
 use Rattle.mm_frame.specs.Language.Base.{BaseView, said_at}
 use Rattle.mm_frame.specs.Language.Item.{passed}
-use Rattle.mm_frame.specs.Code.KeptBase.{IsBase}
+use Rattle.mm_frame.specs.Language.Answering.{IsBase}
 use Rattle.mm_frame.specs.Language.Statement.{Says}
 use Rattle.mm_frame.specs.declared.base.Base.{Base}
 use Rattle.mm_keep.specs.Code.OfFiles.{IsOf, HasItemOf}

@@ -3,7 +3,7 @@
 ghost use Rattle.std.specs.Prelude.{◌≡◌, ◌↔◌, ℕ, List, true, false, Some, None, IfOk, IfErr, IfSome, IsErrOf};
 ghost use Rattle.mm_store.specs.Language.FileFacts.{CanBeRead, StandsIn};
 ghost use Rattle.mm_store.specs.Language.FilesView.{FilesView};
-ghost use Rattle.mm_frame.specs.Code.KeptBase.{IsBase};
+ghost use Rattle.mm_frame.specs.Language.Answering.{IsBase};
 ghost use Rattle.mm_frame.specs.Language.Base.{BaseView, said_at, is_sound_at, is_proof_at};
 ghost use Rattle.mm_frame.specs.Language.Item.{is_theorem};
 ghost use Rattle.mm_frame.specs.Language.Statement.{kind_of};

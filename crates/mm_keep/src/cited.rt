@@ -4,7 +4,7 @@ ghost use Rattle.std.specs.Prelude.{◌≡◌, ◌<◌, ◌≤◌, ◌+◌, ◌�
 ghost use Rattle.std.specs.Option.{option_map};
 ghost use Rattle.mm_frame.specs.Language.Base.{BaseView};
 ghost use Rattle.mm_frame.specs.Language.Resolving.{IsCarrier};
-ghost use Rattle.mm_frame.specs.Code.KeptBase.{IsBase};
+ghost use Rattle.mm_frame.specs.Language.Answering.{IsBase};
 ghost use Rattle.mm_keep.specs.Language.Citations.{CitesItem};
 ghost use Rattle.mm_keep.specs.Language.Sessions.{IsAssertion};
 ghost use Rattle.mm_keep.specs.Code.Cited.{AreRising, HasChecks, HasLabelAmong, HasPlaceFor, HasPlaces, IsAmongCited, MarksMore, OfChecks, passed_words};

@@ -1,12 +1,12 @@
 //! What a session goes on with: the base of its files as they are, and what is checked of it.
 
-ghost use Rattle.std.specs.Prelude.{◌≡◌, ◌↔◌, ℕ, None, IfOk, IfErr, IsErrOf, length};
+ghost use Rattle.std.specs.Prelude.{◌≡◌, ◌↔◌, None, IfOk, IfErr, IsErrOf, length};
 ghost use Rattle.mm_store.specs.declared.error.StoreError.TheVariants.{Memory, NoTop};
 ghost use Rattle.mm_store.specs.Language.Answers.{IsExpansionError};
 ghost use Rattle.mm_store.specs.Language.FilesView.{files_in, number_of};
 ghost use Rattle.mm_frame.specs.Language.Base.{BaseView};
 ghost use Rattle.mm_frame.specs.Language.Names.{AreDistinct, Begins};
-ghost use Rattle.mm_proof.specs.Code.ReadIn.{IsReadIn};
+ghost use Rattle.mm_proof.specs.Language.ReadIn.{IsReadIn};
 ghost use Rattle.mm_keep.specs.Code.Next.{KeepsOrRuns, HasOld, HasTop, IsBuilt, IsFirst, IsNextBase, IsOldIn, KeepsNothing, RunsAll};
 ghost use Rattle.mm_keep.specs.Code.Planned.{AreBothRead};
 

@@ -1,8 +1,8 @@
 //! Which theorems keep what was checked before, and the runs of the others.
 
-ghost use Rattle.std.specs.Prelude.{◌≡◌, ◌<◌, ◌+◌, ◌≤◌, ◌^◌, true, ℕ, List, Some, None, IfOk, OnOk, length, slice_index_or, slice_set};
+ghost use Rattle.std.specs.Prelude.{◌≡◌, ◌<◌, ◌+◌, ◌^◌, ℕ, Some, None, IfOk, OnOk, length, slice_index_or, slice_set};
 ghost use Rattle.mm_frame.specs.Language.Base.{BaseView};
-ghost use Rattle.mm_proof.specs.Code.ReadIn.{IsReadIn};
+ghost use Rattle.mm_proof.specs.Language.ReadIn.{IsReadIn};
 ghost use Rattle.mm_keep.specs.Code.KeptSession.{AreChecked, IsCheckedAt};
 ghost use Rattle.mm_keep.specs.Code.Planned.{AreBothRead, AreMarksBy, ArePlanned, AreRecorded, AreRunBy, CanBeCarried, CanCarry};
 ghost use Rattle.mm_keep.specs.Code.Planned.{HasItemBothRead, HasItemRead, IsPlanned, IsRunBy, RecordsIf};

@@ -4,7 +4,7 @@ ghost use Rattle.std.specs.Prelude.{◌≡◌, ◌≤◌, ℕ, List, length, tru
 ghost use Rattle.mm_text.specs.Language.Reading.{LiesIn};
 ghost use Rattle.mm_store.specs.Language.FileFacts.{CanBeRead};
 ghost use Rattle.mm_frame.specs.Language.Base.{BaseView, said_at, is_proof_at};
-ghost use Rattle.mm_frame.specs.Code.KeptBase.{IsBaseBy};
+ghost use Rattle.mm_frame.specs.Language.Answering.{IsBaseBy};
 ghost use Rattle.mm_keep.specs.Language.WordPlaces as places;
 ghost use Rattle.mm_keep.specs.Language.WordPlaces.{IsPlaceOfSpot};
 ghost use Rattle.mm_keep.specs.Code.OfFiles.{IsOf, HasLetter, HasSpotOf, IsSeen};

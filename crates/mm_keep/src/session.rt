@@ -1,6 +1,6 @@
 //! A session: files whose items are verified, and stay so from edit to edit.
 
-ghost use Rattle.std.specs.Prelude.{◌≡◌, ◌≤◌, ◌↔◌, ℕ, List, Ok, Err, Some, None, IfOk, IfErr, OnOk, OnErr, IsErrOf, map};
+ghost use Rattle.std.specs.Prelude.{◌≡◌, ◌≤◌, ◌↔◌, ℕ, List, Ok, Err, None, IfOk, IfErr, OnOk, OnErr, IsErrOf, map};
 ghost use Rattle.std.specs.Option.{option_map};
 ghost use Rattle.mm_store.specs.declared.batch.BatchError.TheVariants as batch;
 ghost use Rattle.mm_store.specs.declared.edit.EditError.{EditError};
@@ -11,7 +11,7 @@ ghost use Rattle.mm_store.specs.Language.Batches.{IsBatchOf};
 ghost use Rattle.mm_store.specs.Language.Edits.{asked, edited_name, IsEditOf, NamesNoMember};
 ghost use Rattle.mm_store.specs.Language.FileFacts.{parked_in};
 ghost use Rattle.mm_store.specs.Language.FilesView.{FilesView, files_in, file_number, number_of, plain};
-ghost use Rattle.mm_keep.specs.Code.Changing.{AreKept, CanTake, HasKept, HasTaking, IsChangeError, WereKept, session_of};
+ghost use Rattle.mm_keep.specs.Code.Changing.{CanTake, HasKept, HasTaking, IsChangeError, WereKept, session_of};
 ghost use Rattle.mm_keep.specs.Code.Next.{IsFirst};
 ghost use Rattle.mm_keep.specs.Language.Refusals.{IsRefusal, IsBatchRefusal};
 ghost use Rattle.mm_keep.specs.Language.Sessions.{IsBegun, IsChanged, IsCount, IsLabelOfItem};

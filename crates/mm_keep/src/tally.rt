@@ -1,6 +1,6 @@
 //! How many items there are of each kind that a summary counts.
 
-ghost use Rattle.std.specs.Prelude.{◌≡◌, ◌≤◌, ◌+◌, ◌<◌, ◌^◌, ◌++◌, ◌∷◌, [], List};
+ghost use Rattle.std.specs.Prelude.{◌≡◌, ◌+◌, ◌++◌, ◌∷◌, [], List};
 ghost use Rattle.mm_keep.specs.Language.Findings.{counted, told, AreFew};
 ghost use Rattle.mm_keep.specs.Language.Told.{Told, counts};
 

@@ -13,7 +13,7 @@ use Rattle.mm_frame.specs.Language.Base.{BaseView, before, said_at, is_framed_at
 use Rattle.mm_frame.specs.Language.Frame.{Symbol, Setting}
 use Rattle.mm_frame.specs.Language.Framing.{mandatory_numbers}
 use Rattle.mm_frame.specs.Language.Item.{Item}
-use Rattle.mm_frame.specs.Code.KeptBase.{IsBase}
+use Rattle.mm_frame.specs.Language.Answering.{IsBase}
 use Rattle.mm_proof.specs.Language.BaseLabels.{AreActive, setting_at}
 use Rattle.mm_proof.specs.Language.Decoding.{decoding}
 use Rattle.mm_proof.specs.Language.Expansion.{Step, Saved, NotKnown}

@@ -1,7 +1,6 @@
 -- What stays of an item of an old base in a new one.
 use Rattle.std.proofs.Common.{◌≡◌, ◌<◌, ℕ, zero, suc, cond, slice_index_or, ◌+◌, Bool, true, false, ◌&&◌, Option, Some, None, List, [], ◌∷◌, ◌++◌, length, slice_get, refl, sym, ◌∙◌, ap, subst, arith}
 use Rattle.std.specs.Prelude.{◌↔◌, is_some}
-use Rattle.std.specs.Option.{option_map}
 use Rattle.std.proofs.lemmas.Bool.{false≢true}
 use Rattle.std.proofs.lemmas.Option.{same_Some}
 use Rattle.mm_frame.specs.Language.Base.{BaseView, said_at, is_shown_at, is_sound_at}
@@ -9,7 +8,7 @@ use Rattle.mm_frame.specs.Language.Frame.{Symbol, AreSamePairs}
 use Rattle.mm_frame.specs.Language.Item.{Item, passed, is_labelled}
 use Rattle.mm_frame.specs.Language.Resolving.{IsCarrier}
 use Rattle.mm_frame.specs.declared.base.Base.{Base}
-use Rattle.mm_frame.specs.Code.KeptBase.{IsBaseBy}
+use Rattle.mm_frame.specs.Language.Answering.{IsBaseBy}
 use Rattle.mm_proof.specs.Language.BaseMarks.{ItemMark, IsMark, HaveOneLabel, AreMarks, no_mark, mark_at}
 use Rattle.mm_proof.specs.Code.KeptMarks.{AreTheorems, ShareFrame, SharePairs, AreItemMarks}
 use Rattle.std.proofs.Math.Decide.{ℕ_discrete}
@@ -49,18 +48,18 @@ got [] n l = absurd (omega (arith, l))
 got (x ∷ xs) zero l = (x, refl)
 got (x ∷ xs) (suc n) l = got xs n (omega (arith, l))
 
-some_of : {X Y : Type 0} (f : X → Y) (o : Option X) (l : Option Y) (b : Bool) → b ≡ true → is_some o ≡ b → option_map f o ≡ l → (y : Y) × (l ≡ Some y)
-some_of f (Some x) l b t e h = (f x, sym h)
-some_of f None l b t e h = absurd (false≢true (e ∙ t))
+some_there : {X : Type 0} (o : Option X) → is_some o ≡ true → (x : X) × (o ≡ Some x)
+some_there (Some x) e = (x, refl)
+some_there None e = absurd (false≢true e)
 
 -- it has a label
 pub shown_label : (names : List (List ℕ)) (view : BaseView) (code : Base) (i : ℕ) → IsBaseBy names view code → is_shown_at view i ≡ true → (label : List ℕ) × ((said_at view i).label ≡ Some label)
 shown_label names view code i is e =
-    let rows = code.parts.rows.items in
     let within = shown_within view i e in
-    let row = got rows i (omega (arith, within, is.parts.rows.count)) in
-    let tells = is.parts.rows.each i row.0 row.1 in
-    some_of (λ label. label.items) row.0.label (said_at view i).label (is_labelled (said_at view i).kind) (and_second (is_sound_at view i) (is_labelled (said_at view i).kind) e) tells.labelled tells.label
+    let row = got code.rows i (omega (arith, within, is.rows.count)) in
+    let told = is.rows.each i row.0 row.1 in
+    let some = some_there row.0.0 (told.labelled ∙ and_second (is_sound_at view i) (is_labelled (said_at view i).kind) e) in
+    (some.0, sym told.label ∙ some.1)
 
 -- it is the item of the old base that carries the label
 pub one_label : (base copy : BaseView) (i j : ℕ) (label : List ℕ) → is_shown_at copy j ≡ true → (said_at copy j).label ≡ Some label → IsCarrier base label i ↔ HaveOneLabel base copy i j

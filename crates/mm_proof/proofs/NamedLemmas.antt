@@ -9,7 +9,7 @@ use Rattle.mm_frame.specs.declared.base.Resolved.{Resolved}
 use Rattle.mm_frame.specs.declared.base.Resolved.TheVariants as answers
 use Rattle.mm_frame.specs.Language.Base.{BaseView}
 use Rattle.mm_frame.specs.Language.Frame.{Hypothesis}
-use Rattle.mm_frame.specs.Code.KeptBase.{IsBaseBy}
+use Rattle.mm_frame.specs.Language.Answering.{IsBaseBy}
 use Rattle.mm_proof.specs.Language.DecodedSteps.{AreEntries, IsEntry, entry_step, entry_steps}
 use Rattle.mm_proof.specs.Code.NamedItems.{AreNamed, NamingGrows, IsUseOf, Stays, expressions_named, frames_named}
 use Rattle.mm_proof.specs.Language.Renaming.{renamed_meaning}

@@ -7,10 +7,10 @@ use Rattle.mm_store.specs.Language.FilesView.{FilesView}
 use Rattle.mm_store.specs.Language.FileFacts.{CanBeRead}
 use Rattle.mm_frame.specs.Language.Base.{BaseView, is_proof_at, said_at}
 use Rattle.mm_frame.specs.Language.Item.{Item, passed}
-use Rattle.mm_frame.specs.Code.KeptBase.{IsBase}
+use Rattle.mm_frame.specs.Language.Answering.{IsBase}
 use Rattle.mm_frame.specs.Language.Statement.{Says}
 use Rattle.mm_frame.specs.declared.base.Base.{Base}
-use Rattle.mm_proof.specs.Code.ReadIn.{HasTheorem, IsReadIn}
+use Rattle.mm_proof.specs.Language.ReadIn.{HasTheorem, IsReadIn}
 use Rattle.mm_proof.specs.Code.Judged.{IsTheorem}
 
 -- the element of the one list with that of the other

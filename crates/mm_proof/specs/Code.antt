@@ -7,7 +7,6 @@ pub mod Labels
 pub mod Decoded
 pub mod Cited
 pub mod KeptWork
-pub mod ReadIn
 pub mod Flat
 pub mod Keys
 pub mod Citation

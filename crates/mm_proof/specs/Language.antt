@@ -25,3 +25,4 @@ pub mod View
 pub mod ViewLaws
 pub mod BaseMarks
 pub mod Work
+pub mod ReadIn

@@ -1,6 +1,6 @@
 //! The active pairs at a statement, and which symbols they keep apart.
 
-ghost use Rattle.std.specs.Prelude.{◌≡◌, ◌≢◌, ◌↔◌, ◌<◌, ◌≤◌, ℕ, IsTrue, IfOk, MatchBool, Some, Contains, length, map, slice_get, slice_set};
+ghost use Rattle.std.specs.Prelude.{◌≡◌, ◌↔◌, ◌<◌, IsTrue, MatchBool, Some, Contains, length, map, slice_get, slice_set};
 ghost use Rattle.mm_frame.specs.Language.Frame.{Symbol as Meaning, ArePair};
 ghost use Rattle.mm_proof.specs.Code.Citation.{meant_pairs};
 ghost use Rattle.mm_proof.specs.Code.Keys.{home as home_lem, home_at};

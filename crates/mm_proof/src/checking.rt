@@ -3,7 +3,7 @@
 ghost use Rattle.std.specs.Prelude.{true, ◌≡◌, ◌<◌, ◌≤◌, ◌+◌, ◌++◌, ◌∷◌, ◌^◌, [], ℕ, List, Err, IfOk, OnOk, OnErr, length};
 ghost use Rattle.mm_frame.specs.Language.Base.{BaseView, before, said_at, is_framed_at};
 ghost use Rattle.mm_frame.specs.Language.Framing.{mandatory_numbers};
-ghost use Rattle.mm_frame.specs.Code.KeptBase.{IsBase};
+ghost use Rattle.mm_frame.specs.Language.Answering.{IsBase};
 ghost use Rattle.mm_proof.specs.Language.BaseLabels.{setting_at};
 ghost use Rattle.mm_proof.specs.Language.Decoding.{word_spot};
 ghost use Rattle.mm_proof.specs.Language.Verdict.{IsVerdictOnSteps};
@@ -11,7 +11,7 @@ ghost use Rattle.mm_proof.specs.Language.VerdictAt.{IsVerdictAt, AreDoneAt, cite
 ghost use Rattle.mm_frame.specs.Language.Frame.{Symbol, Setting};
 ghost use Rattle.mm_proof.specs.Language.DecodedSteps.{decoded_steps};
 ghost use Rattle.mm_proof.specs.Code.Judged.{HasDecoding, HasStatement, IsOutcomeWithin, OfDecoding, OfStatement, done_by};
-ghost use Rattle.mm_proof.specs.Code.ReadIn.{HasTheorem, OfTheorem};
+ghost use Rattle.mm_proof.specs.Language.ReadIn.{HasTheorem, OfTheorem};
 ghost use Rattle.mm_proof.specs.Code.Tasks.{RunSays};
 ghost use Rattle.mm_proof.specs.declared.step.Undecoded.TheVariants as errors;
 

@@ -6,8 +6,7 @@ ghost use Rattle.mm_proof.specs.Code.Cited.{item_named, names_item, item_cites, 
 ghost use Rattle.mm_frame.specs.declared.base.Resolved as labels;
 ghost use Rattle.mm_frame.specs.Language.Base.{BaseView};
 ghost use Rattle.mm_proof.specs.Language.BaseLabels.{NoLabelTwice};
-ghost use Rattle.mm_proof.specs.Language.BaseLabels.{label_at, setting_at};
-ghost use Rattle.mm_frame.specs.Language.Base.{is_shown_at};
+ghost use Rattle.mm_proof.specs.Language.BaseLabels.{setting_at};
 ghost use Rattle.mm_proof.specs.Language.Citing.{cited_words};
 ghost use Rattle.mm_proof.specs.Language.DecodedSteps.{decoded_steps, AreEntries, entry_steps, label_table, labels_at};
 

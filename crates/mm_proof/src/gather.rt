@@ -1,6 +1,6 @@
 //! The variables of the entries that an assertion takes, each once.
 
-ghost use Rattle.std.specs.Prelude.{◌≡◌, ◌<◌, ◌≤◌, true, List, IsTrue, OnOk, All, Some, Contains, drop, length, map, slice_get};
+ghost use Rattle.std.specs.Prelude.{◌≡◌, ◌<◌, ◌≤◌, List, IsTrue, OnOk, All, Some, Contains, drop, length, map, slice_get};
 ghost use Rattle.mm_frame.specs.Language.Frame.{Symbol as Meaning};
 ghost use Rattle.mm_proof.specs.Code.Flat.{IsEntryWithin};
 ghost use Rattle.mm_proof.specs.Code.Citation.{entries_of};

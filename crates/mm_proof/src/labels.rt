@@ -1,10 +1,9 @@
 //! The labels of a proof.
 
-ghost use Rattle.std.specs.Prelude.{◌≡◌, ◌≤◌, ◌+◌, ℕ, List, Ok, IfOk, IfErr, map, drop, length, codes};
+ghost use Rattle.std.specs.Prelude.{◌≡◌, ◌≤◌, ◌+◌, ℕ, List, Ok, IfOk, IfErr, length};
 ghost use Rattle.mm_frame.specs.Language.Base.{BaseView};
-ghost use Rattle.mm_frame.specs.Code.KeptBase.{IsBase};
-ghost use Rattle.mm_frame.specs.Language.Resolving.{Resolves};
-ghost use Rattle.mm_proof.specs.Language.BaseLabels.{label_at, setting_at};
+ghost use Rattle.mm_frame.specs.Language.Answering.{IsBase};
+ghost use Rattle.mm_proof.specs.Language.BaseLabels.{setting_at};
 ghost use Rattle.mm_proof.specs.Language.Decoding.{word_spot, read_label as read_label_lem, is_close as is_close_lem};
 ghost use Rattle.mm_proof.specs.declared.step.Undecoded.TheVariants as errors;
 ghost use Rattle.mm_proof.specs.Language.DecodedSteps.{IsEntry, entry_step};

@@ -2,7 +2,7 @@
 
 ghost use Rattle.std.specs.Prelude.{◌≡◌, ◌↔◌, ℕ, Some, IfOk, IsTrue};
 ghost use Rattle.mm_frame.specs.Language.Base.{BaseView};
-ghost use Rattle.mm_frame.specs.Code.KeptBase.{IsBaseBy};
+ghost use Rattle.mm_frame.specs.Language.Answering.{IsBaseBy};
 ghost use Rattle.mm_proof.specs.Code.KeptMarks.{OfBases, OfBasesBy, AreTheorems, SharePairs, ShareFrame, IsCompared, IsComparedOf, kept_mark};
 ghost use Rattle.mm_proof.specs.Language.BaseMarks.{AreMarks, HaveOneLabel, IsMark, mark_at};
 

@@ -1,6 +1,6 @@
 //! The pair clause: whether the entries of mandatory pairs are kept apart.
 
-ghost use Rattle.std.specs.Prelude.{◌≡◌, ◌<◌, ℕ, List, IfOk, MatchBool, All, Some, length, map, slice_get};
+ghost use Rattle.std.specs.Prelude.{◌≡◌, ◌<◌, List, IfOk, MatchBool, All, Some, length, map};
 ghost use Rattle.mm_frame.specs.Language.Frame.{Symbol as Meaning};
 ghost use Rattle.mm_frame.specs.Language.Typing.{IsTyped};
 ghost use Rattle.mm_proof.specs.Code.Flat.{IsEntryWithin};

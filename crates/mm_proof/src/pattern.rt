@@ -1,9 +1,9 @@
 //! Expressions of an assertion under the substitution that entries give.
 
-ghost use Rattle.std.specs.Prelude.{◌≡◌, ◌↔◌, ◌++◌, ◌<◌, ◌≤◌, ◌+◌, ℕ, List, IsTrue, OnOk, All, MatchBool, Some, drop, length, map, slice_get, take};
+ghost use Rattle.std.specs.Prelude.{◌≡◌, ◌↔◌, ◌++◌, ◌<◌, ◌≤◌, ◌+◌, List, IsTrue, OnOk, All, MatchBool, Some, drop, length, map, slice_get};
 ghost use Rattle.mm_frame.specs.Language.Frame.{Symbol as Meaning};
 ghost use Rattle.mm_proof.specs.Language.Substitution.{replacement, substituted};
-ghost use Rattle.mm_proof.specs.Code.Flat.{IsEntryWithin, read_all};
+ghost use Rattle.mm_proof.specs.Code.Flat.{IsEntryWithin};
 ghost use Rattle.mm_proof.specs.Code.Citation.{GivesVariables, hypotheses_of, entries_of, replaced_by};
 
 use crate::assertion::Hypothesis;

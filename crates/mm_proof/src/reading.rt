@@ -1,9 +1,9 @@
 //! Decoding: the steps of a proof, or its first fault.
 
-ghost use Rattle.std.specs.Prelude.{◌≡◌, true, ℕ, ◌+◌, List, Ok, IfOk, IfErr, map, length, codes, bytes_eq, ◌∷◌, ◌++◌};
+ghost use Rattle.std.specs.Prelude.{◌≡◌, true, ◌+◌, List, Ok, IfOk, IfErr, map, length, codes, bytes_eq, ◌∷◌, ◌++◌};
 ghost use Rattle.mm_proof.specs.Language.Expansion.{Step};
 ghost use Rattle.mm_frame.specs.Language.Base.{BaseView};
-ghost use Rattle.mm_frame.specs.Code.KeptBase.{IsBase};
+ghost use Rattle.mm_frame.specs.Language.Answering.{IsBase};
 ghost use Rattle.mm_proof.specs.Language.BaseLabels.{setting_at, AreActive};
 ghost use Rattle.mm_proof.specs.Language.Decoding.{read_word as read_word_lem, is_compressed as is_compressed_lem};
 ghost use Rattle.mm_frame.specs.declared.base.Resolved.TheVariants as answers;

@@ -1,6 +1,6 @@
 //! The slots of variables: which `$f` of a frame is theirs.
 
-ghost use Rattle.std.specs.Prelude.{◌≡◌, ◌↔◌, ◌<◌, true, IsTrue, OnOk, length, map};
+ghost use Rattle.std.specs.Prelude.{◌≡◌, ◌↔◌, ◌<◌, IsTrue};
 ghost use Rattle.mm_frame.specs.Language.Typing.{IsTyped};
 ghost use Rattle.mm_proof.specs.Code.Citation.{IsSlot, IsTypingOf, mandatory_of, hypotheses_of};
 ghost use Rattle.mm_proof.specs.Code.Keys.{home as home_lem};

@@ -1,8 +1,7 @@
 //! What the machine asks of symbols that it keeps in a list.
 
-ghost use Rattle.std.specs.Prelude.{◌≡◌, ◌↔◌, ◌<◌, ◌^◌, ◌++◌, ℕ, IfOk, IsTrue, OnOk, map, slice_index};
+ghost use Rattle.std.specs.Prelude.{◌≡◌, ◌<◌, ◌^◌, ◌++◌, ℕ, OnOk, map, slice_index};
 ghost use Rattle.mm_frame.specs.Language.Frame.{Symbol as Meaning};
-ghost use Rattle.mm_frame.specs.Language.NumberedSymbols.{named_symbol};
 ghost use Rattle.mm_proof.specs.Code.Keys.{key_from, key_next};
 
 use mm_frame::{NamedSymbol, NumberedSymbol, Symbol};

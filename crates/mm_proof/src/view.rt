@@ -1,13 +1,13 @@
 //! Whether two theorems have the same view: all that the verdicts on their proofs depend on.
 
-ghost use Rattle.std.specs.Prelude.{◌≡◌, ◌↔◌, true, ℕ, List, Some, IsTrue, IfSome, bytes_eq, codes, filter};
+ghost use Rattle.std.specs.Prelude.{◌≡◌, ◌↔◌, true, ℕ, List, Some, IsTrue, IfSome, filter};
 ghost use Rattle.std.specs.List.{AllByRecursion, before_first};
 ghost use Rattle.mm_frame.specs.Language.Base.{BaseView, is_framed_at, is_proof_at};
 ghost use Rattle.mm_frame.specs.Language.Resolving.{IsCarrier, Resolves};
-ghost use Rattle.mm_frame.specs.Code.KeptBase.{IsBase, IsBaseBy};
+ghost use Rattle.mm_frame.specs.Language.Answering.{IsBase, IsBaseBy};
 ghost use Rattle.mm_proof.specs.Code.KeptMarks.{OfBasesBy, AreMarksOf, AreTheorems, SharePairs, ShareHypotheses, ShareStatement, ShareProof};
 ghost use Rattle.mm_proof.specs.Code.KeptMarks.{IsOneCarrier, IsShownItem, TellsSame, is_label_word};
-ghost use Rattle.mm_proof.specs.Code.ReadIn.{IsReadIn, HasTheorem};
+ghost use Rattle.mm_proof.specs.Language.ReadIn.{IsReadIn, HasTheorem};
 ghost use Rattle.mm_proof.specs.Language.BaseLabels.{setting_at};
 ghost use Rattle.mm_proof.specs.Language.BaseMarks.{AreMarks, mark_at};
 ghost use Rattle.mm_proof.specs.Language.Decoding.{is_close as is_closing};

@@ -1,5 +1,5 @@
 -- What a line asks for is known from its first space on.
-use Rattle.std.proofs.Common.{◌≡◌, ◌≢◌, ◌⊎◌, ℕ, ◌+◌, Bool, true, false, not, ◌&&◌, List, [], ◌∷◌, ◌++◌, length, length-append, take, drop, refl, sym, ap, ◌∙◌, subst, arith, append_assoc, Option, Some, None, Result, Ok, inl, inr}
+use Rattle.std.proofs.Common.{◌≡◌, ◌≢◌, ◌⊎◌, ℕ, Bool, true, false, not, ◌&&◌, List, [], ◌∷◌, ◌++◌, length, length-append, take, refl, sym, ap, ◌∙◌, subst, arith, Option, Some, None, Result, Ok, inl, inr}
 use Rattle.std.specs.Prelude.{◌==◌, codes, decimal}
 use Rattle.std.specs.List.{list_all}
 use Rattle.std.specs.Str.{IsUtf8, bytes_eq}
@@ -8,13 +8,13 @@ use Rattle.std.proofs.lemmas.Str.{IsUtf8-from_ascii}
 use Rattle.std.specs.Option.{is_some}
 use Rattle.std.specs.Str.Parse.{ParsesUnsigned}
 use Rattle.std.proofs.lemmas.Bool.{eqb-true, ne_eqb}
-use Rattle.std.proofs.lemmas.List.{take_at, drop_at}
+use Rattle.std.proofs.lemmas.List.{take_at}
 use Rattle.std.proofs.lemmas.Fmt.{parse-decimal, IsAscii-decimal}
 use Rattle.mm_store.specs.Language.Edits.{Asked}
 use Rattle.mm_store.specs.Language.Edits as ask
 use Rattle.mm_report.specs.declared.line.Verb.{Verb}
 use Rattle.mm_report.specs.declared.line.Verb.TheVariants.{Insert, Replace, Delete, Move, Batch, Verdict, Axioms, Cites, Users}
-use Rattle.mm_report.specs.Code.Lines.{BeginsWithVerb, CutsAt, HasNoSpace, IsFileAnd, IsFileAndTwo, verb_word}
+use Rattle.mm_report.specs.Code.Lines.{CutsAt, HasNoSpace, IsFileAnd, IsFileAndTwo, verb_word}
 use Rattle.mm_report.specs.Code.Stops.{IsOneLine}
 use Rattle.mm_report.specs.Language.Script as commands
 use Rattle.mm_report.specs.Language.Script.{Command, Change, Report, IsName, IsNumber, IsGood, IsGoodEdit, edit_line, line_of, is_word_byte}

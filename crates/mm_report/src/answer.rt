@@ -1,7 +1,7 @@
 //! The answers to the commands of a script.
 
 ghost use Rattle.std.specs.Prelude.{◌≡◌, ◌≢◌, ◌≤◌, ◌<◌, ◌↔◌, ◌⊎◌, ◌++◌, ℕ};
-ghost use Rattle.std.specs.Prelude.{List, Contains, Err, IsOk, IsTrue, true, false, IfOk, IfErr, IsErrOf, OnOk, codes, decimal, length, map};
+ghost use Rattle.std.specs.Prelude.{List, Contains, Err, IsOk, IsTrue, true, false, IfOk, IfErr, IsErrOf, OnOk, codes, length, map};
 ghost use Rattle.std.specs.Io.KnownBytes.{Appends};
 ghost use Rattle.mm_store.specs.declared.edit.EditError.TheVariants as refusals;
 ghost use Rattle.mm_store.specs.Language.Edits.{asked};

@@ -1,12 +1,12 @@
 //! Reading the edits of a script: the line of each, and its text.
 
-ghost use Rattle.std.specs.Prelude.{◌≡◌, ◌≢◌, ◌≤◌, ◌<◌, ◌+◌, ◌^◌, ◌⊎◌, ◌++◌, ℕ, List, true, false, drop, length, Err, IfOk, IfSome, IsErrOf, OnOk};
+ghost use Rattle.std.specs.Prelude.{◌≡◌, ◌≢◌, ◌≤◌, ◌<◌, ◌+◌, ◌^◌, ◌⊎◌, ◌++◌, true, false, drop, length, Err, IfOk, IfSome, IsErrOf, OnOk};
 ghost use Rattle.std.specs.Io.KnownBytes.{IsAtEnd};
 ghost use Rattle.mm_report.specs.declared.script.ScriptError.TheVariants as errors;
 ghost use Rattle.mm_report.specs.Code.Batches.{EndsBatch, HoldsBatch, IsBatchRead, IsListedRead};
-ghost use Rattle.mm_report.specs.Code.Growing.{InputGrows, to_come, IsEditRead, IsLineAt, IsOtherByte, IsTextBad, IsTextLine, IsTextShort, line_bytes};
+ghost use Rattle.mm_report.specs.Code.Growing.{InputGrows, to_come, IsEditRead, IsLineAt, IsTextBad, IsTextLine, IsTextShort, line_bytes};
 ghost use Rattle.mm_report.specs.Code.Lines.{SaysEdit};
-ghost use Rattle.mm_report.specs.Code.Pending.{pending, bytes_of_part, IsPartWithin};
+ghost use Rattle.mm_report.specs.Code.Pending.{pending};
 ghost use Rattle.mm_report.specs.Code.Stops.{HasNoEntry, StopsSo, batch_line};
 ghost use Rattle.mm_report.specs.Language.Script.{BadLine, CutShort, IsNumber};
 ghost use Rattle.mm_report.specs.Language.Stream.{cannot_read, unread};

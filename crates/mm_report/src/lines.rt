@@ -1,6 +1,6 @@
 //! Reading on until a line is complete, or a text.
 
-ghost use Rattle.std.specs.Prelude.{◌≡◌, ◌≢◌, ◌≤◌, ◌<◌, ◌+◌, ◌^◌, ◌⊎◌, ◌∷◌, ◌++◌, true, false, drop, length, Err, IfOk, IsErrOf, OnOk, OnErr};
+ghost use Rattle.std.specs.Prelude.{◌≡◌, ◌≢◌, ◌≤◌, ◌<◌, ◌+◌, ◌^◌, ◌⊎◌, ◌∷◌, true, false, drop, length, Err, IfOk, IsErrOf, OnOk, OnErr};
 ghost use Rattle.std.specs.Io.KnownBytes.{IsAtEnd};
 ghost use Rattle.mm_report.specs.declared.script.ScriptError.TheVariants as errors;
 ghost use Rattle.mm_report.specs.Code.Growing.{InputGrows, to_come, HasBlanks, IsLineAt, IsLineBegun, IsOtherByte};

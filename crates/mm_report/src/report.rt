@@ -1,6 +1,6 @@
 //! The report of a session.
 
-ghost use Rattle.std.specs.Prelude.{◌≡◌, ◌<◌, ◌++◌, [], true, codes, decimal, length, IfOk, OnOk, OnErr, ℕ, List, unwrap_or};
+ghost use Rattle.std.specs.Prelude.{◌≡◌, ◌<◌, ◌++◌, [], true, decimal, length, IfOk, OnOk, OnErr, ℕ, List, unwrap_or};
 ghost use Rattle.std.specs.Io.KnownBytes.{Appends};
 ghost use Rattle.mm_store.specs.Language.FilesView.{plain};
 ghost use Rattle.mm_frame.specs.Language.Item.{Item};

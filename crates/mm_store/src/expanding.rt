@@ -1,6 +1,6 @@
 //! The items that the pieces of the files give.
 
-ghost use Rattle.std.specs.Prelude.{◌≡◌, ℕ, ◌↔◌, IsTrue, List, [], ◌++◌, IfNone, IfSome, IfOk, OnOk, IsSome, map};
+ghost use Rattle.std.specs.Prelude.{◌≡◌, ℕ, ◌↔◌, IsTrue, List, [], ◌++◌, IfNone, IfSome, IfOk, OnOk, map};
 ghost use Rattle.mm_text.specs.declared.word.Word.{Word};
 ghost use Rattle.mm_text.specs.declared.part.PartKind.TheVariants.{Inclusion};
 ghost use Rattle.mm_text.specs.Language.Reading.{HasWords};

@@ -1,6 +1,6 @@
 //! A file by the keys of its pieces.
 
-ghost use Rattle.std.specs.Prelude.{◌≡◌, ℕ, ◌+◌, ◌++◌, ◌<◌, ◌≤◌, List, All, IfOk, OnOk, length, map, slice_index_or, slice_set, vec_len, vec_capacity};
+ghost use Rattle.std.specs.Prelude.{◌≡◌, ℕ, ◌+◌, ◌<◌, ◌≤◌, All, IfOk, OnOk, length, map, slice_index_or, slice_set, vec_len};
 ghost use Rattle.std.specs.List.{concat, insert, remove};
 ghost use Rattle.mm_store.specs.Language.Pieces.{text_under};
 ghost use Rattle.mm_store.specs.Language.Undoing.{moved_list};

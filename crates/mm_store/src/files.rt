@@ -5,7 +5,7 @@ ghost use Rattle.std.specs.Prelude.{◌++◌, List, Some, None, IfSome, IfOk, If
 ghost use Rattle.std.specs.Prelude.{IsErrOf, All, length, map, slice_get, slice_index_or, slice_set, vec_len, []};
 ghost use Rattle.std.specs.Prelude.{false, IfNone};
 ghost use Rattle.std.specs.Option.{option_map};
-ghost use Rattle.std.specs.List.{concat, insert, remove};
+ghost use Rattle.std.specs.List.{concat, insert};
 ghost use Rattle.std.specs.FinMap as finite;
 ghost use Rattle.mm_text.specs.Language.Cut.{ArePieces};
 ghost use Rattle.mm_text.specs.Language.Place.{line_at, column_at};
@@ -25,7 +25,7 @@ ghost use Rattle.mm_store.specs.Code.Gains.{HoldUnits};
 ghost use Rattle.mm_store.specs.Language.Keyless.{bare};
 ghost use Rattle.mm_store.specs.Code.Steps.{first_walk, Includes, IncludesNothing, piece_at};
 ghost use Rattle.mm_store.specs.Code.Edited.{pieces_in, with_file, with_pieces, IsReplaced, IsInserted, IsDeleted, IsMoved};
-ghost use Rattle.mm_store.specs.Code.Inside.{CanBeKept, HasParts, IsPieceKept};
+ghost use Rattle.mm_store.specs.Code.Inside.{HasParts, IsPieceKept};
 ghost use Rattle.mm_store.specs.Code.Lines.{AreLines, AreStarts, bytes_before};
 ghost use Rattle.mm_store.specs.Code.Batched.{StandOnce};
 

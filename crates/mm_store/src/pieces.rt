@@ -2,7 +2,7 @@
 
 ghost use Rattle.std.specs.Prelude.{◌≡◌, ℕ, ◌+◌, ◌++◌, ◌≤◌, List, All, length, map, IsSome, IfOk, OnErr, take, vec_len, vec_capacity};
 ghost use Rattle.std.specs.FinMap as finite;
-ghost use Rattle.slab.specs.Slab.{Slab as Slots, HasRoomFor};
+ghost use Rattle.slab.specs.Slab.{HasRoomFor};
 ghost use Rattle.mm_text.specs.Language.Cut.{HoldsOne};
 ghost use Rattle.mm_store.specs.Language.Pieces.{standing_piece, text_under, with_state, parked_pieces, parked_state, parked_under};
 ghost use Rattle.mm_store.specs.Code.Inside.{HasParts, IsPieceKept, ArePut};
@@ -34,7 +34,6 @@ pub struct PieceStore {
 }
 
 impl Model for PieceStore {
-    ghost use Rattle.std.specs.Ordering.{nat_cmp};
     ghost use Rattle.std.specs.FinMap as finite;
     ghost use Rattle.std.specs.Coded.{coded_ℕ, codes};
     ghost use Rattle.mm_store.specs.Language.Pieces.{Pieces};

@@ -1,6 +1,6 @@
 //! Where the pieces of a file begin.
 
-ghost use Rattle.std.specs.Prelude.{◌≡◌, ℕ, ◌++◌, List, []};
+ghost use Rattle.std.specs.Prelude.{ℕ, ◌++◌, List, []};
 ghost use Rattle.mm_store.specs.Code.Lines.{IsStart, StaysSmall};
 ghost use Rattle.mm_store.specs.Code.Inside.{IsPieceKept};
 

@@ -25,7 +25,7 @@ pub struct Reader<'a> {
 }
 
 impl<'a> Reader<'a> {
-    ghost use Rattle.std.specs.Prelude.{◌≡◌, MatchOption};
+    ghost use Rattle.std.specs.Prelude.{◌≡◌};
     ghost use Rattle.mm_text.specs.Code.Reader.{TakesRun, EndsComment, GivesWord, SkipsPlain};
 
     /// A reader at the beginning of a text.

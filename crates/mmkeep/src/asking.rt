@@ -1,6 +1,6 @@
 //! Which words are a command.
 
-ghost use Rattle.std.specs.Prelude.{◌≡◌, List, ℕ, Some, None, IfSome, map};
+ghost use Rattle.std.specs.Prelude.{◌≡◌, Some, None, IfSome};
 ghost use Rattle.mmkeep.specs.Language.Asking.{words_of, said};
 ghost use Rattle.mmkeep.specs.declared.arguments.Command.{Command as Asked};
 

@@ -2,7 +2,7 @@
 use Rattle.std.specs.Prelude.{◌≡◌, ℕ, true, false, Option, Some, None, List, length, slice_get}
 use Rattle.mm_store.specs.Language.FileFacts.{parked_in}
 use Rattle.mm_frame.specs.Language.Base.{BaseView, IsOfFiles, is_proof_at}
-use Rattle.mm_frame.specs.Code.KeptBase.{IsBaseBy, StandsLater}
+use Rattle.mm_frame.specs.Language.Answering.{IsBaseBy, StandsLater}
 use Rattle.mm_proof.specs.Language.VerdictAt.{IsVerdictAt, cites_at}
 use Rattle.mm_proof.specs.Language.Work.{Judgement}
 use Rattle.mm_keep.specs.declared.session.Session.TheInside.{Inside}

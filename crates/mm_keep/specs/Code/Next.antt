@@ -4,7 +4,7 @@ use Rattle.std.specs.List.{AllZip}
 use Rattle.mm_store.specs.Language.FilesView.{FilesView, files_in, number_of}
 use Rattle.mm_frame.specs.Language.Base.{BaseView, IsOfFiles, is_proof_at}
 use Rattle.mm_frame.specs.Language.Statement.{Says}
-use Rattle.mm_frame.specs.Code.KeptBase.{IsBaseBy, StandsLater}
+use Rattle.mm_frame.specs.Language.Answering.{IsBaseBy, StandsLater}
 use Rattle.mm_frame.specs.declared.base.Base.{Base}
 use Rattle.mm_keep.specs.Code.KeptSession.{AreChecked}
 use Rattle.mm_keep.specs.Code.Planned.{ArePlanned, AreRunBy}

@@ -5,7 +5,7 @@ use Rattle.mm_store.specs.Language.FilesView.{FilesView}
 use Rattle.mm_store.specs.Language.FileFacts.{CanBeRead, StandsIn}
 use Rattle.mm_frame.specs.Language.Base.{BaseView, said_at, is_proof_at}
 use Rattle.mm_frame.specs.declared.base.Base.{Base}
-use Rattle.mm_proof.specs.Code.ReadIn.{IsReadIn}
+use Rattle.mm_proof.specs.Language.ReadIn.{IsReadIn}
 use Rattle.mm_proof.specs.Language.ItemLaws.{IsSpotIn}
 use Rattle.mm_proof.specs.Language.VerdictAt.{IsVerdictAt}
 use Rattle.mm_proof.specs.Language.Work.{Judgement}

@@ -3,10 +3,10 @@ use Rattle.std.specs.Prelude.{◌≡◌, ◌≤◌, ◌<◌, ◌+◌, ◌⊎◌,
 use Rattle.mm_store.specs.Language.FilesView.{FilesView}
 use Rattle.mm_frame.specs.Language.Base.{BaseView, AreSaid, is_proof_at}
 use Rattle.mm_frame.specs.declared.base.Base.{Base}
-use Rattle.mm_frame.specs.Code.KeptBase.{IsBaseBy}
+use Rattle.mm_frame.specs.Language.Answering.{IsBaseBy}
 use Rattle.mm_proof.specs.Language.BaseMarks.{ItemMark, AreMarks}
 use Rattle.mm_proof.specs.Language.VerdictAt.{AreDoneAt}
-use Rattle.mm_proof.specs.Code.ReadIn.{IsReadIn}
+use Rattle.mm_proof.specs.Language.ReadIn.{IsReadIn}
 use Rattle.mm_proof.specs.Language.Work.{Recorded, Judgement}
 use Rattle.mm_keep.specs.Code.KeptSession.{IsCheckedAt, AreChecked}
 use Rattle.mm_keep.specs.Language.Runs.{HasSameView, HadView, AreThose, AreStepsOf}

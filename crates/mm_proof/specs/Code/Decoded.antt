@@ -2,7 +2,7 @@
 use Rattle.std.specs.Prelude.{ℕ, List, ◌++◌, length, map, drop}
 use Rattle.std.specs.List.{before_first}
 use Rattle.mm_frame.specs.Language.Base.{BaseView}
-use Rattle.mm_frame.specs.Code.KeptBase.{IsBase}
+use Rattle.mm_frame.specs.Language.Answering.{IsBase}
 use Rattle.mm_frame.specs.declared.base.Base.{Base}
 use Rattle.mm_proof.specs.Language.BaseLabels.{setting_at, AreActive}
 use Rattle.mm_proof.specs.Language.DecodedSteps.{entry_steps, labels_at}

@@ -3,7 +3,7 @@ use Rattle.std.specs.Prelude.{◌≡◌, ℕ, ◌+◌, ◌<◌, true, Ok, length
 use Rattle.mm_frame.specs.declared.base.Base.{Base}
 use Rattle.mm_frame.specs.Language.Base.{BaseView, AreSaid, said_at, is_proof_at}
 use Rattle.mm_frame.specs.Language.Item.{Item}
-use Rattle.mm_frame.specs.Code.KeptBase.{IsBase}
+use Rattle.mm_frame.specs.Language.Answering.{IsBase}
 use Rattle.mm_proof.specs.Language.VerdictAt.{decoding_at, mandatory_labels}
 use Rattle.mm_proof.specs.Language.DecodedSteps.{decoded_steps, AreEntries, entry_steps, label_table}
 use Rattle.mm_proof.specs.declared.reading.Decoding.{Decoding}

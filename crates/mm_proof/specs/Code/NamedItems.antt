@@ -6,7 +6,7 @@ use Rattle.mm_frame.specs.declared.base.Resolved.TheVariants as answers
 use Rattle.mm_frame.specs.Language.Base.{BaseView, is_shown_at, is_framed_at}
 use Rattle.mm_frame.specs.Language.Frame.{Symbol, Frame, AreSameFrame}
 use Rattle.mm_frame.specs.Language.Typing.{IsFrame}
-use Rattle.mm_frame.specs.Code.KeptBase.{IsBase}
+use Rattle.mm_frame.specs.Language.Answering.{IsBase}
 use Rattle.mm_proof.specs.Code.Citation.{frame_of}
 use Rattle.mm_proof.specs.Language.DecodedSteps.{IsEntry}
 use Rattle.mm_frame.specs.Language.NumberedSymbols.{by_number}

@@ -5,7 +5,7 @@ use Rattle.mm_frame.specs.declared.symbol.NumberedSymbol.{NumberedSymbol}
 use Rattle.mm_frame.specs.Language.Base.{BaseView, hypothesis_at, frame_at}
 use Rattle.mm_frame.specs.Language.Frame.{Symbol, Mandatory, Frame, Setting}
 use Rattle.mm_frame.specs.Language.NumberedSymbols.{by_number}
-use Rattle.mm_frame.specs.Code.KeptBase.{IsBaseBy}
+use Rattle.mm_frame.specs.Language.Answering.{IsBaseBy}
 use Rattle.mm_proof.specs.Language.BaseLabels.{setting_at}
 use Rattle.mm_proof.specs.Language.Renaming.{renamed_mandatory, renamed_frame, renamed_meaning, renamed_pairs}
 use Rattle.mm_proof.specs.Code.Numbering.{unnaming}

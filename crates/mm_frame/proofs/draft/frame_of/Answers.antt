@@ -1,8 +1,8 @@
 use Rattle.std.proofs.Common.{Some, ◌∙◌, ap, sym, subst}
 use Rattle.mm_frame.specs.Language.Framing.{frame}
 use Rattle.mm_frame.specs.Language.NumberedSymbols.{ArePairsRead}
-use Rattle.mm_frame.specs.Code.KeptBase.{numbers_if}
-use Rattle.mm_frame.specs.Code.PairOrder.{pairs_in_order}
+use Rattle.mm_frame.specs.Language.Answering.{numbers_if}
+use Rattle.mm_frame.specs.Language.Answering.{pairs_in_order}
 use Rattle.mm_frame.specs.declared.draft.Frame.{Frame}
 use Rattle.mm_frame.proofs.BaseLemmas.{same_frame_kept}
 use Rattle.mm_frame.proofs.draft.frame_of.Goals as goal

@@ -1,6 +1,7 @@
 use Rattle.std.proofs.Common.{Some, None, ◌++◌, ◌∷◌, [], ◌∙◌, sym, subst}
 use Rattle.mm_frame.specs.Language.Sound.{sound_items}
-use Rattle.mm_frame.specs.Code.KeptBase.{AreRows, TellsPairs}
+use Rattle.mm_frame.specs.Code.KeptBase.{TellsPairs}
+use Rattle.mm_frame.specs.Language.Answering.{AreRows}
 use Rattle.mm_frame.proofs.BaseLemmas.{kept_are_sound}
 use Rattle.mm_frame.proofs.PairListLemmas.{pairs_more, keeps_all, no_number, some_number}
 use Rattle.mm_frame.proofs.draft.keep_pairs.Goals as goal

@@ -4,7 +4,7 @@ use Rattle.mm_frame.specs.Language.Frame.{Symbol}
 use Rattle.mm_frame.specs.Language.Item.{Item}
 use Rattle.mm_frame.specs.Language.Framing.{pairs_of, active_pairs}
 use Rattle.mm_frame.specs.Language.NumberedSymbols.{symbols_of, IsNumbered, ArePairsRead}
-use Rattle.mm_frame.specs.Code.PairOrder.{are_paired}
+use Rattle.mm_frame.specs.Language.Answering.{are_paired}
 use Rattle.mm_frame.specs.Code.KeptPairTable.{ReadsPairs}
 use Rattle.mm_frame.proofs.mandatory.active_among.Given as goal
 

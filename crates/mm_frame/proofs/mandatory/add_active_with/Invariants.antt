@@ -4,7 +4,7 @@ use Rattle.mm_frame.specs.Language.Frame.{Symbol}
 use Rattle.mm_frame.specs.Language.Item.{Item}
 use Rattle.mm_frame.specs.Language.Framing.{active_pairs}
 use Rattle.mm_frame.specs.Language.NumberedSymbols.{symbol_of, symbols_of, IsNumbered, ArePairsRead}
-use Rattle.mm_frame.specs.Code.PairOrder.{are_paired}
+use Rattle.mm_frame.specs.Language.Answering.{are_paired}
 use Rattle.mm_frame.specs.Code.KeptPairTable.{ReadsPairs}
 use Rattle.mm_frame.proofs.ActivePairLemmas.{pairs_with}
 use Rattle.mm_frame.proofs.mandatory.add_active_with.Given as goal

@@ -3,7 +3,7 @@ use Rattle.std.proofs.lemmas.Bool.{false≢true}
 use Rattle.mm_frame.specs.Language.Base.{frame_at}
 use Rattle.mm_frame.specs.Language.Frame.{AreSameFrame}
 use Rattle.mm_frame.specs.Language.NumberedSymbols.{kept_pairs, ArePairsRead}
-use Rattle.mm_frame.specs.Code.PairOrder.{pairs_in_order}
+use Rattle.mm_frame.specs.Language.Answering.{pairs_in_order}
 use Rattle.mm_frame.proofs.BaseLemmas.{framed_in_order}
 use Rattle.mm_frame.proofs.SameFrames.{same_by_parts}
 use Rattle.mm_frame.proofs.SameLemmas.{pairs_from_readings}

@@ -1,6 +1,6 @@
 use Rattle.std.proofs.Common.{length}
 use Rattle.mm_frame.specs.Language.Base.{BaseView}
-use Rattle.mm_frame.specs.Code.KeptBase.{IsBase}
+use Rattle.mm_frame.specs.Language.Answering.{IsBase}
 use Rattle.mm_proof.specs.Code.Labels.{Normal}
 use Rattle.mm_proof.specs.Code.Left.{AreLeft}
 use Rattle.mm_proof.proofs.reading.decode_normal.Given as goal

@@ -1,13 +1,26 @@
 use Rattle.std.proofs.Common.{ℕ, List, map, refl, sym, ◌∙◌, ap, subst, arith}
 use Rattle.std.specs.List.{AllZip}
 use Rattle.std.proofs.lemmas.Slice.Zip.{AllZip-long}
-use Rattle.mm_frame.specs.declared.base.Base.{Base}
+use Rattle.mm_frame.specs.declared.base.Base.TheInside.{Inside}
 use Rattle.mm_frame.specs.Language.Names.{AreDistinct, Begins}
 use Rattle.mm_frame.specs.Language.Base.{BaseView}
 use Rattle.mm_frame.specs.Language.Statement.{Says}
-use Rattle.mm_frame.specs.Code.KeptBase.{IsBaseBy, is_float_item}
+use Rattle.mm_frame.specs.Language.Answering.{IsBaseBy}
+use Rattle.mm_frame.specs.Code.BaseInside.{answers_of}
+use Rattle.mm_frame.specs.Code.KeptBase.{is_float_item}
+use Rattle.mm_frame.proofs.AnswerLemmas.{base_told, labels_told}
 use Rattle.mm_frame.proofs.FrameNumbers.{kinds_said}
 use Rattle.mm_frame.proofs.base.Base.build.Goals as goal
+
+pub invariant_of-result : goal.invariant_of-result
+invariant_of-result c =
+    let read = c.in_ok-draft.ensures.read in
+    let names = c.read_all.new.names in
+    let base : BaseView = record { found = c.in_ok-items.items.items; said = read.0 } in
+    record {
+      floats = c.in_ok-floats.ensures ∙ ap (map is_float_item) c.deref-2.ensures.value;
+      labels = labels_told names base c.parts.result (c.parts.ensures names read.0 (read.2 names c.distinct.ensures (λ n name there. there)));
+    }
 
 pub returns-clause-base : goal.returns-clause-base
 returns-clause-base c =
@@ -16,14 +29,7 @@ returns-clause-base c =
     let read = c.in_ok-draft.ensures.read in
     let each = subst (λ w. AllZip (Says files) w read.0) c.deref.ensures.value read.1 in
     let base : BaseView = record { found = found; said = read.0 } in
-    let built : Base = record { items = c.in_ok-items.items; floats = c.in_ok-floats.floats; parts = c.parts.result } in
-    let by : (all : List (List ℕ)) → AreDistinct all → Begins c.read_all.new.names all → IsBaseBy all base built = λ all distinct more. record {
-      distinct = distinct;
-      found = refl;
-      floats = c.in_ok-floats.ensures ∙ ap (map is_float_item) c.deref-2.ensures.value;
-      count = sym (AllZip-long (Says files) found read.0 each);
-      few = omega (arith, AllZip-long (Says files) found read.0 each, c.in_ok-items.ensures.small);
-      kinds = kinds_said files found read.0 each;
-      parts = c.parts.ensures all read.0 (read.2 all distinct more);
-    } in
+    let built : Inside = record { items = c.in_ok-items.items; floats = c.in_ok-floats.floats; parts = c.parts.result } in
+    let by : (all : List (List ℕ)) → AreDistinct all → Begins c.read_all.new.names all → IsBaseBy all base (answers_of built) = λ all distinct more.
+    base_told all base built distinct refl (sym (AllZip-long (Says files) found read.0 each)) (omega (arith, AllZip-long (Says files) found read.0 each, c.in_ok-items.ensures.small)) (kinds_said files found read.0 each) (c.parts.ensures all read.0 (read.2 all distinct more)) in
     (base, record { expansion = c.in_ok-items.ensures.items; each = each }, by c.read_all.new.names c.distinct.ensures (λ n name there. there), by)

@@ -1,12 +1,16 @@
-use Rattle.std.proofs.Common.{length, slice_get, refl, sym, ap, ◌∙◌}
-use Rattle.std.proofs.lemmas.Option.{slice_get_read}
+use Rattle.std.proofs.Common.{slice_get, map, sym, ap, ◌∙◌}
+use Rattle.std.specs.Option.{option_map}
+use Rattle.mm_frame.specs.Code.KeptBase.{is_float_item}
+use Rattle.mm_frame.proofs.AnswerLemmas.{float_none}
 use Rattle.mm_frame.proofs.FrameNumbers.{float_at}
 use Rattle.mm_frame.proofs.base.Base.is_floating.Goals as goal
 
 pub returns-in-Some : goal.returns-in-Some
 returns-in-Some c base is =
-    let at = c.args.i in
-    let found = c.in-Some.ensures.lookup in
-    let floats = c.deref.result.now in
-    let there = ap (λ w. slice_get w at) (sym (c.deref.ensures.value ∙ is.1.floats)) ∙ slice_get_read floats (length floats) at c.in-Some.floating.now refl found.3.0 found.1 in
-    float_at base.found base.said at c.in-Some.floating.now is.1.kinds there
+    let kept = c.deref.ensures.value ∙ c.self.invariant.floats ∙ ap (map is_float_item) (ap (λ a. a.items) c.self.view_is ∙ is.1.found) in
+    float_at base.found base.said c.args.i c.in-Some.floating.now is.1.kinds (ap (λ w. slice_get w c.args.i) (sym kept) ∙ sym c.at.ensures ∙ ap (option_map (λ kept. kept.now)) c.in-Some.is)
+
+pub returns-in-None : goal.returns-in-None
+returns-in-None c base is =
+    let kept = c.deref.ensures.value ∙ c.self.invariant.floats ∙ ap (map is_float_item) (ap (λ a. a.items) c.self.view_is ∙ is.1.found) in
+    float_none base.found base.said c.args.i is.1.kinds (ap (λ w. slice_get w c.args.i) (sym kept) ∙ sym c.at.ensures ∙ ap (option_map (λ kept. kept.now)) c.in-None.is)

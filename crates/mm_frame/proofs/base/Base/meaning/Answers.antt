@@ -1,4 +1,4 @@
-use Rattle.std.proofs.Common.{◌∙◌, sym}
+use Rattle.std.proofs.Common.{◌∙◌, ap, sym}
 use Rattle.mm_frame.proofs.ResolvingLemmas.{assertion_means, active_means, inactive_means, later_means}
 use Rattle.mm_frame.proofs.base.Base.meaning.Goals as goal
 
@@ -9,7 +9,15 @@ pub returns-then-is_some : goal.returns-then-is_some
 returns-then-is_some c base label is e = assertion_means base c.args.i label c.args.j e c.if-j-i.false (sym (c.frame.ensures.some base is) ∙ sym c.is_some.ensures ∙ c.if-is_some.true)
 
 pub returns-then-is_active_at : goal.returns-then-is_active_at
-returns-then-is_active_at c base label is e = active_means base c.args.i label c.args.j c.args.self.now.parts.blocks is.1.parts.marks e c.if-j-i.false (sym (c.frame.ensures.some base is) ∙ sym c.is_some.ensures ∙ c.if-is_some.false) (sym c.is_active_at.ensures ∙ c.if-is_active_at.true)
+returns-then-is_active_at c base label is e =
+    let blocks = c.self.inside.parts.blocks in
+    let marks = ap (λ a. a.marks) c.self.view_is ∙ is.1.marks in
+    let framed = sym (c.frame.ensures.some base is) ∙ sym c.is_some.ensures ∙ c.if-is_some.false in
+    active_means base c.args.i label c.args.j blocks marks e c.if-j-i.false framed (sym c.is_active_at.ensures ∙ c.if-is_active_at.true)
 
 pub returns-else-is_active_at : goal.returns-else-is_active_at
-returns-else-is_active_at c base label is e = inactive_means base c.args.i label c.args.j c.args.self.now.parts.blocks is.1.parts.marks e c.if-j-i.false (sym (c.frame.ensures.some base is) ∙ sym c.is_some.ensures ∙ c.if-is_some.false) (sym c.is_active_at.ensures ∙ c.if-is_active_at.false)
+returns-else-is_active_at c base label is e =
+    let blocks = c.self.inside.parts.blocks in
+    let marks = ap (λ a. a.marks) c.self.view_is ∙ is.1.marks in
+    let framed = sym (c.frame.ensures.some base is) ∙ sym c.is_some.ensures ∙ c.if-is_some.false in
+    inactive_means base c.args.i label c.args.j blocks marks e c.if-j-i.false framed (sym c.is_active_at.ensures ∙ c.if-is_active_at.false)

@@ -1,6 +1,7 @@
 use Rattle.std.proofs.Common.{◌≡◌, true, length, ◌∷◌, ◌++◌, [], ◌∙◌, ap, sym, subst, arith}
 use Rattle.mm_frame.specs.Language.Base.{fault_by}
-use Rattle.mm_frame.specs.Code.KeptBase.{AreRows, TellsRow, TellsFrame, HoldsFrame}
+use Rattle.mm_frame.specs.Code.KeptBase.{TellsRow, TellsFrame, HoldsFrame}
+use Rattle.mm_frame.specs.Language.Answering.{AreRows}
 use Rattle.mm_frame.specs.Code.KeptPairTable.{KnowsPairs}
 use Rattle.mm_frame.specs.Code.KeptTables.{Knows}
 use Rattle.mm_frame.specs.Code.Numbers.{AreNameNumbers}

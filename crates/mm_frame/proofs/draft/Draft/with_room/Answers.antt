@@ -1,5 +1,6 @@
 use Rattle.std.proofs.Common.{[], sym, subst}
-use Rattle.mm_frame.specs.Code.KeptBase.{AreRows, TellsRow, TellsFrame, TellsPairs}
+use Rattle.mm_frame.specs.Code.KeptBase.{TellsRow, TellsFrame, TellsPairs}
+use Rattle.mm_frame.specs.Language.Answering.{AreRows}
 use Rattle.mm_frame.specs.Code.KeptSymbols.{AreSymbols}
 use Rattle.mm_frame.specs.Code.LastItems.{is_essential_item, is_disjoint_item}
 use Rattle.mm_frame.proofs.BaseLemmas.{rows_none, symbols_none}

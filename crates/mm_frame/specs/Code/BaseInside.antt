@@ -1,0 +1,22 @@
+-- What the code's base tells, from what it keeps.
+use Rattle.std.specs.Prelude.{◌≡◌, ◌↔◌, ℕ, Some, None, List, map, slice_get}
+use Rattle.mm_frame.specs.declared.base.Base.TheInside.{Inside}
+use Rattle.mm_frame.specs.Language.Answering.{BaseAnswers}
+use Rattle.mm_frame.specs.Code.KeptTables.{table_label}
+use Rattle.mm_frame.specs.Code.KeptBase.{row_told, frame_told, list_told, is_float_item}
+
+abbrev pub answers_of : Inside → BaseAnswers
+answers_of inside = record {
+  items = inside.items.items;
+  rows = map row_told inside.parts.rows.items;
+  expressions = inside.parts.expressions;
+  frames = map frame_told inside.parts.frames.items;
+  actives = map (list_told inside.parts.pair_lists) inside.parts.pair_numbers.items;
+  marks = inside.parts.blocks;
+}
+
+-- it is kept of each item whether it is a `$f`, and of each label that an item without a fault has, which item that is
+pub record KnowsItems (inside : Inside) : Type 0 where
+  pub floats : inside.floats.items ≡ map is_float_item inside.items.items
+  pub labels : (label : List ℕ) (j : ℕ) → (table_label inside.parts.tables label ≡ Some j)
+      ↔ (slice_get (map row_told inside.parts.rows.items) j ≡ Some (Some label, None))

@@ -1,0 +1,100 @@
+-- What a base tells of its items, with the numbers of names in place of names, and when it tells it rightly (Metamath book, section 4.2).
+use Rattle.std.specs.Prelude.{◌≡◌, ℕ, ◌≤◌, Bool, true, ◌&&◌, ◌||◌, if◌then◌else◌, is_some, is_none, Option, Some, None, List, [], length, map, take, drop}
+use Rattle.std.specs.Prelude.{filter, flat_map, bytes_eq, slice_get, All, IfSome}
+use Rattle.std.specs.Option.{option_map}
+use Rattle.std.specs.List.{AllZip, list_any}
+use Rattle.mm_store.specs.declared.item.Item as store
+use Rattle.mm_frame.specs.declared.FrameNumber.{FrameNumber}
+use Rattle.mm_frame.specs.declared.symbol.NumberedSymbol.{NumberedSymbol}
+use Rattle.mm_frame.specs.Language.Names.{AreDistinct, Begins}
+use Rattle.mm_frame.specs.Language.Frame.{Symbol, Mandatory, Frame}
+use Rattle.mm_frame.specs.Language.Item.{Item, is_labelled, is_assertion, is_theorem, item_at}
+use Rattle.mm_frame.specs.Language.Statement.{kind_of}
+use Rattle.mm_frame.specs.Language.Scope.{Mark, mark_of}
+use Rattle.mm_frame.specs.Language.Sound.{sound_items}
+use Rattle.mm_frame.specs.Language.Framing.{expression, pairs_of, active_pairs, mandatory_numbers, frame}
+use Rattle.mm_frame.specs.Language.NumberedSymbols.{symbols_of, IsNumbered, ArePairsRead, AreSamePairsRead}
+use Rattle.mm_frame.specs.Language.Base.{BaseView, told_fault}
+
+-- what is told of the items, each by its number: the items themselves; their labels and faults; the symbols; the numbers of the hypotheses and
+-- the pairs of a frame; all active pairs; and what an item does to the blocks
+pub record BaseAnswers : Type 0 where
+  pub items : List store.Item
+  pub rows : List (Option (List ℕ) × Option (ℕ × FrameNumber))
+  pub expressions : List (List NumberedSymbol)
+  pub frames : List (Option (List ℕ × List (NumberedSymbol × NumberedSymbol)))
+  pub actives : List (Option (List (NumberedSymbol × NumberedSymbol)))
+  pub marks : List Mark
+
+-- there is a row for each item, which tells of it, behind the sound items before it
+pub record AreRows {X : Type 0} (tells : List Item → Item → X → Type 0) (said : List Item) (rows : List X) : Type 0 where
+  pub count : length rows ≡ length said
+  pub each : (n : ℕ) (row : X) → slice_get rows n ≡ Some row → tells (sound_items (take n said)) (item_at said n) row
+
+-- the label of an item, which one that may have a label has, and its fault
+pub record IsLabelTold (before : List Item) (item : Item) (row : Option (List ℕ) × Option (ℕ × FrameNumber)) : Type 0 where
+  pub label : row.0 ≡ item.label
+  pub labelled : is_some row.0 ≡ is_labelled item.kind
+  pub fault : row.1 ≡ told_fault before item
+
+-- the expression of a sound `$f`, `$e`, `$a` or `$p`; of any other item, whatever symbols
+pub record IsExpressionTold (names : List (List ℕ)) (before : List Item) (item : Item) (symbols : List NumberedSymbol) : Type 0 where
+  pub expression : (is_none (told_fault before item) && is_labelled item.kind) ≡ true → symbols_of names symbols ≡ expression before item
+  pub numbered : All (IsNumbered names) symbols
+
+-- the numbers of the mandatory hypotheses of an assertion
+abbrev pub numbers_if : Bool → List Item → Item → Option (List ℕ)
+numbers_if framed before item = if framed then Some (mandatory_numbers before item) else None
+
+-- of a sound `$a` or `$p` behind the sound items before it, and no other item
+abbrev pub told_numbers : List Item → Item → Option (List ℕ)
+told_numbers before item = numbers_if (is_none (told_fault before item) && is_assertion item.kind) before item
+
+-- the names are those of one of the pairs, in one order or the other
+abbrev pub are_paired : List (Symbol × Symbol) → Symbol × Symbol → Bool
+are_paired pairs named = list_any (λ pair.
+    (bytes_eq pair.0.name named.0.name && bytes_eq pair.1.name named.1.name)
+    || (bytes_eq pair.0.name named.1.name && bytes_eq pair.1.name named.0.name)) pairs
+
+-- the variables that mandatory `$f` type, in order
+abbrev pub typed_variables : List Mandatory → List Symbol
+typed_variables hypotheses = flat_map (λ h. if h.floating then drop 1 h.expression else []) hypotheses
+
+-- the pairs of a frame, each once, in the order of its `$f`
+abbrev pub pairs_in_order : Frame → List (Symbol × Symbol)
+pairs_in_order frame = filter (are_paired frame.pairs) (pairs_of (typed_variables frame.hypotheses))
+
+-- the numbers of its mandatory hypotheses, and its mandatory pairs in one order, of a sound `$a` or `$p`, and of no other item
+pub record IsFrameTold (all : List (List ℕ)) (before : List Item) (item : Item) (row : Option (List ℕ × List (NumberedSymbol × NumberedSymbol))) : Type 0 where
+  pub hypotheses : option_map (λ it. it.0) row ≡ told_numbers before item
+  pub pairs : IfSome row (λ it. ArePairsRead all (pairs_in_order (frame before item)) it.1)
+
+-- the item is a sound `$p` behind the sound items before it
+abbrev pub is_told_proof : List Item → Item → Bool
+is_told_proof before item = is_none (told_fault before item) && is_theorem item.kind
+
+-- all pairs that are active at a sound `$p`, and at no other item
+pub record AreActiveTold (names : List (List ℕ)) (before : List Item) (item : Item) (told : Option (List (NumberedSymbol × NumberedSymbol))) : Type 0 where
+  pub some : is_some told ≡ is_told_proof before item
+  pub pairs : IfSome told (λ pairs. AreSamePairsRead names (active_pairs before) pairs)
+
+-- what is told is right of these items, where names have the numbers of this list
+pub record IsBaseBy (names : List (List ℕ)) (base : BaseView) (answers : BaseAnswers) : Type 0 where
+  pub distinct : AreDistinct names
+  pub found : answers.items ≡ base.found
+  pub count : length base.found ≡ length base.said
+  pub few : length base.said ≤ 4294967295
+  pub kinds : AllZip (λ item said. kind_of item.kind ≡ said.kind) base.found base.said
+  pub rows : AreRows IsLabelTold base.said answers.rows
+  pub expressions : AreRows (IsExpressionTold names) base.said answers.expressions
+  pub frames : AreRows (IsFrameTold names) base.said answers.frames
+  pub actives : AreRows (AreActiveTold names) base.said answers.actives
+  pub marks : answers.marks ≡ map (λ item. mark_of item.kind) (sound_items base.said)
+
+-- so it is for each list of names that begins with these: names that are added change nothing
+abbrev pub StandsLater : List (List ℕ) → BaseView → BaseAnswers → Type 0
+StandsLater names base answers = (all : List (List ℕ)) → AreDistinct all → Begins names all → IsBaseBy all base answers
+
+-- so it is for some list of names
+abbrev pub IsBase : BaseView → BaseAnswers → Type 0
+IsBase base answers = (names : List (List ℕ)) × IsBaseBy names base answers

@@ -1,0 +1,20 @@
+-- A base whose items can be read in files, by their keys, and whose symbols by a list of names.
+use Rattle.std.specs.Prelude.{◌≡◌, ℕ, ◌<◌, true, List, length}
+use Rattle.std.specs.List.{AllZip}
+use Rattle.mm_store.specs.Language.FilesView.{FilesView}
+use Rattle.mm_frame.specs.Language.Base.{BaseView, is_proof_at}
+use Rattle.mm_frame.specs.Language.Answering.{BaseAnswers, IsBaseBy}
+use Rattle.mm_frame.specs.Language.Statement.{Says}
+
+-- a base that answers so stands for this by these names, and it is what its items say in these files, in which their keys live
+pub record IsReadIn (names : List (List ℕ)) (files : FilesView) (answers : BaseAnswers) (view : BaseView) : Type 0 where
+  pub base : IsBaseBy names view answers
+  pub each : AllZip (Says files) view.found view.said
+
+-- there is what it stands for, and the item with this number is a sound `$p`
+abbrev pub HasTheorem : List (List ℕ) → FilesView → BaseAnswers → ℕ → Type 0
+HasTheorem names files answers i = (view : BaseView) × IsReadIn names files answers view × (i < length view.said) × (is_proof_at view i ≡ true)
+
+-- so it is with the theorem of this number, in all that the base stands for
+abbrev pub OfTheorem : List (List ℕ) → FilesView → BaseAnswers → ℕ → (BaseView → Type 0) → Type 0
+OfTheorem names files answers i holds = (view : BaseView) → IsReadIn names files answers view → is_proof_at view i ≡ true → holds view
