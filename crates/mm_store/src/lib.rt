@@ -41,12 +41,8 @@ pub use undo::Undo;
 pub use walk::Walk;
 
 #[cfg(test)]
-mod batch_tests;
-#[cfg(test)]
-mod chance_tests;
-#[cfg(test)]
 mod edit_tests;
 #[cfg(test)]
 mod files_tests;
 #[cfg(test)]
-mod tests;
+mod text_tests;

@@ -2,7 +2,7 @@ use Rattle.std.proofs.Common.{◌<◌, List, ℕ, Vec, length, get_or, sym, ap, 
 use Rattle.std.specs.Global.{Global}
 use Rattle.mm_text.specs.Language.Unit.{Units}
 use Rattle.mm_text.specs.Language.Part.{HasUnits}
-use Rattle.mm_text.proofs.tests.divides_pieces.Goals as goal
+use Rattle.mm_store.proofs.text_tests.divides_pieces.Goals as goal
 
 pub parts-requires : goal.parts-requires
 parts-requires g c =

@@ -2,7 +2,7 @@ use Rattle.std.proofs.Common.{◌+◌, ap, length, arith}
 use Rattle.mm_store.specs.Language.FilesView.{plain_file, text_of}
 use Rattle.mm_store.specs.Language.FileFacts.{piece_offset}
 use Rattle.mm_store.proofs.OffsetLemmas.{live_there, byte_there}
-use Rattle.mm_store.proofs.tests.found_at.Goals as goal
+use Rattle.mm_store.proofs.files_tests.found_at.Goals as goal
 
 pub piece-text-requires : goal.piece-text-requires
 piece-text-requires c = live_there c.args.files.now c.args.item.now c.holds_pieces.ensures c.requires
