@@ -1,4 +1,4 @@
--- Lists of pairs that are shared, and lists that are compared as sets of unordered pairs.
+-- Lists of pairs that are compared as sets of unordered pairs.
 use Rattle.std.proofs.Common.{◌≡◌, ◌<◌, ◌+◌, ℕ, suc, List, [], ◌∷◌, ◌++◌, length, take, get_or, sym, ◌∙◌, ap, subst, take-suc, arith, inl, inr}
 use Rattle.std.specs.Prelude.{Contains, All, ◌↔◌, ◌⊎◌}
 use Rattle.std.proofs.lemmas.Option.{slice_get-get_or}

@@ -128,11 +128,6 @@ module _ (old session : SessionView) (all left before after : Option (List ℕ))
     rest = refl;
   }
 
-  -- the script is what was read and what is left
-  script_is : (script bytes : List ℕ) (more : Option (List ℕ)) → Consumes (Some script) more bytes → IfSome more (λ rest. script ≡ bytes ++ rest)
-  script_is script bytes None consumes = absurd consumes
-  script_is script bytes (Some rest) consumes = consumes
-
   -- where nothing is left, it is what was read
   pub all_read : (script bytes : List ℕ) → Consumes (Some script) left bytes → IsAtEnd left → script ≡ bytes
   all_read script bytes consumes at_end = by left consumes at_end

@@ -1,5 +1,5 @@
 -- What changes of single pieces make of their texts, of what stands, and of weights.
-use Rattle.std.proofs.Common.{◌≡◌, ◌≢◌, ◌⊎◌, inl, inr, ℕ, ◌+◌, List, Option, Some, None, refl, sym, ap, ◌∙◌, arith}
+use Rattle.std.proofs.Common.{◌≡◌, ◌≢◌, inl, inr, ℕ, ◌+◌, List, Option, Some, None, refl, sym, ap, ◌∙◌, arith}
 use Rattle.std.proofs.lemmas.Bool.{cases_eq}
 use Rattle.std.specs.FinMap as finite
 use Rattle.mm_store.proofs.MapLemmas.{get_put_same, get_put_other, get_drop_same, get_drop_other}
@@ -37,13 +37,6 @@ module _ (p : Pieces) (k : ℕ) where
 
   pub get_state_other : (state : PieceState) (q : ℕ) → q ≢ k → finite.get (with_state p k state) q ≡ finite.get p q
   get_state_other state q differs = get_put_other p k (in_state (finite.get p k) state) q differs
-
-  -- at each key, what stands after a change under `k`
-  by_key : (p' : Pieces) (q : ℕ) → (q ≢ k → finite.get p' q ≡ finite.get p q) → (standing_count (finite.get p' q) + standing_count (finite.get p k) ≡ standing_count (finite.get p q) + standing_count (finite.get p' k)) ⊎ (q ≢ k)
-  by_key p' q others = elim (cases_eq q k) [
-    | inl is ↦ inl (omega (arith, ap (λ q. standing_count (finite.get p' q)) is, ap (λ q. standing_count (finite.get p q)) is))
-    | inr differs ↦ inr differs
-  ]
 
   -- a piece more stands, under this key
   pub stands_more : (p' : Pieces) (q : ℕ) → standing_count (finite.get p' k) ≡ standing_count (finite.get p k) + 1 → (q ≢ k → finite.get p' q ≡ finite.get p q) → standing_count (finite.get p' q) ≡ standing_count (finite.get p q) + one q k
