@@ -16,7 +16,7 @@ use mm_store::ItemKind;
 use std::alloc::{AllocError, Global};
 
 /// What a name is declared as.
-#[derive(Clone, Copy, Debug, PartialEq, Eq)]
+#[derive(Clone, Copy)]
 pub enum Declared {
     /// By a `$c`.
     Constant,

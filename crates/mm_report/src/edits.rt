@@ -21,7 +21,7 @@ use std::alloc::Global;
 use std::io::Read;
 
 /// An edit that is complete, and where it ends.
-#[derive(Clone, Copy, Debug)]
+#[derive(Clone, Copy)]
 pub(crate) struct EditRead {
     pub(crate) edit: EditAt,
     pub(crate) end: usize,

@@ -21,14 +21,14 @@ use std::alloc::Global;
 use std::io::Read;
 
 /// Bytes of a script: from the one at `start` up to the one at `end`.
-#[derive(Clone, Copy, Debug)]
+#[derive(Clone, Copy)]
 pub(crate) struct Part {
     pub(crate) start: usize,
     pub(crate) end: usize,
 }
 
 /// Where an edit stands in the bytes of a script.
-#[derive(Clone, Copy, Debug)]
+#[derive(Clone, Copy)]
 pub(crate) enum EditAt {
     Insert { file: Part, at: usize, text: Part },
     Replace { file: Part, at: usize, text: Part },

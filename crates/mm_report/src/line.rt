@@ -14,7 +14,7 @@ use memchr::memchr;
 use std::str;
 
 /// An edit that a line asks for. The part of the line is the name of the file.
-#[derive(Clone, Copy, Debug)]
+#[derive(Clone, Copy)]
 pub(crate) enum EditLine {
     /// A text of so many bytes stands behind the line.
     Insert { file: Part, at: usize, count: usize },
@@ -25,7 +25,7 @@ pub(crate) enum EditLine {
 }
 
 /// What a line asks for. The parts of the line are labels.
-#[derive(Clone, Copy, Debug)]
+#[derive(Clone, Copy)]
 pub(crate) enum CommandLine {
     Change(EditLine),
     /// So many edits stand behind the line.
@@ -38,7 +38,7 @@ pub(crate) enum CommandLine {
 }
 
 /// The first word of a line that has more words than one.
-#[derive(Clone, Copy, Debug)]
+#[derive(Clone, Copy)]
 pub(crate) enum Verb {
     Insert,
     Replace,

@@ -16,7 +16,7 @@ use memchr::memchr;
 use std::io::Read;
 
 /// Where a line stands: up to its line feed, or up to the end of the script.
-#[derive(Clone, Copy, Debug)]
+#[derive(Clone, Copy)]
 pub(crate) struct LineAt {
     pub(crate) start: usize,
     pub(crate) end: usize,

@@ -39,10 +39,3 @@ pub use mm_text::{Keyword, Place, TextFault, TextNumber, Word, WordKind, nth_wor
 pub use room::fits;
 pub use undo::Undo;
 pub use walk::Walk;
-
-#[cfg(test)]
-mod edit_tests;
-#[cfg(test)]
-mod files_tests;
-#[cfg(test)]
-mod text_tests;

@@ -14,7 +14,7 @@ use crate::word::{Keyword, Word, WordKind};
 use std::alloc::Global;
 
 /// What may come next in a sequence of units.
-#[derive(Clone, Copy, Debug, PartialEq, Eq)]
+#[derive(Clone, Copy)]
 pub enum Phase {
     /// A unit.
     Begin,

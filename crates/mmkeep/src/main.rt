@@ -25,6 +25,8 @@ mod script_tests;
 #[cfg(test)]
 mod session_tests;
 #[cfg(test)]
+mod store_tests;
+#[cfg(test)]
 mod stream_tests;
 
 fn main(rt: HostRuntime) -> ExitCode {

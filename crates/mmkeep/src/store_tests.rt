@@ -1,17 +1,101 @@
-//! Edits of a file, one and several at once, and what undoes or settles them.
+//! What the program does not call of texts and files: a word cursor that begins again, the text of a file, an edit that is
+//! undone or settled by itself; and how an error of a text is printed.
 
 ghost use Rattle.std.specs.Prelude.{◌≡◌};
 
-use crate::files_tests::has_text;
-use crate::{BatchError, Edit, EditError, Files, StoreError};
+use mm_store::{Edit, EditError, Files, StoreError};
+use mm_text::{
+    Keyword, TextError, TextFault, TextNumber, Word, WordCursor, WordKind, nth_word, words,
+};
 use std::alloc::{AllocError, Global};
 use std::test::Fail;
 
+fn plain(start: usize, end: usize) -> Word {
+    Word {
+        kind: WordKind::Plain,
+        start,
+        end,
+    }
+}
+
+fn keyword(keyword: Keyword, start: usize, end: usize) -> Word {
+    Word {
+        kind: WordKind::Keyword(keyword),
+        start,
+        end,
+    }
+}
+
+#[test]
+fn finds_the_words_outside_comments(rt: HostRuntime) -> Result<(), Fail> {
+    let text = b"$( x $) $c a $.\n";
+    let wanted = [
+        keyword(Keyword::Constants, 8, 10),
+        plain(11, 12),
+        keyword(Keyword::StatementEnd, 13, 15),
+    ];
+    let found = words(rt.alloc(), text)?;
+    assert_eq!(rt; found.as_slice(), wanted.as_slice());
+    assert_eq!(rt; nth_word(text, 0), Some(wanted[0]));
+    assert_eq!(rt; nth_word(text, 1), Some(wanted[1]));
+    assert_eq!(rt; nth_word(text, 2), Some(wanted[2]));
+    assert_eq!(rt; nth_word(text, 3), None);
+    let mut cursor = WordCursor::new(text);
+    assert_eq!(rt; cursor.next_word(), Some(wanted[0]));
+    let mut other = cursor.again();
+    assert_eq!(rt; cursor.next_word(), Some(wanted[1]));
+    assert_eq!(rt; cursor.next_word(), Some(wanted[2]));
+    assert_eq!(rt; cursor.next_word(), None);
+    assert_eq!(rt; cursor.next_word(), None);
+    assert_eq!(rt; other.next_word(), Some(wanted[1]));
+    Ok(())
+}
+
+#[test]
+fn prints_errors(rt: HostRuntime) -> Result<(), Fail> {
+    let fault = TextFault {
+        number: TextNumber::T05,
+        at: 3,
+    };
+    let rows = [
+        (TextError::Fault(fault), "T05 at byte 3"),
+        (TextError::Memory, "out of memory"),
+    ];
+    for (error, wanted) in rows {
+        assert_eq!(rt; format!(in rt.alloc(); "{error}")?.as_str(), wanted);
+    }
+    Ok(())
+}
+
+/// Whether there is a file of this name with this text.
+fn has_text(files: &Files, alloc: Global, name: &[u8], wanted: &[u8]) -> Result<bool, AllocError> {
+    match files.text(alloc, name)? {
+        Some(text) => Ok(text.as_slice() == wanted),
+        None => Ok(false),
+    }
+}
+
+/// Whether the files know no file of a name.
+fn know_none(files: &Files, alloc: Global, name: &[u8]) -> Result<bool, AllocError> {
+    Ok(files.piece_count(name).is_none() && files.text(alloc, name)?.is_none())
+}
+
+#[test]
+fn a_file_has_the_text_that_was_added(rt: HostRuntime) -> Result<(), Fail> {
+    let alloc = rt.alloc();
+    let mut files = Files::new(alloc);
+    assert!(rt; know_none(&files, alloc, b"top")?);
+    files.add(alloc, b"top", b"$c a $.\n$( end $)\n")?;
+    files.add(alloc, b"", b"$c z $.")?;
+    assert_eq!(rt; files.piece_count(b"top"), Some(1));
+    assert!(rt; has_text(&files, alloc, b"top", b"$c a $.\n$( end $)\n")?);
+    assert!(rt; has_text(&files, alloc, b"", b"$c z $.\n")?);
+    assert!(rt; know_none(&files, alloc, b"other")?);
+    Ok(())
+}
+
 /// Three pieces.
 const TOP: &[u8] = b"$c a $.\n$v x $.\nwx $f a x $.\n";
-
-/// Two.
-const TWO: &[u8] = b"$c a $.\n$v x $.\n";
 
 fn with_top(alloc: Global, text: &[u8]) -> Result<Files, StoreError> {
     let mut files = Files::new(alloc);
@@ -146,84 +230,4 @@ fn done_otherwise(alloc: Global, rows: &[Row]) -> Option<usize> {
 #[test]
 fn edits_of_each_kind_are_done(rt: HostRuntime) {
     assert_eq!(rt; done_otherwise(rt.alloc(), KINDS), None);
-}
-
-/// Several edits: the second names the piece that the first has put there.
-const TOGETHER: [Edit<'static>; 3] = [
-    Edit::Insert {
-        file: b"top",
-        at: 2,
-        text: b"$c b $.",
-    },
-    Edit::Replace {
-        file: b"top",
-        at: 2,
-        text: b"$c c $.",
-    },
-    Edit::Delete {
-        file: b"top",
-        at: 0,
-    },
-];
-
-/// Once the first is done, the second names no piece.
-const REFUSED: [Edit<'static>; 3] = [
-    Edit::Delete {
-        file: b"top",
-        at: 0,
-    },
-    Edit::Delete {
-        file: b"top",
-        at: 1,
-    },
-    Edit::Delete { file: b"no", at: 0 },
-];
-
-const AFTER: &[u8] = b"$v x $.\n$c c $.\n";
-
-/// Whether edits give this text and park so many pieces. They are then undone.
-fn tried(
-    files: &mut Files,
-    alloc: Global,
-    edits: &[Edit<'_>],
-    text: &[u8],
-    parked: usize,
-) -> Result<bool, BatchError> {
-    let undos = files.edit_all(alloc, edits)?;
-    let same = has_text(files, alloc, b"top", text);
-    let count = files.parked();
-    files.undo_all(undos);
-    Ok(same? && count == parked)
-}
-
-/// Why edits are refused. Those that are not are settled.
-fn refusal_of_all(files: &mut Files, alloc: Global, edits: &[Edit<'_>]) -> Option<BatchError> {
-    match files.edit_all(alloc, edits) {
-        Ok(undos) => {
-            files.settle_all(undos);
-            None
-        }
-        Err(error) => Some(error),
-    }
-}
-
-/// Whether the file has this text, and nothing is parked.
-fn rests(files: &Files, alloc: Global, text: &[u8]) -> bool {
-    files.parked() == 0 && has_text(files, alloc, b"top", text).unwrap_or(false)
-}
-
-#[test]
-fn edits_are_done_together_or_not_at_all(rt: HostRuntime) -> Result<(), Fail> {
-    let alloc = rt.alloc();
-    let mut files = with_top(alloc, TWO)?;
-    assert!(rt; tried(&mut files, alloc, &TOGETHER, AFTER, 2)?);
-    assert!(rt; rests(&files, alloc, TWO));
-    assert_eq!(rt;
-        refusal_of_all(&mut files, alloc, &REFUSED),
-        Some(BatchError::Edit(1, EditError::NoPiece(1)))
-    );
-    assert!(rt; rests(&files, alloc, TWO));
-    assert_eq!(rt; refusal_of_all(&mut files, alloc, &TOGETHER), None);
-    assert!(rt; rests(&files, alloc, AFTER));
-    Ok(())
 }
