@@ -14,21 +14,6 @@ pub use loading::{FileError, read_all};
 pub use outcome::{Outcome, outcome_of_stop, status};
 use std::process::ExitCode;
 
-#[cfg(test)]
-mod command_tests;
-#[cfg(test)]
-mod frame_tests;
-#[cfg(test)]
-mod loading_tests;
-#[cfg(test)]
-mod script_tests;
-#[cfg(test)]
-mod session_tests;
-#[cfg(test)]
-mod store_tests;
-#[cfg(test)]
-mod stream_tests;
-
 fn main(rt: HostRuntime) -> ExitCode {
     ExitCode::from(status(&program::run(&rt)))
 }

@@ -93,10 +93,11 @@ fn reported(rt: &(impl Print + Eprint + AllocGlobal), session: &Session) -> Outc
     };
     let mut writing = Writing::new(out);
     let written = write_report(session, &mut writing);
-    if written.is_err() || !is_out(writing) {
-        return stop(rt, ScriptError::Write);
+    let out = is_out(writing);
+    match written {
+        Ok(()) if out => judged(session),
+        _ => stop(rt, ScriptError::Write),
     }
-    judged(session)
 }
 
 /// Writes the axioms to standard output that the assertion with a label rests on.

@@ -1,11 +1,8 @@
-//! What the program does not call of texts and files: a list of words, a cursor that begins again, and the text of a file;
-//! and how an error of a text is printed.
+//! What the program does not call of texts: a list of words, and a cursor that begins again; and how an error is printed.
 
-use mm_store::Files;
-use mm_text::{
+use crate::{
     Keyword, TextError, TextFault, TextNumber, Word, WordCursor, WordKind, nth_word, words,
 };
-use std::alloc::{AllocError, Global};
 use std::test::Fail;
 
 fn plain(start: usize, end: usize) -> Word {
@@ -62,32 +59,5 @@ fn prints_errors(rt: HostRuntime) -> Result<(), Fail> {
     for (error, wanted) in rows {
         assert_eq!(rt; format!(in rt.alloc(); "{error}")?.as_str(), wanted);
     }
-    Ok(())
-}
-
-/// Whether there is a file of this name with this text.
-fn has_text(files: &Files, alloc: Global, name: &[u8], wanted: &[u8]) -> Result<bool, AllocError> {
-    match files.text(alloc, name)? {
-        Some(text) => Ok(text.as_slice() == wanted),
-        None => Ok(false),
-    }
-}
-
-/// Whether the files know no file of a name.
-fn know_none(files: &Files, alloc: Global, name: &[u8]) -> Result<bool, AllocError> {
-    Ok(files.piece_count(name).is_none() && files.text(alloc, name)?.is_none())
-}
-
-#[test]
-fn a_file_has_the_text_that_was_added(rt: HostRuntime) -> Result<(), Fail> {
-    let alloc = rt.alloc();
-    let mut files = Files::new(alloc);
-    assert!(rt; know_none(&files, alloc, b"top")?);
-    files.add(alloc, b"top", b"$c a $.\n$( end $)\n")?;
-    files.add(alloc, b"", b"$c z $.")?;
-    assert_eq!(rt; files.piece_count(b"top"), Some(1));
-    assert!(rt; has_text(&files, alloc, b"top", b"$c a $.\n$( end $)\n")?);
-    assert!(rt; has_text(&files, alloc, b"", b"$c z $.\n")?);
-    assert!(rt; know_none(&files, alloc, b"other")?);
     Ok(())
 }
