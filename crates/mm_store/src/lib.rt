@@ -39,6 +39,3 @@ pub use mm_text::{Keyword, Place, TextFault, TextNumber, Word, WordKind, nth_wor
 pub use room::fits;
 pub use undo::Undo;
 pub use walk::Walk;
-
-#[cfg(test)]
-mod tests;

@@ -14,6 +14,11 @@ pub use loading::{FileError, read_all};
 pub use outcome::{Outcome, outcome_of_stop, status};
 use std::process::ExitCode;
 
+#[cfg(test)]
+mod store_tests;
+#[cfg(test)]
+mod stream_tests;
+
 fn main(rt: HostRuntime) -> ExitCode {
     ExitCode::from(status(&program::run(&rt)))
 }

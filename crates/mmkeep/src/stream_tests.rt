@@ -1,0 +1,183 @@
+//! What the program cannot show of streams that fail: a reader that may be called so often, and the session behind a script
+//! that was not answered to its end.
+
+use crate::loading::{FileError, read_all};
+use mm_keep::{Files, Session, StoreError};
+use mm_report::{Reading, ScriptError, Writing, run_script, write_report};
+use std::alloc::Global;
+use std::io;
+use std::io::{Read, Write};
+use std::test::Fail;
+
+/// A reader that gives some bytes a call.
+#[derive(Drop)]
+struct Given {
+    bytes: &'static [u8],
+    most: usize,
+}
+
+impl Read for Given {
+    fn read(&mut self, buf: &mut [u8]) -> io::Result<usize> {
+        let count = self.most.min(buf.len()).min(self.bytes.len());
+        buf[..count].copy_from_slice(&self.bytes[..count]);
+        self.bytes = &self.bytes[count..];
+        Ok(count)
+    }
+}
+
+/// A reader of these bytes, so many a call.
+fn reader_of(bytes: &'static [u8], most: usize) -> Given {
+    Given { bytes, most }
+}
+
+/// A writer that fails at one call, counted from 1, if at any, and takes everything before and behind it.
+#[derive(Drop)]
+struct Broken {
+    at: usize,
+    calls: usize,
+    taken: Vec<u8>,
+}
+
+impl Write for Broken {
+    fn write(&mut self, buf: &[u8]) -> io::Result<usize> {
+        self.calls = self.calls.saturating_add(1);
+        if self.calls == self.at || self.taken.extend_from_slice(buf).is_err() {
+            return Err(io::Error::from(io::ErrorKind::BrokenPipe));
+        }
+        Ok(buf.len())
+    }
+
+    fn flush(&mut self) -> io::Result<()> {
+        Ok(())
+    }
+}
+
+const NAME: &[u8] = b"a.mm";
+
+/// A logic, a theorem by its rule, and one with a compressed proof: eight pieces.
+const LOGIC: &[u8] =
+    b"$c wff |- -> ( ) $.\n$v p q $.\nwp $f wff p $.\nwq $f wff q $.\nwi $a wff ( p -> q ) $.\n\
+        ${ mi $e |- p $. ma $e |- ( p -> q ) $. mp $a |- q $. $}\n\
+        ${ h1 $e |- p $. h2 $e |- ( p -> q ) $. th $p |- q $= wp wq h1 h2 mp $. $}\n\
+        id $p wff ( ( p -> p ) -> ( p -> p ) ) $= ( wi ) AABZCB $.\n";
+
+/// The report where nothing is wrong.
+const CLEAN: &[u8] = b"axioms 2 theorems 2 proved 2 incomplete 0 wrong 0 faults 0\n";
+
+/// The report where the hypotheses of the rule are exchanged.
+const BROKEN: &[u8] =
+    b"wrong th a.mm:7:67 P09\naxioms 2 theorems 2 proved 1 incomplete 0 wrong 1 faults 0\n";
+
+/// A script that exchanges the hypotheses of the rule: its line ends behind 18 bytes, the line feed behind its text behind
+/// 76.
+const SCRIPT: &[u8] =
+    b"replace a.mm 5 57\n${ ma $e |- ( p -> q ) $. mi $e |- p $. mp $a |- q $. $}\n\nreport\n";
+
+/// What it is answered.
+const ANSWERS: &[u8] =
+    b"ran 1\nth\nwrong th a.mm:7:67 P09\naxioms 2 theorems 2 proved 1 incomplete 0 wrong 1 faults 0\n";
+
+/// A session over the logic.
+fn begun(alloc: Global) -> Result<Session, StoreError> {
+    let mut files = Files::new(alloc);
+    files.add(alloc, NAME, LOGIC)?;
+    // No piece of files that were only added is parked.
+    if files.parked() != 0 {
+        return Err(StoreError::NoTop);
+    }
+    match Session::begin(alloc, files, NAME) {
+        Ok((session, _)) => Ok(session),
+        Err(unbegun) => Err(unbegun.fault),
+    }
+}
+
+/// What came of a script.
+#[derive(Drop)]
+struct Came {
+    end: Result<(), ScriptError>,
+    answers: Vec<u8>,
+    /// The report of the session behind it.
+    report: Vec<u8>,
+}
+
+impl Came {
+    /// Whether it ended so, with these answers and this report.
+    fn is(&self, end: Result<(), ScriptError>, answers: &[u8], report: &[u8]) -> bool {
+        self.end == end && self.answers.as_slice() == answers && self.report.as_slice() == report
+    }
+}
+
+/// Runs a script on a session; the write with this number fails.
+fn run(alloc: Global, session: &mut Session, mut reading: Reading<Given>, fails: usize) -> Came {
+    let mut writing = Writing::new(Broken {
+        at: fails,
+        calls: 0,
+        taken: Vec::new(alloc),
+    });
+    let end = run_script(alloc, session, &mut reading, &mut writing);
+    let mut report = Writing::new(Vec::new(alloc));
+    let _whole = write_report(session, &mut report);
+    Came {
+        end,
+        answers: writing.into_inner().taken,
+        report: report.into_inner(),
+    }
+}
+
+/// Runs a script on a session over the logic.
+fn ran(alloc: Global, reading: Reading<Given>, fails: usize) -> Result<Came, StoreError> {
+    let mut session = begun(alloc)?;
+    Ok(run(alloc, &mut session, reading, fails))
+}
+
+/// The read that gives the end counts, too.
+#[test]
+fn a_script_is_read_as_often_as_it_may(rt: HostRuntime) -> Result<(), Fail> {
+    let rows: [(&[u8], usize, u32, Result<(), ScriptError>, &[u8]); 3] = [
+        (b"report\n", 4096, 2, Ok(()), CLEAN),
+        (b"report\n", 4096, 1, Err(ScriptError::Read), CLEAN),
+        (b"\n\n\n\n\n\n\n\n\n\n", 1, 8, Err(ScriptError::Read), b""),
+    ];
+    for (script, most, calls, end, answers) in rows {
+        let reading = Reading::within(reader_of(script, most), calls);
+        assert!(rt;
+            ran(rt.alloc(), reading, 0)?.is(end, answers, CLEAN),
+            "{calls} calls"
+        );
+    }
+    Ok(())
+}
+
+#[test]
+fn a_file_is_read_as_often_as_it_may(rt: HostRuntime) {
+    let text: &[u8] = b"$c k $.\n";
+    let whole = read_all(rt.alloc(), &mut Reading::within(reader_of(text, 3), 4));
+    assert!(rt; whole.is_ok_and(|whole| whole.as_slice() == text));
+    let cut = read_all(rt.alloc(), &mut Reading::within(reader_of(text, 3), 3));
+    assert!(rt; cut.err() == Some(FileError::Read));
+}
+
+/// The script, cut inside the text or right behind it.
+#[test]
+fn a_cut_text_is_not_put_in(rt: HostRuntime) -> Result<(), Fail> {
+    for n in 18..76 {
+        let reading = Reading::new(reader_of(&SCRIPT[..n], 4096));
+        let end = Err(ScriptError::Cut);
+        assert!(rt;
+            ran(rt.alloc(), reading, 0)?.is(end, b"", CLEAN),
+            "at byte {n}"
+        );
+    }
+    Ok(())
+}
+
+#[test]
+fn an_edit_is_done_whose_answer_is_not_written(rt: HostRuntime) -> Result<(), Fail> {
+    for fails in 1..48 {
+        let ran = ran(rt.alloc(), Reading::new(reader_of(SCRIPT, 4096)), fails)?;
+        let all = ran.answers.as_slice() == ANSWERS;
+        assert!(rt; ran.end.is_ok() == all, "at write {fails}");
+        assert!(rt; ran.report.as_slice() == BROKEN, "at write {fails}");
+    }
+    Ok(())
+}
