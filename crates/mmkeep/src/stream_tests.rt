@@ -91,16 +91,16 @@ fn begun(alloc: Global) -> Result<Session, StoreError> {
     }
 }
 
-/// What came of a script.
+/// How a script ended, and what it left.
 #[derive(Drop)]
-struct Came {
+struct Ended {
     end: Result<(), ScriptError>,
     answers: Vec<u8>,
     /// The report of the session behind it.
     report: Vec<u8>,
 }
 
-impl Came {
+impl Ended {
     /// Whether it ended so, with these answers and this report.
     fn is(&self, end: Result<(), ScriptError>, answers: &[u8], report: &[u8]) -> bool {
         self.end == end && self.answers.as_slice() == answers && self.report.as_slice() == report
@@ -108,7 +108,7 @@ impl Came {
 }
 
 /// Runs a script on a session; the write with this number fails.
-fn run(alloc: Global, session: &mut Session, mut reading: Reading<Given>, fails: usize) -> Came {
+fn run(alloc: Global, session: &mut Session, mut reading: Reading<Given>, fails: usize) -> Ended {
     let mut writing = Writing::new(Broken {
         at: fails,
         calls: 0,
@@ -117,7 +117,7 @@ fn run(alloc: Global, session: &mut Session, mut reading: Reading<Given>, fails:
     let end = run_script(alloc, session, &mut reading, &mut writing);
     let mut report = Writing::new(Vec::new(alloc));
     let _whole = write_report(session, &mut report);
-    Came {
+    Ended {
         end,
         answers: writing.into_inner().taken,
         report: report.into_inner(),
@@ -125,7 +125,7 @@ fn run(alloc: Global, session: &mut Session, mut reading: Reading<Given>, fails:
 }
 
 /// Runs a script on a session over the logic.
-fn ran(alloc: Global, reading: Reading<Given>, fails: usize) -> Result<Came, StoreError> {
+fn ran(alloc: Global, reading: Reading<Given>, fails: usize) -> Result<Ended, StoreError> {
     let mut session = begun(alloc)?;
     Ok(run(alloc, &mut session, reading, fails))
 }
