@@ -43,3 +43,6 @@ pub use pieces::Cut;
 pub use reading::{nth_word, words};
 pub use spelling::could_label;
 pub use word::{Keyword, Word, WordKind};
+
+#[cfg(test)]
+mod tests;

@@ -1,0 +1,88 @@
+//! What the program does not call of texts: a list of words, and a cursor that begins again; and how an error is printed.
+
+ghost use Rattle.std.specs.Prelude.{List};
+ghost use Rattle.mm_text.specs.Language.Reading.{HasWords};
+ghost use Rattle.mm_text.specs.declared.word.Word.{Word as Found};
+
+use crate::cursor::WordCursor;
+use crate::fault::{TextError, TextFault, TextNumber};
+use crate::reading::{nth_word, words};
+use crate::word::{Keyword, Word, WordKind};
+use std::test::Fail;
+
+fn plain(start: usize, end: usize) -> Word {
+    Word {
+        kind: WordKind::Plain,
+        start,
+        end,
+    }
+}
+
+fn keyword(keyword: Keyword, start: usize, end: usize) -> Word {
+    Word {
+        kind: WordKind::Keyword(keyword),
+        start,
+        end,
+    }
+}
+
+/// The words that a cursor tells, one behind the last among them, and the first that one tells that began again behind the
+/// first word.
+fn told(text: &[u8]) -> ([Option<Word>; 4], Option<Word>)
+    requires { (words : List Found) × HasWords text.now words }
+{
+    let mut cursor = WordCursor::new(text);
+    let first = cursor.next_word();
+    let mut other = cursor.again();
+    let found = [
+        first,
+        cursor.next_word(),
+        cursor.next_word(),
+        cursor.next_word(),
+    ];
+    (found, other.next_word())
+}
+
+/// The words with these numbers, one behind the last among them.
+fn numbered(text: &[u8]) -> [Option<Word>; 4]
+    requires { (words : List Found) × HasWords text.now words }
+{
+    [
+        nth_word(text, 0),
+        nth_word(text, 1),
+        nth_word(text, 2),
+        nth_word(text, 3),
+    ]
+}
+
+#[test]
+fn finds_the_words_outside_comments(rt: HostRuntime) -> Result<(), Fail> {
+    let text = b"$( x $) $c a $.\n";
+    let wanted = [
+        keyword(Keyword::Constants, 8, 10),
+        plain(11, 12),
+        keyword(Keyword::StatementEnd, 13, 15),
+    ];
+    let each = [Some(wanted[0]), Some(wanted[1]), Some(wanted[2]), None];
+    assert!(rt; words(rt.alloc(), text)?.as_slice() == wanted.as_slice());
+    let (found, again) = told(text);
+    assert!(rt; numbered(text).as_slice() == each.as_slice());
+    assert!(rt; found.as_slice() == each.as_slice() && again == each[1]);
+    Ok(())
+}
+
+#[test]
+fn prints_errors(rt: HostRuntime) -> Result<(), Fail> {
+    let fault = TextFault {
+        number: TextNumber::T05,
+        at: 3,
+    };
+    let rows = [
+        (TextError::Fault(fault), "T05 at byte 3"),
+        (TextError::Memory, "out of memory"),
+    ];
+    for (error, wanted) in rows {
+        assert_eq!(rt; format!(in rt.alloc(); "{error}")?.as_str(), wanted);
+    }
+    Ok(())
+}
