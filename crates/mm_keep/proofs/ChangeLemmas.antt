@@ -18,7 +18,7 @@ use Rattle.mm_keep.proofs.KeepLemmas.{ItemsStand, KeepsNumbers, batch_top, expan
 use Rattle.mm_keep.proofs.NextLemmas.{begins_trans}
 
 pub can_carry : (before after : FilesView) (undos : List UndoView) (top : List ℕ) (names : List (List ℕ)) (checked : List (Option Judgement)) (next : Next) → (can : CanTake before after undos top names checked next)
-    → CanCarry can.old can.base checked next.plan.items next.checked.items
+    → CanCarry can.old can.base checked next.ran.plan.items next.ran.checked.items
 can_carry before after undos top names checked next can = record {
   old_said = (before, can.old_is.each);
   new_said = (after, can.built.of_files.each);
@@ -43,7 +43,7 @@ kept_settled stand before after settled undos top names checked next can same ke
 
 -- what was run
 pub changed_settled : ItemsStand → (before after settled : FilesView) (undos : List UndoView) (top : List ℕ) (names : List (List ℕ)) (checked : List (Option Judgement)) (next : Next) → (can : CanTake before after undos top names checked next)
-    → files_in settled ≡ files_in after → KeepsStanding after settled → (work : Recorded) → work ≡ next.work → IsChanged (session_of before top) (session_of settled top) work
+    → files_in settled ≡ files_in after → KeepsStanding after settled → (work : Recorded) → work ≡ next.ran.work → IsChanged (session_of before top) (session_of settled top) work
 changed_settled stand before after settled undos top names checked next can same keeps work is =
     let of_files = base_settled stand after settled top can.base same keeps can.built.of_files in
     subst (λ (w : Recorded). IsChanged (session_of before top) (session_of settled top) w) (sym is)
@@ -92,7 +92,7 @@ were_kept keeps before after undos top names code checked has edits done reading
 
 -- so it is of lists that are the same
 pub can_carry_by : (before after : FilesView) (undos : List UndoView) (top : List ℕ) (names : List (List ℕ)) (checked : List (Option Judgement)) (next : Next) → (can : CanTake before after undos top names checked next)
-    → (was : List (Option Judgement)) (plan : List (Option ℕ)) (ran : List (Option Judgement)) → was ≡ checked → plan ≡ next.plan.items → ran ≡ next.checked.items → CanCarry can.old can.base was plan ran
+    → (was : List (Option Judgement)) (plan : List (Option ℕ)) (ran : List (Option Judgement)) → was ≡ checked → plan ≡ next.ran.plan.items → ran ≡ next.ran.checked.items → CanCarry can.old can.base was plan ran
 can_carry_by before after undos top names checked next can was plan ran a b d =
     subst (λ (xs : List (Option Judgement)). CanCarry can.old can.base xs plan ran) (sym a) (subst (λ (xs : List (Option ℕ)). CanCarry can.old can.base checked xs ran) (sym b)
-    (subst (λ (xs : List (Option Judgement)). CanCarry can.old can.base checked next.plan.items xs) (sym d) (can_carry before after undos top names checked next can)))
+    (subst (λ (xs : List (Option Judgement)). CanCarry can.old can.base checked next.ran.plan.items xs) (sym d) (can_carry before after undos top names checked next can)))

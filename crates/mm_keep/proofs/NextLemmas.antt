@@ -1,6 +1,6 @@
 -- What a session goes on with.
 use Rattle.std.specs.Prelude.{IfOk}
-use Rattle.std.proofs.Common.{ℕ, Result, Ok, Err, List}
+use Rattle.std.proofs.Common.{ℕ, List, Result, Ok, Err}
 use Rattle.mm_store.specs.Language.FilesView.{FilesView}
 use Rattle.mm_frame.specs.Language.Base.{BaseView}
 use Rattle.mm_frame.specs.Language.Names.{AreDistinct, Begins}
@@ -22,7 +22,7 @@ both_read names all files top old new view copy distinct grows is built = record
 pub begins_trans : (a b c : List (List ℕ)) → Begins a b → Begins b c → Begins a c
 begins_trans a b c f g n name e = g n name (f n name e)
 
--- what follows from two clauses on the value in an `Ok`
-pub if_ok : {T E : Type 0} (P Q R : T → Type 0) (r : Result T E) → ((x : T) → P x → Q x → R x) → IfOk r P → IfOk r Q → IfOk r R
-if_ok P Q R (Ok x) f p q = f x p q
-if_ok P Q R (Err e) f p q = tt
+-- what follows from a clause on the value in an `Ok`
+pub if_ok : {T E : Type 0} (P Q : T → Type 0) (r : Result T E) → ((x : T) → P x → Q x) → IfOk r P → IfOk r Q
+if_ok P Q (Ok x) f p = f x p
+if_ok P Q (Err e) f p = tt

@@ -1,6 +1,6 @@
 //! What a session goes on with: the base of its files as they are, and what is checked of it.
 
-ghost use Rattle.std.specs.Prelude.{◌≡◌, ◌↔◌, None, IfOk, IfErr, IsErrOf, length};
+ghost use Rattle.std.specs.Prelude.{◌≡◌, ◌↔◌, None, Ok, IfOk, IfErr, IsErrOf, length};
 ghost use Rattle.mm_store.specs.declared.error.StoreError.TheVariants.{Memory, NoTop};
 ghost use Rattle.mm_store.specs.Language.Answers.{IsExpansionError};
 ghost use Rattle.mm_store.specs.Language.FilesView.{files_in, number_of};
@@ -15,14 +15,19 @@ use mm_frame::{Base, Files, Names, StoreError};
 use mm_proof::{Checked, Work};
 use std::alloc::{AllocError, Global};
 
-/// What a session goes on with behind a change of its files: the base of these, what each item keeps of what was checked
-/// before, what is checked of the others, and the record of these runs.
+/// What each item of a base keeps of what was checked before, what is checked of the others, and the record of these runs.
 #[derive(Drop)]
-pub struct Next {
-    pub base: Base,
+pub struct Ran {
     pub plan: Vec<Option<usize>>,
     pub checked: Vec<Option<Checked>>,
     pub work: Work,
+}
+
+/// What a session goes on with behind a change of its files: the base of these, and what is run of it.
+#[derive(Drop)]
+pub struct Next {
+    pub base: Base,
+    pub ran: Ran,
 }
 
 /// Why there is no base of files that have the top file.
@@ -47,22 +52,30 @@ fn base_of(alloc: Global, names: &mut Names, files: &Files, top: &[u8]) -> Resul
     }
 }
 
+/// What a session goes on with, where memory was there for the runs of its base.
+fn joined(base: Base, ran: Result<Ran, AllocError>) -> Result<Next, AllocError>
+    ensures { IfOk result (λ next. (next.base ≡ base) × (ran ≡ Ok next.ran)) }
+{
+    match ran {
+        Ok(ran) => Ok(Next { base, ran }),
+        Err(error) => Err(error),
+    }
+}
+
 /// What each item of a new base keeps, and the runs of the others.
 fn rest_of(
     alloc: Global,
     names: &Names,
     files: &Files,
     old: &Base,
-    base: Base,
-) -> Result<Next, AllocError>
-    requires { (view : BaseView) × (copy : BaseView) × AreBothRead names.now files.now old.now base view copy }
-    ensures base { IfOk result (λ next. next.base ≡ base) }
-    ensures next { IfOk result (λ next. (view copy : BaseView) → AreBothRead names.now files.now old.now base view copy → KeepsOrRuns view copy next) }
+    base: &Base,
+) -> Result<Ran, AllocError>
+    requires { (view : BaseView) × (copy : BaseView) × AreBothRead names.now files.now old.now base.now view copy }
+    ensures { IfOk result (λ ran. (view copy : BaseView) → AreBothRead names.now files.now old.now base.now view copy → KeepsOrRuns view copy ran) }
 {
-    let plan = planned(alloc, names, files, old, &base)?;
-    let (checked, work) = run_rest(alloc, names, files, &base, &plan)?;
-    Ok(Next {
-        base,
+    let plan = planned(alloc, names, files, old, base)?;
+    let (checked, work) = run_rest(alloc, names, files, base, &plan)?;
+    Ok(Ran {
         plan,
         checked,
         work,
@@ -86,7 +99,9 @@ pub fn next_of(
     let built = base_of(alloc, &mut *names, files, top);
     // No name stands twice.
     let _count = names.count();
-    rest_of(alloc, names, files, old, built?)
+    let base = built?;
+    let ran = rest_of(alloc, names, files, old, &base);
+    joined(base, ran)
 }
 
 /// A plan for so many items that keeps nothing.
@@ -102,16 +117,13 @@ fn nothing_kept(alloc: Global, count: usize) -> Result<Vec<Option<usize>>, Alloc
 }
 
 /// The runs of all theorems of a first base.
-fn first_runs(alloc: Global, names: &Names, files: &Files, base: Base) -> Result<Next, AllocError>
-    requires { (view : BaseView) × IsReadIn names.now files.now base view }
-    ensures base { IfOk result (λ next. next.base ≡ base) }
-    ensures next { IfOk result (λ next. (view : BaseView) → IsReadIn names.now files.now base view → RunsAll view next) }
+fn first_runs(alloc: Global, names: &Names, files: &Files, base: &Base) -> Result<Ran, AllocError>
+    requires { (view : BaseView) × IsReadIn names.now files.now base.now view }
+    ensures { IfOk result (λ ran. (view : BaseView) → IsReadIn names.now files.now base.now view → RunsAll view ran) }
 {
-    let count = base.count();
-    let plan = nothing_kept(alloc, count)?;
-    let (checked, work) = run_rest(alloc, names, files, &base, &plan)?;
-    Ok(Next {
-        base,
+    let plan = nothing_kept(alloc, base.count())?;
+    let (checked, work) = run_rest(alloc, names, files, base, &plan)?;
+    Ok(Ran {
         plan,
         checked,
         work,
@@ -130,5 +142,6 @@ pub fn first_of(
     ensures told { IfErr result IsExpansionError }
 {
     let base = Base::build(alloc, &mut *names, files, top)?;
-    Ok(first_runs(alloc, names, files, base)?)
+    let ran = first_runs(alloc, names, files, &base);
+    Ok(joined(base, ran)?)
 }

@@ -16,7 +16,7 @@ ghost use Rattle.mm_keep.specs.Code.Next.{IsFirst};
 ghost use Rattle.mm_keep.specs.Language.Refusals.{IsRefusal, IsBatchRefusal};
 ghost use Rattle.mm_keep.specs.Language.Sessions.{IsBegun, IsChanged, IsCount, IsLabelOfItem};
 
-use crate::keeping::{Next, first_of, next_of};
+use crate::keeping::{Next, Ran, first_of, next_of};
 use crate::planning::carry;
 use crate::unbegun::Unbegun;
 use mm_frame::{Base, BatchError, Edit, EditError, Files, Names, StoreError, Undos};
@@ -101,12 +101,12 @@ fn take_next(
     ensures plain { plain files.new ≡ plain files.old }
 {
     mm_store::items_stand();
-    let Next {
-        base: new,
+    let Next { base: new, ran } = next;
+    let Ran {
         plan,
         checked: mut ran,
         work,
-    } = next;
+    } = ran;
     carry(&mut *checked, &plan, &mut ran);
     *base = new;
     *checked = ran;
@@ -185,12 +185,8 @@ impl Session {
         let mut names = Names::new(alloc);
         match begun(alloc, &mut names, &files, top) {
             Ok((top, next)) => {
-                let Next {
-                    base,
-                    plan: _,
-                    checked,
-                    work,
-                } = next;
+                let Next { base, ran } = next;
+                let Ran { checked, work, .. } = ran;
                 let session = Session {
                     files,
                     top,

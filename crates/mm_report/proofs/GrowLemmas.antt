@@ -1,5 +1,5 @@
 -- Bytes that are read on keep what stood in them.
-use Rattle.std.proofs.Common.{◌≡◌, ◌≢◌, ℕ, zero, suc, ◌+◌, ◌-◌, ◌<◌, ◌≤◌, Bool, not, true, false, List, [], ◌∷◌, ◌++◌, append_assoc, length, length-append, take, drop, replicate, refl, sym, ap, ◌∙◌, subst, arith, Option}
+use Rattle.std.proofs.Common.{◌≡◌, ◌≢◌, ℕ, zero, suc, ◌+◌, ◌-◌, ◌<◌, ◌≤◌, Bool, not, true, false, List, [], ◌∷◌, ◌++◌, append_assoc, length, length-append, take, drop, replicate, refl, sym, ap, ◌∙◌, subst, arith, Option, ◌⊎◌, inl, inr}
 use Rattle.std.specs.Prelude.{◌==◌, slice_index, slice_range}
 use Rattle.std.proofs.Common.{get_or, Result, Ok, Err}
 use Rattle.std.specs.Result.{IsErrAnd, IsErrOf}
@@ -11,6 +11,7 @@ use Rattle.std.specs.Io.KnownBytes.{IsAtEnd}
 use Rattle.std.proofs.lemmas.List.{append-nil, length-drop, take-append-le, drop-append-le, drop-drop, drop_more, length-take-le, take-append-drop, take_all, take_rest}
 use Rattle.std.proofs.Math.Seq.{take-add}
 use Rattle.mm_report.specs.declared.input.Input.{Input}
+use Rattle.mm_report.specs.declared.script.ScriptError.{ScriptError}
 use Rattle.mm_report.specs.Code.Growing.{InputGrows, HasBlanks, IsLineAt, IsOtherByte}
 use Rattle.mm_report.specs.Code.Pending.{pending, ReadsOn}
 use Rattle.mm_report.specs.Code.Stops.{IsOneLine}
@@ -27,6 +28,10 @@ grows_then a b c u v w p q = record {
 
 pub grown_long : (a b : Input) (u v : Option (List ℕ)) → InputGrows a b u v → length (pending a) ≤ length (pending b)
 grown_long a b u v p = omega (arith, ap length p.are, length-append (pending a) p.part)
+
+-- what a list holds takes less than half of the memory
+pub few_pending : (input : Input) → length (pending input) < 9223372036854775808
+few_pending input = omega (arith, input.bytes.ok.0, input.bytes.ok.1, input.bytes.small, length-drop input.at input.bytes.items)
 
 -- a part of bytes that grow
 pub part_kept : (new old more : List ℕ) (i j : ℕ) → new ≡ old ++ more → i ≤ j → j ≤ length old → slice_range new i j ≡ slice_range old i j
@@ -59,6 +64,9 @@ pub none_found : (xs : List ℕ) (n : ℕ) → ((k : ℕ) → k < n → (slice_i
 none_found xs zero h = tt
 none_found [] (suc n) h = tt
 none_found (x ∷ xs) (suc n) h = (λ (e : x ≡ 10). h 0 (omega arith) (eq-eqb x 10 e), none_found xs n (λ (k : ℕ) (low : k < n) (e : (slice_index xs k == 10) ≡ true). h (suc k) (omega arith) e))
+
+pub nothing_between : (bytes : List ℕ) (i : ℕ) → IsOneLine (slice_range bytes i i)
+nothing_between bytes i = let none : i - i ≡ 0 = omega arith in subst (λ (n : ℕ). IsOneLine (take n (drop i bytes))) (sym none) tt
 
 -- the rest of a slice, as the code takes it
 pub rest_is : (bytes : List ℕ) (i : ℕ) → slice_range bytes i (length bytes) ≡ drop i bytes
@@ -111,9 +119,23 @@ other_byte bytes hay start count byte is some here other = record {
   are = sym is ∙ sym (take-append-drop count hay) ∙ ap (λ (xs : List ℕ). take count hay ++ xs) (drop_more hay count byte some ∙ ap (λ (b : ℕ). b ∷ drop (count + 1) hay) (sym here));
 }
 
+-- a line feed behind so many bytes
+pub feed_behind : (bytes hay : List ℕ) (start count byte : ℕ) → hay ≡ drop start bytes → count < length hay → byte ≡ get_or hay count byte → byte ≡ 10
+    → drop (start + count) bytes ≡ 10 ∷ drop ((start + count) + 1) bytes
+feed_behind bytes hay start count byte is some here feed =
+    let first : drop count hay ≡ 10 ∷ drop (count + 1) hay = drop_more hay count byte some ∙ ap (λ (b : ℕ). b ∷ drop (count + 1) hay) (sym here ∙ feed) in
+    let there : drop count hay ≡ drop (start + count) bytes = ap (drop count) is ∙ drop-drop count start bytes in
+    let behind : drop (count + 1) hay ≡ drop ((start + count) + 1) bytes = ap (drop (count + 1)) is ∙ drop-drop (count + 1) start bytes ∙ ap (λ (n : ℕ). drop n bytes) (omega arith) in
+    sym there ∙ first ∙ ap (λ (xs : List ℕ). 10 ∷ xs) behind
+
 feeds : (n : ℕ) (xs : List ℕ) → replicate n 10 ++ 10 ∷ xs ≡ replicate (suc n) 10 ++ xs
 feeds zero xs = refl
 feeds (suc n) xs = ap (λ (ys : List ℕ). 10 ∷ ys) (feeds n xs)
+
+pub no_blanks : (bytes : List ℕ) (from : ℕ) → from ≤ length bytes → HasBlanks bytes from from
+no_blanks bytes from within =
+    let none : from - from ≡ 0 = omega arith in
+    record { ordered = omega arith; within = within; are = ap (λ (n : ℕ). replicate n 10 ++ drop from bytes) (sym none) }
 
 -- one empty line more
 pub blank_more : (bytes : List ℕ) (from to : ℕ) → HasBlanks bytes from to → drop to bytes ≡ 10 ∷ drop (to + 1) bytes → HasBlanks bytes from (to + 1)
@@ -176,3 +198,10 @@ not_true false e = refl
 pub same_error : {T U E : Type 0} (r : Result U E) (x e : E) → IsErrAnd r (λ (y : E). y ≡ x) → r ≡ Err e → IsErrOf {T = T} (Err x) e
 same_error (Ok done) x e f h = absurd (cc)
 same_error (Err y) x e f h = let same : y ≡ e = cc in let other : y ≡ x = f in cc
+
+-- it is none but those that are told of the call
+pub other_error : {T U : Type 0} (r : Result U ScriptError) (call : Result T ScriptError) (x a b e : ScriptError) → IsErrAnd r (λ (y : ScriptError). y ≡ x)
+    → call ≡ Err x → (call ≡ Err a) ⊎ (call ≡ Err b) → a ≢ e → b ≢ e → r ≡ Err e → ⊥
+other_error (Ok done) call x a b e f is told na nb h = absurd (cc)
+other_error (Err y) call x a b e f is (inl told) na nb h = let same : y ≡ e = cc in let other : y ≡ x = f in let this : x ≡ a = cc in na (cc)
+other_error (Err y) call x a b e f is (inr told) na nb h = let same : y ≡ e = cc in let other : y ≡ x = f in let this : x ≡ b = cc in nb (cc)

@@ -1,6 +1,7 @@
 pub mod JoinLemmas
 pub mod StopLemmas
 pub mod StreamLemmas
+pub mod VerbLemmas
 pub mod FileLemmas
 pub mod ReportLemmas
 pub mod WrittenLemmas

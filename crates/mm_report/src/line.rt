@@ -117,23 +117,44 @@ fn is_name(word: &[u8]) -> bool
     !word.is_empty() && cut_at_space(word).is_none()
 }
 
+/// The word as it is written.
+fn written(verb: Verb) -> &'static [u8]
+    ensures { result.now ≡ verb_word verb }
+{
+    match verb {
+        Verb::Insert => b"insert",
+        Verb::Replace => b"replace",
+        Verb::Delete => b"delete",
+        Verb::Move => b"move",
+        Verb::Batch => b"batch",
+        Verb::Verdict => b"verdict",
+        Verb::Axioms => b"axioms",
+        Verb::Cites => b"cites",
+        Verb::Users => b"users",
+    }
+}
+
 /// The first word of a line that has more words.
 fn verb_of(word: &[u8]) -> Option<Verb>
     ensures some { IfSome result (λ verb. word.now ≡ verb_word verb) }
     ensures none { result ≡ None → (verb : Verb) → word.now ≢ verb_word verb }
 {
-    match word {
-        b"insert" => Some(Verb::Insert),
-        b"replace" => Some(Verb::Replace),
-        b"delete" => Some(Verb::Delete),
-        b"move" => Some(Verb::Move),
-        b"batch" => Some(Verb::Batch),
-        b"verdict" => Some(Verb::Verdict),
-        b"axioms" => Some(Verb::Axioms),
-        b"cites" => Some(Verb::Cites),
-        b"users" => Some(Verb::Users),
-        _ => None,
+    for verb in [
+        Verb::Insert,
+        Verb::Replace,
+        Verb::Delete,
+        Verb::Move,
+        Verb::Batch,
+        Verb::Verdict,
+        Verb::Axioms,
+        Verb::Cites,
+        Verb::Users,
+    ] {
+        if word == written(verb) {
+            return Some(verb);
+        }
     }
+    None
 }
 
 /// The name behind the first word of a line, of so many bytes.

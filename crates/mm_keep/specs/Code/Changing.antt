@@ -47,7 +47,7 @@ pub record CanTake
   pub old_checked : AreChecked old checked
   pub base : BaseView
   pub built : IsBuilt names after top next.base base
-  pub goes_on : KeepsOrRuns old base next
+  pub goes_on : KeepsOrRuns old base next.ran
 
 -- for some files of before
 abbrev pub HasTaking : FilesView → List UndoView → List (Option Judgement) → Next → Type 0

@@ -10,6 +10,7 @@ use Rattle.mm_keep.specs.Code.KeptSession.{AreChecked}
 use Rattle.mm_keep.specs.Code.Planned.{ArePlanned, AreRunBy}
 use Rattle.mm_keep.specs.Language.Runs.{AreThose, AreRuns, AreStepsOf}
 use Rattle.mm_keep.specs.declared.keeping.Next.{Next}
+use Rattle.mm_keep.specs.declared.keeping.Ran.{Ran}
 
 -- the files have the top file
 abbrev pub HasTop : FilesView → List ℕ → Type 0
@@ -35,26 +36,26 @@ abbrev pub HasOld : List (List ℕ) → FilesView → Base → Type 0
 HasOld names files code = (base : BaseView) × IsOldIn names files code base
 
 -- each theorem of the new base keeps what was checked before, or is run
-pub record KeepsOrRuns (old base : BaseView) (next : Next) : Type 0 where
-  pub planned : ArePlanned old base next.plan.items
-  pub ran : AreRunBy base next.plan.items next.checked.items
-  pub count : length next.checked.items ≡ length next.plan.items
-  pub runs : AreRuns old base next.work.runs
-  pub steps : AreStepsOf base next.work.runs next.work.steps
+pub record KeepsOrRuns (old base : BaseView) (run : Ran) : Type 0 where
+  pub planned : ArePlanned old base run.plan.items
+  pub ran : AreRunBy base run.plan.items run.checked.items
+  pub count : length run.checked.items ≡ length run.plan.items
+  pub runs : AreRuns old base run.work.runs
+  pub steps : AreStepsOf base run.work.runs run.work.steps
 
 -- each theorem of the first base is run
-pub record RunsAll (base : BaseView) (next : Next) : Type 0 where
-  pub checked : AreChecked base next.checked.items
-  pub runs : AreThose (λ i. is_proof_at base i ≡ true) (length base.said) next.work.runs
-  pub steps : AreStepsOf base next.work.runs next.work.steps
+pub record RunsAll (base : BaseView) (run : Ran) : Type 0 where
+  pub checked : AreChecked base run.checked.items
+  pub runs : AreThose (λ i. is_proof_at base i ≡ true) (length base.said) run.work.runs
+  pub steps : AreStepsOf base run.work.runs run.work.steps
 
 -- so it is with the base of these files
 pub record IsNextBase (names : List (List ℕ)) (files : FilesView) (top : List ℕ) (old : BaseView) (next : Next) : Type 0 where
   pub base : BaseView
   pub built : IsBuilt names files top next.base base
-  pub goes_on : KeepsOrRuns old base next
+  pub goes_on : KeepsOrRuns old base next.ran
 
 pub record IsFirst (names : List (List ℕ)) (files : FilesView) (top : List ℕ) (next : Next) : Type 0 where
   pub base : BaseView
   pub built : IsBuilt names files top next.base base
-  pub begins : RunsAll base next
+  pub begins : RunsAll base next.ran

@@ -1,21 +1,23 @@
-use Rattle.std.proofs.Common.{sym, subst}
+use Rattle.std.proofs.Common.{◌≡◌, Ok, sym, subst}
 use Rattle.mm_frame.specs.declared.base.Base.{Base}
 use Rattle.mm_keep.specs.Code.Next.{IsBuilt}
 use Rattle.mm_keep.proofs.NextLemmas.{both_read, if_ok}
 use Rattle.mm_keep.proofs.keeping.next_of.Goals as goal
 
-pub rest_of-requires : goal.rest_of-requires
-rest_of-requires c =
+pub rest_of-ran-requires : goal.rest_of-ran-requires
+rest_of-ran-requires c =
     let has = c.requires.old in
-    let built = c.in_ok-built.ensures.base in
-    (has.0, built.0, both_read c.args.names.now c.base_of-built.new.names c.args.files.now c.args.top.now c.args.old.now c.in_ok-built.field-0 has.0 built.0 c.count-count.ensures.distinct c.in_ok-built.ensures.grows has.1 built.1)
+    let built = c.in_ok-base.ensures.base in
+    (has.0, built.0, both_read c.args.names.now c.base_of-built.new.names c.args.files.now c.args.top.now c.args.old.now c.in_ok-base.base has.0 built.0 c.count-count.ensures.distinct c.in_ok-base.ensures.grows has.1 built.1)
 
 pub returns-clause-next : goal.returns-clause-next
 returns-clause-next c =
-    let built = c.in_ok-built.ensures.base in
-    if_ok _ _ _ c.rest_of.result
-    (λ next same goes view is. record {
+    let built = c.in_ok-base.ensures.base in
+    if_ok (λ next. (next.base ≡ c.in_ok-base.base) × (c.rest_of-ran.result ≡ Ok next.ran)) _ c.joined.result
+    (λ next same view is.
+    let goes = rw same.1 at c.rest_of-ran.ensures in
+    record {
       base = built.0;
-      built = subst (λ (code : Base). IsBuilt c.base_of-built.new.names c.args.files.now c.args.top.now code built.0) (sym same) built.1;
-      goes_on = goes view built.0 (both_read c.args.names.now c.base_of-built.new.names c.args.files.now c.args.top.now c.args.old.now c.in_ok-built.field-0 view built.0 c.count-count.ensures.distinct c.in_ok-built.ensures.grows is built.1);
-    }) c.rest_of.ensures.base c.rest_of.ensures.next
+      built = subst (λ (code : Base). IsBuilt c.base_of-built.new.names c.args.files.now c.args.top.now code built.0) (sym same.0) built.1;
+      goes_on = goes view built.0 (both_read c.args.names.now c.base_of-built.new.names c.args.files.now c.args.top.now c.args.old.now c.in_ok-base.base view built.0 c.count-count.ensures.distinct c.in_ok-base.ensures.grows is built.1);
+    }) c.joined.ensures

@@ -3,8 +3,8 @@ use Rattle.mm_keep.specs.Code.Planned.{AreRunBy, AreRecorded}
 use Rattle.mm_keep.proofs.RunLemmas.{planned_runs}
 use Rattle.mm_keep.proofs.keeping.rest_of.Goals as goal
 
-pub returns-clause-next : goal.returns-clause-next
-returns-clause-next c view copy both =
+pub returns : goal.returns
+returns c view copy both =
     let checked = c.in_ok-checked.checked.items in
     let plan = c.in_ok-plan.plan.items in
     let planned = c.in_ok-plan.ensures view copy both in

@@ -1,9 +1,10 @@
 use Rattle.std.proofs.Common.{◌≡◌, ◌<◌, ◌∙◌, ap, arith, false, refl, inl, inr}
 use Rattle.std.specs.Prelude.{slice_range}
+use Rattle.mm_report.specs.declared.script.ScriptError.TheVariants as errors
 use Rattle.mm_report.specs.Code.Growing.{line_bytes}
 use Rattle.mm_report.specs.Code.Pending.{pending, edit_in}
 use Rattle.mm_report.specs.Code.Stops.{IsBadEditLine}
-use Rattle.mm_report.proofs.GrowLemmas.{blanks_grown, grows_then, not_true, same_error}
+use Rattle.mm_report.proofs.GrowLemmas.{blanks_grown, grows_then, not_true, other_error, same_error}
 use Rattle.mm_report.proofs.BatchLemmas.{bad_listed, bad_text, begun_holds, edit_missing, line_cut, line_some, none_left, not_fed, short_cut, short_holds}
 use Rattle.mm_report.proofs.edits.read_listed.Goals as goal
 
@@ -78,3 +79,30 @@ returns-then-missing-gt1-clause-cut g c = λ cut n front f count.
 
 pub returns-clause-grows : goal.returns-clause-grows
 returns-clause-grows g c = grows_then _ _ _ _ _ _ c.in_ok-line.ensures.grows c.in_ok-read.ensures.grows
+
+pub returns-in_err-line-clause-bad : goal.returns-in_err-line-clause-bad
+returns-in_err-line-clause-bad g c = λ bad n front f count.
+    absurd (other_error c.from_residual.result _ c.in_err-line.field-0.0 errors.Read errors.Memory _ c.from_residual.ensures.1 refl c.in_err-line.ensures.told (λ e. cc) (λ e. cc) bad)
+
+pub returns-in_err-line-clause-cut : goal.returns-in_err-line-clause-cut
+returns-in_err-line-clause-cut g c = λ cut n front f count.
+    absurd (other_error c.from_residual.result _ c.in_err-line.field-0.0 errors.Read errors.Memory _ c.from_residual.ensures.1 refl c.in_err-line.ensures.told (λ e. cc) (λ e. cc) cut)
+
+pub returns-in_err-line-clause-told : goal.returns-in_err-line-clause-told
+returns-in_err-line-clause-told g c = λ write.
+    other_error c.from_residual.result _ c.in_err-line.field-0.0 errors.Read errors.Memory _ c.from_residual.ensures.1 refl c.in_err-line.ensures.told (λ e. cc) (λ e. cc) write
+
+pub returns-in_err-line-clause-failed : goal.returns-in_err-line-clause-failed
+returns-in_err-line-clause-failed g c = λ read.
+    c.in_err-line.ensures.failed (same_error c.from_residual.result c.in_err-line.field-0.0 _ c.from_residual.ensures.1 read)
+
+pub returns-in_err-read-clause-failed : goal.returns-in_err-read-clause-failed
+returns-in_err-read-clause-failed g c = λ read.
+    c.in_err-read.ensures.failed (same_error c.from_residual-in_err-read.result c.in_err-read.field-0.0 _ c.from_residual-in_err-read.ensures.1 read)
+
+pub returns-in_err-read-clause-told : goal.returns-in_err-read-clause-told
+returns-in_err-read-clause-told g c = λ write.
+    c.in_err-read.ensures.told (same_error c.from_residual-in_err-read.result c.in_err-read.field-0.0 _ c.from_residual-in_err-read.ensures.1 write)
+
+pub returns-clause-fewer : goal.returns-clause-fewer
+returns-clause-fewer g c = omega (arith, c.in_ok-line.ensures.fewer, c.in_ok-read.ensures.fewer)
