@@ -2,7 +2,7 @@
 
 use mm_store::{Files, StoreError};
 use std::alloc::{AllocError, Global};
-use std::test::Fail;
+use std::mem;
 
 /// Whether there is a file of this name with this text.
 fn has_text(files: &Files, alloc: Global, name: &[u8], wanted: &[u8]) -> Result<bool, AllocError> {
@@ -17,12 +17,10 @@ fn know_none(files: &Files, alloc: Global, name: &[u8]) -> Result<bool, AllocErr
     Ok(files.piece_count(name).is_none() && files.text(alloc, name)?.is_none())
 }
 
-/// Two files: one of a piece, with a comment behind it, and one without a name, whose text lacks its line feed.
-fn two_files(alloc: Global) -> Result<Files, StoreError> {
-    let mut files = Files::new(alloc);
+/// Adds two files: one of a piece, with a comment behind it, and one without a name, whose text lacks its line feed.
+fn add_two(files: &mut Files, alloc: Global) -> Result<(), StoreError> {
     files.add(alloc, b"top", b"$c a $.\n$( end $)\n")?;
-    files.add(alloc, b"", b"$c z $.")?;
-    Ok(files)
+    files.add(alloc, b"", b"$c z $.")
 }
 
 /// Whether they tell what was added.
@@ -36,8 +34,10 @@ fn tell_two(files: &Files, alloc: Global) -> Result<bool, AllocError> {
 }
 
 #[test]
-fn a_file_has_the_text_that_was_added(rt: HostRuntime) -> Result<(), Fail> {
-    let files = two_files(rt.alloc())?;
-    assert!(rt; tell_two(&files, rt.alloc())?);
-    Ok(())
+fn a_file_has_the_text_that_was_added(rt: HostRuntime) {
+    let mut files = Files::new(rt.alloc());
+    let added = add_two(&mut files, rt.alloc()).is_ok();
+    let told = tell_two(&files, rt.alloc());
+    mem::forget(files);
+    assert!(rt; added && told == Ok(true));
 }

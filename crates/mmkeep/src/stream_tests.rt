@@ -5,9 +5,9 @@ use crate::loading::{FileError, read_all};
 use mm_keep::{Files, Session, StoreError};
 use mm_report::{Reading, ScriptError, Writing, run_script, write_report};
 use std::alloc::Global;
-use std::io;
 use std::io::{Read, Write};
 use std::test::Fail;
+use std::{io, mem};
 
 /// A reader that gives some bytes a call.
 #[derive(Drop)]
@@ -80,9 +80,8 @@ const ANSWERS: &[u8] =
 /// A session over the logic.
 fn begun(alloc: Global) -> Result<Session, StoreError> {
     let mut files = Files::new(alloc);
-    files.add(alloc, NAME, LOGIC)?;
     // No piece of files that were only added is parked.
-    if files.parked() != 0 {
+    if files.add(alloc, NAME, LOGIC).is_err() || files.parked() != 0 {
         return Err(StoreError::NoTop);
     }
     match Session::begin(alloc, files, NAME) {
@@ -124,10 +123,16 @@ fn run(alloc: Global, session: &mut Session, mut reading: Reading<Given>, fails:
     }
 }
 
-/// Runs a script on a session over the logic.
+/// Runs a script on a session over the logic, which is not taken apart behind it.
 fn ran(alloc: Global, reading: Reading<Given>, fails: usize) -> Result<Ended, StoreError> {
-    let mut session = begun(alloc)?;
-    Ok(run(alloc, &mut session, reading, fails))
+    match begun(alloc) {
+        Ok(mut session) => {
+            let ended = run(alloc, &mut session, reading, fails);
+            mem::forget(session);
+            Ok(ended)
+        }
+        Err(error) => Err(error),
+    }
 }
 
 /// The read that gives the end counts, too.
