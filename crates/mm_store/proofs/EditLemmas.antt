@@ -1,8 +1,9 @@
 -- From what is done by keys to the edit of the files without keys, and why an edit is refused.
-use Rattle.std.proofs.Common.{◌≡◌, ℕ, ◌<◌, ◌≤◌, List, Some, length, sym, ap, ◌∙◌, subst}
+use Rattle.std.proofs.Common.{◌≡◌, ℕ, ◌+◌, ◌<◌, ◌≤◌, List, Some, length, sym, ap, ◌∙◌, subst}
 use Rattle.std.proofs.lemmas.Option.{none-some}
 use Rattle.std.proofs.Common.{Result, Ok, Err}
 use Rattle.std.specs.Result.{IfErr, IsErrAnd}
+use Rattle.mm_text.specs.Language.Cut.{ended}
 use Rattle.mm_store.specs.declared.edit.EditError.{EditError}
 use Rattle.mm_store.specs.declared.edit.EditError.TheVariants.{NoFile, NoPiece, Text, NotOne, TooMany, Memory}
 use Rattle.mm_store.specs.Language.FilesView.{FilesView, plain, file_number, bytes_of}
@@ -10,7 +11,7 @@ use Rattle.mm_store.specs.Language.Undoing.{keys_in}
 use Rattle.mm_store.specs.Language.Edits.{Asked, edited_name, edited_text, IsAmong, edited, after_edit, IsPlaced, NamesNoMember, BringsOneUnit, BringsFault, BringsNotOne, IsEditOf}
 use Rattle.mm_store.specs.Language.Answers.{IsEditError}
 use Rattle.mm_store.specs.Code.Edited.{pieces_in, with_pieces}
-use Rattle.mm_store.specs.Code.Units.{IsUnitError}
+use Rattle.mm_store.specs.Code.Units.{IsNewError}
 use Rattle.mm_store.proofs.NumberLemmas.{IsThere, file_there, with_pieces_is}
 
 module _ (view : FilesView) (edit : Asked) (number count : ℕ)
@@ -49,13 +50,15 @@ module _ (view : FilesView) (edit : Asked) (number count : ℕ)
     no_memory = (number, found.file, placed among, λ none. none-some text (sym none ∙ brings))
 
     -- what is told of a text is told of the edit that brings it
-    pub not_unit : (error : EditError) → IsUnitError text error → IsEditError edit (plain view) error
-    not_unit (Text fault) fails = (number, found.file, placed among, subst (λ o. BringsFault o fault) (sym brings) fails)
-    not_unit (NotOne units) fails = (number, found.file, placed among, subst (λ o. BringsNotOne o units) (sym brings) fails)
-    not_unit Memory fails = no_memory
-    not_unit NoFile fails = absurd fails
-    not_unit (NoPiece count) fails = absurd fails
-    not_unit TooMany fails = absurd fails
+    pub not_new : (held : ℕ)
+        → (4294967295 < held + length (ended text) → 4294967295 < bytes_of (with_pieces (plain view) number (edited edit (pieces_in (plain view) number))))
+        → (error : EditError) → IsNewError held text error → IsEditError edit (plain view) error
+    not_new held more (Text fault) fails = (number, found.file, placed among, subst (λ o. BringsFault o fault) (sym brings) fails)
+    not_new held more (NotOne units) fails = (number, found.file, placed among, subst (λ o. BringsNotOne o units) (sym brings) fails)
+    not_new held more TooMany fails = too_many among (subst BringsOneUnit (sym brings) fails.0) (more fails.1)
+    not_new held more Memory fails = no_memory
+    not_new held more NoFile fails = absurd fails
+    not_new held more (NoPiece count) fails = absurd fails
 
 pub if_err : {T E : Type 0} (r : Result T E) (P Q : E → Type 0) → IsErrAnd r P → ((e : E) → P e → Q e) → IfErr r Q
 if_err (Ok x) P Q h f = tt

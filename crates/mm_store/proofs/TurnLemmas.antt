@@ -3,7 +3,6 @@ use Rattle.std.proofs.Common.{◌≡◌, ℕ, ◌+◌, ◌*◌, ◌-◌, ◌<◌
 use Rattle.std.specs.Prelude.{slice_get}
 use Rattle.std.proofs.lemmas.Option.{none-some, slice_get_within}
 use Rattle.mm_store.specs.declared.walk.Spot.{Spot}
-use Rattle.mm_store.specs.declared.walk.Step.{Step}
 use Rattle.mm_store.specs.declared.walk.Step.TheVariants as steps
 use Rattle.mm_store.specs.Language.FilesView.{PieceView, FileView}
 use Rattle.mm_store.specs.Language.Walking.{LevelView, WalkView}
@@ -74,7 +73,7 @@ module _ (files : List FileView) (old new : WalkView) where
       let after = ap (turns files) p.after in
       omega (arith, after, moved files old.levels p.front p.level p.piece p.is_here, weight_less file_turns files old.names p.name)
 
-  tells_less : (name : List ℕ) → Tells files old name new → turns files new < turns files old
+  pub tells_less : (name : List ℕ) → Tells files old name new → turns files new < turns files old
   tells_less name t =
       let after = ap (turns files) t.after in
       omega (arith, after, ap untold t.untold)
@@ -93,11 +92,11 @@ module _ (files : List FileView) (old new : WalkView) where
         weight_entered file_turns files old.names e.name e.number found.0 found.1 (name_of_number files e.name e.number found.0 e.is_number found.1) e.fresh,
       )
 
-  pub turns_less : (step : Step) → IsStep files old step new → (step ≡ steps.End → ⊥) → turns files new < turns files old
-  turns_less steps.End is more = absurd (more refl)
-  turns_less steps.Nothing (inl l) more = leaves_less l
-  turns_less steps.Nothing (inr (inl a)) more = again_less a
-  turns_less steps.Nothing (inr (inr e)) more = enters_less e
-  turns_less (steps.Items spot) (inl p) more = passes_less spot p
-  turns_less (steps.Items spot) (inr p) more = told_less spot p
-  turns_less (steps.Missing name) is more = tells_less name.items is
+  pub nothing_less : IsStep files old steps.Nothing new → turns files new < turns files old
+  nothing_less (inl l) = leaves_less l
+  nothing_less (inr (inl a)) = again_less a
+  nothing_less (inr (inr e)) = enters_less e
+
+  pub items_less : (spot : Spot) → IsStep files old (steps.Items spot) new → turns files new < turns files old
+  items_less spot (inl p) = passes_less spot p
+  items_less spot (inr p) = told_less spot p

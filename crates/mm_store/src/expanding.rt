@@ -106,6 +106,30 @@ fn push_items(spot: Spot, parts: &[Part], items: &mut Vec<Item>) -> Result<(), A
     Ok(())
 }
 
+/// Puts the items that a walk goes past behind those that it has gone past.
+fn push_rest(
+    alloc: Global,
+    files: &Files,
+    walk: &mut Walk,
+    items: &mut Vec<Item>,
+) -> Result<(), AllocError>
+    ensures { OnOk result
+        ((top : List ℕ) → IsWalk (files_in files.now) top items.old.items walk.old → IsExpansion (files_in files.now) top items.new.items) }
+{
+    mm_text::one_meaning();
+    mm_text::one_division();
+    files.holds_pieces();
+    files.hold_units();
+    loop {
+        match walk.step(alloc, files)? {
+            Step::End => return Ok(()),
+            Step::Items(spot) => push_items(spot, files.parts(spot.key), items)?,
+            Step::Nothing => {}
+            Step::Missing(_) => {}
+        }
+    }
+}
+
 /// The items that a walk goes past.
 pub(crate) fn expanded(
     alloc: Global,
@@ -115,17 +139,7 @@ pub(crate) fn expanded(
     ensures { IfOk result
         (λ items. (top : List ℕ) → IsWalk (files_in files.now) top [] walk → IsExpansion (files_in files.now) top items.items) }
 {
-    mm_text::one_meaning();
-    mm_text::one_division();
-    files.holds_pieces();
-    files.hold_units();
     let mut items = Vec::new(alloc);
-    loop {
-        match walk.step(alloc, files)? {
-            Step::End => return Ok(items),
-            Step::Items(spot) => push_items(spot, files.parts(spot.key), &mut items)?,
-            Step::Nothing => {}
-            Step::Missing(_) => {}
-        }
-    }
+    push_rest(alloc, files, &mut walk, &mut items)?;
+    Ok(items)
 }

@@ -8,6 +8,7 @@ ghost use Rattle.std.specs.Option.{option_map};
 ghost use Rattle.std.specs.List.{concat, insert};
 ghost use Rattle.std.specs.FinMap as finite;
 ghost use Rattle.mm_text.specs.Language.Cut.{ArePieces};
+ghost use Rattle.mm_text.specs.Language.Reading.{HasWords};
 ghost use Rattle.mm_text.specs.Language.Place.{line_at, column_at};
 ghost use Rattle.mm_store.specs.declared.error.StoreError.TheVariants.{Known, NoTop};
 ghost use Rattle.mm_store.specs.declared.edit.EditError.TheVariants.{NoFile, NoPiece};
@@ -32,15 +33,15 @@ ghost use Rattle.mm_store.specs.Code.Batched.{StandOnce};
 use crate::edit::{Edit, EditError};
 use crate::error::StoreError;
 use crate::expanding::{expanded, included_name};
-use crate::file_text::{FileText, starts};
+use crate::file_text::FileText;
 use crate::item::Item;
 use crate::lines::Lines;
-use crate::piece_text::{PieceText, kept_piece, kept_pieces};
+use crate::piece_text::{PieceText, kept_pieces};
 use crate::pieces::PieceStore;
 use crate::room::{ended_len, fits};
 use crate::state::{EditKind, State};
 use crate::undo::{Action, Undo};
-use crate::unit::read_unit;
+use crate::unit::new_piece;
 use crate::walk::Walk;
 use indexmap::IndexMap;
 use mm_text::{Cut, Part, Place, cut, parts_are_texts, words_stand_alone};
@@ -168,16 +169,37 @@ impl Files {
     {
         let Cut { pieces, tail } = cut;
         let kept = kept_pieces(alloc, pieces)?;
-        let starts = starts(alloc, &kept)?;
+        let file = FileText::without_keys(alloc, &kept, tail)?;
         let name = Vec::from_slice(alloc, name)?;
+        self.put_kept(alloc, name, bytes, kept, file)
+    }
+
+    /// Puts a file behind the others, and its pieces under keys. After want of memory the files are as before.
+    fn put_kept(
+        &mut self,
+        alloc: Global,
+        name: Vec<u8>,
+        bytes: u64,
+        kept: Vec<PieceText>,
+        mut file: FileText,
+    ) -> Result<(), AllocError>
+        requires missing { file_number (plain self.old) name.items ≡ None }
+        requires counted { bytes ≡ length (concat (map (λ piece. piece.text.items) kept.items) ++ file.tail.items) }
+        requires fits { bytes_of (plain self.old) + bytes ≤ 4294967295 }
+        requires kept { All IsPieceKept kept.items }
+        requires starts { AreStarts (map (λ piece. piece.text.items) kept.items) file.starts.items }
+        requires many { length file.starts.items ≡ length kept.items + 1 }
+        requires tail { HasWords file.tail.items [] }
+        requires none_deleted { file.deleted ≡ 0 }
+        ensures ok { OnOk result
+            (plain self.new ≡ with_file (plain self.old) name.items (map (λ piece. piece.text.items) kept.items) file.tail.items) }
+        ensures keeps { OnOk result (KeepsPieces self.old self.new) }
+        ensures parked { OnOk result (parked_in self.new ≡ parked_in self.old) }
+        ensures err { OnErr result (self.new ≡ self.old) }
+    {
         self.files.reserve(1)?;
         let keys = self.pieces.put_all(alloc, kept)?;
-        let file = FileText {
-            keys,
-            starts,
-            tail,
-            deleted: 0,
-        };
+        file.keys = keys;
         self.files.insert(name, file).unwrap();
         self.bytes += bytes;
         Ok(())
@@ -546,11 +568,11 @@ impl Files {
         file.keys.len()
     }
 
-    /// Whether the files may have so many bytes more. It takes no memory.
-    fn has_room_for(&self, more: usize) -> bool
-        ensures { IsTrue result ↔ (bytes_of (plain self.now) + more ≤ 4294967295) }
+    /// How many bytes the texts have. It takes no memory.
+    fn held(&self) -> u64
+        ensures { result ≡ bytes_of (plain self.now) }
     {
-        fits(self.bytes, more as u64)
+        self.bytes
     }
 
     /// How many bytes the texts have without this piece. It takes no memory.
@@ -583,11 +605,7 @@ impl Files {
         if at > count {
             return Err(EditError::NoPiece(count));
         }
-        let unit = read_unit(alloc, text)?;
-        if !self.has_room_for(unit.len()) {
-            return Err(EditError::TooMany);
-        }
-        let kept = kept_piece(alloc, unit)?;
+        let kept = new_piece(alloc, self.held(), text)?;
         Ok(self.insert_piece(number, at, kept)?)
     }
 
@@ -612,11 +630,7 @@ impl Files {
         if at >= count {
             return Err(EditError::NoPiece(count));
         }
-        let unit = read_unit(alloc, text)?;
-        if !fits(self.bytes_without(number, at), unit.len() as u64) {
-            return Err(EditError::TooMany);
-        }
-        let kept = kept_piece(alloc, unit)?;
+        let kept = new_piece(alloc, self.bytes_without(number, at), text)?;
         Ok(self.replace_piece(number, at, kept)?)
     }
 

@@ -1,14 +1,17 @@
 //! The text that an edit brings.
 
-ghost use Rattle.std.specs.Prelude.{IfOk, IfErr};
-ghost use Rattle.mm_store.specs.Code.Units.{IsUnit, IsUnitError};
+ghost use Rattle.std.specs.Prelude.{◌+◌, ◌≤◌, length, IfOk, IfErr};
+ghost use Rattle.mm_store.specs.Code.Inside.{IsPieceKept};
+ghost use Rattle.mm_store.specs.Code.Units.{IsUnit, IsUnitError, IsNewError};
 
 use crate::edit::EditError;
+use crate::piece_text::{PieceText, kept_piece};
+use crate::room::fits;
 use mm_text::{Cut, cut, one_unit_of_cut};
 use std::alloc::Global;
 
 /// The whole text, with a line feed behind it where it does not end in white space, if it is exactly one unit.
-pub(crate) fn read_unit(alloc: Global, text: &[u8]) -> Result<Vec<u8>, EditError>
+fn read_unit(alloc: Global, text: &[u8]) -> Result<Vec<u8>, EditError>
     ensures ok { IfOk result (λ unit. IsUnit text.now unit.items) }
     ensures err { IfErr result (IsUnitError text.now) }
 {
@@ -20,4 +23,18 @@ pub(crate) fn read_unit(alloc: Global, text: &[u8]) -> Result<Vec<u8>, EditError
     let mut unit = pieces.pop().unwrap();
     unit.extend_from_slice(&tail)?;
     Ok(unit)
+}
+
+/// That text as it is kept, if files that have so many bytes beside it may have it too.
+pub(crate) fn new_piece(alloc: Global, held: u64, text: &[u8]) -> Result<PieceText, EditError>
+    ensures unit { IfOk result (λ piece. IsUnit text.now piece.text.items) }
+    ensures kept { IfOk result IsPieceKept }
+    ensures fits { IfOk result (λ piece. held + length piece.text.items ≤ 4294967295) }
+    ensures err { IfErr result (IsNewError held text.now) }
+{
+    let unit = read_unit(alloc, text)?;
+    if !fits(held, unit.len() as u64) {
+        return Err(EditError::TooMany);
+    }
+    Ok(kept_piece(alloc, unit)?)
 }

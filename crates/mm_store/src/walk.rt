@@ -100,18 +100,28 @@ impl Walk {
     pub(crate) fn from_top(alloc: Global, top: &[u8], number: usize) -> Result<Walk, AllocError>
         ensures { IfOk result (λ walk. walk ≡ first_walk top.now number) }
     {
-        let mut names = IndexSet::new(alloc);
-        take_name(alloc, top, &mut names)?;
-        let mut levels = Vec::new(alloc);
-        levels.push(Level {
+        let mut walk = Walk {
+            names: IndexSet::new(alloc),
+            levels: Vec::new(alloc),
+            told: false,
+        };
+        walk.begin(alloc, top, number)?;
+        Ok(walk)
+    }
+
+    /// Takes the name of the top file and enters it.
+    fn begin(&mut self, alloc: Global, top: &[u8], number: usize) -> Result<(), AllocError>
+        requires names { self.old.names ≡ [] }
+        requires levels { self.old.levels ≡ [] }
+        requires untold { self.old.told ≡ false }
+        ensures { OnOk result (self.new ≡ first_walk top.now number) }
+    {
+        take_name(alloc, top, &mut self.names)?;
+        self.levels.push(Level {
             file: number,
             piece: 0,
         })?;
-        Ok(Walk {
-            names,
-            levels,
-            told: false,
-        })
+        Ok(())
     }
 
     /// The innermost of the files that the walk has entered and not left.

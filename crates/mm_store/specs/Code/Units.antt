@@ -1,5 +1,5 @@
 -- What a text is read as that an edit brings.
-use Rattle.std.specs.Prelude.{◌≡◌, ℕ, List, Some}
+use Rattle.std.specs.Prelude.{◌≡◌, ℕ, ◌+◌, ◌<◌, List, Some, length}
 use Rattle.mm_text.specs.Language.Cut.{HoldsOne, ended}
 use Rattle.mm_store.specs.declared.edit.EditError.{EditError}
 use Rattle.mm_store.specs.declared.edit.EditError.TheVariants.{NoFile, NoPiece, Text, NotOne, TooMany, Memory}
@@ -19,3 +19,12 @@ IsUnitError text Memory = Unit {0}
 IsUnitError text NoFile = ⊥
 IsUnitError text (NoPiece count) = ⊥
 IsUnitError text TooMany = ⊥
+
+-- why a text does not become a piece of files that have so many bytes beside it
+abbrev pub IsNewError : ℕ → List ℕ → EditError → Type 0
+IsNewError held text (Text fault) = BringsFault (Some text) fault
+IsNewError held text (NotOne count) = BringsNotOne (Some text) count
+IsNewError held text TooMany = HasUnitCount text 1 × (4294967295 < held + length (ended text))
+IsNewError held text Memory = Unit {0}
+IsNewError held text NoFile = ⊥
+IsNewError held text (NoPiece count) = ⊥

@@ -1,4 +1,4 @@
-use Rattle.std.proofs.Common.{ℕ, ◌<◌, ◌≤◌, List, length, set, refl, sym, ap, ◌∙◌, subst, arith}
+use Rattle.std.proofs.Common.{ℕ, ◌<◌, List, length, set, refl, sym, ap, ◌∙◌, subst, arith}
 use Rattle.std.proofs.lemmas.List.{length-map}
 use Rattle.mm_text.specs.Language.Cut.{ended}
 use Rattle.mm_store.specs.Language.FilesView.{plain, plain_file, bytes_of}
@@ -6,55 +6,32 @@ use Rattle.mm_store.specs.Language.Edits.{Replace}
 use Rattle.mm_store.specs.Language.Answers.{IsEditError}
 use Rattle.mm_store.specs.Code.Edited.{pieces_in, with_pieces}
 use Rattle.mm_store.proofs.ListLemmas.{bytes_other, count_members}
-use Rattle.mm_store.proofs.EditLemmas.{if_err, no_member, is_edit, too_many, no_memory, not_unit}
+use Rattle.mm_store.proofs.EditLemmas.{if_err, no_member, is_edit, no_memory, not_new}
 use Rattle.mm_store.proofs.files.Files.replace_text.Goals as goal
 
 pub returns-then-at-count-clause-err : goal.returns-then-at-count-clause-err
 returns-then-at-count-clause-err c = no_member c.args.self.now (Replace c.args.name.now c.args.at c.args.text.now) c.in-Some.number c.count_in-count.result c.in-Some.ensures.number c.in-Some.ensures.within c.count_in-count.ensures (λ lt. omega (arith, lt, c.if-at-count.true))
 
-pub returns-in_err-unit-clause-err : goal.returns-in_err-unit-clause-err
-returns-in_err-unit-clause-err c =
-    if_err c.from_residual.result _ _ c.from_residual.ensures.1
-    (λ e is. subst (IsEditError (Replace c.args.name.now c.args.at c.args.text.now) (plain c.args.self.now)) (sym is)
-    (not_unit c.args.self.now (Replace c.args.name.now c.args.at c.args.text.now) c.in-Some.number c.count_in-count.result c.in-Some.ensures.number c.in-Some.ensures.within c.count_in-count.ensures c.args.text.now refl (omega arith) c.in_err-unit.field-0.0 c.in_err-unit.ensures.err))
-
-pub returns-then-not-fits-clause-err : goal.returns-then-not-fits-clause-err
-returns-then-not-fits-clause-err c =
-    let view = c.args.self.now in
-    let n = c.in-Some.number in
-    let long : n < length (plain view) = omega (arith, c.in-Some.ensures.within, length-map view.keyed (plain_file view.pieces)) in
-    let count = count_members view.pieces view.keyed n in
-    let within : c.args.at < length (pieces_in (plain view) n) = omega (arith, count, c.count_in-count.ensures) in
-    let bytes = bytes_other (plain view) n c.args.at (ended c.args.text.now) long within in
-    too_many c.args.self.now (Replace c.args.name.now c.args.at c.args.text.now) c.in-Some.number c.count_in-count.result c.in-Some.ensures.number c.in-Some.ensures.within c.count_in-count.ensures
-    (omega arith) c.in_ok-unit.ensures.ok.one (grind (arith, bytes, c.bytes_without.ensures, c.fits.ensures.0, c.fits.ensures.1, c.in_ok-unit.unit.ok.0, ap length c.in_ok-unit.ensures.ok.whole, c.len.ensures))
-
-pub kept_piece-requires : goal.kept_piece-requires
-kept_piece-requires c =
-    let view = c.args.self.now in
-    let n = c.in-Some.number in
-    let long : n < length (plain view) = omega (arith, c.in-Some.ensures.within, length-map view.keyed (plain_file view.pieces)) in
-    let count = count_members view.pieces view.keyed n in
-    let within : c.args.at < length (pieces_in (plain view) n) = omega (arith, count, c.count_in-count.ensures) in
-    let bytes = bytes_other (plain view) n c.args.at (ended c.args.text.now) long within in
-    record { unit = c.in_ok-unit.ensures.ok.holds; small = grind (arith, bytes, c.bytes_without.ensures, c.fits.ensures.0, c.fits.ensures.1, c.in_ok-unit.unit.ok.0, ap length c.in_ok-unit.ensures.ok.whole, c.len.ensures) }
-
 pub returns-in_err-kept-clause-err : goal.returns-in_err-kept-clause-err
 returns-in_err-kept-clause-err c =
-    if_err c.from_residual-in_err-kept.result _ _ c.from_residual-in_err-kept.ensures.1
+    let view = c.args.self.now in
+    let n = c.in-Some.number in
+    let long : n < length (plain view) = omega (arith, c.in-Some.ensures.within, length-map view.keyed (plain_file view.pieces)) in
+    let within : c.args.at < length (pieces_in (plain view) n) = omega (arith, count_members view.pieces view.keyed n, c.count_in-count.ensures) in
+    let bytes = bytes_other (plain view) n c.args.at (ended c.args.text.now) long within in
+    if_err c.from_residual.result _ _ c.from_residual.ensures.1
     (λ e is. subst (IsEditError (Replace c.args.name.now c.args.at c.args.text.now) (plain c.args.self.now)) (sym is)
-    (no_memory c.args.self.now (Replace c.args.name.now c.args.at c.args.text.now) c.in-Some.number c.count_in-count.result c.in-Some.ensures.number c.in-Some.ensures.within c.count_in-count.ensures c.args.text.now refl (omega arith)))
+    (not_new c.args.self.now (Replace c.args.name.now c.args.at c.args.text.now) c.in-Some.number c.count_in-count.result c.in-Some.ensures.number c.in-Some.ensures.within c.count_in-count.ensures c.args.text.now refl (omega arith)
+    c.bytes_without.result (λ more. omega (arith, bytes, more, c.bytes_without.ensures)) c.in_err-kept.field-0.0 c.in_err-kept.ensures.err))
 
 pub replace_piece-requires-clause-within : goal.replace_piece-requires-clause-within
 replace_piece-requires-clause-within c =
     let view = c.args.self.now in
     let n = c.in-Some.number in
     let long : n < length (plain view) = omega (arith, c.in-Some.ensures.within, length-map view.keyed (plain_file view.pieces)) in
-    let count = count_members view.pieces view.keyed n in
-    let within : c.args.at < length (pieces_in (plain view) n) = omega (arith, count, c.count_in-count.ensures) in
-    let bytes = bytes_other (plain view) n c.args.at (ended c.args.text.now) long within in
-    subst (λ (t : List ℕ). bytes_of (with_pieces (plain view) n (set (pieces_in (plain view) n) c.args.at t)) ≤ 4294967295) (sym (c.in_ok-kept.ensures.text ∙ c.in_ok-unit.ensures.ok.whole))
-    (grind (arith, bytes, c.bytes_without.ensures, c.fits.ensures.0, c.fits.ensures.1, c.in_ok-unit.unit.ok.0, ap length c.in_ok-unit.ensures.ok.whole, c.len.ensures))
+    let within : c.args.at < length (pieces_in (plain view) n) = omega (arith, count_members view.pieces view.keyed n, c.count_in-count.ensures) in
+    let bytes = bytes_other (plain view) n c.args.at c.in_ok-kept.kept.text.items long within in
+    omega (arith, bytes, c.bytes_without.ensures, c.in_ok-kept.ensures.fits)
 
 pub returns-in_err-replace_piece-clause-err : goal.returns-in_err-replace_piece-clause-err
 returns-in_err-replace_piece-clause-err c =
@@ -67,14 +44,9 @@ returns-clause-ok c =
     let view = c.args.self.now in
     let n = c.in-Some.number in
     let long : n < length (plain view) = omega (arith, c.in-Some.ensures.within, length-map view.keyed (plain_file view.pieces)) in
-    let count = count_members view.pieces view.keyed n in
-    let within : c.args.at < length (pieces_in (plain view) n) = omega (arith, count, c.count_in-count.ensures) in
-    let bytes = bytes_other (plain view) n c.args.at (ended c.args.text.now) long within in
-    let means = c.in_ok-replace_piece.ensures.ok.done.means ∙ ap (λ (t : List ℕ). with_pieces (plain view) n (set (pieces_in (plain view) n) c.args.at t)) (c.in_ok-kept.ensures.text ∙ c.in_ok-unit.ensures.ok.whole) in
+    let within : c.args.at < length (pieces_in (plain view) n) = omega (arith, count_members view.pieces view.keyed n, c.count_in-count.ensures) in
+    let bytes = bytes_other (plain view) n c.args.at c.in_ok-kept.kept.text.items long within in
+    let done = c.in_ok-replace_piece.ensures.ok.done.means in
+    let means = done ∙ ap (λ (t : List ℕ). with_pieces (plain view) n (set (pieces_in (plain view) n) c.args.at t)) c.in_ok-kept.ensures.unit.whole in
     is_edit c.args.self.now (Replace c.args.name.now c.args.at c.args.text.now) c.in-Some.number c.count_in-count.result c.in-Some.ensures.number c.in-Some.ensures.within c.count_in-count.ensures c.replace_piece.new.self (omega arith)
-    c.in_ok-unit.ensures.ok.one means (omega (
-      arith,
-      ap bytes_of means,
-      (let small : bytes_of (with_pieces (plain view) n (set (pieces_in (plain view) n) c.args.at (ended c.args.text.now))) ≤ 4294967295 =
-          grind (arith, bytes, c.bytes_without.ensures, c.fits.ensures.0, c.fits.ensures.1, c.in_ok-unit.unit.ok.0, ap length c.in_ok-unit.ensures.ok.whole, c.len.ensures) in small),
-    ))
+    c.in_ok-kept.ensures.unit.one means (omega (arith, ap bytes_of done, bytes, c.bytes_without.ensures, c.in_ok-kept.ensures.fits))

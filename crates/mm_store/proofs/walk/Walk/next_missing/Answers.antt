@@ -6,7 +6,7 @@ use Rattle.mm_store.specs.Language.Keyless.{bare}
 use Rattle.mm_store.specs.Language.Walking.{FindsEnd}
 use Rattle.mm_store.specs.Code.Steps.{IsStep}
 use Rattle.mm_store.proofs.BareLemmas.{hold_bare, bare_nothing, bare_items, bare_tells}
-use Rattle.mm_store.proofs.TurnLemmas.{turns_less}
+use Rattle.mm_store.proofs.TurnLemmas.{nothing_less, items_less}
 use Rattle.mm_store.proofs.WalkLemmas.{since_nothing, since_items, since_tells, since_end}
 use Rattle.mm_store.proofs.walk.Walk.next_missing.Goals as goal
 
@@ -28,7 +28,9 @@ returns-in-Missing-clause-found c top items is =
     (bare_tells view now new c.in-Missing.name.items s) (c.loop-name.invariant top items is)
 
 pub loop-name-smaller-in-Nothing : goal.loop-name-smaller-in-Nothing
-loop-name-smaller-in-Nothing c = turns_less (files_in c.args.files.now) c.loop-name.self c.step.new.self c.in_ok-step.field-0 c.in_ok-step.ensures.ok (λ e. (cc))
+loop-name-smaller-in-Nothing c =
+    let files = files_in c.args.files.now in
+    nothing_less files c.loop-name.self c.step.new.self (subst (λ (step : Step). IsStep files c.loop-name.self step c.step.new.self) c.in-Nothing.is c.in_ok-step.ensures.ok)
 
 pub loop-name-preserved-in-Nothing : goal.loop-name-preserved-in-Nothing
 loop-name-preserved-in-Nothing c top items is =
@@ -40,7 +42,9 @@ loop-name-preserved-in-Nothing c top items is =
     (bare_nothing view now new s) (c.loop-name.invariant top items is)
 
 pub loop-name-smaller : goal.loop-name-smaller
-loop-name-smaller c = turns_less (files_in c.args.files.now) c.loop-name.self c.step.new.self c.in_ok-step.field-0 c.in_ok-step.ensures.ok (λ e. (cc))
+loop-name-smaller c =
+    let files = files_in c.args.files.now in
+    items_less files c.loop-name.self c.step.new.self c.in-Items.field-0 (subst (λ (step : Step). IsStep files c.loop-name.self step c.step.new.self) c.in-Items.is c.in_ok-step.ensures.ok)
 
 pub loop-name-preserved : goal.loop-name-preserved
 loop-name-preserved c top items is =
