@@ -37,8 +37,8 @@ module _ (text : List ℕ) (pieces : List (List ℕ)) (from at : ℕ) (g : Gramm
   ends_fault T08 place allowed none e = block_end text pieces from at g.phase g.first g.blocks.items h e.1 place allowed none e.0 e.2
   ends_fault _ place allowed none e = absurd e
 
-  pub ends_cut : first_bad text ≡ None → AreWords (runs_at text at) [] → (g.phase ≡ m.Begin) × (g.blocks.items ≡ []) → IsCut text pieces (ended (take (length text - from) (drop from text)))
-  ends_cut allowed none whole = subst (λ (bs : List ℕ). IsCut text pieces (ended bs)) (sym (take_rest text from)) (cut_end text pieces from at g.phase g.first g.blocks.items h allowed none whole.0 whole.1)
+  pub ends_cut : first_bad text ≡ None → AreWords (runs_at text at) [] → (g.phase ≡ m.Begin) × (g.blocks.items ≡ []) → IsCut text pieces (ended (drop from text))
+  ends_cut allowed none whole = cut_end text pieces from at g.phase g.first g.blocks.items h allowed none whole.0 whole.1
 
   module _ (word : Word) (to : ℕ) (taken : TakesWord text at word to) where
     pub from_before : (white : ℕ) → from ≤ word.end + white

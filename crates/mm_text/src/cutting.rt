@@ -1,7 +1,7 @@
 //! The cut of a text into pieces.
 
-ghost use Rattle.std.specs.Prelude.{◌≡◌, IfOk, IfErr, All, map};
-ghost use Rattle.mm_text.specs.Language.Reading.{IsTextErrorIn};
+ghost use Rattle.std.specs.Prelude.{◌≡◌, ◌≤◌, [], ◌∷◌, ◌++◌, None, IfOk, IfErr, OnOk, All, map, length, drop};
+ghost use Rattle.mm_text.specs.Language.Reading.{first_bad, IsTextErrorIn};
 ghost use Rattle.mm_text.specs.Language.Unit.{Units};
 ghost use Rattle.mm_text.specs.Language.Part.{HasUnits};
 ghost use Rattle.mm_text.specs.Language.Cut as pieces;
@@ -37,6 +37,42 @@ fn ended_copy(alloc: Global, bytes: &[u8]) -> Result<Vec<u8>, AllocError>
     Ok(copy)
 }
 
+/// Puts such a copy behind others.
+fn push_copy(alloc: Global, bytes: &[u8], copies: &mut Vec<Vec<u8>>) -> Result<(), AllocError>
+    ensures { OnOk result (map (λ copy. copy.items) copies.new.items ≡ map (λ copy. copy.items) copies.old.items ++ ended bytes.now ∷ []) }
+{
+    copies.push(ended_copy(alloc, bytes)?)?;
+    Ok(())
+}
+
+/// Cuts the units off a text, whose bytes are all allowed: it puts the pieces into an empty list, and answers where the
+/// tail begins.
+fn cut_units(alloc: Global, text: &[u8], pieces: &mut Vec<Vec<u8>>) -> Result<usize, TextError>
+    requires allowed { first_bad text.now ≡ None }
+    requires empty { pieces.old.items ≡ [] }
+    ensures within { IfOk result (λ from. from ≤ length text.now) }
+    ensures cut { IfOk result (λ from. IsCut text.now (map (λ piece. piece.items) pieces.new.items) (ended (drop from text.now))) }
+    ensures fault { IfErr result (IsCutError text.now) }
+{
+    let mut grammar = Grammar::new(alloc);
+    let mut reader = Reader::new(text);
+    let mut from = 0;
+    while let Some(word) = reader.next_word()? {
+        grammar.take(&word, &text[word.start..word.end])?;
+        if grammar.is_whole() {
+            let end = word.end + white_len(&text[word.end..]);
+            push_copy(alloc, &text[from..end], pieces)?;
+            from = end;
+        } else if grammar.is_within() {
+            reader.skip_plain();
+        }
+    }
+    match grammar.end() {
+        Some(fault) => Err(TextError::Fault(fault)),
+        None => Ok(from),
+    }
+}
+
 /// The pieces of a text, each with one unit, and its tail.
 ///
 /// A unit is a statement, an inclusion, or a block with the units inside it. A piece goes from behind the piece
@@ -61,24 +97,7 @@ pub fn cut(alloc: Global, text: &[u8]) -> Result<Cut, TextError>
         }));
     }
     let mut pieces = Vec::new(alloc);
-    let mut grammar = Grammar::new(alloc);
-    let mut reader = Reader::new(text);
-    let mut from = 0;
-    while let Some(word) = reader.next_word()? {
-        grammar.take(&word, &text[word.start..word.end])?;
-        if grammar.is_whole() {
-            let end = word.end + white_len(&text[word.end..]);
-            pieces.push(ended_copy(alloc, &text[from..end])?)?;
-            from = end;
-        } else if grammar.is_within() {
-            reader.skip_plain();
-        }
-    }
-    match grammar.end() {
-        Some(fault) => Err(TextError::Fault(fault)),
-        None => Ok(Cut {
-            pieces,
-            tail: ended_copy(alloc, &text[from..])?,
-        }),
-    }
+    let from = cut_units(alloc, text, &mut pieces)?;
+    let tail = ended_copy(alloc, &text[from..])?;
+    Ok(Cut { pieces, tail })
 }

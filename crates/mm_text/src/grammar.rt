@@ -1,17 +1,17 @@
 //! The reading of units from their beginning, word by word.
 
-ghost use Rattle.std.specs.Prelude.{◌≡◌, ◌↔◌, ℕ, Bool, IsTrue, []};
+ghost use Rattle.std.specs.Prelude.{◌≡◌, ◌↔◌, ℕ, Bool, IsTrue, [], OnOk};
 ghost use Rattle.std.specs.List.{list_all};
 ghost use Rattle.mm_text.specs.declared.grammar.Phase.TheVariants as phases;
 ghost use Rattle.mm_text.specs.declared.word.WordKind.TheVariants as kinds;
 ghost use Rattle.mm_text.specs.Language.Unit.{is_label_byte};
 ghost use Rattle.mm_text.specs.Code.UnitReading.{next};
-ghost use Rattle.mm_text.specs.Code.Grammar.{phase_of, level, is_within, GrammarTakes, EndsAs};
+ghost use Rattle.mm_text.specs.Code.Grammar.{phase_of, level, is_within, blocks_behind, GrammarTakes, EndsAs};
 
 use crate::fault::{TextError, TextFault, TextNumber};
 use crate::spelling::could_label;
 use crate::word::{Keyword, Word, WordKind};
-use std::alloc::Global;
+use std::alloc::{AllocError, Global};
 
 /// What may come next in a sequence of units.
 #[derive(Clone, Copy)]
@@ -81,13 +81,7 @@ impl Grammar {
                 }));
             }
         };
-        match word.kind {
-            WordKind::Keyword(Keyword::BlockStart) => self.blocks.push(word.start)?,
-            WordKind::Keyword(Keyword::BlockEnd) => {
-                self.blocks.pop();
-            }
-            _ => {}
-        }
+        open_or_close(&mut self.blocks, word)?;
         if matches!(self.phase, Phase::Begin) {
             self.first = word.start;
         }
@@ -111,6 +105,20 @@ impl Grammar {
             at: *start,
         })
     }
+}
+
+/// Notes where a block begins, and forgets it where it ends.
+fn open_or_close(blocks: &mut Vec<usize>, word: &Word) -> Result<(), AllocError>
+    ensures { OnOk result (blocks.new.items ≡ blocks_behind word.now.kind blocks.old.items word.now.start) }
+{
+    match word.kind {
+        WordKind::Keyword(Keyword::BlockStart) => blocks.push(word.start)?,
+        WordKind::Keyword(Keyword::BlockEnd) => {
+            blocks.pop();
+        }
+        _ => {}
+    }
+    Ok(())
 }
 
 /// What comes behind a word, which is spelled so, or the number of the fault if no unit has the word at this place.

@@ -1,92 +1,31 @@
-use Rattle.std.proofs.Common.{refl, ◌≤◌, ◌+◌, ◌++◌, ◌∷◌, ℕ, List, Vec, [], map, length, rules, sym, ap, ◌∙◌}
+use Rattle.std.proofs.Common.{ℕ, List, Vec, map, sym, ◌∙◌, subst}
 use Rattle.std.specs.Global.{Global}
-use Rattle.std.proofs.lemmas.Bool.{false≢true}
-use Rattle.std.proofs.lemmas.List.{map-append}
+use Rattle.std.proofs.lemmas.List.{take_rest}
 use Rattle.std.proofs.lemmas.Result.{err_from_is_err_and}
-use Rattle.mm_text.specs.Code.Reader.{SkipsPlain}
-use Rattle.mm_text.proofs.CutLemmas.{progress_start, progress_skip, words_fault}
-use Rattle.mm_text.proofs.CutStepLemmas.{ends_fault, ends_cut, from_before, refused, keeps_more, keeps_piece}
+use Rattle.mm_text.specs.Language.Cut.{ended, IsCut}
 use Rattle.mm_text.proofs.PartLemmas.{each_units}
-use Rattle.mm_text.proofs.PositionLemmas.{first_fault_lies, cut_error_lies}
+use Rattle.mm_text.proofs.PositionLemmas.{cut_error_lies}
 use Rattle.mm_text.proofs.cutting.cut.Goals as goal
 
 -- the bytes of a piece
 abbrev bytes_of : Vec ℕ Global → List ℕ
 bytes_of piece = piece.items
 
-pub loop-grammar-init : goal.loop-grammar-init
-loop-grammar-init c = record {
-  text = c.new-reader.ensures.text;
-  progress = rw (c.new-pieces.ensures.items, c.new-reader.ensures.from, c.new-grammar.ensures.phase, c.new-grammar.ensures.closed) (progress_start c.args.text.now _);
-}
+pub cut_units-requires-clause-allowed : goal.cut_units-requires-clause-allowed
+cut_units-requires-clause-allowed c = sym c.first_bad_byte.ensures ∙ c.in_default.is
 
-pub returns-in_err-word-clause-fault : goal.returns-in_err-word-clause-fault
-returns-in_err-word-clause-fault c =
+pub returns-in_err-from-clause-fault : goal.returns-in_err-from-clause-fault
+returns-in_err-from-clause-fault c =
     let p = err_from_is_err_and c.from_residual.result c.from_residual.ensures.1 in
-    let fails = rw c.loop-grammar.invariant.text at c.in_err-word.ensures.word in
-    rw (p.1, p.2) (words_fault _ _ _ _ _ _ _ c.loop-grammar.invariant.progress _ _ (sym c.first_bad_byte.ensures ∙ c.in_default.is) fails)
+    rw (p.1, p.2) c.in_err-from.ensures.fault
 
-pub returns-in_err-word-clause-fault_within : goal.returns-in_err-word-clause-fault_within
-returns-in_err-word-clause-fault_within c = cut_error_lies c.args.text.now c.from_residual.result (returns-in_err-word-clause-fault c)
+pub returns-in_err-from-clause-fault_within : goal.returns-in_err-from-clause-fault_within
+returns-in_err-from-clause-fault_within c = cut_error_lies c.args.text.now c.from_residual.result (returns-in_err-from-clause-fault c)
 
-pub returns-in_err-take-clause-fault : goal.returns-in_err-take-clause-fault
-returns-in_err-take-clause-fault c =
-    let p = err_from_is_err_and c.from_residual-in_err-take.result c.from_residual-in_err-take.ensures.1 in
-    let taken = rw (c.in-Some-2.is, c.loop-grammar.invariant.text) at c.in_ok-word.ensures.word in
-    rw (p.1, p.2) (refused _ _ _ _ c.loop-grammar.grammar c.loop-grammar.invariant.progress _ _ taken _ c.take.new.self refl _ (sym c.first_bad_byte.ensures ∙ c.in_default.is) c.in_err-take.ensures)
+pub returns-clause-cut : goal.returns-clause-cut
+returns-clause-cut c =
+    let text = c.args.text.now in
+    rw c.in_ok-tail.ensures (subst (λ (bytes : List ℕ). IsCut text (map bytes_of c.cut_units.new.pieces.items) (ended bytes)) (sym (take_rest text c.in_ok-from.from)) c.in_ok-from.ensures.cut)
 
-pub slice_bounds-ended_copy-count : goal.slice_bounds-ended_copy-count
-slice_bounds-ended_copy-count c =
-    let taken = rw (c.in-Some-2.is, c.loop-grammar.invariant.text) at c.in_ok-word.ensures.word in
-    from_before _ _ _ _ c.loop-grammar.grammar c.loop-grammar.invariant.progress _ _ taken c.white_len.result
-
-pub slice_bounds-ended_copy-start : goal.slice_bounds-ended_copy-start
-slice_bounds-ended_copy-start c =
-    let le : c.loop-grammar.from ≤ c.in-Some-2.word.end + c.white_len.result = slice_bounds-ended_copy-count c in
-    search rules
-
-pub loop-grammar-preserved-then-is_whole : goal.loop-grammar-preserved-then-is_whole
-loop-grammar-preserved-then-is_whole c =
-    let taken = rw (c.in-Some-2.is, c.loop-grammar.invariant.text) at c.in_ok-word.ensures.word in
-    let same = c.in_ok-word.ensures.text ∙ c.loop-grammar.invariant.text in
-    let most : c.next_word.new.self.from ≤ length c.next_word.new.self.text.now = c.next_word.new.self.in_text in
-    record {
-      text = c.in_ok-word.ensures.text ∙ c.loop-grammar.invariant.text;
-      progress = keeps_piece _ _ _ _ c.loop-grammar.grammar c.loop-grammar.invariant.progress _ _ taken _ c.take.new.self refl c.in_ok-take.ensures (sym c.first_bad_byte.ensures ∙ c.in_default.is) (rw same at most) (c.is_whole.ensures.0 c.if-is_whole.true)
-          c.white_len.result c.white_len.ensures.value _ (ap (map bytes_of) c.in_ok-push.ensures.items ∙ map-append bytes_of c.loop-grammar.pieces.items (c.in_ok-ended_copy.field-0 ∷ []) ∙ ap (λ (piece : List ℕ). map bytes_of c.loop-grammar.pieces.items ++ piece ∷ []) c.in_ok-ended_copy.ensures);
-    }
-
-pub loop-grammar-preserved : goal.loop-grammar-preserved
-loop-grammar-preserved c =
-    let taken = rw (c.in-Some-2.is, c.loop-grammar.invariant.text) at c.in_ok-word.ensures.word in
-    record {
-      text = c.in_ok-word.ensures.text ∙ c.loop-grammar.invariant.text;
-      progress = keeps_more _ _ _ _ c.loop-grammar.grammar c.loop-grammar.invariant.progress _ _ taken _ c.take.new.self refl c.in_ok-take.ensures (λ whole. false≢true (sym c.if-is_whole.false ∙ c.is_whole.ensures.1 whole));
-    }
-
-pub loop-grammar-preserved-then-is_within : goal.loop-grammar-preserved-then-is_within
-loop-grammar-preserved-then-is_within c =
-    let taken = rw (c.in-Some-2.is, c.loop-grammar.invariant.text) at c.in_ok-word.ensures.word in
-    let same = c.in_ok-word.ensures.text ∙ c.loop-grammar.invariant.text in
-    let more = keeps_more _ _ _ _ c.loop-grammar.grammar c.loop-grammar.invariant.progress _ _ taken _ c.take.new.self refl c.in_ok-take.ensures (λ whole. false≢true (sym c.if-is_whole.false ∙ c.is_whole.ensures.1 whole)) in
-    let skips : SkipsPlain c.next_word.new.self.text.now c.next_word.new.self.from c.skip_plain.new.self.from = c.skip_plain.ensures.skips in
-    record {
-      text = c.skip_plain.ensures.text ∙ same;
-      progress = progress_skip _ _ _ _ _ _ _ more _ (rw same at skips) (sym c.is_within.ensures ∙ c.if-is_within.true);
-    }
-
-pub returns-in-Some-end-clause-fault : goal.returns-in-Some-end-clause-fault
-returns-in-Some-end-clause-fault c =
-    let none = rw (c.in_default-2.is, c.loop-grammar.invariant.text) at c.in_ok-word.ensures.word in
-    ends_fault _ _ _ _ c.loop-grammar.grammar c.loop-grammar.invariant.progress _ _ (sym c.first_bad_byte.ensures ∙ c.in_default.is) none c.in-Some-end.ensures
-
-pub returns-in-Some-end-clause-fault_within : goal.returns-in-Some-end-clause-fault_within
-returns-in-Some-end-clause-fault_within c = first_fault_lies c.args.text.now c.in-Some-end.fault (returns-in-Some-end-clause-fault c)
-
-pub returns-in_ok-ended_copy-in-None-clause-cut : goal.returns-in_ok-ended_copy-in-None-clause-cut
-returns-in_ok-ended_copy-in-None-clause-cut c =
-    let none = rw (c.in_default-2.is, c.loop-grammar.invariant.text) at c.in_ok-word.ensures.word in
-    rw c.in_ok-ended_copy-in-None.ensures (ends_cut _ _ _ _ c.loop-grammar.grammar c.loop-grammar.invariant.progress (sym c.first_bad_byte.ensures ∙ c.in_default.is) none c.in-None.ensures)
-
-pub returns-in_ok-ended_copy-in-None-clause-units : goal.returns-in_ok-ended_copy-in-None-clause-units
-returns-in_ok-ended_copy-in-None-clause-units c = each_units bytes_of c.loop-grammar.pieces.items c.in_ok-ended_copy-in-None.field-0.items (returns-in_ok-ended_copy-in-None-clause-cut c).are_pieces
+pub returns-clause-units : goal.returns-clause-units
+returns-clause-units c = each_units bytes_of c.cut_units.new.pieces.items c.in_ok-tail.tail.items (returns-clause-cut c).are_pieces

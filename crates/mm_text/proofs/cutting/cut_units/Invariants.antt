@@ -1,6 +1,6 @@
 use Rattle.std.proofs.Common.{◌≡◌, ◌-◌, map, length}
 use Rattle.mm_text.proofs.CutLemmas.{Progress}
-use Rattle.mm_text.proofs.cutting.cut.Given as goal
+use Rattle.mm_text.proofs.cutting.cut_units.Given as goal
 
 abbrev pub invariant-loop-grammar : goal.invariant-loop-grammar
 invariant-loop-grammar l = record {
