@@ -1,6 +1,7 @@
 -- The faults of units: the machine finds them, and a list has one at most.
 use Rattle.std.proofs.Common.{◌≡◌, ◌≢◌, ◌⊎◌, ◌↔◌, ℕ, zero, suc, ◌+◌, ◌<◌, ◌≤◌, Bool, true, false, List, [], ◌∷◌, ◌++◌, append_assoc, length, take, drop, slice_get, take-append-drop, take-take, Some, Ok, Err, refl, sym, ap, ◌∙◌, subst, inl, inr, le_of_lt, le_of_eq, ◌-◌, arith}
 use Rattle.std.specs.List.{AllByRecursion}
+use Rattle.std.proofs.lemmas.Bool.{false≢true}
 use Rattle.std.proofs.lemmas.List.{append-nil, drop-drop, take_all}
 use Rattle.mm_text.specs.declared.word.Keyword.{Keyword}
 use Rattle.mm_text.specs.declared.word.Keyword.TheVariants.{BlockStart, BlockEnd, Constants, Variables, Floating, Essential, Disjoint, Axiom, Theorem, StatementEnd, ProofStart, InclusionStart, InclusionEnd}
@@ -97,29 +98,36 @@ abbrev pub reached : m.UnitStep → m.Phase
 reached (Ok s) = s.0
 reached (Err number) = m.Begin
 
+abbrev includes : m.Phase → Bool
+includes m.Including = true
+includes _ = false
+
+other_phase : (phase : m.Phase) → includes phase ≡ false → phase ≢ m.Including
+other_phase phase other e = false≢true (sym other ∙ ap includes e)
+
 pub to_including : (phase : m.Phase) (depth : ℕ) (kind : WordKind) (b : Bool) → reached (m.next phase depth kind b) ≡ m.Including → kind ≡ kinds.Keyword InclusionStart
-to_including m.Begin depth kinds.Plain true e = absurd cc
-to_including m.Begin depth kinds.Plain false e = absurd cc
+to_including m.Begin depth kinds.Plain true e = absurd (other_phase _ refl e)
+to_including m.Begin depth kinds.Plain false e = absurd (other_phase _ refl e)
 to_including m.Begin zero (kinds.Keyword InclusionStart) b e = refl
 to_including m.Begin (suc depth) (kinds.Keyword InclusionStart) b e = refl
-to_including m.Begin zero (kinds.Keyword BlockEnd) b e = absurd cc
-to_including m.Begin (suc depth) (kinds.Keyword BlockEnd) b e = absurd cc
-to_including m.Begin depth (kinds.Keyword _) b e = absurd cc
-to_including m.Labelled depth kinds.Plain b e = absurd cc
+to_including m.Begin zero (kinds.Keyword BlockEnd) b e = absurd (other_phase _ refl e)
+to_including m.Begin (suc depth) (kinds.Keyword BlockEnd) b e = absurd (other_phase _ refl e)
+to_including m.Begin depth (kinds.Keyword _) b e = absurd (other_phase _ refl e)
+to_including m.Labelled depth kinds.Plain b e = absurd (other_phase _ refl e)
 to_including m.Labelled depth (kinds.Keyword InclusionStart) b e = refl
-to_including m.Labelled depth (kinds.Keyword _) b e = absurd cc
-to_including m.Symbols depth kinds.Plain b e = absurd cc
+to_including m.Labelled depth (kinds.Keyword _) b e = absurd (other_phase _ refl e)
+to_including m.Symbols depth kinds.Plain b e = absurd (other_phase _ refl e)
 to_including m.Symbols depth (kinds.Keyword InclusionStart) b e = refl
-to_including m.Symbols depth (kinds.Keyword _) b e = absurd cc
-to_including m.Expression depth kinds.Plain b e = absurd cc
+to_including m.Symbols depth (kinds.Keyword _) b e = absurd (other_phase _ refl e)
+to_including m.Expression depth kinds.Plain b e = absurd (other_phase _ refl e)
 to_including m.Expression depth (kinds.Keyword InclusionStart) b e = refl
-to_including m.Expression depth (kinds.Keyword _) b e = absurd cc
-to_including m.Including depth kinds.Plain b e = absurd cc
+to_including m.Expression depth (kinds.Keyword _) b e = absurd (other_phase _ refl e)
+to_including m.Including depth kinds.Plain b e = absurd (other_phase _ refl e)
 to_including m.Including depth (kinds.Keyword InclusionStart) b e = refl
-to_including m.Including depth (kinds.Keyword _) b e = absurd cc
-to_including m.Named depth kinds.Plain b e = absurd cc
+to_including m.Including depth (kinds.Keyword _) b e = absurd (other_phase _ refl e)
+to_including m.Named depth kinds.Plain b e = absurd (other_phase _ refl e)
 to_including m.Named depth (kinds.Keyword InclusionStart) b e = refl
-to_including m.Named depth (kinds.Keyword _) b e = absurd cc
+to_including m.Named depth (kinds.Keyword _) b e = absurd (other_phase _ refl e)
 
 ends_at : (front : List Token) (phase : m.Phase) (depth d : ℕ) → m.run phase depth front ≡ Ok (m.phase_state m.Including d) → ((front ≡ []) × (phase ≡ m.Including)) ⊎ EndsInInclusion front
 ends_at [] phase depth d e = inl (refl, ap reached e)
@@ -151,9 +159,37 @@ six front token phase depth e f g h = (λ x. f (inclusion_phase front phase dept
 ten : (front : List Token) (token : Token) (phase : m.Phase) (depth : ℕ) → m.run m.Begin 0 front ≡ Ok (m.phase_state phase depth) → phase ≢ m.Including → IsKeyword InclusionStart token → IsUnitNumber T10 front token
 ten front token phase depth e f is = (λ x. f (inclusion_phase front phase depth e x), is)
 
-neither : (token : Token) (k : Keyword) → IsKeyword k token → k ≢ BlockEnd → ¬ (IsKeyword BlockEnd token ⊎ IsPlain token)
-neither token k is other (inl end) = other (let same : kinds.Keyword k ≡ kinds.Keyword BlockEnd = cc in cc)
-neither token k is other (inr plain) = cc
+abbrev begins : m.Phase → Bool
+begins m.Begin = true
+begins _ = false
+
+not_beginning : (phase : m.Phase) → begins phase ≡ false → phase ≢ m.Begin
+not_beginning phase other e = false≢true (sym other ∙ ap begins e)
+
+abbrev starts_inclusion : WordKind → Bool
+starts_inclusion (kinds.Keyword InclusionStart) = true
+starts_inclusion _ = false
+
+abbrev ends_block : WordKind → Bool
+ends_block (kinds.Keyword BlockEnd) = true
+ends_block _ = false
+
+plain_word : (token : Token) → IsPlain token → ¬ IsKeyword InclusionStart token
+plain_word token is start = false≢true (ap starts_inclusion (sym is ∙ start))
+
+other_keyword : (token : Token) (k : Keyword) → IsKeyword k token → starts_inclusion (kinds.Keyword k) ≡ false → ¬ IsKeyword InclusionStart token
+other_keyword token k is other start = false≢true (sym other ∙ ap starts_inclusion (sym is ∙ start))
+
+no_plain : (token : Token) (k : Keyword) → IsKeyword k token → ¬ IsPlain token
+no_plain token k is plain = cc
+
+neither : (token : Token) (k : Keyword) → IsKeyword k token → ends_block (kinds.Keyword k) ≡ false → ¬ (IsKeyword BlockEnd token ⊎ IsPlain token)
+neither token k is other (inl end) = false≢true (sym other ∙ ap ends_block (sym is ∙ end))
+neither token k is other (inr plain) = no_plain token k is plain
+
+-- a step that is taken has no number
+accepted : (state : m.Phase × ℕ) (number : TextNumber) → Ok state ≡ refused number → ⊥
+accepted state number e = cc
 
 inside : (front : List Token) (token : Token) (phase : m.Phase) (depth : ℕ) → m.run m.Begin 0 front ≡ Ok (m.phase_state phase depth) → phase ≢ m.Including → phase ≢ m.Begin → ¬ IsKeyword InclusionStart token → IsUnitNumber T06 front token
 inside front token phase depth e f g h = six front token phase depth e (λ x. f x.0) h (λ x. g x.0)
@@ -162,38 +198,38 @@ numbered : (a number : TextNumber) (front : List Token) (token : Token) → refu
 numbered a number front token e h = let same : a ≡ number = cc in subst (λ (n : TextNumber). IsUnitNumber n front token) same h
 
 pub number_of : (phase : m.Phase) (depth : ℕ) (kind : WordKind) (b : Bool) (front : List Token) (token : Token) (number : TextNumber) → m.run m.Begin 0 front ≡ Ok (m.phase_state phase depth) → token.kind ≡ kind → m.next phase depth kind b ≡ Err number → IsUnitNumber number front token
-number_of m.Begin depth kinds.Plain true front token number e is stops = absurd cc
+number_of m.Begin depth kinds.Plain true front token number e is stops = absurd (accepted _ number stops)
 number_of m.Begin depth kinds.Plain false front token number e is stops = numbered T11 number front token stops (may_begin_from front depth e, is)
 number_of m.Begin zero (kinds.Keyword BlockEnd) b front token number e is stops = numbered T09 number front token stops (may_begin_from front 0 e, is)
-number_of m.Begin (suc depth) (kinds.Keyword BlockEnd) b front token number e is stops = absurd cc
-number_of m.Begin zero (kinds.Keyword InclusionStart) b front token number e is stops = absurd cc
-number_of m.Begin (suc depth) (kinds.Keyword InclusionStart) b front token number e is stops = numbered T10 number front token stops (ten front token m.Begin (suc depth) e (λ x. cc) is)
-number_of m.Begin depth (kinds.Keyword BlockStart) b front token number e is stops = absurd cc
-number_of m.Begin depth (kinds.Keyword Constants) b front token number e is stops = absurd cc
-number_of m.Begin depth (kinds.Keyword Variables) b front token number e is stops = absurd cc
-number_of m.Begin depth (kinds.Keyword Disjoint) b front token number e is stops = absurd cc
-number_of m.Begin depth (kinds.Keyword k) b front token number e is stops = numbered T06 number front token stops (six front token m.Begin depth e (λ x. let no : m.Begin ≡ m.Including = x.0 in cc) (λ x. cc) (λ x. neither token _ is (λ y. cc) x.1))
-number_of m.Labelled depth kinds.Plain b front token number e is stops = numbered T06 number front token stops (inside front token m.Labelled depth e (λ x. cc) (λ x. cc) (λ x. cc))
-number_of m.Labelled depth (kinds.Keyword InclusionStart) b front token number e is stops = numbered T10 number front token stops (ten front token m.Labelled depth e (λ x. cc) is)
-number_of m.Labelled depth (kinds.Keyword Floating) b front token number e is stops = absurd cc
-number_of m.Labelled depth (kinds.Keyword Essential) b front token number e is stops = absurd cc
-number_of m.Labelled depth (kinds.Keyword Axiom) b front token number e is stops = absurd cc
-number_of m.Labelled depth (kinds.Keyword Theorem) b front token number e is stops = absurd cc
-number_of m.Labelled depth (kinds.Keyword k) b front token number e is stops = numbered T06 number front token stops (inside front token m.Labelled depth e (λ x. cc) (λ x. cc) (λ x. cc))
-number_of m.Symbols depth kinds.Plain b front token number e is stops = absurd cc
-number_of m.Symbols depth (kinds.Keyword InclusionStart) b front token number e is stops = numbered T10 number front token stops (ten front token m.Symbols depth e (λ x. cc) is)
-number_of m.Symbols depth (kinds.Keyword StatementEnd) b front token number e is stops = absurd cc
-number_of m.Symbols depth (kinds.Keyword k) b front token number e is stops = numbered T06 number front token stops (inside front token m.Symbols depth e (λ x. cc) (λ x. cc) (λ x. cc))
-number_of m.Expression depth kinds.Plain b front token number e is stops = absurd cc
-number_of m.Expression depth (kinds.Keyword InclusionStart) b front token number e is stops = numbered T10 number front token stops (ten front token m.Expression depth e (λ x. cc) is)
-number_of m.Expression depth (kinds.Keyword ProofStart) b front token number e is stops = absurd cc
-number_of m.Expression depth (kinds.Keyword k) b front token number e is stops = numbered T06 number front token stops (inside front token m.Expression depth e (λ x. cc) (λ x. cc) (λ x. cc))
-number_of m.Including depth kinds.Plain b front token number e is stops = absurd cc
-number_of m.Including depth (kinds.Keyword k) b front token number e is stops = numbered T12 number front token stops (inclusion_from front depth e, λ x. cc)
-number_of m.Named depth kinds.Plain b front token number e is stops = numbered T06 number front token stops (inside front token m.Named depth e (λ x. cc) (λ x. cc) (λ x. cc))
-number_of m.Named depth (kinds.Keyword InclusionStart) b front token number e is stops = numbered T10 number front token stops (ten front token m.Named depth e (λ x. cc) is)
-number_of m.Named depth (kinds.Keyword InclusionEnd) b front token number e is stops = absurd cc
-number_of m.Named depth (kinds.Keyword k) b front token number e is stops = numbered T06 number front token stops (inside front token m.Named depth e (λ x. cc) (λ x. cc) (λ x. cc))
+number_of m.Begin (suc depth) (kinds.Keyword BlockEnd) b front token number e is stops = absurd (accepted _ number stops)
+number_of m.Begin zero (kinds.Keyword InclusionStart) b front token number e is stops = absurd (accepted _ number stops)
+number_of m.Begin (suc depth) (kinds.Keyword InclusionStart) b front token number e is stops = numbered T10 number front token stops (ten front token m.Begin (suc depth) e (other_phase _ refl) is)
+number_of m.Begin depth (kinds.Keyword BlockStart) b front token number e is stops = absurd (accepted _ number stops)
+number_of m.Begin depth (kinds.Keyword Constants) b front token number e is stops = absurd (accepted _ number stops)
+number_of m.Begin depth (kinds.Keyword Variables) b front token number e is stops = absurd (accepted _ number stops)
+number_of m.Begin depth (kinds.Keyword Disjoint) b front token number e is stops = absurd (accepted _ number stops)
+number_of m.Begin depth (kinds.Keyword k) b front token number e is stops = numbered T06 number front token stops (six front token m.Begin depth e (λ x. other_phase _ refl x.0) (other_keyword token _ is refl) (λ x. neither token _ is refl x.1))
+number_of m.Labelled depth kinds.Plain b front token number e is stops = numbered T06 number front token stops (inside front token m.Labelled depth e (other_phase _ refl) (not_beginning _ refl) (plain_word token is))
+number_of m.Labelled depth (kinds.Keyword InclusionStart) b front token number e is stops = numbered T10 number front token stops (ten front token m.Labelled depth e (other_phase _ refl) is)
+number_of m.Labelled depth (kinds.Keyword Floating) b front token number e is stops = absurd (accepted _ number stops)
+number_of m.Labelled depth (kinds.Keyword Essential) b front token number e is stops = absurd (accepted _ number stops)
+number_of m.Labelled depth (kinds.Keyword Axiom) b front token number e is stops = absurd (accepted _ number stops)
+number_of m.Labelled depth (kinds.Keyword Theorem) b front token number e is stops = absurd (accepted _ number stops)
+number_of m.Labelled depth (kinds.Keyword k) b front token number e is stops = numbered T06 number front token stops (inside front token m.Labelled depth e (other_phase _ refl) (not_beginning _ refl) (other_keyword token _ is refl))
+number_of m.Symbols depth kinds.Plain b front token number e is stops = absurd (accepted _ number stops)
+number_of m.Symbols depth (kinds.Keyword InclusionStart) b front token number e is stops = numbered T10 number front token stops (ten front token m.Symbols depth e (other_phase _ refl) is)
+number_of m.Symbols depth (kinds.Keyword StatementEnd) b front token number e is stops = absurd (accepted _ number stops)
+number_of m.Symbols depth (kinds.Keyword k) b front token number e is stops = numbered T06 number front token stops (inside front token m.Symbols depth e (other_phase _ refl) (not_beginning _ refl) (other_keyword token _ is refl))
+number_of m.Expression depth kinds.Plain b front token number e is stops = absurd (accepted _ number stops)
+number_of m.Expression depth (kinds.Keyword InclusionStart) b front token number e is stops = numbered T10 number front token stops (ten front token m.Expression depth e (other_phase _ refl) is)
+number_of m.Expression depth (kinds.Keyword ProofStart) b front token number e is stops = absurd (accepted _ number stops)
+number_of m.Expression depth (kinds.Keyword k) b front token number e is stops = numbered T06 number front token stops (inside front token m.Expression depth e (other_phase _ refl) (not_beginning _ refl) (other_keyword token _ is refl))
+number_of m.Including depth kinds.Plain b front token number e is stops = absurd (accepted _ number stops)
+number_of m.Including depth (kinds.Keyword k) b front token number e is stops = numbered T12 number front token stops (inclusion_from front depth e, no_plain token _ is)
+number_of m.Named depth kinds.Plain b front token number e is stops = numbered T06 number front token stops (inside front token m.Named depth e (other_phase _ refl) (not_beginning _ refl) (plain_word token is))
+number_of m.Named depth (kinds.Keyword InclusionStart) b front token number e is stops = numbered T10 number front token stops (ten front token m.Named depth e (other_phase _ refl) is)
+number_of m.Named depth (kinds.Keyword InclusionEnd) b front token number e is stops = absurd (accepted _ number stops)
+number_of m.Named depth (kinds.Keyword k) b front token number e is stops = numbered T06 number front token stops (inside front token m.Named depth e (other_phase _ refl) (not_beginning _ refl) (other_keyword token _ is refl))
 
 -- a word that stops, with any number that it may have
 pub stops_fault : (tokens : List Token) (number : TextNumber) (word : ℕ) → StopsAtWord tokens number word → IsUnitFault tokens number word
