@@ -1,12 +1,12 @@
 -- From what is done by keys to the edit of the files without keys, and why an edit is refused.
 use Rattle.std.proofs.Common.{◌≡◌, ℕ, ◌+◌, ◌<◌, ◌≤◌, List, Some, length, sym, ap, ◌∙◌, subst}
 use Rattle.std.proofs.lemmas.Option.{none-some}
-use Rattle.std.proofs.Common.{Result, Ok, Err}
-use Rattle.std.specs.Result.{IfErr, IsErrAnd}
+use Rattle.std.proofs.Common.{◌↔◌, None, Result, Ok, Err, rules}
+use Rattle.std.specs.Result.{IfErr, OnOk, IsErrOf, IsErrAnd}
 use Rattle.mm_text.specs.Language.Cut.{ended}
 use Rattle.mm_store.specs.declared.edit.EditError.{EditError}
 use Rattle.mm_store.specs.declared.edit.EditError.TheVariants.{NoFile, NoPiece, Text, NotOne, TooMany, Memory}
-use Rattle.mm_store.specs.Language.FilesView.{FilesView, plain, file_number, bytes_of}
+use Rattle.mm_store.specs.Language.FilesView.{File, FilesView, plain, file_number, bytes_of}
 use Rattle.mm_store.specs.Language.Undoing.{keys_in}
 use Rattle.mm_store.specs.Language.Edits.{Asked, edited_name, edited_text, IsAmong, edited, after_edit, IsPlaced, NamesNoMember, BringsOneUnit, BringsFault, BringsNotOne, IsEditOf}
 use Rattle.mm_store.specs.Language.Answers.{IsEditError}
@@ -63,3 +63,11 @@ module _ (view : FilesView) (edit : Asked) (number count : ℕ)
 pub if_err : {T E : Type 0} (r : Result T E) (P Q : E → Type 0) → IsErrAnd r P → ((e : E) → P e → Q e) → IfErr r Q
 if_err (Ok x) P Q h f = tt
 if_err (Err e) P Q h f = f e h
+
+-- the two errors that come before memory is taken are told where they hold, and nowhere else
+module _ {T : Type 0} (edit : Asked) (files after : List File) where
+  pub no_file_told : (r : Result T EditError) → OnOk r (IsEditOf edit files after) → IfErr r (IsEditError edit files) → IsErrOf r NoFile ↔ (file_number files (edited_name edit) ≡ None)
+  no_file_told r done fails = search rules
+
+  pub no_piece_told : (count : ℕ) (r : Result T EditError) → OnOk r (IsEditOf edit files after) → IfErr r (IsEditError edit files) → IsErrOf r (NoPiece count) ↔ NamesNoMember edit files count
+  no_piece_told count r done fails = search rules
