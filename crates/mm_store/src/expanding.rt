@@ -1,6 +1,6 @@
 //! The items that the pieces of the files give.
 
-ghost use Rattle.std.specs.Prelude.{◌≡◌, ℕ, ◌↔◌, IsTrue, List, [], ◌++◌, IfNone, IfSome, IfOk, OnOk, map};
+ghost use Rattle.std.specs.Prelude.{◌≡◌, ℕ, ◌↔◌, IsTrue, List, ◌++◌, IfNone, IfSome, OnOk, map};
 ghost use Rattle.mm_text.specs.declared.word.Word.{Word};
 ghost use Rattle.mm_text.specs.declared.part.PartKind.TheVariants.{Inclusion};
 ghost use Rattle.mm_text.specs.Language.Reading.{HasWords};
@@ -107,7 +107,7 @@ fn push_items(spot: Spot, parts: &[Part], items: &mut Vec<Item>) -> Result<(), A
 }
 
 /// Puts the items that a walk goes past behind those that it has gone past.
-fn push_rest(
+pub(crate) fn push_rest(
     alloc: Global,
     files: &Files,
     walk: &mut Walk,
@@ -128,18 +128,4 @@ fn push_rest(
             Step::Missing(_) => {}
         }
     }
-}
-
-/// The items that a walk goes past.
-pub(crate) fn expanded(
-    alloc: Global,
-    files: &Files,
-    mut walk: Walk,
-) -> Result<Vec<Item>, AllocError>
-    ensures { IfOk result
-        (λ items. (top : List ℕ) → IsWalk (files_in files.now) top [] walk → IsExpansion (files_in files.now) top items.items) }
-{
-    let mut items = Vec::new(alloc);
-    push_rest(alloc, files, &mut walk, &mut items)?;
-    Ok(items)
 }

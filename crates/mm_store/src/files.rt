@@ -32,7 +32,7 @@ ghost use Rattle.mm_store.specs.Code.Batched.{StandOnce};
 
 use crate::edit::{Edit, EditError};
 use crate::error::StoreError;
-use crate::expanding::{expanded, included_name};
+use crate::expanding::{included_name, push_rest};
 use crate::file_text::FileText;
 use crate::item::Item;
 use crate::lines::Lines;
@@ -250,8 +250,10 @@ impl Files {
         self.holds_pieces();
         self.hold_units();
         let _ = &self.bytes;
-        let walk = self.begun(alloc, top)?;
-        Ok(expanded(alloc, self, walk)?)
+        let mut walk = self.begun(alloc, top)?;
+        let mut items = Vec::new(alloc);
+        push_rest(alloc, self, &mut walk, &mut items)?;
+        Ok(items)
     }
 
     /// A walk through the files from the file of the name `top` on, which has gone past nothing.

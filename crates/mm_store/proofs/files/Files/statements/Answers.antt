@@ -1,4 +1,5 @@
-use Rattle.std.proofs.Common.{◌∙◌, sym, ap, subst, [], arith}
+use Rattle.std.proofs.Common.{◌∙◌, sym, ap, subst, List, [], arith}
+use Rattle.mm_store.specs.declared.item.Item.{Item}
 use Rattle.mm_store.specs.Language.FilesView.{FilesView, files_in, plain, bytes_of}
 use Rattle.mm_store.specs.Language.Walking.{IsWalk}
 use Rattle.mm_store.proofs.ViewLemmas.{number_plain}
@@ -14,21 +15,22 @@ returns-clause-items c =
     let top = c.args.top.now in
     let begun = c.in_ok-walk.ensures.ok in
     let is = walk_begins (files_in view) c.hold_units.ensures top begun.0 (sym (number_plain view top) ∙ begun.1) in
-    c.in_ok-expanded.ensures top (subst (IsWalk (files_in view) top []) (sym begun.2) is)
+    let none = sym c.new-items.ensures.items in
+    c.in_ok-push_rest.ensures top (subst (λ (items : List Item). IsWalk (files_in view) top items c.in_ok-walk.walk) none (subst (IsWalk (files_in view) top []) (sym begun.2) is))
 
 pub returns-clause-read : goal.returns-clause-read
-returns-clause-read c = expansion_read c.parts_are_texts.ensures c.args.self.now c.holds_pieces.ensures c.args.top.now c.in_ok-expanded.field-0.items (returns-clause-items c)
+returns-clause-read c = expansion_read c.parts_are_texts.ensures c.args.self.now c.holds_pieces.ensures c.args.top.now c.push_rest.new.items.items (returns-clause-items c)
 
 pub returns-clause-stand : goal.returns-clause-stand
-returns-clause-stand c = expansion_stands c.parts_are_texts.ensures c.args.self.now c.args.top.now c.in_ok-expanded.field-0.items (returns-clause-items c)
+returns-clause-stand c = expansion_stands c.parts_are_texts.ensures c.args.self.now c.args.top.now c.push_rest.new.items.items (returns-clause-items c)
 
 pub returns-clause-missing : goal.returns-clause-missing
 returns-clause-missing c =
-    expansion_names c.one_meaning.ensures.words c.one_division.ensures.units c.words_stand_alone.ensures.statement c.args.self.now c.args.top.now c.in_ok-expanded.field-0.items c.hold_units.ensures (returns-clause-items c)
+    expansion_names c.one_meaning.ensures.words c.one_division.ensures.units c.words_stand_alone.ensures.statement c.args.self.now c.args.top.now c.push_rest.new.items.items c.hold_units.ensures (returns-clause-items c)
 
 pub returns-clause-few : goal.returns-clause-few
 returns-clause-few c =
-    let items = c.in_ok-expanded.field-0.items in
+    let items = c.push_rest.new.items.items in
     omega (arith, expansion_few (files_in c.args.self.now) c.args.top.now items (returns-clause-items c), bytes_few c.args.self.now)
 
 pub returns-clause-small : goal.returns-clause-small
