@@ -1,13 +1,10 @@
-use Rattle.std.proofs.Common.{refl, ◌≤◌, ◌+◌, ◌++◌, ◌∷◌, ℕ, List, Vec, [], map, length, rules, sym, ap, ◌∙◌, arith}
+use Rattle.std.proofs.Common.{refl, ◌≤◌, ◌+◌, ℕ, List, Vec, length, rules, sym, ap, ◌∙◌, arith}
 use Rattle.std.specs.Global.{Global}
 use Rattle.std.proofs.lemmas.Bool.{false≢true}
-use Rattle.std.proofs.lemmas.List.{map-append}
 use Rattle.std.proofs.lemmas.Result.{err_from_is_err_and}
 use Rattle.mm_text.specs.Code.Reader.{SkipsPlain}
 use Rattle.mm_text.proofs.CutLemmas.{progress_start, progress_skip, words_fault}
 use Rattle.mm_text.proofs.CutStepLemmas.{ends_fault, ends_cut, from_before, refused, keeps_more, keeps_piece}
-use Rattle.mm_text.proofs.PartLemmas.{each_units}
-use Rattle.mm_text.proofs.PositionLemmas.{first_fault_lies, cut_error_lies}
 use Rattle.mm_text.proofs.cutting.cut_units.Goals as goal
 
 -- the bytes of a piece

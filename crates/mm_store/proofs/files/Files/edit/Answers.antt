@@ -1,5 +1,4 @@
 use Rattle.mm_store.specs.Language.FilesView.{plain}
-use Rattle.mm_store.specs.Language.Edits.{asked}
 use Rattle.mm_store.proofs.EditLemmas.{no_file_told, no_piece_told}
 use Rattle.mm_store.proofs.files.Files.edit.Goals as goal
 
