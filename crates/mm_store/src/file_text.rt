@@ -24,7 +24,7 @@ pub struct FileText {
 }
 
 /// Where each of these pieces begins in a file of them, and where its tail does.
-fn starts(alloc: Global, pieces: &[PieceText]) -> Result<Vec<Start>, AllocError>
+pub(crate) fn starts(alloc: Global, pieces: &[PieceText]) -> Result<Vec<Start>, AllocError>
     requires kept { All IsPieceKept pieces.now }
     requires small { length (concat (map (λ piece. piece.text.items) pieces.now)) ≤ 4294967295 }
     ensures starts { IfOk result (λ starts. AreStarts (map (λ piece. piece.text.items) pieces.now) starts.items) }
@@ -41,28 +41,6 @@ fn starts(alloc: Global, pieces: &[PieceText]) -> Result<Vec<Start>, AllocError>
 }
 
 impl FileText {
-    /// A file of these pieces, which have no keys yet, with this tail.
-    pub(crate) fn without_keys(
-        alloc: Global,
-        pieces: &[PieceText],
-        tail: Vec<u8>,
-    ) -> Result<FileText, AllocError>
-        requires kept { All IsPieceKept pieces.now }
-        requires small { length (concat (map (λ piece. piece.text.items) pieces.now)) ≤ 4294967295 }
-        ensures starts { IfOk result (λ file. AreStarts (map (λ piece. piece.text.items) pieces.now) file.starts.items) }
-        ensures many { IfOk result (λ file. length file.starts.items ≡ length pieces.now + 1) }
-        ensures tail { IfOk result (λ file. file.tail.items ≡ tail.items) }
-        ensures none_deleted { IfOk result (λ file. file.deleted ≡ 0) }
-    {
-        let starts = starts(alloc, pieces)?;
-        Ok(FileText {
-            keys: Vec::new(alloc),
-            starts,
-            tail,
-            deleted: 0,
-        })
-    }
-
     /// Sets where the piece or the tail behind one piece begins.
     fn set_next(&mut self, pieces: &PieceStore, piece: usize)
         requires there { piece < vec_len self.old.keys }

@@ -8,7 +8,6 @@ ghost use Rattle.std.specs.Option.{option_map};
 ghost use Rattle.std.specs.List.{concat, insert};
 ghost use Rattle.std.specs.FinMap as finite;
 ghost use Rattle.mm_text.specs.Language.Cut.{ArePieces};
-ghost use Rattle.mm_text.specs.Language.Reading.{HasWords};
 ghost use Rattle.mm_text.specs.Language.Place.{line_at, column_at};
 ghost use Rattle.mm_store.specs.declared.error.StoreError.TheVariants.{Known, NoTop};
 ghost use Rattle.mm_store.specs.declared.edit.EditError.TheVariants.{NoFile, NoPiece};
@@ -33,7 +32,7 @@ ghost use Rattle.mm_store.specs.Code.Batched.{StandOnce};
 use crate::edit::{Edit, EditError};
 use crate::error::StoreError;
 use crate::expanding::{included_name, push_rest};
-use crate::file_text::FileText;
+use crate::file_text::{FileText, starts};
 use crate::item::Item;
 use crate::lines::Lines;
 use crate::piece_text::{PieceText, kept_pieces};
@@ -169,37 +168,16 @@ impl Files {
     {
         let Cut { pieces, tail } = cut;
         let kept = kept_pieces(alloc, pieces)?;
-        let file = FileText::without_keys(alloc, &kept, tail)?;
+        let starts = starts(alloc, &kept)?;
         let name = Vec::from_slice(alloc, name)?;
-        self.put_kept(alloc, name, bytes, kept, file)
-    }
-
-    /// Puts a file behind the others, and its pieces under keys. After want of memory the files are as before.
-    fn put_kept(
-        &mut self,
-        alloc: Global,
-        name: Vec<u8>,
-        bytes: u64,
-        kept: Vec<PieceText>,
-        mut file: FileText,
-    ) -> Result<(), AllocError>
-        requires missing { file_number (plain self.old) name.items ≡ None }
-        requires counted { bytes ≡ length (concat (map (λ piece. piece.text.items) kept.items) ++ file.tail.items) }
-        requires fits { bytes_of (plain self.old) + bytes ≤ 4294967295 }
-        requires kept { All IsPieceKept kept.items }
-        requires starts { AreStarts (map (λ piece. piece.text.items) kept.items) file.starts.items }
-        requires many { length file.starts.items ≡ length kept.items + 1 }
-        requires tail { HasWords file.tail.items [] }
-        requires none_deleted { file.deleted ≡ 0 }
-        ensures ok { OnOk result
-            (plain self.new ≡ with_file (plain self.old) name.items (map (λ piece. piece.text.items) kept.items) file.tail.items) }
-        ensures keeps { OnOk result (KeepsPieces self.old self.new) }
-        ensures parked { OnOk result (parked_in self.new ≡ parked_in self.old) }
-        ensures err { OnErr result (self.new ≡ self.old) }
-    {
         self.files.reserve(1)?;
         let keys = self.pieces.put_all(alloc, kept)?;
-        file.keys = keys;
+        let file = FileText {
+            keys,
+            starts,
+            tail,
+            deleted: 0,
+        };
         self.files.insert(name, file).unwrap();
         self.bytes += bytes;
         Ok(())

@@ -1,18 +1,24 @@
-use Rattle.std.proofs.Common.{◌≡◌, ℕ, ◌+◌, ◌≤◌, List, [], ◌++◌, All, OnOk, length, map, sym, ap, ◌∙◌, subst, arith, length-append}
-use Rattle.std.specs.Prelude.{Vec}
+use Rattle.std.proofs.Common.{◌≡◌, ℕ, ◌+◌, ◌≤◌, List, [], ◌∷◌, ◌++◌, None, length, map, refl, sym, ap, ◌∙◌, subst, arith, length-append}
+use Rattle.std.specs.Prelude.{Vec, position}
 use Rattle.std.specs.Global.{Global}
 use Rattle.std.specs.List.{concat}
-use Rattle.mm_text.specs.Language.Reading.{HasWords}
+use Rattle.std.specs.Str.{bytes_eq}
+use Rattle.std.specs.Map.{keys_of, lookup}
+use Rattle.std.proofs.lemmas.List.{length-map}
+use Rattle.indexmap.proofs.CallerLemmas.{insert_entry-new}
+use Rattle.mm_store.specs.declared.file_text.FileText.{FileText}
 use Rattle.mm_store.specs.declared.piece_text.PieceText.{PieceText}
-use Rattle.mm_store.specs.Language.FilesView.{File, plain, file_number}
-use Rattle.mm_store.specs.Code.Inside.{IsPieceKept}
+use Rattle.mm_store.specs.declared.files.Files.TheInside.{Inside}
+use Rattle.mm_store.specs.Language.Pieces.{parked_pieces}
+use Rattle.mm_store.specs.Language.FilesView.{File, FilesView, plain, plain_file, file_number, bytes_of}
+use Rattle.mm_store.specs.Code.Inside.{ArePut}
 use Rattle.mm_store.specs.Code.Lines.{AreStarts}
 use Rattle.mm_store.specs.Code.Edited.{with_file}
-use Rattle.mm_store.proofs.AddLemmas.{can_be_kept, tail_of}
+use Rattle.mm_store.specs.Code.Kept.{file_of}
+use Rattle.mm_store.proofs.NumberLemmas.{number_is}
+use Rattle.mm_store.proofs.StoreLemmas.{parked_all}
+use Rattle.mm_store.proofs.AddLemmas.{can_be_kept, tail_of, done_ok, no_file, kept_added, plain_added, put_keeps, put_many}
 use Rattle.mm_store.proofs.files.Files.put_last.Goals as goal
-
-abbrev text_of_piece : PieceText → List ℕ
-text_of_piece piece = piece.text.items
 
 pub kept_pieces-requires : goal.kept_pieces-requires
 kept_pieces-requires c =
@@ -21,40 +27,67 @@ kept_pieces-requires c =
     let small : length (concat (map (λ text. text.items) texts)) ≤ 4294967295 = omega (arith, c.requires.counted, c.requires.fits, length-append (concat (map (λ text. text.items) texts)) tail) in
     can_be_kept texts tail c.requires.pieces small
 
-pub without_keys-requires-clause-kept : goal.without_keys-requires-clause-kept
-without_keys-requires-clause-kept c = subst (All IsPieceKept) (sym c.deref.ensures.value) c.in_ok-kept.ensures.kept
-
-pub without_keys-requires-clause-small : goal.without_keys-requires-clause-small
-without_keys-requires-clause-small c =
-    let texts = map (λ (text : Vec ℕ Global). text.items) c.args.cut.pieces.items in
-    let small : length (concat texts) ≤ 4294967295 = omega (arith, c.requires.counted, c.requires.fits, length-append (concat texts) c.args.cut.tail.items) in
-    subst (λ (ps : List PieceText). length (concat (map text_of_piece ps)) ≤ 4294967295) (sym c.deref.ensures.value) (subst (λ (ts : List (List ℕ)). length (concat ts) ≤ 4294967295) (sym c.in_ok-kept.ensures.texts) small)
-
-pub put_kept-requires-clause-missing : goal.put_kept-requires-clause-missing
-put_kept-requires-clause-missing c = ap (λ (name : List ℕ). file_number (plain c.args.self.now) name) c.in_ok-name.ensures.items ∙ c.requires.missing
-
-pub put_kept-requires-clause-counted : goal.put_kept-requires-clause-counted
-put_kept-requires-clause-counted c =
-    c.requires.counted ∙ ap (λ (ts : List (List ℕ)). length (concat ts ++ c.args.cut.tail.items)) (sym c.in_ok-kept.ensures.texts)
-    ∙ ap (λ (tail : List ℕ). length (concat (map text_of_piece c.in_ok-kept.kept.items) ++ tail)) (sym c.in_ok-file.ensures.tail)
-
-pub put_kept-requires-clause-starts : goal.put_kept-requires-clause-starts
-put_kept-requires-clause-starts c = subst (λ (ps : List PieceText). AreStarts (map text_of_piece ps) c.in_ok-file.file.starts.items) c.deref.ensures.value c.in_ok-file.ensures.starts
-
-pub put_kept-requires-clause-many : goal.put_kept-requires-clause-many
-put_kept-requires-clause-many c = c.in_ok-file.ensures.many ∙ ap (λ (ps : List PieceText). length ps + 1) c.deref.ensures.value
-
-pub put_kept-requires-clause-tail : goal.put_kept-requires-clause-tail
-put_kept-requires-clause-tail c =
-    let texts = map (λ (text : Vec ℕ Global). text.items) c.args.cut.pieces.items in
-    subst (λ (tail : List ℕ). HasWords tail []) (sym c.in_ok-file.ensures.tail) (tail_of texts c.args.cut.tail.items c.requires.pieces)
+pub invariant_of-self-2 : goal.invariant_of-self-2
+invariant_of-self-2 c =
+    let inside = c.self.inside in
+    let texts = map (λ (piece : PieceText). piece.text.items) c.in_ok-kept.kept.items in
+    let cut = map (λ (piece : Vec ℕ Global). piece.items) c.args.cut.pieces.items in
+    let put : ArePut inside.pieces texts c.in_ok-keys.keys.items c.put_all.new.self = c.in_ok-keys.ensures.ok in
+    let missing : position (λ key. bytes_eq c.args.name.now key.items) (keys_of inside.files.entries) ≡ None =
+    sym (number_is inside.pieces c.args.name.now inside.files.entries) ∙ ap (λ (v : FilesView). file_number (plain v) c.args.name.now) c.self.view_is ∙ c.requires.missing in
+    let none : lookup (λ (key : Vec ℕ Global). bytes_eq c.in_ok-name.name.items key.items) c.reserve.new.self.entries ≡ None =
+    no_file (λ (key : Vec ℕ Global). bytes_eq c.in_ok-name.name.items key.items) c.reserve.new.self.entries
+    (ap (λ (name : List ℕ). position (λ (key : Vec ℕ Global). bytes_eq name key.items) (keys_of c.reserve.new.self.entries)) c.in_ok-name.ensures.items
+    ∙ ap (λ es. position (λ (key : Vec ℕ Global). bytes_eq c.args.name.now key.items) (keys_of es)) c.reserve.ensures.entries ∙ missing) in
+    let value : FileText = record { keys = c.in_ok-keys.keys; starts = c.in_ok-starts.starts; tail = c.args.cut.tail; deleted = 0 } in
+    let entries : c.insert.new.self.entries ≡ inside.files.entries ++ (c.in_ok-name.name, value) ∷ [] =
+    done_ok c.insert.result c.unwrap.result _ c.unwrap.ensures c.insert.ensures.entries ∙ insert_entry-new (λ x y. bytes_eq x.items y.items) c.reserve.new.self c.in_ok-name.name value none
+    ∙ ap (λ (es : List (Vec ℕ Global × FileText)). es ++ (c.in_ok-name.name, value) ∷ []) c.reserve.ensures.entries in
+    let e : Vec ℕ Global × FileText = (c.in_ok-name.name, value) in
+    let after : Inside = record { files = c.insert.new.self; pieces = c.put_all.new.self; bytes = inside.bytes + c.args.bytes } in
+    let held : bytes_of (plain c.args.self.now) ≡ inside.bytes = ap (λ (v : FilesView). bytes_of (plain v)) (sym c.self.view_is) ∙ sym c.self.invariant.counted in
+    let starts : AreStarts texts c.in_ok-starts.starts.items = subst (λ (ps : List PieceText). AreStarts (map (λ (piece : PieceText). piece.text.items) ps) c.in_ok-starts.starts.items) c.deref.ensures.value c.in_ok-starts.ensures.starts in
+    let many : length c.in_ok-keys.keys.items ≡ length texts = put_many inside.pieces c.put_all.new.self texts c.in_ok-keys.keys.items put in
+    kept_added inside c.self.invariant e texts c.put_all.new.self put after entries refl refl
+    (record {
+      keys = omega (arith, c.in_ok-keys.keys.ok.0, c.in_ok-keys.keys.ok.1);
+      starts = omega (arith, c.in_ok-keys.keys.ok.0, many, length-map c.in_ok-kept.kept.items (λ (piece : PieceText). piece.text.items), c.in_ok-starts.ensures.many, ap length c.deref.ensures.value);
+    })
+    starts (tail_of cut c.args.cut.tail.items c.requires.pieces)
+    (omega (arith, c.requires.counted, ap (λ (ts : List (List ℕ)). length (concat ts ++ c.args.cut.tail.items)) c.in_ok-kept.ensures.texts)) (omega (arith, held, c.requires.fits))
 
 pub returns-clause-ok : goal.returns-clause-ok
 returns-clause-ok c =
-    let old = plain c.args.self.now in
-    let name = c.in_ok-name.name.items in
-    let texts = map text_of_piece c.in_ok-kept.kept.items in
-    let tail = c.args.cut.tail.items in
-    subst (λ (files : List File). OnOk c.put_kept.result (plain c.put_kept.new.self ≡ files))
-    (ap (with_file old name texts) c.in_ok-file.ensures.tail ∙ ap (λ ts. with_file old name ts tail) c.in_ok-kept.ensures.texts
-    ∙ ap (λ (name : List ℕ). with_file old name (map (λ (text : Vec ℕ Global). text.items) c.args.cut.pieces.items) tail) c.in_ok-name.ensures.items) c.put_kept.ensures.ok
+    let inside = c.self.inside in
+    let texts = map (λ (piece : PieceText). piece.text.items) c.in_ok-kept.kept.items in
+    let cut = map (λ (piece : Vec ℕ Global). piece.items) c.args.cut.pieces.items in
+    let put : ArePut inside.pieces texts c.in_ok-keys.keys.items c.put_all.new.self = c.in_ok-keys.ensures.ok in
+    let missing : position (λ key. bytes_eq c.args.name.now key.items) (keys_of inside.files.entries) ≡ None =
+    sym (number_is inside.pieces c.args.name.now inside.files.entries) ∙ ap (λ (v : FilesView). file_number (plain v) c.args.name.now) c.self.view_is ∙ c.requires.missing in
+    let none : lookup (λ (key : Vec ℕ Global). bytes_eq c.in_ok-name.name.items key.items) c.reserve.new.self.entries ≡ None =
+    no_file (λ (key : Vec ℕ Global). bytes_eq c.in_ok-name.name.items key.items) c.reserve.new.self.entries
+    (ap (λ (name : List ℕ). position (λ (key : Vec ℕ Global). bytes_eq name key.items) (keys_of c.reserve.new.self.entries)) c.in_ok-name.ensures.items
+    ∙ ap (λ es. position (λ (key : Vec ℕ Global). bytes_eq c.args.name.now key.items) (keys_of es)) c.reserve.ensures.entries ∙ missing) in
+    let value : FileText = record { keys = c.in_ok-keys.keys; starts = c.in_ok-starts.starts; tail = c.args.cut.tail; deleted = 0 } in
+    let entries : c.insert.new.self.entries ≡ inside.files.entries ++ (c.in_ok-name.name, value) ∷ [] =
+    done_ok c.insert.result c.unwrap.result _ c.unwrap.ensures c.insert.ensures.entries ∙ insert_entry-new (λ x y. bytes_eq x.items y.items) c.reserve.new.self c.in_ok-name.name value none
+    ∙ ap (λ (es : List (Vec ℕ Global × FileText)). es ++ (c.in_ok-name.name, value) ∷ []) c.reserve.ensures.entries in
+    let e : Vec ℕ Global × FileText = (c.in_ok-name.name, value) in
+    let after : Inside = record { files = c.insert.new.self; pieces = c.put_all.new.self; bytes = inside.bytes + c.args.bytes } in
+    let old : plain (record { keyed = map file_of inside.files.entries; pieces = inside.pieces }) ≡ plain c.args.self.now = ap (λ (v : FilesView). plain v) c.self.view_is in
+    ap (λ es. map (plain_file c.put_all.new.self) (map file_of es)) entries ∙ plain_added inside c.self.invariant e texts c.put_all.new.self put
+    ∙ ap (λ (files : List File). with_file files c.in_ok-name.name.items texts c.args.cut.tail.items) old
+    ∙ ap (λ (name : List ℕ). with_file (plain c.args.self.now) name texts c.args.cut.tail.items) c.in_ok-name.ensures.items
+    ∙ ap (λ (ts : List (List ℕ)). with_file (plain c.args.self.now) c.args.name.now ts c.args.cut.tail.items) c.in_ok-kept.ensures.texts
+
+pub returns-clause-keeps : goal.returns-clause-keeps
+returns-clause-keeps c =
+    let texts = map (λ (piece : PieceText). piece.text.items) c.in_ok-kept.kept.items in
+    let old : c.self.inside.pieces ≡ c.args.self.now.pieces = ap (λ (v : FilesView). v.pieces) c.self.view_is in
+    let put : ArePut c.args.self.now.pieces texts c.in_ok-keys.keys.items c.put_all.new.self = subst (λ p. ArePut p texts c.in_ok-keys.keys.items c.put_all.new.self) old c.in_ok-keys.ensures.ok in
+    put_keeps c.args.self.now.pieces c.put_all.new.self texts c.in_ok-keys.keys.items put
+
+pub returns-clause-parked : goal.returns-clause-parked
+returns-clause-parked c =
+    let texts = map (λ (piece : PieceText). piece.text.items) c.in_ok-kept.kept.items in
+    parked_all c.self.inside.pieces c.put_all.new.self texts c.in_ok-keys.keys.items c.in_ok-keys.ensures.ok ∙ ap (λ (v : FilesView). parked_pieces v.pieces) c.self.view_is
