@@ -4,7 +4,7 @@ use Rattle.std.specs.Prelude.{slice_get, Contains}
 use Rattle.std.proofs.Math.Decide.{ℕ_discrete}
 use Rattle.std.proofs.lemmas.Option.{slice_get_within, get_or_from_slice_get, slice_get-get_or, same_Some}
 use Rattle.mm_frame.specs.Language.Frame.{Symbol, ArePair}
-use Rattle.std.proofs.lemmas.List.{length-drop, get_or-drop, get_or_at, take_rest, drop-map, take_all, take_more, drop-append-le, take-append-le, take-append-drop}
+use Rattle.std.proofs.lemmas.List.{length-drop, get_or-drop, get_or_at, take_rest, drop-map, take_all, take_more, drop-append-le, take-append-le, take-append-drop, drop_all}
 use Rattle.std.proofs.lemmas.List.Elements.{Contains-append_left, Contains-append_right, Contains-append_cases}
 use Rattle.std.proofs.lemmas.Bool.{false≢true}
 use Rattle.mm_proof.proofs.Members.{contains_cases}
@@ -88,6 +88,15 @@ gathered_more symbols front before after n s at (inr a) f =
         λ c. (let h = (f.same v).1 c in (subst (λ w. Contains w v) (sym more) (Contains-append_left (take n symbols) (s ∷ []) v h.0), h.1)),
       );
     })
+
+pub gathered_none : (symbols front : List Symbol) → GatheredUpTo symbols front front 0
+gathered_none symbols front =
+    let behind = drop_all (length front) front (omega arith) in
+    record {
+      kept = take_all (length front) front (omega arith);
+      long = omega arith;
+      same = λ v. (λ h. let l = h.0.1 in absurd (omega arith), λ h. let l = (subst (λ w. Contains w v) behind h).1 in absurd (omega arith));
+    }
 
 -- what stands at a place of a list that has grown
 pub last_at : {X : Type 0} (xs : List X) (x : X) (k : ℕ) → k ≡ length xs → slice_get (xs ++ x ∷ []) k ≡ Some x

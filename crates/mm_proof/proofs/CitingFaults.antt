@@ -11,7 +11,7 @@ use Rattle.mm_proof.specs.declared.ProofNumber.{ProofNumber}
 use Rattle.mm_proof.specs.declared.ProofNumber.TheVariants.{P07, P08, P09, P10, P11, P12}
 use Rattle.mm_proof.proofs.Given.{given_by, floats_match, all_match}
 use Rattle.mm_proof.proofs.Turning.{NoneBelow, none_more, none_first, cites_by}
-use Rattle.mm_proof.specs.Code.Citation.{GivesEntries, OtherTypecode, OtherEssential, CitingSays}
+use Rattle.mm_proof.specs.Code.Citation.{GivesEntries, OtherTypecode, OtherEssential, CitingSays, IsLowestCiting}
 use Rattle.mm_proof.specs.Code.PairClause.{PairsSay}
 
 lowest : (P : ProofNumber → Type 0) (number : ProofNumber) → NoneBelow P (row_of number) → P number → P number × ((other : ProofNumber) → P other → row_of number ≤ row_of other)
@@ -19,6 +19,10 @@ lowest P number below p = (p, λ other q. at_least (row_of number) (row_of other
   where
     at_least : (a b : ℕ) → (b < a → ⊥) → a ≤ b
     at_least a b n = omega arith
+
+-- there are too few entries
+pub says07 : (active : List (Symbol × Symbol)) (frame : Frame) (stack : List (List Symbol)) → length stack < length frame.hypotheses → IsLowestCiting active frame stack P07
+says07 active frame stack few = lowest (CitingFails active frame stack) P07 (none_first active frame stack) few
 
 module _ (active : List (Symbol × Symbol)) (frame : Frame) (es : List (List Symbol)) (is : IsFrame frame) (count : length es ≡ length frame.hypotheses) where
   below08 : (stack : List (List Symbol)) → length frame.hypotheses ≤ length stack → NoneBelow (CitingFails active frame stack) 8

@@ -1,10 +1,14 @@
 -- What is marked counts for the assertions of entries alone.
-use Rattle.std.proofs.Common.{◌≡◌, ℕ, zero, suc, ◌+◌, Bool, true, List, [], ◌∷◌, drop, refl, ap, inl, inr, eq-eqb}
-use Rattle.std.specs.Prelude.{nat_eq}
+use Rattle.std.proofs.Common.{◌≡◌, ℕ, zero, suc, ◌+◌, Bool, true, List, [], ◌∷◌, drop, refl, ap, inl, inr, eq-eqb, false, ◌<◌, ◌||◌, length, get_or, eqb, sym, ◌∙◌, ne_eqb, get_or-set_other, ◌&&◌, take, ◌⊎◌}
+use Rattle.std.specs.Prelude.{nat_eq, set, Some}
 use Rattle.std.proofs.lemmas.Bool.{cases_Bool}
 use Rattle.mm_frame.specs.declared.base.Resolved.{Resolved}
 use Rattle.mm_frame.specs.declared.base.Resolved.TheVariants as answers
-use Rattle.mm_proof.specs.Code.Cited.{without, item_cites, is_listed}
+use Rattle.mm_proof.specs.Code.Cited.{without, item_cites, is_listed, is_item, cited_item}
+use Rattle.std.proofs.Math.Decide.{ℕ_discrete}
+use Rattle.std.proofs.lemmas.Grind.{get_or-set_at}
+use Rattle.std.proofs.lemmas.List.{take_more}
+use Rattle.std.proofs.lemmas.List.Folds.{list_any-append}
 
 -- one of the rest is one of all
 listed_on : (label : Resolved) (labels : List Resolved) (j : ℕ) → is_listed labels j ≡ true → is_listed (label ∷ labels) j ≡ true
@@ -31,3 +35,58 @@ cites_alike S T n (answers.Assertion j ∷ labels) same = elim (cases_Bool (T j)
 cites_alike S T n (answers.Hypothesis j ∷ labels) same = cites_alike S T (n + 1) labels (λ i e. same i e)
 cites_alike S T n (answers.Inactive ∷ labels) same = cites_alike S T (n + 1) labels (λ i e. same i e)
 cites_alike S T n (answers.Unknown ∷ labels) same = cites_alike S T (n + 1) labels (λ i e. same i e)
+
+or_false : (b : Bool) → b ≡ (b || false)
+or_false true = refl
+or_false false = refl
+
+or_true : (b : Bool) → true ≡ (b || true)
+or_true true = refl
+or_true false = refl
+
+-- where a number gets its mark, the others keep theirs
+pub marked_set : (marks : List Bool) (j i : ℕ) → j < length marks → get_or (set marks j true) i false ≡ (get_or marks i false || eqb j i)
+marked_set marks j i l = by_case (ℕ_discrete j i)
+  where
+    by_case : Dec (j ≡ i) → get_or (set marks j true) i false ≡ (get_or marks i false || eqb j i)
+    by_case (yes e) = get_or-set_at marks j i true false (sym e) l ∙ or_true (get_or marks i false) ∙ ap (λ t. get_or marks i false || t) (sym (eq-eqb j i e))
+    by_case (no n) = get_or-set_other marks j i true false (λ e. n (sym e)) ∙ or_false (get_or marks i false) ∙ ap (λ t. get_or marks i false || t) (sym (ne_eqb j i n))
+
+-- an entry that is no assertion cites nothing
+pub cites_other : (left : ℕ → Bool) (n : ℕ) (label : Resolved) (labels : List Resolved) → ((j : ℕ) → label ≡ answers.Assertion j → ⊥) → item_cites left (n + 1) labels ≡ item_cites left n (label ∷ labels)
+cites_other left n (answers.Assertion j) labels f = absurd (f j refl)
+cites_other left n (answers.Hypothesis j) labels f = refl
+cites_other left n answers.Inactive labels f = refl
+cites_other left n answers.Unknown labels f = refl
+
+-- what one entry more names
+pub listed_next :
+    (labels : List Resolved) (n j : ℕ) (d : Resolved) → n < length labels → is_listed (take (n + 1) labels) j ≡ true →
+    (is_listed (take n labels) j ≡ true) ⊎ (is_item (cited_item (Some (get_or labels n d))) j ≡ true)
+listed_next labels n j d l e =
+    let here = get_or labels n d in
+    let parts : (is_listed (take n labels) j || (is_item (cited_item (Some here)) j || false)) ≡ true =
+    sym (list_any-append (λ (label : Resolved). is_item (cited_item (Some label)) j) (take n labels) (here ∷ [])) ∙ ap (λ w. is_listed w j) (sym (take_more labels n d l)) ∙ e in
+    elim (cases_Bool (is_listed (take n labels) j)) [
+      | inl t ↦ inl t
+      | inr f ↦ inr (or_false (is_item (cited_item (Some here)) j) ∙ rw f at parts)
+    ]
+
+and_false : (b : Bool) → (b && false) ≡ false
+and_false true = refl
+and_false false = refl
+
+-- what is taken from an entry's number is not left
+pub taken_off : (left : ℕ → Bool) (k j : ℕ) → nat_eq k j ≡ true → without left k j ≡ false
+taken_off left k j e = rw e (and_false (left j))
+
+-- what was not left is not left then either
+pub still_off : (left : ℕ → Bool) (k j : ℕ) → left j ≡ false → without left k j ≡ false
+still_off left k j e = rw e refl
+
+-- what is no assertion names none
+pub not_named : (label : Resolved) (j : ℕ) → ((k : ℕ) → label ≡ answers.Assertion k → ⊥) → is_item (cited_item (Some label)) j ≡ false
+not_named (answers.Assertion k) j f = absurd (f k refl)
+not_named (answers.Hypothesis k) j f = refl
+not_named answers.Inactive j f = refl
+not_named answers.Unknown j f = refl

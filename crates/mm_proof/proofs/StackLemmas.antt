@@ -2,7 +2,7 @@
 use Rattle.std.proofs.Common.{◌≡◌, ℕ, ◌+◌, ◌-◌, ◌<◌, ◌≤◌, Some, List, [], ◌∷◌, ◌++◌, length, map, take, drop, get_or, refl, sym, ◌∙◌, ap, subst, arith, inl, inr, ◌⊎◌, length-append}
 use Rattle.std.specs.Prelude.{slice_get, All}
 use Rattle.std.proofs.lemmas.List.{length-map, length-take, length-take-le, take_more, map-append, take-map, take_at, take_all, drop_at, get_or-take, drop-map, take_rest}
-use Rattle.std.proofs.lemmas.List.Elements.{All-head, All-tail, All-append, All-cons}
+use Rattle.std.proofs.lemmas.List.Elements.{All-head, All-tail, All-append, All-cons, All-take, All-drop}
 use Rattle.std.proofs.lemmas.Option.{slice_get_within, get_or_from_slice_get, slice_get-get_or, same_Some}
 use Rattle.mm_frame.specs.Language.Frame.{Symbol}
 use Rattle.mm_proof.specs.declared.pattern.Entry.{Entry}
@@ -166,3 +166,54 @@ entries_taken means hs expression pairs symbols es below e =
 pub slice_taken : {X : Type 0} (read_symbols symbols : List X) (f : X → Symbol) (read_es es : List Entry) (below : ℕ) → read_symbols ≡ symbols → read_es ≡ es → read_all (map f read_symbols) (take (length read_es - below) (drop below read_es)) ≡ read_all (map f symbols) (drop below es)
 slice_taken read_symbols symbols f read_es es below a b =
     ap (read_all (map f read_symbols)) (take_rest read_es below ∙ ap (drop below) b) ∙ ap (λ w. read_all (map f w) (drop below es)) a
+
+-- the entries that are taken lie within the symbols
+pub all_taken :
+    {S : Type 0} (symbols seen : List S) (es known : List Entry) (k : ℕ) → seen ≡ symbols → known ≡ es → All (IsEntryWithin (length symbols)) es →
+    All (IsEntryWithin (length seen)) (take (length known - k) (drop k known))
+all_taken {S = S} symbols seen es known k a b h =
+    let P = IsEntryWithin (length seen) in
+    let all = subst (All P) (sym b) (subst (λ (w : List S). All (IsEntryWithin (length w)) es) (sym a) h) in
+    All-take P (length known - k) (drop k known) (All-drop P k known all)
+
+-- the ranges with one entry more, which owns no symbols
+pub whole_pushed :
+    (n kept : ℕ) (es saved next : List Entry) (new : Entry) → AreOrderedRanges n kept es saved → IsEntryWithin n new → new.floor ≡ n → next ≡ es ++ new ∷ [] →
+    AreOrderedRanges n kept next saved
+whole_pushed n kept es saved next new whole in_range floor e = record {
+  kept_within = whole.kept_within;
+  within = λ k d i. within_at k (get_or next k d) (slice_get-get_or next k d i);
+  floors_within = λ k d i. floor_at k (get_or next k d) (slice_get-get_or next k d i);
+  saved_within = whole.saved_within;
+  apart = λ i j x y o at_x at_y. apart_at i j x y o (cases i x at_x) (cases j y at_y);
+}
+  where
+    count : ℕ
+    count = length es
+
+    cases : (k : ℕ) (s : Entry) → slice_get next k ≡ Some s → ((k < count) × (slice_get es k ≡ Some s)) ⊎ ((k ≡ count) × (new ≡ s))
+    cases k s at =
+        let all = take_all count es (omega arith) in
+        cut_or_last es count k new s (omega arith) (ap (λ (w : List Entry). slice_get (w ++ new ∷ []) k) all ∙ ap (λ (w : List Entry). slice_get w k) (sym e) ∙ at)
+
+    old_within : (k : ℕ) (s : Entry) → slice_get es k ≡ Some s → IsEntryWithin n s
+    old_within k s at = subst (IsEntryWithin n) (get_or_from_slice_get es k s s at) (whole.within k s (slice_get_within es k s at))
+
+    old_floor : (k : ℕ) (s : Entry) → slice_get es k ≡ Some s → s.floor ≤ n
+    old_floor k s at = subst (λ (w : Entry). w.floor ≤ n) (get_or_from_slice_get es k s s at) (whole.floors_within k s (slice_get_within es k s at))
+
+    within_at : (k : ℕ) (s : Entry) → slice_get next k ≡ Some s → IsEntryWithin n s
+    within_at k s at = elim (cases k s at) [ inl h ↦ old_within k s h.1 | inr h ↦ subst (IsEntryWithin n) h.1 in_range ]
+
+    floor_at : (k : ℕ) (s : Entry) → slice_get next k ≡ Some s → s.floor ≤ n
+    floor_at k s at = elim (cases k s at) [ inl h ↦ old_floor k s h.1 | inr h ↦ subst (λ (w : Entry). w.floor ≤ n) h.1 (omega arith) ]
+
+    apart_at : (i j : ℕ) (x y : Entry) → i < j → ((i < count) × (slice_get es i ≡ Some x)) ⊎ ((i ≡ count) × (new ≡ x)) → ((j < count) × (slice_get es j ≡ Some y)) ⊎ ((j ≡ count) × (new ≡ y)) → (x.end ≤ y.floor) × (x.floor ≤ y.floor)
+    apart_at i j x y o (inl p) (inl q) = whole.apart i j x y o p.1 q.1
+    apart_at i j x y o (inl p) (inr q) =
+        let w = old_within i x p.1 in
+        let f = old_floor i x p.1 in
+        let end = w.1 in
+        subst (λ (w : Entry). (x.end ≤ w.floor) × (x.floor ≤ w.floor)) q.1 (omega arith, omega arith)
+    apart_at i j x y o (inr p) (inl q) = let a = p.0 in let b = q.0 in absurd (omega arith)
+    apart_at i j x y o (inr p) (inr q) = let a = p.0 in let b = q.0 in absurd (omega arith)

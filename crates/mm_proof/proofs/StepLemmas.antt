@@ -1,16 +1,16 @@
 -- Tasks of the code and steps of a proof.
-use Rattle.std.proofs.Common.{◌≡◌, ◌≢◌, ℕ, zero, suc, ◌+◌, ◌<◌, ◌≤◌, false, Option, Some, None, List, [], ◌∷◌, ◌++◌, length, take, drop, get_or, refl, sym, ◌∙◌, ap, subst, arith, append_assoc, zero-add, add-zero}
-use Rattle.std.specs.Prelude.{slice_get, MatchOption}
+use Rattle.std.proofs.Common.{◌≡◌, ◌≢◌, ℕ, zero, suc, ◌+◌, ◌<◌, ◌≤◌, false, Option, Some, None, List, [], ◌∷◌, ◌++◌, length, take, drop, get_or, refl, sym, ◌∙◌, ap, subst, arith, append_assoc, zero-add, add-zero, length-append}
+use Rattle.std.specs.Prelude.{slice_get, MatchOption, IfNone, map}
 use Rattle.std.specs.List.{AllZip}
 use Rattle.std.proofs.Math.Decide.{ℕ_discrete}
-use Rattle.std.proofs.lemmas.List.{take_more, take-append-drop, drop_more, length-take-le, take_all}
+use Rattle.std.proofs.lemmas.List.{take_more, take-append-drop, drop_more, length-take-le, take_all, length-map}
 use Rattle.std.proofs.lemmas.Option.{slice_get_within, get_or_from_slice_get, slice_get-get_or}
 use Rattle.mm_frame.specs.Language.Frame.{Symbol, Frame, Resolved, Hypothesis, Assertion, Setting, AreSameFrame, AreSamePairs}
 use Rattle.mm_frame.specs.Language.Typing.{HasFrames}
 use Rattle.mm_proof.specs.Language.Steps.{Cites, Moves}
 use Rattle.mm_proof.specs.Language.Expansion.{Step, Named, Saved, Save, NotKnown}
 use Rattle.mm_proof.specs.Language.Machine.{State, Turns, AreAllKnown}
-use Rattle.mm_proof.specs.Language.Faults.{LabelFails, IsLowest}
+use Rattle.mm_proof.specs.Language.Faults.{LabelFails, IsLowest, SaveFails, row_of}
 use Rattle.mm_proof.specs.Language.Reaches.{Reaches, IsStepFault}
 use Rattle.mm_proof.specs.Language.Run.{is_unknown, run_part, IsReached}
 use Rattle.mm_proof.specs.Language.Verdict.{IsFirstUnknown}
@@ -32,6 +32,8 @@ use Rattle.mm_proof.specs.Language.DecodedSteps.{meant}
 use Rattle.mm_proof.specs.Code.Tasks.{HasState, MeansTask, MeansUse, actions_mean, saves_by, saves_in}
 use Rattle.mm_proof.proofs.FlatLemmas.{mapped_or_get}
 use Rattle.std.proofs.lemmas.List.Sums.{sum_by-cons, sum_by-append}
+use Rattle.mm_proof.specs.declared.ProofNumber.TheVariants.{P13}
+use Rattle.mm_proof.specs.Code.Flat.{read, read_all}
 
 -- ---- one step
 
@@ -284,3 +286,31 @@ saves_next steps k d l =
     ap saves_in (take_next steps k (get_or steps k d) (slice_get-get_or steps k d l))
     ∙ sum_by-append (λ (step : ProofStep). saves_by step.action) (take k steps) (get_or steps k d ∷ [])
     ∙ ap (λ n. saves_in (take k steps) + n) (sum_by-cons (λ (step : ProofStep). saves_by step.action) (get_or steps k d) [] ∙ add-zero (saves_by (get_or steps k d).action))
+
+-- nothing is there to be saved
+save_fails_by : (stack : List (List Symbol)) (other : ProofNumber) → SaveFails stack other → 13 ≤ row_of other
+save_fails_by stack P13 h = omega arith
+save_fails_by stack _ h = absurd h
+
+pub save_fails :
+    {S : Type 0} (means : S → Symbol) (expressions : List (List Symbol)) (place : Setting) (step : Step) (before : State) (old : Machine S) →
+    step ≡ Save → HasState means expressions old before → (state_of means old).stack ≡ [] → IsLowest place step before.stack P13
+save_fails means expressions place step before old is state none =
+    subst (λ (s : Step). IsLowest place s before.stack P13) (sym is) (record { holds = sym state.stack ∙ none; lowest = save_fails_by before.stack })
+
+-- how much was saved
+pub saved_same : {S : Type 0} (means : S → Symbol) (old new : Machine S) → (state_of means new).saved ≡ (state_of means old).saved → length new.saved.items ≡ length old.saved.items
+saved_same means old new e =
+    sym (length-map new.saved.items (read (map means new.symbols.items))) ∙ ap length e ∙ length-map old.saved.items (read (map means old.symbols.items))
+
+pub saved_more : {S : Type 0} (means : S → Symbol) (old new : Machine S) → Saves (state_of means old) (state_of means new) → length new.saved.items ≡ length old.saved.items + 1
+saved_more means old new saves =
+    let before = read_all (map means old.symbols.items) old.saved.items in
+    sym (length-map new.saved.items (read (map means new.symbols.items)))
+    ∙ ap length saves.4
+    ∙ length-append before (saves.1 ∷ [])
+    ∙ ap (λ n. n + 1) (length-map old.saved.items (read (map means old.symbols.items)))
+
+pub if_none : {A : Type 0} (found : Option A) (P : Type 0) → P → IfNone found P
+if_none None P p = p
+if_none (Some x) P p = tt

@@ -1,9 +1,10 @@
-use Rattle.std.proofs.Common.{map, length, ◌∙◌, ap, arith, refl}
+use Rattle.std.proofs.Common.{map, length, ◌∙◌, ap, arith, refl, subst, ◌≡◌}
 use Rattle.std.specs.Prelude.{slice_set}
 use Rattle.std.proofs.lemmas.List.{length-set}
 use Rattle.mm_proof.specs.Code.Keys.{home, home_at}
 use Rattle.mm_proof.proofs.FlatLemmas.{mapped_get}
 use Rattle.mm_proof.proofs.MarkLemmas.{marked_more}
+use Rattle.mm_proof.specs.Code.PairClause.{AreKeyPlaces}
 use Rattle.mm_proof.proofs.active.mark.Goals as goal
 
 pub loop-i-preserved : goal.loop-i-preserved
@@ -19,3 +20,11 @@ loop-i-preserved g c =
 
 pub loop-i-init : goal.loop-i-init
 loop-i-init g c = record { marks = λ i x l at room. absurd (omega arith); count = refl }
+
+pub returns-clause-marks : goal.returns-clause-marks
+returns-clause-marks g c =
+    let all : c.loop-i.i ≡ length c.args.xs.now = omega arith in
+    subst (AreKeyPlaces (home_at g.S.Kept.key_of (length c.args.places.now)) (map g.S.Symbol.means c.args.xs.now) c.loop-i.places) all c.loop-i.invariant.marks
+
+pub returns-clause-count : goal.returns-clause-count
+returns-clause-count g c = c.loop-i.invariant.count

@@ -1,9 +1,11 @@
-use Rattle.std.proofs.Common.{map, sym, ◌∙◌, arith}
+use Rattle.std.proofs.Common.{map, sym, ◌∙◌, arith, length, subst}
 use Rattle.std.specs.Prelude.{Contains}
 use Rattle.std.proofs.lemmas.Bool.{false≢true}
 use Rattle.std.proofs.lemmas.List.{length-map}
 use Rattle.mm_proof.proofs.FlatLemmas.{mapped_get}
-use Rattle.mm_proof.proofs.ApartLemmas.{each_more, each_all}
+use Rattle.mm_proof.proofs.ApartLemmas.{each_more, each_all, contains_at}
+use Rattle.mm_proof.specs.Code.Keys.{home_at}
+use Rattle.mm_proof.specs.Code.PairClause.{AreKeyPlaces}
 use Rattle.mm_proof.proofs.active.share.Goals as goal
 
 pub loop-i-preserved : goal.loop-i-preserved
@@ -17,3 +19,17 @@ pub returns : goal.returns
 returns g c s =
     let m = g.S.Symbol.means in
     each_all (λ x. Contains (map m c.args.xs.now) x → ⊥) (map m c.args.ys.now) c.loop-i.i (omega (arith, length-map c.args.ys.now m, c.loop-i-test.false)) c.loop-i.invariant s.0 s.2 s.1
+
+pub loop-i-init : goal.loop-i-init
+loop-i-init g c k x l at = absurd (omega arith)
+
+pub is_marked-requires : goal.is_marked-requires
+is_marked-requires g c =
+    let xs = c.args.xs.now in
+    subst (λ n. AreKeyPlaces (home_at g.S.Kept.key_of n) (map g.S.Symbol.means xs) c.mark.new.places (length xs)) (sym c.mark.ensures.count) c.mark.ensures.marks
+
+pub returns-then-is_marked : goal.returns-then-is_marked
+returns-then-is_marked g c =
+    let m = g.S.Symbol.means in
+    let y = m c.index-ys-i.result in
+    (y, c.is_marked.ensures.0 c.if-is_marked.true, contains_at (map m c.args.ys.now) c.loop-i.i y (mapped_get m c.args.ys.now c.loop-i.i c.index-ys-i.result c.loop-i-test.true c.index-ys-i.is))

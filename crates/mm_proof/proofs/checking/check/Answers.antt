@@ -1,4 +1,4 @@
-use Rattle.std.proofs.Common.{◌+◌, ◌∙◌, ap}
+use Rattle.std.proofs.Common.{◌+◌, ◌∙◌, ap, arith}
 use Rattle.mm_proof.proofs.SaysLemmas.{read_at, theorem_at}
 use Rattle.mm_proof.proofs.checking.check.Goals as goal
 
@@ -26,3 +26,9 @@ returns-clause-done c view is proof = (
   c.in_ok-checked.ensures.few,
   c.in_ok-record.ensures.steps ∙ ap (λ w. w.steps + c.in_ok-checked.done) (c.keep.ensures ∙ c.lend-scratch.ensures),
 )
+
+pub record-requires-clause-room : goal.record-requires-clause-room
+record-requires-clause-room c = omega (arith, ap (λ w. w.room) (c.keep.ensures ∙ c.lend-scratch.ensures), c.requires.room)
+
+pub item-requires : goal.item-requires
+item-requires c = let has = c.requires.theorem in (has.0, (_, has.1.base), has.2)

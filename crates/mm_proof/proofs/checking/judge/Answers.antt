@@ -1,4 +1,5 @@
 use Rattle.mm_proof.proofs.DecodedProofs.{decoded}
+use Rattle.mm_proof.proofs.FrameLemmas.{framed_proof}
 use Rattle.mm_proof.proofs.checking.judge.Goals as goal
 
 pub judge_steps-requires : goal.judge_steps-requires
@@ -24,3 +25,9 @@ pub returns-in_ok-judged-in-Ok-clause-done : goal.returns-in_ok-judged-in-Ok-cla
 returns-in_ok-judged-in-Ok-clause-done c view theorem =
     c.in_ok-judged-in-Ok.ensures.done view (decoded c.args.base.now c.args.i c.args.statement.now c.in-Ok.decoding c.mandatory-mandatory.result.now view theorem c.mandatory-mandatory.ensures (c.mandatory_are_active.ensures view c.args.i theorem.said)
     c.in-Ok.ensures.ok c.in-Ok.ensures.entries c.in-Ok.ensures.table)
+
+pub mandatory-mandatory-requires : goal.mandatory-mandatory-requires
+mandatory-mandatory-requires c = let has = c.requires in (has.0, has.1.base, framed_proof has.0 c.args.i has.1.is_sound)
+
+pub returns-in_ok-judged-in-Ok-clause-few : goal.returns-in_ok-judged-in-Ok-clause-few
+returns-in_ok-judged-in-Ok-clause-few c = c.in_ok-judged-in-Ok.ensures.few

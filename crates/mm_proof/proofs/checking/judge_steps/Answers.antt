@@ -13,7 +13,7 @@ use Rattle.mm_proof.specs.declared.step.ProofFault.{ProofFault}
 use Rattle.mm_proof.specs.declared.step.ProofStep.{ProofStep}
 use Rattle.mm_proof.specs.declared.Verdict.{Verdict}
 use Rattle.mm_proof.specs.Language.DecodedSteps.{meant, decoded_steps, entry_steps}
-use Rattle.mm_proof.specs.Code.Judged.{done_by}
+use Rattle.mm_proof.specs.Code.Judged.{done_by, IsOutcomeWithin}
 use Rattle.mm_proof.specs.Code.Tasks.{actions_mean}
 use Rattle.mm_proof.proofs.FrameLemmas.{framed_proof}
 use Rattle.mm_proof.proofs.DecodedProofs.{done_says}
@@ -68,3 +68,21 @@ returns-clause-few c =
     let bytes = subst (λ (ws : List (List ℕ)). length (flat_map (λ word. word) ws) ≤ 4294967295) same c.proof.ensures.bytes in
     let short = c.decodes_short.ensures (setting_at view i) (mandatory_labels view i) (said_at view i).proof (decoded_steps view d c.args.statement.now.proof) some has.1.decodes in
     omega (arith, c.done-done.ensures.within, c.len.ensures, d.steps.ok, length-map d.steps.items (λ (step : ProofStep). meant names step.action))
+
+pub mandatory-hypotheses-requires : goal.mandatory-hypotheses-requires
+mandatory-hypotheses-requires c = let has = c.requires in (has.0, has.1.theorem.base, framed_proof has.0 c.args.i has.1.theorem.is_sound)
+
+pub run_steps-requires : goal.run_steps-requires
+run_steps-requires c = c.requires
+
+pub done-done-requires : goal.done-done-requires
+done-done-requires c =
+    let steps = c.args.decoding.now.steps in
+    let count : length steps.items ≡ c.len.result = omega (arith, c.len.ensures, steps.ok) in
+    subst (λ n. IsOutcomeWithin n c.in_ok-outcome.outcome) count c.in_ok-outcome.ensures.within
+
+pub verdict-verdict-requires-clause-within : goal.verdict-verdict-requires-clause-within
+verdict-verdict-requires-clause-within c = c.in_ok-outcome.ensures.within
+
+pub verdict-verdict-requires-clause-few : goal.verdict-verdict-requires-clause-few
+verdict-verdict-requires-clause-few c = c.proof.ensures.few

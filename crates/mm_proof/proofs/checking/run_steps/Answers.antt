@@ -1,5 +1,5 @@
-use Rattle.std.proofs.Common.{List, sym, subst}
-use Rattle.std.specs.Prelude.{All}
+use Rattle.std.proofs.Common.{List, sym, subst, length, ap}
+use Rattle.std.specs.Prelude.{All, IfOk}
 use Rattle.mm_frame.specs.Language.Base.{before, said_at}
 use Rattle.mm_frame.specs.Language.Framing.{mandatory_numbers}
 use Rattle.mm_frame.specs.Language.Frame.{Symbol, AreSamePairs}
@@ -19,6 +19,7 @@ use Rattle.mm_proof.proofs.ItemLemmas.{active_usable}
 use Rattle.mm_proof.proofs.DecodedProofs.{named_by, saved_before}
 use Rattle.mm_proof.proofs.ReaderLemmas.{if_ok}
 use Rattle.mm_proof.proofs.RenamedFrames.{frames_by_number, run_named}
+use Rattle.mm_proof.specs.Code.Judged.{IsOutcomeWithin}
 use Rattle.mm_proof.proofs.checking.run_steps.Goals as goal
 
 pub name_all-requires : goal.name_all-requires
@@ -54,3 +55,15 @@ returns-clause-says c = if_ok _ _ c.run.result (λ outcome says view is. (
     let here = subst (λ (steps : List ProofStep). RunSays numbered (actions_mean (entry_steps view d.labels.items) steps) (all_by_number c.expression.result.now) outcome) c.deref-2.ensures.value said in
     let stated = subst (λ (e : List Symbol). RunSays numbered (actions_mean (entry_steps view d.labels.items) d.steps.items) e outcome) (c.expression.ensures names view base shown) here in
     run_named names (setting_at view i) (actions_mean (entry_steps view d.labels.items) d.steps.items) (statement_at view i) outcome stated)) c.run.ensures.says
+
+pub active-requires : goal.active-requires
+active-requires c = let has = c.requires in (has.0, has.1.theorem.base, has.1.theorem.is_sound)
+
+pub run-requires-clause-frames : goal.run-requires-clause-frames
+run-requires-clause-frames c = c.in_ok-named.ensures.frames
+
+pub run-requires-clause-within : goal.run-requires-clause-within
+run-requires-clause-within c = c.in_ok-named.ensures.within
+
+pub returns-clause-within : goal.returns-clause-within
+returns-clause-within c = subst (λ n. IfOk c.run.result (IsOutcomeWithin n)) (ap length c.deref-2.ensures.value) c.run.ensures.within

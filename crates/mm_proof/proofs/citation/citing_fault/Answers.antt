@@ -59,3 +59,24 @@ returns g c =
         c.if-not-is_short.ensures given (gives_all frame.hypotheses given es frame.expression (hypotheses_known frame c.requires.frame) gives c.requires.frame.expression_typed),
       ),
     )
+
+pub typecodes_match-requires-clause-within : goal.typecodes_match-requires-clause-within
+typecodes_match-requires-clause-within g c = c.requires.within
+
+pub typecodes_match-requires-clause-count : goal.typecodes_match-requires-clause-count
+typecodes_match-requires-clause-count g c = c.requires.count
+
+pub essentials_fit-requires-clause-within : goal.essentials_fit-requires-clause-within
+essentials_fit-requires-clause-within g c = c.requires.within
+
+pub essentials_fit-requires-clause-count : goal.essentials_fit-requires-clause-count
+essentials_fit-requires-clause-count g c = c.requires.count
+
+pub pairs_fault-requires-clause-within : goal.pairs_fault-requires-clause-within
+pairs_fault-requires-clause-within g c = c.requires.within
+
+pub pairs_fault-requires-clause-count : goal.pairs_fault-requires-clause-count
+pairs_fault-requires-clause-count g c = c.requires.count
+
+pub is_short-requires : goal.is_short-requires
+is_short-requires g c = record { within = c.requires.within }

@@ -33,3 +33,9 @@ returns-clause-means c names view base i entries =
     let labels = c.args.labels.now in
     let all = subst (λ (ls : List Resolved). AllZip (IsUseOf c.loop-label.naming) c.loop-label.uses.items ls) (take_all c.loop-label.label-index labels (omega (arith, c.loop-label-test.false))) c.loop-label.invariant.stand in
     uses_mean c.args.base.now c.loop-label.naming c.loop-label.invariant.named names view i base c.loop-label.uses.items labels all entries
+
+pub name-requires-clause-named : goal.name-requires-clause-named
+name-requires-clause-named c = c.loop-label.invariant.named
+
+pub loop-label-init : goal.loop-label-init
+loop-label-init c = record { named = c.in_ok-naming.ensures; stand = subst (λ w. AllZip (IsUseOf c.in_ok-naming.naming) w []) (sym c.in_ok-uses.ensures.items) tt }

@@ -58,3 +58,18 @@ returns g c k p at =
     let m = g.S.Symbol.means in
     let w = slice_get_within (meant_pairs m c.args.pairs.now) k p at in
     c.loop-n.invariant k p (omega (arith, c.loop-n-test.false, length-map c.args.pairs.now (meant_pair m))) at
+
+pub loop-n-init : goal.loop-n-init
+loop-n-init g c k x l at = absurd (omega arith)
+
+pub span-first-requires-clause-spans : goal.span-first-requires-clause-spans
+span-first-requires-clause-spans g c = c.requires.spans
+
+pub span-first-requires-clause-count : goal.span-first-requires-clause-count
+span-first-requires-clause-count g c = c.requires.count
+
+pub span-second-requires-clause-spans : goal.span-second-requires-clause-spans
+span-second-requires-clause-spans g c = c.requires.spans
+
+pub span-second-requires-clause-count : goal.span-second-requires-clause-count
+span-second-requires-clause-count g c = c.requires.count

@@ -37,3 +37,21 @@ returns g c given gives =
       none_shared m hypotheses es all spans given c.requires.hypotheses gives c.in_ok-gather_all.ensures pairs none,
       lack_given m hypotheses es all spans given c.requires.hypotheses gives c.in_ok-gather_all.ensures (meant_pairs m c.args.active.now.pairs.now) pairs lack.0 lack.1 lack.2 lack.3 none,
     )
+
+pub gather_all-requires-clause-within : goal.gather_all-requires-clause-within
+gather_all-requires-clause-within g c = c.requires.within
+
+pub gather_all-requires-clause-count : goal.gather_all-requires-clause-count
+gather_all-requires-clause-count g c = c.requires.count
+
+pub all_apart-requires-clause-count : goal.all_apart-requires-clause-count
+all_apart-requires-clause-count g c = c.in_ok-gather_all.ensures.count
+
+pub all_apart-requires-clause-typed : goal.all_apart-requires-clause-typed
+all_apart-requires-clause-typed g c = c.requires.typed
+
+pub any_share-requires-clause-count : goal.any_share-requires-clause-count
+any_share-requires-clause-count g c = c.in_ok-gather_all.ensures.count
+
+pub any_share-requires-clause-typed : goal.any_share-requires-clause-typed
+any_share-requires-clause-typed g c = c.requires.typed

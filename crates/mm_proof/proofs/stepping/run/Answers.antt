@@ -126,3 +126,30 @@ returns-else-is_top-clause-says g c place names is pairs all =
       subst (λ w. Reaches place steps w) (sym f.2.stack ∙ top) (reached_all place steps k f.1 long f.3),
       λ same. false≢true (c.if-is_top.ensures.1 (top ∙ ap (λ w. w ∷ []) same)),
     )
+
+pub load-requires-clause-whole : goal.load-requires-clause-whole
+load-requires-clause-whole g c = c.in_ok-clear.ensures.whole
+
+pub load-requires-clause-nothing : goal.load-requires-clause-nothing
+load-requires-clause-nothing g c = c.in_ok-clear.ensures.state
+
+pub returns-in_default-clause-within : goal.returns-in_default-clause-within
+returns-in_default-clause-within g c = c.loop-place-test.true
+
+pub turn-requires-clause-whole : goal.turn-requires-clause-whole
+turn-requires-clause-whole g c = c.loop-place.invariant.whole
+
+pub turn-requires-clause-frames : goal.turn-requires-clause-frames
+turn-requires-clause-frames g c = c.requires.frames
+
+pub turn-requires-clause-loaded : goal.turn-requires-clause-loaded
+turn-requires-clause-loaded g c = omega (arith, c.loop-place.invariant.count)
+
+pub returns-in-Some-2-clause-within : goal.returns-in-Some-2-clause-within
+returns-in-Some-2-clause-within g c = c.loop-place-test.true
+
+pub is_top-requires-clause-whole : goal.is_top-requires-clause-whole
+is_top-requires-clause-whole g c = c.loop-place.invariant.whole
+
+pub is_top-requires-clause-one : goal.is_top-requires-clause-one
+is_top-requires-clause-one g c = omega (arith, c.len.ensures, c.if-len-ne1.false, c.loop-place.machine.stack.ok)

@@ -11,9 +11,9 @@ use Rattle.mm_proof.specs.declared.stepping.Task.{Task}
 use Rattle.mm_proof.specs.Code.Citation.{frame_of, meant_pairs}
 use Rattle.mm_proof.specs.Code.Flat.{read}
 use Rattle.mm_proof.specs.Code.MachineState.{state_of}
-use Rattle.mm_proof.specs.Code.Tasks.{HasState, IsTaskWithin, named_expressions, named_frames}
+use Rattle.mm_proof.specs.Code.Tasks.{HasState, IsTaskWithin, named_expressions, named_frames, saves_of}
 use Rattle.mm_proof.proofs.FlatLemmas.{mapped_or, mapped_or_get}
-use Rattle.mm_proof.proofs.StepLemmas.{means_push, means_cite, means_again, means_keep, cite_turns, kept_at, saved_at, TurnsTo, pushed_turns, again_turns, kept_turns, cited_turns}
+use Rattle.mm_proof.proofs.StepLemmas.{means_push, means_cite, means_again, means_keep, cite_turns, kept_at, saved_at, TurnsTo, pushed_turns, again_turns, kept_turns, cited_turns, save_fails, saved_same, saved_more, if_none}
 use Rattle.mm_proof.proofs.stepping.turn.Goals as goal
 
 pub cite-requires-clause-frame : goal.cite-requires-clause-frame
@@ -71,3 +71,78 @@ returns-then-branch-clause-turns g c place step before pairs state means =
     let expressions = named_expressions m c.args.named.now in
     let is = means_keep expressions (named_frames m c.args.named.now) place c.args.task step c.in-Keep.is means in
     kept_turns m expressions place step before c.args.machine.now c.save.new.self is state (rw c.if-branch.true at c.in_ok-save-in-Keep.ensures.saves)
+
+pub push_saved-requires-clause-whole : goal.push_saved-requires-clause-whole
+push_saved-requires-clause-whole g c = c.requires.whole
+
+pub push_saved-requires-clause-in_range : goal.push_saved-requires-clause-in_range
+push_saved-requires-clause-in_range g c =
+    let named = c.args.named.now in
+    let within = subst (λ (w : Task). IsTaskWithin (length named.hypotheses.items) (length named.assertions.items) (length c.args.machine.now.saved.items - length named.hypotheses.items) w) c.in-Push.is c.requires.within in
+    omega (arith, within, c.requires.loaded)
+
+pub index-requires : goal.index-requires
+index-requires g c =
+    let named = c.args.named.now in
+    let within = subst (λ (w : Task). IsTaskWithin (length named.hypotheses.items) (length named.assertions.items) (length c.args.machine.now.saved.items - length named.hypotheses.items) w) c.in-Cite.is c.requires.within in
+    omega (arith, within, named.assertions.ok)
+
+pub cite-requires-clause-whole : goal.cite-requires-clause-whole
+cite-requires-clause-whole g c = c.requires.whole
+
+pub push_saved-requires-in-Again-clause-whole : goal.push_saved-requires-in-Again-clause-whole
+push_saved-requires-in-Again-clause-whole g c = c.requires.whole
+
+pub push_saved-requires-in-Again-clause-in_range : goal.push_saved-requires-in-Again-clause-in_range
+push_saved-requires-in-Again-clause-in_range g c =
+    let named = c.args.named.now in
+    let within = subst (λ (w : Task). IsTaskWithin (length named.hypotheses.items) (length named.assertions.items) (length c.args.machine.now.saved.items - length named.hypotheses.items) w) c.in-Again.is c.requires.within in
+    omega (arith, c.len.ensures, named.hypotheses.ok, within, c.requires.loaded)
+
+pub save-requires : goal.save-requires
+save-requires g c = c.requires.whole
+
+pub returns-in_ok-push_saved-in-Push-clause-whole : goal.returns-in_ok-push_saved-in-Push-clause-whole
+returns-in_ok-push_saved-in-Push-clause-whole g c = c.in_ok-push_saved-in-Push.ensures.whole
+
+pub returns-in_ok-push_saved-in-Push-clause-saves : goal.returns-in_ok-push_saved-in-Push-clause-saves
+returns-in_ok-push_saved-in-Push-clause-saves g c =
+    omega (arith, saved_same g.S.Symbol.means c.args.machine.now c.push_saved.new.self c.in_ok-push_saved-in-Push.ensures.saved, ap saves_of c.in-Push.is)
+
+pub returns-in_ok-found-in-Cite-clause-whole : goal.returns-in_ok-found-in-Cite-clause-whole
+returns-in_ok-found-in-Cite-clause-whole g c = c.in_ok-found-in-Cite.ensures.whole
+
+pub returns-in_ok-found-in-Cite-clause-saves : goal.returns-in_ok-found-in-Cite-clause-saves
+returns-in_ok-found-in-Cite-clause-saves g c =
+    let count : length c.cite.new.self.saved.items ≡ length c.args.machine.now.saved.items + saves_of c.args.task =
+    omega (arith, saved_same g.S.Symbol.means c.args.machine.now c.cite.new.self c.in_ok-found-in-Cite.ensures.saved, ap saves_of c.in-Cite.is) in
+    if_none c.in_ok-found-in-Cite.found (length c.cite.new.self.saved.items ≡ length c.args.machine.now.saved.items + saves_of c.args.task) count
+
+pub returns-in_ok-push_saved-in-Again-clause-whole : goal.returns-in_ok-push_saved-in-Again-clause-whole
+returns-in_ok-push_saved-in-Again-clause-whole g c = c.in_ok-push_saved-in-Again.ensures.whole
+
+pub returns-in_ok-push_saved-in-Again-clause-saves : goal.returns-in_ok-push_saved-in-Again-clause-saves
+returns-in_ok-push_saved-in-Again-clause-saves g c =
+    omega (arith, saved_same g.S.Symbol.means c.args.machine.now c.push_saved-in-Again.new.self c.in_ok-push_saved-in-Again.ensures.saved, ap saves_of c.in-Again.is)
+
+pub returns-then-branch-clause-whole : goal.returns-then-branch-clause-whole
+returns-then-branch-clause-whole g c = c.in_ok-save-in-Keep.ensures.whole
+
+pub returns-then-branch-clause-saves : goal.returns-then-branch-clause-saves
+returns-then-branch-clause-saves g c =
+    let saves = rw c.if-branch.true at c.in_ok-save-in-Keep.ensures.saves in
+    omega (arith, saved_more g.S.Symbol.means c.args.machine.now c.save.new.self saves, ap saves_of c.in-Keep.is)
+
+pub returns-else-branch-clause-whole : goal.returns-else-branch-clause-whole
+returns-else-branch-clause-whole g c = c.in_ok-save-in-Keep.ensures.whole
+
+pub returns-else-branch-clause-turns : goal.returns-else-branch-clause-turns
+returns-else-branch-clause-turns g c place step before pairs state means =
+    let m = g.S.Symbol.means in
+    let expressions = named_expressions m c.args.named.now in
+    let is = means_keep expressions (named_frames m c.args.named.now) place c.args.task step c.in-Keep.is means in
+    let none = rw c.if-branch.false at c.in_ok-save-in-Keep.ensures.saves in
+    save_fails m expressions place step before c.args.machine.now is state none.0
+
+pub returns-else-branch-clause-saves : goal.returns-else-branch-clause-saves
+returns-else-branch-clause-saves g c = tt

@@ -1,9 +1,10 @@
-use Rattle.std.proofs.Common.{◌++◌, ◌∷◌, [], List, map, sym, ◌∙◌, ap}
+use Rattle.std.proofs.Common.{◌++◌, ◌∷◌, [], List, map, sym, ◌∙◌, ap, arith, refl, length, subst, ◌≡◌}
 use Rattle.std.proofs.lemmas.List.{map-append}
 use Rattle.mm_frame.specs.Language.Frame.{Symbol}
 use Rattle.mm_proof.specs.declared.pattern.Entry.{Entry}
-use Rattle.mm_proof.specs.Code.Flat.{read, read_all}
+use Rattle.mm_proof.specs.Code.Flat.{read, read_all, IsEntryWithin}
 use Rattle.mm_proof.proofs.FlatLemmas.{mapped_at}
+use Rattle.mm_proof.proofs.StackLemmas.{whole_pushed}
 use Rattle.mm_proof.proofs.machine.Machine.push_saved.Goals as goal
 
 pub returns-clause-stack : goal.returns-clause-stack
@@ -15,3 +16,21 @@ returns-clause-stack g c e at =
     ap (read_all symbols) c.in_ok-push.ensures.items
     ∙ map-append (read symbols) c.args.self.now.stack.items (new ∷ [])
     ∙ ap (λ (w : List Symbol). read_all symbols c.args.self.now.stack.items ++ w ∷ []) (sym saved)
+
+pub index-requires : goal.index-requires
+index-requires g c = omega (arith, c.requires.in_range, c.args.self.now.saved.ok)
+
+pub returns-clause-saved : goal.returns-clause-saved
+returns-clause-saved g c = refl
+
+pub returns-clause-whole : goal.returns-clause-whole
+returns-clause-whole g c =
+    let machine = c.args.self.now in
+    let x = c.index.result.now in
+    let n = length machine.symbols.items in
+    let new : Entry = record { start = x.start; end = x.end; floor = c.len-floor.result } in
+    let floor : new.floor ≡ n = omega (arith, c.len-floor.ensures, machine.symbols.ok) in
+    let within = subst (IsEntryWithin machine.kept) (sym c.index.ensures) (c.requires.whole.saved_within c.args.number x c.requires.in_range) in
+    let low = c.requires.whole.kept_within in
+    let high = within.1 in
+    whole_pushed n machine.kept machine.stack.items machine.saved.items c.push.new.self.items new c.requires.whole (within.0, omega arith) floor c.in_ok-push.ensures.items

@@ -31,3 +31,6 @@ returns-else-entry-self-clause-saves g c =
       refl,
       ap (read_all symbols) c.in_ok-push.ensures.items ∙ map-append (read symbols) c.args.self.now.saved.items (x ∷ []),
     )
+
+pub returns-then-count-eq0-clause-whole : goal.returns-then-count-eq0-clause-whole
+returns-then-count-eq0-clause-whole g c = c.requires

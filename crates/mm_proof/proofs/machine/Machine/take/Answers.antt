@@ -1,5 +1,5 @@
-use Rattle.std.proofs.Common.{◌≡◌, ◌-◌, ◌++◌, ◌∷◌, [], List, map, take, drop, length, sym, ◌∙◌, ap, subst, arith}
-use Rattle.std.proofs.lemmas.List.{length-map, length-drop}
+use Rattle.std.proofs.Common.{◌≡◌, ◌-◌, ◌++◌, ◌∷◌, [], List, map, take, drop, length, sym, ◌∙◌, ap, subst, arith, refl}
+use Rattle.std.proofs.lemmas.List.{length-map, length-drop, length-take}
 use Rattle.mm_proof.specs.Language.Steps.{Cites}
 use Rattle.mm_proof.specs.Language.Substitution.{substituted}
 use Rattle.mm_proof.specs.declared.pattern.Entry.{Entry}
@@ -7,8 +7,8 @@ use Rattle.mm_proof.specs.Code.Flat.{read, read_all}
 use Rattle.mm_proof.specs.Code.Citation.{frame_from, mandatory_of}
 use Rattle.mm_proof.specs.Code.Citation.{meant_pairs}
 use Rattle.mm_proof.proofs.EntryFaults.{gives_all, hypotheses_known}
-use Rattle.mm_proof.proofs.CitingFaults.{cited_by}
-use Rattle.mm_proof.proofs.StackLemmas.{entries_taken, slice_taken}
+use Rattle.mm_proof.proofs.CitingFaults.{cited_by, says07}
+use Rattle.mm_proof.proofs.StackLemmas.{entries_taken, slice_taken, all_taken}
 use Rattle.mm_proof.proofs.machine.Machine.take.Goals as goal
 
 pub returns-in-Some-clause-cites : goal.returns-in-Some-clause-cites
@@ -51,3 +51,54 @@ returns-clause-cites g c =
     (λ given gives. c.in_ok-substitute.ensures given (gives_all frame.hypotheses given (read_all (map m c.deref.result.now) entries) frame.expression (hypotheses_known frame c.requires.frame) gives c.requires.frame.expression_typed) ∙ ap (λ w. map m w ++ substituted given
     (map m c.args.expression.now)) c.clear.ensures.items) in
     subst (λ w. Cites active frame stack w) (ap (λ k. take k stack ++ result ∷ []) here ∙ sym c.in_ok-replace.ensures.stack) whole
+
+pub returns-then-len-count-clause-whole : goal.returns-then-len-count-clause-whole
+returns-then-len-count-clause-whole g c = c.requires.whole
+
+pub returns-then-len-count-clause-cites : goal.returns-then-len-count-clause-cites
+returns-then-len-count-clause-cites g c =
+    let m = g.S.Symbol.means in
+    let symbols = map m c.args.self.now.symbols.items in
+    let es = c.args.self.now.stack.items in
+    let hs = c.args.hypotheses.now in
+    says07 (meant_pairs m c.args.active.now.pairs.now) (frame_from m hs c.args.expression.now c.args.pairs.now) (read_all symbols es)
+    (omega (arith, c.len.ensures, c.args.self.now.stack.ok, c.if-len-count.true, length-map es (read symbols), length-map hs (mandatory_of m)))
+
+pub returns-then-len-count-clause-saved : goal.returns-then-len-count-clause-saved
+returns-then-len-count-clause-saved g c = refl
+
+pub citing_fault-requires-clause-within : goal.citing_fault-requires-clause-within
+citing_fault-requires-clause-within g c =
+    let below = c.len-2.result - length c.args.hypotheses.now in
+    all_taken c.args.self.now.symbols.items c.deref.result.now c.args.self.now.stack.items c.deref-2.result.now below c.deref.ensures.value c.deref-2.ensures.value c.requires.whole.within
+
+pub citing_fault-requires-clause-count : goal.citing_fault-requires-clause-count
+citing_fault-requires-clause-count g c =
+    let k = c.args.self.now.stack.ok in
+    omega (arith, length-take {A = Entry}, length-drop {A = Entry}, ap length c.deref-2.ensures.value, c.len.ensures, c.len-2.ensures, k, c.if-len-count.false)
+
+pub citing_fault-requires-clause-frame : goal.citing_fault-requires-clause-frame
+citing_fault-requires-clause-frame g c = c.requires.frame
+
+pub returns-in-Some-clause-whole : goal.returns-in-Some-clause-whole
+returns-in-Some-clause-whole g c = c.requires.whole
+
+pub returns-in-Some-clause-saved : goal.returns-in-Some-clause-saved
+returns-in-Some-clause-saved g c = refl
+
+pub substitute-requires : goal.substitute-requires
+substitute-requires g c =
+    let below = c.len-2.result - length c.args.hypotheses.now in
+    record { within = all_taken c.args.self.now.symbols.items c.deref.result.now c.args.self.now.stack.items c.deref-2.result.now below c.deref.ensures.value c.deref-2.ensures.value c.requires.whole.within }
+
+pub replace-requires-clause-whole : goal.replace-requires-clause-whole
+replace-requires-clause-whole g c = c.requires.whole
+
+pub replace-requires-clause-in_range : goal.replace-requires-clause-in_range
+replace-requires-clause-in_range g c = let k = c.args.self.now.stack.ok in omega (arith, c.len-2.ensures, k)
+
+pub returns-clause-whole : goal.returns-clause-whole
+returns-clause-whole g c = c.in_ok-replace.ensures.whole
+
+pub returns-clause-saved : goal.returns-clause-saved
+returns-clause-saved g c = c.in_ok-replace.ensures.saved

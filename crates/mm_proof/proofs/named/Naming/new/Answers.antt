@@ -1,0 +1,16 @@
+use Rattle.std.proofs.Common.{length, sym, ◌∙◌, ap, arith}
+use Rattle.std.proofs.lemmas.Option.{slice_get_within}
+use Rattle.mm_proof.proofs.named.Naming.new.Goals as goal
+
+pub returns : goal.returns
+returns c =
+    let hypotheses = ap length c.in_ok-hypothesis_numbers.ensures in
+    let assertions = ap length c.in_ok-assertion_numbers.ensures in
+    let frames = ap length c.in_ok-with_capacity-2.ensures.items in
+    record {
+      hypothesis_count = ap length c.in_ok-with_capacity.ensures.items ∙ sym hypotheses;
+      assertion_count = frames ∙ sym assertions;
+      hypotheses = λ names view base n j at shown. let within = slice_get_within c.in_ok-hypothesis_numbers.hypothesis_numbers.items.items n j at in absurd (omega arith);
+      assertions = λ names view base n j at framed. let within = slice_get_within c.in_ok-assertion_numbers.assertion_numbers.items.items n j at in absurd (omega arith);
+      frames = λ k d l. absurd (omega arith);
+    }
