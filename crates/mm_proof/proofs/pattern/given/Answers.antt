@@ -1,9 +1,7 @@
-use Rattle.std.proofs.Common.{map, drop, get_or, sym, ◌∙◌, ap, arith}
+use Rattle.std.proofs.Common.{map, drop, get_or, sym, ◌∙◌, ap}
 use Rattle.mm_proof.specs.declared.pattern.Entry.{Entry}
 use Rattle.mm_proof.specs.Code.Flat.{read}
 use Rattle.mm_proof.proofs.FlatLemmas.{mapped_or, behind_first}
-use Rattle.std.proofs.lemmas.Option.{slice_get_within}
-use Rattle.std.proofs.lemmas.List.{length-map}
 use Rattle.mm_proof.proofs.pattern.given.Goals as goal
 
 pub returns : goal.returns
@@ -13,9 +11,3 @@ returns g c e is =
     let entry = get_or c.args.taken.now.entries.now c.args.slot d in
     behind_first g.S.Symbol.means symbols entry.start entry.end
     ∙ ap (λ w. drop 1 w) (sym (mapped_or (read (map g.S.Symbol.means symbols)) c.args.taken.now.entries.now c.args.slot d e c.if-slot-taken.false is))
-
-pub returns-then-slot-taken : goal.returns-then-slot-taken
-returns-then-slot-taken g c e is =
-    let inner = read (map g.S.Symbol.means c.args.taken.now.symbols.now) in
-    let w = slice_get_within (map inner c.args.taken.now.entries.now) c.args.slot e is in
-    absurd (omega (arith, length-map c.args.taken.now.entries.now inner, c.if-slot-taken.true))

@@ -1,4 +1,4 @@
-use Rattle.std.proofs.Common.{◌≡◌, ℕ, List, length, get_or, sym, subst, ap}
+use Rattle.std.proofs.Common.{◌≡◌, ℕ, List, length, get_or, sym, subst}
 use Rattle.std.specs.Prelude.{All}
 use Rattle.std.specs.List.{AllZip}
 use Rattle.mm_frame.specs.Language.Frame.{Symbol, Frame, Setting}
@@ -7,7 +7,7 @@ use Rattle.mm_proof.specs.declared.step.Action.{Action}
 use Rattle.mm_proof.specs.declared.step.Action.TheVariants as actions
 use Rattle.mm_proof.specs.declared.named.Use.{Use}
 use Rattle.mm_proof.specs.Language.DecodedSteps.{meant}
-use Rattle.mm_proof.specs.Code.Tasks.{IsUseWithin, MeansUse, named_expressions, named_frames, saves_by}
+use Rattle.mm_proof.specs.Code.Tasks.{IsUseWithin, MeansUse, named_expressions, named_frames}
 use Rattle.mm_proof.proofs.StepLemmas.{push_means, cite_means, nothing_means}
 use Rattle.mm_proof.proofs.stepping.todo.Goals as goal
 
@@ -53,15 +53,3 @@ returns-in-Assertion-clause-within g c saves uses saved =
     let h = length c.args.named.now.hypotheses.items in
     let a = length c.args.named.now.assertions.items in
     subst (IsUseWithin h a) c.in-Assertion.is (c.used.ensures.within h a (subst (λ us. All (IsUseWithin h a) us) (sym c.deref.ensures.value) uses))
-
-pub returns-in-Hypothesis-clause-saves : goal.returns-in-Hypothesis-clause-saves
-returns-in-Hypothesis-clause-saves g c = sym (ap saves_by c.in-Label.is)
-
-pub returns-in-Assertion-clause-saves : goal.returns-in-Assertion-clause-saves
-returns-in-Assertion-clause-saves g c = sym (ap saves_by c.in-Label.is)
-
-pub returns-in-Saved-clause-saves : goal.returns-in-Saved-clause-saves
-returns-in-Saved-clause-saves g c = sym (ap saves_by c.in-Saved.is)
-
-pub returns-in-Save-clause-saves : goal.returns-in-Save-clause-saves
-returns-in-Save-clause-saves g c = sym (ap saves_by c.in-Save.is)

@@ -47,9 +47,3 @@ returns-clause-grows c = record { hypotheses = λ n j at. at; assertions = stays
 
 pub returns-clause-stands : goal.returns-clause-stands
 returns-clause-stands c = stands_last c.args.self.now.assertion_numbers.items.items c.add.new.self.items.items c.in_ok-add.field-0 c.args.number c.in_ok-add.ensures.items c.in_ok-add.ensures.place
-
-pub returns-in-Some-clause-named : goal.returns-in-Some-clause-named
-returns-in-Some-clause-named c = c.requires.named
-
-pub returns-in-Some-clause-grows : goal.returns-in-Some-clause-grows
-returns-in-Some-clause-grows c = record { hypotheses = λ n j at. at; assertions = λ n j at. at }
