@@ -1,6 +1,7 @@
 pub mod Members
 pub mod ActiveBySplit
 pub mod Facts
+pub mod Growing
 pub mod FoundFaults
 pub mod Stack
 pub mod Rows

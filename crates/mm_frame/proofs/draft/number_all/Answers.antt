@@ -27,3 +27,15 @@ returns-clause-count c = let count = c.loop-n.invariant.1 in omega (arith, c.sym
 
 pub returns-clause-numbers : goal.returns-clause-numbers
 returns-clause-numbers c = λ all more. subst (AreNameNumbers all c.loop-n.numbers.items) (take_all c.loop-n.n c.args.statement.now.symbols (omega (arith, c.symbol_count-n-end.ensures, c.loop-n-test.false))) (c.loop-n.invariant.2 all more)
+
+pub returns-clause-grows : goal.returns-clause-grows
+returns-clause-grows c = c.loop-n.invariant.0
+
+pub returns-in_err-number-clause-grows : goal.returns-in_err-number-clause-grows
+returns-in_err-number-clause-grows c = begins_on _ _ _ c.loop-n.invariant.0 c.take.ensures.grows
+
+pub returns-in_err-push-clause-grows : goal.returns-in_err-push-clause-grows
+returns-in_err-push-clause-grows c = begins_on _ _ _ c.loop-n.invariant.0 c.take.ensures.grows
+
+pub symbol-requires : goal.symbol-requires
+symbol-requires c = omega (arith, c.symbol_count-n-end.ensures)
