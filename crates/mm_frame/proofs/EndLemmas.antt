@@ -1,8 +1,8 @@
 -- What a `$}` leaves of the numbers of active items: those that stood last go.
-use Rattle.std.proofs.Common.{◌≡◌, ℕ, zero, suc, ◌+◌, ◌-◌, ◌<◌, Bool, true, false, cond, Option, Some, List, [], ◌∷◌, ◌++◌, length, take, drop, slice_get, get_or, refl, sym, ◌∙◌, ap, subst, append_assoc, arith, inl, inr, ◌⊎◌}
+use Rattle.std.proofs.Common.{◌≡◌, ℕ, zero, suc, ◌+◌, ◌-◌, ◌<◌, Bool, true, false, cond, Option, Some, None, List, [], ◌∷◌, ◌++◌, length, take, drop, slice_get, get_or, refl, sym, ◌∙◌, ap, subst, append_assoc, arith, inl, inr, ◌⊎◌}
 use Rattle.std.specs.Prelude.{Contains, option_to_list}
 use Rattle.std.proofs.lemmas.Bool.{false≢true}
-use Rattle.std.proofs.lemmas.Option.{get_or_from_slice_get, slice_get_within}
+use Rattle.std.proofs.lemmas.Option.{get_or_from_slice_get, slice_get_within, same_Some, none-some}
 use Rattle.std.proofs.Math.Seq.{get_or-append_seam, drop-nil}
 use Rattle.std.proofs.lemmas.List.{drop-append-le, drop-map, length_push, get_or_append_left}
 use Rattle.mm_frame.specs.Language.Item.{Item}
@@ -15,7 +15,7 @@ use Rattle.mm_frame.proofs.ActiveBySplit.{closed_none, stays_front}
 use Rattle.mm_frame.proofs.SoundItems.{split_at}
 use Rattle.mm_frame.proofs.SpokenLemmas.{get_drop}
 use Rattle.mm_frame.proofs.TableLemmas.{not_closing}
-use Rattle.mm_frame.proofs.BlockLemmas.{get_front, get_cases, stays_of}
+use Rattle.mm_frame.proofs.BlockLemmas.{get_front, get_cases, get_last, stays_of}
 use Rattle.mm_frame.proofs.Rising.{rising_front}
 use Rattle.mm_frame.proofs.HypothesisNumbers.{to_active_number, from_active_number, active_numbers_rise, active_numbers_more, same_rising}
 
@@ -144,6 +144,28 @@ dropped_more marks old now new number d e f = record {
     | inl q ↦ subst (λ k. stays_by (drop (k + 1) marks) ≡ false) q f
     | inr h ↦ d.ended n (in_contains n d.gone h)
   ];
+}
+
+-- nothing more goes where the last number that is left is that of an active item, or none is left
+last_number : (numbers front : List ℕ) (n : ℕ) → numbers ≡ front ++ n ∷ [] → slice_get numbers (length numbers - 1) ≡ Some n
+last_number numbers front n e =
+    let long : length numbers - 1 ≡ length front = (let p = length_push front n in let q = ap length e in omega arith) in
+    ap (slice_get numbers) long ∙ ap (λ w. slice_get w (length front)) e ∙ get_last front n (length front) refl
+
+pub dropped_to_active : (marks : List Mark) (old new : List ℕ) (number : ℕ) → Dropped marks old new → slice_get new (length new - 1) ≡ Some number → stays_by (drop (number + 1) marks) ≡ true → IsPruned marks old new
+dropped_to_active marks old new number d there active = record {
+  gone = d.gone;
+  parts = d.parts;
+  ended = d.ended;
+  last = λ front n e. subst (λ k. stays_by (drop (k + 1) marks) ≡ true) (same_Some number n (sym there ∙ last_number new front n e)) active;
+}
+
+pub dropped_to_none : (marks : List Mark) (old new : List ℕ) → Dropped marks old new → slice_get new (length new - 1) ≡ None → IsPruned marks old new
+dropped_to_none marks old new d none = record {
+  gone = d.gone;
+  parts = d.parts;
+  ended = d.ended;
+  last = λ front n e. absurd (none-some n (sym none ∙ last_number new front n e));
 }
 
 -- what a `pop` takes is the last number

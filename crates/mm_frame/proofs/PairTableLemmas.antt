@@ -1,6 +1,9 @@
 -- The table of pairs: its rows behind a write and behind one more item, and what they tell of active pairs.
 use Rattle.std.proofs.Common.{◌≡◌, ◌≢◌, ℕ, zero, suc, ◌+◌, ◌<◌, Bool, true, false, Some, List, [], ◌∷◌, ◌++◌, length, take, drop, slice_get, get_or, refl, sym, ◌∙◌, ap, subst, take-suc, arith, inl, inr, ◌⊎◌}
-use Rattle.std.specs.Prelude.{Contains, MatchBool}
+use Rattle.std.specs.Prelude.{Contains, MatchBool, Vec}
+use Rattle.std.specs.Global.{Global}
+use Rattle.std.specs.Vec.{with_item}
+use Rattle.std.proofs.Math.ListN.{set}
 use native.Mathlib.Decide.{dec_lt}
 use Rattle.std.proofs.lemmas.Bool.{false≢true, false_from_ne_true}
 use Rattle.std.proofs.lemmas.Option.{same_Some, get_or_from_slice_get, slice_get_within, slice_get-get_or}
@@ -19,7 +22,7 @@ use Rattle.mm_frame.specs.Code.Numbers.{IsNameNumber, AreNameNumbers}
 use Rattle.mm_frame.specs.Code.PairOrder.{is_among}
 use Rattle.mm_frame.specs.Language.Answering.{are_paired}
 use Rattle.mm_frame.specs.Code.KeptScope.{taken}
-use Rattle.mm_frame.specs.Code.KeptPairTable.{row_at, Puts, PutsAll, AreOnce, IsDisjointAt, IsRow, KnowsPairs, IsCommon, ReadsPairs}
+use Rattle.mm_frame.specs.Code.KeptPairTable.{numbers_or_none, row_at, Puts, PutsAll, AreOnce, IsDisjointAt, IsRow, KnowsPairs, IsCommon, ReadsPairs}
 use Rattle.mm_frame.proofs.Members.{In, in_contains, contains_in, in_left, in_right, in_cases, in_map, from_map, in_get, get_in, has_in, in_has}
 use Rattle.mm_frame.proofs.Frames.{from_pairs}
 use Rattle.mm_frame.proofs.BlockLemmas.{get_front, get_last, get_cases}
@@ -41,6 +44,30 @@ once_apart names k once l h =
     let less = r.1 in
     let same : r.0 ≡ k = once r.0 k (get_or names k 0) r.2 (slice_get-get_or names k 0 l) in
     omega arith
+
+-- one row in the place of another
+get_set_here : {X : Type 0} (xs : List X) (n : ℕ) (y : X) → n < length xs → slice_get (set xs n y) n ≡ Some y
+get_set_here [] n y l = absurd (omega arith)
+get_set_here (x ∷ xs) zero y l = refl
+get_set_here (x ∷ xs) (suc n) y l = get_set_here xs n y (omega arith)
+
+get_set_other : {X : Type 0} (xs : List X) (n m : ℕ) (y : X) → (m ≡ n → ⊥) → slice_get (set xs n y) m ≡ slice_get xs m
+get_set_other [] n m y apart = refl
+get_set_other (x ∷ xs) zero zero y apart = absurd (apart refl)
+get_set_other (x ∷ xs) zero (suc m) y apart = refl
+get_set_other (x ∷ xs) (suc n) zero y apart = refl
+get_set_other (x ∷ xs) (suc n) (suc m) y apart = get_set_other xs n m y (λ e. apart (ap suc e))
+
+pub puts_row : (old grown : PairTable) (marks : List Mark) (name number : ℕ) (left : List ℕ) (row pushed : Vec ℕ Global) → name < length grown.rows.items → ((n : ℕ) → row_at grown n ≡ row_at old n)
+    → row ≡ get_or grown.rows.items name row → IsPruned marks row.items left → pushed.items ≡ left ++ number ∷ [] → Puts old marks name number (record { rows = with_item grown.rows name pushed })
+puts_row old grown marks name number left row pushed there same is pruned added =
+    let rows = grown.rows.items in
+    record {
+      left = left;
+      pruned = subst (λ w. IsPruned marks w left) (ap numbers_or_none (ap Some is ∙ sym (slice_get-get_or rows name row there)) ∙ same name) pruned;
+      here = ap numbers_or_none (get_set_here rows name pushed there) ∙ added;
+      others = λ n apart. ap numbers_or_none (get_set_other rows name n pushed apart) ∙ same n;
+    }
 
 pub puts_more : (old mid new : PairTable) (marks : List Mark) (names : List ℕ) (k number : ℕ) → AreOnce names → k < length names → PutsAll old marks (take k names) number mid → Puts mid marks (get_or names k 0) number new → PutsAll old marks (take (k + 1) names) number new
 puts_more old mid new marks names k number once l a p = subst (λ w. PutsAll old marks w number new) (sym more) (record { each = λ n c. each n (in_cases n (take k names) (x ∷ []) (contains_in n (take k names ++ x ∷ []) c)); others = others })

@@ -146,9 +146,9 @@ impl Base {
         ensures err { IfErr result IsExpansionError }
     {
         let items = files.statements(alloc, top)?;
+        let floats = floats_among(alloc, &items)?;
         let draft = Draft::read_all(alloc, names, files, &items)?;
         names.distinct();
-        let floats = floats_among(alloc, &items)?;
         Ok(Base {
             items,
             floats,

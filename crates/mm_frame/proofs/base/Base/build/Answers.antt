@@ -18,7 +18,7 @@ invariant_of-result c =
     let names = c.read_all.new.names in
     let base : BaseView = record { found = c.in_ok-items.items.items; said = read.0 } in
     record {
-      floats = c.in_ok-floats.ensures ∙ ap (map is_float_item) c.deref-2.ensures.value;
+      floats = c.in_ok-floats.ensures ∙ ap (map is_float_item) c.deref.ensures.value;
       labels = labels_told names base c.parts.result (c.parts.ensures names read.0 (read.2 names c.distinct.ensures (λ n name there. there)));
     }
 
@@ -27,7 +27,7 @@ returns-clause-base c =
     let files = c.args.files.now in
     let found = c.in_ok-items.items.items in
     let read = c.in_ok-draft.ensures.read in
-    let each = subst (λ w. AllZip (Says files) w read.0) c.deref.ensures.value read.1 in
+    let each = subst (λ w. AllZip (Says files) w read.0) c.deref-2.ensures.value read.1 in
     let base : BaseView = record { found = found; said = read.0 } in
     let built : Inside = record { items = c.in_ok-items.items; floats = c.in_ok-floats.floats; parts = c.parts.result } in
     let by : (all : List (List ℕ)) → AreDistinct all → Begins c.read_all.new.names all → IsBaseBy all base (answers_of built) = λ all distinct more.
