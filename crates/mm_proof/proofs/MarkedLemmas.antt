@@ -1,12 +1,10 @@
 -- What is marked counts for the assertions of entries alone.
-use Rattle.std.proofs.Common.{◌≡◌, ℕ, zero, suc, ◌+◌, Bool, true, List, [], ◌∷◌, drop, refl, ap, inl, inr, eq-eqb, false, ◌<◌, ◌||◌, length, get_or, eqb, sym, ◌∙◌, ne_eqb, get_or-set_other, ◌&&◌, take, ◌⊎◌}
-use Rattle.std.specs.Prelude.{nat_eq, set, Some}
+use Rattle.std.proofs.Common.{◌≡◌, ℕ, zero, suc, ◌+◌, Bool, true, List, [], ◌∷◌, drop, refl, ap, inl, inr, eq-eqb, false, ◌<◌, ◌||◌, length, get_or, sym, ◌∙◌, ◌&&◌, take, ◌⊎◌}
+use Rattle.std.specs.Prelude.{nat_eq, Some}
 use Rattle.std.proofs.lemmas.Bool.{cases_Bool}
 use Rattle.mm_frame.specs.declared.base.Resolved.{Resolved}
 use Rattle.mm_frame.specs.declared.base.Resolved.TheVariants as answers
 use Rattle.mm_proof.specs.Code.Cited.{without, item_cites, is_listed, is_item, cited_item}
-use Rattle.std.proofs.Math.Decide.{ℕ_discrete}
-use Rattle.std.proofs.lemmas.Grind.{get_or-set_at}
 use Rattle.std.proofs.lemmas.List.{take_more}
 use Rattle.std.proofs.lemmas.List.Folds.{list_any-append}
 
@@ -39,18 +37,6 @@ cites_alike S T n (answers.Unknown ∷ labels) same = cites_alike S T (n + 1) la
 or_false : (b : Bool) → b ≡ (b || false)
 or_false true = refl
 or_false false = refl
-
-or_true : (b : Bool) → true ≡ (b || true)
-or_true true = refl
-or_true false = refl
-
--- where a number gets its mark, the others keep theirs
-pub marked_set : (marks : List Bool) (j i : ℕ) → j < length marks → get_or (set marks j true) i false ≡ (get_or marks i false || eqb j i)
-marked_set marks j i l = by_case (ℕ_discrete j i)
-  where
-    by_case : Dec (j ≡ i) → get_or (set marks j true) i false ≡ (get_or marks i false || eqb j i)
-    by_case (yes e) = get_or-set_at marks j i true false (sym e) l ∙ or_true (get_or marks i false) ∙ ap (λ t. get_or marks i false || t) (sym (eq-eqb j i e))
-    by_case (no n) = get_or-set_other marks j i true false (λ e. n (sym e)) ∙ or_false (get_or marks i false) ∙ ap (λ t. get_or marks i false || t) (sym (ne_eqb j i n))
 
 -- an entry that is no assertion cites nothing
 pub cites_other : (left : ℕ → Bool) (n : ℕ) (label : Resolved) (labels : List Resolved) → ((j : ℕ) → label ≡ answers.Assertion j → ⊥) → item_cites left (n + 1) labels ≡ item_cites left n (label ∷ labels)
