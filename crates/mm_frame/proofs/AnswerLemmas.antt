@@ -34,7 +34,7 @@ use Rattle.mm_frame.specs.Code.KeptBase.{TellsRow, TellsFrame, TellsPairs, Holds
 use Rattle.mm_frame.proofs.BaseLemmas.{row_none, item_beyond, kept_count, expression_some, labelled_there, framed_from}
 use Rattle.mm_frame.proofs.FrameNumbers.{HasKind}
 use Rattle.mm_frame.proofs.ResolvingLemmas.{carrier_found, found_carrier}
-use Rattle.mm_frame.proofs.PairListLemmas.{list_read}
+use Rattle.mm_frame.proofs.PairListLemmas.{list_read, list_in_order}
 use Rattle.mm_frame.proofs.SharedPairs.{same_turned, same_joined}
 
 -- ---- rows that are told from rows that are kept
@@ -82,8 +82,8 @@ frames_told all front item kept t = record {
 
 -- all active pairs
 actives_told : (all : List (List ℕ)) (lists : PairLists) (front : List Item) (item : Item) (number : Option ℕ) → TellsPairs all lists front item number → AreActiveTold all front item (list_told lists number)
-actives_told all lists front item None t = record { some = t.some; pairs = tt }
-actives_told all lists front item (Some k) t = record { some = t.some; pairs = list_read all lists k (active_pairs front) (t.list k refl) }
+actives_told all lists front item None t = record { some = t.some; pairs = tt; order = tt }
+actives_told all lists front item (Some k) t = record { some = t.some; pairs = list_read all lists k (active_pairs front) (t.list k refl); order = list_in_order all lists k (active_pairs front) (t.list k refl) }
 
 -- the expressions
 expressions_told : (all : List (List ℕ)) (base : BaseView) (expressions : List (List NumberedSymbol)) → AreSymbols all (sound_items base.said) expressions → AreRows (IsExpressionTold all) base.said expressions
@@ -146,7 +146,7 @@ active_at all base lists numbers are i number e = by (slice_get numbers i) refl
         (are.each i (list_told lists n) (slice_get-map (list_told lists) numbers i ∙ ap (option_map (list_told lists)) g))
     by None g =
         let past = row_none (AreActiveTold all) base.said (map (list_told lists) numbers) i are (slice_get-map (list_told lists) numbers i ∙ ap (option_map (list_told lists)) g) in
-        subst (λ w. AreActiveTold all (before base i) (said_at base i) (list_told lists w)) (sym (e ∙ ap number_kept g)) (record { some = sym (proof_beyond (before base i) base.said i past); pairs = tt })
+        subst (λ w. AreActiveTold all (before base i) (said_at base i) (list_told lists w)) (sym (e ∙ ap number_kept g)) (record { some = sym (proof_beyond (before base i) base.said i past); pairs = tt; order = tt })
 
 -- so it is where a base has them
 pub active_in : (all : List (List ℕ)) (base : BaseView) (answers : BaseAnswers) (lists : PairLists) (numbers : List (Option ℕ)) → map (list_told lists) numbers ≡ answers.actives → IsBaseBy all base answers → (i : ℕ) (number other : Option ℕ)

@@ -27,6 +27,7 @@ pub mod FramePairs
 pub mod NamedLemmas
 pub mod BaseLemmas
 pub mod PairListLemmas
+pub mod PairOrderLemmas
 pub mod ExpressionLemmas
 pub mod FrameNumbers
 pub mod ResolvingLemmas

@@ -28,7 +28,7 @@ use Rattle.mm_frame.specs.Language.Scope.{stays, active_numbers}
 use Rattle.mm_frame.specs.Language.Sound.{AreSound, sound_items}
 use Rattle.mm_frame.specs.Language.Framing.{expression, pairs_of, active_pairs}
 use Rattle.mm_frame.specs.Code.LastItems.{is_active_at, is_disjoint_item, IsRising}
-use Rattle.mm_frame.specs.Language.NumberedSymbols.{symbol_of, symbols_of, pair_of, kept_pairs, IsNumbered, IsPairNumbered, ArePairsRead, AreSamePairsRead}
+use Rattle.mm_frame.specs.Language.NumberedSymbols.{symbol_of, symbols_of, pair_of, kept_pairs, IsNumbered, IsPairNumbered, ArePairsRead, AreSamePairsRead, AreInOrder}
 use Rattle.mm_frame.specs.Code.KeptSymbols.{expression_kept, AreSymbols, AreNumbered}
 use Rattle.mm_frame.specs.Code.KeptPairLists.{pairs_among, with_low_first, pairs_or_none, list_kept, IsThere, IsList, list_made, IsMadeFor, AreMade, KeepsLists, AreFrontNumbers, HasEach, HasSame}
 use Rattle.mm_frame.specs.Code.KeptBase.{TellsPairs}
@@ -303,7 +303,7 @@ same_read all said raw kept read same = record {
 abbrev is_same_symbol : NumberedSymbol → NumberedSymbol → Bool
 is_same_symbol x y = nat_eq x.name y.name && beq x.variable y.variable
 
-abbrev is_same_pair : NumberedSymbol × NumberedSymbol → NumberedSymbol × NumberedSymbol → Bool
+abbrev pub is_same_pair : NumberedSymbol × NumberedSymbol → NumberedSymbol × NumberedSymbol → Bool
 is_same_pair p q = is_same_symbol p.0 q.0 && is_same_symbol p.1 q.1
 
 symbol_decides : (x y : NumberedSymbol) → Decides (is_same_symbol x y) (x ≡ y)
@@ -425,11 +425,15 @@ list_stays all old new k pairs keeps is = record {
   list = is.list;
   there = ap (λ w. slice_get w k) keeps.whole ∙ get_join old.lists.items keeps.more k is.list is.there;
   read = is.read;
+  order = is.order;
 }
 
 -- what is read of the list with this number
 pub list_read : (all : List (List ℕ)) (lists : PairLists) (k : ℕ) (pairs : List (Symbol × Symbol)) → IsList all lists k pairs → AreSamePairsRead all pairs (list_kept lists k)
 list_read all lists k pairs is = subst (λ o. AreSamePairsRead all pairs (pairs_or_none o)) (sym is.there) is.read
+
+pub list_in_order : (all : List (List ℕ)) (lists : PairLists) (k : ℕ) (pairs : List (Symbol × Symbol)) → IsList all lists k pairs → AreInOrder (list_kept lists k)
+list_in_order all lists k pairs is = subst (λ o. AreInOrder (pairs_or_none o)) (sym is.there) is.order
 
 -- the lists that are made stay so behind more items
 pub made_more : (all : List (List ℕ)) (before later : List Item) (lists : PairLists) → AreMade all before lists → AreMade all (before ++ later) lists
@@ -469,8 +473,8 @@ pub is_there : (lists : PairLists) (last : Vec (NumberedSymbol × NumberedSymbol
 is_there lists last kept there t = record { list = last; there = there; same = (pointwise_decides pair_decides last.items kept).0 t }
 
 -- the list with this number is of pairs that are read so
-pub is_list : (all : List (List ℕ)) (lists : PairLists) (k : ℕ) (kept : List (NumberedSymbol × NumberedSymbol)) (pairs : List (Symbol × Symbol)) → IsThere lists k kept → AreSamePairsRead all pairs kept → IsList all lists k pairs
-is_list all lists k kept pairs there read = record { list = there.list; there = there.there; read = subst (AreSamePairsRead all pairs) (sym there.same) read }
+pub is_list : (all : List (List ℕ)) (lists : PairLists) (k : ℕ) (kept : List (NumberedSymbol × NumberedSymbol)) (pairs : List (Symbol × Symbol)) → IsThere lists k kept → AreSamePairsRead all pairs kept → AreInOrder kept → IsList all lists k pairs
+is_list all lists k kept pairs there read order = record { list = there.list; there = there.there; read = subst (AreSamePairsRead all pairs) (sym there.same) read; order = subst AreInOrder (sym there.same) order }
 
 -- the rows of numbers of lists, where there may be more lists
 pairs_stay : (all : List (List ℕ)) (said : List Item) (old new : PairLists) (numbers : List (Option ℕ)) → KeepsLists old new → AreRows (TellsPairs all old) said numbers → AreRows (TellsPairs all new) said numbers

@@ -12,7 +12,7 @@ ghost use Rattle.mm_frame.specs.Language.Framing.{active_pairs, expression, mand
 ghost use Rattle.mm_frame.specs.Language.Base.{BaseView, AreHypotheses, IsOfFiles, before, said_at, fault_at, expression_at, frame_at};
 ghost use Rattle.mm_frame.specs.Language.Base.{is_proof_at, is_framed_at, is_shown_at, is_sound_at};
 ghost use Rattle.mm_frame.specs.Language.Names.{Begins};
-ghost use Rattle.mm_frame.specs.Language.NumberedSymbols.{symbols_of, kept_pairs, IsNumbered, IsPairNumbered, ArePairsRead};
+ghost use Rattle.mm_frame.specs.Language.NumberedSymbols.{symbols_of, kept_pairs, AreInOrder, IsNumbered, IsPairNumbered, ArePairsRead};
 ghost use Rattle.mm_frame.specs.Code.KeptSymbols.{expression_kept};
 ghost use Rattle.mm_frame.specs.Language.Answering.{IsBase, IsBaseBy, StandsLater, pairs_in_order};
 ghost use Rattle.mm_frame.specs.Code.KeptBase.{is_float_item, hypotheses_at, row_told, frame_told, number_kept};
@@ -292,6 +292,7 @@ impl Base {
             → IfSome result (λ pairs. AreSamePairs (kept_pairs names pairs.now) (active_pairs (before base i))) }
         ensures numbered { (names : List (List ℕ)) (base : BaseView) → IsBaseBy names base self.now
             → IfSome result (λ pairs. All (IsPairNumbered names) pairs.now) }
+        ensures order { (base : BaseView) → IsBase base self.now → IfSome result (λ pairs. AreInOrder pairs.now) }
     {
         match number_at(&self.parts.pair_numbers, i) {
             Some(k) => Some(self.parts.pair_lists.list(k)),

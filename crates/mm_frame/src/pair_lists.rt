@@ -1,6 +1,6 @@
 //! The lists of active pairs, which neighbours share.
 
-ghost use Rattle.std.specs.Prelude.{◌≡◌, ◌<◌, ◌≤◌, ◌+◌, ◌-◌, ◌++◌, ℕ, List, [], OnOk, IfOk, IsTrue, Contains, length, map, take};
+ghost use Rattle.std.specs.Prelude.{◌≡◌, ◌<◌, ◌≤◌, ◌+◌, ◌-◌, ◌++◌, ℕ, List, [], OnOk, IfOk, IsTrue, All, Contains, length, map, take};
 ghost use Rattle.std.specs.List.{flat_map};
 ghost use Rattle.mm_frame.specs.Language.Item as meant;
 ghost use Rattle.mm_frame.specs.Language.Sound.{AreSound};
@@ -9,7 +9,7 @@ ghost use Rattle.mm_frame.specs.Language.Framing.{active_pairs};
 ghost use Rattle.mm_frame.specs.Code.LastItems.{is_disjoint_item};
 ghost use Rattle.mm_frame.specs.Language.Scope.{active_numbers};
 ghost use Rattle.mm_frame.specs.Code.KeptSymbols.{AreSymbols, expression_kept};
-ghost use Rattle.mm_frame.specs.Language.NumberedSymbols.{AreSamePairsRead};
+ghost use Rattle.mm_frame.specs.Language.NumberedSymbols.{AreInOrder, AreSamePairsRead};
 ghost use Rattle.mm_frame.specs.Code.KeptPairLists.{AreFrontNumbers, HasSame, HasEach, pairs_among, with_low_first};
 
 use crate::expressions::Expressions;
@@ -96,11 +96,12 @@ fn pairs_at(
     Ok(pairs)
 }
 
-/// Sorts the pairs, and keeps each once.
+/// Sorts the pairs, each with the lower number of a name first, and keeps each once.
 fn in_order(
     mut pairs: Vec<(NumberedSymbol, NumberedSymbol)>,
 ) -> Result<Vec<(NumberedSymbol, NumberedSymbol)>, AllocError>
-    ensures { IfOk result (λ sorted. HasSame pairs.items sorted.items) }
+    ensures same { IfOk result (λ sorted. HasSame pairs.items sorted.items) }
+    ensures order { All (λ pair. pair.0.name ≤ pair.1.name) pairs.items → IfOk result (λ sorted. AreInOrder sorted.items) }
 {
     pairs.sort_by_key(|pair| (pair.0.name, pair.1.name))?;
     pairs.dedup();

@@ -1,48 +1,67 @@
 //! The active pairs at a statement, and which symbols they keep apart.
 
-ghost use Rattle.std.specs.Prelude.{◌≡◌, ◌↔◌, ◌<◌, IsTrue, MatchBool, Some, Contains, length, map, slice_get, slice_set};
+ghost use Rattle.std.specs.Prelude.{◌≡◌, ◌↔◌, ◌<◌, ℕ, true, IsTrue, MatchBool, Some, Contains, length, map, slice_get, slice_set};
 ghost use Rattle.mm_frame.specs.Language.Frame.{Symbol as Meaning, ArePair};
 ghost use Rattle.mm_proof.specs.Code.Citation.{meant_pairs};
-ghost use Rattle.mm_proof.specs.Code.Keys.{home as home_lem, home_at};
+ghost use Rattle.mm_frame.specs.Language.NumberedSymbols.{comes_before};
+ghost use Rattle.mm_proof.specs.Code.Keys.{AreInKeyOrder, home as home_lem, home_at, pair_keys};
 ghost use Rattle.mm_proof.specs.Code.PairClause.{IsPair, Apart, NotApart, EachApart, SomeNotApart, SomeShared, AreKeyPlaces};
 
 use crate::slots::home;
 use crate::symbol::Kept;
 use mm_frame::Symbol;
 
-/// The active pairs at a statement.
-///
-/// A pair is found quickly where the pairs are sorted by the lower and the higher key of their symbols. What is found is
-/// compared, so that no answer depends on it.
+/// The active pairs at a statement, in the order of the lower and the higher key of their symbols.
 #[derive(Drop)]
-pub struct Active<'a, S> {
+pub struct Active<'a, S: Kept> {
     pairs: &'a [(S, S)],
+    ghost order: { AreInKeyOrder S.key_of (meant_pairs S.means pairs.now) },
 }
 
 /// The keys of two symbols, the lower one first.
-fn keys<S: Kept>(x: &S, y: &S) -> (usize, usize) {
+fn keys<S: Kept>(x: &S, y: &S) -> (usize, usize)
+    ensures { result ≡ pair_keys S.key_of (S.means x.now, S.means y.now) }
+{
     let a = x.key();
     let b = y.key();
     if a <= b { (a, b) } else { (b, a) }
 }
 
+/// Whether the keys of one pair come before those of another.
+fn is_before(one: (usize, usize), other: (usize, usize)) -> bool
+    ensures { result ≡ comes_before one other }
+{
+    one.0 < other.0 || one.0 == other.0 && one.1 < other.1
+}
+
 impl<'a, S: Kept> Active<'a, S> {
     /// These pairs.
     pub fn new(pairs: &'a [(S, S)]) -> Active<'a, S>
+        requires { AreInKeyOrder S.key_of (meant_pairs S.means pairs.now) }
         ensures { result.pairs.now ≡ pairs.now }
     {
         Active { pairs }
     }
 
-    /// The place at which the pair of two symbols may stand.
-    fn guess(&self, x: &S, y: &S) -> usize {
-        let wanted = keys(x, y);
+    /// The keys of the pair at a place.
+    fn keys_at(&self, place: usize) -> (usize, usize)
+        requires { place < length self.now.pairs.now }
+        ensures { (p : Meaning × Meaning) → slice_get (meant_pairs S.means self.now.pairs.now) place ≡ Some p → result ≡ pair_keys S.key_of p }
+    {
+        let pair = &self.pairs[place];
+        keys(&pair.0, &pair.1)
+    }
+
+    /// A place before which the keys of all pairs come before these.
+    fn place_of(&self, wanted: (usize, usize)) -> usize
+        ensures { (k : ℕ) (p : Meaning × Meaning) → k < result → slice_get (meant_pairs S.means self.now.pairs.now) k ≡ Some p
+            → comes_before (pair_keys S.key_of p) wanted ≡ true }
+    {
         let mut low = 0;
         let mut high = self.pairs.len();
         while low < high {
             let middle = low + (high - low) / 2;
-            let pair = &self.pairs[middle];
-            if keys(&pair.0, &pair.1) < wanted {
+            if is_before(self.keys_at(middle), wanted) {
                 low = middle + 1;
             } else {
                 high = middle;
@@ -61,15 +80,15 @@ impl<'a, S: Kept> Active<'a, S> {
         pair.0.same(x) && pair.1.same(y) || pair.0.same(y) && pair.1.same(x)
     }
 
-    /// Whether two symbols are an active pair.
+    /// Whether two symbols are an active pair: only pairs with their keys are compared with them.
     pub fn has(&self, x: &S, y: &S) -> bool
         ensures { IsTrue result ↔ ArePair (meant_pairs S.means self.now.pairs.now) (S.means x.now) (S.means y.now) }
     {
-        let guess = self.guess(x, y);
-        if guess < self.pairs.len() && self.is_at(guess, x, y) {
-            return true;
-        }
-        for place in 0..self.pairs.len() {
+        let wanted = keys(x, y);
+        for place in self.place_of(wanted)..self.pairs.len() {
+            if is_before(wanted, self.keys_at(place)) {
+                return false;
+            }
             if self.is_at(place, x, y) {
                 return true;
             }

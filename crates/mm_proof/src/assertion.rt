@@ -5,6 +5,7 @@ ghost use Rattle.mm_frame.specs.Language.Base.{BaseView, is_shown_at, is_framed_
 ghost use Rattle.mm_frame.specs.Language.Answering.{IsBase};
 ghost use Rattle.mm_frame.specs.Language.Frame.{AreSameFrame, AreSamePairs};
 ghost use Rattle.mm_proof.specs.Code.Citation.{mandatory_of, frame_of, meant_pairs};
+ghost use Rattle.mm_proof.specs.Code.Keys.{AreInKeyOrder, key_by_number};
 ghost use Rattle.mm_frame.specs.Language.NumberedSymbols.{by_number};
 ghost use Rattle.mm_proof.specs.Code.NumberedBase.{ByNames, all_by_number, numbered_hypothesis, numbered_frame, numbered_setting};
 
@@ -40,8 +41,9 @@ pub fn expression(base: &Base, number: usize) -> &[NumberedSymbol]
 /// The active pairs at the sound theorem with this number.
 pub fn active(base: &Base, number: usize) -> &[(NumberedSymbol, NumberedSymbol)]
     requires { (view : BaseView) × IsBase view base.now × (is_proof_at view number ≡ true) }
-    ensures { ByNames base.now (λ names view. is_proof_at view number ≡ true
+    ensures same { ByNames base.now (λ names view. is_proof_at view number ≡ true
         → AreSamePairs (meant_pairs by_number result.now) (numbered_setting names view number).active) }
+    ensures order { AreInKeyOrder key_by_number (meant_pairs by_number result.now) }
 {
     base.pairs(number).unwrap()
 }

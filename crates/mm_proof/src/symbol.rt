@@ -1,8 +1,8 @@
 //! What the machine asks of symbols that it keeps in a list.
 
-ghost use Rattle.std.specs.Prelude.{◌≡◌, ◌<◌, ◌^◌, ◌++◌, ℕ, OnOk, map, slice_index};
+ghost use Rattle.std.specs.Prelude.{◌≡◌, ◌<◌, ◌^◌, ◌++◌, ℕ, OnOk, map};
 ghost use Rattle.mm_frame.specs.Language.Frame.{Symbol as Meaning};
-ghost use Rattle.mm_proof.specs.Code.Keys.{key_from, key_next};
+ghost use Rattle.mm_proof.specs.Code.Keys.{key_by_number, key_from, key_next};
 
 use mm_frame::{NamedSymbol, NumberedSymbol, Symbol};
 use std::alloc::{AllocError, Global};
@@ -50,7 +50,7 @@ impl Kept for NamedSymbol {
 }
 
 impl Kept for NumberedSymbol {
-    ghost key_of = { λ symbol. slice_index symbol.name 0 };
+    ghost key_of = { key_by_number };
 
     fn key(&self) -> usize {
         self.name

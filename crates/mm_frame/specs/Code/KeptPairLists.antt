@@ -9,7 +9,7 @@ use Rattle.mm_frame.specs.Language.Item.{Item}
 use Rattle.mm_frame.specs.Language.Framing.{active_pairs}
 use Rattle.mm_frame.specs.Language.Scope.{active_numbers}
 use Rattle.mm_frame.specs.Code.LastItems.{is_disjoint_item}
-use Rattle.mm_frame.specs.Language.NumberedSymbols.{AreSamePairsRead}
+use Rattle.mm_frame.specs.Language.NumberedSymbols.{AreSamePairsRead, AreInOrder}
 
 -- the pairs of a list: none where there is no list
 abbrev pub pairs_or_none : Option (Vec (NumberedSymbol × NumberedSymbol) Global) → List (NumberedSymbol × NumberedSymbol)
@@ -35,11 +35,12 @@ pub record IsThere (lists : PairLists) (k : ℕ) (kept : List (NumberedSymbol ×
   pub there : slice_get lists.lists.items k ≡ Some list
   pub same : list.items ≡ kept
 
--- there is a list with this number, and it is of these pairs
+-- there is a list with this number, it is of these pairs, and they are in order
 pub record IsList (all : List (List ℕ)) (lists : PairLists) (k : ℕ) (pairs : List (Symbol × Symbol)) : Type 0 where
   pub list : Vec (NumberedSymbol × NumberedSymbol) Global
   pub there : slice_get lists.lists.items k ≡ Some list
   pub read : AreSamePairsRead all pairs list.items
+  pub order : AreInOrder list.items
 
 -- the number of the list that is made for this count of items
 abbrev pub list_made : PairLists → ℕ → Option ℕ

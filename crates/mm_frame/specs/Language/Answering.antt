@@ -13,7 +13,7 @@ use Rattle.mm_frame.specs.Language.Statement.{kind_of}
 use Rattle.mm_frame.specs.Language.Scope.{Mark, mark_of}
 use Rattle.mm_frame.specs.Language.Sound.{sound_items}
 use Rattle.mm_frame.specs.Language.Framing.{expression, pairs_of, active_pairs, mandatory_numbers, frame}
-use Rattle.mm_frame.specs.Language.NumberedSymbols.{symbols_of, IsNumbered, ArePairsRead, AreSamePairsRead}
+use Rattle.mm_frame.specs.Language.NumberedSymbols.{symbols_of, IsNumbered, ArePairsRead, AreSamePairsRead, AreInOrder}
 use Rattle.mm_frame.specs.Language.Base.{BaseView, told_fault}
 
 -- what is told of the items, each by its number: the items themselves; their labels and faults; the symbols; the numbers of the hypotheses and
@@ -73,10 +73,11 @@ pub record IsFrameTold (all : List (List ℕ)) (before : List Item) (item : Item
 abbrev pub is_told_proof : List Item → Item → Bool
 is_told_proof before item = is_none (told_fault before item) && is_theorem item.kind
 
--- all pairs that are active at a sound `$p`, and at no other item
+-- all pairs that are active at a sound `$p`, in the order of the numbers of their names, and at no other item
 pub record AreActiveTold (names : List (List ℕ)) (before : List Item) (item : Item) (told : Option (List (NumberedSymbol × NumberedSymbol))) : Type 0 where
   pub some : is_some told ≡ is_told_proof before item
   pub pairs : IfSome told (λ pairs. AreSamePairsRead names (active_pairs before) pairs)
+  pub order : IfSome told AreInOrder
 
 -- what is told is right of these items, where names have the numbers of this list
 pub record IsBaseBy (names : List (List ℕ)) (base : BaseView) (answers : BaseAnswers) : Type 0 where

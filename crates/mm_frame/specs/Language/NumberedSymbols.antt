@@ -1,5 +1,5 @@
 -- Which symbols, expressions and pairs those are that are told by numbers of names, where the numbers are read by a list of all names.
-use Rattle.std.specs.Prelude.{◌≡◌, ℕ, ◌<◌, true, List, [], ◌∷◌, All, length, map}
+use Rattle.std.specs.Prelude.{◌≡◌, ℕ, ◌<◌, ◌≤◌, ◌==◌, ◌&&◌, ◌||◌, Bool, true, false, Some, List, [], ◌∷◌, All, length, map, nat_lt, slice_get}
 use Rattle.mm_frame.specs.declared.symbol.NamedSymbol.{NamedSymbol}
 use Rattle.mm_frame.specs.declared.symbol.NumberedSymbol.{NumberedSymbol}
 use Rattle.mm_frame.specs.Language.Frame.{Symbol, AreSamePairs}
@@ -55,3 +55,17 @@ pub record ArePairsRead (all : List (List ℕ)) (said : List (Symbol × Symbol))
 pub record AreSamePairsRead (all : List (List ℕ)) (said : List (Symbol × Symbol)) (kept : List (NumberedSymbol × NumberedSymbol)) : Type 0 where
   pub pairs : AreSamePairs (kept_pairs all kept) said
   pub numbered : All (IsPairNumbered all) kept
+
+-- the one pair of numbers comes before the other: by the first of the two, and by the second where the first are the same
+abbrev pub comes_before : ℕ × ℕ → ℕ × ℕ → Bool
+comes_before one other = nat_lt one.0 other.0 || ((one.0 == other.0) && nat_lt one.1 other.1)
+
+-- the numbers of the names of a pair
+abbrev pub name_numbers : NumberedSymbol × NumberedSymbol → ℕ × ℕ
+name_numbers kept = (kept.0.name, kept.1.name)
+
+-- each pair has the lower number of a name first, and none comes before one that stands before it
+pub record AreInOrder (kept : List (NumberedSymbol × NumberedSymbol)) : Type 0 where
+  pub low : All (λ p. p.0.name ≤ p.1.name) kept
+  pub rising : (i j : ℕ) (p q : NumberedSymbol × NumberedSymbol) → i ≤ j → slice_get kept i ≡ Some p → slice_get kept j ≡ Some q
+      → comes_before (name_numbers q) (name_numbers p) ≡ false

@@ -1,6 +1,7 @@
--- The numbers by which symbols are looked for, and where a table has them.
-use Rattle.std.specs.Prelude.{ℕ, ◌+◌, ◌*◌, ◌%◌, ◌==◌, ◌||◌, nat_lt, if◌then◌else◌, List, [], ◌∷◌}
+-- The numbers by which symbols are looked for, where a table has them, and pairs in the order of these numbers.
+use Rattle.std.specs.Prelude.{◌≡◌, ℕ, ◌+◌, ◌*◌, ◌%◌, ◌≤◌, ◌==◌, ◌||◌, nat_lt, leb, if◌then◌else◌, false, Some, List, [], ◌∷◌, slice_get, slice_index}
 use Rattle.mm_frame.specs.Language.Frame.{Symbol}
+use Rattle.mm_frame.specs.Language.NumberedSymbols.{comes_before}
 
 -- one byte more of a name
 abbrev pub key_next : ℕ → ℕ → ℕ
@@ -18,3 +19,20 @@ home key count = if nat_lt key count || (count == 0) then key else key % count
 -- where it has a symbol
 abbrev pub home_at : (Symbol → ℕ) → ℕ → Symbol → ℕ
 home_at key count symbol = home (key symbol) count
+
+-- the number of a symbol whose name is one number
+abbrev pub key_by_number : Symbol → ℕ
+key_by_number symbol = slice_index symbol.name 0
+
+-- two numbers, the lower one first
+abbrev pub lower_first : ℕ → ℕ → ℕ × ℕ
+lower_first a b = if leb a b then (a, b) else (b, a)
+
+-- the keys of the symbols of a pair, the lower one first
+abbrev pub pair_keys : (Symbol → ℕ) → Symbol × Symbol → ℕ × ℕ
+pair_keys key pair = lower_first (key pair.0) (key pair.1)
+
+-- none comes before one that stands before it
+abbrev pub AreInKeyOrder : (Symbol → ℕ) → List (Symbol × Symbol) → Type 0
+AreInKeyOrder key pairs = (i j : ℕ) (p q : Symbol × Symbol) → i ≤ j → slice_get pairs i ≡ Some p → slice_get pairs j ≡ Some q
+    → comes_before (pair_keys key q) (pair_keys key p) ≡ false

@@ -1,8 +1,17 @@
-use Rattle.std.proofs.Common.{sym, subst}
+use Rattle.std.proofs.Common.{◌≡◌, sym, subst, rules}
+use Rattle.std.proofs.lemmas.Fn.{always_returns_same}
+use Rattle.mm_frame.specs.Language.NumberedSymbols.{AreInOrder, name_numbers}
 use Rattle.mm_frame.specs.Code.KeptPairLists.{HasSame}
-use Rattle.mm_frame.proofs.PairListLemmas.{sorted_once}
+use Rattle.mm_frame.proofs.PairListLemmas.{sorted_once, is_same_pair}
+use Rattle.mm_frame.proofs.PairOrderLemmas.{sorted_in_order}
 use Rattle.mm_frame.proofs.pair_lists.in_order.Goals as goal
 
-pub returns : goal.returns
-returns c = subst (HasSame c.args.pairs.items) (sym c.shrink_to_fit.ensures.items)
+pub returns-clause-same : goal.returns-clause-same
+returns-clause-same c = subst (HasSame c.args.pairs.items) (sym c.shrink_to_fit.ensures.items)
     (sorted_once c.args.pairs.items c.sort_by_key.new.self.items c.dedup.new.self.items c.in_ok-sort_by_key.ensures.permutation c.dedup.ensures.filtered)
+
+pub returns-clause-order : goal.returns-clause-order
+returns-clause-order c low = subst AreInOrder (sym c.shrink_to_fit.ensures.items)
+    (sorted_in_order is_same_pair c.args.pairs.items c.sort_by_key.new.self.items c.dedup.new.self.items c.in_ok-sort_by_key.ensures.permutation
+    (c.in_ok-sort_by_key.ensures.sorted name_numbers (always_returns_same _ (λ a r. r ≡ name_numbers a.0.now) _ (λ a r q k. search rules)))
+    c.dedup.ensures.filtered low)

@@ -5,12 +5,13 @@ use Rattle.mm_frame.specs.Language.Base.{before}
 use Rattle.mm_frame.specs.Language.Frame.{Symbol, AreSamePairs}
 use Rattle.mm_frame.specs.Language.Framing.{active_pairs}
 use Rattle.mm_frame.specs.Language.Names.{AreDistinct}
-use Rattle.mm_frame.specs.Language.NumberedSymbols.{kept_pairs, IsPairNumbered}
+use Rattle.mm_frame.specs.Language.NumberedSymbols.{kept_pairs, AreInOrder, IsPairNumbered}
 use Rattle.mm_frame.specs.declared.symbol.NumberedSymbol.{NumberedSymbol}
 use Rattle.mm_proof.specs.Language.Renaming.{renamed_pairs}
 use Rattle.mm_proof.specs.Code.Citation.{meant_pairs}
 use Rattle.mm_proof.specs.Code.Numbering.{unnaming}
 use Rattle.mm_frame.specs.Language.NumberedSymbols.{by_number}
+use Rattle.mm_proof.proofs.KeyOrderLemmas.{numbered_in_order}
 use Rattle.mm_proof.proofs.RenamedFrames.{pairs_by_number}
 use Rattle.mm_proof.proofs.assertion.active.Goals as goal
 
@@ -27,7 +28,14 @@ answered names active found read distinct e same numbered =
 pub unwrap-requires : goal.unwrap-requires
 unwrap-requires c = c.pairs.ensures.some c.requires.0 c.requires.1 ∙ c.requires.2
 
-pub returns : goal.returns
-returns c names view is proof =
+pub returns-clause-same : goal.returns-clause-same
+returns-clause-same c names view is proof =
     answered names (active_pairs (before view c.args.number)) c.pairs.result c.unwrap.result is.distinct c.unwrap.ensures
     (c.pairs.ensures.pairs names view is) (c.pairs.ensures.numbered names view is)
+
+-- what is kept is in order
+in_order : (found : Option Kept) (read : Kept) → found ≡ Some read → IfSome found (λ pairs. AreInOrder pairs.now) → AreInOrder read.now
+in_order found read e order = subst (λ (o : Option Kept). IfSome o (λ pairs. AreInOrder pairs.now)) e order
+
+pub returns-clause-order : goal.returns-clause-order
+returns-clause-order c = numbered_in_order c.unwrap.result.now (in_order c.pairs.result c.unwrap.result c.unwrap.ensures (c.pairs.ensures.order c.requires.0 c.requires.1))

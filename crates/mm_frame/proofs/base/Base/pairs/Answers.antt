@@ -3,7 +3,7 @@ use Rattle.std.specs.Prelude.{All}
 use Rattle.mm_frame.specs.Language.Base.{before}
 use Rattle.mm_frame.specs.Language.Frame.{AreSamePairs}
 use Rattle.mm_frame.specs.Language.Framing.{active_pairs}
-use Rattle.mm_frame.specs.Language.NumberedSymbols.{kept_pairs, IsPairNumbered}
+use Rattle.mm_frame.specs.Language.NumberedSymbols.{kept_pairs, AreInOrder, IsPairNumbered}
 use Rattle.mm_frame.specs.Code.KeptBase.{number_kept}
 use Rattle.mm_frame.proofs.AnswerLemmas.{active_in}
 use Rattle.mm_frame.proofs.base.Base.pairs.Goals as goal
@@ -28,6 +28,13 @@ returns-in-Some-clause-numbered c names base is =
     let number = c.number_at.ensures ∙ ap (λ w. number_kept (slice_get w c.args.i)) c.deref.ensures.value in
     let told = active_in names base c.args.self.now c.self.inside.parts.pair_lists numbers (ap (λ a. a.actives) c.self.view_is) is c.args.i c.number_at.result (Some c.in-Some.k) number c.in-Some.is in
     subst (All (IsPairNumbered names)) (sym c.list.ensures) told.pairs.numbered
+
+pub returns-in-Some-clause-order : goal.returns-in-Some-clause-order
+returns-in-Some-clause-order c base is =
+    let numbers = c.self.inside.parts.pair_numbers.items in
+    let number = c.number_at.ensures ∙ ap (λ w. number_kept (slice_get w c.args.i)) c.deref.ensures.value in
+    let told = active_in is.0 base c.args.self.now c.self.inside.parts.pair_lists numbers (ap (λ a. a.actives) c.self.view_is) is.1 c.args.i c.number_at.result (Some c.in-Some.k) number c.in-Some.is in
+    subst AreInOrder (sym c.list.ensures) told.order
 
 pub returns-in-None-clause-some : goal.returns-in-None-clause-some
 returns-in-None-clause-some c base is =

@@ -24,7 +24,7 @@ returns-clause-pairs c all before h a e m =
     let listed = λ (w : List ℕ). AreSamePairsRead all added (flat_map (λ k. pairs_among (expression_kept c.args.expressions.now k)) w) in
     let read = subst listed (sym (take_rest disjoints n)) (active_read all before c.args.expressions.now own a (λ k q. subst (λ w. In k w) both (in_right k outer own q))) in
     let made = c.in_ok-k.ensures.pairs all (active_pairs (take c.count_to_last-front.result before)) added base read in
-    record { list = made.list; there = made.there; read = subst (λ w. AreSamePairsRead all w made.list.items) (front_and_own before outer own c.count_to_last-front.result h both front) made.read }
+    record { list = made.list; there = made.there; read = subst (λ w. AreSamePairsRead all w made.list.items) (front_and_own before outer own c.count_to_last-front.result h both front) made.read; order = made.order }
 
 pub returns-clause-made : goal.returns-clause-made
 returns-clause-made c all before h a e m =

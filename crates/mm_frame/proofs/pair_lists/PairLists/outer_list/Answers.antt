@@ -5,6 +5,8 @@ use Rattle.mm_frame.specs.declared.pair_lists.PairLists.{PairLists}
 use Rattle.mm_frame.specs.Code.KeptSymbols.{expression_kept}
 use Rattle.mm_frame.specs.Code.KeptPairLists.{KeepsLists, HasSame, pairs_among}
 use Rattle.mm_frame.proofs.PairListLemmas.{made_one_more, is_list, same_members, front_read}
+use Rattle.std.specs.Prelude.{All}
+use Rattle.mm_frame.proofs.PairOrderLemmas.{IsLowFirst, all_low}
 use Rattle.mm_frame.proofs.pair_lists.PairLists.outer_list.Goals as goal
 
 pub returns-clause-pairs : goal.returns-clause-pairs
@@ -14,9 +16,10 @@ returns-clause-pairs c all before h a front m =
     let listed = flat_map (λ n. pairs_among (expression_kept c.args.expressions.now n)) c.args.outer.now in
     let kept = c.in_ok-in_order.field-0.items in
     let pairs = active_pairs (take c.args.count before) in
-    let same = subst (λ w. HasSame w kept) c.in_ok-pairs.ensures c.in_ok-in_order.ensures in
+    let same = subst (λ w. HasSame w kept) c.in_ok-pairs.ensures c.in_ok-in_order.ensures.same in
+    let low = subst (All IsLowFirst) (sym c.in_ok-pairs.ensures) (all_low c.args.expressions.now c.args.outer.now) in
     is_list all new c.in_ok-k.k kept pairs (record { list = there.list; there = there.there; same = there.same })
-    (same_members all pairs listed kept same (front_read all before c.args.expressions.now c.args.outer.now c.args.count h a front))
+    (same_members all pairs listed kept same (front_read all before c.args.expressions.now c.args.outer.now c.args.count h a front)) (c.in_ok-in_order.ensures.order low)
 
 pub returns-clause-made : goal.returns-clause-made
 returns-clause-made c all before h a front m =
