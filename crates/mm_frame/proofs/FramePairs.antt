@@ -22,7 +22,7 @@ use Rattle.mm_frame.specs.Code.KeptSymbols.{expression_kept, AreExpressions, Are
 use Rattle.mm_frame.specs.Code.KeptPairTable.{row_at, ReadsPairs}
 use Rattle.mm_frame.specs.Code.PairOrder.{is_among, float_variable, float_variables}
 use Rattle.mm_frame.specs.Language.Answering.{are_paired, typed_variables, pairs_in_order}
-use Rattle.mm_frame.proofs.Members.{In, in_contains, contains_in, from_map, in_filter, from_filter, in_flat, from_flat}
+use Rattle.mm_frame.proofs.Members.{In, in_contains, contains_in, get_in, from_map, in_filter, from_filter, in_flat, from_flat}
 use Rattle.mm_frame.proofs.Facts.{and_both, float_two}
 use Rattle.mm_frame.proofs.Frames.{in_at, float_of, float_name, float_labelled, from_pairs, pairs_typed_at, assertion_expression}
 use Rattle.mm_frame.proofs.SoundItems.{split_at, filter_same, sound_kept}
@@ -164,6 +164,11 @@ no_second (x ∷ y ∷ symbols) l = absurd (omega arith)
 nothing : (b : Bool) → cond {A = List NumberedSymbol} b [] [] ≡ []
 nothing true = refl
 nothing false = refl
+
+-- nor has one of the active `$e`, wherever it stands among them
+pub no_variable : (essentials : List ℕ) (expressions : List (List NumberedSymbol)) (n place : ℕ) → slice_get essentials place ≡ Some n → float_variable essentials expressions n ≡ []
+no_variable essentials expressions n place e =
+    ap (λ b. cond b [] (option_to_list (slice_get (expression_kept expressions n) 1))) (in_among essentials n (get_in n essentials place e))
 
 pub nothing_second : (essentials : List ℕ) (expressions : List (List NumberedSymbol)) (n : ℕ) (symbols so_far : List NumberedSymbol) → symbols ≡ expression_kept expressions n → length symbols ≤ 1 → so_far ≡ so_far ++ float_variable essentials expressions n
 nothing_second essentials expressions n symbols so_far e l =

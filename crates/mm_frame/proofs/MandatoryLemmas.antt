@@ -1,5 +1,5 @@
 -- The numbers of the mandatory hypotheses, as the code collects them.
-use Rattle.std.proofs.Common.{◌≡◌, ℕ, Bool, true, false, cond, Option, Some, None, List, [], ◌++◌, flat_map, slice_get, refl, sym, ◌∙◌, ap, subst, eqb, inl, inr}
+use Rattle.std.proofs.Common.{Contains, ◌≡◌, ℕ, Bool, true, false, cond, Option, Some, None, List, [], ◌++◌, flat_map, slice_get, refl, sym, ◌∙◌, ap, subst, eqb, inl, inr}
 use Rattle.std.specs.Prelude.{All, option_to_list}
 use Rattle.std.specs.List.{dedup}
 use Rattle.std.specs.List.Sorted.{IsPermutation, IsSorted}
@@ -151,15 +151,18 @@ collected_to all before item tables expressions own b n (inr p) =
         (float_to all before tables (expression_kept expressions at.number) (symbol before name) n b.sound b.known (b.numbered at.number) (subst (In (symbol before name)) (sym same) (in_map (symbol before) name e.symbols q.3)) v last)
 
 -- sorted, and each once
-pub hypotheses_sorted : (tables : Tables) (expressions : List (List NumberedSymbol)) (essentials : List ℕ) (own : List NumberedSymbol) (numbers sorted kept : List ℕ) → numbers ≡ collected tables expressions essentials own → IsPermutation numbers sorted → IsSorted nat_cmp sorted
+pub hypotheses_sorted : (tables : Tables) (expressions : List (List NumberedSymbol)) (essentials : List ℕ) (own : List NumberedSymbol) (numbers once sorted kept : List ℕ) → numbers ≡ collected tables expressions essentials own → IsFiltered (DiffersFromLast eqb) [] numbers once → IsPermutation once sorted → IsSorted nat_cmp sorted
     → IsFiltered (DiffersFromLast eqb) [] sorted kept → (all : List (List ℕ)) (before : List Item) (item : Item) → IsAssertionBehind all before item tables expressions own → essentials ≡ active_numbers is_essential_item before → kept ≡ mandatory_numbers before item
-hypotheses_sorted tables expressions essentials own numbers sorted kept whole moved rising filtered all before item b e =
+hypotheses_sorted tables expressions essentials own numbers once sorted kept whole fewer moved rising filtered all before item b e =
+    let first = dedup_is eqb numbers once fewer in
     let same = dedup_is eqb sorted kept filtered in
     let is_whole = whole ∙ ap (λ ns. collected tables expressions ns own) e in
     let typed = sound_typed before b.sound item b.item_sound (assertion_expression item.kind b.assertion) in
     same ∙ mandatory_numbers_built before b.sound item typed (dedup eqb sorted) (AllPairs-from_increasing (dedup eqb sorted) (IsStrictlyIncreasing-dedup sorted rising)) (λ n. (
-      λ m. collected_from all before item tables expressions own b n (subst (In n) is_whole (contains_in n numbers (Contains-permutation sorted numbers n (IsPermutation-sym numbers sorted moved) (Contains-from_dedup eqb sorted n m)))),
-      λ f. Contains-dedup_nat sorted n (Contains-permutation numbers sorted n moved (in_contains n numbers (subst (In n) (sym is_whole) (collected_to all before item tables expressions own b n f)))),
+      λ m. collected_from all before item tables expressions own b n (subst (In n) is_whole (contains_in n numbers
+          (Contains-from_dedup eqb numbers n (subst (λ w. Contains w n) first (Contains-permutation sorted once n (IsPermutation-sym once sorted moved) (Contains-from_dedup eqb sorted n m)))))),
+      λ f. Contains-dedup_nat sorted n (Contains-permutation once sorted n moved
+          (subst (λ w. Contains w n) (sym first) (Contains-dedup_nat numbers n (in_contains n numbers (subst (In n) (sym is_whole) (collected_to all before item tables expressions own b n f)))))),
     ))
 
 -- a `$f` is no `$e`

@@ -1,6 +1,6 @@
 //! The mandatory hypotheses and pairs of an assertion.
 
-ghost use Rattle.std.specs.Prelude.{◌≡◌, ◌++◌, ◌∷◌, ℕ, List, [], All, OnOk, IfOk, map, filter};
+ghost use Rattle.std.specs.Prelude.{◌≡◌, ◌++◌, ◌∷◌, ◌<◌, ℕ, List, [], All, IsTrue, OnOk, IfOk, Some, length, map, filter, slice_get};
 ghost use Rattle.std.specs.List.{flat_map};
 ghost use Rattle.mm_frame.specs.Language.Frame.{Symbol as Meaning};
 ghost use Rattle.mm_frame.specs.Language.Item as meant;
@@ -108,7 +108,9 @@ pub fn hypotheses(
     numbers.extend_from_slice(essentials)?;
     add_floats(earlier.tables, own, &mut numbers)?;
     add_all_floats(earlier.tables, expressions, essentials, &mut numbers)?;
-    numbers.sort_unstable();
+    // The active `$e` rise, and the same `$f` is often that of many symbols: what is in order is not sorted again.
+    numbers.dedup();
+    numbers.sort()?;
     numbers.dedup();
     numbers.shrink_to_fit();
     Ok(numbers)
@@ -121,16 +123,30 @@ pub fn is_among(numbers: &[usize], number: usize) -> bool
     numbers.binary_search(&number).is_ok()
 }
 
-/// Adds the variable of a mandatory hypothesis that is a `$f`: its number is none of those of the active `$e`.
+/// Whether a number stands at a place.
+fn stands_at(numbers: &[usize], place: usize, number: usize) -> bool
+    ensures at { IsTrue result → slice_get numbers.now place ≡ Some number }
+    ensures within { IsTrue result → place < length numbers.now }
+{
+    place < numbers.len() && numbers[place] == number
+}
+
+/// Adds the variable of a mandatory hypothesis that is a `$f`: its number is none of those of the active `$e`. These rise
+/// as the hypotheses do, and each is one of them; so only where the number is not that of the next `$e` is it looked for.
 fn add_variable(
     essentials: &[usize],
     expressions: &Expressions,
     number: usize,
+    next: &mut usize,
     variables: &mut Vec<NumberedSymbol>,
 ) -> Result<(), AllocError>
     ensures { OnOk result (IsRising essentials.now
         → variables.new.items ≡ variables.old.items ++ float_variable essentials.now expressions.now number) }
 {
+    if stands_at(essentials, *next, number) {
+        *next += 1;
+        return Ok(());
+    }
     if is_among(essentials, number) {
         return Ok(());
     }
@@ -149,9 +165,11 @@ fn variables_typed(
 ) -> Result<Vec<NumberedSymbol>, AllocError>
     ensures { IfOk result (λ variables. IsRising essentials.now → variables.items ≡ float_variables essentials.now expressions.now hypotheses.now) }
 {
-    let mut variables = Vec::with_capacity(alloc, hypotheses.len())?;
+    let floats = hypotheses.len().saturating_sub(essentials.len());
+    let mut variables = Vec::with_capacity(alloc, floats)?;
+    let mut next = 0;
     for number in hypotheses {
-        add_variable(essentials, expressions, *number, &mut variables)?;
+        add_variable(essentials, expressions, *number, &mut next, &mut variables)?;
     }
     Ok(variables)
 }

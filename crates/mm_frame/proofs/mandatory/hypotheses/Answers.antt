@@ -11,5 +11,5 @@ returns c all before item known framed =
     let own = c.args.own.now in
     let found = flat_map (λ n. float_numbers tables (expression_kept expressions n)) essentials in
     let numbers = c.in_ok-add_all_floats.ensures ∙ ap (λ w. w ++ found) (c.in_ok-add_floats.ensures ∙ ap (λ w. w ++ float_numbers tables own) (c.in_ok-extend_from_slice.ensures.items ∙ ap (λ w. w ++ essentials) c.in_ok-numbers.ensures.items)) in
-    c.shrink_to_fit.ensures.items ∙ hypotheses_sorted tables expressions essentials own c.add_all_floats.new.numbers.items c.sort_unstable.new.self.items c.dedup.new.self.items numbers c.sort_unstable.ensures.permutation c.sort_unstable.ensures.sorted c.dedup.ensures.filtered
+    c.shrink_to_fit.ensures.items ∙ hypotheses_sorted tables expressions essentials own c.add_all_floats.new.numbers.items c.dedup.new.self.items c.sort.new.self.items c.dedup-2.new.self.items numbers c.dedup.ensures.filtered c.in_ok-sort.ensures.permutation c.in_ok-sort.ensures.sorted c.dedup-2.ensures.filtered
     all before item (record { sound = known.sound; known = known.known; expressions = known.expressions; numbered = known.numbered; item_sound = framed.sound; assertion = framed.assertion; symbols = framed.symbols }) known.essentials
