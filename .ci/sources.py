@@ -10,7 +10,7 @@ CRATES = pathlib.Path(__file__).resolve().parent.parent / "crates"
 TEXT = re.compile(r'b?r(#*)".*?"\1|b?"(?:\\.|[^"\\])*"', re.S)
 CHARACTER = re.compile(r"b?'(?:\\(?:x[0-9a-fA-F]{2}|u\{[0-9a-fA-F]+\}|.)|[^\\'\n])'")
 WORD = re.compile(r"[A-Za-z_]\w*")
-TOKEN = re.compile(r"'[A-Za-z_]\w*|[A-Za-z_]\w*|\d[\w.]*?(?=\.\.|[^\w.]|$)|::|=>|->|<<|>>|==|!=|<=|>=|&&|\|\||\.\.=?|\S")
+TOKEN = re.compile(r"'[A-Za-z_]\w*|[A-Za-z_]\w*|\d[\w.]*?(?=\.\.|[^\w.]|$)|::|=>|->|<<|>>|==|!=|<=|>=|[-+*/%]=(?!=|>)|&&|\|\||\.\.=?|\S")
 PAIRS = {"(": ")", "[": "]", "{": "}"}
 
 
