@@ -118,7 +118,9 @@ def header_end(tokens, at):
 
 
 def owner_of(header):
-    """The type that an `impl` or a `trait` is of."""
+    """The type that an `impl` is of, or the name of a trait."""
+    if header[0] == "trait":
+        return str(header[1])
     depth, plain = 0, []
     for token in header[1:]:
         depth += {"<": 1, ">": -1, ">>": -2}.get(token, 0)
