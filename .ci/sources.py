@@ -20,8 +20,8 @@ class Token(str):
     line = 0
 
 
-def behind_braces(text, at):
-    """The place behind the braces that begin at or after a place."""
+def after_braces(text, at):
+    """The place after the braces that begin at or after a place."""
     at = text.find("{", at)
     depth = 0
     while 0 <= at < len(text):
@@ -32,8 +32,8 @@ def behind_braces(text, at):
     return len(text)
 
 
-def behind_ghost(text, at):
-    """The place behind the `;` that ends what is for the prover."""
+def after_ghost(text, at):
+    """The place after the `;` that ends what is for the prover."""
     depth = 0
     while at < len(text):
         depth += {"{": 1, "}": -1}.get(text[at], 0)
@@ -44,7 +44,7 @@ def behind_ghost(text, at):
 
 
 def end_of_hidden(text, at):
-    """The place behind what is no code and begins at a place, or nothing where code stands there."""
+    """The place after what is no code and begins at a place, or nothing where code stands there."""
     if text.startswith("//", at):
         return text.find("\n", at) if "\n" in text[at:] else len(text)
     if text.startswith("/*", at):
@@ -66,9 +66,9 @@ def code_of(text):
             continue
         word = WORD.match(text, at)
         if word and word[0] in ("ensures", "requires"):
-            end = behind_braces(text, at)
+            end = after_braces(text, at)
         elif word and word[0] == "ghost":
-            end = behind_ghost(text, at)
+            end = after_ghost(text, at)
         else:
             end = word.end() if word else at + 1
             parts.append(text[at:end])
@@ -166,7 +166,7 @@ def test_files(crate):
     for root in ("lib.rt", "main.rt"):
         path = crate / "src" / root
         if path.exists():
-            named |= set(re.findall(r"^#\[cfg\(test\)\]\nmod (\w+);", path.read_text(), re.M))
+            named |= set(re.findall(r"^#\[cfg\(test\)\]\s*(?:pub )?mod (\w+);", path.read_text(), re.M))
     return {crate / "src" / f"{name}.rt" for name in named}
 
 
