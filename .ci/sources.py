@@ -11,7 +11,6 @@ TEXT = re.compile(r'b?r(#*)".*?"\1|b?"(?:\\.|[^"\\])*"', re.S)
 CHARACTER = re.compile(r"b?'(?:\\(?:x[0-9a-fA-F]{2}|u\{[0-9a-fA-F]+\}|.)|[^\\'\n])'")
 WORD = re.compile(r"[A-Za-z_]\w*")
 TOKEN = re.compile(r"'[A-Za-z_]\w*|[A-Za-z_]\w*|\d[\w.]*?(?=\.\.|[^\w.]|$)|::|=>|->|<<|>>|==|!=|<=|>=|[-+*/%]=(?!=|>)|&&|\|\||\.\.=?|\S")
-PAIRS = {"(": ")", "[": "]", "{": "}"}
 
 
 class Token(str):
