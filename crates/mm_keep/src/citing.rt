@@ -139,14 +139,14 @@ impl Session {
     /// its proof name. A `$a` cites none, and neither does a `$p` whose proof cannot be decoded.
     ///
     /// That there is no such assertion is told before memory is taken.
-    pub fn cites(&self, alloc: Global, label: &[u8]) -> Result<Vec<usize>, KeepError>
+    pub fn cites(&self, label: &[u8]) -> Result<Vec<usize>, KeepError>
         ensures ok { IfOk result (λ numbers. AreCitesOf self.now label.now numbers.items) }
         ensures none { IsErrOf result NoAssertion ↔ ¬ HasAssertion self.now label.now }
     {
         files_have_one_base();
         mm_store::items_stand();
         match self.assertion(label) {
-            Some(citing) => Ok(cites_of(alloc, &self.files, &self.base, &self.checked, citing)?),
+            Some(citing) => Ok(cites_of(self.allocator(), &self.files, &self.base, &self.checked, citing)?),
             None => Err(KeepError::NoAssertion),
         }
     }
@@ -154,7 +154,7 @@ impl Session {
     /// The numbers, rising, of the sound `$p` that cite the sound `$a` or `$p` with this label.
     ///
     /// That there is no such assertion is told before memory is taken.
-    pub fn users(&self, alloc: Global, label: &[u8]) -> Result<Vec<usize>, KeepError>
+    pub fn users(&self, label: &[u8]) -> Result<Vec<usize>, KeepError>
         ensures ok { IfOk result (λ numbers. AreUsersOf self.now label.now numbers.items) }
         ensures none { IsErrOf result NoAssertion ↔ ¬ HasAssertion self.now label.now }
     {
@@ -162,7 +162,7 @@ impl Session {
         mm_store::items_stand();
         match self.assertion(label) {
             Some(cited) => Ok(users_of(
-                alloc,
+                self.allocator(),
                 &self.files,
                 &self.base,
                 &self.checked,
@@ -177,14 +177,14 @@ impl Session {
     /// citations lead from it. Those of a `$a` are itself alone.
     ///
     /// That there is no such assertion is told before memory is taken.
-    pub fn axioms(&self, alloc: Global, label: &[u8]) -> Result<Vec<usize>, KeepError>
+    pub fn axioms(&self, label: &[u8]) -> Result<Vec<usize>, KeepError>
         ensures ok { IfOk result (λ numbers. AreAxiomsOf self.now label.now numbers.items) }
         ensures none { IsErrOf result NoAssertion ↔ ¬ HasAssertion self.now label.now }
     {
         files_have_one_base();
         mm_store::items_stand();
         match self.assertion(label) {
-            Some(first) => Ok(axioms_of(alloc, &self.files, &self.base, &self.checked, first)?),
+            Some(first) => Ok(axioms_of(self.allocator(), &self.files, &self.base, &self.checked, first)?),
             None => Err(KeepError::NoAssertion),
         }
     }

@@ -159,7 +159,7 @@ fn change(
     ensures unchanged { OnErr result (files.new ≡ files.old) }
 {
     mm_store::edits_keep_files();
-    match files.edit_all(alloc, edits) {
+    match files.edit_all(edits) {
         Ok(undos) => match go_on(alloc, files, names, top, base, checked, undos) {
             Ok(work) => Ok(work),
             Err(error) => Err(BatchError::from(error)),
@@ -208,7 +208,7 @@ impl Session {
     ///
     /// It takes time near linear in the items of the files and in what it runs; the old base and the new one are kept
     /// beside each other until it is done.
-    pub fn edit(&mut self, alloc: Global, edit: &Edit<'_>) -> Result<Work, EditError>
+    pub fn edit(&mut self, edit: &Edit<'_>) -> Result<Work, EditError>
         ensures files { OnOk result (IsEditOf (asked edit.now) (plain self.old.files) (plain self.new.files)) }
         ensures runs { IfOk result (IsChanged self.old self.new) }
         ensures no_file { IsErrOf result NoFile ↔ (file_number (plain self.old.files) (edited_name (asked edit.now)) ≡ None) }
@@ -216,7 +216,7 @@ impl Session {
         ensures refused { IfErr result (IsRefusal (asked edit.now) (plain self.old.files)) }
         ensures unchanged { OnErr result (self.new ≡ self.old) }
     {
-        match self.change_all(alloc, slice::from_ref(edit)) {
+        match self.change_all(slice::from_ref(edit)) {
             Ok(work) => Ok(work),
             Err(error) => Err(reason(error)),
         }
@@ -228,24 +228,29 @@ impl Session {
     ///
     /// Where an edit is refused, the error has its number, from 0, and the reason, which is never want of memory. After any
     /// error the session is as before. No edits are accepted, and run nothing.
-    pub fn edit_all(&mut self, alloc: Global, edits: &[Edit<'_>]) -> Result<Work, BatchError>
+    pub fn edit_all(&mut self, edits: &[Edit<'_>]) -> Result<Work, BatchError>
         ensures files { OnOk result (IsBatchOf (map asked edits.now) (plain self.old.files) (plain self.new.files)) }
         ensures runs { IfOk result (IsChanged self.old self.new) }
         ensures refused { IfErr result (IsBatchRefusal (map asked edits.now) (plain self.old.files)) }
         ensures unchanged { OnErr result (self.new ≡ self.old) }
     {
-        self.change_all(alloc, edits)
+        self.change_all(edits)
+    }
+
+    /// The allocator that all lists are made on.
+    pub(crate) fn allocator(&self) -> Global {
+        *self.top.allocator()
     }
 
     /// Does edits. Want of memory comes once the file and the members of the first are known, or where there are no edits.
-    fn change_all(&mut self, alloc: Global, edits: &[Edit<'_>]) -> Result<Work, BatchError>
+    fn change_all(&mut self, edits: &[Edit<'_>]) -> Result<Work, BatchError>
         ensures files { OnOk result (IsBatchOf (map asked edits.now) (plain self.old.files) (plain self.new.files)) }
         ensures runs { IfOk result (IsChanged self.old self.new) }
         ensures refused { IfErr result (IsChangeError (map asked edits.now) (plain self.old.files)) }
         ensures unchanged { OnErr result (self.new ≡ self.old) }
     {
         change(
-            alloc,
+            self.allocator(),
             &mut self.files,
             &mut self.names,
             &self.top,

@@ -7,5 +7,6 @@ pub mod Walking
 pub mod Keyless
 pub mod Edits
 pub mod Undoing
+pub mod EditedKeys
 pub mod Answers
 pub mod Batches
