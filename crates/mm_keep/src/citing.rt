@@ -1,8 +1,8 @@
 //! What a session answers of citations: what an assertion cites, what cites it, and its axioms.
 
 ghost use Rattle.std.specs.Prelude.{◌≡◌, ◌<◌, ◌≤◌, ◌↔◌, ℕ, IfOk, IsErrOf, IsTrue, length};
-ghost use Rattle.mm_frame.specs.Language.Base.{BaseView};
-ghost use Rattle.mm_frame.specs.Language.Answering.{IsBase};
+ghost use Rattle.mm_proof.specs.mm_frame.Language.Base.{BaseView};
+ghost use Rattle.mm_proof.specs.mm_frame.Language.Answering.{IsBase};
 ghost use Rattle.mm_keep.specs.declared.answers.KeepError.TheVariants.{NoAssertion};
 ghost use Rattle.mm_keep.specs.Language.Citations.{CitesItem, IsAxiomOf};
 ghost use Rattle.mm_keep.specs.Language.Runs.{AreThose};
@@ -13,8 +13,7 @@ ghost use Rattle.mm_keep.specs.Code.Cited.{HasChecks, IsMarked, MarksBehind, OfC
 use crate::answers::KeepError;
 use crate::cited::{cites_label, mark_cites};
 use crate::session::Session;
-use mm_frame::{Base, Files, ItemKind, files_have_one_base};
-use mm_proof::Checked;
+use mm_proof::{Base, Checked, Files, ItemKind, files_have_one_base};
 use std::alloc::{AllocError, Global};
 
 /// The numbers that are marked, rising.
@@ -144,9 +143,15 @@ impl Session {
         ensures none { IsErrOf result NoAssertion ↔ ¬ HasAssertion self.now label.now }
     {
         files_have_one_base();
-        mm_store::items_stand();
+        mm_proof::items_stand();
         match self.assertion(label) {
-            Some(citing) => Ok(cites_of(self.allocator(), &self.files, &self.base, &self.checked, citing)?),
+            Some(citing) => Ok(cites_of(
+                self.allocator(),
+                &self.files,
+                &self.base,
+                &self.checked,
+                citing,
+            )?),
             None => Err(KeepError::NoAssertion),
         }
     }
@@ -159,7 +164,7 @@ impl Session {
         ensures none { IsErrOf result NoAssertion ↔ ¬ HasAssertion self.now label.now }
     {
         files_have_one_base();
-        mm_store::items_stand();
+        mm_proof::items_stand();
         match self.assertion(label) {
             Some(cited) => Ok(users_of(
                 self.allocator(),
@@ -182,9 +187,15 @@ impl Session {
         ensures none { IsErrOf result NoAssertion ↔ ¬ HasAssertion self.now label.now }
     {
         files_have_one_base();
-        mm_store::items_stand();
+        mm_proof::items_stand();
         match self.assertion(label) {
-            Some(first) => Ok(axioms_of(self.allocator(), &self.files, &self.base, &self.checked, first)?),
+            Some(first) => Ok(axioms_of(
+                self.allocator(),
+                &self.files,
+                &self.base,
+                &self.checked,
+                first,
+            )?),
             None => Err(KeepError::NoAssertion),
         }
     }

@@ -6,14 +6,14 @@ ghost use Rattle.mm_keep.specs.Language.Laws.{AxiomsHaveThemselves, ChainsLeadBa
 pub fn one_list_of_runs()
     ensures { OneListOfRuns }
 {
-    mm_frame::files_have_one_base();
+    mm_proof::files_have_one_base();
 }
 
 /// Of each item of files something is told rightly: so what is promised of findings and tallies can be met, of all files.
 pub fn items_have_findings()
     ensures { ItemsHaveFindings }
 {
-    mm_store::items_stand();
+    mm_proof::items_stand();
     mm_proof::has_verdict_at();
     mm_proof::spots_are_in();
 }
@@ -23,8 +23,8 @@ pub fn items_have_findings()
 pub fn one_list_each()
     ensures { OneListEach }
 {
-    mm_frame::files_have_one_base();
-    mm_frame::has_own_labels();
+    mm_proof::files_have_one_base();
+    mm_proof::has_own_labels();
 }
 
 /// The only axiom of a sound `$a` is itself.

@@ -19,11 +19,10 @@ pub use finding::{At, Finding};
 pub use laws::{
     axioms_have_themselves, chains_lead_back, items_have_findings, one_list_each, one_list_of_runs,
 };
-pub use mm_frame::{
-    BatchError, Edit, EditError, Files, FrameNumber, Place, StoreError, TextFault, TextNumber,
-    nth_word, place,
+pub use mm_proof::{
+    BatchError, Edit, EditError, Files, FrameNumber, Place, ProofNumber, StoreError, TextFault,
+    TextNumber, Work, nth_word, place,
 };
-pub use mm_proof::{ProofNumber, Work};
 pub use session::Session;
 pub use tally::Tally;
 pub use unbegun::Unbegun;

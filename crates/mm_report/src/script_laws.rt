@@ -35,12 +35,12 @@ pub fn commands_leave_nothing()
 pub fn one_script_answer()
     ensures { OneScriptAnswer }
 {
-    mm_text::one_meaning();
-    mm_store::items_stand();
-    mm_store::one_edit();
-    mm_frame::files_have_one_base();
-    mm_frame::has_own_labels();
-    mm_proof::has_one_verdict_at();
+    mm_keep::one_meaning();
+    mm_keep::items_stand();
+    mm_keep::one_edit();
+    mm_keep::files_have_one_base();
+    mm_keep::has_own_labels();
+    mm_keep::has_one_verdict_at();
     mm_keep::one_list_of_runs();
     mm_keep::one_list_each();
 }
@@ -49,12 +49,12 @@ pub fn one_script_answer()
 pub fn answers_begin()
     ensures { AnswersBegin }
 {
-    mm_text::one_meaning();
-    mm_store::items_stand();
-    mm_store::one_edit();
-    mm_frame::files_have_one_base();
-    mm_frame::has_own_labels();
-    mm_proof::has_one_verdict_at();
+    mm_keep::one_meaning();
+    mm_keep::items_stand();
+    mm_keep::one_edit();
+    mm_keep::files_have_one_base();
+    mm_keep::has_own_labels();
+    mm_keep::has_one_verdict_at();
     mm_keep::one_list_of_runs();
     mm_keep::one_list_each();
 }

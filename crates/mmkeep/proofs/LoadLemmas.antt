@@ -9,15 +9,15 @@ use Rattle.std.proofs.lemmas.Bool.{lt-ltb}
 use Rattle.std.proofs.lemmas.List.{length-map, nil_from_length}
 use Rattle.std.proofs.lemmas.Option.{none-some}
 use Rattle.std.proofs.lemmas.Slice.Eq.{bytes_eq-Decides}
-use Rattle.mm_store.specs.declared.error.StoreError.{StoreError}
-use Rattle.mm_store.specs.declared.error.StoreError.TheVariants.{Memory, NoTop}
-use Rattle.mm_store.specs.Language.Answers.{IsExpansionError}
-use Rattle.mm_store.specs.declared.item.Item.{Item}
-use Rattle.mm_store.specs.Language.FileFacts.{IsAdded, parked_in}
-use Rattle.mm_store.specs.Language.FilesView.{File, FilesView, file_number, file_view, files_in, no_files, number_of, plain, plain_file}
-use Rattle.mm_store.specs.Language.Keyless.{bare, bare_file}
-use Rattle.mm_store.specs.Language.Pieces.{HeldPiece, parked_state}
-use Rattle.mm_store.specs.Language.Walking.{WalkView, IsWalk, FindsMissing}
+use Rattle.mm_report.specs.mm_store.declared.error.StoreError.{StoreError}
+use Rattle.mm_report.specs.mm_store.declared.error.StoreError.TheVariants.{Memory, NoTop}
+use Rattle.mm_report.specs.mm_store.Language.Answers.{IsExpansionError}
+use Rattle.mm_report.specs.mm_store.declared.item.Item.{Item}
+use Rattle.mm_report.specs.mm_store.Language.FileFacts.{IsAdded, parked_in}
+use Rattle.mm_report.specs.mm_store.Language.FilesView.{File, FilesView, file_number, file_view, files_in, no_files, number_of, plain, plain_file}
+use Rattle.mm_report.specs.mm_store.Language.Keyless.{bare, bare_file}
+use Rattle.mm_report.specs.mm_store.Language.Pieces.{HeldPiece, parked_state}
+use Rattle.mm_report.specs.mm_store.Language.Walking.{WalkView, IsWalk, FindsMissing}
 use Rattle.mmkeep.specs.Code.Loaded.{HasFile, HasWalked, IsNew, MayHaveAdded}
 
 pub nothing_parked : parked_in no_files ≡ 0

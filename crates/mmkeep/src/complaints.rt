@@ -1,11 +1,10 @@
 //! What keeps the program from its work, told by a line on standard error.
 
 ghost use Rattle.std.specs.Prelude.{◌≡◌, ◌≤◌, length};
-ghost use Rattle.mm_store.specs.declared.error.StoreError.TheVariants.{Memory};
+ghost use Rattle.mm_report.specs.mm_store.declared.error.StoreError.TheVariants.{Memory};
 
 use crate::outcome::{Outcome, outcome_of_stop};
-use mm_keep::{Place, StoreError, TextFault, place};
-use mm_report::ScriptError;
+use mm_report::{Place, ScriptError, StoreError, TextFault, place};
 
 /// The words of the command line are no command.
 pub(crate) fn refuse_arguments(rt: &impl Eprint) -> Outcome {

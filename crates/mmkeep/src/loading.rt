@@ -1,16 +1,14 @@
 //! The files of a database, from the system.
 
 ghost use Rattle.std.specs.Prelude.{◌≡◌, IfOk, IfSome, OnOk};
-ghost use Rattle.mm_store.specs.Language.Answers.{IsAddErrorIn};
-ghost use Rattle.mm_store.specs.Language.FileFacts.{parked_in};
+ghost use Rattle.mm_report.specs.mm_store.Language.Answers.{IsAddErrorIn};
+ghost use Rattle.mm_report.specs.mm_store.Language.FileFacts.{parked_in};
 ghost use Rattle.mm_report.specs.Language.Stream.{unread};
 ghost use Rattle.mmkeep.specs.Code.Loaded.{HasAdded, HasFile, HasWalked, IsNew, IsNewError, KeepsFiles, MayHaveAdded};
 
 use crate::complaints::{lack, lack_memory, refuse_text, too_many, unreadable};
 use crate::outcome::Outcome;
-use mm_keep::{Files as Database, StoreError};
-use mm_report::{ReadFailed, Reading};
-use mm_store::{Walk, walks_go_on};
+use mm_report::{Files as Database, ReadFailed, Reading, StoreError, Walk, walks_go_on};
 use std::alloc::{AllocError, Global};
 use std::fs::File;
 use std::io::{ErrorKind, Read};
@@ -77,7 +75,7 @@ fn add_all(
     ensures top { OnOk result (HasFile files.new top.now) }
 {
     add_top(rt, files, top)?;
-    match files.walk(rt.alloc(), top.as_bytes()) {
+    match files.walk(top.as_bytes()) {
         Ok(mut walk) => add_missing(rt, files, &mut walk),
         Err(error) => Err(lack(rt, error)),
     }
@@ -113,7 +111,7 @@ fn add_missing(
     walks_go_on();
     // The texts have fewer inclusions than bytes.
     for _ in 0..u32::MAX {
-        match walk.next_missing(rt.alloc(), files) {
+        match walk.next_missing(files) {
             Ok(Some(name)) => add_included(rt, files, &name)?,
             Ok(None) => return Ok(()),
             Err(_) => return Err(lack_memory(rt)),
@@ -185,7 +183,7 @@ fn add_text(
     ensures kept { OnOk result (KeepsFiles files.old files.new) }
     ensures added { OnOk result (HasAdded files.old files.new path.now) }
 {
-    match files.add(rt.alloc(), path.as_bytes(), text) {
+    match files.add(path.as_bytes(), text) {
         Ok(()) => Ok(()),
         Err(error) => Err(not_added(rt, path, text, error)),
     }

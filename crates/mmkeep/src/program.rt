@@ -1,9 +1,9 @@
 //! The program: the words of the command line, and what each command does.
 
 ghost use Rattle.std.specs.Prelude.{◌≡◌, ◌↔◌, ℕ, List, [], IsTrue, length};
-ghost use Rattle.mm_frame.specs.Language.Item.{Item};
-ghost use Rattle.mm_keep.specs.Language.Findings.{counted};
-ghost use Rattle.mm_keep.specs.Language.Told.{Told, counts};
+ghost use Rattle.mm_report.specs.mm_frame.Language.Item.{Item};
+ghost use Rattle.mm_report.specs.mm_keep.Language.Findings.{counted};
+ghost use Rattle.mm_report.specs.mm_keep.Language.Told.{Told, counts};
 ghost use Rattle.mm_report.specs.Language.Report.{lines};
 
 use crate::arguments::Command;
@@ -11,8 +11,9 @@ use crate::asking::command;
 use crate::complaints::{lack, lack_memory, refuse_arguments, stop};
 use crate::loading::load;
 use crate::outcome::Outcome;
-use mm_keep::{Session, Tally};
-use mm_report::{Reading, ScriptError, Writing, run_script, write_axioms, write_report};
+use mm_report::{
+    Reading, ScriptError, Session, Tally, Writing, run_script, write_axioms, write_report,
+};
 use std::alloc::{AllocError, Global};
 use std::io::{BufWriter, ErrorKind, Input, Write};
 use std::rt::{Env, Files};
@@ -106,7 +107,7 @@ fn listed(rt: &(impl Print + Eprint + AllocGlobal), session: &Session, label: &s
         return lack_memory(rt);
     };
     let mut writing = Writing::new(out);
-    let known = write_axioms(rt.alloc(), session, label.as_bytes(), &mut writing);
+    let known = write_axioms(session, label.as_bytes(), &mut writing);
     let out = is_out(writing);
     match known {
         Err(error) => stop(rt, error),

@@ -1,7 +1,7 @@
 -- What is proved of sessions: each is the contract of a function.
 use Rattle.std.specs.Prelude.{◌≡◌, ◌↔◌, ◌<◌, ◌≤◌, ℕ, List, length}
-use Rattle.mm_store.specs.Language.FilesView.{FilesView, plain}
-use Rattle.mm_frame.specs.Language.Base.{BaseView, IsOfFiles}
+use Rattle.mm_proof.specs.mm_store.Language.FilesView.{FilesView, plain}
+use Rattle.mm_proof.specs.mm_frame.Language.Base.{BaseView, IsOfFiles}
 use Rattle.mm_keep.specs.Language.Citations.{IsAxiomOf, LeadsTo}
 use Rattle.mm_keep.specs.Language.Runs.{AreRunsOf}
 use Rattle.mm_keep.specs.Language.Sessions.{SessionView, AreCitesOf, AreUsersOf, AreAxiomsOf}

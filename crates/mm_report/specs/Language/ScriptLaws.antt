@@ -1,7 +1,7 @@
 -- What is proved of scripts and their answers: each is the contract of a function.
 use Rattle.std.specs.Prelude.{◌≡◌, ◌↔◌, ◌⊎◌, ℕ, List, [], ◌++◌}
-use Rattle.mm_store.specs.Language.FilesView.{plain}
-use Rattle.mm_frame.specs.Language.Base.{BaseView, IsOfFiles}
+use Rattle.mm_keep.specs.mm_store.Language.FilesView.{plain}
+use Rattle.mm_keep.specs.mm_frame.Language.Base.{BaseView, IsOfFiles}
 use Rattle.mm_keep.specs.Language.Sessions.{SessionView}
 use Rattle.mm_report.specs.Language.Answers.{AreAnswers, IsScriptAnswer}
 use Rattle.mm_report.specs.Language.Script.{Entry, End, EndsSo, commands_of, AreRead, HasEntries, IsLongestReading, IsReadSoFar}

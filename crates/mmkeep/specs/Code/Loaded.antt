@@ -1,12 +1,12 @@
 -- Which files are there while the files of a database are loaded.
 use Rattle.std.specs.Prelude.{◌≡◌, ◌≢◌, ◌⊎◌, ℕ, List, None}
-use Rattle.mm_store.specs.declared.error.StoreError.{StoreError}
-use Rattle.mm_store.specs.declared.error.StoreError.TheVariants.{Known, NoTop}
-use Rattle.mm_store.specs.declared.item.Item.{Item}
-use Rattle.mm_store.specs.Language.FileFacts.{IsAdded}
-use Rattle.mm_store.specs.Language.FilesView.{FilesView, file_number, plain}
-use Rattle.mm_store.specs.Language.Keyless.{bare}
-use Rattle.mm_store.specs.Language.Walking.{WalkView, IsWalk}
+use Rattle.mm_report.specs.mm_store.declared.error.StoreError.{StoreError}
+use Rattle.mm_report.specs.mm_store.declared.error.StoreError.TheVariants.{Known, NoTop}
+use Rattle.mm_report.specs.mm_store.declared.item.Item.{Item}
+use Rattle.mm_report.specs.mm_store.Language.FileFacts.{IsAdded}
+use Rattle.mm_report.specs.mm_store.Language.FilesView.{FilesView, file_number, plain}
+use Rattle.mm_report.specs.mm_store.Language.Keyless.{bare}
+use Rattle.mm_report.specs.mm_store.Language.Walking.{WalkView, IsWalk}
 
 -- a file has this name
 abbrev pub HasFile : FilesView → List ℕ → Type 0

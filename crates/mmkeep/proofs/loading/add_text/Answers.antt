@@ -1,6 +1,6 @@
 use Rattle.std.proofs.Common.{List, ℕ, subst}
-use Rattle.mm_store.specs.Language.FileFacts.{IsAdded}
-use Rattle.mm_store.specs.Language.FilesView.{plain}
+use Rattle.mm_report.specs.mm_store.Language.FileFacts.{IsAdded}
+use Rattle.mm_report.specs.mm_store.Language.FilesView.{plain}
 use Rattle.mmkeep.proofs.LoadLemmas.{added_there}
 use Rattle.mmkeep.proofs.loading.add_text.Goals as goal
 

@@ -1,5 +1,5 @@
 use Rattle.std.proofs.Common.{◌≡◌, List, ℕ, None, subst}
-use Rattle.mm_store.specs.Language.FilesView.{files_in, number_of}
+use Rattle.mm_report.specs.mm_store.Language.FilesView.{files_in, number_of}
 use Rattle.mmkeep.proofs.LoadLemmas.{has_number, is_memory}
 use Rattle.mmkeep.proofs.program.begun.Goals as goal
 

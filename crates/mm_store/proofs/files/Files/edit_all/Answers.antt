@@ -35,9 +35,9 @@ returns-in-Err-clause-unchanged c =
 pub loop-number-preserved : goal.loop-number-preserved
 loop-number-preserved c = record {
   by_keys =
-    let made = c.in_default.ensures.by_keys in
-    subst (IsBatchByKeys (take (c.loop-number.number + 1) (map asked c.args.edits.now)) c.args.self.now c.edit_next.new.self) (sym made.2)
-    (by_keys_next c.args.edits.now c.loop-number.number _ c.args.self.now c.loop-number.self c.edit_next.new.self c.loop-number.undos made.0 c.loop-number-test.true c.loop-number.invariant.by_keys made.1);
+      let made = c.in_default.ensures.by_keys in
+      subst (IsBatchByKeys (take (c.loop-number.number + 1) (map asked c.args.edits.now)) c.args.self.now c.edit_next.new.self) (sym made.2)
+      (by_keys_next c.args.edits.now c.loop-number.number _ c.args.self.now c.loop-number.self c.edit_next.new.self c.loop-number.undos made.0 c.loop-number-test.true c.loop-number.invariant.by_keys made.1);
   done = batch_next c.args.edits.now c.loop-number.number _ (plain c.args.self.now) (plain c.loop-number.self) (plain c.edit_next.new.self) c.loop-number-test.true c.loop-number.invariant.done c.in_default.ensures.ok;
   keys = keys_then c.args.self.now c.loop-number.self c.edit_next.new.self c.loop-number.invariant.keys c.in_default.ensures.keys;
   spendable = c.in_default.ensures.spendable c.args.self.now c.loop-number.invariant.spendable;
