@@ -20,8 +20,12 @@ pub use laws::{
     axioms_have_themselves, chains_lead_back, items_have_findings, one_list_each, one_list_of_runs,
 };
 pub use mm_proof::{
-    BatchError, Edit, EditError, Files, FrameNumber, Place, ProofNumber, StoreError, TextFault,
-    TextNumber, Work, nth_word, place,
+    Base, BatchError, Checked, Edit, EditError, Files, Frame, FrameFault, FrameNumber, Item,
+    ItemKind, Keyword, Marks, NamedSymbol, Names, NumberedSymbol, PieceKey, Place, ProofNumber,
+    ProofWords, Resolved, Spot, Statement, StoreError, Symbol, TextError, TextFault, TextNumber,
+    Undo, Undos, Verdict, Walk, Word, WordKind, Work, edits_keep_files, files_have_one_base,
+    first_faults_are_within, fits, has_one_verdict_at, has_own_labels, items_stand, nth_word,
+    one_edit, one_meaning, place, walks_go_on, words_of_proof,
 };
 pub use session::Session;
 pub use tally::Tally;

@@ -16,6 +16,13 @@ mod stream;
 
 pub use answer::write_axioms;
 pub use laws::one_report;
+pub use mm_keep::{
+    At, Base, BatchError, Checked, Edit, EditError, Files, Finding, Frame, FrameFault, FrameNumber,
+    Item, ItemKind, KeepError, Keyword, Marks, NamedSymbol, Names, NumberedSymbol, PieceKey, Place,
+    ProofNumber, ProofWords, Resolved, Session, Spot, Statement, StoreError, Symbol, Tally,
+    TextError, TextFault, TextNumber, Unbegun, Undo, Undos, Verdict, Walk, Word, WordKind, Work,
+    fits, nth_word, place, walks_go_on,
+};
 pub use reading::{ReadFailed, Reading};
 pub use report::{ReportError, write_report};
 pub use script::{ScriptError, run_script};

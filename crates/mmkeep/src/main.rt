@@ -11,6 +11,7 @@ mod program;
 pub use arguments::Command;
 pub use asking::command;
 pub use loading::{FileError, read_all};
+pub use mm_report::{ReadFailed, Reading, ScriptError, Session, StoreError, Tally, TextFault};
 pub use outcome::{Outcome, outcome_of_stop, status};
 use std::process::ExitCode;
 
