@@ -1,0 +1,176 @@
+"""What the rules of this folder read of sources: their code without comments, texts and contracts, as tokens.
+
+A comment, the inside of a text or of a character, and all that only the prover reads (`ensures`, `requires`, `ghost`) is
+no code. So a rule that looks at tokens cannot be led astray by what stands there.
+"""
+import pathlib
+import re
+
+CRATES = pathlib.Path(__file__).resolve().parent.parent / "crates"
+TEXT = re.compile(r'b?r(#*)".*?"\1|b?"(?:\\.|[^"\\])*"', re.S)
+CHARACTER = re.compile(r"b?'(?:\\(?:x[0-9a-fA-F]{2}|u\{[0-9a-fA-F]+\}|.)|[^\\'\n])'")
+WORD = re.compile(r"[A-Za-z_]\w*")
+TOKEN = re.compile(r"'[A-Za-z_]\w*|[A-Za-z_]\w*|\d[\w.]*?(?=\.\.|[^\w.]|$)|::|=>|->|<<|>>|==|!=|<=|>=|[-+*/%]=(?!=|>)|&&|\|\||\.\.=?|\S")
+PAIRS = {"(": ")", "[": "]", "{": "}"}
+
+
+class Token(str):
+    """A token, and the number of its line."""
+
+    line = 0
+
+
+def behind_braces(text, at):
+    """The place behind the braces that begin at or after a place."""
+    at = text.find("{", at)
+    depth = 0
+    while 0 <= at < len(text):
+        depth += {"{": 1, "}": -1}.get(text[at], 0)
+        at += 1
+        if depth == 0:
+            return at
+    return len(text)
+
+
+def behind_ghost(text, at):
+    """The place behind the `;` that ends what is for the prover."""
+    depth = 0
+    while at < len(text):
+        depth += {"{": 1, "}": -1}.get(text[at], 0)
+        at += 1
+        if depth == 0 and text[at - 1] == ";":
+            return at
+    return len(text)
+
+
+def end_of_hidden(text, at):
+    """The place behind what is no code and begins at a place, or nothing where code stands there."""
+    if text.startswith("//", at):
+        return text.find("\n", at) if "\n" in text[at:] else len(text)
+    if text.startswith("/*", at):
+        return text.index("*/", at) + 2 if "*/" in text[at:] else len(text)
+    if text[at] in "\"'br" and (found := TEXT.match(text, at) or CHARACTER.match(text, at)):
+        return found.end()
+    return None
+
+
+def code_of(text):
+    """A source without what is no code: each line keeps its number. A text is left as `""`."""
+    parts, at = [], 0
+    while at < len(text):
+        end = end_of_hidden(text, at)
+        if end is not None:
+            shown = '""' if text[end - 1] in "\"'#" and text[at] not in "/" else " "
+            parts.append(shown + "\n" * text.count("\n", at, end))
+            at = end
+            continue
+        word = WORD.match(text, at)
+        if word and word[0] in ("ensures", "requires"):
+            end = behind_braces(text, at)
+        elif word and word[0] == "ghost":
+            end = behind_ghost(text, at)
+        else:
+            end = word.end() if word else at + 1
+            parts.append(text[at:end])
+            at = end
+            continue
+        parts.append(" " + "\n" * text.count("\n", at, end))
+        at = end
+    return "".join(parts)
+
+
+def tokens_of(text):
+    """The tokens of a source, each with its line."""
+    found = []
+    for number, line in enumerate(code_of(text).split("\n"), 1):
+        for match in TOKEN.finditer(line):
+            token = Token(match[0])
+            token.line = number
+            found.append(token)
+    return found
+
+
+def closing(tokens, at):
+    """The place of the bracket that closes the one at a place."""
+    depth = 0
+    for place in range(at, len(tokens)):
+        if tokens[place] in ("(", "[", "{"):
+            depth += 1
+        elif tokens[place] in (")", "]", "}"):
+            depth -= 1
+            if depth == 0:
+                return place
+    return len(tokens) - 1
+
+
+class Function:
+    """A function: its name, what it belongs to, whether it is public, its signature and its body."""
+
+    def __init__(self, name, owner, public, signature, body):
+        self.name, self.owner, self.public, self.signature, self.body = name, owner, public, signature, body
+
+
+def header_end(tokens, at):
+    """The place of the `{` or `;` that ends a header which begins at a place."""
+    while at < len(tokens) and tokens[at] not in ("{", ";"):
+        at = closing(tokens, at) + 1 if tokens[at] in ("(", "[") else at + 1
+    return at
+
+
+def owner_of(header):
+    """The type that an `impl` is of, or the name of a trait."""
+    if header[0] == "trait":
+        return str(header[1])
+    depth, plain = 0, []
+    for token in header[1:]:
+        depth += {"<": 1, ">": -1, ">>": -2}.get(token, 0)
+        if depth == 0 and token not in (">", ">>"):
+            plain.append(token)
+    plain = plain[plain.index("for") + 1 :] if "for" in plain else plain
+    return next((token for token in reversed(plain) if WORD.fullmatch(token)), "")
+
+
+def functions_of(tokens):
+    """The functions among tokens, in order."""
+    found, owners, at = [], [], 0
+    while at < len(tokens):
+        owners = [(name, end) for name, end in owners if end > at]
+        token = tokens[at]
+        if token in ("impl", "trait") and (at == 0 or tokens[at - 1] in ("}", ";", "]", "pub", ")", "unsafe")):
+            start = header_end(tokens, at)
+            if start < len(tokens) and tokens[start] == "{":
+                owners.append((owner_of(tokens[at:start]), closing(tokens, start)))
+            at = start + 1
+        elif token == "fn" and at + 1 < len(tokens) and WORD.fullmatch(tokens[at + 1]):
+            start = header_end(tokens, at)
+            end = closing(tokens, start) if start < len(tokens) and tokens[start] == "{" else start
+            public = at > 0 and tokens[at - 1] == "pub" or tokens[max(0, at - 2) : at] == ["pub", "const"]
+            owner = owners[-1][0] if owners else ""
+            found.append(Function(str(tokens[at + 1]), owner, public, tokens[at:start], tokens[start + 1 : end]))
+            at = start + 1
+        else:
+            at += 1
+    return found
+
+
+def calls_in(tokens):
+    """The names that are called among tokens, each with its place: not those of macros or of variants."""
+    for place, token in enumerate(tokens[:-1]):
+        if WORD.fullmatch(token) and tokens[place + 1] == "(" and token[0].islower() and (place == 0 or tokens[place - 1] != "fn"):
+            yield place, str(token)
+
+
+def test_files(crate):
+    """The files of a crate that are modules of tests alone."""
+    named = set()
+    for root in ("lib.rt", "main.rt"):
+        path = crate / "src" / root
+        if path.exists():
+            named |= set(re.findall(r"^#\[cfg\(test\)\]\nmod (\w+);", path.read_text(), re.M))
+    return {crate / "src" / f"{name}.rt" for name in named}
+
+
+def sources(crates=CRATES):
+    """The sources of the crates, those of tests left out."""
+    tests = {path for crate in crates.iterdir() for path in test_files(crate)}
+    return [path for path in sorted(crates.glob("*/src/**/*.rt")) if path not in tests]
