@@ -1,6 +1,7 @@
 //! What is proved of the definitions: each law is the contract of a function.
 
 ghost use Rattle.mm_keep.specs.Language.Laws.{AxiomsHaveThemselves, ChainsLeadBack, ItemsHaveFindings, OneListEach, OneListOfRuns};
+ghost use Rattle.mm_keep.specs.Language.Laws.{FilesGiveItems, HasListEach, HasListOfRuns, LabelsAreDecided};
 
 /// Between files before and files after there is one list of runs, whatever keys their pieces have.
 pub fn one_list_of_runs()
@@ -36,3 +37,28 @@ pub fn axioms_have_themselves()
 pub fn chains_lead_back()
     ensures { ChainsLeadBack }
 {}
+
+/// Files each key of which has a piece, and each piece one unit, give items from each top file that is among them, and from no
+/// other.
+pub fn files_give_items()
+    ensures { FilesGiveItems }
+{
+    mm_proof::has_expansion();
+    mm_proof::items_stand();
+}
+
+/// Between files before and files after that give items there is a list of runs: so what is promised of an edit can be met.
+pub fn has_list_of_runs()
+    ensures { HasListOfRuns }
+{}
+
+/// A label is that of an assertion, or of none; and of each assertion there is a list each of what it cites, of what cites it,
+/// and of its axioms.
+pub fn has_list_each()
+    ensures decided { LabelsAreDecided }
+    ensures lists { HasListEach }
+{
+    mm_proof::files_have_one_base();
+    mm_proof::has_own_labels();
+    mm_proof::cites_tell();
+}

@@ -17,7 +17,8 @@ mod unbegun;
 pub use answers::KeepError;
 pub use finding::{At, Finding};
 pub use laws::{
-    axioms_have_themselves, chains_lead_back, items_have_findings, one_list_each, one_list_of_runs,
+    axioms_have_themselves, chains_lead_back, files_give_items, has_list_each, has_list_of_runs,
+    items_have_findings, one_list_each, one_list_of_runs,
 };
 pub use mm_proof::{
     Base, BatchError, Checked, Edit, EditError, Files, Frame, FrameFault, FrameNumber, Item,

@@ -33,23 +33,23 @@ use mm_keep::{
 use std::alloc::{AllocError, Global};
 use std::io::Write;
 
-/// The number of a fault of a text as it is written.
-fn code_of_text(number: TextNumber) -> &'static [u8]
+/// The number of a fault of a text as it is written, `T01` to `T12`. It takes no memory.
+pub fn fault_name(number: TextNumber) -> &'static str
     ensures { result.now ≡ text_code number }
 {
     match number {
-        TextNumber::T01 => b"T01",
-        TextNumber::T02 => b"T02",
-        TextNumber::T03 => b"T03",
-        TextNumber::T04 => b"T04",
-        TextNumber::T05 => b"T05",
-        TextNumber::T06 => b"T06",
-        TextNumber::T07 => b"T07",
-        TextNumber::T08 => b"T08",
-        TextNumber::T09 => b"T09",
-        TextNumber::T10 => b"T10",
-        TextNumber::T11 => b"T11",
-        TextNumber::T12 => b"T12",
+        TextNumber::T01 => "T01",
+        TextNumber::T02 => "T02",
+        TextNumber::T03 => "T03",
+        TextNumber::T04 => "T04",
+        TextNumber::T05 => "T05",
+        TextNumber::T06 => "T06",
+        TextNumber::T07 => "T07",
+        TextNumber::T08 => "T08",
+        TextNumber::T09 => "T09",
+        TextNumber::T10 => "T10",
+        TextNumber::T11 => "T11",
+        TextNumber::T12 => "T12",
     }
 }
 
@@ -75,7 +75,7 @@ fn write_text_fault<W: Write>(
     let at = place(text, fault.at);
     write_count(b"S03 ", at.line, to)?;
     write_count(b":", at.column, to)?;
-    write_part(b" ", code_of_text(fault.number), to)
+    write_part(b" ", fault_name(fault.number).as_bytes(), to)
 }
 
 /// Writes why an edit that brings this text is refused.

@@ -14,7 +14,7 @@ mod script;
 mod script_laws;
 mod stream;
 
-pub use answer::write_axioms;
+pub use answer::{fault_name, write_axioms};
 pub use laws::one_report;
 pub use mm_keep::{
     At, Base, BatchError, Checked, Edit, EditError, Files, Finding, Frame, FrameFault, FrameNumber,
@@ -27,7 +27,7 @@ pub use reading::{ReadFailed, Reading};
 pub use report::{ReportError, write_report};
 pub use script::{ScriptError, run_script};
 pub use script_laws::{
-    answers_begin, commands_leave_nothing, has_reading, one_reading, one_script_answer,
-    reading_goes_on, scripts_are_read_so,
+    answers_begin, commands_leave_nothing, has_reading, has_script_answer, one_reading,
+    one_script_answer, reading_goes_on, scripts_are_read_so, sessions_are_whole,
 };
 pub use stream::{WriteFailed, Writing};

@@ -4,6 +4,7 @@ pub mod FilesView
 pub mod FileFacts
 pub mod Expansion
 pub mod Walking
+pub mod Holding
 pub mod Keyless
 pub mod Edits
 pub mod Undoing

@@ -13,6 +13,7 @@ ghost use Rattle.mm_store.specs.declared.error.StoreError.TheVariants.{Known, No
 ghost use Rattle.mm_store.specs.declared.edit.EditError.TheVariants.{NoFile, NoPiece};
 ghost use Rattle.mm_store.specs.Language.Pieces.{IsParked, Replaced, Deleted, text_under};
 ghost use Rattle.mm_store.specs.Language.FilesView.{no_files, bytes_of, file_number, files_in, find_file, number_of, piece_view, plain, text_of};
+ghost use Rattle.mm_store.specs.Language.Holding.{HoldOneEach};
 ghost use Rattle.mm_store.specs.Language.FileFacts.{CanBeRead, HoldsPieces, IsAdded, IsByte, IsLive, KeepsPieces, NamesNoFile, StandsIn, parked_in};
 ghost use Rattle.mm_store.specs.Language.Edits.{asked, edited_name, Insert, Replace, Delete, Move, IsEditOf, NamesNoMember};
 ghost use Rattle.mm_store.specs.Language.EditedKeys.{IsEditByKeys, parks};
@@ -308,6 +309,13 @@ impl Files {
         ensures { HoldsPieces self.now }
     {
         let _ = &self.pieces;
+    }
+
+    /// Each piece of the files holds one unit. It does nothing; what it promises holds of all files.
+    pub fn hold_one_each(&self)
+        ensures { HoldOneEach (plain self.now) }
+    {
+        self.hold_units();
     }
 
     /// A piece that stands is at one place of the files, and a parked one at none. It does nothing.
