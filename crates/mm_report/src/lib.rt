@@ -21,7 +21,7 @@ pub use mm_keep::{
     Item, ItemKind, KeepError, Keyword, Marks, NamedSymbol, Names, NumberedSymbol, PieceKey, Place,
     ProofNumber, ProofWords, Resolved, Session, Spot, Statement, StoreError, Symbol, Tally,
     TextError, TextFault, TextNumber, Unbegun, Undo, Undos, Verdict, Walk, Word, WordKind, Work,
-    fits, nth_word, place, walks_go_on,
+    edits_keep_units, fits, has_expansion, nth_word, place, walks_go_on,
 };
 pub use reading::{ReadFailed, Reading};
 pub use report::{ReportError, write_report};

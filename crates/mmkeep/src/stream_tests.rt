@@ -1,7 +1,7 @@
 //! What the program cannot show of streams that fail: a reader that may be called so often, and the session behind a script
 //! that was not answered to its end.
 
-use crate::loading::{FileError, read_all};
+use crate::adding::{FileError, read_all};
 use mm_report::{
     Files, Reading, ScriptError, Session, StoreError, Writing, run_script, write_report,
 };
