@@ -6,9 +6,9 @@ use Rattle.std.specs.Option.{option_map}
 use Rattle.std.proofs.lemmas.List.Elements.{recursion_from_All}
 use Rattle.std.proofs.lemmas.Option.{slice_get-map, slice_get_within, get_or_from_slice_get, same_Some}
 use Rattle.std.proofs.lemmas.Simd.{map-map}
-use Rattle.mm_text.specs.declared.word.Word.{Word}
-use Rattle.mm_text.specs.Language.Reading.{HasWords}
-use Rattle.mm_text.specs.Language.Unit.{tokens_of}
+use Rattle.mm_store.specs.mm_text.declared.word.Word.{Word}
+use Rattle.mm_store.specs.mm_text.Language.Reading.{HasWords}
+use Rattle.mm_store.specs.mm_text.Language.Unit.{tokens_of}
 use Rattle.mm_store.specs.declared.item.Item as store
 use Rattle.mm_store.specs.Language.Pieces.{Pieces, text_in, text_under}
 use Rattle.mm_store.specs.Language.FilesView.{PieceView, KeyedFile, FileView, FilesView, files_in, file_view, piece_view, without_keys, File, plain, plain_file}

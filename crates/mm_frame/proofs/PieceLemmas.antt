@@ -1,8 +1,8 @@
 -- What an item says is read from the text under its key, and items of one range of one piece say the same.
 use Rattle.std.proofs.Common.{◌≡◌, ℕ, ◌<◌, ◌≤◌, List, length, slice_range, sym, ap, ◌∙◌, subst}
-use Rattle.mm_text.specs.declared.word.Word.{Word}
-use Rattle.mm_text.specs.Language.Reading.{HasWords}
-use Rattle.mm_text.specs.Language.Unit.{tokens_of}
+use Rattle.mm_store.specs.mm_text.declared.word.Word.{Word}
+use Rattle.mm_store.specs.mm_text.Language.Reading.{HasWords}
+use Rattle.mm_store.specs.mm_text.Language.Unit.{tokens_of}
 use Rattle.mm_store.specs.declared.item.Item as store
 use Rattle.mm_store.specs.Language.FilesView.{FilesView}
 use Rattle.mm_store.specs.Language.FileFacts.{CanBeRead, IsLive}

@@ -2,7 +2,7 @@
 use Rattle.std.proofs.Common.{◌≡◌, ℕ, zero, suc, true, cond, ◌&&◌, ◌==◌, Some, None, List, [], ◌∷◌, length, slice_range, refl, sym, ◌∙◌, ap}
 use Rattle.std.specs.List.{AllZip}
 use Rattle.std.proofs.lemmas.Bool.{false≢true, or_parts, and_parts, and_from, eq-eqb}
-use Rattle.mm_text.specs.Language.Unit.{Token, tokens_of}
+use Rattle.mm_store.specs.mm_text.Language.Unit.{Token, tokens_of}
 use Rattle.mm_store.specs.declared.item.Item as store
 use Rattle.mm_store.specs.Language.FilesView.{FilesView}
 use Rattle.mm_frame.specs.declared.FrameNumber.TheVariants.{F01}

@@ -5,10 +5,10 @@ use Rattle.std.specs.Option.{option_map}
 use Rattle.std.specs.List.{AllByRecursion, flat_map, prefix_len}
 use Rattle.std.proofs.lemmas.List.{drop-map, drop-drop, take-map, append-nil, length-drop, length-take}
 use Rattle.std.proofs.lemmas.Simd.{map-map}
-use Rattle.mm_text.specs.declared.word.Word.{Word}
-use Rattle.mm_text.specs.declared.word.WordKind.TheVariants.{Plain}
-use Rattle.mm_text.specs.Language.WordsLeft.{SkipsPlainWords}
-use Rattle.mm_text.specs.Language.Unit.{Token, token_of, tokens_of, spellings}
+use Rattle.mm_store.specs.mm_text.declared.word.Word.{Word}
+use Rattle.mm_store.specs.mm_text.declared.word.WordKind.TheVariants.{Plain}
+use Rattle.mm_store.specs.mm_text.Language.WordsLeft.{SkipsPlainWords}
+use Rattle.mm_store.specs.mm_text.Language.Unit.{Token, token_of, tokens_of, spellings}
 use Rattle.mm_frame.specs.Language.Item.{Kind, Item, is_labelled}
 use Rattle.mm_frame.specs.Code.PlainWords.{TakesLabel, word_bytes, plain_words, plain_bytes}
 use Rattle.mm_frame.specs.Language.Statement.{is_plain_kind, is_plain, token_names, plain_from, symbols_from, symbols_in, proof_in, label_in, item_of}

@@ -1,14 +1,4 @@
-pub use Rattle.mm_text.specs.Language.Run
-pub use Rattle.mm_text.specs.Language.Spelling
-pub use Rattle.mm_text.specs.Language.Reading
-pub use Rattle.mm_text.specs.Language.Unit
-pub use Rattle.mm_text.specs.Language.Cut
-pub use Rattle.mm_text.specs.Language.Part
-pub use Rattle.mm_text.specs.Language.Place
-pub use Rattle.mm_store.specs.Language.FilesView
-pub use Rattle.mm_store.specs.Language.FileFacts
-pub use Rattle.mm_store.specs.Language.Expansion
-pub use Rattle.mm_store.specs.Language.Keyless
-pub use Rattle.mm_store.specs.Language.Answers
+pub use Rattle.mm_store.specs as mm_store
+pub use Rattle.mm_store.specs.mm_text
 pub mod Language
 pub mod Code

@@ -145,7 +145,7 @@ impl Base {
         ensures no_top { IsErrOf result NoTop ↔ (number_of (files_in files.now) top.now ≡ None) }
         ensures err { IfErr result IsExpansionError }
     {
-        let items = files.statements(alloc, top)?;
+        let items = files.statements(top)?;
         let floats = floats_among(alloc, &items)?;
         let draft = Draft::read_all(alloc, names, files, &items)?;
         names.distinct();

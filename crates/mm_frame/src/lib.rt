@@ -30,7 +30,9 @@ pub use draft::Frame;
 pub use judge::FrameFault;
 pub use mm_store::{
     BatchError, Edit, EditError, Files, Item, ItemKind, Keyword, PieceKey, Place, StoreError,
-    TextFault, TextNumber, Undo, Undos, Walk, Word, WordKind, fits, nth_word, place,
+    TextError, TextFault, TextNumber, Undo, Undos, Walk, Word, WordKind, edits_keep_files,
+    edits_keep_units, first_faults_are_within, fits, has_expansion, items_stand, nth_word,
+    one_edit, one_meaning, place, walks_go_on,
 };
 pub use names::Names;
 pub use one_base::files_have_one_base;

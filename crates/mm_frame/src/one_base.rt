@@ -7,7 +7,7 @@ pub fn files_have_one_base()
     ensures base { FilesHaveOneBase }
     ensures said { AlikeFilesSayTheSame }
 {
-    mm_text::one_meaning();
+    mm_store::one_meaning();
     mm_store::one_expansion();
     mm_store::items_stand();
     mm_store::keys_do_not_matter();

@@ -4,7 +4,7 @@ ghost use Rattle.std.specs.Prelude.{◌≡◌, ◌∷◌, [], MatchOption};
 ghost use Rattle.mm_frame.specs.Code.PlainWords.{plain_bytes};
 
 use crate::statement::{bytes_of, is_plain};
-use mm_text::WordCursor;
+use mm_store::WordCursor;
 use std::marker::Model;
 
 /// The words of a proof, one after another, from some word on. It takes no memory.

@@ -9,11 +9,10 @@ ghost use Rattle.mm_frame.specs.Language.Sound.{first_symbol};
 ghost use Rattle.mm_frame.specs.Code.PlainWords.{LiesInText, TakesLabel, word_bytes, plain_words};
 ghost use Rattle.mm_frame.specs.Language.Statement as spoken;
 ghost use Rattle.mm_frame.specs.Language.Statement.{Says};
-ghost use Rattle.mm_text.specs.Language.Unit.{spellings, tokens_of};
+ghost use Rattle.mm_store.specs.mm_text.Language.Unit.{spellings, tokens_of};
 
 use crate::proof_words::ProofWords;
-use mm_store::{Files, Item, ItemKind};
-use mm_text::{Word, WordCursor, WordKind};
+use mm_store::{Files, Item, ItemKind, Word, WordCursor, WordKind};
 use std::alloc::{AllocError, Global};
 use std::marker::Model;
 
@@ -251,7 +250,7 @@ pub fn same_proof(files: &Files, one: &Item, other: &Item) -> bool
 {
     if is_same_range(one, other) {
         // A law: the same bytes have one reading.
-        mm_text::one_meaning();
+        mm_store::one_meaning();
         return true;
     }
     same_words(words_of_proof(files, one), words_of_proof(files, other))

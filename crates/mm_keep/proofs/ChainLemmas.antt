@@ -5,7 +5,7 @@ use Rattle.std.proofs.Math.Decide.{dec_lt, ℕ_discrete}
 use Rattle.std.proofs.Math.ListN.{get_or-eq_default}
 use Rattle.std.proofs.lemmas.Bool.{false≢true}
 use Rattle.std.proofs.lemmas.List.{get_or-replicate, get_or-set_same, get_or-set_other, length-replicate}
-use Rattle.mm_frame.specs.Language.Base.{BaseView}
+use Rattle.mm_proof.specs.mm_frame.Language.Base.{BaseView}
 use Rattle.mm_keep.specs.Language.Citations.{CitesItem, LeadsTo, none, step, IsAxiomOf}
 use Rattle.mm_keep.specs.Language.Runs.{AreThose}
 use Rattle.mm_keep.specs.Language.Told.{IsAxiom}

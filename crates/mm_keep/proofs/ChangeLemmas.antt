@@ -1,12 +1,12 @@
 -- How a session goes on with edited files.
 use Rattle.std.proofs.Common.{◌≡◌, ℕ, Option, List, refl, sym, ◌∙◌, subst}
-use Rattle.mm_store.specs.Language.Undoing.{UndoView}
-use Rattle.mm_store.specs.Language.Batches.{IsBatchOf, IsSpendable, KeepsReading, KeepsStanding}
-use Rattle.mm_store.specs.Language.Edits.{Asked}
-use Rattle.mm_store.specs.Language.FileFacts.{parked_in}
-use Rattle.mm_store.specs.Language.FilesView.{FilesView, files_in, plain}
-use Rattle.mm_frame.specs.Language.Names.{AreDistinct, Begins}
-use Rattle.mm_frame.specs.declared.base.Base.{Base}
+use Rattle.mm_proof.specs.mm_store.Language.Undoing.{UndoView}
+use Rattle.mm_proof.specs.mm_store.Language.Batches.{IsBatchOf, IsSpendable, KeepsReading, KeepsStanding}
+use Rattle.mm_proof.specs.mm_store.Language.Edits.{Asked}
+use Rattle.mm_proof.specs.mm_store.Language.FileFacts.{parked_in}
+use Rattle.mm_proof.specs.mm_store.Language.FilesView.{FilesView, files_in, plain}
+use Rattle.mm_proof.specs.mm_frame.Language.Names.{AreDistinct, Begins}
+use Rattle.mm_proof.specs.mm_frame.declared.base.Base.{Base}
 use Rattle.mm_proof.specs.Language.Work.{Judgement, Recorded}
 use Rattle.mm_keep.specs.declared.keeping.Next.{Next}
 use Rattle.mm_keep.specs.Code.Changing.{CanTake, HasKept, WereKept, session_of}

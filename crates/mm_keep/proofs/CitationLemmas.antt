@@ -2,11 +2,11 @@
 use Rattle.std.proofs.Common.{◌≡◌, ◌<◌, ℕ, true, List, length, refl, sym, ap, ◌∙◌, subst}
 use Rattle.std.specs.Prelude.{Contains}
 use Rattle.std.proofs.lemmas.Bool.{and_parts, false≢true}
-use Rattle.mm_frame.specs.declared.base.Resolved.TheVariants.{Assertion}
-use Rattle.mm_frame.specs.Language.Base.{BaseView, IsOfFiles, said_at, is_proof_at, is_sound_at}
-use Rattle.mm_frame.specs.Language.Item.{Item, is_theorem}
-use Rattle.mm_frame.specs.Language.Laws.{AlikeFilesSayTheSame, HasOwnLabels}
-use Rattle.mm_frame.specs.Language.Resolving.{Resolves}
+use Rattle.mm_proof.specs.mm_frame.declared.base.Resolved.TheVariants.{Assertion}
+use Rattle.mm_proof.specs.mm_frame.Language.Base.{BaseView, IsOfFiles, said_at, is_proof_at, is_sound_at}
+use Rattle.mm_proof.specs.mm_frame.Language.Item.{Item, is_theorem}
+use Rattle.mm_proof.specs.mm_frame.Language.Laws.{AlikeFilesSayTheSame, HasOwnLabels}
+use Rattle.mm_proof.specs.mm_frame.Language.Resolving.{Resolves}
 use Rattle.mm_keep.specs.Language.Citations.{CitesItem, LeadsTo, none, step, IsAxiomOf}
 use Rattle.mm_keep.specs.Language.Laws.{OneListEach, IsOneList, AxiomsHaveThemselves}
 use Rattle.mm_keep.specs.Language.Runs.{AreThose}

@@ -4,10 +4,10 @@ use Rattle.std.specs.Prelude.{◌↔◌, Contains, slice_index}
 use Rattle.std.proofs.lemmas.Bool.{and_parts, and_from, false≢true}
 use Rattle.std.proofs.lemmas.List.{get_or_default}
 use Rattle.std.proofs.lemmas.Option.{same_Some}
-use Rattle.mm_frame.specs.Language.Base.{BaseView, AreSaid, said_at, is_proof_at, is_sound_at}
-use Rattle.mm_frame.specs.Language.Item.{Kind, Axiom, Theorem, is_assertion, is_labelled}
-use Rattle.mm_frame.specs.Language.Laws.{HasOwnLabels}
-use Rattle.mm_frame.specs.Language.Resolving.{IsCarrier}
+use Rattle.mm_proof.specs.mm_frame.Language.Base.{BaseView, AreSaid, said_at, is_proof_at, is_sound_at}
+use Rattle.mm_proof.specs.mm_frame.Language.Item.{Kind, Axiom, Theorem, is_assertion, is_labelled}
+use Rattle.mm_proof.specs.mm_frame.Language.Laws.{HasOwnLabels}
+use Rattle.mm_proof.specs.mm_frame.Language.Resolving.{IsCarrier}
 use Rattle.mm_proof.specs.Language.CitingLaws.{CitesNameAssertions, CitesTellAssertions, IsCiteOf}
 use Rattle.mm_proof.specs.Language.BaseLabels.{setting_at}
 use Rattle.mm_proof.specs.Language.DecodingLaws.{CitesRise}

@@ -5,18 +5,18 @@ use Rattle.std.specs.List.{AllZip, AllByRecursion, flat_map}
 use Rattle.std.proofs.lemmas.Bool.{cases_Bool}
 use Rattle.std.proofs.lemmas.List.{length-take, length-take-le, length-drop}
 use Rattle.std.proofs.lemmas.Option.{get_or_from_slice_get, same_Some, slice_get_within}
-use Rattle.mm_text.specs.declared.word.Word.{Word}
-use Rattle.mm_text.specs.Language.Place.{line_at, column_at}
-use Rattle.mm_text.specs.Language.Run.{Run, is_white, ends_run, with_front, runs_from}
-use Rattle.mm_text.specs.Language.Reading.{HasWords, Segment, Single, Comment, IsSegment, segment_runs, segment_words}
-use Rattle.mm_store.specs.declared.item.Item as store
-use Rattle.mm_store.specs.Language.Pieces.{HeldPiece}
-use Rattle.mm_store.specs.Language.FilesView.{FilesView, plain_file, text_of}
-use Rattle.mm_store.specs.Language.FileFacts.{CanBeRead, StandsIn, piece_offset}
-use Rattle.mm_frame.specs.declared.FrameNumber.{FrameNumber}
-use Rattle.mm_frame.specs.Language.Base.{BaseView, said_at, fault_at, is_sound_at, is_proof_at}
-use Rattle.mm_frame.specs.Language.Item.{Kind, Axiom, Theorem, is_assertion, is_theorem, passed}
-use Rattle.mm_frame.specs.Language.Statement.{Says}
+use Rattle.mm_proof.specs.mm_text.declared.word.Word.{Word}
+use Rattle.mm_proof.specs.mm_text.Language.Place.{line_at, column_at}
+use Rattle.mm_proof.specs.mm_text.Language.Run.{Run, is_white, ends_run, with_front, runs_from}
+use Rattle.mm_proof.specs.mm_text.Language.Reading.{HasWords, Segment, Single, Comment, IsSegment, segment_runs, segment_words}
+use Rattle.mm_proof.specs.mm_store.declared.item.Item as store
+use Rattle.mm_proof.specs.mm_store.Language.Pieces.{HeldPiece}
+use Rattle.mm_proof.specs.mm_store.Language.FilesView.{FilesView, plain_file, text_of}
+use Rattle.mm_proof.specs.mm_store.Language.FileFacts.{CanBeRead, StandsIn, piece_offset}
+use Rattle.mm_proof.specs.mm_frame.declared.FrameNumber.{FrameNumber}
+use Rattle.mm_proof.specs.mm_frame.Language.Base.{BaseView, said_at, fault_at, is_sound_at, is_proof_at}
+use Rattle.mm_proof.specs.mm_frame.Language.Item.{Kind, Axiom, Theorem, is_assertion, is_theorem, passed}
+use Rattle.mm_proof.specs.mm_frame.Language.Statement.{Says}
 use Rattle.mm_proof.specs.Language.ItemLaws.{HasVerdictAt, SpotsAreIn, TellsSpotIn, IsSpotIn}
 use Rattle.mm_proof.specs.Language.VerdictAt.{IsVerdictAt}
 use Rattle.mm_proof.specs.declared.Spot.{Spot}

@@ -3,14 +3,14 @@ use Rattle.std.proofs.Common.{◌≡◌, ℕ, ◌<◌, Bool, true, false, ◌&&�
 use Rattle.std.specs.Prelude.{All, IfSome}
 use Rattle.std.specs.Option.{option_map}
 use Rattle.std.proofs.lemmas.Option.{slice_get-get_or}
-use Rattle.mm_store.specs.declared.item.Item as store
-use Rattle.mm_store.specs.Language.FilesView.{FilesView, files_in}
-use Rattle.mm_store.specs.Language.FileFacts.{StandsIn}
-use Rattle.mm_store.specs.Language.Expansion.{IsExpansion}
-use Rattle.mm_frame.specs.declared.FrameNumber.{FrameNumber}
-use Rattle.mm_frame.specs.declared.judge.FrameFault.{FrameFault}
-use Rattle.mm_frame.specs.Language.Laws.{FilesHaveOneBase}
-use Rattle.mm_frame.specs.Language.Base.{BaseView}
+use Rattle.mm_proof.specs.mm_store.declared.item.Item as store
+use Rattle.mm_proof.specs.mm_store.Language.FilesView.{FilesView, files_in}
+use Rattle.mm_proof.specs.mm_store.Language.FileFacts.{StandsIn}
+use Rattle.mm_proof.specs.mm_store.Language.Expansion.{IsExpansion}
+use Rattle.mm_proof.specs.mm_frame.declared.FrameNumber.{FrameNumber}
+use Rattle.mm_proof.specs.mm_frame.declared.judge.FrameFault.{FrameFault}
+use Rattle.mm_proof.specs.mm_frame.Language.Laws.{FilesHaveOneBase}
+use Rattle.mm_proof.specs.mm_frame.Language.Base.{BaseView}
 use Rattle.mm_keep.specs.Code.KeptSession.{IsKept, view_of}
 use Rattle.mm_keep.specs.Code.OfFiles.{IsOf}
 use Rattle.mm_keep.specs.Language.Sessions.{HasItem, HasAssertion, IsAssertion, OfItems}

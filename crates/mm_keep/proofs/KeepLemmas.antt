@@ -5,17 +5,17 @@ use Rattle.std.specs.List.{AllZip, AllByRecursion, position_or_len}
 use Rattle.std.proofs.lemmas.List.{length-map}
 use Rattle.std.proofs.lemmas.List.Elements.{recursion_from_All}
 use Rattle.std.proofs.lemmas.Option.{none-some}
-use Rattle.mm_store.specs.declared.item.Item as store
-use Rattle.mm_store.specs.declared.batch.BatchError.{BatchError}
-use Rattle.mm_store.specs.declared.batch.BatchError.TheVariants as batch
-use Rattle.mm_store.specs.Language.Batches.{IsBatchError, IsBatchOf, KeepsReading, KeepsStanding, ReadsAlike, StartsPlaced}
-use Rattle.mm_store.specs.Language.Edits.{Asked, IsEditOf}
-use Rattle.mm_store.specs.Language.Expansion.{IsExpansion}
-use Rattle.mm_store.specs.Language.FileFacts.{StandsIn}
-use Rattle.mm_store.specs.Language.FilesView.{File, FilesView, FileView, file_number, file_view, files_in, number_of, plain, plain_file}
-use Rattle.mm_frame.specs.Language.Base.{BaseView, IsOfFiles}
-use Rattle.mm_frame.specs.Language.Item.{Item}
-use Rattle.mm_frame.specs.Language.Statement.{Says}
+use Rattle.mm_proof.specs.mm_store.declared.item.Item as store
+use Rattle.mm_proof.specs.mm_store.declared.batch.BatchError.{BatchError}
+use Rattle.mm_proof.specs.mm_store.declared.batch.BatchError.TheVariants as batch
+use Rattle.mm_proof.specs.mm_store.Language.Batches.{IsBatchError, IsBatchOf, KeepsReading, KeepsStanding, ReadsAlike, StartsPlaced}
+use Rattle.mm_proof.specs.mm_store.Language.Edits.{Asked, IsEditOf}
+use Rattle.mm_proof.specs.mm_store.Language.Expansion.{IsExpansion}
+use Rattle.mm_proof.specs.mm_store.Language.FileFacts.{StandsIn}
+use Rattle.mm_proof.specs.mm_store.Language.FilesView.{File, FilesView, FileView, file_number, file_view, files_in, number_of, plain, plain_file}
+use Rattle.mm_proof.specs.mm_frame.Language.Base.{BaseView, IsOfFiles}
+use Rattle.mm_proof.specs.mm_frame.Language.Item.{Item}
+use Rattle.mm_proof.specs.mm_frame.Language.Statement.{Says}
 use Rattle.mm_keep.specs.Code.Changing.{IsChangeError}
 use Rattle.mm_keep.specs.Code.Next.{HasTop}
 

@@ -16,3 +16,6 @@ pub mod CitedWords
 pub mod CitedItems
 pub mod ChainLemmas
 pub mod CitationLemmas
+pub mod DecidingLemmas
+pub mod DecidedViews
+pub mod HavingLemmas

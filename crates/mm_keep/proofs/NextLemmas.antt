@@ -1,10 +1,10 @@
 -- What a session goes on with.
 use Rattle.std.specs.Prelude.{IfOk}
 use Rattle.std.proofs.Common.{ℕ, List, Result, Ok, Err}
-use Rattle.mm_store.specs.Language.FilesView.{FilesView}
-use Rattle.mm_frame.specs.Language.Base.{BaseView}
-use Rattle.mm_frame.specs.Language.Names.{AreDistinct, Begins}
-use Rattle.mm_frame.specs.declared.base.Base.{Base}
+use Rattle.mm_proof.specs.mm_store.Language.FilesView.{FilesView}
+use Rattle.mm_proof.specs.mm_frame.Language.Base.{BaseView}
+use Rattle.mm_proof.specs.mm_frame.Language.Names.{AreDistinct, Begins}
+use Rattle.mm_proof.specs.mm_frame.declared.base.Base.{Base}
 use Rattle.mm_proof.specs.Language.ReadIn.{IsReadIn}
 use Rattle.mm_keep.specs.Code.Next.{IsBuilt, IsOldIn}
 use Rattle.mm_keep.specs.Code.Planned.{AreBothRead}

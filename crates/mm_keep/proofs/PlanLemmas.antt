@@ -3,11 +3,11 @@ use Rattle.std.proofs.Common.{◌≡◌, ℕ, ◌<◌, ◌&&◌, Bool, true, fal
 use Rattle.std.specs.Prelude.{slice_get, unwrap_or}
 use Rattle.std.proofs.lemmas.Bool.{false≢true}
 use Rattle.std.proofs.lemmas.Option.{none-some, same_Some}
-use Rattle.mm_store.specs.Language.FilesView.{FilesView}
-use Rattle.mm_frame.specs.Language.Base.{BaseView, said_at, is_sound_at, is_proof_at, is_shown_at}
-use Rattle.mm_frame.specs.Language.Item.{Kind, Constants, Variables, Disjoint, Floating, Essential, Axiom, Theorem, BlockStart, BlockEnd, Missing, Passed, is_labelled, is_theorem}
-use Rattle.mm_frame.specs.Language.Answering.{IsBaseBy}
-use Rattle.mm_frame.specs.declared.base.Base.{Base}
+use Rattle.mm_proof.specs.mm_store.Language.FilesView.{FilesView}
+use Rattle.mm_proof.specs.mm_frame.Language.Base.{BaseView, said_at, is_sound_at, is_proof_at, is_shown_at}
+use Rattle.mm_proof.specs.mm_frame.Language.Item.{Kind, Constants, Variables, Disjoint, Floating, Essential, Axiom, Theorem, BlockStart, BlockEnd, Missing, Passed, is_labelled, is_theorem}
+use Rattle.mm_proof.specs.mm_frame.Language.Answering.{IsBaseBy}
+use Rattle.mm_proof.specs.mm_frame.declared.base.Base.{Base}
 use Rattle.mm_proof.specs.Language.BaseMarks.{ItemMark, IsMark, mark_at}
 use Rattle.mm_proof.specs.Language.DecodingLaws.{LabelsAreOwn}
 use Rattle.mm_proof.specs.Language.View.{view_at, AreSameViews}

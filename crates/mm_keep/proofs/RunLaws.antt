@@ -1,9 +1,9 @@
 -- Runs depend on what the items of files say, and on nothing else.
 use Rattle.std.proofs.Common.{◌≡◌, ℕ, ◌<◌, List, [], length, sym, ap, ◌∙◌, subst}
 use Rattle.std.specs.Prelude.{Contains}
-use Rattle.mm_frame.specs.Language.Item.{Item, item_at}
-use Rattle.mm_frame.specs.Language.Base.{BaseView, said_at, is_proof_at}
-use Rattle.mm_frame.specs.Language.Laws.{AlikeFilesSayTheSame}
+use Rattle.mm_proof.specs.mm_frame.Language.Item.{Item, item_at}
+use Rattle.mm_proof.specs.mm_frame.Language.Base.{BaseView, said_at, is_proof_at}
+use Rattle.mm_proof.specs.mm_frame.Language.Laws.{AlikeFilesSayTheSame}
 use Rattle.mm_proof.specs.Language.View.{View, view_at, AreSameViews}
 use Rattle.mm_keep.specs.Language.Runs.{HadView, AreRuns}
 use Rattle.mm_keep.specs.Language.Laws.{OneListOfRuns}

@@ -5,15 +5,15 @@ use Rattle.std.specs.List.{prefix_len}
 use Rattle.std.specs.Option.{option_map}
 use Rattle.std.proofs.lemmas.Option.{slice_get-map}
 use Rattle.std.proofs.lemmas.List.{length-take-le, length-drop, length-map}
-use Rattle.mm_text.specs.declared.word.Word.{Word}
-use Rattle.mm_text.specs.Language.Reading.{HasWords, LiesIn}
-use Rattle.mm_store.specs.declared.item.Item as store
-use Rattle.mm_store.specs.Language.Pieces.{text_in, text_under}
-use Rattle.mm_store.specs.Language.FilesView.{FilesView, plain, plain_file, text_of}
-use Rattle.mm_store.specs.Language.FileFacts.{CanBeRead, StandsIn, IsByte, IsLive, piece_offset}
-use Rattle.mm_text.specs.Language.Unit.{Token, tokens_of}
-use Rattle.mm_frame.specs.Language.Item.{Kind, Item}
-use Rattle.mm_frame.specs.Language.Statement.{Says, kind_of, is_plain, token_names, symbols_from, symbols_in, proof_in, item_of}
+use Rattle.mm_proof.specs.mm_text.declared.word.Word.{Word}
+use Rattle.mm_proof.specs.mm_text.Language.Reading.{HasWords, LiesIn}
+use Rattle.mm_proof.specs.mm_store.declared.item.Item as store
+use Rattle.mm_proof.specs.mm_store.Language.Pieces.{text_in, text_under}
+use Rattle.mm_proof.specs.mm_store.Language.FilesView.{FilesView, plain, plain_file, text_of}
+use Rattle.mm_proof.specs.mm_store.Language.FileFacts.{CanBeRead, StandsIn, IsByte, IsLive, piece_offset}
+use Rattle.mm_proof.specs.mm_text.Language.Unit.{Token, tokens_of}
+use Rattle.mm_proof.specs.mm_frame.Language.Item.{Kind, Item}
+use Rattle.mm_proof.specs.mm_frame.Language.Statement.{Says, kind_of, is_plain, token_names, symbols_from, symbols_in, proof_in, item_of}
 use Rattle.mm_proof.specs.Language.ItemLaws.{IsSpotIn}
 use Rattle.mm_proof.specs.declared.Spot.{Spot}
 use Rattle.mm_keep.specs.Language.WordPlaces.{start_of, spelled, proof_word}

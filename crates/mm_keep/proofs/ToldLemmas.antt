@@ -1,14 +1,14 @@
 -- What a base and its files say of one item.
 use Rattle.std.proofs.Common.{◌≡◌, ◌⊎◌, ℕ, zero, suc, ◌+◌, Some, List, [], ◌∷◌, ◌++◌, inl, inr, length-append, length, slice_get, refl, sym, ◌∙◌, ap, subst}
 use Rattle.std.proofs.lemmas.Option.{get_or_from_slice_get, same_Some, slice_get_within}
-use Rattle.mm_store.specs.declared.item.Item as store
-use Rattle.mm_store.specs.Language.FilesView.{FilesView}
-use Rattle.mm_store.specs.Language.FileFacts.{CanBeRead, StandsIn}
-use Rattle.mm_frame.specs.Language.Base.{BaseView, said_at}
-use Rattle.mm_frame.specs.Language.Item.{passed}
-use Rattle.mm_frame.specs.Language.Answering.{IsBase}
-use Rattle.mm_frame.specs.Language.Statement.{Says}
-use Rattle.mm_frame.specs.declared.base.Base.{Base}
+use Rattle.mm_proof.specs.mm_store.declared.item.Item as store
+use Rattle.mm_proof.specs.mm_store.Language.FilesView.{FilesView}
+use Rattle.mm_proof.specs.mm_store.Language.FileFacts.{CanBeRead, StandsIn}
+use Rattle.mm_proof.specs.mm_frame.Language.Base.{BaseView, said_at}
+use Rattle.mm_proof.specs.mm_frame.Language.Item.{passed}
+use Rattle.mm_proof.specs.mm_frame.Language.Answering.{IsBase}
+use Rattle.mm_proof.specs.mm_frame.Language.Statement.{Says}
+use Rattle.mm_proof.specs.mm_frame.declared.base.Base.{Base}
 use Rattle.mm_keep.specs.Code.OfFiles.{IsOf, HasItemOf}
 use Rattle.mm_keep.specs.Language.Told.{Told, IsRightlyTold}
 use Rattle.mm_keep.proofs.ZipLemmas.{zip_found}

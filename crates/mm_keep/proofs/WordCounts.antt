@@ -5,19 +5,19 @@ use Rattle.std.specs.List.{prefix_len}
 use Rattle.std.proofs.lemmas.Bool.{cases_Bool, false≢true}
 use Rattle.std.proofs.lemmas.Option.{same_Some}
 use Rattle.std.proofs.lemmas.List.{length-append, length-take, length-drop, length-map}
-use Rattle.mm_text.specs.declared.word.Word.{Word}
-use Rattle.mm_text.specs.Language.Run.{Run, is_white, ends_run, with_front, runs_from}
-use Rattle.mm_text.specs.Language.Reading.{HasWords, Segment, Single, Comment, segment_runs, segment_words}
-use Rattle.mm_text.specs.Language.Unit.{Token, tokens_of}
-use Rattle.mm_store.specs.declared.item.Item as store
-use Rattle.mm_store.specs.Language.FilesView.{FilesView}
-use Rattle.mm_frame.specs.Language.Base.{BaseView, before, said_at, is_sound_at, is_proof_at, expression_at}
-use Rattle.mm_frame.specs.Language.Framing.{symbol, expression}
-use Rattle.mm_frame.specs.Language.Frame.{Symbol}
-use Rattle.mm_frame.specs.Language.Item.{Kind, Theorem, Item, is_theorem, is_labelled}
+use Rattle.mm_proof.specs.mm_text.declared.word.Word.{Word}
+use Rattle.mm_proof.specs.mm_text.Language.Run.{Run, is_white, ends_run, with_front, runs_from}
+use Rattle.mm_proof.specs.mm_text.Language.Reading.{HasWords, Segment, Single, Comment, segment_runs, segment_words}
+use Rattle.mm_proof.specs.mm_text.Language.Unit.{Token, tokens_of}
+use Rattle.mm_proof.specs.mm_store.declared.item.Item as store
+use Rattle.mm_proof.specs.mm_store.Language.FilesView.{FilesView}
+use Rattle.mm_proof.specs.mm_frame.Language.Base.{BaseView, before, said_at, is_sound_at, is_proof_at, expression_at}
+use Rattle.mm_proof.specs.mm_frame.Language.Framing.{symbol, expression}
+use Rattle.mm_proof.specs.mm_frame.Language.Frame.{Symbol}
+use Rattle.mm_proof.specs.mm_frame.Language.Item.{Kind, Theorem, Item, is_theorem, is_labelled}
 use Rattle.mm_proof.specs.Language.ItemLaws.{IsSpotIn}
 use Rattle.mm_proof.specs.declared.Spot.{Spot}
-use Rattle.mm_frame.specs.Language.Statement.{Says, kind_of, is_plain, symbols_from, symbols_in, proof_in, plain_from, item_of}
+use Rattle.mm_proof.specs.mm_frame.Language.Statement.{Says, kind_of, is_plain, symbols_from, symbols_in, proof_in, plain_from, item_of}
 
 front_length : (at b : ℕ) (rs : List Run) → length (with_front at b rs) ≤ length rs
 front_length at b [] = omega arith

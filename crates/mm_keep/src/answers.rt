@@ -1,12 +1,12 @@
 //! What a session answers of its items.
 
 ghost use Rattle.std.specs.Prelude.{◌≡◌, ◌↔◌, ℕ, List, true, false, Some, None, IfOk, IfErr, IfSome, IsErrOf};
-ghost use Rattle.mm_store.specs.Language.FileFacts.{CanBeRead, StandsIn};
-ghost use Rattle.mm_store.specs.Language.FilesView.{FilesView};
-ghost use Rattle.mm_frame.specs.Language.Answering.{IsBase};
-ghost use Rattle.mm_frame.specs.Language.Base.{BaseView, said_at, is_sound_at, is_proof_at};
-ghost use Rattle.mm_frame.specs.Language.Item.{is_theorem};
-ghost use Rattle.mm_frame.specs.Language.Statement.{kind_of};
+ghost use Rattle.mm_proof.specs.mm_store.Language.FileFacts.{CanBeRead, StandsIn};
+ghost use Rattle.mm_proof.specs.mm_store.Language.FilesView.{FilesView};
+ghost use Rattle.mm_proof.specs.mm_frame.Language.Answering.{IsBase};
+ghost use Rattle.mm_proof.specs.mm_frame.Language.Base.{BaseView, said_at, is_sound_at, is_proof_at};
+ghost use Rattle.mm_proof.specs.mm_frame.Language.Item.{is_theorem};
+ghost use Rattle.mm_proof.specs.mm_frame.Language.Statement.{kind_of};
 ghost use Rattle.mm_proof.specs.Language.VerdictAt.{IsVerdictAt};
 ghost use Rattle.mm_keep.specs.Language.Findings.{told, counted};
 ghost use Rattle.mm_keep.specs.Code.KeptSession.{AreChecked};
@@ -19,8 +19,9 @@ use crate::finding::Finding;
 use crate::seen::{place_of_spot, seen_at};
 use crate::session::Session;
 use crate::tally::Tally;
-use mm_frame::{Base, Files, FrameFault, Item, ItemKind, files_have_one_base};
-use mm_proof::{Checked, Verdict, spots_are_in};
+use mm_proof::{
+    Base, Checked, Files, FrameFault, Item, ItemKind, Verdict, files_have_one_base, spots_are_in,
+};
 use std::alloc::AllocError;
 use thiserror::Error;
 
@@ -52,11 +53,7 @@ fn at_fault<'a>(files: &'a Files, item: &Item, fault: FrameFault) -> Finding<'a>
     ensures { TellsFaultAt files.now item.now fault.word fault.number (told result) }
 {
     let seen = seen_at(files, item, fault.word, 0);
-    Finding::Fault {
-        number: fault.number,
-        at: seen.at,
-        word: seen.word,
-    }
+    Finding::Fault(fault.number, seen.at, seen.word)
 }
 
 /// What is found of a sound theorem with this verdict.
@@ -137,7 +134,7 @@ impl Session {
         ensures { IsFinding self.now i (told result) }
     {
         files_have_one_base();
-        mm_store::items_stand();
+        mm_proof::items_stand();
         finding_of(&self.files, &self.base, &self.checked, i)
     }
 
@@ -167,7 +164,7 @@ impl Session {
     pub fn tally(&self) -> Tally
         ensures { IsTally self.now (counted result) }
     {
-        mm_store::items_stand();
+        mm_proof::items_stand();
         tally_of(&self.files, &self.base, &self.checked)
     }
 }

@@ -2,15 +2,16 @@
 
 ghost use Rattle.std.specs.Prelude.{◌≡◌, ◌<◌, ◌≤◌, ◌+◌, ◌↔◌, ℕ, List, IsTrue, drop, length, slice_get, slice_index};
 ghost use Rattle.std.specs.Option.{option_map};
-ghost use Rattle.mm_frame.specs.Language.Base.{BaseView};
-ghost use Rattle.mm_frame.specs.Language.Resolving.{IsCarrier};
-ghost use Rattle.mm_frame.specs.Language.Answering.{IsBase};
+ghost use Rattle.mm_proof.specs.mm_frame.Language.Base.{BaseView};
+ghost use Rattle.mm_proof.specs.mm_frame.Language.Resolving.{IsCarrier};
+ghost use Rattle.mm_proof.specs.mm_frame.Language.Answering.{IsBase};
 ghost use Rattle.mm_keep.specs.Language.Citations.{CitesItem};
 ghost use Rattle.mm_keep.specs.Language.Sessions.{IsAssertion};
 ghost use Rattle.mm_keep.specs.Code.Cited.{AreRising, HasChecks, HasLabelAmong, HasPlaceFor, HasPlaces, IsAmongCited, MarksMore, OfChecks, passed_words};
 
-use mm_frame::{Base, Files, ProofWords, has_own_labels, words_of_proof};
-use mm_proof::{Checked, cites_rise, cites_tell};
+use mm_proof::{
+    Base, Checked, Files, ProofWords, cites_rise, cites_tell, has_own_labels, words_of_proof,
+};
 
 /// The word behind so many others, if there is one. It is passed, and so are those before it.
 fn word_behind<'a>(words: &mut ProofWords<'a>, count: usize) -> Option<&'a [u8]>

@@ -1,8 +1,8 @@
 //! What a session answers of citations: what an assertion cites, what cites it, and its axioms.
 
 ghost use Rattle.std.specs.Prelude.{◌≡◌, ◌<◌, ◌≤◌, ◌↔◌, ℕ, IfOk, IsErrOf, IsTrue, length};
-ghost use Rattle.mm_frame.specs.Language.Base.{BaseView};
-ghost use Rattle.mm_frame.specs.Language.Answering.{IsBase};
+ghost use Rattle.mm_proof.specs.mm_frame.Language.Base.{BaseView};
+ghost use Rattle.mm_proof.specs.mm_frame.Language.Answering.{IsBase};
 ghost use Rattle.mm_keep.specs.declared.answers.KeepError.TheVariants.{NoAssertion};
 ghost use Rattle.mm_keep.specs.Language.Citations.{CitesItem, IsAxiomOf};
 ghost use Rattle.mm_keep.specs.Language.Runs.{AreThose};
@@ -13,8 +13,7 @@ ghost use Rattle.mm_keep.specs.Code.Cited.{HasChecks, IsMarked, MarksBehind, OfC
 use crate::answers::KeepError;
 use crate::cited::{cites_label, mark_cites};
 use crate::session::Session;
-use mm_frame::{Base, Files, ItemKind, files_have_one_base};
-use mm_proof::Checked;
+use mm_proof::{Base, Checked, Files, ItemKind, files_have_one_base};
 use std::alloc::{AllocError, Global};
 
 /// The numbers that are marked, rising.
@@ -139,14 +138,20 @@ impl Session {
     /// its proof name. A `$a` cites none, and neither does a `$p` whose proof cannot be decoded.
     ///
     /// That there is no such assertion is told before memory is taken.
-    pub fn cites(&self, alloc: Global, label: &[u8]) -> Result<Vec<usize>, KeepError>
+    pub fn cites(&self, label: &[u8]) -> Result<Vec<usize>, KeepError>
         ensures ok { IfOk result (λ numbers. AreCitesOf self.now label.now numbers.items) }
         ensures none { IsErrOf result NoAssertion ↔ ¬ HasAssertion self.now label.now }
     {
         files_have_one_base();
-        mm_store::items_stand();
+        mm_proof::items_stand();
         match self.assertion(label) {
-            Some(citing) => Ok(cites_of(alloc, &self.files, &self.base, &self.checked, citing)?),
+            Some(citing) => Ok(cites_of(
+                self.allocator(),
+                &self.files,
+                &self.base,
+                &self.checked,
+                citing,
+            )?),
             None => Err(KeepError::NoAssertion),
         }
     }
@@ -154,15 +159,15 @@ impl Session {
     /// The numbers, rising, of the sound `$p` that cite the sound `$a` or `$p` with this label.
     ///
     /// That there is no such assertion is told before memory is taken.
-    pub fn users(&self, alloc: Global, label: &[u8]) -> Result<Vec<usize>, KeepError>
+    pub fn users(&self, label: &[u8]) -> Result<Vec<usize>, KeepError>
         ensures ok { IfOk result (λ numbers. AreUsersOf self.now label.now numbers.items) }
         ensures none { IsErrOf result NoAssertion ↔ ¬ HasAssertion self.now label.now }
     {
         files_have_one_base();
-        mm_store::items_stand();
+        mm_proof::items_stand();
         match self.assertion(label) {
             Some(cited) => Ok(users_of(
-                alloc,
+                self.allocator(),
                 &self.files,
                 &self.base,
                 &self.checked,
@@ -177,14 +182,20 @@ impl Session {
     /// citations lead from it. Those of a `$a` are itself alone.
     ///
     /// That there is no such assertion is told before memory is taken.
-    pub fn axioms(&self, alloc: Global, label: &[u8]) -> Result<Vec<usize>, KeepError>
+    pub fn axioms(&self, label: &[u8]) -> Result<Vec<usize>, KeepError>
         ensures ok { IfOk result (λ numbers. AreAxiomsOf self.now label.now numbers.items) }
         ensures none { IsErrOf result NoAssertion ↔ ¬ HasAssertion self.now label.now }
     {
         files_have_one_base();
-        mm_store::items_stand();
+        mm_proof::items_stand();
         match self.assertion(label) {
-            Some(first) => Ok(axioms_of(alloc, &self.files, &self.base, &self.checked, first)?),
+            Some(first) => Ok(axioms_of(
+                self.allocator(),
+                &self.files,
+                &self.base,
+                &self.checked,
+                first,
+            )?),
             None => Err(KeepError::NoAssertion),
         }
     }

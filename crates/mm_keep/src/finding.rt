@@ -1,7 +1,6 @@
 //! What is found of an item.
 
-use mm_frame::FrameNumber;
-use mm_proof::ProofNumber;
+use mm_proof::{FrameNumber, ProofNumber};
 
 /// A place in the text of one of the files.
 #[derive(Clone, Copy, Debug, PartialEq, Eq)]
@@ -27,10 +26,6 @@ pub enum Finding<'a> {
     Incomplete(At),
     /// A sound `$p` whose proof has this fault, at this place.
     Wrong(ProofNumber, At),
-    /// A fault of the item, at a word with this place.
-    Fault {
-        number: FrameNumber,
-        at: At,
-        word: &'a [u8],
-    },
+    /// A fault of the item, the place of the word at fault, and the text of this word.
+    Fault(FrameNumber, At, &'a [u8]),
 }

@@ -1,18 +1,17 @@
 //! What a session goes on with: the base of its files as they are, and what is checked of it.
 
 ghost use Rattle.std.specs.Prelude.{◌≡◌, ◌↔◌, None, Ok, IfOk, IfErr, IsErrOf, length};
-ghost use Rattle.mm_store.specs.declared.error.StoreError.TheVariants.{Memory, NoTop};
-ghost use Rattle.mm_store.specs.Language.Answers.{IsExpansionError};
-ghost use Rattle.mm_store.specs.Language.FilesView.{files_in, number_of};
-ghost use Rattle.mm_frame.specs.Language.Base.{BaseView};
-ghost use Rattle.mm_frame.specs.Language.Names.{AreDistinct, Begins};
+ghost use Rattle.mm_proof.specs.mm_store.declared.error.StoreError.TheVariants.{Memory, NoTop};
+ghost use Rattle.mm_proof.specs.mm_store.Language.Answers.{IsExpansionError};
+ghost use Rattle.mm_proof.specs.mm_store.Language.FilesView.{files_in, number_of};
+ghost use Rattle.mm_proof.specs.mm_frame.Language.Base.{BaseView};
+ghost use Rattle.mm_proof.specs.mm_frame.Language.Names.{AreDistinct, Begins};
 ghost use Rattle.mm_proof.specs.Language.ReadIn.{IsReadIn};
 ghost use Rattle.mm_keep.specs.Code.Next.{KeepsOrRuns, HasOld, HasTop, IsBuilt, IsFirst, IsNextBase, IsOldIn, KeepsNothing, RunsAll};
 ghost use Rattle.mm_keep.specs.Code.Planned.{AreBothRead};
 
 use crate::planning::{planned, run_rest};
-use mm_frame::{Base, Files, Names, StoreError};
-use mm_proof::{Checked, Work};
+use mm_proof::{Base, Checked, Files, Names, StoreError, Work};
 use std::alloc::{AllocError, Global};
 
 /// What each item of a base keeps of what was checked before, what is checked of the others, and the record of these runs.

@@ -17,13 +17,18 @@ mod unbegun;
 pub use answers::KeepError;
 pub use finding::{At, Finding};
 pub use laws::{
-    axioms_have_themselves, chains_lead_back, items_have_findings, one_list_each, one_list_of_runs,
+    axioms_have_themselves, chains_lead_back, files_give_items, has_list_each, has_list_of_runs,
+    items_have_findings, one_list_each, one_list_of_runs,
 };
-pub use mm_frame::{
-    BatchError, Edit, EditError, Files, FrameNumber, Place, StoreError, TextFault, TextNumber,
-    nth_word, place,
+pub use mm_proof::{
+    Base, BatchError, Checked, Edit, EditError, Files, Frame, FrameFault, FrameNumber, Item,
+    ItemKind, Keyword, Marks, NamedSymbol, Names, NumberedSymbol, PieceKey, Place, ProofNumber,
+    ProofWords, Resolved, Spot, Statement, StoreError, Symbol, TextError, TextFault, TextNumber,
+    Undo, Undos, Verdict, Walk, Word, WordKind, Work, edits_keep_files, edits_keep_units,
+    files_have_one_base, first_faults_are_within, fits, has_expansion, has_one_verdict_at,
+    has_own_labels, items_stand, nth_word, one_edit, one_meaning, place, walks_go_on,
+    words_of_proof,
 };
-pub use mm_proof::{ProofNumber, Work};
 pub use session::Session;
 pub use tally::Tally;
 pub use unbegun::Unbegun;

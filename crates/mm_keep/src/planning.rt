@@ -1,16 +1,15 @@
 //! Which theorems keep what was checked before, and the runs of the others.
 
 ghost use Rattle.std.specs.Prelude.{◌≡◌, ◌<◌, ◌+◌, ◌^◌, ℕ, Some, None, IfOk, OnOk, length, slice_index_or, slice_set};
-ghost use Rattle.mm_frame.specs.Language.Base.{BaseView};
+ghost use Rattle.mm_proof.specs.mm_frame.Language.Base.{BaseView};
 ghost use Rattle.mm_proof.specs.Language.ReadIn.{IsReadIn};
 ghost use Rattle.mm_keep.specs.Code.KeptSession.{AreChecked, IsCheckedAt};
 ghost use Rattle.mm_keep.specs.Code.Planned.{AreBothRead, AreMarksBy, ArePlanned, AreRecorded, AreRunBy, CanBeCarried, CanCarry};
 ghost use Rattle.mm_keep.specs.Code.Planned.{HasItemBothRead, HasItemRead, IsPlanned, IsRunBy, RecordsIf};
 
-use mm_frame::{Base, Files, Names};
 use mm_proof::{
-    Checked, Marks, Work, check, labels_are_own, same_view_by, same_view_same_cites,
-    same_view_same_verdict,
+    Base, Checked, Files, Marks, Names, Work, check, labels_are_own, same_view_by,
+    same_view_same_cites, same_view_same_verdict,
 };
 use std::alloc::{AllocError, Global};
 use std::mem;

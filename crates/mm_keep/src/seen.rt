@@ -1,17 +1,16 @@
 //! Where words of items and spots of proofs stand.
 
 ghost use Rattle.std.specs.Prelude.{◌≡◌, ◌≤◌, ℕ, List, length, true, IfSome};
-ghost use Rattle.mm_text.specs.Language.Reading.{LiesIn};
-ghost use Rattle.mm_store.specs.Language.FileFacts.{CanBeRead};
-ghost use Rattle.mm_frame.specs.Language.Base.{BaseView, said_at, is_proof_at};
-ghost use Rattle.mm_frame.specs.Language.Answering.{IsBaseBy};
+ghost use Rattle.mm_proof.specs.mm_text.Language.Reading.{LiesIn};
+ghost use Rattle.mm_proof.specs.mm_store.Language.FileFacts.{CanBeRead};
+ghost use Rattle.mm_proof.specs.mm_frame.Language.Base.{BaseView, said_at, is_proof_at};
+ghost use Rattle.mm_proof.specs.mm_frame.Language.Answering.{IsBaseBy};
 ghost use Rattle.mm_keep.specs.Language.WordPlaces as places;
 ghost use Rattle.mm_keep.specs.Language.WordPlaces.{IsPlaceOfSpot};
 ghost use Rattle.mm_keep.specs.Code.OfFiles.{IsOf, HasLetter, HasSpotOf, IsSeen};
 
 use crate::finding::At;
-use mm_frame::{Base, Files, Item, Place, Word, nth_word};
-use mm_proof::Spot;
+use mm_proof::{Base, Files, Item, Place, Spot, Word, nth_word};
 
 /// A word, and the place of one of its bytes.
 #[derive(Clone, Copy)]

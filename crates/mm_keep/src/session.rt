@@ -2,15 +2,15 @@
 
 ghost use Rattle.std.specs.Prelude.{◌≡◌, ◌≤◌, ◌↔◌, ℕ, List, Ok, Err, None, IfOk, IfErr, OnOk, OnErr, IsErrOf, map};
 ghost use Rattle.std.specs.Option.{option_map};
-ghost use Rattle.mm_store.specs.declared.batch.BatchError.TheVariants as batch;
-ghost use Rattle.mm_store.specs.declared.edit.EditError.{EditError};
-ghost use Rattle.mm_store.specs.declared.edit.EditError.TheVariants.{Memory, NoFile, NoPiece};
-ghost use Rattle.mm_store.specs.declared.error.StoreError.TheVariants.{NoTop};
-ghost use Rattle.mm_store.specs.Language.Answers.{IsExpansionError};
-ghost use Rattle.mm_store.specs.Language.Batches.{IsBatchOf};
-ghost use Rattle.mm_store.specs.Language.Edits.{asked, edited_name, IsEditOf, NamesNoMember};
-ghost use Rattle.mm_store.specs.Language.FileFacts.{parked_in};
-ghost use Rattle.mm_store.specs.Language.FilesView.{FilesView, files_in, file_number, number_of, plain};
+ghost use Rattle.mm_proof.specs.mm_store.declared.batch.BatchError.TheVariants as batch;
+ghost use Rattle.mm_proof.specs.mm_store.declared.edit.EditError.{EditError};
+ghost use Rattle.mm_proof.specs.mm_store.declared.edit.EditError.TheVariants.{Memory, NoFile, NoPiece};
+ghost use Rattle.mm_proof.specs.mm_store.declared.error.StoreError.TheVariants.{NoTop};
+ghost use Rattle.mm_proof.specs.mm_store.Language.Answers.{IsExpansionError};
+ghost use Rattle.mm_proof.specs.mm_store.Language.Batches.{IsBatchOf};
+ghost use Rattle.mm_proof.specs.mm_store.Language.Edits.{asked, edited_name, IsEditOf, NamesNoMember};
+ghost use Rattle.mm_proof.specs.mm_store.Language.FileFacts.{parked_in};
+ghost use Rattle.mm_proof.specs.mm_store.Language.FilesView.{FilesView, files_in, file_number, number_of, plain};
 ghost use Rattle.mm_keep.specs.Code.Changing.{CanTake, HasKept, HasTaking, IsChangeError, WereKept, session_of};
 ghost use Rattle.mm_keep.specs.Code.Next.{IsFirst};
 ghost use Rattle.mm_keep.specs.Language.Refusals.{IsRefusal, IsBatchRefusal};
@@ -19,8 +19,7 @@ ghost use Rattle.mm_keep.specs.Language.Sessions.{IsBegun, IsChanged, IsCount, I
 use crate::keeping::{Next, Ran, first_of, next_of};
 use crate::planning::carry;
 use crate::unbegun::Unbegun;
-use mm_frame::{Base, BatchError, Edit, EditError, Files, Names, StoreError, Undos};
-use mm_proof::{Checked, Work};
+use mm_proof::{Base, BatchError, Checked, Edit, EditError, Files, Names, StoreError, Undos, Work};
 use std::alloc::{AllocError, Global};
 use std::marker::Model;
 use std::slice;
@@ -43,7 +42,7 @@ pub struct Session {
 
 impl Model for Session {
     ghost use Rattle.std.specs.Coded.{codes};
-    ghost use Rattle.mm_store.specs.contracts.files.Files as store;
+    ghost use Rattle.mm_proof.specs.mm_store.contracts.files.Files as store;
     ghost use Rattle.mm_keep.specs.Language.Sessions.{SessionView};
 
     ghost Value = { SessionView };
@@ -100,7 +99,7 @@ fn take_next(
         → IsChanged (session_of before top) (session_of files.new top) result }
     ensures plain { plain files.new ≡ plain files.old }
 {
-    mm_store::items_stand();
+    mm_proof::items_stand();
     let Next { base: new, ran } = next;
     let Ran {
         plan,
@@ -158,8 +157,8 @@ fn change(
     ensures refused { IfErr result (IsChangeError (map asked edits.now) (plain files.old)) }
     ensures unchanged { OnErr result (files.new ≡ files.old) }
 {
-    mm_store::edits_keep_files();
-    match files.edit_all(alloc, edits) {
+    mm_proof::edits_keep_files();
+    match files.edit_all(edits) {
         Ok(undos) => match go_on(alloc, files, names, top, base, checked, undos) {
             Ok(work) => Ok(work),
             Err(error) => Err(BatchError::from(error)),
@@ -208,7 +207,7 @@ impl Session {
     ///
     /// It takes time near linear in the items of the files and in what it runs; the old base and the new one are kept
     /// beside each other until it is done.
-    pub fn edit(&mut self, alloc: Global, edit: &Edit<'_>) -> Result<Work, EditError>
+    pub fn edit(&mut self, edit: &Edit<'_>) -> Result<Work, EditError>
         ensures files { OnOk result (IsEditOf (asked edit.now) (plain self.old.files) (plain self.new.files)) }
         ensures runs { IfOk result (IsChanged self.old self.new) }
         ensures no_file { IsErrOf result NoFile ↔ (file_number (plain self.old.files) (edited_name (asked edit.now)) ≡ None) }
@@ -216,7 +215,7 @@ impl Session {
         ensures refused { IfErr result (IsRefusal (asked edit.now) (plain self.old.files)) }
         ensures unchanged { OnErr result (self.new ≡ self.old) }
     {
-        match self.change_all(alloc, slice::from_ref(edit)) {
+        match self.change_all(slice::from_ref(edit)) {
             Ok(work) => Ok(work),
             Err(error) => Err(reason(error)),
         }
@@ -228,24 +227,29 @@ impl Session {
     ///
     /// Where an edit is refused, the error has its number, from 0, and the reason, which is never want of memory. After any
     /// error the session is as before. No edits are accepted, and run nothing.
-    pub fn edit_all(&mut self, alloc: Global, edits: &[Edit<'_>]) -> Result<Work, BatchError>
+    pub fn edit_all(&mut self, edits: &[Edit<'_>]) -> Result<Work, BatchError>
         ensures files { OnOk result (IsBatchOf (map asked edits.now) (plain self.old.files) (plain self.new.files)) }
         ensures runs { IfOk result (IsChanged self.old self.new) }
         ensures refused { IfErr result (IsBatchRefusal (map asked edits.now) (plain self.old.files)) }
         ensures unchanged { OnErr result (self.new ≡ self.old) }
     {
-        self.change_all(alloc, edits)
+        self.change_all(edits)
+    }
+
+    /// The allocator that all lists are made on.
+    pub(crate) fn allocator(&self) -> Global {
+        *self.top.allocator()
     }
 
     /// Does edits. Want of memory comes once the file and the members of the first are known, or where there are no edits.
-    fn change_all(&mut self, alloc: Global, edits: &[Edit<'_>]) -> Result<Work, BatchError>
+    fn change_all(&mut self, edits: &[Edit<'_>]) -> Result<Work, BatchError>
         ensures files { OnOk result (IsBatchOf (map asked edits.now) (plain self.old.files) (plain self.new.files)) }
         ensures runs { IfOk result (IsChanged self.old self.new) }
         ensures refused { IfErr result (IsChangeError (map asked edits.now) (plain self.old.files)) }
         ensures unchanged { OnErr result (self.new ≡ self.old) }
     {
         change(
-            alloc,
+            self.allocator(),
             &mut self.files,
             &mut self.names,
             &self.top,

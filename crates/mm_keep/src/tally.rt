@@ -59,7 +59,7 @@ impl Tally {
                 tally.theorems += 1;
                 tally.wrong += 1;
             }
-            Finding::Fault { .. } => tally.faults += 1,
+            Finding::Fault(_, _, _) => tally.faults += 1,
         }
         tally
     }

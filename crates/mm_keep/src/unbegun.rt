@@ -1,6 +1,6 @@
 //! What is handed back where a session does not begin.
 
-use mm_frame::{Files, StoreError};
+use mm_proof::{Files, StoreError};
 
 /// The files of a session that did not begin, as they were handed in, and why: no file has the name of the top file, or
 /// want of memory.

@@ -2,9 +2,9 @@
 use Rattle.std.proofs.Common.{◌≡◌, ℕ, zero, suc, true, Some, List, [], ◌∷◌, slice_get, refl, sym, subst}
 use Rattle.std.specs.List.{AllZip}
 use Rattle.std.proofs.lemmas.Option.{get_or_from_slice_get}
-use Rattle.mm_store.specs.declared.item.Item as store
-use Rattle.mm_store.specs.Language.FilesView.{FilesView}
-use Rattle.mm_store.specs.Language.FileFacts.{CanBeRead}
+use Rattle.mm_frame.specs.mm_store.declared.item.Item as store
+use Rattle.mm_frame.specs.mm_store.Language.FilesView.{FilesView}
+use Rattle.mm_frame.specs.mm_store.Language.FileFacts.{CanBeRead}
 use Rattle.mm_frame.specs.Language.Base.{BaseView, is_proof_at, said_at}
 use Rattle.mm_frame.specs.Language.Item.{Item, passed}
 use Rattle.mm_frame.specs.Language.Answering.{IsBase}

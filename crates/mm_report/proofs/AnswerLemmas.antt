@@ -1,17 +1,17 @@
 -- Sessions whose files mean the same have one report.
 use Rattle.std.proofs.Common.{◌≡◌, ℕ, ◌<◌, Bool, true, false, ◌&&◌, Option, is_none, List, length, take, get_or, Some, refl, sym, ◌∙◌, ap, subst, ext_get_or, arith}
 use Rattle.std.proofs.lemmas.Option.{slice_get-get_or, same_Some}
-use Rattle.mm_store.specs.Language.FilesView.{FilesView, File, plain}
-use Rattle.mm_frame.specs.Language.Base.{BaseView, IsOfFiles, told_fault, fault_at, is_sound_at, said_at}
-use Rattle.mm_frame.specs.Language.Item.{Kind, Axiom, Theorem, Item, is_assertion, is_theorem, item_at}
-use Rattle.mm_frame.specs.Language.Sound.{sound_items}
-use Rattle.mm_frame.specs.declared.FrameNumber.{FrameNumber}
-use Rattle.mm_proof.specs.Language.VerdictAt.{IsVerdictAt}
-use Rattle.mm_proof.specs.declared.ProofNumber.{ProofNumber}
+use Rattle.mm_keep.specs.mm_store.Language.FilesView.{FilesView, File, plain}
+use Rattle.mm_keep.specs.mm_frame.Language.Base.{BaseView, IsOfFiles, told_fault, fault_at, is_sound_at, said_at}
+use Rattle.mm_keep.specs.mm_frame.Language.Item.{Kind, Axiom, Theorem, Item, is_assertion, is_theorem, item_at}
+use Rattle.mm_keep.specs.mm_frame.Language.Sound.{sound_items}
+use Rattle.mm_keep.specs.mm_frame.declared.FrameNumber.{FrameNumber}
+use Rattle.mm_keep.specs.mm_proof.Language.VerdictAt.{IsVerdictAt}
+use Rattle.mm_keep.specs.mm_proof.declared.ProofNumber.{ProofNumber}
 use Rattle.mm_keep.specs.declared.finding.At.{At}
-use Rattle.mm_proof.specs.declared.Spot.{Spot}
-use Rattle.mm_proof.specs.declared.Verdict.{Verdict}
-use Rattle.mm_proof.specs.declared.Verdict.TheVariants as verdicts
+use Rattle.mm_keep.specs.mm_proof.declared.Spot.{Spot}
+use Rattle.mm_keep.specs.mm_proof.declared.Verdict.{Verdict}
+use Rattle.mm_keep.specs.mm_proof.declared.Verdict.TheVariants as verdicts
 use Rattle.mm_keep.specs.Language.Sessions.{SessionView}
 use Rattle.mm_keep.specs.Language.Told.{Shown, Told, Quiet, AnAxiom, Proved, Incomplete, Wrong, Fault, IsRightlyTold, IsFaultOf, HasProofVerdict, HasVerdictShown, AreRightlyTold}
 use Rattle.mm_report.specs.Language.Laws.{OneReport}

@@ -8,17 +8,17 @@ use Rattle.std.specs.Global.{Global}
 use Rattle.mm_keep.specs.declared.answers.KeepError.{KeepError}
 use Rattle.mm_keep.specs.declared.answers.KeepError.TheVariants as keep
 use Rattle.std.specs.Io.KnownBytes.{Appends, Keeps}
-use Rattle.mm_proof.specs.Language.Work.{Recorded}
-use Rattle.mm_frame.specs.Language.Base.{BaseView, IsOfFiles}
+use Rattle.mm_keep.specs.mm_proof.Language.Work.{Recorded}
+use Rattle.mm_keep.specs.mm_frame.Language.Base.{BaseView, IsOfFiles}
 use Rattle.std.proofs.Common.{get_or, slice_get}
 use Rattle.std.specs.Option.{option_map}
 use Rattle.std.proofs.lemmas.List.{length-map}
 use Rattle.std.proofs.lemmas.Option.{slice_get-map, slice_get_within, slice_get-get_or, same_Some}
-use Rattle.mm_store.specs.declared.edit.Edit.{Edit}
-use Rattle.mm_store.specs.Language.Batches.{IsRefusedAt}
-use Rattle.mm_store.specs.declared.edit.EditError.{EditError}
-use Rattle.mm_store.specs.Language.Edits.{Asked, asked}
-use Rattle.mm_store.specs.Language.FilesView.{plain}
+use Rattle.mm_keep.specs.mm_store.declared.edit.Edit.{Edit}
+use Rattle.mm_keep.specs.mm_store.Language.Batches.{IsRefusedAt}
+use Rattle.mm_keep.specs.mm_store.declared.edit.EditError.{EditError}
+use Rattle.mm_keep.specs.mm_store.Language.Edits.{Asked, asked}
+use Rattle.mm_keep.specs.mm_store.Language.FilesView.{plain}
 use Rattle.mm_keep.specs.Language.Sessions.{SessionView, AreAxiomsOf, IsChanged, HasAssertion}
 use Rattle.mm_report.specs.declared.script.ScriptError.{ScriptError}
 use Rattle.mm_report.specs.declared.script.ScriptError.TheVariants as errors

@@ -9,7 +9,7 @@ use Rattle.mm_report.specs.Code.Batches.{IsBatchFront}
 use Rattle.mm_report.specs.Code.Growing.{InputGrows, HasBlanks, IsLineAt, IsTextBad, IsTextLine, IsTextShort, line_bytes}
 use Rattle.mm_report.specs.Code.Pending.{pending}
 use Rattle.mm_report.specs.Code.Stops.{StopsSo, HasNoEntry, IsBadEditLine, IsOneLine, batch_bytes, batch_line}
-use Rattle.mm_store.specs.Language.Edits.{Asked, edited_text}
+use Rattle.mm_keep.specs.mm_store.Language.Edits.{Asked, edited_text}
 use Rattle.mm_report.specs.Language.Script.{CutShort, BadLine, IsGoodEdit, Listed, edit_line, listed_bytes}
 use Rattle.mm_report.proofs.EditLemmas.{fed_line, unfed_line}
 use Rattle.mm_report.proofs.GrowLemmas.{grows_not}

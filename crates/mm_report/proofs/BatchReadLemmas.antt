@@ -5,8 +5,8 @@ use Rattle.std.specs.List.{flat_map}
 use Rattle.std.proofs.lemmas.List.{append-nil, length-drop, length-map, map-append, take_at}
 use Rattle.std.proofs.lemmas.List.Concat.{flat_map-append}
 use Rattle.std.proofs.lemmas.List.Elements.{Contains-append_left, Contains-append_right, Contains-push, Contains-push_cases}
-use Rattle.mm_store.specs.Language.Edits.{Asked, edited_text}
-use Rattle.mm_store.specs.Language.Edits as ask
+use Rattle.mm_keep.specs.mm_store.Language.Edits.{Asked, edited_text}
+use Rattle.mm_keep.specs.mm_store.Language.Edits as ask
 use Rattle.mm_report.specs.declared.edits.EditRead.{EditRead}
 use Rattle.mm_report.specs.declared.entry.EditAt.{EditAt}
 use Rattle.mm_report.specs.declared.entry.EditAt.TheVariants.{Insert, Replace, Delete, Move}

@@ -3,20 +3,20 @@ use Rattle.std.proofs.Common.{◌≡◌, ℕ, ◌+◌, List, Some, map, slice_ge
 use Rattle.std.specs.Prelude.{All}
 use Rattle.std.specs.Option.{option_map}
 use Rattle.std.proofs.lemmas.Option.{slice_get-map, slice_get_within, get_or_from_slice_get, same_Some}
-use Rattle.mm_text.specs.declared.word.Word.{Word}
-use Rattle.mm_text.specs.Language.Reading.{HasWords}
-use Rattle.mm_text.specs.Language.Place.{line_at, column_at}
-use Rattle.mm_store.specs.declared.item.Item as store
-use Rattle.mm_store.specs.Language.Pieces.{text_in, text_under}
-use Rattle.mm_store.specs.Language.FilesView.{FilesView, File, files_in, plain, plain_file, text_of}
-use Rattle.mm_store.specs.Language.FileFacts.{CanBeRead, StandsIn, piece_offset}
-use Rattle.mm_store.specs.Language.Expansion.{IsExpansion}
-use Rattle.mm_store.specs.Language.Keyless.{keyless_item}
-use Rattle.mm_frame.specs.Language.Base.{BaseView, IsOfFiles, said_at}
-use Rattle.mm_frame.specs.Language.Item.{item_at}
-use Rattle.mm_frame.specs.Language.Laws.{AreAlikeBases}
-use Rattle.mm_proof.specs.Language.ItemLaws.{HasOneVerdictAt}
-use Rattle.mm_proof.specs.declared.Spot.{Spot}
+use Rattle.mm_keep.specs.mm_text.declared.word.Word.{Word}
+use Rattle.mm_keep.specs.mm_text.Language.Reading.{HasWords}
+use Rattle.mm_keep.specs.mm_text.Language.Place.{line_at, column_at}
+use Rattle.mm_keep.specs.mm_store.declared.item.Item as store
+use Rattle.mm_keep.specs.mm_store.Language.Pieces.{text_in, text_under}
+use Rattle.mm_keep.specs.mm_store.Language.FilesView.{FilesView, File, files_in, plain, plain_file, text_of}
+use Rattle.mm_keep.specs.mm_store.Language.FileFacts.{CanBeRead, StandsIn, piece_offset}
+use Rattle.mm_keep.specs.mm_store.Language.Expansion.{IsExpansion}
+use Rattle.mm_keep.specs.mm_store.Language.Keyless.{keyless_item}
+use Rattle.mm_keep.specs.mm_frame.Language.Base.{BaseView, IsOfFiles, said_at}
+use Rattle.mm_keep.specs.mm_frame.Language.Item.{item_at}
+use Rattle.mm_keep.specs.mm_frame.Language.Laws.{AreAlikeBases}
+use Rattle.mm_keep.specs.mm_proof.Language.ItemLaws.{HasOneVerdictAt}
+use Rattle.mm_keep.specs.mm_proof.declared.Spot.{Spot}
 use Rattle.mm_keep.specs.declared.finding.At.{At}
 use Rattle.mm_keep.specs.Language.WordPlaces.{start_of, spelled, IsByteOfWord, HasPlace, IsPlaceOfSpot, proof_word}
 use Rattle.mm_keep.specs.Language.Told.{Shown, IsShown}

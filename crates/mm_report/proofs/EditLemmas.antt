@@ -4,8 +4,8 @@ use Rattle.std.specs.Prelude.{codes, decimal, slice_range}
 use Rattle.std.specs.List.{join_with_byte}
 use Rattle.std.proofs.lemmas.List.{append-nil, length-drop, length-take, length-replicate, drop-drop, drop-take, take-take, drop_all}
 use Rattle.std.proofs.lemmas.List.Folds.{drop_split}
-use Rattle.mm_store.specs.Language.Edits.{Asked, edited_text}
-use Rattle.mm_store.specs.Language.Edits as ask
+use Rattle.mm_keep.specs.mm_store.Language.Edits.{Asked, edited_text}
+use Rattle.mm_keep.specs.mm_store.Language.Edits as ask
 use Rattle.mm_report.specs.declared.entry.EditAt.{EditAt}
 use Rattle.mm_report.specs.declared.entry.Part.{Part}
 use Rattle.mm_report.specs.declared.input.Input.{Input}

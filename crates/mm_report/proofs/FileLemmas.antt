@@ -4,9 +4,9 @@ use Rattle.std.specs.Prelude.{slice_index_or}
 use Rattle.std.specs.Option.{option_map}
 use Rattle.std.proofs.lemmas.Option.{slice_get-map, slice_get_within, get_or_from_slice_get}
 use Rattle.std.proofs.lemmas.Simd.{map-map}
-use Rattle.mm_store.specs.Language.FilesView.{KeyedFile, FilesView, File, plain, plain_file}
-use Rattle.mm_store.specs.declared.item.Item as store
-use Rattle.mm_frame.specs.Language.Base.{BaseView}
+use Rattle.mm_keep.specs.mm_store.Language.FilesView.{KeyedFile, FilesView, File, plain, plain_file}
+use Rattle.mm_keep.specs.mm_store.declared.item.Item as store
+use Rattle.mm_keep.specs.mm_frame.Language.Base.{BaseView}
 use Rattle.mm_keep.specs.declared.finding.At.{At}
 use Rattle.mm_keep.specs.Language.Told.{Told, Quiet, AnAxiom, Proved, Incomplete, Wrong, Fault, IsRightlyTold}
 use Rattle.mm_report.specs.Code.InFiles.{IsInFiles}

@@ -3,13 +3,13 @@ use Rattle.std.proofs.Common.{◌≡◌, ℕ, ◌+◌, ◌<◌, List, [], ◌∷
 use Rattle.std.specs.Prelude.{codes, decimal, unwrap_or}
 use Rattle.std.proofs.lemmas.List.{append-nil, length-map, map-append, take_more, take-append-drop}
 use Rattle.std.proofs.lemmas.Grind.{flat_map-append}
-use Rattle.mm_text.specs.declared.fault.TextFault.{TextFault}
-use Rattle.mm_text.specs.Language.Place.{line_at, column_at}
-use Rattle.mm_store.specs.declared.edit.EditError.{EditError}
-use Rattle.mm_store.specs.declared.edit.EditError.TheVariants as refusals
-use Rattle.mm_store.specs.Language.Edits.{Asked}
-use Rattle.mm_frame.specs.Language.Base.{BaseView, said_at}
-use Rattle.mm_frame.specs.Language.Item.{Item}
+use Rattle.mm_keep.specs.mm_text.declared.fault.TextFault.{TextFault}
+use Rattle.mm_keep.specs.mm_text.Language.Place.{line_at, column_at}
+use Rattle.mm_keep.specs.mm_store.declared.edit.EditError.{EditError}
+use Rattle.mm_keep.specs.mm_store.declared.edit.EditError.TheVariants as refusals
+use Rattle.mm_keep.specs.mm_store.Language.Edits.{Asked}
+use Rattle.mm_keep.specs.mm_frame.Language.Base.{BaseView, said_at}
+use Rattle.mm_keep.specs.mm_frame.Language.Item.{Item}
 use Rattle.mm_report.specs.Code.Answered.{label_lines, text_brought}
 use Rattle.mm_report.specs.Language.Answers.{batch_refusal_line, numbers_listed, refusal_line, refusal_words, text_code}
 

@@ -18,11 +18,11 @@ pub mod ScriptBatchLemmas
 pub mod WordDecidingLemmas
 pub mod AssertionLemmas
 pub mod ScriptAnswerLemmas
+pub mod HavingLemmas
 pub mod ScriptReadingLemmas
 pub mod ScriptLawLemmas
 pub mod ScriptExampleLemmas
 pub mod LineLemmas
-pub mod InputLemmas
 pub mod GrowLemmas
 pub mod EditLemmas
 pub mod BatchLemmas

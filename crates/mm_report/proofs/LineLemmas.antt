@@ -10,8 +10,8 @@ use Rattle.std.specs.Str.Parse.{ParsesUnsigned}
 use Rattle.std.proofs.lemmas.Bool.{eqb-true, ne_eqb}
 use Rattle.std.proofs.lemmas.List.{take_at}
 use Rattle.std.proofs.lemmas.Fmt.{parse-decimal, IsAscii-decimal}
-use Rattle.mm_store.specs.Language.Edits.{Asked}
-use Rattle.mm_store.specs.Language.Edits as ask
+use Rattle.mm_keep.specs.mm_store.Language.Edits.{Asked}
+use Rattle.mm_keep.specs.mm_store.Language.Edits as ask
 use Rattle.mm_report.specs.declared.line.Verb.{Verb}
 use Rattle.mm_report.specs.declared.line.Verb.TheVariants.{Insert, Replace, Delete, Move, Batch, Verdict, Axioms, Cites, Users}
 use Rattle.mm_report.specs.Code.Lines.{CutsAt, HasNoSpace, IsFileAnd, IsFileAndTwo, verb_word}

@@ -2,9 +2,9 @@
 use Rattle.std.proofs.Common.{◌≡◌, ℕ, List, [], ◌∷◌, ◌++◌, length, refl, sym, ◌∙◌, ap, append_assoc}
 use Rattle.std.specs.Prelude.{codes, decimal, slice_index_or}
 use Rattle.std.proofs.lemmas.List.{append-nil}
-use Rattle.mm_frame.specs.Language.Item.{Item}
-use Rattle.mm_frame.specs.declared.FrameNumber.{FrameNumber}
-use Rattle.mm_proof.specs.declared.ProofNumber.{ProofNumber}
+use Rattle.mm_keep.specs.mm_frame.Language.Item.{Item}
+use Rattle.mm_keep.specs.mm_frame.declared.FrameNumber.{FrameNumber}
+use Rattle.mm_keep.specs.mm_proof.declared.ProofNumber.{ProofNumber}
 use Rattle.mm_keep.specs.declared.finding.At.{At}
 use Rattle.mm_keep.specs.declared.tally.Tally.{Tally}
 use Rattle.mm_keep.specs.Language.Findings.{counted}

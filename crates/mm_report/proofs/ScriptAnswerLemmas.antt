@@ -5,14 +5,14 @@ use Rattle.std.proofs.lemmas.Bool.{cases_lt}
 use Rattle.std.proofs.lemmas.List.{append-nil, take_all}
 use Rattle.std.proofs.lemmas.List.Elements.{filter_map-append}
 use Rattle.std.proofs.lemmas.Option.{same_Some, slice_get_within}
-use Rattle.mm_store.specs.declared.edit.EditError.{EditError}
-use Rattle.mm_store.specs.declared.edit.EditError.TheVariants.{Memory}
-use Rattle.mm_store.specs.Language.Answers.{IsEditError}
-use Rattle.mm_store.specs.Language.Batches.{IsBatchOf, IsRefusedAt}
-use Rattle.mm_store.specs.Language.Edits.{Asked, IsEditOf}
-use Rattle.mm_store.specs.Language.FilesView.{File, plain}
-use Rattle.mm_frame.specs.Language.Base.{BaseView, IsOfFiles}
-use Rattle.mm_frame.specs.Language.Laws.{HasOwnLabels}
+use Rattle.mm_keep.specs.mm_store.declared.edit.EditError.{EditError}
+use Rattle.mm_keep.specs.mm_store.declared.edit.EditError.TheVariants.{Memory}
+use Rattle.mm_keep.specs.mm_store.Language.Answers.{IsEditError}
+use Rattle.mm_keep.specs.mm_store.Language.Batches.{IsBatchOf, IsRefusedAt}
+use Rattle.mm_keep.specs.mm_store.Language.Edits.{Asked, IsEditOf}
+use Rattle.mm_keep.specs.mm_store.Language.FilesView.{File, plain}
+use Rattle.mm_keep.specs.mm_frame.Language.Base.{BaseView, IsOfFiles}
+use Rattle.mm_keep.specs.mm_frame.Language.Laws.{HasOwnLabels}
 use Rattle.mm_keep.specs.Language.Citations.{CitesItem, IsAxiomOf}
 use Rattle.mm_keep.specs.Language.Laws.{IsOneList, OneListEach, OneListOfRuns}
 use Rattle.mm_keep.specs.Language.Runs.{AreRunsOf}

@@ -3,7 +3,7 @@ use Rattle.std.proofs.Common.{◌≡◌, ◌≢◌, ◌⊎◌, ℕ, zero, suc, �
 use Rattle.std.specs.List.{flat_map}
 use Rattle.std.proofs.lemmas.List.{append-nil}
 use Rattle.std.proofs.lemmas.List.Concat.{flat_map-append}
-use Rattle.mm_store.specs.Language.Edits.{Asked, edited_text}
+use Rattle.mm_keep.specs.mm_store.Language.Edits.{Asked, edited_text}
 use Rattle.mm_report.specs.Code.Stops.{StopsSo, HasTextOf, AreListed, batch_line, batch_bytes}
 use Rattle.mm_report.specs.Language.Script.{Listed, Command, Change, Batch, Report, Verdict, Axioms, Cites, Users, Entry, Blank, Given, End, Done, CutShort, BadLine}
 use Rattle.mm_report.specs.Language.Script.{AreGoodEdits, AreRead, EndsInLine, IsGood, IsGoodEdit, IsGoodEntry, IsNumber, LastInLine}

@@ -4,10 +4,10 @@ use Rattle.std.proofs.lemmas.Option.{same_Some}
 use Rattle.std.proofs.lemmas.List.{append-nil, length-take-le, take-append-drop, take_all, take_more}
 use Rattle.std.specs.Io.KnownBytes.{Appends}
 use Rattle.std.proofs.KnownBytes.{Appends-trans}
-use Rattle.mm_store.specs.Language.FilesView.{FilesView, plain}
-use Rattle.mm_frame.specs.Language.Base.{BaseView, IsOfFiles, said_at}
-use Rattle.mm_frame.specs.Language.Item.{Item, passed}
-use Rattle.mm_frame.specs.Language.Laws.{FilesHaveOneBase}
+use Rattle.mm_keep.specs.mm_store.Language.FilesView.{FilesView, plain}
+use Rattle.mm_keep.specs.mm_frame.Language.Base.{BaseView, IsOfFiles, said_at}
+use Rattle.mm_keep.specs.mm_frame.Language.Item.{Item, passed}
+use Rattle.mm_keep.specs.mm_frame.Language.Laws.{FilesHaveOneBase}
 use Rattle.mm_keep.specs.Language.Laws.{ItemsHaveFindings}
 use Rattle.mm_keep.specs.Language.Sessions.{SessionView, IsCount, IsFinding, IsLabelOfItem}
 use Rattle.mm_keep.specs.Language.Told.{Told, IsRightlyTold, Counts, counts}

@@ -1,2 +1,7 @@
+pub use Rattle.mm_keep.specs as mm_keep
+pub use Rattle.mm_keep.specs.mm_proof
+pub use Rattle.mm_keep.specs.mm_frame
+pub use Rattle.mm_keep.specs.mm_store
+pub use Rattle.mm_keep.specs.mm_text
 pub mod Language
 pub mod Code

@@ -3,10 +3,10 @@
 ghost use Rattle.std.specs.Prelude.{◌≡◌, ◌≢◌, ◌≤◌, ◌<◌, ◌↔◌, ◌⊎◌, ◌++◌, ℕ};
 ghost use Rattle.std.specs.Prelude.{List, Contains, Err, IsOk, IsTrue, true, false, IfOk, IfErr, IsErrOf, OnOk, codes, length, map};
 ghost use Rattle.std.specs.Io.KnownBytes.{Appends};
-ghost use Rattle.mm_store.specs.declared.edit.EditError.TheVariants as refusals;
-ghost use Rattle.mm_store.specs.Language.Edits.{asked};
-ghost use Rattle.mm_store.specs.Language.FilesView.{File, plain};
-ghost use Rattle.mm_frame.specs.Language.Base.{said_at};
+ghost use Rattle.mm_keep.specs.mm_store.declared.edit.EditError.TheVariants as refusals;
+ghost use Rattle.mm_keep.specs.mm_store.Language.Edits.{asked};
+ghost use Rattle.mm_keep.specs.mm_store.Language.FilesView.{File, plain};
+ghost use Rattle.mm_keep.specs.mm_frame.Language.Base.{said_at};
 ghost use Rattle.mm_keep.specs.declared.answers.KeepError.TheVariants as keep;
 ghost use Rattle.mm_keep.specs.Language.Findings.{told};
 ghost use Rattle.mm_keep.specs.Language.Refusals.{IsRefusal, IsBatchRefusal};
@@ -26,30 +26,30 @@ use crate::report::{
 };
 use crate::script::ScriptError;
 use crate::stream::{WriteFailed, Writing};
-use mm_frame::files_have_one_base;
 use mm_keep::{
-    BatchError, Edit, EditError, Files, Finding, KeepError, Session, TextFault, TextNumber, place,
+    BatchError, Edit, EditError, Files, Finding, KeepError, Session, TextFault, TextNumber,
+    files_have_one_base, place,
 };
 use std::alloc::{AllocError, Global};
 use std::io::Write;
 
-/// The number of a fault of a text as it is written.
-fn code_of_text(number: TextNumber) -> &'static [u8]
+/// The number of a fault of a text as it is written, `T01` to `T12`. It takes no memory.
+pub fn fault_name(number: TextNumber) -> &'static str
     ensures { result.now ≡ text_code number }
 {
     match number {
-        TextNumber::T01 => b"T01",
-        TextNumber::T02 => b"T02",
-        TextNumber::T03 => b"T03",
-        TextNumber::T04 => b"T04",
-        TextNumber::T05 => b"T05",
-        TextNumber::T06 => b"T06",
-        TextNumber::T07 => b"T07",
-        TextNumber::T08 => b"T08",
-        TextNumber::T09 => b"T09",
-        TextNumber::T10 => b"T10",
-        TextNumber::T11 => b"T11",
-        TextNumber::T12 => b"T12",
+        TextNumber::T01 => "T01",
+        TextNumber::T02 => "T02",
+        TextNumber::T03 => "T03",
+        TextNumber::T04 => "T04",
+        TextNumber::T05 => "T05",
+        TextNumber::T06 => "T06",
+        TextNumber::T07 => "T07",
+        TextNumber::T08 => "T08",
+        TextNumber::T09 => "T09",
+        TextNumber::T10 => "T10",
+        TextNumber::T11 => "T11",
+        TextNumber::T12 => "T12",
     }
 }
 
@@ -75,7 +75,7 @@ fn write_text_fault<W: Write>(
     let at = place(text, fault.at);
     write_count(b"S03 ", at.line, to)?;
     write_count(b":", at.column, to)?;
-    write_part(b" ", code_of_text(fault.number), to)
+    write_part(b" ", fault_name(fault.number).as_bytes(), to)
 }
 
 /// Writes why an edit that brings this text is refused.
@@ -208,7 +208,6 @@ fn write_list<W: Write>(
 /// The errors are `Write`, where the writing has failed and the beginning of the answer went out, and `Memory`, where
 /// memory lacks and nothing is written; that there is no such assertion is told before memory is taken.
 pub fn write_axioms<W: Write>(
-    alloc: Global,
     session: &Session,
     label: &[u8],
     writing: &mut Writing<W>,
@@ -223,7 +222,7 @@ pub fn write_axioms<W: Write>(
     ensures known { ¬ HasAssertion session.now label.now → result ≢ Err errors.Memory }
     ensures told { IfErr result (λ error. (error ≡ errors.Write) ⊎ (error ≡ errors.Memory)) }
 {
-    write_found(session, session.axioms(alloc, label), writing)
+    write_found(session, session.axioms(label), writing)
 }
 
 /// Writes a line of a word and a label.
@@ -281,7 +280,7 @@ fn tell_refused<W: Write>(
     ensures { (session : SessionView) → IsRefusal (asked edit.now) (plain session.files) error
         → Answers W.contents (Change (asked edit.now)) session session to.old to.new result }
 {
-    mm_text::first_faults_are_within();
+    mm_keep::first_faults_are_within();
     match error {
         EditError::Memory => Err(ScriptError::from(AllocError)),
         _ => Ok(write_refused(edit, error, to)?),
@@ -299,7 +298,7 @@ fn tell_batch_refused<W: Write>(
         → IsBatchRefusal (map asked edits.now) (plain session.files) error
         → Answers W.contents (Batch listed) session session to.old to.new result }
 {
-    mm_text::first_faults_are_within();
+    mm_keep::first_faults_are_within();
     match error {
         BatchError::Edit(number, error) => {
             Ok(write_batch_refused(number, &edits[number], error, to)?)
@@ -310,14 +309,13 @@ fn tell_batch_refused<W: Write>(
 
 /// Does an edit, and writes what it runs, or why it is refused.
 fn answer_edit<W: Write>(
-    alloc: Global,
     session: &mut Session,
     edit: &Edit<'_>,
     to: &mut Writing<W>,
 ) -> Result<(), ScriptError>
     ensures { Answers W.contents (Change (asked edit.now)) session.old session.new to.old to.new result }
 {
-    match session.edit(alloc, edit) {
+    match session.edit(edit) {
         Ok(work) => Ok(write_labels(session, b"ran", work.runs(), to)?),
         Err(error) => tell_refused(edit, error, to),
     }
@@ -352,7 +350,7 @@ fn answer_batch<W: Write>(
         → Answers W.contents (Batch listed) session.old session.new to.old to.new result }
 {
     let edits = edits_of(alloc, bytes, found)?;
-    match session.edit_all(alloc, &edits) {
+    match session.edit_all(&edits) {
         Ok(work) => Ok(write_labels(session, b"ran", work.runs(), to)?),
         Err(error) => tell_batch_refused(&edits, error, to),
     }
@@ -371,18 +369,18 @@ fn ask<W: Write>(
         → Answers W.contents one session.old session.new to.old to.new result }
 {
     match command {
-        CommandAt::Change(edit) => answer_edit(alloc, session, &edit_of(bytes, edit), to),
+        CommandAt::Change(edit) => answer_edit(session, &edit_of(bytes, edit), to),
         CommandAt::Batch(edits) => answer_batch(alloc, session, bytes, edits, to),
         CommandAt::Report => Ok(write_report(session, to)?),
         CommandAt::Verdict(label) => Ok(write_verdict(session, bytes_of(bytes, *label), to)?),
         CommandAt::Axioms(label) => {
-            write_list(session, session.axioms(alloc, bytes_of(bytes, *label)), to)
+            write_list(session, session.axioms(bytes_of(bytes, *label)), to)
         }
         CommandAt::Cites(label) => {
-            write_list(session, session.cites(alloc, bytes_of(bytes, *label)), to)
+            write_list(session, session.cites(bytes_of(bytes, *label)), to)
         }
         CommandAt::Users(label) => {
-            write_list(session, session.users(alloc, bytes_of(bytes, *label)), to)
+            write_list(session, session.users(bytes_of(bytes, *label)), to)
         }
     }
 }

@@ -2,7 +2,7 @@
 
 ghost use Rattle.std.specs.Prelude.{◌≡◌, ◌≢◌, ◌<◌, ◌≤◌, ◌+◌, ◌^◌, ◌⊎◌, ◌++◌, [], true, Err, None, IfOk, IfSome, IsErrOf, OnErr, OnOk};
 ghost use Rattle.std.specs.Io.KnownBytes.{IsAtEnd};
-ghost use Rattle.mm_store.specs.Language.Edits.{asked};
+ghost use Rattle.mm_keep.specs.mm_store.Language.Edits.{asked};
 ghost use Rattle.mm_report.specs.declared.script.ScriptError.TheVariants as errors;
 ghost use Rattle.mm_report.specs.Code.Pending.{pending, bytes_of_part, edit_in, IsEditWithin, IsNextCommand, IsPartWithin, ReadsOn};
 ghost use Rattle.mm_report.specs.Code.Growing.{InputGrows, IsLineAt, to_come};

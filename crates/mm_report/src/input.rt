@@ -63,7 +63,8 @@ impl Input {
         self.bytes.truncate(kept);
     }
 
-    /// Reads once: whether bytes came. None come at the end.
+    /// Reads once, into a buffer of 4,096 bytes: whether bytes came. None come at the end. Room for them is asked for before the
+    /// read, so that no byte is lost where memory lacks.
     pub(crate) fn read_on<R: Read>(&mut self, reading: &mut Reading<R>) -> Result<bool, ScriptError>
         ensures grows { InputGrows self.old self.new (unread R.remaining reading.old) (unread R.remaining reading.new) }
         ensures more { IfOk result (λ more. more ≡ true → to_come self.new reading.new + 1 ≤ to_come self.old reading.old) }
@@ -74,17 +75,14 @@ impl Input {
         ensures told { OnErr result ((result ≡ Err errors.Read) ⊎ (result ≡ Err errors.Memory)) }
     {
         self.compact();
-        let kept = self.bytes.len();
-        self.bytes.resize(kept + ROOM, 0)?;
-        match reading.read(&mut self.bytes[kept..]) {
+        self.bytes.reserve(ROOM)?;
+        let mut buffer = [0; ROOM];
+        match reading.read(&mut buffer) {
             Ok(count) => {
-                self.bytes.truncate(kept + count);
+                self.bytes.extend_from_slice(&buffer[..count]).unwrap();
                 Ok(count > 0)
             }
-            Err(_) => {
-                self.bytes.truncate(kept);
-                Err(ScriptError::Read)
-            }
+            Err(_) => Err(ScriptError::Read),
         }
     }
 }

@@ -9,8 +9,8 @@ ghost use Rattle.mm_report.specs.Language.Laws.{OneReport};
 pub fn one_report()
     ensures { OneReport }
 {
-    mm_text::one_meaning();
-    mm_store::items_stand();
-    mm_frame::files_have_one_base();
-    mm_proof::has_one_verdict_at();
+    mm_keep::one_meaning();
+    mm_keep::items_stand();
+    mm_keep::files_have_one_base();
+    mm_keep::has_one_verdict_at();
 }

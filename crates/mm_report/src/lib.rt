@@ -14,13 +14,20 @@ mod script;
 mod script_laws;
 mod stream;
 
-pub use answer::write_axioms;
+pub use answer::{fault_name, write_axioms};
 pub use laws::one_report;
+pub use mm_keep::{
+    At, Base, BatchError, Checked, Edit, EditError, Files, Finding, Frame, FrameFault, FrameNumber,
+    Item, ItemKind, KeepError, Keyword, Marks, NamedSymbol, Names, NumberedSymbol, PieceKey, Place,
+    ProofNumber, ProofWords, Resolved, Session, Spot, Statement, StoreError, Symbol, Tally,
+    TextError, TextFault, TextNumber, Unbegun, Undo, Undos, Verdict, Walk, Word, WordKind, Work,
+    edits_keep_units, fits, has_expansion, nth_word, place, walks_go_on,
+};
 pub use reading::{ReadFailed, Reading};
 pub use report::{ReportError, write_report};
 pub use script::{ScriptError, run_script};
 pub use script_laws::{
-    answers_begin, commands_leave_nothing, has_reading, one_reading, one_script_answer,
-    reading_goes_on, scripts_are_read_so,
+    answers_begin, commands_leave_nothing, has_reading, has_script_answer, one_reading,
+    one_script_answer, reading_goes_on, scripts_are_read_so, sessions_are_whole,
 };
 pub use stream::{WriteFailed, Writing};

@@ -1,7 +1,7 @@
 //! What a line of a script asks for.
 
 ghost use Rattle.std.specs.Prelude.{◌≡◌, ◌≢◌, ◌≤◌, ◌+◌, ◌++◌, ◌∷◌, true, false, None, decimal, drop, length, IfSome, List, ℕ};
-ghost use Rattle.mm_store.specs.Language.Edits.{Asked};
+ghost use Rattle.mm_keep.specs.mm_store.Language.Edits.{Asked};
 ghost use Rattle.mm_report.specs.declared.line.Verb.{Verb};
 ghost use Rattle.mm_report.specs.Code.Lines.{BeginsWithVerb, CutsAt, HasNoSpace, IsFileAnd, IsFileAndTwo, IsNameIn, SaysEdit, SaysLine, verb_word};
 ghost use Rattle.mm_report.specs.Code.Pending.{bytes_of_part};

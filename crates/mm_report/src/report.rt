@@ -2,8 +2,8 @@
 
 ghost use Rattle.std.specs.Prelude.{◌≡◌, ◌<◌, ◌++◌, [], true, decimal, length, IfOk, OnOk, OnErr, ℕ, List, unwrap_or};
 ghost use Rattle.std.specs.Io.KnownBytes.{Appends};
-ghost use Rattle.mm_store.specs.Language.FilesView.{plain};
-ghost use Rattle.mm_frame.specs.Language.Item.{Item};
+ghost use Rattle.mm_keep.specs.mm_store.Language.FilesView.{plain};
+ghost use Rattle.mm_keep.specs.mm_frame.Language.Item.{Item};
 ghost use Rattle.mm_keep.specs.Language.Findings.{counted, told};
 ghost use Rattle.mm_report.specs.Code.InFiles.{IsInFiles};
 ghost use Rattle.mm_report.specs.Code.Written.{AreAllWritten, FailsWithin};
@@ -13,8 +13,10 @@ ghost use Rattle.mm_report.specs.Language.Stream.{written, has_failed, Writes};
 
 use crate::stream::{WriteFailed, Writing};
 use itoa::Buffer;
-use mm_frame::files_have_one_base;
-use mm_keep::{At, Files, Finding, FrameNumber, ProofNumber, Session, Tally, items_have_findings};
+use mm_keep::{
+    At, Files, Finding, FrameNumber, ProofNumber, Session, Tally, files_have_one_base,
+    items_have_findings,
+};
 use std::io::Write;
 use thiserror::Error;
 
@@ -198,7 +200,7 @@ fn write_line<W: Write>(
     match *finding {
         Finding::Incomplete(at) => write_incomplete(files, label, at, to),
         Finding::Wrong(number, at) => write_wrong(files, label, number, at, to),
-        Finding::Fault { number, at, word } => write_fault(files, number, at, word, to),
+        Finding::Fault(number, at, word) => write_fault(files, number, at, word, to),
         _ => Ok(()),
     }
 }

@@ -3,7 +3,9 @@
 ghost use Rattle.mm_report.specs.Language.ScriptExamples.{CutsBatch, CutsFeed, CutsLine, CutsText};
 ghost use Rattle.mm_report.specs.Language.ScriptExamples.{EndsAtLine, EndsAtText, EndsInEdit, ReadsBatch, ReadsLastEdit, ReadsText};
 ghost use Rattle.mm_report.specs.Language.ScriptLaws.{AnswersBegin, CommandsLeaveNothing, HasReading, OneScriptAnswer};
-ghost use Rattle.mm_report.specs.Language.ScriptLaws.{OneEnd, OneReading, OneReadSoFar, ReadingGoesOn};
+ghost use Rattle.mm_report.specs.Language.ScriptLaws.{HasScriptAnswer, IsWhole, OneEnd, OneReading, OneReadSoFar, ReadingGoesOn};
+
+use mm_keep::Session;
 
 /// A script is read in one way, and what is left of it ends it in one way at most.
 pub fn one_reading()
@@ -35,26 +37,50 @@ pub fn commands_leave_nothing()
 pub fn one_script_answer()
     ensures { OneScriptAnswer }
 {
-    mm_text::one_meaning();
-    mm_store::items_stand();
-    mm_store::one_edit();
-    mm_frame::files_have_one_base();
-    mm_frame::has_own_labels();
-    mm_proof::has_one_verdict_at();
+    mm_keep::one_meaning();
+    mm_keep::items_stand();
+    mm_keep::one_edit();
+    mm_keep::files_have_one_base();
+    mm_keep::has_own_labels();
+    mm_keep::has_one_verdict_at();
     mm_keep::one_list_of_runs();
     mm_keep::one_list_each();
+}
+
+/// Each script has answers, whatever session it is asked of: so what is promised where a script is not answered to its end, a
+/// beginning of its answers, is said of answers that there are. No memory is asked for.
+pub fn has_script_answer()
+    ensures { HasScriptAnswer }
+{
+    mm_keep::one_edit();
+    mm_keep::edits_keep_files();
+    mm_keep::edits_keep_units();
+    mm_keep::files_give_items();
+    mm_keep::items_have_findings();
+    mm_keep::has_list_of_runs();
+    mm_keep::has_list_each();
+    has_reading();
+}
+
+/// Each session is one of which scripts have answers.
+pub fn sessions_are_whole(session: &Session)
+    ensures { IsWhole session.now }
+{
+    session.files().holds_pieces();
+    session.files().hold_one_each();
+    let _ = session.count();
 }
 
 /// The answers to the first commands of a script are a beginning of all its answers.
 pub fn answers_begin()
     ensures { AnswersBegin }
 {
-    mm_text::one_meaning();
-    mm_store::items_stand();
-    mm_store::one_edit();
-    mm_frame::files_have_one_base();
-    mm_frame::has_own_labels();
-    mm_proof::has_one_verdict_at();
+    mm_keep::one_meaning();
+    mm_keep::items_stand();
+    mm_keep::one_edit();
+    mm_keep::files_have_one_base();
+    mm_keep::has_own_labels();
+    mm_keep::has_one_verdict_at();
     mm_keep::one_list_of_runs();
     mm_keep::one_list_each();
 }

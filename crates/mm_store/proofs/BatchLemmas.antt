@@ -1,8 +1,12 @@
 -- Edits that were done one after another, undone and settled.
 use Rattle.std.proofs.Common.{◌≡◌, ◌≢◌, ℕ, ◌+◌, List, [], ◌∷◌, ◌++◌, Option, Some, None, length, refl, sym, ap, ◌∙◌, subst, arith}
+use Rattle.std.specs.Prelude.{Result, Ok, Err, IfOk, OnOk}
 use Rattle.std.proofs.lemmas.Option.{none-some}
 use Rattle.std.specs.FinMap as finite
+use Rattle.mm_store.specs.declared.edit.EditError.{EditError}
 use Rattle.mm_store.specs.Language.Undoing as action
+use Rattle.mm_store.specs.Language.Edits.{Asked, Insert, Replace, Delete, Move}
+use Rattle.mm_store.specs.Language.EditedKeys.{IsEditByKeys, IsMadeOf, parks}
 use Rattle.mm_store.specs.Language.Batches.{CanSettleAll, CanUndoAll, IsSpendable, settled_all, undone_all}
 use Rattle.mm_store.specs.Language.FileFacts.{parked_in}
 use Rattle.mm_store.specs.Language.FilesView.{FilesView}
@@ -197,3 +201,30 @@ spendable_more old between new undos undo once undoable spendable =
       can_settle = can_settle_last undos undo new settles undoable.can_settle;
       parked = ap (λ view. parked_in view) (settled_last undos undo new) ∙ sym (settled_count between (settled undo new) undos spendable.can_settle settles alike.count) ∙ spendable.parked;
     }
+
+-- how many pieces are parked by what an edit did
+abbrev parked_by : EditAction → ℕ
+parked_by (action.Inserted at) = 0
+parked_by (action.Replaced at k) = 1
+parked_by (action.Deleted at k) = 1
+parked_by (action.Moved at to) = 0
+
+made_parks : (edit : Asked) (n : ℕ) (old new : FilesView) (undo : UndoView) → IsMadeOf edit n old new undo → parked_by undo.action ≡ parks edit
+made_parks (Insert file at text) n old new undo made = ap (λ (u : UndoView). parked_by u.action) made.3
+made_parks (Replace file at text) n old new undo made = ap (λ (u : UndoView). parked_by u.action) made.3
+made_parks (Delete file at) n old new undo made = ap (λ (u : UndoView). parked_by u.action) made.1
+made_parks (Move file at to) n old new undo made = ap (λ (u : UndoView). parked_by u.action) made.1
+
+spent_less : (view : FilesView) (n : ℕ) (act : EditAction) → CanSettle n act view → parked_in (spent act view) + parked_by act ≡ parked_in view
+spent_less view n (action.Inserted at) can = omega arith
+spent_less view n (action.Replaced at k) can = dropped_count view.pieces k n _ can
+spent_less view n (action.Deleted at k) can = dropped_count view.pieces k n _ can
+spent_less view n (action.Moved at to) can = omega arith
+
+-- an edit parks as many pieces more as its kind says
+pub parks_more : (edit : Asked) (old new : FilesView) (r : Result UndoView EditError) → StandOnce new → IfOk r (IsUndoable old new) → IfOk r (IsEditByKeys edit old new)
+    → OnOk r (parked_in new ≡ parked_in old + parks edit)
+parks_more edit old new (Err error) once undoable by_keys = tt
+parks_more edit old new (Ok undo) once undoable by_keys =
+    let alike : ParksAlike old (settled undo new) = subst (λ view. ParksAlike view (settled undo new)) undoable.back (parks_alike new undo.file undo.action once undoable.can_undo.fits) in
+    omega (arith, alike.count, spent_less new undo.file undo.action undoable.can_settle, made_parks edit by_keys.number old new undo by_keys.made)

@@ -42,6 +42,8 @@ pub mod NamedLemmas
 pub mod RefusalLemmas
 pub mod ReasonLemmas
 pub mod AnswerLemmas
+pub mod HoldingLemmas
+pub mod HavingLemmas
 pub mod BatchLemmas
 pub mod SettleLemmas
 pub mod RefusedLemmas

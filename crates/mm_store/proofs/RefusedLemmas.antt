@@ -8,10 +8,11 @@ use Rattle.mm_store.specs.declared.batch.BatchError.{BatchError}
 use Rattle.mm_store.specs.declared.batch.BatchError.TheVariants.{Edit, Memory}
 use Rattle.mm_store.specs.Language.Batches.{IsBatchError, IsBatchOf, KeepsReading, StartsPlaced}
 use Rattle.mm_store.specs.declared.edit.Edit as code
+use Rattle.mm_store.specs.Language.EditedKeys.{IsBatchByKeys, IsEditByKeys}
 use Rattle.mm_store.specs.Language.Edits.{Asked, asked, IsEditOf, IsPlaced}
 use Rattle.mm_store.specs.Language.FilesView.{File, FilesView}
 use Rattle.mm_store.specs.Language.Pieces.{text_in}
-use Rattle.mm_store.specs.Language.Undoing.{KeepsKeys}
+use Rattle.mm_store.specs.Language.Undoing.{KeepsKeys, UndoView}
 use Rattle.mm_store.specs.Code.Batched.{IsNextError}
 use Rattle.mm_store.proofs.ViewLemmas.{some_is}
 
@@ -19,6 +20,14 @@ use Rattle.mm_store.proofs.ViewLemmas.{some_is}
 pub batch_last : (edits : List Asked) (edit : Asked) (files between after : List File) → IsBatchOf edits files between → IsEditOf edit between after → IsBatchOf (edits ++ edit ∷ []) files after
 batch_last [] edit files between after are is = (after, subst (λ files. IsEditOf edit files after) are is, refl)
 batch_last (first ∷ edits) edit files between after are is = (are.0, are.1, batch_last edits edit are.0 between after are.2 is)
+
+-- one edit more, by keys
+pub by_keys_last : (edits : List Asked) (edit : Asked) (old between new : FilesView) (undos : List UndoView) (undo : UndoView) → IsBatchByKeys edits old between undos
+    → IsEditByKeys edit between new undo → IsBatchByKeys (edits ++ edit ∷ []) old new (undos ++ undo ∷ [])
+by_keys_last [] edit old between new [] undo are is = (new, subst (λ view. IsEditByKeys edit view new undo) are is, refl)
+by_keys_last (first ∷ edits) edit old between new (one ∷ undos) undo are is = (are.0, are.1, by_keys_last edits edit are.0 between new undos undo are.2 is)
+by_keys_last [] edit old between new (one ∷ undos) undo are is = absurd are
+by_keys_last (first ∷ edits) edit old between new [] undo are is = absurd are
 
 -- the edits of a list of which so many are done
 pub mapped_there : (edits : List code.Edit) (n : ℕ) (default : code.Edit) → n < length edits → slice_get (map asked edits) n ≡ Some (asked (get_or edits n default))
@@ -41,6 +50,13 @@ pub batch_next : (edits : List code.Edit) (n : ℕ) (default : code.Edit) (files
 batch_next edits n default files between after lt are is =
     let more = batch_last (take n (map asked edits)) (asked (get_or edits n default)) files between after are is in
     subst (λ n. IsBatchOf (take n (map asked edits)) files after) (suc-eq-add-one n) (subst (λ edits. IsBatchOf edits files after) (sym (next_taken edits n default lt)) more)
+
+pub by_keys_next : (edits : List code.Edit) (n : ℕ) (default : code.Edit) (old between new : FilesView) (undos : List UndoView) (undo : UndoView)
+    → n < length edits → IsBatchByKeys (take n (map asked edits)) old between undos → IsEditByKeys (asked (get_or edits n default)) between new undo
+    → IsBatchByKeys (take (n + 1) (map asked edits)) old new (undos ++ undo ∷ [])
+by_keys_next edits n default old between new undos undo lt are is =
+    let more = by_keys_last (take n (map asked edits)) (asked (get_or edits n default)) old between new undos undo are is in
+    subst (λ n. IsBatchByKeys (take n (map asked edits)) old new (undos ++ undo ∷ [])) (suc-eq-add-one n) (subst (λ edits. IsBatchByKeys edits old new (undos ++ undo ∷ [])) (sym (next_taken edits n default lt)) more)
 
 pub keys_then : (a b c : FilesView) → KeepsKeys a b → KeepsKeys b c → KeepsKeys a c
 keys_then a b c first then = λ key some.

@@ -16,7 +16,8 @@ use Rattle.mm_store.proofs.EntryLemmas.{same_view}
 use Rattle.mm_store.proofs.PieceLemmas.{text_put_other, text_state, get_state_same, get_state_other}
 use Rattle.mm_store.proofs.ReplaceLemmas.{key_stands, plain_replaced, old_other}
 use Rattle.mm_store.proofs.StepLemmas.{plain_inserted, plain_deleted, plain_moved, bytes_deleted, bytes_moved}
-use Rattle.mm_store.specs.Code.Edited.{replaced, inserted, deleted, IsReplaced, IsInserted, IsDeleted, IsMoved}
+use Rattle.mm_store.specs.Language.EditedKeys.{replaced, inserted, deleted}
+use Rattle.mm_store.specs.Code.Edited.{IsReplaced, IsInserted, IsDeleted, IsMoved}
 use Rattle.mm_store.specs.Code.Kept.{places, standing_state, standing_count}
 use Rattle.mm_store.specs.Language.FilesView.{KeyedFile, FilesView, plain, bytes_of}
 use Rattle.mm_store.specs.Language.Pieces.{PieceState, Standing, Parked, Removal, Replaced, Deleted, HeldPiece, Pieces, in_state, with_state, standing_piece, state_in, IsParked}

@@ -4,8 +4,10 @@ pub mod FilesView
 pub mod FileFacts
 pub mod Expansion
 pub mod Walking
+pub mod Holding
 pub mod Keyless
 pub mod Edits
 pub mod Undoing
+pub mod EditedKeys
 pub mod Answers
 pub mod Batches

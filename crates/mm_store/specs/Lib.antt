@@ -1,9 +1,3 @@
-pub use Rattle.mm_text.specs.Language.Run
-pub use Rattle.mm_text.specs.Language.Spelling
-pub use Rattle.mm_text.specs.Language.Reading
-pub use Rattle.mm_text.specs.Language.Unit
-pub use Rattle.mm_text.specs.Language.Cut
-pub use Rattle.mm_text.specs.Language.Part
-pub use Rattle.mm_text.specs.Language.Place
+pub use Rattle.mm_text.specs as mm_text
 pub mod Language
 pub mod Code

@@ -1,12 +1,13 @@
 //! Several edits, one after another: all of them, or none.
 
-ghost use Rattle.std.specs.Prelude.{◌≡◌, [], IfOk, IfErr, OnOk, OnErr, map};
+ghost use Rattle.std.specs.Prelude.{◌≡◌, [], ◌∷◌, ◌++◌, IfOk, IfErr, OnOk, OnErr, map};
 ghost use Rattle.mm_store.specs.declared.batch.BatchError.TheVariants.{Memory};
 ghost use Rattle.mm_store.specs.Language.Batches.{IsBatchOf, IsBatchError, IsSpendable, KeepsReading, KeepsStanding};
 ghost use Rattle.mm_store.specs.Language.Edits.{asked, IsEditOf};
+ghost use Rattle.mm_store.specs.Language.EditedKeys.{IsBatchByKeys, IsEditByKeys};
 ghost use Rattle.mm_store.specs.Language.FileFacts.{parked_in};
 ghost use Rattle.mm_store.specs.Language.FilesView.{FilesView, files_in, plain};
-ghost use Rattle.mm_store.specs.Language.Undoing.{KeepsKeys};
+ghost use Rattle.mm_store.specs.Language.Undoing.{KeepsKeys, UndoView};
 ghost use Rattle.mm_store.specs.Code.Batched.{IsNextError, refusal};
 
 use crate::edit::{Edit, EditError};
@@ -80,19 +81,19 @@ impl Files {
     /// all is as before.
     fn edit_next(
         &mut self,
-        alloc: Global,
         edit: &Edit<'_>,
         number: usize,
         undos: &mut Undos,
     ) -> Result<(), BatchError>
         ensures ok { OnOk result (IsEditOf (asked edit.now) (plain self.old) (plain self.new)) }
+        ensures by_keys { OnOk result ((undo : UndoView) × IsEditByKeys (asked edit.now) self.old self.new undo × (undos.new ≡ undos.old ++ undo ∷ [])) }
         ensures keys { OnOk result (KeepsKeys self.old self.new) }
         ensures spendable { OnOk result ((old : FilesView) → IsSpendable old self.old undos.old → IsSpendable old self.new undos.new) }
         ensures err { IfErr result (IsNextError (asked edit.now) (plain self.old) number) }
         ensures unchanged { OnErr result (self.new ≡ self.old) }
         ensures kept { OnErr result (undos.new ≡ undos.old) }
     {
-        let done = match self.edit(alloc, edit) {
+        let done = match self.edit(edit) {
             Ok(undo) => undo,
             Err(error) => return Err(refused(number, error)),
         };
@@ -111,16 +112,17 @@ impl Files {
     /// of each other answer, once the file and the pieces of the first edit are known to be there. After any error the
     /// files are as before. No edits are done without memory. It takes the time of the edits, and room for what is needed
     /// to undo each.
-    pub fn edit_all(&mut self, alloc: Global, edits: &[Edit<'_>]) -> Result<Undos, BatchError>
+    pub fn edit_all(&mut self, edits: &[Edit<'_>]) -> Result<Undos, BatchError>
         ensures ok { OnOk result (IsBatchOf (map asked edits.now) (plain self.old) (plain self.new)) }
+        ensures by_keys { IfOk result (IsBatchByKeys (map asked edits.now) self.old self.new) }
         ensures reading { OnOk result (KeepsReading self.old self.new) }
         ensures spendable { IfOk result (IsSpendable self.old self.new) }
         ensures err { IfErr result (IsBatchError (map asked edits.now) (plain self.old)) }
         ensures unchanged { OnErr result (self.new ≡ self.old) }
     {
-        let mut undos = Undos::new(alloc);
+        let mut undos = Undos::new(self.allocator());
         for number in 0..edits.len() {
-            if let Err(error) = self.edit_next(alloc, &edits[number], number, &mut undos) {
+            if let Err(error) = self.edit_next(&edits[number], number, &mut undos) {
                 self.undo_all(undos);
                 return Err(error);
             }

@@ -19,7 +19,7 @@ use crate::files::Files;
 use crate::item::{Item, ItemKind};
 use crate::walk::{Spot, Step, Walk};
 use mm_text::{Part, PartKind, nth_word};
-use std::alloc::{AllocError, Global};
+use std::alloc::AllocError;
 
 fn item_kind(kind: PartKind) -> ItemKind
     ensures { result ≡ item_kind kind }
@@ -108,7 +108,6 @@ fn push_items(spot: Spot, parts: &[Part], items: &mut Vec<Item>) -> Result<(), A
 
 /// Puts the items that a walk goes past behind those that it has gone past.
 pub(crate) fn push_rest(
-    alloc: Global,
     files: &Files,
     walk: &mut Walk,
     items: &mut Vec<Item>,
@@ -121,7 +120,7 @@ pub(crate) fn push_rest(
     files.holds_pieces();
     files.hold_units();
     loop {
-        match walk.step(alloc, files)? {
+        match walk.step(files)? {
             Step::End => return Ok(()),
             Step::Items(spot) => push_items(spot, files.parts(spot.key), items)?,
             Step::Nothing => {}

@@ -13,8 +13,10 @@ ghost use Rattle.mm_store.specs.declared.error.StoreError.TheVariants.{Known, No
 ghost use Rattle.mm_store.specs.declared.edit.EditError.TheVariants.{NoFile, NoPiece};
 ghost use Rattle.mm_store.specs.Language.Pieces.{IsParked, Replaced, Deleted, text_under};
 ghost use Rattle.mm_store.specs.Language.FilesView.{no_files, bytes_of, file_number, files_in, find_file, number_of, piece_view, plain, text_of};
+ghost use Rattle.mm_store.specs.Language.Holding.{HoldOneEach};
 ghost use Rattle.mm_store.specs.Language.FileFacts.{CanBeRead, HoldsPieces, IsAdded, IsByte, IsLive, KeepsPieces, NamesNoFile, StandsIn, parked_in};
 ghost use Rattle.mm_store.specs.Language.Edits.{asked, edited_name, Insert, Replace, Delete, Move, IsEditOf, NamesNoMember};
+ghost use Rattle.mm_store.specs.Language.EditedKeys.{IsEditByKeys, parks};
 ghost use Rattle.mm_store.specs.Language.Undoing as action;
 ghost use Rattle.mm_store.specs.Language.Undoing.{keys_in, undone, reversed, settled, spent, CanUndo};
 ghost use Rattle.mm_store.specs.Language.Undoing.{CanSettle, Fits, IsUndoable, KeepsKeys, KeepsOthers, undone_key, settled_key};
@@ -126,7 +128,7 @@ impl Files {
     /// `Text` with the first fault of a text that has one; `TooMany` for a text that has none, with which the files
     /// would have more than 4,294,967,295 bytes; and `Memory`, which can come in the place of each of these two.
     /// Whatever the error, the files are then as before. All pieces that are held keep their keys.
-    pub fn add(&mut self, alloc: Global, name: &[u8], text: &[u8]) -> Result<(), StoreError>
+    pub fn add(&mut self, name: &[u8], text: &[u8]) -> Result<(), StoreError>
         ensures ok { OnOk result (IsAdded (plain self.old) (plain self.new) name.now text.now) }
         ensures keeps { OnOk result (KeepsPieces self.old self.new) }
         ensures parked { OnOk result (parked_in self.new ≡ parked_in self.old) }
@@ -139,23 +141,17 @@ impl Files {
         if self.number_of(name).is_some() {
             return Err(StoreError::Known);
         }
-        let cut = cut(alloc, text)?;
+        let cut = cut(self.allocator(), text)?;
         let more = ended_len(text) as u64;
         if !fits(self.bytes, more) {
             return Err(StoreError::TooMany);
         }
-        self.put_last(alloc, name, more, cut)?;
+        self.put_last(name, more, cut)?;
         Ok(())
     }
 
     /// Puts a file behind the others. After want of memory the files are as before.
-    fn put_last(
-        &mut self,
-        alloc: Global,
-        name: &[u8],
-        bytes: u64,
-        cut: Cut,
-    ) -> Result<(), AllocError>
+    fn put_last(&mut self, name: &[u8], bytes: u64, cut: Cut) -> Result<(), AllocError>
         requires missing { file_number (plain self.old) name.now ≡ None }
         requires counted { bytes ≡ length (concat (map (λ piece. piece.items) cut.pieces.items) ++ cut.tail.items) }
         requires fits { bytes_of (plain self.old) + bytes ≤ 4294967295 }
@@ -166,6 +162,7 @@ impl Files {
         ensures parked { OnOk result (parked_in self.new ≡ parked_in self.old) }
         ensures err { OnErr result (self.new ≡ self.old) }
     {
+        let alloc = self.allocator();
         let Cut { pieces, tail } = cut;
         let kept = kept_pieces(alloc, pieces)?;
         let starts = starts(alloc, &kept)?;
@@ -184,13 +181,13 @@ impl Files {
     }
 
     /// The text of the file of this name, its pieces and its tail joined; `None` where no file has the name.
-    pub fn text(&self, alloc: Global, name: &[u8]) -> Result<Option<Vec<u8>>, AllocError>
+    pub fn text(&self, name: &[u8]) -> Result<Option<Vec<u8>>, AllocError>
         ensures { IfOk result
             (λ found. option_map (λ text. text.items) found ≡ option_map text_of (find_file (plain self.now) name.now)) }
     {
         match self.files.get_full(name) {
             None => Ok(None),
-            Some((_, _, file)) => Ok(Some(joined(alloc, file, &self.pieces)?)),
+            Some((_, _, file)) => Ok(Some(joined(*self.files.allocator(), file, &self.pieces)?)),
         }
     }
 
@@ -211,7 +208,7 @@ impl Files {
     /// There are at most as many as the texts of the files have bytes, and so at most 4,294,967,295. `NoTop` comes
     /// where no file has the name `top`, before memory is taken; any other error is `Memory`. The files are gone
     /// through once.
-    pub fn statements(&self, alloc: Global, top: &[u8]) -> Result<Vec<Item>, StoreError>
+    pub fn statements(&self, top: &[u8]) -> Result<Vec<Item>, StoreError>
         ensures items { IfOk result (λ found. IsExpansion (files_in self.now) top.now found.items) }
         ensures read { IfOk result (λ found. All (CanBeRead self.now) found.items) }
         ensures stand { IfOk result (λ found. All (StandsIn self.now) found.items) }
@@ -228,27 +225,27 @@ impl Files {
         self.holds_pieces();
         self.hold_units();
         let _ = &self.bytes;
-        let mut walk = self.begun(alloc, top)?;
-        let mut items = Vec::new(alloc);
-        push_rest(alloc, self, &mut walk, &mut items)?;
+        let mut walk = self.begun(top)?;
+        let mut items = Vec::new(self.allocator());
+        push_rest(self, &mut walk, &mut items)?;
         Ok(items)
     }
 
     /// A walk through the files from the file of the name `top` on, which has gone past nothing.
     ///
     /// `NoTop` comes where no file has the name `top`, before memory is taken; any other error is `Memory`.
-    pub fn walk(&self, alloc: Global, top: &[u8]) -> Result<Walk, StoreError>
+    pub fn walk(&self, top: &[u8]) -> Result<Walk, StoreError>
         ensures ok { IfOk result (λ walk. IsWalk (bare (plain self.now)) top.now [] walk) }
         ensures untold { IfOk result (λ walk. walk.told ≡ false) }
         ensures no_top { IsErrOf result NoTop ↔ (file_number (plain self.now) top.now ≡ None) }
         ensures err { IfErr result IsExpansionError }
     {
         self.hold_units();
-        self.begun(alloc, top)
+        self.begun(top)
     }
 
     /// A walk before the first piece of the top file.
-    fn begun(&self, alloc: Global, top: &[u8]) -> Result<Walk, StoreError>
+    fn begun(&self, top: &[u8]) -> Result<Walk, StoreError>
         ensures ok { IfOk result (λ walk. (number : ℕ) × (file_number (plain self.now) top.now ≡ Some number) × (walk ≡ first_walk top.now number)) }
         ensures no_top { IsErrOf result NoTop ↔ (file_number (plain self.now) top.now ≡ None) }
         ensures no_file { IsErrOf result NoTop ↔ (number_of (files_in self.now) top.now ≡ None) }
@@ -256,7 +253,7 @@ impl Files {
     {
         match self.number_of(top) {
             None => Err(StoreError::NoTop),
-            Some(number) => Ok(Walk::from_top(alloc, top, number)?),
+            Some(number) => Ok(Walk::from_top(self.allocator(), top, number)?),
         }
     }
 
@@ -312,6 +309,13 @@ impl Files {
         ensures { HoldsPieces self.now }
     {
         let _ = &self.pieces;
+    }
+
+    /// Each piece of the files holds one unit. It does nothing; what it promises holds of all files.
+    pub fn hold_one_each(&self)
+        ensures { HoldOneEach (plain self.now) }
+    {
+        self.hold_units();
     }
 
     /// A piece that stands is at one place of the files, and a parked one at none. It does nothing.
@@ -548,6 +552,11 @@ impl Files {
         file.keys.len()
     }
 
+    /// The allocator that all texts and lists are made on.
+    pub(crate) fn allocator(&self) -> Global {
+        *self.files.allocator()
+    }
+
     /// How many bytes the texts have. It takes no memory.
     fn held(&self) -> u64
         ensures { result ≡ bytes_of (plain self.now) }
@@ -565,14 +574,9 @@ impl Files {
     }
 
     /// Does an insertion.
-    fn insert_text(
-        &mut self,
-        alloc: Global,
-        name: &[u8],
-        at: usize,
-        text: &[u8],
-    ) -> Result<Undo, EditError>
+    fn insert_text(&mut self, name: &[u8], at: usize, text: &[u8]) -> Result<Undo, EditError>
         ensures ok { OnOk result (IsEditOf (Insert name.now at text.now) (plain self.old) (plain self.new)) }
+        ensures by_keys { IfOk result (IsEditByKeys (Insert name.now at text.now) self.old self.new) }
         ensures keys { OnOk result (KeepsKeys self.old self.new) }
         ensures undoes { IfOk result (IsUndoable self.old self.new) }
         ensures err { IfErr result (IsEditError (Insert name.now at text.now) (plain self.old)) }
@@ -585,19 +589,14 @@ impl Files {
         if at > count {
             return Err(EditError::NoPiece(count));
         }
-        let kept = new_piece(alloc, self.held(), text)?;
+        let kept = new_piece(self.allocator(), self.held(), text)?;
         Ok(self.insert_piece(number, at, kept)?)
     }
 
     /// Does a replacement.
-    fn replace_text(
-        &mut self,
-        alloc: Global,
-        name: &[u8],
-        at: usize,
-        text: &[u8],
-    ) -> Result<Undo, EditError>
+    fn replace_text(&mut self, name: &[u8], at: usize, text: &[u8]) -> Result<Undo, EditError>
         ensures ok { OnOk result (IsEditOf (Replace name.now at text.now) (plain self.old) (plain self.new)) }
+        ensures by_keys { IfOk result (IsEditByKeys (Replace name.now at text.now) self.old self.new) }
         ensures keys { OnOk result (KeepsKeys self.old self.new) }
         ensures undoes { IfOk result (IsUndoable self.old self.new) }
         ensures err { IfErr result (IsEditError (Replace name.now at text.now) (plain self.old)) }
@@ -610,13 +609,14 @@ impl Files {
         if at >= count {
             return Err(EditError::NoPiece(count));
         }
-        let kept = new_piece(alloc, self.bytes_without(number, at), text)?;
+        let kept = new_piece(self.allocator(), self.bytes_without(number, at), text)?;
         Ok(self.replace_piece(number, at, kept)?)
     }
 
     /// Does a deletion.
     fn delete_at(&mut self, name: &[u8], at: usize) -> Result<Undo, EditError>
         ensures ok { OnOk result (IsEditOf (Delete name.now at) (plain self.old) (plain self.new)) }
+        ensures by_keys { IfOk result (IsEditByKeys (Delete name.now at) self.old self.new) }
         ensures keys { OnOk result (KeepsKeys self.old self.new) }
         ensures undoes { IfOk result (IsUndoable self.old self.new) }
         ensures err { IfErr result (IsEditError (Delete name.now at) (plain self.old)) }
@@ -635,6 +635,7 @@ impl Files {
     /// Does a move.
     fn move_from(&mut self, name: &[u8], at: usize, to: usize) -> Result<Undo, EditError>
         ensures ok { OnOk result (IsEditOf (Move name.now at to) (plain self.old) (plain self.new)) }
+        ensures by_keys { IfOk result (IsEditByKeys (Move name.now at to) self.old self.new) }
         ensures keys { OnOk result (KeepsKeys self.old self.new) }
         ensures undoes { IfOk result (IsUndoable self.old self.new) }
         ensures err { IfErr result (IsEditError (Move name.now at to) (plain self.old)) }
@@ -650,16 +651,38 @@ impl Files {
         Ok(self.move_piece(number, at, to))
     }
 
+    /// Does an edit.
+    fn apply(&mut self, edit: &Edit<'_>) -> Result<Undo, EditError>
+        ensures ok { OnOk result (IsEditOf (asked edit.now) (plain self.old) (plain self.new)) }
+        ensures by_keys { IfOk result (IsEditByKeys (asked edit.now) self.old self.new) }
+        ensures keys { OnOk result (KeepsKeys self.old self.new) }
+        ensures undoes { IfOk result (IsUndoable self.old self.new) }
+        ensures err { IfErr result (IsEditError (asked edit.now) (plain self.old)) }
+        ensures unchanged { OnErr result (self.new ≡ self.old) }
+    {
+        match *edit {
+            Edit::Insert { file, at, text } => self.insert_text(file, at, text),
+            Edit::Replace { file, at, text } => self.replace_text(file, at, text),
+            Edit::Delete { file, at } => self.delete_at(file, at),
+            Edit::Move { file, at, to } => self.move_from(file, at, to),
+        }
+    }
+
     /// Does an edit, and answers what is needed to undo it.
     ///
     /// The text that an edit brings becomes one piece as it is, with a line feed behind it where it does not end in
     /// white space. The piece that a replacement or a deletion takes out is parked until the answer is spent; its
-    /// key and its text stay. The errors are, in this order: `NoFile`; `NoPiece` with the count of the pieces; `Text`
-    /// with the first fault of the text; `NotOne` with the number of its units; `TooMany` where the files would then
-    /// have more than 4,294,967,295 bytes. The first two come before memory is taken. `Memory` can come in the place
-    /// of the others and of success, and only where the edit brings a text. After any error the files are as before.
-    pub fn edit(&mut self, alloc: Global, edit: &Edit<'_>) -> Result<Undo, EditError>
+    /// key and its text stay, and one piece more is parked. A new piece has a key that no piece had. A move parks
+    /// nothing, and the moved piece keeps its key.
+    ///
+    /// The errors are, in this order: `NoFile`; `NoPiece` with the count of the pieces; `Text` with the first fault of
+    /// the text; `NotOne` with the number of its units; `TooMany` where the files would then have more than
+    /// 4,294,967,295 bytes. The first two come before memory is taken. `Memory` can come in the place of the others
+    /// and of success, and only where the edit brings a text. After any error the files are as before.
+    pub fn edit(&mut self, edit: &Edit<'_>) -> Result<Undo, EditError>
         ensures ok { OnOk result (IsEditOf (asked edit.now) (plain self.old) (plain self.new)) }
+        ensures by_keys { IfOk result (IsEditByKeys (asked edit.now) self.old self.new) }
+        ensures parked { OnOk result (parked_in self.new ≡ parked_in self.old + parks (asked edit.now)) }
         ensures keys { OnOk result (KeepsKeys self.old self.new) }
         ensures undoes { IfOk result (IsUndoable self.old self.new) }
         ensures no_file { IsErrOf result NoFile ↔ (file_number (plain self.old) (edited_name (asked edit.now)) ≡ None) }
@@ -667,11 +690,8 @@ impl Files {
         ensures err { IfErr result (IsEditError (asked edit.now) (plain self.old)) }
         ensures unchanged { OnErr result (self.new ≡ self.old) }
     {
-        match *edit {
-            Edit::Insert { file, at, text } => self.insert_text(alloc, file, at, text),
-            Edit::Replace { file, at, text } => self.replace_text(alloc, file, at, text),
-            Edit::Delete { file, at } => self.delete_at(file, at),
-            Edit::Move { file, at, to } => self.move_from(file, at, to),
-        }
+        let done = self.apply(edit);
+        self.stand_once();
+        done
     }
 }

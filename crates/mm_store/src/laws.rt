@@ -8,10 +8,11 @@ ghost use Rattle.mm_store.specs.declared.item.Item.{Item};
 ghost use Rattle.mm_store.specs.declared.edit.EditError.{EditError};
 ghost use Rattle.mm_store.specs.declared.edit.EditError.TheVariants.{Memory};
 ghost use Rattle.mm_store.specs.Language.Answers.{IsEditError};
-ghost use Rattle.mm_store.specs.Language.FilesView.{File, FileView, FilesView, file_number, files_in, find_file, plain, text_of, without_keys};
+ghost use Rattle.mm_store.specs.Language.FilesView.{File, FileView, FilesView, file_number, files_in, find_file, number_of, plain, text_of, without_keys};
 ghost use Rattle.mm_store.specs.Language.FileFacts.{CanBeRead, HoldsPieces, IsAdded, IsByte, StandsIn};
 ghost use Rattle.mm_store.specs.Language.Edits.{Asked, Insert, Replace, Delete, Move, edited, edited_name, with_members, IsEditOf};
 ghost use Rattle.mm_store.specs.Language.Expansion.{IsExpansion};
+ghost use Rattle.mm_store.specs.Language.Holding.{HoldOneEach};
 ghost use Rattle.mm_store.specs.Language.Walking.{IsWalk, WalkView};
 ghost use Rattle.mm_store.specs.Language.Keyless.{bare, keyless_item};
 
@@ -21,6 +22,20 @@ pub fn one_expansion()
 {
     mm_text::one_meaning();
     mm_text::one_division();
+}
+
+/// Files each piece of which holds one unit give items from each top file on that is among them.
+pub fn has_expansion()
+    ensures { (files : FilesView) (top : List ℕ) → HoldOneEach (plain files) → number_of (files_in files) top ≢ None
+        → (items : List Item) × IsExpansion (files_in files) top items }
+{}
+
+/// Where each piece of files holds one unit, it does so after an edit; and there are files with keys that mean what these mean.
+pub fn edits_keep_units()
+    ensures units { (edit : Asked) (files after : List File) → HoldOneEach files → IsEditOf edit files after → HoldOneEach after }
+    ensures keys { (files : List File) → (view : FilesView) × HoldsPieces view × (plain view ≡ files) }
+{
+    mm_text::one_unit_of_cut();
 }
 
 /// Each item of files can be read, and stands where it says.

@@ -32,10 +32,13 @@ pub use files::{Files, PieceKey};
 pub use item::{Item, ItemKind};
 pub use laws::{
     added_files_have_their_text, bytes_are_within, edits_keep_files, edits_keep_members,
-    edits_reverse, items_stand, keys_do_not_matter, one_edit, one_expansion, pieces_join_to_text,
-    walks_go_on,
+    edits_keep_units, edits_reverse, has_expansion, items_stand, keys_do_not_matter, one_edit,
+    one_expansion, pieces_join_to_text, walks_go_on,
 };
-pub use mm_text::{Keyword, Place, TextFault, TextNumber, Word, WordKind, nth_word, place};
+pub use mm_text::{
+    Keyword, Place, TextError, TextFault, TextNumber, Word, WordCursor, WordKind,
+    first_faults_are_within, nth_word, one_meaning, place,
+};
 pub use room::fits;
 pub use undo::Undo;
 pub use walk::Walk;

@@ -86,12 +86,13 @@ fn advance(levels: &mut Vec<Level>)
 }
 
 /// Puts a name into the set that is not there.
-fn take_name(alloc: Global, name: &[u8], names: &mut IndexSet<Vec<u8>>) -> Result<(), AllocError>
+fn take_name(name: &[u8], names: &mut IndexSet<Vec<u8>>) -> Result<(), AllocError>
     requires { ¬ Contains (names_in names.old) name.now }
     ensures ok { OnOk result (names_in names.new ≡ names_in names.old ++ name.now ∷ []) }
     ensures err { OnErr result (names_in names.new ≡ names_in names.old) }
 {
-    names.insert(Vec::from_slice(alloc, name)?)?;
+    let name = Vec::from_slice(*names.allocator(), name)?;
+    names.insert(name)?;
     Ok(())
 }
 
@@ -105,18 +106,18 @@ impl Walk {
             levels: Vec::new(alloc),
             told: false,
         };
-        walk.begin(alloc, top, number)?;
+        walk.begin(top, number)?;
         Ok(walk)
     }
 
     /// Takes the name of the top file and enters it.
-    fn begin(&mut self, alloc: Global, top: &[u8], number: usize) -> Result<(), AllocError>
+    fn begin(&mut self, top: &[u8], number: usize) -> Result<(), AllocError>
         requires names { self.old.names ≡ [] }
         requires levels { self.old.levels ≡ [] }
         requires untold { self.old.told ≡ false }
         ensures { OnOk result (self.new ≡ first_walk top.now number) }
     {
-        take_name(alloc, top, &mut self.names)?;
+        take_name(top, &mut self.names)?;
         self.levels.push(Level {
             file: number,
             piece: 0,
@@ -159,20 +160,20 @@ impl Walk {
     }
 
     /// Goes past the next piece of the innermost file, and takes the name that it includes.
-    fn pass_told(&mut self, alloc: Global, name: &[u8]) -> Result<(), AllocError>
+    fn pass_told(&mut self, name: &[u8]) -> Result<(), AllocError>
         requires last { (front : List Level) × (level : Level) × (self.old.levels ≡ front ++ level ∷ []) × (level.piece < 18446744073709551615) }
         requires fresh { ¬ Contains self.old.names name.now }
         ensures ok { OnOk result ((front : List Level) (level : Level) → self.old.levels ≡ front ++ level ∷ []
             → self.new ≡ record { names = self.old.names ++ name.now ∷ []; levels = front ++ behind level ∷ []; told = false }) }
         ensures err { OnErr result (self.new ≡ self.old) }
     {
-        take_name(alloc, name, &mut self.names)?;
+        take_name(name, &mut self.names)?;
         self.pass();
         Ok(())
     }
 
     /// Goes past the next piece of the innermost file, takes the name that it includes, and enters that file.
-    fn enter(&mut self, alloc: Global, name: &[u8], number: usize) -> Result<(), AllocError>
+    fn enter(&mut self, name: &[u8], number: usize) -> Result<(), AllocError>
         requires last { (front : List Level) × (level : Level) × (self.old.levels ≡ front ++ level ∷ []) × (level.piece < 18446744073709551615) }
         requires fresh { ¬ Contains self.old.names name.now }
         ensures ok { OnOk result ((front : List Level) (level : Level) → self.old.levels ≡ front ++ level ∷ [] → self.new ≡
@@ -180,7 +181,7 @@ impl Walk {
         ensures err { OnErr result (self.new ≡ self.old) }
     {
         self.levels.reserve(1)?;
-        take_name(alloc, name, &mut self.names)?;
+        take_name(name, &mut self.names)?;
         advance(&mut self.levels);
         let inner = Level {
             file: number,
@@ -192,7 +193,7 @@ impl Walk {
     }
 
     /// A reference to a missing file: it is told, or gone past where it was told.
-    fn miss(&mut self, alloc: Global, spot: Spot, name: &[u8]) -> Result<Step, AllocError>
+    fn miss(&mut self, spot: Spot, name: &[u8]) -> Result<Step, AllocError>
         requires last { (front : List Level) × (level : Level) × (self.old.levels ≡ front ++ level ∷ []) × (level.piece < 18446744073709551615) }
         requires fresh { ¬ Contains self.old.names name.now }
         ensures ok { IfOk result (λ step. (files : List FileView) → IsReference files self.old.levels spot name.now → number_of files name.now ≡ None
@@ -200,22 +201,16 @@ impl Walk {
         ensures err { OnErr result (self.new ≡ self.old) }
     {
         if self.told {
-            self.pass_told(alloc, name)?;
+            self.pass_told(name)?;
             return Ok(Step::Items(spot));
         }
-        let name = Vec::from_slice(alloc, name)?;
+        let name = Vec::from_slice(*self.names.allocator(), name)?;
         self.told = true;
         Ok(Step::Missing(name))
     }
 
     /// A reference: it is gone past where its name was taken, its file is entered, or it is missing.
-    fn include(
-        &mut self,
-        alloc: Global,
-        files: &Files,
-        spot: Spot,
-        name: &[u8],
-    ) -> Result<Step, AllocError>
+    fn include(&mut self, files: &Files, spot: Spot, name: &[u8]) -> Result<Step, AllocError>
         requires { IsReference (files_in files.now) self.old.levels spot name.now }
         ensures ok { IfOk result (λ step. IsStep (files_in files.now) self.old step self.new) }
         ensures err { OnErr result (self.new ≡ self.old) }
@@ -225,16 +220,16 @@ impl Walk {
             return Ok(Step::Nothing);
         }
         match files.number_of(name) {
-            None => self.miss(alloc, spot, name),
+            None => self.miss(spot, name),
             Some(number) => {
-                self.enter(alloc, name, number)?;
+                self.enter(name, number)?;
                 Ok(Step::Nothing)
             }
         }
     }
 
     /// One step. After want of memory the walk stands where it stood.
-    pub(crate) fn step(&mut self, alloc: Global, files: &Files) -> Result<Step, AllocError>
+    pub(crate) fn step(&mut self, files: &Files) -> Result<Step, AllocError>
         ensures ok { IfOk result (λ step. IsStep (files_in files.now) self.old step self.new) }
         ensures err { OnErr result (self.new ≡ self.old) }
     {
@@ -256,7 +251,7 @@ impl Walk {
                 self.pass();
                 Ok(Step::Items(spot))
             }
-            Some(name) => self.include(alloc, files, spot, name),
+            Some(name) => self.include(files, spot, name),
         }
     }
 
@@ -267,11 +262,7 @@ impl Walk {
     /// enters it; where none is, the next call goes past the reference. Each call goes on from where the last one
     /// stopped. After want of memory the walk may have gone on, but past no missing name that it did not tell: the
     /// next call goes on from there.
-    pub fn next_missing(
-        &mut self,
-        alloc: Global,
-        files: &Files,
-    ) -> Result<Option<Vec<u8>>, AllocError>
+    pub fn next_missing(&mut self, files: &Files) -> Result<Option<Vec<u8>>, AllocError>
         ensures found { IfOk result (λ found. IfSome found (λ name. (top : List ℕ) (items : List Item)
             → IsWalk (bare (plain files.now)) top items self.old → FindsMissing (bare (plain files.now)) top items self.old self.new name.items)) }
         ensures end { IfOk result (λ found. IfNone found ((top : List ℕ) (items : List Item)
@@ -283,7 +274,7 @@ impl Walk {
         mm_text::one_division();
         files.hold_units();
         loop {
-            match self.step(alloc, files)? {
+            match self.step(files)? {
                 Step::End => return Ok(None),
                 Step::Missing(name) => return Ok(Some(name)),
                 Step::Nothing => {}

@@ -4,10 +4,10 @@ use Rattle.std.specs.Prelude.{count_by}
 use Rattle.std.proofs.Common.{eq-eqb}
 use Rattle.std.proofs.lemmas.Bool.{eqb-true}
 use Rattle.std.proofs.lemmas.List.Sums.{sum_by-cons}
-use Rattle.mm_frame.specs.Language.Item.{Item}
-use Rattle.mm_keep.specs.declared.tally.Tally.{Tally}
-use Rattle.mm_keep.specs.Language.Findings.{counted}
-use Rattle.mm_keep.specs.Language.Told.{Told, Quiet, AnAxiom, Proved, Incomplete, Wrong, Fault, Counts, counts, is_incomplete, is_wrong, is_fault}
+use Rattle.mm_report.specs.mm_frame.Language.Item.{Item}
+use Rattle.mm_report.specs.mm_keep.declared.tally.Tally.{Tally}
+use Rattle.mm_report.specs.mm_keep.Language.Findings.{counted}
+use Rattle.mm_report.specs.mm_keep.Language.Told.{Told, Quiet, AnAxiom, Proved, Incomplete, Wrong, Fault, Counts, counts, is_incomplete, is_wrong, is_fault}
 use Rattle.mm_report.specs.Language.Report.{lines}
 
 -- ---- counts

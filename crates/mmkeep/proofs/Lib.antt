@@ -1,3 +1,4 @@
 pub mod AskingLemmas
 pub mod CleanLemmas
 pub mod LoadLemmas
+pub mod PerformLemmas

@@ -1,24 +1,27 @@
 -- Files that are loaded: none is parked, those that are there stay, and a walk goes on among them.
-use Rattle.std.proofs.Common.{◌≡◌, ◌≢◌, ℕ, ◌+◌, ◌<◌, suc, Bool, true, false, not, cond, List, [], ◌∷◌, ◌++◌, Some, None, length, map, sym, ap, ◌∙◌, subst, refl, inl, inr, arith}
+use Rattle.std.proofs.Common.{◌≡◌, ◌≢◌, ℕ, ◌+◌, ◌<◌, suc, Bool, true, false, not, cond, List, [], ◌∷◌, ◌++◌, ◌⊎◌, Option, Some, None, IfSome, Result, Ok, Err, OnOk, length, map, sym, ap, ◌∙◌, subst, refl, inl, inr, arith}
 use Rattle.std.specs.Prelude.{Contains, position}
 use Rattle.std.specs.List.{position_or_len, sum_by}
 use Rattle.std.specs.Str.{bytes_eq}
 use Rattle.std.specs.FinMap as finite
 use Rattle.std.specs.Ordering.{nat_cmp}
-use Rattle.std.proofs.lemmas.Bool.{lt-ltb}
+use Rattle.std.proofs.lemmas.Bool.{lt-ltb, ltb-true}
 use Rattle.std.proofs.lemmas.List.{length-map, nil_from_length}
 use Rattle.std.proofs.lemmas.Option.{none-some}
 use Rattle.std.proofs.lemmas.Slice.Eq.{bytes_eq-Decides}
-use Rattle.mm_store.specs.declared.error.StoreError.{StoreError}
-use Rattle.mm_store.specs.declared.error.StoreError.TheVariants.{Memory, NoTop}
-use Rattle.mm_store.specs.Language.Answers.{IsExpansionError}
-use Rattle.mm_store.specs.declared.item.Item.{Item}
-use Rattle.mm_store.specs.Language.FileFacts.{IsAdded, parked_in}
-use Rattle.mm_store.specs.Language.FilesView.{File, FilesView, file_number, file_view, files_in, no_files, number_of, plain, plain_file}
-use Rattle.mm_store.specs.Language.Keyless.{bare, bare_file}
-use Rattle.mm_store.specs.Language.Pieces.{HeldPiece, parked_state}
-use Rattle.mm_store.specs.Language.Walking.{WalkView, IsWalk, FindsMissing}
-use Rattle.mmkeep.specs.Code.Loaded.{HasFile, HasWalked, IsNew, MayHaveAdded}
+use Rattle.mm_report.specs.mm_store.declared.error.StoreError.{StoreError}
+use Rattle.mm_report.specs.mm_store.declared.error.StoreError.TheVariants.{Memory, NoTop}
+use Rattle.mm_report.specs.mm_store.Language.Answers.{IsExpansionError}
+use Rattle.mm_report.specs.mm_store.declared.item.Item.{Item}
+use Rattle.mm_report.specs.mm_store.Language.FileFacts.{IsAdded, parked_in}
+use Rattle.mm_report.specs.mm_store.Language.FilesView.{File, FilesView, file_number, file_view, files_in, no_files, number_of, plain, plain_file}
+use Rattle.mm_report.specs.mm_store.Language.Keyless.{bare, bare_file}
+use Rattle.mm_report.specs.mm_store.Language.Pieces.{HeldPiece, parked_state}
+use Rattle.mm_report.specs.mm_store.Language.Walking.{WalkView, IsWalk, FindsEnd, FindsMissing}
+use Rattle.mmkeep.specs.declared.adding.FileError.{FileError}
+use Rattle.mmkeep.specs.declared.adding.FileError.TheVariants as file_errors
+use Rattle.mmkeep.specs.Code.Loaded.{AddsIfOpened, HasEnded, HasFile, HasWalked, KeepsFiles, MayHaveAdded}
+use Rattle.mmkeep.specs.Language.Loading.{AddsFile, IsFileError, IsNew, IsTextError}
 
 pub nothing_parked : parked_in no_files ≡ 0
 nothing_parked = ap (sum_by (λ (entry : ℕ × HeldPiece). parked_state entry.1.state)) (nil_from_length (finite.entries finite.empty) (sym (finite.len-entries finite.empty) ∙ finite.len-empty nat_cmp HeldPiece))
@@ -45,6 +48,43 @@ added_there old new name text a =
     let test : File → Bool = λ file. bytes_eq name file.name in
     let same : test a.file ≡ true = (bytes_eq-Decides name a.file.name).1 (sym a.is_name) in
     subst (λ (files : List File). file_number files name ≢ None) (sym a.last) (there test (plain old ++ a.file ∷ []) (place_last test (plain old) a.file same))
+
+-- and leaves the others there
+module _ {X : Type 0} (test : X → Bool) where
+  within : (b : Bool) (m : ℕ) → cond b (Some m) None ≢ None → b ≡ true
+  within true m some = refl
+  within false m some = absurd (some refl)
+
+  kept_step : (b : Bool) (k n m l : ℕ) → (k < n → m < l) → cond (not b) (1 + k) 0 < suc n → cond (not b) (1 + m) 0 < suc l
+  kept_step true k n m l more h = omega arith
+  kept_step false k n m l more h = let less : k < n = omega arith in let lt : m < l = more less in omega arith
+
+  kept_place : (xs ys : List X) → position_or_len test xs < length xs → position_or_len test (xs ++ ys) < length (xs ++ ys)
+  kept_place [] ys h = absurd (omega arith)
+  kept_place (x ∷ xs) ys h = kept_step (test x) (position_or_len test xs) (length xs) (position_or_len test (xs ++ ys)) (length (xs ++ ys)) (kept_place xs ys) h
+
+  still_there : (xs ys : List X) → position test xs ≢ None → position test (xs ++ ys) ≢ None
+  still_there xs ys some = there test (xs ++ ys) (kept_place xs ys (ltb-true (position_or_len test xs) (length xs) (within _ (position_or_len test xs) some)))
+
+pub added_keeps : (old new : FilesView) (name text : List ℕ) → IsAdded (plain old) (plain new) name text → KeepsFiles old new
+added_keeps old new name text a other has =
+    subst (λ (files : List File). file_number files other ≢ None) (sym a.last) (still_there (λ file. bytes_eq other file.name) (plain old) (a.file ∷ []) has)
+
+pub may_keep : (old new : FilesView) (name : List ℕ) → MayHaveAdded old new name → KeepsFiles old new
+may_keep old new name (inl same) = λ other has. subst (λ (files : FilesView). HasFile files other) (sym same) has
+may_keep old new name (inr added) = added_keeps old new name added.0 added.1
+
+-- ---- a file that was opened
+
+pub file_there : {T E : Type 0} (result : Result T E) (old new : FilesView) (name : List ℕ) (unread : Option (List ℕ))
+    → OnOk result (AddsFile (plain old) (plain new) name unread) → OnOk result (HasFile new name)
+file_there (Ok done) old new name unread a = added_there old new name a.text a.is_added
+file_there (Err error) old new name unread a = tt
+
+module _ {F E : Type 0} (remaining : F → Option (List ℕ)) where
+  pub may_have : (opened : Result F E) (old new : FilesView) (name : List ℕ) → AddsIfOpened remaining opened old new name → MayHaveAdded old new name
+  may_have (Ok file) old new name a = inr (a.text, a.is_added)
+  may_have (Err error) old new name same = inl same
 
 -- ---- why files that have the top file are not gone through
 
@@ -86,3 +126,21 @@ walked_on law old new top name items before after finds (inl same) =
 walked_on law old new top name items before after finds (inr added) =
     let untaken : ¬ Contains after.names name = λ taken. finds.stands.new (subst (Contains after.names) (sym finds.is_name) taken) in
     (top, items ++ finds.goes_on.more, law (plain old) (plain new) name added.0 top (items ++ finds.goes_on.more) after added.1 untaken finds.goes_on.is_walk)
+
+-- where the walk comes to its end
+pub ended : (files : FilesView) (top : List ℕ) (items : List Item) (before after : WalkView) → FindsEnd (bare (plain files)) top items before after → HasEnded files after
+ended files top items before after finds =
+    record { top = top; items = items ++ finds.goes_on.more; is_walk = finds.goes_on.is_walk; is_expansion = finds.is_expansion }
+
+-- ---- why a file is not added
+
+pub refused_by_text : (files : List File) (unread : Option (List ℕ)) (text : List ℕ) (error : FileError) → IfSome unread (λ bytes. text ≡ bytes)
+    → IsTextError files text error → IsFileError files unread error
+refused_by_text files None text error is e = inr tt
+refused_by_text files (Some bytes) text error is e = inr (subst (λ (t : List ℕ). IsTextError files t error) is e)
+
+pub refused_by_reading : (files : List File) (unread : Option (List ℕ)) (error : FileError) → (error ≡ file_errors.Read) ⊎ (error ≡ file_errors.Memory)
+    → IsFileError files unread error
+refused_by_reading files unread error (inl e) = inl e
+refused_by_reading files None error (inr e) = inr tt
+refused_by_reading files (Some bytes) error (inr e) = inr (subst (λ (x : FileError). IsTextError files bytes x) (sym e) tt)

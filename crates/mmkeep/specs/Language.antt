@@ -1,3 +1,5 @@
 -- The language: what the contracts of public calls cite, all the way down.
 pub mod Asking
+pub mod Loading
+pub mod Performing
 pub mod Status

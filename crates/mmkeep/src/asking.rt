@@ -1,10 +1,11 @@
 //! Which words are a command.
 
-ghost use Rattle.std.specs.Prelude.{◌≡◌, Some, None, IfSome};
-ghost use Rattle.mmkeep.specs.Language.Asking.{words_of, said};
+ghost use Rattle.std.specs.Prelude.{◌≡◌, Some, None, IfOk, IfSome, IfNone};
+ghost use Rattle.mmkeep.specs.Language.Asking.{file_of, given, said, spelled, words_of};
 ghost use Rattle.mmkeep.specs.declared.arguments.Command.{Command as Asked};
 
 use crate::arguments::Command;
+use std::alloc::{AllocError, Global};
 
 /// The command that these words are, those behind the program's name: `verify FILE`, `axioms FILE LABEL` or
 /// `session FILE`, where FILE and LABEL are any words.
@@ -19,5 +20,37 @@ pub fn command<'a>(words: &[&'a str]) -> Option<Command<'a>>
         [verb, file, label] if *verb == "axioms" => Some(Command::Axioms(file, label)),
         [verb, file] if *verb == "session" => Some(Command::Session(file)),
         _ => None,
+    }
+}
+
+/// These arguments as words.
+fn words_in(alloc: Global, arguments: &[String]) -> Result<Vec<&str>, AllocError>
+    ensures { IfOk result (λ words. said words.items ≡ spelled arguments.now) }
+{
+    let mut words = Vec::new(alloc);
+    for argument in arguments {
+        words.push(argument.as_str())?;
+    }
+    Ok(words)
+}
+
+/// The command that these arguments are, of which the first is the program's name; nothing where they are none.
+pub fn command_of(alloc: Global, arguments: &[String]) -> Result<Option<Command<'_>>, AllocError>
+    ensures some { IfOk result (λ found. IfSome found (λ asked. given arguments.now ≡ words_of asked)) }
+    ensures none { IfOk result (λ found. IfNone found ((asked : Asked) → ¬ (given arguments.now ≡ words_of asked))) }
+{
+    let words = words_in(alloc, arguments)?;
+    match words.as_slice() {
+        [_, after @ ..] => Ok(command(after)),
+        [] => Ok(None),
+    }
+}
+
+/// The top file of a command.
+pub fn top_of<'a>(command: &Command<'a>) -> &'a str
+    ensures { result.now ≡ file_of command.now }
+{
+    match *command {
+        Command::Verify(top) | Command::Axioms(top, _) | Command::Session(top) => top,
     }
 }

@@ -1,26 +1,34 @@
 //! What keeps the program from its work, told by a line on standard error.
 
-ghost use Rattle.std.specs.Prelude.{◌≡◌, ◌≤◌, length};
-ghost use Rattle.mm_store.specs.declared.error.StoreError.TheVariants.{Memory};
+ghost use Rattle.std.specs.Prelude.{◌≡◌};
+ghost use Rattle.mm_report.specs.mm_store.declared.error.StoreError.TheVariants.{Memory as Lacking};
+ghost use Rattle.mmkeep.specs.declared.outcome.Outcome.TheVariants.{Input, Words, Memory};
+ghost use Rattle.mmkeep.specs.Language.Status.{outcome_of, outcome_of_file};
 
-use crate::outcome::{Outcome, outcome_of_stop};
-use mm_keep::{Place, StoreError, TextFault, place};
-use mm_report::ScriptError;
+use crate::adding::FileError;
+use crate::outcome::Outcome;
+use mm_report::{Place, ScriptError, StoreError, TextNumber, fault_name};
 
 /// The words of the command line are no command.
-pub(crate) fn refuse_arguments(rt: &impl Eprint) -> Outcome {
+pub(crate) fn refuse_arguments(rt: &impl Eprint) -> Outcome
+    ensures { result ≡ Words }
+{
     let _ = eprintln!(rt; "mmkeep: arguments");
     Outcome::Words
 }
 
-pub(crate) fn lack_memory(rt: &impl Eprint) -> Outcome {
+/// Memory ran out.
+pub(crate) fn lack_memory(rt: &impl Eprint) -> Outcome
+    ensures { result ≡ Memory }
+{
     let _ = eprintln!(rt; "mmkeep: out of memory");
     Outcome::Memory
 }
 
 /// Files that have the top file are not gone through: no reason is left but memory.
 pub(crate) fn lack(rt: &impl Eprint, error: StoreError) -> Outcome
-    requires { error ≡ Memory }
+    requires { error ≡ Lacking }
+    ensures { result ≡ Memory }
 {
     match error {
         StoreError::Memory => lack_memory(rt),
@@ -29,29 +37,47 @@ pub(crate) fn lack(rt: &impl Eprint, error: StoreError) -> Outcome
 }
 
 /// A file cannot be opened, or a read of it failed.
-pub(crate) fn unreadable(rt: &impl Eprint, path: &str) -> Outcome {
+pub(crate) fn refuse_reading(rt: &impl Eprint, path: &str) -> Outcome
+    ensures { result ≡ Input }
+{
     let _ = eprintln!(rt; "mmkeep: {path}: cannot be read");
     Outcome::Input
 }
 
 /// The text of a file has a fault.
-pub(crate) fn refuse_text(rt: &impl Eprint, path: &str, text: &[u8], fault: TextFault) -> Outcome
-    requires { fault.at ≤ length text.now }
+fn refuse_text(rt: &impl Eprint, path: &str, place: Place, number: TextNumber) -> Outcome
+    ensures { result ≡ Input }
 {
-    let Place { line, column } = place(text, fault.at);
-    let number = fault.number;
-    let _ = eprintln!(rt; "mmkeep: {path}:{line}:{column} {number:?}");
+    let Place { line, column } = place;
+    let code = fault_name(number);
+    let _ = eprintln!(rt; "mmkeep: {path}:{line}:{column} {code}");
     Outcome::Input
 }
 
 /// The files have too many bytes together.
-pub(crate) fn too_many(rt: &impl Eprint) -> Outcome {
+pub(crate) fn refuse_size(rt: &impl Eprint) -> Outcome
+    ensures { result ≡ Input }
+{
     let _ = eprintln!(rt; "mmkeep: S05");
     Outcome::Input
 }
 
+/// A file is not added.
+pub(crate) fn refuse_file(rt: &impl Eprint, path: &str, error: FileError) -> Outcome
+    ensures { result ≡ outcome_of_file error }
+{
+    match error {
+        FileError::Read => refuse_reading(rt, path),
+        FileError::Text(place, number) => refuse_text(rt, path, place, number),
+        FileError::TooMany => refuse_size(rt),
+        FileError::Memory => lack_memory(rt),
+    }
+}
+
 /// A script is not answered to its end, or an answer is not written.
-pub(crate) fn stop(rt: &impl Eprint, error: ScriptError) -> Outcome {
+pub(crate) fn stop(rt: &impl Eprint, error: ScriptError) -> Outcome
+    ensures { result ≡ outcome_of error }
+{
     let _ = match error {
         ScriptError::BadLine => eprintln!(rt; "mmkeep: C01"),
         ScriptError::Cut => eprintln!(rt; "mmkeep: C02"),
@@ -59,5 +85,5 @@ pub(crate) fn stop(rt: &impl Eprint, error: ScriptError) -> Outcome {
         ScriptError::Write => eprintln!(rt; "mmkeep: C04"),
         ScriptError::Memory => eprintln!(rt; "mmkeep: out of memory"),
     };
-    outcome_of_stop(error)
+    Outcome::from(error)
 }

@@ -1,61 +1,54 @@
 //! The files of a database, from the system.
 
-ghost use Rattle.std.specs.Prelude.{◌≡◌, IfOk, IfSome, OnOk};
-ghost use Rattle.mm_store.specs.Language.Answers.{IsAddErrorIn};
-ghost use Rattle.mm_store.specs.Language.FileFacts.{parked_in};
-ghost use Rattle.mm_report.specs.Language.Stream.{unread};
-ghost use Rattle.mmkeep.specs.Code.Loaded.{HasAdded, HasFile, HasWalked, IsNew, IsNewError, KeepsFiles, MayHaveAdded};
+ghost use Rattle.std.specs.Prelude.{◌≡◌, ◌≢◌, IfErr, IfOk, IsErrOf, IsOk, OnOk};
+ghost use Rattle.std.specs.IoError.{error_kind};
+ghost use Rattle.mm_report.specs.mm_store.Language.FileFacts.{parked_in};
+ghost use Rattle.mm_report.specs.mm_store.Language.FilesView.{plain};
+ghost use Rattle.mmkeep.specs.declared.outcome.Outcome.TheVariants.{Input, Memory};
+ghost use Rattle.mmkeep.specs.Code.Loaded.{AddsIfOpened, AddsOpened, HasEnded, HasFile, HasWalked, KeepsFiles, MayHaveAdded};
+ghost use Rattle.mmkeep.specs.Language.Loading.{AddsFile, IsNew};
 
-use crate::complaints::{lack, lack_memory, refuse_text, too_many, unreadable};
+use crate::adding::add_file;
+use crate::complaints::{lack, lack_memory, refuse_file, refuse_reading, refuse_size};
 use crate::outcome::Outcome;
-use mm_keep::{Files as Database, StoreError};
-use mm_report::{ReadFailed, Reading};
-use mm_store::{Walk, walks_go_on};
-use std::alloc::{AllocError, Global};
+use mm_report::{Files as Database, Session, Walk, walks_go_on};
 use std::fs::File;
 use std::io::{ErrorKind, Read};
 use std::rt::Files;
-use std::str;
+use std::{io, str};
 
-/// Why a file is not read to its end.
-#[derive(Clone, Copy, Debug, PartialEq, Eq)]
-pub enum FileError {
-    /// A read failed, or more were needed than a reading may make.
-    Read,
-    /// There was not enough memory.
-    Memory,
-}
-
-impl From<ReadFailed> for FileError {
-    fn from(_: ReadFailed) -> Self {
-        FileError::Read
-    }
-}
-
-impl From<AllocError> for FileError {
-    fn from(_: AllocError) -> Self {
-        FileError::Memory
-    }
-}
-
-/// All bytes that are left to read.
-pub fn read_all<R: Read>(alloc: Global, reading: &mut Reading<R>) -> Result<Vec<u8>, FileError>
-    ensures { IfOk result (λ text. IfSome (unread R.remaining reading.old) (λ bytes. text.items ≡ bytes)) }
+/// Loads the files of a database from a top file on, and begins a session over them.
+pub(crate) fn load_session(
+    rt: &(impl Files + Eprint + AllocGlobal),
+    top: &str,
+) -> Result<Session, Outcome>
+    ensures { IfOk result (λ session. session.top ≡ top.now) }
 {
-    let mut text = Vec::new(alloc);
-    let mut chunk = [0; 16_384];
-    loop {
-        let count = reading.read(&mut chunk)?;
-        if count == 0 {
-            return Ok(text);
-        }
-        text.extend_from_slice(&chunk[..count])?;
+    let files = load(rt, top)?;
+    begin_session(rt, files, top)
+}
+
+/// Begins a session over files that have the top file.
+fn begin_session(
+    rt: &(impl Eprint + AllocGlobal),
+    files: Database,
+    top: &str,
+) -> Result<Session, Outcome>
+    requires parked { parked_in files ≡ 0 }
+    requires top { HasFile files top.now }
+    ensures files { IfOk result (λ session. session.files ≡ files) }
+    ensures top { IfOk result (λ session. session.top ≡ top.now) }
+    ensures memory { IfErr result (λ outcome. outcome ≡ Memory) }
+{
+    match Session::begin(rt.alloc(), files, top.as_bytes()) {
+        Ok((session, _)) => Ok(session),
+        Err(unbegun) => Err(lack(rt, unbegun.fault)),
     }
 }
 
 /// The top file and the files that it includes: each name is opened at its first reference, in the order of the
-/// expansion, once. A name that cannot be opened stays missing. What keeps a file from being loaded is told.
-pub(crate) fn load(rt: &(impl Files + Eprint + AllocGlobal), top: &str) -> Result<Database, Outcome>
+/// expansion, once. A name that cannot be opened stays missing. What keeps a file from being loaded is reported.
+fn load(rt: &(impl Files + Eprint + AllocGlobal), top: &str) -> Result<Database, Outcome>
     ensures parked { IfOk result (λ files. parked_in files ≡ 0) }
     ensures top { IfOk result (λ files. HasFile files top.now) }
 {
@@ -76,27 +69,33 @@ fn add_all(
     ensures parked { OnOk result (parked_in files.new ≡ parked_in files.old) }
     ensures top { OnOk result (HasFile files.new top.now) }
 {
-    add_top(rt, files, top)?;
-    match files.walk(rt.alloc(), top.as_bytes()) {
+    add_top(rt, files, top, File::open(rt, top))?;
+    match files.walk(top.as_bytes()) {
         Ok(mut walk) => add_missing(rt, files, &mut walk),
         Err(error) => Err(lack(rt, error)),
     }
 }
 
 /// Adds the top file, which has to be there.
-fn add_top(
-    rt: &(impl Files + Eprint + AllocGlobal),
+fn add_top<R: Read + Drop>(
+    rt: &(impl Eprint + AllocGlobal),
     files: &mut Database,
     top: &str,
+    opened: io::Result<R>,
 ) -> Result<(), Outcome>
     requires { IsNew files.old top.now }
+    ensures added { OnOk result (AddsOpened R.remaining opened files.old files.new top.now) }
     ensures parked { OnOk result (parked_in files.new ≡ parked_in files.old) }
-    ensures top { OnOk result (HasFile files.new top.now) }
+    ensures there { OnOk result (HasFile files.new top.now) }
+    ensures memory { IfErr opened (λ error. error_kind error ≡ ErrorKind.OutOfMemory → IsErrOf result Memory) }
+    ensures unopened { IfErr opened (λ error. error_kind error ≢ ErrorKind.OutOfMemory → IsErrOf result Input) }
 {
-    match File::open(rt, top) {
-        Ok(file) => add_file(rt, files, top, file),
-        Err(error) if error.kind() == ErrorKind::OutOfMemory => Err(lack_memory(rt)),
-        Err(_) => Err(unreadable(rt, top)),
+    match opened {
+        Ok(file) => add_opened(rt, files, top, file),
+        Err(error) => match error.kind() {
+            ErrorKind::OutOfMemory => Err(lack_memory(rt)),
+            _ => Err(refuse_reading(rt, top)),
+        },
     }
 }
 
@@ -109,97 +108,72 @@ fn add_missing(
     requires { HasWalked files.old walk.old }
     ensures parked { OnOk result (parked_in files.new ≡ parked_in files.old) }
     ensures kept { OnOk result (KeepsFiles files.old files.new) }
+    ensures end { OnOk result (HasEnded files.new walk.new) }
 {
     walks_go_on();
-    // The texts have fewer inclusions than bytes.
     for _ in 0..u32::MAX {
-        match walk.next_missing(rt.alloc(), files) {
-            Ok(Some(name)) => add_included(rt, files, &name)?,
+        match walk.next_missing(files) {
+            Ok(Some(name)) => open_included(rt, files, &name)?,
             Ok(None) => return Ok(()),
             Err(_) => return Err(lack_memory(rt)),
         }
     }
-    Ok(())
+    // Texts that may be added have fewer inclusions than that.
+    Err(refuse_size(rt))
 }
 
-/// Adds the file of this name, if it can be opened.
-fn add_included(
+/// Opens the file of this name, and adds it, if it can be opened.
+fn open_included(
     rt: &(impl Files + Eprint + AllocGlobal),
     files: &mut Database,
     name: &[u8],
 ) -> Result<(), Outcome>
     requires { IsNew files.old name.now }
     ensures parked { OnOk result (parked_in files.new ≡ parked_in files.old) }
-    ensures kept { OnOk result (KeepsFiles files.old files.new) }
     ensures added { OnOk result (MayHaveAdded files.old files.new name.now) }
 {
     // The words of a text are ASCII.
     let Ok(path) = str::from_utf8(name) else {
         return Ok(());
     };
-    match File::open(rt, path) {
-        Ok(file) => add_file(rt, files, path, file),
-        Err(error) if error.kind() == ErrorKind::OutOfMemory => Err(lack_memory(rt)),
-        Err(_) => Ok(()),
-    }
+    add_included(rt, files, path, File::open(rt, path))
 }
 
-/// Reads a file and adds it under its path.
-fn add_file(
+/// Adds an included file, if it was opened; a file that cannot be opened stays missing.
+fn add_included<R: Read + Drop>(
     rt: &(impl Eprint + AllocGlobal),
     files: &mut Database,
     path: &str,
-    file: impl Read + Drop,
+    opened: io::Result<R>,
 ) -> Result<(), Outcome>
     requires { IsNew files.old path.now }
+    ensures added { OnOk result (AddsIfOpened R.remaining opened files.old files.new path.now) }
     ensures parked { OnOk result (parked_in files.new ≡ parked_in files.old) }
-    ensures there { OnOk result (HasFile files.new path.now) }
-    ensures kept { OnOk result (KeepsFiles files.old files.new) }
-    ensures added { OnOk result (HasAdded files.old files.new path.now) }
+    ensures memory { IfErr opened (λ error. error_kind error ≡ ErrorKind.OutOfMemory → IsErrOf result Memory) }
+    ensures missing { IfErr opened (λ error. error_kind error ≢ ErrorKind.OutOfMemory → IsOk result) }
 {
-    let mut reading = Reading::new(file);
-    match read_all(rt.alloc(), &mut reading) {
-        Ok(text) => add_text(rt, files, path, &text),
-        Err(error) => Err(not_read(rt, path, error)),
+    match opened {
+        Ok(file) => add_opened(rt, files, path, file),
+        Err(error) => match error.kind() {
+            ErrorKind::OutOfMemory => Err(lack_memory(rt)),
+            _ => Ok(()),
+        },
     }
 }
 
-/// Tells why a file was not read.
-fn not_read(rt: &impl Eprint, path: &str, error: FileError) -> Outcome {
-    match error {
-        FileError::Read => unreadable(rt, path),
-        FileError::Memory => lack_memory(rt),
-    }
-}
-
-/// Adds a text under a path.
-fn add_text(
+/// Adds a file that was opened, under its path.
+fn add_opened<R: Read + Drop>(
     rt: &(impl Eprint + AllocGlobal),
     files: &mut Database,
     path: &str,
-    text: &[u8],
+    file: R,
 ) -> Result<(), Outcome>
     requires { IsNew files.old path.now }
+    ensures added { OnOk result (AddsFile (plain files.old) (plain files.new) path.now (R.remaining file)) }
     ensures parked { OnOk result (parked_in files.new ≡ parked_in files.old) }
-    ensures there { OnOk result (HasFile files.new path.now) }
-    ensures kept { OnOk result (KeepsFiles files.old files.new) }
-    ensures added { OnOk result (HasAdded files.old files.new path.now) }
 {
-    match files.add(rt.alloc(), path.as_bytes(), text) {
+    match add_file(rt.alloc(), files, path.as_bytes(), file) {
         Ok(()) => Ok(()),
-        Err(error) => Err(not_added(rt, path, text, error)),
-    }
-}
-
-/// Tells why a text was not added under a path that no file had.
-fn not_added(rt: &impl Eprint, path: &str, text: &[u8], error: StoreError) -> Outcome
-    requires within { IsAddErrorIn text.now error }
-    requires new { IsNewError error }
-{
-    match error {
-        StoreError::Text(fault) => refuse_text(rt, path, text, fault),
-        StoreError::Memory => lack_memory(rt),
-        StoreError::TooMany => too_many(rt),
-        _ => unreachable!(),
+        Err(error) => Err(refuse_file(rt, path, error)),
     }
 }

@@ -1,17 +1,21 @@
 //! A verifier for Metamath databases.
 #![tactic(auto)]
 
+mod adding;
 mod arguments;
 mod asking;
 mod complaints;
 mod loading;
 mod outcome;
+mod performing;
 mod program;
 
+pub use adding::{FileError, add_file, read_all};
 pub use arguments::Command;
-pub use asking::command;
-pub use loading::{FileError, read_all};
-pub use outcome::{Outcome, outcome_of_stop, status};
+pub use asking::{command, command_of, top_of};
+pub use mm_report::{ReadFailed, Reading, ScriptError, Session, StoreError, Tally, TextFault};
+pub use outcome::{Outcome, status};
+pub use performing::{judge, perform};
 use std::process::ExitCode;
 
 #[cfg(test)]

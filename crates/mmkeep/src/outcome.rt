@@ -24,6 +24,20 @@ pub enum Outcome {
     Stream,
 }
 
+/// What comes of a script that is not answered to its end.
+impl From<ScriptError> for Outcome {
+    ghost from_gives = { λ error outcome. outcome ≡ outcome_of error };
+
+    fn from(error: ScriptError) -> Self {
+        match error {
+            ScriptError::BadLine | ScriptError::Cut | ScriptError::Read | ScriptError::Write => {
+                Outcome::Stream
+            }
+            ScriptError::Memory => Outcome::Memory,
+        }
+    }
+}
+
 /// The exit status, 0 to 5.
 pub fn status(outcome: &Outcome) -> u8
     ensures { result ≡ status_of outcome.now }
@@ -35,17 +49,5 @@ pub fn status(outcome: &Outcome) -> u8
         Outcome::Words => 3,
         Outcome::Memory => 4,
         Outcome::Stream => 5,
-    }
-}
-
-/// What comes of a script that is not answered to its end.
-pub fn outcome_of_stop(stop: ScriptError) -> Outcome
-    ensures { result ≡ outcome_of stop }
-{
-    match stop {
-        ScriptError::BadLine | ScriptError::Cut | ScriptError::Read | ScriptError::Write => {
-            Outcome::Stream
-        }
-        _ => Outcome::Memory,
     }
 }

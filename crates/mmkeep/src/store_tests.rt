@@ -1,43 +1,43 @@
 //! What the program does not call of files: the text of one.
 
-use mm_store::{Files, StoreError};
-use std::alloc::{AllocError, Global};
+use mm_report::{Files, StoreError};
+use std::alloc::AllocError;
 use std::mem;
 
 /// Whether there is a file of this name with this text.
-fn has_text(files: &Files, alloc: Global, name: &[u8], wanted: &[u8]) -> Result<bool, AllocError> {
-    match files.text(alloc, name)? {
+fn has_text(files: &Files, name: &[u8], wanted: &[u8]) -> Result<bool, AllocError> {
+    match files.text(name)? {
         Some(text) => Ok(text.as_slice() == wanted),
         None => Ok(false),
     }
 }
 
 /// Whether the files know no file of a name.
-fn know_none(files: &Files, alloc: Global, name: &[u8]) -> Result<bool, AllocError> {
-    Ok(files.piece_count(name).is_none() && files.text(alloc, name)?.is_none())
+fn know_none(files: &Files, name: &[u8]) -> Result<bool, AllocError> {
+    Ok(files.piece_count(name).is_none() && files.text(name)?.is_none())
 }
 
 /// Adds two files: one of a piece, with a comment behind it, and one without a name, whose text lacks its line feed.
-fn add_two(files: &mut Files, alloc: Global) -> Result<(), StoreError> {
-    files.add(alloc, b"top", b"$c a $.\n$( end $)\n")?;
-    files.add(alloc, b"", b"$c z $.")
+fn add_two(files: &mut Files) -> Result<(), StoreError> {
+    files.add(b"top", b"$c a $.\n$( end $)\n")?;
+    files.add(b"", b"$c z $.")
 }
 
 /// Whether they tell what was added.
-fn tell_two(files: &Files, alloc: Global) -> Result<bool, AllocError> {
+fn tell_two(files: &Files) -> Result<bool, AllocError> {
     Ok(
         files.piece_count(b"top") == Some(1)
-            && has_text(files, alloc, b"top", b"$c a $.\n$( end $)\n")?
-            && has_text(files, alloc, b"", b"$c z $.\n")?
-            && know_none(files, alloc, b"other")?,
+            && has_text(files, b"top", b"$c a $.\n$( end $)\n")?
+            && has_text(files, b"", b"$c z $.\n")?
+            && know_none(files, b"other")?,
     )
 }
 
 #[test]
 fn a_file_has_the_text_that_was_added(rt: HostRuntime) {
     let mut files = Files::new(rt.alloc());
-    let added = add_two(&mut files, rt.alloc()).is_ok();
-    let told = tell_two(&files, rt.alloc());
+    let added = add_two(&mut files).is_ok();
+    let told = tell_two(&files);
     mem::forget(files);
     assert!(rt; added && told == Ok(true));
 }

@@ -1,9 +1,10 @@
 //! What the program cannot show of streams that fail: a reader that may be called so often, and the session behind a script
 //! that was not answered to its end.
 
-use crate::loading::{FileError, read_all};
-use mm_keep::{Files, Session, StoreError};
-use mm_report::{Reading, ScriptError, Writing, run_script, write_report};
+use crate::adding::{FileError, read_all};
+use mm_report::{
+    Files, Reading, ScriptError, Session, StoreError, Writing, run_script, write_report,
+};
 use std::alloc::Global;
 use std::io::{Read, Write};
 use std::test::Fail;
@@ -81,7 +82,7 @@ const ANSWERS: &[u8] =
 fn begun(alloc: Global) -> Result<Session, StoreError> {
     let mut files = Files::new(alloc);
     // No piece of files that were only added is parked.
-    if files.add(alloc, NAME, LOGIC).is_err() || files.parked() != 0 {
+    if files.add(NAME, LOGIC).is_err() || files.parked() != 0 {
         return Err(StoreError::NoTop);
     }
     match Session::begin(alloc, files, NAME) {

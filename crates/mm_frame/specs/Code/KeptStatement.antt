@@ -2,7 +2,7 @@
 use Rattle.std.specs.Prelude.{◌≡◌, ◌+◌, ◌<◌, ◌≤◌, IfSome, is_some, length, map, All}
 use Rattle.std.specs.List.{AllByRecursion, flat_map}
 use Rattle.std.specs.Option.{option_map}
-use Rattle.mm_text.specs.Language.Unit.{spellings}
+use Rattle.mm_store.specs.mm_text.Language.Unit.{spellings}
 use Rattle.mm_frame.specs.declared.statement.Statement.TheInside.{Inside}
 use Rattle.mm_frame.specs.Language.Item.{Item, is_labelled}
 use Rattle.mm_frame.specs.Code.PlainWords.{LiesInText, word_bytes, plain_bytes}

@@ -1,7 +1,7 @@
 -- The words of a statement between its keywords.
 use Rattle.std.specs.Prelude.{◌≡◌, ℕ, ◌≤◌, Bool, true, false, Option, Some, None, List, ◌∷◌, length, map, take, slice_range}
 use Rattle.std.specs.List.{prefix_len}
-use Rattle.mm_text.specs.declared.word.Word.{Word}
+use Rattle.mm_store.specs.mm_text.declared.word.Word.{Word}
 use Rattle.mm_frame.specs.Language.Statement.{is_plain_kind}
 
 -- how a word is spelled

@@ -2,9 +2,9 @@
 use Rattle.std.specs.Prelude.{◌≡◌, ℕ, ◌+◌, Bool, true, false, if◌then◌else◌, Option, None, List, length, map, take, drop, slice_get, slice_range}
 use Rattle.std.specs.Option.{option_map}
 use Rattle.std.specs.List.{prefix_len}
-use Rattle.mm_text.specs.declared.word.WordKind.{WordKind}
-use Rattle.mm_text.specs.declared.word.WordKind.TheVariants as words
-use Rattle.mm_text.specs.Language.Unit.{Token, tokens_of}
+use Rattle.mm_store.specs.mm_text.declared.word.WordKind.{WordKind}
+use Rattle.mm_store.specs.mm_text.declared.word.WordKind.TheVariants as words
+use Rattle.mm_store.specs.mm_text.Language.Unit.{Token, tokens_of}
 use Rattle.mm_store.specs.declared.item.Item as store
 use Rattle.mm_store.specs.declared.item.ItemKind.{ItemKind}
 use Rattle.mm_store.specs.declared.item.ItemKind.TheVariants as items

@@ -1,14 +1,14 @@
 -- What a session keeps, by its parts, and how it goes on with edited files.
 use Rattle.std.specs.Prelude.{◌≡◌, ◌⊎◌, ℕ, Option, List, []}
-use Rattle.mm_store.specs.declared.batch.BatchError.{BatchError}
-use Rattle.mm_store.specs.declared.batch.BatchError.TheVariants as batch
-use Rattle.mm_store.specs.Language.Undoing.{UndoView}
-use Rattle.mm_store.specs.Language.Batches.{IsRefusedAt, IsSpendable, KeepsReading, StartsPlaced}
-use Rattle.mm_store.specs.Language.Edits.{Asked}
-use Rattle.mm_store.specs.Language.FileFacts.{parked_in}
-use Rattle.mm_store.specs.Language.FilesView.{File, FilesView}
-use Rattle.mm_frame.specs.Language.Base.{BaseView, IsOfFiles}
-use Rattle.mm_frame.specs.declared.base.Base.{Base}
+use Rattle.mm_proof.specs.mm_store.declared.batch.BatchError.{BatchError}
+use Rattle.mm_proof.specs.mm_store.declared.batch.BatchError.TheVariants as batch
+use Rattle.mm_proof.specs.mm_store.Language.Undoing.{UndoView}
+use Rattle.mm_proof.specs.mm_store.Language.Batches.{IsRefusedAt, IsSpendable, KeepsReading, StartsPlaced}
+use Rattle.mm_proof.specs.mm_store.Language.Edits.{Asked}
+use Rattle.mm_proof.specs.mm_store.Language.FileFacts.{parked_in}
+use Rattle.mm_proof.specs.mm_store.Language.FilesView.{File, FilesView}
+use Rattle.mm_proof.specs.mm_frame.Language.Base.{BaseView, IsOfFiles}
+use Rattle.mm_proof.specs.mm_frame.declared.base.Base.{Base}
 use Rattle.mm_proof.specs.Language.Work.{Judgement}
 use Rattle.mm_keep.specs.Code.KeptSession.{AreChecked}
 use Rattle.mm_keep.specs.Code.Next.{KeepsOrRuns, HasTop, IsBuilt}

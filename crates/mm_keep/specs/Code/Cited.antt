@@ -1,11 +1,11 @@
 -- Marks of items, and which items the words of a proof that cite are labels of.
 use Rattle.std.specs.Prelude.{◌≡◌, ◌↔◌, ◌⊎◌, ◌<◌, ◌+◌, ℕ, zero, suc, Bool, true, false, Option, Some, List}
 use Rattle.std.specs.Prelude.{AllPairs, length, slice_get, slice_index, slice_index_or}
-use Rattle.mm_store.specs.Language.FilesView.{FilesView}
-use Rattle.mm_frame.specs.Language.Base.{BaseView}
-use Rattle.mm_frame.specs.Language.Resolving.{IsCarrier}
-use Rattle.mm_frame.specs.Language.Answering.{IsBase}
-use Rattle.mm_frame.specs.declared.base.Base.{Base}
+use Rattle.mm_proof.specs.mm_store.Language.FilesView.{FilesView}
+use Rattle.mm_proof.specs.mm_frame.Language.Base.{BaseView}
+use Rattle.mm_proof.specs.mm_frame.Language.Resolving.{IsCarrier}
+use Rattle.mm_proof.specs.mm_frame.Language.Answering.{IsBase}
+use Rattle.mm_proof.specs.mm_frame.declared.base.Base.{Base}
 use Rattle.mm_proof.specs.Language.Work.{Judgement}
 use Rattle.mm_keep.specs.Language.Citations.{LeadsTo}
 use Rattle.mm_keep.specs.Code.KeptSession.{AreChecked}

@@ -1,8 +1,8 @@
 -- What a session keeps: its files, the base of these, and what the check of each sound theorem said.
 use Rattle.std.specs.Prelude.{◌≡◌, ℕ, true, false, Option, Some, None, List, length, slice_get}
-use Rattle.mm_store.specs.Language.FileFacts.{parked_in}
-use Rattle.mm_frame.specs.Language.Base.{BaseView, IsOfFiles, is_proof_at}
-use Rattle.mm_frame.specs.Language.Answering.{IsBaseBy, StandsLater}
+use Rattle.mm_proof.specs.mm_store.Language.FileFacts.{parked_in}
+use Rattle.mm_proof.specs.mm_frame.Language.Base.{BaseView, IsOfFiles, is_proof_at}
+use Rattle.mm_proof.specs.mm_frame.Language.Answering.{IsBaseBy, StandsLater}
 use Rattle.mm_proof.specs.Language.VerdictAt.{IsVerdictAt, cites_at}
 use Rattle.mm_proof.specs.Language.Work.{Judgement}
 use Rattle.mm_keep.specs.declared.session.Session.TheInside.{Inside}

@@ -1,11 +1,11 @@
 -- What a session goes on with behind a change of its files.
 use Rattle.std.specs.Prelude.{◌≡◌, ◌≢◌, ℕ, true, Option, None, Some, List, length, slice_get}
 use Rattle.std.specs.List.{AllZip}
-use Rattle.mm_store.specs.Language.FilesView.{FilesView, files_in, number_of}
-use Rattle.mm_frame.specs.Language.Base.{BaseView, IsOfFiles, is_proof_at}
-use Rattle.mm_frame.specs.Language.Statement.{Says}
-use Rattle.mm_frame.specs.Language.Answering.{IsBaseBy, StandsLater}
-use Rattle.mm_frame.specs.declared.base.Base.{Base}
+use Rattle.mm_proof.specs.mm_store.Language.FilesView.{FilesView, files_in, number_of}
+use Rattle.mm_proof.specs.mm_frame.Language.Base.{BaseView, IsOfFiles, is_proof_at}
+use Rattle.mm_proof.specs.mm_frame.Language.Statement.{Says}
+use Rattle.mm_proof.specs.mm_frame.Language.Answering.{IsBaseBy, StandsLater}
+use Rattle.mm_proof.specs.mm_frame.declared.base.Base.{Base}
 use Rattle.mm_keep.specs.Code.KeptSession.{AreChecked}
 use Rattle.mm_keep.specs.Code.Planned.{ArePlanned, AreRunBy}
 use Rattle.mm_keep.specs.Language.Runs.{AreThose, AreRuns, AreStepsOf}

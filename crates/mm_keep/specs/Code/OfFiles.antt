@@ -1,10 +1,10 @@
 -- A base as that of the files that it was built from, and what its items are there.
 use Rattle.std.specs.Prelude.{◌≡◌, ℕ, ◌<◌, ◌≤◌, true, All, Option, List, length, slice_get, slice_range}
-use Rattle.mm_store.specs.declared.item.Item as store
-use Rattle.mm_store.specs.Language.FilesView.{FilesView}
-use Rattle.mm_store.specs.Language.FileFacts.{CanBeRead, StandsIn}
-use Rattle.mm_frame.specs.Language.Base.{BaseView, said_at, is_proof_at}
-use Rattle.mm_frame.specs.declared.base.Base.{Base}
+use Rattle.mm_proof.specs.mm_store.declared.item.Item as store
+use Rattle.mm_proof.specs.mm_store.Language.FilesView.{FilesView}
+use Rattle.mm_proof.specs.mm_store.Language.FileFacts.{CanBeRead, StandsIn}
+use Rattle.mm_proof.specs.mm_frame.Language.Base.{BaseView, said_at, is_proof_at}
+use Rattle.mm_proof.specs.mm_frame.declared.base.Base.{Base}
 use Rattle.mm_proof.specs.Language.ReadIn.{IsReadIn}
 use Rattle.mm_proof.specs.Language.ItemLaws.{IsSpotIn}
 use Rattle.mm_proof.specs.Language.VerdictAt.{IsVerdictAt}

@@ -1,9 +1,9 @@
 -- Which theorems of a new base keep what was checked in an old one, and what the runs of the others come to.
 use Rattle.std.specs.Prelude.{◌≡◌, ◌≤◌, ◌<◌, ◌+◌, ◌⊎◌, ℕ, true, false, Option, Some, None, List, [], ◌∷◌, ◌++◌, length, slice_get}
-use Rattle.mm_store.specs.Language.FilesView.{FilesView}
-use Rattle.mm_frame.specs.Language.Base.{BaseView, AreSaid, is_proof_at}
-use Rattle.mm_frame.specs.declared.base.Base.{Base}
-use Rattle.mm_frame.specs.Language.Answering.{IsBaseBy}
+use Rattle.mm_proof.specs.mm_store.Language.FilesView.{FilesView}
+use Rattle.mm_proof.specs.mm_frame.Language.Base.{BaseView, AreSaid, is_proof_at}
+use Rattle.mm_proof.specs.mm_frame.declared.base.Base.{Base}
+use Rattle.mm_proof.specs.mm_frame.Language.Answering.{IsBaseBy}
 use Rattle.mm_proof.specs.Language.BaseMarks.{ItemMark, AreMarks}
 use Rattle.mm_proof.specs.Language.VerdictAt.{AreDoneAt}
 use Rattle.mm_proof.specs.Language.ReadIn.{IsReadIn}

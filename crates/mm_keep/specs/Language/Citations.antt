@@ -1,6 +1,6 @@
 -- What the assertions of a database cite: directly, and by chains of citations.
 use Rattle.std.specs.Prelude.{◌≡◌, ℕ, true}
-use Rattle.mm_frame.specs.Language.Base.{BaseView, is_proof_at}
+use Rattle.mm_proof.specs.mm_frame.Language.Base.{BaseView, is_proof_at}
 use Rattle.mm_proof.specs.Language.CitingLaws.{NamesAssertionAt}
 use Rattle.mm_keep.specs.Language.Told.{IsAxiom}
 

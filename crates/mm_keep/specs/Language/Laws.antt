@@ -1,10 +1,12 @@
 -- What is proved of sessions: each is the contract of a function.
-use Rattle.std.specs.Prelude.{◌≡◌, ◌↔◌, ◌<◌, ◌≤◌, ℕ, List, length}
-use Rattle.mm_store.specs.Language.FilesView.{FilesView, plain}
-use Rattle.mm_frame.specs.Language.Base.{BaseView, IsOfFiles}
+use Rattle.std.specs.Prelude.{◌≡◌, ◌≢◌, ◌↔◌, ◌⊎◌, ◌<◌, ◌≤◌, ℕ, List, None, length}
+use Rattle.mm_proof.specs.mm_store.Language.FileFacts.{HoldsPieces}
+use Rattle.mm_proof.specs.mm_store.Language.FilesView.{FilesView, file_number, plain}
+use Rattle.mm_proof.specs.mm_store.Language.Holding.{HoldOneEach}
+use Rattle.mm_proof.specs.mm_frame.Language.Base.{BaseView, IsOfFiles}
 use Rattle.mm_keep.specs.Language.Citations.{IsAxiomOf, LeadsTo}
 use Rattle.mm_keep.specs.Language.Runs.{AreRunsOf}
-use Rattle.mm_keep.specs.Language.Sessions.{SessionView, AreCitesOf, AreUsersOf, AreAxiomsOf}
+use Rattle.mm_keep.specs.Language.Sessions.{SessionView, HasAssertion, AreCitesOf, AreUsersOf, AreAxiomsOf}
 use Rattle.mm_keep.specs.Language.Told.{Told, IsAxiom, IsRightlyTold}
 
 -- Between files before and files after there is one list of runs, whatever keys their pieces have.
@@ -36,3 +38,29 @@ AxiomsHaveThemselves = (base : BaseView) (i k : ℕ) → IsAxiom base i → IsAx
 -- A chain of citations leads to no later item.
 abbrev pub ChainsLeadBack : Type 0
 ChainsLeadBack = (base : BaseView) (i k : ℕ) → LeadsTo base k i → k ≤ i
+
+-- Files each key of which has a piece, and each piece one unit, give items from each top file that is among them, and from no other.
+abbrev pub FilesGiveItems : Type 0
+FilesGiveItems =
+    (files : FilesView) (top : List ℕ) → HoldsPieces files → HoldOneEach (plain files)
+    → ((base : BaseView) × IsOfFiles files top base) ↔ (file_number (plain files) top ≢ None)
+
+-- Between files before and files after that give items there is a list of runs.
+abbrev pub HasListOfRuns : Type 0
+HasListOfRuns =
+    (before after : FilesView) (top : List ℕ) (old new : BaseView) → IsOfFiles before top old → IsOfFiles after top new
+    → (runs : List ℕ) × AreRunsOf before after top runs
+
+-- A label is that of an assertion of a session, or of none.
+abbrev pub LabelsAreDecided : Type 0
+LabelsAreDecided =
+    (session : SessionView) (label : List ℕ) (base : BaseView) → IsOfFiles session.files session.top base
+    → HasAssertion session label ⊎ (¬ HasAssertion session label)
+
+-- there is a list that stands so to each label of an assertion
+abbrev pub HasListOf : (SessionView → List ℕ → List ℕ → Type 0) → Type 0
+HasListOf AreSo = (session : SessionView) (label : List ℕ) → HasAssertion session label → (numbers : List ℕ) × AreSo session label numbers
+
+-- There is a list each of what an assertion cites, of what cites it, and of its axioms.
+abbrev pub HasListEach : Type 0
+HasListEach = HasListOf AreCitesOf × HasListOf AreUsersOf × HasListOf AreAxiomsOf

@@ -1,13 +1,13 @@
 -- Why a change of a session is refused.
 use Rattle.std.specs.Prelude.{ℕ, List}
-use Rattle.mm_store.specs.declared.edit.EditError.{EditError}
-use Rattle.mm_store.specs.declared.edit.EditError.TheVariants.{Memory}
-use Rattle.mm_store.specs.declared.batch.BatchError.{BatchError}
-use Rattle.mm_store.specs.declared.batch.BatchError.TheVariants as batch
-use Rattle.mm_store.specs.Language.FilesView.{File}
-use Rattle.mm_store.specs.Language.Answers.{IsEditError}
-use Rattle.mm_store.specs.Language.Batches.{IsRefusedAt}
-use Rattle.mm_store.specs.Language.Edits.{Asked, IsPlaced}
+use Rattle.mm_proof.specs.mm_store.declared.edit.EditError.{EditError}
+use Rattle.mm_proof.specs.mm_store.declared.edit.EditError.TheVariants.{Memory}
+use Rattle.mm_proof.specs.mm_store.declared.batch.BatchError.{BatchError}
+use Rattle.mm_proof.specs.mm_store.declared.batch.BatchError.TheVariants as batch
+use Rattle.mm_proof.specs.mm_store.Language.FilesView.{File}
+use Rattle.mm_proof.specs.mm_store.Language.Answers.{IsEditError}
+use Rattle.mm_proof.specs.mm_store.Language.Batches.{IsRefusedAt}
+use Rattle.mm_proof.specs.mm_store.Language.Edits.{Asked, IsPlaced}
 
 -- an edit is refused as files refuse it; or for want of memory, once file and members are known
 abbrev pub IsRefusal : Asked → List File → EditError → Type 0

@@ -1,8 +1,8 @@
 -- Which proofs are run between two databases: those of theorems whose view is not that of before.
 use Rattle.std.specs.Prelude.{◌≡◌, ◌↔◌, ◌<◌, ℕ, true, List, Contains, AllPairs, length, sum}
 use Rattle.std.specs.List.{AllZip}
-use Rattle.mm_store.specs.Language.FilesView.{FilesView}
-use Rattle.mm_frame.specs.Language.Base.{BaseView, IsOfFiles, said_at, is_proof_at}
+use Rattle.mm_proof.specs.mm_store.Language.FilesView.{FilesView}
+use Rattle.mm_proof.specs.mm_frame.Language.Base.{BaseView, IsOfFiles, said_at, is_proof_at}
 use Rattle.mm_proof.specs.Language.View.{view_at, AreSameViews}
 use Rattle.mm_proof.specs.Language.VerdictAt.{AreDoneAt}
 

@@ -1,7 +1,7 @@
 -- What a session answers: each answer is a relation of its files and the name of the top file, and of nothing else.
 use Rattle.std.specs.Prelude.{◌≡◌, ◌<◌, ℕ, true, Option, Some, List, length}
-use Rattle.mm_store.specs.Language.FilesView.{FilesView}
-use Rattle.mm_frame.specs.Language.Base.{BaseView, IsOfFiles, said_at, is_framed_at, is_proof_at}
+use Rattle.mm_proof.specs.mm_store.Language.FilesView.{FilesView}
+use Rattle.mm_proof.specs.mm_frame.Language.Base.{BaseView, IsOfFiles, said_at, is_framed_at, is_proof_at}
 use Rattle.mm_proof.specs.Language.Work.{Recorded}
 use Rattle.mm_keep.specs.Language.Citations.{CitesItem, IsAxiomOf}
 use Rattle.mm_keep.specs.Language.Runs.{AreThose, AreRunsOf, AreStepsOf}

@@ -1,11 +1,11 @@
 -- What is told of the items of files: of each whether it is at fault, an axiom or a theorem, and what the verdict on its proof is; and how
 -- many there are of each.
 use Rattle.std.specs.Prelude.{◌≡◌, ◌+◌, ℕ, true, false, Bool, Some, List, length, slice_get, slice_range, count_by}
-use Rattle.mm_store.specs.declared.item.Item as store
-use Rattle.mm_store.specs.Language.FilesView.{FilesView}
-use Rattle.mm_frame.specs.Language.Base.{BaseView, fault_at, is_sound_at, is_proof_at, said_at}
-use Rattle.mm_frame.specs.Language.Item.{Axiom, is_assertion}
-use Rattle.mm_frame.specs.declared.FrameNumber.{FrameNumber}
+use Rattle.mm_proof.specs.mm_store.declared.item.Item as store
+use Rattle.mm_proof.specs.mm_store.Language.FilesView.{FilesView}
+use Rattle.mm_proof.specs.mm_frame.Language.Base.{BaseView, fault_at, is_sound_at, is_proof_at, said_at}
+use Rattle.mm_proof.specs.mm_frame.Language.Item.{Axiom, is_assertion}
+use Rattle.mm_proof.specs.mm_frame.declared.FrameNumber.{FrameNumber}
 use Rattle.mm_proof.specs.Language.VerdictAt.{IsVerdictAt}
 use Rattle.mm_proof.specs.declared.Spot.{Spot}
 use Rattle.mm_proof.specs.declared.Verdict.{Verdict}

@@ -1,13 +1,13 @@
 -- Where words of items stand, and bytes of these words, in the texts of the files.
 use Rattle.std.specs.Prelude.{◌≡◌, ℕ, ◌+◌, Option, Some, None, List, [], length, slice_get, slice_range}
-use Rattle.mm_text.specs.declared.word.Word.{Word}
-use Rattle.mm_text.specs.Language.Place.{line_at, column_at}
-use Rattle.mm_store.specs.declared.item.Item as store
-use Rattle.mm_store.specs.Language.FilesView.{FilesView}
-use Rattle.mm_store.specs.Language.FileFacts.{CanBeRead, StandsIn, IsByte}
-use Rattle.mm_frame.specs.Language.Base.{BaseView, said_at}
-use Rattle.mm_frame.specs.Language.Item.{Item}
-use Rattle.mm_frame.specs.Language.Statement.{symbols_from}
+use Rattle.mm_proof.specs.mm_text.declared.word.Word.{Word}
+use Rattle.mm_proof.specs.mm_text.Language.Place.{line_at, column_at}
+use Rattle.mm_proof.specs.mm_store.declared.item.Item as store
+use Rattle.mm_proof.specs.mm_store.Language.FilesView.{FilesView}
+use Rattle.mm_proof.specs.mm_store.Language.FileFacts.{CanBeRead, StandsIn, IsByte}
+use Rattle.mm_proof.specs.mm_frame.Language.Base.{BaseView, said_at}
+use Rattle.mm_proof.specs.mm_frame.Language.Item.{Item}
+use Rattle.mm_proof.specs.mm_frame.Language.Statement.{symbols_from}
 use Rattle.mm_proof.specs.declared.Spot.{Spot}
 use Rattle.mm_keep.specs.declared.finding.At.{At}
 

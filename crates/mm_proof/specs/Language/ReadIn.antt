@@ -1,7 +1,7 @@
 -- A base whose items can be read in files, by their keys, and whose symbols by a list of names.
 use Rattle.std.specs.Prelude.{◌≡◌, ℕ, ◌<◌, true, List, length}
 use Rattle.std.specs.List.{AllZip}
-use Rattle.mm_store.specs.Language.FilesView.{FilesView}
+use Rattle.mm_frame.specs.mm_store.Language.FilesView.{FilesView}
 use Rattle.mm_frame.specs.Language.Base.{BaseView, is_proof_at}
 use Rattle.mm_frame.specs.Language.Answering.{BaseAnswers, IsBaseBy}
 use Rattle.mm_frame.specs.Language.Statement.{Says}

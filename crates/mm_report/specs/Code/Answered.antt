@@ -2,11 +2,11 @@
 use Rattle.std.specs.Prelude.{◌≡◌, ◌≤◌, ◌++◌, ℕ, true, false, Bool, Option, List, [], Result, OnOk, IfErr, IfSome, length, unwrap_or, codes}
 use Rattle.std.specs.List.{flat_map}
 use Rattle.std.specs.Io.KnownBytes.{Appends}
-use Rattle.mm_store.specs.declared.edit.EditError.{EditError}
-use Rattle.mm_store.specs.declared.edit.EditError.TheVariants as edits
-use Rattle.mm_store.specs.Language.Edits.{Asked, edited_text}
-use Rattle.mm_frame.specs.Language.Base.{BaseView, IsOfFiles}
-use Rattle.mm_frame.specs.Language.Item.{Item}
+use Rattle.mm_keep.specs.mm_store.declared.edit.EditError.{EditError}
+use Rattle.mm_keep.specs.mm_store.declared.edit.EditError.TheVariants as edits
+use Rattle.mm_keep.specs.mm_store.Language.Edits.{Asked, edited_text}
+use Rattle.mm_keep.specs.mm_frame.Language.Base.{BaseView, IsOfFiles}
+use Rattle.mm_keep.specs.mm_frame.Language.Item.{Item}
 use Rattle.mm_keep.specs.Language.Sessions.{SessionView, HasAssertion, AreAxiomsOf, AreCitesOf, AreUsersOf}
 use Rattle.mm_report.specs.declared.script.ScriptError.{ScriptError}
 use Rattle.mm_report.specs.declared.script.ScriptError.TheVariants as errors

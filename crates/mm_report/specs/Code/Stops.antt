@@ -1,7 +1,7 @@
 -- Where bytes that begin with no whole command end a script, and where they have to be read on.
 use Rattle.std.specs.Prelude.{◌≡◌, ◌≢◌, ◌<◌, ℕ, Some, List, [], ◌∷◌, ◌++◌, length, codes, decimal, replicate}
 use Rattle.std.specs.List.{AllByRecursion, flat_map, join_with_byte}
-use Rattle.mm_store.specs.Language.Edits.{Asked, edited_text}
+use Rattle.mm_keep.specs.mm_store.Language.Edits.{Asked, edited_text}
 use Rattle.mm_report.specs.Language.Script.{Command, End, EndsSo, IsLongestReading, IsReadSoFar, IsGood, IsGoodEdit, AreGoodEdits, IsNumber}
 use Rattle.mm_report.specs.Language.Script.{Listed, listed_bytes, line_of, edit_line}
 

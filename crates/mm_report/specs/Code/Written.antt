@@ -1,8 +1,8 @@
 -- How far a report is written.
 use Rattle.std.specs.Prelude.{◌≡◌, ℕ, true, Option, Some, List, length, take, slice_get}
 use Rattle.std.specs.Io.KnownBytes.{Appends}
-use Rattle.mm_store.specs.Language.FilesView.{FilesView, plain}
-use Rattle.mm_frame.specs.Language.Base.{BaseView, IsOfFiles}
+use Rattle.mm_keep.specs.mm_store.Language.FilesView.{FilesView, plain}
+use Rattle.mm_keep.specs.mm_frame.Language.Base.{BaseView, IsOfFiles}
 use Rattle.mm_keep.specs.Language.Sessions.{SessionView}
 use Rattle.mm_keep.specs.Language.Told.{Told, IsRightlyTold, Counts, counts}
 use Rattle.mm_report.specs.declared.stream.Writing.{Writing}

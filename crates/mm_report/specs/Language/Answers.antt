@@ -2,17 +2,17 @@
 use Rattle.std.specs.Prelude.{◌≡◌, ◌≢◌, ◌⊎◌, ℕ, unwrap_or}
 use Rattle.std.specs.Prelude.{List, [], ◌∷◌, ◌++◌, length, map, codes, decimal}
 use Rattle.std.specs.List.{flat_map}
-use Rattle.mm_text.specs.Language.Place.{line_at, column_at}
-use Rattle.mm_text.specs.declared.fault.TextNumber.{TextNumber}
-use Rattle.mm_text.specs.declared.fault.TextNumber.TheVariants.{T01, T02, T03, T04, T05, T06, T07, T08, T09, T10, T11, T12}
-use Rattle.mm_store.specs.declared.edit.EditError.{EditError}
-use Rattle.mm_store.specs.declared.edit.EditError.TheVariants.{NoFile, NoPiece, Text, NotOne, TooMany, Memory}
-use Rattle.mm_store.specs.Language.Answers.{IsEditError}
-use Rattle.mm_store.specs.Language.Batches.{IsBatchOf, IsRefusedAt}
-use Rattle.mm_store.specs.Language.Edits.{Asked, IsEditOf, edited_text}
-use Rattle.mm_store.specs.Language.FilesView.{plain}
-use Rattle.mm_frame.specs.Language.Base.{BaseView, said_at}
-use Rattle.mm_frame.specs.Language.Item.{Item}
+use Rattle.mm_keep.specs.mm_text.Language.Place.{line_at, column_at}
+use Rattle.mm_keep.specs.mm_text.declared.fault.TextNumber.{TextNumber}
+use Rattle.mm_keep.specs.mm_text.declared.fault.TextNumber.TheVariants.{T01, T02, T03, T04, T05, T06, T07, T08, T09, T10, T11, T12}
+use Rattle.mm_keep.specs.mm_store.declared.edit.EditError.{EditError}
+use Rattle.mm_keep.specs.mm_store.declared.edit.EditError.TheVariants.{NoFile, NoPiece, Text, NotOne, TooMany, Memory}
+use Rattle.mm_keep.specs.mm_store.Language.Answers.{IsEditError}
+use Rattle.mm_keep.specs.mm_store.Language.Batches.{IsBatchOf, IsRefusedAt}
+use Rattle.mm_keep.specs.mm_store.Language.Edits.{Asked, IsEditOf, edited_text}
+use Rattle.mm_keep.specs.mm_store.Language.FilesView.{plain}
+use Rattle.mm_keep.specs.mm_frame.Language.Base.{BaseView, said_at}
+use Rattle.mm_keep.specs.mm_frame.Language.Item.{Item}
 use Rattle.mm_keep.specs.Language.Runs.{AreRunsOf}
 use Rattle.mm_keep.specs.Language.Sessions.{SessionView, OfItems, HasAssertion, IsVerdictOf, AreAxiomsOf, AreCitesOf, AreUsersOf}
 use Rattle.mm_keep.specs.Language.Told.{Told, AnAxiom, Proved, Incomplete, Wrong}

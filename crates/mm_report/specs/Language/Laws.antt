@@ -1,6 +1,6 @@
 -- What is proved of reports: the contract of a function.
 use Rattle.std.specs.Prelude.{◌≡◌, ℕ, List}
-use Rattle.mm_store.specs.Language.FilesView.{plain}
+use Rattle.mm_keep.specs.mm_store.Language.FilesView.{plain}
 use Rattle.mm_keep.specs.Language.Sessions.{SessionView}
 use Rattle.mm_report.specs.Language.Report.{IsReport}
 

@@ -1,6 +1,6 @@
 -- Some scripts, and how they are read.
 use Rattle.std.specs.Prelude.{[], ◌∷◌, codes}
-use Rattle.mm_store.specs.Language.Edits.{Replace, Delete, Insert, Move}
+use Rattle.mm_keep.specs.mm_store.Language.Edits.{Replace, Delete, Insert, Move}
 use Rattle.mm_report.specs.Language.Script.{Change, Batch, Report, Verdict, Axioms, Users, Blank, Given, Done, CutShort, BadLine}
 use Rattle.mm_report.specs.Language.ScriptLaws.{IsReadSo}
 

@@ -1,7 +1,9 @@
 -- What is proved of scripts and their answers: each is the contract of a function.
 use Rattle.std.specs.Prelude.{◌≡◌, ◌↔◌, ◌⊎◌, ℕ, List, [], ◌++◌}
-use Rattle.mm_store.specs.Language.FilesView.{plain}
-use Rattle.mm_frame.specs.Language.Base.{BaseView, IsOfFiles}
+use Rattle.mm_keep.specs.mm_store.Language.FileFacts.{HoldsPieces}
+use Rattle.mm_keep.specs.mm_store.Language.FilesView.{plain}
+use Rattle.mm_keep.specs.mm_store.Language.Holding.{HoldOneEach}
+use Rattle.mm_keep.specs.mm_frame.Language.Base.{BaseView, IsOfFiles}
 use Rattle.mm_keep.specs.Language.Sessions.{SessionView}
 use Rattle.mm_report.specs.Language.Answers.{AreAnswers, IsScriptAnswer}
 use Rattle.mm_report.specs.Language.Script.{Entry, End, EndsSo, commands_of, AreRead, HasEntries, IsLongestReading, IsReadSoFar}
@@ -68,3 +70,22 @@ pub record IsReadSo (script : List ℕ) (entries : List Entry) (rest : List ℕ)
 -- Each script has a reading, and ends in some way.
 abbrev pub HasReading : Type 0
 HasReading = (script : List ℕ) → (entries : List Entry) × (rest : List ℕ) × (end : End) × IsReadSo script entries rest end
+
+-- a session as it is: each key of its files has a piece, each piece holds one unit, and the files give items from the top file on
+pub record IsWhole (session : SessionView) : Type 0 where
+  pub pieces : HoldsPieces session.files
+  pub units : HoldOneEach (plain session.files)
+  pub items : HasItems session
+
+-- the script has answers and an end, and the session behind it is one again
+pub record HasAnswers (session : SessionView) (script : List ℕ) : Type 0 where
+  pub answers : List ℕ
+  pub new : SessionView
+  pub end : End
+  pub is : IsScriptAnswer session script answers new end
+  pub whole : IsWhole new
+
+-- Each script has answers, asked of each session: each edit is accepted or refused for a reason, each label is known or not, and each list,
+-- each verdict and each report exists.
+abbrev pub HasScriptAnswer : Type 0
+HasScriptAnswer = (session : SessionView) (script : List ℕ) → IsWhole session → HasAnswers session script

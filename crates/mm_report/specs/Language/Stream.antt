@@ -1,5 +1,5 @@
 -- What a writer that remembers its failure has written, and what such a reader has left.
-use Rattle.std.specs.Prelude.{◌≡◌, ◌⊎◌, ◌+◌, ℕ, Bool, true, Option, List, Result, OnOk, OnErr, take}
+use Rattle.std.specs.Prelude.{◌≡◌, ◌≤◌, ◌<◌, ◌⊎◌, ◌+◌, ℕ, min, Bool, true, Option, List, Result, OnOk, OnErr, length, take}
 use Rattle.std.specs.Io.KnownBytes.{Appends}
 use Rattle.mm_report.specs.declared.reading.Reading.{Reading}
 use Rattle.mm_report.specs.declared.stream.Writing.{Writing}
@@ -25,6 +25,29 @@ pub record Stops {W : Type 0} (contents : W → Option (List ℕ)) (old new : Wr
 pub record Writes {W T E : Type 0} (contents : W → Option (List ℕ)) (old new : Writing W) (result : Result T E) (bytes : List ℕ) : Type 0 where
   pub ok : OnOk result (Appends (written contents old) (written contents new) bytes)
   pub err : OnErr result (Stops contents old new bytes)
+
+-- how many calls of the writer within were made, as far as they are counted: up to 18,446,744,073,709,551,615
+abbrev pub calls_made : {W : Type 0} → Writing W → ℕ
+calls_made writing = min writing.calls 18446744073709551615
+
+-- so many more calls were made
+abbrev pub HasCalled : {W : Type 0} → Writing W → Writing W → ℕ → Type 0
+HasCalled old new calls = calls_made new ≡ min (calls_made old + calls) 18446744073709551615
+
+-- a write fails with the last of so many calls: each call before it took a byte at least, and these are written
+pub record FailsLast {W : Type 0} (contents : W → Option (List ℕ)) (old new : Writing W) (bytes : List ℕ) (calls : ℕ) : Type 0 where
+  pub taken : ℕ
+  pub appends : Appends (written contents old) (written contents new) (take taken bytes)
+  pub some : 0 < calls
+  pub each : calls ≤ taken + 1
+
+-- the calls of a write: none where there are no bytes, and each takes a byte at least, but for the last of a write that fails
+pub record WritesByCalls {W T E : Type 0} (contents : W → Option (List ℕ)) (old new : Writing W) (result : Result T E) (bytes : List ℕ) : Type 0 where
+  pub calls : ℕ
+  pub made : HasCalled old new calls
+  pub most : calls ≤ length bytes
+  pub some : 0 < length bytes → 0 < calls
+  pub err : OnErr result (FailsLast contents old new bytes calls)
 
 -- the bytes that the reader within has left, where it tells them
 abbrev pub unread : {R : Type 0} → (R → Option (List ℕ)) → Reading R → Option (List ℕ)

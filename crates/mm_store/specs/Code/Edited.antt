@@ -3,9 +3,9 @@ use Rattle.std.specs.Prelude.{◌≡◌, ℕ, ◌≤◌, zero, suc, List, [], �
 use Rattle.std.specs.List.{insert, remove}
 use Rattle.std.specs.FinMap as finite
 use Rattle.mm_store.specs.Language.Undoing as action
-use Rattle.mm_store.specs.Language.Pieces.{Parked, Replaced, Deleted, standing_piece, with_state}
 use Rattle.mm_store.specs.Language.FilesView.{File, FilesView, plain, bytes_of}
-use Rattle.mm_store.specs.Language.Undoing.{UndoView, keys_in, with_keys, key_at, moved, undone, CanUndo, CanSettle, KeepsText}
+use Rattle.mm_store.specs.Language.Undoing.{UndoView, key_at, moved, undone, CanUndo, CanSettle, KeepsText}
+use Rattle.mm_store.specs.Language.EditedKeys.{inserted, replaced, deleted}
 
 -- the members of the file of this number
 abbrev pub pieces_in : List File → ℕ → List (List ℕ)
@@ -18,27 +18,6 @@ abbrev pub with_pieces : List File → ℕ → List (List ℕ) → List File
 with_pieces [] n pieces = []
 with_pieces (file ∷ files) zero pieces = record { name = file.name; pieces = pieces; tail = file.tail } ∷ files
 with_pieces (file ∷ files) (suc n) pieces = file ∷ with_pieces files n pieces
-
--- a new member under this key, with this text, stands before member `at`
-abbrev pub inserted : FilesView → ℕ → ℕ → ℕ → List ℕ → FilesView
-inserted view number at key text = record {
-  keyed = with_keys view.keyed number (insert (keys_in view.keyed number) at key);
-  pieces = finite.insert view.pieces key (standing_piece text);
-}
-
--- a new member under this key stands in the place of member `at`, which is parked
-abbrev pub replaced : FilesView → ℕ → ℕ → ℕ → List ℕ → FilesView
-replaced view number at key text = record {
-  keyed = with_keys view.keyed number (slice_set (keys_in view.keyed number) at key);
-  pieces = with_state (finite.insert view.pieces key (standing_piece text)) (key_at view number at) (Parked number Replaced);
-}
-
--- member `at` is taken out and parked
-abbrev pub deleted : FilesView → ℕ → ℕ → FilesView
-deleted view number at = record {
-  keyed = with_keys view.keyed number (remove (keys_in view.keyed number) at);
-  pieces = with_state view.pieces (key_at view number at) (Parked number Deleted);
-}
 
 -- an edit of the file of this number: its members become these, and the undo gives the files of before
 pub record IsDone (old new : FilesView) (number : ℕ) (members : List (List ℕ)) (undo : UndoView) : Type 0 where

@@ -2,6 +2,8 @@
 use Rattle.std.specs.Prelude.{ℕ}
 use Rattle.mm_report.specs.declared.script.ScriptError.{ScriptError}
 use Rattle.mm_report.specs.declared.script.ScriptError.TheVariants as errors
+use Rattle.mmkeep.specs.declared.adding.FileError.{FileError}
+use Rattle.mmkeep.specs.declared.adding.FileError.TheVariants as file_errors
 use Rattle.mmkeep.specs.declared.outcome.Outcome.{Outcome}
 use Rattle.mmkeep.specs.declared.outcome.Outcome.TheVariants.{Clean, Findings, NoLabel, Input, Words, Memory, Stream}
 
@@ -23,3 +25,10 @@ outcome_of errors.Cut = Stream
 outcome_of errors.Read = Stream
 outcome_of errors.Write = Stream
 outcome_of errors.Memory = Memory
+
+-- what comes of a file that is not added
+abbrev pub outcome_of_file : FileError → Outcome
+outcome_of_file file_errors.Read = Input
+outcome_of_file (file_errors.Text place number) = Input
+outcome_of_file file_errors.TooMany = Input
+outcome_of_file file_errors.Memory = Memory

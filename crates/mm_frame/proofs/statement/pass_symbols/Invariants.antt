@@ -1,5 +1,5 @@
 use Rattle.std.proofs.Common.{◌≡◌, List, length}
-use Rattle.mm_text.specs.declared.word.Word.{Word}
+use Rattle.mm_store.specs.mm_text.declared.word.Word.{Word}
 use Rattle.mm_frame.proofs.SpokenLemmas.{Symbols}
 use Rattle.mm_frame.proofs.statement.pass_symbols.Given as goal
 

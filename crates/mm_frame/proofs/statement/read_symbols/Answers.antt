@@ -1,7 +1,7 @@
 use Rattle.std.proofs.Common.{sym, ◌∙◌, subst, arith}
 use Rattle.std.specs.Prelude.{All}
 use Rattle.std.proofs.lemmas.List.Elements.{All-push}
-use Rattle.mm_text.specs.Language.Reading.{LiesIn}
+use Rattle.mm_store.specs.mm_text.Language.Reading.{LiesIn}
 use Rattle.mm_frame.specs.Code.PlainWords.{LiesInText}
 use Rattle.mm_frame.proofs.SpokenLemmas.{Symbols, symbols_more, symbols_closed}
 use Rattle.mm_frame.proofs.statement.read_symbols.Goals as goal

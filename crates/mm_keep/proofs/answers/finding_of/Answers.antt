@@ -1,6 +1,6 @@
 use Rattle.std.proofs.Common.{◌≡◌, ◌<◌, Some, None, length, slice_get, sym, ap, ◌∙◌, subst, arith}
-use Rattle.mm_frame.specs.Language.Base.{said_at, fault_at, is_sound_at}
-use Rattle.mm_frame.specs.Language.Item.{is_theorem}
+use Rattle.mm_proof.specs.mm_frame.Language.Base.{said_at, fault_at, is_sound_at}
+use Rattle.mm_proof.specs.mm_frame.Language.Item.{is_theorem}
 use Rattle.mm_proof.specs.Language.VerdictAt.{IsVerdictAt}
 use Rattle.mm_keep.proofs.ToldLemmas.{read_at, stands_at}
 use Rattle.mm_keep.proofs.FoundLemmas.{at_index, sound_none, no_theorem}

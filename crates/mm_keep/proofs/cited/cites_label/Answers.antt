@@ -1,7 +1,7 @@
 use Rattle.std.proofs.Common.{◌≡◌, ◌<◌, ℕ, Some, None, List, length, ◌∙◌, subst₂, arith}
 use Rattle.std.specs.Prelude.{◌↔◌, IsTrue}
 use Rattle.std.proofs.lemmas.Bool.{false≢true}
-use Rattle.mm_frame.specs.Language.Base.{said_at}
+use Rattle.mm_proof.specs.mm_frame.Language.Base.{said_at}
 use Rattle.mm_proof.specs.Language.VerdictAt.{cites_at}
 use Rattle.mm_keep.specs.Code.Cited.{IsAmongCited}
 use Rattle.mm_keep.proofs.CitedItems.{checked_at, cites_rising, label_cited, none_cited}

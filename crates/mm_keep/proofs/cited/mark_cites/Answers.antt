@@ -1,5 +1,5 @@
 use Rattle.std.proofs.Common.{◌≡◌, ◌<◌, ℕ, Some, None, List, length, ◌∙◌, subst₂, arith}
-use Rattle.mm_frame.specs.Language.Base.{said_at}
+use Rattle.mm_proof.specs.mm_frame.Language.Base.{said_at}
 use Rattle.mm_proof.specs.Language.VerdictAt.{cites_at}
 use Rattle.mm_keep.specs.Language.Citations.{CitesItem}
 use Rattle.mm_keep.specs.Code.Cited.{HasLabelAmong, MarksMore}

@@ -1,5 +1,5 @@
-use Rattle.mm_frame.specs.Language.Base.{BaseView}
-use Rattle.mm_frame.specs.Language.Answering.{IsBase}
+use Rattle.mm_proof.specs.mm_frame.Language.Base.{BaseView}
+use Rattle.mm_proof.specs.mm_frame.Language.Answering.{IsBase}
 use Rattle.mm_keep.specs.Language.Runs.{AreThose}
 use Rattle.mm_keep.specs.Language.Told.{IsAxiom}
 use Rattle.mm_keep.specs.Code.Cited.{IsMarked}

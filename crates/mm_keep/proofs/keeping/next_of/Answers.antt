@@ -1,5 +1,5 @@
 use Rattle.std.proofs.Common.{◌≡◌, Ok, sym, subst}
-use Rattle.mm_frame.specs.declared.base.Base.{Base}
+use Rattle.mm_proof.specs.mm_frame.declared.base.Base.{Base}
 use Rattle.mm_keep.specs.Code.Next.{IsBuilt}
 use Rattle.mm_keep.proofs.NextLemmas.{both_read, if_ok}
 use Rattle.mm_keep.proofs.keeping.next_of.Goals as goal

@@ -1,5 +1,5 @@
 use Rattle.std.proofs.Common.{◌≡◌, length}
-use Rattle.mm_frame.specs.Language.Base.{BaseView}
+use Rattle.mm_proof.specs.mm_frame.Language.Base.{BaseView}
 use Rattle.mm_keep.specs.Code.Planned.{CanCarry}
 use Rattle.mm_keep.proofs.planning.carry.Given as goal
 use Rattle.mm_keep.proofs.CarryLemmas.{AreCarried}

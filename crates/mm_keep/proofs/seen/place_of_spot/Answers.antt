@@ -1,5 +1,5 @@
 use Rattle.std.proofs.Common.{◌≡◌, ◌+◌, length, subst, arith}
-use Rattle.mm_frame.specs.Language.Base.{said_at}
+use Rattle.mm_proof.specs.mm_frame.Language.Base.{said_at}
 use Rattle.mm_keep.specs.Language.WordPlaces.{HasPlace, proof_word}
 use Rattle.mm_keep.specs.Code.OfFiles.{HasLetter}
 use Rattle.mm_keep.proofs.ToldLemmas.{read_at, stands_at, says_at}

@@ -1,6 +1,6 @@
 use Rattle.std.proofs.Common.{◌+◌, ◌∙◌, refl, ap, subst, slice_range, arith}
-use Rattle.mm_store.specs.Language.FilesView.{plain_file, text_of}
-use Rattle.mm_store.specs.Language.FileFacts.{IsByte, piece_offset}
+use Rattle.mm_proof.specs.mm_store.Language.FilesView.{plain_file, text_of}
+use Rattle.mm_proof.specs.mm_store.Language.FileFacts.{IsByte, piece_offset}
 use Rattle.mm_keep.specs.Language.WordPlaces.{start_of, spelled}
 use Rattle.mm_keep.proofs.SpotLemmas.{item_text, item_within, item_words, found_within, word_is_byte}
 use Rattle.mm_keep.proofs.seen.seen_at.Goals as goal

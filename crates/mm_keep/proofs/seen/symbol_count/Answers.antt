@@ -1,6 +1,6 @@
 use Rattle.std.proofs.Common.{◌∙◌, sym}
 use Rattle.std.proofs.lemmas.List.{length-map}
-use Rattle.mm_frame.specs.Language.NumberedSymbols.{symbols_of, symbol_of}
+use Rattle.mm_proof.specs.mm_frame.Language.NumberedSymbols.{symbols_of, symbol_of}
 use Rattle.mm_keep.proofs.WordCounts.{expression_length, proof_shown}
 use Rattle.mm_keep.proofs.seen.symbol_count.Goals as goal
 

@@ -1,7 +1,7 @@
 use Rattle.std.proofs.Common.{◌≡◌, ◌<◌, [], get_or, length, arith}
 use Rattle.std.specs.Prelude.{unwrap_or}
 use Rattle.std.proofs.KnownBytes.{Appends-trans}
-use Rattle.mm_frame.specs.Language.Base.{said_at}
+use Rattle.mm_keep.specs.mm_frame.Language.Base.{said_at}
 use Rattle.mm_report.proofs.LabelLemmas.{lines_around, lines_more}
 use Rattle.mm_report.proofs.StreamLemmas.{stops_behind, stops_front, writes_stop}
 use Rattle.mm_report.proofs.WrittenLemmas.{label_is}

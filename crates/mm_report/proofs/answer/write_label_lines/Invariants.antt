@@ -1,6 +1,6 @@
 use Rattle.std.proofs.Common.{take}
 use Rattle.std.specs.Io.KnownBytes.{Appends}
-use Rattle.mm_frame.specs.Language.Base.{BaseView, IsOfFiles}
+use Rattle.mm_keep.specs.mm_frame.Language.Base.{BaseView, IsOfFiles}
 use Rattle.mm_report.specs.Language.Stream.{written}
 use Rattle.mm_report.proofs.LabelLemmas.{lines_of}
 use Rattle.mm_report.proofs.answer.write_label_lines.Given as goal

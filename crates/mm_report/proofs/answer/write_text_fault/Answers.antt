@@ -16,4 +16,4 @@ pub returns : goal.returns
 returns g c =
     rw (fault_words c.args.text.now c.args.fault)
     (rw (← c.place-at.ensures.line, ← c.place-at.ensures.column)
-    (writes_then c.in_ok-write_count.ensures (writes_then c.in_ok-write_count-2.ensures (rw c.code_of_text.ensures at c.write_part.ensures))))
+    (writes_then c.in_ok-write_count.ensures (writes_then c.in_ok-write_count-2.ensures (rw (c.as_bytes.ensures.value, c.fault_name.ensures) at c.write_part.ensures))))

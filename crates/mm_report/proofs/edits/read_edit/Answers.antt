@@ -1,8 +1,8 @@
 use Rattle.std.proofs.Common.{◌+◌, ◌∷◌, [], ◌∙◌, ap, arith, sym, subst, inl, inr, refl, ℕ, List}
 use Rattle.std.specs.Prelude.{codes, decimal}
 use Rattle.std.specs.List.{join_with_byte}
-use Rattle.mm_store.specs.Language.Edits.{Asked}
-use Rattle.mm_store.specs.Language.Edits as ask
+use Rattle.mm_keep.specs.mm_store.Language.Edits.{Asked}
+use Rattle.mm_keep.specs.mm_store.Language.Edits as ask
 use Rattle.mm_report.specs.declared.entry.EditAt.TheVariants as found
 use Rattle.mm_report.specs.declared.line.EditLine.TheVariants as lines
 use Rattle.mm_report.specs.Code.Growing.{line_bytes}

@@ -1,4 +1,4 @@
-use Rattle.mm_store.specs.Language.FilesView.{plain}
+use Rattle.mm_keep.specs.mm_store.Language.FilesView.{plain}
 use Rattle.mm_report.specs.Language.Report.{names_of}
 use Rattle.mm_report.proofs.ReportLemmas.{incomplete_parts}
 use Rattle.mm_report.proofs.StreamLemmas.{stops_front, stops_then, writes_then, writes_stop}

@@ -3,4 +3,4 @@ use Rattle.mm_store.proofs.SetLemmas.{inserted}
 use Rattle.mm_store.proofs.walk.take_name.Goals as goal
 
 pub returns-clause-ok : goal.returns-clause-ok
-returns-clause-ok c = ap (map (λ name. name.items)) c.in_ok-insert.ensures.keys ∙ inserted c.args.names.now.keys c.in_ok-from_slice.field-0 c.args.name.now c.in_ok-from_slice.ensures.items c.requires
+returns-clause-ok c = ap (map (λ name. name.items)) c.in_ok-insert.ensures.keys ∙ inserted c.args.names.now.keys c.in_ok-name.name c.args.name.now c.in_ok-name.ensures.items c.requires

@@ -1,5 +1,5 @@
 use Rattle.std.proofs.Common.{◌≡◌}
-use Rattle.mm_store.specs.Language.FileFacts.{parked_in}
+use Rattle.mm_report.specs.mm_store.Language.FileFacts.{parked_in}
 use Rattle.mmkeep.specs.Code.Loaded.{HasWalked, KeepsFiles}
 use Rattle.mmkeep.proofs.loading.add_missing.Given as goal
 

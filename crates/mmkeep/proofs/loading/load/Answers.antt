@@ -1,5 +1,5 @@
 use Rattle.std.proofs.Common.{ap, ◌∙◌}
-use Rattle.mm_store.specs.Language.FileFacts.{parked_in}
+use Rattle.mm_report.specs.mm_store.Language.FileFacts.{parked_in}
 use Rattle.mmkeep.proofs.LoadLemmas.{nothing_parked}
 use Rattle.mmkeep.proofs.loading.load.Goals as goal
 

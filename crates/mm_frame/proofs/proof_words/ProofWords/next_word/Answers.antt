@@ -1,5 +1,5 @@
 use Rattle.std.proofs.Common.{◌∷◌, sym, ◌∙◌, ap}
-use Rattle.mm_text.specs.Language.WordsLeft.{WordsLeft}
+use Rattle.mm_store.specs.mm_text.Language.WordsLeft.{WordsLeft}
 use Rattle.mm_frame.specs.Code.PlainWords.{plain_bytes}
 use Rattle.mm_frame.proofs.SpokenLemmas.{proof_more}
 use Rattle.mm_frame.proofs.proof_words.ProofWords.next_word.Goals as goal

@@ -1,7 +1,7 @@
 use Rattle.std.proofs.Common.{map, subst}
 use Rattle.std.specs.Prelude.{IfErr}
-use Rattle.mm_store.specs.Language.Edits.{asked}
-use Rattle.mm_store.specs.Language.FilesView.{plain}
+use Rattle.mm_proof.specs.mm_store.Language.Edits.{asked}
+use Rattle.mm_proof.specs.mm_store.Language.FilesView.{plain}
 use Rattle.mm_keep.specs.Code.Changing.{IsChangeError}
 use Rattle.mm_keep.specs.Language.Sessions.{SessionView}
 use Rattle.mm_keep.proofs.session.Session.change_all.Goals as goal

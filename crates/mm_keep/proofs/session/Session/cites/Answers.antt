@@ -1,5 +1,5 @@
 use Rattle.std.proofs.Common.{sym, subst}
-use Rattle.mm_frame.specs.Language.Base.{BaseView}
+use Rattle.mm_proof.specs.mm_frame.Language.Base.{BaseView}
 use Rattle.mm_keep.specs.Code.KeptSession.{AreChecked}
 use Rattle.mm_keep.specs.Language.Sessions.{AreCitesOf, IsAssertion, OfItems, SessionView}
 use Rattle.mm_keep.proofs.FoundLemmas.{kept_items, kept_of}

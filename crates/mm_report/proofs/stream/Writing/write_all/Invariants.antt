@@ -1,4 +1,4 @@
-use Rattle.std.proofs.Common.{length, take, ◌-◌, ◌≡◌, ◌≤◌, false}
+use Rattle.std.proofs.Common.{ℕ, length, min, take, ◌+◌, ◌-◌, ◌≡◌, ◌<◌, ◌≤◌, false}
 use Rattle.std.specs.Io.KnownBytes.{Appends}
 use Rattle.mm_report.proofs.stream.Writing.write_all.Given as goal
 
@@ -8,6 +8,7 @@ invariant-loop-at g l = record {
   was_sound : l.initial.self.failed ≡ false;
   sound : l.self.failed ≡ false;
   out : Appends (g.W.Write.contents l.initial.self.inner) (g.W.Write.contents l.self.inner) (take l.at l.bytes);
+  counted : (calls : ℕ) × (min l.self.calls 18446744073709551615 ≡ min (min l.initial.self.calls 18446744073709551615 + calls) 18446744073709551615) × (calls ≤ l.at) × (0 < l.at → 0 < calls);
 }
 
 abbrev pub decreases-loop-at : goal.decreases-loop-at

@@ -12,7 +12,8 @@ use Rattle.mm_store.proofs.KeptLemmas.{view_after, kept_after}
 use Rattle.mm_store.proofs.UndoLemmas.{is_deleted}
 use Rattle.mm_store.proofs.StepLemmas as lemmas
 use Rattle.mm_store.proofs.files.Files.delete_piece.Goals as goal
-use Rattle.mm_store.specs.Code.Edited.{deleted, IsDeleted}
+use Rattle.mm_store.specs.Language.EditedKeys.{deleted}
+use Rattle.mm_store.specs.Code.Edited.{IsDeleted}
 use Rattle.mm_store.specs.Code.Kept.{file_of, places, standing_count}
 use Rattle.mm_store.specs.Language.FilesView.{FilesView, KeyedFile, plain, plain_file, bytes_of}
 use Rattle.mm_store.proofs.ChangeLemmas.{starts_here, small_after, starts_after}

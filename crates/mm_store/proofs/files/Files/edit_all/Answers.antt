@@ -1,13 +1,15 @@
-use Rattle.std.proofs.Common.{map, refl, sym, subst, arith}
+use Rattle.std.proofs.Common.{◌+◌, [], map, refl, sym, subst, arith, take}
 use Rattle.mm_store.specs.Language.Batches.{IsBatchOf, IsSpendable}
+use Rattle.mm_store.specs.Language.EditedKeys.{IsBatchByKeys}
 use Rattle.mm_store.specs.Language.Edits.{asked}
 use Rattle.mm_store.specs.Language.FilesView.{plain}
 use Rattle.mm_store.proofs.BatchLemmas.{nothing_spendable}
-use Rattle.mm_store.proofs.RefusedLemmas.{batch_error, batch_next, mapped_there, keys_then, reads_alike, take_whole}
+use Rattle.mm_store.proofs.RefusedLemmas.{batch_error, batch_next, by_keys_next, mapped_there, keys_then, reads_alike, take_whole}
 use Rattle.mm_store.proofs.files.Files.edit_all.Goals as goal
 
 pub loop-number-init : goal.loop-number-init
 loop-number-init c = record {
+  by_keys = subst (IsBatchByKeys [] c.args.self.now c.args.self.now) (sym c.new-undos.ensures) refl;
   done = refl;
   keys = λ key some. record { there = some; text = refl };
   spendable = subst (IsSpendable c.args.self.now c.args.self.now) (sym c.new-undos.ensures) (nothing_spendable c.args.self.now);
@@ -32,6 +34,10 @@ returns-in-Err-clause-unchanged c =
 
 pub loop-number-preserved : goal.loop-number-preserved
 loop-number-preserved c = record {
+  by_keys =
+      let made = c.in_default.ensures.by_keys in
+      subst (IsBatchByKeys (take (c.loop-number.number + 1) (map asked c.args.edits.now)) c.args.self.now c.edit_next.new.self) (sym made.2)
+      (by_keys_next c.args.edits.now c.loop-number.number _ c.args.self.now c.loop-number.self c.edit_next.new.self c.loop-number.undos made.0 c.loop-number-test.true c.loop-number.invariant.by_keys made.1);
   done = batch_next c.args.edits.now c.loop-number.number _ (plain c.args.self.now) (plain c.loop-number.self) (plain c.edit_next.new.self) c.loop-number-test.true c.loop-number.invariant.done c.in_default.ensures.ok;
   keys = keys_then c.args.self.now c.loop-number.self c.edit_next.new.self c.loop-number.invariant.keys c.in_default.ensures.keys;
   spendable = c.in_default.ensures.spendable c.args.self.now c.loop-number.invariant.spendable;
@@ -40,6 +46,10 @@ loop-number-preserved c = record {
 pub returns-clause-ok : goal.returns-clause-ok
 returns-clause-ok c =
     subst (λ edits. IsBatchOf edits (plain c.args.self.now) (plain c.loop-number.self)) (take_whole c.args.edits.now c.loop-number.number (omega (arith, c.loop-number-test.false, c.loop-number.auto.number-end))) c.loop-number.invariant.done
+
+pub returns-clause-by_keys : goal.returns-clause-by_keys
+returns-clause-by_keys c =
+    subst (λ edits. IsBatchByKeys edits c.args.self.now c.loop-number.self c.loop-number.undos) (take_whole c.args.edits.now c.loop-number.number (omega (arith, c.loop-number-test.false, c.loop-number.auto.number-end))) c.loop-number.invariant.by_keys
 
 pub returns-clause-reading : goal.returns-clause-reading
 returns-clause-reading c = reads_alike c.args.self.now c.loop-number.self c.loop-number.invariant.keys

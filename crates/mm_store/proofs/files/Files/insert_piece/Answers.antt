@@ -16,7 +16,8 @@ use Rattle.mm_store.proofs.KeptLemmas.{file_in, length_set, reserved_view, reser
 use Rattle.mm_store.proofs.UndoLemmas.{is_inserted}
 use Rattle.mm_store.proofs.StepLemmas as lemmas
 use Rattle.mm_store.proofs.files.Files.insert_piece.Goals as goal
-use Rattle.mm_store.specs.Code.Edited.{pieces_in, with_pieces, inserted, IsInserted}
+use Rattle.mm_store.specs.Language.EditedKeys.{inserted}
+use Rattle.mm_store.specs.Code.Edited.{pieces_in, with_pieces, IsInserted}
 use Rattle.mm_store.specs.Code.Kept.{view_of, file_of, places, standing_count, IsKept}
 use Rattle.mm_store.specs.Language.FilesView.{FilesView, KeyedFile, plain, plain_file, bytes_of}
 use Rattle.std.proofs.Common.{◌≡◌, ℕ, ◌≤◌, ◌<◌, ◌+◌, refl, sym, List, length, map, subst}

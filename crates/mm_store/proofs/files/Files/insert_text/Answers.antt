@@ -5,6 +5,7 @@ use Rattle.mm_text.specs.Language.Cut.{ended}
 use Rattle.mm_store.specs.Language.FilesView.{plain, plain_file, bytes_of}
 use Rattle.mm_store.specs.Language.Edits.{Insert}
 use Rattle.mm_store.specs.Language.Answers.{IsEditError}
+use Rattle.mm_store.specs.Language.EditedKeys.{inserted}
 use Rattle.mm_store.specs.Code.Edited.{pieces_in, with_pieces}
 use Rattle.mm_store.proofs.ListLemmas.{bytes_more}
 use Rattle.mm_store.proofs.EditLemmas.{if_err, no_member, is_edit, no_memory, not_new}
@@ -48,3 +49,13 @@ returns-clause-ok c =
     let means = done ∙ ap (λ (t : List ℕ). with_pieces (plain view) n (insert (pieces_in (plain view) n) c.args.at t)) c.in_ok-kept.ensures.unit.whole in
     is_edit c.args.self.now (Insert c.args.name.now c.args.at c.args.text.now) c.in-Some.number c.count_in-count.result c.in-Some.ensures.number c.in-Some.ensures.within c.count_in-count.ensures c.insert_piece.new.self (omega arith)
     c.in_ok-kept.ensures.unit.one means (omega (arith, ap bytes_of done, bytes, c.held.ensures, c.in_ok-kept.ensures.fits))
+
+pub returns-clause-by_keys : goal.returns-clause-by_keys
+returns-clause-by_keys c =
+    let done = c.in_ok-insert_piece.ensures.ok in
+    let view = c.args.self.now in
+    record {
+      number = c.in-Some.number;
+      named = sym c.in-Some.ensures.number;
+      made = (done.key, done.fresh, done.is ∙ ap (inserted view c.in-Some.number c.args.at done.key) c.in_ok-kept.ensures.unit.whole, done.undo_is);
+    }

@@ -12,7 +12,8 @@ use Rattle.mm_store.proofs.UndoLemmas.{is_replaced}
 use Rattle.mm_store.proofs.KeptLemmas.{view_after}
 use Rattle.mm_store.proofs.ReplaceLemmas as lemmas
 use Rattle.mm_store.proofs.files.Files.replace_piece.Goals as goal
-use Rattle.mm_store.specs.Code.Edited.{pieces_in, with_pieces, replaced, IsReplaced}
+use Rattle.mm_store.specs.Language.EditedKeys.{replaced}
+use Rattle.mm_store.specs.Code.Edited.{pieces_in, with_pieces, IsReplaced}
 use Rattle.mm_store.specs.Code.Kept.{file_of, places, standing_count}
 use Rattle.mm_store.specs.Language.FilesView.{FilesView, KeyedFile, plain, plain_file, bytes_of}
 use Rattle.std.proofs.Common.{◌≡◌, ℕ, ◌≤◌, ◌<◌, ◌+◌, ◌-◌, sym, List, length, map, get_or, set, subst}

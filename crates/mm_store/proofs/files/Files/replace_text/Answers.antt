@@ -4,6 +4,7 @@ use Rattle.mm_text.specs.Language.Cut.{ended}
 use Rattle.mm_store.specs.Language.FilesView.{plain, plain_file, bytes_of}
 use Rattle.mm_store.specs.Language.Edits.{Replace}
 use Rattle.mm_store.specs.Language.Answers.{IsEditError}
+use Rattle.mm_store.specs.Language.EditedKeys.{replaced}
 use Rattle.mm_store.specs.Code.Edited.{pieces_in, with_pieces}
 use Rattle.mm_store.proofs.ListLemmas.{bytes_other, count_members}
 use Rattle.mm_store.proofs.EditLemmas.{if_err, no_member, is_edit, no_memory, not_new}
@@ -50,3 +51,13 @@ returns-clause-ok c =
     let means = done ∙ ap (λ (t : List ℕ). with_pieces (plain view) n (set (pieces_in (plain view) n) c.args.at t)) c.in_ok-kept.ensures.unit.whole in
     is_edit c.args.self.now (Replace c.args.name.now c.args.at c.args.text.now) c.in-Some.number c.count_in-count.result c.in-Some.ensures.number c.in-Some.ensures.within c.count_in-count.ensures c.replace_piece.new.self (omega arith)
     c.in_ok-kept.ensures.unit.one means (omega (arith, ap bytes_of done, bytes, c.bytes_without.ensures, c.in_ok-kept.ensures.fits))
+
+pub returns-clause-by_keys : goal.returns-clause-by_keys
+returns-clause-by_keys c =
+    let done = c.in_ok-replace_piece.ensures.ok in
+    let view = c.args.self.now in
+    record {
+      number = c.in-Some.number;
+      named = sym c.in-Some.ensures.number;
+      made = (done.key, done.fresh, done.is ∙ ap (replaced view c.in-Some.number c.args.at done.key) c.in_ok-kept.ensures.unit.whole, done.undo_is);
+    }

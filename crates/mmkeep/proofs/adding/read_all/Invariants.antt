@@ -1,7 +1,7 @@
 use Rattle.std.proofs.Common.{◌≡◌, length}
 use Rattle.std.specs.Io.KnownBytes.{Consumes}
 use Rattle.mm_report.specs.Language.Stream.{calls_left, unread}
-use Rattle.mmkeep.proofs.loading.read_all.Given as goal
+use Rattle.mmkeep.proofs.adding.read_all.Given as goal
 
 abbrev pub invariant-loop-text : goal.invariant-loop-text
 invariant-loop-text g l = Consumes (unread g.R.Read.remaining l.initial.reading) (unread g.R.Read.remaining l.reading) l.text.items × (length l.chunk ≡ 16384)

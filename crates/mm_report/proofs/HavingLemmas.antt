@@ -1,0 +1,204 @@
+-- Each script has answers, in sessions as they are.
+use Rattle.std.proofs.Common.{◌≡◌, ◌≢◌, ◌⊎◌, ◌<◌, ℕ, zero, suc, Some, List, [], ◌∷◌, ◌++◌, length, refl, sym, ap, ◌∙◌, subst, inl, inr, arith}
+use Rattle.std.specs.Prelude.{codes, map, slice_get}
+use Rattle.std.proofs.lemmas.Option.{none-some, same_Some}
+use Rattle.mm_keep.specs.mm_store.declared.edit.EditError.{EditError}
+use Rattle.mm_keep.specs.mm_store.declared.edit.EditError.TheVariants.{Memory}
+use Rattle.mm_keep.specs.mm_store.Language.Answers.{IsEditError}
+use Rattle.mm_keep.specs.mm_store.Language.Batches.{IsBatchOf, IsRefusedAt}
+use Rattle.mm_keep.specs.mm_store.Language.Edits.{Asked, IsEditOf}
+use Rattle.mm_keep.specs.mm_store.Language.FileFacts.{HoldsPieces}
+use Rattle.mm_keep.specs.mm_store.Language.FilesView.{File, FilesView, file_number, plain}
+use Rattle.mm_keep.specs.mm_store.Language.Holding.{HoldOneEach}
+use Rattle.mm_keep.specs.Language.Laws.{FilesGiveItems, HasListOf, HasListOfRuns, HasListEach, ItemsHaveFindings, LabelsAreDecided}
+use Rattle.mm_keep.specs.Language.Sessions.{SessionView, HasAssertion, AreAxiomsOf, AreCitesOf, AreUsersOf}
+use Rattle.mm_keep.specs.Language.Told.{Told, IsRightlyTold}
+use Rattle.mm_report.specs.Language.Answers.{AreAnswers, IsAnswer, IsFound, IsRan, IsUnknown, IsVerdictAnswer}
+use Rattle.mm_report.specs.Language.Answers.{batch_refusal_line, numbers_listed, refusal_line, told_line, unknown_line}
+use Rattle.mm_report.specs.Language.Report.{names_of, report, IsReport}
+use Rattle.mm_report.specs.Language.Script.{Command, Change, Batch, Report, Verdict, Axioms, Cites, Users, Listed, commands_of}
+use Rattle.mm_report.specs.Language.ScriptLaws.{HasReading, HasScriptAnswer, IsWhole}
+
+-- what is known of all files and sessions
+pub record HavingLaws : Type 0 where
+  pub edits : (edit : Asked) (files : List File) → ((after : List File) × IsEditOf edit files after) ⊎ ((error : EditError) × (error ≢ Memory) × IsEditError edit files error)
+  pub numbers : (edit : Asked) (files after : List File) (name : List ℕ) → IsEditOf edit files after → file_number after name ≡ file_number files name
+  pub units : (edit : Asked) (files after : List File) → HoldOneEach files → IsEditOf edit files after → HoldOneEach after
+  pub keys : (files : List File) → (view : FilesView) × HoldsPieces view × (plain view ≡ files)
+  pub items : FilesGiveItems
+  pub findings : ItemsHaveFindings
+  pub runs : HasListOfRuns
+  pub decided : LabelsAreDecided
+  pub lists : HasListEach
+  pub reading : HasReading
+
+-- ---- what is told of each item
+
+-- a list with something at each number
+pub record Chosen (P : ℕ → Told → Type 0) (count : ℕ) : Type 0 where
+  all : List Told
+  long : length all ≡ count
+  each : (k : ℕ) (one : Told) → slice_get all k ≡ Some one → P k one
+
+chosen : (P : ℕ → Told → Type 0) (count : ℕ) → ((k : ℕ) → k < count → (one : Told) × P k one) → Chosen P count
+chosen P zero f = record { all = []; long = refl; each = λ k one e. absurd (none-some one e) }
+chosen P (suc count) f = by (f 0 (omega arith)) (chosen (λ k. P (suc k)) count (λ k l. f (suc k) (omega (arith, l))))
+  where
+    by : (one : Told) × P 0 one → Chosen (λ k. P (suc k)) count → Chosen P (suc count)
+    by first rest = record { all = first.0 ∷ rest.all; long = ap suc rest.long; each = each }
+      where
+        each : (k : ℕ) (one : Told) → slice_get (first.0 ∷ rest.all) k ≡ Some one → P k one
+        each zero one e = subst (P 0) (same_Some first.0 one e) first.1
+        each (suc k) one e = rest.each k one e
+
+-- ---- one command
+
+abbrev edits_of : List Listed → List Asked
+edits_of listed = map (λ (one : Listed). one.edit) listed
+
+-- a command is answered
+pub record Answered (session : SessionView) (command : Command) : Type 0 where
+  answer : List ℕ
+  new : SessionView
+  is : IsAnswer session command answer new
+  whole : IsWhole new
+
+module _ (laws : HavingLaws) (session : SessionView) (whole : IsWhole session) where
+  -- edits are done, and what is run is told
+  record Ran (after : List File) : Type 0 where
+    new : SessionView
+    files : plain new.files ≡ after
+    new_whole : IsWhole new
+    answer : List ℕ
+    ran : IsRan session new answer
+
+  has_ran : (after : List File) → HoldOneEach after → ((name : List ℕ) → file_number after name ≡ file_number (plain session.files) name) → Ran after
+  has_ran after units numbers =
+      let view = laws.keys after in
+      let new : SessionView = record { files = view.0; top = session.top } in
+      let held = subst HoldOneEach (sym view.2) units in
+      let number : file_number (plain view.0) session.top ≡ file_number (plain session.files) session.top = ap (λ (files : List File). file_number files session.top) view.2 ∙ numbers session.top in
+      let had = (laws.items session.files session.top whole.pieces whole.units).0 whole.items in
+      let items = (laws.items view.0 session.top view.1 held).1 (λ e. had (sym number ∙ e)) in
+      let runs = laws.runs session.files view.0 session.top whole.items.0 items.0 whole.items.1 items.1 in
+      record {
+        new = new;
+        files = view.2;
+        new_whole = record { pieces = view.1; units = held; items = items };
+        answer = numbers_listed (codes "ran") runs.1.new runs.0;
+        ran = record { top = refl; runs = runs.0; are_runs = runs.1; answer_is = refl };
+      }
+
+  edit_answered : (edit : Asked) → Answered session (Change edit)
+  edit_answered edit = by (laws.edits edit (plain session.files))
+    where
+      by : ((after : List File) × IsEditOf edit (plain session.files) after) ⊎ ((error : EditError) × (error ≢ Memory) × IsEditError edit (plain session.files) error) → Answered session (Change edit)
+      by (inl e) =
+          let r = has_ran e.0 (laws.units edit (plain session.files) e.0 whole.units e.1) (λ name. laws.numbers edit (plain session.files) e.0 name e.1) in
+          record { answer = r.answer; new = r.new; is = inl (subst (IsEditOf edit (plain session.files)) (sym r.files) e.1, r.ran); whole = r.new_whole }
+      by (inr e) = record {
+        answer = refusal_line edit e.0;
+        new = session;
+        is = inr (record { error = e.0; refused = e.2; told = e.1; unchanged = refl; answer_is = refl });
+        whole = whole;
+      }
+
+  -- edits one after another, all of them or up to the first that is refused
+  record Done (edits : List Asked) (files : List File) : Type 0 where
+    after : List File
+    batch : IsBatchOf edits files after
+    units : HoldOneEach after
+    numbers : (name : List ℕ) → file_number after name ≡ file_number files name
+
+  edits_done : (edits : List Asked) (files : List File) → HoldOneEach files → Done edits files ⊎ ((n : ℕ) × (error : EditError) × IsRefusedAt edits files n error)
+  edits_done [] files units = inl (record { after = files; batch = refl; units = units; numbers = λ name. refl })
+  edits_done (edit ∷ edits) files units = elim (laws.edits edit files) [
+    | inl e ↦ elim (edits_done edits e.0 (laws.units edit files e.0 units e.1)) [
+      | inl d ↦ inl (record { after = d.after; batch = (e.0, e.1, d.batch); units = d.units; numbers = λ name. d.numbers name ∙ laws.numbers edit files e.0 name e.1 })
+      | inr r ↦ inr (suc r.0, r.1, record { before = r.2.before; accepted = (e.0, e.1, r.2.accepted); edit = r.2.edit; there = r.2.there; refused = r.2.refused; told = r.2.told })
+    ]
+    | inr e ↦ inr (0, e.0, record { before = files; accepted = refl; edit = edit; there = refl; refused = e.2; told = e.1 })
+  ]
+
+  batch_answered : (listed : List Listed) → Answered session (Batch listed)
+  batch_answered listed = by (edits_done (edits_of listed) (plain session.files) whole.units)
+    where
+      by : Done (edits_of listed) (plain session.files) ⊎ ((n : ℕ) × (error : EditError) × IsRefusedAt (edits_of listed) (plain session.files) n error) → Answered session (Batch listed)
+      by (inl d) =
+          let r = has_ran d.after d.units d.numbers in
+          record { answer = r.answer; new = r.new; is = inl (subst (IsBatchOf (edits_of listed) (plain session.files)) (sym r.files) d.batch, r.ran); whole = r.new_whole }
+      by (inr f) = record {
+        answer = batch_refusal_line f.0 f.2.edit f.1;
+        new = session;
+        is = inr (record { n = f.0; error = f.1; refused = f.2; unchanged = refl; answer_is = refl });
+        whole = whole;
+      }
+
+  -- ---- what leaves the session as it is
+
+  reported : (bytes : List ℕ) × IsReport session bytes
+  reported =
+      let base = whole.items.0 in
+      let c = chosen (IsRightlyTold session.files base) (length base.said) (laws.findings session.files session.top base whole.items.1) in
+      (report (names_of (plain session.files)) base.said c.all, record { base = base; of_files = whole.items.1; all = c.all; are_told = record { count = c.long; each = c.each }; bytes_are = refl })
+
+  -- an assertion has the label, or none has and so it is told
+  by_label : (label : List ℕ) (P : List ℕ → Type 0) → (HasAssertion session label → (answer : List ℕ) × P answer) → (answer : List ℕ) × (IsUnknown session label answer ⊎ P answer)
+  by_label label P f = elim (laws.decided session label whole.items.0 whole.items.1) [
+    | inl has ↦ (let a = f has in (a.0, inr a.1))
+    | inr none ↦ (unknown_line, inl (record { none = none; answer_is = refl }))
+  ]
+
+  verdict_there : (label : List ℕ) → HasAssertion session label → (answer : List ℕ) × IsVerdictAnswer session label answer
+  verdict_there label has =
+      let told = laws.findings session.files session.top has.0 has.1 has.2.0 has.2.1.within in
+      (told_line (names_of (plain session.files)) label told.0, (told.0, (has.0, has.1, (has.2.0, has.2.1, told.1)), refl))
+
+  list_there : (AreSo : SessionView → List ℕ → List ℕ → Type 0) → HasListOf AreSo → (label : List ℕ) → HasAssertion session label → (answer : List ℕ) × IsFound session (AreSo session label) answer
+  list_there AreSo lists label has =
+      let numbers = lists session label has in
+      (numbers_listed (codes "found") has.0 numbers.0, (numbers.0, numbers.1, (has.0, has.1, refl)))
+
+  pub answered : (command : Command) → Answered session command
+  answered (Change edit) = edit_answered edit
+  answered (Batch listed) = batch_answered listed
+  answered Report = record { answer = reported.0; new = session; is = (reported.1, refl); whole = whole }
+  answered (Verdict label) =
+      let a = by_label label (IsVerdictAnswer session label) (verdict_there label) in
+      record { answer = a.0; new = session; is = (a.1, refl); whole = whole }
+  answered (Axioms label) =
+      let a = by_label label (IsFound session (AreAxiomsOf session label)) (list_there AreAxiomsOf laws.lists.2 label) in
+      record { answer = a.0; new = session; is = (a.1, refl); whole = whole }
+  answered (Cites label) =
+      let a = by_label label (IsFound session (AreCitesOf session label)) (list_there AreCitesOf laws.lists.0 label) in
+      record { answer = a.0; new = session; is = (a.1, refl); whole = whole }
+  answered (Users label) =
+      let a = by_label label (IsFound session (AreUsersOf session label)) (list_there AreUsersOf laws.lists.1 label) in
+      record { answer = a.0; new = session; is = (a.1, refl); whole = whole }
+
+-- ---- a script
+
+record AllAnswered (session : SessionView) (commands : List Command) : Type 0 where
+  answers : List ℕ
+  new : SessionView
+  are : AreAnswers session commands answers new
+  whole : IsWhole new
+
+all_answered : HavingLaws → (session : SessionView) (commands : List Command) → IsWhole session → AllAnswered session commands
+all_answered laws session [] whole = record { answers = []; new = session; are = (refl, refl); whole = whole }
+all_answered laws session (command ∷ commands) whole =
+    let a = answered laws session whole command in
+    let r = all_answered laws a.new commands a.whole in
+    record { answers = a.answer ++ r.answers; new = r.new; are = (a.answer, a.new, r.answers, a.is, r.are, refl); whole = r.whole }
+
+pub has_script_answer : HavingLaws → HasScriptAnswer
+has_script_answer laws session script whole =
+    let r = laws.reading script in
+    let a = all_answered laws session (commands_of r.0) whole in
+    record {
+      answers = a.answers;
+      new = a.new;
+      end = r.2;
+      is = record { entries = r.0; rest = r.1; reading = r.3.reading; answered = a.are; ends = r.3.ends };
+      whole = a.whole;
+    }

@@ -1,0 +1,108 @@
+-- What a command does with a session: what it writes, and how the program then ends.
+use Rattle.std.specs.Prelude.{◌≡◌, ◌≢◌, ◌⊎◌, ◌++◌, ℕ, List, [], Option, Some, None, IfSome, ⊤}
+use Rattle.std.specs.Io.KnownBytes.{Appends, Keeps}
+use Rattle.mm_report.specs.mm_store.Language.FilesView.{plain}
+use Rattle.mm_report.specs.mm_frame.Language.Base.{BaseView, IsOfFiles}
+use Rattle.mm_report.specs.mm_keep.Language.Sessions.{SessionView, HasAssertion}
+use Rattle.mm_report.specs.mm_keep.Language.Told.{Told, AreRightlyTold}
+use Rattle.mm_report.specs.declared.script.ScriptError.{ScriptError}
+use Rattle.mm_report.specs.declared.script.ScriptError.TheVariants as errors
+use Rattle.mm_report.specs.Language.Answers.{IsAnswer}
+use Rattle.mm_report.specs.Language.Report.{IsReport, BeginsReport, lines, names_of}
+use Rattle.mm_report.specs.Language.Script as script
+use Rattle.mm_report.specs.Language.Scripting.{AnswersScript, AnswersFirst, AnswersRead, BeginsAnswers}
+use Rattle.mm_report.specs.Language.Stream.{AppendsPart}
+use Rattle.mmkeep.specs.declared.arguments.Command.{Command}
+use Rattle.mmkeep.specs.declared.arguments.Command.TheVariants.{Verify, Axioms, Session}
+use Rattle.mmkeep.specs.declared.outcome.Outcome.{Outcome}
+use Rattle.mmkeep.specs.declared.outcome.Outcome.TheVariants.{Clean, Findings, NoLabel}
+
+-- clean, where there are no lines before the summary of a report, and findings where there are some
+abbrev pub IsByLines : List ℕ → Outcome → Type 0
+IsByLines lines Clean = lines ≡ []
+IsByLines lines Findings = lines ≢ []
+IsByLines lines _ = ⊥
+
+-- how the program ends by the files of a session: clean, where its report has no line before the summary
+pub record IsJudged (session : SessionView) (outcome : Outcome) : Type 0 where
+  pub base : BaseView
+  pub of_files : IsOfFiles session.files session.top base
+  pub all : List Told
+  pub are_told : AreRightlyTold session.files base all
+  pub is : IsByLines (lines (names_of (plain session.files)) base.said all) outcome
+
+-- the report of a session is written
+pub record Reports (session : SessionView) (before after : Option (List ℕ)) (outcome : Outcome) : Type 0 where
+  pub bytes : List ℕ
+  pub is_report : IsReport session bytes
+  pub out : Appends before after bytes
+  pub is_judged : IsJudged session outcome
+
+-- clean, where a sound assertion has the label, and no label where none has
+abbrev pub IsByLabel : SessionView → List ℕ → Outcome → Type 0
+IsByLabel session label Clean = HasAssertion session label
+IsByLabel session label NoLabel = ¬ HasAssertion session label
+IsByLabel session label _ = ⊥
+
+-- the axioms are written that the assertion with a label rests on, or that there is none
+pub record ListsAxioms (session : SessionView) (label : List ℕ) (before after : Option (List ℕ)) (outcome : Outcome) : Type 0 where
+  pub answer : List ℕ
+  pub is_answer : IsAnswer session (script.Axioms label) answer session
+  pub out : Appends before after answer
+  pub is_by_label : IsByLabel session label outcome
+
+-- the beginning of that answer, or all of it, is written
+pub record BeginsAxioms (session : SessionView) (label : List ℕ) (before after : Option (List ℕ)) : Type 0 where
+  pub answer : List ℕ
+  pub is_answer : IsAnswer session (script.Axioms label) answer session
+  pub out : AppendsPart before after answer
+
+-- a script is answered to its end
+pub record EndsScript (old new : SessionView) (unread before after : Option (List ℕ)) (outcome : Outcome) : Type 0 where
+  pub answers : IfSome unread (λ bytes. AnswersScript old new bytes script.Done before after)
+  pub is_judged : IsJudged new outcome
+
+-- a script is answered up to where it stops
+abbrev pub StopsScript : SessionView → SessionView → Option (List ℕ) → Option (List ℕ) → Option (List ℕ) → Option (List ℕ) → ScriptError → Type 0
+StopsScript old new unread left before after errors.BadLine = IfSome unread (λ bytes. AnswersScript old new bytes script.BadLine before after)
+StopsScript old new unread left before after errors.Cut = IfSome unread (λ bytes. AnswersScript old new bytes script.CutShort before after)
+StopsScript old new unread left before after errors.Read = AnswersRead old new unread left before after
+StopsScript old new unread left before after errors.Write = BeginsAnswers old new unread left before after
+StopsScript old new unread left before after errors.Memory = AnswersFirst old new unread left before after
+
+-- A command is done: from what the session, a script's reader and the writer had before to what they have after it, with this outcome.
+abbrev pub IsDone : Command → SessionView → SessionView → Option (List ℕ) → Option (List ℕ) → Option (List ℕ) → Outcome → Type 0
+IsDone (Verify file) old new unread before after outcome = (new ≡ old) × Reports old before after outcome
+IsDone (Axioms file label) old new unread before after outcome = (new ≡ old) × ListsAxioms old label.now before after outcome
+IsDone (Session file) old new unread before after outcome = EndsScript old new unread before after outcome
+
+-- a report stops where a write fails
+abbrev pub StopsReport : SessionView → Option (List ℕ) → Option (List ℕ) → ScriptError → Type 0
+StopsReport session before after errors.Write = BeginsReport session before after
+StopsReport session before after _ = ⊥
+
+-- a list of axioms stops where a write fails, or for memory before anything is written, but not where no assertion has the label
+abbrev pub StopsAxioms : SessionView → List ℕ → Option (List ℕ) → Option (List ℕ) → ScriptError → Type 0
+StopsAxioms session label before after errors.Write = BeginsAxioms session label before after
+StopsAxioms session label before after errors.Memory = Keeps before after × (¬ HasAssertion session label → ⊥)
+StopsAxioms session label before after _ = ⊥
+
+-- A command stops at an error.
+abbrev pub IsStopped :
+    Command → SessionView → SessionView → Option (List ℕ) → Option (List ℕ) → Option (List ℕ) → Option (List ℕ) → ScriptError → Type 0
+IsStopped (Verify file) old new unread left before after error = (new ≡ old) × StopsReport old before after error
+IsStopped (Axioms file label) old new unread left before after error = (new ≡ old) × StopsAxioms old label.now before after error
+IsStopped (Session file) old new unread left before after error = StopsScript old new unread left before after error
+
+-- what went out, where it is known, is the beginning of these bytes
+abbrev pub GoesOut : Option (List ℕ) → Option (List ℕ) → Type 0
+GoesOut None out = ⊤
+GoesOut (Some bytes) None = ⊥
+GoesOut (Some bytes) (Some out) = (rest : List ℕ) × (bytes ≡ out ++ rest)
+
+-- A command stops at an error, or is done and what it wrote does not go out: the beginning of what it wrote has gone out.
+pub record IsCutOff (command : Command) (old new : SessionView) (unread left before after : Option (List ℕ)) (error : ScriptError) : Type 0 where
+  pub written : Option (List ℕ)
+  pub why : IsStopped command old new unread left before written error
+      ⊎ ((error ≡ errors.Write) × (outcome : Outcome) × IsDone command old new unread before written outcome)
+  pub goes_out : GoesOut written after
