@@ -94,7 +94,8 @@ pub(crate) fn edit_of<'a>(bytes: &'a [u8], edit: &EditAt) -> Edit<'a>
     }
 }
 
-/// Reads on until a line that is not empty is complete, and passes the empty lines before it; one that is empty tells the end.
+/// Reads on until a line that is not empty is complete, and passes the empty lines before it as they come, so that they take no
+/// memory, however many there are; one that is empty tells the end.
 fn first_line<R: Read>(input: &mut Input, reading: &mut Reading<R>) -> Result<LineAt, ScriptError>
     ensures reads { ReadsOn input.old input.new (unread R.remaining reading.old) (unread R.remaining reading.new) }
     ensures line { IfOk result (IsLineAt (pending input.new) (unread R.remaining reading.new)) }

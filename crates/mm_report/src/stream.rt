@@ -13,7 +13,7 @@ pub struct WriteFailed;
 #[derive(Drop)]
 pub struct Writing<W: Write> {
     inner: W,
-    /// How many calls were made, as far as they can be counted.
+    /// How many calls were made, as far as they can be counted. The contracts alone speak of it.
     calls: u64,
     failed: bool,
 }
