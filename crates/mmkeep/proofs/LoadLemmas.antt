@@ -1,5 +1,5 @@
 -- Files that are loaded: none is parked, those that are there stay, and a walk goes on among them.
-use Rattle.std.proofs.Common.{◌≡◌, ◌≢◌, ℕ, ◌+◌, ◌<◌, suc, Bool, true, false, not, cond, List, [], ◌∷◌, ◌++◌, ◌⊎◌, Option, Some, None, IfSome, Result, Ok, Err, OnOk, length, map, sym, ap, ◌∙◌, subst, refl, inl, inr, arith}
+use Rattle.std.proofs.Common.{◌≡◌, ◌≢◌, ℕ, ◌+◌, ◌<◌, suc, Bool, true, false, not, cond, List, [], ◌∷◌, ◌++◌, ◌⊎◌, Option, Some, None, IfSome, Result, Ok, Err, OnOk, IfErr, IsErrOf, length, map, sym, ap, ◌∙◌, subst, refl, inl, inr, arith}
 use Rattle.std.specs.Prelude.{Contains, position}
 use Rattle.std.specs.List.{position_or_len, sum_by}
 use Rattle.std.specs.Str.{bytes_eq}
@@ -17,14 +17,18 @@ use Rattle.mm_report.specs.mm_store.Language.FileFacts.{IsAdded, parked_in}
 use Rattle.mm_report.specs.mm_store.Language.FilesView.{File, FilesView, file_number, file_view, files_in, no_files, number_of, plain, plain_file}
 use Rattle.mm_report.specs.mm_store.Language.Keyless.{bare, bare_file}
 use Rattle.mm_report.specs.mm_store.Language.Pieces.{HeldPiece, parked_state}
-use Rattle.mm_report.specs.mm_store.Language.Walking.{WalkView, IsWalk, FindsEnd, FindsMissing}
+use Rattle.mm_report.specs.mm_store.Language.Walking.{WalkView, IsWalk, FindsMissing}
 use Rattle.mmkeep.specs.declared.adding.FileError.{FileError}
 use Rattle.mmkeep.specs.declared.adding.FileError.TheVariants as file_errors
-use Rattle.mmkeep.specs.Code.Loaded.{AddsIfOpened, HasEnded, HasFile, HasWalked, KeepsFiles, MayHaveAdded}
-use Rattle.mmkeep.specs.Language.Loading.{AddsFile, IsFileError, IsNew, IsTextError}
+use Rattle.mmkeep.specs.Code.Loaded.{AddsIfOpened, AddsOpened, HasFile, HasWalked, KeepsFiles}
+use Rattle.mmkeep.specs.Language.Loading.{AddsFile, AreLoaded, Bytes, IsFileError, IsNew, IsTextError, KnownFile, Loads, NoFile, Opens, TakesFile, TakesTop, Unknown}
 
 pub nothing_parked : parked_in no_files ≡ 0
 nothing_parked = ap (sum_by (λ (entry : ℕ × HeldPiece). parked_state entry.1.state)) (nil_from_length (finite.entries finite.empty) (sym (finite.len-entries finite.empty) ∙ finite.len-empty nat_cmp HeldPiece))
+
+-- a file of this name is added, or the files are as before
+abbrev pub MayHaveAdded : FilesView → FilesView → List ℕ → Type 0
+MayHaveAdded old new name = (new ≡ old) ⊎ ((text : List ℕ) × IsAdded (plain old) (plain new) name text)
 
 -- ---- the first that passes a test
 
@@ -81,10 +85,56 @@ pub file_there : {T E : Type 0} (result : Result T E) (old new : FilesView) (nam
 file_there (Ok done) old new name unread a = added_there old new name a.text a.is_added
 file_there (Err error) old new name unread a = tt
 
-module _ {F E : Type 0} (remaining : F → Option (List ℕ)) where
-  pub may_have : (opened : Result F E) (old new : FilesView) (name : List ℕ) → AddsIfOpened remaining opened old new name → MayHaveAdded old new name
-  may_have (Ok file) old new name a = inr (a.text, a.is_added)
-  may_have (Err error) old new name same = inl same
+pub may_have : (known : KnownFile) (old new : FilesView) (name : List ℕ) → TakesFile known old new name → MayHaveAdded old new name
+may_have Unknown old new name (inl same) = inl same
+may_have Unknown old new name (inr a) = inr (a.text, a.is_added)
+may_have NoFile old new name same = inl same
+may_have (Bytes bytes) old new name a = inr (a.text, a.is_added)
+
+adds_known : (old new : FilesView) (name bytes : List ℕ) (unread : Option (List ℕ)) → unread ≡ Some bytes
+    → AddsFile (plain old) (plain new) name unread → AddsFile (plain old) (plain new) name (Some bytes)
+adds_known old new name bytes unread e a = subst (λ (known : Option (List ℕ)). AddsFile (plain old) (plain new) name known) e a
+
+adds_unknown : (old new : FilesView) (name : List ℕ) (unread : Option (List ℕ)) → AddsFile (plain old) (plain new) name unread → AddsFile (plain old) (plain new) name None
+adds_unknown old new name unread a = record { text = a.text; is_added = a.is_added; is_text = tt }
+
+no_error : {T O : Type 0} (done : T) (lack : O) → IsErrOf (Ok done) lack → ⊥
+no_error done lack e = cc
+
+module _ {F E T O : Type 0} (remaining : F → Option (List ℕ)) (Lacks : E → Type 0) (lack : O) (old new : FilesView) (name : List ℕ) where
+  pub takes_file : (known : KnownFile) (opened : Result F E) (result : Result T O) → Opens remaining Lacks known opened
+      → OnOk result (AddsIfOpened remaining opened old new name) → IfErr opened (λ error. Lacks error → IsErrOf result lack)
+      → OnOk result (TakesFile known old new name)
+  takes_file known opened (Err outcome) agrees adds lacking = tt
+  takes_file Unknown (Ok file) (Ok done) agrees adds lacking = inr (adds_unknown old new name (remaining file) adds)
+  takes_file Unknown (Err error) (Ok done) agrees adds lacking = inl adds
+  takes_file NoFile (Ok file) (Ok done) agrees adds lacking = absurd agrees
+  takes_file NoFile (Err error) (Ok done) agrees adds lacking = adds
+  takes_file (Bytes bytes) (Ok file) (Ok done) agrees adds lacking = adds_known old new name bytes (remaining file) agrees adds
+  takes_file (Bytes bytes) (Err error) (Ok done) agrees adds lacking = absurd (no_error done lack (lacking agrees))
+
+module _ {F E T O : Type 0} (remaining : F → Option (List ℕ)) (Lacks : E → Type 0) (old new : FilesView) (name : List ℕ) where
+  pub takes_top : (known : KnownFile) (opened : Result F E) (result : Result T O) → Opens remaining Lacks known opened
+      → OnOk result (AddsOpened remaining opened old new name) → OnOk result (TakesTop known old new name)
+  takes_top known opened (Err outcome) agrees adds = tt
+  takes_top known (Err error) (Ok done) agrees adds = absurd adds
+  takes_top Unknown (Ok file) (Ok done) agrees adds = adds_unknown old new name (remaining file) adds
+  takes_top NoFile (Ok file) (Ok done) agrees adds = absurd agrees
+  takes_top (Bytes bytes) (Ok file) (Ok done) agrees adds = adds_known old new name bytes (remaining file) agrees adds
+
+-- the top file, and what loading from it on adds
+pub are_loaded : {T O : Type 0} (holds : List ℕ → KnownFile) (top : List ℕ) (first final : FilesView) (walk last : WalkView) (result : Result T O)
+    → TakesTop (holds top) no_files first top → IsWalk (bare (plain first)) top [] walk → OnOk result (Loads holds first walk final last)
+    → OnOk result (AreLoaded holds top final)
+are_loaded holds top first final walk last (Err outcome) takes begins loads = tt
+are_loaded holds top first final walk last (Ok done) takes begins loads = record {
+  first = first;
+  takes_top = takes;
+  walk = walk;
+  is_walk = begins;
+  last = last;
+  loads = loads;
+}
 
 -- ---- why files that have the top file are not gone through
 
@@ -126,11 +176,6 @@ walked_on law old new top name items before after finds (inl same) =
 walked_on law old new top name items before after finds (inr added) =
     let untaken : ¬ Contains after.names name = λ taken. finds.stands.new (subst (Contains after.names) (sym finds.is_name) taken) in
     (top, items ++ finds.goes_on.more, law (plain old) (plain new) name added.0 top (items ++ finds.goes_on.more) after added.1 untaken finds.goes_on.is_walk)
-
--- where the walk comes to its end
-pub ended : (files : FilesView) (top : List ℕ) (items : List Item) (before after : WalkView) → FindsEnd (bare (plain files)) top items before after → HasEnded files after
-ended files top items before after finds =
-    record { top = top; items = items ++ finds.goes_on.more; is_walk = finds.goes_on.is_walk; is_expansion = finds.is_expansion }
 
 -- ---- why a file is not added
 

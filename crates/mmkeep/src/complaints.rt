@@ -8,6 +8,7 @@ ghost use Rattle.mmkeep.specs.Language.Status.{outcome_of, outcome_of_file};
 use crate::adding::FileError;
 use crate::outcome::Outcome;
 use mm_report::{Place, ScriptError, StoreError, TextNumber, fault_name};
+use std::str;
 
 /// The words of the command line are no command.
 pub(crate) fn refuse_arguments(rt: &impl Eprint) -> Outcome
@@ -36,18 +37,25 @@ pub(crate) fn lack(rt: &impl Eprint, error: StoreError) -> Outcome
     }
 }
 
+/// A name as it is printed: that of a file that was to be opened, which is text.
+fn path_of(name: &[u8]) -> &str {
+    str::from_utf8(name).unwrap_or("")
+}
+
 /// A file cannot be opened, or a read of it failed.
-pub(crate) fn refuse_reading(rt: &impl Eprint, path: &str) -> Outcome
+pub(crate) fn refuse_reading(rt: &impl Eprint, name: &[u8]) -> Outcome
     ensures { result ≡ Input }
 {
+    let path = path_of(name);
     let _ = eprintln!(rt; "mmkeep: {path}: cannot be read");
     Outcome::Input
 }
 
 /// The text of a file has a fault.
-fn refuse_text(rt: &impl Eprint, path: &str, place: Place, number: TextNumber) -> Outcome
+fn refuse_text(rt: &impl Eprint, name: &[u8], place: Place, number: TextNumber) -> Outcome
     ensures { result ≡ Input }
 {
+    let path = path_of(name);
     let Place { line, column } = place;
     let code = fault_name(number);
     let _ = eprintln!(rt; "mmkeep: {path}:{line}:{column} {code}");
@@ -63,12 +71,12 @@ pub(crate) fn refuse_size(rt: &impl Eprint) -> Outcome
 }
 
 /// A file is not added.
-pub(crate) fn refuse_file(rt: &impl Eprint, path: &str, error: FileError) -> Outcome
+pub(crate) fn refuse_file(rt: &impl Eprint, name: &[u8], error: FileError) -> Outcome
     ensures { result ≡ outcome_of_file error }
 {
     match error {
-        FileError::Read => refuse_reading(rt, path),
-        FileError::Text(place, number) => refuse_text(rt, path, place, number),
+        FileError::Read => refuse_reading(rt, name),
+        FileError::Text(place, number) => refuse_text(rt, name, place, number),
         FileError::TooMany => refuse_size(rt),
         FileError::Memory => lack_memory(rt),
     }

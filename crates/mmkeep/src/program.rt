@@ -6,6 +6,7 @@ use crate::complaints::{lack_memory, refuse_arguments, stop};
 use crate::loading::load_session;
 use crate::outcome::Outcome;
 use crate::performing::perform;
+use crate::source::SystemFiles;
 use mm_report::{Reading, Session};
 use std::io::{BufWriter, ErrorKind, Input};
 use std::rt::{Env, Files};
@@ -43,7 +44,7 @@ fn run_command(
     rt: &(impl Files + Input + Print + Eprint + AllocGlobal),
     command: &Command<'_>,
 ) -> Outcome {
-    match load_session(rt, top_of(command)) {
+    match load_session(rt, &SystemFiles { rt }, top_of(command).as_bytes()) {
         Err(outcome) => outcome,
         Ok(mut session) => {
             let outcome = answer_on_streams(rt, &mut session, command);

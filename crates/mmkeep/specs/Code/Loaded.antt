@@ -1,10 +1,8 @@
 -- Which files are there while the files of a database are loaded.
-use Rattle.std.specs.Prelude.{◌≡◌, ◌≢◌, ◌⊎◌, ℕ, List, Option, Result, Ok, Err, None}
+use Rattle.std.specs.Prelude.{◌≡◌, ◌≢◌, ℕ, List, Option, Result, Ok, Err, None}
 use Rattle.mm_report.specs.mm_store.declared.error.StoreError.{StoreError}
 use Rattle.mm_report.specs.mm_store.declared.error.StoreError.TheVariants as errors
 use Rattle.mm_report.specs.mm_store.declared.item.Item.{Item}
-use Rattle.mm_report.specs.mm_store.Language.Expansion.{IsExpansion}
-use Rattle.mm_report.specs.mm_store.Language.FileFacts.{IsAdded}
 use Rattle.mm_report.specs.mm_store.Language.FilesView.{FilesView, file_number, plain}
 use Rattle.mm_report.specs.mm_store.Language.Keyless.{bare}
 use Rattle.mm_report.specs.mm_store.Language.Walking.{WalkView, IsWalk}
@@ -28,20 +26,9 @@ abbrev pub AddsIfOpened : {F E : Type 0} → (F → Option (List ℕ)) → Resul
 AddsIfOpened remaining (Ok file) old new name = AddsFile (plain old) (plain new) name (remaining file)
 AddsIfOpened remaining (Err error) old new name = new ≡ old
 
--- a file of this name is added, or the files are as before
-abbrev pub MayHaveAdded : FilesView → FilesView → List ℕ → Type 0
-MayHaveAdded old new name = (new ≡ old) ⊎ ((text : List ℕ) × IsAdded (plain old) (plain new) name text)
-
 -- a walk through these files has gone past some items
 abbrev pub HasWalked : FilesView → WalkView → Type 0
 HasWalked files walk = (top : List ℕ) × (items : List Item) × IsWalk (bare (plain files)) top items walk
-
--- a walk through these files has gone past all items of their expansion
-pub record HasEnded (files : FilesView) (walk : WalkView) : Type 0 where
-  pub top : List ℕ
-  pub items : List Item
-  pub is_walk : IsWalk (bare (plain files)) top items walk
-  pub is_expansion : IsExpansion (bare (plain files)) top items
 
 -- why a text is not added under a name that is new: neither since it is known, nor since there is no top file
 abbrev pub IsNewError : StoreError → Type 0

@@ -1,4 +1,4 @@
-use Rattle.std.proofs.Common.{Err, ap, ◌∙◌}
+use Rattle.std.proofs.Common.{Err, ap}
 use Rattle.mmkeep.proofs.PerformLemmas.{lists_there, stops_axioms}
 use Rattle.mmkeep.proofs.performing.list_axioms.Goals as goal
 
