@@ -12,10 +12,10 @@ use Rattle.std.specs.Prelude.{IfSome, All}
 use Rattle.std.proofs.lemmas.List.Elements.{All-nil}
 use Rattle.mm_frame.specs.declared.FrameNumber.{FrameNumber}
 use Rattle.mm_frame.specs.declared.symbol.NumberedSymbol.{NumberedSymbol}
-use Rattle.mm_frame.specs.Language.Item.{Kind, Essential, Axiom, Theorem, Missing, Item, passed, is_labelled, is_disjoint, is_assertion, is_essential, is_theorem, item_at}
+use Rattle.mm_frame.specs.Language.Item.{Kind, Axiom, Theorem, Missing, Item, passed, is_labelled, is_disjoint, is_assertion, is_essential, is_theorem, item_at}
 use Rattle.mm_frame.specs.Language.Sound.{IsSound, AreSound, fault, judged, sound_items, sound_items_after}
 use Rattle.mm_frame.specs.Language.Framing.{expression, frame}
-use Rattle.mm_frame.specs.Language.Scope.{Mark, Closes, Neither, mark_of, closes, active_numbers}
+use Rattle.mm_frame.specs.Language.Scope.{Mark, Closes, mark_of, closes, active_numbers}
 use Rattle.mm_frame.specs.Code.Numbers.{IsNameNumber, AreNameNumbers}
 use Rattle.mm_frame.specs.Language.NumberedSymbols.{symbols_of, kept_pairs, IsNumbered, IsPairNumbered, ArePairsRead}
 use Rattle.mm_frame.specs.Code.KeptSymbols.{expression_kept, kept_or_none, is_read, AreSymbols, AreExpressions}
@@ -34,6 +34,7 @@ use Rattle.mm_frame.proofs.ActivePairLemmas.{disjoint_neither}
 use Rattle.mm_frame.proofs.TableLemmas.{item_between, take_between}
 use Rattle.mm_frame.proofs.BlockLemmas.{get_cases, get_last}
 use Rattle.mm_frame.proofs.NamedLemmas.{get_before}
+use Rattle.mm_frame.proofs.VariableLemmas.{essential_neither}
 use Rattle.mm_frame.proofs.HypothesisNumbers.{active_numbers_more}
 
 pub item_before : (said : List Item) (item : Item) (n : ℕ) → n < length said → item_at (said ++ item ∷ []) n ≡ item_at said n
@@ -250,10 +251,6 @@ pub numbers_other : (test : Kind → Bool) (before : List Item) (item : Item) (s
 numbers_other test before item sound e c t = numbers_same (λ i. test i.kind) before item c t ∙ ap (λ b. active_numbers (λ i. test i.kind) (before ++ taken b item ∷ [])) (sym e)
 
 -- the sorts that are followed
-essential_neither : (kind : Kind) → is_essential kind ≡ true → mark_of kind ≡ Neither
-essential_neither Essential e = refl
-essential_neither _ e = absurd (false≢true e)
-
 pub essential_sort : IsSort is_essential
 essential_sort = record { statement = essential_neither; sound = refl }
 

@@ -20,12 +20,14 @@ pub mod KnownLemmas
 pub mod FaultLemmas
 pub mod KeptScopeLemmas
 pub mod Rising
+pub mod AskedLemmas
 pub mod EndLemmas
 pub mod MandatoryLemmas
 pub mod PairTableLemmas
 pub mod FramePairs
 pub mod NamedLemmas
 pub mod BaseLemmas
+pub mod VariableLemmas
 pub mod PairListLemmas
 pub mod PairOrderLemmas
 pub mod ExpressionLemmas

@@ -29,6 +29,9 @@ use Rattle.mm_frame.proofs.Frames.{assertion_expression, essential_expression, e
 use Rattle.mm_frame.proofs.NumberLemmas.{declared_named, name_there}
 use Rattle.mm_frame.proofs.KnownLemmas.{float_in}
 use Rattle.mm_frame.proofs.HypothesisNumbers.{to_active_number, from_active_number, sound_typed, mandatory_numbers_built}
+use Rattle.mm_frame.specs.declared.essential.EssentialVariable.{EssentialVariable}
+use Rattle.mm_frame.specs.Code.KeptVariables.{AreVariablesOf, known_float}
+use Rattle.mm_frame.proofs.VariableLemmas.{known_from, known_to}
 use Rattle.mm_frame.proofs.ActivePairLemmas.{expression_at_number, active_at_number, number_of_active}
 
 -- the number of the `$f` of a variable
@@ -150,19 +153,39 @@ collected_to all before item tables expressions own b n (inr p) =
         in_flat (λ m. float_numbers tables (expression_kept expressions m)) at.number n (active_numbers is_essential_item before) (to_active_number is_essential_item before at.number e at.there at.stayed q.2)
         (float_to all before tables (expression_kept expressions at.number) (symbol before name) n b.sound b.known (b.numbered at.number) (subst (In (symbol before name)) (sym same) (in_map (symbol before) name e.symbols q.3)) v last)
 
+-- the same with the variables that are kept of the `$e`
+abbrev pub collected_known : Tables → List ℕ → List EssentialVariable → List NumberedSymbol → List ℕ
+collected_known tables essentials found own = (essentials ++ float_numbers tables own) ++ flat_map (known_float tables essentials) found
+
+known_collected : (tables : Tables) (expressions : List (List NumberedSymbol)) (essentials : List ℕ) (found : List EssentialVariable) (own : List NumberedSymbol) → AreVariablesOf essentials expressions found → (n : ℕ)
+    → In n (collected_known tables essentials found own) → In n (collected tables expressions essentials own)
+known_collected tables expressions essentials found own are n h =
+    let first = essentials ++ float_numbers tables own in
+    let all = flat_map (λ m. float_numbers tables (expression_kept expressions m)) essentials in
+    elim (in_cases n first (flat_map (known_float tables essentials) found) h) [ inl a ↦ in_left n first all a | inr b ↦ in_right n first all (known_from tables essentials expressions found are n b) ]
+
+collected_is_known : (tables : Tables) (expressions : List (List NumberedSymbol)) (essentials : List ℕ) (found : List EssentialVariable) (own : List NumberedSymbol) → AreVariablesOf essentials expressions found → (n : ℕ)
+    → In n (collected tables expressions essentials own) → In n (collected_known tables essentials found own)
+collected_is_known tables expressions essentials found own are n h =
+    let first = essentials ++ float_numbers tables own in
+    let known = flat_map (known_float tables essentials) found in
+    elim (in_cases n first (flat_map (λ m. float_numbers tables (expression_kept expressions m)) essentials) h) [ inl a ↦ in_left n first known a | inr b ↦ in_right n first known (known_to tables essentials expressions found are n b) ]
+
 -- sorted, and each once
-pub hypotheses_sorted : (tables : Tables) (expressions : List (List NumberedSymbol)) (essentials : List ℕ) (own : List NumberedSymbol) (numbers once sorted kept : List ℕ) → numbers ≡ collected tables expressions essentials own → IsFiltered (DiffersFromLast eqb) [] numbers once → IsPermutation once sorted → IsSorted nat_cmp sorted
-    → IsFiltered (DiffersFromLast eqb) [] sorted kept → (all : List (List ℕ)) (before : List Item) (item : Item) → IsAssertionBehind all before item tables expressions own → essentials ≡ active_numbers is_essential_item before → kept ≡ mandatory_numbers before item
-hypotheses_sorted tables expressions essentials own numbers once sorted kept whole fewer moved rising filtered all before item b e =
+pub hypotheses_sorted : (tables : Tables) (expressions : List (List NumberedSymbol)) (essentials : List ℕ) (found : List EssentialVariable) (own : List NumberedSymbol) (numbers once sorted kept : List ℕ) → numbers ≡ collected_known tables essentials found own → IsFiltered (DiffersFromLast eqb) [] numbers once
+    → IsPermutation once sorted → IsSorted nat_cmp sorted → IsFiltered (DiffersFromLast eqb) [] sorted kept → (all : List (List ℕ)) (before : List Item) (item : Item) → IsAssertionBehind all before item tables expressions own → AreVariablesOf essentials expressions found
+    → essentials ≡ active_numbers is_essential_item before → kept ≡ mandatory_numbers before item
+hypotheses_sorted tables expressions essentials found own numbers once sorted kept whole fewer moved rising filtered all before item b are e =
     let first = dedup_is eqb numbers once fewer in
     let same = dedup_is eqb sorted kept filtered in
-    let is_whole = whole ∙ ap (λ ns. collected tables expressions ns own) e in
+    let here = λ (n : ℕ). subst (λ (ns : List ℕ). In n (collected tables expressions ns own)) e in
+    let there = λ (n : ℕ). subst (λ (ns : List ℕ). In n (collected tables expressions ns own)) (sym e) in
     let typed = sound_typed before b.sound item b.item_sound (assertion_expression item.kind b.assertion) in
     same ∙ mandatory_numbers_built before b.sound item typed (dedup eqb sorted) (AllPairs-from_increasing (dedup eqb sorted) (IsStrictlyIncreasing-dedup sorted rising)) (λ n. (
-      λ m. collected_from all before item tables expressions own b n (subst (In n) is_whole (contains_in n numbers
-          (Contains-from_dedup eqb numbers n (subst (λ w. Contains w n) first (Contains-permutation sorted once n (IsPermutation-sym once sorted moved) (Contains-from_dedup eqb sorted n m)))))),
+      λ m. collected_from all before item tables expressions own b n (here n (known_collected tables expressions essentials found own are n (subst (In n) whole (contains_in n numbers
+          (Contains-from_dedup eqb numbers n (subst (λ w. Contains w n) first (Contains-permutation sorted once n (IsPermutation-sym once sorted moved) (Contains-from_dedup eqb sorted n m)))))))),
       λ f. Contains-dedup_nat sorted n (Contains-permutation once sorted n moved
-          (subst (λ w. Contains w n) (sym first) (Contains-dedup_nat numbers n (in_contains n numbers (subst (In n) (sym is_whole) (collected_to all before item tables expressions own b n f)))))),
+          (subst (λ w. Contains w n) (sym first) (Contains-dedup_nat numbers n (in_contains n numbers (subst (In n) (sym whole) (collected_is_known tables expressions essentials found own are n (there n (collected_to all before item tables expressions own b n f)))))))),
     ))
 
 -- a `$f` is no `$e`

@@ -306,7 +306,7 @@ is_same_symbol x y = nat_eq x.name y.name && beq x.variable y.variable
 abbrev pub is_same_pair : NumberedSymbol × NumberedSymbol → NumberedSymbol × NumberedSymbol → Bool
 is_same_pair p q = is_same_symbol p.0 q.0 && is_same_symbol p.1 q.1
 
-symbol_decides : (x y : NumberedSymbol) → Decides (is_same_symbol x y) (x ≡ y)
+pub symbol_decides : (x y : NumberedSymbol) → Decides (is_same_symbol x y) (x ≡ y)
 symbol_decides x y =
     let d = Decides-and (nat_eq x.name y.name) (beq x.variable y.variable) (unsigned_Decides x.name y.name) (booleans_Decides x.variable y.variable) in
     (λ t. let r = d.0 t in let name = r.0 in let variable = r.1 in λ i. record { name = name i; variable = variable i }, λ e. d.1 (ap (λ (s : NumberedSymbol). s.name) e, ap (λ (s : NumberedSymbol). s.variable) e))
@@ -361,6 +361,12 @@ front_read all before expressions numbers count h a front =
 pub front_and_own : (before : List Item) (outer own : List ℕ) (count : ℕ) → AreSound before → outer ++ own ≡ active_numbers is_disjoint_item before → AreFrontNumbers before outer count → active_pairs (take count before) ++ flat_map (pairs_at before) own ≡ active_pairs before
 front_and_own before outer own count h e front =
     ap (λ w. w ++ flat_map (pairs_at before) own) (front_pairs before outer count h front) ∙ sym (flat_map-append (pairs_at before) outer own) ∙ ap (flat_map (pairs_at before)) e ∙ sym (active_pairs_by_numbers before h)
+
+-- so it is with those of the first of these `$d`, and the ones of the others
+pub front_and_more : (before : List Item) (outer done own : List ℕ) (count front : ℕ) → AreSound before → done ++ own ≡ outer → AreFrontNumbers before outer count → AreFrontNumbers before done front
+    → active_pairs (take front before) ++ flat_map (pairs_at before) own ≡ active_pairs (take count before)
+front_and_more before outer done own count front h e all first =
+    ap (λ w. w ++ flat_map (pairs_at before) own) (front_pairs before done front h first) ∙ sym (flat_map-append (pairs_at before) done own) ∙ ap (flat_map (pairs_at before)) e ∙ sym (front_pairs before outer count h all)
 
 -- pairs of a list that has each of some pairs, and of two lists behind one another
 pair_more : (all : List (List ℕ)) (xs ys : List (NumberedSymbol × NumberedSymbol)) (x y : Symbol) → HasEach ys xs → ArePair (kept_pairs all xs) x y → ArePair (kept_pairs all ys) x y

@@ -98,16 +98,16 @@ puts_more old mid new marks names k number once l a p = subst (λ w. PutsAll old
         ∙ a.others n (λ c. out (in_contains n (take k names ++ x ∷ []) (in_left n (take k names) (x ∷ []) (contains_in n (take k names) c))))
 
 -- one more item
-disjoint_front : (before : List Item) (item : Item) (name : List ℕ) (n : ℕ) → IsDisjointAt before name n → IsDisjointAt (before ++ item ∷ []) name n
+pub disjoint_front : (before : List Item) (item : Item) (name : List ℕ) (n : ℕ) → IsDisjointAt before name n → IsDisjointAt (before ++ item ∷ []) name n
 disjoint_front before item name n d = record { item = d.item; there = get_front before item d.item n d.there; disjoint = d.disjoint; named = d.named }
 
-disjoint_cases : (before : List Item) (item : Item) (name : List ℕ) (n : ℕ) → IsDisjointAt (before ++ item ∷ []) name n → IsDisjointAt before name n ⊎ ((n ≡ length before) × (is_disjoint item.kind ≡ true) × (has item.symbols name ≡ true))
+pub disjoint_cases : (before : List Item) (item : Item) (name : List ℕ) (n : ℕ) → IsDisjointAt (before ++ item ∷ []) name n → IsDisjointAt before name n ⊎ ((n ≡ length before) × (is_disjoint item.kind ≡ true) × (has item.symbols name ≡ true))
 disjoint_cases before item name n d = elim (get_cases before item d.item n d.there) [
   | inl there ↦ inl (record { item = d.item; there = there; disjoint = d.disjoint; named = d.named })
   | inr last ↦ inr (last.0, ap (λ (i : Item). is_disjoint i.kind) last.1 ∙ d.disjoint, ap (λ (i : Item). has i.symbols name) last.1 ∙ d.named)
 ]
 
-active_before : (before : List Item) (item : Item) (name : List ℕ) (n : ℕ) → IsDisjointAt before name n → is_active_at (before ++ item ∷ []) n ≡ true → is_active_at before n ≡ true
+pub active_before : (before : List Item) (item : Item) (name : List ℕ) (n : ℕ) → IsDisjointAt before name n → is_active_at (before ++ item ∷ []) n ≡ true → is_active_at before n ≡ true
 active_before before item name n d a = active_at_front before item n (slice_get_within before n d.item d.there) a
 
 -- which is no `$d` that has the name
@@ -221,10 +221,10 @@ pairs_taken all before item numbers old new marks number distinct sound d are l 
         subst (IsRow (before ++ item ∷ []) name) (sym (puts.others n (λ c. out (contains_in n numbers c)))) (row_stays before item name (row_at old n) (λ t h. out (numbered h)) (k n name there))
 
 -- an active `$d` that has two names
-record HavePair (before : List Item) (x y : List ℕ) (n : ℕ) : Type 0 where
-  first : IsDisjointAt before x n
-  second : IsDisjointAt before y n
-  stayed : is_active_at before n ≡ true
+pub record HavePair (before : List Item) (x y : List ℕ) (n : ℕ) : Type 0 where
+  pub first : IsDisjointAt before x n
+  pub second : IsDisjointAt before y n
+  pub stayed : is_active_at before n ≡ true
 
 named_in : (before : List Item) (item : Item) (s : Symbol) (name : List ℕ) → In s (expression before item) → s.name ≡ name → has item.symbols name ≡ true
 named_in before item s name m e =
@@ -232,7 +232,7 @@ named_in before item s name m e =
     let same = ap (λ (w : Symbol). w.name) r.2 ∙ e in
     in_has item.symbols name (subst (λ w. In w item.symbols) same r.1)
 
-paired_from : (before : List Item) (x y : List ℕ) → AreSound before → are_paired (active_pairs before) (as_variable x, as_variable y) ≡ true → (x ≢ y) × (n : ℕ) × HavePair before x y n
+pub paired_from : (before : List Item) (x y : List ℕ) → AreSound before → are_paired (active_pairs before) (as_variable x, as_variable y) ≡ true → (x ≢ y) × (n : ℕ) × HavePair before x y n
 paired_from before x y h t = by_names f.2
   where
     f : (pair : Symbol × Symbol) × In pair (active_pairs before) × SameNames (as_variable x, as_variable y) pair
@@ -255,7 +255,7 @@ paired_from before x y h t = by_names f.2
     by_names (inl e) = let r = found x y e.0 e.1 in (r.0, r.1, r.2)
     by_names (inr e) = let r = found y x e.0 e.1 in (λ s. r.0 (sym s), r.1, r.3)
 
-paired_to : (before : List Item) (x y : List ℕ) (n : ℕ) → x ≢ y → HavePair before x y n → are_paired (active_pairs before) (as_variable x, as_variable y) ≡ true
+pub paired_to : (before : List Item) (x y : List ℕ) (n : ℕ) → x ≢ y → HavePair before x y n → are_paired (active_pairs before) (as_variable x, as_variable y) ≡ true
 paired_to before x y n apart p = elim (in_order (symbol before x) (symbol before y) (expression before item) (λ e. apart (ap (λ (s : Symbol). s.name) e)) (there x p.first.named) (there y named)) [
   | inl m ↦ to_paired (as_variable x, as_variable y) (symbol before x, symbol before y) (active_pairs before) (to_active_pairs before (symbol before x, symbol before y) item an_active p.first.disjoint m) (pair_here (symbol before x) (symbol before y))
   | inr m ↦ to_paired (as_variable x, as_variable y) (symbol before y, symbol before x) (active_pairs before) (to_active_pairs before (symbol before y, symbol before x) item an_active p.first.disjoint m) (pair_turned (symbol before y) (symbol before x))
@@ -274,7 +274,7 @@ paired_to before x y n apart p = elim (in_order (symbol before x) (symbol before
     there name h = in_map (symbol before) name item.symbols (has_in item.symbols name h)
 
 -- activity by the marks, as a question reads it
-active_at_marks : (before : List Item) (marks : List Mark) (n : ℕ) → marks ≡ block_marks before → is_active_at before n ≡ stays_by (drop (suc n) marks)
+pub active_at_marks : (before : List Item) (marks : List Mark) (n : ℕ) → marks ≡ block_marks before → is_active_at before n ≡ stays_by (drop (suc n) marks)
 active_at_marks before marks n e = let z : n + 1 ≡ suc n = omega arith in active_by_marks before n ∙ (λ i. stays_by (drop (z i) (sym e i)))
 
 -- what two rows have in common tells whether the names are an active pair

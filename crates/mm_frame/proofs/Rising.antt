@@ -1,6 +1,6 @@
 -- Numbers that rise: the beginning of them, one more behind them, and what a search among them finds.
-use Rattle.std.proofs.Common.{◌≡◌, ℕ, ◌<◌, ◌≤◌, true, false, Result, Ok, Err, List, [], ◌∷◌, ◌++◌, length, get_or, refl, sym, ◌∙◌, ap, subst, arith, inl, inr, ◌⊎◌, length-append}
-use Rattle.std.specs.Prelude.{is_ok, nat_eq}
+use Rattle.std.proofs.Common.{◌≡◌, ℕ, zero, suc, ◌+◌, ◌-◌, ◌<◌, ◌≤◌, true, false, Some, Result, Ok, Err, List, [], ◌∷◌, ◌++◌, length, drop, slice_get, get_or, refl, sym, ◌∙◌, ap, subst, arith, inl, inr, ◌⊎◌, length-append}
+use Rattle.std.specs.Prelude.{Contains, is_ok, nat_eq}
 use Rattle.std.specs.List.Sorted.{IsBinarySearchResult}
 use Rattle.std.specs.Ordering.{nat_cmp}
 use Rattle.std.specs.Cmp.{nat_eq_equiv}
@@ -10,10 +10,10 @@ use Rattle.std.proofs.lemmas.Bool.{false_from_ne_true, eqb-true}
 use Rattle.std.proofs.lemmas.List.{get_or_append_left, length_push}
 use Rattle.std.proofs.lemmas.List.Sorted.{searched}
 use Rattle.std.proofs.lemmas.Map.Views.{list_any-from_Contains, Contains-from_any}
-use Rattle.std.proofs.lemmas.Option.{get_or_from_slice_get, slice_get_within}
+use Rattle.std.proofs.lemmas.Option.{get_or_from_slice_get, slice_get_within, slice_get-get_or}
 use Rattle.mm_frame.specs.Code.LastItems.{IsRising}
 use Rattle.mm_frame.specs.Code.PairOrder.{is_among}
-use Rattle.mm_frame.proofs.Members.{In, in_contains, contains_in, in_get}
+use Rattle.mm_frame.proofs.Members.{In, in_contains, contains_in, in_get, get_in}
 use Rattle.mm_frame.proofs.Frames.{in_at}
 
 -- the beginning of rising numbers rises, and so do they with a larger one behind them
@@ -79,3 +79,34 @@ among_found numbers n r s h = elim (found_or_not numbers n r s h) [
   | inl p ↦ p.0 ∙ sym (in_among numbers n p.1)
   | inr p ↦ p.0 ∙ sym (false_from_ne_true (is_among numbers n) (λ t. p.1 (among_in numbers n t)))
 ]
+
+-- a number of a rising list that stands no earlier than another is no less
+pub rising_least : (row : List ℕ) (k at n : ℕ) → IsRising row → k < length row → slice_get row at ≡ Some n → (at < k → ⊥) → get_or row k 0 ≤ n
+rising_least row k at n rising within e later =
+    let w = slice_get_within row at n e in
+    let there : get_or row at 0 ≡ n = get_or_from_slice_get row at n 0 e in
+    elim (dec_lt k at) [
+      | yes l ↦ (let less : get_or row k 0 < get_or row at 0 = rising k at 0 l w in omega arith)
+      | no m ↦ elim (dec_lt at k) [
+        | yes l ↦ absurd (later l)
+        | no r ↦ (let z : k ≡ at = omega arith in let same : get_or row k 0 ≡ get_or row at 0 = ap (λ j. get_or row j 0) z in omega arith)
+      ]
+    ]
+
+-- an element behind the first ones
+get_drop : (xs : List ℕ) (k i n : ℕ) → k + i ≡ n → slice_get (drop k xs) i ≡ slice_get xs n
+get_drop xs zero i n e = let z : i ≡ n = omega arith in ap (slice_get xs) z
+get_drop [] (suc k) i n e = refl
+get_drop (x ∷ xs) (suc k) i zero e = absurd (omega arith)
+get_drop (x ∷ xs) (suc k) i (suc n) e = get_drop xs k i n (omega arith)
+
+-- where the one before them is less than a number, the numbers from there on are those that are no less
+pub rest_whole : (row : List ℕ) (at number n : ℕ) → IsRising row → 0 < at → at ≤ length row → get_or row (at - 1) 0 < number → number ≤ n → Contains row n → Contains (drop at row) n
+rest_whole row at number n rising some within less l there =
+    let g = in_get n row (contains_in n row there) in
+    let w = slice_get_within row g.0 n g.1 in
+    let same : get_or row g.0 0 ≡ n = get_or_from_slice_get row g.0 n 0 g.1 in
+    elim (dec_lt g.0 at) [
+      | yes m ↦ (let no = rising_least row g.0 (at - 1) (get_or row (at - 1) 0) rising w (slice_get-get_or row (at - 1) 0 (omega arith)) (λ a. omega arith) in absurd (omega arith))
+      | no m ↦ (let z : at + (g.0 - at) ≡ g.0 = omega arith in in_contains n (drop at row) (get_in n (drop at row) (g.0 - at) (get_drop row at (g.0 - at) g.0 z ∙ g.1)))
+    ]

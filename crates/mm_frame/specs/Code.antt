@@ -21,4 +21,6 @@ pub mod KeptPairLists
 pub mod KeptBase
 pub mod PairOrder
 pub mod KeptPairTable
+pub mod KeptAsked
+pub mod KeptVariables
 pub mod BaseInside

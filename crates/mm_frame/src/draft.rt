@@ -17,16 +17,21 @@ ghost use Rattle.mm_frame.specs.Language.Scope.{closes, mark_of, active_numbers}
 ghost use Rattle.mm_frame.specs.Code.KeptScope.{taken};
 ghost use Rattle.mm_frame.specs.Code.BlockMarks.{block_marks};
 ghost use Rattle.mm_frame.specs.Code.KeptEarlier.{IsFramed, KnowsEarlier};
-ghost use Rattle.mm_frame.specs.Code.LastItems.{is_disjoint_item, IsSort};
+ghost use Rattle.mm_frame.specs.Code.LastItems.{is_disjoint_item, is_essential_item, IsSort};
 ghost use Rattle.mm_frame.specs.Language.Base.{fault_by};
 ghost use Rattle.mm_frame.specs.Code.KeptPairLists.{AreMade};
 ghost use Rattle.mm_frame.specs.Code.KeptPairTable.{KnowsPairs};
+ghost use Rattle.mm_frame.specs.Code.KeptAsked.{KnowsAsked};
+ghost use Rattle.mm_frame.specs.Code.KeptVariables.{AreVariablesOf};
+ghost use Rattle.mm_frame.specs.Code.KeptScope.{ScopeHolds};
 ghost use Rattle.mm_frame.specs.Code.KeptBase.{HoldsFrame, TellsPairs};
 ghost use Rattle.mm_frame.specs.Language.Answering.{AreRows, is_told_proof};
 
 use crate::FrameNumber;
 use crate::active::ActiveNumbers;
+use crate::asked::AskedPairs;
 use crate::blocks::Blocks;
+use crate::essential::{EssentialVariable, EssentialVariables};
 use crate::expressions::Expressions;
 use crate::judge::{FrameFault, fault_of};
 use crate::mandatory::{Earlier, hypotheses, mandatory_pairs};
@@ -79,6 +84,10 @@ pub struct Draft<'a> {
     pair_numbers: Vec<Option<usize>>,
     /// The pairs of the active `$d`.
     pair_table: PairTable,
+    /// Which pairs were asked, so that none is searched for twice.
+    asked: AskedPairs,
+    /// The variables of the active `$e`.
+    variables: EssentialVariables,
 }
 
 /// What is kept of all items.
@@ -207,18 +216,43 @@ fn has_proof(kind: ItemKind, sound: bool) -> bool
 fn frame_of(
     alloc: Global,
     earlier: &Earlier,
+    asked: &mut AskedPairs,
     own: &[NumberedSymbol],
     framed: bool,
 ) -> Result<Option<Frame>, AllocError>
-    ensures { IfOk result (λ frame. (all : List (List ℕ)) (before : List meant.Item) (item : meant.Item) → KnowsEarlier all before earlier.now
-        → (framed ≡ true → IsFramed all before item own.now) → HoldsFrame all framed before item frame) }
+    ensures asked { OnOk result ((all : List (List ℕ)) (before : List meant.Item) → KnowsEarlier all before earlier.now → KnowsAsked all before asked.old
+        → KnowsAsked all before asked.new) }
+    ensures frame { IfOk result (λ frame. (all : List (List ℕ)) (before : List meant.Item) (item : meant.Item) → KnowsEarlier all before earlier.now
+        → KnowsAsked all before asked.old → (framed ≡ true → IsFramed all before item own.now) → HoldsFrame all framed before item frame) }
 {
     if !framed {
         return Ok(None);
     }
     let hypotheses = hypotheses(alloc, earlier, own)?;
-    let pairs = mandatory_pairs(alloc, earlier, &hypotheses)?;
+    let pairs = mandatory_pairs(alloc, earlier, asked, &hypotheses)?;
     Ok(Some(Frame { hypotheses, pairs }))
+}
+
+/// What is known of the sound items before an assertion, by what is kept of them.
+fn earlier<'b>(
+    scope: &'b Scope<'_>,
+    pairs: &'b PairTable,
+    essentials: &'b [usize],
+    variables: &'b [EssentialVariable],
+    expressions: &'b Expressions,
+) -> Earlier<'b>
+    ensures { (all : List (List ℕ)) (before : List meant.Item) → AreSound before → ScopeHolds all before scope.now → KnowsPairs all before pairs.now
+        → essentials.now ≡ active_numbers is_essential_item before → AreVariablesOf essentials.now expressions.now variables.now
+        → AreSymbols all before expressions.now → KnowsEarlier all before result }
+{
+    Earlier {
+        tables: scope.tables(),
+        pairs,
+        blocks: scope.blocks(),
+        essentials,
+        variables,
+        expressions,
+    }
 }
 
 fn is_essential(kind: ItemKind) -> bool
@@ -327,33 +361,9 @@ impl<'a> Draft<'a> {
             pair_lists: PairLists::new(alloc),
             pair_numbers,
             pair_table: PairTable::new(alloc),
+            asked: AskedPairs::new(alloc),
+            variables: EssentialVariables::new(alloc),
         })
-    }
-
-    /// What is known of the items so far.
-    fn earlier(&self) -> Earlier<'_>
-        ensures { (all : List (List ℕ)) (said : List meant.Item) → IsDraft all said self.now → KnowsEarlier all (sound_items said) result }
-    {
-        Earlier {
-            tables: self.scope.tables(),
-            pairs: &self.pair_table,
-            blocks: self.scope.blocks(),
-            essentials: self.essentials.as_slice(),
-            expressions: &self.expressions,
-        }
-    }
-
-    /// The frame of one more statement with these symbols, if it has one.
-    fn frame(
-        &self,
-        alloc: Global,
-        own: &[NumberedSymbol],
-        framed: bool,
-    ) -> Result<Option<Frame>, AllocError>
-        ensures { IfOk result (λ frame. (all : List (List ℕ)) (said : List meant.Item) (item : meant.Item) → IsDraft all said self.now
-            → (framed ≡ true → IsFramed all (sound_items said) item own.now) → HoldsFrame all framed (sound_items said) item frame) }
-    {
-        Ok(frame_of(alloc, &self.earlier(), own, framed)?)
     }
 
     /// Takes one more statement, whose symbols have the numbers that are kept. Want of memory leaves the draft as good
@@ -374,7 +384,14 @@ impl<'a> Draft<'a> {
         let tables = self.scope.tables();
         let symbols = symbols_kept(alloc, tables, statement, &self.numbers, sound)?;
         let framed = is_framed(statement.kind(), sound);
-        let frame = self.frame(alloc, &symbols, framed)?;
+        let earlier = earlier(
+            &self.scope,
+            &self.pair_table,
+            self.essentials.as_slice(),
+            self.variables.as_slice(),
+            &self.expressions,
+        );
+        let frame = frame_of(alloc, &earlier, &mut self.asked, &symbols, framed)?;
         keep_pairs(
             alloc,
             &mut self.pair_lists,
@@ -408,6 +425,8 @@ impl<'a> Draft<'a> {
             number,
             sound,
         )?;
+        self.variables
+            .follow(self.essentials.as_slice(), &self.expressions, number)?;
         follow(
             &mut self.disjoints,
             blocks,

@@ -2,9 +2,11 @@
 #![tactic(auto)]
 
 mod active;
+mod asked;
 mod base;
 mod blocks;
 mod draft;
+mod essential;
 mod expressions;
 mod judge;
 mod label_numbers;

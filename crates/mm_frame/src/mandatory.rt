@@ -8,13 +8,17 @@ ghost use Rattle.mm_frame.specs.Language.Framing.{pairs_of, active_pairs, frame,
 ghost use Rattle.mm_frame.specs.Code.KeptEarlier.{IsFramed, KnowsEarlier};
 ghost use Rattle.mm_frame.specs.Code.LastItems.{IsRising};
 ghost use Rattle.mm_frame.specs.Language.NumberedSymbols.{symbol_of, symbols_of, IsNumbered, ArePairsRead};
-ghost use Rattle.mm_frame.specs.Code.KeptSymbols.{float_number, float_numbers, expression_kept};
+ghost use Rattle.mm_frame.specs.Code.KeptSymbols.{float_number, float_numbers};
+ghost use Rattle.mm_frame.specs.Code.KeptVariables.{known_float};
 ghost use Rattle.mm_frame.specs.Code.PairOrder as paired;
 ghost use Rattle.mm_frame.specs.Code.PairOrder.{float_variable, float_variables};
 ghost use Rattle.mm_frame.specs.Language.Answering.{are_paired, pairs_in_order};
 ghost use Rattle.mm_frame.specs.Code.KeptPairTable.{ReadsPairs};
+ghost use Rattle.mm_frame.specs.Code.KeptAsked.{KnowsAsked, AsksOn};
 
+use crate::asked::AskedPairs;
 use crate::blocks::Blocks;
+use crate::essential::EssentialVariable;
 use crate::expressions::Expressions;
 use crate::paired::PairTable;
 use crate::symbol::NumberedSymbol;
@@ -32,6 +36,8 @@ pub struct Earlier<'a> {
     pub blocks: &'a Blocks,
     /// The numbers of the active `$e`, rising.
     pub essentials: &'a [usize],
+    /// The variables of these.
+    pub variables: &'a [EssentialVariable],
     /// The symbols of each, by its number.
     pub expressions: &'a Expressions,
 }
@@ -66,29 +72,33 @@ fn add_floats(
     Ok(())
 }
 
-/// Adds those of the expression with this number, if there is one.
-fn add_floats_of(
+/// Adds that of a variable which one of these active `$e` keeps.
+fn add_known_float(
     tables: &Tables,
-    expressions: &Expressions,
-    number: usize,
+    essentials: &[usize],
+    variable: EssentialVariable,
     numbers: &mut Vec<usize>,
 ) -> Result<(), AllocError>
-    ensures { OnOk result (numbers.new.items ≡ numbers.old.items ++ float_numbers tables.now (expression_kept expressions.now number)) }
+    ensures { OnOk result (IsRising essentials.now → numbers.new.items ≡ numbers.old.items ++ known_float tables.now essentials.now variable) }
 {
-    add_floats(tables, expressions.at(number), numbers)
+    if is_among(essentials, variable.number) {
+        add_float(tables, &variable.symbol, numbers)?;
+    }
+    Ok(())
 }
 
-/// Adds those of the expressions with these numbers, in order.
-fn add_all_floats(
+/// Adds those of the variables of these active `$e`.
+fn add_known_floats(
     tables: &Tables,
-    expressions: &Expressions,
-    from: &[usize],
+    essentials: &[usize],
+    variables: &[EssentialVariable],
     numbers: &mut Vec<usize>,
 ) -> Result<(), AllocError>
-    ensures { OnOk result (numbers.new.items ≡ numbers.old.items ++ flat_map (λ n. float_numbers tables.now (expression_kept expressions.now n)) from.now) }
+    ensures { OnOk result (IsRising essentials.now
+        → numbers.new.items ≡ numbers.old.items ++ flat_map (known_float tables.now essentials.now) variables.now) }
 {
-    for number in from {
-        add_floats_of(tables, expressions, *number, numbers)?;
+    for variable in variables {
+        add_known_float(tables, essentials, *variable, numbers)?;
     }
     Ok(())
 }
@@ -103,11 +113,11 @@ pub fn hypotheses(
     ensures { IfOk result (λ numbers. (all : List (List ℕ)) (before : List meant.Item) (item : meant.Item) → KnowsEarlier all before earlier.now
         → IsFramed all before item own.now → numbers.items ≡ mandatory_numbers before item) }
 {
-    let (essentials, expressions) = (earlier.essentials, earlier.expressions);
+    let (tables, essentials) = (earlier.tables, earlier.essentials);
     let mut numbers = Vec::with_capacity(alloc, own.len())?;
     numbers.extend_from_slice(essentials)?;
-    add_floats(earlier.tables, own, &mut numbers)?;
-    add_all_floats(earlier.tables, expressions, essentials, &mut numbers)?;
+    add_floats(tables, own, &mut numbers)?;
+    add_known_floats(tables, essentials, earlier.variables, &mut numbers)?;
     // The active `$e` rise, and the same `$f` is often that of many symbols: what is in order is not sorted again.
     numbers.dedup();
     numbers.sort()?;
@@ -177,16 +187,19 @@ fn variables_typed(
 /// Adds a pair if an active `$d` has it.
 fn add_if_active(
     table: &PairTable,
+    asked: &mut AskedPairs,
     blocks: &Blocks,
     first: NumberedSymbol,
     second: NumberedSymbol,
     pairs: &mut Vec<(NumberedSymbol, NumberedSymbol)>,
 ) -> Result<(), AllocError>
-    ensures { OnOk result ((all : List (List ℕ)) (before : List meant.Item) (said : List (Meaning × Meaning)) → ReadsPairs all before table.now blocks.now
-        → IsNumbered all first → IsNumbered all second → ArePairsRead all said pairs.old.items
+    ensures pairs { OnOk result ((all : List (List ℕ)) (before : List meant.Item) (said : List (Meaning × Meaning)) → ReadsPairs all before table.now blocks.now
+        → KnowsAsked all before asked.old → IsNumbered all first → IsNumbered all second → ArePairsRead all said pairs.old.items
         → ArePairsRead all (said ++ filter (are_paired (active_pairs before)) ((symbol_of all first, symbol_of all second) ∷ [])) pairs.new.items) }
+    ensures asked { OnOk result (AsksOn table.now blocks.now asked.old asked.new) }
 {
-    if table.is_active_pair(blocks, first.name, second.name) {
+    let active = table.is_active_pair(asked, blocks, first.name, second.name)?;
+    if active {
         pairs.push((first, second))?;
     }
     Ok(())
@@ -195,21 +208,23 @@ fn add_if_active(
 /// Adds those of one variable with each of some others.
 fn add_active_with(
     table: &PairTable,
+    asked: &mut AskedPairs,
     blocks: &Blocks,
     first: NumberedSymbol,
     later: &[NumberedSymbol],
     pairs: &mut Vec<(NumberedSymbol, NumberedSymbol)>,
 ) -> Result<(), AllocError>
-    ensures { OnOk result ((all : List (List ℕ)) (before : List meant.Item) (said : List (Meaning × Meaning)) → ReadsPairs all before table.now blocks.now
-        → IsNumbered all first → All (IsNumbered all) later.now → ArePairsRead all said pairs.old.items
+    ensures pairs { OnOk result ((all : List (List ℕ)) (before : List meant.Item) (said : List (Meaning × Meaning)) → ReadsPairs all before table.now blocks.now
+        → KnowsAsked all before asked.old → IsNumbered all first → All (IsNumbered all) later.now → ArePairsRead all said pairs.old.items
         → ArePairsRead all (said ++ filter (are_paired (active_pairs before)) (map (λ y. (symbol_of all first, y)) (symbols_of all later.now)))
         pairs.new.items) }
+    ensures asked { OnOk result (AsksOn table.now blocks.now asked.old asked.new) }
 {
     if !table.has(first.name) {
         return Ok(());
     }
     for second in later {
-        add_if_active(table, blocks, first, *second, pairs)?;
+        add_if_active(table, asked, blocks, first, *second, pairs)?;
     }
     Ok(())
 }
@@ -218,31 +233,43 @@ fn add_active_with(
 fn active_among(
     alloc: Global,
     table: &PairTable,
+    asked: &mut AskedPairs,
     blocks: &Blocks,
     variables: &[NumberedSymbol],
 ) -> Result<Vec<(NumberedSymbol, NumberedSymbol)>, AllocError>
-    ensures { IfOk result (λ pairs. (all : List (List ℕ)) (before : List meant.Item) → ReadsPairs all before table.now blocks.now
-        → All (IsNumbered all) variables.now
+    ensures pairs { IfOk result (λ pairs. (all : List (List ℕ)) (before : List meant.Item) → ReadsPairs all before table.now blocks.now
+        → KnowsAsked all before asked.old → All (IsNumbered all) variables.now
         → ArePairsRead all (filter (are_paired (active_pairs before)) (pairs_of (symbols_of all variables.now))) pairs.items) }
+    ensures asked { OnOk result (AsksOn table.now blocks.now asked.old asked.new) }
 {
     let mut pairs = Vec::new(alloc);
     for n in 0..variables.len() {
-        add_active_with(table, blocks, variables[n], &variables[n + 1..], &mut pairs)?;
+        add_active_with(
+            table,
+            asked,
+            blocks,
+            variables[n],
+            &variables[n + 1..],
+            &mut pairs,
+        )?;
     }
     pairs.shrink_to_fit();
     Ok(pairs)
 }
 
 /// The pairs of a sound assertion with these mandatory hypotheses: of the variables of its mandatory `$f`, in their
-/// order, those that an active `$d` has.
+/// order, those that an active `$d` has. After an allocation failure what was asked must not be used.
 pub fn mandatory_pairs(
     alloc: Global,
     earlier: &Earlier,
+    asked: &mut AskedPairs,
     hypotheses: &[usize],
 ) -> Result<Vec<(NumberedSymbol, NumberedSymbol)>, AllocError>
-    ensures { IfOk result (λ pairs. (all : List (List ℕ)) (before : List meant.Item) (item : meant.Item) → KnowsEarlier all before earlier.now
-        → hypotheses.now ≡ mandatory_numbers before item → ArePairsRead all (pairs_in_order (frame before item)) pairs.items) }
+    ensures asked { OnOk result ((all : List (List ℕ)) (before : List meant.Item) → KnowsEarlier all before earlier.now → KnowsAsked all before asked.old
+        → KnowsAsked all before asked.new) }
+    ensures pairs { IfOk result (λ pairs. (all : List (List ℕ)) (before : List meant.Item) (item : meant.Item) → KnowsEarlier all before earlier.now
+        → KnowsAsked all before asked.old → hypotheses.now ≡ mandatory_numbers before item → ArePairsRead all (pairs_in_order (frame before item)) pairs.items) }
 {
     let variables = variables_typed(alloc, earlier.essentials, earlier.expressions, hypotheses)?;
-    active_among(alloc, earlier.pairs, earlier.blocks, &variables)
+    active_among(alloc, earlier.pairs, asked, earlier.blocks, &variables)
 }

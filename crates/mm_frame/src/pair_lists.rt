@@ -187,6 +187,12 @@ impl PairLists {
         self.made.get(&count).copied()
     }
 
+    /// Whether a list is made for the items up to the one with this number.
+    fn is_made(&self, number: usize, expressions: &Expressions) -> bool {
+        self.made_for(count_to(number, expressions.count()))
+            .is_some()
+    }
+
     /// Whether the last list is this one.
     fn is_last(&self, list: &Vec<(NumberedSymbol, NumberedSymbol)>) -> bool
         ensures { IsTrue result → IsThere self.now (length self.now.lists.items - 1) list.now.items }
@@ -211,25 +217,25 @@ impl PairLists {
         Ok(count)
     }
 
-    /// The number of the list of the outer `$d`, which is made now if there is none yet: `count` is that of the items up
-    /// to the last of them. Want of memory leaves the lists as good for nothing.
-    fn outer_list(
+    /// The number of the list of the first active `$d`, which is made now, of all their pairs, if there is none yet: `count`
+    /// is that of the items up to the last of them. Want of memory leaves the lists as good for nothing.
+    fn first_list(
         &mut self,
         alloc: Global,
-        outer: &[usize],
+        first: &[usize],
         count: usize,
         expressions: &Expressions,
     ) -> Result<usize, AllocError>
         ensures pairs { IfOk result (λ k. (all : List (List ℕ)) (before : List meant.Item) → AreSound before → AreSymbols all before expressions.now
-            → AreFrontNumbers before outer.now count → AreMade all before self.old → IsList all self.new k (active_pairs (take count before))) }
+            → AreFrontNumbers before first.now count → AreMade all before self.old → IsList all self.new k (active_pairs (take count before))) }
         ensures made { OnOk result ((all : List (List ℕ)) (before : List meant.Item) → AreSound before → AreSymbols all before expressions.now
-            → AreFrontNumbers before outer.now count → AreMade all before self.old → AreMade all before self.new) }
+            → AreFrontNumbers before first.now count → AreMade all before self.old → AreMade all before self.new) }
         ensures kept { OnOk result (KeepsLists self.old self.new) }
     {
         if let Some(k) = self.made_for(count) {
             return Ok(k);
         }
-        let pairs = pairs_at(alloc, outer, expressions)?;
+        let pairs = pairs_at(alloc, first, expressions)?;
         let k = self.keep(in_order(pairs)?)?;
         self.made.insert(count, k)?;
         Ok(k)
@@ -254,6 +260,46 @@ impl PairLists {
         }
         pairs.extend_from_slice(self.list(base))?;
         let k = self.keep(in_order(pairs)?)?;
+        Ok(k)
+    }
+
+    /// How many of the first active `$d` have a list that is made: the most that have one, or none of them.
+    fn made_count(&self, disjoints: &[usize], expressions: &Expressions) -> usize
+        ensures { result ≤ length disjoints.now }
+    {
+        let mut count = disjoints.len();
+        while count > 0 && !self.is_made(disjoints[count - 1], expressions) {
+            count -= 1;
+        }
+        count
+    }
+
+    /// The number of the list of the outer `$d`, the first of those that are active, which is made now if there is none
+    /// yet: `count` is that of the items up to the last of them. It is made from that of the most `$d` that have one, so
+    /// that no pair of these is asked again. After an allocation failure the lists must not be used.
+    fn outer_list(
+        &mut self,
+        alloc: Global,
+        outer: &[usize],
+        count: usize,
+        expressions: &Expressions,
+    ) -> Result<usize, AllocError>
+        ensures pairs { IfOk result (λ k. (all : List (List ℕ)) (before : List meant.Item) (rest : List ℕ) → AreSound before → AreSymbols all before expressions.now
+            → outer.now ++ rest ≡ active_numbers is_disjoint_item before → AreFrontNumbers before outer.now count → AreMade all before self.old
+            → IsList all self.new k (active_pairs (take count before))) }
+        ensures made { OnOk result ((all : List (List ℕ)) (before : List meant.Item) (rest : List ℕ) → AreSound before → AreSymbols all before expressions.now
+            → outer.now ++ rest ≡ active_numbers is_disjoint_item before → AreFrontNumbers before outer.now count → AreMade all before self.old
+            → AreMade all before self.new) }
+        ensures kept { OnOk result (KeepsLists self.old self.new) }
+    {
+        if let Some(k) = self.made_for(count) {
+            return Ok(k);
+        }
+        let done = self.made_count(outer, expressions);
+        let front = count_to_last(&outer[..done], expressions);
+        let base = self.first_list(alloc, &outer[..done], front, expressions)?;
+        let k = self.extended(alloc, base, &outer[done..], expressions)?;
+        self.made.insert(count, k)?;
         Ok(k)
     }
 

@@ -1,15 +1,19 @@
 //! Which pairs of variables the active `$d` have.
 
-ghost use Rattle.std.specs.Prelude.{◌≡◌, ◌<◌, ℕ, true, false, List, [], Some, MatchBool, OnOk, length};
+ghost use Rattle.std.specs.Prelude.{◌≡◌, ◌<◌, ◌≤◌, ℕ, suc, true, false, List, [], Some, MatchBool, IfOk, IfSome, IfNone, OnOk, Contains, length, drop};
 ghost use Rattle.mm_frame.specs.Language.Item as meant;
 ghost use Rattle.mm_frame.specs.Language.Framing.{active_pairs};
 ghost use Rattle.mm_frame.specs.Language.NumberedSymbols.{as_variable};
 ghost use Rattle.mm_frame.specs.Code.LastItems.{IsRising};
 ghost use Rattle.mm_frame.specs.Code.Numbers.{IsNameNumber};
 ghost use Rattle.mm_frame.specs.Language.Answering.{are_paired};
-ghost use Rattle.mm_frame.specs.Code.KeptPairTable.{IsCommon, ReadsPairs};
+ghost use Rattle.mm_frame.specs.Code.KeptPairTable.{IsCommon, ReadsPairs, row_at};
+ghost use Rattle.mm_frame.specs.Code.KeptAsked.{KnowsAsked, AsksOn};
+ghost use Rattle.mm_frame.specs.Code.BlockMarks.{stays_by};
+ghost use Rattle.mm_frame.specs.declared.paired.PairTable.{PairTable};
 
 use crate::active::drop_ended;
+use crate::asked::{Answer, AskedPairs};
 use crate::blocks::Blocks;
 use crate::mandatory::is_among;
 use std::alloc::{AllocError, Global};
@@ -18,10 +22,28 @@ use std::alloc::{AllocError, Global};
 /// and of some that are not.
 ///
 /// To take a `$d` takes time linear in its variables. Whether two variables are an active pair takes that of a search
-/// in the longer of their rows for each number in the shorter one, up to the first that both have.
+/// in the longer of their rows for each number in the shorter one, up to the first that both have; where both rows are
+/// long, and the two were asked before, no number is searched for again.
 #[derive(Drop)]
 pub struct PairTable {
     rows: Vec<Vec<usize>>,
+}
+
+/// Both rows are searched anew for each question where one has so many numbers at most.
+const SHORT_ROW: usize = 16;
+
+/// The first number of a row that the other row has, too, and that is of an active `$d`.
+fn first_in_both(blocks: &Blocks, row: &[usize], other: &[usize]) -> Option<usize>
+    ensures some { IsRising other.now → IfSome result (IsCommon blocks.now row.now other.now) }
+    ensures least { IsRising row.now → IsRising other.now → IfSome result (λ n. (m : ℕ) → IsCommon blocks.now row.now other.now m → n ≤ m) }
+    ensures none { IsRising other.now → IfNone result ((n : ℕ) → IsCommon blocks.now row.now other.now n → ⊥) }
+{
+    for k in 0..row.len() {
+        if is_among(other, row[k]) && blocks.is_active_now(row[k]) {
+            return Some(row[k]);
+        }
+    }
+    None
 }
 
 /// Whether an active `$d` is in both rows.
@@ -30,12 +52,92 @@ fn have_common(blocks: &Blocks, row: &[usize], other: &[usize]) -> bool
         ((n : ℕ) × IsCommon blocks.now row.now other.now n)
         ((n : ℕ) → IsCommon blocks.now row.now other.now n → ⊥) }
 {
-    for k in 0..row.len() {
-        if is_among(other, row[k]) && blocks.is_active_now(row[k]) {
-            return true;
-        }
+    first_in_both(blocks, row, other).is_some()
+}
+
+/// The numbers of a row from this one on.
+fn rest_from(row: &[usize], number: usize) -> &[usize]
+    ensures part { (n : ℕ) → Contains result.now n → Contains row.now n }
+    ensures whole { IsRising row.now → (n : ℕ) → number ≤ n → Contains row.now n → Contains result.now n }
+    ensures rising { IsRising row.now → IsRising result.now }
+{
+    let at = match row.binary_search(&number) {
+        Ok(at) => at,
+        Err(at) => at,
+    };
+    if at > 0 && at <= row.len() && row[at - 1] < number {
+        &row[at..]
+    } else {
+        row
     }
-    false
+}
+
+/// The first number from this one on that both rows have and that is of an active `$d`.
+fn first_common(blocks: &Blocks, row: &[usize], other: &[usize], from: usize) -> Option<usize>
+    ensures some { IsRising row.now → IsRising other.now → IfSome result (IsCommon blocks.now row.now other.now) }
+    ensures least { IsRising row.now → IsRising other.now
+        → IfSome result (λ n. (m : ℕ) → from ≤ m → IsCommon blocks.now row.now other.now m → n ≤ m) }
+    ensures none { IsRising row.now → IsRising other.now
+        → IfNone result ((n : ℕ) → from ≤ n → IsCommon blocks.now row.now other.now n → ⊥) }
+{
+    let row = rest_from(row, from);
+    let other = rest_from(other, from);
+    if row.len() <= other.len() {
+        first_in_both(blocks, row, other)
+    } else {
+        first_in_both(blocks, other, row)
+    }
+}
+
+/// Whether there is a number, and it is that of an active item.
+fn is_active_number(blocks: &Blocks, number: Option<usize>) -> bool
+    ensures { MatchBool result
+        ((n : ℕ) × (number ≡ Some n) × (stays_by (drop (suc n) blocks.now) ≡ true))
+        ((n : ℕ) → number ≡ Some n → stays_by (drop (suc n) blocks.now) ≡ false) }
+{
+    match number {
+        Some(number) => blocks.is_active_now(number),
+        None => false,
+    }
+}
+
+/// The number after the last of a row: 0 where it has none.
+fn end_of(row: &[usize]) -> usize
+    ensures { (count : ℕ) → ((n : ℕ) → Contains row.now n → n < count) → result ≤ count }
+{
+    match row.last() {
+        Some(number) => number.saturating_add(1),
+        None => 0,
+    }
+}
+
+/// Whether an active `$d` has the two names with these numbers, whose rows these are. The `$d` that were looked at before
+/// are not looked at again.
+fn ask(
+    asked: &mut AskedPairs,
+    blocks: &Blocks,
+    first: usize,
+    second: usize,
+    row: &[usize],
+    other: &[usize],
+) -> Result<bool, AllocError>
+    ensures value { IfOk result (λ r. (all : List (List ℕ)) (before : List meant.Item) (x y : List ℕ) (table : PairTable) → ReadsPairs all before table blocks.now
+        → row.now ≡ row_at table first → other.now ≡ row_at table second → KnowsAsked all before asked.old → IsNameNumber all first x → IsNameNumber all second y
+        → (first ≡ second → ⊥) → r ≡ are_paired (active_pairs before) (as_variable x, as_variable y)) }
+    ensures asked { OnOk result ((table : PairTable) → row.now ≡ row_at table first → other.now ≡ row_at table second → AsksOn table blocks.now asked.old asked.new) }
+{
+    let known = asked.known(first, second);
+    if is_active_number(blocks, known.common) {
+        return Ok(true);
+    }
+    let common = first_common(blocks, row, other, known.upto);
+    asked.keep(Answer {
+        first,
+        second,
+        upto: end_of(row),
+        common,
+    })?;
+    Ok(common.is_some())
 }
 
 impl PairTable {
@@ -67,21 +169,32 @@ impl PairTable {
         !self.row(name).is_empty()
     }
 
-    /// Whether an active `$d` has the two names with these numbers.
-    pub fn is_active_pair(&self, blocks: &Blocks, first: usize, second: usize) -> bool
-        ensures { (all : List (List ℕ)) (before : List meant.Item) (x y : List ℕ) → ReadsPairs all before self.now blocks.now → IsNameNumber all first x
-            → IsNameNumber all second y → result ≡ are_paired (active_pairs before) (as_variable x, as_variable y) }
+    /// Whether an active `$d` has the two names with these numbers. After an allocation failure what was asked must not be
+    /// used.
+    pub fn is_active_pair(
+        &self,
+        asked: &mut AskedPairs,
+        blocks: &Blocks,
+        first: usize,
+        second: usize,
+    ) -> Result<bool, AllocError>
+        ensures value { IfOk result (λ r. (all : List (List ℕ)) (before : List meant.Item) (x y : List ℕ) → ReadsPairs all before self.now blocks.now
+            → KnowsAsked all before asked.old → IsNameNumber all first x → IsNameNumber all second y
+            → r ≡ are_paired (active_pairs before) (as_variable x, as_variable y)) }
+        ensures asked { OnOk result (AsksOn self.now blocks.now asked.old asked.new) }
     {
         if first == second {
-            return false;
+            return Ok(false);
         }
         let row = self.row(first);
         let other = self.row(second);
-        if row.len() <= other.len() {
-            have_common(blocks, row, other)
-        } else {
-            have_common(blocks, other, row)
+        if row.len() <= SHORT_ROW {
+            return Ok(have_common(blocks, row, other));
         }
+        if other.len() <= SHORT_ROW {
+            return Ok(have_common(blocks, other, row));
+        }
+        ask(asked, blocks, first, second, row, other)
     }
 
     /// Has a row for the name with this number. Want of memory changes no row.

@@ -15,6 +15,7 @@ pub mod Ranges
 pub mod MachineState
 pub mod NamedItems
 pub mod Tasks
+pub mod UsedLabels
 pub mod Judged
 pub mod Numbering
 pub mod NumberedBase

@@ -23,6 +23,7 @@ use crate::named::{NamingRoom, name_all};
 use crate::reading::{Decoding, decode};
 use crate::step::{ProofFault, Undecoded};
 use crate::stepping::{Outcome, run};
+use crate::used::labels_used;
 use crate::work::{Checked, Scratch, Work};
 use crate::{ProofNumber, Spot, Verdict};
 use mm_frame::{Base, Files, Names, NumberedSymbol, ProofWords, Statement, places_have_frames};
@@ -110,7 +111,8 @@ fn run_steps(
     decodes_surely();
     mandatory_are_active();
     let room = mem::replace(&mut scratch.naming, NamingRoom::new(alloc));
-    let (named, room) = name_all(alloc, base, &decoding.labels, room)?;
+    let labels = labels_used(alloc, &decoding.labels, &decoding.steps)?;
+    let (named, room) = name_all(alloc, base, &labels, room)?;
     scratch.naming = room;
     let active = Active::new(active(base, i));
     run(

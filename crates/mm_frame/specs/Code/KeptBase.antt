@@ -12,6 +12,8 @@ use Rattle.mm_frame.specs.Language.Names.{AreDistinct, Begins}
 use Rattle.mm_frame.specs.Language.NumberedSymbols.{ArePairsRead}
 use Rattle.mm_frame.specs.Code.KeptSymbols.{AreSymbols}
 use Rattle.mm_frame.specs.Code.KeptPairTable.{KnowsPairs}
+use Rattle.mm_frame.specs.Code.KeptAsked.{KnowsAsked}
+use Rattle.mm_frame.specs.Code.KeptVariables.{AreVariablesOf}
 use Rattle.mm_frame.specs.Language.Item.{Item, is_floating, is_labelled, is_assertion}
 use Rattle.mm_frame.specs.Language.Statement.{kind_of}
 use Rattle.mm_frame.specs.Language.Sound.{sound_items}
@@ -62,10 +64,12 @@ pub record IsDraft (all : List (List ℕ)) (said : List Item) (draft : Draft) : 
   pub symbols : AreSymbols all (sound_items said) draft.expressions
   pub frames : AreRows (TellsFrame all) said draft.frames.items
   pub essentials : draft.essentials ≡ active_numbers is_essential_item (sound_items said)
+  pub variables : AreVariablesOf draft.essentials draft.expressions draft.variables.found.items
   pub disjoints : draft.disjoints ≡ active_numbers is_disjoint_item (sound_items said)
   pub made : AreMade all (sound_items said) draft.pair_lists
   pub pair_numbers : AreRows (TellsPairs all draft.pair_lists) said draft.pair_numbers.items
   pub pair_table : KnowsPairs all (sound_items said) draft.pair_table
+  pub asked : KnowsAsked all (sound_items said) draft.asked
 
 -- so it is for each list of names that begins with these
 abbrev pub IsDraftLater : List (List ℕ) → List Item → Draft → Type 0

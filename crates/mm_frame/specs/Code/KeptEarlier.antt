@@ -10,6 +10,7 @@ use Rattle.mm_frame.specs.Code.LastItems.{is_essential_item}
 use Rattle.mm_frame.specs.Language.Scope.{active_numbers}
 use Rattle.mm_frame.specs.Code.KeptTables.{Knows}
 use Rattle.mm_frame.specs.Code.KeptPairTable.{KnowsPairs}
+use Rattle.mm_frame.specs.Code.KeptVariables.{AreVariablesOf}
 use Rattle.mm_frame.specs.Language.NumberedSymbols.{AreSymbolsRead}
 use Rattle.mm_frame.specs.Code.KeptSymbols.{AreExpressions, AreNumbered}
 
@@ -20,6 +21,7 @@ pub record KnowsEarlier (all : List (List ℕ)) (before : List Item) (earlier : 
   pub pairs : KnowsPairs all before earlier.pairs.now
   pub marks : earlier.blocks.now ≡ block_marks before
   pub essentials : earlier.essentials.now ≡ active_numbers is_essential_item before
+  pub variables : AreVariablesOf earlier.essentials.now earlier.expressions.now earlier.variables.now
   pub expressions : AreExpressions all before earlier.expressions.now
   pub numbered : AreNumbered all earlier.expressions.now
 

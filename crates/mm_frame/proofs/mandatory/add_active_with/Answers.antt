@@ -8,20 +8,25 @@ use Rattle.mm_frame.proofs.ActivePairLemmas.{pairs_with}
 use Rattle.mm_frame.proofs.FramePairs.{with_more, with_none}
 use Rattle.mm_frame.proofs.mandatory.add_active_with.Goals as goal
 
-pub returns-then-not-has : goal.returns-then-not-has
-returns-then-not-has c all before said reads a others r = with_none all before c.args.table.now c.args.blocks.now c.args.first (symbols_of all c.args.later.now) said c.args.pairs.now.items reads a (c.has.ensures c.if-not-has.true) r
+pub returns-then-not-has-clause-pairs : goal.returns-then-not-has-clause-pairs
+returns-then-not-has-clause-pairs c all before said reads m a others r = with_none all before c.args.table.now c.args.blocks.now c.args.first (symbols_of all c.args.later.now) said c.args.pairs.now.items reads a (c.has.ensures c.if-not-has.true) r
 
 pub loop-second-preserved : goal.loop-second-preserved
-loop-second-preserved c all before said reads a others r =
-    let later = c.args.later.now in
-    let n = c.loop-second.second-index in
-    let d : NumberedSymbol = record { name = 0; variable = false } in
-    let test = are_paired (active_pairs before) in
-    let so_far = said ++ filter test (pairs_with (symbol_of all c.args.first) (symbols_of all (take n later))) in
-    with_more all test (symbol_of all c.args.first) later n d said c.add_if_active.new.pairs.items c.loop-second-test.true
-    (c.in_ok-add_if_active.ensures all before so_far reads a (others n d c.loop-second-test.true) (c.loop-second.invariant all before said reads a others r))
+loop-second-preserved c = record {
+  asked = λ all before reads m. c.in_ok-add_if_active.ensures.asked all before reads (c.loop-second.invariant.asked all before reads m);
+  pairs = λ all before said reads m a others r. (
+      let later = c.args.later.now in
+      let n = c.loop-second.second-index in
+      let d : NumberedSymbol = record { name = 0; variable = false } in
+      let test = are_paired (active_pairs before) in
+      let so_far = said ++ filter test (pairs_with (symbol_of all c.args.first) (symbols_of all (take n later))) in
+      let asked = c.loop-second.invariant.asked all before reads m in
+      with_more all test (symbol_of all c.args.first) later n d said c.add_if_active.new.pairs.items c.loop-second-test.true
+      (c.in_ok-add_if_active.ensures.pairs all before so_far reads asked a (others n d c.loop-second-test.true) (c.loop-second.invariant.pairs all before said reads m a others r))
+      );
+}
 
-pub returns : goal.returns
-returns c all before said reads a others r =
+pub returns-clause-pairs : goal.returns-clause-pairs
+returns-clause-pairs c all before said reads m a others r =
     let later = c.args.later.now in
-    subst (λ w. ArePairsRead all (said ++ filter (are_paired (active_pairs before)) (pairs_with (symbol_of all c.args.first) (symbols_of all w))) c.loop-second.pairs.items) (take_all c.loop-second.second-index later c.loop-second-test.false) (c.loop-second.invariant all before said reads a others r)
+    subst (λ w. ArePairsRead all (said ++ filter (are_paired (active_pairs before)) (pairs_with (symbol_of all c.args.first) (symbols_of all w))) c.loop-second.pairs.items) (take_all c.loop-second.second-index later c.loop-second-test.false) (c.loop-second.invariant.pairs all before said reads m a others r)

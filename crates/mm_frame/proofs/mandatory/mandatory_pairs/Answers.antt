@@ -1,6 +1,6 @@
 use Rattle.std.proofs.Common.{◌∙◌, ap, sym, subst, filter}
 use Rattle.std.specs.Prelude.{All}
-use Rattle.std.proofs.lemmas.Result.{IfOk-weaker}
+use Rattle.std.proofs.lemmas.Result.{IfOk-weaker, on_ok_weaker}
 use Rattle.mm_frame.specs.Language.Framing.{pairs_of, active_pairs}
 use Rattle.mm_frame.specs.Code.LastItems.{is_essential_item, IsRising}
 use Rattle.mm_frame.specs.Language.NumberedSymbols.{symbols_of, IsNumbered, ArePairsRead}
@@ -10,8 +10,8 @@ use Rattle.mm_frame.proofs.HypothesisNumbers.{active_numbers_rise}
 use Rattle.mm_frame.proofs.FramePairs.{variables_are, variables_numbered, active_in_order}
 use Rattle.mm_frame.proofs.mandatory.mandatory_pairs.Goals as goal
 
-pub returns : goal.returns
-returns c = IfOk-weaker c.active_among.result _ _ (λ pairs found all before item known hypotheses.
+pub returns-clause-pairs : goal.returns-clause-pairs
+returns-clause-pairs c = IfOk-weaker c.active_among.result _ _ (λ pairs found all before item known asked hypotheses.
     let earlier = c.args.earlier.now in
     let rising = subst IsRising (sym known.essentials) (active_numbers_rise is_essential_item before) in
     let kept = c.deref.ensures.value ∙ c.in_ok-variables.ensures rising in
@@ -19,4 +19,7 @@ returns c = IfOk-weaker c.active_among.result _ _ (λ pairs found all before ite
     let typed = variables_are all before item earlier.essentials.now c.args.hypotheses.now earlier.expressions.now known.sound known.essentials known.expressions hypotheses in
     let reads : ReadsPairs all before earlier.pairs.now earlier.blocks.now = record { distinct = known.known.distinct; sound = known.sound; knows = known.pairs; marks = known.marks } in
     let whole = ap (λ w. filter (are_paired (active_pairs before)) (pairs_of w)) (ap (symbols_of all) kept ∙ typed) ∙ active_in_order before item known.sound in
-    subst (λ w. ArePairsRead all w pairs.items) whole (found all before reads numbered)) c.active_among.ensures
+    subst (λ w. ArePairsRead all w pairs.items) whole (found all before reads asked numbered)) c.active_among.ensures.pairs
+
+pub returns-clause-asked : goal.returns-clause-asked
+returns-clause-asked c = on_ok_weaker c.active_among.result (λ asks all before known asked. asks all before (record { distinct = known.known.distinct; sound = known.sound; knows = known.pairs; marks = known.marks }) asked) c.active_among.ensures.asked

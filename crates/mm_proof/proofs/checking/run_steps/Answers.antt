@@ -12,6 +12,9 @@ use Rattle.mm_proof.specs.Code.NamedItems.{IsNamedBy}
 use Rattle.mm_frame.specs.Language.NumberedSymbols.{by_number}
 use Rattle.mm_proof.specs.Code.NumberedBase.{all_by_number, numbered_setting}
 use Rattle.mm_proof.specs.Language.DecodedSteps.{AreEntries, entry_steps}
+use Rattle.mm_proof.specs.Language.Expansion.{Step}
+use Rattle.mm_proof.specs.Code.UsedLabels.{IsPart, KeepsUsed}
+use Rattle.mm_proof.proofs.UsedLemmas.{part_entries, part_means}
 use Rattle.mm_proof.specs.Code.Tasks.{AreSavedBefore, AreUses, RunSays, actions_mean}
 use Rattle.mm_proof.specs.declared.step.ProofStep.{ProofStep}
 use Rattle.mm_proof.proofs.FrameLemmas.{shown_proof}
@@ -26,7 +29,9 @@ pub name_all-requires : goal.name_all-requires
 name_all-requires c =
     let has = c.requires in
     let d = c.args.decoding.now in
-    subst (λ (ls : List Resolved). All (IsNamedBy c.args.base.now) ls) (sym c.deref.ensures.value) (named_by c.args.base.now has.0 c.args.i has.1.theorem.base has.2 d.labels.items has.1.entries)
+    let used = c.in_ok-labels.labels.items in
+    let entries = part_entries has.0 c.args.i d.labels.items used (subst (λ (ls : List Resolved). IsPart ls used) c.deref.ensures.value c.in_ok-labels.ensures.part) has.1.entries in
+    subst (λ (ls : List Resolved). All (IsNamedBy c.args.base.now) ls) (sym c.deref-3.ensures.value) (named_by c.args.base.now has.0 c.args.i has.1.theorem.base has.2 used entries)
 
 pub run-requires-clause-saved : goal.run-requires-clause-saved
 run-requires-clause-saved c =
@@ -36,7 +41,7 @@ run-requires-clause-saved c =
     let d = c.args.decoding.now in
     let usable = active_usable view i (mandatory_numbers (before view i) (said_at view i)) (c.mandatory_are_active.ensures view i has.1.theorem.said) in
     let sure = c.decodes_surely.ensures (setting_at view i) (mandatory_labels view i) (said_at view i).proof _ usable has.1.decodes in
-    subst (λ (steps : List ProofStep). AreSavedBefore steps) (sym c.deref-2.ensures.value) (saved_before (setting_at view i) view d.labels.items d.steps.items sure.0)
+    subst (λ (steps : List ProofStep). AreSavedBefore steps) (sym c.deref-4.ensures.value) (saved_before (setting_at view i) view d.labels.items d.steps.items sure.0)
 
 pub returns-clause-says : goal.returns-clause-says
 returns-clause-says c = if_ok _ _ c.run.result (λ outcome says view is. (
@@ -48,11 +53,15 @@ returns-clause-says c = if_ok _ _ c.run.result (λ outcome says view is. (
     let shown = shown_proof view i theorem.is_sound in
     let numbered = numbered_setting names view i in
     let pairs = subst (λ (ps : List (NumberedSymbol × NumberedSymbol)). AreSamePairs (meant_pairs by_number ps) numbered.active) (sym c.new-active.ensures) (c.active.ensures.same names view base theorem.is_sound) in
-    let uses = c.in_ok-named.ensures.means names view base i (subst (λ (ls : List Resolved). AreEntries view i ls) (sym c.deref.ensures.value) is.entries) in
-    let mean = subst (λ (ls : List Resolved). AreUses by_number c.in_ok-named.named numbered (entry_steps view ls)) c.deref.ensures.value uses in
+    let used = c.in_ok-labels.labels.items in
+    let entries = part_entries view i d.labels.items used (subst (λ (ls : List Resolved). IsPart ls used) c.deref.ensures.value c.in_ok-labels.ensures.part) is.entries in
+    let uses = c.in_ok-named.ensures.means names view base i (subst (λ (ls : List Resolved). AreEntries view i ls) (sym c.deref-3.ensures.value) entries) in
+    let mean = subst (λ (ls : List Resolved). AreUses by_number c.in_ok-named.named numbered (entry_steps view ls)) c.deref-3.ensures.value uses in
     let frames = frames_by_number names (setting_at view i) (c.places_have_frames.ensures view.said i) in
-    let said = says numbered (entry_steps view d.labels.items) frames pairs mean in
-    let here = subst (λ (steps : List ProofStep). RunSays numbered (actions_mean (entry_steps view d.labels.items) steps) (all_by_number c.expression.result.now) outcome) c.deref-2.ensures.value said in
+    let said = says numbered (entry_steps view used) frames pairs mean in
+    let run = subst (λ (steps : List ProofStep). RunSays numbered (actions_mean (entry_steps view used) steps) (all_by_number c.expression.result.now) outcome) c.deref-4.ensures.value said in
+    let keeps = subst (λ (ls : List Resolved). KeepsUsed ls used d.steps.items) c.deref.ensures.value (subst (KeepsUsed c.deref.result.now used) c.deref-2.ensures.value c.in_ok-labels.ensures.used) in
+    let here = subst (λ (steps : List Step). RunSays numbered steps (all_by_number c.expression.result.now) outcome) (part_means view d.labels.items used d.steps.items keeps) run in
     let stated = subst (λ (e : List Symbol). RunSays numbered (actions_mean (entry_steps view d.labels.items) d.steps.items) e outcome) (c.expression.ensures names view base shown) here in
     run_named names (setting_at view i) (actions_mean (entry_steps view d.labels.items) d.steps.items) (statement_at view i) outcome stated)) c.run.ensures.says
 
@@ -66,4 +75,4 @@ pub run-requires-clause-within : goal.run-requires-clause-within
 run-requires-clause-within c = c.in_ok-named.ensures.within
 
 pub returns-clause-within : goal.returns-clause-within
-returns-clause-within c = subst (λ n. IfOk c.run.result (IsOutcomeWithin n)) (ap length c.deref-2.ensures.value) c.run.ensures.within
+returns-clause-within c = subst (λ n. IfOk c.run.result (IsOutcomeWithin n)) (ap length c.deref-4.ensures.value) c.run.ensures.within

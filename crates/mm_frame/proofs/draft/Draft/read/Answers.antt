@@ -18,6 +18,8 @@ numbers_aside all said old numbers d = record {
   made = d.made;
   pair_numbers = d.pair_numbers;
   pair_table = d.pair_table;
+  asked = d.asked;
+  variables = d.variables;
 }
 
 pub returns-clause-read : goal.returns-clause-read

@@ -1,8 +1,12 @@
-use Rattle.std.proofs.Common.{◌≡◌, true, length, ◌∷◌, ◌++◌, [], ◌∙◌, ap, sym, subst, arith}
+use Rattle.std.proofs.Common.{◌≡◌, ℕ, List, true, length, ◌∷◌, ◌++◌, [], ◌∙◌, ap, sym, subst, arith}
 use Rattle.mm_frame.specs.Language.Base.{fault_by}
 use Rattle.mm_frame.specs.Code.KeptBase.{TellsRow, TellsFrame, HoldsFrame}
 use Rattle.mm_frame.specs.Language.Answering.{AreRows}
 use Rattle.mm_frame.specs.Code.KeptPairTable.{KnowsPairs}
+use Rattle.mm_frame.specs.Code.KeptAsked.{KnowsAsked}
+use Rattle.mm_frame.proofs.AskedLemmas.{asked_more}
+use Rattle.mm_frame.specs.declared.essential.EssentialVariable.{EssentialVariable}
+use Rattle.mm_frame.specs.Code.KeptVariables.{AreVariablesOf}
 use Rattle.mm_frame.specs.Code.KeptTables.{Knows}
 use Rattle.mm_frame.specs.Code.Numbers.{AreNameNumbers}
 use Rattle.mm_frame.specs.Language.NumberedSymbols.{AreSymbolsRead}
@@ -40,7 +44,10 @@ returns c all said first d numbers_first numbers =
     let read = symbols_taken all before item symbols.items flag own in
     let kind = c.kind.ensures.kind in
     let parts = λ (t : framed ≡ true). framed_parts flag (kind_of c.kind.result) item.kind kind (sym c.is_framed-framed.ensures ∙ t) in
-    let frame = c.in_ok-frame.ensures all said item d (λ t. record {
+    let kept_before = subst (λ (w : List ℕ). AreVariablesOf w c.args.self.now.expressions c.as_slice-2.result.now) (sym c.as_slice.ensures)
+    (subst (λ (w : List EssentialVariable). AreVariablesOf c.args.self.now.essentials c.args.self.now.expressions w) (sym c.as_slice-2.ensures) d.variables) in
+    let earlier = c.earlier-earlier.ensures all before are_sound d.scope d.pair_table (c.as_slice.ensures ∙ d.essentials) kept_before d.symbols in
+    let frame = c.in_ok-frame.ensures.frame all before item earlier d.asked (λ t. record {
       sound = is_sound (parts t).0;
       assertion = (parts t).1;
       symbols = subst (AreSymbolsRead all (expression before item)) (sym c.deref-3.ensures.value) (record { symbols = own (parts t).0 (parts t).2; numbered = numbered });
@@ -53,10 +60,12 @@ returns c all said first d numbers_first numbers =
     let this = c.kind-kind.ensures.kind in
     let marks = c.blocks-blocks.ensures ∙ holds.marks in
     let essentials = c.in_ok-follow.ensures is_essential before item essential_sort this (c.is_essential.ensures ∙ ap is_essential this) number marks d.essentials in
-    let disjoints = c.in_ok-follow-2.ensures is_disjoint before item disjoint_sort this (c.is_disjoint.ensures ∙ ap is_disjoint this) number marks d.disjoints in
+    let disjoints = c.in_ok-follow-3.ensures is_disjoint before item disjoint_sort this (c.is_disjoint.ensures ∙ ap is_disjoint this) number marks d.disjoints in
     let lists = c.keep_pairs.new.pair_lists in
-    let active_disjoints = c.as_slice.ensures ∙ d.disjoints in
+    let active_disjoints = c.as_slice-3.ensures ∙ d.disjoints in
     let added = c.in_ok-add.ensures ∙ ap (λ w. c.args.self.now.expressions ++ w ∷ []) c.deref-5.ensures.value in
+    let variables = c.in_ok-follow-2.ensures before (taken flag item) c.args.self.now.expressions symbols.items number (c.as_slice-4.ensures ∙ essentials) d.symbols.count added
+    (subst (λ (w : List ℕ). AreVariablesOf w c.args.self.now.expressions c.args.self.now.variables.found.items) d.essentials d.variables) in
     let proof = proof_told before item flag c.has_proof.result (kind_of c.kind-2.result) c.kind-2.ensures.kind c.has_proof.ensures (none_fault (λ f. (f.word, f.number)) before item found told ∙ none) in
     let made = made_more all before (taken flag item ∷ []) lists (c.in_ok-keep_pairs.ensures.made all before are_sound d.symbols active_disjoints d.made) in
     record {
@@ -74,4 +83,6 @@ returns c all said first d numbers_first numbers =
       made = subst (λ w. AreMade all w lists) more made;
       pair_numbers = c.in_ok-keep_pairs.ensures.pairs all said item d.symbols active_disjoints d.made proof d.pair_numbers;
       pair_table = subst (λ w. KnowsPairs all w c.follow_pairs.new.pairs) more pairs;
+      variables = subst (λ (w : List ℕ). AreVariablesOf w c.add.new.self c.follow-2.new.self.found.items) c.as_slice-4.ensures variables;
+      asked = subst (λ w. KnowsAsked all w c.frame_of.new.asked) more (asked_more all before (taken flag item) c.frame_of.new.asked (c.in_ok-frame.ensures.asked all before earlier d.asked));
     }

@@ -1,4 +1,6 @@
-use Rattle.std.proofs.Common.{[], sym, subst}
+use Rattle.std.proofs.Common.{ℕ, List, [], sym, subst}
+use Rattle.mm_frame.specs.declared.symbol.NumberedSymbol.{NumberedSymbol}
+use Rattle.mm_frame.specs.Code.KeptVariables.{AreVariablesOf}
 use Rattle.mm_frame.specs.Code.KeptBase.{TellsRow, TellsFrame, TellsPairs}
 use Rattle.mm_frame.specs.Language.Answering.{AreRows}
 use Rattle.mm_frame.specs.Code.KeptSymbols.{AreSymbols}
@@ -17,4 +19,6 @@ returns c = λ all distinct. record {
   made = c.new-5.ensures all;
   pair_numbers = subst (AreRows (TellsPairs all c.new-5.result) []) (sym c.in_ok-pair_numbers.ensures.items) (rows_none (TellsPairs all c.new-5.result));
   pair_table = c.new-6.ensures all;
+  asked = c.new-7.ensures all;
+  variables = subst (λ (w : List (List NumberedSymbol)). AreVariablesOf c.new-3.result w c.new-8.result.found.items) (sym c.in_ok-expressions.ensures) (subst (λ (w : List ℕ). AreVariablesOf w [] c.new-8.result.found.items) (sym c.new-3.ensures.none) c.new-8.ensures);
 }

@@ -19,7 +19,7 @@ returns-clause-pairs c all before h a e m =
     let own = drop n disjoints in
     let both = take-append-drop n disjoints ∙ e in
     let front = c.count_to_last-front.ensures all before own a both in
-    let base = c.in_ok-base.ensures.pairs all before h a front m in
+    let base = c.in_ok-base.ensures.pairs all before own h a both front m in
     let added = flat_map (pairs_at before) own in
     let listed = λ (w : List ℕ). AreSamePairsRead all added (flat_map (λ k. pairs_among (expression_kept c.args.expressions.now k)) w) in
     let read = subst listed (sym (take_rest disjoints n)) (active_read all before c.args.expressions.now own a (λ k q. subst (λ w. In k w) both (in_right k outer own q))) in
@@ -37,7 +37,7 @@ returns-clause-made c all before h a e m =
     let whole = c.count_to_last-count.ensures all before [] a (append-nil disjoints ∙ e) in
     let more = c.in_ok-k.ensures.kept in
     let keeps : KeepsLists c.outer_list.new.self new = record { more = more.more; whole = more.whole } in
-    made_one_more all before c.outer_list.new.self new count k keeps (c.in_ok-base.ensures.made all before h a outer m) whole.within
+    made_one_more all before c.outer_list.new.self new count k keeps (c.in_ok-base.ensures.made all before (drop n disjoints) h a (take-append-drop n disjoints ∙ e) outer m) whole.within
     (subst (IsList all new k) (sym (whole_front before disjoints count h e whole)) (returns-clause-pairs c all before h a e m))
     (λ other. c.in_ok-insert.ensures.updates.0 other ∙ ap (λ w. cond (nat_eq count other) (Some k) (get nat_eq w other)) c.in_ok-k.ensures.made)
 

@@ -1,36 +1,55 @@
-use Rattle.std.proofs.Common.{Some, cond, nat_eq, take, flat_map, sym, ap, subst, ◌∙◌}
+use Rattle.std.proofs.Common.{ℕ, ◌++◌, Some, cond, nat_eq, List, take, drop, take-append-drop, append_assoc, flat_map, sym, ap, subst, ◌∙◌}
+use Rattle.std.proofs.lemmas.List.{take_rest}
 use Rattle.std.specs.HashMap.{get}
 use Rattle.mm_frame.specs.Language.Framing.{active_pairs}
 use Rattle.mm_frame.specs.declared.pair_lists.PairLists.{PairLists}
+use Rattle.mm_frame.specs.Language.NumberedSymbols.{AreSamePairsRead}
+use Rattle.mm_frame.specs.Code.KeptPairLists.{KeepsLists, pairs_among}
 use Rattle.mm_frame.specs.Code.KeptSymbols.{expression_kept}
-use Rattle.mm_frame.specs.Code.KeptPairLists.{KeepsLists, HasSame, pairs_among}
-use Rattle.mm_frame.proofs.PairListLemmas.{made_one_more, is_list, same_members, front_read}
-use Rattle.std.specs.Prelude.{All}
-use Rattle.mm_frame.proofs.PairOrderLemmas.{IsLowFirst, all_low}
+use Rattle.mm_frame.proofs.Members.{In, in_left, in_right}
+use Rattle.mm_frame.proofs.ActivePairLemmas.{pairs_at}
+use Rattle.mm_frame.proofs.PairListLemmas.{made_one_more, front_and_more, active_read}
 use Rattle.mm_frame.proofs.pair_lists.PairLists.outer_list.Goals as goal
 
 pub returns-clause-pairs : goal.returns-clause-pairs
-returns-clause-pairs c all before h a front m =
-    let new : PairLists = record { lists = c.keep.new.self.lists; made = c.insert.new.self; reach = c.keep.new.self.reach } in
-    let there = c.in_ok-k.ensures.there in
-    let listed = flat_map (λ n. pairs_among (expression_kept c.args.expressions.now n)) c.args.outer.now in
-    let kept = c.in_ok-in_order.field-0.items in
-    let pairs = active_pairs (take c.args.count before) in
-    let same = subst (λ w. HasSame w kept) c.in_ok-pairs.ensures c.in_ok-in_order.ensures.same in
-    let low = subst (All IsLowFirst) (sym c.in_ok-pairs.ensures) (all_low c.args.expressions.now c.args.outer.now) in
-    is_list all new c.in_ok-k.k kept pairs (record { list = there.list; there = there.there; same = there.same })
-    (same_members all pairs listed kept same (front_read all before c.args.expressions.now c.args.outer.now c.args.count h a front)) (c.in_ok-in_order.ensures.order low)
+returns-clause-pairs c all before rest h a e f m =
+    let outer = c.args.outer.now in
+    let n = c.made_count-done.result in
+    let done = take n outer in
+    let own = drop n outer in
+    let both = take-append-drop n outer in
+    let whole = sym (append_assoc done own rest) ∙ ap (λ w. w ++ rest) both ∙ e in
+    let front = c.count_to_last-front.ensures all before (own ++ rest) a whole in
+    let base = c.in_ok-base.ensures.pairs all before h a front m in
+    let added = flat_map (pairs_at before) own in
+    let listed = λ (w : List ℕ). AreSamePairsRead all added (flat_map (λ k. pairs_among (expression_kept c.args.expressions.now k)) w) in
+    let active = active_read all before c.args.expressions.now own a (λ k q. subst (λ w. In k w) whole (in_right k done (own ++ rest) (in_left k own rest q))) in
+    let read = subst listed (sym (take_rest outer n)) active in
+    let made = c.in_ok-k.ensures.pairs all (active_pairs (take c.count_to_last-front.result before)) added base read in
+    record { list = made.list; there = made.there; read = subst (λ w. AreSamePairsRead all w made.list.items) (front_and_more before outer done own c.args.count c.count_to_last-front.result h both f front) made.read; order = made.order }
 
 pub returns-clause-made : goal.returns-clause-made
-returns-clause-made c all before h a front m =
-    let old = c.args.self.now in
-    let new : PairLists = record { lists = c.keep.new.self.lists; made = c.insert.new.self; reach = c.keep.new.self.reach } in
-    let kept = c.in_ok-k.ensures.kept in
-    let keeps : KeepsLists old new = record { more = kept.more; whole = kept.whole } in
+returns-clause-made c all before rest h a e f m =
+    let outer = c.args.outer.now in
+    let n = c.made_count-done.result in
     let count = c.args.count in
     let k = c.in_ok-k.k in
-    made_one_more all before old new count k keeps m front.within (returns-clause-pairs c all before h a front m)
+    let new : PairLists = record { lists = c.extended.new.self.lists; made = c.insert.new.self; reach = c.extended.new.self.reach } in
+    let front = c.count_to_last-front.ensures all before (drop n outer ++ rest) a (sym (append_assoc (take n outer) (drop n outer) rest) ∙ ap (λ w. w ++ rest) (take-append-drop n outer) ∙ e) in
+    let more = c.in_ok-k.ensures.kept in
+    let keeps : KeepsLists c.first_list.new.self new = record { more = more.more; whole = more.whole } in
+    made_one_more all before c.first_list.new.self new count k keeps (c.in_ok-base.ensures.made all before h a front m) f.within
+    (returns-clause-pairs c all before rest h a e f m)
     (λ other. c.in_ok-insert.ensures.updates.0 other ∙ ap (λ w. cond (nat_eq count other) (Some k) (get nat_eq w other)) c.in_ok-k.ensures.made)
 
 pub returns-in-Some-clause-pairs : goal.returns-in-Some-clause-pairs
-returns-in-Some-clause-pairs c all before h a front m = (m c.args.count c.in-Some.k (sym c.made_for.ensures ∙ c.in-Some.is)).list
+returns-in-Some-clause-pairs c all before rest h a e f m = (m c.args.count c.in-Some.k (sym c.made_for.ensures ∙ c.in-Some.is)).list
+
+pub returns-in-Some-clause-made : goal.returns-in-Some-clause-made
+returns-in-Some-clause-made c all before rest h a e f m = m
+
+pub returns-clause-kept : goal.returns-clause-kept
+returns-clause-kept c =
+    let first = c.in_ok-base.ensures.kept in
+    let second = c.in_ok-k.ensures.kept in
+    record { more = first.more ++ second.more; whole = second.whole ∙ ap (λ w. w ++ second.more) first.whole ∙ append_assoc c.args.self.now.lists.items first.more second.more }

@@ -1,0 +1,16 @@
+use Rattle.std.proofs.Common.{◌∙◌, sym, subst}
+use Rattle.mm_frame.specs.Code.KeptTables.{Knows}
+use Rattle.mm_frame.proofs.BaseLemmas.{are_expressions}
+use Rattle.mm_frame.proofs.draft.earlier.Goals as goal
+
+pub returns : goal.returns
+returns c all before sound scope pairs essentials variables symbols = record {
+  sound = sound;
+  known = subst (λ w. Knows all before w) (sym c.tables.ensures) scope.knows;
+  pairs = pairs;
+  marks = c.blocks-2.ensures ∙ scope.marks;
+  essentials = essentials;
+  variables = variables;
+  expressions = are_expressions all before c.args.expressions.now symbols;
+  numbered = symbols.numbered;
+}

@@ -1,0 +1,14 @@
+use Rattle.std.proofs.Common.{ℕ, ◌<◌, ◌≤◌, length, drop}
+use Rattle.std.specs.Prelude.{Contains}
+use Rattle.mm_frame.specs.declared.essential.EssentialVariable.{EssentialVariable}
+use Rattle.mm_frame.specs.Code.LastItems.{IsRising}
+use Rattle.mm_frame.proofs.essential.left_count.Given as goal
+
+abbrev pub invariant-loop-count : goal.invariant-loop-count
+invariant-loop-count l = record {
+  within : l.count ≤ length l.found;
+  gone : IsRising l.essentials → (v : EssentialVariable) → Contains (drop l.count l.found) v → (n : ℕ) → Contains l.essentials n → n < v.number;
+}
+
+abbrev pub decreases-loop-count : goal.decreases-loop-count
+decreases-loop-count l = l.count

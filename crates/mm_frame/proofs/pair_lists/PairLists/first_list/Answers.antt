@@ -1,0 +1,36 @@
+use Rattle.std.proofs.Common.{Some, cond, nat_eq, take, flat_map, sym, ap, subst, ◌∙◌}
+use Rattle.std.specs.HashMap.{get}
+use Rattle.mm_frame.specs.Language.Framing.{active_pairs}
+use Rattle.mm_frame.specs.declared.pair_lists.PairLists.{PairLists}
+use Rattle.mm_frame.specs.Code.KeptSymbols.{expression_kept}
+use Rattle.mm_frame.specs.Code.KeptPairLists.{KeepsLists, HasSame, pairs_among}
+use Rattle.mm_frame.proofs.PairListLemmas.{made_one_more, is_list, same_members, front_read}
+use Rattle.std.specs.Prelude.{All}
+use Rattle.mm_frame.proofs.PairOrderLemmas.{IsLowFirst, all_low}
+use Rattle.mm_frame.proofs.pair_lists.PairLists.first_list.Goals as goal
+
+pub returns-clause-pairs : goal.returns-clause-pairs
+returns-clause-pairs c all before h a front m =
+    let new : PairLists = record { lists = c.keep.new.self.lists; made = c.insert.new.self; reach = c.keep.new.self.reach } in
+    let there = c.in_ok-k.ensures.there in
+    let listed = flat_map (λ n. pairs_among (expression_kept c.args.expressions.now n)) c.args.first.now in
+    let kept = c.in_ok-in_order.field-0.items in
+    let pairs = active_pairs (take c.args.count before) in
+    let same = subst (λ w. HasSame w kept) c.in_ok-pairs.ensures c.in_ok-in_order.ensures.same in
+    let low = subst (All IsLowFirst) (sym c.in_ok-pairs.ensures) (all_low c.args.expressions.now c.args.first.now) in
+    is_list all new c.in_ok-k.k kept pairs (record { list = there.list; there = there.there; same = there.same })
+    (same_members all pairs listed kept same (front_read all before c.args.expressions.now c.args.first.now c.args.count h a front)) (c.in_ok-in_order.ensures.order low)
+
+pub returns-clause-made : goal.returns-clause-made
+returns-clause-made c all before h a front m =
+    let old = c.args.self.now in
+    let new : PairLists = record { lists = c.keep.new.self.lists; made = c.insert.new.self; reach = c.keep.new.self.reach } in
+    let kept = c.in_ok-k.ensures.kept in
+    let keeps : KeepsLists old new = record { more = kept.more; whole = kept.whole } in
+    let count = c.args.count in
+    let k = c.in_ok-k.k in
+    made_one_more all before old new count k keeps m front.within (returns-clause-pairs c all before h a front m)
+    (λ other. c.in_ok-insert.ensures.updates.0 other ∙ ap (λ w. cond (nat_eq count other) (Some k) (get nat_eq w other)) c.in_ok-k.ensures.made)
+
+pub returns-in-Some-clause-pairs : goal.returns-in-Some-clause-pairs
+returns-in-Some-clause-pairs c all before h a front m = (m c.args.count c.in-Some.k (sym c.made_for.ensures ∙ c.in-Some.is)).list

@@ -1,0 +1,11 @@
+use Rattle.std.proofs.Common.{sym, subst}
+use Rattle.std.specs.Prelude.{Contains}
+use Rattle.std.proofs.lemmas.List.{take_rest}
+use Rattle.mm_frame.proofs.Rising.{rest_whole}
+use Rattle.mm_frame.proofs.paired.rest_from.Goals as goal
+
+pub returns-then-row-at-clause-whole : goal.returns-then-row-at-clause-whole
+returns-then-row-at-clause-whole c rising n l there =
+    let row = c.args.row.now in
+    let at = c.match-binary_search.at in
+    subst (λ w. Contains w n) (sym (take_rest row at)) (rest_whole row at c.args.number n rising c.if-at-gt0.true c.if-at-row.true c.if-row-at.true l there)

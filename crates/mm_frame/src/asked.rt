@@ -1,0 +1,90 @@
+//! Which pairs of variables were asked, and what was found.
+
+ghost use Rattle.std.specs.Prelude.{◌≡◌, ℕ, List, [], OnOk};
+ghost use Rattle.mm_frame.specs.Language.Item as meant;
+
+use std::alloc::{AllocError, Global};
+use std::collections::HashMap;
+
+/// What was found where two variables were asked, by the numbers of their names.
+#[derive(Clone, Copy)]
+pub struct Answer {
+    /// The number of the one name.
+    pub first: usize,
+    /// That of the other.
+    pub second: usize,
+    /// The `$d` with numbers below this one were looked at.
+    pub upto: usize,
+    /// The number of the first active `$d` that had both, if one had.
+    pub common: Option<usize>,
+}
+
+/// The pairs of variables that were asked, each with its last answer.
+///
+/// The first active `$d` that has both ends last of those that were looked at. So as long as it is active both are an
+/// active pair, and from then on the `$d` that came later are the only ones to look at.
+#[derive(Drop)]
+pub struct AskedPairs {
+    answers: Vec<Answer>,
+    /// Where an answer may stand. What is found by it is compared, so that no answer depends on it.
+    places: HashMap<(usize, usize), usize>,
+}
+
+impl AskedPairs {
+    ghost use Rattle.mm_frame.specs.Code.KeptAsked.{IsKnown, KnowsAsked};
+
+    /// No pair was asked yet. Takes no memory.
+    pub fn new(alloc: Global) -> Self
+        ensures { (all : List (List ℕ)) → KnowsAsked all [] result }
+    {
+        AskedPairs {
+            answers: Vec::new(alloc),
+            places: HashMap::new(alloc),
+        }
+    }
+
+    /// Where the answer on two names may stand.
+    fn place(&self, first: usize, second: usize) -> usize {
+        match self.places.get(&(first, second)) {
+            Some(place) => *place,
+            None => self.answers.len(),
+        }
+    }
+
+    /// What was found for the names with these numbers; where they were not asked yet, nothing was looked at.
+    pub fn known(&self, first: usize, second: usize) -> Answer
+        ensures first { result.first ≡ first }
+        ensures second { result.second ≡ second }
+        ensures known { (all : List (List ℕ)) (before : List meant.Item) → KnowsAsked all before self.now → IsKnown all before result }
+    {
+        let place = self.place(first, second);
+        if place < self.answers.len() {
+            let answer = self.answers[place];
+            if answer.first == first && answer.second == second {
+                return answer;
+            }
+        }
+        Answer {
+            first,
+            second,
+            upto: 0,
+            common: None,
+        }
+    }
+
+    /// Keeps an answer. After an allocation failure the answers must not be used.
+    pub fn keep(&mut self, answer: Answer) -> Result<(), AllocError>
+        ensures { OnOk result ((all : List (List ℕ)) (before : List meant.Item) → KnowsAsked all before self.old → IsKnown all before answer
+            → KnowsAsked all before self.new) }
+    {
+        let place = self.place(answer.first, answer.second);
+        if place < self.answers.len() {
+            self.answers[place] = answer;
+            return Ok(());
+        }
+        self.places
+            .insert((answer.first, answer.second), self.answers.len())?;
+        self.answers.push(answer)?;
+        Ok(())
+    }
+}
