@@ -32,7 +32,8 @@ module _ (files : List FileView) (hold : HoldUnits files) where
   GivenBelow bound = (given : List Placed) (names : List (List ℕ)) → weight one_each files names < bound → Given given names
 
   -- one part more
-  module _ (bound : ℕ) (deeper : GivenBelow bound) (part : Placed) (rest : List Placed) (later : (names : List (List ℕ)) → weight one_each files names ≤ bound → Given rest names) (names : List (List ℕ)) (small : weight one_each files names ≤ bound) where
+  module _ (bound : ℕ) (deeper : GivenBelow bound) (part : Placed) (rest : List Placed) (later : (names : List (List ℕ)) → weight one_each files names ≤ bound → Given rest names)
+      (names : List (List ℕ)) (small : weight one_each files names ≤ bound) where
     own_part : ¬ IsInclusion part → Given (part ∷ rest) names
     own_part not = let r = later names small in record { items = placed_item part ∷ r.items; after = r.after; expands = own not r.expands; fewer = r.fewer }
 
