@@ -244,7 +244,7 @@ class Machine:
         if len(self.stack) < count:
             return [f"expected {count} entries", f"got      {len(self.stack)}"]
         taken = self.stack[len(self.stack) - count :]
-        wanted = list(zip(cited.hypotheses, taken))
+        wanted = sorted(zip(cited.hypotheses, taken), key=lambda each: each[0].kind == "$e")
         given = {each.symbols[1]: entry[1:] for each, entry in wanted if each.kind == "$f"}
         for each, entry in wanted:
             expected = [each.symbols[0], "..."] if each.kind == "$f" else replaced(each.symbols, given)

@@ -79,6 +79,7 @@ COMMENT = re.compile(rb"\$\((?=%b).*?%b\$\)(?=%b|\Z)" % (SPACE, SPACE, SPACE), r
 # A whole comment, one that does not end, or a word that may end a unit or open a block.
 MARK = re.compile(rb"%b|\$[.({}\]](?=%b|\Z)" % (COMMENT.pattern, SPACE), re.DOTALL)
 SPACES = re.compile(rb"%b*" % SPACE)
+INCLUSION = re.compile(rb"\$\[%b+([^ \t\n\f\r]+)%b+\$\]" % (SPACE, SPACE))
 LABELLED = re.compile(rb"\$([aefp])(?=%b)" % SPACE)
 
 
@@ -156,6 +157,15 @@ def labels(piece):
             found.append((os.fsdecode(text[begin:end]), each[1].decode(), begin))
         before = each.end()
     return found
+
+
+def inclusions(text):
+    """The names of the inclusions in a text.
+
+    >>> inclusions(b"$( $[ a.mm $] $) $[ b.mm $]")
+    ['b.mm']
+    """
+    return [os.fsdecode(each[1]) for each in INCLUSION.finditer(blank(text))] if b"$[" in text else []
 
 
 class Place(NamedTuple):

@@ -1,0 +1,275 @@
+"""Buffers of an editor, and the pieces that a session has of them.
+
+    Text        a text in chunks of whole lines: edits and look-ups of lines touch little of it
+    Document    a file that is open in an editor: its text, and the marks in it
+    Held        a file of a session: which pieces have to be edited, so that the session has what the buffer says
+"""
+import bisect
+import itertools
+import os
+import pathlib
+
+import mmkeep
+
+CHUNK = 1 << 16
+SPACES = b" \t\n\f\r"
+
+
+class Text:
+    """A text in chunks of whole lines, so that an edit and a look for a line touch little of it."""
+
+    def __init__(self, data):
+        self.chunks, self.lines, self.length = [], [], 0
+        self.put(0, 0, data)
+
+    def put(self, begin, end, data):
+        """Puts data in the place of some chunks."""
+        new, at = [], 0
+        while at < len(data):
+            to = data.find(b"\n", at + CHUNK) + 1 or len(data)
+            new.append(data[at:to])
+            at = to
+        self.length += len(data) - sum(map(len, self.chunks[begin:end]))
+        self.chunks[begin:end] = new
+        self.lines[begin:end] = [chunk.count(b"\n") for chunk in new]
+
+    def chunk_at(self, at):
+        """The chunk with a byte, or the last one, and that chunk's first byte."""
+        begin = 0
+        for number, chunk in enumerate(self.chunks):
+            if at < begin + len(chunk) or number == len(self.chunks) - 1:
+                return number, begin
+            begin += len(chunk)
+        return 0, 0
+
+    def replace(self, begin, end, data):
+        """Puts data in the place of some bytes."""
+        first, at = self.chunk_at(begin)
+        last, _ = self.chunk_at(end)
+        old = b"".join(self.chunks[first : last + 1])
+        # A chunk that does not end a line is joined with the next.
+        new = old[: begin - at] + data + old[end - at :]
+        if not new.endswith(b"\n") and last + 1 < len(self.chunks):
+            last += 1
+            new += self.chunks[last]
+        self.put(first, last + 1, new)
+
+    def slice(self, begin, end):
+        """Some of the bytes."""
+        found, (number, at) = [], self.chunk_at(begin)
+        while at < end and number < len(self.chunks):
+            chunk = self.chunks[number]
+            found.append(chunk[max(begin - at, 0) : end - at])
+            at, number = at + len(chunk), number + 1
+        return b"".join(found)
+
+    def all(self):
+        """All bytes."""
+        return b"".join(self.chunks)
+
+    def line(self, number):
+        """The first byte of a line, and its bytes without what ends it; behind the last line the end."""
+        at = 0
+        for chunk, lines in zip(self.chunks, self.lines):
+            if number < lines or number == lines and not chunk.endswith(b"\n"):
+                begin = 0
+                for _ in range(number):
+                    begin = chunk.index(b"\n", begin) + 1
+                end = chunk.find(b"\n", begin)
+                line = chunk[begin:] if end < 0 else chunk[begin:end]
+                return at + begin, line[:-1] if end >= 0 and line.endswith(b"\r") else line
+            at, number = at + len(chunk), number - lines
+        return self.length, b""
+
+    def byte(self, position):
+        """The byte of a position of the protocol."""
+        at, line = self.line(position["line"])
+        units = position["character"]
+        if line.isascii():
+            return at + min(units, len(line))
+        for letter in line.decode("utf-8", "surrogatepass"):
+            if units <= 0:
+                break
+            units -= 2 if ord(letter) > 0xFFFF else 1
+            at += len(letter.encode("utf-8", "surrogatepass"))
+        return at
+
+    def row(self, at):
+        """The number of the line with a byte, from 0, and how many bytes of it stand before that."""
+        number, begin = self.chunk_at(at)
+        if not self.chunks:
+            return 0, 0
+        before = self.chunks[number][: at - begin]
+        return sum(self.lines[:number]) + before.count(b"\n"), len(before) - before.rfind(b"\n") - 1
+
+    def position(self, row, column):
+        """The position of a byte of a line."""
+        line = self.line(row)[1]
+        return {"line": row, "character": column if line.isascii() else units(line[:column].decode("utf-8", "replace"))}
+
+
+def units(text):
+    """How many units of UTF-16 a text has."""
+    return sum(2 if ord(letter) > 0xFFFF else 1 for letter in text)
+
+
+class Document:
+    """A file that is open in the editor."""
+
+    def __init__(self, item, path):
+        self.uri, self.path, self.version = item["uri"], path, item.get("version")
+        self.text = Text(encoded(item["text"]))
+        self.marks = []
+
+    def change(self, change):
+        """Makes a change of the protocol. Answers its bytes in the text before, and that text's length."""
+        length, data = self.text.length, encoded(change["text"])
+        if "range" not in change:
+            self.text, begin, end = Text(data), 0, length
+            self.marks = [{**mark, "range": one_point({"line": 0, "character": 0})} for mark in self.marks]
+            return begin, end, length
+        places = change["range"]
+        begin, end = self.text.byte(places["start"]), self.text.byte(places["end"])
+        begin, end = min(begin, end), max(begin, end)
+        self.text.replace(begin, end, data)
+        self.shift(places["start"], places["end"], change["text"])
+        return begin, end, length
+
+    def shift(self, start, end, text):
+        """Moves the marks that stand behind a change, and puts those in it at its beginning."""
+        lines = text.count("\n")
+        last = units(text.rsplit("\n", 1)[-1]) + (0 if lines else start["character"])
+        for at, mark in enumerate(self.marks):
+            moved = {side: behind(place, start, end, lines, last) for side, place in mark["range"].items()}
+            if moved != mark["range"]:
+                self.marks[at] = {**mark, "range": moved}
+
+
+def behind(place, start, end, lines, last):
+    """Where a place stands behind a change of what stands from start to end into some lines, of which the last one is so long."""
+    here = (place["line"], place["character"])
+    if here < (end["line"], end["character"]):
+        return min(place, start, key=lambda each: (each["line"], each["character"]))
+    line = place["line"] - end["line"] + start["line"] + lines
+    return {"line": line, "character": here[1] - end["character"] + last if here[0] == end["line"] else here[1]}
+
+
+def one_point(position):
+    """The range from a position to itself."""
+    return {"start": position, "end": position}
+
+
+def encoded(text):
+    """The bytes of a text of the protocol."""
+    return text.encode("utf-8", "surrogatepass")
+
+
+def on_disk(path):
+    """The bytes of a file, or None."""
+    try:
+        return pathlib.Path(path).read_bytes()
+    except (OSError, ValueError):
+        return None
+
+
+def stamp(path):
+    """What changes where a file does."""
+    try:
+        found = os.stat(path)
+        return found.st_mtime_ns, found.st_size, found.st_ino
+    except (OSError, ValueError):
+        return None
+
+
+def fed_behind(text):
+    """How many bytes are read behind a text: a line feed where it does not end in white space."""
+    return 1 if text.length and text.slice(text.length - 1, text.length) not in SPACES else 0
+
+
+class Held:
+    """A file of a session: the pieces that the session has, and how much of them the buffer has at both ends."""
+
+    def __init__(self, name, path, document):
+        self.name, self.path, self.document = name, path, document
+        self.pieces, self.dirty = None, False
+
+    def take(self, pieces, tail):
+        """Takes what the session has now; the buffer is the same."""
+        self.pieces, self.tail = pieces, tail
+        self.starts = [0, *itertools.accumulate(map(len, pieces))]
+        self.length = self.before = self.behind = self.starts[-1] + len(tail)
+        self.first_lines, self.dirty = None, False
+
+    def load(self):
+        """The pieces; those of a file that is not open are read when they are asked for."""
+        if self.pieces is None:
+            self.take(*mmkeep.cut(self.document.text.all() if self.document else on_disk(self.path) or b""))
+        return self.pieces
+
+    def fed(self):
+        """How many bytes are read behind the buffer: a line feed where it does not end in white space."""
+        return fed_behind(self.document.text)
+
+    def note(self, begin, end, length, fed):
+        """Notes a change of the buffer, which had so many bytes, and so many were read behind it."""
+        behind = length - end + (fed if length > end or self.fed() else 0)
+        self.before, self.behind, self.dirty = min(self.before, begin), min(self.behind, behind), True
+
+    def window(self, begin, end):
+        """Bytes of the buffer, with what is read behind it."""
+        text = self.document.text.slice(begin, end)
+        return mmkeep.ended(text) if end >= self.document.text.length else text
+
+    def recut(self):
+        """What changed: the first piece, the one behind the last, what stands there, the tail or None where it stayed."""
+        first = max(bisect.bisect_right(self.starts, self.before - 1) - 1, 0)
+        first = min(first, len(self.pieces))
+        begin = self.starts[first]
+        length = self.document.text.length + self.fed()
+        size = max(length - self.behind - begin, 0) + CHUNK
+        while True:
+            found = self.resynchronised(begin, begin + size, length)
+            if found is not None or begin + size >= length:
+                break
+            size *= 8
+        to, at, text = found or (None, *self.to_end(begin, length))
+        new = [text[one:other] for one, other in zip(at, at[1:])]
+        return (first, to, new, None) if found else (first, len(self.pieces), new, text[at[-1] :])
+
+    def resynchronised(self, begin, end, length):
+        """The piece of the session at which the cut from a byte on meets one that stayed, or None."""
+        text, at = self.window(begin, end), [0]
+        for each in mmkeep.ends(text):
+            if each == len(text) and end < length:
+                return None
+            at.append(each)
+            old = begin + each - length + self.length
+            if begin + each >= length - self.behind and old >= 0:
+                number = bisect.bisect_left(self.starts, old)
+                if number < len(self.starts) and self.starts[number] == old:
+                    return number, at, text
+        return None
+
+    def to_end(self, begin, length):
+        """The cut from a byte to the end."""
+        text = self.window(begin, length)
+        return [0, *mmkeep.ends(text)], text
+
+    def now(self, at):
+        """Where a byte of the session's text stands in the buffer."""
+        length = self.document.text.length
+        if at < self.before:
+            return min(at, length)
+        if at >= self.length - self.behind:
+            return min(max(at - self.length + length + self.fed(), 0), length)
+        return min(self.before, length)
+
+    def position(self, piece, offset):
+        """The position of a byte of a piece."""
+        if self.document:
+            return self.document.text.position(*self.document.text.row(self.now(self.starts[piece] + offset)))
+        if self.first_lines is None:
+            self.first_lines = [0, *itertools.accumulate(each.count(b"\n") for each in self.pieces)]
+        before = b"".join(self.pieces[max(piece - 1, 0) : piece]) + self.pieces[piece][:offset]
+        row = self.first_lines[piece] + self.pieces[piece].count(b"\n", 0, offset)
+        return {"line": row, "character": len(before) - before.rfind(b"\n") - 1}
