@@ -391,8 +391,14 @@ def edits(file, old, new):
     while end < most - begin and old[-1 - end] == new[-1 - end]:
         end += 1
     old, new = old[begin : len(old) - end], new[begin : len(new) - end]
+    at_ends = [(len(old), len(new))]
+    return min(between(file, begin, new, at_ends), between(file, begin, new, kept(old, new)), key=len)
+
+
+def between(file, begin, new, stay):
+    """The edits that make one list of pieces from another, of which some stay: what is between two of them is replaced."""
     found, at, from_old, from_new = [], begin, 0, 0
-    for to_old, to_new in kept(old, new):
+    for to_old, to_new in stay:
         gone, come = to_old - from_old, new[from_new:to_new]
         found += [Replace(file, at + number, text) for number, text in enumerate(come[:gone])]
         found += [Insert(file, at + number, text) for number, text in enumerate(come) if number >= gone]

@@ -24,16 +24,20 @@ local function attach(event)
   end
 end
 
-vim.filetype.add({ extension = { mm = 'metamath' } })
-vim.api.nvim_create_autocmd('FileType', { pattern = 'metamath', callback = attach })
-vim.api.nvim_create_autocmd('FileType', {
-  pattern = 'metamath',
+local function keys(buffer)
+  local options = { buffer = buffer }
+  vim.keymap.set('n', 'K', vim.lsp.buf.hover, options)
+  vim.keymap.set('n', 'gd', vim.lsp.buf.definition, options)
+  vim.keymap.set('n', 'gr', vim.lsp.buf.references, options)
+  vim.keymap.set('n', ']d', vim.diagnostic.goto_next, options)
+  vim.keymap.set('n', '[d', vim.diagnostic.goto_prev, options)
+end
+
+vim.api.nvim_create_autocmd({ 'BufReadPost', 'BufNewFile' }, {
+  pattern = '*.mm',
   callback = function(event)
-    local options = { buffer = event.buf }
-    vim.keymap.set('n', 'K', vim.lsp.buf.hover, options)
-    vim.keymap.set('n', 'gd', vim.lsp.buf.definition, options)
-    vim.keymap.set('n', 'gr', vim.lsp.buf.references, options)
-    vim.keymap.set('n', ']d', vim.diagnostic.goto_next, options)
-    vim.keymap.set('n', '[d', vim.diagnostic.goto_prev, options)
+    vim.bo[event.buf].filetype = 'metamath'
+    attach(event)
+    keys(event.buf)
   end,
 })
