@@ -8,6 +8,7 @@ import bisect
 import itertools
 import os
 import pathlib
+import re
 
 import mmkeep
 
@@ -32,15 +33,15 @@ class Text:
         self.length += len(data) - sum(map(len, self.chunks[begin:end]))
         self.chunks[begin:end] = new
         self.lines[begin:end] = [chunk.count(b"\n") for chunk in new]
+        # The first byte and the first line of each chunk, and the lines of the chunk that was looked at last.
+        self.bytes_before = [0, *itertools.accumulate(map(len, self.chunks))]
+        self.lines_before = [0, *itertools.accumulate(self.lines)]
+        self.looked = None, None
 
     def chunk_at(self, at):
         """The chunk with a byte, or the last one, and that chunk's first byte."""
-        begin = 0
-        for number, chunk in enumerate(self.chunks):
-            if at < begin + len(chunk) or number == len(self.chunks) - 1:
-                return number, begin
-            begin += len(chunk)
-        return 0, 0
+        number = max(min(bisect.bisect_right(self.bytes_before, at), len(self.chunks)) - 1, 0)
+        return number, self.bytes_before[number]
 
     def replace(self, begin, end, data):
         """Puts data in the place of some bytes."""
@@ -69,17 +70,20 @@ class Text:
 
     def line(self, number):
         """The first byte of a line, and its bytes without what ends it; behind the last line the end."""
-        at = 0
-        for chunk, lines in zip(self.chunks, self.lines):
-            if number < lines or number == lines and not chunk.endswith(b"\n"):
-                begin = 0
-                for _ in range(number):
-                    begin = chunk.index(b"\n", begin) + 1
-                end = chunk.find(b"\n", begin)
-                line = chunk[begin:] if end < 0 else chunk[begin:end]
-                return at + begin, line[:-1] if end >= 0 and line.endswith(b"\r") else line
-            at, number = at + len(chunk), number - lines
-        return self.length, b""
+        chunk = max(min(bisect.bisect_right(self.lines_before, number), len(self.chunks)) - 1, 0)
+        if not self.chunks:
+            return 0, b""
+        if self.looked[0] != chunk:
+            ends = [found.end() for found in re.finditer(rb"\n", self.chunks[chunk])]
+            self.looked = chunk, [0, *ends]
+        within, starts = number - self.lines_before[chunk], self.looked[1]
+        if within >= len(starts):
+            return self.length, b""
+        begin = starts[within]
+        if within + 1 == len(starts):
+            return self.bytes_before[chunk] + begin, self.chunks[chunk][begin:]
+        line = self.chunks[chunk][begin : starts[within + 1] - 1]
+        return self.bytes_before[chunk] + begin, line[:-1] if line.endswith(b"\r") else line
 
     def byte(self, position):
         """The byte of a position of the protocol."""
@@ -100,7 +104,7 @@ class Text:
         if not self.chunks:
             return 0, 0
         before = self.chunks[number][: at - begin]
-        return sum(self.lines[:number]) + before.count(b"\n"), len(before) - before.rfind(b"\n") - 1
+        return self.lines_before[number] + before.count(b"\n"), len(before) - before.rfind(b"\n") - 1
 
     def position(self, row, column):
         """The position of a byte of a line."""
@@ -226,15 +230,20 @@ class Held:
         first = min(first, len(self.pieces))
         begin = self.starts[first]
         length = self.document.text.length + self.fed()
-        size = max(length - self.behind - begin, 0) + CHUNK
-        while True:
+        changed = max(length - self.behind - begin, 0)
+        for size in (changed + CHUNK, changed + 16 * CHUNK, length - begin):
             found = self.resynchronised(begin, begin + size, length)
-            if found is not None or begin + size >= length:
+            if found or begin + size >= length:
                 break
-            size *= 8
         to, at, text = found or (None, *self.to_end(begin, length))
         new = [text[one:other] for one, other in zip(at, at[1:])]
         return (first, to, new, None) if found else (first, len(self.pieces), new, text[at[-1] :])
+
+    def near(self):
+        """A byte of the buffer at which a piece begins, some way behind what changed; or its end."""
+        length = self.document.text.length + self.fed()
+        number = bisect.bisect_left(self.starts, self.length - self.behind + CHUNK)
+        return self.starts[number] + length - self.length if number < len(self.starts) else length
 
     def resynchronised(self, begin, end, length):
         """The piece of the session at which the cut from a byte on meets one that stayed, or None."""

@@ -13,8 +13,8 @@ from protocol import ROOT
 
 EXAMPLES = ROOT / "examples"
 CI = EXAMPLES / "ci"
-# A file whose report has all kinds of lines: examples/faults.mm, and an incomplete proof.
-MORE = "u $p |- p $= ? $.\n"
+# A file whose report has all kinds of lines: examples/faults.mm, an incomplete proof and a wrong one.
+MORE = "u $p |- p $= ? $.\nw $p |- p $= wp wp ax $.\n"
 
 
 class Place:
@@ -47,7 +47,7 @@ class Place:
         lines, status = self.run(str(CI / "verify"), "db/faults.mm", "db/half.mm", "db/clean.mm")
         assert status == 2 and self.told == "", (lines, status, self.told)
         places = [(found[1], int(found[2]), int(found[3])) for found in re.finditer(r"(\S+\.mm):(\d+):(\d+)", lines)]
-        assert len(places) == 6 and {name for name, _, _ in places} == {"db/faults.mm", "db/half.mm"}, lines
+        assert len(places) == 5 and {name for name, _, _ in places} == {"db/faults.mm", "db/half.mm"}, lines
         return lines, places
 
 
@@ -57,7 +57,7 @@ def vim(program):
         lines, places = place.report()
         (place.path / "report").write_text(lines)
         items = "map(getqflist(), 'bufname(v:val.bufnr) .. \"|\" .. v:val.lnum .. \"|\" .. v:val.col .. \"|\" .. v:val.type .. \"|\" .. v:val.text')"
-        script = f"set nomore\ncompiler mmkeep\ncfile report\ncall writefile({items}, 'out')\n"
+        script = f"set nomore\ncompiler! mmkeep\ncfile report\ncall writefile({items}, 'out')\n"
         script += f"edit db/clean.mm\ncd db\nedit faults.mm\nlet $PATH = '{os.path.dirname(program)}:' .. $PATH\nsilent make!\ncd ..\ncall writefile({items}, 'made')\nqa!\n"
         (place.path / "script.vim").write_text(script)
         place.run("vim", "-N", "-u", "NONE", "-i", "NONE", "-n", "-es", "--cmd", f"set rtp^={EXAMPLES / 'editor/vim'}", "-S", "script.vim")
@@ -91,8 +91,8 @@ def emacs(program):
 (with-current-buffer (find-file-noselect "report")
   (compilation-mode)
   (goto-char (point-min))
-  (compilation-next-error 1 nil (point-min))
-  (next-error 1)
+  (compile-goto-error)
+  (set-buffer (window-buffer))
   (princ (format "%s %s %s\\n" (file-name-nondirectory (buffer-file-name)) (line-number-at-pos) (current-column))))
 """)
         told, status = place.run("emacs", "-Q", "--batch", "-l", "script.el")
@@ -151,7 +151,7 @@ def converted(program):
         told, status = place.run(str(CI / "convert"), "--junit", text=lines)
         suite = xml.etree.ElementTree.fromstring(told)
         cases = suite.findall("testcase")
-        assert status == 0 and suite.get("failures") == "6" and len(cases) == int(suite.get("tests")) == 8, told
+        assert status == 0 and suite.get("failures") == "5" and len(cases) == int(suite.get("tests")) == 7, told
         assert [(each.get("file"), int(each.get("line"))) for each in cases if each.find("failure") is not None] == [each[:2] for each in places]
         told, status = place.run(str(CI / "convert"), "--sarif", text=lines)
         run = json.loads(told)["runs"][0]
