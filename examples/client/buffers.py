@@ -9,6 +9,8 @@ import itertools
 import os
 import pathlib
 import re
+import tempfile
+import urllib.parse
 
 import mmkeep
 
@@ -168,6 +170,14 @@ def encoded(text):
     return text.encode("utf-8", "surrogatepass")
 
 
+def path_of(uri):
+    """The path that a URI names, or None where it names no file."""
+    parts = urllib.parse.urlsplit(uri)
+    if parts.scheme != "file" or not parts.path:
+        return None
+    return os.path.normpath(os.fsdecode(urllib.parse.unquote_to_bytes(parts.path)))
+
+
 def on_disk(path):
     """The bytes of a file, or None."""
     try:
@@ -183,6 +193,22 @@ def stamp(path):
         return found.st_mtime_ns, found.st_size, found.st_ino
     except (OSError, ValueError):
         return None
+
+
+def copies(folder, files, written):
+    """A new folder with files under their own paths: some as they are written here, and links to the others.
+
+    `files` has the path at which each stands there, as it is seen from the root, and its own; `written` the bytes of some."""
+    place = os.path.realpath(tempfile.mkdtemp(prefix="mmkeep-lsp-"))
+    os.makedirs(place + os.path.abspath(folder), exist_ok=True)
+    for shown, path in files:
+        target = place + shown
+        os.makedirs(os.path.dirname(target), exist_ok=True)
+        if path in written:
+            pathlib.Path(target).write_bytes(written[path])
+        else:
+            os.symlink(path, target)
+    return place
 
 
 def fed_behind(text):
