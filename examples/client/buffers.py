@@ -250,20 +250,26 @@ class Held:
         text = self.document.text.slice(begin, end)
         return mmkeep.ended(text) if end >= self.document.text.length else text
 
-    def recut(self):
-        """What changed: the first piece, the one behind the last, what stands there, the tail or None where it stayed."""
-        first = max(bisect.bisect_right(self.starts, self.before - 1) - 1, 0)
-        first = min(first, len(self.pieces))
+    def first(self):
+        """The first piece that may be another one now."""
+        return min(max(bisect.bisect_right(self.starts, self.before - 1) - 1, 0), len(self.pieces))
+
+    def recut(self, far):
+        """What changed: the first piece, the one behind the last, what stands there, the tail or None where it stayed.
+
+        Not `far`, only to some way behind what changed: None, where the cut meets no piece there that stayed."""
+        first = self.first()
         begin = self.starts[first]
         length = self.document.text.length + self.fed()
         changed = max(length - self.behind - begin, 0)
-        for size in (changed + CHUNK, changed + 16 * CHUNK, length - begin):
-            found = self.resynchronised(begin, begin + size, length)
-            if found or begin + size >= length:
-                break
-        to, at, text = found or (None, *self.to_end(begin, length))
-        new = [text[one:other] for one, other in zip(at, at[1:])]
-        return (first, to, new, None) if found else (first, len(self.pieces), new, text[at[-1] :])
+        for size in (changed + CHUNK, length - begin) if far else (changed + CHUNK,):
+            to, at, text = self.resynchronised(begin, min(begin + size, length), length)
+            new = [text[one:other] for one, other in zip(at, at[1:])]
+            if to is not None:
+                return first, to, new, None
+            if begin + size >= length:
+                return first, len(self.pieces), new, text[at[-1] :]
+        return None
 
     def near(self):
         """A byte of the buffer at which a piece begins, some way behind what changed; or its end."""
@@ -272,23 +278,18 @@ class Held:
         return self.starts[number] + length - self.length if number < len(self.starts) else length
 
     def resynchronised(self, begin, end, length):
-        """The piece of the session at which the cut from a byte on meets one that stayed, or None."""
+        """The cut from a byte on, to where it meets a piece of the session that stayed; and that piece, or None."""
         text, at = self.window(begin, end), [0]
         for each in mmkeep.ends(text):
             if each == len(text) and end < length:
-                return None
+                break
             at.append(each)
             old = begin + each - length + self.length
             if begin + each >= length - self.behind and old >= 0:
                 number = bisect.bisect_left(self.starts, old)
                 if number < len(self.starts) and self.starts[number] == old:
                     return number, at, text
-        return None
-
-    def to_end(self, begin, length):
-        """The cut from a byte to the end."""
-        text = self.window(begin, length)
-        return [0, *mmkeep.ends(text)], text
+        return None, at, text
 
     def now(self, at):
         """Where a byte of the session's text stands in the buffer."""
