@@ -80,6 +80,7 @@ COMMENT = re.compile(rb"\$\((?=%b).*?%b\$\)(?=%b|\Z)" % (SPACE, SPACE, SPACE), r
 MARK = re.compile(rb"%b|\$[.({}\]](?=%b|\Z)" % (COMMENT.pattern, SPACE), re.DOTALL)
 SPACES = re.compile(rb"%b*" % SPACE)
 INCLUSION = re.compile(rb"\$\[%b+([^ \t\n\f\r]+)%b+\$\]" % (SPACE, SPACE))
+OPENED = re.compile(rb"\$[()[]")
 LABELLED = re.compile(rb"\$([aefp])(?=%b)" % SPACE)
 
 
@@ -162,10 +163,16 @@ def labels(piece):
 def inclusions(text):
     """The names of the inclusions in a text.
 
-    >>> inclusions(b"$( $[ a.mm $] $) $[ b.mm $]")
-    ['b.mm']
+    >>> inclusions(b"$( $[ a.mm $] $) $[ b.mm $] $[ $( c $) d.mm $]")
+    ['b.mm', 'd.mm']
     """
-    return [os.fsdecode(each[1]) for each in INCLUSION.finditer(blank(text))] if b"$[" in text else []
+    found, comment = [], False
+    for each in OPENED.finditer(text) if b"$[" in text else ():
+        comment = each[0] == b"$(" or comment and each[0] != b"$)"
+        if each[0] == b"$[" and not comment:
+            name = INCLUSION.match(text, each.start()) or INCLUSION.match(blank(text[each.start() : each.start() + 65_536]))
+            found += [os.fsdecode(name[1])] if name else []
+    return found
 
 
 class Place(NamedTuple):
