@@ -79,10 +79,12 @@ class Sources:
         return Place(file, line, at - self.starts[file][line - 1] + 1)
 
     def line(self, place):
-        """The line of a place, as text with one character a byte."""
+        """The line of a place, as text with one character a byte; what a terminal might take for a command is `?`."""
         starts = self.starts[place.file] if self.text(place.file) else [0]
         begin = starts[min(place.line, len(starts)) - 1]
-        return self.text(place.file)[begin:].split(b"\n", 1)[0].decode("latin-1").rstrip("\r")
+        end = self.text(place.file).find(b"\n", begin)
+        line = self.text(place.file)[begin : end if end >= 0 else None].decode("ascii", "replace").rstrip("\r")
+        return "".join(each if each.isprintable() or each == "\t" else "?" for each in line)
 
     def word(self, place):
         """The word that stands at a place."""
@@ -332,8 +334,13 @@ def main():
     lines = os.fsdecode(sys.stdin.buffer.read()).split("\n")
     findings = [finding for finding in map(read_finding, lines) if finding]
     rest = [line for line in lines if COUNTS.fullmatch(line) or line.startswith("mmkeep:") and not read_finding(line)]
-    for line in [*explain(findings, None, sys.argv[1] if len(sys.argv) == 2 else None), *rest]:
-        print(line)
+    sys.stdout.reconfigure(errors="replace")
+    try:
+        for line in [*explain(findings, None, sys.argv[1] if len(sys.argv) == 2 else None), *rest]:
+            print(line)
+        sys.stdout.flush()
+    except BrokenPipeError:
+        os._exit(1)
     sys.exit(1 if findings or not any(map(COUNTS.fullmatch, lines)) else 0)
 
 

@@ -8,7 +8,7 @@ import subprocess
 import sys
 import tempfile
 
-from protocol import DATABASES, ROOT, mmkeep
+from protocol import DATABASES, ROOT, mmkeep, position
 
 import buffers
 import explain
@@ -103,6 +103,29 @@ def few_edits():
     new = [b"%d " % each if each % 100 else b"x%d " % each for each in range(1000) if each != 555]
     assert len(mmkeep.edits("a.mm", old, new)) == 11
     assert mmkeep.edits("a.mm", old, old) == []
+
+
+def texts():
+    """A text in chunks is the same text: its lines, its positions and its bytes, whatever is edited."""
+    chance, chunk, buffers.CHUNK = random.Random(1), buffers.CHUNK, 7
+    for _ in range(200):
+        text, model = buffers.Text(b""), ""
+        for _ in range(30):
+            begin = chance.randrange(len(model) + 1)
+            end = min(len(model), begin + chance.randrange(6))
+            if "\r\n" in (model[begin - 1 : begin + 1], model[end - 1 : end + 1]):
+                continue
+            new = "".join(chance.choice(["a", "\n", "\u00e9", "\U0001d538", "\r\n", " "]) for _ in range(chance.randrange(8)))
+            at = [text.byte(position(model, each)) for each in (begin, end)]
+            assert at == [len(model[:each].encode()) for each in (begin, end)], (model, begin, end, at)
+            text.replace(*at, new.encode())
+            model = model[:begin] + new + model[end:]
+            assert text.all() == model.encode() and text.length == len(model.encode()) and text.slice(3, 9) == model.encode()[3:9]
+            at = chance.randrange(len(model) + 1)
+            row = model.count("\n", 0, at), len(model[model.rfind("\n", 0, at) + 1 : at].encode())
+            assert text.row(len(model[:at].encode())) == row, (model, at)
+            assert model[at - 1 : at + 1] == "\r\n" or text.position(*row) == position(model, at), (model, at)
+    buffers.CHUNK = chunk
 
 
 def commands(program):
@@ -225,4 +248,4 @@ def splitters(program):
             assert done.returncode in (0, 1) and b"the report" in done.stdout or b"ax-mp" not in (DATABASES / "ql.mm").read_bytes(), done
 
 
-TESTS = [doctests, sentences, counts, real, few_edits, commands, in_words, explained, splitters]
+TESTS = [doctests, sentences, counts, real, few_edits, texts, commands, in_words, explained, splitters]

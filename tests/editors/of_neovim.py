@@ -23,7 +23,8 @@ _G.messages = {}
 vim.lsp.handlers['window/showMessage'] = function(err, result) table.insert(_G.messages, result.message) end
 END
 """
-STATE = """[json_encode(luaeval("{version = vim.lsp.util.buf_versions[1] or -2, shown = _G.shown_version, messages = _G.messages, mode = vim.fn.mode(),
+VERSIONS = """luaeval("((vim.lsp.util.buf_versions or {})[1] or vim.api.nvim_buf_get_changedtick(1)) .. ' ' .. _G.shown_version")"""
+STATE = """[json_encode(luaeval("{messages = _G.messages,
 found = vim.tbl_map(function(d) return {d.lnum, d.col, d.code or '', d.message, d.severity} end, vim.diagnostic.get(0))}"))]"""
 
 
@@ -70,12 +71,12 @@ class Neovim:
     def settled(self):
         """The diagnostics of the buffer as it is now."""
         end = time.monotonic() + SECONDS
-        state = self.state()
-        while state["shown"] != state["version"]:
-            assert time.monotonic() < end, f"no diagnostics: {state}"
+        versions = []
+        while len({*versions}) != 1:
+            assert time.monotonic() < end, f"no diagnostics: {versions}, {self.state()['messages']}"
             time.sleep(0.03)
-            state = self.state()
-        return state
+            versions = self.remote("--remote-expr", VERSIONS).split(" ")
+        return self.state()
 
     def text(self):
         """The buffer."""
@@ -129,7 +130,7 @@ def iset(program):
             editor.compare(program, "iset.mm")
             editor.keys("u")
             assert editor.compare(program, "iset.mm") is False and editor.state()["found"] == []
-            editor.keys(":%s/ph/phi/g<CR>")
+            editor.keys(":%s/ mpbid / mpbidx /g<CR>")
             editor.compare(program, "iset.mm")
             editor.keys("u")
             assert editor.compare(program, "iset.mm") is False and editor.state()["found"] == []

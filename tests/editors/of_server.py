@@ -391,6 +391,41 @@ def by_chance(program):
         assert 60 < faults < 220, faults
 
 
+def files_by_chance(program):
+    """Edits by chance of three files of a database, in bursts; files are saved, closed and opened, and change on disk."""
+    chance = random.Random(23)
+    rest = {"top.mm": "$[ logic.mm $]\n$[ more.mm $]\n", "logic.mm": LOGIC, "more.mm": NEW, "third.mm": "t9 $p wff p $= wp $.\n"}
+    with Folder(program, {**rest, "mmkeep.json": '{"top": "top.mm"}'}) as client:
+        client.open("top.mm")
+        for number in range(120):
+            name = chance.choice(["top.mm", "logic.mm", "more.mm"])
+            what = chance.randrange(10)
+            if name not in client.texts:
+                client.open(name)
+            elif what == 0 and len(client.texts) > 1:
+                client.close(name)
+            elif what == 1:
+                client.save(name)
+                rest[name] = client.texts[name]
+            elif what == 2:
+                client.fill(name, {"top.mm": "$[ logic.mm $]\n$[ third.mm $]\n$[ more.mm $]\n", "logic.mm": LOGIC, "more.mm": NEW}[name])
+            elif what == 3:
+                rest["third.mm"] = chance.choice(["t9 $p wff p $= wp $.\n", "t9 $p wff p $= wq $.\n", "$( empty $)"])
+                (client.folder / "third.mm").write_text(rest["third.mm"])
+                client.notify("workspace/didChangeWatchedFiles", {"changes": [{"uri": client.uri("third.mm"), "type": 2}]})
+                time.sleep(0.01)
+            else:
+                for _ in range(chance.randrange(1, 5)):
+                    client.change(name, one_by_chance(client.texts[name], chance))
+            shown = next(iter(client.texts))
+            client.replace(shown, "", "")
+            try:
+                for each in [*client.texts]:
+                    compare(client, program, each, rest, "top.mm")
+            except AssertionError as error:
+                raise AssertionError(f"step {number}, {what} of {name}: {error}") from None
+
+
 def large(program):
     """Edits by chance of nf.mm, each compared."""
     if not (DATABASES / "nf.mm").exists():
@@ -464,4 +499,4 @@ def one_by_chance(text, chance):
     return at, at, chance.choice(BITS)
 
 
-TESTS = [first_steps, typed, gathered, texts, not_ascii, tails, many_at_once, files, asked, protocol, bad_input, ends_early, names, saved_faults, by_chance, large]
+TESTS = [first_steps, typed, gathered, texts, not_ascii, tails, many_at_once, files, asked, protocol, bad_input, ends_early, names, saved_faults, by_chance, files_by_chance, large]

@@ -231,6 +231,10 @@ def compare(client, program, name, others=None, top=None):
     findings, fault = wanted(program, texts, top or name)
     right = sorted(map(str, (shape(each, texts) for each in findings if each.place.file == name)))
     found, old = shapes(name, shown)
+    if fault and found and not right:
+        # More than one file has a fault: `mmkeep verify` tells the first, and the server that of each buffer.
+        alone, fault = wanted(program, {name: texts[name]}, name)
+        right = sorted(map(str, (shape(each, texts) for each in alone if fault)))
     assert sorted(map(str, found)) == right, f"shown {found[:3]}, and not {right[:3]}"
     assert fault or not old, f"{old} are stale"
     return fault

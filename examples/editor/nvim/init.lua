@@ -12,13 +12,20 @@ local function attach(event)
     return
   end
   local root = vim.fn.fnamemodify(file, ':p:h')
+  local config = { name = 'mmkeep', cmd = { 'python3', server }, root_dir = root, init_options = settings }
+  if vim.lsp.start then
+    -- From version 0.8 on.
+    local same = function(client) return client.name == 'mmkeep' end
+    vim.lsp.start(config, { bufnr = event.buf, reuse_client = same })
+    return
+  end
   for _, client in pairs(vim.lsp.get_active_clients()) do
     if client.name == 'mmkeep' then
       vim.lsp.buf_attach_client(event.buf, client.id)
       return
     end
   end
-  local id = vim.lsp.start_client({ name = 'mmkeep', cmd = { 'python3', server }, root_dir = root, init_options = settings })
+  local id = vim.lsp.start_client(config)
   if id then
     vim.lsp.buf_attach_client(event.buf, id)
   end
