@@ -221,20 +221,35 @@ def shapes(name, diagnostics):
     return found, len(diagnostics) - len(fresh)
 
 
+def reached(texts, top):
+    """The files that are read from the top file on."""
+    found, left = set(), [top]
+    while left:
+        name = left.pop()
+        if name not in found and name in texts:
+            found.add(name)
+            left += mmkeep.inclusions(texts[name].encode())
+    return found
+
+
 def compare(client, program, name, others=None, top=None):
     """Asserts that what is shown of a buffer is what `mmkeep verify` tells of it. Answers whether its text has a fault."""
     for each in client.texts:
         client.diagnostics(each)
-    client.answer(client.post("$/no-such-request", None))
+    # Behind the answer to this nothing is left to look at.
+    assert client.ask("workspace/symbol", {"query": "no label"}) == []
     shown = client.diagnostics(name)
     texts = {**(others or {}), **client.texts}
     findings, fault = wanted(program, texts, top or name)
+    if top and not fault and name not in reached(texts, top):
+        findings, fault = wanted(program, texts, name)
     right = sorted(map(str, (shape(each, texts) for each in findings if each.place.file == name)))
     found, old = shapes(name, shown)
-    if fault and found and not right:
-        # More than one file has a fault: `mmkeep verify` tells the first, and the server that of each buffer.
-        alone, fault = wanted(program, {name: texts[name]}, name)
-        right = sorted(map(str, (shape(each, texts) for each in alone if fault)))
+    if fault and found and not right and top:
+        # Another text has a fault: `mmkeep verify` tells that alone, and the server that of each buffer, or what it finds of
+        # a file that was no part of the database when the text was whole.
+        alone, _ = wanted(program, {**texts, top: ""}, name)
+        right = sorted(map(str, (shape(each, texts) for each in alone if each.place.file == name)))
     assert sorted(map(str, found)) == right, f"shown {found[:3]}, and not {right[:3]}"
     assert fault or not old, f"{old} are stale"
     return fault
