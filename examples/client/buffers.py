@@ -90,9 +90,11 @@ class Text:
     def byte(self, position):
         """The byte of a position of the protocol."""
         at, line = self.line(position["line"])
-        units = position["character"]
+        units, shown = position["character"], len(line)
+        # Some editors count a carriage return before the line feed as one more character.
+        line += b"\r" if self.slice(at + shown, at + shown + 1) == b"\r" else b""
         if line.isascii():
-            return at + min(units, len(line))
+            return at + (units if units <= len(line) else shown)
         for letter in line.decode("utf-8", "surrogatepass"):
             if units <= 0:
                 break
