@@ -1,6 +1,5 @@
 """Tests of the client in examples/client."""
 import doctest
-import json
 import pathlib
 import random
 import re
@@ -142,7 +141,8 @@ def commands(program):
             assert session.replace("a.mm", 5, exchanged) == ["th"] and ran == [("th", 1)]
             assert session.verdict("th") == mmkeep.Finding("wrong", "th", mmkeep.Place("a.mm", 4, 67), "P09")
             assert session.report().findings == [session.verdict("th")]
-            back = [mmkeep.Delete("a.mm", 5), mmkeep.Insert("a.mm", 5, b"${ mi $e |- p $. ma $e |- ( p -> q ) $. mp $a |- q $. $}"), mmkeep.Move("a.mm", 6, 0), mmkeep.Move("a.mm", 0, 6)]
+            rule = b"${ mi $e |- p $. ma $e |- ( p -> q ) $. mp $a |- q $. $}"
+            back = [mmkeep.Delete("a.mm", 5), mmkeep.Insert("a.mm", 5, rule), mmkeep.Move("a.mm", 6, 0), mmkeep.Move("a.mm", 0, 6)]
             assert session.batch(back) == ["th"] and session.report().clean()
             assert session.insert("a.mm", 7, b"id $p wff p $= wp $.") == ["id"] and session.count("a.mm") == 8
             assert session.move("a.mm", 7, 6) == [] and session.delete("a.mm", 6) == []

@@ -5,7 +5,6 @@ import pathlib
 import re
 import shutil
 import subprocess
-import sys
 import tempfile
 import xml.etree.ElementTree
 
@@ -229,7 +228,8 @@ def manual(program):
     done = subprocess.run(["groff", "-man", "-ww", "-Tutf8", "-z", str(page)], capture_output=True, timeout=60, check=False)
     assert (done.returncode, done.stderr) == (0, b""), done.stderr
     if shutil.which("man"):
-        done = subprocess.run(["man", "--warnings", "-l", str(page)], capture_output=True, timeout=60, env={**os.environ, "LC_ALL": "C.UTF-8", "MANPAGER": "cat", "MANWIDTH": "80"}, check=False)
+        settings = {**os.environ, "LC_ALL": "C.UTF-8", "MANPAGER": "cat", "MANWIDTH": "80"}
+        done = subprocess.run(["man", "--warnings", "-l", str(page)], capture_output=True, timeout=60, env=settings, check=False)
         assert (done.returncode, done.stderr) == (0, b"") and b"mmkeep" in done.stdout, done.stderr
     text = page.read_text()
     for word in ("verify", "axioms", "session", "insert", "replace", "delete", "move", "batch", "report", "verdict", "cites", "users", "C01", "C04", "EXIT STATUS"):

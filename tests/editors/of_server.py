@@ -1,5 +1,4 @@
 """Tests of the language server, by the protocol: what it shows is what `mmkeep verify` tells of the buffers written out."""
-import os
 import pathlib
 import random
 import re
@@ -7,7 +6,7 @@ import shutil
 import tempfile
 import time
 
-from protocol import DATABASES, Client, compare, mmkeep, position, wanted
+from protocol import DATABASES, Client, compare, position
 
 LOGIC = """$( A logic. $)
 $c wff |- -> ( ) $.
@@ -143,7 +142,8 @@ def tails(program):
         client.open("a.mm")
         compare(client, program, "a.mm")
         steps = [("The end.", "Really the end."), ("$( Really", "$( $( Really"), ("$( $( Really", "$( Really"), ("end. $)", "end."), ("the end.\n", "the end. $)")]
-        steps += [("end. $)", "end. $) t3 $p wff p $= ? $."), ("t3 $p", "t3 $p "), (" t3 $p  wff p $= ? $.", ""), ("AABZCB $.\n", "AABZCB $. "), ("AABZCB $. $( Really the end. $)", "AABZCB $.")]
+        steps += [("end. $)", "end. $) t3 $p wff p $= ? $."), ("t3 $p", "t3 $p "), (" t3 $p  wff p $= ? $.", "")]
+        steps += [("AABZCB $.\n", "AABZCB $. "), ("AABZCB $. $( Really the end. $)", "AABZCB $.")]
         for old, new in steps:
             client.replace("a.mm", old, new)
             compare(client, program, "a.mm")
@@ -325,7 +325,9 @@ def ends_early(program):
         for status, text in ((2, ""), (3, "mmkeep: arguments"), (4, "mmkeep: out of memory"), (5, "mmkeep: C03"), (-9, "")):
             how = "kill -9 $$" if status < 0 else f"echo '{text}' >&2; exit {status}"
             # The first session answers its begin alone, and ends; later ones are whole.
-            wrapper.write_text(f"#!/bin/sh\nif [ -e '{place}/once' ]; then exec '{program}' \"$@\"; fi\n: > '{place}/once'\n{{ head -c 7; printf 'delete a.mm 4294967295\\n'; }} | '{program}' \"$@\"\nread line; read line\n{how}\n")
+            first = f"#!/bin/sh\nif [ -e '{place}/once' ]; then exec '{program}' \"$@\"; fi\n: > '{place}/once'\n"
+            answers = f"{{ head -c 7; printf 'delete a.mm 4294967295\\n'; }} | '{program}' \"$@\"\n"
+            wrapper.write_text(f"{first}{answers}read line; read line\n{how}\n")
             wrapper.chmod(0o755)
             (pathlib.Path(place) / "once").unlink(missing_ok=True)
             with Folder(program, given=str(wrapper)) as client:

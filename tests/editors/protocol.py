@@ -2,7 +2,6 @@
 import json
 import pathlib
 import queue
-import re
 import subprocess
 import sys
 import tempfile
