@@ -31,13 +31,13 @@ found = vim.tbl_map(function(d) return {d.lnum, d.col, d.code or '', d.message, 
 class Neovim:
     """A neovim without a screen, with a file open."""
 
-    def __init__(self, program, folder, file):
+    def __init__(self, program, folder, file, **more):
         self.folder, self.socket = pathlib.Path(folder), str(pathlib.Path(folder, "socket"))
         watch = self.folder / "watch.vim"
         watch.write_text(WATCH)
-        settings = {**os.environ, "MMKEEP": program, "HOME": folder, "XDG_CONFIG_HOME": folder, "XDG_STATE_HOME": folder, "XDG_DATA_HOME": folder, "NVIM_LOG_FILE": f"{folder}/log"}
-        command = ["nvim", "--headless", "-n", "-i", "NONE", "-u", str(CONFIGURATION), "--cmd", f"source {watch}", "--listen", self.socket, file]
-        self.child = subprocess.Popen(command, cwd=folder, env=settings, stdin=subprocess.DEVNULL, stdout=subprocess.DEVNULL, stderr=subprocess.DEVNULL)
+        settings = {**os.environ, "MMKEEP": program, "HOME": folder, "XDG_CONFIG_HOME": folder, "XDG_STATE_HOME": folder, "XDG_DATA_HOME": folder, "NVIM_LOG_FILE": f"{folder}/log"} | more.get("settings", {})
+        command = ["nvim", "--headless", "-n", "-i", "NONE", "-u", more.get("configuration", str(CONFIGURATION)), "--cmd", f"source {watch}", "--listen", self.socket, file]
+        self.child = subprocess.Popen(command, cwd=more.get("begin", folder), env=settings, stdin=subprocess.DEVNULL, stdout=subprocess.DEVNULL, stderr=subprocess.DEVNULL)
         end = time.monotonic() + SECONDS
         while not os.path.exists(self.socket):
             assert time.monotonic() < end and self.child.poll() is None, "neovim does not begin"
@@ -146,8 +146,10 @@ def first_reader(program):
     assert len(lines) == 3 and lines[0].startswith("apt-get install") and "nvim -u examples/editor/nvim/init.lua examples/faults.mm" in lines[2], lines
     assert "PATH" in lines[1], lines
     with tempfile.TemporaryDirectory() as folder:
-        shutil.copy(ROOT / "examples/faults.mm", folder)
-        with Neovim(program, folder, "faults.mm") as editor:
+        # As it stands there: at the top of the clone, with the program on the path.
+        os.symlink(program, pathlib.Path(folder, "mmkeep"))
+        settings = {"PATH": f"{folder}:{os.environ['PATH']}", "MMKEEP": ""}
+        with Neovim(program, folder, "examples/faults.mm", begin=ROOT, configuration="examples/editor/nvim/init.lua", settings=settings) as editor:
             editor.compare(program, "faults.mm")
             assert len(editor.state()["found"]) == 2, editor.state()
 

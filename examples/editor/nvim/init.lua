@@ -1,6 +1,6 @@
 -- The language server in neovim, from version 0.7 on: nvim -u examples/editor/nvim/init.lua FILE.mm
 -- To have it in your own configuration, copy this file to ~/.config/nvim/plugin/mmkeep.lua, with the path of the server.
-local here = debug.getinfo(1, 'S').source:match('^@(.*)/[^/]*$')
+local here = debug.getinfo(1, 'S').source:match('^@(.*)/[^/]*$') or '.'
 local server = vim.g.mmkeep_lsp or vim.fn.fnamemodify(here .. '/../mmkeep-lsp', ':p')
 
 -- `top` and `program` may stand here; a mmkeep.json beside the database does as well.
