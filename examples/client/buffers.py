@@ -71,7 +71,7 @@ class Text:
         return b"".join(self.chunks)
 
     def line(self, number):
-        """The first byte of a line, and its bytes without what ends it; behind the last line the end."""
+        """The first byte of a line, and its bytes without what ends it; after the last line the end."""
         chunk = max(min(bisect.bisect_right(self.lines_before, number), len(self.chunks)) - 1, 0)
         if not self.chunks:
             return 0, b""
@@ -144,7 +144,7 @@ class Document:
         return begin, end, length
 
     def shift(self, start, end, text):
-        """Moves the marks that stand behind a change, and puts those in it at its beginning."""
+        """Moves the marks that stand after a change, and puts those in it at its beginning."""
         lines = text.count("\n")
         last = units(text.rsplit("\n", 1)[-1]) + (0 if lines else start["character"])
         for at, mark in enumerate(self.marks):
@@ -154,7 +154,7 @@ class Document:
 
 
 def behind(place, start, end, lines, last):
-    """Where a place stands behind a change of what stands from start to end into some lines, of which the last one is so long."""
+    """Where a place stands after a change of what stands from start to end into some lines, of which the last one is so long."""
     here = (place["line"], place["character"])
     if here < (end["line"], end["character"]):
         return min(place, start, key=lambda each: (each["line"], each["character"]))
@@ -214,7 +214,7 @@ def copies(folder, files, written):
 
 
 def fed_behind(text):
-    """How many bytes are read behind a text: a line feed where it does not end in white space."""
+    """How many bytes are read after a text: a line feed where it does not end in white space."""
     return 1 if text.length and text.slice(text.length - 1, text.length) not in SPACES else 0
 
 
@@ -239,16 +239,16 @@ class Held:
         return self.pieces
 
     def fed(self):
-        """How many bytes are read behind the buffer: a line feed where it does not end in white space."""
+        """How many bytes are read after the buffer: a line feed where it does not end in white space."""
         return fed_behind(self.document.text)
 
     def note(self, begin, end, length, fed):
-        """Notes a change of the buffer, which had so many bytes, and so many were read behind it."""
+        """Notes a change of the buffer, which had so many bytes, and so many were read after it."""
         behind = length - end + (fed if length > end or self.fed() else 0)
         self.before, self.behind, self.dirty = min(self.before, begin), min(self.behind, behind), True
 
     def window(self, begin, end):
-        """Bytes of the buffer, with what is read behind it."""
+        """Bytes of the buffer, with what is read after it."""
         text = self.document.text.slice(begin, end)
         return mmkeep.ended(text) if end >= self.document.text.length else text
 
@@ -257,9 +257,9 @@ class Held:
         return min(max(bisect.bisect_right(self.starts, self.before - 1) - 1, 0), len(self.pieces))
 
     def recut(self, far):
-        """What changed: the first piece, the one behind the last, what stands there, the tail or None where it stayed.
+        """What changed: the first piece, the one after the last, what stands there, the tail or None where it stayed.
 
-        Not `far`, only to some way behind what changed: None, where the cut meets no piece there that stayed."""
+        Not `far`, only to some way after what changed: None, where the cut meets no piece there that stayed."""
         first = self.first()
         begin = self.starts[first]
         length = self.document.text.length + self.fed()
@@ -274,7 +274,7 @@ class Held:
         return None
 
     def near(self):
-        """A byte of the buffer at which a piece begins, some way behind what changed; or its end."""
+        """A byte of the buffer at which a piece begins, some way after what changed; or its end."""
         length = self.document.text.length + self.fed()
         number = bisect.bisect_left(self.starts, self.length - self.behind + CHUNK)
         return self.starts[number] + length - self.length if number < len(self.starts) else length

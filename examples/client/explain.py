@@ -29,7 +29,7 @@ class Statement:
 
 
 def statements(text, begin=0):
-    """The statements of a piece without a fault, and the words of proofs with their first bytes, behind `begin` bytes."""
+    """The statements of a piece without a fault, and the words of proofs with their first bytes, after `begin` bytes."""
     words, found = [], []
     for each in re.finditer(rb"[^ \t\n\f\r]+", blank(text)):
         words.append((os.fsdecode(each[0]), begin + each.start()))
@@ -92,7 +92,7 @@ class Sources:
         return os.fsdecode(found[0]) if found else ""
 
     def at_fault(self, file, statement):
-        """Whether a fault is told at a word of a statement."""
+        """Whether a fault is reported at a word of a statement."""
         return any(statement.begin <= self.byte(place) < statement.end for place in self.faults.get(file, ()))
 
 
@@ -220,7 +220,7 @@ class Machine:
         return f"the step saved as number {what + 1}" if isinstance(what, int) else f"`{what}`"
 
     def end(self):
-        """What is wrong behind the last step."""
+        """What is wrong after the last step."""
         if len(self.stack) != 1:
             return [f"{len(self.stack)} entries are left", *(f"entry    {' '.join(each)}" for each in self.stack[-4:])]
         return [f"expected {' '.join(self.statement.symbols)}", f"got      {' '.join(self.stack[0])}"]
@@ -305,7 +305,7 @@ def causes(sources, findings):
 def explain(findings, folder=None, top=None):
     """Findings of a report as lines for people: first the statements at fault, then incomplete and wrong proofs.
 
-    Each has its line with a mark below, and its sentence. With the top file's name it is also told what a step expected,
+    Each has its line with a mark below, and its sentence. With the top file's name it also says what a step expected,
     and what it got. Proofs that are wrong because they name a statement at fault are counted, and not shown.
     """
     sources = Sources(folder, [each.place for each in findings if each.kind == "fault"])

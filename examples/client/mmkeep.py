@@ -110,7 +110,7 @@ def ends(text, at=0):
 
 
 def ended(text):
-    """A text with the line feed that is read behind it where it does not end in white space."""
+    """A text with the line feed that is read after it where it does not end in white space."""
     return text if not text or text[-1] in b" \t\n\f\r" else text + b"\n"
 
 
@@ -126,7 +126,7 @@ def cut(text):
 
 
 def pieces(text):
-    """The pieces of a text without a fault, each with its one unit, the comments before it and the white space behind.
+    """The pieces of a text without a fault, each with its one unit, the comments before it and the white space after.
 
     >>> pieces(b"$( empty $) ${ $( $. $) $}")
     [b'$( empty $) ${ $( $. $) $}\\n']
@@ -302,7 +302,7 @@ class Ended(Exception):
 
 
 class Insert(NamedTuple):
-    """A new piece before piece `at`, or behind the last."""
+    """A new piece before piece `at`, or after the last."""
 
     file: str
     at: int
@@ -368,7 +368,7 @@ def rising(pairs):
 
 
 def kept(old, new):
-    """Pieces that stay: pairs of their places in two lists whose ends differ, rising in both, and a last one behind the lists."""
+    """Pieces that stay: pairs of their places in two lists whose ends differ, rising in both, and a last one after the lists."""
     count, seen = {}, {}
     for text in new:
         count[text] = count.get(text, 0) + 1
@@ -416,7 +416,7 @@ def between(file, begin, new, stay):
 
 
 def after(given, changes):
-    """A list of pieces as edits leave it, each with the line feed that a session puts behind it.
+    """A list of pieces as edits leave it, each with the line feed that a session puts after it.
 
     >>> after([b"a ", b"b "], [Delete("a.mm", 0), Insert("a.mm", 1, b"c"), Move("a.mm", 1, 0)])
     [b'c\\n', b'b ']
@@ -551,7 +551,7 @@ class Session:
         return None
 
     def fault(self, file, text):
-        """The first fault of a text, that is read behind whole pieces: its number, line and column there; or nothing.
+        """The first fault of a text, that is read after whole pieces: its number, line and column there; or nothing.
 
         Nothing is edited: what is asked for is a batch whose second edit is refused."""
         try:

@@ -85,7 +85,7 @@ class Neovim:
         return path.read_bytes()
 
     def compare(self, program, name):
-        """Asserts that what is shown is what `mmkeep verify` tells of the buffer written out. Answers whether its text has a fault."""
+        """Asserts that what is shown is what `mmkeep verify` reports of the buffer written out. Answers whether its text has a fault."""
         state = self.settled()
         with tempfile.TemporaryDirectory() as folder:
             pathlib.Path(folder, name).write_bytes(self.text())

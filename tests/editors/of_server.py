@@ -1,4 +1,4 @@
-"""Tests of the language server, by the protocol: what it shows is what `mmkeep verify` tells of the buffers written out."""
+"""Tests of the language server, by the protocol: what it shows is what `mmkeep verify` reports of the buffers written out."""
 import pathlib
 import random
 import re
@@ -122,7 +122,7 @@ def texts(program):
 
 
 def not_ascii(program):
-    """A byte that no text may hold is shown at its place in units of UTF-16, behind letters of two units too."""
+    """A byte that no text may hold is shown at its place in units of UTF-16, after letters of two units too."""
     with Folder(program) as client:
         client.open("a.mm")
         client.diagnostics("a.mm")
@@ -130,14 +130,14 @@ def not_ascii(program):
         compare(client, program, "a.mm")
         shown = client.diagnostics("a.mm")
         assert [(each["code"], each["range"]["start"]["character"]) for each in shown if not each["data"]["stale"]] == [("T01", 3)], shown
-        # Positions behind such letters are read in the same units.
+        # Positions after such letters are read in the same units.
         client.replace("a.mm", "\U0001d538 $)", "x $)")
         client.replace("a.mm", "\U0001d538x", "yx")
         assert compare(client, program, "a.mm") is False and client.diagnostics("a.mm") == []
 
 
 def tails(program):
-    """Edits in the tail, of its comments, and of what is behind the last piece."""
+    """Edits in the tail, of its comments, and of what is after the last piece."""
     with Folder(program) as client:
         client.open("a.mm")
         compare(client, program, "a.mm")

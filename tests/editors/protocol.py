@@ -137,7 +137,7 @@ class Client:
         self.notify("textDocument/didSave", {"textDocument": {"uri": self.uri(name)}})
 
     def change(self, name, *edits):
-        """Changes a buffer: each edit is the first character, the one behind the last, and what stands there then."""
+        """Changes a buffer: each edit is the first character, the one after the last, and what stands there then."""
         changes = []
         for begin, end, text in edits:
             before = self.texts[name]
@@ -188,7 +188,7 @@ def position(text, at):
 
 
 def wanted(program, texts, top):
-    """What `mmkeep verify` tells of buffers written out: findings, and whether they are a text's first fault."""
+    """What `mmkeep verify` reports of buffers written out: findings, and whether they are a text's first fault."""
     with tempfile.TemporaryDirectory() as folder:
         for name, text in texts.items():
             path = pathlib.Path(folder, name)
@@ -232,7 +232,7 @@ def reached(texts, top):
 
 
 def compare(client, program, name, others=None, top=None):
-    """Asserts that what is shown of a buffer is what `mmkeep verify` tells of it. Answers whether its text has a fault."""
+    """Asserts that what is shown of a buffer is what `mmkeep verify` reports of it. Answers whether its text has a fault."""
     for each in client.texts:
         client.diagnostics(each)
     # Behind the answer to this nothing is left to look at.
