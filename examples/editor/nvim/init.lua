@@ -1,0 +1,50 @@
+-- The language server in neovim, from version 0.7 on: nvim -u examples/editor/nvim/init.lua FILE.mm
+-- To have it in your own configuration, copy this file to ~/.config/nvim/plugin/mmkeep.lua, with the path of the server.
+local here = debug.getinfo(1, 'S').source:match('^@(.*)/[^/]*$') or '.'
+local server = vim.g.mmkeep_lsp or vim.fn.fnamemodify(here .. '/../mmkeep-lsp', ':p')
+
+-- `top` and `program` may stand here; a mmkeep.json beside the database does as well.
+local settings = vim.g.mmkeep or {}
+
+local function attach(event)
+  local file = vim.api.nvim_buf_get_name(event.buf)
+  if file == '' then
+    return
+  end
+  local root = vim.fn.fnamemodify(file, ':p:h')
+  local config = { name = 'mmkeep', cmd = { 'python3', server }, root_dir = root, init_options = settings }
+  if vim.lsp.start then
+    -- From version 0.8 on.
+    local same = function(client) return client.name == 'mmkeep' end
+    vim.lsp.start(config, { bufnr = event.buf, reuse_client = same })
+    return
+  end
+  for _, client in pairs(vim.lsp.get_active_clients()) do
+    if client.name == 'mmkeep' then
+      vim.lsp.buf_attach_client(event.buf, client.id)
+      return
+    end
+  end
+  local id = vim.lsp.start_client(config)
+  if id then
+    vim.lsp.buf_attach_client(event.buf, id)
+  end
+end
+
+local function keys(buffer)
+  local options = { buffer = buffer }
+  vim.keymap.set('n', 'K', vim.lsp.buf.hover, options)
+  vim.keymap.set('n', 'gd', vim.lsp.buf.definition, options)
+  vim.keymap.set('n', 'gr', vim.lsp.buf.references, options)
+  vim.keymap.set('n', ']d', vim.diagnostic.goto_next, options)
+  vim.keymap.set('n', '[d', vim.diagnostic.goto_prev, options)
+end
+
+vim.api.nvim_create_autocmd({ 'BufReadPost', 'BufNewFile' }, {
+  pattern = '*.mm',
+  callback = function(event)
+    vim.bo[event.buf].filetype = 'metamath'
+    attach(event)
+    keys(event.buf)
+  end,
+})
