@@ -4,8 +4,8 @@ use crate::cases::Row;
 use crate::codes::script_code;
 use crate::marks::{Refused, refuse};
 use crate::show::{say, show_session, tell};
-use mm_report::{Reading, ScriptError, Session, Writing, run_script};
 use crate::storing::{added_with_memory, begun_with_memory};
+use mm_report::{Reading, ScriptError, Session, Writing, run_script};
 use std::io::Read;
 use std::{io, mem};
 

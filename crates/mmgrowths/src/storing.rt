@@ -22,7 +22,13 @@ pub(crate) fn added(rt: &(impl Print + AllocGlobal), row: &Row) -> Files {
 }
 
 /// Adds a file, and prints what comes of it: whether memory did not lack.
-pub(crate) fn add(rt: &impl Print, files: &mut Files, row: &Row, text: &Text, refused: Refused) -> bool {
+pub(crate) fn add(
+    rt: &impl Print,
+    files: &mut Files,
+    row: &Row,
+    text: &Text,
+    refused: Refused,
+) -> bool {
     refuse(rt, refused);
     let added = files.add(text.name, text.bytes);
     refuse(rt, Refused::Nothing);
