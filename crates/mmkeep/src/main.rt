@@ -19,6 +19,10 @@ pub use performing::{judge, perform};
 use std::process::ExitCode;
 
 #[cfg(test)]
+mod base_tests;
+#[cfg(test)]
+mod edit_tests;
+#[cfg(test)]
 mod store_tests;
 #[cfg(test)]
 mod stream_tests;
