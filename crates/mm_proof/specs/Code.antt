@@ -19,3 +19,4 @@ pub mod Judged
 pub mod Numbering
 pub mod NumberedBase
 pub mod KeptMarks
+pub mod Spelled
