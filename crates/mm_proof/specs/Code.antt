@@ -20,3 +20,4 @@ pub mod Judged
 pub mod Numbering
 pub mod NumberedBase
 pub mod KeptMarks
+pub mod Spelled

@@ -22,6 +22,10 @@ pub use source::{Source, SystemFiles};
 use std::process::ExitCode;
 
 #[cfg(test)]
+mod base_tests;
+#[cfg(test)]
+mod edit_tests;
+#[cfg(test)]
 mod store_tests;
 #[cfg(test)]
 mod stream_tests;

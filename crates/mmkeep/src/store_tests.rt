@@ -5,7 +5,7 @@ use std::alloc::AllocError;
 use std::mem;
 
 /// Whether there is a file of this name with this text.
-fn has_text(files: &Files, name: &[u8], wanted: &[u8]) -> Result<bool, AllocError> {
+pub fn has_text(files: &Files, name: &[u8], wanted: &[u8]) -> Result<bool, AllocError> {
     match files.text(name)? {
         Some(text) => Ok(text.as_slice() == wanted),
         None => Ok(false),

@@ -163,6 +163,20 @@ fn a_file_is_read_as_often_as_it_may(rt: HostRuntime) {
     assert!(rt; cut.err() == Some(FileError::Read));
 }
 
+/// A reading of which one call may be made fails with the second, and the reader within is not called for it.
+#[test]
+fn a_reading_knows_that_it_failed(rt: HostRuntime) {
+    let mut reading = Reading::within(reader_of(b"ab", 1), 1);
+    let mut bytes = [0; 2];
+    assert!(rt; !reading.failed());
+    let first = reading.read(&mut bytes).is_ok_and(|count| count == 1);
+    let sound = !reading.failed();
+    let second = reading.read(&mut bytes).is_err();
+    let failed = reading.failed();
+    let left = reading.into_inner().bytes;
+    assert!(rt; first && sound && second && failed && left == b"b".as_slice());
+}
+
 /// The script, cut inside the text or right behind it.
 #[test]
 fn a_cut_text_is_not_put_in(rt: HostRuntime) -> Result<(), Fail> {

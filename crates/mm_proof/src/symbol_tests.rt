@@ -1,0 +1,346 @@
+//! The machine over names and over numbers: it says the same of a proof.
+
+ghost use Rattle.std.specs.Prelude.{◌≡◌, ℕ, List, All, IfOk, length, map};
+ghost use Rattle.mm_frame.specs.Language.NumberedSymbols.{by_number, named_symbol};
+ghost use Rattle.mm_frame.specs.Language.Typing.{IsFrame};
+ghost use Rattle.mm_proof.specs.Code.Citation.{frame_of, hypotheses_of, meant_pairs};
+ghost use Rattle.mm_proof.specs.Code.Judged.{HasDecoding, HasStatement, IsOutcomeWithin};
+ghost use Rattle.mm_proof.specs.Code.Keys.{AreInKeyOrder, key_by_number};
+ghost use Rattle.mm_proof.specs.Code.NumberedBase.{all_by_number};
+ghost use Rattle.mm_proof.specs.Code.Spelled.{HasOneKey, key_by_name};
+ghost use Rattle.mm_proof.specs.Language.ReadIn.{HasTheorem};
+ghost use Rattle.mm_proof.specs.Code.Tasks.{AreSavedBefore, AreUsesWithin, IsUseWithin};
+
+use crate::Verdict;
+use crate::active::Active;
+use crate::assertion::{Cited, Hypothesis, active, expression};
+use crate::checking::{mandatory, told, verdict};
+use crate::citing::cites;
+use crate::decoding_laws::{decodes_surely, mandatory_are_active};
+use crate::machine::Machine;
+use crate::named::{Named, NamingRoom, Use, name_all};
+use crate::reading::{Decoding, decode};
+use crate::step::ProofStep;
+use crate::stepping::{Outcome, run};
+use crate::work::Checked;
+use mm_frame::{Base, Files, NamedSymbol, Names, NumberedSymbol, Statement};
+use std::alloc::{AllocError, Global};
+
+/// So many places have the tables of a run over names: fewer than names, so that some names share one.
+const PLACES: usize = 7;
+
+/// A hypothesis, by names.
+#[derive(Drop)]
+struct SpelledHypothesis {
+    floating: bool,
+    expression: Vec<NamedSymbol>,
+}
+
+/// An assertion with its frame, by names.
+#[derive(Drop)]
+struct SpelledFrame {
+    expression: Vec<NamedSymbol>,
+    hypotheses: Vec<SpelledHypothesis>,
+    pairs: Vec<(NamedSymbol, NamedSymbol)>,
+}
+
+/// The symbol whose name is one byte, which is its number. The databases here have no 256 names.
+fn spelled_symbol(alloc: Global, symbol: &NumberedSymbol) -> Result<NamedSymbol, AllocError>
+    ensures means { IfOk result (λ named. named_symbol named ≡ by_number symbol.now) }
+    ensures key { IfOk result (λ named. HasOneKey (named_symbol named)) }
+{
+    let Ok(byte) = u8::try_from(symbol.name) else {
+        return Err(AllocError);
+    };
+    let name = Vec::from_slice(alloc, &[byte])?;
+    Ok(NamedSymbol {
+        name,
+        variable: symbol.variable,
+    })
+}
+
+/// Each of the symbols.
+fn spelled(alloc: Global, symbols: &[NumberedSymbol]) -> Result<Vec<NamedSymbol>, AllocError>
+    ensures { IfOk result (λ named. all_by_number symbols.now ≡ map named_symbol named.items) }
+{
+    let mut named = Vec::new(alloc);
+    for symbol in symbols {
+        named.push(spelled_symbol(alloc, symbol)?)?;
+    }
+    Ok(named)
+}
+
+/// Each of the pairs.
+fn spelled_pairs(
+    alloc: Global,
+    pairs: &[(NumberedSymbol, NumberedSymbol)],
+) -> Result<Vec<(NamedSymbol, NamedSymbol)>, AllocError>
+    ensures means { IfOk result (λ named. meant_pairs by_number pairs.now ≡ meant_pairs named_symbol named.items) }
+    ensures keys { IfOk result (λ named. All (λ pair. HasOneKey (named_symbol pair.0) × HasOneKey (named_symbol pair.1)) named.items) }
+{
+    let mut named = Vec::new(alloc);
+    for pair in pairs {
+        named.push((
+            spelled_symbol(alloc, &pair.0)?,
+            spelled_symbol(alloc, &pair.1)?,
+        ))?;
+    }
+    Ok(named)
+}
+
+/// Each of the expressions.
+fn spelled_expressions(
+    alloc: Global,
+    expressions: &[&[NumberedSymbol]],
+) -> Result<Vec<Vec<NamedSymbol>>, AllocError>
+    ensures { IfOk result (λ named. length named.items ≡ length expressions.now) }
+{
+    let mut named = Vec::new(alloc);
+    for symbols in expressions {
+        named.push(spelled(alloc, *symbols)?)?;
+    }
+    Ok(named)
+}
+
+/// Each of the hypotheses.
+fn spelled_hypotheses(
+    alloc: Global,
+    hypotheses: &[Hypothesis<'_, NumberedSymbol>],
+) -> Result<Vec<SpelledHypothesis>, AllocError>
+    ensures { IfOk result (λ named. hypotheses_of by_number hypotheses.now
+        ≡ map (λ h. record { floating = h.floating; expression = map named_symbol h.expression.items }) named.items) }
+{
+    let mut named = Vec::new(alloc);
+    for hypothesis in hypotheses {
+        named.push(SpelledHypothesis {
+            floating: hypothesis.floating,
+            expression: spelled(alloc, hypothesis.expression)?,
+        })?;
+    }
+    Ok(named)
+}
+
+/// An assertion.
+fn spelled_frame(
+    alloc: Global,
+    cited: &Cited<'_, NumberedSymbol>,
+) -> Result<SpelledFrame, AllocError>
+    ensures { IfOk result (λ named. frame_of by_number cited.now ≡ record {
+      expression = map named_symbol named.expression.items;
+      hypotheses = map (λ h. record { floating = h.floating; expression = map named_symbol h.expression.items }) named.hypotheses.items;
+      pairs = meant_pairs named_symbol named.pairs.items;
+    }) }
+{
+    Ok(SpelledFrame {
+        expression: spelled(alloc, cited.expression)?,
+        hypotheses: spelled_hypotheses(alloc, &cited.hypotheses)?,
+        pairs: spelled_pairs(alloc, cited.pairs)?,
+    })
+}
+
+/// Each of the assertions.
+fn spelled_frames(
+    alloc: Global,
+    cited: &[Cited<'_, NumberedSymbol>],
+) -> Result<Vec<SpelledFrame>, AllocError>
+    ensures { IfOk result (λ named. map (frame_of by_number) cited.now ≡ map (λ f. record {
+      expression = map named_symbol f.expression.items;
+      hypotheses = map (λ h. record { floating = h.floating; expression = map named_symbol h.expression.items }) f.hypotheses.items;
+      pairs = meant_pairs named_symbol f.pairs.items;
+    }) named.items) }
+{
+    let mut named = Vec::new(alloc);
+    for one in cited {
+        named.push(spelled_frame(alloc, one)?)?;
+    }
+    Ok(named)
+}
+
+/// The expressions, as the machine takes them.
+fn lent_expressions<'a>(
+    alloc: Global,
+    expressions: &'a [Vec<NamedSymbol>],
+) -> Result<Vec<&'a [NamedSymbol]>, AllocError>
+    ensures { IfOk result (λ lent. length lent.items ≡ length expressions.now) }
+{
+    let mut lent: Vec<&'a [NamedSymbol]> = Vec::new(alloc);
+    for symbols in expressions {
+        lent.push(symbols)?;
+    }
+    Ok(lent)
+}
+
+/// The hypotheses, as the machine takes them.
+fn lent_hypotheses<'a>(
+    alloc: Global,
+    hypotheses: &'a [SpelledHypothesis],
+) -> Result<Vec<Hypothesis<'a, NamedSymbol>>, AllocError>
+    ensures { IfOk result (λ lent. hypotheses_of named_symbol lent.items
+        ≡ map (λ h. record { floating = h.floating; expression = map named_symbol h.expression.items }) hypotheses.now) }
+{
+    let mut lent = Vec::new(alloc);
+    for hypothesis in hypotheses {
+        lent.push(Hypothesis {
+            floating: hypothesis.floating,
+            expression: &hypothesis.expression,
+        })?;
+    }
+    Ok(lent)
+}
+
+/// The assertions, as the machine takes them.
+fn lent_frames<'a>(
+    alloc: Global,
+    frames: &'a [SpelledFrame],
+) -> Result<Vec<Cited<'a, NamedSymbol>>, AllocError>
+    ensures { IfOk result (λ lent. map (frame_of named_symbol) lent.items ≡ map (λ f. record {
+      expression = map named_symbol f.expression.items;
+      hypotheses = map (λ h. record { floating = h.floating; expression = map named_symbol h.expression.items }) f.hypotheses.items;
+      pairs = meant_pairs named_symbol f.pairs.items;
+    }) frames.now) }
+{
+    let mut lent = Vec::new(alloc);
+    for frame in frames {
+        lent.push(Cited {
+            expression: &frame.expression,
+            hypotheses: lent_hypotheses(alloc, &frame.hypotheses)?,
+            pairs: &frame.pairs,
+        })?;
+    }
+    Ok(lent)
+}
+
+/// What a run over these names comes to.
+fn run_lent<'a>(
+    alloc: Global,
+    uses: &[Use],
+    expressions: &'a [Vec<NamedSymbol>],
+    frames: &'a [SpelledFrame],
+    pairs: &'a [(NamedSymbol, NamedSymbol)],
+    steps: &[ProofStep],
+    statement: &[NamedSymbol],
+) -> Result<Outcome, AllocError>
+    requires frames { All (λ f. IsFrame (record {
+      expression = map named_symbol f.expression.items;
+      hypotheses = map (λ h. record { floating = h.floating; expression = map named_symbol h.expression.items }) f.hypotheses.items;
+      pairs = meant_pairs named_symbol f.pairs.items;
+    })) frames.now }
+    requires within { All (IsUseWithin (length expressions.now) (length frames.now)) uses.now }
+    requires saved { AreSavedBefore steps.now }
+    requires order { AreInKeyOrder key_by_name (meant_pairs named_symbol pairs.now) }
+    ensures { IfOk result (IsOutcomeWithin (length steps.now)) }
+{
+    let uses = Vec::from_slice(alloc, uses)?;
+    let hypotheses = lent_expressions(alloc, expressions)?;
+    let assertions = lent_frames(alloc, frames)?;
+    let named = Named {
+        uses,
+        hypotheses,
+        assertions,
+    };
+    let active = Active::new(pairs);
+    let mut machine = Machine::new(alloc);
+    run(
+        alloc,
+        &mut machine,
+        PLACES,
+        &named,
+        &active,
+        steps,
+        statement,
+    )
+}
+
+/// What a run over names comes to.
+fn run_by_names(
+    alloc: Global,
+    named: &Named<'_, NumberedSymbol>,
+    pairs: &[(NumberedSymbol, NumberedSymbol)],
+    steps: &[ProofStep],
+    statement: &[NumberedSymbol],
+) -> Result<Outcome, AllocError>
+    requires frames { All (λ a. IsFrame (frame_of by_number a)) named.now.assertions.items }
+    requires within { AreUsesWithin named.now }
+    requires saved { AreSavedBefore steps.now }
+    requires order { AreInKeyOrder key_by_number (meant_pairs by_number pairs.now) }
+    ensures { IfOk result (IsOutcomeWithin (length steps.now)) }
+{
+    let expressions = spelled_expressions(alloc, &named.hypotheses)?;
+    let frames = spelled_frames(alloc, &named.assertions)?;
+    let pairs = spelled_pairs(alloc, pairs)?;
+    let statement = spelled(alloc, statement)?;
+    run_lent(
+        alloc,
+        &named.uses,
+        &expressions,
+        &frames,
+        &pairs,
+        steps,
+        &statement,
+    )
+}
+
+/// The verdict on a proof that decodes, by a run over names.
+fn verdict_by_names(
+    alloc: Global,
+    base: &Base,
+    i: usize,
+    statement: &Statement,
+    decoding: &Decoding,
+) -> Result<Verdict, AllocError>
+    requires { HasDecoding base.now i statement.now decoding.now }
+{
+    decodes_surely();
+    mandatory_are_active();
+    let (named, _) = name_all(alloc, base, &decoding.labels, NamingRoom::new(alloc))?;
+    let outcome = run_by_names(
+        alloc,
+        &named,
+        active(base, i),
+        &decoding.steps,
+        expression(base, i),
+    )?;
+    Ok(verdict(outcome, decoding, statement.proof()))
+}
+
+/// What a check says, by a run over names.
+fn judge_by_names(
+    alloc: Global,
+    base: &Base,
+    i: usize,
+    statement: &Statement,
+) -> Result<Checked, AllocError>
+    requires { HasStatement base.now i statement.now }
+{
+    mandatory_are_active();
+    let mandatory = mandatory(base, i);
+    match decode(base, i, mandatory, statement, Decoding::new(alloc)) {
+        Ok(decoding) => {
+            let mut marks = Vec::new(alloc);
+            let cites = cites(alloc, &mut marks, &decoding, mandatory.len(), statement)?;
+            let verdict = verdict_by_names(alloc, base, i, statement, &decoding)?;
+            Ok(Checked::new(verdict, cites))
+        }
+        Err(error) => {
+            let fault = told(error)?;
+            let verdict = Verdict::Wrong(fault.number, fault.spot);
+            Ok(Checked::new(verdict, Vec::new(alloc)))
+        }
+    }
+}
+
+/// Whether a run over names says the same as a check.
+pub fn agrees(
+    alloc: Global,
+    names: &Names,
+    files: &Files,
+    base: &Base,
+    i: usize,
+    checked: &Checked,
+) -> Result<bool, AllocError>
+    requires { HasTheorem names.now files.now base.now i }
+{
+    let statement = Statement::read(alloc, files, base.item(i))?;
+    let other = judge_by_names(alloc, base, i, &statement)?;
+    Ok(other.verdict() == checked.verdict() && other.cites() == checked.cites())
+}

@@ -1,0 +1,117 @@
+//! What the program does not ask of a base, of its items and of texts: the hypotheses of a frame, and where things stand.
+
+ghost use Rattle.std.specs.Prelude.{All};
+ghost use Rattle.mm_report.specs.mm_store.Language.FileFacts.{CanBeRead, StandsIn};
+
+use mm_report::{Base, Files, Item, Names, Place, Statement, StoreError, Walk, fits, place};
+use std::alloc::{AllocError, Global};
+use std::mem;
+
+const NAME: &[u8] = b"a.mm";
+
+/// A logic, and an axiom in a block whose hypotheses are a `$e` and then a `$f`.
+const LOGIC: &[u8] =
+    b"$c wff |- -> ( ) $.\n$v p q $.\nwp $f wff p $.\nwq $f wff q $.\nwi $a wff ( p -> q ) $.\n\
+        ${ e1 $e |- p $. $v r $. wr $f wff r $. a3 $a |- r $. $}\nt $p wff p $= wp $.\n";
+
+/// Where its items begin, in bytes from its beginning on.
+const OFFSETS: &[usize] = &[0, 20, 30, 45, 60, 84, 87, 101, 109, 124, 138, 141];
+
+/// The hypotheses of a frame are in the order of their items, `$f` and `$e` alike.
+fn has_hypotheses(alloc: Global, files: &Files) -> Result<bool, StoreError> {
+    let mut names = Names::new(alloc);
+    let base = Base::build(alloc, &mut names, files, NAME)?;
+    match base.frame(9) {
+        Some(frame) => Ok(frame.hypotheses.as_slice() == [2, 6, 8].as_slice()),
+        None => Ok(false),
+    }
+}
+
+/// Whether the first word of a proof has the place behind label, keyword, two symbols and `$=`, and its `$.` the next.
+fn has_proof_places(alloc: Global, files: &Files, item: &Item) -> Result<bool, AllocError>
+    requires { CanBeRead files.now item.now }
+{
+    let statement = Statement::read(alloc, files, item)?;
+    if statement.proof().next_word().is_none() {
+        return Ok(false);
+    }
+    Ok(statement.proof_place(0) == 5 && statement.proof_place(1) == 6)
+}
+
+/// Where an item stands in the text of its file.
+fn offset_of(files: &Files, item: &Item) -> usize
+    requires read { CanBeRead files.now item.now }
+    requires stands { StandsIn files.now item.now }
+{
+    files.offset(item.file, item.piece, item.start)
+}
+
+/// Whether the items begin where they have to.
+fn begin_so(files: &Files, items: &[Item]) -> bool
+    requires read { All (CanBeRead files.now) items.now }
+    requires stand { All (StandsIn files.now) items.now }
+{
+    for (k, item) in items.iter().enumerate() {
+        if OFFSETS.get(k) != Some(&offset_of(files, item)) {
+            return false;
+        }
+    }
+    items.len() == OFFSETS.len()
+}
+
+/// Whether the items and the words of the proof of the last have their places.
+fn have_places(alloc: Global, files: &Files) -> Result<bool, StoreError> {
+    let items = files.statements(NAME)?;
+    match items.last() {
+        Some(item) => Ok(begin_so(files, &items) && has_proof_places(alloc, files, item)?),
+        None => Ok(false),
+    }
+}
+
+#[test]
+fn a_base_and_its_items_have_their_places(rt: HostRuntime) {
+    let mut files = Files::new(rt.alloc());
+    let added = files.add(NAME, LOGIC).is_ok();
+    let framed = has_hypotheses(rt.alloc(), &files);
+    let placed = have_places(rt.alloc(), &files);
+    mem::forget(files);
+    assert!(rt; added && framed == Ok(true) && placed == Ok(true));
+}
+
+/// Whether the one name that is missing is told once.
+fn is_told_once(files: &Files) -> Result<bool, StoreError> {
+    let mut walk = files.walk(b"t.mm")?;
+    let first = is_next(&mut walk, files)?;
+    Ok(first && walk.next_missing(files)?.is_none())
+}
+
+/// Whether this name is missing next.
+fn is_next(walk: &mut Walk, files: &Files) -> Result<bool, AllocError> {
+    match walk.next_missing(files)? {
+        Some(name) => Ok(name.as_slice() == b"z.mm".as_slice()),
+        None => Ok(false),
+    }
+}
+
+#[test]
+fn a_missing_name_is_told_once(rt: HostRuntime) {
+    let mut files = Files::new(rt.alloc());
+    let text = b"$[ t.mm $] $[ z.mm $] $[ z.mm $]\n";
+    let added = files.add(b"t.mm", text).is_ok();
+    let told = is_told_once(&files);
+    mem::forget(files);
+    assert!(rt; added && told == Ok(true));
+}
+
+/// A line and a column.
+fn at(line: u64, column: u64) -> Place {
+    Place { line, column }
+}
+
+#[test]
+fn bytes_have_places_and_fit(rt: HostRuntime) {
+    let text = b"ab\nc";
+    let places = [place(text, 2), place(text, 3), place(text, 4)];
+    assert!(rt; places == [at(1, 3), at(2, 1), at(2, 2)]);
+    assert!(rt; fits(4294967294, 1) && !fits(4294967295, 1));
+}

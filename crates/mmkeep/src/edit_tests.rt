@@ -1,0 +1,119 @@
+//! Edits of files that are refused, and some that are done and undone.
+
+ghost use Rattle.std.specs.Prelude.{◌≡◌};
+
+use crate::store_tests::has_text;
+use mm_report::{Edit, EditError, Files, TextFault, TextNumber};
+use std::mem;
+
+const NAME: &[u8] = b"a.mm";
+
+/// A logic: six pieces.
+const LOGIC: &[u8] =
+    b"$c wff |- -> ( ) $.\n$v p q $.\nwp $f wff p $.\nwq $f wff q $.\nwi $a wff ( p -> q ) $.\n\
+        ${ mi $e |- p $. ma $e |- ( p -> q ) $. mp $a |- q $. $}\n";
+
+/// The same with one piece more, of sixteen bytes.
+const LONGER: &[u8] =
+    b"$c k $. $( x $)\n$c wff |- -> ( ) $.\n$v p q $.\nwp $f wff p $.\nwq $f wff q $.\nwi $a wff ( p -> q ) $.\n\
+        ${ mi $e |- p $. ma $e |- ( p -> q ) $. mp $a |- q $. $}\n";
+
+/// A text put in before the first piece.
+const fn insert(text: &'static [u8]) -> Edit<'static> {
+    Edit::Insert {
+        file: NAME,
+        at: 0,
+        text,
+    }
+}
+
+/// The first byte of a text is that of a statement that is not finished.
+const UNFINISHED: TextFault = TextFault {
+    number: TextNumber::T07,
+    at: 0,
+};
+
+/// Whether a file has so many pieces and this text.
+fn has(files: &Files, count: usize, text: &[u8]) -> bool {
+    files.piece_count(NAME) == Some(count) && has_text(files, NAME, text) == Ok(true)
+}
+
+/// Whether an edit is refused for a reason, and the file stays as it was.
+fn is_refused(files: &mut Files, edit: &Edit<'_>, reason: EditError) -> bool {
+    match files.edit(edit) {
+        Ok(undo) => {
+            files.settle(undo);
+            false
+        }
+        Err(error) => error == reason && has(files, 6, LOGIC),
+    }
+}
+
+/// Whether each is refused.
+fn are_refused(files: &mut Files, rows: &[(Edit<'_>, EditError)]) -> bool {
+    for (edit, reason) in rows {
+        if !is_refused(&mut *files, edit, *reason) {
+            return false;
+        }
+    }
+    true
+}
+
+#[test]
+fn a_refused_edit_leaves_the_text(rt: HostRuntime) {
+    let rows = [
+        (Edit::Delete { file: NAME, at: 6 }, EditError::NoPiece(6)),
+        (insert(b"$c a $. $c b $.\n"), EditError::NotOne(2)),
+        (insert(b"x $a wff p\n"), EditError::Text(UNFINISHED)),
+        (insert(b""), EditError::NotOne(0)),
+        (
+            Edit::Delete {
+                file: b"z.mm",
+                at: 0,
+            },
+            EditError::NoFile,
+        ),
+    ];
+    let mut files = Files::new(rt.alloc());
+    let added = files.add(NAME, LOGIC).is_ok();
+    let refused = are_refused(&mut files, &rows);
+    mem::forget(files);
+    assert!(rt; added && refused);
+}
+
+/// Whether the first piece of the longer text is the one that it has more. It is then put back.
+fn loses_its_first(files: &mut Files) -> bool
+    ensures { files.new ≡ files.old }
+{
+    match files.edit(&Edit::Delete { file: NAME, at: 0 }) {
+        Ok(undo) => {
+            let lost = has(files, 6, LOGIC);
+            files.undo(undo);
+            lost
+        }
+        Err(_) => false,
+    }
+}
+
+/// Whether an insertion is done, its piece can be deleted and put back, and is then undone.
+fn goes_there_and_back(files: &mut Files) -> bool {
+    match files.edit(&insert(b"$c k $. $( x $)")) {
+        Ok(undo) => {
+            let done = has(files, 7, LONGER);
+            let lost = loses_its_first(files);
+            let again = has(files, 7, LONGER);
+            files.undo(undo);
+            done && lost && again && has(files, 6, LOGIC)
+        }
+        Err(_) => false,
+    }
+}
+
+#[test]
+fn an_insertion_is_undone(rt: HostRuntime) {
+    let mut files = Files::new(rt.alloc());
+    let added = files.add(NAME, LOGIC).is_ok();
+    let undone = goes_there_and_back(&mut files);
+    mem::forget(files);
+    assert!(rt; added && undone);
+}
