@@ -1,4 +1,5 @@
 """A client of the language server for tests, and what its diagnostics have to be: those of `mmkeep verify` on the buffers."""
+import functools
 import json
 import pathlib
 import queue
@@ -201,9 +202,15 @@ def wanted(program, texts, top):
             return [ended.finding], True
 
 
+@functools.lru_cache(4)
+def lines_of(text):
+    """The lines of a text."""
+    return text.split("\n")
+
+
 def shape(finding, texts):
     """Where a finding is in a buffer, with its number or kind, and its label or word."""
-    line = texts[finding.place.file].split("\n")[finding.place.line - 1]
+    line = lines_of(texts[finding.place.file])[finding.place.line - 1]
     before = line.encode()[: finding.place.column - 1].decode()
     column = len(before.encode("utf-16-le")) // 2
     return finding.place.file, finding.place.line - 1, column, finding.number or finding.kind, finding.label, finding.word
