@@ -1,16 +1,15 @@
 -- What is kept in another way: frames and orders that are the same, for the tests of the machine and of views.
-use Rattle.std.proofs.Common.{◌≡◌, ℕ, ◌<◌, Result, Ok, List, [], ◌∷◌, length, map, sym, ◌∙◌, ap, subst, arith}
+use Rattle.std.proofs.Common.{◌≡◌, ℕ, Result, Ok, List, length, map, sym, ◌∙◌, ap, subst, arith}
 use Rattle.std.specs.Prelude.{All, IfOk}
 use Rattle.std.proofs.lemmas.List.{length-map, get_or-map}
 use Rattle.std.proofs.lemmas.List.Elements.{All-map}
 use Rattle.std.proofs.lemmas.Option.{get_or_from_slice_get, slice_get_within}
-use Rattle.std.proofs.Math.Nat.{mod-eq_of_lt}
 use Rattle.mm_frame.specs.Language.Frame.{Frame, Symbol}
 use Rattle.mm_frame.specs.Language.NumberedSymbols.{named_symbol}
 use Rattle.mm_frame.specs.declared.symbol.NamedSymbol.{NamedSymbol}
 use Rattle.mm_frame.specs.Language.Typing.{IsFrame}
 use Rattle.mm_proof.specs.Code.Citation.{meant_pair, meant_pairs}
-use Rattle.mm_proof.specs.Code.Keys.{AreInKeyOrder, key_by_number, key_from}
+use Rattle.mm_proof.specs.Code.Keys.{AreInKeyOrder, key_by_number}
 use Rattle.mm_proof.specs.Code.Spelled.{HasOneKey, key_by_name}
 use Rattle.mm_proof.specs.Code.Tasks.{IsUseWithin}
 use Rattle.mm_proof.specs.declared.named.Use.{Use}
@@ -34,10 +33,6 @@ pub uses_alike :
     All (IsUseWithin hypotheses assertions) uses
 uses_alike hypotheses kept assertions frames uses named e f same all =
     subst (λ n. All (IsUseWithin n assertions) uses) (sym e) (subst (λ n. All (IsUseWithin kept n) uses) (sym f) (subst (All (IsUseWithin kept frames)) (sym same) all))
-
--- one byte is its own number
-pub one_key : (name : ℕ) → name < 256 → key_from 0 (name ∷ []) ≡ name
-one_key name small = mod-eq_of_lt (omega (arith, small))
 
 -- symbols whose numbers are the same both ways have the same order both ways
 pub order_by_name :
