@@ -268,7 +268,8 @@ pub fn mandatory_pairs(
     ensures asked { OnOk result ((all : List (List ℕ)) (before : List meant.Item) → KnowsEarlier all before earlier.now → KnowsAsked all before asked.old
         → KnowsAsked all before asked.new) }
     ensures pairs { IfOk result (λ pairs. (all : List (List ℕ)) (before : List meant.Item) (item : meant.Item) → KnowsEarlier all before earlier.now
-        → KnowsAsked all before asked.old → hypotheses.now ≡ mandatory_numbers before item → ArePairsRead all (pairs_in_order (frame before item)) pairs.items) }
+        → KnowsAsked all before asked.old → hypotheses.now ≡ mandatory_numbers before item
+        → ArePairsRead all (pairs_in_order (frame before item)) pairs.items) }
 {
     let variables = variables_typed(alloc, earlier.essentials, earlier.expressions, hypotheses)?;
     active_among(alloc, earlier.pairs, asked, earlier.blocks, &variables)

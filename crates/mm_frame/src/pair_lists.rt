@@ -284,7 +284,8 @@ impl PairLists {
         count: usize,
         expressions: &Expressions,
     ) -> Result<usize, AllocError>
-        ensures pairs { IfOk result (λ k. (all : List (List ℕ)) (before : List meant.Item) (rest : List ℕ) → AreSound before → AreSymbols all before expressions.now
+        ensures pairs { IfOk result (λ k. (all : List (List ℕ)) (before : List meant.Item) (rest : List ℕ) → AreSound before
+            → AreSymbols all before expressions.now
             → outer.now ++ rest ≡ active_numbers is_disjoint_item before → AreFrontNumbers before outer.now count → AreMade all before self.old
             → IsList all self.new k (active_pairs (take count before))) }
         ensures made { OnOk result ((all : List (List ℕ)) (before : List meant.Item) (rest : List ℕ) → AreSound before → AreSymbols all before expressions.now

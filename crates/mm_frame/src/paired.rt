@@ -121,10 +121,12 @@ fn ask(
     row: &[usize],
     other: &[usize],
 ) -> Result<bool, AllocError>
-    ensures value { IfOk result (λ r. (all : List (List ℕ)) (before : List meant.Item) (x y : List ℕ) (table : PairTable) → ReadsPairs all before table blocks.now
-        → row.now ≡ row_at table first → other.now ≡ row_at table second → KnowsAsked all before asked.old → IsNameNumber all first x → IsNameNumber all second y
+    ensures value { IfOk result (λ r. (all : List (List ℕ)) (before : List meant.Item) (x y : List ℕ) (table : PairTable)
+        → ReadsPairs all before table blocks.now → row.now ≡ row_at table first → other.now ≡ row_at table second
+        → KnowsAsked all before asked.old → IsNameNumber all first x → IsNameNumber all second y
         → (first ≡ second → ⊥) → r ≡ are_paired (active_pairs before) (as_variable x, as_variable y)) }
-    ensures asked { OnOk result ((table : PairTable) → row.now ≡ row_at table first → other.now ≡ row_at table second → AsksOn table blocks.now asked.old asked.new) }
+    ensures asked { OnOk result ((table : PairTable) → row.now ≡ row_at table first → other.now ≡ row_at table second
+        → AsksOn table blocks.now asked.old asked.new) }
 {
     let known = asked.known(first, second);
     if is_active_number(blocks, known.common) {

@@ -32,4 +32,5 @@ KnowsAsked all before asked = All (IsKnown all before) asked.answers.items
 
 -- where the answers were right they are, after more of them
 abbrev pub AsksOn : PairTable → List Mark → AskedPairs → AskedPairs → Type 0
-AsksOn table blocks old new = (all : List (List ℕ)) (before : List Item) → ReadsPairs all before table blocks → KnowsAsked all before old → KnowsAsked all before new
+AsksOn table blocks old new =
+    (all : List (List ℕ)) (before : List Item) → ReadsPairs all before table blocks → KnowsAsked all before old → KnowsAsked all before new

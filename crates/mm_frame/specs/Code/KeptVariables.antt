@@ -39,7 +39,8 @@ pub record IsKeptVariable (essentials : List ℕ) (found : List EssentialVariabl
 pub record AreVariablesOf (essentials : List ℕ) (expressions : List (List NumberedSymbol)) (found : List EssentialVariable) : Type 0 where
   pub within : (v : EssentialVariable) → Contains found v → v.number < length expressions
   pub from : (v : EssentialVariable) → Contains found v → Contains (expression_kept expressions v.number) v.symbol
-  pub to : (n : ℕ) (s : NumberedSymbol) → Contains essentials n → Contains (expression_kept expressions n) s → s.variable ≡ true → IsKeptVariable essentials found n s
+  pub to : (n : ℕ) (s : NumberedSymbol) → Contains essentials n → Contains (expression_kept expressions n) s → s.variable ≡ true
+      → IsKeptVariable essentials found n s
 
 -- the number of the `$f` of a variable that is kept by one of these `$e`
 abbrev pub known_float : Tables → List ℕ → EssentialVariable → List ℕ
