@@ -10,10 +10,9 @@ mod essential;
 mod expressions;
 mod judge;
 mod label_numbers;
+mod laws;
 mod mandatory;
 mod names;
-mod one_base;
-mod own_labels;
 mod pair_lists;
 mod paired;
 mod proof_words;
@@ -23,13 +22,14 @@ mod statement;
 mod symbol;
 mod tables;
 
-ghost use Rattle.mm_frame.specs.Language.Laws.{ActiveByBlocks, FaultIsFound, HasFaultOrIsSound, HasOneStatementFault, KeptNext, NeverFaultAndSound};
-ghost use Rattle.mm_frame.specs.Language.Laws.{PlacesHaveFrames, ReaderIsActive};
-ghost use Rattle.mm_frame.specs.Language.Laws.{SoundHasNone, StaysByCounts};
-
 pub use base::{Base, Resolved};
 pub use draft::Frame;
 pub use judge::FrameFault;
+pub use laws::{
+    active_by_blocks, fault_is_found, files_have_one_base, has_fault_or_is_sound, has_one_fault,
+    has_own_labels, items_have_labels, kept_next, mandatory_means, mandatory_stand_before,
+    never_both, places_have_frames, reader_is_active, sound_has_none, stays_by_counts,
+};
 pub use mm_store::{
     BatchError, Edit, EditError, Files, Item, ItemKind, Keyword, PieceKey, Place, StoreError,
     TextError, TextFault, TextNumber, Undo, Undos, Walk, Word, WordKind, edits_keep_files,
@@ -37,8 +37,6 @@ pub use mm_store::{
     one_edit, one_meaning, place, walks_go_on,
 };
 pub use names::Names;
-pub use one_base::files_have_one_base;
-pub use own_labels::{has_own_labels, items_have_labels, mandatory_means, mandatory_stand_before};
 pub use proof_words::ProofWords;
 pub use same::{same_active_pairs, same_but_pairs, same_expression, same_frame};
 pub use statement::{Statement, same_proof, words_of_proof};
@@ -76,53 +74,3 @@ pub enum FrameNumber {
     /// The file of an inclusion is missing.
     F14,
 }
-
-/// Each label that resolves to an assertion has a frame whose variables are typed once.
-pub fn places_have_frames()
-    ensures { PlacesHaveFrames }
-{}
-
-/// A statement has one fault at most.
-pub fn has_one_fault()
-    ensures { HasOneStatementFault }
-{}
-
-/// A statement has a fault, or is sound.
-pub fn has_fault_or_is_sound()
-    ensures { HasFaultOrIsSound }
-{}
-
-/// A statement is never both at fault and sound.
-pub fn never_both()
-    ensures { NeverFaultAndSound }
-{}
-
-/// The fault that is computed is the fault.
-pub fn fault_is_found()
-    ensures { FaultIsFound }
-{}
-
-/// None is computed exactly for sound statements.
-pub fn sound_has_none()
-    ensures { SoundHasNone }
-{}
-
-/// One more item is judged against the sound ones before it.
-pub fn kept_next()
-    ensures { KeptNext }
-{}
-
-/// Items close no block that was open before them exactly where no beginning of them ends more blocks than it starts.
-pub fn stays_by_counts()
-    ensures { StaysByCounts }
-{}
-
-/// The statements in a stack of scopes are those that are active.
-pub fn reader_is_active()
-    ensures { ReaderIsActive }
-{}
-
-/// A statement is active at a later one exactly where each block that holds it holds the later one.
-pub fn active_by_blocks()
-    ensures { ActiveByBlocks }
-{}

@@ -1,5 +1,0 @@
-use Rattle.mm_frame.proofs.FoundFaults.{kept_next}
-use Rattle.mm_frame.proofs.kept_next.Goals as goal
-
-pub returns : goal.returns
-returns c = kept_next

@@ -1,0 +1,5 @@
+use Rattle.mm_frame.proofs.SaidLabels.{item_label}
+use Rattle.mm_frame.proofs.laws.items_have_labels.Goals as goal
+
+pub returns : goal.returns
+returns c = item_label

@@ -1,0 +1,5 @@
+use Rattle.mm_frame.proofs.FoundFaults.{never_sound}
+use Rattle.mm_frame.proofs.laws.never_both.Goals as goal
+
+pub returns : goal.returns
+returns c = never_sound

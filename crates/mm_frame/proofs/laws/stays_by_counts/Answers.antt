@@ -1,0 +1,5 @@
+use Rattle.mm_frame.proofs.Stack.{stays_by_counts}
+use Rattle.mm_frame.proofs.laws.stays_by_counts.Goals as goal
+
+pub returns : goal.returns
+returns c = stays_by_counts

@@ -1,5 +1,0 @@
-use Rattle.mm_frame.proofs.FoundFaults.{never_sound}
-use Rattle.mm_frame.proofs.never_both.Goals as goal
-
-pub returns : goal.returns
-returns c = never_sound

@@ -1,5 +1,0 @@
-use Rattle.mm_frame.proofs.OwnLabels.{own_label}
-use Rattle.mm_frame.proofs.own_labels.has_own_labels.Goals as goal
-
-pub returns : goal.returns
-returns c = own_label

@@ -1,5 +1,0 @@
-use Rattle.mm_frame.proofs.SaidLabels.{item_label}
-use Rattle.mm_frame.proofs.own_labels.items_have_labels.Goals as goal
-
-pub returns : goal.returns
-returns c = item_label

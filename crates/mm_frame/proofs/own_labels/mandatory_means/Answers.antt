@@ -1,5 +1,0 @@
-use Rattle.mm_frame.proofs.OwnLabels.{mandatory_means}
-use Rattle.mm_frame.proofs.own_labels.mandatory_means.Goals as goal
-
-pub returns : goal.returns
-returns c = mandatory_means

@@ -1,5 +1,0 @@
-use Rattle.mm_frame.proofs.FrameNumbers.{mandatory_are}
-use Rattle.mm_frame.proofs.own_labels.mandatory_stand_before.Goals as goal
-
-pub returns : goal.returns
-returns c = mandatory_are

@@ -1,5 +1,0 @@
-use Rattle.mm_frame.proofs.Frames.{has_frames}
-use Rattle.mm_frame.proofs.places_have_frames.Goals as goal
-
-pub returns : goal.returns
-returns c = has_frames

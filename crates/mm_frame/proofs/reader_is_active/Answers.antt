@@ -1,5 +1,0 @@
-use Rattle.mm_frame.proofs.Stack.{reader_active}
-use Rattle.mm_frame.proofs.reader_is_active.Goals as goal
-
-pub returns : goal.returns
-returns c = reader_active

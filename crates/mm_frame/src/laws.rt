@@ -1,0 +1,88 @@
+//! What is proved of soundness, blocks and frames: each law is the contract of a function.
+
+ghost use Rattle.mm_frame.specs.Language.Laws.{ActiveByBlocks, FaultIsFound, HasFaultOrIsSound, HasOneStatementFault, KeptNext, NeverFaultAndSound};
+ghost use Rattle.mm_frame.specs.Language.Laws.{PlacesHaveFrames, ReaderIsActive};
+ghost use Rattle.mm_frame.specs.Language.Laws.{SoundHasNone, StaysByCounts};
+ghost use Rattle.mm_frame.specs.Language.Laws.{HasOwnLabels, ItemsHaveLabels, MandatoryMeans, MandatoryStandBefore};
+ghost use Rattle.mm_frame.specs.Language.Laws.{AlikeFilesSayTheSame, FilesHaveOneBase};
+
+/// Each label that resolves to an assertion has a frame whose variables are typed once.
+pub fn places_have_frames()
+    ensures { PlacesHaveFrames }
+{}
+
+/// A statement has one fault at most.
+pub fn has_one_fault()
+    ensures { HasOneStatementFault }
+{}
+
+/// A statement has a fault, or is sound.
+pub fn has_fault_or_is_sound()
+    ensures { HasFaultOrIsSound }
+{}
+
+/// A statement is never both at fault and sound.
+pub fn never_both()
+    ensures { NeverFaultAndSound }
+{}
+
+/// The fault that is computed is the fault.
+pub fn fault_is_found()
+    ensures { FaultIsFound }
+{}
+
+/// None is computed exactly for sound statements.
+pub fn sound_has_none()
+    ensures { SoundHasNone }
+{}
+
+/// One more item is judged against the sound ones before it.
+pub fn kept_next()
+    ensures { KeptNext }
+{}
+
+/// Items close no block that was open before them exactly where no beginning of them ends more blocks than it starts.
+pub fn stays_by_counts()
+    ensures { StaysByCounts }
+{}
+
+/// The statements in a stack of scopes are those that are active.
+pub fn reader_is_active()
+    ensures { ReaderIsActive }
+{}
+
+/// A statement is active at a later one exactly where each block that holds it holds the later one.
+pub fn active_by_blocks()
+    ensures { ActiveByBlocks }
+{}
+
+/// Each sound `$f`, `$e`, `$a` and `$p` has a label.
+pub fn items_have_labels()
+    ensures { ItemsHaveLabels }
+{}
+
+/// Two sound items with one label are one.
+pub fn has_own_labels()
+    ensures { HasOwnLabels }
+{}
+
+/// A mandatory hypothesis of an item is what its label means there.
+pub fn mandatory_means()
+    ensures { MandatoryMeans }
+{}
+
+/// The mandatory hypotheses of an item are sound and stand before it, and are those of its frame.
+pub fn mandatory_stand_before()
+    ensures { MandatoryStandBefore }
+{}
+
+/// Files have one base from a top file on, and the keys of their pieces do not matter for what its items say.
+pub fn files_have_one_base()
+    ensures base { FilesHaveOneBase }
+    ensures said { AlikeFilesSayTheSame }
+{
+    mm_store::one_meaning();
+    mm_store::one_expansion();
+    mm_store::items_stand();
+    mm_store::keys_do_not_matter();
+}

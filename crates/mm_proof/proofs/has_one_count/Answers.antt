@@ -1,5 +1,0 @@
-use Rattle.mm_proof.proofs.Counting.{one_count}
-use Rattle.mm_proof.proofs.has_one_count.Goals as goal
-
-pub returns : goal.returns
-returns c = one_count

@@ -1,0 +1,5 @@
+use Rattle.mm_proof.proofs.Counting.{some_count}
+use Rattle.mm_proof.proofs.verdict_laws.has_count.Goals as goal
+
+pub returns : goal.returns
+returns c = some_count
