@@ -1,7 +1,7 @@
 """What the rules of this folder read of sources: their code without comments, texts and contracts, as tokens.
 
 A comment, the inside of a text or of a character, and all that only the prover reads (`ensures`, `requires`, `ghost`) is
-no code. So a rule that looks at tokens cannot be led astray by what stands there.
+no code. So what is written there cannot mislead a rule that looks at tokens.
 """
 import pathlib
 import re

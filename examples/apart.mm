@@ -1,5 +1,5 @@
-$( The theorem t needs that x and z are kept apart, because a1 asks it of what stands for its x and y; z is not
-   mandatory for t itself. Without the $d of its block the report is `wrong t`. $)
+$( The theorem t needs x and z to be kept apart: a1 requires it of what is put for its x and y. z is not
+   mandatory for t itself. Without the $d of its block the report has the line `wrong t`. $)
 $c wff |- $.
 $v x y z $.
 wx $f wff x $.

@@ -1,4 +1,4 @@
-$( Statements at fault are told with their places; the rest is verified against the sound ones alone. $)
+$( Statements at fault are reported with their places; the rest is verified against the sound ones alone. $)
 $c wff |- $.
 ${ $c k $. $}
 $v p $.
