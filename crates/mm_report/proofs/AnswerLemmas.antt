@@ -60,9 +60,8 @@ told_class : (files : FilesView) (view : BaseView) (n : ℕ) (one : Told) → Is
 told_class files view n Quiet f = quiet_class (is_sound_at view n) (said_at view n).kind f.sound f.kind
 told_class files view n AnAxiom f = axiom_class (is_sound_at view n) (said_at view n).kind f.sound f.kind
 told_class files view n Proved f = theorem_class (is_sound_at view n) (said_at view n).kind f.proof
-told_class files view n (Incomplete at) f = theorem_class (is_sound_at view n) (said_at view n).kind f.has_verdict.proof
-told_class files view n (Wrong number at) f = theorem_class (is_sound_at view n) (said_at view n).kind f.has_verdict.proof
 told_class files view n (Fault number shown) f = fault_class (fault_at view n) (said_at view n).kind (f.word, number) f.fault
+told_class files view n _ f = theorem_class (is_sound_at view n) (said_at view n).kind f.has_verdict.proof
 
 -- of two databases that mean the same
 
@@ -136,8 +135,6 @@ same_all_told : {means : List File} {top : List ℕ} → Laws → (a b : Databas
 same_all_told laws a b all others f g =
     let counts : length a.view.said ≡ length b.view.said = ap length (same_items laws a b) in
     ext_get_or Quiet all others (f.count ∙ counts ∙ sym g.count) (λ n within.
-    let count : length all ≡ length a.view.said = f.count in
-    let other : length others ≡ length b.view.said = g.count in
     let behind : n < length others = omega arith in
     same_told laws a b n (get_or all n Quiet) (get_or others n Quiet)
     (f.each n (get_or all n Quiet) (slice_get-get_or all n Quiet within))

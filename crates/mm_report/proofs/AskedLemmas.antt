@@ -68,29 +68,20 @@ pub finds_base : (session : SessionView) (command : Command) (numbers : List ℕ
 finds_base session (Axioms label) numbers finds = (finds.0, finds.1)
 finds_base session (Cites label) numbers finds = (finds.0, finds.1)
 finds_base session (Users label) numbers finds = (finds.0, finds.1)
-finds_base session (Change edit) numbers finds = absurd finds
-finds_base session (Batch edits) numbers finds = absurd finds
-finds_base session Report numbers finds = absurd finds
-finds_base session (Verdict label) numbers finds = absurd finds
+finds_base session _ numbers finds = absurd finds
 
 pub found_is : (session : SessionView) (command : Command) (numbers : List ℕ) (finds : Finds session command numbers) (base : BaseView) → IsOfFiles session.files session.top base
     → IsAnswer session command (numbers_listed (codes "found") base numbers) session
 found_is session (Axioms label) numbers finds base is = (inr (numbers, finds, (base, is, refl)), refl)
 found_is session (Cites label) numbers finds base is = (inr (numbers, finds, (base, is, refl)), refl)
 found_is session (Users label) numbers finds base is = (inr (numbers, finds, (base, is, refl)), refl)
-found_is session (Change edit) numbers finds base is = absurd finds
-found_is session (Batch edits) numbers finds base is = absurd finds
-found_is session Report numbers finds base is = absurd finds
-found_is session (Verdict label) numbers finds base is = absurd finds
+found_is session _ numbers finds base is = absurd finds
 
 pub unknown_is : (session : SessionView) (command : Command) → Lacks session command → IsAnswer session command unknown_line session
 unknown_is session (Axioms label) lacks = (inl (record { none = lacks; answer_is = refl }), refl)
 unknown_is session (Cites label) lacks = (inl (record { none = lacks; answer_is = refl }), refl)
 unknown_is session (Users label) lacks = (inl (record { none = lacks; answer_is = refl }), refl)
-unknown_is session (Change edit) lacks = absurd lacks
-unknown_is session (Batch edits) lacks = absurd lacks
-unknown_is session Report lacks = absurd lacks
-unknown_is session (Verdict label) lacks = absurd lacks
+unknown_is session _ lacks = absurd lacks
 
 -- ---- the answers of a list of axioms
 
@@ -131,7 +122,7 @@ pub axioms_there : (session : SessionView) (label : List ℕ) (found : Result (V
     → IfOk r (λ there. IsTrue there ↔ HasAssertion session label)
 axioms_there session label found (Err e) are none told = tt
 axioms_there session label found (Ok there) are none (inl h) = (λ t. has_found session label found are h.1, λ t. h.0)
-axioms_there session label found (Ok there) are none (inr h) = (λ t. let e : true ≡ false = sym t ∙ h.0 in (cc), λ has. absurd (none h.1 has))
+axioms_there session label found (Ok there) are none (inr h) = (λ t. (cc), λ has. absurd (none h.1 has))
 
 -- ---- what is written is handed on
 

@@ -66,9 +66,8 @@ good_more [] x f g = (g, tt)
 good_more (y ∷ front) x f g = (f.0, good_more front x f.1 g)
 
 last_in_line : (front : List Listed) (x : Listed) → edited_text x.edit ≡ None → LastInLine (front ++ x ∷ [])
-last_in_line [] x none = none
-last_in_line (y ∷ []) x none = none
 last_in_line (y ∷ z ∷ front) x none = last_in_line (z ∷ front) x none
+last_in_line _ x none = none
 
 pub edits_counted : (bytes : List ℕ) (found : List EditAt) (front : List Listed) → AreEditsIn bytes found front → length front ≡ length found
 edits_counted bytes found front are = omega (arith, ap length are.are, length-map front (λ (one : Listed). one.edit), length-map found (edit_in bytes))

@@ -32,9 +32,7 @@ placed_in files item word letter at place =
 
 -- so is what is told rightly of an item
 pub told_in : (files : FilesView) (view : BaseView) (n : ℕ) (one : Told) → IsRightlyTold files view n one → IsInFiles (length files.keyed) one
-told_in files view n Quiet f = tt
-told_in files view n AnAxiom f = tt
-told_in files view n Proved f = tt
 told_in files view n (Incomplete at) f = placed_in files f.is_place.item _ _ at f.is_place.has_place
 told_in files view n (Wrong number at) f = placed_in files f.is_place.item _ _ at f.is_place.has_place
 told_in files view n (Fault number shown) f = placed_in files f.item _ _ shown.at f.is_shown.has_place
+told_in files view n _ f = tt

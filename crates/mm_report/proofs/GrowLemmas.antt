@@ -198,19 +198,19 @@ not_true false e = refl
 -- an error that is handed on is the same
 pub same_error : {T U E : Type 0} (r : Result U E) (x e : E) → IsErrAnd r (λ (y : E). y ≡ x) → r ≡ Err e → IsErrOf {T = T} (Err x) e
 same_error (Ok done) x e f h = absurd (cc)
-same_error (Err y) x e f h = let same : y ≡ e = cc in let other : y ≡ x = f in cc
+same_error (Err y) x e f h = cc
 
 -- it is none but those that are told of the call
 pub other_error : {T U : Type 0} (r : Result U ScriptError) (call : Result T ScriptError) (x a b e : ScriptError) → IsErrAnd r (λ (y : ScriptError). y ≡ x)
     → call ≡ Err x → (call ≡ Err a) ⊎ (call ≡ Err b) → a ≢ e → b ≢ e → r ≡ Err e → ⊥
 other_error (Ok done) call x a b e f is told na nb h = absurd (cc)
-other_error (Err y) call x a b e f is (inl told) na nb h = let same : y ≡ e = cc in let other : y ≡ x = f in let this : x ≡ a = cc in na (cc)
-other_error (Err y) call x a b e f is (inr told) na nb h = let same : y ≡ e = cc in let other : y ≡ x = f in let this : x ≡ b = cc in nb (cc)
+other_error (Err y) call x a b e f is (inl told) na nb h = na (cc)
+other_error (Err y) call x a b e f is (inr told) na nb h = nb (cc)
 
 -- it is want of memory alone
 pub memory_alone : {U : Type 0} (r : Result U ScriptError) → IsErrAnd r (λ (y : ScriptError). y ≡ errors.Memory) → (e : ScriptError) → errors.Memory ≢ e → r ≡ Err e → ⊥
 memory_alone (Ok done) f e other h = absurd (cc)
-memory_alone (Err y) f e other h = let same : y ≡ e = cc in let this : y ≡ errors.Memory = f in other (cc)
+memory_alone (Err y) f e other h = other (cc)
 
 pub memory_told : {U : Type 0} (r : Result U ScriptError) → IsErrAnd r (λ (y : ScriptError). y ≡ errors.Memory) → OnErr r ((r ≡ Err errors.Read) ⊎ (r ≡ Err errors.Memory))
 memory_told (Ok done) f = tt

@@ -290,9 +290,6 @@ module _ {R W : Type 0} (remaining : R → Option (List ℕ)) (contents : W → 
   pub answer_stops : (next : Next) (is : IsNextCommand (pending now) (unread remaining left) next) (new : SessionView) (b : Writing W)
       → HasAnswered begun session all (unread remaining left) before (written contents a) (pending now)
       → (e : ScriptError) → FailsSo contents is.command session new a b e → StopsScript remaining contents begun new all left before b e
-  answer_stops next is new b so errors.BadLine fails = absurd fails
-  answer_stops next is new b so errors.Cut fails = absurd fails
-  answer_stops next is new b so errors.Read fails = absurd fails
   answer_stops next is new b so errors.Write fails = (
     elim is.whole [
       | inl h ↦ whole_begun begun session all (unread remaining left) before (written contents a) new (written contents b) (pending now) is.command next.end is.good h.1 fails.1 so
@@ -303,6 +300,7 @@ module _ {R W : Type 0} (remaining : R → Option (List ℕ)) (contents : W → 
   answer_stops next is new b so errors.Memory fails =
       subst (λ (s : SessionView). AnswersFirst begun s all (unread remaining left) before (written contents b)) (sym fails.0)
       (subst (λ (w : Writing W). AnswersFirst begun session all (unread remaining left) before (written contents w)) (sym fails.1) so.first)
+  answer_stops next is new b so _ fails = absurd fails
 
   -- it is answered
   pub goes_on : (next : Next) (is : IsNextCommand (pending now) (unread remaining left) next) (new : SessionView) (b : Writing W) (input : Input)

@@ -16,9 +16,8 @@ use Rattle.mm_report.specs.Language.Report.{item_line, lines, place_in, fault_li
 -- the lines of some items, and then those of more
 pub lines_join : (names : List (List ℕ)) (items more : List Item) (all others : List Told) → length all ≡ length items → lines names (items ++ more) (all ++ others) ≡ lines names items all ++ lines names more others
 lines_join names [] more [] others e = refl
-lines_join names [] more (y ∷ ys) others e = cc
-lines_join names (x ∷ xs) more [] others e = cc
 lines_join names (x ∷ xs) more (y ∷ ys) others e = ap (λ bytes. item_line names x y ++ bytes) (lines_join names xs more ys others (cc)) ∙ sym (append_assoc (item_line names x y) (lines names xs ys) (lines names more others))
+lines_join names _ more _ others e = cc
 
 -- one more item has its line behind the others'
 pub lines_push : (names : List (List ℕ)) (items : List Item) (all : List Told) (item : Item) (one : Told) → length all ≡ length items → lines names (items ++ item ∷ []) (all ++ one ∷ []) ≡ lines names items all ++ item_line names item one

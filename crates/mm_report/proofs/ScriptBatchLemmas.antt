@@ -39,11 +39,7 @@ pub record IsBatch (n : ℕ) (c : Command) : Type 0 where
 batch_by_words : (n : ℕ) → IsNumber n → (c : Command) → IsGood c → batch_words n ≡ command_words c → IsBatch n c
 batch_by_words n h (Batch edits) g e = let word : decimal n ≡ decimal (length edits) = cc in record { edits = edits; is = refl; count = decimal_injective n (length edits) (small_number n h) (small_number (length edits) g.0) word; good = g.1 }
 batch_by_words n h (Change edit) g e = absurd (omega (arith, edit_tag edit, ap tag e))
-batch_by_words n h Report g e = absurd (omega (arith, ap tag e))
-batch_by_words n h (Verdict label) g e = absurd (omega (arith, ap tag e))
-batch_by_words n h (Axioms label) g e = absurd (omega (arith, ap tag e))
-batch_by_words n h (Cites label) g e = absurd (omega (arith, ap tag e))
-batch_by_words n h (Users label) g e = absurd (omega (arith, ap tag e))
+batch_by_words n h _ g e = absurd (omega (arith, ap tag e))
 
 pub batch_by_line : (n : ℕ) → IsNumber n → (c : Command) → IsGood c → batch_line n ≡ line_of c → IsBatch n c
 batch_by_line n h c g e = batch_by_words n h c g (same_words_by_line (batch_words n) (command_words c) (codes "batch", decimal n ∷ [], refl) (has_first c) (batch_solid n h) (words_solid c g) e)

@@ -80,10 +80,8 @@ unfolding digits
 cuts_batch = stopped (codes "batch 2\ndelete a.mm 0\n\n") CutShort (batch_cut 2 (record { blanks = 0; edit = Delete (codes "a.mm") 0 } ∷ []) 1 one_listed)
 
 no_edit : (e : Asked) → IsGoodEdit e → codes "del" ≢ edit_line e
-no_edit (Insert file at text) g e = omega (arith, ap (λ (w : List ℕ). slice_index w 0) e)
-no_edit (Replace file at text) g e = omega (arith, ap (λ (w : List ℕ). slice_index w 0) e)
 no_edit (Delete file at) g e = omega (arith, ap (λ (w : List ℕ). slice_index w 3) e)
-no_edit (Move file at to) g e = omega (arith, ap (λ (w : List ℕ). slice_index w 0) e)
+no_edit _ g e = omega (arith, ap (λ (w : List ℕ). slice_index w 0) e)
 
 pub ends_in_edit : EndsInEdit
 unfolding digits

@@ -36,8 +36,8 @@ one_begins (x ∷ a) (y ∷ b) s t g h e =
     on both.0 (one_begins a b s t g.1 h.1 both.1)
   where
     on : x ≡ y → IsBeginning a b s t ⊎ IsBeginning b a t s → IsBeginning (x ∷ a) (y ∷ b) s t ⊎ IsBeginning (y ∷ b) (x ∷ a) t s
-    on p (inl w) = let q : a ++ w.more ≡ b = w.longer in inl (record { more = w.more; good = w.good; longer = cc; left = w.left })
-    on p (inr w) = let q : b ++ w.more ≡ a = w.longer in inr (record { more = w.more; good = w.good; longer = cc; left = w.left })
+    on p (inl w) = inl (record { more = w.more; good = w.good; longer = cc; left = w.left })
+    on p (inr w) = inr (record { more = w.more; good = w.good; longer = cc; left = w.left })
 
 -- what stands behind the entries in the script with one more line feed
 pub record IsTail (script : List ℕ) (entries : List Entry) (rest tail : List ℕ) : Type 0 where
@@ -103,15 +103,13 @@ cut_some rest e c = line_some c.command (by (line_of c.command) (sym c.is ∙ e)
     by (x ∷ line) h = cc
 
 pub one_end : (rest : List ℕ) (a b : End) → EndsSo rest a → EndsSo rest b → a ≡ b
-one_end rest Done Done f g = refl
 one_end rest Done CutShort f g = absurd (cut_some rest f g)
 one_end rest Done BadLine f g = absurd (g.0 f)
 one_end rest CutShort Done f g = absurd (cut_some rest g f)
-one_end rest CutShort CutShort f g = refl
 one_end rest CutShort BadLine f g = absurd (g.1 f)
 one_end rest BadLine Done f g = absurd (f.0 g)
 one_end rest BadLine CutShort f g = absurd (f.1 g)
-one_end rest BadLine BadLine f g = refl
+one_end rest _ _ f g = refl
 
 -- ---- what is read so far
 

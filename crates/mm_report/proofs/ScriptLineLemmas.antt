@@ -140,8 +140,7 @@ with_text (Insert f a t) count text h l =
 with_text (Replace f a t) count text h l =
     let long : length t ≡ length text = its_count h.text t count h.is_text h.count_is ∙ sym l in
     record { other = Replace f a text; good = (h.good.0, h.good.1, subst IsNumber long h.good.2); is_text = refl; same_line = ap (λ (n : ℕ). join_with_byte 32 (codes "replace" ∷ f ∷ decimal a ∷ decimal n ∷ [])) long }
-with_text (Delete f a) count text h l = absurd (some_none h.text (sym h.is_text))
-with_text (Move f a b) count text h l = absurd (some_none h.text (sym h.is_text))
+with_text _ count text h l = absurd (some_none h.text (sym h.is_text))
 
 -- a text that is not all there, and other bytes behind a text
 

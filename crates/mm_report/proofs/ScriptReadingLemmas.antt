@@ -110,9 +110,8 @@ stop_by bytes others end e s = a_stop end (subst (λ (w : List ℕ). StopsSo w e
 -- ---- a batch
 
 none_ends : (front : List Listed) (x : Listed) → edited_text x.edit ≡ None → LastInLine (front ++ x ∷ [])
-none_ends [] x e = e
-none_ends (y ∷ []) x e = e
 none_ends (y ∷ z ∷ front) x e = none_ends (z ∷ front) x e
+none_ends _ x e = e
 
 good_more : (front : List Listed) (x : Listed) → AreGoodEdits front → IsGoodEdit x.edit → AreGoodEdits (front ++ x ∷ [])
 good_more [] x h g = (g, tt)
@@ -158,7 +157,7 @@ line_not_empty [] tail more b n e = λ k. let same : b ≡ 10 = cc in n same
 line_not_empty (x ∷ line) tail more b n e = λ k. cc
 
 not_empty : (bytes more : List ℕ) (b : ℕ) → bytes ≡ b ∷ more → bytes ≢ []
-not_empty bytes more b e k = let w : b ∷ more ≡ [] = sym e ∙ k in cc
+not_empty bytes more b e k = cc
 
 -- a batch of which these edits are there, where what follows a next one is known
 batch_next : (n k : ℕ) (front : List Listed) (s bytes : List ℕ) → IsNumber n → AreGoodEdits front → length front + suc k ≡ n → bytes ≡ batch_line n ++ 10 ∷ (flat_map listed_bytes front ++ s)

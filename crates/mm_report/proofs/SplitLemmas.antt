@@ -13,10 +13,8 @@ split_at c [] [] s t f g e = (refl, cc)
 split_at c [] (y ∷ ys) s t f g e = let same : y ≡ c = cc in absurd (g.0 same)
 split_at c (x ∷ xs) [] s t f g e = let same : x ≡ c = cc in absurd (f.0 same)
 split_at c (x ∷ xs) (y ∷ ys) s t f g e =
-    let first : x ≡ y = cc in
     let rest : xs ++ c ∷ s ≡ ys ++ c ∷ t = cc in
     let more : (xs ≡ ys) × (s ≡ t) = split_at c xs ys s t f.1 g.1 rest in
-    let same : xs ≡ ys = more.0 in
     (cc, more.1)
 
 pub not_inside : (c : ℕ) (xs ys s : List ℕ) → Lacks c xs → xs ≡ ys ++ c ∷ s → ⊥
@@ -32,7 +30,6 @@ same_words c x y [] (z ∷ ys) f g e = absurd (not_inside c x y (join_with_byte 
 same_words c x y (z ∷ xs) [] f g e = absurd (not_inside c y x (join_with_byte c (z ∷ xs)) g.0 (sym e))
 same_words c x y (z ∷ xs) (w ∷ ys) f g e =
     let both : (x ≡ y) × (join_with_byte c (z ∷ xs) ≡ join_with_byte c (w ∷ ys)) = split_at c x y (join_with_byte c (z ∷ xs)) (join_with_byte c (w ∷ ys)) f.0 g.0 e in
-    let first : x ≡ y = both.0 in
     let rest : z ∷ xs ≡ w ∷ ys = same_words c z w xs ys f.1 g.1 both.1 in
     cc
 
@@ -57,10 +54,10 @@ word_byte b h =
     (λ (e : b ≡ 32). no_space e both.0, λ (e : b ≡ 10). no_feed e both.1)
   where
     no_space : b ≡ 32 → (b == 32) ≡ false → ⊥
-    no_space e f = let g : (32 == 32) ≡ false = subst (λ (n : ℕ). (n == 32) ≡ false) e f in cc
+    no_space e f = cc
 
     no_feed : b ≡ 10 → (b == 10) ≡ false → ⊥
-    no_feed e f = let g : (10 == 10) ≡ false = subst (λ (n : ℕ). (n == 10) ≡ false) e f in cc
+    no_feed e f = cc
 
 both_true : (a b : Bool) → (a && b) ≡ true → (a ≡ true) × (b ≡ true)
 both_true true b h = (refl, h)

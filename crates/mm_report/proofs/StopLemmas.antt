@@ -48,7 +48,7 @@ text_cut edit count part has short = stops_cut (edit_line edit ++ 10 ∷ part) (
       is = ap (λ (line : List ℕ). line ++ 10 ∷ part) w.same_line;
       begins = ap (λ (bytes : List ℕ). 10 ∷ bytes) (sym (append_assoc part (filling part count) (10 ∷ [])) ∙ sym (ap ended_text w.is_text));
       some_missing = filling_ends part count;
-      breaks = λ e. let k : Some (part ++ filling part count) ≡ None = sym w.is_text ∙ e in cc;
+      breaks = λ e. cc;
     }
 
     cut : IsCutShort (edit_line edit ++ 10 ∷ part)
@@ -72,7 +72,7 @@ text_line_cut edit count has = stops_cut (edit_line edit) (line_no_entry (edit_l
       is = sym (append-nil (edit_line edit));
       begins = refl;
       some_missing = λ e. cc;
-      breaks = λ e. let k : Some has.text ≡ None = sym has.is_text ∙ e in cc;
+      breaks = λ e. cc;
     }
 
 -- one with another byte in the place of the line feed behind the text
@@ -83,7 +83,6 @@ text_bad edit count text more byte has is other = stops_bad_by (edit_line edit) 
     feed : (t s u : List ℕ) → length t ≡ count → text ++ byte ∷ s ≡ (t ++ 10 ∷ []) ++ u → ⊥
     feed t s u l e =
         let both : (text ≡ t) × (byte ∷ s ≡ 10 ∷ u) = same_front text t (byte ∷ s) (10 ∷ u) (is ∙ sym l) (e ∙ append_assoc t (10 ∷ []) u) in
-        let bytes : byte ∷ s ≡ 10 ∷ u = both.1 in
         let same : byte ≡ 10 = cc in
         other same
 
@@ -186,7 +185,7 @@ batch_bad_last n front blanks line are bad = stops_bad (batch_line n) (inside fr
     by c next later good is b = on (front ++ next ∷ later) refl (subst IsGood is good) (subst (λ (d : Command). MayBreak d (10 ∷ inside front blanks line)) is b)
       where
         on : (edits : List Listed) → edits ≡ front ++ next ∷ later → IsGood (Batch edits) → MayBreak (Batch edits) (10 ∷ inside front blanks line) → ⊥
-        on edits e g (inl z) = let k : 10 ∷ inside front blanks line ≡ [] = z.0 in cc
+        on edits e g (inl z) = cc
         on edits e g (inr m) = no_break n front blanks line edits are.good g.1 bad.some bad.one_line bad.no_edit next later e m
 
     whole : (c : Command) (missing : List ℕ) → IsGood c → NextEdit n front blanks (line ++ missing) [] c → MayBreak c (10 ∷ inside front blanks line) → ⊥
@@ -194,9 +193,8 @@ batch_bad_last n front blanks line are bad = stops_bad (batch_line n) (inside fr
 
 -- a batch with an edit whose text is not all there, or whose line is the last
 ends_so : (front : List Listed) (x : Listed) → LastInLine (front ++ x ∷ []) → edited_text x.edit ≡ None
-ends_so [] x h = h
-ends_so (y ∷ []) x h = h
 ends_so (y ∷ z ∷ front) x h = ends_so (z ∷ front) x h
+ends_so _ x h = h
 
 text_part : (edit : Asked) (count : ℕ) → HasTextOf edit count → (next : Asked) → IsGoodEdit next → edit_line edit ≡ edit_line next → HasTextBehind (Change next) count
 text_part edit count has next g e = text_of_line edit count has (Change next) g e
@@ -278,7 +276,6 @@ batch_text_bad n front blanks edit count text more byte are has is other = stops
     feed : (t s u : List ℕ) → length t ≡ count → text ++ byte ∷ s ≡ (t ++ 10 ∷ []) ++ u → ⊥
     feed t s u l e =
         let both : (text ≡ t) × (byte ∷ s ≡ 10 ∷ u) = same_front text t (byte ∷ s) (10 ∷ u) (is ∙ sym l) (e ∙ append_assoc t (10 ∷ []) u) in
-        let rest : byte ∷ s ≡ 10 ∷ u = both.1 in
         let same : byte ≡ 10 = cc in
         other same
 

@@ -27,31 +27,26 @@ same_number a b = by (eqb_tells a b)
     by (inl w) = inl w.1
     by (inr w) = inr w.1
 
-pub same_bytes : (xs ys : List ℕ) → IsOrNot (xs ≡ ys)
-same_bytes [] [] = inl refl
-same_bytes [] (y ∷ ys) = inr (λ (e : [] ≡ y ∷ ys). cc)
-same_bytes (x ∷ xs) [] = inr (λ (e : x ∷ xs ≡ []). cc)
-same_bytes (x ∷ xs) (y ∷ ys) = by (same_number x y) (same_bytes xs ys)
+-- lists are compared by their elements
+same_list : {X : Type 0} → ((x y : X) → IsOrNot (x ≡ y)) → (xs ys : List X) → IsOrNot (xs ≡ ys)
+same_list same [] [] = inl refl
+same_list same (x ∷ xs) (y ∷ ys) = by (same x y) (same_list same xs ys)
   where
     by : IsOrNot (x ≡ y) → IsOrNot (xs ≡ ys) → IsOrNot (x ∷ xs ≡ y ∷ ys)
     by (inl e) (inl f) = inl (λ i. e i ∷ f i)
     by (inr e) f = inr (λ (k : x ∷ xs ≡ y ∷ ys). let s : x ≡ y = cc in e s)
     by (inl e) (inr f) = inr (λ (k : x ∷ xs ≡ y ∷ ys). let s : xs ≡ ys = cc in f s)
+same_list same _ _ = inr (λ e. cc)
+
+pub same_bytes : (xs ys : List ℕ) → IsOrNot (xs ≡ ys)
+same_bytes xs ys = same_list same_number xs ys
 
 true_or_not : (b : Bool) → IsOrNot (b ≡ true)
 true_or_not true = inl refl
 true_or_not false = inr (λ (e : false ≡ true). cc)
 
 same_words : (xs ys : List (List ℕ)) → IsOrNot (xs ≡ ys)
-same_words [] [] = inl refl
-same_words [] (y ∷ ys) = inr (λ (e : [] ≡ y ∷ ys). cc)
-same_words (x ∷ xs) [] = inr (λ (e : x ∷ xs ≡ []). cc)
-same_words (x ∷ xs) (y ∷ ys) = by (same_bytes x y) (same_words xs ys)
-  where
-    by : IsOrNot (x ≡ y) → IsOrNot (xs ≡ ys) → IsOrNot (x ∷ xs ≡ y ∷ ys)
-    by (inl e) (inl f) = inl (λ i. e i ∷ f i)
-    by (inr e) f = inr (λ (k : x ∷ xs ≡ y ∷ ys). let s : x ≡ y = cc in e s)
-    by (inl e) (inr f) = inr (λ (k : x ∷ xs ≡ y ∷ ys). let s : xs ≡ ys = cc in f s)
+same_words xs ys = same_list same_bytes xs ys
 
 name_or_not : (x : List ℕ) → IsOrNot (IsName x)
 name_or_not [] = inr (λ (h : IsName []). h.some refl)
@@ -109,39 +104,30 @@ asks_or_not keyword (w ∷ l ∷ []) = by (same_bytes w keyword) (name_or_not l)
   where
     by : IsOrNot (w ≡ keyword) → IsOrNot (IsName l) → IsOrNot (Asks keyword (w ∷ l ∷ []))
     by (inl e) (inl n) = inl (record { label = l; name = n; is = ap (λ (x : List ℕ). x ∷ l ∷ []) e })
-    by (inr e) n = inr (λ (a : Asks keyword (w ∷ l ∷ [])). let k : w ∷ l ∷ [] ≡ keyword ∷ a.label ∷ [] = a.is in let s : w ≡ keyword = cc in e s)
-    by (inl e) (inr n) = inr (λ (a : Asks keyword (w ∷ l ∷ [])). let k : w ∷ l ∷ [] ≡ keyword ∷ a.label ∷ [] = a.is in let s : a.label ≡ l = cc in n (subst (λ (x : List ℕ). IsName x) s a.name))
-asks_or_not keyword [] = inr (λ (a : Asks keyword []). let k : [] ≡ keyword ∷ a.label ∷ [] = a.is in cc)
-asks_or_not keyword (w ∷ []) = inr (λ (a : Asks keyword (w ∷ [])). let k : w ∷ [] ≡ keyword ∷ a.label ∷ [] = a.is in cc)
-asks_or_not keyword (w ∷ l ∷ m ∷ words) = inr (λ (a : Asks keyword (w ∷ l ∷ m ∷ words)). let k : w ∷ l ∷ m ∷ words ≡ keyword ∷ a.label ∷ [] = a.is in cc)
+    by (inr e) n = inr (λ a. let s : w ≡ keyword = cc in e s)
+    by (inl e) (inr n) = inr (λ a. let s : a.label ≡ l = cc in n (subst (λ (x : List ℕ). IsName x) s a.name))
+asks_or_not keyword _ = inr (λ a. cc)
 
 deletes_or_not : (words : List (List ℕ)) → IsOrNot (Deletes words)
 deletes_or_not (w ∷ f ∷ n ∷ []) = by (same_bytes w (codes "delete")) (name_or_not f) (number_or_not n)
   where
     by : IsOrNot (w ≡ codes "delete") → IsOrNot (IsName f) → IsOrNot (Spells n) → IsOrNot (Deletes (w ∷ f ∷ n ∷ []))
     by (inl e) (inl k) (inl s) = inl (record { file = f; name = k; at = s.number; small = s.small; is = λ i. e i ∷ f ∷ s.is i ∷ [] })
-    by (inr e) k s = inr (λ (a : Deletes (w ∷ f ∷ n ∷ [])). let g : w ∷ f ∷ n ∷ [] ≡ codes "delete" ∷ a.file ∷ decimal a.at ∷ [] = a.is in let h : w ≡ codes "delete" = cc in e h)
-    by (inl e) (inr k) s = inr (λ (a : Deletes (w ∷ f ∷ n ∷ [])). let g : w ∷ f ∷ n ∷ [] ≡ codes "delete" ∷ a.file ∷ decimal a.at ∷ [] = a.is in let h : a.file ≡ f = cc in k (subst (λ (x : List ℕ). IsName x) h a.name))
-    by (inl e) (inl k) (inr s) = inr (λ (a : Deletes (w ∷ f ∷ n ∷ [])). let g : w ∷ f ∷ n ∷ [] ≡ codes "delete" ∷ a.file ∷ decimal a.at ∷ [] = a.is in let h : n ≡ decimal a.at = cc in s (record { number = a.at; small = a.small; is = h }))
-deletes_or_not [] = inr (λ (a : Deletes []). let k : [] ≡ codes "delete" ∷ a.file ∷ decimal a.at ∷ [] = a.is in cc)
-deletes_or_not (w ∷ []) = inr (λ (a : Deletes (w ∷ [])). let k : w ∷ [] ≡ codes "delete" ∷ a.file ∷ decimal a.at ∷ [] = a.is in cc)
-deletes_or_not (w ∷ f ∷ []) = inr (λ (a : Deletes (w ∷ f ∷ [])). let k : w ∷ f ∷ [] ≡ codes "delete" ∷ a.file ∷ decimal a.at ∷ [] = a.is in cc)
-deletes_or_not (w ∷ f ∷ n ∷ m ∷ words) = inr (λ (a : Deletes (w ∷ f ∷ n ∷ m ∷ words)). let k : w ∷ f ∷ n ∷ m ∷ words ≡ codes "delete" ∷ a.file ∷ decimal a.at ∷ [] = a.is in cc)
+    by (inr e) k s = inr (λ a. let h : w ≡ codes "delete" = cc in e h)
+    by (inl e) (inr k) s = inr (λ a. let h : a.file ≡ f = cc in k (subst (λ (x : List ℕ). IsName x) h a.name))
+    by (inl e) (inl k) (inr s) = inr (λ a. let h : n ≡ decimal a.at = cc in s (record { number = a.at; small = a.small; is = h }))
+deletes_or_not _ = inr (λ a. cc)
 
 counts_or_not : (keyword : List ℕ) (words : List (List ℕ)) → IsOrNot (Counts keyword words)
 counts_or_not keyword (w ∷ f ∷ n ∷ c ∷ []) = by (same_bytes w keyword) (name_or_not f) (number_or_not n) (number_or_not c)
   where
     by : IsOrNot (w ≡ keyword) → IsOrNot (IsName f) → IsOrNot (Spells n) → IsOrNot (Spells c) → IsOrNot (Counts keyword (w ∷ f ∷ n ∷ c ∷ []))
     by (inl e) (inl k) (inl s) (inl t) = inl (record { file = f; name = k; at = s.number; small = s.small; count = t.number; small_count = t.small; is = λ i. e i ∷ f ∷ s.is i ∷ t.is i ∷ [] })
-    by (inr e) k s t = inr (λ (a : Counts keyword (w ∷ f ∷ n ∷ c ∷ [])). let g : w ∷ f ∷ n ∷ c ∷ [] ≡ keyword ∷ a.file ∷ decimal a.at ∷ decimal a.count ∷ [] = a.is in let h : w ≡ keyword = cc in e h)
-    by (inl e) (inr k) s t = inr (λ (a : Counts keyword (w ∷ f ∷ n ∷ c ∷ [])). let g : w ∷ f ∷ n ∷ c ∷ [] ≡ keyword ∷ a.file ∷ decimal a.at ∷ decimal a.count ∷ [] = a.is in let h : a.file ≡ f = cc in k (subst (λ (x : List ℕ). IsName x) h a.name))
-    by (inl e) (inl k) (inr s) t = inr (λ (a : Counts keyword (w ∷ f ∷ n ∷ c ∷ [])). let g : w ∷ f ∷ n ∷ c ∷ [] ≡ keyword ∷ a.file ∷ decimal a.at ∷ decimal a.count ∷ [] = a.is in let h : n ≡ decimal a.at = cc in s (record { number = a.at; small = a.small; is = h }))
-    by (inl e) (inl k) (inl s) (inr t) = inr (λ (a : Counts keyword (w ∷ f ∷ n ∷ c ∷ [])). let g : w ∷ f ∷ n ∷ c ∷ [] ≡ keyword ∷ a.file ∷ decimal a.at ∷ decimal a.count ∷ [] = a.is in let h : c ≡ decimal a.count = cc in t (record { number = a.count; small = a.small_count; is = h }))
-counts_or_not keyword [] = inr (λ (a : Counts keyword []). let k : [] ≡ keyword ∷ a.file ∷ decimal a.at ∷ decimal a.count ∷ [] = a.is in cc)
-counts_or_not keyword (w ∷ []) = inr (λ (a : Counts keyword (w ∷ [])). let k : w ∷ [] ≡ keyword ∷ a.file ∷ decimal a.at ∷ decimal a.count ∷ [] = a.is in cc)
-counts_or_not keyword (w ∷ f ∷ []) = inr (λ (a : Counts keyword (w ∷ f ∷ [])). let k : w ∷ f ∷ [] ≡ keyword ∷ a.file ∷ decimal a.at ∷ decimal a.count ∷ [] = a.is in cc)
-counts_or_not keyword (w ∷ f ∷ n ∷ []) = inr (λ (a : Counts keyword (w ∷ f ∷ n ∷ [])). let k : w ∷ f ∷ n ∷ [] ≡ keyword ∷ a.file ∷ decimal a.at ∷ decimal a.count ∷ [] = a.is in cc)
-counts_or_not keyword (w ∷ f ∷ n ∷ c ∷ m ∷ words) = inr (λ (a : Counts keyword (w ∷ f ∷ n ∷ c ∷ m ∷ words)). let k : w ∷ f ∷ n ∷ c ∷ m ∷ words ≡ keyword ∷ a.file ∷ decimal a.at ∷ decimal a.count ∷ [] = a.is in cc)
+    by (inr e) k s t = inr (λ a. let h : w ≡ keyword = cc in e h)
+    by (inl e) (inr k) s t = inr (λ a. let h : a.file ≡ f = cc in k (subst (λ (x : List ℕ). IsName x) h a.name))
+    by (inl e) (inl k) (inr s) t = inr (λ a. let h : n ≡ decimal a.at = cc in s (record { number = a.at; small = a.small; is = h }))
+    by (inl e) (inl k) (inl s) (inr t) = inr (λ a. let h : c ≡ decimal a.count = cc in t (record { number = a.count; small = a.small_count; is = h }))
+counts_or_not keyword _ = inr (λ a. cc)
 
 record Batches (words : List (List ℕ)) : Type 0 where
   count : ℕ
@@ -153,11 +139,9 @@ batches_or_not (w ∷ n ∷ []) = by (same_bytes w (codes "batch")) (number_or_n
   where
     by : IsOrNot (w ≡ codes "batch") → IsOrNot (Spells n) → IsOrNot (Batches (w ∷ n ∷ []))
     by (inl e) (inl s) = inl (record { count = s.number; small = s.small; is = λ i. e i ∷ s.is i ∷ [] })
-    by (inr e) s = inr (λ (b : Batches (w ∷ n ∷ [])). let k : w ∷ n ∷ [] ≡ codes "batch" ∷ decimal b.count ∷ [] = b.is in let h : w ≡ codes "batch" = cc in e h)
-    by (inl e) (inr s) = inr (λ (b : Batches (w ∷ n ∷ [])). let k : w ∷ n ∷ [] ≡ codes "batch" ∷ decimal b.count ∷ [] = b.is in let h : n ≡ decimal b.count = cc in s (record { number = b.count; small = b.small; is = h }))
-batches_or_not [] = inr (λ (b : Batches []). let k : [] ≡ codes "batch" ∷ decimal b.count ∷ [] = b.is in cc)
-batches_or_not (w ∷ []) = inr (λ (b : Batches (w ∷ [])). let k : w ∷ [] ≡ codes "batch" ∷ decimal b.count ∷ [] = b.is in cc)
-batches_or_not (w ∷ n ∷ m ∷ words) = inr (λ (b : Batches (w ∷ n ∷ m ∷ words)). let k : w ∷ n ∷ m ∷ words ≡ codes "batch" ∷ decimal b.count ∷ [] = b.is in cc)
+    by (inr e) s = inr (λ b. let h : w ≡ codes "batch" = cc in e h)
+    by (inl e) (inr s) = inr (λ b. let h : n ≡ decimal b.count = cc in s (record { number = b.count; small = b.small; is = h }))
+batches_or_not _ = inr (λ b. cc)
 
 -- ---- a line
 

@@ -59,10 +59,7 @@ words_solid (Change (Delete file at)) g = (refl, (g.0.bytes, (solid_decimal at (
 words_solid (Change (Move file at to)) g = (refl, (g.0.bytes, (solid_decimal at (small_number at g.1), (solid_decimal to (small_number to g.2), tt))))
 words_solid (Batch edits) g = (refl, (solid_decimal (length edits) (small_number (length edits) g.0), tt))
 words_solid Report g = (refl, tt)
-words_solid (Verdict label) g = (refl, (g.bytes, tt))
-words_solid (Axioms label) g = (refl, (g.bytes, tt))
-words_solid (Cites label) g = (refl, (g.bytes, tt))
-words_solid (Users label) g = (refl, (g.bytes, tt))
+words_solid _ g = (refl, (g.bytes, tt))
 
 pub lack_spaces : (words : List (List ℕ)) → AreSolid words → AllByRecursion (Lacks 32) words
 lack_spaces [] h = tt
@@ -108,14 +105,11 @@ tag words = slice_index (slice_index_or words 0 []) 0 * 1000 + slice_index (slic
 -- texts of one length in front of other bytes
 pub same_front : (xs ys s t : List ℕ) → length xs ≡ length ys → xs ++ s ≡ ys ++ t → (xs ≡ ys) × (s ≡ t)
 same_front [] [] s t l e = (refl, e)
-same_front [] (y ∷ ys) s t l e = absurd (omega arith)
-same_front (x ∷ xs) [] s t l e = absurd (omega arith)
 same_front (x ∷ xs) (y ∷ ys) s t l e =
-    let first : x ≡ y = cc in
     let rest : xs ++ s ≡ ys ++ t = cc in
     let more : (xs ≡ ys) × (s ≡ t) = same_front xs ys s t (omega arith) rest in
-    let same : xs ≡ ys = more.0 in
     (cc, more.1)
+same_front _ _ s t l e = absurd (omega arith)
 
 same_counted : (keyword : List ℕ) (f f' text text' : List ℕ) (at at' : ℕ) (s t : List ℕ) → IsNumber at → IsNumber at' → IsNumber (length text) → IsNumber (length text')
     → keyword ∷ f ∷ decimal at ∷ decimal (length text) ∷ [] ≡ keyword ∷ f' ∷ decimal at' ∷ decimal (length text') ∷ []
@@ -127,7 +121,6 @@ same_counted keyword f f' text text' at at' s t a a' n n' e g =
     let ats : at ≡ at' = decimal_injective at at' (small_number at a) (small_number at' a') at_word in
     let counts : length text ≡ length text' = decimal_injective (length text) (length text') (small_number _ n) (small_number _ n') count_word in
     let both : (text ≡ text') × (10 ∷ s ≡ 10 ∷ t) = same_front text text' (10 ∷ s) (10 ∷ t) counts (sym (append_assoc text (10 ∷ []) s) ∙ g ∙ append_assoc text' (10 ∷ []) t) in
-    let feed : 10 ∷ s ≡ 10 ∷ t = both.1 in
     ((file, ats, both.0), cc)
 
 -- by what the first word of an edit is known
@@ -145,7 +138,6 @@ same_edit (Replace f at text) (Replace f' at' text') s t g h e k =
     let all = same_counted (codes "replace") f f' text text' at at' s t g.1 h.1 g.2 h.2 e k in
     (λ i. Replace (all.0.0 i) (all.0.1 i) (all.0.2 i), all.1)
 same_edit (Delete f at) (Delete f' at') s t g h e k =
-    let file : f ≡ f' = cc in
     let at_word : decimal at ≡ decimal at' = cc in
     let ats : at ≡ at' = decimal_injective at at' (small_number at g.1) (small_number at' h.1) at_word in
     (cc, k)
@@ -237,10 +229,10 @@ same_command (Batch xs) (Batch ys) s t g h e k =
     let both = same_edits xs ys s t g.1 h.1 counts k in
     (ap Batch both.0, both.1)
 same_command Report Report s t g h e k = (refl, k)
-same_command (Verdict l) (Verdict m) s t g h e k = let same : l ≡ m = cc in (cc, k)
-same_command (Axioms l) (Axioms m) s t g h e k = let same : l ≡ m = cc in (cc, k)
-same_command (Cites l) (Cites m) s t g h e k = let same : l ≡ m = cc in (cc, k)
-same_command (Users l) (Users m) s t g h e k = let same : l ≡ m = cc in (cc, k)
+same_command (Verdict l) (Verdict m) s t g h e k = (cc, k)
+same_command (Axioms l) (Axioms m) s t g h e k = (cc, k)
+same_command (Cites l) (Cites m) s t g h e k = (cc, k)
+same_command (Users l) (Users m) s t g h e k = (cc, k)
 same_command (Change e) (Change f) s t g h w k = let both = same_edit e f s t g h w k in (ap Change both.0, both.1)
 same_command (Change f) _ s t g h e k = absurd (omega (arith, edit_tag f, ap tag e))
 same_command _ (Change f) s t g h e k = absurd (omega (arith, edit_tag f, ap tag e))
@@ -255,10 +247,9 @@ same_first c d s t g h e =
     same_command c d s t g h words lines.1
 
 empty_line : (words : List (List ℕ)) → join_with_byte 32 words ≡ [] → slice_index (slice_index_or words 0 []) 0 ≡ 0
-empty_line [] e = refl
 empty_line (w ∷ []) e = ap (λ (x : List ℕ). slice_index x 0) e
-empty_line ([] ∷ v ∷ words) e = refl
 empty_line ((b ∷ w) ∷ v ∷ words) e = cc
+empty_line _ e = refl
 
 -- no line of a command is empty
 pub line_some : (c : Command) → line_of c ≡ [] → ⊥

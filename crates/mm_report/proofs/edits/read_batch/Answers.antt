@@ -1,4 +1,4 @@
-use Rattle.std.proofs.Common.{◌≡◌, ◌<◌, ◌+◌, ◌++◌, ◌∷◌, [], ◌∙◌, ap, sym, subst, arith, length, length-append, true, false, List}
+use Rattle.std.proofs.Common.{◌≡◌, ◌<◌, ◌+◌, ◌++◌, ◌∷◌, [], ◌∙◌, ap, sym, subst, arith, length, length-append, true, false, rules, List}
 use Rattle.mm_report.specs.declared.entry.EditAt.{EditAt}
 use Rattle.mm_report.specs.Code.Batches.{IsBatchRead}
 use Rattle.mm_report.specs.Code.Pending.{pending}
@@ -28,35 +28,28 @@ loop-input-init g c =
       fewer = omega arith;
     }
 
-pub returns-in_err-read-clause-grows : goal.returns-in_err-read-clause-grows
-returns-in_err-read-clause-grows g c = grows_then _ _ _ _ _ _ c.loop-input.invariant.grows c.in_err-read.ensures.grows
-
-pub returns-in_err-read-clause-bad : goal.returns-in_err-read-clause-bad
-returns-in_err-read-clause-bad g c = λ bad.
+pub returns-in_err-read : goal.returns-in_err-read
+returns-in_err-read g c =
     let read = c.loop-input.invariant.read in
     let fewer : length c.loop-input.edits.items < c.args.count = omega arith in
     let fed = fed_by c.loop-input.fed (length c.loop-input.edits.items) c.args.count c.loop-input.invariant.last fewer in
     let front = batch_front (pending c.loop-input.input) _ c.args.count c.loop-input.end c.loop-input.edits.items c.loop-input.fed read fed fewer in
-    let counted = edits_counted (pending c.loop-input.input) c.loop-input.edits.items read.front read.edits in
-    c.in_err-read.ensures.bad (same_error c.from_residual.result c.in_err-read.field-0.0 _ c.from_residual.ensures.1 bad) c.args.count read.front front (omega (arith, counted, fewer))
-
-pub returns-in_err-read-clause-cut : goal.returns-in_err-read-clause-cut
-returns-in_err-read-clause-cut g c = λ cut.
-    let read = c.loop-input.invariant.read in
-    let fewer : length c.loop-input.edits.items < c.args.count = omega arith in
-    let fed = fed_by c.loop-input.fed (length c.loop-input.edits.items) c.args.count c.loop-input.invariant.last fewer in
-    let front = batch_front (pending c.loop-input.input) _ c.args.count c.loop-input.end c.loop-input.edits.items c.loop-input.fed read fed fewer in
-    let counted = edits_counted (pending c.loop-input.input) c.loop-input.edits.items read.front read.edits in
-    c.in_err-read.ensures.cut (same_error c.from_residual.result c.in_err-read.field-0.0 _ c.from_residual.ensures.1 cut) c.args.count read.front front (omega (arith, counted, fewer))
-
-pub returns-in_err-read-clause-read : goal.returns-in_err-read-clause-read
-returns-in_err-read-clause-read g c = λ stop.
-    let read = c.loop-input.invariant.read in
-    let fewer : length c.loop-input.edits.items < c.args.count = omega arith in
-    let fed = fed_by c.loop-input.fed (length c.loop-input.edits.items) c.args.count c.loop-input.invariant.last fewer in
-    let front = batch_front (pending c.loop-input.input) _ c.args.count c.loop-input.end c.loop-input.edits.items c.loop-input.fed read fed fewer in
-    let counted = edits_counted (pending c.loop-input.input) c.loop-input.edits.items read.front read.edits in
-    c.in_err-read.ensures.read (same_error c.from_residual.result c.in_err-read.field-0.0 _ c.from_residual.ensures.1 stop) c.args.count read.front front (omega (arith, counted, fewer))
+    let few = edits_counted (pending c.loop-input.input) c.loop-input.edits.items read.front read.edits in
+    let last = c.from_residual.result in
+    let error = c.in_err-read.field-0.0 in
+    let is = c.from_residual.ensures.1 in
+    let fails = c.in_err-read.ensures in
+    record {
+      grows = grows_then _ _ _ _ _ _ c.loop-input.invariant.grows fails.grows;
+      batch = search rules;
+      all = search rules;
+      fewer = search rules;
+      bad = λ bad. fails.bad (same_error last error _ is bad) c.args.count read.front front (omega (arith, few, fewer));
+      cut = λ cut. fails.cut (same_error last error _ is cut) c.args.count read.front front (omega (arith, few, fewer));
+      read = λ stop. fails.read (same_error last error _ is stop) c.args.count read.front front (omega (arith, few, fewer));
+      failed = λ stop. fails.failed (same_error last error _ is stop);
+      told = λ write. fails.told (same_error last error _ is write);
+    }
 
 pub returns-in_err-push-clause-grows : goal.returns-in_err-push-clause-grows
 returns-in_err-push-clause-grows g c = grows_then _ _ _ _ _ _ c.loop-input.invariant.grows c.in_ok-read.ensures.grows

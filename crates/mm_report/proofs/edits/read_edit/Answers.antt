@@ -1,4 +1,4 @@
-use Rattle.std.proofs.Common.{◌+◌, ◌∷◌, [], ◌∙◌, ap, arith, sym, subst, inl, inr, refl, ℕ, List}
+use Rattle.std.proofs.Common.{◌+◌, ◌∷◌, [], ◌∙◌, ap, arith, sym, subst, inl, inr, refl, rules, ℕ, List}
 use Rattle.std.specs.Prelude.{codes, decimal}
 use Rattle.std.specs.List.{join_with_byte}
 use Rattle.mm_keep.specs.mm_store.Language.Edits.{Asked}
@@ -21,33 +21,28 @@ returns-then-not-line-clause-cut g c = λ cut.
     let asks : AsksText line c.in-Insert.count edit = asks_insert line c.in-Insert.file c.in-Insert.at c.in-Insert.count says in
     ((c.requires.line.unfed (not_true _ c.if-not-line.true)).1, inr (text_line line c.in-Insert.count edit _ asks (unfed_line (pending c.args.input.now) _ c.args.line c.requires.line (not_true _ c.if-not-line.true))))
 
-pub returns-in_err-text-in-Insert-clause-bad : goal.returns-in_err-text-in-Insert-clause-bad
-returns-in_err-text-in-Insert-clause-bad g c = λ bad.
+pub returns-in_err-text-in-Insert : goal.returns-in_err-text-in-Insert
+returns-in_err-text-in-Insert g c =
     let line = line_bytes (pending c.args.input.now) c.args.line in
     let says : SaysEdit line (lines.Insert c.in-Insert.file c.in-Insert.at c.in-Insert.count) = subst (SaysEdit line) c.in-Insert.is c.requires.says in
     let edit : List ℕ → Asked = λ text. ask.Insert (bytes_of_part line c.in-Insert.file) c.in-Insert.at text in
     let asks : AsksText line c.in-Insert.count edit = asks_insert line c.in-Insert.file c.in-Insert.at c.in-Insert.count says in
-    let stands = fed_line c.args.input.now c.read_text.new.input _ _ c.args.line c.requires.line c.in_err-text-in-Insert.ensures.grows (not_not _ c.if-not-line.false) in
-    text_bad line c.in-Insert.count edit _ (pending c.read_text.new.input) (c.args.line.end + 1) asks stands (c.in_err-text-in-Insert.ensures.bad (same_error c.from_residual.result c.in_err-text-in-Insert.field-0.0 _ c.from_residual.ensures.1 bad))
-
-pub returns-in_err-text-in-Insert-clause-cut : goal.returns-in_err-text-in-Insert-clause-cut
-returns-in_err-text-in-Insert-clause-cut g c = λ cut.
-    let line = line_bytes (pending c.args.input.now) c.args.line in
-    let says : SaysEdit line (lines.Insert c.in-Insert.file c.in-Insert.at c.in-Insert.count) = subst (SaysEdit line) c.in-Insert.is c.requires.says in
-    let edit : List ℕ → Asked = λ text. ask.Insert (bytes_of_part line c.in-Insert.file) c.in-Insert.at text in
-    let asks : AsksText line c.in-Insert.count edit = asks_insert line c.in-Insert.file c.in-Insert.at c.in-Insert.count says in
-    let stands = fed_line c.args.input.now c.read_text.new.input _ _ c.args.line c.requires.line c.in_err-text-in-Insert.ensures.grows (not_not _ c.if-not-line.false) in
-    let ended = c.in_err-text-in-Insert.ensures.cut (same_error c.from_residual.result c.in_err-text-in-Insert.field-0.0 _ c.from_residual.ensures.1 cut) in
-    (ended.1, inl (text_short line c.in-Insert.count edit _ _ asks stands ended.0))
-
-pub returns-in_err-text-in-Insert-clause-read : goal.returns-in_err-text-in-Insert-clause-read
-returns-in_err-text-in-Insert-clause-read g c = λ read.
-    let line = line_bytes (pending c.args.input.now) c.args.line in
-    let says : SaysEdit line (lines.Insert c.in-Insert.file c.in-Insert.at c.in-Insert.count) = subst (SaysEdit line) c.in-Insert.is c.requires.says in
-    let edit : List ℕ → Asked = λ text. ask.Insert (bytes_of_part line c.in-Insert.file) c.in-Insert.at text in
-    let asks : AsksText line c.in-Insert.count edit = asks_insert line c.in-Insert.file c.in-Insert.at c.in-Insert.count says in
-    let stands = fed_line c.args.input.now c.read_text.new.input _ _ c.args.line c.requires.line c.in_err-text-in-Insert.ensures.grows (not_not _ c.if-not-line.false) in
-    text_short line c.in-Insert.count edit _ _ asks stands (c.in_err-text-in-Insert.ensures.read (same_error c.from_residual.result c.in_err-text-in-Insert.field-0.0 _ c.from_residual.ensures.1 read))
+    let fails = c.in_err-text-in-Insert.ensures in
+    let stands = fed_line c.args.input.now c.read_text.new.input _ _ c.args.line c.requires.line fails.grows (not_not _ c.if-not-line.false) in
+    let short = text_short line c.in-Insert.count edit _ _ asks stands in
+    let last = c.from_residual.result in
+    let error = c.in_err-text-in-Insert.field-0.0 in
+    let is = c.from_residual.ensures.1 in
+    record {
+      grows = fails.grows;
+      edit = search rules;
+      fewer = search rules;
+      bad = λ bad. text_bad line c.in-Insert.count edit _ (pending c.read_text.new.input) (c.args.line.end + 1) asks stands (fails.bad (same_error last error _ is bad));
+      cut = λ cut. let ended = fails.cut (same_error last error _ is cut) in (ended.1, inl (short ended.0));
+      read = λ read. short (fails.read (same_error last error _ is read));
+      failed = λ read. fails.failed (same_error last error _ is read);
+      told = λ write. fails.told (same_error last error _ is write);
+    }
 
 pub returns-in_ok-text-in-Insert-clause-edit : goal.returns-in_ok-text-in-Insert-clause-edit
 returns-in_ok-text-in-Insert-clause-edit g c =
@@ -74,34 +69,28 @@ returns-then-not-line-2-clause-cut g c = λ cut.
     let asks : AsksText line c.in-Replace.count edit = asks_replace line c.in-Replace.file c.in-Replace.at c.in-Replace.count says in
     ((c.requires.line.unfed (not_true _ c.if-not-line-2.true)).1, inr (text_line line c.in-Replace.count edit _ asks (unfed_line (pending c.args.input.now) _ c.args.line c.requires.line (not_true _ c.if-not-line-2.true))))
 
-pub returns-in_err-text-in-Replace-clause-bad : goal.returns-in_err-text-in-Replace-clause-bad
-returns-in_err-text-in-Replace-clause-bad g c = λ bad.
+pub returns-in_err-text-in-Replace : goal.returns-in_err-text-in-Replace
+returns-in_err-text-in-Replace g c =
     let line = line_bytes (pending c.args.input.now) c.args.line in
     let says : SaysEdit line (lines.Replace c.in-Replace.file c.in-Replace.at c.in-Replace.count) = subst (SaysEdit line) c.in-Replace.is c.requires.says in
     let edit : List ℕ → Asked = λ text. ask.Replace (bytes_of_part line c.in-Replace.file) c.in-Replace.at text in
     let asks : AsksText line c.in-Replace.count edit = asks_replace line c.in-Replace.file c.in-Replace.at c.in-Replace.count says in
-    let stands = fed_line c.args.input.now c.read_text-in-Replace.new.input _ _ c.args.line c.requires.line c.in_err-text-in-Replace.ensures.grows (not_not _ c.if-not-line-2.false) in
-    text_bad line c.in-Replace.count edit _ (pending c.read_text-in-Replace.new.input) (c.args.line.end + 1) asks stands
-    (c.in_err-text-in-Replace.ensures.bad (same_error c.from_residual-in_err-text-in-Replace.result c.in_err-text-in-Replace.field-0.0 _ c.from_residual-in_err-text-in-Replace.ensures.1 bad))
-
-pub returns-in_err-text-in-Replace-clause-cut : goal.returns-in_err-text-in-Replace-clause-cut
-returns-in_err-text-in-Replace-clause-cut g c = λ cut.
-    let line = line_bytes (pending c.args.input.now) c.args.line in
-    let says : SaysEdit line (lines.Replace c.in-Replace.file c.in-Replace.at c.in-Replace.count) = subst (SaysEdit line) c.in-Replace.is c.requires.says in
-    let edit : List ℕ → Asked = λ text. ask.Replace (bytes_of_part line c.in-Replace.file) c.in-Replace.at text in
-    let asks : AsksText line c.in-Replace.count edit = asks_replace line c.in-Replace.file c.in-Replace.at c.in-Replace.count says in
-    let stands = fed_line c.args.input.now c.read_text-in-Replace.new.input _ _ c.args.line c.requires.line c.in_err-text-in-Replace.ensures.grows (not_not _ c.if-not-line-2.false) in
-    let ended = c.in_err-text-in-Replace.ensures.cut (same_error c.from_residual-in_err-text-in-Replace.result c.in_err-text-in-Replace.field-0.0 _ c.from_residual-in_err-text-in-Replace.ensures.1 cut) in
-    (ended.1, inl (text_short line c.in-Replace.count edit _ _ asks stands ended.0))
-
-pub returns-in_err-text-in-Replace-clause-read : goal.returns-in_err-text-in-Replace-clause-read
-returns-in_err-text-in-Replace-clause-read g c = λ read.
-    let line = line_bytes (pending c.args.input.now) c.args.line in
-    let says : SaysEdit line (lines.Replace c.in-Replace.file c.in-Replace.at c.in-Replace.count) = subst (SaysEdit line) c.in-Replace.is c.requires.says in
-    let edit : List ℕ → Asked = λ text. ask.Replace (bytes_of_part line c.in-Replace.file) c.in-Replace.at text in
-    let asks : AsksText line c.in-Replace.count edit = asks_replace line c.in-Replace.file c.in-Replace.at c.in-Replace.count says in
-    let stands = fed_line c.args.input.now c.read_text-in-Replace.new.input _ _ c.args.line c.requires.line c.in_err-text-in-Replace.ensures.grows (not_not _ c.if-not-line-2.false) in
-    text_short line c.in-Replace.count edit _ _ asks stands (c.in_err-text-in-Replace.ensures.read (same_error c.from_residual-in_err-text-in-Replace.result c.in_err-text-in-Replace.field-0.0 _ c.from_residual-in_err-text-in-Replace.ensures.1 read))
+    let fails = c.in_err-text-in-Replace.ensures in
+    let stands = fed_line c.args.input.now c.read_text-in-Replace.new.input _ _ c.args.line c.requires.line fails.grows (not_not _ c.if-not-line-2.false) in
+    let short = text_short line c.in-Replace.count edit _ _ asks stands in
+    let last = c.from_residual-in_err-text-in-Replace.result in
+    let error = c.in_err-text-in-Replace.field-0.0 in
+    let is = c.from_residual-in_err-text-in-Replace.ensures.1 in
+    record {
+      grows = fails.grows;
+      edit = search rules;
+      fewer = search rules;
+      bad = λ bad. text_bad line c.in-Replace.count edit _ (pending c.read_text-in-Replace.new.input) (c.args.line.end + 1) asks stands (fails.bad (same_error last error _ is bad));
+      cut = λ cut. let ended = fails.cut (same_error last error _ is cut) in (ended.1, inl (short ended.0));
+      read = λ read. short (fails.read (same_error last error _ is read));
+      failed = λ read. fails.failed (same_error last error _ is read);
+      told = λ write. fails.told (same_error last error _ is write);
+    }
 
 pub returns-in_ok-text-in-Replace-clause-edit : goal.returns-in_ok-text-in-Replace-clause-edit
 returns-in_ok-text-in-Replace-clause-edit g c =
@@ -178,24 +167,8 @@ overflow_add-line g c = omega (arith, c.requires.line.within, few_pending c.args
 pub overflow_add-result : goal.overflow_add-result
 overflow_add-result g c = omega (arith, c.in_ok-text-in-Insert.ensures.within.0.within, few_pending c.read_text.new.input)
 
-pub returns-in_err-text-in-Insert-clause-failed : goal.returns-in_err-text-in-Insert-clause-failed
-returns-in_err-text-in-Insert-clause-failed g c = λ read.
-    c.in_err-text-in-Insert.ensures.failed (same_error c.from_residual.result c.in_err-text-in-Insert.field-0.0 _ c.from_residual.ensures.1 read)
-
-pub returns-in_err-text-in-Insert-clause-told : goal.returns-in_err-text-in-Insert-clause-told
-returns-in_err-text-in-Insert-clause-told g c = λ write.
-    c.in_err-text-in-Insert.ensures.told (same_error c.from_residual.result c.in_err-text-in-Insert.field-0.0 _ c.from_residual.ensures.1 write)
-
 pub overflow_add-line-in-Replace : goal.overflow_add-line-in-Replace
 overflow_add-line-in-Replace g c = omega (arith, c.requires.line.within, few_pending c.args.input.now)
 
 pub overflow_add-result-in-Replace : goal.overflow_add-result-in-Replace
 overflow_add-result-in-Replace g c = omega (arith, c.in_ok-text-in-Replace.ensures.within.0.within, few_pending c.read_text-in-Replace.new.input)
-
-pub returns-in_err-text-in-Replace-clause-failed : goal.returns-in_err-text-in-Replace-clause-failed
-returns-in_err-text-in-Replace-clause-failed g c = λ read.
-    c.in_err-text-in-Replace.ensures.failed (same_error c.from_residual-in_err-text-in-Replace.result c.in_err-text-in-Replace.field-0.0 _ c.from_residual-in_err-text-in-Replace.ensures.1 read)
-
-pub returns-in_err-text-in-Replace-clause-told : goal.returns-in_err-text-in-Replace-clause-told
-returns-in_err-text-in-Replace-clause-told g c = λ write.
-    c.in_err-text-in-Replace.ensures.told (same_error c.from_residual-in_err-text-in-Replace.result c.in_err-text-in-Replace.field-0.0 _ c.from_residual-in_err-text-in-Replace.ensures.1 write)

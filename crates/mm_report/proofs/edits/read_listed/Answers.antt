@@ -1,5 +1,6 @@
-use Rattle.std.proofs.Common.{◌≡◌, ◌<◌, ◌∙◌, ap, arith, false, refl, inl, inr}
+use Rattle.std.proofs.Common.{◌≡◌, ◌<◌, ◌∙◌, ap, arith, false, refl, inl, inr, rules}
 use Rattle.std.specs.Prelude.{slice_range}
+use Rattle.mm_report.specs.declared.script.ScriptError.{ScriptError}
 use Rattle.mm_report.specs.declared.script.ScriptError.TheVariants as errors
 use Rattle.mm_report.specs.Code.Growing.{line_bytes}
 use Rattle.mm_report.specs.Code.Pending.{pending, edit_in}
@@ -8,10 +9,25 @@ use Rattle.mm_report.proofs.GrowLemmas.{blanks_grown, grows_then, not_true, othe
 use Rattle.mm_report.proofs.BatchLemmas.{bad_listed, bad_text, begun_holds, edit_missing, line_cut, line_some, none_left, not_fed, short_cut, short_holds}
 use Rattle.mm_report.proofs.edits.read_listed.Goals as goal
 
-pub returns-in_err-line-clause-read : goal.returns-in_err-line-clause-read
-returns-in_err-line-clause-read g c = λ read n front f count.
-    let begun = c.in_err-line.ensures.read (same_error c.from_residual.result c.in_err-line.field-0.0 _ c.from_residual.ensures.1 read) in
-    begun_holds c.args.input.now c.read_some_line.new.input _ _ n front c.args.from begun.start f c.in_err-line.ensures.grows begun.blanks begun.one_line
+pub returns-in_err-line : goal.returns-in_err-line
+returns-in_err-line g c =
+    let fails = c.in_err-line.ensures in
+    let last = c.from_residual.result in
+    let error = c.in_err-line.field-0.0 in
+    let is = c.from_residual.ensures.1 in
+    let other = λ (e : ScriptError). other_error last _ error errors.Read errors.Memory e is refl fails.told in
+    record {
+      grows = fails.grows;
+      edit = search rules;
+      last = search rules;
+      fewer = search rules;
+      bad = λ bad n front f count. absurd (other _ (λ e. cc) (λ e. cc) bad);
+      cut = λ cut n front f count. absurd (other _ (λ e. cc) (λ e. cc) cut);
+      read = λ read n front f count. let begun = fails.read (same_error last error _ is read) in
+          begun_holds c.args.input.now c.read_some_line.new.input _ _ n front c.args.from begun.start f fails.grows begun.blanks begun.one_line;
+      failed = λ read. fails.failed (same_error last error _ is read);
+      told = λ write. other _ (λ e. cc) (λ e. cc) write;
+    }
 
 pub returns-then-line-clause-cut : goal.returns-then-line-clause-cut
 returns-then-line-clause-cut g c = λ cut n front f count.
@@ -34,35 +50,29 @@ returns-in_default-clause-bad g c = λ cut n front f count.
     } in
     bad_listed c.args.input.now c.read_some_line.new.input _ _ n front c.args.from line f c.in_ok-line.ensures.grows c.in_ok-line.ensures.start is bad
 
-pub returns-in_err-read-clause-grows : goal.returns-in_err-read-clause-grows
-returns-in_err-read-clause-grows g c = grows_then _ _ _ _ _ _ c.in_ok-line.ensures.grows c.in_err-read.ensures.grows
-
-pub returns-in_err-read-clause-bad : goal.returns-in_err-read-clause-bad
-returns-in_err-read-clause-bad g c = λ bad n front f count.
+pub returns-in_err-read : goal.returns-in_err-read
+returns-in_err-read g c =
     let line = c.in_ok-line.line in
-    let blanks = blanks_grown c.read_some_line.new.input c.read_edit.new.input _ _ c.args.from line.start c.in_err-read.ensures.grows c.in_ok-line.ensures.start in
-    let grows = grows_then _ _ _ _ _ _ c.in_ok-line.ensures.grows c.in_err-read.ensures.grows in
-    bad_text c.args.input.now c.read_edit.new.input _ _ n front c.args.from line.start f grows blanks
-    (c.in_err-read.ensures.bad (same_error c.from_residual-in_err-read.result c.in_err-read.field-0.0 _ c.from_residual-in_err-read.ensures.1 bad))
-
-pub returns-in_err-read-clause-cut : goal.returns-in_err-read-clause-cut
-returns-in_err-read-clause-cut g c = λ cut n front f count.
-    let line = c.in_ok-line.line in
-    let blanks = blanks_grown c.read_some_line.new.input c.read_edit.new.input _ _ c.args.from line.start c.in_err-read.ensures.grows c.in_ok-line.ensures.start in
-    let grows = grows_then _ _ _ _ _ _ c.in_ok-line.ensures.grows c.in_err-read.ensures.grows in
-    let ended = c.in_err-read.ensures.cut (same_error c.from_residual-in_err-read.result c.in_err-read.field-0.0 _ c.from_residual-in_err-read.ensures.1 cut) in
-    elim ended.1 [
-      | inl short ↦ short_cut c.args.input.now c.read_edit.new.input _ _ n front c.args.from line.start f grows blanks short ended.0
-      | inr whole ↦ line_cut c.args.input.now c.read_edit.new.input _ _ n front c.args.from line.start f grows blanks whole ended.0
-    ]
-
-pub returns-in_err-read-clause-read : goal.returns-in_err-read-clause-read
-returns-in_err-read-clause-read g c = λ read n front f count.
-    let line = c.in_ok-line.line in
-    let blanks = blanks_grown c.read_some_line.new.input c.read_edit.new.input _ _ c.args.from line.start c.in_err-read.ensures.grows c.in_ok-line.ensures.start in
-    let grows = grows_then _ _ _ _ _ _ c.in_ok-line.ensures.grows c.in_err-read.ensures.grows in
-    short_holds c.args.input.now c.read_edit.new.input _ _ n front c.args.from line.start f grows blanks
-    (c.in_err-read.ensures.read (same_error c.from_residual-in_err-read.result c.in_err-read.field-0.0 _ c.from_residual-in_err-read.ensures.1 read))
+    let fails = c.in_err-read.ensures in
+    let blanks = blanks_grown c.read_some_line.new.input c.read_edit.new.input _ _ c.args.from line.start fails.grows c.in_ok-line.ensures.start in
+    let grows = grows_then _ _ _ _ _ _ c.in_ok-line.ensures.grows fails.grows in
+    let last = c.from_residual-in_err-read.result in
+    let error = c.in_err-read.field-0.0 in
+    let is = c.from_residual-in_err-read.ensures.1 in
+    record {
+      grows = grows;
+      edit = search rules;
+      last = search rules;
+      fewer = search rules;
+      bad = λ bad n front f count. bad_text c.args.input.now c.read_edit.new.input _ _ n front c.args.from line.start f grows blanks (fails.bad (same_error last error _ is bad));
+      cut = λ cut n front f count. let ended = fails.cut (same_error last error _ is cut) in elim ended.1 [
+        | inl short ↦ short_cut c.args.input.now c.read_edit.new.input _ _ n front c.args.from line.start f grows blanks short ended.0
+        | inr whole ↦ line_cut c.args.input.now c.read_edit.new.input _ _ n front c.args.from line.start f grows blanks whole ended.0
+      ];
+      read = λ read n front f count. short_holds c.args.input.now c.read_edit.new.input _ _ n front c.args.from line.start f grows blanks (fails.read (same_error last error _ is read));
+      failed = λ read. fails.failed (same_error last error _ is read);
+      told = λ write. fails.told (same_error last error _ is write);
+    }
 
 pub returns-then-missing-gt1-clause-grows : goal.returns-then-missing-gt1-clause-grows
 returns-then-missing-gt1-clause-grows g c = grows_then _ _ _ _ _ _ c.in_ok-line.ensures.grows c.in_ok-read.ensures.grows
@@ -79,30 +89,6 @@ returns-then-missing-gt1-clause-cut g c = λ cut n front f count.
 
 pub returns-clause-grows : goal.returns-clause-grows
 returns-clause-grows g c = grows_then _ _ _ _ _ _ c.in_ok-line.ensures.grows c.in_ok-read.ensures.grows
-
-pub returns-in_err-line-clause-bad : goal.returns-in_err-line-clause-bad
-returns-in_err-line-clause-bad g c = λ bad n front f count.
-    absurd (other_error c.from_residual.result _ c.in_err-line.field-0.0 errors.Read errors.Memory _ c.from_residual.ensures.1 refl c.in_err-line.ensures.told (λ e. cc) (λ e. cc) bad)
-
-pub returns-in_err-line-clause-cut : goal.returns-in_err-line-clause-cut
-returns-in_err-line-clause-cut g c = λ cut n front f count.
-    absurd (other_error c.from_residual.result _ c.in_err-line.field-0.0 errors.Read errors.Memory _ c.from_residual.ensures.1 refl c.in_err-line.ensures.told (λ e. cc) (λ e. cc) cut)
-
-pub returns-in_err-line-clause-told : goal.returns-in_err-line-clause-told
-returns-in_err-line-clause-told g c = λ write.
-    other_error c.from_residual.result _ c.in_err-line.field-0.0 errors.Read errors.Memory _ c.from_residual.ensures.1 refl c.in_err-line.ensures.told (λ e. cc) (λ e. cc) write
-
-pub returns-in_err-line-clause-failed : goal.returns-in_err-line-clause-failed
-returns-in_err-line-clause-failed g c = λ read.
-    c.in_err-line.ensures.failed (same_error c.from_residual.result c.in_err-line.field-0.0 _ c.from_residual.ensures.1 read)
-
-pub returns-in_err-read-clause-failed : goal.returns-in_err-read-clause-failed
-returns-in_err-read-clause-failed g c = λ read.
-    c.in_err-read.ensures.failed (same_error c.from_residual-in_err-read.result c.in_err-read.field-0.0 _ c.from_residual-in_err-read.ensures.1 read)
-
-pub returns-in_err-read-clause-told : goal.returns-in_err-read-clause-told
-returns-in_err-read-clause-told g c = λ write.
-    c.in_err-read.ensures.told (same_error c.from_residual-in_err-read.result c.in_err-read.field-0.0 _ c.from_residual-in_err-read.ensures.1 write)
 
 pub returns-clause-fewer : goal.returns-clause-fewer
 returns-clause-fewer g c = omega (arith, c.in_ok-line.ensures.fewer, c.in_ok-read.ensures.fewer)

@@ -1,6 +1,7 @@
-use Rattle.std.proofs.Common.{◌≡◌, ◌∙◌, ap, sym, refl, subst, arith, length, drop, ◌≤◌}
+use Rattle.std.proofs.Common.{◌≡◌, ◌∙◌, ap, sym, refl, subst, arith, length, drop, rules, ◌≤◌}
 use Rattle.std.proofs.lemmas.List.{length-drop}
 use Rattle.std.specs.Prelude.{slice_range}
+use Rattle.mm_report.specs.declared.script.ScriptError.{ScriptError}
 use Rattle.mm_report.specs.declared.script.ScriptError.TheVariants as errors
 use Rattle.mm_report.specs.Code.Pending.{pending}
 use Rattle.mm_report.proofs.GrowLemmas.{feed_behind, grown_long, grows_not, grows_then, other_byte, other_error, rest_is, same_error}
@@ -29,32 +30,25 @@ returns-in-Some-clause-feed g c =
     let is : hay ≡ drop c.args.start (pending c.loop-byte.input) = rest_is c.pending.result.now c.args.start ∙ ap (drop c.args.start) c.pending.ensures in
     feed_behind (pending c.loop-byte.input) hay c.args.start c.args.count c.in-Some.byte.now is (omega (arith, c.in-Some.ensures.lookup)) c.in-Some.ensures.lookup.1 c.if-byte-ne10.false
 
-pub returns-in_err-read_on-clause-grows : goal.returns-in_err-read_on-clause-grows
-returns-in_err-read_on-clause-grows g c = grows_then _ _ _ _ _ _ c.loop-byte.invariant.grows c.in_err-read_on.ensures.grows
-
-pub returns-in_err-read_on-clause-bad : goal.returns-in_err-read_on-clause-bad
-returns-in_err-read_on-clause-bad g c = λ bad.
-    absurd (other_error c.from_residual.result _ c.in_err-read_on.field-0.0 errors.Read errors.Memory _ c.from_residual.ensures.1 refl c.in_err-read_on.ensures.told (λ e. cc) (λ e. cc) bad)
-
-pub returns-in_err-read_on-clause-cut : goal.returns-in_err-read_on-clause-cut
-returns-in_err-read_on-clause-cut g c = λ cut.
-    absurd (other_error c.from_residual.result _ c.in_err-read_on.field-0.0 errors.Read errors.Memory _ c.from_residual.ensures.1 refl c.in_err-read_on.ensures.told (λ e. cc) (λ e. cc) cut)
-
-pub returns-in_err-read_on-clause-read : goal.returns-in_err-read_on-clause-read
-returns-in_err-read_on-clause-read g c = λ read.
+pub returns-in_err-read_on : goal.returns-in_err-read_on
+returns-in_err-read_on g c =
+    let fails = c.in_err-read_on.ensures in
     let bytes = pending c.loop-byte.input in
     let hay = slice_range c.pending.result.now c.args.start (length c.pending.result.now) in
     let is : hay ≡ drop c.args.start bytes = rest_is c.pending.result.now c.args.start ∙ ap (drop c.args.start) c.pending.ensures in
     let few : length (drop c.args.start bytes) ≤ c.args.count = omega (arith, ap length is, c.in_default.ensures.lookup) in
-    subst (λ xs. length (drop c.args.start xs) ≤ c.args.count) (sym c.in_err-read_on.ensures.kept) few
-
-pub returns-in_err-read_on-clause-failed : goal.returns-in_err-read_on-clause-failed
-returns-in_err-read_on-clause-failed g c = λ read.
-    c.in_err-read_on.ensures.failed (same_error c.from_residual.result c.in_err-read_on.field-0.0 _ c.from_residual.ensures.1 read)
-
-pub returns-in_err-read_on-clause-told : goal.returns-in_err-read_on-clause-told
-returns-in_err-read_on-clause-told g c = λ write.
-    other_error c.from_residual.result _ c.in_err-read_on.field-0.0 errors.Read errors.Memory _ c.from_residual.ensures.1 refl c.in_err-read_on.ensures.told (λ e. cc) (λ e. cc) write
+    let other = λ (error : ScriptError). other_error c.from_residual.result _ c.in_err-read_on.field-0.0 errors.Read errors.Memory error c.from_residual.ensures.1 refl fails.told in
+    record {
+      grows = grows_then _ _ _ _ _ _ c.loop-byte.invariant.grows fails.grows;
+      within = search rules;
+      feed = search rules;
+      fewer = search rules;
+      bad = λ bad. absurd (other _ (λ e. cc) (λ e. cc) bad);
+      cut = λ cut. absurd (other _ (λ e. cc) (λ e. cc) cut);
+      read = λ read. subst (λ xs. length (drop c.args.start xs) ≤ c.args.count) (sym fails.kept) few;
+      failed = λ read. fails.failed (same_error c.from_residual.result c.in_err-read_on.field-0.0 _ c.from_residual.ensures.1 read);
+      told = λ write. other _ (λ e. cc) (λ e. cc) write;
+    }
 
 pub returns-then-not-branch-clause-grows : goal.returns-then-not-branch-clause-grows
 returns-then-not-branch-clause-grows g c = grows_then _ _ _ _ _ _ c.loop-byte.invariant.grows c.in_ok-read_on.ensures.grows

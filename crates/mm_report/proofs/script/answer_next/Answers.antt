@@ -43,7 +43,7 @@ returns-clause-ok g c begun all before so =
     let passed : c.in-Some.next.fed ≡ true → pending c.if-next.input ≡ drop c.in-Some.next.end (pending next.new.input) =
     elim c.if-next.branch [
       | then-next w ↦ λ fed. ap pending w.input-is ∙ w.pass.ensures
-      | else-next w ↦ λ fed. let no = w.if-next in cc
+      | else-next w ↦ λ fed. cc
     ] in
     goes_on g.R.Read.remaining g.W.Write.contents begun c.args.session.now all before next.new.input next.new.reading c.args.writing.now c.in-Some.next is c.answer.new.session c.answer.new.to c.if-next.input had
     (c.in_ok-answer.ensures is.command command).ok passed

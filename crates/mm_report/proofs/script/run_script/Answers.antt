@@ -1,4 +1,5 @@
-use Rattle.std.proofs.Common.{List, ℕ, sym, subst}
+use Rattle.std.proofs.Common.{List, ℕ, sym, subst, rules}
+use Rattle.mm_report.specs.declared.script.ScriptError.{ScriptError}
 use Rattle.mm_report.specs.declared.script.ScriptError.TheVariants as errors
 use Rattle.mm_report.specs.Code.Answered.{HasAnswered, StopsScript}
 use Rattle.mm_report.specs.Language.Stream.{unread, written}
@@ -12,68 +13,25 @@ loop-input-init g c =
     let before = written g.W.Write.contents c.args.writing.now in
     subst (λ (bytes : List ℕ). HasAnswered session session all all before before bytes) (sym c.new-input.ensures) (none_answered session all before)
 
-pub returns-in_err-answer_next-clause-bad : goal.returns-in_err-answer_next-clause-bad
-returns-in_err-answer_next-clause-bad g c e =
+pub returns-in_err-answer_next : goal.returns-in_err-answer_next
+returns-in_err-answer_next g c =
     let all = unread g.R.Read.remaining c.args.reading.now in
     let before = written g.W.Write.contents c.args.writing.now in
     let next = c.answer_next.new in
     let P = StopsScript g.R.Read.remaining g.W.Write.contents c.args.session.now next.session all next.reading before next.writing in
-    let fails = if_err_is c.from_residual.result P c.in_err-answer_next.field-0.0 c.from_residual.ensures.1 (c.in_err-answer_next.ensures.err c.args.session.now all before c.loop-input.invariant) in
-    when_err c.from_residual.result P errors.BadLine fails e
-
-pub returns-in_err-answer_next-clause-cut : goal.returns-in_err-answer_next-clause-cut
-returns-in_err-answer_next-clause-cut g c e =
-    let all = unread g.R.Read.remaining c.args.reading.now in
-    let before = written g.W.Write.contents c.args.writing.now in
-    let next = c.answer_next.new in
-    let P = StopsScript g.R.Read.remaining g.W.Write.contents c.args.session.now next.session all next.reading before next.writing in
-    let fails = if_err_is c.from_residual.result P c.in_err-answer_next.field-0.0 c.from_residual.ensures.1 (c.in_err-answer_next.ensures.err c.args.session.now all before c.loop-input.invariant) in
-    when_err c.from_residual.result P errors.Cut fails e
-
-pub returns-in_err-answer_next-clause-read : goal.returns-in_err-answer_next-clause-read
-returns-in_err-answer_next-clause-read g c e =
-    let all = unread g.R.Read.remaining c.args.reading.now in
-    let before = written g.W.Write.contents c.args.writing.now in
-    let next = c.answer_next.new in
-    let P = StopsScript g.R.Read.remaining g.W.Write.contents c.args.session.now next.session all next.reading before next.writing in
-    let fails = if_err_is c.from_residual.result P c.in_err-answer_next.field-0.0 c.from_residual.ensures.1 (c.in_err-answer_next.ensures.err c.args.session.now all before c.loop-input.invariant) in
-    (when_err c.from_residual.result P errors.Read fails e).0
-
-pub returns-in_err-answer_next-clause-read_failed : goal.returns-in_err-answer_next-clause-read_failed
-returns-in_err-answer_next-clause-read_failed g c e =
-    let all = unread g.R.Read.remaining c.args.reading.now in
-    let before = written g.W.Write.contents c.args.writing.now in
-    let next = c.answer_next.new in
-    let P = StopsScript g.R.Read.remaining g.W.Write.contents c.args.session.now next.session all next.reading before next.writing in
-    let fails = if_err_is c.from_residual.result P c.in_err-answer_next.field-0.0 c.from_residual.ensures.1 (c.in_err-answer_next.ensures.err c.args.session.now all before c.loop-input.invariant) in
-    (when_err c.from_residual.result P errors.Read fails e).1
-
-pub returns-in_err-answer_next-clause-write : goal.returns-in_err-answer_next-clause-write
-returns-in_err-answer_next-clause-write g c e =
-    let all = unread g.R.Read.remaining c.args.reading.now in
-    let before = written g.W.Write.contents c.args.writing.now in
-    let next = c.answer_next.new in
-    let P = StopsScript g.R.Read.remaining g.W.Write.contents c.args.session.now next.session all next.reading before next.writing in
-    let fails = if_err_is c.from_residual.result P c.in_err-answer_next.field-0.0 c.from_residual.ensures.1 (c.in_err-answer_next.ensures.err c.args.session.now all before c.loop-input.invariant) in
-    (when_err c.from_residual.result P errors.Write fails e).0
-
-pub returns-in_err-answer_next-clause-write_failed : goal.returns-in_err-answer_next-clause-write_failed
-returns-in_err-answer_next-clause-write_failed g c e =
-    let all = unread g.R.Read.remaining c.args.reading.now in
-    let before = written g.W.Write.contents c.args.writing.now in
-    let next = c.answer_next.new in
-    let P = StopsScript g.R.Read.remaining g.W.Write.contents c.args.session.now next.session all next.reading before next.writing in
-    let fails = if_err_is c.from_residual.result P c.in_err-answer_next.field-0.0 c.from_residual.ensures.1 (c.in_err-answer_next.ensures.err c.args.session.now all before c.loop-input.invariant) in
-    (when_err c.from_residual.result P errors.Write fails e).1
-
-pub returns-in_err-answer_next-clause-memory : goal.returns-in_err-answer_next-clause-memory
-returns-in_err-answer_next-clause-memory g c e =
-    let all = unread g.R.Read.remaining c.args.reading.now in
-    let before = written g.W.Write.contents c.args.writing.now in
-    let next = c.answer_next.new in
-    let P = StopsScript g.R.Read.remaining g.W.Write.contents c.args.session.now next.session all next.reading before next.writing in
-    let fails = if_err_is c.from_residual.result P c.in_err-answer_next.field-0.0 c.from_residual.ensures.1 (c.in_err-answer_next.ensures.err c.args.session.now all before c.loop-input.invariant) in
-    when_err c.from_residual.result P errors.Memory fails e
+    let fails = if_err_is c.from_residual.result P c.in_err-answer_next.field-0.0 c.from_residual.ensures.1
+    (c.in_err-answer_next.ensures.err c.args.session.now all before c.loop-input.invariant) in
+    let stops = λ (error : ScriptError). when_err c.from_residual.result P error fails in
+    record {
+      done = search rules;
+      bad = stops errors.BadLine;
+      cut = stops errors.Cut;
+      read = λ e. (stops errors.Read e).0;
+      read_failed = λ e. (stops errors.Read e).1;
+      write = λ e. (stops errors.Write e).0;
+      write_failed = λ e. (stops errors.Write e).1;
+      memory = stops errors.Memory;
+    }
 
 pub loop-input-preserved : goal.loop-input-preserved
 loop-input-preserved g c =
