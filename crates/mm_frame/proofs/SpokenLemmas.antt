@@ -3,14 +3,14 @@ use Rattle.std.proofs.Common.{◌≡◌, ℕ, zero, suc, ◌+◌, ◌<◌, ◌�
 use Rattle.std.specs.Prelude.{slice_get, is_some, MatchOption}
 use Rattle.std.specs.Option.{option_map}
 use Rattle.std.specs.List.{AllByRecursion, flat_map, prefix_len}
-use Rattle.std.proofs.lemmas.List.{drop-map, drop-drop, take-map, append-nil, length-drop, length-take}
+use Rattle.std.proofs.lemmas.List.{drop-map, drop-drop, take-map, append-nil, length-drop, length-map, length-take}
 use Rattle.std.proofs.lemmas.Simd.{map-map}
 use Rattle.mm_store.specs.mm_text.declared.word.Word.{Word}
 use Rattle.mm_store.specs.mm_text.declared.word.WordKind.TheVariants.{Plain}
 use Rattle.mm_store.specs.mm_text.Language.WordsLeft.{SkipsPlainWords}
 use Rattle.mm_store.specs.mm_text.Language.Unit.{Token, token_of, tokens_of, spellings}
 use Rattle.mm_frame.specs.Language.Item.{Kind, Item, is_labelled}
-use Rattle.mm_frame.specs.Code.PlainWords.{TakesLabel, word_bytes, plain_words, plain_bytes}
+use Rattle.mm_frame.specs.Code.PlainWords.{AreFew, TakesLabel, word_bytes, plain_words, plain_bytes}
 use Rattle.mm_frame.specs.Language.Statement.{is_plain_kind, is_plain, token_names, plain_from, symbols_from, symbols_in, proof_in, label_in, item_of}
 
 prefix_len-map : {X Y : Type 0} (f : X → Y) (p : Y → Bool) (xs : List X) → prefix_len p (map f xs) ≡ prefix_len (λ x. p (f x)) xs
@@ -142,6 +142,11 @@ pub record Reads (kind : Kind) (words : List Word) (label : Option Word) (symbol
   pub keyword : first ≡ drop 1 behind
   pub all : AllSymbols first rest symbols
 
+-- so they are where the symbols are passed over
+pub passed : (kind : Kind) (words : List Word) (label : Option Word) (behind first rest : List Word) → TakesLabel (is_labelled kind) words label behind → first ≡ drop 1 behind
+    → rest ≡ drop (length (plain_words first) + 1) first → Reads kind words label (plain_words first) rest
+passed kind words label behind first rest takes keyword after = record { behind = behind; takes = takes; first = first; keyword = keyword; all = record { are = refl; rest = after } }
+
 pub item_read : (kind : Kind) (text : List ℕ) (words : List Word) (label : Option Word) (symbols rest : List Word) → Reads kind words label symbols rest
     → ◌≡◌ {A = Item} (record { kind = kind; label = option_map (word_bytes text) label; symbols = map (word_bytes text) symbols; proof = plain_bytes text rest }) (item_of kind (tokens_of text words))
 item_read kind text words label symbols rest h =
@@ -197,6 +202,9 @@ module _ (text : List ℕ) (words : List Word) where
   pub proof_some : AreSome (spellings text words) → AreSome (plain_bytes text words)
   proof_some h = subst AreSome proof_spelled (some_before (prefix_len (λ (w : Word). is_plain_kind w.kind) words) (spellings text words) h)
 
+  pub proof_few : length (plain_bytes text words) ≤ length words
+  proof_few = omega (arith, length-map (plain_words words) (word_bytes text), length-take (prefix_len (λ (w : Word). is_plain_kind w.kind) words) words)
+
   pub proof_bytes : bytes_of (plain_bytes text words) ≤ bytes_of (spellings text words)
   proof_bytes = subst (λ names. bytes_of names ≤ bytes_of (spellings text words)) proof_spelled (bytes_before (prefix_len (λ (w : Word). is_plain_kind w.kind) words) (spellings text words))
 
@@ -224,3 +232,7 @@ module _ (text : List ℕ) (kind : Kind) (words : List Word) (label : Option Wor
       let first = ap length (h.keyword ∙ behind_label (is_labelled kind) words h.behind label h.takes) ∙ length-drop (symbols_from kind) words in
       let plain : n ≤ length h.first = omega (arith, length-take (prefix_len (λ (w : Word). is_plain_kind w.kind) h.first) h.first) in
       omega (arith, first, plain, ap length h.all.are, ap length h.all.rest, length-drop (n + 1) h.first)
+
+-- behind the first word there are few
+pub few_more : (word : List ℕ) (words : List (List ℕ)) → AreFew (word ∷ words) → AreFew words
+few_more word words few = record { few = omega (arith, few.few); some = few.some.1; bytes = omega (arith, few.bytes, length-append word (flat_map (λ (w : List ℕ). w) words)) }

@@ -1,7 +1,8 @@
 //! The words of a proof.
 
-ghost use Rattle.std.specs.Prelude.{◌≡◌, ◌∷◌, [], MatchOption};
-ghost use Rattle.mm_frame.specs.Code.PlainWords.{plain_bytes};
+ghost use Rattle.std.specs.Prelude.{◌≡◌, ◌<◌, ◌≤◌, ◌∷◌, [], MatchOption, length};
+ghost use Rattle.std.specs.List.{AllByRecursion, flat_map};
+ghost use Rattle.mm_frame.specs.Code.PlainWords.{AreFew, plain_bytes};
 
 use crate::statement::{bytes_of, is_plain};
 use mm_store::WordCursor;
@@ -29,10 +30,25 @@ impl<'a> Model for ProofWords<'a> {
 impl<'a> ProofWords<'a> {
     /// The words up to the next keyword.
     pub(crate) fn new(text: &'a [u8], cursor: WordCursor<'a>) -> Self
-        requires { cursor.text ≡ text.now }
+        requires text { cursor.text ≡ text.now }
+        requires few { AreFew (plain_bytes text.now cursor.words) }
         ensures { result ≡ plain_bytes text.now cursor.entry.words }
     {
         ProofWords { text, cursor }
+    }
+
+    /// The same words once more, from the one on that is next here: at most 4,294,967,295. Each has a byte at least, and
+    /// together they have at most 4,294,967,295.
+    pub fn again(&self) -> ProofWords<'a>
+        ensures words { result ≡ self.now }
+        ensures few { length self.now ≤ 4294967295 }
+        ensures some { AllByRecursion (λ word. 0 < length word) self.now }
+        ensures bytes { length (flat_map (λ word. word) self.now) ≤ 4294967295 }
+    {
+        ProofWords {
+            text: self.text,
+            cursor: self.cursor.again(),
+        }
     }
 
     /// Goes on by a word, and gives it; `None` where no word is left.

@@ -12,7 +12,6 @@ use Rattle.mm_frame.specs.declared.base.Resolved.TheVariants as answers
 use Rattle.mm_frame.specs.Language.Base.{BaseView, before, said_at, is_framed_at}
 use Rattle.mm_frame.specs.Language.Frame.{Symbol, Setting}
 use Rattle.mm_frame.specs.Language.Framing.{mandatory_numbers}
-use Rattle.mm_frame.specs.Language.Item.{Item}
 use Rattle.mm_frame.specs.Language.Answering.{IsBase}
 use Rattle.mm_proof.specs.Language.BaseLabels.{AreActive, setting_at}
 use Rattle.mm_proof.specs.Language.Decoding.{decoding}
@@ -88,19 +87,19 @@ saved_before place view labels steps decoded n step at = by_action step.action r
 -- ---- what decodes
 
 -- what decoding says of these hypotheses, it says of the mandatory ones
-pub decoded : (code : Base) (i : ℕ) (item : Item) (d : Decoding) (numbers : List ℕ) (view : BaseView) → IsTheorem code i item view →
+pub decoded : (code : Base) (i : ℕ) (proof : List (List ℕ)) (d : Decoding) (numbers : List ℕ) (view : BaseView) → IsTheorem code i proof view →
     ((v : BaseView) → IsBase v code → is_framed_at v i ≡ true → numbers ≡ mandatory_numbers (before v i) (said_at v i)) → AreActive view i (mandatory_numbers (before view i) (said_at view i)) →
-    WhereActive code i numbers (λ v. decoding_of v i numbers item.proof ≡ Ok (decoded_steps v d item.proof)) → WhereActive code i numbers (λ v. AreEntries v i d.labels.items) →
-    WhereActive code i numbers (λ v. entry_steps v d.labels.items ≡ label_table (labels_at v numbers) item.proof) → IsDecoding code i item d view
-decoded code i item d numbers view theorem mandatory active ok entries table =
+    WhereActive code i numbers (λ v. decoding_of v i numbers proof ≡ Ok (decoded_steps v d proof)) → WhereActive code i numbers (λ v. AreEntries v i d.labels.items) →
+    WhereActive code i numbers (λ v. entry_steps v d.labels.items ≡ label_table (labels_at v numbers) proof) → IsDecoding code i proof d view
+decoded code i proof d numbers view theorem mandatory active ok entries table =
     let are = mandatory view theorem.base (framed_proof view i theorem.is_sound) in
     let there = subst (λ (ns : List ℕ). AreActive view i ns) (sym are) active in
     record {
       theorem = theorem;
-      decodes = ap (λ (it : Item). decoding (setting_at view i) (labels_at view (mandatory_numbers (before view i) (said_at view i))) it.proof) theorem.says
-          ∙ ap (λ (ns : List ℕ). decoding (setting_at view i) (labels_at view ns) item.proof) (sym are) ∙ ok view theorem.base there;
+      decodes = ap (λ (words : List (List ℕ)). decoding (setting_at view i) (labels_at view (mandatory_numbers (before view i) (said_at view i))) words) theorem.says
+          ∙ ap (λ (ns : List ℕ). decoding (setting_at view i) (labels_at view ns) proof) (sym are) ∙ ok view theorem.base there;
       entries = entries view theorem.base there;
-      table = table view theorem.base there ∙ ap (λ (ns : List ℕ). label_table (labels_at view ns) item.proof) are;
+      table = table view theorem.base there ∙ ap (λ (ns : List ℕ). label_table (labels_at view ns) proof) are;
     }
 
 -- ---- steps that are done

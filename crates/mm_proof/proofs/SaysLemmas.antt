@@ -33,6 +33,6 @@ read_at names files code n item has e = (says_at names files code has.0 n item h
 
 -- the theorem that it is
 pub theorem_at :
-    (names : List (List ℕ)) (files : FilesView) (code : Base) (n : ℕ) (item : store.Item) (said : Item) (view : BaseView) → IsReadIn names files code view → is_proof_at view n ≡ true →
-    slice_get view.found n ≡ Some item → ((other : Item) → Says files item other → said ≡ other) → IsTheorem code n said view
-theorem_at names files code n item said view is proof at only = record { base = (names, is.base); said = (files, is.each); is_sound = proof; says = sym (only (said_at view n) (says_at names files code view n item is at)) }
+    (names : List (List ℕ)) (files : FilesView) (code : Base) (n : ℕ) (item : store.Item) (proof : List (List ℕ)) (view : BaseView) → IsReadIn names files code view → is_proof_at view n ≡ true →
+    slice_get view.found n ≡ Some item → ((other : Item) → Says files item other → proof ≡ other.proof) → IsTheorem code n proof view
+theorem_at names files code n item proof view is sound at only = record { base = (names, is.base); said = (files, is.each); is_sound = sound; says = sym (only (said_at view n) (says_at names files code view n item is at)) }

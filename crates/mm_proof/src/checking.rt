@@ -10,7 +10,7 @@ ghost use Rattle.mm_proof.specs.Language.Verdict.{IsVerdictOnSteps};
 ghost use Rattle.mm_proof.specs.Language.VerdictAt.{IsVerdictAt, AreDoneAt, cites_at, statement_at};
 ghost use Rattle.mm_frame.specs.Language.Frame.{Symbol, Setting};
 ghost use Rattle.mm_proof.specs.Language.DecodedSteps.{decoded_steps};
-ghost use Rattle.mm_proof.specs.Code.Judged.{HasDecoding, HasStatement, IsOutcomeWithin, OfDecoding, OfStatement, done_by};
+ghost use Rattle.mm_proof.specs.Code.Judged.{HasDecoding, HasProof, IsOutcomeWithin, OfDecoding, OfProof, done_by};
 ghost use Rattle.mm_proof.specs.Language.ReadIn.{HasTheorem, OfTheorem};
 ghost use Rattle.mm_proof.specs.Code.Tasks.{RunSays};
 ghost use Rattle.mm_proof.specs.declared.step.Undecoded.TheVariants as errors;
@@ -26,7 +26,9 @@ use crate::stepping::{Outcome, run};
 use crate::used::labels_used;
 use crate::work::{Checked, Scratch, Work};
 use crate::{ProofNumber, Spot, Verdict};
-use mm_frame::{Base, Files, Names, NumberedSymbol, ProofWords, Statement, places_have_frames};
+use mm_frame::{
+    Base, Files, Names, NumberedSymbol, ProofWords, places_have_frames, words_of_proof,
+};
 use std::alloc::{AllocError, Global};
 use std::mem;
 
@@ -99,13 +101,13 @@ fn run_steps(
     keys: usize,
     base: &Base,
     i: usize,
-    statement: &Statement,
+    proof: &ProofWords,
     decoding: &Decoding,
 ) -> Result<Outcome, AllocError>
-    requires { HasDecoding base.now i statement.now decoding.now }
+    requires { HasDecoding base.now i proof.now decoding.now }
     ensures within { IfOk result (IsOutcomeWithin (length decoding.now.steps.items)) }
-    ensures says { IfOk result (λ outcome. OfDecoding base.now i statement.now decoding.now (λ view.
-        RunSays (setting_at view i) (decoded_steps view decoding.now statement.now.proof).steps (statement_at view i) outcome)) }
+    ensures says { IfOk result (λ outcome. OfDecoding base.now i proof.now decoding.now (λ view.
+        RunSays (setting_at view i) (decoded_steps view decoding.now proof.now).steps (statement_at view i) outcome)) }
 {
     places_have_frames();
     decodes_surely();
@@ -133,23 +135,23 @@ fn judge_steps(
     keys: usize,
     base: &Base,
     i: usize,
-    statement: &Statement,
+    proof: &ProofWords,
     decoding: &Decoding,
 ) -> Result<(Checked, u64), AllocError>
-    requires { HasDecoding base.now i statement.now decoding.now }
-    ensures verdict { IfOk result (λ judged. OfDecoding base.now i statement.now decoding.now (λ view. IsVerdictAt view i judged.0.verdict)) }
-    ensures cites { IfOk result (λ judged. OfDecoding base.now i statement.now decoding.now (λ view. judged.0.cites ≡ cites_at view i)) }
-    ensures done { IfOk result (λ judged. OfDecoding base.now i statement.now decoding.now (λ view. AreDoneAt view i judged.1)) }
+    requires { HasDecoding base.now i proof.now decoding.now }
+    ensures verdict { IfOk result (λ judged. OfDecoding base.now i proof.now decoding.now (λ view. IsVerdictAt view i judged.0.verdict)) }
+    ensures cites { IfOk result (λ judged. OfDecoding base.now i proof.now decoding.now (λ view. judged.0.cites ≡ cites_at view i)) }
+    ensures done { IfOk result (λ judged. OfDecoding base.now i proof.now decoding.now (λ view. AreDoneAt view i judged.1)) }
     ensures few { IfOk result (λ judged. judged.1 ≤ 4294967295) }
 {
     decodes_short();
     labels_are_own();
     scratch.widen(base.count())?;
     let hypotheses = mandatory(base, i).len();
-    let cites = cites(alloc, &mut scratch.marks, decoding, hypotheses, statement)?;
-    let outcome = run_steps(alloc, &mut *scratch, keys, base, i, statement, decoding)?;
+    let cites = cites(alloc, &mut scratch.marks, decoding, hypotheses, proof)?;
+    let outcome = run_steps(alloc, &mut *scratch, keys, base, i, proof, decoding)?;
     let done = done(outcome, decoding.steps.len());
-    let verdict = verdict(outcome, decoding, statement.proof());
+    let verdict = verdict(outcome, decoding, proof.again());
     Ok((Checked::new(verdict, cites), done as u64))
 }
 
@@ -160,20 +162,20 @@ fn judge(
     keys: usize,
     base: &Base,
     i: usize,
-    statement: &Statement,
+    proof: &ProofWords,
 ) -> Result<(Checked, u64), AllocError>
-    requires { HasStatement base.now i statement.now }
-    ensures verdict { IfOk result (λ judged. OfStatement base.now i statement.now (λ view. IsVerdictAt view i judged.0.verdict)) }
-    ensures cites { IfOk result (λ judged. OfStatement base.now i statement.now (λ view. judged.0.cites ≡ cites_at view i)) }
-    ensures done { IfOk result (λ judged. OfStatement base.now i statement.now (λ view. AreDoneAt view i judged.1)) }
+    requires { HasProof base.now i proof.now }
+    ensures verdict { IfOk result (λ judged. OfProof base.now i proof.now (λ view. IsVerdictAt view i judged.0.verdict)) }
+    ensures cites { IfOk result (λ judged. OfProof base.now i proof.now (λ view. judged.0.cites ≡ cites_at view i)) }
+    ensures done { IfOk result (λ judged. OfProof base.now i proof.now (λ view. AreDoneAt view i judged.1)) }
     ensures few { IfOk result (λ judged. judged.1 ≤ 4294967295) }
 {
     mandatory_are_active();
     let mandatory = mandatory(base, i);
     let room = mem::replace(&mut scratch.decoding, Decoding::new(alloc));
-    match decode(base, i, mandatory, statement, room) {
+    match decode(base, i, mandatory, proof, room) {
         Ok(decoding) => {
-            let judged = judge_steps(alloc, &mut *scratch, keys, base, i, statement, &decoding)?;
+            let judged = judge_steps(alloc, &mut *scratch, keys, base, i, proof, &decoding)?;
             scratch.decoding = decoding;
             Ok(judged)
         }
@@ -216,9 +218,9 @@ pub fn check(
 
     ensures memory { OnErr result (work.new ≡ work.old) }
 {
-    let statement = Statement::read(alloc, files, base.item(i))?;
+    let proof = words_of_proof(files, base.item(i));
     let mut scratch = work.lend(alloc);
-    let (checked, done) = judge(alloc, &mut scratch, names.count(), base, i, &statement)?;
+    let (checked, done) = judge(alloc, &mut scratch, names.count(), base, i, &proof)?;
     work.keep(scratch)?;
     work.record(i, done)?;
     Ok(checked)

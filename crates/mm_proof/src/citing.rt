@@ -12,7 +12,7 @@ ghost use Rattle.mm_proof.specs.Language.DecodedSteps.{decoded_steps, AreEntries
 
 use crate::reading::{Decoding, is_compressed};
 use crate::step::{Action, ProofStep};
-use mm_frame::{Resolved, Statement};
+use mm_frame::{ProofWords, Resolved};
 use std::alloc::{AllocError, Global};
 
 /// The assertion that an action names, if it names one.
@@ -119,21 +119,21 @@ fn cited(
 }
 
 /// The numbers of the words of a proof that cite: for each assertion that a decoded step names, the first word that is
-/// its label. They rise. It takes the decoding of the proof, and how many mandatory hypotheses there are. It marks
-/// assertions by their numbers; the marks that are there do not count.
+/// its label. They rise. It takes the words of the proof, its decoding, and how many mandatory hypotheses there are. It
+/// marks assertions by their numbers; the marks that are there do not count.
 pub fn cites(
     alloc: Global,
     marks: &mut Vec<bool>,
     decoding: &Decoding,
     mandatory: usize,
-    statement: &Statement,
+    proof: &ProofWords,
 ) -> Result<Vec<usize>, AllocError>
     ensures { IfOk result (λ words. (view : BaseView) (i : ℕ) (numbers : List ℕ) → NoLabelTwice view → length numbers ≡ mandatory →
         AreEntries view i decoding.now.labels.items →
-        entry_steps view decoding.now.labels.items ≡ label_table (labels_at view numbers) statement.now.proof →
-        words.items ≡ cited_words (setting_at view i) statement.now.proof (decoded_steps view decoding.now statement.now.proof).steps) }
+        entry_steps view decoding.now.labels.items ≡ label_table (labels_at view numbers) proof.now →
+        words.items ≡ cited_words (setting_at view i) proof.now (decoded_steps view decoding.now proof.now).steps) }
 {
-    if is_compressed(statement) {
+    if is_compressed(proof) {
         cited(alloc, &mut *marks, decoding, mandatory, 1)
     } else {
         cited(alloc, &mut *marks, decoding, 0, 0)

@@ -18,7 +18,7 @@ use crate::Spot;
 use crate::labels::{read_label, read_list};
 use crate::letters::read_letters;
 use crate::step::{Action, ProofStep, Undecoded};
-use mm_frame::{Base, Resolved, Statement};
+use mm_frame::{Base, ProofWords, Resolved};
 use std::alloc::{AllocError, Global};
 
 /// The steps of a proof, and what the labels that they name mean.
@@ -58,20 +58,20 @@ fn decode_compressed(
     base: &Base,
     i: usize,
     mandatory: &[usize],
-    statement: &Statement,
+    proof: &ProofWords,
     room: Decoding,
 ) -> Result<Decoding, Undecoded>
-    requires { is_compressed_lem statement.now.proof ≡ true }
+    requires { is_compressed_lem proof.now ≡ true }
     ensures ok { IfOk result (λ d. WhereActive base.now i mandatory.now (λ view.
-        compressed_at view i mandatory.now statement.now.proof ≡ Ok (steps_by view d))) }
+        compressed_at view i mandatory.now proof.now ≡ Ok (steps_by view d))) }
     ensures entries { IfOk result (λ d. WhereActive base.now i mandatory.now (λ view. AreEntries view i d.labels.items)) }
     ensures table { IfOk result (λ d. WhereActive base.now i mandatory.now (λ view.
-        entry_steps view d.labels.items ≡ listed_table view mandatory.now statement.now.proof)) }
+        entry_steps view d.labels.items ≡ listed_table view mandatory.now proof.now)) }
     ensures err { IfErr result (λ e. WhereActive base.now i mandatory.now (λ view.
-        TellsSteps e (compressed_at view i mandatory.now statement.now.proof))) }
+        TellsSteps e (compressed_at view i mandatory.now proof.now))) }
 {
     let mut labels = hypotheses(room.labels, mandatory)?;
-    let mut words = statement.proof();
+    let mut words = proof.again();
     let _open = words.next_word();
     let close = read_list(base, i, &mut words, &mut labels)?;
     let steps = read_letters(room.steps, &mut words, close + 1, labels.len())?;
@@ -104,19 +104,19 @@ fn read_word(base: &Base, i: usize, word: &[u8], n: usize) -> Result<(Resolved, 
 fn decode_normal(
     base: &Base,
     i: usize,
-    statement: &Statement,
+    proof: &ProofWords,
     room: Decoding,
 ) -> Result<Decoding, Undecoded>
-    ensures ok { IfOk result (λ d. InViews base.now (λ view. normal_at view i statement.now.proof ≡ Ok (steps_by view d))) }
+    ensures ok { IfOk result (λ d. InViews base.now (λ view. normal_at view i proof.now ≡ Ok (steps_by view d))) }
     ensures entries { IfOk result (λ d. InViews base.now (λ view. AreEntries view i d.labels.items)) }
-    ensures table { IfOk result (λ d. InViews base.now (λ view. entry_steps view d.labels.items ≡ map word_step statement.now.proof)) }
-    ensures err { IfErr result (λ e. InViews base.now (λ view. TellsSteps e (normal_at view i statement.now.proof))) }
+    ensures table { IfOk result (λ d. InViews base.now (λ view. entry_steps view d.labels.items ≡ map word_step proof.now)) }
+    ensures err { IfErr result (λ e. InViews base.now (λ view. TellsSteps e (normal_at view i proof.now))) }
 {
     let mut labels = room.labels;
     labels.clear();
     let mut steps = room.steps;
     steps.clear();
-    let mut words = statement.proof();
+    let mut words = proof.again();
     let mut n = 0;
     while let Some(word) = words.next_word() {
         let (label, action) = read_word(base, i, word, n)?;
@@ -138,17 +138,18 @@ pub fn is_open(word: &[u8]) -> bool
 }
 
 /// Whether the words of a proof are those of a compressed one: the first is a `(`.
-pub fn is_compressed(statement: &Statement) -> bool
-    ensures { result ≡ is_compressed_lem statement.now.proof }
+pub fn is_compressed(proof: &ProofWords) -> bool
+    ensures { result ≡ is_compressed_lem proof.now }
 {
-    let mut words = statement.proof();
+    let mut words = proof.again();
     match words.next_word() {
         Some(word) => is_open(word),
         None => false,
     }
 }
 
-/// Decodes the proof of the item with the number `i`, whose mandatory hypotheses are the items with these numbers.
+/// Decodes the proof of the item with the number `i`, which has these words, and whose mandatory hypotheses are the items
+/// with these numbers.
 ///
 /// It reads the words once, in time linear in their bytes, and looks each label up once. The lists of an older decoding
 /// are used over again; what they have does not count. After an error nothing is kept.
@@ -156,20 +157,20 @@ pub fn decode(
     base: &Base,
     i: usize,
     mandatory: &[usize],
-    statement: &Statement,
+    proof: &ProofWords,
     room: Decoding,
 ) -> Result<Decoding, Undecoded>
     ensures ok { IfOk result (λ d. (view : BaseView) → IsBase view base.now → AreActive view i mandatory.now →
-        decoding_of view i mandatory.now statement.now.proof ≡ Ok (decoded_steps view d statement.now.proof)) }
+        decoding_of view i mandatory.now proof.now ≡ Ok (decoded_steps view d proof.now)) }
     ensures entries { IfOk result (λ d. (view : BaseView) → IsBase view base.now → AreActive view i mandatory.now → AreEntries view i d.labels.items) }
     ensures table { IfOk result (λ d. (view : BaseView) → IsBase view base.now → AreActive view i mandatory.now →
-        entry_steps view d.labels.items ≡ label_table (labels_at view mandatory.now) statement.now.proof) }
+        entry_steps view d.labels.items ≡ label_table (labels_at view mandatory.now) proof.now) }
     ensures err { IfErr result (λ e. (view : BaseView) → IsBase view base.now → AreActive view i mandatory.now →
-        TellsFault e (decoding_of view i mandatory.now statement.now.proof)) }
+        TellsFault e (decoding_of view i mandatory.now proof.now)) }
 {
-    if is_compressed(statement) {
-        decode_compressed(base, i, mandatory, statement, room)
+    if is_compressed(proof) {
+        decode_compressed(base, i, mandatory, proof, room)
     } else {
-        decode_normal(base, i, statement, room)
+        decode_normal(base, i, proof, room)
     }
 }

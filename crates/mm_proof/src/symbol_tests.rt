@@ -4,7 +4,7 @@ ghost use Rattle.std.specs.Prelude.{◌≡◌, ℕ, List, All, IfOk, length, map
 ghost use Rattle.mm_frame.specs.Language.NumberedSymbols.{by_number, named_symbol};
 ghost use Rattle.mm_frame.specs.Language.Typing.{IsFrame};
 ghost use Rattle.mm_proof.specs.Code.Citation.{frame_of, hypotheses_of, meant_pairs};
-ghost use Rattle.mm_proof.specs.Code.Judged.{HasDecoding, HasStatement, IsOutcomeWithin};
+ghost use Rattle.mm_proof.specs.Code.Judged.{HasDecoding, HasProof, IsOutcomeWithin};
 ghost use Rattle.mm_proof.specs.Code.Keys.{AreInKeyOrder, key_by_number};
 ghost use Rattle.mm_proof.specs.Code.NumberedBase.{all_by_number};
 ghost use Rattle.mm_proof.specs.Code.Spelled.{HasOneKey, key_by_name};
@@ -23,7 +23,7 @@ use crate::reading::{Decoding, decode};
 use crate::step::ProofStep;
 use crate::stepping::{Outcome, run};
 use crate::work::Checked;
-use mm_frame::{Base, Files, NamedSymbol, Names, NumberedSymbol, Statement};
+use mm_frame::{Base, Files, NamedSymbol, Names, NumberedSymbol, ProofWords, words_of_proof};
 use std::alloc::{AllocError, Global};
 
 /// So many places have the tables of a run over names: fewer than names, so that some names share one.
@@ -285,10 +285,10 @@ fn verdict_by_names(
     alloc: Global,
     base: &Base,
     i: usize,
-    statement: &Statement,
+    proof: &ProofWords,
     decoding: &Decoding,
 ) -> Result<Verdict, AllocError>
-    requires { HasDecoding base.now i statement.now decoding.now }
+    requires { HasDecoding base.now i proof.now decoding.now }
 {
     decodes_surely();
     mandatory_are_active();
@@ -300,7 +300,7 @@ fn verdict_by_names(
         &decoding.steps,
         expression(base, i),
     )?;
-    Ok(verdict(outcome, decoding, statement.proof()))
+    Ok(verdict(outcome, decoding, proof.again()))
 }
 
 /// What a check says, by a run over names.
@@ -308,17 +308,17 @@ fn judge_by_names(
     alloc: Global,
     base: &Base,
     i: usize,
-    statement: &Statement,
+    proof: &ProofWords,
 ) -> Result<Checked, AllocError>
-    requires { HasStatement base.now i statement.now }
+    requires { HasProof base.now i proof.now }
 {
     mandatory_are_active();
     let mandatory = mandatory(base, i);
-    match decode(base, i, mandatory, statement, Decoding::new(alloc)) {
+    match decode(base, i, mandatory, proof, Decoding::new(alloc)) {
         Ok(decoding) => {
             let mut marks = Vec::new(alloc);
-            let cites = cites(alloc, &mut marks, &decoding, mandatory.len(), statement)?;
-            let verdict = verdict_by_names(alloc, base, i, statement, &decoding)?;
+            let cites = cites(alloc, &mut marks, &decoding, mandatory.len(), proof)?;
+            let verdict = verdict_by_names(alloc, base, i, proof, &decoding)?;
             Ok(Checked::new(verdict, cites))
         }
         Err(error) => {
@@ -340,7 +340,7 @@ pub fn agrees(
 ) -> Result<bool, AllocError>
     requires { HasTheorem names.now files.now base.now i }
 {
-    let statement = Statement::read(alloc, files, base.item(i))?;
-    let other = judge_by_names(alloc, base, i, &statement)?;
+    let proof = words_of_proof(files, base.item(i));
+    let other = judge_by_names(alloc, base, i, &proof)?;
     Ok(other.verdict() == checked.verdict() && other.cites() == checked.cites())
 }

@@ -1,6 +1,6 @@
 -- The words of a statement between its keywords.
-use Rattle.std.specs.Prelude.{◌≡◌, ℕ, ◌≤◌, Bool, true, false, Option, Some, None, List, ◌∷◌, length, map, take, slice_range}
-use Rattle.std.specs.List.{prefix_len}
+use Rattle.std.specs.Prelude.{◌≡◌, ℕ, ◌<◌, ◌≤◌, Bool, true, false, Option, Some, None, List, ◌∷◌, length, map, take, slice_range}
+use Rattle.std.specs.List.{AllByRecursion, flat_map, prefix_len}
 use Rattle.mm_store.specs.mm_text.declared.word.Word.{Word}
 use Rattle.mm_frame.specs.Language.Statement.{is_plain_kind}
 
@@ -15,6 +15,12 @@ plain_words words = take (prefix_len (λ word. is_plain_kind word.kind) words) w
 -- how they are spelled
 abbrev pub plain_bytes : List ℕ → List Word → List (List ℕ)
 plain_bytes text words = map (word_bytes text) (plain_words words)
+
+-- there are not too many, none is empty, and they do not have too many bytes
+pub record AreFew (words : List (List ℕ)) : Type 0 where
+  pub few : length words ≤ 4294967295
+  pub some : AllByRecursion (λ word. 0 < length word) words
+  pub bytes : length (flat_map (λ word. word) words) ≤ 4294967295
 
 -- the first word is taken where it is a label
 abbrev pub TakesLabel : Bool → List Word → Option Word → List Word → Type 0

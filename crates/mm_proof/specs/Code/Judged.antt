@@ -1,8 +1,7 @@
 -- A theorem whose proof is judged, and what a run says of it.
-use Rattle.std.specs.Prelude.{◌≡◌, ℕ, ◌+◌, ◌<◌, true, Ok, length}
+use Rattle.std.specs.Prelude.{◌≡◌, ℕ, ◌+◌, ◌<◌, true, List, Ok, length}
 use Rattle.mm_frame.specs.declared.base.Base.{Base}
 use Rattle.mm_frame.specs.Language.Base.{BaseView, AreSaid, said_at, is_proof_at}
-use Rattle.mm_frame.specs.Language.Item.{Item}
 use Rattle.mm_frame.specs.Language.Answering.{IsBase}
 use Rattle.mm_proof.specs.Language.VerdictAt.{decoding_at, mandatory_labels}
 use Rattle.mm_proof.specs.Language.DecodedSteps.{decoded_steps, AreEntries, entry_steps, label_table}
@@ -10,35 +9,36 @@ use Rattle.mm_proof.specs.declared.reading.Decoding.{Decoding}
 use Rattle.mm_proof.specs.declared.stepping.Outcome.{Outcome}
 use Rattle.mm_proof.specs.declared.stepping.Outcome.TheVariants.{Proved, Fault, Unknown, NotOne, Other}
 
--- the code's base answers this, by what its items' words say, and the item with this number is a sound `$p` that says this
-pub record IsTheorem (code : Base) (i : ℕ) (item : Item) (view : BaseView) : Type 0 where
+-- the code's base answers this, by what its items' words say, and the item with this number is a sound `$p` with a proof of
+-- these words
+pub record IsTheorem (code : Base) (i : ℕ) (proof : List (List ℕ)) (view : BaseView) : Type 0 where
   pub base : IsBase view code
   pub said : AreSaid view
   pub is_sound : is_proof_at view i ≡ true
-  pub says : said_at view i ≡ item
+  pub says : (said_at view i).proof ≡ proof
 
 -- so it is in each view of the base
-abbrev pub OfStatement : Base → ℕ → Item → (BaseView → Type 0) → Type 0
-OfStatement code i item holds = (view : BaseView) → IsTheorem code i item view → holds view
+abbrev pub OfProof : Base → ℕ → List (List ℕ) → (BaseView → Type 0) → Type 0
+OfProof code i proof holds = (view : BaseView) → IsTheorem code i proof view → holds view
 
 -- and there is one
-abbrev pub HasStatement : Base → ℕ → Item → Type 0
-HasStatement code i item = (view : BaseView) × IsTheorem code i item view × (i < length view.said)
+abbrev pub HasProof : Base → ℕ → List (List ℕ) → Type 0
+HasProof code i proof = (view : BaseView) × IsTheorem code i proof view × (i < length view.said)
 
 -- its proof decodes to this
-pub record IsDecoding (code : Base) (i : ℕ) (item : Item) (d : Decoding) (view : BaseView) : Type 0 where
-  pub theorem : IsTheorem code i item view
-  pub decodes : decoding_at view i ≡ Ok (decoded_steps view d item.proof)
+pub record IsDecoding (code : Base) (i : ℕ) (proof : List (List ℕ)) (d : Decoding) (view : BaseView) : Type 0 where
+  pub theorem : IsTheorem code i proof view
+  pub decodes : decoding_at view i ≡ Ok (decoded_steps view d proof)
   pub entries : AreEntries view i d.labels.items
-  pub table : entry_steps view d.labels.items ≡ label_table (mandatory_labels view i) item.proof
+  pub table : entry_steps view d.labels.items ≡ label_table (mandatory_labels view i) proof
 
 -- so it is in each view of the base
-abbrev pub OfDecoding : Base → ℕ → Item → Decoding → (BaseView → Type 0) → Type 0
-OfDecoding code i item d holds = (view : BaseView) → IsDecoding code i item d view → holds view
+abbrev pub OfDecoding : Base → ℕ → List (List ℕ) → Decoding → (BaseView → Type 0) → Type 0
+OfDecoding code i proof d holds = (view : BaseView) → IsDecoding code i proof d view → holds view
 
 -- and there is one
-abbrev pub HasDecoding : Base → ℕ → Item → Decoding → Type 0
-HasDecoding code i item d = (view : BaseView) × IsDecoding code i item d view × (i < length view.said)
+abbrev pub HasDecoding : Base → ℕ → List (List ℕ) → Decoding → Type 0
+HasDecoding code i proof d = (view : BaseView) × IsDecoding code i proof d view × (i < length view.said)
 
 -- the step that an outcome names is one of so many
 abbrev pub IsOutcomeWithin : ℕ → Outcome → Type 0

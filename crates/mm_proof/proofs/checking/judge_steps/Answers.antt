@@ -3,7 +3,6 @@ use Rattle.std.specs.List.{AllByRecursion, flat_map}
 use Rattle.std.proofs.lemmas.List.{length-map}
 use Rattle.mm_frame.specs.Language.Base.{before, said_at}
 use Rattle.mm_frame.specs.Language.Framing.{mandatory_numbers}
-use Rattle.mm_frame.specs.Language.Item.{Item}
 use Rattle.mm_proof.specs.Language.BaseLabels.{setting_at}
 use Rattle.mm_proof.specs.Language.Citing.{cites, cited_words}
 use Rattle.mm_proof.specs.Language.Verdict.{Decoded, IsVerdict, IsVerdictOnSteps}
@@ -26,8 +25,8 @@ returns-clause-verdict c view is =
     let place = setting_at view i in
     let says = c.in_ok-outcome.ensures.says view is in
     let on = c.verdict-verdict.ensures view place (statement_at view i) says in
-    let words = subst (λ (w : List (List ℕ)). IsVerdictOnSteps place (statement_at view i) (decoded_steps view d w) c.verdict-verdict.result) c.proof.ensures.words on in
-    let verdict = subst (λ (v : Verdict). IsVerdictOnSteps place (statement_at view i) (decoded_steps view d c.args.statement.now.proof) v) (sym (ap (λ j. j.verdict) c.new.ensures)) words in
+    let words = subst (λ (w : List (List ℕ)). IsVerdictOnSteps place (statement_at view i) (decoded_steps view d w) c.verdict-verdict.result) c.again.ensures.words on in
+    let verdict = subst (λ (v : Verdict). IsVerdictOnSteps place (statement_at view i) (decoded_steps view d c.args.proof.now) v) (sym (ap (λ j. j.verdict) c.new.ensures)) words in
     subst (λ (o : Result Decoded ProofFault). IsVerdict place (statement_at view i) o c.new.result.verdict) (sym is.decodes) verdict
 
 pub returns-clause-cites : goal.returns-clause-cites
@@ -35,14 +34,13 @@ returns-clause-cites c view is =
     let i = c.args.i in
     let d = c.args.decoding.now in
     let place = setting_at view i in
-    let item = c.args.statement.now in
     let steps = actions_mean (entry_steps view d.labels.items) d.steps.items in
     let numbers = mandatory_numbers (before view i) (said_at view i) in
     let own = c.labels_are_own.ensures view is.theorem.said in
     let count = ap length (c.mandatory-hypotheses.ensures view is.theorem.base (framed_proof view i is.theorem.is_sound)) in
     ap (λ j. j.cites) c.new.ensures
     ∙ c.in_ok-cites.ensures view i numbers own (sym count) is.entries is.table
-    ∙ sym (ap (λ (o : Result Decoded ProofFault). cites place (said_at view i).proof o) is.decodes ∙ ap (λ (it : Item). cited_words place it.proof steps) is.theorem.says)
+    ∙ sym (ap (λ (o : Result Decoded ProofFault). cites place (said_at view i).proof o) is.decodes ∙ ap (λ (words : List (List ℕ)). cited_words place words steps) is.theorem.says)
 
 pub returns-clause-done : goal.returns-clause-done
 returns-clause-done c view is =
@@ -63,10 +61,10 @@ returns-clause-few c =
     let i = c.args.i in
     let d = c.args.decoding.now in
     let names = entry_steps view d.labels.items in
-    let same = c.proof.ensures.words ∙ sym (ap (λ (it : Item). it.proof) has.1.theorem.says) in
-    let some = subst (λ (ws : List (List ℕ)). AllByRecursion (λ word. 0 < length word) ws) same c.proof.ensures.some in
-    let bytes = subst (λ (ws : List (List ℕ)). length (flat_map (λ word. word) ws) ≤ 4294967295) same c.proof.ensures.bytes in
-    let short = c.decodes_short.ensures (setting_at view i) (mandatory_labels view i) (said_at view i).proof (decoded_steps view d c.args.statement.now.proof) some has.1.decodes in
+    let same = sym has.1.theorem.says in
+    let some = subst (λ (ws : List (List ℕ)). AllByRecursion (λ word. 0 < length word) ws) same c.again.ensures.some in
+    let bytes = subst (λ (ws : List (List ℕ)). length (flat_map (λ word. word) ws) ≤ 4294967295) same c.again.ensures.bytes in
+    let short = c.decodes_short.ensures (setting_at view i) (mandatory_labels view i) (said_at view i).proof (decoded_steps view d c.args.proof.now) some has.1.decodes in
     omega (arith, c.done-done.ensures.within, c.len.ensures, d.steps.ok, length-map d.steps.items (λ (step : ProofStep). meant names step.action))
 
 pub mandatory-hypotheses-requires : goal.mandatory-hypotheses-requires
@@ -85,4 +83,4 @@ pub verdict-verdict-requires-clause-within : goal.verdict-verdict-requires-claus
 verdict-verdict-requires-clause-within c = c.in_ok-outcome.ensures.within
 
 pub verdict-verdict-requires-clause-few : goal.verdict-verdict-requires-clause-few
-verdict-verdict-requires-clause-few c = c.proof.ensures.few
+verdict-verdict-requires-clause-few c = subst (λ (ws : List (List ℕ)). length ws ≤ 4294967295) (sym c.again.ensures.words) c.again.ensures.few

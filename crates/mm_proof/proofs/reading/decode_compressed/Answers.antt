@@ -10,8 +10,8 @@ use Rattle.mm_proof.proofs.reading.decode_compressed.Goals as goal
 pub returns-in_err-close-clause-err : goal.returns-in_err-close-clause-err
 returns-in_err-close-clause-err c =
     let p = err_from_is_err_and c.from_residual-in_err-close.result c.from_residual-in_err-close.ensures.1 in
-    let words = c.args.statement.now.proof in
-    let left = behind_open (λ (word : Bor (List ℕ)). word.now) words c.proof-words.result c.next_word-open.new.self c.next_word-open.result c.requires c.proof-words.ensures.words c.next_word-open.ensures in
+    let words = c.args.proof.now in
+    let left = behind_open (λ (word : Bor (List ℕ)). word.now) words c.again-words.result c.next_word-open.new.self c.next_word-open.result c.requires c.again-words.ensures.words c.next_word-open.ensures in
     rw (p.1, p.2) (λ view is active.
     let begins = list_begins view c.args.i c.args.mandatory.now words c.next_word-open.new.self c.in_ok-labels.labels.items c.in_ok-labels.ensures active left in
     c.in_err-close.ensures.err view (labels_at view c.args.mandatory.now) words is begins)
@@ -19,8 +19,8 @@ returns-in_err-close-clause-err c =
 pub returns-in_err-steps-clause-err : goal.returns-in_err-steps-clause-err
 returns-in_err-steps-clause-err c =
     let p = err_from_is_err_and c.from_residual-in_err-steps.result c.from_residual-in_err-steps.ensures.1 in
-    let words = c.args.statement.now.proof in
-    let left = behind_open (λ (word : Bor (List ℕ)). word.now) words c.proof-words.result c.next_word-open.new.self c.next_word-open.result c.requires c.proof-words.ensures.words c.next_word-open.ensures in
+    let words = c.args.proof.now in
+    let left = behind_open (λ (word : Bor (List ℕ)). word.now) words c.again-words.result c.next_word-open.new.self c.next_word-open.result c.requires c.again-words.ensures.words c.next_word-open.ensures in
     rw (p.1, p.2) (λ view is active.
     let begins = list_begins view c.args.i c.args.mandatory.now words c.next_word-open.new.self c.in_ok-labels.labels.items c.in_ok-labels.ensures active left in
     let listed = c.in_ok-close.ensures.ok view (labels_at view c.args.mandatory.now) words is begins in
@@ -30,8 +30,8 @@ returns-in_err-steps-clause-err c =
 
 pub returns-clause-ok : goal.returns-clause-ok
 returns-clause-ok c view is active =
-    let words = c.args.statement.now.proof in
-    let left = behind_open (λ (word : Bor (List ℕ)). word.now) words c.proof-words.result c.next_word-open.new.self c.next_word-open.result c.requires c.proof-words.ensures.words c.next_word-open.ensures in
+    let words = c.args.proof.now in
+    let left = behind_open (λ (word : Bor (List ℕ)). word.now) words c.again-words.result c.next_word-open.new.self c.next_word-open.result c.requires c.again-words.ensures.words c.next_word-open.ensures in
     let begins = list_begins view c.args.i c.args.mandatory.now words c.next_word-open.new.self c.in_ok-labels.labels.items c.in_ok-labels.ensures active left in
     let listed = c.in_ok-close.ensures.ok view (labels_at view c.args.mandatory.now) words is begins in
     let labels = c.read_list.new.labels in
@@ -40,16 +40,16 @@ returns-clause-ok c view is active =
 
 pub returns-clause-entries : goal.returns-clause-entries
 returns-clause-entries c view is active =
-    let words = c.args.statement.now.proof in
-    let left = behind_open (λ (word : Bor (List ℕ)). word.now) words c.proof-words.result c.next_word-open.new.self c.next_word-open.result c.requires c.proof-words.ensures.words c.next_word-open.ensures in
+    let words = c.args.proof.now in
+    let left = behind_open (λ (word : Bor (List ℕ)). word.now) words c.again-words.result c.next_word-open.new.self c.next_word-open.result c.requires c.again-words.ensures.words c.next_word-open.ensures in
     let begins = list_begins view c.args.i c.args.mandatory.now words c.next_word-open.new.self c.in_ok-labels.labels.items c.in_ok-labels.ensures active left in
     let listed = c.in_ok-close.ensures.ok view (labels_at view c.args.mandatory.now) words is begins in
     listed.entries
 
 pub returns-clause-table : goal.returns-clause-table
 returns-clause-table c view is active =
-    let words = c.args.statement.now.proof in
-    let left = behind_open (λ (word : Bor (List ℕ)). word.now) words c.proof-words.result c.next_word-open.new.self c.next_word-open.result c.requires c.proof-words.ensures.words c.next_word-open.ensures in
+    let words = c.args.proof.now in
+    let left = behind_open (λ (word : Bor (List ℕ)). word.now) words c.again-words.result c.next_word-open.new.self c.next_word-open.result c.requires c.again-words.ensures.words c.next_word-open.ensures in
     let begins = list_begins view c.args.i c.args.mandatory.now words c.next_word-open.new.self c.in_ok-labels.labels.items c.in_ok-labels.ensures active left in
     let listed = c.in_ok-close.ensures.ok view (labels_at view c.args.mandatory.now) words is begins in
     compressed_table view c.args.i (labels_at view c.args.mandatory.now) words c.in_ok-close.close c.read_list.new.labels.items listed

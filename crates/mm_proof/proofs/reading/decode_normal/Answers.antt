@@ -6,7 +6,7 @@ use Rattle.mm_proof.proofs.reading.decode_normal.Goals as goal
 
 pub loop-word-preserved : goal.loop-word-preserved
 loop-word-preserved c =
-    let words = c.args.statement.now.proof in
+    let words = c.args.proof.now in
     let word = c.in-Some.word.now in
     let took = take_one words c.loop-word.words c.next_word.new.self c.loop-word.n word c.loop-word.invariant.left c.in-Some.ensures in
     let e = c.in_ok-label.ensures in
@@ -22,20 +22,20 @@ loop-word-preserved c =
 pub returns-in_err-label-clause-err : goal.returns-in_err-label-clause-err
 returns-in_err-label-clause-err c =
     let p = err_from_is_err_and c.from_residual.result c.from_residual.ensures.1 in
-    let words = c.args.statement.now.proof in
+    let words = c.args.proof.now in
     let word = c.in-Some.word.now in
     let took = take_one words c.loop-word.words c.next_word.new.self c.loop-word.n word c.loop-word.invariant.left c.in-Some.ensures in
     rw (p.1, p.2) (λ view is. word_fails view c.args.i words c.loop-word.n c.loop-word.labels.items c.loop-word.steps.items (c.loop-word.invariant.normal view is) word _ took.within took.is (c.in_err-label.ensures.err view is))
 
 pub returns-clause-ok : goal.returns-clause-ok
 returns-clause-ok c view is =
-    let words = c.args.statement.now.proof in
+    let words = c.args.proof.now in
     let past : length words ≤ c.loop-word.n = omega (arith, none_left words c.loop-word.words c.loop-word.n c.loop-word.invariant.left c.in_default.ensures.0) in
     finishes view c.args.i words c.loop-word.n c.loop-word.labels.items c.loop-word.steps.items (c.loop-word.invariant.normal view is) past
 
 pub returns-clause-table : goal.returns-clause-table
 returns-clause-table c view is =
-    let words = c.args.statement.now.proof in
+    let words = c.args.proof.now in
     let past : length words ≤ c.loop-word.n = omega (arith, none_left words c.loop-word.words c.loop-word.n c.loop-word.invariant.left c.in_default.ensures.0) in
     table_is view c.args.i words c.loop-word.n c.loop-word.labels.items c.loop-word.steps.items (c.loop-word.invariant.normal view is) past
 

@@ -7,8 +7,8 @@ use Rattle.mm_proof.proofs.reading.decode_normal.Given as goal
 
 abbrev pub invariant-loop-word : goal.invariant-loop-word
 invariant-loop-word l = record {
-  left : AreLeft l.statement.proof l.words l.n;
-  normal : (view : BaseView) → IsBase view l.base → Normal view l.i l.statement.proof l.n l.labels.items l.steps.items;
+  left : AreLeft l.proof l.words l.n;
+  normal : (view : BaseView) → IsBase view l.base → Normal view l.i l.proof l.n l.labels.items l.steps.items;
 }
 
 abbrev pub decreases-loop-word : goal.decreases-loop-word

@@ -1,13 +1,13 @@
 use Rattle.std.proofs.Common.{arith}
-use Rattle.mm_frame.proofs.SpokenLemmas.{proof_some, proof_bytes}
+use Rattle.mm_frame.proofs.SpokenLemmas.{proof_few, proof_some, proof_bytes}
 use Rattle.mm_frame.proofs.statement.Statement.proof.Goals as goal
 
-pub returns-clause-some : goal.returns-clause-some
-returns-clause-some c =
-    let inside = c.self.inside in
-    rw (c.new.ensures, c.again.ensures) (proof_some inside.text.now inside.rest.words c.self.invariant.some)
-
-pub returns-clause-bytes : goal.returns-clause-bytes
-returns-clause-bytes c =
-    let inside = c.self.inside in
-    rw (c.new.ensures, c.again.ensures) (omega (arith, proof_bytes inside.text.now inside.rest.words, c.self.invariant.bytes))
+pub new-requires-clause-few : goal.new-requires-clause-few
+new-requires-clause-few c =
+    let text = c.self.inside.text.now in
+    let words = c.self.inside.rest.words in
+    rw c.again.ensures (record {
+      few = omega (arith, proof_few text words, c.self.invariant.few);
+      some = proof_some text words c.self.invariant.some;
+      bytes = omega (arith, proof_bytes text words, c.self.invariant.bytes);
+    })
