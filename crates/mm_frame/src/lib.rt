@@ -38,7 +38,9 @@ pub use mm_store::{
 };
 pub use names::Names;
 pub use one_base::files_have_one_base;
-pub use own_labels::{has_own_labels, items_have_labels, mandatory_means, mandatory_stand_before};
+pub use own_labels::{
+    has_own_labels, items_have_labels, labels_mean, mandatory_means, mandatory_stand_before,
+};
 pub use proof_words::ProofWords;
 pub use same::{same_active_pairs, same_but_pairs, same_expression, same_frame};
 pub use statement::{Statement, same_proof, words_of_proof};

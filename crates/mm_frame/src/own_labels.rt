@@ -1,6 +1,6 @@
 //! Each sound item has a label of its own, and mandatory hypotheses are found by theirs.
 
-ghost use Rattle.mm_frame.specs.Language.Laws.{HasOwnLabels, ItemsHaveLabels, MandatoryMeans, MandatoryStandBefore};
+ghost use Rattle.mm_frame.specs.Language.Laws.{AssertionsMean, HasItemOrIsUnknown, HasOwnLabels, ItemsHaveLabels, MandatoryMeans, MandatoryStandBefore};
 
 /// Each sound `$f`, `$e`, `$a` and `$p` has a label.
 pub fn items_have_labels()
@@ -20,4 +20,11 @@ pub fn mandatory_means()
 /// The mandatory hypotheses of an item are sound and stand before it, and are those of its frame.
 pub fn mandatory_stand_before()
     ensures { MandatoryStandBefore }
+{}
+
+/// A label is that of a sound item before the item at which it is read, or means nothing there; and that of an assertion
+/// means it.
+pub fn labels_mean()
+    ensures one { HasItemOrIsUnknown }
+    ensures assertions { AssertionsMean }
 {}
