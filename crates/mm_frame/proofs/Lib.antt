@@ -16,6 +16,7 @@ pub mod HypothesisNumbers
 pub mod BlockLemmas
 pub mod FaultReading
 pub mod ActivePairLemmas
+pub mod ActiveUntil
 pub mod KnownLemmas
 pub mod FaultLemmas
 pub mod KeptScopeLemmas

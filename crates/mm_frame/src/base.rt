@@ -1,6 +1,6 @@
 //! What the items of files mean, from a top file on.
 
-ghost use Rattle.std.specs.Prelude.{All, true, ◌≡◌, ◌<◌, ◌≤◌, ◌↔◌, ◌&&◌, is_none, is_some, Some, None, List, length, ℕ};
+ghost use Rattle.std.specs.Prelude.{All, true, false, ◌≡◌, ◌<◌, ◌≤◌, ◌↔◌, ◌&&◌, is_none, is_some, Some, None, List, length, ℕ};
 ghost use Rattle.std.specs.Prelude.{IfSome, IfOk, IfErr, IsErrOf, IsTrue, map, slice_get};
 ghost use Rattle.std.specs.Option.{option_map};
 ghost use Rattle.mm_store.specs.Language.FilesView.{files_in, number_of};
@@ -18,7 +18,8 @@ ghost use Rattle.mm_frame.specs.Language.Answering.{IsBase, IsBaseBy, StandsLate
 ghost use Rattle.mm_frame.specs.Code.KeptBase.{is_float_item, hypotheses_at, row_told, frame_told, number_kept};
 ghost use Rattle.mm_frame.specs.Language.Item as meant;
 ghost use Rattle.mm_frame.specs.Language.Statement.{kind_of};
-ghost use Rattle.mm_frame.specs.Language.Resolving.{IsCarrier, IsMeaning, Resolves};
+ghost use Rattle.mm_frame.specs.Language.Resolving.{IsCarrier, IsMeaning, IsUpTo, Resolves};
+ghost use Rattle.mm_frame.specs.declared.base.Resolved.TheVariants as answers;
 
 use crate::draft::{Draft, Frame, Parts, Row};
 use crate::judge::FrameFault;
@@ -341,6 +342,17 @@ impl Base {
         } else {
             Resolved::Unknown
         }
+    }
+
+    /// The first item behind the sound hypothesis `j` at which this is active no longer: at the items between the two its
+    /// label means it, and from there on a hypothesis that is not active. `None` where it stays active up to the last item.
+    pub fn active_until(&self, j: usize) -> Option<usize>
+        ensures active { (base : BaseView) (label : List ℕ) (i : ℕ) → IsBase base self.now → IsCarrier base label j → is_framed_at base j ≡ false
+            → j < i → IsUpTo i result → Resolves base i label (answers.Hypothesis j) }
+        ensures ended { (base : BaseView) (label : List ℕ) (i : ℕ) → IsBase base self.now → IsCarrier base label j → is_framed_at base j ≡ false
+            → j < i → (IsUpTo i result → ⊥) → Resolves base i label answers.Inactive }
+    {
+        self.parts.blocks.active_until(j)
     }
 
     /// What a label means at the item with this number, by the sound statements before that item alone: a label that

@@ -1,7 +1,8 @@
 //! Blocks: whether an item is active at a later one.
 
-ghost use Rattle.std.specs.Prelude.{◌≡◌, ℕ, suc, ◌+◌, ◌<◌, ◌≤◌, List, [], ◌∷◌, ◌++◌, length, take, drop, slice_range, OnOk, OnErr};
+ghost use Rattle.std.specs.Prelude.{◌≡◌, ◌↔◌, ℕ, true, suc, ◌+◌, ◌<◌, ◌≤◌, List, [], ◌∷◌, ◌++◌, length, take, drop, slice_range, OnOk, OnErr};
 ghost use Rattle.mm_frame.specs.Language.Scope.{Opens, Closes, Neither};
+ghost use Rattle.mm_frame.specs.Language.Resolving.{IsUpTo};
 ghost use Rattle.mm_frame.specs.Code.BlockMarks.{is_inside_by, stays_by};
 ghost use Rattle.mm_frame.specs.Code.BlockEnds.{end_of_block};
 
@@ -144,6 +145,20 @@ impl Blocks {
     {
         let end = at.min(self.block_of.len());
         end <= from || self.is_active(from, end)
+    }
+
+    /// The first item behind the item `from` at which this is active no longer; `None` where its block is open behind the
+    /// last item, and where there is no such item.
+    pub fn active_until(&self, from: usize) -> Option<usize>
+        ensures { (at : ℕ) → from < at → (stays_by (drop (suc from) (take at self.now)) ≡ true) ↔ IsUpTo at result }
+    {
+        if from >= self.block_of.len() {
+            return None;
+        }
+        match end_of_block(&self.ends, self.block_of[from]) {
+            None => None,
+            Some(end) => Some(end + 1),
+        }
     }
 
     /// Whether the item `from` is active behind the last one; an item that is yet to come counts as active.

@@ -3,7 +3,7 @@
 ghost use Rattle.mm_frame.specs.Language.Laws.{ActiveByBlocks, FaultIsFound, HasFaultOrIsSound, HasOneStatementFault, KeptNext, NeverFaultAndSound};
 ghost use Rattle.mm_frame.specs.Language.Laws.{PlacesHaveFrames, ReaderIsActive};
 ghost use Rattle.mm_frame.specs.Language.Laws.{SoundHasNone, StaysByCounts};
-ghost use Rattle.mm_frame.specs.Language.Laws.{HasOwnLabels, ItemsHaveLabels, MandatoryMeans, MandatoryStandBefore};
+ghost use Rattle.mm_frame.specs.Language.Laws.{AssertionsMean, HasItemOrIsUnknown, HasOwnLabels, ItemsHaveLabels, MandatoryMeans, MandatoryStandBefore};
 ghost use Rattle.mm_frame.specs.Language.Laws.{AlikeFilesSayTheSame, FilesHaveOneBase};
 
 /// Each label that resolves to an assertion has a frame whose variables are typed once.
@@ -74,6 +74,13 @@ pub fn mandatory_means()
 /// The mandatory hypotheses of an item are sound and stand before it, and are those of its frame.
 pub fn mandatory_stand_before()
     ensures { MandatoryStandBefore }
+{}
+
+/// A label is that of a sound item before the item at which it is read, or means nothing there; and that of an assertion
+/// means it.
+pub fn labels_mean()
+    ensures one { HasItemOrIsUnknown }
+    ensures assertions { AssertionsMean }
 {}
 
 /// Files have one base from a top file on, and the keys of their pieces do not matter for what its items say.

@@ -9,8 +9,8 @@ use Rattle.mm_frame.specs.Language.Scope.{Neither, mark_of, closed, stays, activ
 use Rattle.mm_frame.specs.declared.FrameNumber.{FrameNumber}
 use Rattle.mm_frame.specs.Language.Sound.{IsSound, IsStatementFault, fault, judged, sound_items}
 use Rattle.mm_frame.specs.Language.Framing.{setting_of, mandatory_numbers}
-use Rattle.mm_frame.specs.Language.Base.{BaseView, IsOfFiles, AreSaid, AreHypotheses, IsMandatoryAt, before, said_at, is_shown_at}
-use Rattle.mm_frame.specs.Language.Resolving.{IsCarrier, Resolves}
+use Rattle.mm_frame.specs.Language.Base.{BaseView, IsOfFiles, AreSaid, AreHypotheses, IsMandatoryAt, before, said_at, is_shown_at, is_framed_at}
+use Rattle.mm_frame.specs.Language.Resolving.{IsCarrier, IsLabelOf, Resolves}
 use Rattle.mm_frame.specs.declared.base.Resolved.TheVariants as answers
 use Rattle.mm_frame.specs.Language.ScopeStack.{read_scopes, all_of, statements}
 
@@ -63,6 +63,16 @@ ItemsHaveLabels = (base : BaseView) → AreSaid base → (j : ℕ) → is_shown_
 -- Two sound items with one label are one.
 abbrev pub HasOwnLabels : Type 0
 HasOwnLabels = (base : BaseView) (j k : ℕ) (label : List ℕ) → IsCarrier base label j → IsCarrier base label k → j ≡ k
+
+-- A label is that of a sound item before item i, or means nothing there.
+abbrev pub HasItemOrIsUnknown : Type 0
+HasItemOrIsUnknown = (base : BaseView) (i : ℕ) (label : List ℕ)
+    → ((j : ℕ) × IsLabelOf base i j label) ⊎ (((j : ℕ) → IsLabelOf base i j label → ⊥) × Resolves base i label answers.Unknown)
+
+-- The label of a sound assertion means it at each later item.
+abbrev pub AssertionsMean : Type 0
+AssertionsMean = (base : BaseView) (i j : ℕ) (label : List ℕ) → IsLabelOf base i j label → is_framed_at base j ≡ true
+    → Resolves base i label (answers.Assertion j)
 
 -- A mandatory hypothesis of an item is what its label means there.
 abbrev pub MandatoryMeans : Type 0

@@ -1,5 +1,5 @@
 -- What a base answers of a label at an item: what the label means by the sound statements before the item alone (Metamath book, section 4.2).
-use Rattle.std.specs.Prelude.{◌≡◌, ◌<◌, ℕ, true, List, Some}
+use Rattle.std.specs.Prelude.{◌≡◌, ◌<◌, ℕ, true, Option, Some, None, List}
 use Rattle.mm_frame.specs.declared.base.Resolved as answer
 use Rattle.mm_frame.specs.declared.base.Resolved.TheVariants as answers
 use Rattle.mm_frame.specs.Language.Frame.{Resolved, Hypothesis, Assertion, Inactive, Unknown}
@@ -26,3 +26,8 @@ IsMeaning base i label answers.Unknown meaning = meaning ≡ Unknown
 -- so it is of what the label means at the item
 abbrev pub Resolves : BaseView → ℕ → List ℕ → answer.Resolved → Type 0
 Resolves base i label answer = IsMeaning base i label answer (resolve (before base i) label)
+
+-- the item stands before this one; each does where there is none
+abbrev pub IsUpTo : ℕ → Option ℕ → Type 0
+IsUpTo i None = Unit {0}
+IsUpTo i (Some end) = i < end
