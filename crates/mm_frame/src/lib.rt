@@ -27,8 +27,9 @@ pub use draft::Frame;
 pub use judge::FrameFault;
 pub use laws::{
     active_by_blocks, fault_is_found, files_have_one_base, has_fault_or_is_sound, has_one_fault,
-    has_own_labels, items_have_labels, kept_next, mandatory_means, mandatory_stand_before,
-    never_both, places_have_frames, reader_is_active, sound_has_none, stays_by_counts,
+    has_own_labels, items_have_labels, kept_next, labels_mean, mandatory_means,
+    mandatory_stand_before, never_both, places_have_frames, reader_is_active, sound_has_none,
+    stays_by_counts,
 };
 pub use mm_store::{
     BatchError, Edit, EditError, Files, Item, ItemKind, Keyword, PieceKey, Place, StoreError,
