@@ -16,6 +16,8 @@ mod one_base;
 mod own_labels;
 mod pair_lists;
 mod paired;
+mod partners;
+mod places;
 mod proof_words;
 mod same;
 mod scope;
