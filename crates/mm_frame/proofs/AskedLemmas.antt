@@ -91,7 +91,7 @@ pair_common : (all : List (List ℕ)) (before : List Item) (table : PairTable) (
 pair_common all before table blocks first second x y k a b n have =
     ((k.knows first x a).cover n have.first have.stayed, (k.knows second y b).cover n have.second have.stayed, sym (active_at_marks before blocks n k.marks) ∙ have.stayed)
 
-names_apart : (all : List (List ℕ)) (first second : ℕ) (x y : List ℕ) (before : List Item) (table : PairTable) (blocks : List Mark) → ReadsPairs all before table blocks → IsNameNumber all first x → IsNameNumber all second y → (first ≡ second → ⊥) → x ≡ y → ⊥
+pub names_apart : (all : List (List ℕ)) (first second : ℕ) (x y : List ℕ) (before : List Item) (table : PairTable) (blocks : List Mark) → ReadsPairs all before table blocks → IsNameNumber all first x → IsNameNumber all second y → (first ≡ second → ⊥) → x ≡ y → ⊥
 names_apart all first second x y before table blocks k a b apart e = apart (k.distinct first second y (a ∙ ap Some e) b)
 
 -- what was found is active yet

@@ -77,7 +77,7 @@ pub active_number_items : (test : Item → Bool) (items : List Item) → map (it
 active_number_items test items = items_from test items 0 items refl
 
 -- the numbers rise
-rise_step : (b : Bool) (n : ℕ) (ns : List ℕ) → ((m : ℕ) → In m ns → n < m) → IsRising ns → IsRising (cond b (n ∷ ns) ns)
+pub rise_step : (b : Bool) (n : ℕ) (ns : List ℕ) → ((m : ℕ) → In m ns → n < m) → IsRising ns → IsRising (cond b (n ∷ ns) ns)
 rise_step true n ns h r = AllPairs-cons (λ a b. a < b) n ns (λ i d l. h (get_or ns i d) (in_at ns i d l)) r
 rise_step false n ns h r = r
 

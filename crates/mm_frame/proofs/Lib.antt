@@ -25,6 +25,7 @@ pub mod AskedLemmas
 pub mod EndLemmas
 pub mod MandatoryLemmas
 pub mod PairTableLemmas
+pub mod PlaceLemmas
 pub mod FramePairs
 pub mod NamedLemmas
 pub mod BaseLemmas

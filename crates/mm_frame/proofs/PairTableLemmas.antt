@@ -226,7 +226,7 @@ pub record HavePair (before : List Item) (x y : List ℕ) (n : ℕ) : Type 0 whe
   pub second : IsDisjointAt before y n
   pub stayed : is_active_at before n ≡ true
 
-named_in : (before : List Item) (item : Item) (s : Symbol) (name : List ℕ) → In s (expression before item) → s.name ≡ name → has item.symbols name ≡ true
+pub named_in : (before : List Item) (item : Item) (s : Symbol) (name : List ℕ) → In s (expression before item) → s.name ≡ name → has item.symbols name ≡ true
 named_in before item s name m e =
     let r = from_map (symbol before) s item.symbols m in
     let same = ap (λ (w : Symbol). w.name) r.2 ∙ e in

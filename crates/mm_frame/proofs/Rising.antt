@@ -94,7 +94,7 @@ rising_least row k at n rising within e later =
     ]
 
 -- an element behind the first ones
-get_drop : (xs : List ℕ) (k i n : ℕ) → k + i ≡ n → slice_get (drop k xs) i ≡ slice_get xs n
+pub get_drop : {X : Type 0} (xs : List X) (k i n : ℕ) → k + i ≡ n → slice_get (drop k xs) i ≡ slice_get xs n
 get_drop xs zero i n e = let z : i ≡ n = omega arith in ap (slice_get xs) z
 get_drop [] (suc k) i n e = refl
 get_drop (x ∷ xs) (suc k) i zero e = absurd (omega arith)

@@ -21,6 +21,7 @@ pub mod KeptPairLists
 pub mod KeptBase
 pub mod PairOrder
 pub mod KeptPairTable
+pub mod KeptPlaces
 pub mod KeptAsked
 pub mod KeptVariables
 pub mod BaseInside

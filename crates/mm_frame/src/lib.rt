@@ -15,6 +15,8 @@ mod mandatory;
 mod names;
 mod pair_lists;
 mod paired;
+mod partners;
+mod places;
 mod proof_words;
 mod same;
 mod scope;

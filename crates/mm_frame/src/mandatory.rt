@@ -1,6 +1,6 @@
 //! The mandatory hypotheses and pairs of an assertion.
 
-ghost use Rattle.std.specs.Prelude.{◌≡◌, ◌++◌, ◌∷◌, ◌<◌, ℕ, List, [], All, IsTrue, OnOk, IfOk, Some, length, map, filter, slice_get};
+ghost use Rattle.std.specs.Prelude.{◌≡◌, ◌++◌, ◌∷◌, ◌<◌, ℕ, List, [], All, IsTrue, OnOk, IfOk, IfSome, ◌+◌, Some, length, map, filter, drop, slice_get};
 ghost use Rattle.std.specs.List.{flat_map};
 ghost use Rattle.mm_frame.specs.Language.Frame.{Symbol as Meaning};
 ghost use Rattle.mm_frame.specs.Language.Item as meant;
@@ -14,6 +14,7 @@ ghost use Rattle.mm_frame.specs.Code.PairOrder as paired;
 ghost use Rattle.mm_frame.specs.Code.PairOrder.{float_variable, float_variables};
 ghost use Rattle.mm_frame.specs.Language.Answering.{are_paired, pairs_in_order};
 ghost use Rattle.mm_frame.specs.Code.KeptPairTable.{ReadsPairs};
+ghost use Rattle.mm_frame.specs.Code.KeptPlaces.{ArePlaces};
 ghost use Rattle.mm_frame.specs.Code.KeptAsked.{KnowsAsked, AsksOn};
 
 use crate::asked::AskedPairs;
@@ -21,6 +22,8 @@ use crate::blocks::Blocks;
 use crate::essential::EssentialVariable;
 use crate::expressions::Expressions;
 use crate::paired::PairTable;
+use crate::partners::{add_partners, are_short, places_if_many};
+use crate::places::Places;
 use crate::symbol::NumberedSymbol;
 use crate::tables::Tables;
 use std::alloc::{AllocError, Global};
@@ -229,29 +232,63 @@ fn add_active_with(
     Ok(())
 }
 
+/// Adds the pairs of the variable at a place with each later one that an active `$d` has: from its `$d`, where these are
+/// short; else each later one is asked.
+fn add_pairs_with_later(
+    alloc: Global,
+    earlier: &Earlier,
+    asked: &mut AskedPairs,
+    places: &Option<Places>,
+    variables: &[NumberedSymbol],
+    n: usize,
+    pairs: &mut Vec<(NumberedSymbol, NumberedSymbol)>,
+) -> Result<(), AllocError>
+    requires { n < length variables.now }
+    ensures pairs { OnOk result ((all : List (List ℕ)) (before : List meant.Item) (said : List (Meaning × Meaning)) (first : NumberedSymbol)
+        → KnowsEarlier all before earlier.now → KnowsAsked all before asked.old → IfSome places.now (ArePlaces variables.now)
+        → All (IsNumbered all) variables.now → ArePairsRead all said pairs.old.items → slice_get variables.now n ≡ Some first
+        → ArePairsRead all (said ++ filter (are_paired (active_pairs before))
+        (map (λ y. (symbol_of all first, y)) (symbols_of all (drop (n + 1) variables.now)))) pairs.new.items) }
+    ensures asked { OnOk result ((all : List (List ℕ)) (before : List meant.Item) → KnowsEarlier all before earlier.now → KnowsAsked all before asked.old
+        → KnowsAsked all before asked.new) }
+{
+    let (table, blocks, expressions) = (earlier.pairs, earlier.blocks, earlier.expressions);
+    let first = variables[n];
+    let later = &variables[n + 1..];
+    if let Some(places) = places {
+        if are_short(expressions, table.row(first.name), later.len()) {
+            return add_partners(
+                alloc,
+                table,
+                blocks,
+                expressions,
+                places,
+                variables,
+                n,
+                pairs,
+            );
+        }
+    }
+    add_active_with(table, asked, blocks, first, later, pairs)
+}
+
 /// The pairs of each variable with each later one that an active `$d` has.
 fn active_among(
     alloc: Global,
-    table: &PairTable,
+    earlier: &Earlier,
     asked: &mut AskedPairs,
-    blocks: &Blocks,
     variables: &[NumberedSymbol],
 ) -> Result<Vec<(NumberedSymbol, NumberedSymbol)>, AllocError>
-    ensures pairs { IfOk result (λ pairs. (all : List (List ℕ)) (before : List meant.Item) → ReadsPairs all before table.now blocks.now
+    ensures pairs { IfOk result (λ pairs. (all : List (List ℕ)) (before : List meant.Item) → KnowsEarlier all before earlier.now
         → KnowsAsked all before asked.old → All (IsNumbered all) variables.now
         → ArePairsRead all (filter (are_paired (active_pairs before)) (pairs_of (symbols_of all variables.now))) pairs.items) }
-    ensures asked { OnOk result (AsksOn table.now blocks.now asked.old asked.new) }
+    ensures asked { OnOk result ((all : List (List ℕ)) (before : List meant.Item) → KnowsEarlier all before earlier.now → KnowsAsked all before asked.old
+        → KnowsAsked all before asked.new) }
 {
+    let places = places_if_many(alloc, earlier.pairs, variables)?;
     let mut pairs = Vec::new(alloc);
     for n in 0..variables.len() {
-        add_active_with(
-            table,
-            asked,
-            blocks,
-            variables[n],
-            &variables[n + 1..],
-            &mut pairs,
-        )?;
+        add_pairs_with_later(alloc, earlier, asked, &places, variables, n, &mut pairs)?;
     }
     pairs.shrink_to_fit();
     Ok(pairs)
@@ -272,5 +309,5 @@ pub fn mandatory_pairs(
         → ArePairsRead all (pairs_in_order (frame before item)) pairs.items) }
 {
     let variables = variables_typed(alloc, earlier.essentials, earlier.expressions, hypotheses)?;
-    active_among(alloc, earlier.pairs, asked, earlier.blocks, &variables)
+    active_among(alloc, earlier, asked, &variables)
 }

@@ -155,7 +155,7 @@ impl PairTable {
     }
 
     /// The numbers that are kept for the name with this number.
-    fn row(&self, name: usize) -> &[usize]
+    pub fn row(&self, name: usize) -> &[usize]
         ensures { result.now ≡ row_at self.now name }
     {
         match self.rows.get(name) {

@@ -12,7 +12,7 @@ use Rattle.mm_frame.specs.Code.KeptTables.{Knows}
 use Rattle.mm_frame.specs.Code.KeptPairTable.{KnowsPairs}
 use Rattle.mm_frame.specs.Code.KeptVariables.{AreVariablesOf}
 use Rattle.mm_frame.specs.Language.NumberedSymbols.{AreSymbolsRead}
-use Rattle.mm_frame.specs.Code.KeptSymbols.{AreExpressions, AreNumbered}
+use Rattle.mm_frame.specs.Code.KeptSymbols.{AreExpressions, AreNumbered, AreSymbols}
 
 -- the items are sound, and this is known of them
 pub record KnowsEarlier (all : List (List ℕ)) (before : List Item) (earlier : Earlier) : Type 0 where
@@ -24,6 +24,7 @@ pub record KnowsEarlier (all : List (List ℕ)) (before : List Item) (earlier : 
   pub variables : AreVariablesOf earlier.essentials.now earlier.expressions.now earlier.variables.now
   pub expressions : AreExpressions all before earlier.expressions.now
   pub numbered : AreNumbered all earlier.expressions.now
+  pub symbols : AreSymbols all before earlier.expressions.now
 
 -- the item is a sound `$a` or `$p` behind these items, and has these symbols
 pub record IsFramed (all : List (List ℕ)) (before : List Item) (item : Item) (own : List NumberedSymbol) : Type 0 where

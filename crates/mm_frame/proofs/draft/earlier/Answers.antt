@@ -13,4 +13,5 @@ returns c all before sound scope pairs essentials variables symbols = record {
   variables = variables;
   expressions = are_expressions all before c.args.expressions.now symbols;
   numbered = symbols.numbered;
+  symbols = symbols;
 }

@@ -1,10 +1,9 @@
 use Rattle.std.proofs.Common.{◌+◌, ◌++◌, ◌∙◌, false, ap, sym, subst, filter, drop, get_or, append-nil}
-use Rattle.std.specs.Prelude.{All}
-use Rattle.std.proofs.lemmas.List.{take_rest, drop_all}
-use Rattle.std.proofs.lemmas.List.Elements.{All-drop}
+use Rattle.std.proofs.lemmas.List.{drop_all}
+use Rattle.std.proofs.lemmas.Option.{slice_get-get_or}
 use Rattle.mm_frame.specs.declared.symbol.NumberedSymbol.{NumberedSymbol}
 use Rattle.mm_frame.specs.Language.Framing.{active_pairs, pairs_of}
-use Rattle.mm_frame.specs.Language.NumberedSymbols.{symbol_of, symbols_of, IsNumbered, ArePairsRead}
+use Rattle.mm_frame.specs.Language.NumberedSymbols.{symbol_of, symbols_of, ArePairsRead}
 use Rattle.mm_frame.specs.Language.Answering.{are_paired}
 use Rattle.mm_frame.proofs.ActivePairLemmas.{pairs_with}
 use Rattle.mm_frame.proofs.FramePairs.{among_more}
@@ -12,20 +11,21 @@ use Rattle.mm_frame.proofs.mandatory.active_among.Goals as goal
 
 pub loop-n-preserved : goal.loop-n-preserved
 loop-n-preserved c = record {
-  asked = λ all before reads m. c.in_ok-add_active_with.ensures.asked all before reads (c.loop-n.invariant.asked all before reads m);
-  pairs = λ all before reads m numbered. (
+  placed = c.loop-n.invariant.placed;
+  asked = λ all before known m. c.in_ok-add_pairs_with_later.ensures.asked all before known (c.loop-n.invariant.asked all before known m);
+  pairs = λ all before known m numbered. (
       let n = c.loop-n.n in
       let variables = c.args.variables.now in
       let d : NumberedSymbol = record { name = 0; variable = false } in
       let x = get_or variables n d in
       let test = are_paired (active_pairs before) in
-      let so_far = c.loop-n.invariant.pairs all before reads m numbered in
-      let later = take_rest variables (n + 1) in
-      let asked = c.loop-n.invariant.asked all before reads m in
-      let more = c.in_ok-add_active_with.ensures.pairs all before so_far.0 reads asked (numbered n d c.loop-n-test.true) (subst (All (IsNumbered all)) (sym later) (All-drop (IsNumbered all) (n + 1) variables numbered)) so_far.2 in (
+      let so_far = c.loop-n.invariant.pairs all before known m numbered in
+      let asked = c.loop-n.invariant.asked all before known m in
+      let there = slice_get-get_or variables n d c.loop-n-test.true in
+      let more = c.in_ok-add_pairs_with_later.ensures.pairs all before so_far.0 x known asked c.loop-n.invariant.placed numbered so_far.2 there in (
         so_far.0 ++ filter test (pairs_with (symbol_of all x) (symbols_of all (drop (n + 1) variables))),
         among_more all test variables n d so_far.0 (filter test (pairs_of (symbols_of all variables))) c.loop-n-test.true so_far.1,
-        subst (λ w. ArePairsRead all (so_far.0 ++ filter test (pairs_with (symbol_of all x) (symbols_of all w))) c.add_active_with.new.pairs.items) later more,
+        more,
       )
       );
 }

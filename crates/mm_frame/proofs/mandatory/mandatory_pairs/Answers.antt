@@ -1,10 +1,9 @@
 use Rattle.std.proofs.Common.{◌∙◌, ap, sym, subst, filter}
 use Rattle.std.specs.Prelude.{All}
-use Rattle.std.proofs.lemmas.Result.{IfOk-weaker, on_ok_weaker}
+use Rattle.std.proofs.lemmas.Result.{IfOk-weaker}
 use Rattle.mm_frame.specs.Language.Framing.{pairs_of, active_pairs}
 use Rattle.mm_frame.specs.Code.LastItems.{is_essential_item, IsRising}
 use Rattle.mm_frame.specs.Language.NumberedSymbols.{symbols_of, IsNumbered, ArePairsRead}
-use Rattle.mm_frame.specs.Code.KeptPairTable.{ReadsPairs}
 use Rattle.mm_frame.specs.Language.Answering.{are_paired}
 use Rattle.mm_frame.proofs.HypothesisNumbers.{active_numbers_rise}
 use Rattle.mm_frame.proofs.FramePairs.{variables_are, variables_numbered, active_in_order}
@@ -17,9 +16,5 @@ returns-clause-pairs c = IfOk-weaker c.active_among.result _ _ (λ pairs found a
     let kept = c.deref.ensures.value ∙ c.in_ok-variables.ensures rising in
     let numbered = subst (All (IsNumbered all)) (sym kept) (variables_numbered all earlier.essentials.now c.args.hypotheses.now earlier.expressions.now known.numbered) in
     let typed = variables_are all before item earlier.essentials.now c.args.hypotheses.now earlier.expressions.now known.sound known.essentials known.expressions hypotheses in
-    let reads : ReadsPairs all before earlier.pairs.now earlier.blocks.now = record { distinct = known.known.distinct; sound = known.sound; knows = known.pairs; marks = known.marks } in
     let whole = ap (λ w. filter (are_paired (active_pairs before)) (pairs_of w)) (ap (symbols_of all) kept ∙ typed) ∙ active_in_order before item known.sound in
-    subst (λ w. ArePairsRead all w pairs.items) whole (found all before reads asked numbered)) c.active_among.ensures.pairs
-
-pub returns-clause-asked : goal.returns-clause-asked
-returns-clause-asked c = on_ok_weaker c.active_among.result (λ asks all before known asked. asks all before (record { distinct = known.known.distinct; sound = known.sound; knows = known.pairs; marks = known.marks }) asked) c.active_among.ensures.asked
+    subst (λ w. ArePairsRead all w pairs.items) whole (found all before known asked numbered)) c.active_among.ensures.pairs
