@@ -30,7 +30,7 @@ pub struct Next {
 }
 
 /// Why there is no base of files that have the top file.
-fn lack(error: StoreError) -> AllocError
+fn alloc_error(error: StoreError) -> AllocError
     requires { error ≡ Memory }
 {
     match error {
@@ -47,12 +47,12 @@ fn base_of(alloc: Global, names: &mut Names, files: &Files, top: &[u8]) -> Resul
 {
     match Base::build(alloc, names, files, top) {
         Ok(base) => Ok(base),
-        Err(error) => Err(lack(error)),
+        Err(error) => Err(alloc_error(error)),
     }
 }
 
 /// What a session goes on with, where memory was there for the runs of its base.
-fn joined(base: Base, ran: Result<Ran, AllocError>) -> Result<Next, AllocError>
+fn with_runs(base: Base, ran: Result<Ran, AllocError>) -> Result<Next, AllocError>
     ensures { IfOk result (λ next. (next.base ≡ base) × (ran ≡ Ok next.ran)) }
 {
     match ran {
@@ -62,7 +62,7 @@ fn joined(base: Base, ran: Result<Ran, AllocError>) -> Result<Next, AllocError>
 }
 
 /// What each item of a new base keeps, and the runs of the others.
-fn rest_of(
+fn keep_and_run(
     alloc: Global,
     names: &Names,
     files: &Files,
@@ -99,8 +99,8 @@ pub fn next_of(
     // No name stands twice.
     let _count = names.count();
     let base = built?;
-    let ran = rest_of(alloc, names, files, old, &base);
-    joined(base, ran)
+    let ran = keep_and_run(alloc, names, files, old, &base);
+    with_runs(base, ran)
 }
 
 /// A plan for so many items that keeps nothing.
@@ -116,7 +116,7 @@ fn nothing_kept(alloc: Global, count: usize) -> Result<Vec<Option<usize>>, Alloc
 }
 
 /// The runs of all theorems of a first base.
-fn first_runs(alloc: Global, names: &Names, files: &Files, base: &Base) -> Result<Ran, AllocError>
+fn run_all(alloc: Global, names: &Names, files: &Files, base: &Base) -> Result<Ran, AllocError>
     requires { (view : BaseView) × IsReadIn names.now files.now base.now view }
     ensures { IfOk result (λ ran. (view : BaseView) → IsReadIn names.now files.now base.now view → RunsAll view ran) }
 {
@@ -141,6 +141,6 @@ pub fn first_of(
     ensures told { IfErr result IsExpansionError }
 {
     let base = Base::build(alloc, &mut *names, files, top)?;
-    let ran = first_runs(alloc, names, files, &base);
-    Ok(joined(base, ran)?)
+    let ran = run_all(alloc, names, files, &base);
+    Ok(with_runs(base, ran)?)
 }

@@ -68,7 +68,7 @@ fn reason(error: BatchError) -> EditError
 }
 
 /// A copy of the name of the top file, and what a session begins with.
-fn begun(
+fn first_with_top(
     alloc: Global,
     names: &mut Names,
     files: &Files,
@@ -182,7 +182,7 @@ impl Session {
         ensures told { IfErr result (λ unbegun. IsExpansionError unbegun.fault) }
     {
         let mut names = Names::new(alloc);
-        match begun(alloc, &mut names, &files, top) {
+        match first_with_top(alloc, &mut names, &files, top) {
             Ok((top, next)) => {
                 let Next { base, ran } = next;
                 let Ran { checked, work, .. } = ran;

@@ -6,8 +6,8 @@ use Rattle.mm_keep.proofs.keeping.first_of.Goals as goal
 pub returns-clause-first : goal.returns-clause-first
 returns-clause-first c =
     let built = c.in_ok-base.ensures.base in
-    let next = c.in_ok-joined.ensures in
-    let begins = rw next.1 at c.first_runs-ran.ensures in
+    let next = c.in_ok-with_runs.ensures in
+    let begins = rw next.1 at c.run_all-ran.ensures in
     record {
       base = built.0;
       built = subst (λ (code : Base). IsBuilt c.build.new.names c.args.files.now c.args.top.now code built.0) (sym next.0) (record { of_files = built.1; by_names = built.2; later = built.3 });

@@ -1,7 +1,7 @@
 use Rattle.std.proofs.Common.{◌≡◌, ℕ, Option, List, length, subst}
 use Rattle.mm_keep.specs.Code.Planned.{AreRunBy, AreRecorded}
 use Rattle.mm_keep.proofs.RunLemmas.{planned_runs}
-use Rattle.mm_keep.proofs.keeping.rest_of.Goals as goal
+use Rattle.mm_keep.proofs.keeping.keep_and_run.Goals as goal
 
 pub returns : goal.returns
 returns c view copy both =

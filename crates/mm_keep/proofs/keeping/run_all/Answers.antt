@@ -1,7 +1,7 @@
 use Rattle.std.proofs.Common.{◌≡◌, ◌∙◌, ℕ, Option, List, length, subst}
 use Rattle.mm_keep.specs.Code.Planned.{AreRunBy, AreRecorded}
 use Rattle.mm_keep.proofs.RunLemmas.{begun_runs, begun_checked}
-use Rattle.mm_keep.proofs.keeping.first_runs.Goals as goal
+use Rattle.mm_keep.proofs.keeping.run_all.Goals as goal
 
 pub returns : goal.returns
 returns c view is =
