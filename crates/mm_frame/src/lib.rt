@@ -7,6 +7,7 @@ mod base;
 mod blocks;
 mod draft;
 mod essential;
+mod examples;
 mod expressions;
 mod judge;
 mod label_numbers;
@@ -29,6 +30,7 @@ ghost use Rattle.mm_frame.specs.Language.Laws.{SoundHasNone, StaysByCounts};
 
 pub use base::{Base, Resolved};
 pub use draft::Frame;
+pub use examples::frames_are_read_so;
 pub use judge::FrameFault;
 pub use mm_store::{
     BatchError, Edit, EditError, Files, Item, ItemKind, Keyword, PieceKey, Place, StoreError,
