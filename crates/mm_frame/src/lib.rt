@@ -7,6 +7,7 @@ mod base;
 mod blocks;
 mod draft;
 mod essential;
+mod examples;
 mod expressions;
 mod judge;
 mod label_numbers;
@@ -26,6 +27,7 @@ mod tables;
 
 pub use base::{Base, Resolved};
 pub use draft::Frame;
+pub use examples::frames_are_read_so;
 pub use judge::FrameFault;
 pub use laws::{
     active_by_blocks, fault_is_found, files_have_one_base, has_fault_or_is_sound, has_one_fault,

@@ -26,3 +26,4 @@ pub mod ViewLaws
 pub mod BaseMarks
 pub mod Work
 pub mod ReadIn
+pub mod Examples

@@ -47,3 +47,4 @@ pub mod HavingLemmas
 pub mod BatchLemmas
 pub mod SettleLemmas
 pub mod RefusedLemmas
+pub mod ExampleLemmas

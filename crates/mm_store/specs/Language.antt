@@ -11,3 +11,4 @@ pub mod Undoing
 pub mod EditedKeys
 pub mod Answers
 pub mod Batches
+pub mod Examples

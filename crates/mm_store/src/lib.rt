@@ -10,6 +10,7 @@
 mod batch;
 mod edit;
 mod error;
+mod examples;
 mod expanding;
 mod file_text;
 mod files;
@@ -28,6 +29,7 @@ mod walk;
 pub use batch::{BatchError, Undos};
 pub use edit::{Edit, EditError};
 pub use error::StoreError;
+pub use examples::rings_are_read_so;
 pub use files::{Files, PieceKey};
 pub use item::{Item, ItemKind};
 pub use laws::{

@@ -25,3 +25,4 @@ pub mod SkipLemmas
 pub mod PartLemmas
 pub mod PartWalkLemmas
 pub mod OwnWordLemmas
+pub mod ExampleLemmas

@@ -8,3 +8,4 @@ pub mod Unit
 pub mod Cut
 pub mod Part
 pub mod WordsLeft
+pub mod Examples

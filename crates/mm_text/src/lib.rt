@@ -15,6 +15,7 @@
 mod cursor;
 mod cutting;
 mod division;
+mod examples;
 mod fault;
 mod grammar;
 mod laws;
@@ -31,6 +32,7 @@ mod word;
 pub use cursor::WordCursor;
 pub use cutting::{cut, ends_white};
 pub use division::parts;
+pub use examples::texts_are_read_so;
 pub use fault::{TextError, TextFault, TextNumber};
 pub use laws::{
     first_faults_are_within, one_cut, one_division, one_layout, one_meaning, one_unit_fault,

@@ -14,21 +14,21 @@ use Rattle.mm_frame.specs.Language.Statement.{Says}
 use Rattle.mm_frame.specs.Language.Scope.{stays}
 use Rattle.mm_frame.specs.Language.Framing.{expression, hypothesis, mandatory_variables, is_mandatory, frame}
 
--- what a base stands for: the items of the files, and what each says
+-- what a base stands for: the items of the files, and what each of them says
 pub record BaseView : Type 0 where
   pub found : List store.Item
   pub said : List Item
 
--- they are the items of these files from the top file on
+-- the items are those of the expansion of these files from the top file on, and each says what its bytes say
 pub record IsOfFiles (files : FilesView) (top : List ℕ) (base : BaseView) : Type 0 where
   pub expansion : IsExpansion (files_in files) top base.found
   pub each : AllZip (Says files) base.found base.said
 
--- what each item says is what its words say, in some files
+-- each item says what its bytes say, in some files
 abbrev pub AreSaid : BaseView → Type 0
 AreSaid base = (files : FilesView) × AllZip (Says files) base.found base.said
 
--- the sound items before the one with this number, with a placeholder for each one at fault
+-- the items before the one with this number, where each statement at fault is passed over
 abbrev pub before : BaseView → ℕ → List Item
 before base i = sound_items (take i base.said)
 
@@ -36,20 +36,20 @@ before base i = sound_items (take i base.said)
 abbrev pub said_at : BaseView → ℕ → Item
 said_at base i = item_at base.said i
 
--- F14 at the name of a missing file, and else the fault of the statement
+-- a missing file has F14, at its name; any other item has the fault of its statement, if that has one
 abbrev pub fault_by : Kind → Option (ℕ × FrameNumber) → Option (ℕ × FrameNumber)
 fault_by Missing statement = Some (1, F14)
 fault_by _ statement = statement
 
--- the fault of an item behind the sound ones before it
+-- the fault of an item behind the sound ones before it, if it has one: the word that it is told at, and its number
 abbrev pub told_fault : List Item → Item → Option (ℕ × FrameNumber)
 told_fault before item = fault_by item.kind (fault before item)
 
--- the fault of the item with this number
+-- the fault of the item with this number, if it has one
 abbrev pub fault_at : BaseView → ℕ → Option (ℕ × FrameNumber)
 fault_at base i = told_fault (before base i) (said_at base i)
 
--- it has none
+-- the item with this number has no fault
 abbrev pub is_sound_at : BaseView → ℕ → Bool
 is_sound_at base i = is_none (fault_at base i)
 
@@ -61,11 +61,11 @@ expression_at base i = if is_sound_at base i && is_labelled (said_at base i).kin
 abbrev pub is_shown_at : BaseView → ℕ → Bool
 is_shown_at base i = is_sound_at base i && is_labelled (said_at base i).kind
 
--- it is a sound `$a` or `$p`
+-- the item with this number is a sound `$a` or `$p`
 abbrev pub is_framed_at : BaseView → ℕ → Bool
 is_framed_at base i = is_sound_at base i && is_assertion (said_at base i).kind
 
--- it is a sound `$p`
+-- the item with this number is a sound `$p`
 abbrev pub is_proof_at : BaseView → ℕ → Bool
 is_proof_at base i = is_sound_at base i && is_theorem (said_at base i).kind
 

@@ -5,48 +5,48 @@ use Rattle.mm_frame.specs.Language.Item.{Item, is_disjoint, is_floating, is_esse
 use Rattle.mm_frame.specs.Language.Scope.{stays, active, active_numbers, symbols_by, active_variables}
 use Rattle.mm_frame.specs.Language.Sound.{sound_items}
 
--- what a name is behind these items
+-- what a name is behind these items: a variable where it is an active one, and else a constant
 abbrev pub symbol : List Item → List ℕ → Symbol
 symbol before name = record { name = name; variable = has (active_variables before) name }
 
--- the expression of a statement
+-- the expression of a statement behind these items: its symbols, each as a constant or a variable
 abbrev pub expression : List Item → Item → List Symbol
 expression before item = map (symbol before) item.symbols
 
--- the variables of an assertion's expression and of its active `$e`
+-- the mandatory variables of a statement: those in its expression and in the active `$e`
 abbrev pub mandatory_variables : List Item → Item → List (List ℕ)
 mandatory_variables before item = filter (has (active_variables before)) (item.symbols ++ symbols_by is_essential (active before))
 
--- an `$e`, or the `$f` of a mandatory variable
+-- the hypothesis is mandatory: an `$e`, or the `$f` of a mandatory variable
 abbrev pub is_mandatory : List (List ℕ) → Item → Bool
 is_mandatory mandatory item = is_essential item.kind || (is_floating item.kind && has mandatory (variable_of item))
 
--- a hypothesis as it is read behind these items
+-- a hypothesis as a frame has it: whether it is a `$f`, and its expression
 abbrev pub hypothesis : List Item → Item → Mandatory
 hypothesis before item = record { floating = is_floating item.kind; expression = expression before item }
 
--- the active hypotheses that are mandatory, in order of occurrence
+-- the mandatory hypotheses of a statement: the active ones that are mandatory, in order of occurrence
 abbrev pub mandatory_hypotheses : List Item → Item → List Mandatory
 mandatory_hypotheses before item = map (hypothesis before) (filter (is_mandatory (mandatory_variables before item)) (active before))
 
--- the numbers of the mandatory hypotheses of a statement behind the items, in order
+-- the numbers of the items that are the mandatory hypotheses of a statement, in order
 abbrev pub mandatory_numbers : List Item → Item → List ℕ
 mandatory_numbers before item = active_numbers (is_mandatory (mandatory_variables before item)) before
 
--- each with each later one
+-- the pairs that a `$d` with these variables stands for: each variable with each later one
 abbrev pub pairs_of : List Symbol → List (Symbol × Symbol)
 pairs_of [] = []
 pairs_of (x ∷ xs) = map (λ y. (x, y)) xs ++ pairs_of xs
 
--- the pairs of the active `$d`
+-- the pairs of all active `$d`
 abbrev pub active_pairs : List Item → List (Symbol × Symbol)
 active_pairs before = flat_map (λ item. if is_disjoint item.kind then pairs_of (expression before item) else []) (active before)
 
--- both are mandatory
+-- both variables of the pair are mandatory
 abbrev pub is_mandatory_pair : List (List ℕ) → Symbol × Symbol → Bool
 is_mandatory_pair mandatory pair = has mandatory pair.0.name && has mandatory pair.1.name
 
--- the frame of an assertion behind these items
+-- the frame of an assertion behind these items: its expression, its mandatory hypotheses, and those active pairs of which both variables are mandatory
 abbrev pub frame : List Item → Item → Frame
 frame before item = record {
   expression = expression before item;
@@ -54,21 +54,22 @@ frame before item = record {
   pairs = filter (is_mandatory_pair (mandatory_variables before item)) (active_pairs before);
 }
 
--- what the label of an item means, with the items before it and those behind it
+-- what the label of an item means behind the whole list: an assertion means its frame, as it is right behind the items in front of it; a hypothesis means its
+-- expression, where no `$}` at the back has ended its block
 abbrev pub meaning : List Item → List Item → Item → List Item → Resolved
 meaning whole front item back =
     if is_assertion item.kind then Assertion (frame front item)
     else if stays back then Hypothesis (expression whole item)
     else Inactive
 
--- what a label means in the whole list, where it is looked for from the back part on
+-- what a label means behind the whole list, where it is looked for in the back part of it alone
 abbrev pub resolve_from : List Item → List Item → List Item → List ℕ → Resolved
 resolve_from whole front [] label = Unknown
 resolve_from whole front (item ∷ back) label =
     if has (labels_of item) label then meaning whole front item back
     else resolve_from whole (front ++ item ∷ []) back label
 
--- what a label means behind these items
+-- what a label means behind these items: the item that has it decides
 abbrev pub resolve : List Item → List ℕ → Resolved
 resolve before label = resolve_from before [] before label
 

@@ -2,7 +2,7 @@
 use Rattle.std.specs.Prelude.{ℕ, Bool, true, false, if◌then◌else◌, Option, None, List, [], bytes_eq, slice_index_or, option_to_list}
 use Rattle.std.specs.List.{list_any}
 
--- What an item is; `Passed` stands for a statement at fault.
+-- What an item is: `$c`, `$v`, `$d`, `$f`, `$e`, `$a`, `$p`, `${`, `$}`, or a missing file; `Passed` stands in the place of a statement at fault.
 pub data Kind : Type 0 where
   Constants : Kind
   Variables : Kind
@@ -16,7 +16,7 @@ pub data Kind : Type 0 where
   Missing : Kind
   Passed : Kind
 
--- A statement, a `${`, a `$}`, or a missing inclusion.
+-- What an item says: its kind, its label if it has one, its symbols, and the words of its proof.
 pub record Item : Type 0 where
   pub kind : Kind
   pub label : Option (List ℕ)
@@ -27,56 +27,56 @@ pub record Item : Type 0 where
 abbrev pub passed : Item
 passed = record { kind = Passed; label = None; symbols = []; proof = [] }
 
--- `$c`
+-- it is `$c`
 abbrev pub is_constants : Kind → Bool
 is_constants Constants = true
 is_constants _ = false
 
--- `$v`
+-- it is `$v`
 abbrev pub is_variables : Kind → Bool
 is_variables Variables = true
 is_variables _ = false
 
--- `$d`
+-- it is `$d`
 abbrev pub is_disjoint : Kind → Bool
 is_disjoint Disjoint = true
 is_disjoint _ = false
 
--- `$f`
+-- it is `$f`
 abbrev pub is_floating : Kind → Bool
 is_floating Floating = true
 is_floating _ = false
 
--- `$e`
+-- it is `$e`
 abbrev pub is_essential : Kind → Bool
 is_essential Essential = true
 is_essential _ = false
 
--- `$a` and `$p`
+-- it is `$a` or `$p`
 abbrev pub is_assertion : Kind → Bool
 is_assertion Axiom = true
 is_assertion Theorem = true
 is_assertion _ = false
 
--- `$p`
+-- it is `$p`
 abbrev pub is_theorem : Kind → Bool
 is_theorem Theorem = true
 is_theorem _ = false
 
--- `$c` and `$v`
+-- it declares symbols: `$c` or `$v`
 abbrev pub is_declaring : Kind → Bool
 is_declaring Constants = true
 is_declaring Variables = true
 is_declaring _ = false
 
--- `$e`, `$a` and `$p`
+-- its symbols are an expression with a typecode and what stands behind it: `$e`, `$a` or `$p`
 abbrev pub is_expression : Kind → Bool
 is_expression Essential = true
 is_expression Axiom = true
 is_expression Theorem = true
 is_expression _ = false
 
--- `$f`, `$e`, `$a` and `$p`
+-- it has a label: `$f`, `$e`, `$a` or `$p`
 abbrev pub is_labelled : Kind → Bool
 is_labelled Floating = true
 is_labelled Essential = true
@@ -84,19 +84,19 @@ is_labelled Axiom = true
 is_labelled Theorem = true
 is_labelled _ = false
 
--- the name is one of these
+-- the name is one of these names
 abbrev pub has : List (List ℕ) → List ℕ → Bool
 has names name = list_any (bytes_eq name) names
 
--- the label of a statement that has one
+-- the label of an item that has one, as a list
 abbrev pub labels_of : Item → List (List ℕ)
 labels_of item = if is_labelled item.kind then option_to_list item.label else []
 
--- the first symbol
+-- the typecode, which is the first symbol
 abbrev pub typecode_of : Item → List ℕ
 typecode_of item = slice_index_or item.symbols 0 []
 
--- the second symbol, which is the variable of a `$f`
+-- the variable of a `$f`, which is the second symbol
 abbrev pub variable_of : Item → List ℕ
 variable_of item = slice_index_or item.symbols 1 []
 

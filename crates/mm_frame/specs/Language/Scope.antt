@@ -2,7 +2,7 @@
 use Rattle.std.specs.Prelude.{ℕ, zero, suc, pred, Bool, true, false, ◌&&◌, if◌then◌else◌, ltb, List, [], ◌∷◌, filter, map, flat_map, count_by}
 use Rattle.mm_frame.specs.Language.Item.{Kind, BlockStart, BlockEnd, Item, is_constants, is_variables, is_floating, labels_of, variable_of}
 
--- What an item does to the blocks that are open.
+-- What an item does to blocks: it opens one, closes one, or neither.
 pub data Mark : Type 0 where
   Opens : Mark
   Closes : Mark
@@ -14,39 +14,39 @@ mark_of BlockStart = Opens
 mark_of BlockEnd = Closes
 mark_of _ = Neither
 
--- what an item makes of the count of earlier blocks that the items behind it close
+-- how many blocks from before it are closed by an item and those behind it, where those behind it close so many from before them
 abbrev pub closed_at : Mark → ℕ → ℕ
 closed_at Opens count = pred count
 closed_at Closes count = suc count
 closed_at Neither count = count
 
--- how many of the blocks that were open before them the items close
+-- how many of the blocks that were open before these items they close
 abbrev pub closed : List Item → ℕ
 closed [] = zero
 closed (item ∷ items) = closed_at (mark_of item.kind) (closed items)
 
--- none
+-- the count is none
 abbrev pub is_zero : ℕ → Bool
 is_zero zero = true
 is_zero (suc count) = false
 
--- the items close no block that was open before them
+-- these items close no block that was open before them: what stood before them is still active behind them
 abbrev pub stays : List Item → Bool
 stays items = is_zero (closed items)
 
--- the items, in order, whose blocks are open at the end
+-- the items that are active at the end of the list: those whose blocks are all open still (4.2.8)
 abbrev pub active : List Item → List Item
 active [] = []
 active (item ∷ items) = if stays items then item ∷ active items else active items
 
--- the numbers, counted from this one, of the items that are active behind the list and pass a test
+-- the numbers of the items that are active at the end of the list and pass a test, where the first item has this number
 abbrev pub active_numbers_from : (Item → Bool) → ℕ → List Item → List ℕ
 active_numbers_from test n [] = []
 active_numbers_from test n (item ∷ items) =
     if stays items && test item then n ∷ active_numbers_from test (suc n) items
     else active_numbers_from test (suc n) items
 
--- the numbers of the active items that pass a test, in order
+-- the numbers, from 0, of the items that are active at the end of the list and pass a test
 abbrev pub active_numbers : (Item → Bool) → List Item → List ℕ
 active_numbers test items = active_numbers_from test 0 items
 
@@ -68,34 +68,34 @@ is_start item = opens (mark_of item.kind)
 abbrev pub is_end : Item → Bool
 is_end item = closes (mark_of item.kind)
 
--- a block is open at the end
+-- a block is open at the end: there are more `${` than `$}`
 abbrev pub is_inside : List Item → Bool
 is_inside items = ltb (count_by is_end items) (count_by is_start items)
 
--- the symbols of those items that pass a test of their kind
+-- the symbols of those items whose kind passes a test
 abbrev pub symbols_by : (Kind → Bool) → List Item → List (List ℕ)
 symbols_by test items = flat_map (λ item. if test item.kind then item.symbols else []) items
 
--- the declared constants
+-- the constants that are declared
 abbrev pub constants : List Item → List (List ℕ)
 constants items = symbols_by is_constants items
 
--- the declared variables, active or not
+-- the variables that are declared, active or not
 abbrev pub variables : List Item → List (List ℕ)
 variables items = symbols_by is_variables items
 
--- the labels, active or not
+-- the labels of the items, active or not
 abbrev pub labels : List Item → List (List ℕ)
 labels items = flat_map labels_of items
 
--- the variables that are active at the end
+-- the variables that are active at the end of the list
 abbrev pub active_variables : List Item → List (List ℕ)
 active_variables items = variables (active items)
 
--- the `$f` among these
+-- the `$f` among the items
 abbrev pub floats : List Item → List Item
 floats items = filter (λ item. is_floating item.kind) items
 
--- the variables with an active `$f`
+-- the variables that have an active `$f` at the end of the list
 abbrev pub typed : List Item → List (List ℕ)
 typed items = map variable_of (floats (active items))

@@ -9,85 +9,85 @@ use Rattle.mm_frame.specs.Language.Item.{Kind, Constants, Variables, Disjoint, F
 use Rattle.mm_frame.specs.Language.Item.{is_disjoint, is_floating, is_declaring, is_expression, is_labelled, has, labels_of, typecode_of, variable_of}
 use Rattle.mm_frame.specs.Language.Scope.{is_inside, constants, variables, labels, active_variables, floats, typed}
 
--- the word of the first symbol
+-- the number of the word that is the first symbol. Words of a statement count from 0: the label if there is one, the keyword, the symbols
 abbrev pub first_symbol : Item → ℕ
 first_symbol item = length (labels_of item) + 1
 
--- the word of the `$.` or `$=` behind the last symbol
+-- the number of the word behind the last symbol, which is `$.` or `$=`
 abbrev pub closing_word : Item → ℕ
 closing_word item = first_symbol item + length item.symbols
 
--- the test of a symbol, where there is one
+-- there is a symbol, and it passes the test
 abbrev pub passes : (List ℕ → Bool) → Option (List ℕ) → Bool
 passes test None = false
 passes test (Some name) = test name
 
--- the word is that of a symbol, and its place among the symbols and the symbol pass the test
+-- the word is a symbol of the statement, and passes the test, which is given the symbol's number among the symbols, and the symbol
 abbrev pub at_symbol : (ℕ → List ℕ → Bool) → Item → ℕ → Bool
 at_symbol test item word = leb (first_symbol item) word && passes (test (word - first_symbol item)) (slice_get item.symbols (word - first_symbol item))
 
--- a test of each symbol
+-- a test of each symbol, wherever it stands
 abbrev pub each : (List ℕ → Bool) → ℕ → List ℕ → Bool
 each test n name = test name
 
--- a test of the first symbol alone
+-- the test holds of the first symbol; others do not pass
 abbrev pub first : (List ℕ → Bool) → ℕ → List ℕ → Bool
 first test n name = n == 0 && test name
 
--- a test of the second symbol alone
+-- the test holds of the second symbol; others do not pass
 abbrev pub second : (List ℕ → Bool) → ℕ → List ℕ → Bool
 second test n name = n == 1 && test name
 
--- a test of each symbol behind the first
+-- the test holds of a symbol behind the first, which is the typecode
 abbrev pub later : (List ℕ → Bool) → ℕ → List ℕ → Bool
 later test n name = ltb 0 n && test name
 
--- the third symbol
+-- it is the third symbol
 abbrev pub is_third : ℕ → List ℕ → Bool
 is_third n name = n == 2
 
--- the symbol stands before it in the same statement
+-- the symbol stands before, too, in the same statement
 abbrev pub is_repeated : Item → ℕ → List ℕ → Bool
 is_repeated item n name = has (take n item.symbols) name
 
--- a constant, or a variable, active or not
+-- the name is declared: a constant, or a variable, active or not
 abbrev pub is_declared : List Item → List ℕ → Bool
 is_declared before name = has (constants before) name || has (variables before) name
 
--- a constant, or an active variable
+-- the name is a constant, or an active variable
 abbrev pub is_active_symbol : List Item → List ℕ → Bool
 is_active_symbol before name = has (constants before) name || has (active_variables before) name
 
--- a label, active or not
+-- the name is a label, active or not
 abbrev pub is_label : List Item → List ℕ → Bool
 is_label before name = has (labels before) name
 
--- no constant
+-- the name is no constant
 abbrev pub is_no_constant : List Item → List ℕ → Bool
 is_no_constant before name = not (has (constants before) name)
 
--- no active variable
+-- the name is no active variable
 abbrev pub is_no_variable : List Item → List ℕ → Bool
 is_no_variable before name = not (has (active_variables before) name)
 
--- no constant and no active variable
+-- the name is neither a constant nor an active variable
 abbrev pub is_no_active_symbol : List Item → List ℕ → Bool
 is_no_active_symbol before name = not (is_active_symbol before name)
 
--- an active variable with no active `$f`
+-- the name is an active variable without an active `$f`
 abbrev pub is_untyped : List Item → List ℕ → Bool
 is_untyped before name = has (active_variables before) name && not (has (typed before) name)
 
--- a variable with an active `$f`
+-- the name is a variable with an active `$f`
 abbrev pub is_typed : List Item → List ℕ → Bool
 is_typed before name = has (typed before) name
 
--- another `$f`, active or not, gives the variable another typecode
+-- an earlier `$f`, active or not, gives the variable another typecode than this one does
 abbrev pub is_typed_otherwise : List Item → Item → List ℕ → Bool
 is_typed_otherwise before item name = list_any (λ other.
     bytes_eq (variable_of other) name && not (bytes_eq (typecode_of other) (typecode_of item))) (floats before)
 
--- the statement has too few symbols
+-- a statement of this kind with so many symbols has too few
 abbrev pub is_short : Kind → ℕ → Bool
 is_short Constants count = count == 0
 is_short Variables count = count == 0
@@ -98,7 +98,8 @@ is_short Axiom count = count == 0
 is_short Theorem count = count == 0
 is_short _ count = false
 
--- the fault of this number holds at this word for a statement behind these items
+-- The table of faults, a line for each number: a statement behind these items has the fault of this number at this word. F14 is that of a missing file, which
+-- is no statement.
 abbrev pub line_holds : List Item → Item → ℕ → FrameNumber → Bool
 -- too few symbols, or a third one of a `$f`
 line_holds before item word F01 = (is_short item.kind (length item.symbols) && word == closing_word item)
@@ -169,38 +170,38 @@ pub record IsStatementFault (before : List Item) (item : Item) (word : ℕ) (num
   pub least_word : (other : ℕ) (m : FrameNumber) → StatementLineHolds before item other m → word ≤ other
   pub lowest_number : (m : FrameNumber) → StatementLineHolds before item word m → row number ≤ row m
 
--- all numbers, in order
+-- the numbers of the table, from the lowest up
 abbrev pub numbers : List FrameNumber
 numbers = F01 ∷ F02 ∷ F03 ∷ F04 ∷ F05 ∷ F06 ∷ F07 ∷ F08 ∷ F09 ∷ F10 ∷ F11 ∷ F12 ∷ F13 ∷ F14 ∷ []
 
--- the lowest number of a word
+-- the fault at a word: the lowest number that holds there
 abbrev pub number_at : List Item → Item → ℕ → Option FrameNumber
 number_at before item word = find (λ number. line_holds before item word number) numbers
 
--- the fault at a word, or else at one of the next words
+-- the fault at this word, if there is one, and else the one that is found later
 abbrev pub fault_or : ℕ → Option FrameNumber → Option (ℕ × FrameNumber) → Option (ℕ × FrameNumber)
 fault_or word (Some number) later = Some (word, number)
 fault_or word None later = later
 
--- the first fault among the next words
+-- the first fault among the words from this one on, of which there are so many
 abbrev pub fault_from : List Item → Item → ℕ → ℕ → Option (ℕ × FrameNumber)
 fault_from before item word zero = None
 fault_from before item word (suc more) = fault_or word (number_at before item word) (fault_from before item (suc word) more)
 
--- the fault of a statement, if it has one
+-- the fault of a statement behind these items, if it has one: at the least word that has one, with the lowest number there
 abbrev pub fault : List Item → Item → Option (ℕ × FrameNumber)
 fault before item = fault_from before item 0 (closing_word item + 1)
 
--- the statement, or what stands in its place if it is at fault
+-- the statement, or, where it is at fault, what stands in its place
 abbrev pub judged : Item → Option (ℕ × FrameNumber) → Item
 judged item None = item
 judged item (Some at) = passed
 
--- the items behind others, each judged against the sound ones before it
+-- the sound items, followed by the others, each judged against the sound items before it
 abbrev pub sound_items_after : List Item → List Item → List Item
 sound_items_after before [] = before
 sound_items_after before (item ∷ items) = sound_items_after (before ++ judged item (fault before item) ∷ []) items
 
--- the items, where each statement at fault is passed over
+-- the items in order, where each statement at fault is passed over: it declares nothing, and takes no label
 abbrev pub sound_items : List Item → List Item
 sound_items items = sound_items_after [] items

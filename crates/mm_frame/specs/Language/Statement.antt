@@ -13,7 +13,7 @@ use Rattle.mm_store.specs.Language.FileFacts.{CanBeRead}
 use Rattle.mm_frame.specs.Language.Item.{Kind, Constants, Variables, Disjoint, Floating, Essential, Axiom, Theorem, BlockStart, BlockEnd, Missing, Item}
 use Rattle.mm_frame.specs.Language.Item.{is_labelled}
 
--- the kind of an item of the files
+-- the kind of an item of the files, as frames see it
 abbrev pub kind_of : ItemKind → Kind
 kind_of items.Constants = Constants
 kind_of items.Variables = Variables
@@ -26,11 +26,12 @@ kind_of items.BlockStart = BlockStart
 kind_of items.BlockEnd = BlockEnd
 kind_of items.Missing = Missing
 
--- no keyword
+-- a word of this kind is no keyword
 abbrev pub is_plain_kind : WordKind → Bool
 is_plain_kind words.Plain = true
 is_plain_kind (words.Keyword keyword) = false
 
+-- the word is no keyword
 abbrev pub is_plain : Token → Bool
 is_plain token = is_plain_kind token.kind
 
@@ -42,7 +43,7 @@ plain_from from tokens = take (prefix_len is_plain (drop from tokens)) (drop fro
 abbrev pub token_names : List Token → List (List ℕ)
 token_names tokens = map (λ token. token.bytes) tokens
 
--- the place of the first symbol: behind the keyword, and the label where there is one
+-- the number of the word that is the first symbol: it stands behind the keyword, and the label where there is one
 abbrev pub symbols_from : Kind → ℕ
 symbols_from kind = if is_labelled kind then 2 else 1
 
@@ -58,7 +59,7 @@ proof_in kind tokens = plain_from (symbols_from kind + length (symbols_in kind t
 abbrev pub label_in : Kind → List Token → Option (List ℕ)
 label_in kind tokens = if is_labelled kind then option_map (λ token. token.bytes) (slice_get tokens 0) else None
 
--- the item of this kind that these words are
+-- the item of this kind that these words say
 abbrev pub item_of : Kind → List Token → Item
 item_of kind tokens = record {
   kind = kind;
@@ -67,7 +68,7 @@ item_of kind tokens = record {
   proof = token_names (proof_in kind tokens);
 }
 
--- what an item of the files says by its words
+-- what an item of the files says, by its words
 pub record Says (files : FilesView) (item : store.Item) (said : Item) : Type 0 where
   pub read : CanBeRead files item
   pub is : said ≡ item_of (kind_of item.kind) (tokens_of (slice_range read.text item.start item.end) read.words)

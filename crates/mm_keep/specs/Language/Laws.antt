@@ -21,7 +21,7 @@ ItemsHaveFindings =
     (files : FilesView) (top : List ℕ) (base : BaseView) → IsOfFiles files top base → (i : ℕ) → i < length base.said
     → (one : Told) × IsRightlyTold files base i one
 
--- there is one list at most that stands so to a label in sessions of the same files, whatever keys their pieces have
+-- a label has one list at most that stands to it in this way, in sessions of files that mean the same
 abbrev pub IsOneList : (SessionView → List ℕ → List ℕ → Type 0) → Type 0
 IsOneList AreSo =
     (session other : SessionView) (label numbers copies : List ℕ) → plain session.files ≡ plain other.files → session.top ≡ other.top →

@@ -6,7 +6,7 @@ use Rattle.mm_proof.specs.mm_frame.Language.Base.{BaseView, IsOfFiles, said_at, 
 use Rattle.mm_proof.specs.Language.View.{view_at, AreSameViews}
 use Rattle.mm_proof.specs.Language.VerdictAt.{AreDoneAt}
 
--- the numbers below the count of which this holds, rising
+-- these are the numbers below the count of which this holds, from the lowest up
 pub record AreThose (P : ℕ → Type 0) (count : ℕ) (numbers : List ℕ) : Type 0 where
   pub rising : AllPairs (λ m n. m < n) numbers
   pub each : (k : ℕ) → Contains numbers k ↔ ((k < count) × P k)
@@ -19,20 +19,20 @@ pub record HasSameView (old new : BaseView) (i j : ℕ) : Type 0 where
   pub label : (said_at old i).label ≡ (said_at new j).label
   pub view : AreSameViews (view_at old i) (view_at new j)
 
--- the old database has a sound theorem of the label and the view of this one
+-- the old database had this theorem with this view: some sound theorem of it has the same label and an equal view
 abbrev pub HadView : BaseView → BaseView → ℕ → Type 0
 HadView old new j = (i : ℕ) × HasSameView old new i j
 
--- the item is a sound theorem, and the old database has none of its label with an equal view
+-- item j of the new database is run: it is a sound theorem, and the old database had none of its label with an equal view
 pub record IsRun (old new : BaseView) (j : ℕ) : Type 0 where
   pub theorem : is_proof_at new j ≡ true
   pub changed : ¬ HadView old new j
 
--- these items of the new database are run, in order, each once
+-- these items of the new database are run: exactly those that have to be, in order, each once
 abbrev pub AreRuns : BaseView → BaseView → List ℕ → Type 0
 AreRuns old new runs = AreThose (IsRun old new) (length new.said) runs
 
--- so it is between files before and after
+-- these items are run between the files before and the files after, both read from the top file on
 pub record AreRunsOf (before after : FilesView) (top : List ℕ) (runs : List ℕ) : Type 0 where
   pub old : BaseView
   pub new : BaseView
@@ -40,7 +40,7 @@ pub record AreRunsOf (before after : FilesView) (top : List ℕ) (runs : List �
   pub are : IsOfFiles after top new
   pub those : AreRuns old new runs
 
--- all steps that are done in runs of these items
+-- the runs of these items do so many steps in all
 pub record AreStepsOf (base : BaseView) (runs : List ℕ) (total : ℕ) : Type 0 where
   pub counts : List ℕ
   pub each : AllZip (AreDoneAt base) runs counts

@@ -7,20 +7,20 @@ use Rattle.mm_keep.specs.Language.Citations.{CitesItem, IsAxiomOf}
 use Rattle.mm_keep.specs.Language.Runs.{AreThose, AreRunsOf, AreStepsOf}
 use Rattle.mm_keep.specs.Language.Told.{Told, IsRightlyTold, AreRightlyTold, Counts, counts}
 
--- What a session stands for: the files, and the name of the one that the database begins with.
+-- What a session stands for: its files, and the name of its top file, the one that the database begins with.
 pub record SessionView : Type 0 where
   pub files : FilesView
   pub top : List ℕ
 
--- of the items of the session's files this holds
+-- this holds of the items of the session's files
 abbrev pub OfItems : SessionView → (BaseView → Type 0) → Type 0
 OfItems session P = (base : BaseView) × IsOfFiles session.files session.top base × P base
 
--- there are so many items
+-- the session has so many items
 abbrev pub IsCount : SessionView → ℕ → Type 0
 IsCount session count = OfItems session (λ base. count ≡ length base.said)
 
--- there is an item with this number
+-- the session has an item with this number
 abbrev pub HasItem : SessionView → ℕ → Type 0
 HasItem session i = OfItems session (λ base. i < length base.said)
 
@@ -28,7 +28,7 @@ HasItem session i = OfItems session (λ base. i < length base.said)
 abbrev pub IsLabelOfItem : SessionView → ℕ → Option (List ℕ) → Type 0
 IsLabelOfItem session i label = OfItems session (λ base. label ≡ (said_at base i).label)
 
--- this is told rightly of the item with this number
+-- this is what is rightly told of the item with this number
 abbrev pub IsFinding : SessionView → ℕ → Told → Type 0
 IsFinding session i told = OfItems session (λ base. IsRightlyTold session.files base i told)
 
@@ -38,32 +38,32 @@ pub record IsAssertion (base : BaseView) (label : List ℕ) (i : ℕ) : Type 0 w
   pub framed : is_framed_at base i ≡ true
   pub label_is : (said_at base i).label ≡ Some label
 
--- there is one with this label
+-- the session has an assertion, a sound `$a` or `$p`, with this label
 abbrev pub HasAssertion : SessionView → List ℕ → Type 0
 HasAssertion session label = OfItems session (λ base. (i : ℕ) × IsAssertion base label i)
 
--- this is told rightly of the one with this label
+-- this is what is rightly told of the assertion with this label
 abbrev pub IsVerdictOf : SessionView → List ℕ → Told → Type 0
 IsVerdictOf session label told = OfItems session (λ base. (i : ℕ) × IsAssertion base label i × IsRightlyTold session.files base i told)
 
--- these are the numbers of the items that stand so to the one with this label
+-- these are the numbers of the items that stand in this way to the assertion with this label
 abbrev pub AreNumbersOf : SessionView → List ℕ → (BaseView → ℕ → ℕ → Type 0) → List ℕ → Type 0
 AreNumbersOf session label stands numbers =
     OfItems session (λ base. (i : ℕ) × IsAssertion base label i × AreThose (stands base i) (length base.said) numbers)
 
--- the items that it cites
+-- these are the numbers of the items that the assertion with this label cites
 abbrev pub AreCitesOf : SessionView → List ℕ → List ℕ → Type 0
 AreCitesOf session label numbers = AreNumbersOf session label (λ base i k. CitesItem base i k) numbers
 
--- the items that cite it
+-- these are the numbers of the items that cite the assertion with this label
 abbrev pub AreUsersOf : SessionView → List ℕ → List ℕ → Type 0
 AreUsersOf session label numbers = AreNumbersOf session label (λ base i k. CitesItem base k i) numbers
 
--- its axioms
+-- these are the numbers of the axioms of the assertion with this label
 abbrev pub AreAxiomsOf : SessionView → List ℕ → List ℕ → Type 0
 AreAxiomsOf session label numbers = AreNumbersOf session label (λ base i k. IsAxiomOf base i k) numbers
 
--- what is told rightly of all items is counted so
+-- these are the counts of what is rightly told of all items
 pub record IsTally (session : SessionView) (counted : Counts) : Type 0 where
   pub base : BaseView
   pub of_files : IsOfFiles session.files session.top base
@@ -71,14 +71,14 @@ pub record IsTally (session : SessionView) (counted : Counts) : Type 0 where
   pub are_told : AreRightlyTold session.files base all
   pub is : counted ≡ counts all
 
--- each sound theorem is run once, in order, with its steps
+-- when a session begins, each sound theorem is run, in order, each once, and the steps are counted
 pub record IsBegun (session : SessionView) (work : Recorded) : Type 0 where
   pub base : BaseView
   pub of_files : IsOfFiles session.files session.top base
   pub those : AreThose (λ i. is_proof_at base i ≡ true) (length base.said) work.runs
   pub steps : AreStepsOf base work.runs work.steps
 
--- the theorems are run whose view is not that of before, in order, each once, with its steps; the top file stays
+-- an edit keeps the top file, and the theorems are run whose view is not that of before, in order, each once, and the steps are counted
 pub record IsChanged (old new : SessionView) (work : Recorded) : Type 0 where
   pub top : new.top ≡ old.top
   pub runs : AreRunsOf old.files new.files old.top work.runs

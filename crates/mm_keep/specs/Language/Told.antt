@@ -14,12 +14,13 @@ use Rattle.mm_proof.specs.declared.ProofNumber.{ProofNumber}
 use Rattle.mm_keep.specs.declared.finding.At.{At}
 use Rattle.mm_keep.specs.Language.WordPlaces.{spelled, HasPlace, IsPlaceOfSpot}
 
--- A word as a line shows it: its place, and how it is spelled.
+-- A word as a line of the report shows it: its place, and how it is spelled.
 pub record Shown : Type 0 where
   pub at : At
   pub word : List ℕ
 
--- What is told of an item.
+-- What is told of an item: nothing; that it is an axiom; of a theorem, that its proof is proved, is incomplete at a place, or is wrong by a number at a
+-- place; or its fault, by its number and the word that it is told at.
 pub data Told : Type 0 where
   Quiet : Told
   AnAxiom : Told
@@ -28,7 +29,7 @@ pub data Told : Type 0 where
   Wrong : ProofNumber → At → Told
   Fault : FrameNumber → Shown → Told
 
--- a word of an item is shown like this
+-- the word with this number of an item is shown with its place and its spelling
 pub record IsShown (files : FilesView) (item : store.Item) (word : ℕ) (shown : Shown) : Type 0 where
   pub has_place : HasPlace files item word 0 shown.at
   pub is_word : shown.word ≡ spelled (slice_range has_place.is_byte.read.text item.start item.end) (slice_get has_place.is_byte.read.words word)
@@ -37,7 +38,7 @@ pub record IsShown (files : FilesView) (item : store.Item) (word : ℕ) (shown :
 abbrev pub TellsFaultAt : FilesView → store.Item → ℕ → FrameNumber → Told → Type 0
 TellsFaultAt files item word number one = (shown : Shown) × (one ≡ Fault number shown) × IsShown files item word shown
 
--- the fault of the item with this number, told at its word
+-- the item with this number has this fault, shown at the word that has it
 pub record IsFaultOf (files : FilesView) (view : BaseView) (n : ℕ) (number : FrameNumber) (shown : Shown) : Type 0 where
   pub word : ℕ
   pub fault : fault_at view n ≡ Some (word, number)
@@ -45,28 +46,28 @@ pub record IsFaultOf (files : FilesView) (view : BaseView) (n : ℕ) (number : F
   pub there : slice_get view.found n ≡ Some item
   pub is_shown : IsShown files item word shown
 
--- the item with this number is neither at fault nor an assertion
+-- the item with this number is sound, and no assertion
 pub record IsQuiet (view : BaseView) (n : ℕ) : Type 0 where
   pub sound : is_sound_at view n ≡ true
   pub kind : is_assertion (said_at view n).kind ≡ false
 
--- it is a sound `$a`
+-- the item with this number is a sound `$a`
 pub record IsAxiom (view : BaseView) (n : ℕ) : Type 0 where
   pub sound : is_sound_at view n ≡ true
   pub kind : (said_at view n).kind ≡ Axiom
 
--- it is a sound `$p`, and this is the verdict on its proof
+-- the item with this number is a sound `$p`, and this is the verdict on its proof
 pub record HasProofVerdict (view : BaseView) (n : ℕ) (verdict : Verdict) : Type 0 where
   pub proof : is_proof_at view n ≡ true
   pub is_verdict : IsVerdictAt view n verdict
 
--- it is one whose proof has this verdict at a spot, and the spot has this place
+-- the item with this number is a sound `$p`, the verdict on its proof names a spot, and that spot has this place
 pub record HasVerdictShown (files : FilesView) (view : BaseView) (n : ℕ) (verdict : Spot → Verdict) (at : At) : Type 0 where
   pub spot : Spot
   pub has_verdict : HasProofVerdict view n (verdict spot)
   pub is_place : IsPlaceOfSpot files view n spot at
 
--- what is told rightly of the item with this number
+-- this is what is rightly told of the item with this number: by its fault, its kind, or the verdict on its proof
 abbrev pub IsRightlyTold : FilesView → BaseView → ℕ → Told → Type 0
 IsRightlyTold files view n Quiet = IsQuiet view n
 IsRightlyTold files view n AnAxiom = IsAxiom view n
@@ -75,32 +76,37 @@ IsRightlyTold files view n (Incomplete at) = HasVerdictShown files view n verdic
 IsRightlyTold files view n (Wrong number at) = HasVerdictShown files view n (verdicts.Wrong number) at
 IsRightlyTold files view n (Fault number shown) = IsFaultOf files view n number shown
 
--- what is told rightly of each item
+-- this is what is rightly told of all items, one for each, in order
 pub record AreRightlyTold (files : FilesView) (view : BaseView) (all : List Told) : Type 0 where
   pub count : length all ≡ length view.said
   pub each : (n : ℕ) (one : Told) → slice_get all n ≡ Some one → IsRightlyTold files view n one
 
+-- it is told that the item is an axiom
 abbrev pub is_axiom : Told → Bool
 is_axiom AnAxiom = true
 is_axiom _ = false
 
+-- it is told that the proof of the item is proved
 abbrev pub is_proved : Told → Bool
 is_proved Proved = true
 is_proved _ = false
 
+-- it is told that the proof of the item is incomplete
 abbrev pub is_incomplete : Told → Bool
 is_incomplete (Incomplete at) = true
 is_incomplete _ = false
 
+-- it is told that the proof of the item is wrong
 abbrev pub is_wrong : Told → Bool
 is_wrong (Wrong number at) = true
 is_wrong _ = false
 
+-- a fault of the item is told
 abbrev pub is_fault : Told → Bool
 is_fault (Fault number shown) = true
 is_fault _ = false
 
--- How many there are: sound `$a`; sound `$p`, and of these the proved, the incomplete and the wrong; and faults.
+-- How many there are: axioms; theorems, and of these the proved, the incomplete and the wrong; and faults.
 pub record Counts : Type 0 where
   pub axioms : ℕ
   pub theorems : ℕ
@@ -109,7 +115,7 @@ pub record Counts : Type 0 where
   pub wrong : ℕ
   pub faults : ℕ
 
--- how many are told
+-- how often each is told. A theorem is one whose proof is proved, incomplete or wrong
 abbrev pub counts : List Told → Counts
 counts all = record {
   axioms = count_by is_axiom all;

@@ -11,24 +11,24 @@ use Rattle.mm_proof.specs.mm_frame.Language.Statement.{symbols_from}
 use Rattle.mm_proof.specs.declared.Spot.{Spot}
 use Rattle.mm_keep.specs.declared.finding.At.{At}
 
--- where the word with a number begins; 0 where there are fewer
+-- the byte at which a word begins; 0 where there is none
 abbrev pub start_of : Option Word → ℕ
 start_of None = 0
 start_of (Some word) = word.start
 
--- how a word is spelled; no bytes where there are fewer
+-- how a word of a text is spelled; empty where there is none
 abbrev pub spelled : List ℕ → Option Word → List ℕ
 spelled text None = []
 spelled text (Some word) = slice_range text word.start word.end
 
--- a byte of a word of an item, counted from the word's first, is this byte of the text of its file
+-- the byte with number `letter` of the word with number `word` of an item is byte `offset` of the text of its file
 pub record IsByteOfWord (files : FilesView) (item : store.Item) (word letter offset : ℕ) : Type 0 where
   pub stands : StandsIn files item
   pub read : CanBeRead files item
   pub text : List ℕ
   pub byte : IsByte files item.file item.piece (item.start + (start_of (slice_get read.words word) + letter)) text offset
 
--- a byte of a word of an item has this line and this column, in the file of the item
+-- the byte with number `letter` of the word with number `word` of an item has this place: file, line and column
 pub record HasPlace (files : FilesView) (item : store.Item) (word letter : ℕ) (at : At) : Type 0 where
   pub offset : ℕ
   pub is_byte : IsByteOfWord files item word letter offset
@@ -36,11 +36,11 @@ pub record HasPlace (files : FilesView) (item : store.Item) (word letter : ℕ) 
   pub line : at.line ≡ line_at is_byte.text offset
   pub column : at.column ≡ column_at is_byte.text offset
 
--- the number of a word of a proof among all words of its statement: the first one stands behind the symbols and the `$=`
+-- the number among all words of a statement of the word with number n of its proof, which begins behind the symbols and the `$=`
 abbrev pub proof_word : Item → ℕ → ℕ
 proof_word item n = symbols_from item.kind + length item.symbols + 1 + n
 
--- a spot in the proof of the item with this number has this place; the word behind the last of the proof is the closing `$.`
+-- a spot in the proof of the item with this number has this place; the word behind the last one of the proof is the `$.` that closes the statement
 pub record IsPlaceOfSpot (files : FilesView) (view : BaseView) (n : ℕ) (spot : Spot) (at : At) : Type 0 where
   pub item : store.Item
   pub there : slice_get view.found n ≡ Some item

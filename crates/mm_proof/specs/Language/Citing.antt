@@ -7,17 +7,18 @@ use Rattle.mm_proof.specs.Language.Decoding.{is_compressed, is_close}
 use Rattle.mm_proof.specs.Language.Verdict.{Decoded}
 use Rattle.mm_proof.specs.declared.step.ProofFault.{ProofFault}
 
--- the words that are labels, with their numbers: those of a normal proof other than `?`, or those of the list
+-- the words of a proof that are labels, with their numbers from 0: those of a normal proof other than `?`, or those of the list of a compressed one
 abbrev pub label_words : List (List ℕ) → List (ℕ × List ℕ)
 label_words words =
     if is_compressed words then enumerate_from 1 (before_first is_close (drop 1 words))
     else filter (λ word. not (bytes_eq word.1 (codes "?"))) (enumerate_from 0 words)
 
--- each once, by the first word
+-- of words that are spelled alike, the first one alone
 abbrev pub firsts : List (ℕ × List ℕ) → List (ℕ × List ℕ)
 firsts [] = []
 firsts (word ∷ words) = word ∷ filter (λ other. not (bytes_eq word.1 other.1)) (firsts words)
 
+-- the label is that of an assertion
 abbrev pub means_assertion : Resolved → Bool
 means_assertion (Assertion frame) = true
 means_assertion (Hypothesis e) = false
@@ -31,15 +32,15 @@ names_assertion label (Saved n) = false
 names_assertion label Save = false
 names_assertion label NotKnown = false
 
--- a step names the label, and it is that of an assertion
+-- the label is cited: it is that of an assertion, and a step names it
 abbrev pub is_cited : Setting → List Step → List ℕ → Bool
 is_cited place steps label = means_assertion (place.resolve label) && list_any (names_assertion label) steps
 
--- the numbers of the words
+-- the numbers of the words that cite: of each label that is cited, the first word
 abbrev pub cited_words : Setting → List (List ℕ) → List Step → List ℕ
 cited_words place words steps = map (λ word. word.0) (filter (λ word. is_cited place steps word.1) (firsts (label_words words)))
 
--- none where decoding tells a fault
+-- the numbers of the words of a proof that cite; none where decoding finds a fault
 abbrev pub cites : Setting → List (List ℕ) → Result Decoded ProofFault → List ℕ
 cites place words (Ok d) = cited_words place words d.steps
 cites place words (Err fault) = []

@@ -7,7 +7,7 @@ use Rattle.mm_proof.specs.Language.Expansion.{Named}
 use Rattle.mm_proof.specs.Language.Verdict.{Decoded}
 use Rattle.mm_proof.specs.Language.VerdictAt.{decoding_at, cites_at}
 
--- a decoded step of the proof of item i names a label that means the assertion k there
+-- item i cites item k: a decoded step of its proof names a label, and at item i that is the label of assertion k
 pub record NamesAssertionAt (view : BaseView) (i k : ℕ) : Type 0 where
   pub decoded : Decoded
   pub decodes : decoding_at view i ≡ Ok decoded

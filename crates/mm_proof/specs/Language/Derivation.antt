@@ -3,7 +3,7 @@ use Rattle.std.specs.Prelude.{◌≡◌, ◌≢◌, ℕ, ◌≤◌, List, [], �
 use Rattle.mm_frame.specs.Language.Frame.{Symbol, Frame, Hypothesis, Assertion, Setting, ArePair, HasVariable}
 use Rattle.mm_proof.specs.Language.Substitution.{substituted}
 
--- a variable stands in both lists
+-- some variable stands in both lists
 abbrev pub ShareVariable : List Symbol → List Symbol → Type 0
 ShareVariable xs ys = (x : Symbol) × HasVariable xs x × HasVariable ys x
 
@@ -33,7 +33,7 @@ mutual
         DeriveInOrder place labels entries → place.resolve label ≡ Assertion frame → Takes place.active frame given entries result →
         Derives place (labels ++ label ∷ []) result
 
-  -- the list of labels is a join of lists that derive these expressions, in their order
+  -- the list of labels is a join of lists, which derive these expressions, one each, in order
   pub data DeriveInOrder (place : Setting) : List (List ℕ) → List (List Symbol) → Type 0 where
     nothing : DeriveInOrder place [] []
     first_then :

@@ -29,11 +29,11 @@ HasOneVerdictAt = (view : BaseView) (i : ℕ) (v w : Verdict) → IsVerdictAt vi
 abbrev pub HasVerdictAt : Type 0
 HasVerdictAt = (view : BaseView) (i : ℕ) → AreSaid view → (v : Verdict) × IsVerdictAt view i v
 
--- the proof of the item has no decoding fault and no unknown step, and its expanded labels derive the statement
+-- the proof of the item with this number decodes to steps that are all known, and the labels that they stand for derive its statement
 abbrev pub IsDerivedAt : BaseView → ℕ → Type 0
 IsDerivedAt view i = (d : Decoded) × (decoding_at view i ≡ Ok d) × AreAllKnown d.steps × StepsDerive (setting_at view i) d.steps (statement_at view i)
 
--- Proved is the verdict exactly where this holds.
+-- Proved is the verdict exactly where the labels that the steps of the proof stand for derive the statement.
 abbrev pub ProvedIsDerivedAt : Type 0
 ProvedIsDerivedAt = (view : BaseView) (i : ℕ) → IsVerdictAt view i Proved ↔ IsDerivedAt view i
 

@@ -9,7 +9,7 @@ pub record Letter : Type 0 where
   pub byte : ℕ
   pub spot : Spot
 
--- a letter of the word with this number
+-- the byte of a word with its number there, as a letter of the word with this number
 abbrev pub letter_at : ℕ → ℕ × ℕ → Letter
 letter_at n at = record { byte = at.1; spot = record { word = n; letter = at.0 } }
 
@@ -31,14 +31,14 @@ abbrev pub cut_group : List Letter → List Group
 cut_group [] = []
 cut_group (digit ∷ digits) = record { digits = digit ∷ digits; last = None } ∷ []
 
--- the groups of digits that stand before letters, and of these letters
+-- the groups of letters, where these digits stand before them
 abbrev pub groups_behind : List Letter → List Letter → List Group
 groups_behind digits [] = cut_group digits
 groups_behind digits (letter ∷ letters) =
     if is_digit letter.byte then groups_behind (digits ++ letter ∷ []) letters
     else (record { digits = digits; last = Some letter } ∷ groups_behind [] letters)
 
--- the groups of the letters
+-- the letters in groups, each of some digits and the first letter behind them that is none
 abbrev pub groups : List Letter → List Group
 groups letters = groups_behind [] letters
 

@@ -37,7 +37,7 @@ pub record AreDecoded (place : Setting) (steps : List Step) : Type 0 where
   pub usable : (n : ℕ) (label : List ℕ) → slice_get steps n ≡ Some (Named label) → IsUsable (place.resolve label)
   pub saved : (n k : ℕ) → slice_get steps n ≡ Some (Saved k) → k < count_by is_save (take n steps)
 
--- no step is unknown
+-- no step is a `?`
 abbrev pub AreAllKnown : List Step → Type 0
 AreAllKnown steps = AllByRecursion (λ step. step ≢ NotKnown) steps
 

@@ -6,13 +6,13 @@ use Rattle.mm_proof.specs.Language.Expansion.{Step, Expanded, expansion}
 use Rattle.mm_proof.specs.Language.Faults.{IsLowest}
 use Rattle.mm_proof.specs.declared.ProofNumber.{ProofNumber}
 
--- the expansion of the steps is a join of lists that derive the entries of the stack in order
+-- the steps reach these expressions: the labels that they stand for are a join of lists that derive one each, in order
 pub record Reaches (place : Setting) (steps : List Step) (stack : List (List Symbol)) : Type 0 where
   pub expanded : Expanded
   pub expands : expansion place steps ≡ Some expanded
   pub in_order : DeriveInOrder place expanded.labels stack
 
--- nothing is reached after step n, and what is reached before it fails by this number
+-- the step with number n, from 0, is the first at fault, with this number: the steps before it reach something, those up to it nothing
 pub record IsStepFault (place : Setting) (steps : List Step) (n : ℕ) (number : ProofNumber) : Type 0 where
   pub stack : List (List Symbol)
   pub step : Step

@@ -6,7 +6,7 @@ use Rattle.mm_proof.specs.Language.Expansion.{Step, NotKnown}
 use Rattle.mm_proof.specs.Language.Reaches.{Reaches, IsStepFault}
 use Rattle.mm_proof.specs.declared.ProofNumber.{ProofNumber}
 
--- a `?`
+-- the step is a `?`
 abbrev pub is_unknown : Step → Bool
 is_unknown NotKnown = true
 is_unknown _ = false
@@ -15,7 +15,7 @@ is_unknown _ = false
 abbrev pub run_part : List Step → List Step
 run_part steps = before_first is_unknown steps
 
--- what is run reaches a stack
+-- the steps that are run reach something: none of them is at fault
 abbrev pub IsReached : Setting → List Step → Type 0
 IsReached place steps = (stack : List (List Symbol)) × Reaches place (run_part steps) stack
 

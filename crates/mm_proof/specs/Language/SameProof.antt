@@ -7,7 +7,7 @@ use Rattle.mm_proof.specs.Language.Verdict.{Decoded}
 use Rattle.mm_proof.specs.Language.Decoding.{is_compressed, is_close}
 use Rattle.mm_proof.specs.declared.step.ProofFault.{ProofFault}
 
--- the same meaning of a label
+-- a label means the same here and there: one expression, the same frame, or in both places inactive or unknown
 abbrev pub AreSameMeaning : Resolved → Resolved → Type 0
 AreSameMeaning (Hypothesis e) (Hypothesis f) = e ≡ f
 AreSameMeaning (Assertion frame) (Assertion other) = AreSameFrame frame other

@@ -3,10 +3,10 @@ use Rattle.std.specs.Prelude.{if◌then◌else◌, List, [], ◌∷◌}
 use Rattle.std.specs.List.{flat_map}
 use Rattle.mm_frame.specs.Language.Frame.{Symbol}
 
--- what stands in a symbol's place
+-- what a substitution puts in the place of a symbol: its list for a variable; a constant stays
 abbrev pub replacement : (Symbol → List Symbol) → Symbol → List Symbol
 replacement given s = if s.variable then given s else (s ∷ [])
 
--- each variable's list is put in its place, all at once, and the constants are kept
+-- the substitution made: each variable replaced by its list, all at once
 abbrev pub substituted : (Symbol → List Symbol) → List Symbol → List Symbol
 substituted given symbols = flat_map (replacement given) symbols

@@ -27,7 +27,8 @@ IsFirstUnknown steps n = (slice_get steps n ≡ Some NotKnown) × ((k : ℕ) →
 abbrev pub StepsDerive : Setting → List Step → List Symbol → Type 0
 StepsDerive place steps statement = (x : Expanded) × (expansion place steps ≡ Some x) × Derives place x.labels statement
 
--- the steps are wrong by this number at this spot: at a step that is run, or at the end where all steps are known
+-- the proof is wrong by this number at this spot: at a step that is run; or, where all steps are known, at its end: P14, where they do not reach exactly one
+-- expression, P15, where that is not the statement
 abbrev pub IsWrongBy : Setting → List Symbol → Decoded → ProofNumber → Spot → Type 0
 -- they do not reach one entry
 IsWrongBy place statement d P14 spot = AreAllKnown d.steps × (stack : List (List Symbol)) × Reaches place d.steps stack × (length stack ≢ 1) × (spot ≡ d.close)
@@ -36,7 +37,8 @@ IsWrongBy place statement d P15 spot = AreAllKnown d.steps × (e : List Symbol) 
 -- a step that is run is at fault
 IsWrongBy place statement d number spot = (n : ℕ) × IsStepFault place (run_part d.steps) n number × (slice_get d.spots n ≡ Some spot)
 
--- the verdict on steps
+-- the verdict on the steps of a proof: Proved, where all are known and they reach the statement alone; Incomplete at the first `?`, where the steps before it
+-- go well; or else Wrong
 abbrev pub IsVerdictOnSteps : Setting → List Symbol → Decoded → Verdict → Type 0
 -- all are known, and reach the one entry that is the statement
 IsVerdictOnSteps place statement d Proved = AreAllKnown d.steps × Reaches place d.steps (statement ∷ [])
@@ -44,7 +46,7 @@ IsVerdictOnSteps place statement d Proved = AreAllKnown d.steps × Reaches place
 IsVerdictOnSteps place statement d (Incomplete spot) = (n : ℕ) × IsFirstUnknown d.steps n × (slice_get d.spots n ≡ Some spot) × IsReached place d.steps
 IsVerdictOnSteps place statement d (Wrong number spot) = IsWrongBy place statement d number spot
 
--- the verdict on a proof of the statement at this place, given what decoding gives or its fault
+-- the verdict on a proof of the statement at this place: a fault of decoding makes it Wrong, and else the steps decide
 abbrev pub IsVerdict : Setting → List Symbol → Result Decoded ProofFault → Verdict → Type 0
 IsVerdict place statement (Err fault) verdict = verdict ≡ Wrong fault.number fault.spot
 IsVerdict place statement (Ok d) verdict = IsVerdictOnSteps place statement d verdict

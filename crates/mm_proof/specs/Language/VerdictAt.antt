@@ -15,27 +15,27 @@ use Rattle.mm_proof.specs.declared.step.ProofFault.{ProofFault}
 abbrev pub mandatory_labels : BaseView → ℕ → List (List ℕ)
 mandatory_labels view i = map (label_at view) (mandatory_numbers (before view i) (said_at view i))
 
--- the expression that its proof is of
+-- the expression that the proof of the item with this number has to derive
 abbrev pub statement_at : BaseView → ℕ → List Symbol
 statement_at view i = expression (before view i) (said_at view i)
 
--- what the words of its proof decode to
+-- what the proof of the item with this number decodes to
 abbrev pub decoding_at : BaseView → ℕ → Result Decoded ProofFault
 decoding_at view i = decoding (setting_at view i) (mandatory_labels view i) (said_at view i).proof
 
--- the verdict on its proof
+-- the verdict on the proof of the item with this number
 abbrev pub IsVerdictAt : BaseView → ℕ → Verdict → Type 0
 IsVerdictAt view i verdict = IsVerdict (setting_at view i) (statement_at view i) (decoding_at view i) verdict
 
--- the numbers of the words of its proof that cite
+-- the numbers of the words that cite, of the proof of the item with this number
 abbrev pub cites_at : BaseView → ℕ → List ℕ
 cites_at view i = cites (setting_at view i) (said_at view i).proof (decoding_at view i)
 
--- so many steps of what decoding gives are done: none where it tells a fault
+-- so many steps of what decoding gives are done; none where decoding finds a fault
 abbrev pub AreDoneIn : Setting → Result Decoded ProofFault → ℕ → Type 0
 AreDoneIn place (Err fault) count = count ≡ 0
 AreDoneIn place (Ok d) count = AreDone place d.steps count
 
--- so many steps of its proof are done
+-- so many steps of the proof of the item with this number are done
 abbrev pub AreDoneAt : BaseView → ℕ → ℕ → Type 0
 AreDoneAt view i count = AreDoneIn (setting_at view i) (decoding_at view i) count

@@ -11,7 +11,7 @@ SameViewSameVerdict =
     (base copy : BaseView) (i j : ℕ) → AreSaid base → AreSaid copy → AreSameViews (view_at base i) (view_at copy j) →
     (v : Verdict) → IsVerdictAt base i v → IsVerdictAt copy j v
 
--- And the same words of their proofs cite.
+-- In two theorems with equal views the same words of the proofs cite.
 abbrev pub SameViewSameCites : Type 0
 SameViewSameCites =
     (base copy : BaseView) (i j : ℕ) → AreSaid base → AreSaid copy → AreSameViews (view_at base i) (view_at copy j) →

@@ -20,7 +20,7 @@ use Rattle.mm_report.specs.Language.Report.{names_of, incomplete_line, wrong_lin
 use Rattle.mm_report.specs.Language.Script.{Command, Change, Batch, Report, Verdict, Axioms, Cites, Users, Entry, commands_of}
 use Rattle.mm_report.specs.Language.Script.{End, EndsSo, IsLongestReading}
 
--- the number of a fault of a text as it is written
+-- the number of a fault of a text, as it is written
 abbrev pub text_code : TextNumber → List ℕ
 text_code T01 = codes "T01"
 text_code T02 = codes "T02"
@@ -35,7 +35,7 @@ text_code T10 = codes "T10"
 text_code T11 = codes "T11"
 text_code T12 = codes "T12"
 
--- why an edit is refused, as it is written; the place of a fault is that in the edit's own text
+-- why an edit is refused, as it is written; a fault is told with its line and column in the text that the edit brings
 abbrev pub refusal_words : List ℕ → EditError → List ℕ
 refusal_words text NoFile = codes "S01"
 refusal_words text (NoPiece count) = codes "S02 " ++ decimal count
@@ -49,7 +49,7 @@ refusal_words text Memory = []
 abbrev pub refusal_line : Asked → EditError → List ℕ
 refusal_line edit error = codes "refused " ++ refusal_words (unwrap_or (edited_text edit) []) error ++ codes "\n"
 
--- the line of a refused batch: the number of the edit, from 0, and why it is refused
+-- the line of refused edits: the number, from 0, of the first that is refused, and why
 abbrev pub batch_refusal_line : ℕ → Asked → EditError → List ℕ
 batch_refusal_line n edit error =
     codes "refused " ++ decimal n ++ codes " " ++ refusal_words (unwrap_or (edited_text edit) []) error ++ codes "\n"
@@ -62,11 +62,11 @@ unknown_line = codes "refused K01\n"
 abbrev pub labels_listed : List ℕ → List Item → List ℕ
 labels_listed word items = word ++ codes " " ++ decimal (length items) ++ codes "\n" ++ flat_map (λ item. unwrap_or item.label [] ++ codes "\n") items
 
--- the labels of the items with these numbers
+-- a word, a count, and then a line with the label of each item with one of these numbers
 abbrev pub numbers_listed : List ℕ → BaseView → List ℕ → List ℕ
 numbers_listed word base numbers = labels_listed word (map (said_at base) numbers)
 
--- the line that tells of an assertion
+-- the line that tells of the assertion with this label
 abbrev pub told_line : List (List ℕ) → List ℕ → Told → List ℕ
 told_line names label AnAxiom = codes "axiom " ++ label ++ codes "\n"
 told_line names label Proved = codes "proved " ++ label ++ codes "\n"
@@ -74,14 +74,15 @@ told_line names label (Incomplete at) = incomplete_line names label at
 told_line names label (Wrong number at) = wrong_line names label number at
 told_line names label _ = []
 
--- edits are done, the top file stays, and the labels of the proofs are told that are run
+-- the answer where edits are done: the word `ran`, with the labels of the theorems whose proofs are run, which are those whose views the edits change; the
+-- top file stays
 pub record IsRan (old new : SessionView) (answer : List ℕ) : Type 0 where
   pub top : new.top ≡ old.top
   pub runs : List ℕ
   pub are_runs : AreRunsOf old.files new.files old.top runs
   pub answer_is : answer ≡ numbers_listed (codes "ran") are_runs.new runs
 
--- an edit is refused, and nothing is changed
+-- the answer where an edit is refused: the reason, which is not want of memory; and nothing is changed
 pub record IsRefused (old new : SessionView) (edit : Asked) (answer : List ℕ) : Type 0 where
   pub error : EditError
   pub refused : IsEditError edit (plain old.files) error
@@ -89,7 +90,7 @@ pub record IsRefused (old new : SessionView) (edit : Asked) (answer : List ℕ) 
   pub unchanged : new ≡ old
   pub answer_is : answer ≡ refusal_line edit error
 
--- the first of several edits that is refused is told, and nothing is changed
+-- the answer where several edits are refused: the first of them that is, and why; and nothing is changed
 pub record IsBatchRefused (old new : SessionView) (edits : List Asked) (answer : List ℕ) : Type 0 where
   pub n : ℕ
   pub error : EditError
@@ -97,32 +98,32 @@ pub record IsBatchRefused (old new : SessionView) (edits : List Asked) (answer :
   pub unchanged : new ≡ old
   pub answer_is : answer ≡ batch_refusal_line n refused.edit error
 
--- the answer to an edit, and the session behind it
+-- the answer to an edit, done or refused, and the session behind it
 abbrev pub IsEditAnswer : SessionView → Asked → List ℕ → SessionView → Type 0
 IsEditAnswer old edit answer new =
     (IsEditOf edit (plain old.files) (plain new.files) × IsRan old new answer) ⊎ IsRefused old new edit answer
 
--- the answer to several edits at once, and the session behind them
+-- the answer to several edits at once, done or refused, and the session behind them
 abbrev pub IsBatchAnswer : SessionView → List Asked → List ℕ → SessionView → Type 0
 IsBatchAnswer old edits answer new =
     (IsBatchOf edits (plain old.files) (plain new.files) × IsRan old new answer) ⊎ IsBatchRefused old new edits answer
 
--- no assertion has the label, and so it is told
+-- no assertion has the label, and the answer says so
 pub record IsUnknown (session : SessionView) (label answer : List ℕ) : Type 0 where
   pub none : ¬ HasAssertion session label
   pub answer_is : answer ≡ unknown_line
 
--- what is told of the assertion with a label
+-- the answer that tells of the assertion with this label
 abbrev pub IsVerdictAnswer : SessionView → List ℕ → List ℕ → Type 0
 IsVerdictAnswer session label answer =
     (told : Told) × IsVerdictOf session label told × (answer ≡ told_line (names_of (plain session.files)) label told)
 
--- the labels of the items that are asked for
+-- the answer `found`, with the labels of the items whose numbers are asked for
 abbrev pub IsFound : SessionView → (List ℕ → Type 0) → List ℕ → Type 0
 IsFound session are answer =
     (numbers : List ℕ) × are numbers × OfItems session (λ base. answer ≡ numbers_listed (codes "found") base numbers)
 
--- what a command is answered, and the session behind it
+-- the answer to a command, and the session behind it
 abbrev pub IsAnswer : SessionView → Command → List ℕ → SessionView → Type 0
 IsAnswer old (Change edit) answer new = IsEditAnswer old edit answer new
 IsAnswer old (Batch edits) answer new = IsBatchAnswer old (map (λ listed. listed.edit) edits) answer new
@@ -139,7 +140,7 @@ AreAnswers old (command ∷ commands) answers new =
     (one : List ℕ) × (next : SessionView) × (rest : List ℕ)
     × IsAnswer old command one next × AreAnswers next commands rest new × (answers ≡ one ++ rest)
 
--- the answers of a script, the session behind it, and how it ends
+-- the answers of a script, the session behind it, and how the script ends
 pub record IsScriptAnswer (old : SessionView) (script answers : List ℕ) (new : SessionView) (end : End) : Type 0 where
   pub entries : List Entry
   pub rest : List ℕ

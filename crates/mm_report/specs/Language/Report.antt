@@ -13,7 +13,7 @@ use Rattle.mm_keep.specs.Language.Sessions.{SessionView}
 use Rattle.mm_keep.specs.Language.Told.{Told, Incomplete, Wrong, Fault, Shown, Counts, counts, AreRightlyTold}
 use Rattle.mm_report.specs.Language.Stream.{AppendsPart}
 
--- a number as it is written
+-- the number of a fault of a statement, as it is written
 abbrev pub code_of : FrameNumber → List ℕ
 code_of F01 = codes "F01"
 code_of F02 = codes "F02"
@@ -30,7 +30,7 @@ code_of F12 = codes "F12"
 code_of F13 = codes "F13"
 code_of F14 = codes "F14"
 
--- the number of a fault of a proof as it is written
+-- the number of a fault of a proof, as it is written
 abbrev pub proof_code : ProofNumber → List ℕ
 proof_code P01 = codes "P01"
 proof_code P02 = codes "P02"
@@ -48,7 +48,7 @@ proof_code P13 = codes "P13"
 proof_code P14 = codes "P14"
 proof_code P15 = codes "P15"
 
--- the names of the files
+-- the names of the files, in order
 abbrev pub names_of : List File → List (List ℕ)
 names_of files = map (λ file. file.name) files
 
@@ -75,7 +75,7 @@ item_line names item (Wrong number at) = wrong_line names (unwrap_or item.label 
 item_line names item (Fault number shown) = fault_line names number shown
 item_line names item _ = []
 
--- the lines of the items, in order
+-- the lines of the items, in order; an item with nothing to tell has none
 abbrev pub lines : List (List ℕ) → List Item → List Told → List ℕ
 lines names [] all = []
 lines names (item ∷ items) [] = []
@@ -88,7 +88,7 @@ summary counts =
     ++ codes " proved " ++ decimal counts.proved ++ codes " incomplete " ++ decimal counts.incomplete ++ codes " wrong " ++ decimal counts.wrong
     ++ codes " faults " ++ decimal counts.faults ++ codes "\n"
 
--- the report, with these names of the files
+-- the report, where the files have these names: the lines of the items, and the summary
 abbrev pub report : List (List ℕ) → List Item → List Told → List ℕ
 report names items all = lines names items all ++ summary (counts all)
 
@@ -100,7 +100,7 @@ pub record IsReport (session : SessionView) (bytes : List ℕ) : Type 0 where
   pub are_told : AreRightlyTold session.files base all
   pub bytes_are : bytes ≡ report (names_of (plain session.files)) base.said all
 
--- known bytes grow by the beginning of the report of a session, or by all of it
+-- what is written, where it can be seen, grows by a beginning of the report of the session, or by all of it
 pub record BeginsReport (session : SessionView) (old new : Option (List ℕ)) : Type 0 where
   pub bytes : List ℕ
   pub is_report : IsReport session bytes

@@ -36,10 +36,11 @@ command_words (Axioms label) = codes "axioms" ∷ label ∷ []
 command_words (Cites label) = codes "cites" ∷ label ∷ []
 command_words (Users label) = codes "users" ∷ label ∷ []
 
--- a line: its words, with one space between each two
+-- the line of an edit: its words, with one space between each two
 abbrev pub edit_line : Asked → List ℕ
 edit_line edit = join_with_byte 32 (edit_words edit)
 
+-- the line of a command: its words, with one space between each two
 abbrev pub line_of : Command → List ℕ
 line_of command = join_with_byte 32 (command_words command)
 
@@ -52,44 +53,45 @@ ended_text (Some text) = text ++ 10 ∷ []
 abbrev pub edit_bytes : Asked → List ℕ
 edit_bytes edit = edit_line edit ++ 10 ∷ ended_text (edited_text edit)
 
--- those of an edit of a batch, with the empty lines before it
+-- the bytes of an edit of a batch, with the empty lines before it
 abbrev pub listed_bytes : Listed → List ℕ
 listed_bytes listed = replicate listed.blanks 10 ++ edit_bytes listed.edit
 
--- what stands behind the line of a command and its line feed
+-- what stands behind the line of a command and its line feed: the text of an edit, or the edits of a batch
 abbrev pub behind_line : Command → List ℕ
 behind_line (Change edit) = ended_text (edited_text edit)
 behind_line (Batch edits) = flat_map listed_bytes edits
 behind_line _ = []
 
--- the bytes of a command
+-- the bytes of a command: its line with a line feed, and what stands behind it
 abbrev pub command_bytes : Command → List ℕ
 command_bytes command = line_of command ++ 10 ∷ behind_line command
 
--- neither a space nor a line feed
+-- a byte of a word: neither a space nor a line feed
 abbrev pub is_word_byte : ℕ → Bool
 is_word_byte b = not (b == 32) && not (b == 10)
 
--- a file or a label that a line can name: some bytes, and no space or line feed among them
+-- a name of a file, or a label, that a line can have: some bytes, and no space or line feed among them
 pub record IsName (name : List ℕ) : Type 0 where
   pub some : name ≢ []
   pub bytes : IsTrue (list_all is_word_byte name)
 
--- a number that a line can have
+-- a number that a line can have: up to 4,294,967,295
 abbrev pub IsNumber : ℕ → Type 0
 IsNumber n = n ≤ 4294967295
 
--- a line can ask for the edit
+-- an edit that a line can ask for: its name and its numbers are such as lines can have
 abbrev pub IsGoodEdit : Asked → Type 0
 IsGoodEdit (Insert file at text) = IsName file × IsNumber at × IsNumber (length text)
 IsGoodEdit (Replace file at text) = IsName file × IsNumber at × IsNumber (length text)
 IsGoodEdit (Delete file at) = IsName file × IsNumber at
 IsGoodEdit (Move file at to) = IsName file × IsNumber at × IsNumber to
 
+-- each edit of a batch is one that a line can ask for
 abbrev pub AreGoodEdits : List Listed → Type 0
 AreGoodEdits edits = AllByRecursion (λ listed. IsGoodEdit listed.edit) edits
 
--- lines can ask for the command
+-- a command that lines can ask for
 abbrev pub IsGood : Command → Type 0
 IsGood (Change edit) = IsGoodEdit edit
 IsGood (Batch edits) = IsNumber (length edits) × AreGoodEdits edits
@@ -99,13 +101,13 @@ IsGood (Axioms label) = IsName label
 IsGood (Cites label) = IsName label
 IsGood (Users label) = IsName label
 
--- the last edit has no text
+-- the last edit of a batch has no text
 abbrev pub LastInLine : List Listed → Type 0
 LastInLine [] = Unit {0}
 LastInLine (listed ∷ []) = edited_text listed.edit ≡ None
 LastInLine (listed ∷ edits) = LastInLine edits
 
--- the command ends in a line, and not in a text
+-- a command that ends in a line, and not in a text
 abbrev pub EndsInLine : Command → Type 0
 EndsInLine (Change edit) = edited_text edit ≡ None
 EndsInLine (Batch edits) = LastInLine edits
@@ -116,30 +118,34 @@ pub data Entry : Type 0 where
   Blank : Entry
   Given : Command → Entry
 
+-- the bytes of an entry; an empty line is a line feed
 abbrev pub entry_bytes : Entry → List ℕ
 entry_bytes Blank = 10 ∷ []
 entry_bytes (Given command) = command_bytes command
 
+-- an empty line, or a command that lines can ask for
 abbrev pub IsGoodEntry : Entry → Type 0
 IsGoodEntry Blank = Unit {0}
 IsGoodEntry (Given command) = IsGood command
 
+-- each entry is an empty line or a command that lines can ask for
 abbrev pub AreGood : List Entry → Type 0
 AreGood entries = AllByRecursion IsGoodEntry entries
 
+-- the bytes of entries, one after another
 abbrev pub entries_bytes : List Entry → List ℕ
 entries_bytes entries = flat_map entry_bytes entries
 
--- the command of an entry, if it has one
+-- the command of an entry; an empty line has none
 abbrev pub command_of : Entry → Option Command
 command_of Blank = None
 command_of (Given command) = Some command
 
--- the commands, in order
+-- the commands among the entries, in order
 abbrev pub commands_of : List Entry → List Command
 commands_of entries = filter_map command_of entries
 
--- the script is these entries but for the last line feed, which would end a line and not a text
+-- the script is these entries without the line feed behind the last of them, which would end a line and not a text
 pub record LacksFeed (script : List ℕ) (entries : List Entry) : Type 0 where
   pub front : List Entry
   pub last : Command
@@ -147,12 +153,12 @@ pub record LacksFeed (script : List ℕ) (entries : List Entry) : Type 0 where
   pub in_line : EndsInLine last
   pub is : script ++ 10 ∷ [] ≡ entries_bytes entries
 
--- the script is commands and empty lines and then a rest; at its end a line may lack its line feed, if no text has to follow
+-- the script is these empty lines and commands, and then a rest; at its end a line may lack its line feed, if no text has to follow it
 pub record HasEntries (script : List ℕ) (entries : List Entry) (rest : List ℕ) : Type 0 where
   pub good : AreGood entries
   pub joined : (script ≡ entries_bytes entries ++ rest) ⊎ (LacksFeed script entries × (rest ≡ []))
 
--- the longest list of commands and empty lines with which the script begins, and what is left
+-- the reading of a script: the longest list of commands and empty lines with which it begins, and the rest
 pub record IsLongestReading (script : List ℕ) (entries : List Entry) (rest : List ℕ) : Type 0 where
   pub divided : HasEntries script entries rest
   pub longest : (others : List Entry) (left : List ℕ) → HasEntries script others left → length others ≤ length entries
@@ -162,18 +168,18 @@ pub record AreRead (bytes : List ℕ) (entries : List Entry) (rest : List ℕ) :
   pub good : AreGood entries
   pub joined : bytes ≡ entries_bytes entries ++ rest
 
--- and these are the longest such list: what is complete in these bytes, whatever follows them
+-- the bytes are the longest such list and then a rest: what is complete in them, whatever follows them
 pub record IsReadSoFar (bytes : List ℕ) (entries : List Entry) (rest : List ℕ) : Type 0 where
   pub are : AreRead bytes entries rest
   pub longest : (others : List Entry) (left : List ℕ) → AreRead bytes others left → length others ≤ length entries
 
--- there are no bytes, or they are the whole line of this edit and a part of what belongs behind it
+-- of an edit there are no bytes; or its whole line, and a part of what belongs behind it
 abbrev pub IsNoneOrLine : Asked → List ℕ → Type 0
 IsNoneOrLine edit bytes =
     (bytes ≡ []) ⊎ ((more : List ℕ) × (missing : List ℕ) × (bytes ≡ edit_line edit ++ more) × (more ++ missing ≡ 10 ∷ ended_text (edited_text edit)))
 
--- behind the line of a batch, where edits are missing: some of the edits are whole, and there is nothing of the next but empty lines, or
--- its whole line and a part of what belongs behind it
+-- behind the line of a batch edits are missing: some of them are whole, and of the next there are empty lines alone, or its whole line and a part of what
+-- belongs behind it
 pub record MissesEdits (edits : List Listed) (part : List ℕ) : Type 0 where
   pub front : List Listed
   pub next : Listed
@@ -184,13 +190,13 @@ pub record MissesEdits (edits : List Listed) (part : List ℕ) : Type 0 where
   pub is : part ≡ 10 ∷ (flat_map listed_bytes front ++ (replicate blanks 10 ++ inner))
   pub none_or_line : IsNoneOrLine next.edit inner
 
--- behind its line, and this part of what belongs there, the command may break off: inside a text, or where edits are missing
+-- behind its line and this part of what belongs there, a command may break off: inside a text, or where edits of a batch are missing
 abbrev pub MayBreak : Command → List ℕ → Type 0
 MayBreak (Change edit) part = edited_text edit ≢ None
 MayBreak (Batch edits) part = ((part ≡ []) × (edits ≢ [])) ⊎ MissesEdits edits part
 MayBreak _ part = ⊥
 
--- what is left is the line of a command, and a part of what belongs behind it, but not all, where the command may break off
+-- what is left of a script is cut short: the line of a command, and a part, but not all, of what belongs behind it, where the command may break off
 pub record IsCutShort (rest : List ℕ) : Type 0 where
   pub command : Command
   pub good : IsGood command
@@ -201,13 +207,13 @@ pub record IsCutShort (rest : List ℕ) : Type 0 where
   pub some_missing : missing ≢ []
   pub breaks : MayBreak command part
 
--- How a script ends.
+-- How a script ends: done, cut short, or at a bad line.
 pub data End : Type 0 where
   Done : End
   CutShort : End
   BadLine : End
 
--- with nothing left; inside a text, before the line feed behind it or where edits of a batch are missing; or at a bad line
+-- a script with this rest ends so: done, where nothing is left; cut short, in a text or where edits are missing; and else at a bad line
 abbrev pub EndsSo : List ℕ → End → Type 0
 EndsSo rest Done = rest ≡ []
 EndsSo rest CutShort = IsCutShort rest

@@ -22,26 +22,30 @@ ReadsBatch = IsReadSo (codes "batch 2\ninsert a.mm 5 8\n$c a $.\n\n\nmove a.mm 9
 abbrev pub ReadsLastEdit : Type 0
 ReadsLastEdit = IsReadSo (codes "batch 1\ndelete a.mm 0") (Given (Batch (record { blanks = 0; edit = Delete (codes "a.mm") 0 } ∷ [])) ∷ []) [] Done
 
--- Inside a text a script is cut short, and so it is right behind it and where the text has no bytes.
+-- Inside a text a script is cut short: nothing of it is read, and all of it is left.
 abbrev pub CutsText : Type 0
 CutsText = IsReadSo (codes "insert a.mm 0 9\nabc") [] (codes "insert a.mm 0 9\nabc") CutShort
 
+-- Right behind a text, where its line feed is missing, a script is cut short, too; the command before it is read.
 abbrev pub CutsFeed : Type 0
 CutsFeed = IsReadSo (codes "report\ninsert a.mm 0 3\nabc") (Given Report ∷ []) (codes "insert a.mm 0 3\nabc") CutShort
 
+-- So it is behind the line of an edit whose text has no bytes.
 abbrev pub CutsLine : Type 0
 CutsLine = IsReadSo (codes "insert a.mm 0 0") [] (codes "insert a.mm 0 0") CutShort
 
--- So it is where edits of a batch are missing; but a last line that is no edit is a bad one.
+-- So it is where edits of a batch are missing.
 abbrev pub CutsBatch : Type 0
 CutsBatch = IsReadSo (codes "batch 2\ndelete a.mm 0\n\n") [] (codes "batch 2\ndelete a.mm 0\n\n") CutShort
 
+-- But where the last line of a batch is no edit, the batch is a bad one.
 abbrev pub EndsInEdit : Type 0
 EndsInEdit = IsReadSo (codes "batch 2\ndelete a.mm 0\ndel") [] (codes "batch 2\ndelete a.mm 0\ndel") BadLine
 
--- A bad line ends a script, and nothing behind it is read; so does another byte behind a text.
+-- A bad line ends a script, and nothing behind it is read.
 abbrev pub EndsAtLine : Type 0
 EndsAtLine = IsReadSo (codes "verdict th\nbogus\nreport\n") (Given (Verdict (codes "th")) ∷ []) (codes "bogus\nreport\n") BadLine
 
+-- So does an edit behind whose text another byte stands than a line feed.
 abbrev pub EndsAtText : Type 0
 EndsAtText = IsReadSo (codes "insert a.mm 0 3\nabcd\n") [] (codes "insert a.mm 0 3\nabcd\n") BadLine

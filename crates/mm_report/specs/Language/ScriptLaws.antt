@@ -40,14 +40,13 @@ pub record AreAlike (session other : SessionView) : Type 0 where
   pub top : session.top ≡ other.top
   pub items : HasItems session ↔ HasItems other
 
--- the answers, the end, and what the sessions behind a script stand for
+-- two runs of a script have one list of answers and one end, and the sessions behind them are alike
 pub record IsOneOutcome (answers copies : List ℕ) (end other : End) (new copy : SessionView) : Type 0 where
   pub answers_are : answers ≡ copies
   pub end_is : end ≡ other
   pub sessions : AreAlike new copy
 
--- Asked of sessions that are alike, as each is with itself, a script has one list of answers and one end, and the sessions behind it are
--- alike again.
+-- Asked of sessions that are alike, as each is with itself, a script has one list of answers and one end, and the sessions behind it are alike again.
 abbrev pub OneScriptAnswer : Type 0
 OneScriptAnswer = (session other new copy : SessionView) (script answers copies : List ℕ) (end ended : End) → AreAlike session other
     → IsScriptAnswer session script answers new end → IsScriptAnswer other script copies copy ended → IsOneOutcome answers copies end ended new copy
@@ -71,13 +70,13 @@ pub record IsReadSo (script : List ℕ) (entries : List Entry) (rest : List ℕ)
 abbrev pub HasReading : Type 0
 HasReading = (script : List ℕ) → (entries : List Entry) × (rest : List ℕ) × (end : End) × IsReadSo script entries rest end
 
--- a session as it is: each key of its files has a piece, each piece holds one unit, and the files give items from the top file on
+-- a session as it is: each key in its files has a piece, each piece holds one unit, and the files give items from the top file on
 pub record IsWhole (session : SessionView) : Type 0 where
   pub pieces : HoldsPieces session.files
   pub units : HoldOneEach (plain session.files)
   pub items : HasItems session
 
--- the script has answers and an end, and the session behind it is one again
+-- the script has answers and an end, and the session behind it is such a one again
 pub record HasAnswers (session : SessionView) (script : List ℕ) : Type 0 where
   pub answers : List ℕ
   pub new : SessionView

@@ -4,14 +4,15 @@ use Rattle.std.specs.Io.KnownBytes.{Appends}
 use Rattle.mm_report.specs.declared.reading.Reading.{Reading}
 use Rattle.mm_report.specs.declared.stream.Writing.{Writing}
 
--- the bytes of the writer within, where it tells them
+-- what the writer within has written, where that can be seen
 abbrev pub written : {W : Type 0} → (W → Option (List ℕ)) → Writing W → Option (List ℕ)
 written contents writing = contents writing.inner
 
+-- a write has failed
 abbrev pub has_failed : {W : Type 0} → Writing W → Bool
 has_failed writing = writing.failed
 
--- known bytes grow by some of the first of these bytes
+-- what is written, where it can be seen, grows by some of the first of these bytes
 pub record AppendsPart (old new : Option (List ℕ)) (bytes : List ℕ) : Type 0 where
   pub count : ℕ
   pub appends : Appends old new (take count bytes)
@@ -49,7 +50,7 @@ pub record WritesByCalls {W T E : Type 0} (contents : W → Option (List ℕ)) (
   pub some : 0 < length bytes → 0 < calls
   pub err : OnErr result (FailsLast contents old new bytes calls)
 
--- the bytes that the reader within has left, where it tells them
+-- what the reader within has left to be read, where that can be seen
 abbrev pub unread : {R : Type 0} → (R → Option (List ℕ)) → Reading R → Option (List ℕ)
 unread remaining reading = remaining reading.inner
 
@@ -57,6 +58,7 @@ unread remaining reading = remaining reading.inner
 abbrev pub calls_left : {R : Type 0} → Reading R → ℕ
 calls_left reading = reading.left
 
+-- a read has failed
 abbrev pub cannot_read : {R : Type 0} → Reading R → Bool
 cannot_read reading = reading.failed
 

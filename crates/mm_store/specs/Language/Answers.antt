@@ -40,16 +40,16 @@ abbrev pub IsAddErrorIn : List ℕ → StoreError → Type 0
 IsAddErrorIn text (Text fault) = fault.at < length text
 IsAddErrorIn text _ = Unit {0}
 
--- why files have no list of items: no top file, or memory
+-- why files have no list of items: they have no top file; or want of memory
 abbrev pub IsExpansionError : StoreError → Type 0
 IsExpansionError error = (error ≡ NoTop) ⊎ (error ≡ Memory)
 
--- want of memory is told only of an edit that brings a text
+-- the edit brings a text; only of such an edit want of memory may be told
 abbrev pub TakesMemory : Asked → Type 0
 TakesMemory edit = edited_text edit ≢ None
 
--- why an edit is refused, in this order: no such file; no such member among so many; a fault of its text; not one unit but so many; too
--- many bytes; or want of memory, once file and member are known, and only where the edit brings a text
+-- why an edit is refused, the first that holds in this order: no file has its name; its file has only so many pieces, and the edit names another; its text
+-- has a fault; its text is not one unit but so many; the files would have more bytes than they may; or want of memory
 abbrev pub IsEditError : Asked → List File → EditError → Type 0
 IsEditError edit files edits.NoFile = file_number files (edited_name edit) ≡ None
 IsEditError edit files (edits.NoPiece count) = NamesNoMember edit files count

@@ -11,12 +11,12 @@ use Rattle.mm_store.specs.Language.FileFacts.{CanBeRead, StandsIn, parked_in}
 use Rattle.mm_store.specs.Language.FilesView.{File, FilesView}
 use Rattle.mm_store.specs.Language.Undoing.{UndoView, CanSettle, CanUndo, undone, settled}
 
--- the edits are accepted one after another, each on the files after those before it, and these are the files after them all
+-- the edits are accepted one after another, each on the files that those before it left, and these are the files after them all
 abbrev pub IsBatchOf : List Asked → List File → List File → Type 0
 IsBatchOf [] files after = after ≡ files
 IsBatchOf (edit ∷ edits) files after = (next : List File) × IsEditOf edit files next × IsBatchOf edits next after
 
--- the edit with this number, from 0, is the first that is refused, on the files after those before it; want of memory refuses none
+-- the edit with this number, from 0, is the first that is refused, on the files that those before it left; want of memory is no such refusal
 pub record IsRefusedAt (edits : List Asked) (files : List File) (n : ℕ) (error : EditError) : Type 0 where
   pub before : List File
   pub accepted : IsBatchOf (take n edits) files before

@@ -14,27 +14,28 @@ use Rattle.mm_store.specs.declared.item.ItemKind.{ItemKind}
 use Rattle.mm_store.specs.declared.item.ItemKind.TheVariants as items
 use Rattle.mm_store.specs.Language.FilesView.{PieceView, FileView, number_of}
 
--- a part of units, and the name of the file that it includes; no bytes, where it is no inclusion
+-- a part of units, and the name of the file that it includes; an empty name where it is no inclusion
 pub record Named : Type 0 where
   pub part : Part
   pub name : List ℕ
 
--- the name that an inclusion has between its `$[` and its `$]`
+-- the name between the `$[` and the `$]` of an inclusion
 abbrev pub included_name : Shape → List ℕ
 included_name (Inclusion begin name end) = name.bytes
 included_name _ = []
 
+-- a part that includes no file
 abbrev pub nameless : Part → Named
 nameless part = record { part = part; name = [] }
 
--- each part of units, in order, with the name that it includes
+-- the parts of units, in order: each statement, inclusion, and beginning and end of a block, with the name that it includes
 abbrev pub named_parts : Units → List Named
 named_parts Nothing = []
 named_parts (Simple shape later) = record { part = shape_part shape; name = included_name shape } ∷ named_parts later
 named_parts (Block begin inner end later) =
     nameless (part parts.BlockStart begin begin) ∷ (named_parts inner ++ nameless (part parts.BlockEnd end end) ∷ named_parts later)
 
--- a part of a piece, where its piece stands, and the name that it includes
+-- a part of a piece: where the piece stands (the number of its file, its number in it, its key), the name that the part includes, and the part
 pub record Placed : Type 0 where
   pub file : ℕ
   pub piece : ℕ
@@ -42,6 +43,7 @@ pub record Placed : Type 0 where
   pub name : List ℕ
   pub part : Part
 
+-- the kind of the item that a part gives. An inclusion gives one only where its file is missing
 abbrev pub item_kind : PartKind → ItemKind
 item_kind parts.Constants = items.Constants
 item_kind parts.Variables = items.Variables
@@ -54,7 +56,7 @@ item_kind parts.BlockStart = items.BlockStart
 item_kind parts.BlockEnd = items.BlockEnd
 item_kind parts.Inclusion = items.Missing
 
--- the item that a part gives, if it gives one
+-- the item that a part gives, if it gives one: its kind, its piece, and its bytes in the piece
 abbrev pub placed_item : Placed → Item
 placed_item placed = record {
   kind = item_kind placed.part.kind;
@@ -65,13 +67,15 @@ placed_item placed = record {
   end = placed.part.end;
 }
 
+-- the part is an inclusion
 abbrev pub IsInclusion : Placed → Type 0
 IsInclusion placed = placed.part.kind ≡ parts.Inclusion
 
+-- a part of the piece that stands there
 abbrev pub placed_part : ℕ → ℕ → PieceKey → Named → Placed
 placed_part file piece key named = record { file = file; piece = piece; key = key; name = named.name; part = named.part }
 
--- the parts of a piece are those of the units that its words are
+-- these are the parts of a piece: those of the units that its words are
 pub record ArePartsOf (file number : ℕ) (piece : PieceView) (placed : List Placed) : Type 0 where
   pub words : List Word
   pub units : Units
@@ -80,13 +84,13 @@ pub record ArePartsOf (file number : ℕ) (piece : PieceView) (placed : List Pla
   pub spells : unit_tokens units ≡ tokens_of piece.text words
   pub parts : placed ≡ map (placed_part file number piece.key) (named_parts units)
 
--- the parts of pieces, of which the first has this number in its file
+-- these are the parts of the pieces of a file, one after another, where the first piece has this number
 abbrev pub ArePlaced : ℕ → ℕ → List PieceView → List Placed → Type 0
 ArePlaced file number [] placed = placed ≡ []
 ArePlaced file number (piece ∷ pieces) placed =
     (first : List Placed) × (rest : List Placed) × ArePartsOf file number piece first × ArePlaced file (number + 1) pieces rest × (placed ≡ first ++ rest)
 
--- what parts give after a set of names, and the set of names after them
+-- what parts give, read in order after the set of names that are included so far: a list of items, and the set of names after them
 pub data Expands (files : List FileView) : List Placed → List (List ℕ) → List Item → List (List ℕ) → Type 0 where
   nothing : {names : List (List ℕ)} → Expands files [] names [] names
   -- a statement, or a beginning or an end of a block, is an item
@@ -107,7 +111,7 @@ pub data Expands (files : List FileView) : List Placed → List (List ℕ) → L
       → ArePlaced number 0 file.pieces inner → Expands files inner (names ++ part.name ∷ []) gained between → Expands files parts between items after
       → Expands files (part ∷ parts) names (gained ++ items) after
 
--- the items of the files, from the top file on: its own name is in the set from the beginning
+-- the items of the files from the top file on. Its own name counts as included from the beginning, so that a ring of inclusions ends
 pub record IsExpansion (files : List FileView) (top : List ℕ) (items : List Item) : Type 0 where
   pub number : ℕ
   pub file : FileView

@@ -12,18 +12,18 @@ use Rattle.mm_store.specs.declared.item.ItemKind.TheVariants.{Missing}
 use Rattle.mm_store.specs.Language.Pieces.{HeldPiece, parked_pieces}
 use Rattle.mm_store.specs.Language.FilesView.{KeyedFile, FilesView, File, files_in, number_of, plain, text_of}
 
--- the piece under a key, standing or parked, has this text
+-- the piece under a key has this text, whether it stands in a file or is parked
 pub record IsLive (files : FilesView) (key : PieceKey) (text : List ℕ) : Type 0 where
   pub piece : HeldPiece
   pub held : finite.get files.pieces key.at ≡ Some piece
   pub is_text : text ≡ piece.text
 
--- each key of a file has a piece
+-- each key in a file has a piece
 abbrev pub HoldsPieces : FilesView → Type 0
 HoldsPieces files = All (λ file. All (λ key. IsSome (finite.get files.pieces key)) file.keys) files.keyed
 
--- an item can be read, by its key: its piece has a text, of which the item has a byte at least, and its bytes are a text by themselves,
--- with a word at least
+-- an item can be read by its key: its piece has a text, in which the item has a byte at least; and the item's bytes are a text by themselves, with a word at
+-- least
 pub record CanBeRead (files : FilesView) (item : Item) : Type 0 where
   pub text : List ℕ
   pub live : IsLive files item.key text
@@ -33,7 +33,7 @@ pub record CanBeRead (files : FilesView) (item : Item) : Type 0 where
   pub has_words : HasWords (slice_range text item.start item.end) words
   pub some_word : 0 < length words
 
--- an item stands where it says: in its file, by number, its piece, by number, is the one under its key
+-- an item stands where it says: in the file with its number, the piece with its number is the one under its key
 pub record StandsIn (files : FilesView) (item : Item) : Type 0 where
   pub file : KeyedFile
   pub there : slice_get files.keyed item.file ≡ Some file
@@ -49,11 +49,11 @@ NamesNoFile files item =
     item.kind ≡ Missing → (text : List ℕ) (words : List Word) → IsLive files item.key text → HasWords (slice_range text item.start item.end) words
     → number_of (files_in files) (second_word (slice_range text item.start item.end) words) ≡ None
 
--- how many bytes of a file stand before one of its pieces
+-- how many bytes of a file stand before the piece with this number
 abbrev pub piece_offset : File → ℕ → ℕ
 piece_offset file piece = length (concat (take piece file.pieces))
 
--- the byte `at` of a piece of a file, or its end, is the byte `offset` of the text
+-- byte `at` of a piece of a file, or the end of the piece, is byte `offset` of the text of that file
 pub record IsByte (files : FilesView) (number piece at : ℕ) (text : List ℕ) (offset : ℕ) : Type 0 where
   pub file : File
   pub there : slice_get (plain files) number ≡ Some file

@@ -7,13 +7,13 @@ use Rattle.std.specs.FinMap as finite
 use Rattle.mm_store.specs.declared.files.PieceKey.{PieceKey}
 use Rattle.mm_store.specs.Language.Pieces.{Pieces, text_under}
 
--- a file by keys: its name, the keys of its pieces, and its tail
+-- a file as it is kept: its name, the keys of its pieces in order, and its tail
 pub record KeyedFile : Type 0 where
   pub name : List ℕ
   pub keys : List ℕ
   pub tail : List ℕ
 
--- the files, in order of adding, and the pieces: those that stand in the files, and those that are parked
+-- the files in the order in which they were added, and all pieces under their keys: those that stand in files, and those that are parked
 pub record FilesView : Type 0 where
   pub keyed : List KeyedFile
   pub pieces : Pieces
@@ -26,18 +26,21 @@ pub record PieceView : Type 0 where
   pub key : PieceKey
   pub text : List ℕ
 
--- a file with keys and texts
+-- a file with the keys and the texts of its pieces
 pub record FileView : Type 0 where
   pub name : List ℕ
   pub pieces : List PieceView
   pub tail : List ℕ
 
+-- the key with this number
 abbrev pub key_of : ℕ → PieceKey
 key_of at = record { at = at }
 
+-- the piece under a key, with its text
 abbrev pub piece_view : Pieces → ℕ → PieceView
 piece_view pieces key = record { key = key_of key; text = text_under pieces key }
 
+-- a file with the keys and the texts of its pieces, where these are the pieces
 abbrev pub file_view : Pieces → KeyedFile → FileView
 file_view pieces file = record { name = file.name; pieces = map (piece_view pieces) file.keys; tail = file.tail }
 
@@ -45,7 +48,7 @@ file_view pieces file = record { name = file.name; pieces = map (piece_view piec
 abbrev pub files_in : FilesView → List FileView
 files_in view = map (file_view view.pieces) view.keyed
 
--- the number of the file of this name: of the first, but no two have one name
+-- the number of the file of this name, from 0, or none. No two files have one name
 abbrev pub number_of : List FileView → List ℕ → Option ℕ
 number_of files name = position (λ file. bytes_eq name file.name) files
 
@@ -61,14 +64,15 @@ piece_texts pieces = map (λ piece. piece.text) pieces
 abbrev pub without_keys : FileView → File
 without_keys file = record { name = file.name; pieces = piece_texts file.pieces; tail = file.tail }
 
+-- a file without keys, where these are the pieces
 abbrev pub plain_file : Pieces → KeyedFile → File
 plain_file pieces file = record { name = file.name; pieces = map (text_under pieces) file.keys; tail = file.tail }
 
--- the files without keys: what they mean
+-- the files without keys: names and lists of texts, which is all that they mean
 abbrev pub plain : FilesView → List File
 plain view = map (plain_file view.pieces) view.keyed
 
--- the number of the file of this name
+-- the number of the file of this name, from 0, or none. No two files have one name
 abbrev pub file_number : List File → List ℕ → Option ℕ
 file_number files name = position (λ file. bytes_eq name file.name) files
 
@@ -84,7 +88,7 @@ find_file files name = file_at files (file_number files name)
 abbrev pub text_of : File → List ℕ
 text_of file = concat file.pieces ++ file.tail
 
--- how many bytes the texts of the files have
+-- how many bytes all files have together
 abbrev pub bytes_of : List File → ℕ
 bytes_of [] = 0
 bytes_of (file ∷ files) = length (text_of file) + bytes_of files

@@ -4,6 +4,6 @@ use Rattle.std.specs.List.{AllByRecursion}
 use Rattle.mm_text.specs.Language.Cut.{HoldsOne}
 use Rattle.mm_store.specs.Language.FilesView.{File}
 
--- each piece of the files holds one unit
+-- each piece of each file holds one unit
 abbrev pub HoldOneEach : List File → Type 0
 HoldOneEach files = AllByRecursion (λ file. AllByRecursion HoldsOne file.pieces) files

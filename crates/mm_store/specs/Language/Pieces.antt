@@ -4,12 +4,12 @@ use Rattle.std.specs.Ordering.{nat_cmp}
 use Rattle.std.specs.List.{sum_by}
 use Rattle.std.specs.FinMap as finite
 
--- how an edit took a piece out of a file: another stands in its place, or none
+-- how an edit took a piece out of its file: another stands in its place, or none does
 pub data Removal : Type 0 where
   Replaced : Removal
   Deleted : Removal
 
--- a piece stands in a file, or is parked: an edit took it out of the file of this number, in this way
+-- a piece stands in a file, or is parked, so that the edit which took it out can be undone: out of the file with this number, in this way
 pub data PieceState : Type 0 where
   Standing : PieceState
   Parked : ℕ → Removal → PieceState
@@ -23,6 +23,7 @@ pub record HeldPiece : Type 0 where
 abbrev pub Pieces : Type 0
 Pieces = finite.FinMap nat_cmp HeldPiece
 
+-- a piece of this text that stands in a file
 abbrev pub standing_piece : List ℕ → HeldPiece
 standing_piece text = record { text = text; state = Standing }
 
@@ -35,6 +36,7 @@ in_state (Some piece) state = record { text = piece.text; state = state }
 abbrev pub with_state : Pieces → ℕ → PieceState → Pieces
 with_state pieces key state = finite.insert pieces key (in_state (finite.get pieces key) state)
 
+-- the text of a piece, if there is one; else no bytes
 abbrev pub text_in : Option HeldPiece → List ℕ
 text_in None = []
 text_in (Some piece) = piece.text
@@ -43,6 +45,7 @@ text_in (Some piece) = piece.text
 abbrev pub text_under : Pieces → ℕ → List ℕ
 text_under pieces key = text_in (finite.get pieces key)
 
+-- the state of a piece, if there is one
 abbrev pub state_in : Option HeldPiece → Option PieceState
 state_in None = None
 state_in (Some piece) = Some piece.state
@@ -51,6 +54,7 @@ state_in (Some piece) = Some piece.state
 abbrev pub IsParked : Pieces → ℕ → ℕ → Removal → Type 0
 IsParked pieces key file removal = state_in (finite.get pieces key) ≡ Some (Parked file removal)
 
+-- 1 for a parked piece, 0 for one that stands
 abbrev pub parked_state : PieceState → ℕ
 parked_state Standing = 0
 parked_state (Parked file removal) = 1
@@ -60,6 +64,7 @@ abbrev pub parked_count : Option HeldPiece → ℕ
 parked_count None = 0
 parked_count (Some piece) = parked_state piece.state
 
+-- 1 where the piece under a key is parked, and else 0
 abbrev pub parked_under : Pieces → ℕ → ℕ
 parked_under pieces key = parked_count (finite.get pieces key)
 

@@ -14,29 +14,29 @@ use Rattle.mm_text.specs.Language.Reading.{first_bad, HasWords, AreWords, HoldNo
 use Rattle.mm_text.specs.Language.Unit as units
 use Rattle.mm_text.specs.Language.Unit.{Token, Units, Nothing, Simple, Block, AreUnits, unit_tokens, tokens_of, IsViable, EndsInUnit, EndsInBlock}
 
--- whether bytes end in white space; none do
+-- whether the bytes end in white space; where there are none, they count as if they did
 abbrev pub ends_white : List ℕ → Bool
 ends_white [] = true
 ends_white (b ∷ []) = is_white b
 ends_white (b ∷ bytes) = ends_white bytes
 
--- a text that does not end in white space is read with one line feed added
+-- the text that is cut: where a text does not end in white space, a line feed is added
 abbrev pub ended : List ℕ → List ℕ
 ended text = if ends_white text then text else text ++ 10 ∷ []
 
--- one unit, and no more
+-- the sequence is one unit, and no more
 abbrev pub IsOne : Units → Type 0
 IsOne Nothing = ⊥
 IsOne (Simple shape later) = later ≡ Nothing
 IsOne (Block begin inner end later) = later ≡ Nothing
 
--- where the last of these words ends
+-- the byte behind the last of these words; 0 where there are none
 abbrev pub end_of_words : List Word → ℕ
 end_of_words [] = 0
 end_of_words (word ∷ []) = word.end
 end_of_words (word ∷ words) = end_of_words words
 
--- the text holds one unit, and ends in white space
+-- the words of the text are one unit, and the text ends in white space
 pub record HoldsOne (text : List ℕ) : Type 0 where
   pub words : List Word
   pub units : Units
@@ -46,7 +46,7 @@ pub record HoldsOne (text : List ℕ) : Type 0 where
   pub one : IsOne units
   pub ends : ends_white text ≡ true
 
--- a piece holds one unit, and behind it nothing but white space, of which there is some
+-- a piece: its words are one unit, and behind the last of them stands nothing but white space, one byte of it at least
 pub record IsPiece (piece : List ℕ) : Type 0 where
   pub words : List Word
   pub units : Units
@@ -57,22 +57,22 @@ pub record IsPiece (piece : List ℕ) : Type 0 where
   pub white : AllPass is_white (drop (end_of_words words) piece)
   pub ends : ends_white piece ≡ true
 
--- the bytes do not begin with white space
+-- the bytes do not begin with white space; there may be none
 abbrev pub BeginsSolid : List ℕ → Type 0
 BeginsSolid [] = Unit {0}
 BeginsSolid (b ∷ bytes) = is_white b ≡ false
 
--- pieces and a tail that holds no unit, where all the white space behind a unit is in its piece
+-- pieces, and behind them a tail without a word. All white space behind a unit belongs to its piece, so what comes next begins with none
 abbrev pub ArePieces : List (List ℕ) → List ℕ → Type 0
 ArePieces [] tail = HasWords tail []
 ArePieces (piece ∷ pieces) tail = IsPiece piece × BeginsSolid (concat pieces ++ tail) × ArePieces pieces tail
 
--- the cut of a text
+-- the cut of a text: its pieces and its tail joined are the text, with a line feed added where it does not end in white space
 pub record IsCut (text : List ℕ) (pieces : List (List ℕ)) (tail : List ℕ) : Type 0 where
   pub joined : concat pieces ++ tail ≡ ended text
   pub are_pieces : ArePieces pieces tail
 
--- the runs end inside a comment, before which there are these words
+-- the runs end inside a comment that is still open; the runs before it are read as these words
 pub record EndsInComment (runs : List Run) (found : List Word) : Type 0 where
   pub front : List Run
   pub first : Run
@@ -82,25 +82,26 @@ pub record EndsInComment (runs : List Run) (found : List Word) : Type 0 where
   pub opened : first.bytes ≡ opening
   pub no_marks : HoldNoMarks inside
 
--- the words that the runs hold so far
+-- what the runs are read as so far: as these words, or as these words and a comment behind them that is still open
 abbrev pub HoldWords : List Run → List Word → Type 0
 HoldWords runs found = AreWords runs found ⊎ EndsInComment runs found
 
--- a run with which no reading of words goes on, behind words with which units go on
+-- the run at this byte is the first with which no reading of words goes on, for the reason of this number; the words before it may still become whole units
 pub record StopsWords (text : List ℕ) (number : TextNumber) (at : ℕ) : Type 0 where
   pub stop : words.StopsAtRun (runs text) number at
   pub found : List Word
   pub read : HoldWords stop.front found
   pub viable : IsViable (tokens_of text found)
 
--- a comment that is not ended, behind words with which units go on
+-- the text ends inside a comment that begins at this byte; the words before it may still become whole units
 pub record EndsWords (text : List ℕ) (at : ℕ) : Type 0 where
   pub ends : EndsOpen (runs text) at
   pub found : List Word
   pub read : EndsInComment (runs text) found
   pub viable : IsViable (tokens_of text found)
 
--- the last word of these runs is the first with which units do not go on
+-- the word at this byte is the first with which the words can no longer become whole units, for the reason of this number; up to it the runs are read without
+-- a fault
 pub record StopsUnits (text : List ℕ) (number : TextNumber) (at : ℕ) : Type 0 where
   pub front : List Run
   pub rest : List Run
@@ -112,7 +113,7 @@ pub record StopsUnits (text : List ℕ) (number : TextNumber) (at : ℕ) : Type 
   pub stop : units.StopsAtWord (tokens_of text found) number word
   pub place : at ≡ stop.token.start
 
--- the words of the whole text end inside a unit, or inside a block, that begins at this byte
+-- the words of the text end inside a unit, or inside a block, as `Ends` says, that begins with the word at this byte
 pub record EndsUnits (text : List ℕ) (Ends : List Token → ℕ → Type 0) (at : ℕ) : Type 0 where
   pub found : List Word
   pub has_words : HasWords text found
@@ -122,7 +123,8 @@ pub record EndsUnits (text : List ℕ) (Ends : List Token → ℕ → Type 0) (a
   pub there : slice_get (tokens_of text found) word ≡ Some token
   pub place : at ≡ token.start
 
--- the fault with this number that is met first: a bad byte before all others, and else in the order of reading
+-- the first fault of the text has this number and stands at this byte: a byte that no text may hold goes before all others, and of the others the first in
+-- the order of reading counts; what is unfinished is met at the end of the text
 abbrev pub IsFirstFaultAt : List ℕ → TextNumber → ℕ → Type 0
 IsFirstFaultAt text T01 at = first_bad text ≡ Some at
 IsFirstFaultAt text T02 at = (first_bad text ≡ None) × EndsWords text at
@@ -137,7 +139,7 @@ IsFirstFaultAt text T10 at = (first_bad text ≡ None) × StopsUnits text T10 at
 IsFirstFaultAt text T11 at = (first_bad text ≡ None) × StopsUnits text T11 at
 IsFirstFaultAt text T12 at = (first_bad text ≡ None) × StopsUnits text T12 at
 
--- the text has this first fault, of words or of units
+-- the text has this first fault, of words or of units: T01 to T12
 abbrev pub IsFirstFault : List ℕ → TextFault → Type 0
 IsFirstFault text fault = IsFirstFaultAt text fault.number fault.at
 

@@ -24,11 +24,11 @@ pub record HasUnits (text : List ℕ) (units : Units) : Type 0 where
 abbrev pub token_end : Token → ℕ
 token_end token = token.start + length token.bytes
 
--- from the first byte of one word to the last of another
+-- a part of this kind, from the first byte of one word to the last of another
 abbrev pub part : PartKind → Token → Token → Part
 part kind first last = record { kind = kind; start = first.start; end = token_end last }
 
--- what a keyword makes of the part that it stands in
+-- the kind of a part by a keyword in it; a keyword that makes no statement leaves it as it was
 abbrev pub keyword_part : PartKind → Keyword → PartKind
 keyword_part kind Constants = parts.Constants
 keyword_part kind Variables = parts.Variables
@@ -42,12 +42,12 @@ keyword_part kind BlockEnd = parts.BlockEnd
 keyword_part kind InclusionStart = parts.Inclusion
 keyword_part kind _ = kind
 
--- what a word makes of the part that it stands in
+-- the kind of a part by a word in it; a plain word leaves it as it was
 abbrev pub word_part : PartKind → WordKind → PartKind
 word_part kind kinds.Plain = kind
 word_part kind (kinds.Keyword keyword) = keyword_part kind keyword
 
--- a statement or an inclusion; its second word, or else its first, says which
+-- a statement or an inclusion as a part of its text: from its first word to its last, of the kind that its keyword says
 abbrev pub shape_part : Shape → Part
 shape_part (Declaration keyword symbols end) = part (word_part parts.Constants keyword.kind) keyword end
 shape_part (Labelled label keyword symbols end) = part (word_part parts.Axiom keyword.kind) label end

@@ -2,13 +2,14 @@
 use Rattle.std.specs.Prelude.{ℕ, ◌+◌, ◌==◌, Bool, List, length, take, count_by}
 use Rattle.std.specs.List.{after_last}
 
+-- a line feed, byte 10
 abbrev pub is_line_feed : ℕ → Bool
 is_line_feed b = b == 10
 
--- one more than the line feeds before the byte
+-- the line of a byte, from 1: one more than there are line feeds before it
 abbrev pub line_at : List ℕ → ℕ → ℕ
 line_at text at = count_by is_line_feed (take at text) + 1
 
--- one more than the bytes between the last of these line feeds, or the beginning, and the byte
+-- the column of a byte, from 1: one more than there are bytes between the last line feed before it, or else the beginning of the text, and the byte
 abbrev pub column_at : List ℕ → ℕ → ℕ
 column_at text at = length (after_last is_line_feed (take at text)) + 1

@@ -23,41 +23,42 @@ is_allowed b = is_white b || nat_le 33 b && nat_le b 126
 abbrev pub first_bad : List ℕ → Option ℕ
 first_bad text = position (λ b. not (is_allowed b)) text
 
--- a part of a reading: a run that stands alone as a word, or a comment with the runs inside it
+-- a part of a reading: a run that stands alone as a word, or a comment: the run that begins it, the runs inside it, and the run that ends it
 pub data Segment : Type 0 where
   Single : Run → Word → Segment
   Comment : Run → List Run → Run → Segment
 
--- the runs of a part
+-- the runs of a part, in order
 abbrev pub segment_runs : Segment → List Run
 segment_runs (Single run word) = run ∷ []
 segment_runs (Comment first inside last) = first ∷ (inside ++ last ∷ [])
 
--- the words of a part
+-- the words of a part: a comment has none
 abbrev pub segment_words : Segment → List Word
 segment_words (Single run word) = word ∷ []
 segment_words (Comment first inside last) = []
 
--- no run inside a comment holds a mark
+-- none of the runs inside a comment holds `$(` or `$)`
 abbrev pub HoldNoMarks : List Run → Type 0
 HoldNoMarks inside = AllByRecursion (λ run. ¬ HoldsMark run.bytes) inside
 
--- a comment goes from `$(` to `$)`
+-- a comment goes from a run that is `$(` to a run that is `$)`, and no run between them holds one of these
 pub record IsComment (first : Run) (inside : List Run) (last : Run) : Type 0 where
   pub opened : first.bytes ≡ opening
   pub no_marks : HoldNoMarks inside
   pub closed : last.bytes ≡ closing
 
+-- a part of a reading is a right one: the word is what its run spells, or the runs are a comment
 abbrev pub IsSegment : Segment → Type 0
 IsSegment (Single run word) = IsWord run word
 IsSegment (Comment first inside last) = IsComment first inside last
 
--- the runs are divided into these parts
+-- a reading of runs: they are divided into words and comments, in order, and nothing is left
 pub record IsReading (runs : List Run) (parts : List Segment) : Type 0 where
   pub each : AllByRecursion IsSegment parts
   pub joined : flat_map segment_runs parts ≡ runs
 
--- the runs are read as these words
+-- the runs have a reading, and these are its words; comments give none
 pub record AreWords (runs : List Run) (words : List Word) : Type 0 where
   pub parts : List Segment
   pub reading : IsReading runs parts
@@ -67,11 +68,11 @@ pub record AreWords (runs : List Run) (words : List Word) : Type 0 where
 abbrev pub HaveReading : List Run → Type 0
 HaveReading runs = (parts : List Segment) × IsReading runs parts
 
--- some runs that begin with these have a reading
+-- the runs may still become a text that has a reading: some runs that begin with them have one
 abbrev pub AreViableRuns : List Run → Type 0
 AreViableRuns runs = (more : List Run) × HaveReading (runs ++ more)
 
--- the runs end inside a comment, which begins with this run
+-- the runs end inside a comment that begins with this run: what stands before it has a reading, and no mark stands behind it
 pub record IsOpen (runs : List Run) (first : Run) : Type 0 where
   pub front : List Run
   pub inside : List Run
@@ -80,14 +81,15 @@ pub record IsOpen (runs : List Run) (first : Run) : Type 0 where
   pub opened : first.bytes ≡ opening
   pub no_marks : HoldNoMarks inside
 
--- the number of a run with which no reading goes on behind these
+-- why no reading goes on with a run behind these: T03, it holds a mark inside a comment, but is no `$)`; T04, it is a `$)`, and no comment is open; T05, it
+-- holds a `$`, and is no keyword
 abbrev pub IsRunNumber : TextNumber → List Run → Run → Type 0
 IsRunNumber T03 front run = (first : Run) × IsOpen front first × HoldsMark run.bytes × (run.bytes ≢ closing)
 IsRunNumber T04 front run = HaveReading front × (run.bytes ≡ closing)
 IsRunNumber T05 front run = HaveReading front × Contains run.bytes 36 × (run.bytes ≢ closing) × ((kind : WordKind) → ¬ IsSpelled kind run.bytes)
 IsRunNumber _ front run = ⊥
 
--- the first run with which no reading can go on
+-- the run at this byte is the first with which no reading goes on, for the reason of this number
 pub record StopsAtRun (runs : List Run) (number : TextNumber) (at : ℕ) : Type 0 where
   pub front : List Run
   pub run : Run
@@ -98,7 +100,7 @@ pub record StopsAtRun (runs : List Run) (number : TextNumber) (at : ℕ) : Type 
   pub stops : ¬ AreViableRuns (front ++ run ∷ [])
   pub is_number : IsRunNumber number front run
 
--- a reading could go on, but a comment is not ended
+-- the runs have no reading, though one may go on: they end inside a comment that begins at this byte
 pub record EndsOpen (runs : List Run) (at : ℕ) : Type 0 where
   pub first : Run
   pub open_comment : IsOpen runs first
@@ -110,7 +112,7 @@ abbrev pub IsRunFault : List Run → TextNumber → ℕ → Type 0
 IsRunFault runs T02 at = EndsOpen runs at
 IsRunFault runs number at = StopsAtRun runs number at
 
--- the text has these words
+-- the text has these words: each of its bytes is allowed, and its runs are read as these words
 pub record HasWords (text : List ℕ) (words : List Word) : Type 0 where
   pub allowed : first_bad text ≡ None
   pub words_are : AreWords (runs text) words

@@ -1,29 +1,29 @@
 -- The runs of a text: its maximal sequences of bytes without white space (the Metamath book, section 4.1).
 use Rattle.std.specs.Prelude.{ℕ, ◌+◌, ◌==◌, Bool, true, not, ◌||◌, if◌then◌else◌, List, [], ◌∷◌}
 
--- space, tab, carriage return, line feed or form feed
+-- white space: a space, tab, carriage return, line feed or form feed
 unfoldable pub is_white : ℕ → Bool
 is_white b = b == 32 || b == 9 || b == 13 || b == 10 || b == 12
 
 abbrev pub is_solid : ℕ → Bool
 is_solid b = not (is_white b)
 
--- where a run begins, and its bytes
+-- a run, a longest sequence of bytes without white space: the place at which it begins, and its bytes
 pub record Run : Type 0 where
   pub start : ℕ
   pub bytes : List ℕ
 
--- whether a run ends before these bytes
+-- whether a run ends before these bytes: they begin with white space, or there are none
 abbrev pub ends_run : List ℕ → Bool
 ends_run [] = true
 ends_run (b ∷ bytes) = is_white b
 
--- the runs, of which the first gets one more byte at its front
+-- the runs where one more byte, at this place, stands right before the first of them
 abbrev pub with_front : ℕ → ℕ → List Run → List Run
 with_front at b [] = []
 with_front at b (run ∷ runs) = record { start = at; bytes = b ∷ run.bytes } ∷ runs
 
--- the runs of the bytes that stand at a place
+-- the runs of bytes of which the first stands at this place
 abbrev pub runs_from : ℕ → List ℕ → List Run
 runs_from at [] = []
 runs_from at (b ∷ bytes) =

@@ -8,7 +8,7 @@ use Rattle.mm_text.specs.declared.word.WordKind.TheVariants as kinds
 use Rattle.mm_text.specs.declared.word.Word.{Word}
 use Rattle.mm_text.specs.Language.Run.{Run}
 
--- the bytes of a keyword
+-- how each keyword is spelled
 abbrev pub spelling : Keyword → List ℕ
 spelling BlockStart = codes "${"
 spelling BlockEnd = codes "$}"
@@ -24,28 +24,29 @@ spelling ProofStart = codes "$="
 spelling InclusionStart = codes "$["
 spelling InclusionEnd = codes "$]"
 
--- a keyword is spelled so, and a plain word has no `$`
+-- a keyword is spelled so, and a plain word holds no `$`
 abbrev pub IsSpelled : WordKind → List ℕ → Type 0
 IsSpelled (kinds.Keyword keyword) bytes = bytes ≡ spelling keyword
 IsSpelled kinds.Plain bytes = ¬ Contains bytes 36
 
--- a run that stands alone is this word
+-- a run that stands alone as this word: spelled as its kind says, and at the same place
 pub record IsWord (run : Run) (word : Word) : Type 0 where
   pub kind : IsSpelled word.kind run.bytes
   pub start : word.start ≡ run.start
   pub end : word.end ≡ run.start + length run.bytes
 
--- the marks of a comment
+-- the mark that begins a comment
 abbrev pub opening : List ℕ
 opening = codes "$("
 
+-- the mark that ends a comment
 abbrev pub closing : List ℕ
 closing = codes "$)"
 
--- these bytes stand in a run, from a place on
+-- the bytes of `part` stand among these, from number `k` on
 abbrev pub HasBytesAt : List ℕ → List ℕ → ℕ → Type 0
 HasBytesAt bytes part k = take (length part) (drop k bytes) ≡ part
 
--- a run in which a mark stands
+-- `$(` or `$)` stands somewhere among these bytes
 abbrev pub HoldsMark : List ℕ → Type 0
 HoldsMark bytes = (k : ℕ) × (HasBytesAt bytes opening k ⊎ HasBytesAt bytes closing k)

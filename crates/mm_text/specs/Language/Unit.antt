@@ -11,16 +11,17 @@ use Rattle.mm_text.specs.declared.word.Word.{Word}
 use Rattle.mm_text.specs.declared.fault.TextNumber.{TextNumber}
 use Rattle.mm_text.specs.declared.fault.TextNumber.TheVariants.{T06, T07, T08, T09, T10, T11, T12}
 
--- a word with its bytes, and where it begins
+-- a word with its kind and bytes, and the place at which it begins
 pub record Token : Type 0 where
   pub kind : WordKind
   pub bytes : List ℕ
   pub start : ℕ
 
--- a word of a text
+-- a word of a text, with its bytes
 abbrev pub token_of : List ℕ → Word → Token
 token_of text word = record { kind = word.kind; bytes = slice_range text word.start word.end; start = word.start }
 
+-- words of a text, each with its bytes
 abbrev pub tokens_of : List ℕ → List Word → List Token
 tokens_of text words = map (token_of text) words
 
@@ -28,33 +29,38 @@ tokens_of text words = map (token_of text) words
 abbrev pub spellings : List ℕ → List Word → List (List ℕ)
 spellings text words = map (λ token. token.bytes) (tokens_of text words)
 
+-- the word is this keyword
 abbrev pub IsKeyword : Keyword → Token → Type 0
 IsKeyword keyword token = token.kind ≡ kinds.Keyword keyword
 
+-- the word is a plain one: no keyword
 abbrev pub IsPlain : Token → Type 0
 IsPlain token = token.kind ≡ kinds.Plain
 
--- letters, digits, `-`, `_` and `.`
+-- a byte that a label may have: a letter, a digit, `-`, `_` or `.`
 unfoldable pub is_label_byte : ℕ → Bool
 is_label_byte b = nat_le 48 b && nat_le b 57 || nat_le 65 b && nat_le b 90 || nat_le 97 b && nat_le b 122 || b == 45 || b == 95 || b == 46
 
+-- a plain word of such bytes alone
 abbrev pub IsLabel : Token → Type 0
 IsLabel token = IsPlain token × IsTrue (list_all is_label_byte token.bytes)
 
--- the words of a statement or an inclusion, by their places in it
+-- the words of a statement or an inclusion, by their places in it: `$c a b $.` (so `$v`, `$d`); `label $a a b $.` (so `$f`, `$e`); `label $p a b $= proof
+-- $.`; `$[ name $]`
 pub data Shape : Type 0 where
   Declaration : Token → List Token → Token → Shape
   Labelled : Token → Token → List Token → Token → Shape
   Provable : Token → Token → List Token → Token → List Token → Token → Shape
   Inclusion : Token → Token → Token → Shape
 
+-- the words of a statement or an inclusion, one after another
 abbrev pub shape_tokens : Shape → List Token
 shape_tokens (Declaration keyword symbols end) = keyword ∷ (symbols ++ end ∷ [])
 shape_tokens (Labelled label keyword symbols end) = label ∷ keyword ∷ (symbols ++ end ∷ [])
 shape_tokens (Provable label keyword symbols proof steps end) = label ∷ keyword ∷ (symbols ++ proof ∷ (steps ++ end ∷ []))
 shape_tokens (Inclusion begin name end) = begin ∷ name ∷ end ∷ []
 
--- outside says that no block is open
+-- each word of a statement or an inclusion is what belongs at its place; an inclusion stands only outside, where no block is open
 abbrev pub IsShape : Bool → Shape → Type 0
 IsShape outside (Declaration keyword symbols end) =
     (IsKeyword Constants keyword ⊎ (IsKeyword Variables keyword ⊎ IsKeyword Disjoint keyword)) × AllByRecursion IsPlain symbols × IsKeyword StatementEnd end
@@ -67,43 +73,46 @@ IsShape outside (Provable label keyword symbols proof steps end) =
 IsShape outside (Inclusion begin name end) =
     IsTrue outside × IsKeyword InclusionStart begin × IsPlain name × IsKeyword InclusionEnd end
 
--- a sequence of units: a statement or an inclusion, or a block with units inside, and then the units behind it
+-- a sequence of units: none; or a statement or an inclusion, and the units behind it; or a block with units inside, and the units behind it
 pub data Units : Type 0 where
   Nothing : Units
   Simple : Shape → Units → Units
   Block : Token → Units → Token → Units → Units
 
+-- the words of a sequence of units, one after another
 abbrev pub unit_tokens : Units → List Token
 unit_tokens Nothing = []
 unit_tokens (Simple shape later) = shape_tokens shape ++ unit_tokens later
 unit_tokens (Block begin inner end later) = begin ∷ (unit_tokens inner ++ end ∷ unit_tokens later)
 
+-- a sequence of units is a right one: each statement and inclusion is, and each block goes from `${` to `$}`; outside says that no block is open
 abbrev pub AreUnits : Bool → Units → Type 0
 AreUnits outside Nothing = Unit {0}
 AreUnits outside (Simple shape later) = IsShape outside shape × AreUnits outside later
 AreUnits outside (Block begin inner end later) = IsKeyword BlockStart begin × AreUnits false inner × IsKeyword BlockEnd end × AreUnits outside later
 
--- the words are a sequence of units
+-- the words are whole units: some sequence of units has these words
 abbrev pub IsWhole : List Token → Type 0
 IsWhole tokens = (units : Units) × AreUnits true units × (unit_tokens units ≡ tokens)
 
--- some whole list begins with these words
+-- the words may still become whole units: some list that begins with them is whole
 abbrev pub IsViable : List Token → Type 0
 IsViable tokens = (more : List Token) × IsWhole (tokens ++ more)
 
--- a `${` of no text
+-- a `${`, to ask whether one may come next
 abbrev pub a_block : Token
 a_block = record { kind = kinds.Keyword BlockStart; bytes = []; start = 0 }
 
--- behind these words a unit may begin: a `${` may stand there
+-- behind these words a unit may begin: the words, and a `${` behind them, may still become whole units
 abbrev pub MayBegin : List Token → Type 0
 MayBegin front = IsViable (front ++ a_block ∷ [])
 
--- these words end in `$[`
+-- the last of these words is a `$[`
 abbrev pub EndsInInclusion : List Token → Type 0
 EndsInInclusion front = (before : List Token) × (begin : Token) × (front ≡ before ++ begin ∷ []) × IsKeyword InclusionStart begin
 
--- the number of a word with which no whole list goes on behind these words
+-- why no units go on with a word behind these: T12, a keyword right behind `$[`; T10, a `$[` where no inclusion may stand; T09, a `$}` between units with no
+-- block open; T11, a plain word between units that cannot be a label; T06, any other word
 abbrev pub IsUnitNumber : TextNumber → List Token → Token → Type 0
 IsUnitNumber T12 front token = EndsInInclusion front × ¬ IsPlain token
 IsUnitNumber T10 front token = ¬ EndsInInclusion front × IsKeyword InclusionStart token
@@ -113,7 +122,7 @@ IsUnitNumber T06 front token = ¬ (EndsInInclusion front × ¬ IsPlain token) ×
     × ¬ (MayBegin front × (IsKeyword BlockEnd token ⊎ IsPlain token))
 IsUnitNumber _ front token = ⊥
 
--- word number `word` is the first that makes the list so far not viable
+-- the word with this number, from 0, is the first with which the words can no longer become whole units, for the reason of that other number
 pub record StopsAtWord (tokens : List Token) (number : TextNumber) (word : ℕ) : Type 0 where
   pub token : Token
   pub there : slice_get tokens word ≡ Some token
@@ -121,14 +130,14 @@ pub record StopsAtWord (tokens : List Token) (number : TextNumber) (word : ℕ) 
   pub stops : ¬ IsViable (take (word + 1) tokens)
   pub is_number : IsUnitNumber number (take word tokens) token
 
--- the statement or inclusion that begins at a word is not finished: a unit may begin there, and at no later place
+-- the words end inside a statement or an inclusion that begins with this one: a unit may begin there, and nowhere behind it
 pub record EndsInUnit (tokens : List Token) (word : ℕ) : Type 0 where
   pub within : word < length tokens
   pub viable : IsViable tokens
   pub begins : MayBegin (take word tokens)
   pub unfinished : (n : ℕ) → word < n → n ≤ length tokens → ¬ MayBegin (take n tokens)
 
--- the block that begins at a word is not closed: whole units stand behind its `${`
+-- the words end inside a block whose `${` is this word: behind it stand whole units, and no `$}` of its own
 pub record EndsInBlock (tokens : List Token) (word : ℕ) : Type 0 where
   pub begin : Token
   pub inner : Units

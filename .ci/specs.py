@@ -1,0 +1,225 @@
+"""What the rules of this folder read of definitions, and of the contracts that cite them: which definitions a contract reaches.
+
+A contract is true or false by what the definitions that it cites say, and those that these cite, all the way down.
+"""
+import pathlib
+import re
+import sys
+
+TOP = pathlib.Path(__file__).resolve().parent.parent
+CRATES = TOP / "crates"
+CRATE_NAMES = {path.name for path in CRATES.iterdir()}
+WORD = re.compile(r"[A-Za-z_][A-Za-z0-9_'-]*(?:\.[A-Za-z_][A-Za-z0-9_'-]*)*")
+HEAD = re.compile(r"(?:abbrev |unfoldable )?(?:pub )?(?:record |data )?([^\s:({]+)")
+INNER_HEAD = re.compile(r"  (?:abbrev |unfoldable )?pub (?:record |data )?([^\s:({]+)")
+USE = re.compile(r"(?:pub )?use (\S+?)(?:\.\{(.*)\}|(?: as (\S+)))?$")
+COMMENT = re.compile(r"( *)-- ?(.*)")
+BODY = re.compile(r"^ *\{", re.M)
+
+# A crate names the definitions of lower crates through the one that it stands on, which passes them on under their crate's name.
+PASSED_ON = re.compile(r"\bRattle\.mm_[a-z]+\.specs\.(mm_[a-z]+)\.")
+
+
+def text_of(path):
+    """The text of a file, with each definition named by its own crate."""
+    return PASSED_ON.sub(r"Rattle.\1.specs.", path.read_text())
+
+
+class Imports:
+    """What a file imports: names, each with its module and its name there, and modules by other names."""
+
+    def __init__(self):
+        self.names = {}
+        self.aliases = {}
+
+    def take(self, line):
+        """Takes a line of imports, as `USE` finds it."""
+        path, names, alias = line.groups()
+        if names is None:
+            self.aliases[alias or path.rsplit(".", 1)[-1]] = path
+            return
+        for name in (each.strip() for each in names.split(",")):
+            first, _, other = name.partition(" as ")
+            self.names[other or first] = (path, first)
+
+
+class Module:
+    """A file of definitions: what it imports, the text of each of its definitions, and what the comment above it says."""
+
+    def __init__(self, name, path):
+        self.name = name
+        self.path = path
+        self.imports = Imports()
+        self.definitions = {}
+        self.comments = {}
+        self.read()
+
+    def read(self):
+        """Reads the file, line by line."""
+        current, mutual, said = None, False, []
+        for line in text_of(self.path).splitlines():
+            comment, use = COMMENT.match(line), USE.match(line)
+            inner = INNER_HEAD.match(line) if mutual else None
+            if comment and (current is None or not comment.group(1)):
+                said.append(comment.group(2))
+            elif not line.strip() or use or re.match(r"(pub )?mod ", line):
+                current, said = None, []
+                if use:
+                    self.imports.take(use)
+            elif line.startswith("mutual"):
+                mutual, current = True, None
+            elif inner or not (line[0].isspace() or line[0] == "}"):
+                mutual = bool(inner)
+                current = self.begun((inner or HEAD.match(line)).group(1), line, said)
+                said = []
+            if current is not None and not (comment and not comment.group(1)):
+                self.definitions[current].append(line[2:] if mutual else line)
+
+    def begun(self, name, line, said):
+        """The definition that a line belongs to: one that it begins, or one that has begun."""
+        if re.match(r" *(abbrev |unfoldable |pub |record |data )", line) or name not in self.definitions:
+            self.definitions[name] = []
+            self.comments[name] = said
+        return name
+
+
+def modules():
+    """The modules of all crates, by their names."""
+    found = {}
+    for path in sorted(CRATES.glob("*/specs/**/*.antt")):
+        crate = path.relative_to(CRATES).parts[0]
+        parts = path.relative_to(CRATES / crate / "specs").with_suffix("").parts
+        name = ".".join(("Rattle", crate, "specs", *parts))
+        found[name] = Module(name, path)
+    return found
+
+
+def imports_of(text):
+    """What a file of sources imports for its clauses."""
+    imports = Imports()
+    for line in re.findall(r"^ *ghost (use .*);$", text, re.M):
+        imports.take(USE.match(line))
+    return imports
+
+
+class Contract:
+    """A public function: where it stands, what is said of it, its contract, and what its file imports."""
+
+    def __init__(self, path, owner, name, found, text):
+        self.path, self.crate, self.owner, self.name = path, path.relative_to(CRATES).parts[0], owner, name
+        self.line = text.count("\n", 0, found.start()) + 1
+        body = BODY.search(text, found.end())
+        self.clauses = text[found.start() : body.start() if body else len(text)]
+        before = text[: found.start()].splitlines()
+        self.comment = []
+        while before and before[-1].strip().startswith(("///", "#[")):
+            self.comment.insert(0, before.pop().strip())
+        self.imports = imports_of(text)
+
+    def words(self):
+        """The names in the contract, in order."""
+        return WORD.findall(self.clauses)
+
+
+def public_functions(path):
+    """The public functions in a file of sources."""
+    text = text_of(path)
+    owner = ""
+    for found in re.finditer(r"^(?:impl(?:<[^{]*?>)? (?:\w+(?:<[^{]*?>)? for )?(\w+)|(\}))|^ *pub fn (\w+)", text, re.M):
+        kind, _, function = found.groups()
+        if function is None:
+            owner = kind if kind else ""
+        else:
+            yield Contract(path, owner, function, found, text)
+
+
+def contract(function):
+    """The contract of a public function, named as crate::function, or crate::Type::function."""
+    crate, *owner, name = function.split("::")
+    for path in sorted((CRATES / crate / "src").glob("*.rt")):
+        for each in public_functions(path):
+            if each.name == name and (not owner or each.owner == owner[0]):
+                return each
+    return sys.exit(f"no public function {function}")
+
+
+class Reached:
+    """What is reached so far: definitions by module, each with what it cites, and types of the code.
+
+    Both are in the order in which they are met: what a definition cites comes behind it, and before what stands beside it.
+    """
+
+    def __init__(self, all_modules):
+        self.modules = all_modules
+        self.definitions = {}
+        self.types = {}
+        self.open = []
+
+    def take_contract(self, contract):
+        """Takes what a contract reaches: what it cites, what that cites, and so on."""
+        self.go_on_with(self.cited(contract))
+        while self.open:
+            self.take(*self.open.pop())
+
+    def cited(self, contract):
+        """What a contract cites, each once, in order."""
+        return self.all_meant(contract.imports, None, contract.words())
+
+    def all_meant(self, imports, own, words):
+        """What words mean, each once, in order."""
+        found = (self.meant(imports, own, word) for word in words)
+        return list(dict.fromkeys(each for each in found if each is not None))
+
+    def go_on_with(self, cited):
+        """Leaves open what is cited; the first of it comes next."""
+        self.open.extend(reversed(cited))
+
+    def meant(self, imports, own, word):
+        """The module and the name that a word means, if it is that of a definition or of a type."""
+        first, _, rest = word.partition(".")
+        if first in imports.aliases and rest:
+            return imports.aliases[first], rest.split(".")[0]
+        if first in imports.names:
+            return imports.names[first]
+        return (own.name, first) if own is not None and first in own.definitions else None
+
+    def take(self, path, name):
+        """Takes a definition, or a type, and goes on with what the definition cites."""
+        if ".specs.declared." in path:
+            if path.split(".")[1] in CRATE_NAMES:
+                self.types[re.sub(r"\.The[A-Z]\w*$", "", path)] = True
+            return
+        module = self.modules.get(path)
+        if module is None or name not in module.definitions or (path, name) in self.definitions:
+            return
+        self.definitions[path, name] = self.cited_by(module, name)
+        self.go_on_with(self.definitions[path, name])
+
+    def cited_by(self, module, name):
+        """What a definition cites, each once, in order."""
+        words = WORD.findall(without_comments(module.definitions[name]))
+        return [each for each in self.all_meant(module.imports, module, words) if each != (module.name, name)]
+
+
+def without_comments(lines):
+    """The text of lines, without comments."""
+    return "\n".join(line.split("--")[0] for line in lines)
+
+
+def reached_from(functions):
+    """What the contracts of public functions reach."""
+    reached = Reached(modules())
+    for each in functions:
+        reached.take_contract(contract(each))
+    return reached
+
+
+def exported(crate):
+    """What a crate exports, each with the path of modules at which it stands."""
+    source = CRATES / crate / "src"
+    text = next(path for path in (source / "lib.rt", source / "main.rt") if path.exists()).read_text()
+    found = set(re.findall(r"^pub (?:struct|enum|type) (\w+)", text, re.M))
+    for path, several, one in re.findall(r"^pub use ([\w:]+)::(?:\{([^}]*)\}|(\w+));", text, re.M):
+        names = re.findall(r"\w+", several or one)
+        found.update(".".join([*path.split("::"), name]) for name in names)
+    return found
