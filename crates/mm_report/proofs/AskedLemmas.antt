@@ -25,7 +25,7 @@ use Rattle.mm_report.specs.declared.script.ScriptError.TheVariants as errors
 use Rattle.mm_report.specs.declared.stream.Writing.{Writing}
 use Rattle.mm_report.specs.Code.Answered.{Answers, FailsSo, Finds, Lacks}
 use Rattle.mm_report.specs.Language.Answers.{IsAnswer, IsBatchRefused, IsRan, batch_refusal_line, numbers_listed, unknown_line}
-use Rattle.mm_report.specs.Language.Script.{Command, Listed, Change, Batch, Report, Verdict, Axioms, Cites, Users}
+use Rattle.mm_report.specs.Language.Script.{Command, Listed, Batch, Axioms, Cites, Users}
 use Rattle.mm_report.specs.Language.Stream.{written, has_failed, AppendsPart, Stops}
 
 -- an answer is written

@@ -8,7 +8,7 @@ use Rattle.mm_keep.specs.mm_store.Language.FilesView.{KeyedFile, FilesView, File
 use Rattle.mm_keep.specs.mm_store.declared.item.Item as store
 use Rattle.mm_keep.specs.mm_frame.Language.Base.{BaseView}
 use Rattle.mm_keep.specs.declared.finding.At.{At}
-use Rattle.mm_keep.specs.Language.Told.{Told, Quiet, AnAxiom, Proved, Incomplete, Wrong, Fault, IsRightlyTold}
+use Rattle.mm_keep.specs.Language.Told.{Told, Incomplete, Wrong, Fault, IsRightlyTold}
 use Rattle.mm_report.specs.Code.InFiles.{IsInFiles}
 use Rattle.mm_report.specs.Language.Report.{names_of}
 use Rattle.mm_keep.specs.Language.WordPlaces.{HasPlace}

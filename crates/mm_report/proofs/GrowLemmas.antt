@@ -2,7 +2,7 @@
 use Rattle.std.proofs.Common.{◌≡◌, ◌≢◌, ℕ, zero, suc, ◌+◌, ◌-◌, ◌<◌, ◌≤◌, Bool, not, true, false, List, [], ◌∷◌, ◌++◌, append_assoc, length, length-append, take, drop, replicate, refl, sym, ap, ◌∙◌, subst, arith, Option, ◌⊎◌, inl, inr}
 use Rattle.std.specs.Prelude.{◌==◌, slice_index, slice_range}
 use Rattle.std.proofs.Common.{get_or, Result, Ok, Err}
-use Rattle.std.specs.Result.{IsErrAnd, IsErrOf, OnErr}
+use Rattle.std.specs.Result.{IsErrAnd, IsErrOf}
 use Rattle.mm_report.specs.declared.lines.LineAt.{LineAt}
 use Rattle.std.proofs.KnownBytes.{Consumes-nil, Consumes-trans}
 use Rattle.std.proofs.lemmas.Bool.{eq-eqb, eqb-true}
@@ -12,7 +12,6 @@ use Rattle.std.proofs.lemmas.List.{append-nil, length-drop, take-append-le, drop
 use Rattle.std.proofs.Math.Seq.{take-add}
 use Rattle.mm_report.specs.declared.input.Input.{Input}
 use Rattle.mm_report.specs.declared.script.ScriptError.{ScriptError}
-use Rattle.mm_report.specs.declared.script.ScriptError.TheVariants as errors
 use Rattle.mm_report.specs.Code.Growing.{InputGrows, HasBlanks, IsLineAt, IsOtherByte}
 use Rattle.mm_report.specs.Code.Pending.{pending, ReadsOn}
 use Rattle.mm_report.specs.Code.Stops.{IsOneLine}
@@ -206,12 +205,3 @@ pub other_error : {T U : Type 0} (r : Result U ScriptError) (call : Result T Scr
 other_error (Ok done) call x a b e f is told na nb h = absurd (cc)
 other_error (Err y) call x a b e f is (inl told) na nb h = na (cc)
 other_error (Err y) call x a b e f is (inr told) na nb h = nb (cc)
-
--- it is want of memory alone
-pub memory_alone : {U : Type 0} (r : Result U ScriptError) → IsErrAnd r (λ (y : ScriptError). y ≡ errors.Memory) → (e : ScriptError) → errors.Memory ≢ e → r ≡ Err e → ⊥
-memory_alone (Ok done) f e other h = absurd (cc)
-memory_alone (Err y) f e other h = other (cc)
-
-pub memory_told : {U : Type 0} (r : Result U ScriptError) → IsErrAnd r (λ (y : ScriptError). y ≡ errors.Memory) → OnErr r ((r ≡ Err errors.Read) ⊎ (r ≡ Err errors.Memory))
-memory_told (Ok done) f = tt
-memory_told (Err y) f = inr (ap Err f)

@@ -17,7 +17,7 @@ use Rattle.mm_report.specs.declared.line.Verb.TheVariants.{Insert, Replace, Dele
 use Rattle.mm_report.specs.Code.Lines.{CutsAt, HasNoSpace, IsFileAnd, IsFileAndTwo, verb_word}
 use Rattle.mm_report.specs.Code.Stops.{IsOneLine}
 use Rattle.mm_report.specs.Language.Script as commands
-use Rattle.mm_report.specs.Language.Script.{Command, Change, Report, IsName, IsNumber, IsGood, IsGoodEdit, edit_line, line_of, is_word_byte}
+use Rattle.mm_report.specs.Language.Script.{Command, Change, Report, IsName, IsNumber, edit_line, line_of, is_word_byte}
 use Rattle.mm_report.proofs.SplitLemmas.{Lacks, split_at, not_inside, solid_space}
 use Rattle.mm_report.proofs.WordLemmas.{solid_decimal, small_number}
 

@@ -69,7 +69,8 @@ unchanged s t new copy a e f = subst (λ (x : SessionView). AreAlike x copy) (sy
 same_ran : AnswerLaws → (s t new copy : SessionView) (x y : List ℕ) → AreAlike s t → plain new.files ≡ plain copy.files → IsRan s new x → IsRan t copy y → (x ≡ y) × AreAlike new copy
 same_ran laws s t new copy x y a files f g =
     let runs : f.runs ≡ g.runs = laws.runs s.files new.files t.files copy.files t.top f.runs g.runs a.files files (subst (λ (name : List ℕ). AreRunsOf s.files new.files name f.runs) a.top f.are_runs) g.are_runs in
-    let said : f.are_runs.new.said ≡ g.are_runs.new.said = same_said laws.database (record { files = new.files; top = s.top }) (record { files = copy.files; top = t.top }) f.are_runs.new g.are_runs.new (record { files = files; top = a.top }) f.are_runs.are g.are_runs.are in
+    let said : f.are_runs.new.said ≡ g.are_runs.new.said =
+    same_said laws.database (record { files = new.files; top = s.top }) (record { files = copy.files; top = t.top }) f.are_runs.new g.are_runs.new (record { files = files; top = a.top }) f.are_runs.are g.are_runs.are in
     let first : HasItems new = (f.are_runs.new, subst (λ (name : List ℕ). IsOfFiles new.files name f.are_runs.new) (sym f.top) f.are_runs.are) in
     let second : HasItems copy = (g.are_runs.new, subst (λ (name : List ℕ). IsOfFiles copy.files name g.are_runs.new) (sym g.top) g.are_runs.are) in
     (f.answer_is ∙ same_listed (codes "ran") f.are_runs.new g.are_runs.new f.runs g.runs said runs ∙ sym g.answer_is, record { files = files; top = f.top ∙ a.top ∙ sym g.top; items = (λ h. second, λ h. first) })
@@ -127,7 +128,8 @@ same_refusal laws edits files n m a b f g = by (cases_lt n m) (cases_lt m n)
     by (inr h) (inr k) = on (omega arith)
 
 same_batch_answer : AnswerLaws → (s t new copy : SessionView) (edits : List Asked) (x y : List ℕ) → AreAlike s t → IsBatchAnswer s edits x new → IsBatchAnswer t edits y copy → (x ≡ y) × AreAlike new copy
-same_batch_answer laws s t new copy edits x y a (inl f) (inl g) = same_ran laws s t new copy x y a (same_batch laws edits (plain t.files) (plain new.files) (plain copy.files) (subst (λ (fs : List File). IsBatchOf edits fs (plain new.files)) a.files f.0) g.0) f.1 g.1
+same_batch_answer laws s t new copy edits x y a (inl f) (inl g) =
+    same_ran laws s t new copy x y a (same_batch laws edits (plain t.files) (plain new.files) (plain copy.files) (subst (λ (fs : List File). IsBatchOf edits fs (plain new.files)) a.files f.0) g.0) f.1 g.1
 same_batch_answer laws s t new copy edits x y a (inl f) (inr g) = absurd (all_refused laws edits (plain t.files) (plain new.files) g.n g.error g.refused (subst (λ (fs : List File). IsBatchOf edits fs (plain new.files)) a.files f.0))
 same_batch_answer laws s t new copy edits x y a (inr f) (inl g) = absurd (all_refused laws edits (plain s.files) (plain copy.files) f.n f.error f.refused (subst (λ (fs : List File). IsBatchOf edits fs (plain copy.files)) (sym a.files) g.0))
 same_batch_answer laws s t new copy edits x y a (inr f) (inr g) = (by (plain t.files) a.files g.refused g.answer_is, unchanged s t new copy a f.unchanged g.unchanged)

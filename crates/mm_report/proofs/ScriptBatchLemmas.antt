@@ -8,7 +8,7 @@ use Rattle.std.proofs.lemmas.List.{append-nil, length-replicate}
 use Rattle.std.proofs.lemmas.List.Concat.{flat_map-append}
 use Rattle.mm_keep.specs.mm_store.Language.Edits.{Asked, Delete, edited_text}
 use Rattle.mm_report.specs.Code.Stops.{AreListed, batch_line, batch_bytes}
-use Rattle.mm_report.specs.Language.Script.{Listed, Command, Change, Batch, Report, Verdict, Axioms, Cites, Users, AreGoodEdits, EndsInLine, IsCutShort, IsGood, IsGoodEdit, IsNoneOrLine, IsNumber, MayBreak, MissesEdits}
+use Rattle.mm_report.specs.Language.Script.{Listed, Command, Change, Batch, AreGoodEdits, EndsInLine, IsCutShort, IsGood, IsGoodEdit, IsNoneOrLine, IsNumber, MayBreak, MissesEdits}
 use Rattle.mm_report.specs.Language.Script.{behind_line, edit_bytes, edit_line, ended_text, line_of, listed_bytes, command_words}
 use Rattle.mm_report.proofs.SplitLemmas.{Lacks, join_lacks, not_inside}
 use Rattle.mm_report.proofs.WordLemmas.{AreSolid, BeginsEdits, edit_head, edit_tag, edits_begin, has_first, lack_feeds, listed_parts, same_blanks, same_words_by_line, small_number, solid_decimal, tag, words_solid}
@@ -184,9 +184,7 @@ batch_is_cut n front blanks inner missing next are good joined some none_or_line
 
 some_behind : (bytes : List ℕ) (n : ℕ) (line : List ℕ) → line ≢ [] → 0 < length (bytes ++ (replicate n 10 ++ line))
 some_behind [] zero [] h = absurd (h refl)
-some_behind [] zero (x ∷ line) h = omega arith
-some_behind [] (suc n) line h = omega arith
-some_behind (b ∷ bytes) n line h = omega arith
+some_behind _ _ _ h = omega arith
 
 -- where a batch may break off, there is nothing of the next edit, or its line
 pub no_break : (n : ℕ) (front : List Listed) (blanks : ℕ) (line : List ℕ) (edits : List Listed) → AreGoodEdits front → AreGoodEdits edits → line ≢ [] → Lacks 10 line → ((e : Asked) → IsGoodEdit e → line ≢ edit_line e)
@@ -216,10 +214,9 @@ no_break n front blanks line edits good goods some l none next later are m = by 
       where
         feeds : (a b : ℕ) (xs : List ℕ) → xs ≢ [] → Lacks 10 xs → replicate a 10 ++ xs ≡ replicate b 10 → ⊥
         feeds zero b [] f g e = f refl
-        feeds zero zero (x ∷ xs) f g e = cc
         feeds zero (suc b) (x ∷ xs) f g e = let ten : x ≡ 10 = cc in g.0 ten
-        feeds (suc a) zero xs f g e = cc
         feeds (suc a) (suc b) xs f g e = let rest : replicate a 10 ++ xs ≡ replicate b 10 = cc in feeds a b xs f g rest
+        feeds _ zero _ f g e = cc
 
         on : IsNoneOrLine m.next.edit m.inner → ⊥
         on (inl z) = feeds blanks m.blanks line some l (e ∙ ap (λ (x : List ℕ). replicate m.blanks 10 ++ x) z ∙ append-nil (replicate m.blanks 10))
@@ -232,7 +229,8 @@ no_break n front blanks line edits good goods some l none next later are m = by 
     behind_whole x xs g e =
         let s = ended_text (edited_text x.edit) ++ (flat_map listed_bytes xs ++ (replicate m.blanks 10 ++ m.inner)) in
         let parts : replicate blanks 10 ++ (line ++ []) ≡ replicate x.blanks 10 ++ (edit_line x.edit ++ 10 ∷ s) =
-        ap (λ (w : List ℕ). replicate blanks 10 ++ w) (append-nil line) ∙ e ∙ append_assoc (listed_bytes x) (flat_map listed_bytes xs) (replicate m.blanks 10 ++ m.inner) ∙ listed_parts x (flat_map listed_bytes xs ++ (replicate m.blanks 10 ++ m.inner)) in
+        ap (λ (w : List ℕ). replicate blanks 10 ++ w) (append-nil line) ∙ e ∙ append_assoc (listed_bytes x) (flat_map listed_bytes xs) (replicate m.blanks 10 ++ m.inner)
+        ∙ listed_parts x (flat_map listed_bytes xs ++ (replicate m.blanks 10 ++ m.inner)) in
         let both = line_behind_feeds blanks x.blanks line [] x.edit (10 ∷ s) some l parts in
         not_inside 10 line (edit_line x.edit) s l (sym (append-nil line) ∙ both.1)
 
@@ -266,7 +264,8 @@ no_break n front blanks line edits good goods some l none next later are m = by 
             let j = edit_head x.edit in
             let both = same_blanks m.blanks x.blanks h.0 j.0 (h.1 ++ more) (j.1 ++ 10 ∷ (ended_text (edited_text x.edit) ++ tail)) h.3 j.3
             (sym (ap (λ (w : List ℕ). replicate m.blanks 10 ++ w) (e ∙ ap (λ (w : List ℕ). w ++ more) h.2)) ∙ parts ∙ ap (λ (w : List ℕ). replicate x.blanks 10 ++ (w ++ 10 ∷ (ended_text (edited_text x.edit) ++ tail))) j.2) in
-            let whole : edit_line m.next.edit ++ more ≡ edit_line x.edit ++ 10 ∷ (ended_text (edited_text x.edit) ++ tail) = ap (λ (w : List ℕ). w ++ more) h.2 ∙ both.1 ∙ sym (ap (λ (w : List ℕ). w ++ 10 ∷ (ended_text (edited_text x.edit) ++ tail)) j.2) in
+            let whole : edit_line m.next.edit ++ more ≡ edit_line x.edit ++ 10 ∷ (ended_text (edited_text x.edit) ++ tail) = ap (λ (w : List ℕ). w ++ more) h.2 ∙ both.1
+            ∙ sym (ap (λ (w : List ℕ). w ++ 10 ∷ (ended_text (edited_text x.edit) ++ tail)) j.2) in
             let a : length (edit_line m.next.edit) + length more ≡ length (edit_line x.edit) + suc (length (ended_text (edited_text x.edit) ++ tail)) =
             sym (length-append (edit_line m.next.edit) more) ∙ ap length whole ∙ length-append (edit_line x.edit) (10 ∷ (ended_text (edited_text x.edit) ++ tail)) in
             let b : length (ended_text (edited_text x.edit) ++ tail) ≡ length (ended_text (edited_text x.edit)) + length tail = length-append (ended_text (edited_text x.edit)) tail in

@@ -90,15 +90,8 @@ ends_in_edit = stopped (codes "batch 2\ndelete a.mm 0\ndel") BadLine (batch_bad_
 
 no_command : (c : Command) → IsGood c → codes "bogus" ≢ line_of c
 no_command (Change (Insert file at text)) g e = omega (arith, ap (λ (w : List ℕ). slice_index w 0) e)
-no_command (Change (Replace file at text)) g e = omega (arith, ap (λ (w : List ℕ). slice_index w 0) e)
-no_command (Change (Delete file at)) g e = omega (arith, ap (λ (w : List ℕ). slice_index w 0) e)
-no_command (Change (Move file at to)) g e = omega (arith, ap (λ (w : List ℕ). slice_index w 0) e)
 no_command (Batch edits) g e = omega (arith, ap (λ (w : List ℕ). slice_index w 1) e)
-no_command Report g e = omega (arith, ap (λ (w : List ℕ). slice_index w 0) e)
-no_command (Verdict label) g e = omega (arith, ap (λ (w : List ℕ). slice_index w 0) e)
-no_command (Axioms label) g e = omega (arith, ap (λ (w : List ℕ). slice_index w 0) e)
-no_command (Cites label) g e = omega (arith, ap (λ (w : List ℕ). slice_index w 0) e)
-no_command (Users label) g e = omega (arith, ap (λ (w : List ℕ). slice_index w 0) e)
+no_command _ g e = omega (arith, ap (λ (w : List ℕ). slice_index w 0) e)
 
 bogus : StopsSo (codes "bogus\nreport\n") BadLine
 bogus = bad_line (codes "bogus") (codes "report\n") (record {

@@ -5,7 +5,8 @@ use Rattle.std.proofs.lemmas.Bool.{cases_lt}
 use Rattle.std.proofs.lemmas.List.{append-nil, append_cancel_left, append_cancel_right}
 use Rattle.std.proofs.lemmas.List.Concat.{flat_map-append}
 use Rattle.mm_keep.specs.mm_store.Language.Edits.{edited_text}
-use Rattle.mm_report.specs.Language.Script.{Listed, Command, Change, Batch, Report, Verdict, Axioms, Cites, Users, Entry, Blank, Given, listed_bytes, edit_line, entry_bytes, IsGoodEntry, AreGood, IsGood, entries_bytes, line_of, ended_text, behind_line, command_bytes, EndsInLine}
+use Rattle.mm_report.specs.Language.Script.{Listed, Command, Change, Batch, Report, Verdict, Axioms, Cites, Users, Entry, Blank, Given, listed_bytes, edit_line, entry_bytes, IsGoodEntry, AreGood}
+use Rattle.mm_report.specs.Language.Script.{IsGood, entries_bytes, line_of, ended_text, behind_line, command_bytes, EndsInLine}
 use Rattle.mm_report.specs.Language.Script.{LacksFeed, HasEntries, IsLongestReading, AreRead, IsReadSoFar, IsCutShort, End, Done, CutShort, BadLine, EndsSo}
 use Rattle.mm_report.proofs.SplitLemmas.{split_at}
 use Rattle.mm_report.proofs.WordLemmas.{line_lacks_feed, same_first, line_some}
@@ -32,7 +33,8 @@ pub one_begins : (a b : List Entry) (s t : List ℕ) → AreGood a → AreGood b
 one_begins [] b s t g h e = inl (record { more = b; good = h; longer = refl; left = e })
 one_begins (x ∷ a) [] s t g h e = inr (record { more = x ∷ a; good = g; longer = refl; left = sym e })
 one_begins (x ∷ a) (y ∷ b) s t g h e =
-    let both : (x ≡ y) × (entries_bytes a ++ s ≡ entries_bytes b ++ t) = same_entry x y (entries_bytes a ++ s) (entries_bytes b ++ t) g.0 h.0 (sym (append_assoc (entry_bytes x) (entries_bytes a) s) ∙ e ∙ append_assoc (entry_bytes y) (entries_bytes b) t) in
+    let both : (x ≡ y) × (entries_bytes a ++ s ≡ entries_bytes b ++ t) =
+    same_entry x y (entries_bytes a ++ s) (entries_bytes b ++ t) g.0 h.0 (sym (append_assoc (entry_bytes x) (entries_bytes a) s) ∙ e ∙ append_assoc (entry_bytes y) (entries_bytes b) t) in
     on both.0 (one_begins a b s t g.1 h.1 both.1)
   where
     on : x ≡ y → IsBeginning a b s t ⊎ IsBeginning b a t s → IsBeginning (x ∷ a) (y ∷ b) s t ⊎ IsBeginning (y ∷ b) (x ∷ a) t s
@@ -206,10 +208,12 @@ longer_no script rest a b left x xs is none plain good e d = by d.joined
     unended : (l : LacksFeed script b) (ys : List Entry) → ys ≡ xs → ⊥
     unended l [] s =
         let same : x ≡ Given l.last = same_last a l.front x (Given l.last) (ap (λ (zs : List Entry). a ++ x ∷ zs) s ∙ e ∙ l.are) in
-        let tail : rest ++ 10 ∷ [] ≡ entry_bytes x ++ entries_bytes xs = append_cancel_left (entries_bytes a) (rest ++ 10 ∷ []) (entry_bytes x ++ entries_bytes xs) (sym (append_assoc (entries_bytes a) rest (10 ∷ [])) ∙ ap (λ (w : List ℕ). w ++ 10 ∷ []) (sym is) ∙ l.is ∙ more) in
+        let tail : rest ++ 10 ∷ [] ≡ entry_bytes x ++ entries_bytes xs =
+        append_cancel_left (entries_bytes a) (rest ++ 10 ∷ []) (entry_bytes x ++ entries_bytes xs) (sym (append_assoc (entries_bytes a) rest (10 ∷ [])) ∙ ap (λ (w : List ℕ). w ++ 10 ∷ []) (sym is) ∙ l.is ∙ more) in
         lone l.last same l.in_line (tail ∙ ap (λ (zs : List Entry). entry_bytes x ++ entries_bytes zs) (sym s) ∙ append-nil (entry_bytes x))
     unended l (y ∷ ys) s =
-        let tail : rest ++ 10 ∷ [] ≡ entry_bytes x ++ entries_bytes xs = append_cancel_left (entries_bytes a) (rest ++ 10 ∷ []) (entry_bytes x ++ entries_bytes xs) (sym (append_assoc (entries_bytes a) rest (10 ∷ [])) ∙ ap (λ (w : List ℕ). w ++ 10 ∷ []) (sym is) ∙ l.is ∙ more) in
+        let tail : rest ++ 10 ∷ [] ≡ entry_bytes x ++ entries_bytes xs =
+        append_cancel_left (entries_bytes a) (rest ++ 10 ∷ []) (entry_bytes x ++ entries_bytes xs) (sym (append_assoc (entries_bytes a) rest (10 ∷ [])) ∙ ap (λ (w : List ℕ). w ++ 10 ∷ []) (sym is) ∙ l.is ∙ more) in
         let f = entries_end y ys in
         let split : rest ++ 10 ∷ [] ≡ (entry_bytes x ++ f.0) ++ 10 ∷ [] = tail ∙ ap (λ (zs : List Entry). entry_bytes x ++ entries_bytes zs) (sym s) ∙ ap (λ (w : List ℕ). entry_bytes x ++ w) f.1 ∙ sym (append_assoc (entry_bytes x) f.0 (10 ∷ [])) in
         none x f.0 good (append_cancel_right rest (entry_bytes x ++ f.0) (10 ∷ []) split)

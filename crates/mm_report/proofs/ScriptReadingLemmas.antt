@@ -132,7 +132,8 @@ batch_last n front blanks e bytes number goods good none count is = a_last (Batc
 
     inside : (flat_map listed_bytes front ++ (replicate blanks 10 ++ edit_line e)) ++ 10 ∷ [] ≡ flat_map listed_bytes all
     inside = append_assoc (flat_map listed_bytes front) (replicate blanks 10 ++ edit_line e) (10 ∷ [])
-        ∙ ap (λ (w : List ℕ). flat_map listed_bytes front ++ w) (append_assoc (replicate blanks 10) (edit_line e) (10 ∷ []) ∙ ap (λ (o : Option (List ℕ)). replicate blanks 10 ++ (edit_line e ++ 10 ∷ ended_text o)) (sym none) ∙ sym (append-nil (listed_bytes one)))
+        ∙ ap (λ (w : List ℕ). flat_map listed_bytes front ++ w) (append_assoc (replicate blanks 10) (edit_line e) (10 ∷ []) ∙ ap (λ (o : Option (List ℕ)).
+        replicate blanks 10 ++ (edit_line e ++ 10 ∷ ended_text o)) (sym none) ∙ sym (append-nil (listed_bytes one)))
         ∙ sym (flat_map-append listed_bytes front (one ∷ []))
 
     fed : bytes ++ 10 ∷ [] ≡ batch_line n ++ 10 ∷ flat_map listed_bytes all

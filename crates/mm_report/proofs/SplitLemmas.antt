@@ -1,5 +1,5 @@
 -- Lists that are joined by a byte which none of them has.
-use Rattle.std.proofs.Common.{◌≡◌, ◌≢◌, ℕ, Bool, true, false, not, ◌&&◌, List, [], ◌∷◌, ◌++◌, refl, sym, ap, subst}
+use Rattle.std.proofs.Common.{◌≡◌, ◌≢◌, ℕ, Bool, true, false, not, ◌&&◌, List, [], ◌∷◌, ◌++◌, refl, sym, ap}
 use Rattle.std.specs.Prelude.{◌==◌, IsTrue}
 use Rattle.std.specs.List.{AllByRecursion, list_all, join_with_byte}
 use Rattle.mm_report.specs.Language.Script.{is_word_byte}
@@ -45,8 +45,7 @@ join_lacks c d (x ∷ y ∷ xs) apart f = lacks_more d x (c ∷ join_with_byte c
 
 space_or_feed : (b : ℕ) (space feed : Bool) → (b == 32) ≡ space → (b == 10) ≡ feed → IsTrue (not space && not feed) → (space ≡ false) × (feed ≡ false)
 space_or_feed b false false e f h = (refl, refl)
-space_or_feed b false true e f h = cc
-space_or_feed b true feed e f h = cc
+space_or_feed b _ _ e f h = cc
 
 pub word_byte : (b : ℕ) → IsTrue (is_word_byte b) → (b ≢ 32) × (b ≢ 10)
 word_byte b h =

@@ -1,5 +1,5 @@
 -- Where a script ends that begins with no whole command, and where it has to be read on.
-use Rattle.std.proofs.Common.{◌≡◌, ◌≢◌, ◌<◌, ◌≤◌, ◌+◌, ℕ, Some, None, List, [], ◌∷◌, ◌++◌, length, length-append, replicate, refl, sym, ap, ◌∙◌, subst, inl, inr, arith, append_assoc}
+use Rattle.std.proofs.Common.{◌≡◌, ◌≢◌, ◌<◌, ◌≤◌, ◌+◌, ℕ, None, List, [], ◌∷◌, ◌++◌, length, length-append, replicate, refl, sym, ap, ◌∙◌, subst, inl, inr, arith, append_assoc}
 use Rattle.std.specs.List.{flat_map}
 use Rattle.std.proofs.lemmas.List.{append-nil, length-replicate, replicate_more}
 use Rattle.mm_keep.specs.mm_store.Language.Edits.{Asked, edited_text}
@@ -7,8 +7,10 @@ use Rattle.mm_report.specs.Code.Stops.{StopsSo, HasNoEntry, IsOneLine, IsBadLine
 use Rattle.mm_report.specs.Language.Script.{Command, Batch, Change, Listed, CutShort, BadLine, EndsInLine, IsCutShort, IsGood, IsGoodEdit, IsNumber, LastInLine, MayBreak}
 use Rattle.mm_report.specs.Language.Script.{behind_line, edit_bytes, edit_line, ended_text, line_of, listed_bytes}
 use Rattle.mm_report.proofs.ScriptLemmas.{NoEntry, NoLast, none_is_read, none_so_far}
-use Rattle.mm_report.proofs.ScriptLineLemmas.{LacksWhole, HasTextBehind, WithText, edit_line_some, filled, filling, filling_ends, line_no_entry, line_no_last, line_not_cut, no_entry_by, no_last_by, stops_bad, stops_bad_by, stops_cut, text_of_line, too_long, with_text}
-use Rattle.mm_report.proofs.ScriptBatchLemmas.{NextEdit, any_are_good, any_edit, any_good, any_listed, batch_by_line, batch_is_cut, batch_lacks, batch_no_entry, batch_no_last, batch_not_cut, feeds_no_line, inside, line_behind_feeds, listed_some, no_break}
+use Rattle.mm_report.proofs.ScriptLineLemmas.{LacksWhole, HasTextBehind, WithText, edit_line_some, filled, filling, filling_ends, line_no_entry, line_no_last, line_not_cut, no_entry_by, no_last_by}
+use Rattle.mm_report.proofs.ScriptLineLemmas.{stops_bad, stops_bad_by, stops_cut, text_of_line, too_long, with_text}
+use Rattle.mm_report.proofs.ScriptBatchLemmas.{NextEdit, any_are_good, any_edit, any_good, any_listed, batch_by_line, batch_is_cut, batch_lacks, batch_no_entry, batch_no_last, batch_not_cut}
+use Rattle.mm_report.proofs.ScriptBatchLemmas.{feeds_no_line, inside, line_behind_feeds, listed_some, no_break}
 use Rattle.mm_report.proofs.SplitLemmas.{not_inside, split_at}
 use Rattle.mm_report.proofs.WordLemmas.{edit_lacks_feed, same_front}
 

@@ -267,7 +267,8 @@ command_line_or_not line = first (edit_words_are line)
     ws : List (List ℕ)
     ws = words_in line
 
-    by : IsNoEdit ws → IsOrNot (Batches ws) → IsOrNot (ws ≡ codes "report" ∷ []) → IsOrNot (Asks (codes "verdict") ws) → IsOrNot (Asks (codes "axioms") ws) → IsOrNot (Asks (codes "cites") ws) → IsOrNot (Asks (codes "users") ws) → IsOrNot (IsCommandLine line)
+    by : IsNoEdit ws → IsOrNot (Batches ws) → IsOrNot (ws ≡ codes "report" ∷ []) → IsOrNot (Asks (codes "verdict") ws) → IsOrNot (Asks (codes "axioms") ws) → IsOrNot (Asks (codes "cites") ws)
+        → IsOrNot (Asks (codes "users") ws) → IsOrNot (IsCommandLine line)
     by n (inl b) _ _ _ _ _ = inl (command_by_words line (Batch (replicate b.count any_listed)) (subst IsNumber (sym (length-replicate b.count any_listed)) b.small, any_are_good b.count)
         (b.is ∙ ap (λ (k : ℕ). codes "batch" ∷ decimal k ∷ []) (sym (length-replicate b.count any_listed))))
     by n (inr b) (inl e) _ _ _ _ = inl (command_by_words line Report tt e)

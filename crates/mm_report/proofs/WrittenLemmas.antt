@@ -53,7 +53,8 @@ lines_begin names items n all rest count within =
     ap (λ (xs : List Item). lines names xs (all ++ rest)) (sym (take-append-drop n items)) ∙ lines_join names (take n items) (drop n items) all rest (count ∙ sym (length-take-le n items within))
 
 -- one more item has its line behind those of the items before it
-lines_more : (names : List (List ℕ)) (items : List Item) (n : ℕ) (all : List Told) (one : Told) (x : Item) → length all ≡ n → n < length items → lines names (take (n + 1) items) (all ++ one ∷ []) ≡ lines names (take n items) all ++ item_line names (get_or items n x) one
+lines_more : (names : List (List ℕ)) (items : List Item) (n : ℕ) (all : List Told) (one : Told) (x : Item) → length all ≡ n → n < length items
+    → lines names (take (n + 1) items) (all ++ one ∷ []) ≡ lines names (take n items) all ++ item_line names (get_or items n x) one
 lines_more names items n all one x count within =
     ap (λ (xs : List Item). lines names xs (all ++ one ∷ [])) (take_more items n x within) ∙ lines_push names (take n items) all (get_or items n x) one (count ∙ sym (length-take-le n items (omega (arith, within))))
 

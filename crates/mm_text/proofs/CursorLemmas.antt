@@ -95,7 +95,7 @@ none_left text from e = ap words_read e
 
 -- a fault is not met
 pub no_fault : (text : List ℕ) (from : ℕ) (fault : TextFault) → AreLast text from → read_runs None (runs_at text from) ≡ Err fault → ⊥
-no_fault text from fault at e = let f = at.no_fault in cc
+no_fault text from fault at e = cc
 
 -- ---- a text has no more words than bytes
 

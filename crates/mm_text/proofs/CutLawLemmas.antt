@@ -9,11 +9,11 @@ use Rattle.std.proofs.lemmas.Option.{slice_get_within}
 use Rattle.mm_text.specs.declared.word.Word.{Word}
 use Rattle.mm_text.specs.declared.fault.TextFault.{TextFault}
 use Rattle.mm_text.specs.declared.fault.TextNumber.{TextNumber}
-use Rattle.mm_text.specs.declared.fault.TextNumber.TheVariants.{T01, T02, T03, T04, T05, T06, T07, T08, T09, T10, T11, T12}
+use Rattle.mm_text.specs.declared.fault.TextNumber.TheVariants.{T01, T02, T03, T04, T05, T07, T08}
 use Rattle.mm_text.specs.Language.Run.{Run, runs, runs_from, is_white, ends_run}
 use Rattle.mm_text.specs.Language.Reading.{is_allowed, first_bad, AreWords, HasWords, AreViableRuns, IsWordsFaultAt}
 use Rattle.mm_text.specs.Language.Unit as units
-use Rattle.mm_text.specs.Language.Unit.{Token, token_of, tokens_of, Shape, shape_tokens, Units, Nothing, Simple, Block, unit_tokens, AreUnits, IsViable, IsUnitFault, EndsInUnit, EndsInBlock}
+use Rattle.mm_text.specs.Language.Unit.{Token, token_of, tokens_of, Shape, shape_tokens, Units, Nothing, Simple, Block, unit_tokens, AreUnits, IsViable, IsUnitFault}
 use Rattle.mm_text.specs.Code.UnitReading as m
 use Rattle.mm_text.specs.Code.LeftToRight.{Read, read_runs, with_words, words_fault_at, read_text}
 use Rattle.mm_text.specs.Language.Cut.{ends_white, ended, IsOne, end_of_words, HoldsOne, IsPiece, BeginsSolid, ArePieces, IsCut, HoldWords, StopsWords, StopsUnits, IsFirstFaultAt, IsFirstFault}
@@ -177,18 +177,14 @@ sorted text T02 at h = inr (inl (record {
 sorted text T03 at h = inr (inl (meets text T03 at h.0 (h.0, h.1.stop) h.1))
 sorted text T04 at h = inr (inl (meets text T04 at h.0 (h.0, h.1.stop) h.1))
 sorted text T05 at h = inr (inl (meets text T05 at h.0 (h.0, h.1.stop) h.1))
-sorted text T06 at h = inr (inr (inl h))
 sorted text T07 at h = inr (inr (inr (record { found = h.found; has_words = h.has_words; word = h.word; token = h.token; fault = h.ends; viable = h.ends.viable; there = h.there; place = h.place })))
 sorted text T08 at h = inr (inr (inr (record { found = h.found; has_words = h.has_words; word = h.word; token = h.token; fault = h.ends; viable = block_viable (tokens_of text h.found) h.word h.ends; there = h.there; place = h.place })))
-sorted text T09 at h = inr (inr (inl h))
-sorted text T10 at h = inr (inr (inl h))
-sorted text T11 at h = inr (inr (inl h))
-sorted text T12 at h = inr (inr (inl h))
+sorted text _ at h = inr (inr (inl h))
 
 -- ---- no two kinds at once
 
 bad_alone : (text : List ℕ) (number : TextNumber) (at : ℕ) → HasBadByte text number at → first_bad text ≡ None → ⊥
-bad_alone text number at h allowed = let bad : first_bad text ≡ Some at = h.1 in cc
+bad_alone text number at h allowed = cc
 
 words_apart : (text : List ℕ) (number : TextNumber) (at : ℕ) (found : List Word) → IsWordsFaultAt text number at → HasWords text found → ⊥
 words_apart text number at found f g = let x : read_text text ≡ Err (words_fault_at number at) = text_fault text number at f in let y : read_text text ≡ Ok found = text_words text found g in cc
@@ -237,7 +233,7 @@ stop_more a b number word h =
     }
 
 same_place : (tokens : List Token) (v w : ℕ) (a b : Token) → slice_get tokens v ≡ Some a → slice_get tokens w ≡ Some b → v ≡ w → a.start ≡ b.start
-same_place tokens v w a b f g same = let e : slice_get tokens w ≡ Some a = ap (slice_get tokens) (sym same) ∙ f in let is : a ≡ b = cc in ap (λ (t : Token). t.start) is
+same_place tokens v w a b f g same = let is : a ≡ b = cc in ap (λ (t : Token). t.start) is
 
 -- behind more runs
 later_stop : (text : List ℕ) (a b : TextNumber) (i j : ℕ) (f : StopsUnits text a i) (g : StopsUnits text b j) (zs : List Run) → g.front ≡ f.front ++ zs → (a ≡ b) × (i ≡ j)
@@ -247,7 +243,8 @@ later_stop text a b i j f g zs is =
     let stop : units.StopsAtWord (tokens_of text f.found ++ tokens_of text more.0) b g.word = subst (λ (ts : List Token). units.StopsAtWord ts b g.word) (sym tokens) g.stop in
     let one = one_stop (tokens_of text f.found ++ tokens_of text more.0) a b f.word g.word (stop_more (tokens_of text f.found) (tokens_of text more.0) a f.word f.stop) stop in (
       one.0,
-      f.place ∙ same_place (tokens_of text g.found) f.word g.word f.stop.token g.stop.token (subst (λ (ts : List Token). slice_get ts f.word ≡ Some f.stop.token) tokens (slice_get-front (tokens_of text f.found) (tokens_of text more.0) f.word f.stop.token f.stop.there)) g.stop.there one.1
+      f.place ∙ same_place (tokens_of text g.found) f.word g.word f.stop.token g.stop.token (subst (λ (ts : List Token). slice_get ts f.word ≡ Some f.stop.token) tokens
+          (slice_get-front (tokens_of text f.found) (tokens_of text more.0) f.word f.stop.token f.stop.there)) g.stop.there one.1
           ∙ sym g.place,
     )
 
@@ -271,7 +268,7 @@ one_word_fault text a b i j f g =
     (ap (λ (t : TextFault). t.number) same, ap (λ (t : TextFault). t.at) same)
 
 one_bad : (text : List ℕ) (a b : TextNumber) (i j : ℕ) → HasBadByte text a i → HasBadByte text b j → (a ≡ b) × (i ≡ j)
-one_bad text a b i j f g = (f.0 ∙ sym g.0, let x : first_bad text ≡ Some i = f.1 in let y : first_bad text ≡ Some j = g.1 in cc)
+one_bad text a b i j f g = (f.0 ∙ sym g.0, cc)
 
 same_fault : (text : List ℕ) (a b : TextNumber) (i j : ℕ) → Sorted text a i → Sorted text b j → (a ≡ b) × (i ≡ j)
 same_fault text a b i j (inl f) (inl g) = one_bad text a b i j f g
@@ -325,11 +322,13 @@ one_piece_more u v more f g one_u one_v e = by_unit u f one_u e where
   by_unit : (u : Units) → AreUnits true u → IsOne u → unit_tokens u ++ more ≡ unit_tokens v → more ≡ []
   by_unit Nothing are one same = absurd one
   by_unit (Simple shape rest) are one same =
-      let tokens : unit_tokens (Simple shape later.0) ≡ unit_tokens v = ap (λ (ts : List Token). shape_tokens shape ++ ts) later.2 ∙ ap (λ (ts : List Token). ts ++ more) (sym (append-nil (shape_tokens shape)) ∙ ap (λ (w : Units). shape_tokens shape ++ unit_tokens w) (sym one)) ∙ same in
+      let tokens : unit_tokens (Simple shape later.0) ≡ unit_tokens v =
+      ap (λ (ts : List Token). shape_tokens shape ++ ts) later.2 ∙ ap (λ (ts : List Token). ts ++ more) (sym (append-nil (shape_tokens shape)) ∙ ap (λ (w : Units). shape_tokens shape ++ unit_tokens w) (sym one)) ∙ same in
       nothing (subst IsOne (sym (one_division (Simple shape later.0) v (are.0, later.1) g tokens)) one_v)
   by_unit (Block begin inner end rest) are one same =
       let tokens : unit_tokens (Block begin inner end later.0) ≡ unit_tokens v =
-      ap (λ (ts : List Token). begin ∷ (unit_tokens inner ++ end ∷ ts)) later.2 ∙ ap (λ (ts : List Token). begin ∷ ts) (sym (append_assoc (unit_tokens inner) (end ∷ []) more)) ∙ ap (λ (w : Units). (begin ∷ (unit_tokens inner ++ end ∷ unit_tokens w)) ++ more) (sym one) ∙ same in
+      ap (λ (ts : List Token). begin ∷ (unit_tokens inner ++ end ∷ ts)) later.2 ∙ ap (λ (ts : List Token). begin ∷ ts) (sym (append_assoc (unit_tokens inner) (end ∷ []) more))
+      ∙ ap (λ (w : Units). (begin ∷ (unit_tokens inner ++ end ∷ unit_tokens w)) ++ more) (sym one) ∙ same in
       nothing (subst IsOne (sym (one_division (Block begin inner end later.0) v (are.0, are.1, are.2, later.1) g tokens)) one_v)
 
 end_within : (text : List ℕ) (at : ℕ) (ws : List Word) → Lying text at ws → end_of_words ws ≤ length text
@@ -372,7 +371,8 @@ no_longer p (z ∷ zs) rest f g solid = absurd (false≢true (sym solid ∙ pass
 piece_no_tail : (piece rest tail : List ℕ) (found : List Word) → IsPiece piece → HasWords rest found → HasWords tail [] → tail ≡ piece ++ rest → ⊥
 piece_no_tail piece rest tail found f g h is = by_units f.units f.one (f.spells ∙ ap (tokens_of piece) none) where
   all : [] ≡ f.words ++ map (shift_word (length piece)) found
-  all = same_words (runs tail) [] (f.words ++ map (shift_word (length piece)) found) h.words_are (subst (λ (bs : List ℕ). AreWords (runs bs) (f.words ++ map (shift_word (length piece)) found)) (sym is) (join_words piece rest f.words found f.ends f.has_words g).words_are)
+  all = same_words (runs tail) [] (f.words ++ map (shift_word (length piece)) found) h.words_are (subst (λ (bs : List ℕ). AreWords (runs bs) (f.words ++ map (shift_word (length piece)) found))
+      (sym is) (join_words piece rest f.words found f.ends f.has_words g).words_are)
 
   empty : (ws vs : List Word) → [] ≡ ws ++ vs → ws ≡ []
   empty [] vs e = refl
@@ -402,7 +402,6 @@ same_pieces (p ∷ ps) (q ∷ qs) s t e f g = by_cut (cut_twice p (concat ps ++ 
   alike : p ≡ q → ((concat ps ++ s ≡ concat qs ++ t) → (ps ≡ qs) × (s ≡ t)) → (p ∷ ps ≡ q ∷ qs) × (s ≡ t)
   alike same more =
       let rest = more (append_cancel_left q (concat ps ++ s) (concat qs ++ t) (ap (λ (bs : List ℕ). bs ++ (concat ps ++ s)) (sym same) ∙ all)) in
-      let later : ps ≡ qs = rest.0 in
       (cc, rest.1)
 
   by_cut : ((zs : List ℕ) × (p ≡ q ++ zs) × (zs ++ (concat ps ++ s) ≡ concat qs ++ t)) ⊎ ((zs : List ℕ) × (q ≡ p ++ zs) × (concat ps ++ s ≡ zs ++ (concat qs ++ t)))

@@ -50,7 +50,8 @@ gathers_none text = record { joined = refl; are = λ more tail e h. h }
 
 gathers_more : (text : List ℕ) (pieces : List (List ℕ)) (rest piece next : List ℕ) → Gathers text pieces rest → ended rest ≡ piece ++ ended next → IsPiece piece → BeginsSolid (ended next) → Gathers text (pieces ++ piece ∷ []) next
 gathers_more text pieces rest piece next g split is solid = record {
-  joined = ap (λ (bs : List ℕ). bs ++ ended next) (concat-append pieces (piece ∷ []) ∙ ap (λ (bs : List ℕ). concat pieces ++ bs) (append-nil piece)) ∙ append_assoc (concat pieces) piece (ended next) ∙ ap (λ (bs : List ℕ). concat pieces ++ bs) (sym split) ∙ g.joined;
+  joined = ap (λ (bs : List ℕ). bs ++ ended next) (concat-append pieces (piece ∷ []) ∙ ap (λ (bs : List ℕ). concat pieces ++ bs) (append-nil piece)) ∙ append_assoc (concat pieces) piece (ended next)
+      ∙ ap (λ (bs : List ℕ). concat pieces ++ bs) (sym split) ∙ g.joined;
   are = λ more tail e h. subst (λ (ps : List (List ℕ)). ArePieces ps tail) (sym (append_assoc pieces (piece ∷ []) more))
       (g.are (piece ∷ more) tail (append_assoc piece (concat more) tail ∙ ap (λ (bs : List ℕ). piece ++ bs) e ∙ sym split) (is, subst BeginsSolid (sym e) solid, h));
 }
@@ -198,7 +199,7 @@ module _ (text : List ℕ) (pieces : List (List ℕ)) (from at : ℕ) (phase : m
     inner_skipped n some (inr more) whole =
         let same : m.phase_state phase (length blocks) ≡ m.phase_state m.Begin 0 =
         let a : m.run m.Begin 0 (take n (tokens_of text (h.part ++ words_skipped))) ≡ Ok (m.phase_state phase (length blocks)) = runs_skipped n more in
-        let b : m.run m.Begin 0 (take n (tokens_of text (h.part ++ words_skipped))) ≡ Ok (m.phase_state m.Begin 0) = whole in cc in
+        cc in
         is_no_begin phase inside (ap (λ (s : m.Phase × ℕ). s.0) same)
 
     tokens_all : tokens_of text (h.before ++ h.part) ++ tokens_of text words_skipped ≡ tokens_of text (h.before ++ (h.part ++ words_skipped))
@@ -292,7 +293,8 @@ module _ (text : List ℕ) (pieces : List (List ℕ)) (from at : ℕ) (phase : m
         all : (n : ℕ) → length (tokens_of text more_words) ≤ n → ¬ WholeRun (take n (tokens_of text more_words))
         all n le whole =
             let same : m.phase_state next (length next_blocks) ≡ m.phase_state m.Begin 0 =
-            let a : m.run m.Begin 0 (tokens_of text more_words) ≡ Ok (m.phase_state m.Begin 0) = ap (m.run m.Begin 0) (sym (take_all n (tokens_of text more_words) le)) ∙ whole in let b : m.run m.Begin 0 (tokens_of text more_words) ≡ Ok (m.phase_state next (length next_blocks)) = part_next in cc in
+            let a : m.run m.Begin 0 (tokens_of text more_words) ≡ Ok (m.phase_state m.Begin 0) = ap (m.run m.Begin 0) (sym (take_all n (tokens_of text more_words) le))
+            ∙ whole in let b : m.run m.Begin 0 (tokens_of text more_words) ≡ Ok (m.phase_state next (length next_blocks)) = part_next in cc in
             on (ap (λ (s : m.Phase × ℕ). s.0) same, no_blocks next_blocks (ap (λ (s : m.Phase × ℕ). s.1) same))
 
       pub progress_piece : first_bad text ≡ None → to ≤ length text → next ≡ m.Begin → next_blocks ≡ []

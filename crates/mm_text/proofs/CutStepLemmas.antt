@@ -59,7 +59,8 @@ module _ (text : List ℕ) (pieces : List (List ℕ)) (from at : ℕ) (g : Gramm
         step = step_to (m.next g.phase (length g.blocks.items) word.kind (m.could_label (token_of text word))) new.phase (sym told ∙ takes.phase)
 
         kept : (pieces : List (List ℕ)) (from : ℕ) → Progress text pieces from to new.phase (first_behind g.phase g.first word.start) (blocks_behind word.kind g.blocks.items word.start) → Keeps text pieces from to new
-        kept pieces from p = subst (λ (n : ℕ). Progress text pieces from to new.phase n new.blocks.items) (sym takes.first) (subst (λ (bs : List ℕ). Progress text pieces from to new.phase (first_behind g.phase g.first word.start) bs) (sym takes.blocks) p)
+        kept pieces from p =
+            subst (λ (n : ℕ). Progress text pieces from to new.phase n new.blocks.items) (sym takes.first) (subst (λ (bs : List ℕ). Progress text pieces from to new.phase (first_behind g.phase g.first word.start) bs) (sym takes.blocks) p)
 
         -- a word inside a unit
         pub keeps_more : ¬ ((new.phase ≡ m.Begin) × (new.blocks.items ≡ [])) → Keeps text pieces from to new

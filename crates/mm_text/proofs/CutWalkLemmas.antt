@@ -49,7 +49,16 @@ run_by text from w (suc n) w-is n-is = inr (span, from + w + suc n, takes, withi
   span = record { start = from + w; end = from + w + suc n; plain = not (has_dollar (slice_range text (from + w) (from + w + suc n))) }
 
   takes : TakesSpan text from span (from + w + suc n)
-  takes = record { begins = omega arith; some = omega arith; next = refl; run = next_run text from w (suc n) w-is n-is (omega arith); here = run_here text (from + w) (suc n) n-is (omega arith); ends = run_ends text (from + w) (suc n) n-is; plain = refl }
+  takes = record {
+    begins = omega arith;
+    some = omega arith;
+    next = refl;
+    run = next_run text from w (suc n) w-is n-is (omega arith);
+    here = run_here text (from + w) (suc n) n-is (omega arith);
+    ends =
+        run_ends text (from + w) (suc n) n-is;
+    plain = refl;
+  }
 
   within : from + w + suc n ≤ length text
   within = let most : suc n ≤ length text - (from + w) = solid_most text (from + w) (suc n) n-is in omega arith
@@ -142,12 +151,13 @@ module _ (text : List ℕ) (allowed : first_bad text ≡ None) where
       onward : at < to
       onward = omega (arith, taken.begins, taken.some, taken.next)
 
-      by_whole : (next : m.Phase) (depth : ℕ) → m.next phase (length blocks) word.kind (m.could_label (token_of text word)) ≡ Ok (m.phase_state next depth) → (next ≡ m.Begin) ⊎ (next ≢ m.Begin) → (bs : List ℕ) → blocks_behind word.kind blocks word.start ≡ bs → CutOrFault text
+      by_whole : (next : m.Phase) (depth : ℕ) → m.next phase (length blocks) word.kind (m.could_label (token_of text word)) ≡ Ok (m.phase_state next depth) → (next ≡ m.Begin) ⊎ (next ≢ m.Begin)
+          → (bs : List ℕ) → blocks_behind word.kind blocks word.start ≡ bs → CutOrFault text
       by_whole next depth e (inl is) [] none =
           go (pieces ++ ended (slice_range text from (to + prefix_len is_white (drop to text))) ∷ []) (to + prefix_len is_white (drop to text)) to next (first_behind phase first word.start) (blocks_behind word.kind blocks word.start) onward within
           (progress_piece text pieces from at phase first blocks h word to taken next depth e allowed within is none)
       by_whole next depth e (inl is) (b ∷ bs) some =
-          go pieces from to next (first_behind phase first word.start) (blocks_behind word.kind blocks word.start) onward within (progress_more text pieces from at phase first blocks h word to taken next depth e (λ whole. (let none : blocks_behind word.kind blocks word.start ≡ [] = whole.1 in cc)))
+          go pieces from to next (first_behind phase first word.start) (blocks_behind word.kind blocks word.start) onward within (progress_more text pieces from at phase first blocks h word to taken next depth e (λ whole. (cc)))
       by_whole next depth e (inr other) bs is =
           go pieces from to next (first_behind phase first word.start) (blocks_behind word.kind blocks word.start) onward within (progress_more text pieces from at phase first blocks h word to taken next depth e (λ whole. other whole.0))
 

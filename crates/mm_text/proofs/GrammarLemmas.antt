@@ -49,7 +49,6 @@ closed_more : (tokens : List Token) (token : Token) → IsClosed tokens → is_s
 closed_more tokens token h no_start no_end =
     let start : starts (tokens ++ token ∷ []) ≡ starts tokens + starts (token ∷ []) = starts-append tokens (token ∷ []) in
     let end : ends (tokens ++ token ∷ []) ≡ ends tokens + ends (token ∷ []) = ends-append tokens (token ∷ []) in
-    let even : starts tokens ≡ ends tokens = h.0 in
     (omega arith, covered-append tokens (token ∷ []) h.1 (let fewer : starts (token ∷ []) ≤ ends (token ∷ []) = omega arith in (fewer, tt)))
 
 closed_block : (before inner : List Token) (begin end : Token) → IsClosed before → IsClosed inner → IsKeyword BlockStart begin → IsKeyword BlockEnd end → IsClosed (before ++ begin ∷ (inner ++ end ∷ []))
@@ -69,9 +68,9 @@ closed_block before inner begin end f g opens closes =
 behind : (tokens before inner : List Token) (begin token : Token) → tokens ≡ before ++ begin ∷ inner → tokens ++ token ∷ [] ≡ before ++ begin ∷ (inner ++ token ∷ [])
 behind tokens before inner begin token joined = ap (λ (ts : List Token). ts ++ token ∷ []) joined ∙ append_assoc before (begin ∷ inner) (token ∷ [])
 
-opens_more : (blocks : List ℕ) (tokens : List Token) (token : Token) → Opens tokens blocks → is_start_word token.kind ≡ 0 → is_end_word token.kind ≡ 0 → Opens (tokens ++ token ∷ []) blocks
-opens_more [] tokens token h no_start no_end = closed_more tokens token h no_start no_end
-opens_more (start ∷ blocks) tokens token h no_start no_end = record {
+-- a word behind stands inside the block that is open
+opens_inside : {Now Later : List Token → Type 0} (start : ℕ) (tokens : List Token) (token : Token) (h : OpensAt tokens start Now) → Later (h.inner ++ token ∷ []) → OpensAt (tokens ++ token ∷ []) start Later
+opens_inside start tokens token h later = record {
   before = h.before;
   begin = h.begin;
   inner = h.inner ++ token ∷ [];
@@ -79,35 +78,21 @@ opens_more (start ∷ blocks) tokens token h no_start no_end = record {
   closed = h.closed;
   opens = h.opens;
   place = h.place;
-  goes_on = opens_more blocks h.inner token h.goes_on no_start no_end;
+  goes_on = later;
 }
+
+opens_more : (blocks : List ℕ) (tokens : List Token) (token : Token) → Opens tokens blocks → is_start_word token.kind ≡ 0 → is_end_word token.kind ≡ 0 → Opens (tokens ++ token ∷ []) blocks
+opens_more [] tokens token h no_start no_end = closed_more tokens token h no_start no_end
+opens_more (start ∷ blocks) tokens token h no_start no_end = opens_inside start tokens token h (opens_more blocks h.inner token h.goes_on no_start no_end)
 
 opens_start : (blocks : List ℕ) (tokens : List Token) (token : Token) → Opens tokens blocks → IsKeyword BlockStart token → Opens (tokens ++ token ∷ []) (blocks ++ token.start ∷ [])
 opens_start [] tokens token h opens = record { before = tokens; begin = token; inner = []; joined = refl; closed = h; opens = opens; place = refl; goes_on = closed_none }
-opens_start (start ∷ blocks) tokens token h opens = record {
-  before = h.before;
-  begin = h.begin;
-  inner = h.inner ++ token ∷ [];
-  joined = behind tokens h.before h.inner h.begin token h.joined;
-  closed = h.closed;
-  opens = h.opens;
-  place = h.place;
-  goes_on = opens_start blocks h.inner token h.goes_on opens;
-}
+opens_start (start ∷ blocks) tokens token h opens = opens_inside start tokens token h (opens_start blocks h.inner token h.goes_on opens)
 
 opens_end : (blocks : List ℕ) (last : ℕ) (tokens : List Token) (token : Token) → Opens tokens (blocks ++ last ∷ []) → IsKeyword BlockEnd token → Opens (tokens ++ token ∷ []) blocks
 opens_end [] last tokens token h closes =
     subst (λ (ts : List Token). IsClosed ts) (sym (behind tokens h.before h.inner h.begin token h.joined)) (closed_block h.before h.inner h.begin token h.closed h.goes_on h.opens closes)
-opens_end (start ∷ blocks) last tokens token h closes = record {
-  before = h.before;
-  begin = h.begin;
-  inner = h.inner ++ token ∷ [];
-  joined = behind tokens h.before h.inner h.begin token h.joined;
-  closed = h.closed;
-  opens = h.opens;
-  place = h.place;
-  goes_on = opens_end blocks last h.inner token h.goes_on closes;
-}
+opens_end (start ∷ blocks) last tokens token h closes = opens_inside start tokens token h (opens_end blocks last h.inner token h.goes_on closes)
 
 -- the innermost open block
 record Innermost (tokens : List Token) (start : ℕ) : Type 0 where
@@ -168,7 +153,8 @@ blocks_count (kinds.Keyword BlockStart) blocks start depth e = let long : length
 blocks_count (kinds.Keyword BlockEnd) blocks start depth e = let short : length (take (length blocks - 1) blocks) ≡ length blocks - 1 = length-take-le (length blocks - 1) blocks (omega arith) in omega arith
 blocks_count _ blocks start depth e = omega arith
 
-blocks_more : (kind : WordKind) (blocks : List ℕ) (tokens : List Token) (token : Token) (depth : ℕ) → token.kind ≡ kind → length blocks + is_start_word kind ≡ depth + is_end_word kind → Opens tokens blocks → Opens (tokens ++ token ∷ []) (blocks_behind kind blocks token.start)
+blocks_more : (kind : WordKind) (blocks : List ℕ) (tokens : List Token) (token : Token) (depth : ℕ) → token.kind ≡ kind → length blocks + is_start_word kind ≡ depth + is_end_word kind
+    → Opens tokens blocks → Opens (tokens ++ token ∷ []) (blocks_behind kind blocks token.start)
 blocks_more (kinds.Keyword BlockStart) blocks tokens token depth is e h = opens_start blocks tokens token h is
 blocks_more (kinds.Keyword BlockEnd) blocks tokens token depth is e h =
     let last = last_of blocks (omega arith) in
@@ -199,11 +185,7 @@ module _ (tokens : List Token) (phase : m.Phase) (first : ℕ) (blocks : List �
 
     first_is : (p : m.Phase) → p ≢ m.Begin → first_behind p first token.start ≡ first
     first_is m.Begin other = absurd (other refl)
-    first_is m.Labelled other = refl
-    first_is m.Symbols other = refl
-    first_is m.Expression other = refl
-    first_is m.Including other = refl
-    first_is m.Named other = refl
+    first_is _ other = refl
 
     unfinished : next ≢ m.Begin → (phase ≡ m.Begin) ⊎ (phase ≢ m.Begin) → Unfinished (tokens ++ token ∷ []) (first_behind phase first token.start)
     unfinished other (inl is) = record {
@@ -233,13 +215,15 @@ module _ (tokens : List Token) (phase : m.Phase) (first : ℕ) (blocks : List �
 
 -- ---- the end
 
-pub stands_unit : (tokens : List Token) (phase : m.Phase) (first : ℕ) (blocks : List ℕ) → Stands tokens phase first blocks → phase ≢ m.Begin → (word : ℕ) × (token : Token) × EndsInUnit tokens word × (slice_get tokens word ≡ Some token) × (first ≡ token.start)
+pub stands_unit : (tokens : List Token) (phase : m.Phase) (first : ℕ) (blocks : List ℕ) → Stands tokens phase first blocks → phase ≢ m.Begin
+    → (word : ℕ) × (token : Token) × EndsInUnit tokens word × (slice_get tokens word ≡ Some token) × (first ≡ token.start)
 stands_unit tokens phase first blocks h other = (length u.before, u.begin, ends_in_unit tokens (length u.before) u.depth within begins u.later, there, sym u.place) where
   u : Unfinished tokens first
   u = h.unit other
 
   within : length u.before < length tokens
-  within = let long : length (u.before ++ u.begin ∷ u.inner) ≡ length u.before + length (u.begin ∷ u.inner) = length-append u.before (u.begin ∷ u.inner) in let same : length tokens ≡ length (u.before ++ u.begin ∷ u.inner) = ap length u.joined in omega arith
+  within = let long : length (u.before ++ u.begin ∷ u.inner) ≡ length u.before + length (u.begin ∷ u.inner) = length-append u.before (u.begin ∷ u.inner) in
+      let same : length tokens ≡ length (u.before ++ u.begin ∷ u.inner) = ap length u.joined in omega arith
 
   begins : m.run m.Begin 0 (take (length u.before) tokens) ≡ Ok (m.phase_state m.Begin u.depth)
   begins = ap (λ (ts : List Token). m.run m.Begin 0 (take (length u.before) ts)) u.joined ∙ ap (m.run m.Begin 0) (take-append_seam u.before (u.begin ∷ u.inner)) ∙ u.begins
@@ -339,7 +323,8 @@ plain_blocks kind blocks start plain = ap (λ (k : WordKind). blocks_behind k bl
 pub stands_plain : (tokens more : List Token) (phase : m.Phase) (first : ℕ) (blocks : List ℕ) → is_within phase ≡ true → AllByRecursion IsPlain more → Stands tokens phase first blocks → Stands (tokens ++ more) phase first blocks
 stands_plain tokens [] phase first blocks within plain h = subst (λ (ts : List Token). Stands ts phase first blocks) (sym (append-nil tokens)) h
 stands_plain tokens (token ∷ more) phase first blocks within plain h =
-    let next : Stands (tokens ++ token ∷ []) phase (first_behind phase first token.start) (blocks_behind token.kind blocks token.start) = stands_more tokens phase first blocks h token phase (length blocks) (plain_step phase (length blocks) token within plain.0) in
+    let next : Stands (tokens ++ token ∷ []) phase (first_behind phase first token.start) (blocks_behind token.kind blocks token.start) =
+    stands_more tokens phase first blocks h token phase (length blocks) (plain_step phase (length blocks) token within plain.0) in
     let here : Stands (tokens ++ token ∷ []) phase first blocks = subst (λ (n : ℕ). Stands (tokens ++ token ∷ []) phase n blocks) (plain_first phase first token.start within)
     (subst (λ (bs : List ℕ). Stands (tokens ++ token ∷ []) phase (first_behind phase first token.start) bs) (plain_blocks token.kind blocks token.start plain.0) next) in
     subst (λ (ts : List Token). Stands ts phase first blocks) (append_assoc tokens (token ∷ []) more) (stands_plain (tokens ++ token ∷ []) more phase first blocks within plain.1 here)

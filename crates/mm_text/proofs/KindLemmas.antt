@@ -36,7 +36,7 @@ none_any bytes none = false_from_ne_true (list_any (λ c. c == 36) bytes) (λ e.
 pick : (b n : ℕ) (first k : Keyword) (rest : Option Keyword) → 36 ∷ n ∷ [] ≡ spelling first → (rest ≡ Some k → 36 ∷ b ∷ [] ≡ spelling k) → cond (eqb b n) (Some first) rest ≡ Some k → 36 ∷ b ∷ [] ≡ spelling k
 pick b n first k rest spelled else' e =
     elim (cases_Bool (eqb b n)) [
-      | inl same ↦ rw (eqb-true b n same) (spelled ∙ ap spelling (let e' : Some first ≡ Some k = rw same at e in cc))
+      | inl same ↦ rw (eqb-true b n same) (spelled ∙ ap spelling (cc))
       | inr other ↦ else' (rw other at e)
     ]
 
@@ -65,9 +65,8 @@ kind_of-keyword InclusionEnd = refl
 plain_is : (bytes : List ℕ) (kind : WordKind) → plain_unless (list_any (λ c. c == 36) bytes) ≡ Some kind → IsSpelled kind bytes
 plain_is bytes kind e =
     elim (cases_Bool (list_any (λ c. c == 36) bytes)) [
-      | inl some ↦ absurd (let e' : plain_unless true ≡ Some kind = rw some at e in cc)
+      | inl some ↦ absurd (cc)
       | inr none ↦
-          let e' : plain_unless false ≡ Some kind = rw none at e in
           let is : kinds.Plain ≡ kind = cc in
           subst (λ (k : WordKind). IsSpelled k bytes) is (λ h. false≢true (sym none ∙ contains_any bytes h))
     ]
@@ -108,7 +107,7 @@ plain_none : (bytes : List ℕ) → plain_unless (list_any (λ c. c == 36) bytes
 plain_none bytes e =
     elim (cases_Bool (list_any (λ c. c == 36) bytes)) [
       | inl some ↦ any_contains bytes some
-      | inr none ↦ absurd (let e' : plain_unless false ≡ None = rw none at e in cc)
+      | inr none ↦ absurd (cc)
     ]
 
 pub no_kind : (bytes : List ℕ) → word_kind bytes ≡ None → Contains bytes 36
@@ -132,13 +131,12 @@ mark_is a b bytes e =
     ]
 
 pub mark_stands : (bytes : List ℕ) → holds_mark bytes ≡ true → HoldsMark bytes
-mark_stands [] e = absurd cc
-mark_stands (a ∷ []) e = absurd cc
 mark_stands (a ∷ b ∷ bytes) e =
     elim (or_cases (is_mark a b) (holds_mark (b ∷ bytes)) e) [
       | inl here ↦ (0, mark_is a b bytes here)
       | inr later ↦ let w = mark_stands (b ∷ bytes) later in (suc w.0, w.1)
     ]
+mark_stands _ e = absurd cc
 
 stands_at : (bytes : List ℕ) (k : ℕ) → HasBytesAt bytes opening k ⊎ HasBytesAt bytes closing k → holds_mark bytes ≡ true
 stands_at [] zero (inl e) = absurd cc
@@ -165,13 +163,12 @@ pub plain_word : (bytes : List ℕ) → not (has_dollar bytes) ≡ true → word
 plain_word bytes none = spelled_kind kinds.Plain bytes (λ h. false≢true (sym (none_there (has_dollar bytes) none) ∙ contains_any bytes h))
 
 mark_dollar : (bytes : List ℕ) → holds_mark bytes ≡ true → has_dollar bytes ≡ true
-mark_dollar [] e = absurd cc
-mark_dollar (a ∷ []) e = absurd cc
 mark_dollar (a ∷ b ∷ bytes) e =
     elim (or_cases (is_mark a b) (holds_mark (b ∷ bytes)) e) [
       | inl here ↦ or_left (eqb a 36) (has_dollar (b ∷ bytes)) (and_parts (eqb a 36) (eqb b 40 || eqb b 41) here).0
       | inr later ↦ or_right (eqb a 36) (has_dollar (b ∷ bytes)) (mark_dollar (b ∷ bytes) later)
     ]
+mark_dollar _ e = absurd cc
 
 pub no_mark : (bytes : List ℕ) → not (has_dollar bytes) ≡ true → ¬ HoldsMark bytes
 no_mark bytes none h = false≢true (sym (none_there (has_dollar bytes) none) ∙ mark_dollar bytes (stands_mark bytes h))

@@ -20,9 +20,8 @@ use Rattle.mm_text.proofs.NthLemmas.{first_word}
 use Rattle.mm_text.proofs.PartLemmas.{Begun, begun_first, begun_more, begun_words}
 
 end_behind : (words : List Word) (word : Word) → end_of_words (words ++ word ∷ []) ≡ word.end
-end_behind [] word = refl
-end_behind (w ∷ []) word = refl
 end_behind (w ∷ v ∷ words) word = end_behind (v ∷ words) word
+end_behind _ word = refl
 
 bytes_bare : (tokens : List Token) → map (λ token. token.bytes) (map bare tokens) ≡ map (λ token. token.bytes) tokens
 bytes_bare [] = refl

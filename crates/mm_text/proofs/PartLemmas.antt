@@ -162,10 +162,12 @@ begun_first text at word to taken = record {
 }
 
 -- a part that ends where a run ends is a text with words
-pub begun_words : (text : List ℕ) (start to : ℕ) → first_bad text ≡ None → to ≤ length text → (h : Begun text start to) → ends_run (drop to text) ≡ true → (words : List Word) × HasWords (slice_range text start to) words × (0 < length words) × (h.words ≡ map (shift_word start) words)
+pub begun_words : (text : List ℕ) (start to : ℕ) → first_bad text ≡ None → to ≤ length text → (h : Begun text start to) → ends_run (drop to text) ≡ true
+    → (words : List Word) × HasWords (slice_range text start to) words × (0 < length words) × (h.words ≡ map (shift_word start) words)
 begun_words text start to allowed most h ends = (words.0, record { allowed = allowed_part text start to allowed; words_are = words.1 }, omega (arith, h.some, ap length words.2, length-map words.0 (shift_word start)), words.2) where
   joined : drop start text ≡ slice_range text start to ++ drop to text
-  joined = let place : start + (to - start) ≡ to = omega (arith, h.before) in sym (take-append-drop (to - start) (drop start text)) ∙ ap (λ (bs : List ℕ). slice_range text start to ++ bs) (drop-drop (to - start) start text ∙ ap (λ (n : ℕ). drop n text) place)
+  joined = let place : start + (to - start) ≡ to =
+      omega (arith, h.before) in sym (take-append-drop (to - start) (drop start text)) ∙ ap (λ (bs : List ℕ). slice_range text start to ++ bs) (drop-drop (to - start) start text ∙ ap (λ (n : ℕ). drop n text) place)
 
   seam : Seam (slice_range text start to) (drop to text)
   seam = rw ends (or_true (ends_white (slice_range text start to)))
@@ -201,13 +203,12 @@ module _ (text : List ℕ) (found : List Part) (first : Option ℕ) (kind : Part
   pub divides_end : AreWords (runs_at text at) [] → (units : Units) → HasUnits text units → found ≡ parts_of units
   divides_end none units has =
       let left = h.rest units has in
-      let empty : left.0 ≡ [] = let a : read_runs None (runs_at text at) ≡ Ok left.0 = left.1 in let b : read_runs None (runs_at text at) ≡ Ok [] = read_words (runs_at text at) [] none in cc in
+      let empty : left.0 ≡ [] = let b : read_runs None (runs_at text at) ≡ Ok [] = read_words (runs_at text at) [] none in cc in
       sym (append-nil found) ∙ ap (λ (ws : List Word). found ++ emit first kind (tokens_of text ws)) (sym empty) ∙ left.2
 
   pub divides_fault : (number : TextNumber) (place : ℕ) → FailsBehind (runs_at text at) [] number place → (units : Units) → ¬ HasUnits text units
   divides_fault number place fails units has =
       let left = h.rest units has in
-      let a : read_runs None (runs_at text at) ≡ Ok left.0 = left.1 in
       let b : read_runs None (runs_at text at) ≡ Err (words_fault_at number place) = fails_read (runs_at text at) [] number place fails in
       cc
 
@@ -224,7 +225,7 @@ module _ (text : List ℕ) (found : List Part) (first : Option ℕ) (kind : Part
         (next.0, next.2, ap (λ (ws : List Word). found ++ emit first kind (tokens_of text ws)) (sym next.1) ∙ left.2)
 
     end_is : token_end (token_of text word) ≡ word.end
-    end_is = let long : length (slice_range text word.start word.end) ≡ word.end - word.start = slice_length text word.start word.end (omega (arith, most, taken.next)) in omega (arith, taken.some)
+    end_is = omega (arith, taken.some)
 
     begins : (o : Option ℕ) → first ≡ o → Begun text (unwrap_or o word.start) to
     begins None e = begun_first text at word to taken
@@ -253,7 +254,8 @@ module _ (text : List ℕ) (found : List Part) (first : Option ℕ) (kind : Part
         next.1,
         append_assoc found (made_part (word_part kind word.kind) start word.end ∷ []) (emit None (word_part kind word.kind) (tokens_of text next.0))
             ∙ ap (λ (n : ℕ). found ++ made_part (word_part kind word.kind) start n ∷ emit None (word_part kind word.kind) (tokens_of text next.0)) (sym end_is)
-            ∙ ap (λ (b : Bool). found ++ (if b then made_part (word_part kind word.kind) start (token_end (token_of text word)) ∷ emit None (word_part kind word.kind) (tokens_of text next.0) else emit (Some start) (word_part kind word.kind) (tokens_of text next.0))) (sym ends) ∙ next.2,
+            ∙ ap (λ (b : Bool). found ++ (if b then made_part (word_part kind word.kind) start (token_end (token_of text word)) ∷ emit None (word_part kind word.kind) (tokens_of text next.0) else emit
+            (Some start) (word_part kind word.kind) (tokens_of text next.0))) (sym ends) ∙ next.2,
       ));
       readable = All-append (IsReadable text) found (made_part (word_part kind word.kind) start word.end ∷ []) h.readable (All-cons (IsReadable text) (made_part (word_part kind word.kind) start word.end) [] made_readable (All-nil (IsReadable text)));
       begun = λ s e. absurd cc;
@@ -262,8 +264,12 @@ module _ (text : List ℕ) (found : List Part) (first : Option ℕ) (kind : Part
     pub divides_more : ends_part word.kind ≡ false → Divides text found (Some start) (word_part kind word.kind) to
     divides_more on = record {
       allowed = h.allowed;
-      rest = λ units has. (let next = after_word units has in
-          (next.0, next.1, ap (λ (b : Bool). found ++ (if b then made_part (word_part kind word.kind) start (token_end (token_of text word)) ∷ emit None (word_part kind word.kind) (tokens_of text next.0) else emit (Some start) (word_part kind word.kind) (tokens_of text next.0))) (sym on) ∙ next.2));
+      rest = λ units has. (let next = after_word units has in (
+        next.0,
+        next.1,
+        ap (λ (b : Bool). found ++ (if b then made_part (word_part kind word.kind) start (token_end (token_of text word)) ∷ emit None (word_part kind word.kind)
+            (tokens_of text next.0) else emit (Some start) (word_part kind word.kind) (tokens_of text next.0))) (sym on) ∙ next.2,
+      ));
       readable = h.readable;
       begun = λ s e. (let same : start ≡ s = cc in subst (λ n. Begun text n to) same (begins first refl));
     }

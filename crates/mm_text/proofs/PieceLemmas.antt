@@ -116,9 +116,8 @@ unfolding word_there
 word_at-shift k run kind = let same : k + run.start + length run.bytes ≡ k + (run.start + length run.bytes) = omega arith in ap (word_there kind (k + run.start)) same
 
 alone-shift : (k : ℕ) (run : Run) (kind : Option WordKind) (r : Read) → word_alone (shift_run k run) kind (shift_read k r) ≡ shift_read k (word_alone run kind r)
-alone-shift k run None r = refl
 alone-shift k run (Some kind) (Ok words) = ap (λ (w : Word). Ok (w ∷ map (shift_word k) words)) (word_at-shift k run kind)
-alone-shift k run (Some kind) (Err fault) = refl
+alone-shift k run _ _ = refl
 
 pub read-shift : (k : ℕ) (state : Option ℕ) (rs : List Run) → read_runs (shift_state k state) (map (shift_run k) rs) ≡ shift_read k (read_runs state rs)
 read-shift k None [] = refl
@@ -131,7 +130,8 @@ read-shift k None (run ∷ rs) =
         | inr no_close ↦
             let a = not_from run.bytes opening no_open in
             let b = not_from run.bytes closing no_close in
-            outside_word (shift_run k run) (map (shift_run k) rs) a b ∙ ap (word_alone (shift_run k run) (word_kind run.bytes)) (read-shift k None rs) ∙ alone-shift k run (word_kind run.bytes) (read_runs None rs) ∙ ap (shift_read k) (sym (outside_word run rs a b))
+            outside_word (shift_run k run) (map (shift_run k) rs) a b ∙ ap (word_alone (shift_run k run) (word_kind run.bytes)) (read-shift k None rs)
+            ∙ alone-shift k run (word_kind run.bytes) (read_runs None rs) ∙ ap (shift_read k) (sym (outside_word run rs a b))
       ]
     ]
 read-shift k (Some start) (run ∷ rs) =
@@ -193,9 +193,8 @@ runs-ended at text =
     ap (runs_from at) (ended_is text) ∙ runs-append text (line_end text) at (seam_end text) ∙ ap (λ (rs : List Run). runs_from at text ++ rs) (no_runs text (at + length text)) ∙ append-nil (runs_from at text)
 
 ends_feed : (text : List ℕ) → ends_white (text ++ 10 ∷ []) ≡ true
-ends_feed [] = feed_white
-ends_feed (b ∷ []) = feed_white
 ends_feed (b ∷ c ∷ text) = ends_feed (c ∷ text)
+ends_feed _ = feed_white
 
 pub ended_white : (text : List ℕ) → ends_white (ended text) ≡ true
 ended_white text =
@@ -205,9 +204,8 @@ ended_white text =
     ]
 
 pub ends_behind : (a b : List ℕ) (c : ℕ) → ends_white (a ++ c ∷ b) ≡ ends_white (c ∷ b)
-ends_behind [] b c = refl
-ends_behind (d ∷ []) b c = refl
 ends_behind (d ∷ e ∷ a) b c = ends_behind (e ∷ a) b c
+ends_behind _ b c = refl
 
 -- a part that ends in white space, or the last one
 pub ended-append : (a b : List ℕ) → Seam a b → (ends_run b ≡ true → b ≡ []) → ended (a ++ b) ≡ ended a ++ ended b
@@ -237,6 +235,5 @@ white_or_none (Some b) = is_white b
 
 -- the last byte
 pub ends_as_last : (text : List ℕ) → ends_white text ≡ white_or_none (slice_get text (length text - 1))
-ends_as_last [] = refl
-ends_as_last (b ∷ []) = refl
 ends_as_last (b ∷ c ∷ text) = ends_as_last (c ∷ text) ∙ (let same : length (b ∷ c ∷ text) - 1 ≡ suc (length (c ∷ text) - 1) = omega arith in ap (λ (n : ℕ). white_or_none (slice_get (b ∷ c ∷ text) n)) (sym same))
+ends_as_last _ = refl

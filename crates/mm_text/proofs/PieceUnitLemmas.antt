@@ -40,10 +40,11 @@ unfolding is_allowed is_white
 feed_allowed = refl
 
 pub allowed-ended : (text : List ℕ) → first_bad text ≡ None → first_bad (ended text) ≡ None
-allowed-ended text e = subst (λ (bs : List ℕ). first_bad bs ≡ None) (sym (ended_is text)) (all_allowed (text ++ line_end text) (All-append (λ b. is_allowed b ≡ true) text (line_end text) (allowed_all text e) (by_end (cases_Bool (ends_white text))))) where
-  by_end : (ends_white text ≡ true) ⊎ (ends_white text ≡ false) → AllPass is_allowed (line_end text)
-  by_end (inl white) = rw white (All-nil (λ b. is_allowed b ≡ true))
-  by_end (inr no_white) = rw no_white (All-cons (λ b. is_allowed b ≡ true) 10 [] feed_allowed (All-nil (λ b. is_allowed b ≡ true)))
+allowed-ended text e =
+    subst (λ (bs : List ℕ). first_bad bs ≡ None) (sym (ended_is text)) (all_allowed (text ++ line_end text) (All-append (λ b. is_allowed b ≡ true) text (line_end text) (allowed_all text e) (by_end (cases_Bool (ends_white text))))) where
+      by_end : (ends_white text ≡ true) ⊎ (ends_white text ≡ false) → AllPass is_allowed (line_end text)
+      by_end (inl white) = rw white (All-nil (λ b. is_allowed b ≡ true))
+      by_end (inr no_white) = rw no_white (All-cons (λ b. is_allowed b ≡ true) 10 [] feed_allowed (All-nil (λ b. is_allowed b ≡ true)))
 
 pub allowed_part : (text : List ℕ) (from to : ℕ) → first_bad text ≡ None → first_bad (slice_range text from to) ≡ None
 allowed_part text from to e = all_allowed (slice_range text from to) (All-take (λ b. is_allowed b ≡ true) (to - from) (drop from text) (All-drop (λ b. is_allowed b ≡ true) from text (allowed_all text e)))
@@ -134,7 +135,6 @@ bare_token kind bytes = record { kind = kind; bytes = bytes; start = 0 }
 pub tokens-shift : (text part rest : List ℕ) (from : ℕ) → drop from text ≡ part ++ rest → (ws : List Word) (at : ℕ) → Lying part at ws → map bare (tokens_of text (map (shift_word from) ws)) ≡ map bare (tokens_of part ws)
 tokens-shift text part rest from joined [] at h = refl
 tokens-shift text part rest from joined (w ∷ ws) at h =
-    let some : w.start < w.end = h.1.some in
     ap (λ (bs : List ℕ). bare_token w.kind bs ∷ map bare (tokens_of text (map (shift_word from) ws))) (slice_part text part rest from w.start w.end joined (omega arith) h.1.within)
     ∙ ap (λ (ts : List Token). bare (token_of part w) ∷ ts) (tokens-shift text part rest from joined ws (w.end + 1) h.2)
 
@@ -144,7 +144,6 @@ made_token kind bytes start = record { kind = kind; bytes = bytes; start = start
 pub tokens-front : (part rest : List ℕ) (ws : List Word) (at : ℕ) → Lying part at ws → tokens_of (part ++ rest) ws ≡ tokens_of part ws
 tokens-front part rest [] at h = refl
 tokens-front part rest (w ∷ ws) at h =
-    let some : w.start < w.end = h.1.some in
     ap (λ (bs : List ℕ). made_token w.kind bs w.start ∷ tokens_of (part ++ rest) ws) (slice_front w.start w.end part rest (omega arith) h.1.within) ∙ ap (λ (ts : List Token). token_of part w ∷ ts) (tokens-front part rest ws (w.end + 1) h.2)
 
 after_same : (step : m.UnitStep) (a b : List Token) → ((phase : m.Phase) (depth : ℕ) → m.run phase depth a ≡ m.run phase depth b) → m.after step (λ p d. m.run p d a) ≡ m.after step (λ p d. m.run p d b)
@@ -154,12 +153,11 @@ after_same (Err number) a b same = refl
 -- the machine does not look at places
 pub run_bare : (a b : List Token) (phase : m.Phase) (depth : ℕ) → map bare a ≡ map bare b → m.run phase depth a ≡ m.run phase depth b
 run_bare [] [] phase depth e = refl
-run_bare [] (y ∷ b) phase depth e = absurd cc
-run_bare (x ∷ a) [] phase depth e = absurd cc
 run_bare (x ∷ a) (y ∷ b) phase depth e =
     let first : bare x ≡ bare y = cc in
     let rest : map bare a ≡ map bare b = cc in
     ap (λ (t : Token). m.after (m.next phase depth t.kind (m.could_label t)) (λ p d. m.run p d a)) first ∙ after_same (m.next phase depth y.kind (m.could_label y)) a b (λ p d. run_bare a b p d rest)
+run_bare _ _ phase depth e = absurd cc
 
 -- ---- one unit
 
@@ -178,7 +176,8 @@ shape_some (Inclusion begin name end) = omega arith
 
 units_some : (units : Units) → (units ≡ Nothing) ⊎ (0 < length (unit_tokens units))
 units_some Nothing = inl refl
-units_some (Simple shape later) = inr (let long : length (shape_tokens shape ++ unit_tokens later) ≡ length (shape_tokens shape) + length (unit_tokens later) = length-append (shape_tokens shape) (unit_tokens later) in let some : 0 < length (shape_tokens shape) = shape_some shape in omega arith)
+units_some (Simple shape later) = inr (let long : length (shape_tokens shape ++ unit_tokens later) ≡ length (shape_tokens shape) + length (unit_tokens later) =
+    length-append (shape_tokens shape) (unit_tokens later) in let some : 0 < length (shape_tokens shape) = shape_some shape in omega arith)
 units_some (Block begin inner end later) = inr (omega arith)
 
 -- words of whole units, and then others
@@ -204,9 +203,8 @@ is_one tokens (Block begin inner end later) h e some one =
 -- ---- where the last word ends
 
 ends_at_last : (part : List Word) (word : Word) → end_of_words (part ++ word ∷ []) ≡ word.end
-ends_at_last [] word = refl
-ends_at_last (w ∷ []) word = refl
 ends_at_last (w ∷ v ∷ part) word = ends_at_last (v ∷ part) word
+ends_at_last _ word = refl
 
 end_shift : (k : ℕ) (w : Word) (ws : List Word) → end_of_words (map (shift_word k) (w ∷ ws)) ≡ k + end_of_words (w ∷ ws)
 end_shift k w [] = refl
@@ -260,10 +258,12 @@ module _ (text : List ℕ) (from to : ℕ) (since : List Run) (part : List Word)
 
   piece_runs : runs_from from piece_bytes ≡ since
   piece_runs =
-      let long : length piece_bytes ≡ to + white - from = length-take-le (to + white - from) (drop from text) (let all : length (drop from text) ≡ length text - from = length-drop from text in let most : to + white ≤ length text = white_within in omega arith) in
+      let long : length piece_bytes ≡ to + white - from =
+      length-take-le (to + white - from) (drop from text) (let all : length (drop from text) ≡ length text - from = length-drop from text in let most : to + white ≤ length text = white_within in omega arith) in
       let end : from + length piece_bytes ≡ to + white = omega arith in
       append_cancel_right (runs_from from piece_bytes) since (runs_at text (to + white))
-      (ap (λ (n : ℕ). runs_from from piece_bytes ++ runs_from n (drop (to + white) text)) (sym end) ∙ sym (runs-append piece_bytes (drop (to + white) text) from piece_seam) ∙ ap (runs_from from) (sym piece_joined) ∙ joined ∙ ap (λ (rs : List Run). since ++ rs) runs_behind)
+      (ap (λ (n : ℕ). runs_from from piece_bytes ++ runs_from n (drop (to + white) text)) (sym end) ∙ sym (runs-append piece_bytes (drop (to + white) text) from piece_seam)
+      ∙ ap (runs_from from) (sym piece_joined) ∙ joined ∙ ap (λ (rs : List Run). since ++ rs) runs_behind)
 
   piece_words : (ws : List Word) × AreWords (runs piece_bytes) ws × (part ++ word ∷ [] ≡ map (shift_word from) ws)
   piece_words =
@@ -289,7 +289,8 @@ module _ (text : List ℕ) (from to : ℕ) (since : List Run) (part : List Word)
       let last : from + end_of_words piece_words.0 ≡ word.end = last_end from piece_words.0 part word piece_words.2 in
       let long : length (slice_range text from to) ≡ to - from = length-take-le (to - from) (drop from text) (let all : length (drop from text) ≡ length text - from = length-drop from text in omega arith) in
       let end : end_of_words piece_words.0 ≡ length (slice_range text from to) = omega (arith, end_is, last, long) in
-      let bytes : ended piece_bytes ≡ slice_range text from to ++ (take white (drop to text) ++ line_end piece_bytes) = ended_is piece_bytes ∙ ap (λ (bs : List ℕ). bs ++ line_end piece_bytes) halves ∙ append_assoc (slice_range text from to) (take white (drop to text)) (line_end piece_bytes) in
+      let bytes : ended piece_bytes ≡ slice_range text from to ++ (take white (drop to text) ++ line_end piece_bytes) = ended_is piece_bytes ∙ ap (λ (bs : List ℕ). bs ++ line_end piece_bytes) halves
+      ∙ append_assoc (slice_range text from to) (take white (drop to text)) (line_end piece_bytes) in
       let behind : drop (end_of_words piece_words.0) (ended piece_bytes) ≡ take white (drop to text) ++ line_end piece_bytes = ap (λ (n : ℕ). drop n (ended piece_bytes)) end
       ∙ ap (drop (length (slice_range text from to))) bytes ∙ drop-append_seam (slice_range text from to) (take white (drop to text) ++ line_end piece_bytes) in
       subst (λ (bs : List ℕ). AllPass is_white bs) (sym behind) (All-append (λ b. is_white b ≡ true) (take white (drop to text)) (line_end piece_bytes) (white_pass (take white (drop to text)) (prefix_white (drop to text))) (end_passes piece_bytes))

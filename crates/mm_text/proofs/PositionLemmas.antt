@@ -1,5 +1,6 @@
 -- Where the words of a text lie, and which bytes a text has.
-use Rattle.std.proofs.Common.{◌≡◌, ℕ, ◌+◌, ◌-◌, ◌<◌, ◌≤◌, Bool, true, false, not, ◌||◌, ◌&&◌, eqb, List, [], ◌∷◌, ◌++◌, append_assoc, length, take, drop, get_or, Option, Some, None, IfSome, Result, Ok, Err, IfErr, All, AllPairs, refl, sym, ap, ◌∙◌, subst, arith, inl, inr}
+use Rattle.std.proofs.Common.{◌≡◌, ℕ, ◌+◌, ◌-◌, ◌<◌, ◌≤◌, Bool, true, false, not, ◌||◌, ◌&&◌, eqb, List, [], ◌∷◌, ◌++◌, append_assoc, length, take, drop, get_or, Option, Some, None, IfSome, Result}
+use Rattle.std.proofs.Common.{Err, IfErr, All, AllPairs, refl, sym, ap, ◌∙◌, subst, arith, inl, inr}
 use Rattle.std.specs.Prelude.{nat_le, nat_lt, slice_range, slice_get}
 use Rattle.std.specs.List.{flat_map, AllByRecursion, position_or_len}
 use Rattle.std.proofs.lemmas.Bool.{cases_Bool, false≢true, or_cases, and_parts, eqb-true, leb-true, ltb-false}
@@ -172,7 +173,7 @@ allowed_below b e =
 pub none_bad : (text : List ℕ) → first_bad text ≡ None → length text ≤ position_or_len (λ b. not (is_allowed b)) text
 none_bad text e =
     elim (cases_Bool (nat_lt (position_or_len (λ b. not (is_allowed b)) text) (length text))) [
-      | inl found ↦ absurd (let some = rw found at e in cc)
+      | inl found ↦ absurd (cc)
       | inr none ↦ ltb-false (position_or_len (λ b. not (is_allowed b)) text) (length text) none
     ]
 
@@ -258,6 +259,5 @@ first_fault_lies text fault h = first_fault_at_lies text fault.number fault.at h
 
 -- so an error of `cut` is told at one of them
 pub cut_error_lies : {X : Type 0} (text : List ℕ) (r : Result X TextError) → IfErr r (IsCutError text) → IfErr r (IsTextErrorIn text)
-cut_error_lies text (Ok x) h = tt
-cut_error_lies text (Err errors.Memory) h = tt
 cut_error_lies text (Err (errors.Fault fault)) h = first_fault_lies text fault h
+cut_error_lies text _ h = tt

@@ -1,5 +1,5 @@
 -- What the steps of a reader read, and the faults that they meet.
-use Rattle.std.proofs.Common.{◌≡◌, ◌≢◌, ℕ, ◌-◌, ◌<◌, ◌≤◌, List, [], ◌∷◌, ◌++◌, append_assoc, length, drop, slice_range, Option, Some, None, Ok, Err, refl, sym, ap, ◌∙◌, subst, inl, inr, arith}
+use Rattle.std.proofs.Common.{◌≡◌, ◌≢◌, ℕ, ◌-◌, ◌≤◌, List, [], ◌∷◌, ◌++◌, append_assoc, length, drop, slice_range, Option, Some, None, Ok, Err, refl, sym, ap, ◌∙◌, subst, inl, inr, arith}
 use Rattle.std.proofs.lemmas.List.{append-nil, length-take-le, length-drop}
 use Rattle.std.proofs.lemmas.Grind.{flat_map-append}
 use Rattle.mm_text.specs.declared.reader.Span.{Span}
@@ -121,7 +121,7 @@ module _ (text : List ℕ) (from at : ℕ) (span : Span) (to : ℕ) (h : Passing
     spelled = record {
       kind = kind_spelled (run_of text span).bytes kind is;
       start = refl;
-      end = let some : span.start < span.end = run.some in let long : length (run_of text span).bytes ≡ span.end - span.start = slice_length text span.start span.end (omega (arith, within, run.next)) in omega arith;
+      end = let long : length (run_of text span).bytes ≡ span.end - span.start = slice_length text span.start span.end (omega (arith, within, run.next)) in omega arith;
     }
 
   pub pass_close : (run_of text span).bytes ≡ closing → FailsBehind (runs_at text from) [] T04 span.start
@@ -133,7 +133,8 @@ module _ (text : List ℕ) (from at : ℕ) (span : Span) (to : ℕ) (h : Passing
   pub pass_comment : (end : ℕ) → (run_of text span).bytes ≡ opening → SkipsComment text to end → Passing text from end
   pass_comment end opens skips = record {
     seen = h.seen ++ (run_of text span ∷ (skips.inside ++ skips.last ∷ []));
-    joined = there ∙ ap (λ (rs : List Run). h.seen ++ run_of text span ∷ rs) (skips.joined ∙ sym (append_assoc skips.inside (skips.last ∷ []) (runs_at text end))) ∙ sym (append_assoc h.seen (run_of text span ∷ (skips.inside ++ skips.last ∷ [])) (runs_at text end));
+    joined = there ∙ ap (λ (rs : List Run). h.seen ++ run_of text span ∷ rs) (skips.joined ∙ sym (append_assoc skips.inside (skips.last ∷ []) (runs_at text end)))
+        ∙ sym (append_assoc h.seen (run_of text span ∷ (skips.inside ++ skips.last ∷ [])) (runs_at text end));
     reads = words-append h.seen (run_of text span ∷ (skips.inside ++ skips.last ∷ [])) [] [] h.reads (record {
       parts = words.Comment (run_of text span) skips.inside skips.last ∷ [];
       reading = record { each = (record { opened = opens; no_marks = skips.no_marks; closed = skips.closed }, tt); joined = append-nil (run_of text span ∷ (skips.inside ++ skips.last ∷ [])) };
@@ -187,7 +188,7 @@ refusal T05 front found run h = record {
   state = None;
   behind = h.0;
   fails = λ tail. outside_word run tail h.1 h.2 ∙ ap (λ (k : Option WordKind). word_alone run k (read_runs None tail)) h.3;
-  is_number = (is_whole front found h.0, no_kind run.bytes h.3, h.2, λ kind spelled. (let is : word_kind run.bytes ≡ Some kind = spelled_kind kind run.bytes spelled in let none : word_kind run.bytes ≡ None = h.3 in cc));
+  is_number = (is_whole front found h.0, no_kind run.bytes h.3, h.2, λ kind spelled. (let is : word_kind run.bytes ≡ Some kind = spelled_kind kind run.bytes spelled in cc));
 }
 refusal _ front found run h = absurd h
 

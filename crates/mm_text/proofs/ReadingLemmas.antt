@@ -13,7 +13,8 @@ use Rattle.mm_text.specs.declared.fault.TextNumber.{TextNumber}
 use Rattle.mm_text.specs.declared.fault.TextNumber.TheVariants.{T01, T02, T03, T04, T05}
 use Rattle.mm_text.specs.Language.Run.{Run, runs}
 use Rattle.mm_text.specs.Language.Spelling.{IsWord, IsSpelled, HoldsMark, opening, closing}
-use Rattle.mm_text.specs.Language.Reading.{Segment, Single, Comment, segment_runs, segment_words, HoldNoMarks, IsSegment, IsReading, AreWords, HaveReading, AreViableRuns, IsOpen, StopsAtRun, EndsOpen, IsRunFault, first_bad, HasWords, IsWordsFault, IsWordsFaultAt}
+use Rattle.mm_text.specs.Language.Reading.{Segment, Single, Comment, segment_runs, segment_words, HoldNoMarks, IsSegment, IsReading, AreWords, HaveReading, AreViableRuns, IsOpen, IsRunNumber}
+use Rattle.mm_text.specs.Language.Reading.{StopsAtRun, EndsOpen, IsRunFault, first_bad, HasWords, IsWordsFault, IsWordsFaultAt}
 use Rattle.mm_text.specs.Code.LeftToRight.{Read, read_runs, word_kind, word_alone, word_at, words_fault_at, cons_word, with_words, holds_mark, checked, read_text}
 use Rattle.mm_text.proofs.KindLemmas.{kind_spelled, spelled_kind, no_kind, mark_stands, stands_mark}
 use Rattle.mm_text.proofs.ReadLemmas.{inside_end, inside_mark, inside_more, outside_open, outside_close, outside_word}
@@ -155,7 +156,8 @@ err_with words fault r e = ap (with_words words) e
 pub stops : (state : Option ℕ) (seen : List Run) (words : List Word) (run : Run) (fault : TextFault) → Behind state seen words → ((tail : List Run) → read_runs state (run ∷ tail) ≡ Err fault) → ¬ AreViableRuns (seen ++ run ∷ [])
 stops state seen words run fault h fails goes =
     let all : read_runs None ((seen ++ run ∷ []) ++ goes.0) ≡ Ok (flat_map segment_words goes.1.0) = read_words ((seen ++ run ∷ []) ++ goes.0) (flat_map segment_words goes.1.0) (whole_words ((seen ++ run ∷ []) ++ goes.0) goes.1.0 goes.1.1) in
-    let none : read_runs None ((seen ++ run ∷ []) ++ goes.0) ≡ Err fault = ap (read_runs None) (append_assoc seen (run ∷ []) goes.0) ∙ read_behind state seen words h (run ∷ goes.0) ∙ err_with words fault (read_runs state (run ∷ goes.0)) (fails goes.0) in
+    let none : read_runs None ((seen ++ run ∷ []) ++ goes.0) ≡ Err fault = ap (read_runs None) (append_assoc seen (run ∷ []) goes.0) ∙ read_behind state seen words h (run ∷ goes.0)
+    ∙ err_with words fault (read_runs state (run ∷ goes.0)) (fails goes.0) in
     cc
 
 pub is_whole : (seen : List Run) (words : List Word) → AreWords seen words → HaveReading seen
@@ -197,6 +199,20 @@ moved seen run runs words r r' e h = subst (λ (v : Read). Outcome (seen ++ run 
 at_fault : (runs : List Run) (words : List Word) (fault : TextFault) (r : Read) → r ≡ Err fault → IsRunFault runs fault.number fault.at → Outcome runs words r
 at_fault runs words fault r e h = subst (λ (v : Read). Outcome runs words v) (sym e) h
 
+-- nothing goes on at a run that is no part of a reading
+stops_at : (state : Option ℕ) (seen : List Run) (words : List Word) (run : Run) (runs : List Run) (number : TextNumber) → Behind state seen words
+    → ((tail : List Run) → read_runs state (run ∷ tail) ≡ Err (words_fault_at number run.start)) → IsRunNumber number seen run → StopsAtRun (seen ++ run ∷ runs) number run.start
+stops_at state seen words run runs number h fails is = record {
+  front = seen;
+  run = run;
+  rest = runs;
+  joined = refl;
+  place = refl;
+  goes_on = goes_on state seen words h;
+  stops = stops state seen words run (words_fault_at number run.start) h fails;
+  is_number = is;
+}
+
 -- a run that stands alone
 alone_is : (seen : List Run) (words : List Word) (run : Run) (runs : List Run) (kind : Option WordKind) → AreWords seen words → run.bytes ≢ opening → run.bytes ≢ closing → word_kind run.bytes ≡ kind
     → ((word : Word) → IsWord run word → Outcome ((seen ++ run ∷ []) ++ runs) (words ++ word ∷ []) (read_runs None runs)) → Outcome (seen ++ run ∷ runs) words (read_runs None (run ∷ runs))
@@ -206,16 +222,9 @@ alone_is seen words run runs (Some kind) h no_open no_close is later =
     (one_word ((seen ++ run ∷ []) ++ runs) words (word_at run kind) (read_runs None runs) (later (word_at run kind) word))
 alone_is seen words run runs None h no_open no_close is later =
     let fails : (tail : List Run) → read_runs None (run ∷ tail) ≡ Err (words_fault_at T05 run.start) = λ tail. outside_word run tail no_open no_close ∙ ap (λ (k : Option WordKind). word_alone run k (read_runs None tail)) is in
-    at_fault (seen ++ run ∷ runs) words (words_fault_at T05 run.start) (read_runs None (run ∷ runs)) (fails runs) (record {
-      front = seen;
-      run = run;
-      rest = runs;
-      joined = refl;
-      place = refl;
-      goes_on = goes_on None seen words h;
-      stops = stops None seen words run (words_fault_at T05 run.start) h fails;
-      is_number = (is_whole seen words h, no_kind run.bytes is, no_close, λ kind spelled. (let found : word_kind run.bytes ≡ Some kind = spelled_kind kind run.bytes spelled in cc));
-    })
+    at_fault (seen ++ run ∷ runs) words (words_fault_at T05 run.start) (read_runs None (run ∷ runs)) (fails runs)
+    (stops_at None seen words run runs T05 h fails
+    (is_whole seen words h, no_kind run.bytes is, no_close, λ kind spelled. (let found : word_kind run.bytes ≡ Some kind = spelled_kind kind run.bytes spelled in cc)))
 
 pub not_from : (bytes part : List ℕ) → bytes_eq bytes part ≡ false → bytes ≢ part
 not_from bytes part e is = false≢true (sym e ∙ (bytes_eq-Decides bytes part).1 is)
@@ -240,16 +249,8 @@ outcome None (run ∷ runs) seen words h =
       | inr no_open ↦ elim (cases_Bool (bytes_eq run.bytes closing)) [
         | inl closes ↦
             let is = is_from run.bytes closing closes in
-            at_fault (seen ++ run ∷ runs) words (words_fault_at T04 run.start) (read_runs None (run ∷ runs)) (outside_close run runs is) (record {
-              front = seen;
-              run = run;
-              rest = runs;
-              joined = refl;
-              place = refl;
-              goes_on = goes_on None seen words h;
-              stops = stops None seen words run (words_fault_at T04 run.start) h (λ tail. outside_close run tail is);
-              is_number = (is_whole seen words h, is);
-            })
+            at_fault (seen ++ run ∷ runs) words (words_fault_at T04 run.start) (read_runs None (run ∷ runs)) (outside_close run runs is)
+            (stops_at None seen words run runs T04 h (λ tail. outside_close run tail is) (is_whole seen words h, is))
         | inr no_close ↦ alone_is seen words run runs (word_kind run.bytes) h (not_from run.bytes opening no_open) (not_from run.bytes closing no_close) refl
             (λ word is. outcome None runs (seen ++ run ∷ []) (words ++ word ∷ []) (word_step seen words run word h is))
       ]
@@ -262,16 +263,8 @@ outcome (Some start) (run ∷ runs) seen words h =
       | inr no_close ↦ elim (cases_Bool (holds_mark run.bytes)) [
         | inl mark ↦
             let differs = not_from run.bytes closing no_close in
-            at_fault (seen ++ run ∷ runs) words (words_fault_at T03 run.start) (read_runs (Some start) (run ∷ runs)) (inside_mark start run runs differs mark) (record {
-              front = seen;
-              run = run;
-              rest = runs;
-              joined = refl;
-              place = refl;
-              goes_on = goes_on (Some start) seen words h;
-              stops = stops (Some start) seen words run (words_fault_at T03 run.start) h (λ tail. inside_mark start run tail differs mark);
-              is_number = (h.first, is_open start seen words h, mark_stands run.bytes mark, differs);
-            })
+            at_fault (seen ++ run ∷ runs) words (words_fault_at T03 run.start) (read_runs (Some start) (run ∷ runs)) (inside_mark start run runs differs mark)
+            (stops_at (Some start) seen words run runs T03 h (λ tail. inside_mark start run tail differs mark) (h.first, is_open start seen words h, mark_stands run.bytes mark, differs))
         | inr no_mark ↦
             let differs = not_from run.bytes closing no_close in
             moved seen run runs words (read_runs (Some start) runs) (read_runs (Some start) (run ∷ runs)) (inside_more start run runs differs no_mark)
@@ -306,7 +299,8 @@ open_read runs first h = (
   },
 )
 
-split_read : (runs front : List Run) (run : Run) (rest : List Run) (state : Option ℕ) (words : List Word) (fault : TextFault) → runs ≡ front ++ run ∷ rest → Behind state front words → read_runs state (run ∷ rest) ≡ Err fault → read_runs None runs ≡ Err fault
+split_read : (runs front : List Run) (run : Run) (rest : List Run) (state : Option ℕ) (words : List Word) (fault : TextFault) → runs ≡ front ++ run ∷ rest → Behind state front words
+    → read_runs state (run ∷ rest) ≡ Err fault → read_runs None runs ≡ Err fault
 split_read runs front run rest state words fault joined h e =
     ap (read_runs None) joined ∙ read_behind state front words h (run ∷ rest) ∙ err_with words fault (read_runs state (run ∷ rest)) e
 

@@ -18,21 +18,21 @@ plain_split [] [] p q s t f g no_p no_q e = (refl, cc, cc)
 plain_split [] (y ∷ ys) p q s t f g no_p no_q e = let same : y ≡ p = cc in absurd (no_p (subst (λ (t : Token). IsPlain t) same g.0))
 plain_split (x ∷ xs) [] p q s t f g no_p no_q e = let same : x ≡ q = cc in absurd (no_q (subst (λ (t : Token). IsPlain t) same f.0))
 plain_split (x ∷ xs) (y ∷ ys) p q s t f g no_p no_q e =
-    let first : x ≡ y = cc in
     let rest : xs ++ p ∷ s ≡ ys ++ q ∷ t = cc in
     let more = plain_split xs ys p q s t f.1 g.1 no_p no_q rest in
-    let joined : xs ≡ ys = more.0 in
     (cc, more.1, more.2)
 
 not_plain : (token : Token) (k : Keyword) → IsKeyword k token → ¬ IsPlain token
 not_plain token k is plain = cc
 
-rest_split : (xs ys : List Token) (p q : Token) (s t : List Token) → AllByRecursion IsPlain xs → AllByRecursion IsPlain ys → IsKeyword StatementEnd p → IsKeyword StatementEnd q → (xs ++ p ∷ []) ++ s ≡ (ys ++ q ∷ []) ++ t → (xs ≡ ys) × (p ≡ q) × (s ≡ t)
+rest_split : (xs ys : List Token) (p q : Token) (s t : List Token) → AllByRecursion IsPlain xs → AllByRecursion IsPlain ys → IsKeyword StatementEnd p → IsKeyword StatementEnd q
+    → (xs ++ p ∷ []) ++ s ≡ (ys ++ q ∷ []) ++ t → (xs ≡ ys) × (p ≡ q) × (s ≡ t)
 rest_split xs ys p q s t f g is_p is_q e =
     plain_split xs ys p q s t f g (not_plain p StatementEnd is_p) (not_plain q StatementEnd is_q) (sym (append_assoc xs (p ∷ []) s) ∙ e ∙ append_assoc ys (q ∷ []) t)
 
 proof_split : (xs ys : List Token) (p q : Token) (xs' ys' : List Token) (p' q' : Token) (s t : List Token) → AllByRecursion IsPlain xs → AllByRecursion IsPlain ys → IsKeyword ProofStart p → IsKeyword ProofStart q
-    → AllByRecursion IsPlain xs' → AllByRecursion IsPlain ys' → IsKeyword StatementEnd p' → IsKeyword StatementEnd q' → (xs ++ p ∷ (xs' ++ p' ∷ [])) ++ s ≡ (ys ++ q ∷ (ys' ++ q' ∷ [])) ++ t → ((xs ≡ ys) × (p ≡ q)) × ((xs' ≡ ys') × (p' ≡ q') × (s ≡ t))
+    → AllByRecursion IsPlain xs' → AllByRecursion IsPlain ys' → IsKeyword StatementEnd p' → IsKeyword StatementEnd q' → (xs ++ p ∷ (xs' ++ p' ∷ [])) ++ s ≡ (ys ++ q ∷ (ys' ++ q' ∷ [])) ++ t
+    → ((xs ≡ ys) × (p ≡ q)) × ((xs' ≡ ys') × (p' ≡ q') × (s ≡ t))
 proof_split xs ys p q xs' ys' p' q' s t f g is_p is_q f' g' is_p' is_q' e =
     let first : (xs ≡ ys) × (p ≡ q) × ((xs' ++ p' ∷ []) ++ s ≡ (ys' ++ q' ∷ []) ++ t) = plain_split xs ys p q ((xs' ++ p' ∷ []) ++ s) ((ys' ++ q' ∷ []) ++ t) f g (not_plain p ProofStart is_p) (not_plain q ProofStart is_q)
     (sym (append_assoc xs (p ∷ (xs' ++ p' ∷ [])) s) ∙ e ∙ append_assoc ys (q ∷ (ys' ++ q' ∷ [])) t) in
@@ -46,20 +46,19 @@ Labels token = IsKeyword Floating token ⊎ (IsKeyword Essential token ⊎ IsKey
 
 declares_not : (token : Token) → Declares token → IsPlain token ⊎ IsKeyword InclusionStart token → ⊥
 declares_not token (inl is) (inl other) = cc
-declares_not token (inl is) (inr other) = let e : kinds.Keyword Constants ≡ kinds.Keyword InclusionStart = cc in cc
+declares_not token (inl is) (inr other) = cc
 declares_not token (inr (inl is)) (inl other) = cc
-declares_not token (inr (inl is)) (inr other) = let e : kinds.Keyword Variables ≡ kinds.Keyword InclusionStart = cc in cc
+declares_not token (inr (inl is)) (inr other) = cc
 declares_not token (inr (inr is)) (inl other) = cc
-declares_not token (inr (inr is)) (inr other) = let e : kinds.Keyword Disjoint ≡ kinds.Keyword InclusionStart = cc in cc
+declares_not token (inr (inr is)) (inr other) = cc
 
 labels_not : (token : Token) → Labels token → IsKeyword Theorem token → ⊥
-labels_not token (inl is) other = let e : kinds.Keyword Floating ≡ kinds.Keyword Theorem = cc in cc
-labels_not token (inr (inl is)) other = let e : kinds.Keyword Essential ≡ kinds.Keyword Theorem = cc in cc
-labels_not token (inr (inr is)) other = let e : kinds.Keyword Axiom ≡ kinds.Keyword Theorem = cc in cc
+labels_not token (inl is) other = cc
+labels_not token (inr (inl is)) other = cc
+labels_not token (inr (inr is)) other = cc
 
 pub one_shape : (o : Bool) (a b : Shape) (s t : List Token) → IsShape o a → IsShape o b → shape_tokens a ++ s ≡ shape_tokens b ++ t → (a ≡ b) × (s ≡ t)
 one_shape o (Declaration k xs p) (Declaration l ys q) s t f g e =
-    let first : k ≡ l = cc in
     let rest : (xs ++ p ∷ []) ++ s ≡ (ys ++ q ∷ []) ++ t = cc in
     let split : (xs ≡ ys) × (p ≡ q) × (s ≡ t) = rest_split xs ys p q s t f.1 g.1 f.2 g.2 rest in
     (cc, split.2)
@@ -68,8 +67,6 @@ one_shape o (Declaration k xs p) (Provable m l ys q zs r) s t f g e = let first 
 one_shape o (Declaration k xs p) (Inclusion b n d) s t f g e = let first : b ≡ k = cc in absurd (declares_not k f.0 (inr (subst (λ (t : Token). IsKeyword InclusionStart t) first g.1)))
 one_shape o (Labelled m k xs p) (Declaration l ys q) s t f g e = let first : m ≡ l = cc in absurd (declares_not l g.0 (inl (subst (λ (t : Token). IsPlain t) first f.0.0)))
 one_shape o (Labelled m k xs p) (Labelled n l ys q) s t f g e =
-    let first : m ≡ n = cc in
-    let second : k ≡ l = cc in
     let rest : (xs ++ p ∷ []) ++ s ≡ (ys ++ q ∷ []) ++ t = cc in
     let split : (xs ≡ ys) × (p ≡ q) × (s ≡ t) = rest_split xs ys p q s t f.2 g.2 f.3 g.3 rest in
     (cc, split.2)
@@ -78,11 +75,8 @@ one_shape o (Labelled m k xs p) (Inclusion b n d) s t f g e = let first : m ≡ 
 one_shape o (Provable m k xs p zs r) (Declaration l ys q) s t f g e = let first : m ≡ l = cc in absurd (declares_not l g.0 (inl (subst (λ (t : Token). IsPlain t) first f.0.0)))
 one_shape o (Provable m k xs p zs r) (Labelled n l ys q) s t f g e = let second : k ≡ l = cc in absurd (labels_not l g.1 (subst (λ (t : Token). IsKeyword Theorem t) second f.1))
 one_shape o (Provable m k xs p zs r) (Provable n l ys q ws u) s t f g e =
-    let first : m ≡ n = cc in
-    let second : k ≡ l = cc in
     let rest : (xs ++ p ∷ (zs ++ r ∷ [])) ++ s ≡ (ys ++ q ∷ (ws ++ u ∷ [])) ++ t = cc in
     let split : ((xs ≡ ys) × (p ≡ q)) × ((zs ≡ ws) × (r ≡ u) × (s ≡ t)) = proof_split xs ys p q zs ws r u s t f.2 g.2 f.3 g.3 f.4 g.4 f.5 g.5 rest in
-    let shown : (xs ≡ ys) × (p ≡ q) = split.0 in
     let proved : (zs ≡ ws) × (r ≡ u) × (s ≡ t) = split.1 in
     (cc, proved.2)
 one_shape o (Provable m k xs p zs r) (Inclusion b n d) s t f g e = let first : m ≡ b = cc in absurd (not_plain b InclusionStart g.1 (subst (λ (t : Token). IsPlain t) first f.0.0))
@@ -129,7 +123,6 @@ no_shape_there o shape tail s is stops e =
     let same : s ≡ head.0 ∷ (head.1 ++ tail) = e ∙ ap (λ (ts : List Token). ts ++ tail) head.2 in
     let end : IsKeyword BlockEnd head.0 = subst (λ (ts : List Token). Stops ts) same stops in
     let one : (is_start_word head.0.kind ≡ 0) × (is_end_word head.0.kind ≡ 1) = end_counts head.0 end in
-    let none : is_end_word head.0.kind ≡ 0 = head.3.1 in
     omega arith
 
 no_block_there : (begin : Token) (tail s : List Token) → IsKeyword BlockStart begin → Stops s → s ≡ begin ∷ tail → ⊥
@@ -144,7 +137,6 @@ not_both o shape begin s t is starts e =
     let both : head.0 ∷ (head.1 ++ s) ≡ begin ∷ t = sym (ap (λ (ts : List Token). ts ++ s) head.2) ∙ e in
     let same : head.0 ≡ begin = cc in
     let one : is_start_word begin.kind ≡ 1 = (start_counts begin starts).0 in
-    let none : is_start_word head.0.kind ≡ 0 = head.3.0 in
     let here : is_start_word head.0.kind ≡ is_start_word begin.kind = ap (λ (t : Token). is_start_word t.kind) same in
     omega arith
 

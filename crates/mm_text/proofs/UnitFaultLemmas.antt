@@ -1,5 +1,6 @@
 -- The faults of units: the machine finds them, and a list has one at most.
-use Rattle.std.proofs.Common.{◌≡◌, ◌≢◌, ◌⊎◌, ◌↔◌, ℕ, zero, suc, ◌+◌, ◌<◌, ◌≤◌, Bool, true, false, List, [], ◌∷◌, ◌++◌, append_assoc, length, take, drop, slice_get, take-append-drop, take-take, Some, Ok, Err, refl, sym, ap, ◌∙◌, subst, inl, inr, le_of_lt, le_of_eq, ◌-◌, arith}
+use Rattle.std.proofs.Common.{◌≡◌, ◌≢◌, ◌⊎◌, ◌↔◌, ℕ, zero, suc, ◌+◌, ◌<◌, ◌≤◌, Bool, true, false, List, [], ◌∷◌, ◌++◌, append_assoc, length, take, drop, slice_get, take-append-drop, take-take, Some}
+use Rattle.std.proofs.Common.{Ok, Err, refl, sym, ap, ◌∙◌, subst, inl, inr, le_of_lt, le_of_eq, ◌-◌, arith}
 use Rattle.std.specs.List.{AllByRecursion}
 use Rattle.std.proofs.lemmas.Bool.{false≢true}
 use Rattle.std.proofs.lemmas.List.{append-nil, drop-drop, take_all}
@@ -9,7 +10,8 @@ use Rattle.mm_text.specs.declared.word.WordKind.{WordKind}
 use Rattle.mm_text.specs.declared.word.WordKind.TheVariants as kinds
 use Rattle.mm_text.specs.declared.fault.TextNumber.{TextNumber}
 use Rattle.mm_text.specs.declared.fault.TextNumber.TheVariants.{T06, T07, T08, T09, T10, T11, T12}
-use Rattle.mm_text.specs.Language.Unit.{Token, IsKeyword, IsPlain, Shape, Declaration, Labelled, Provable, Inclusion, shape_tokens, IsShape, Units, Nothing, Simple, Block, unit_tokens, AreUnits, IsWhole, IsViable, a_block, MayBegin, EndsInInclusion, IsUnitNumber, StopsAtWord, EndsInUnit}
+use Rattle.mm_text.specs.Language.Unit.{Token, IsKeyword, IsPlain, Shape, Declaration, Labelled, Provable, Inclusion, shape_tokens, IsShape, Units, Nothing, Simple, Block, unit_tokens, AreUnits}
+use Rattle.mm_text.specs.Language.Unit.{IsWhole, IsViable, a_block, MayBegin, EndsInInclusion, IsUnitNumber, StopsAtWord, EndsInUnit}
 use Rattle.mm_text.specs.Language.Unit.{EndsInBlock, IsUnitFault}
 use Rattle.mm_text.specs.Code.UnitReading as m
 use Rattle.mm_text.specs.Code.BlockCounts.{is_start_word, is_end_word, starts, ends}
@@ -54,11 +56,7 @@ run_next tokens word token phase depth there e = ap (m.run m.Begin 0) (take_next
 
 pub begins_only : (phase : m.Phase) (depth : ℕ) (b : Bool) (s : m.Phase × ℕ) → m.next phase depth (kinds.Keyword BlockStart) b ≡ Ok s → phase ≡ m.Begin
 begins_only m.Begin depth b s e = refl
-begins_only m.Labelled depth b s e = absurd cc
-begins_only m.Symbols depth b s e = absurd cc
-begins_only m.Expression depth b s e = absurd cc
-begins_only m.Including depth b s e = absurd cc
-begins_only m.Named depth b s e = absurd cc
+begins_only _ depth b s e = absurd cc
 
 pub may_begin_from : (front : List Token) (depth : ℕ) → m.run m.Begin 0 front ≡ Ok (m.phase_state m.Begin depth) → MayBegin front
 may_begin_from front depth e = run-IsViable (front ++ a_block ∷ []) (m.Begin, suc depth) (run_push front a_block m.Begin depth e)
@@ -80,12 +78,7 @@ may_begin front = (to, λ h. may_begin_from front h.0 h.1) where
 
 including_only : (phase : m.Phase) (depth : ℕ) (b : Bool) (s : m.Phase × ℕ) → m.next phase depth (kinds.Keyword InclusionStart) b ≡ Ok s → s.0 ≡ m.Including
 including_only m.Begin zero b s e = let same : m.phase_state m.Including 0 ≡ s = cc in sym (ap (λ (s : m.Phase × ℕ). s.0) same)
-including_only m.Begin (suc depth) b s e = absurd cc
-including_only m.Labelled depth b s e = absurd cc
-including_only m.Symbols depth b s e = absurd cc
-including_only m.Expression depth b s e = absurd cc
-including_only m.Including depth b s e = absurd cc
-including_only m.Named depth b s e = absurd cc
+including_only _ _ b s e = absurd cc
 
 pub inclusion_phase : (front : List Token) (phase : m.Phase) (depth : ℕ) → m.run m.Begin 0 front ≡ Ok (m.phase_state phase depth) → EndsInInclusion front → phase ≡ m.Including
 inclusion_phase front phase depth e (before, begin, joined, is) =
@@ -107,27 +100,9 @@ other_phase phase other e = false≢true (sym other ∙ ap includes e)
 
 pub to_including : (phase : m.Phase) (depth : ℕ) (kind : WordKind) (b : Bool) → reached (m.next phase depth kind b) ≡ m.Including → kind ≡ kinds.Keyword InclusionStart
 to_including m.Begin depth kinds.Plain true e = absurd (other_phase _ refl e)
-to_including m.Begin depth kinds.Plain false e = absurd (other_phase _ refl e)
-to_including m.Begin zero (kinds.Keyword InclusionStart) b e = refl
-to_including m.Begin (suc depth) (kinds.Keyword InclusionStart) b e = refl
 to_including m.Begin zero (kinds.Keyword BlockEnd) b e = absurd (other_phase _ refl e)
-to_including m.Begin (suc depth) (kinds.Keyword BlockEnd) b e = absurd (other_phase _ refl e)
-to_including m.Begin depth (kinds.Keyword _) b e = absurd (other_phase _ refl e)
-to_including m.Labelled depth kinds.Plain b e = absurd (other_phase _ refl e)
-to_including m.Labelled depth (kinds.Keyword InclusionStart) b e = refl
-to_including m.Labelled depth (kinds.Keyword _) b e = absurd (other_phase _ refl e)
-to_including m.Symbols depth kinds.Plain b e = absurd (other_phase _ refl e)
-to_including m.Symbols depth (kinds.Keyword InclusionStart) b e = refl
-to_including m.Symbols depth (kinds.Keyword _) b e = absurd (other_phase _ refl e)
-to_including m.Expression depth kinds.Plain b e = absurd (other_phase _ refl e)
-to_including m.Expression depth (kinds.Keyword InclusionStart) b e = refl
-to_including m.Expression depth (kinds.Keyword _) b e = absurd (other_phase _ refl e)
-to_including m.Including depth kinds.Plain b e = absurd (other_phase _ refl e)
-to_including m.Including depth (kinds.Keyword InclusionStart) b e = refl
-to_including m.Including depth (kinds.Keyword _) b e = absurd (other_phase _ refl e)
-to_including m.Named depth kinds.Plain b e = absurd (other_phase _ refl e)
-to_including m.Named depth (kinds.Keyword InclusionStart) b e = refl
-to_including m.Named depth (kinds.Keyword _) b e = absurd (other_phase _ refl e)
+to_including phase depth (kinds.Keyword InclusionStart) b e = refl
+to_including _ _ _ _ e = absurd (other_phase _ refl e)
 
 ends_at : (front : List Token) (phase : m.Phase) (depth d : ℕ) → m.run phase depth front ≡ Ok (m.phase_state m.Including d) → ((front ≡ []) × (phase ≡ m.Including)) ⊎ EndsInInclusion front
 ends_at [] phase depth d e = inl (refl, ap reached e)
@@ -152,7 +127,8 @@ inclusion_from front depth e = got (ends_at front m.Begin 0 depth e) where
 abbrev refused : TextNumber → m.UnitStep
 refused number = Err number
 
-six : (front : List Token) (token : Token) (phase : m.Phase) (depth : ℕ) → m.run m.Begin 0 front ≡ Ok (m.phase_state phase depth) → ¬ ((phase ≡ m.Including) × ¬ IsPlain token) → ¬ IsKeyword InclusionStart token → ¬ ((phase ≡ m.Begin) × (IsKeyword BlockEnd token ⊎ IsPlain token))
+six : (front : List Token) (token : Token) (phase : m.Phase) (depth : ℕ) → m.run m.Begin 0 front ≡ Ok (m.phase_state phase depth) → ¬ ((phase ≡ m.Including) × ¬ IsPlain token)
+    → ¬ IsKeyword InclusionStart token → ¬ ((phase ≡ m.Begin) × (IsKeyword BlockEnd token ⊎ IsPlain token))
     → IsUnitNumber T06 front token
 six front token phase depth e f g h = (λ x. f (inclusion_phase front phase depth e x.0, x.1), g, λ x. h (may_begin_phase front phase depth e x.0, x.1))
 
@@ -197,7 +173,8 @@ inside front token phase depth e f g h = six front token phase depth e (λ x. f 
 numbered : (a number : TextNumber) (front : List Token) (token : Token) → refused a ≡ refused number → IsUnitNumber a front token → IsUnitNumber number front token
 numbered a number front token e h = let same : a ≡ number = cc in subst (λ (n : TextNumber). IsUnitNumber n front token) same h
 
-pub number_of : (phase : m.Phase) (depth : ℕ) (kind : WordKind) (b : Bool) (front : List Token) (token : Token) (number : TextNumber) → m.run m.Begin 0 front ≡ Ok (m.phase_state phase depth) → token.kind ≡ kind → m.next phase depth kind b ≡ Err number → IsUnitNumber number front token
+pub number_of : (phase : m.Phase) (depth : ℕ) (kind : WordKind) (b : Bool) (front : List Token) (token : Token) (number : TextNumber) → m.run m.Begin 0 front ≡ Ok (m.phase_state phase depth)
+    → token.kind ≡ kind → m.next phase depth kind b ≡ Err number → IsUnitNumber number front token
 number_of m.Begin depth kinds.Plain true front token number e is stops = absurd (accepted _ number stops)
 number_of m.Begin depth kinds.Plain false front token number e is stops = numbered T11 number front token stops (may_begin_from front depth e, is)
 number_of m.Begin zero (kinds.Keyword BlockEnd) b front token number e is stops = numbered T09 number front token stops (may_begin_from front 0 e, is)
@@ -274,19 +251,19 @@ same_number front token T12 T06 apart f g = absurd (g.0 f)
 same_number front token T12 _ apart f g = absurd g
 same_number front token T10 T12 apart f g = absurd (f.0 g.0)
 same_number front token T10 T10 apart f g = refl
-same_number front token T10 T09 apart f g = absurd (let x : kinds.Keyword InclusionStart ≡ kinds.Keyword BlockEnd = sym f.1 ∙ g.1 in cc)
-same_number front token T10 T11 apart f g = absurd (let x : kinds.Keyword InclusionStart ≡ kinds.Plain = sym f.1 ∙ g.1 in cc)
+same_number front token T10 T09 apart f g = absurd (cc)
+same_number front token T10 T11 apart f g = absurd (cc)
 same_number front token T10 T06 apart f g = absurd (g.1 f.1)
 same_number front token T10 _ apart f g = absurd g
 same_number front token T09 T12 apart f g = absurd (apart (f.0, g.0))
-same_number front token T09 T10 apart f g = absurd (let x : kinds.Keyword BlockEnd ≡ kinds.Keyword InclusionStart = sym f.1 ∙ g.1 in cc)
+same_number front token T09 T10 apart f g = absurd (cc)
 same_number front token T09 T09 apart f g = refl
-same_number front token T09 T11 apart f g = absurd (let x : kinds.Keyword BlockEnd ≡ kinds.Plain = sym f.1 ∙ g.1 in cc)
+same_number front token T09 T11 apart f g = absurd (cc)
 same_number front token T09 T06 apart f g = absurd (g.2 (f.0, inl f.1))
 same_number front token T09 _ apart f g = absurd g
 same_number front token T11 T12 apart f g = absurd (g.1 f.1)
-same_number front token T11 T10 apart f g = absurd (let x : kinds.Keyword InclusionStart ≡ kinds.Plain = sym g.1 ∙ f.1 in cc)
-same_number front token T11 T09 apart f g = absurd (let x : kinds.Keyword BlockEnd ≡ kinds.Plain = sym g.1 ∙ f.1 in cc)
+same_number front token T11 T10 apart f g = absurd (cc)
+same_number front token T11 T09 apart f g = absurd (cc)
 same_number front token T11 T11 apart f g = refl
 same_number front token T11 T06 apart f g = absurd (g.2 (f.0, inr f.1))
 same_number front token T11 _ apart f g = absurd g
@@ -319,8 +296,6 @@ pub one_stop : (tokens : List Token) (a b : TextNumber) (v w : ℕ) → StopsAtW
 one_stop tokens a b v w f g =
     let place : v ≡ w = by_order v w (λ l. not_viable_later tokens a v w f l g.goes_on) (λ l. not_viable_later tokens b w v g l f.goes_on) in
     let h : StopsAtWord tokens b v = subst (λ (n : ℕ). StopsAtWord tokens b n) (sym place) g in
-    let x : slice_get tokens v ≡ Some f.token = f.there in
-    let y : slice_get tokens v ≡ Some h.token = h.there in
     let token : h.token ≡ f.token = cc in
     (same_number (take v tokens) f.token a b (apart_at (take v tokens) f.goes_on) f.is_number (subst (λ (t : Token). IsUnitNumber b (take v tokens) t) token h.is_number), place)
 
@@ -396,14 +371,12 @@ covered_inner [] ys f g = g
 covered_inner (x ∷ xs) ys f g =
     let more : Covered (xs ++ ys) = covered_inner xs ys f.1 g in
     let rest : starts (xs ++ ys) ≤ ends (xs ++ ys) = covered_all (xs ++ ys) more in
-    let none : is_start_word x.kind ≡ 0 = f.0.0 in
     (omega arith, more)
 
 pub covered-append : (xs ys : List Token) → Covered xs → Covered ys → Covered (xs ++ ys)
 covered-append [] ys f g = g
 covered-append (x ∷ xs) ys f g =
     let more : Covered (xs ++ ys) = covered-append xs ys f.1 g in
-    let first : is_start_word x.kind + starts xs ≤ is_end_word x.kind + ends xs = f.0 in
     let rest : starts ys ≤ ends ys = covered_all ys g in
     let all : starts (xs ++ ys) ≡ starts xs + starts ys = starts-append xs ys in
     let same : ends (xs ++ ys) ≡ ends xs + ends ys = ends-append xs ys in
@@ -466,7 +439,8 @@ pub drop_next : (tokens : List Token) (word : ℕ) (token : Token) → slice_get
 drop_next tokens word token e = let one : suc word ≡ word + 1 = omega arith in drop_push tokens word token e ∙ ap (λ (n : ℕ). token ∷ drop n tokens) one
 
 -- the counts at one word more, for a scan from the end
-pub counts_next : (tokens : List Token) (word : ℕ) (token : Token) → slice_get tokens word ≡ Some token → (starts (drop word tokens) ≡ is_start_word token.kind + starts (drop (word + 1) tokens)) × (ends (drop word tokens) ≡ is_end_word token.kind + ends (drop (word + 1) tokens))
+pub counts_next : (tokens : List Token) (word : ℕ) (token : Token) → slice_get tokens word ≡ Some token → (starts (drop word tokens) ≡ is_start_word token.kind + starts (drop (word + 1) tokens)) ×
+    (ends (drop word tokens) ≡ is_end_word token.kind + ends (drop (word + 1) tokens))
 counts_next tokens word token e = (ap starts (drop_next tokens word token e), ap ends (drop_next tokens word token e))
 
 one_open : (tokens : List Token) (v w : ℕ) → EndsInBlock tokens v → EndsInBlock tokens w → ¬ (v < w)
@@ -530,7 +504,7 @@ whole_has_no_fault tokens number word whole h = none (sorted tokens number word 
   none (inr (inl f)) = not_all tokens word f.1 (may_begin_from tokens 0 (IsWhole-run tokens whole))
   none (inr (inr f)) =
       let last = block_run tokens word f.1 in
-      let same : m.phase_state m.Begin (suc last.0) ≡ m.phase_state m.Begin 0 = let x : m.run m.Begin 0 tokens ≡ Ok (m.phase_state m.Begin 0) = IsWhole-run tokens whole in let y : m.run m.Begin 0 tokens ≡ Ok (m.phase_state m.Begin (suc last.0)) = last.1 in cc in
+      let same : m.phase_state m.Begin (suc last.0) ≡ m.phase_state m.Begin 0 = let x : m.run m.Begin 0 tokens ≡ Ok (m.phase_state m.Begin 0) = IsWhole-run tokens whole in cc in
       let depth : suc last.0 ≡ 0 = ap (λ (s : m.Phase × ℕ). s.1) same in
       omega arith
 
@@ -548,8 +522,8 @@ cut_twice {X = X} (x ∷ xs) ys (u ∷ us) vs e = more (cut_twice xs ys us vs (l
   first = cc
 
   more : CutTwice xs ys us vs → CutTwice (x ∷ xs) ys (u ∷ us) vs
-  more (inl h) = inl (h.0, let joined : xs ≡ us ++ h.0 = h.1 in let is : x ≡ u = first in cc, h.2)
-  more (inr h) = inr (h.0, let joined : us ≡ xs ++ h.0 = h.1 in let is : x ≡ u = first in cc, h.2)
+  more (inl h) = inl (h.0, cc, h.2)
+  more (inr h) = inr (h.0, cc, h.2)
 
 starts-blocks : (depth : ℕ) → starts (blocks depth) ≡ 0
 unfolding blocks
@@ -601,7 +575,8 @@ closed_units xs depth d e even h = both (cut_twice xs (blocks d) (unit_tokens cl
   inside : starts (unit_tokens closes.inner) ≡ ends (unit_tokens closes.inner)
   inside = balanced false closes.inner closes.inside
 
-  both : ((zs : List Token) × (xs ≡ unit_tokens closes.inner ++ zs) × (zs ++ blocks d ≡ closes.end ∷ closes.later)) ⊎ ((zs : List Token) × (unit_tokens closes.inner ≡ xs ++ zs) × (blocks d ≡ zs ++ closes.end ∷ closes.later)) → (inner : Units) × AreUnits false inner × (xs ≡ unit_tokens inner)
+  both : ((zs : List Token) × (xs ≡ unit_tokens closes.inner ++ zs) × (zs ++ blocks d ≡ closes.end ∷ closes.later)) ⊎ ((zs : List Token) × (unit_tokens closes.inner ≡ xs ++ zs) ×
+      (blocks d ≡ zs ++ closes.end ∷ closes.later)) → (inner : Units) × AreUnits false inner × (xs ≡ unit_tokens inner)
   both (inl ([], joined, rest)) = (closes.inner, closes.inside, joined ∙ append-nil (unit_tokens closes.inner))
   both (inl (z ∷ zs, joined, rest)) = absurd (longer xs (unit_tokens closes.inner) zs z joined (let same : z ≡ closes.end = cc in ap (λ (t : Token). t.kind) same ∙ closes.is_end) even inside h)
   both (inr ([], joined, rest)) = (closes.inner, closes.inside, sym (joined ∙ append-nil xs))

@@ -15,7 +15,8 @@ abbrev pub outside : ℕ → Bool
 outside zero = true
 outside (suc depth) = false
 
-pub step_by : (phase : m.Phase) (depth : ℕ) (token : Token) (tokens : List Token) (kind : WordKind) (next : m.Phase × ℕ) → token.kind ≡ kind → m.next phase depth kind (m.could_label token) ≡ Ok next → m.run phase depth (token ∷ tokens) ≡ m.run next.0 next.1 tokens
+pub step_by : (phase : m.Phase) (depth : ℕ) (token : Token) (tokens : List Token) (kind : WordKind) (next : m.Phase × ℕ) → token.kind ≡ kind → m.next phase depth kind (m.could_label token) ≡ Ok next
+    → m.run phase depth (token ∷ tokens) ≡ m.run next.0 next.1 tokens
 step_by phase depth token tokens kind next is e =
     ap (λ (k : WordKind). m.after (m.next phase depth k (m.could_label token)) (λ phase depth. m.run phase depth tokens)) is ∙ ap (λ (s : m.UnitStep). m.after s (λ phase depth. m.run phase depth tokens)) e
 
@@ -156,42 +157,33 @@ proves depth label keyword before proof tokens is_label is_theorem plain is h =
     subst (λ (ts : List Token). Completes depth (label ∷ keyword ∷ ts)) (append_assoc before (proof ∷ (h.symbols ++ h.end ∷ [])) h.later ∙ ap (λ (ts : List Token). before ++ proof ∷ ts) (sym h.joined))
     (shape_more depth (Provable label keyword before proof h.symbols h.end) h.later (is_label, is_theorem, plain, is, h.plain, h.is_end) h.goes_on)
 
-one_step : (phase : m.Phase) (depth : ℕ) (token : Token) (tokens : List Token) (kind : WordKind) (is_label : Bool) → ((p : m.Phase) (d : ℕ) → m.run p d tokens ≡ Ok (m.Begin, 0) → Meaning p d tokens) → token.kind ≡ kind → m.could_label token ≡ is_label
+one_step : (phase : m.Phase) (depth : ℕ) (token : Token) (tokens : List Token) (kind : WordKind) (is_label : Bool) → ((p : m.Phase) (d : ℕ) → m.run p d tokens ≡ Ok (m.Begin, 0) → Meaning p d tokens)
+    → token.kind ≡ kind → m.could_label token ≡ is_label
     → m.after (m.next phase depth kind is_label) (λ p d. m.run p d tokens) ≡ Ok (m.Begin, 0) → Meaning phase depth (token ∷ tokens)
 one_step m.Begin depth token tokens kinds.Plain true later is label e = later m.Labelled depth e token (is, label)
-one_step m.Begin depth token tokens kinds.Plain false later is label e = absurd cc
 one_step m.Begin depth token tokens (kinds.Keyword BlockStart) b later is label e = block_more depth token tokens is (later m.Begin (suc depth) e)
-one_step m.Begin zero token tokens (kinds.Keyword BlockEnd) b later is label e = absurd cc
 one_step m.Begin (suc depth) token tokens (kinds.Keyword BlockEnd) b later is label e =
     record { inner = Nothing; end = token; later = tokens; inside = tt; is_end = is; joined = refl; goes_on = later m.Begin depth e }
 one_step m.Begin depth token tokens (kinds.Keyword Constants) b later is label e = declared depth token tokens (inl is) (later m.Symbols depth e)
 one_step m.Begin depth token tokens (kinds.Keyword Variables) b later is label e = declared depth token tokens (inr (inl is)) (later m.Symbols depth e)
 one_step m.Begin depth token tokens (kinds.Keyword Disjoint) b later is label e = declared depth token tokens (inr (inr is)) (later m.Symbols depth e)
 one_step m.Begin zero token tokens (kinds.Keyword InclusionStart) b later is label e = later m.Including 0 e token refl is
-one_step m.Begin (suc depth) token tokens (kinds.Keyword InclusionStart) b later is label e = absurd cc
-one_step m.Begin depth token tokens (kinds.Keyword _) b later is label e = absurd cc
-one_step m.Labelled depth token tokens kinds.Plain b later is label e = absurd cc
 one_step m.Labelled depth token tokens (kinds.Keyword Floating) b later is label e = λ first is_label. labels depth first token tokens is_label (inl is) (later m.Symbols depth e)
 one_step m.Labelled depth token tokens (kinds.Keyword Essential) b later is label e = λ first is_label. labels depth first token tokens is_label (inr (inl is)) (later m.Symbols depth e)
 one_step m.Labelled depth token tokens (kinds.Keyword Axiom) b later is label e = λ first is_label. labels depth first token tokens is_label (inr (inr is)) (later m.Symbols depth e)
 one_step m.Labelled depth token tokens (kinds.Keyword Theorem) b later is label e = λ first is_label. later m.Expression depth e first token is_label is [] tt
-one_step m.Labelled depth token tokens (kinds.Keyword _) b later is label e = absurd cc
 one_step m.Symbols depth token tokens kinds.Plain b later is label e =
     let h = later m.Symbols depth e in
     record { symbols = token ∷ h.symbols; end = h.end; later = h.later; plain = (is, h.plain); is_end = h.is_end; joined = ap (λ (ts : List Token). token ∷ ts) h.joined; goes_on = h.goes_on }
 one_step m.Symbols depth token tokens (kinds.Keyword StatementEnd) b later is label e =
     record { symbols = []; end = token; later = tokens; plain = tt; is_end = is; joined = refl; goes_on = later m.Begin depth e }
-one_step m.Symbols depth token tokens (kinds.Keyword _) b later is label e = absurd cc
 one_step m.Expression depth token tokens kinds.Plain b later is label e = λ first keyword is_label is_theorem before plain.
     subst (λ (ts : List Token). Completes depth (first ∷ keyword ∷ ts)) (append_assoc before (token ∷ []) tokens) (later m.Expression depth e first keyword is_label is_theorem (before ++ token ∷ []) (all_append before (token ∷ []) plain (is, tt)))
 one_step m.Expression depth token tokens (kinds.Keyword ProofStart) b later is label e = λ first keyword is_label is_theorem before plain.
     proves depth first keyword before token tokens is_label is_theorem plain is (later m.Symbols depth e)
-one_step m.Expression depth token tokens (kinds.Keyword _) b later is label e = absurd cc
 one_step m.Including depth token tokens kinds.Plain b later is label e = λ first is_outside begins. later m.Named depth e first token is_outside begins is
-one_step m.Including depth token tokens (kinds.Keyword k) b later is label e = absurd cc
-one_step m.Named depth token tokens kinds.Plain b later is label e = absurd cc
 one_step m.Named depth token tokens (kinds.Keyword InclusionEnd) b later is label e = λ first name is_outside begins plain. shape_more depth (Inclusion first name token) tokens (is_outside, begins, plain, is) (later m.Begin depth e)
-one_step m.Named depth token tokens (kinds.Keyword _) b later is label e = absurd cc
+one_step _ _ token tokens _ _ later is label e = absurd cc
 
 pub stands : (phase : m.Phase) (depth : ℕ) → m.run phase depth [] ≡ Ok (m.Begin, 0) → (phase ≡ m.Begin) × (depth ≡ 0)
 stands phase depth e =
@@ -201,11 +193,7 @@ stands phase depth e =
 pub whole_run : (tokens : List Token) (phase : m.Phase) (depth : ℕ) → m.run phase depth tokens ≡ Ok (m.Begin, 0) → Meaning phase depth tokens
 whole_run [] m.Begin zero e = (Nothing, tt, refl)
 whole_run [] m.Begin (suc depth) e = absurd (let same : suc depth ≡ 0 = (stands m.Begin (suc depth) e).1 in omega arith)
-whole_run [] m.Labelled depth e = absurd (let same : m.Labelled ≡ m.Begin = (stands m.Labelled depth e).0 in cc)
-whole_run [] m.Symbols depth e = absurd (let same : m.Symbols ≡ m.Begin = (stands m.Symbols depth e).0 in cc)
-whole_run [] m.Expression depth e = absurd (let same : m.Expression ≡ m.Begin = (stands m.Expression depth e).0 in cc)
-whole_run [] m.Including depth e = absurd (let same : m.Including ≡ m.Begin = (stands m.Including depth e).0 in cc)
-whole_run [] m.Named depth e = absurd (let same : m.Named ≡ m.Begin = (stands m.Named depth e).0 in cc)
+whole_run [] phase depth e = absurd (let same : phase ≡ m.Begin = (stands phase depth e).0 in cc)
 whole_run (token ∷ tokens) phase depth e = one_step phase depth token tokens token.kind (m.could_label token) (λ p d. whole_run tokens p d) refl refl e
 
 -- ---- whole, both ways

@@ -1,5 +1,5 @@
 -- Every list of words is whole or has a fault, and what loops that look for the fault keep.
-use Rattle.std.proofs.Common.{◌≡◌, ◌≢◌, ◌⊎◌, ℕ, zero, suc, ◌+◌, ◌<◌, ◌≤◌, Bool, true, false, List, [], ◌∷◌, ◌++◌, append_assoc, length, take, drop, slice_get, drop_of_length-le, Some, Ok, Err, refl, sym, ap, ◌∙◌, subst, inl, inr, ⊎_elim, ◌-◌, arith}
+use Rattle.std.proofs.Common.{◌≡◌, ◌≢◌, ◌⊎◌, ℕ, zero, suc, ◌+◌, ◌<◌, ◌≤◌, Bool, true, List, [], ◌∷◌, ◌++◌, append_assoc, length, take, drop, slice_get, drop_of_length-le, Some, Ok, Err, refl, sym, ap, ◌∙◌, subst, inl, inr, ⊎_elim, ◌-◌, arith}
 use Rattle.std.proofs.lemmas.Bool.{cases_lt}
 use Rattle.std.proofs.lemmas.List.{take_all, take_at}
 use Rattle.mm_text.specs.declared.word.Keyword.TheVariants.{BlockStart, BlockEnd, Constants, Variables, Floating, Essential, Disjoint, Axiom, Theorem, StatementEnd, ProofStart, InclusionStart, InclusionEnd}
@@ -22,33 +22,23 @@ Counts depth kind (Err number) = Unit {0}
 
 pub step_counts : (phase : m.Phase) (depth : ℕ) (kind : WordKind) (b : Bool) → Counts depth kind (m.next phase depth kind b)
 step_counts m.Begin depth kinds.Plain true = refl
-step_counts m.Begin depth kinds.Plain false = tt
 step_counts m.Begin depth (kinds.Keyword BlockStart) b = omega arith
-step_counts m.Begin zero (kinds.Keyword BlockEnd) b = tt
 step_counts m.Begin (suc depth) (kinds.Keyword BlockEnd) b = omega arith
 step_counts m.Begin depth (kinds.Keyword Constants) b = refl
 step_counts m.Begin depth (kinds.Keyword Variables) b = refl
 step_counts m.Begin depth (kinds.Keyword Disjoint) b = refl
 step_counts m.Begin zero (kinds.Keyword InclusionStart) b = refl
-step_counts m.Begin (suc depth) (kinds.Keyword InclusionStart) b = tt
-step_counts m.Begin depth (kinds.Keyword _) b = tt
-step_counts m.Labelled depth kinds.Plain b = tt
 step_counts m.Labelled depth (kinds.Keyword Floating) b = refl
 step_counts m.Labelled depth (kinds.Keyword Essential) b = refl
 step_counts m.Labelled depth (kinds.Keyword Axiom) b = refl
 step_counts m.Labelled depth (kinds.Keyword Theorem) b = refl
-step_counts m.Labelled depth (kinds.Keyword _) b = tt
 step_counts m.Symbols depth kinds.Plain b = refl
 step_counts m.Symbols depth (kinds.Keyword StatementEnd) b = refl
-step_counts m.Symbols depth (kinds.Keyword _) b = tt
 step_counts m.Expression depth kinds.Plain b = refl
 step_counts m.Expression depth (kinds.Keyword ProofStart) b = refl
-step_counts m.Expression depth (kinds.Keyword _) b = tt
 step_counts m.Including depth kinds.Plain b = refl
-step_counts m.Including depth (kinds.Keyword _) b = tt
-step_counts m.Named depth kinds.Plain b = tt
 step_counts m.Named depth (kinds.Keyword InclusionEnd) b = refl
-step_counts m.Named depth (kinds.Keyword _) b = tt
+step_counts _ _ _ _ = tt
 
 pub run_counts : (tokens : List Token) (phase : m.Phase) (depth : ℕ) (s : m.Phase × ℕ) → m.run phase depth tokens ≡ Ok s → depth + starts tokens ≡ s.1 + ends tokens
 run_counts [] phase depth s e =
@@ -56,8 +46,9 @@ run_counts [] phase depth s e =
     let last : depth ≡ s.1 = ap (λ (s : m.Phase × ℕ). s.1) same in
     omega arith
 run_counts (token ∷ tokens) phase depth s e = by_step (λ p d h. run_counts tokens p d s h) (m.next phase depth token.kind (m.could_label token)) (step_counts phase depth token.kind (m.could_label token)) e where
-  by_step : ((p : m.Phase) (d : ℕ) → m.run p d tokens ≡ Ok s → d + starts tokens ≡ s.1 + ends tokens) → (step : m.UnitStep) → Counts depth token.kind step → m.after step (λ p d. m.run p d tokens) ≡ Ok s → depth + starts (token ∷ tokens) ≡ s.1 + ends (token ∷ tokens)
-  by_step more (Ok t) first e = let rest : t.1 + starts tokens ≡ s.1 + ends tokens = more t.0 t.1 e in let here : depth + is_start_word token.kind ≡ t.1 + is_end_word token.kind = first in omega arith
+  by_step : ((p : m.Phase) (d : ℕ) → m.run p d tokens ≡ Ok s → d + starts tokens ≡ s.1 + ends tokens) → (step : m.UnitStep) → Counts depth token.kind step
+      → m.after step (λ p d. m.run p d tokens) ≡ Ok s → depth + starts (token ∷ tokens) ≡ s.1 + ends (token ∷ tokens)
+  by_step more (Ok t) first e = let rest : t.1 + starts tokens ≡ s.1 + ends tokens = more t.0 t.1 e in omega arith
   by_step more (Err number) first e = absurd cc
 
 -- from word number `from` on stand `level` more `$}` than `${`, and from no later word on more `${` than `$}`
@@ -111,13 +102,11 @@ scan_other tokens word level token there f g h = let counts : (is_start_word tok
 -- the scan stops at a `${` that nothing behind it closes
 pub scan_found : (tokens : List Token) (word d : ℕ) (token : Token) → m.run m.Begin 0 tokens ≡ Ok (m.phase_state m.Begin d) → slice_get tokens word ≡ Some token → IsKeyword BlockStart token → Scan tokens (word + 1) 0 → IsUnitFault tokens T08 word
 scan_found tokens word d token e there is h =
-    let same : 0 + starts (drop (word + 1) tokens) ≡ ends (drop (word + 1) tokens) = h.even in
     ends_in_block tokens word d token e there is (omega arith) (λ n l. h.fewer n (omega arith))
 
 -- the scan does not come to the first word where a block is open
 pub scan_all : (tokens : List Token) (level d : ℕ) → m.run m.Begin 0 tokens ≡ Ok (m.phase_state m.Begin (suc d)) → Scan tokens 0 level → ⊥
 scan_all tokens level d e h =
-    let same : level + starts tokens ≡ ends tokens = h.even in
     let count : 0 + starts tokens ≡ suc d + ends tokens = run_counts tokens m.Begin 0 (m.Begin, suc d) e in
     omega arith
 
@@ -145,8 +134,7 @@ scan_on tokens d e (suc from) level l h = by_kind there.0.kind refl (λ next g. 
   by_kind : (kind : WordKind) → there.0.kind ≡ kind → ((next : ℕ) → Scan tokens from next → (word : ℕ) × IsUnitFault tokens T08 word) → (word : ℕ) × IsUnitFault tokens T08 word
   by_kind (kinds.Keyword BlockStart) is more = start level is scan more
   by_kind (kinds.Keyword BlockEnd) is more = more (level + 1) (scan_end tokens from level there.0 there.1 is scan)
-  by_kind kinds.Plain is more = more level (scan_other tokens from level there.0 there.1 (λ x. cc) (λ x. cc) scan)
-  by_kind (kinds.Keyword _) is more = more level (scan_other tokens from level there.0 there.1 (λ x. cc) (λ x. cc) scan)
+  by_kind _ is more = more level (scan_other tokens from level there.0 there.1 (λ x. cc) (λ x. cc) scan)
 
 pub open_block : (tokens : List Token) (d : ℕ) → m.run m.Begin 0 tokens ≡ Ok (m.phase_state m.Begin (suc d)) → (word : ℕ) × IsUnitFault tokens T08 word
 open_block tokens d e = scan_on tokens d e (length tokens) 0 (omega arith) (scan_none tokens)
@@ -193,11 +181,7 @@ last_more tokens n phase depth e other h = record { word = h.word; depth = h.dep
 
 pub is_begin : (phase : m.Phase) → (phase ≡ m.Begin) ⊎ (phase ≢ m.Begin)
 is_begin m.Begin = inl refl
-is_begin m.Labelled = inr (λ e. cc)
-is_begin m.Symbols = inr (λ e. cc)
-is_begin m.Expression = inr (λ e. cc)
-is_begin m.Including = inr (λ e. cc)
-is_begin m.Named = inr (λ e. cc)
+is_begin _ = inr (λ e. cc)
 
 last_begin : (tokens : List Token) (n : ℕ) → IsViable tokens → LastBegin tokens n
 last_begin tokens zero viable = last_here tokens 0 0 refl

@@ -107,7 +107,11 @@ returns-in_ok-text-in-Replace-clause-edit g c =
     let text = c.in_ok-text-in-Replace.text in
     text_read c.args.input.now c.read_text-in-Replace.new.input _ _ c.args.line c.in-Replace.count edit text (found.Replace file c.in-Replace.at text) asks c.requires.line grows (not_not _ c.if-not-line-2.false)
     c.in_ok-text-in-Replace.ensures.within.0 c.in_ok-text-in-Replace.ensures.within.1 c.in_ok-text-in-Replace.ensures.within.2 c.in_ok-text-in-Replace.ensures.feed
-    (ap (λ xs. ask.Replace xs c.in-Replace.at (bytes_of_part (pending c.read_text-in-Replace.new.input) text)) (later ∙ name)) (within_grown c.args.input.now c.read_text-in-Replace.new.input _ _ file grows inside, c.in_ok-text-in-Replace.ensures.within.0)
+    (ap (λ xs. ask.Replace xs c.in-Replace.at (bytes_of_part (pending c.read_text-in-Replace.new.input) text)) (later ∙ name)) (
+      within_grown c.args.input.now c.read_text-in-Replace.new.input _ _ file
+          grows inside,
+      c.in_ok-text-in-Replace.ensures.within.0,
+    )
 
 pub returns-in-Delete-clause-edit : goal.returns-in-Delete-clause-edit
 returns-in-Delete-clause-edit g c =

@@ -25,7 +25,8 @@ returns-in_err-write_count-4 g c =
 pub returns-in_err-write_count-5 : goal.returns-in_err-write_count-5
 returns-in_err-write_count-5 g c =
     rw (summary_parts c.args.tally.now)
-    (writes_stop c.from_residual-in_err-write_count-5.ensures.0 (stops_then c.in_ok-write_count.ensures (stops_then c.in_ok-write_count-2.ensures (stops_then c.in_ok-write_count-3.ensures (stops_then c.in_ok-write_count-4.ensures (stops_front _ c.in_err-write_count-5.ensures.err))))))
+    (writes_stop c.from_residual-in_err-write_count-5.ensures.0 (stops_then c.in_ok-write_count.ensures (stops_then c.in_ok-write_count-2.ensures
+    (stops_then c.in_ok-write_count-3.ensures (stops_then c.in_ok-write_count-4.ensures (stops_front _ c.in_err-write_count-5.ensures.err))))))
 
 pub returns-in_err-write_count-6 : goal.returns-in_err-write_count-6
 returns-in_err-write_count-6 g c =
@@ -36,4 +37,5 @@ returns-in_err-write_count-6 g c =
 pub returns : goal.returns
 returns g c =
     rw (summary_parts c.args.tally.now)
-    (writes_then c.in_ok-write_count.ensures (writes_then c.in_ok-write_count-2.ensures (writes_then c.in_ok-write_count-3.ensures (writes_then c.in_ok-write_count-4.ensures (writes_then c.in_ok-write_count-5.ensures (writes_then c.in_ok-write_count-6.ensures c.write_all.ensures.writes))))))
+    (writes_then c.in_ok-write_count.ensures (writes_then c.in_ok-write_count-2.ensures (writes_then c.in_ok-write_count-3.ensures (writes_then c.in_ok-write_count-4.ensures
+    (writes_then c.in_ok-write_count-5.ensures (writes_then c.in_ok-write_count-6.ensures c.write_all.ensures.writes))))))

@@ -10,23 +10,19 @@ read_as : (text : List ℕ) (r : Read) → read_text text ≡ r → ((words : Li
 read_as text (Ok words) is = inl (words, words_of_text text words is)
 read_as text (Err fault) is = inr (fault, fault_of_text text fault is)
 
-pub returns-clause-some : goal.returns-clause-some
-returns-clause-some c text = read_as text (read_text text) refl
-
-pub returns-clause-words : goal.returns-clause-words
-returns-clause-words c text a b f g =
-    let x : read_text text ≡ Ok a = text_words text a f in
-    let y : read_text text ≡ Ok b = text_words text b g in
-    cc
-
-pub returns-clause-fault : goal.returns-clause-fault
-returns-clause-fault c text a b f g =
-    let x : read_text text ≡ Err a = text_fault text a.number a.at f in
-    let y : read_text text ≡ Err b = text_fault text b.number b.at g in
-    cc
-
-pub returns-clause-not_both : goal.returns-clause-not_both
-returns-clause-not_both c text words fault f g =
-    let x : read_text text ≡ Ok words = text_words text words f in
-    let y : read_text text ≡ Err fault = text_fault text fault.number fault.at g in
-    cc
+pub returns : goal.returns
+returns c = record {
+  some = λ text. read_as text (read_text text) refl;
+  words = λ text a b f g.
+      let x : read_text text ≡ Ok a = text_words text a f in
+      let y : read_text text ≡ Ok b = text_words text b g in
+      cc;
+  fault = λ text a b f g.
+      let x : read_text text ≡ Err a = text_fault text a.number a.at f in
+      let y : read_text text ≡ Err b = text_fault text b.number b.at g in
+      cc;
+  not_both = λ text words fault f g.
+      let x : read_text text ≡ Ok words = text_words text words f in
+      let y : read_text text ≡ Err fault = text_fault text fault.number fault.at g in
+      cc;
+}
