@@ -27,56 +27,56 @@ pub record Item : Type 0 where
 abbrev pub passed : Item
 passed = record { kind = Passed; label = None; symbols = []; proof = [] }
 
--- it is `$c`
+-- a kind that is `$c`
 abbrev pub is_constants : Kind → Bool
 is_constants Constants = true
 is_constants _ = false
 
--- it is `$v`
+-- a kind that is `$v`
 abbrev pub is_variables : Kind → Bool
 is_variables Variables = true
 is_variables _ = false
 
--- it is `$d`
+-- a kind that is `$d`
 abbrev pub is_disjoint : Kind → Bool
 is_disjoint Disjoint = true
 is_disjoint _ = false
 
--- it is `$f`
+-- a kind that is `$f`
 abbrev pub is_floating : Kind → Bool
 is_floating Floating = true
 is_floating _ = false
 
--- it is `$e`
+-- a kind that is `$e`
 abbrev pub is_essential : Kind → Bool
 is_essential Essential = true
 is_essential _ = false
 
--- it is `$a` or `$p`
+-- a kind that is `$a` or `$p`
 abbrev pub is_assertion : Kind → Bool
 is_assertion Axiom = true
 is_assertion Theorem = true
 is_assertion _ = false
 
--- it is `$p`
+-- a kind that is `$p`
 abbrev pub is_theorem : Kind → Bool
 is_theorem Theorem = true
 is_theorem _ = false
 
--- it declares symbols: `$c` or `$v`
+-- a kind that declares symbols: `$c` or `$v`
 abbrev pub is_declaring : Kind → Bool
 is_declaring Constants = true
 is_declaring Variables = true
 is_declaring _ = false
 
--- its symbols are an expression with a typecode and what stands behind it: `$e`, `$a` or `$p`
+-- a kind whose symbols are an expression, with a typecode in front: `$e`, `$a` or `$p`
 abbrev pub is_expression : Kind → Bool
 is_expression Essential = true
 is_expression Axiom = true
 is_expression Theorem = true
 is_expression _ = false
 
--- it has a label: `$f`, `$e`, `$a` or `$p`
+-- a kind that has a label: `$f`, `$e`, `$a` or `$p`
 abbrev pub is_labelled : Kind → Bool
 is_labelled Floating = true
 is_labelled Essential = true

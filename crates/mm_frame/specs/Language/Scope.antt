@@ -25,7 +25,7 @@ abbrev pub closed : List Item → ℕ
 closed [] = zero
 closed (item ∷ items) = closed_at (mark_of item.kind) (closed items)
 
--- the count is none
+-- the count is zero
 abbrev pub is_zero : ℕ → Bool
 is_zero zero = true
 is_zero (suc count) = false
@@ -50,21 +50,21 @@ active_numbers_from test n (item ∷ items) =
 abbrev pub active_numbers : (Item → Bool) → List Item → List ℕ
 active_numbers test items = active_numbers_from test 0 items
 
--- a block is opened
+-- the mark opens a block
 abbrev pub opens : Mark → Bool
 opens Opens = true
 opens _ = false
 
--- a block is closed
+-- the mark closes a block
 abbrev pub closes : Mark → Bool
 closes Closes = true
 closes _ = false
 
--- a `${`
+-- the item is a `${`
 abbrev pub is_start : Item → Bool
 is_start item = opens (mark_of item.kind)
 
--- a `$}`
+-- the item is a `$}`
 abbrev pub is_end : Item → Bool
 is_end item = closes (mark_of item.kind)
 

@@ -42,7 +42,7 @@ second test n name = n == 1 && test name
 abbrev pub later : (List ℕ → Bool) → ℕ → List ℕ → Bool
 later test n name = ltb 0 n && test name
 
--- it is the third symbol
+-- a symbol that is the third one
 abbrev pub is_third : ℕ → List ℕ → Bool
 is_third n name = n == 2
 

@@ -15,6 +15,7 @@ pub record ItemMark : Type 0 where
 abbrev pub no_mark : ItemMark
 no_mark = record { old = None; frame = false; pairs = false }
 
+-- the mark of the item with this number; where there is none, nothing stays
 abbrev pub mark_at : List ItemMark → ℕ → ItemMark
 mark_at marks j = slice_index_or marks j no_mark
 

@@ -23,6 +23,7 @@ entry_step base (answers.Assertion j) = Named (label_at base j)
 entry_step base answers.Inactive = NotKnown
 entry_step base answers.Unknown = NotKnown
 
+-- the steps that the entries of the table stand for
 abbrev pub entry_steps : BaseView → List Resolved → List Step
 entry_steps base labels = map (entry_step base) labels
 
@@ -33,6 +34,7 @@ IsEntry base i (answers.Assertion j) = Resolves base i (label_at base j) (answer
 IsEntry base i answers.Inactive = Unit {0}
 IsEntry base i answers.Unknown = Unit {0}
 
+-- the label of each entry means there what the entry says
 abbrev pub AreEntries : BaseView → ℕ → List Resolved → Type 0
 AreEntries base i labels = AllByRecursion (IsEntry base i) labels
 

@@ -41,11 +41,11 @@ EachIsWritten = (n : ℕ) → 1 ≤ n → (ds : List ℕ) × (a : ℕ) × IsWrit
 abbrev pub HasOneDivision : Type 0
 HasOneDivision = (letters : List Letter) (parts : List Group) → IsDivided letters parts ↔ (groups letters ≡ parts)
 
--- the reading is a step
+-- a step is read, and no fault
 abbrev pub ReadsStep : Reading → Type 0
 ReadsStep reading = (step : Step) × (reading.step ≡ Ok step)
 
--- the first that is no step is this fault
+-- of what is read at one spot after another, this is the first fault: at each spot before it a step is read
 pub record IsFirstDecodingFault (readings : List Reading) (fault : ProofFault) : Type 0 where
   pub front : List Reading
   pub back : List Reading

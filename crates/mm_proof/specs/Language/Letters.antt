@@ -46,6 +46,7 @@ groups letters = groups_behind [] letters
 abbrev pub group_letters : Group → List Letter
 group_letters group = group.digits ++ option_to_list group.last
 
+-- each of these letters is a digit
 abbrev pub AreDigits : List Letter → Type 0
 AreDigits letters = AllByRecursion (λ letter. is_digit letter.byte ≡ true) letters
 

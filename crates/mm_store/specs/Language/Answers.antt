@@ -15,6 +15,7 @@ abbrev pub store_error_of : TextError → StoreError
 store_error_of (text_errors.Fault fault) = Text fault
 store_error_of text_errors.Memory = Memory
 
+-- why the text of an edit is refused: its fault; or want of memory
 abbrev pub edit_error_of : TextError → EditError
 edit_error_of (text_errors.Fault fault) = edits.Text fault
 edit_error_of text_errors.Memory = edits.Memory

@@ -18,6 +18,7 @@ pub record FilesView : Type 0 where
   pub keyed : List KeyedFile
   pub pieces : Pieces
 
+-- no files, and no pieces
 abbrev pub no_files : FilesView
 no_files = record { keyed = []; pieces = finite.empty }
 
@@ -58,9 +59,11 @@ pub record File : Type 0 where
   pub pieces : List (List ℕ)
   pub tail : List ℕ
 
+-- the texts of pieces, without their keys
 abbrev pub piece_texts : List PieceView → List (List ℕ)
 piece_texts pieces = map (λ piece. piece.text) pieces
 
+-- a file without the keys of its pieces
 abbrev pub without_keys : FileView → File
 without_keys file = record { name = file.name; pieces = piece_texts file.pieces; tail = file.tail }
 
@@ -76,6 +79,7 @@ plain view = map (plain_file view.pieces) view.keyed
 abbrev pub file_number : List File → List ℕ → Option ℕ
 file_number files name = position (λ file. bytes_eq name file.name) files
 
+-- the file with this number, if there is one
 abbrev pub file_at : List File → Option ℕ → Option File
 file_at files None = None
 file_at files (Some number) = slice_get files number

@@ -13,6 +13,7 @@ one_key = record { at = 0 }
 abbrev pub bare_file : File → FileView
 bare_file file = record { name = file.name; pieces = map (λ text. record { key = one_key; text = text }) file.pieces; tail = file.tail }
 
+-- files without keys as files whose pieces have all one key
 abbrev pub bare : List File → List FileView
 bare files = map bare_file files
 

@@ -62,6 +62,7 @@ reversed number (Deleted at key) view = record {
 }
 reversed number (Moved at to) view = moved view number to at
 
+-- the files with an edit undone
 abbrev pub undone : UndoView → FilesView → FilesView
 undone undo view = reversed undo.file undo.action view
 
@@ -84,6 +85,7 @@ spent (Replaced at key) view = record { keyed = view.keyed; pieces = finite.remo
 spent (Deleted at key) view = record { keyed = view.keyed; pieces = finite.remove view.pieces key }
 spent (Moved at to) view = view
 
+-- the files with an edit settled: what was kept to undo it is dropped
 abbrev pub settled : UndoView → FilesView → FilesView
 settled undo view = spent undo.action view
 
@@ -113,13 +115,14 @@ KeepsKeys old new = (key : ℕ) → IsSome (finite.get old.pieces key) → Keeps
 abbrev pub KeepsOthers : Option ℕ → FilesView → FilesView → Type 0
 KeepsOthers dropped old new = (key : ℕ) → dropped ≢ Some key → IsSome (finite.get old.pieces key) → KeepsText old new key
 
--- the key whose piece is dropped when an edit is undone, and when it is settled
+-- the key whose piece is dropped when an edit is undone, if there is one
 abbrev pub undone_key : ℕ → EditAction → FilesView → Option ℕ
 undone_key number (Inserted at) view = Some (key_at view number at)
 undone_key number (Replaced at key) view = Some (key_at view number at)
 undone_key number (Deleted at key) view = None
 undone_key number (Moved at to) view = None
 
+-- the key whose piece is dropped when an edit is settled, if there is one
 abbrev pub settled_key : EditAction → Option ℕ
 settled_key (Inserted at) = None
 settled_key (Replaced at key) = Some key

@@ -3,6 +3,7 @@ use Rattle.std.specs.Prelude.{◌≡◌, ℕ, ◌+◌, ◌<◌, true, false, Lis
 use Rattle.std.specs.List.{AllByRecursion}
 use Rattle.mm_text.specs.Language.Run.{Run, is_white, ends_run}
 
+-- white space, or no bytes
 abbrev pub IsGap : List ℕ → Type 0
 IsGap bytes = AllByRecursion (λ b. is_white b ≡ true) bytes
 
@@ -18,6 +19,7 @@ pub record BeginsWith (at : ℕ) (bytes : List ℕ) (run : Run) (Later : List �
   pub ends : ends_run later ≡ true
   pub goes_on : Later later
 
+-- bytes from a place on are laid out as these runs: white space, a run, white space, and so on, to the end
 abbrev pub IsLaidOut : ℕ → List ℕ → List Run → Type 0
 IsLaidOut at bytes [] = IsGap bytes
 IsLaidOut at bytes (run ∷ runs) = BeginsWith at bytes run (λ later. IsLaidOut (run.start + length run.bytes) later runs)

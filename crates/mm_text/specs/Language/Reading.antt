@@ -108,6 +108,7 @@ pub record EndsOpen (runs : List Run) (at : ℕ) : Type 0 where
   pub goes_on : AreViableRuns runs
   pub not_whole : ¬ HaveReading runs
 
+-- the runs have the fault of this number at this byte: a comment that is not ended, or the first run with which no reading goes on
 abbrev pub IsRunFault : List Run → TextNumber → ℕ → Type 0
 IsRunFault runs T02 at = EndsOpen runs at
 IsRunFault runs number at = StopsAtRun runs number at

@@ -5,6 +5,7 @@ use Rattle.std.specs.Prelude.{ℕ, ◌+◌, ◌==◌, Bool, true, not, ◌||◌,
 unfoldable pub is_white : ℕ → Bool
 is_white b = b == 32 || b == 9 || b == 13 || b == 10 || b == 12
 
+-- the byte is no white space
 abbrev pub is_solid : ℕ → Bool
 is_solid b = not (is_white b)
 
