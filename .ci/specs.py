@@ -146,7 +146,7 @@ def contract(function):
 class Reached:
     """What is reached so far: definitions by module, each with what it cites, and types of the code.
 
-    Both are in the order in which they are met: what a definition cites comes behind it, and before what stands beside it.
+    Both are in the order in which they are met: what a definition cites comes after it, and before what is cited next to it.
     """
 
     def __init__(self, all_modules):

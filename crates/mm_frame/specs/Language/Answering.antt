@@ -1,4 +1,4 @@
--- What a base tells of its items, with the numbers of names in place of names, and when it tells it rightly (Metamath book, section 4.2).
+-- What a base reports on its items, with the numbers of names in place of names, and when it does so rightly (Metamath book, section 4.2).
 use Rattle.std.specs.Prelude.{◌≡◌, ℕ, ◌≤◌, Bool, true, ◌&&◌, ◌||◌, if◌then◌else◌, is_some, is_none, Option, Some, None, List, [], length, map, take, drop}
 use Rattle.std.specs.Prelude.{filter, flat_map, bytes_eq, slice_get, All, IfSome}
 use Rattle.std.specs.Option.{option_map}
@@ -16,7 +16,7 @@ use Rattle.mm_frame.specs.Language.Framing.{expression, pairs_of, active_pairs, 
 use Rattle.mm_frame.specs.Language.NumberedSymbols.{symbols_of, IsNumbered, ArePairsRead, AreSamePairsRead, AreInOrder}
 use Rattle.mm_frame.specs.Language.Base.{BaseView, told_fault}
 
--- what is told of the items, each by its number: the items themselves; their labels and faults; the symbols; the numbers of the hypotheses and
+-- what is reported of the items, each by its number: the items themselves; their labels and faults; the symbols; the numbers of the hypotheses and
 -- the pairs of a frame; all active pairs; and what an item does to the blocks
 pub record BaseAnswers : Type 0 where
   pub items : List store.Item
@@ -26,7 +26,7 @@ pub record BaseAnswers : Type 0 where
   pub actives : List (Option (List (NumberedSymbol × NumberedSymbol)))
   pub marks : List Mark
 
--- there is a row for each item, which tells of it, behind the sound items before it
+-- there is a row for each item, which reports on it, after the sound items before it
 pub record AreRows {X : Type 0} (tells : List Item → Item → X → Type 0) (said : List Item) (rows : List X) : Type 0 where
   pub count : length rows ≡ length said
   pub each : (n : ℕ) (row : X) → slice_get rows n ≡ Some row → tells (sound_items (take n said)) (item_at said n) row
@@ -46,7 +46,7 @@ pub record IsExpressionTold (names : List (List ℕ)) (before : List Item) (item
 abbrev pub numbers_if : Bool → List Item → Item → Option (List ℕ)
 numbers_if framed before item = if framed then Some (mandatory_numbers before item) else None
 
--- of a sound `$a` or `$p` behind the sound items before it, and no other item
+-- of a sound `$a` or `$p` after the sound items before it, and no other item
 abbrev pub told_numbers : List Item → Item → Option (List ℕ)
 told_numbers before item = numbers_if (is_none (told_fault before item) && is_assertion item.kind) before item
 
@@ -69,7 +69,7 @@ pub record IsFrameTold (all : List (List ℕ)) (before : List Item) (item : Item
   pub hypotheses : option_map (λ it. it.0) row ≡ told_numbers before item
   pub pairs : IfSome row (λ it. ArePairsRead all (pairs_in_order (frame before item)) it.1)
 
--- the item is a sound `$p` behind the sound items before it
+-- the item is a sound `$p` after the sound items before it
 abbrev pub is_told_proof : List Item → Item → Bool
 is_told_proof before item = is_none (told_fault before item) && is_theorem item.kind
 
@@ -79,7 +79,7 @@ pub record AreActiveTold (names : List (List ℕ)) (before : List Item) (item : 
   pub pairs : IfSome told (λ pairs. AreSamePairsRead names (active_pairs before) pairs)
   pub order : IfSome told AreInOrder
 
--- what is told is right of these items, where names have the numbers of this list
+-- what is reported is right of these items, where names have the numbers of this list
 pub record IsBaseBy (names : List (List ℕ)) (base : BaseView) (answers : BaseAnswers) : Type 0 where
   pub distinct : AreDistinct names
   pub found : answers.items ≡ base.found

@@ -41,7 +41,7 @@ abbrev pub fault_by : Kind → Option (ℕ × FrameNumber) → Option (ℕ × Fr
 fault_by Missing statement = Some (1, F14)
 fault_by _ statement = statement
 
--- the fault of an item behind the sound ones before it, if it has one: the word that it is told at, and its number
+-- the fault of an item after the sound ones before it, if it has one: the word that it is reported at, and its number
 abbrev pub told_fault : List Item → Item → Option (ℕ × FrameNumber)
 told_fault before item = fault_by item.kind (fault before item)
 
@@ -84,7 +84,7 @@ pub record IsMandatoryAt (base : BaseView) (i n : ℕ) : Type 0 where
   pub active : stays (drop (suc n) (before base i)) ≡ true
   pub mandatory : is_mandatory (mandatory_variables (before base i) (said_at base i)) (said_at base n) ≡ true
 
--- these are the numbers of all of them, rising; by them, in order, the hypotheses of the frame are told, each as it is read at its own place
+-- these are the numbers of all of them, rising; by them, in order, the hypotheses of the frame are reported, each as it is read at its own place
 pub record AreHypotheses (base : BaseView) (i : ℕ) (numbers : List ℕ) : Type 0 where
   pub which : (n : ℕ) → Contains numbers n ↔ IsMandatoryAt base i n
   pub rise : AllPairs (λ m n. m < n) numbers

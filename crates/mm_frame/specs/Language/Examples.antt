@@ -53,11 +53,11 @@ database =
 abbrev pub AllAreSound : Type 0
 AllAreSound = sound_items database ≡ database
 
--- The `$d` of three variables is three pairs, which are active behind it.
+-- The `$d` of three variables is three pairs, which are active after it.
 abbrev pub ThreePairsAreActive : Type 0
 ThreePairsAreActive = active_pairs database ≡ (p, q) ∷ (p, r) ∷ (q, r) ∷ []
 
--- The frame of `ax $a w ( q > p ) $.` behind them: its mandatory variables are `p` and `q`, so its mandatory hypotheses are `wp` and `wq`, in the order of
+-- The frame of `ax $a w ( q > p ) $.` after them: its mandatory variables are `p` and `q`, so its mandatory hypotheses are `wp` and `wq`, in the order of
 -- occurrence, and one of the three pairs is mandatory.
 abbrev pub HasOneMandatoryPair : Type 0
 HasOneMandatoryPair = frame database (labelled (codes "ax") Axiom (codes "w(q>p)")) ≡ record {
@@ -66,7 +66,7 @@ HasOneMandatoryPair = frame database (labelled (codes "ax") Axiom (codes "w(q>p)
   pairs = (p, q) ∷ [];
 }
 
--- The label `wi` means its own frame, which has no pairs, though the `$d` behind it is active now.
+-- The label `wi` means its own frame, which has no pairs, though the `$d` after it is active now.
 abbrev pub MeansItsFrame : Type 0
 MeansItsFrame = resolve database (codes "wi") ≡ Assertion (record {
   expression = symbols (codes "w(p>q)");
@@ -74,7 +74,7 @@ MeansItsFrame = resolve database (codes "wi") ≡ Assertion (record {
   pairs = [];
 })
 
--- Behind a block the label of a `$e` in it is inactive.
+-- After a block the label of a `$e` in it is inactive.
 abbrev pub EndsWithItsBlock : Type 0
 EndsWithItsBlock = resolve (database ++ plain BlockStart [] ∷ labelled (codes "h") Essential (codes "wp") ∷ plain BlockEnd [] ∷ []) (codes "h") ≡ Inactive
 

@@ -5,11 +5,11 @@ use Rattle.mm_frame.specs.Language.Item.{Item, is_disjoint, is_floating, is_esse
 use Rattle.mm_frame.specs.Language.Scope.{stays, active, active_numbers, symbols_by, active_variables}
 use Rattle.mm_frame.specs.Language.Sound.{sound_items}
 
--- what a name is behind these items: a variable where it is an active one, and else a constant
+-- what a name is after these items: a variable where it is an active one, and else a constant
 abbrev pub symbol : List Item → List ℕ → Symbol
 symbol before name = record { name = name; variable = has (active_variables before) name }
 
--- the expression of a statement behind these items: its symbols, each as a constant or a variable
+-- the expression of a statement after these items: its symbols, each as a constant or a variable
 abbrev pub expression : List Item → Item → List Symbol
 expression before item = map (symbol before) item.symbols
 
@@ -46,7 +46,7 @@ active_pairs before = flat_map (λ item. if is_disjoint item.kind then pairs_of 
 abbrev pub is_mandatory_pair : List (List ℕ) → Symbol × Symbol → Bool
 is_mandatory_pair mandatory pair = has mandatory pair.0.name && has mandatory pair.1.name
 
--- the frame of an assertion behind these items: its expression, its mandatory hypotheses, and those active pairs of which both variables are mandatory
+-- the frame of an assertion after these items: its expression, its mandatory hypotheses, and those active pairs of which both variables are mandatory
 abbrev pub frame : List Item → Item → Frame
 frame before item = record {
   expression = expression before item;
@@ -54,7 +54,7 @@ frame before item = record {
   pairs = filter (is_mandatory_pair (mandatory_variables before item)) (active_pairs before);
 }
 
--- what the label of an item means behind the whole list: an assertion means its frame, as it is right behind the items in front of it; a hypothesis means its
+-- what the label of an item means after the whole list: an assertion means its frame, after the items in front of it alone; a hypothesis means its
 -- expression, where no `$}` at the back has ended its block
 abbrev pub meaning : List Item → List Item → Item → List Item → Resolved
 meaning whole front item back =
@@ -62,18 +62,18 @@ meaning whole front item back =
     else if stays back then Hypothesis (expression whole item)
     else Inactive
 
--- what a label means behind the whole list, where it is looked for in the back part of it alone
+-- what a label means after the whole list, where it is looked for in the back part of it alone
 abbrev pub resolve_from : List Item → List Item → List Item → List ℕ → Resolved
 resolve_from whole front [] label = Unknown
 resolve_from whole front (item ∷ back) label =
     if has (labels_of item) label then meaning whole front item back
     else resolve_from whole (front ++ item ∷ []) back label
 
--- what a label means behind these items: the item that has it decides
+-- what a label means after these items: the item that has it decides
 abbrev pub resolve : List Item → List ℕ → Resolved
 resolve before label = resolve_from before [] before label
 
--- what a proof behind these items is read against
+-- what a proof after these items is read against
 abbrev pub setting : List Item → Setting
 setting before = record { resolve = resolve before; active = active_pairs before }
 

@@ -1,4 +1,4 @@
--- Lists of names that are told by their numbers, and that grow.
+-- Lists of names that are given by their numbers, and that grow.
 use Rattle.std.specs.Prelude.{◌≡◌, ℕ, List, [], Some, slice_get, slice_index_or}
 
 -- no name stands twice

@@ -1,4 +1,4 @@
--- Which symbols, expressions and pairs those are that are told by numbers of names, where the numbers are read by a list of all names.
+-- Which symbols, expressions and pairs those are that are given by numbers of names, where the numbers are read by a list of all names.
 use Rattle.std.specs.Prelude.{◌≡◌, ℕ, ◌<◌, ◌≤◌, ◌==◌, ◌&&◌, ◌||◌, Bool, true, false, Some, List, [], ◌∷◌, All, length, map, nat_lt, slice_get}
 use Rattle.mm_frame.specs.declared.symbol.NamedSymbol.{NamedSymbol}
 use Rattle.mm_frame.specs.declared.symbol.NumberedSymbol.{NumberedSymbol}

@@ -1,4 +1,4 @@
--- Scopes: what is declared, and what is active behind a list of items (Metamath book, section 4.2).
+-- Scopes: what is declared, and what is active after a list of items (Metamath book, section 4.2).
 use Rattle.std.specs.Prelude.{ℕ, zero, suc, pred, Bool, true, false, ◌&&◌, if◌then◌else◌, ltb, List, [], ◌∷◌, filter, map, flat_map, count_by}
 use Rattle.mm_frame.specs.Language.Item.{Kind, BlockStart, BlockEnd, Item, is_constants, is_variables, is_floating, labels_of, variable_of}
 
@@ -14,7 +14,7 @@ mark_of BlockStart = Opens
 mark_of BlockEnd = Closes
 mark_of _ = Neither
 
--- how many blocks from before it are closed by an item and those behind it, where those behind it close so many from before them
+-- how many blocks from before it are closed by an item and those after it, where those after it close so many from before them
 abbrev pub closed_at : Mark → ℕ → ℕ
 closed_at Opens count = pred count
 closed_at Closes count = suc count
@@ -30,7 +30,7 @@ abbrev pub is_zero : ℕ → Bool
 is_zero zero = true
 is_zero (suc count) = false
 
--- these items close no block that was open before them: what stood before them is still active behind them
+-- these items close no block that was open before them: what stood before them is still active after them
 abbrev pub stays : List Item → Bool
 stays items = is_zero (closed items)
 

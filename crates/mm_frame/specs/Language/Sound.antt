@@ -1,4 +1,4 @@
--- Soundness: the fault of a statement behind the sound ones before it, and the items with each statement at fault passed over
+-- Soundness: the fault of a statement after the sound ones before it, and the items with each statement at fault passed over
 -- (Metamath book, sections 4.1 and 4.2).
 use Rattle.std.specs.Prelude.{◌≡◌, ℕ, zero, suc, ◌+◌, ◌-◌, ◌≤◌, Bool, true, false, not, ◌&&◌, ◌||◌, ltb, leb, ◌==◌, Option, Some, None, List, [], ◌∷◌, ◌++◌}
 use Rattle.std.specs.Prelude.{length, take, bytes_eq, slice_get, find}
@@ -13,7 +13,7 @@ use Rattle.mm_frame.specs.Language.Scope.{is_inside, constants, variables, label
 abbrev pub first_symbol : Item → ℕ
 first_symbol item = length (labels_of item) + 1
 
--- the number of the word behind the last symbol, which is `$.` or `$=`
+-- the number of the word after the last symbol, which is `$.` or `$=`
 abbrev pub closing_word : Item → ℕ
 closing_word item = first_symbol item + length item.symbols
 
@@ -38,7 +38,7 @@ first test n name = n == 0 && test name
 abbrev pub second : (List ℕ → Bool) → ℕ → List ℕ → Bool
 second test n name = n == 1 && test name
 
--- the test holds of a symbol behind the first, which is the typecode
+-- the test holds of a symbol after the first, which is the typecode
 abbrev pub later : (List ℕ → Bool) → ℕ → List ℕ → Bool
 later test n name = ltb 0 n && test name
 
@@ -98,7 +98,7 @@ is_short Axiom count = count == 0
 is_short Theorem count = count == 0
 is_short _ count = false
 
--- The table of faults, a line for each number: a statement behind these items has the fault of this number at this word. F14 is that of a missing file, which
+-- The table of faults, a line for each number: a statement after these items has the fault of this number at this word. F14 is that of a missing file, which
 -- is no statement.
 abbrev pub line_holds : List Item → Item → ℕ → FrameNumber → Bool
 -- too few symbols, or a third one of a `$f`
@@ -124,9 +124,9 @@ line_holds before item word F08 = is_labelled item.kind && at_symbol (first (is_
 line_holds before item word F09 =
     (is_disjoint item.kind && at_symbol (each (is_no_variable before)) item word)
     || (is_floating item.kind && at_symbol (second (is_no_variable before)) item word)
--- behind the typecode, neither a constant nor an active variable
+-- after the typecode, neither a constant nor an active variable
 line_holds before item word F10 = is_expression item.kind && at_symbol (later (is_no_active_symbol before)) item word
--- behind the typecode, an active variable that no active `$f` types
+-- after the typecode, an active variable that no active `$f` types
 line_holds before item word F11 = is_expression item.kind && at_symbol (later (is_untyped before)) item word
 -- a `$f` of a variable that an active `$f` types
 line_holds before item word F12 = is_floating item.kind && at_symbol (second (is_typed before)) item word
@@ -188,7 +188,7 @@ abbrev pub fault_from : List Item → Item → ℕ → ℕ → Option (ℕ × Fr
 fault_from before item word zero = None
 fault_from before item word (suc more) = fault_or word (number_at before item word) (fault_from before item (suc word) more)
 
--- the fault of a statement behind these items, if it has one: at the least word that has one, with the lowest number there
+-- the fault of a statement after these items, if it has one: at the least word that has one, with the lowest number there
 abbrev pub fault : List Item → Item → Option (ℕ × FrameNumber)
 fault before item = fault_from before item 0 (closing_word item + 1)
 

@@ -43,7 +43,7 @@ plain_from from tokens = take (prefix_len is_plain (drop from tokens)) (drop fro
 abbrev pub token_names : List Token → List (List ℕ)
 token_names tokens = map (λ token. token.bytes) tokens
 
--- the number of the word that is the first symbol: it stands behind the keyword, and the label where there is one
+-- the number of the word that is the first symbol: it stands after the keyword, and the label where there is one
 abbrev pub symbols_from : Kind → ℕ
 symbols_from kind = if is_labelled kind then 2 else 1
 
@@ -51,7 +51,7 @@ symbols_from kind = if is_labelled kind then 2 else 1
 abbrev pub symbols_in : Kind → List Token → List Token
 symbols_in kind tokens = plain_from (symbols_from kind) tokens
 
--- the proof, behind the `$=` that closes the symbols of a theorem; behind the `$.` that closes those of any other statement there is nothing
+-- the proof, after the `$=` that closes the symbols of a theorem; after the `$.` that closes those of any other statement there is nothing
 abbrev pub proof_in : Kind → List Token → List Token
 proof_in kind tokens = plain_from (symbols_from kind + length (symbols_in kind tokens) + 1) tokens
 

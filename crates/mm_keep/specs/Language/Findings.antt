@@ -5,7 +5,7 @@ use Rattle.mm_keep.specs.declared.finding.Finding.{Finding}
 use Rattle.mm_keep.specs.declared.finding.Finding.TheVariants as code
 use Rattle.mm_keep.specs.declared.tally.Tally.{Tally}
 
--- what a finding tells
+-- what a finding reports
 abbrev pub told : Finding → Told
 told code.Quiet = Quiet
 told code.Axiom = AnAxiom
@@ -25,6 +25,6 @@ counted tally = record {
   faults = tally.faults;
 }
 
--- so few are told that one more can be counted
+-- so few are reported that one more can be counted
 abbrev pub AreFew : List Told → Type 0
 AreFew all = length all < 4294967295

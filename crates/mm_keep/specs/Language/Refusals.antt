@@ -9,12 +9,12 @@ use Rattle.mm_proof.specs.mm_store.Language.Answers.{IsEditError}
 use Rattle.mm_proof.specs.mm_store.Language.Batches.{IsRefusedAt}
 use Rattle.mm_proof.specs.mm_store.Language.Edits.{Asked, IsPlaced}
 
--- an edit is refused for the reason for which files refuse it; or for want of memory, once its file and its members are known
+-- an edit is refused for the reason for which files refuse it; or because memory has run out, once its file and its members are known
 abbrev pub IsRefusal : Asked → List File → EditError → Type 0
 IsRefusal edit files Memory = (number : ℕ) × (file : File) × IsPlaced files edit number file
 IsRefusal edit files error = IsEditError edit files error
 
--- several edits are refused for the reason for which files refuse the first of them that they refuse; or for want of memory
+-- several edits are refused for the reason for which files refuse the first of them that they refuse; or because memory has run out
 abbrev pub IsBatchRefusal : List Asked → List File → BatchError → Type 0
 IsBatchRefusal edits files (batch.Edit n error) = IsRefusedAt edits files n error
 IsBatchRefusal edits files batch.Memory = Unit {0}

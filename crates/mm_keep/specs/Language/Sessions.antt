@@ -28,7 +28,7 @@ HasItem session i = OfItems session (λ base. i < length base.said)
 abbrev pub IsLabelOfItem : SessionView → ℕ → Option (List ℕ) → Type 0
 IsLabelOfItem session i label = OfItems session (λ base. label ≡ (said_at base i).label)
 
--- this is what is rightly told of the item with this number
+-- this is what is rightly reported of the item with this number
 abbrev pub IsFinding : SessionView → ℕ → Told → Type 0
 IsFinding session i told = OfItems session (λ base. IsRightlyTold session.files base i told)
 
@@ -42,7 +42,7 @@ pub record IsAssertion (base : BaseView) (label : List ℕ) (i : ℕ) : Type 0 w
 abbrev pub HasAssertion : SessionView → List ℕ → Type 0
 HasAssertion session label = OfItems session (λ base. (i : ℕ) × IsAssertion base label i)
 
--- this is what is rightly told of the assertion with this label
+-- this is what is rightly reported of the assertion with this label
 abbrev pub IsVerdictOf : SessionView → List ℕ → Told → Type 0
 IsVerdictOf session label told = OfItems session (λ base. (i : ℕ) × IsAssertion base label i × IsRightlyTold session.files base i told)
 
@@ -63,7 +63,7 @@ AreUsersOf session label numbers = AreNumbersOf session label (λ base i k. Cite
 abbrev pub AreAxiomsOf : SessionView → List ℕ → List ℕ → Type 0
 AreAxiomsOf session label numbers = AreNumbersOf session label (λ base i k. IsAxiomOf base i k) numbers
 
--- these are the counts of what is rightly told of all items
+-- these are the counts of what is rightly reported of all items
 pub record IsTally (session : SessionView) (counted : Counts) : Type 0 where
   pub base : BaseView
   pub of_files : IsOfFiles session.files session.top base

@@ -1,4 +1,4 @@
--- What is told of the items of files: of each whether it is at fault, an axiom or a theorem, and what the verdict on its proof is; and how
+-- What is reported of the items of files: of each whether it is at fault, an axiom or a theorem, and what the verdict on its proof is; and how
 -- many there are of each.
 use Rattle.std.specs.Prelude.{◌≡◌, ◌+◌, ℕ, true, false, Bool, Some, List, length, slice_get, slice_range, count_by}
 use Rattle.mm_proof.specs.mm_store.declared.item.Item as store
@@ -19,8 +19,8 @@ pub record Shown : Type 0 where
   pub at : At
   pub word : List ℕ
 
--- What is told of an item: nothing; that it is an axiom; of a theorem, that its proof is proved, is incomplete at a place, or is wrong by a number at a
--- place; or its fault, by its number and the word that it is told at.
+-- What is reported of an item: nothing; that it is an axiom; of a theorem, that its proof is proved, is incomplete at a place, or is wrong by a number at a
+-- place; or its fault, by its number and the word that it is reported at.
 pub data Told : Type 0 where
   Quiet : Told
   AnAxiom : Told
@@ -34,7 +34,7 @@ pub record IsShown (files : FilesView) (item : store.Item) (word : ℕ) (shown :
   pub has_place : HasPlace files item word 0 shown.at
   pub is_word : shown.word ≡ spelled (slice_range has_place.is_byte.read.text item.start item.end) (slice_get has_place.is_byte.read.words word)
 
--- it tells the fault with this number, at this word of an item
+-- it reports the fault with this number, at this word of an item
 abbrev pub TellsFaultAt : FilesView → store.Item → ℕ → FrameNumber → Told → Type 0
 TellsFaultAt files item word number one = (shown : Shown) × (one ≡ Fault number shown) × IsShown files item word shown
 
@@ -67,7 +67,7 @@ pub record HasVerdictShown (files : FilesView) (view : BaseView) (n : ℕ) (verd
   pub has_verdict : HasProofVerdict view n (verdict spot)
   pub is_place : IsPlaceOfSpot files view n spot at
 
--- this is what is rightly told of the item with this number: by its fault, its kind, or the verdict on its proof
+-- this is what is rightly reported of the item with this number: by its fault, its kind, or the verdict on its proof
 abbrev pub IsRightlyTold : FilesView → BaseView → ℕ → Told → Type 0
 IsRightlyTold files view n Quiet = IsQuiet view n
 IsRightlyTold files view n AnAxiom = IsAxiom view n
@@ -76,32 +76,32 @@ IsRightlyTold files view n (Incomplete at) = HasVerdictShown files view n verdic
 IsRightlyTold files view n (Wrong number at) = HasVerdictShown files view n (verdicts.Wrong number) at
 IsRightlyTold files view n (Fault number shown) = IsFaultOf files view n number shown
 
--- this is what is rightly told of all items, one for each, in order
+-- this is what is rightly reported of all items, one for each, in order
 pub record AreRightlyTold (files : FilesView) (view : BaseView) (all : List Told) : Type 0 where
   pub count : length all ≡ length view.said
   pub each : (n : ℕ) (one : Told) → slice_get all n ≡ Some one → IsRightlyTold files view n one
 
--- it is told that the item is an axiom
+-- it is reported that the item is an axiom
 abbrev pub is_axiom : Told → Bool
 is_axiom AnAxiom = true
 is_axiom _ = false
 
--- it is told that the proof of the item is proved
+-- it is reported that the proof of the item is proved
 abbrev pub is_proved : Told → Bool
 is_proved Proved = true
 is_proved _ = false
 
--- it is told that the proof of the item is incomplete
+-- it is reported that the proof of the item is incomplete
 abbrev pub is_incomplete : Told → Bool
 is_incomplete (Incomplete at) = true
 is_incomplete _ = false
 
--- it is told that the proof of the item is wrong
+-- it is reported that the proof of the item is wrong
 abbrev pub is_wrong : Told → Bool
 is_wrong (Wrong number at) = true
 is_wrong _ = false
 
--- a fault of the item is told
+-- a fault of the item is reported
 abbrev pub is_fault : Told → Bool
 is_fault (Fault number shown) = true
 is_fault _ = false
@@ -115,7 +115,7 @@ pub record Counts : Type 0 where
   pub wrong : ℕ
   pub faults : ℕ
 
--- how often each is told. A theorem is one whose proof is proved, incomplete or wrong
+-- how often each is reported. A theorem is one whose proof is proved, incomplete or wrong
 abbrev pub counts : List Told → Counts
 counts all = record {
   axioms = count_by is_axiom all;

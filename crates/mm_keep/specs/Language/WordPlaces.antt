@@ -36,11 +36,11 @@ pub record HasPlace (files : FilesView) (item : store.Item) (word letter : ℕ) 
   pub line : at.line ≡ line_at is_byte.text offset
   pub column : at.column ≡ column_at is_byte.text offset
 
--- the number among all words of a statement of the word with number n of its proof, which begins behind the symbols and the `$=`
+-- the number among all words of a statement of the word with number n of its proof, which begins after the symbols and the `$=`
 abbrev pub proof_word : Item → ℕ → ℕ
 proof_word item n = symbols_from item.kind + length item.symbols + 1 + n
 
--- a spot in the proof of the item with this number has this place; the word behind the last one of the proof is the `$.` that closes the statement
+-- a spot in the proof of the item with this number has this place; the word after the last one of the proof is the `$.` that closes the statement
 pub record IsPlaceOfSpot (files : FilesView) (view : BaseView) (n : ℕ) (spot : Spot) (at : At) : Type 0 where
   pub item : store.Item
   pub there : slice_get view.found n ≡ Some item

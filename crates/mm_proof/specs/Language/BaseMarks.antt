@@ -1,10 +1,10 @@
--- What stays of an old base in a new one, told for each item of the new one.
+-- What stays of an old base in a new one, for each item of the new one.
 use Rattle.std.specs.Prelude.{◌≡◌, ◌↔◌, ℕ, ◌<◌, Bool, true, false, Option, Some, None, List, length, slice_index_or}
 use Rattle.mm_frame.specs.Language.Base.{BaseView, before, said_at, is_framed_at, is_proof_at, is_shown_at, frame_at}
 use Rattle.mm_frame.specs.Language.Frame.{AreSameFrame, AreSamePairs}
 use Rattle.mm_frame.specs.Language.Framing.{active_pairs}
 
--- What is told of an item: the number of the sound item of the old base that has its label, whether both are assertions with the same
+-- What is reported of an item: the number of the sound item of the old base that has its label, whether both are assertions with the same
 -- frame, and whether both are theorems with the same active pairs.
 pub record ItemMark : Type 0 where
   pub old : Option ℕ
@@ -42,7 +42,7 @@ pub record KeepsPairs (old new : BaseView) (j : ℕ) : Type 0 where
   pub is : is_proof_at new j ≡ true
   pub same : AreSamePairs (active_pairs (before old i)) (active_pairs (before new j))
 
--- the mark tells this of item j of the new base
+-- the mark says this of item j of the new base
 pub record IsMark (old new : BaseView) (j : ℕ) (mark : ItemMark) : Type 0 where
   pub old_is : (i : ℕ) → (mark.old ≡ Some i) ↔ HaveOneLabel old new i j
   pub frame_is : (mark.frame ≡ true) ↔ KeepsFrame old new j

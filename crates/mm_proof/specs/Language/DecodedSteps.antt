@@ -57,7 +57,7 @@ meant names (actions.Saved n) = Saved n
 meant names actions.Save = Save
 meant names actions.Unknown = NotKnown
 
--- the steps of a decoding, with their spots, and the spot behind these words
+-- the steps of a decoding, with their spots, and the spot after these words
 abbrev pub decoded_steps : BaseView → Decoding → List (List ℕ) → Decoded
 decoded_steps base d words = record {
   steps = map (λ step. meant (entry_steps base d.labels.items) step.action) d.steps.items;
@@ -69,7 +69,7 @@ decoded_steps base d words = record {
 abbrev pub decoding_of : BaseView → ℕ → List ℕ → List (List ℕ) → Result Decoded ProofFault
 decoding_of view i mandatory words = decoding (setting_at view i) (labels_at view mandatory) words
 
--- a fault that is told is the fault; want of memory tells none
+-- a fault that is reported is the fault; running out of memory is none
 abbrev pub TellsFault : Undecoded → Result Decoded ProofFault → Type 0
 TellsFault (errors.Fault fault) decoding = decoding ≡ Err fault
 TellsFault errors.Memory decoding = Unit {0}

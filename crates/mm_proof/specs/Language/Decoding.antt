@@ -73,7 +73,7 @@ abbrev pub alone : List Letter → Step → Result Step ProofNumber
 alone [] step = Ok step
 alone (digit ∷ digits) step = Err P05
 
--- what digits and the letter behind them say: a number, `Z`, `?`, or P04, where it is no such letter. A number 1 names the first of the names
+-- what digits and the letter after them say: a number, `Z`, `?`, or P04, where it is no such letter. A number 1 names the first of the names
 abbrev pub read_letter : List Step → List Letter → ℕ → Result Step ProofNumber
 read_letter names digits byte =
     if is_last byte then named (slice_get names (value_of (map (λ digit. digit.byte) digits) byte - 1))
@@ -81,12 +81,12 @@ read_letter names digits byte =
     else if byte == 63 then alone digits NotKnown
     else Err P04
 
--- what a group of letters says; digits with no letter behind them have P05
+-- what a group of letters says; digits with no letter after them have P05
 abbrev pub read_group : List Step → List Letter → Option Letter → Result Step ProofNumber
 read_group names digits (Some letter) = read_letter names digits letter.byte
 read_group names digits None = Err P05
 
--- the spot of a group: that of the letter behind its digits, or the end of the proof, where there is none
+-- the spot of a group: that of the letter after its digits, or the end of the proof, where there is none
 abbrev pub group_spot : Spot → Option Letter → Spot
 group_spot close (Some letter) = letter.spot
 group_spot close None = close
@@ -107,7 +107,7 @@ each_group labels close saves (group ∷ groups) =
 abbrev pub is_close : List ℕ → Bool
 is_close word = bytes_eq word (codes ")")
 
--- what is behind counts only where there is no fault before it
+-- what comes after counts only if there is no fault before it
 abbrev pub if_read : Steps → Steps → Steps
 if_read (Ok steps) behind = behind
 if_read (Err fault) behind = Err fault
@@ -116,7 +116,7 @@ if_read (Err fault) behind = Err fault
 abbrev pub letter_steps : List (List ℕ) → List (List ℕ) → ℕ → List (List ℕ) → Spot → Steps
 letter_steps mandatory listed n words close = in_order (each_group (map Named (mandatory ++ listed)) close 0 (groups (letters_from n words)))
 
--- the steps of a compressed proof, by its words behind the `(`: each label of the list has to be one that can be used; then the letters count; P03, where no
+-- the steps of a compressed proof, by its words after the `(`: each label of the list has to be one that can be used; then the letters count; P03, where no
 -- `)` ends the list
 abbrev pub compressed_steps : Setting → List (List ℕ) → List (List ℕ) → Spot → Steps
 compressed_steps place mandatory words close = let listed = before_first is_close words in

@@ -37,7 +37,7 @@ NumbersAreApart = (ds es : List ℕ) (a b : ℕ) → IsWrittenNumber ds a → Is
 abbrev pub EachIsWritten : Type 0
 EachIsWritten = (n : ℕ) → 1 ≤ n → (ds : List ℕ) × (a : ℕ) × IsWrittenNumber ds a × (value_of ds a ≡ n)
 
--- Letters are divided in one way: into digits with a letter behind them that is none, and digits at the end.
+-- Letters are divided in one way: into digits with a letter after them that is none, and digits at the end.
 abbrev pub HasOneDivision : Type 0
 HasOneDivision = (letters : List Letter) (parts : List Group) → IsDivided letters parts ↔ (groups letters ≡ parts)
 
@@ -52,7 +52,7 @@ pub record IsFirstDecodingFault (readings : List Reading) (fault : ProofFault) :
   pub whole : readings ≡ front ++ record { spot = fault.spot; step = Err fault.number } ∷ back
   pub before : AllByRecursion ReadsStep front
 
--- The fault that is told is the first in reading order.
+-- The fault that is reported is the first in reading order.
 abbrev pub TellsFirstFault : Type 0
 TellsFirstFault = (readings : List Reading) (fault : ProofFault) → (in_order readings ≡ Err fault) ↔ IsFirstDecodingFault readings fault
 
@@ -98,7 +98,7 @@ RenamingKeepsDecoding =
     (decoding place mandatory words ≡ decoding other mandatory words) ×
     ((d : Result Decoded ProofFault) → cites place words d ≡ cites other words d)
 
--- each number is below those behind it
+-- each number is below those after it
 abbrev pub Rise : List ℕ → Type 0
 Rise [] = Unit {0}
 Rise (n ∷ numbers) = AllByRecursion (λ m. n < m) numbers × Rise numbers

@@ -1,6 +1,6 @@
 -- A compressed proof over a small database: what it decodes to, which labels its steps stand for, its view and its verdict.
 --
--- Behind the database of mm_frame's examples stands `t $p w ( ( p > p ) > ( p > p ) ) $= ( wi ) AABZCB $.`
+-- After the database of mm_frame's examples stands `t $p w ( ( p > p ) > ( p > p ) ) $= ( wi ) AABZCB $.`
 use Rattle.std.specs.Prelude.{◌≡◌, ℕ, Some, Ok, Err, List, [], ◌∷◌, ◌++◌, codes}
 use Rattle.mm_frame.specs.Language.Base.{BaseView}
 use Rattle.mm_frame.specs.Language.Examples.{database, letters, p, q, r, symbols, typing}
@@ -23,7 +23,7 @@ proof = codes "(" ∷ codes "wi" ∷ codes ")" ∷ codes "AABZCB" ∷ []
 abbrev pub theorem : Item
 theorem = record { kind = Theorem; label = Some (codes "t"); symbols = letters (codes "w((p>p)>(p>p))"); proof = proof }
 
--- the database, and the theorem behind it, which has number 7
+-- the database, and the theorem after it, which has number 7
 abbrev pub base : BaseView
 base = record { found = []; said = database ++ theorem ∷ [] }
 
@@ -31,12 +31,12 @@ base = record { found = []; said = database ++ theorem ∷ [] }
 abbrev pub letter : ℕ → Spot
 letter n = record { word = 3; letter = n }
 
--- The letters: `A` is the mandatory hypothesis `wp`, `B` the listed label `wi`, `Z` saves what was derived last, and `C`, the first number behind the
+-- The letters: `A` is the mandatory hypothesis `wp`, `B` the listed label `wi`, `Z` saves what was derived last, and `C`, the first number after the
 -- labels, is what was saved first.
 abbrev pub steps : List Step
 steps = Named (codes "wp") ∷ Named (codes "wp") ∷ Named (codes "wi") ∷ Save ∷ Saved 0 ∷ Named (codes "wi") ∷ []
 
--- The proof decodes to six steps. Each is told at its letter, and the end of the proof at the word behind the last.
+-- The proof decodes to six steps. Each is reported at its letter, and the end of the proof at the word after the last.
 abbrev pub HasSixSteps : Type 0
 HasSixSteps = decoding_at base 7 ≡ Ok (record {
   steps = steps;

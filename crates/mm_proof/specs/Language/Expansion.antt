@@ -49,7 +49,7 @@ abbrev pub with_saved : Expanded → Option (List (List ℕ)) → Option Expande
 with_saved so_far None = None
 with_saved so_far (Some part) = Some (record so_far { saved = so_far.saved ++ part ∷ [] })
 
--- the saved list stands once more behind the labels, where there is one
+-- the saved list stands once more after the labels, where there is one
 abbrev pub with_again : Expanded → Option (List (List ℕ)) → Option Expanded
 with_again so_far None = None
 with_again so_far (Some part) = Some (record so_far { labels = so_far.labels ++ part })

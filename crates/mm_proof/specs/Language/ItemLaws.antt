@@ -45,12 +45,12 @@ HasOneCountAt = (view : BaseView) (i a b : ℕ) → AreDoneAt view i a → AreDo
 abbrev pub HasCountAt : Type 0
 HasCountAt = (view : BaseView) (i : ℕ) → AreSaid view → (count : ℕ) × AreDoneAt view i count
 
--- the spot is in these words: at a byte of one of them, or at the end behind the last
+-- the spot is in these words: at a byte of one of them, or at the end after the last
 pub record IsSpotIn (words : List (List ℕ)) (spot : Spot) : Type 0 where
   pub word : spot.word ≤ length words
   pub letter : spot.letter ≤ length (slice_index_or words spot.word [])
 
--- the spot that a verdict tells, if it tells one, is in these words
+-- the spot that a verdict names, if it names one, is in these words
 abbrev pub TellsSpotIn : List (List ℕ) → Verdict → Type 0
 TellsSpotIn words Proved = Unit {0}
 TellsSpotIn words (Incomplete spot) = IsSpotIn words spot

@@ -1,4 +1,4 @@
--- The letters of a compressed proof, over all words behind its list of labels, and the groups that they make (Metamath book, Appendix B).
+-- The letters of a compressed proof, over all words after its list of labels, and the groups that they make (Metamath book, Appendix B).
 use Rattle.std.specs.Prelude.{◌≡◌, ◌≢◌, ℕ, true, false, if◌then◌else◌, Option, Some, None, List, [], ◌∷◌, ◌++◌, map, flat_map, option_to_list}
 use Rattle.std.specs.List.{enumerate_from, AllByRecursion}
 use Rattle.mm_proof.specs.declared.Spot.{Spot}
@@ -21,7 +21,7 @@ letters_in word = map (letter_at word.0) (enumerate_from 0 word.1)
 abbrev pub letters_from : ℕ → List (List ℕ) → List Letter
 letters_from n words = flat_map letters_in (enumerate_from n words)
 
--- Digits, and the letter behind them: none where the letters end.
+-- Digits, and the letter after them: none where the letters end.
 pub record Group : Type 0 where
   pub digits : List Letter
   pub last : Option Letter
@@ -38,7 +38,7 @@ groups_behind digits (letter ∷ letters) =
     if is_digit letter.byte then groups_behind (digits ++ letter ∷ []) letters
     else (record { digits = digits; last = Some letter } ∷ groups_behind [] letters)
 
--- the letters in groups, each of some digits and the first letter behind them that is none
+-- the letters in groups, each of some digits and the first letter after them that is none
 abbrev pub groups : List Letter → List Group
 groups letters = groups_behind [] letters
 
@@ -50,7 +50,7 @@ group_letters group = group.digits ++ option_to_list group.last
 abbrev pub AreDigits : List Letter → Type 0
 AreDigits letters = AllByRecursion (λ letter. is_digit letter.byte ≡ true) letters
 
--- behind the digits of a group stands a letter that is no digit; digits with no letter behind them are the last group
+-- after the digits of a group stands a letter that is no digit; digits with no letter after them are the last group
 abbrev pub EndsGroup : List Letter → Option Letter → List Group → Type 0
 EndsGroup digits (Some letter) groups = is_digit letter.byte ≡ false
 EndsGroup digits None groups = (digits ≢ []) × (groups ≡ [])

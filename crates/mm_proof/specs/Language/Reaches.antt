@@ -1,4 +1,4 @@
--- Which stack the steps of a proof reach, and the first step behind which nothing is reached.
+-- Which stack the steps of a proof reach, and the first step after which nothing is reached.
 use Rattle.std.specs.Prelude.{◌≡◌, ℕ, ◌+◌, Some, List, take, slice_get}
 use Rattle.mm_frame.specs.Language.Frame.{Symbol, Setting}
 use Rattle.mm_proof.specs.Language.Derivation.{DeriveInOrder}

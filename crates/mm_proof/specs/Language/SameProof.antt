@@ -36,7 +36,7 @@ IsSameDecoding place other (Ok proof) (Ok copy) = IsSameProof place other proof 
 IsSameDecoding place other (Err fault) (Err same) = fault ≡ same
 IsSameDecoding place other _ _ = ⊥
 
--- the labels that the words of a proof name: those of a normal one other than `?`, and those of a compressed one behind the `(` up to the first `)`
+-- the labels that the words of a proof name: those of a normal one other than `?`, and those of a compressed one after the `(` up to the first `)`
 abbrev pub labels_named : List (List ℕ) → List (List ℕ)
 labels_named words = if is_compressed words then before_first is_close (drop 1 words) else filter (λ word. not (bytes_eq word (codes "?"))) words
 

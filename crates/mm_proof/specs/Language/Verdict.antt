@@ -13,7 +13,7 @@ use Rattle.mm_proof.specs.declared.Verdict.{Verdict}
 use Rattle.mm_proof.specs.declared.Verdict.TheVariants.{Proved, Incomplete, Wrong}
 use Rattle.mm_proof.specs.declared.step.ProofFault.{ProofFault}
 
--- What decoding gives: the steps, the spot of each, and the spot behind them all.
+-- What decoding gives: the steps, the spot of each, and the spot after them all.
 pub record Decoded : Type 0 where
   pub steps : List Step
   pub spots : List Spot

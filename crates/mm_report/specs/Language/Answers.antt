@@ -35,7 +35,7 @@ text_code T10 = codes "T10"
 text_code T11 = codes "T11"
 text_code T12 = codes "T12"
 
--- why an edit is refused, as it is written; a fault is told with its line and column in the text that the edit brings
+-- why an edit is refused, as it is written; a fault is reported with its line and column in the text that the edit brings
 abbrev pub refusal_words : List ℕ → EditError → List ℕ
 refusal_words text NoFile = codes "S01"
 refusal_words text (NoPiece count) = codes "S02 " ++ decimal count
@@ -66,7 +66,7 @@ labels_listed word items = word ++ codes " " ++ decimal (length items) ++ codes 
 abbrev pub numbers_listed : List ℕ → BaseView → List ℕ → List ℕ
 numbers_listed word base numbers = labels_listed word (map (said_at base) numbers)
 
--- the line that tells of the assertion with this label
+-- the line that reports on the assertion with this label
 abbrev pub told_line : List (List ℕ) → List ℕ → Told → List ℕ
 told_line names label AnAxiom = codes "axiom " ++ label ++ codes "\n"
 told_line names label Proved = codes "proved " ++ label ++ codes "\n"
@@ -82,7 +82,7 @@ pub record IsRan (old new : SessionView) (answer : List ℕ) : Type 0 where
   pub are_runs : AreRunsOf old.files new.files old.top runs
   pub answer_is : answer ≡ numbers_listed (codes "ran") are_runs.new runs
 
--- the answer where an edit is refused: the reason, which is not want of memory; and nothing is changed
+-- the answer where an edit is refused: the reason, which is not out of memory; and nothing is changed
 pub record IsRefused (old new : SessionView) (edit : Asked) (answer : List ℕ) : Type 0 where
   pub error : EditError
   pub refused : IsEditError edit (plain old.files) error
@@ -98,12 +98,12 @@ pub record IsBatchRefused (old new : SessionView) (edits : List Asked) (answer :
   pub unchanged : new ≡ old
   pub answer_is : answer ≡ batch_refusal_line n refused.edit error
 
--- the answer to an edit, done or refused, and the session behind it
+-- the answer to an edit, done or refused, and the session after it
 abbrev pub IsEditAnswer : SessionView → Asked → List ℕ → SessionView → Type 0
 IsEditAnswer old edit answer new =
     (IsEditOf edit (plain old.files) (plain new.files) × IsRan old new answer) ⊎ IsRefused old new edit answer
 
--- the answer to several edits at once, done or refused, and the session behind them
+-- the answer to several edits at once, done or refused, and the session after them
 abbrev pub IsBatchAnswer : SessionView → List Asked → List ℕ → SessionView → Type 0
 IsBatchAnswer old edits answer new =
     (IsBatchOf edits (plain old.files) (plain new.files) × IsRan old new answer) ⊎ IsBatchRefused old new edits answer
@@ -113,7 +113,7 @@ pub record IsUnknown (session : SessionView) (label answer : List ℕ) : Type 0 
   pub none : ¬ HasAssertion session label
   pub answer_is : answer ≡ unknown_line
 
--- the answer that tells of the assertion with this label
+-- the answer that reports on the assertion with this label
 abbrev pub IsVerdictAnswer : SessionView → List ℕ → List ℕ → Type 0
 IsVerdictAnswer session label answer =
     (told : Told) × IsVerdictOf session label told × (answer ≡ told_line (names_of (plain session.files)) label told)
@@ -123,7 +123,7 @@ abbrev pub IsFound : SessionView → (List ℕ → Type 0) → List ℕ → Type
 IsFound session are answer =
     (numbers : List ℕ) × are numbers × OfItems session (λ base. answer ≡ numbers_listed (codes "found") base numbers)
 
--- the answer to a command, and the session behind it
+-- the answer to a command, and the session after it
 abbrev pub IsAnswer : SessionView → Command → List ℕ → SessionView → Type 0
 IsAnswer old (Change edit) answer new = IsEditAnswer old edit answer new
 IsAnswer old (Batch edits) answer new = IsBatchAnswer old (map (λ listed. listed.edit) edits) answer new
@@ -133,14 +133,14 @@ IsAnswer old (Axioms label) answer new = (IsUnknown old label answer ⊎ IsFound
 IsAnswer old (Cites label) answer new = (IsUnknown old label answer ⊎ IsFound old (AreCitesOf old label) answer) × (new ≡ old)
 IsAnswer old (Users label) answer new = (IsUnknown old label answer ⊎ IsFound old (AreUsersOf old label) answer) × (new ≡ old)
 
--- the answers to commands, each asked of the session behind the one before it, joined; and the session behind them all
+-- the answers to commands, each asked of the session after the one before it, joined; and the session after them all
 abbrev pub AreAnswers : SessionView → List Command → List ℕ → SessionView → Type 0
 AreAnswers old [] answers new = (answers ≡ []) × (new ≡ old)
 AreAnswers old (command ∷ commands) answers new =
     (one : List ℕ) × (next : SessionView) × (rest : List ℕ)
     × IsAnswer old command one next × AreAnswers next commands rest new × (answers ≡ one ++ rest)
 
--- the answers of a script, the session behind it, and how the script ends
+-- the answers of a script, the session after it, and how the script ends
 pub record IsScriptAnswer (old : SessionView) (script answers : List ℕ) (new : SessionView) (end : End) : Type 0 where
   pub entries : List Entry
   pub rest : List ℕ

@@ -92,7 +92,7 @@ summary counts =
 abbrev pub report : List (List ℕ) → List Item → List Told → List ℕ
 report names items all = lines names items all ++ summary (counts all)
 
--- the bytes are the report of a session: of what is told rightly of each item of its files
+-- the bytes are the report of a session: of what is reported rightly of each item of its files
 pub record IsReport (session : SessionView) (bytes : List ℕ) : Type 0 where
   pub base : BaseView
   pub of_files : IsOfFiles session.files session.top base

@@ -1,4 +1,4 @@
--- The script of a session: lines that each ask one thing of the files, some with a text or with further lines behind them.
+-- The script of a session: lines that each ask one thing of the files, some with a text or with further lines after them.
 use Rattle.std.specs.Prelude.{◌≡◌, ◌≢◌, ◌≤◌, ◌==◌, ◌⊎◌, ℕ, Bool, not, ◌&&◌, IsTrue, Option, Some, None}
 use Rattle.std.specs.Prelude.{List, [], ◌∷◌, ◌++◌, length, codes, decimal, replicate}
 use Rattle.std.specs.List.{AllByRecursion, flat_map, filter_map, list_all, join_with_byte}
@@ -19,7 +19,7 @@ pub data Command : Type 0 where
   Cites : List ℕ → Command
   Users : List ℕ → Command
 
--- the words of the line of an edit; where a text stands behind the line, its last word counts the bytes of the text
+-- the words of the line of an edit; where a text stands after the line, its last word counts the bytes of the text
 abbrev pub edit_words : Asked → List (List ℕ)
 edit_words (Insert file at text) = codes "insert" ∷ file ∷ decimal at ∷ decimal (length text) ∷ []
 edit_words (Replace file at text) = codes "replace" ∷ file ∷ decimal at ∷ decimal (length text) ∷ []
@@ -44,7 +44,7 @@ edit_line edit = join_with_byte 32 (edit_words edit)
 abbrev pub line_of : Command → List ℕ
 line_of command = join_with_byte 32 (command_words command)
 
--- a text, if there is one, and a line feed behind it
+-- a text, if there is one, and a line feed after it
 abbrev pub ended_text : Option (List ℕ) → List ℕ
 ended_text None = []
 ended_text (Some text) = text ++ 10 ∷ []
@@ -57,13 +57,13 @@ edit_bytes edit = edit_line edit ++ 10 ∷ ended_text (edited_text edit)
 abbrev pub listed_bytes : Listed → List ℕ
 listed_bytes listed = replicate listed.blanks 10 ++ edit_bytes listed.edit
 
--- what stands behind the line of a command and its line feed: the text of an edit, or the edits of a batch
+-- what stands after the line of a command and its line feed: the text of an edit, or the edits of a batch
 abbrev pub behind_line : Command → List ℕ
 behind_line (Change edit) = ended_text (edited_text edit)
 behind_line (Batch edits) = flat_map listed_bytes edits
 behind_line _ = []
 
--- the bytes of a command: its line with a line feed, and what stands behind it
+-- the bytes of a command: its line with a line feed, and what stands after it
 abbrev pub command_bytes : Command → List ℕ
 command_bytes command = line_of command ++ 10 ∷ behind_line command
 
@@ -145,7 +145,7 @@ command_of (Given command) = Some command
 abbrev pub commands_of : List Entry → List Command
 commands_of entries = filter_map command_of entries
 
--- the script is these entries without the line feed behind the last of them, which would end a line and not a text
+-- the script is these entries without the line feed after the last of them, which would end a line and not a text
 pub record LacksFeed (script : List ℕ) (entries : List Entry) : Type 0 where
   pub front : List Entry
   pub last : Command
@@ -173,13 +173,13 @@ pub record IsReadSoFar (bytes : List ℕ) (entries : List Entry) (rest : List �
   pub are : AreRead bytes entries rest
   pub longest : (others : List Entry) (left : List ℕ) → AreRead bytes others left → length others ≤ length entries
 
--- of an edit there are no bytes; or its whole line, and a part of what belongs behind it
+-- of an edit there are no bytes; or its whole line, and a part of what belongs after it
 abbrev pub IsNoneOrLine : Asked → List ℕ → Type 0
 IsNoneOrLine edit bytes =
     (bytes ≡ []) ⊎ ((more : List ℕ) × (missing : List ℕ) × (bytes ≡ edit_line edit ++ more) × (more ++ missing ≡ 10 ∷ ended_text (edited_text edit)))
 
--- behind the line of a batch edits are missing: some of them are whole, and of the next there are empty lines alone, or its whole line and a part of what
--- belongs behind it
+-- after the line of a batch edits are missing: some of them are whole, and of the next there are empty lines alone, or its whole line and a part of what
+-- belongs after it
 pub record MissesEdits (edits : List Listed) (part : List ℕ) : Type 0 where
   pub front : List Listed
   pub next : Listed
@@ -190,13 +190,13 @@ pub record MissesEdits (edits : List Listed) (part : List ℕ) : Type 0 where
   pub is : part ≡ 10 ∷ (flat_map listed_bytes front ++ (replicate blanks 10 ++ inner))
   pub none_or_line : IsNoneOrLine next.edit inner
 
--- behind its line and this part of what belongs there, a command may break off: inside a text, or where edits of a batch are missing
+-- after its line and this part of what belongs there, a command may break off: inside a text, or where edits of a batch are missing
 abbrev pub MayBreak : Command → List ℕ → Type 0
 MayBreak (Change edit) part = edited_text edit ≢ None
 MayBreak (Batch edits) part = ((part ≡ []) × (edits ≢ [])) ⊎ MissesEdits edits part
 MayBreak _ part = ⊥
 
--- what is left of a script is cut short: the line of a command, and a part, but not all, of what belongs behind it, where the command may break off
+-- what is left of a script is cut short: the line of a command, and a part, but not all, of what belongs after it, where the command may break off
 pub record IsCutShort (rest : List ℕ) : Type 0 where
   pub command : Command
   pub good : IsGood command

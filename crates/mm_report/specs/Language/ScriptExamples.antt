@@ -4,14 +4,14 @@ use Rattle.mm_keep.specs.mm_store.Language.Edits.{Replace, Delete, Insert, Move}
 use Rattle.mm_report.specs.Language.Script.{Change, Batch, Report, Verdict, Axioms, Users, Blank, Given, Done, CutShort, BadLine}
 use Rattle.mm_report.specs.Language.ScriptLaws.{IsReadSo}
 
--- A text of two lines, and the line feed behind it; the last line may lack its own.
+-- A text of two lines, and the line feed after it; the last line may lack its own.
 abbrev pub ReadsText : Type 0
 ReadsText = IsReadSo (codes "replace d.mm 7 15\n$c a $.\n$c b $.\n\nverdict t\nusers a1\n\naxioms t")
     (Given (Change (Replace (codes "d.mm") 7 (codes "$c a $.\n$c b $."))) ∷ Blank ∷ Given (Verdict (codes "t")) ∷ Given (Users (codes "a1")) ∷ Blank
     ∷ Given (Axioms (codes "t")) ∷ [])
     [] Done
 
--- A batch of two edits with an empty line before the second, and a command behind it.
+-- A batch of two edits with an empty line before the second, and a command after it.
 abbrev pub ReadsBatch : Type 0
 ReadsBatch = IsReadSo (codes "batch 2\ninsert a.mm 5 8\n$c a $.\n\n\nmove a.mm 9 10\nreport\n")
     (Given (Batch (record { blanks = 0; edit = Insert (codes "a.mm") 5 (codes "$c a $.\n") } ∷ record { blanks = 1; edit = Move (codes "a.mm") 9 10 } ∷ []))
@@ -26,11 +26,11 @@ ReadsLastEdit = IsReadSo (codes "batch 1\ndelete a.mm 0") (Given (Batch (record 
 abbrev pub CutsText : Type 0
 CutsText = IsReadSo (codes "insert a.mm 0 9\nabc") [] (codes "insert a.mm 0 9\nabc") CutShort
 
--- Right behind a text, where its line feed is missing, a script is cut short, too; the command before it is read.
+-- Right after a text, where its line feed is missing, a script is cut short, too; the command before it is read.
 abbrev pub CutsFeed : Type 0
 CutsFeed = IsReadSo (codes "report\ninsert a.mm 0 3\nabc") (Given Report ∷ []) (codes "insert a.mm 0 3\nabc") CutShort
 
--- So it is behind the line of an edit whose text has no bytes.
+-- So it is after the line of an edit whose text has no bytes.
 abbrev pub CutsLine : Type 0
 CutsLine = IsReadSo (codes "insert a.mm 0 0") [] (codes "insert a.mm 0 0") CutShort
 
@@ -42,10 +42,10 @@ CutsBatch = IsReadSo (codes "batch 2\ndelete a.mm 0\n\n") [] (codes "batch 2\nde
 abbrev pub EndsInEdit : Type 0
 EndsInEdit = IsReadSo (codes "batch 2\ndelete a.mm 0\ndel") [] (codes "batch 2\ndelete a.mm 0\ndel") BadLine
 
--- A bad line ends a script, and nothing behind it is read.
+-- A bad line ends a script, and nothing after it is read.
 abbrev pub EndsAtLine : Type 0
 EndsAtLine = IsReadSo (codes "verdict th\nbogus\nreport\n") (Given (Verdict (codes "th")) ∷ []) (codes "bogus\nreport\n") BadLine
 
--- So does an edit behind whose text another byte stands than a line feed.
+-- So does an edit after whose text another byte stands than a line feed.
 abbrev pub EndsAtText : Type 0
 EndsAtText = IsReadSo (codes "insert a.mm 0 3\nabcd\n") [] (codes "insert a.mm 0 3\nabcd\n") BadLine

@@ -40,13 +40,13 @@ pub record AreAlike (session other : SessionView) : Type 0 where
   pub top : session.top ≡ other.top
   pub items : HasItems session ↔ HasItems other
 
--- two runs of a script have one list of answers and one end, and the sessions behind them are alike
+-- two runs of a script have one list of answers and one end, and the sessions after them are alike
 pub record IsOneOutcome (answers copies : List ℕ) (end other : End) (new copy : SessionView) : Type 0 where
   pub answers_are : answers ≡ copies
   pub end_is : end ≡ other
   pub sessions : AreAlike new copy
 
--- Asked of sessions that are alike, as each is with itself, a script has one list of answers and one end, and the sessions behind it are alike again.
+-- Asked of sessions that are alike, as each is with itself, a script has one list of answers and one end, and the sessions after it are alike again.
 abbrev pub OneScriptAnswer : Type 0
 OneScriptAnswer = (session other new copy : SessionView) (script answers copies : List ℕ) (end ended : End) → AreAlike session other
     → IsScriptAnswer session script answers new end → IsScriptAnswer other script copies copy ended → IsOneOutcome answers copies end ended new copy
@@ -76,7 +76,7 @@ pub record IsWhole (session : SessionView) : Type 0 where
   pub units : HoldOneEach (plain session.files)
   pub items : HasItems session
 
--- the script has answers and an end, and the session behind it is such a one again
+-- the script has answers and an end, and the session after it is such a one again
 pub record HasAnswers (session : SessionView) (script : List ℕ) : Type 0 where
   pub answers : List ℕ
   pub new : SessionView

@@ -37,7 +37,7 @@ pub record AnswersFirst (old new : SessionView) (unread left before after : Opti
 abbrev pub AreFirst : Option (List ℕ) → List ℕ → List Entry → List ℕ → Type 0
 AreFirst left bytes entries rest = AreRead bytes entries rest ⊎ (IsAtEnd left × HasEntries bytes entries rest)
 
--- of the bytes that were read, the first commands are done, and the session is that behind the last of them; the answers to those before it
+-- of the bytes that were read, the first commands are done, and the session is that after the last of them; the answers to those before it
 -- are written whole, and of its own a beginning, or all of it, and nothing else
 pub record BeginsAnswers (old new : SessionView) (unread left before after : Option (List ℕ)) : Type 0 where
   pub bytes : List ℕ

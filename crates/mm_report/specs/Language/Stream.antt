@@ -22,7 +22,7 @@ pub record Stops {W : Type 0} (contents : W → Option (List ℕ)) (old new : Wr
   pub failed : has_failed new ≡ true
   pub part : AppendsPart (written contents old) (written contents new) bytes
 
--- these bytes are written behind the others; or the answer is an error, and the write of them has failed
+-- these bytes are written after the others; or the answer is an error, and the write of them has failed
 pub record Writes {W T E : Type 0} (contents : W → Option (List ℕ)) (old new : Writing W) (result : Result T E) (bytes : List ℕ) : Type 0 where
   pub ok : OnOk result (Appends (written contents old) (written contents new) bytes)
   pub err : OnErr result (Stops contents old new bytes)

@@ -10,12 +10,12 @@ use Rattle.mm_store.specs.declared.edit.EditError.TheVariants as edits
 use Rattle.mm_store.specs.Language.FilesView.{File, file_number, bytes_of}
 use Rattle.mm_store.specs.Language.Edits.{Asked, edited_name, edited_text, IsPlaced, NamesNoMember, BringsFault, BringsNotOne, BringsOneUnit, after_edit}
 
--- what is told of a text that is not read
+-- what is reported of a text that is not read
 abbrev pub store_error_of : TextError → StoreError
 store_error_of (text_errors.Fault fault) = Text fault
 store_error_of text_errors.Memory = Memory
 
--- why the text of an edit is refused: its fault; or want of memory
+-- why the text of an edit is refused: its fault; or out of memory
 abbrev pub edit_error_of : TextError → EditError
 edit_error_of (text_errors.Fault fault) = edits.Text fault
 edit_error_of text_errors.Memory = edits.Memory
@@ -27,7 +27,7 @@ pub record HasTooMany (files : List File) (text : List ℕ) : Type 0 where
   pub is_cut : IsCut text pieces tail
   pub too_many : 4294967295 < bytes_of files + length (ended text)
 
--- why a text is not added to the files under a name: the name is there; else a fault of the text; else too many bytes; or want of memory,
+-- why a text is not added to the files under a name: the name is there; else a fault of the text; else too many bytes; or out of memory,
 -- for a name that is not there
 abbrev pub IsAddError : List File → List ℕ → List ℕ → StoreError → Type 0
 IsAddError files name text Known = file_number files name ≢ None
@@ -36,21 +36,21 @@ IsAddError files name text TooMany = (file_number files name ≡ None) × HasToo
 IsAddError files name text NoTop = ⊥
 IsAddError files name text Memory = file_number files name ≡ None
 
--- a fault is told at a byte of the text
+-- a fault is reported at a byte of the text
 abbrev pub IsAddErrorIn : List ℕ → StoreError → Type 0
 IsAddErrorIn text (Text fault) = fault.at < length text
 IsAddErrorIn text _ = Unit {0}
 
--- why files have no list of items: they have no top file; or want of memory
+-- why files have no list of items: they have no top file; or out of memory
 abbrev pub IsExpansionError : StoreError → Type 0
 IsExpansionError error = (error ≡ NoTop) ⊎ (error ≡ Memory)
 
--- the edit brings a text; only of such an edit want of memory may be told
+-- the edit brings a text; only such an edit may run out of memory
 abbrev pub TakesMemory : Asked → Type 0
 TakesMemory edit = edited_text edit ≢ None
 
 -- why an edit is refused, the first that holds in this order: no file has its name; its file has only so many pieces, and the edit names another; its text
--- has a fault; its text is not one unit but so many; the files would have more bytes than they may; or want of memory
+-- has a fault; its text is not one unit but so many; the files would have more bytes than they may; or out of memory
 abbrev pub IsEditError : Asked → List File → EditError → Type 0
 IsEditError edit files edits.NoFile = file_number files (edited_name edit) ≡ None
 IsEditError edit files (edits.NoPiece count) = NamesNoMember edit files count

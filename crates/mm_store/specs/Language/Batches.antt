@@ -16,7 +16,7 @@ abbrev pub IsBatchOf : List Asked → List File → List File → Type 0
 IsBatchOf [] files after = after ≡ files
 IsBatchOf (edit ∷ edits) files after = (next : List File) × IsEditOf edit files next × IsBatchOf edits next after
 
--- the edit with this number, from 0, is the first that is refused, on the files that those before it left; want of memory is no such refusal
+-- the edit with this number, from 0, is the first that is refused, on the files that those before it left; running out of memory is no such refusal
 pub record IsRefusedAt (edits : List Asked) (files : List File) (n : ℕ) (error : EditError) : Type 0 where
   pub before : List File
   pub accepted : IsBatchOf (take n edits) files before
@@ -29,7 +29,7 @@ pub record IsRefusedAt (edits : List Asked) (files : List File) (n : ℕ) (error
 abbrev pub StartsPlaced : List Asked → List File → Type 0
 StartsPlaced edits files = (edit : Asked) × (number : ℕ) × (file : File) × (slice_get edits 0 ≡ Some edit) × IsPlaced files edit number file
 
--- why edits are not done: one is refused; or want of memory, once file and member of the first are known
+-- why edits are not done: one is refused; or out of memory, once file and member of the first are known
 abbrev pub IsBatchError : List Asked → List File → BatchError → Type 0
 IsBatchError edits files (batch.Edit n error) = IsRefusedAt edits files n error
 IsBatchError edits files batch.Memory = StartsPlaced edits files

@@ -36,7 +36,7 @@ edited_text (Replace file at text) = Some text
 edited_text (Delete file at) = None
 edited_text (Move file at to) = None
 
--- a file of so many members has those that the edit names; an insertion may name the place behind the last
+-- a file of so many members has those that the edit names; an insertion may name the place after the last
 abbrev pub IsAmong : Asked → ℕ → Type 0
 IsAmong (Insert file at text) count = at ≤ count
 IsAmong (Replace file at text) count = at < count

@@ -63,7 +63,7 @@ pub record IsByte (files : FilesView) (number piece at : ℕ) (text : List ℕ) 
   pub within : at ≤ length bytes
   pub is_offset : offset ≡ piece_offset file piece + at
 
--- a file of this name stands behind the others, its pieces and its tail being the cut of the text
+-- a file of this name stands after the others, its pieces and its tail being the cut of the text
 pub record IsAdded (old new : List File) (name text : List ℕ) : Type 0 where
   pub file : File
   pub last : new ≡ old ++ file ∷ []

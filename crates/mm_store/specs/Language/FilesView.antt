@@ -1,4 +1,4 @@
--- What a contract sees of the files: each with its name, the keys of its pieces in order and what is behind them; and the pieces, under
+-- What a contract sees of the files: each with its name, the keys of its pieces in order and what is after them; and the pieces, under
 -- their keys. Two readings of it are what other definitions go by: with keys and texts, and without keys, which is what the files mean.
 use Rattle.std.specs.Prelude.{ℕ, ◌+◌, List, [], ◌∷◌, ◌++◌, Option, Some, None, length, map, position, slice_get}
 use Rattle.std.specs.List.{concat}

@@ -11,8 +11,8 @@ pub record LevelView : Type 0 where
   pub file : ℕ
   pub piece : ℕ
 
--- a walk: the names taken so far, the files that it has entered and not left, the innermost behind the others, and whether the reference that it
--- stands before was told as missing
+-- a walk: the names taken so far, the files that it has entered and not left, the innermost after the others, and whether the reference that it
+-- stands before was reported as missing
 pub record WalkView : Type 0 where
   pub names : List (List ℕ)
   pub levels : List LevelView
@@ -42,7 +42,7 @@ pub data Goes (files : List FileView) : List Placed → List (List ℕ) → List
   missing : {part : Placed} {parts rest : List Placed} {names after : List (List ℕ)} {items : List Item}
       → IsInclusion part → ¬ Contains names part.name → number_of files part.name ≡ None → Goes files parts (names ++ part.name ∷ []) items rest after
       → Goes files (part ∷ parts) names (placed_item part ∷ items) rest after
-  -- the parts of an included file come before those behind the inclusion
+  -- the parts of an included file come before those after the inclusion
   included : {part : Placed} {parts rest : List Placed} {names after : List (List ℕ)} {items : List Item} {number : ℕ} {file : FileView} (inner : List Placed)
       → IsInclusion part → ¬ Contains names part.name → number_of files part.name ≡ Some number → slice_get files number ≡ Some file
       → ArePlaced number 0 file.pieces inner → Goes files (inner ++ parts) (names ++ part.name ∷ []) items rest after
@@ -71,7 +71,7 @@ pub record StandsBefore (files : List FileView) (walk : WalkView) (part : Placed
 abbrev pub MissNothing : List Item → Type 0
 MissNothing items = All (λ item. item.kind ≢ Missing) items
 
--- of items that a walk goes past none is a reference to a missing file, but for the one that the walk stood before and has told
+-- of items that a walk goes past none is a reference to a missing file, but for the one that the walk stood before and has reported
 abbrev pub MissOnlyTold : List FileView → WalkView → List Item → Type 0
 MissOnlyTold files walk items =
     MissNothing items
@@ -83,7 +83,7 @@ pub record GoesOn (files : List FileView) (top : List ℕ) (items : List Item) (
   pub is_walk : IsWalk files top (items ++ more) new
   pub few : MissOnlyTold files old more
 
--- the walk goes on to the first reference to a missing file that it has not told, and stands before it: it has this name
+-- the walk goes on to the first reference to a missing file that it has not reported, and stands before it: it has this name
 pub record FindsMissing (files : List FileView) (top : List ℕ) (items : List Item) (old new : WalkView) (name : List ℕ) : Type 0 where
   pub goes_on : GoesOn files top items old new
   pub part : Placed

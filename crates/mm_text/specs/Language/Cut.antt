@@ -30,7 +30,7 @@ IsOne Nothing = ⊥
 IsOne (Simple shape later) = later ≡ Nothing
 IsOne (Block begin inner end later) = later ≡ Nothing
 
--- the byte behind the last of these words; 0 where there are none
+-- the byte after the last of these words; 0 where there are none
 abbrev pub end_of_words : List Word → ℕ
 end_of_words [] = 0
 end_of_words (word ∷ []) = word.end
@@ -46,7 +46,7 @@ pub record HoldsOne (text : List ℕ) : Type 0 where
   pub one : IsOne units
   pub ends : ends_white text ≡ true
 
--- a piece: its words are one unit, and behind the last of them stands nothing but white space, one byte of it at least
+-- a piece: its words are one unit, and after the last of them stands nothing but white space, one byte of it at least
 pub record IsPiece (piece : List ℕ) : Type 0 where
   pub words : List Word
   pub units : Units
@@ -62,7 +62,7 @@ abbrev pub BeginsSolid : List ℕ → Type 0
 BeginsSolid [] = Unit {0}
 BeginsSolid (b ∷ bytes) = is_white b ≡ false
 
--- pieces, and behind them a tail without a word. All white space behind a unit belongs to its piece, so what comes next begins with none
+-- pieces, and after them a tail without a word. All white space after a unit belongs to its piece, so what comes next begins with none
 abbrev pub ArePieces : List (List ℕ) → List ℕ → Type 0
 ArePieces [] tail = HasWords tail []
 ArePieces (piece ∷ pieces) tail = IsPiece piece × BeginsSolid (concat pieces ++ tail) × ArePieces pieces tail
@@ -82,7 +82,7 @@ pub record EndsInComment (runs : List Run) (found : List Word) : Type 0 where
   pub opened : first.bytes ≡ opening
   pub no_marks : HoldNoMarks inside
 
--- what the runs are read as so far: as these words, or as these words and a comment behind them that is still open
+-- what the runs are read as so far: as these words, or as these words and a comment after them that is still open
 abbrev pub HoldWords : List Run → List Word → Type 0
 HoldWords runs found = AreWords runs found ⊎ EndsInComment runs found
 

@@ -17,7 +17,7 @@ plain start end = record { kind = kinds.Plain; start = start; end = end }
 abbrev pub keyword : Keyword → ℕ → Word
 keyword kind start = record { kind = kinds.Keyword kind; start = start; end = start + 2 }
 
--- A comment, and behind it a statement of five words. The comment gives none. The label `wp` is the bytes 13 and 14, and so on.
+-- A comment, and after it a statement of five words. The comment gives none. The label `wp` is the bytes 13 and 14, and so on.
 abbrev pub HasFiveWords : Type 0
 HasFiveWords = HasWords (codes "$( a type $)\nwp $f wff p $.\n") (plain 13 15 ∷ keyword Floating 16 ∷ plain 19 22 ∷ plain 23 24 ∷ keyword StatementEnd 25 ∷ [])
 
@@ -30,7 +30,7 @@ abbrev pub MissesEnd : Type 0
 MissesEnd = IsFirstFault (codes "$c a $c b $.") (record { number = T06; at = 5 })
 
 -- A text of two statements and three comments is cut into two pieces and a tail. The comment before a statement belongs to its piece, and so does
--- the white space behind it; the last comment is the tail, to which a line feed is added.
+-- the white space after it; the last comment is the tail, to which a line feed is added.
 abbrev pub IsCutInTwo : Type 0
 IsCutInTwo = IsCut (codes "$c $( the type $) wff $. $( typed $)\nwp $f wff p $.\n$( end $)")
     (codes "$c $( the type $) wff $. " ∷ codes "$( typed $)\nwp $f wff p $.\n" ∷ []) (codes "$( end $)\n")

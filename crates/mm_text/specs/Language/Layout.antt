@@ -7,7 +7,7 @@ use Rattle.mm_text.specs.Language.Run.{Run, is_white, ends_run}
 abbrev pub IsGap : List ℕ → Type 0
 IsGap bytes = AllByRecursion (λ b. is_white b ≡ true) bytes
 
--- bytes from a place on begin with white space, or none, and then this run, behind which white space or the end comes
+-- bytes from a place on begin with white space, or none, and then this run, after which white space or the end comes
 pub record BeginsWith (at : ℕ) (bytes : List ℕ) (run : Run) (Later : List ℕ → Type 0) : Type 0 where
   pub gap : List ℕ
   pub later : List ℕ

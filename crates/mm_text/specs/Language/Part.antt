@@ -20,7 +20,7 @@ pub record HasUnits (text : List ℕ) (units : Units) : Type 0 where
   pub are_units : AreUnits true units
   pub spells : unit_tokens units ≡ tokens_of text words
 
--- the byte behind a word
+-- the byte after a word
 abbrev pub token_end : Token → ℕ
 token_end token = token.start + length token.bytes
 

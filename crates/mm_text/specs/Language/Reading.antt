@@ -72,7 +72,7 @@ HaveReading runs = (parts : List Segment) × IsReading runs parts
 abbrev pub AreViableRuns : List Run → Type 0
 AreViableRuns runs = (more : List Run) × HaveReading (runs ++ more)
 
--- the runs end inside a comment that begins with this run: what stands before it has a reading, and no mark stands behind it
+-- the runs end inside a comment that begins with this run: what stands before it has a reading, and no mark stands after it
 pub record IsOpen (runs : List Run) (first : Run) : Type 0 where
   pub front : List Run
   pub inside : List Run
@@ -81,7 +81,7 @@ pub record IsOpen (runs : List Run) (first : Run) : Type 0 where
   pub opened : first.bytes ≡ opening
   pub no_marks : HoldNoMarks inside
 
--- why no reading goes on with a run behind these: T03, it holds a mark inside a comment, but is no `$)`; T04, it is a `$)`, and no comment is open; T05, it
+-- why no reading goes on with a run after these: T03, it holds a mark inside a comment, but is no `$)`; T04, it is a `$)`, and no comment is open; T05, it
 -- holds a `$`, and is no keyword
 abbrev pub IsRunNumber : TextNumber → List Run → Run → Type 0
 IsRunNumber T03 front run = (first : Run) × IsOpen front first × HoldsMark run.bytes × (run.bytes ≢ closing)
@@ -143,7 +143,7 @@ pub record AreWithin (text : List ℕ) (words : List Word) : Type 0 where
   pub each : All (LiesIn text) words
   pub rising : AllPairs (λ earlier later. earlier.end < later.start) words
 
--- the fault is told at a byte of the text
+-- the fault is reported at a byte of the text
 abbrev pub IsTextErrorIn : List ℕ → TextError → Type 0
 IsTextErrorIn text (errors.Fault fault) = fault.at < length text
 IsTextErrorIn text errors.Memory = Unit {0}

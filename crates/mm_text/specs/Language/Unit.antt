@@ -73,7 +73,7 @@ IsShape outside (Provable label keyword symbols proof steps end) =
 IsShape outside (Inclusion begin name end) =
     IsTrue outside × IsKeyword InclusionStart begin × IsPlain name × IsKeyword InclusionEnd end
 
--- a sequence of units: none; or a statement or an inclusion, and the units behind it; or a block with units inside, and the units behind it
+-- a sequence of units: none; or a statement or an inclusion, and the units after it; or a block with units inside, and the units after it
 pub data Units : Type 0 where
   Nothing : Units
   Simple : Shape → Units → Units
@@ -103,7 +103,7 @@ IsViable tokens = (more : List Token) × IsWhole (tokens ++ more)
 abbrev pub a_block : Token
 a_block = record { kind = kinds.Keyword BlockStart; bytes = []; start = 0 }
 
--- behind these words a unit may begin: the words, and a `${` behind them, may still become whole units
+-- after these words a unit may begin: the words, and a `${` after them, may still become whole units
 abbrev pub MayBegin : List Token → Type 0
 MayBegin front = IsViable (front ++ a_block ∷ [])
 
@@ -111,7 +111,7 @@ MayBegin front = IsViable (front ++ a_block ∷ [])
 abbrev pub EndsInInclusion : List Token → Type 0
 EndsInInclusion front = (before : List Token) × (begin : Token) × (front ≡ before ++ begin ∷ []) × IsKeyword InclusionStart begin
 
--- why no units go on with a word behind these: T12, a keyword right behind `$[`; T10, a `$[` where no inclusion may stand; T09, a `$}` between units with no
+-- why no units go on with a word after these: T12, a keyword right after `$[`; T10, a `$[` where no inclusion may stand; T09, a `$}` between units with no
 -- block open; T11, a plain word between units that cannot be a label; T06, any other word
 abbrev pub IsUnitNumber : TextNumber → List Token → Token → Type 0
 IsUnitNumber T12 front token = EndsInInclusion front × ¬ IsPlain token
@@ -130,14 +130,14 @@ pub record StopsAtWord (tokens : List Token) (number : TextNumber) (word : ℕ) 
   pub stops : ¬ IsViable (take (word + 1) tokens)
   pub is_number : IsUnitNumber number (take word tokens) token
 
--- the words end inside a statement or an inclusion that begins with this one: a unit may begin there, and nowhere behind it
+-- the words end inside a statement or an inclusion that begins with this one: a unit may begin there, and nowhere after it
 pub record EndsInUnit (tokens : List Token) (word : ℕ) : Type 0 where
   pub within : word < length tokens
   pub viable : IsViable tokens
   pub begins : MayBegin (take word tokens)
   pub unfinished : (n : ℕ) → word < n → n ≤ length tokens → ¬ MayBegin (take n tokens)
 
--- the words end inside a block whose `${` is this word: behind it stand whole units, and no `$}` of its own
+-- the words end inside a block whose `${` is this word: after it stand whole units, and no `$}` of its own
 pub record EndsInBlock (tokens : List Token) (word : ℕ) : Type 0 where
   pub begin : Token
   pub inner : Units

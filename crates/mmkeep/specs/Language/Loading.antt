@@ -48,7 +48,7 @@ pub data KnownFile : Type 0 where
   NoFile : KnownFile
   Bytes : List ℕ → KnownFile
 
--- an answer to the opening of a name agrees with what is known of it; a file that is there is not opened only for want of memory
+-- an answer to the opening of a name agrees with what is known of it; a file that is there is not opened only because memory has run out
 abbrev pub Opens : {F E : Type 0} → (F → Option (List ℕ)) → (E → Type 0) → KnownFile → Result F E → Type 0
 Opens remaining Lacks Unknown result = ⊤
 Opens remaining Lacks NoFile (Ok file) = ⊥
