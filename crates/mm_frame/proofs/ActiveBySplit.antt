@@ -2,7 +2,7 @@
 use Rattle.std.proofs.Common.{◌≡◌, ℕ, zero, suc, ◌≤◌, Bool, true, false, cond, List, [], ◌∷◌, ◌++◌, refl, sym, ◌∙◌, ap, subst, append_assoc, arith, inl, inr}
 use Rattle.std.proofs.lemmas.Bool.{false≢true}
 use Rattle.mm_frame.specs.Language.Item.{Item}
-use Rattle.mm_frame.specs.Language.Scope.{Mark, Opens, Closes, Neither, mark_of, closed_at, closed, is_zero, stays, active}
+use Rattle.mm_frame.specs.Language.Scope.{Mark, Opens, Neither, mark_of, closed_at, closed, is_zero, stays, active}
 use Rattle.mm_frame.proofs.Members.{In, in_right}
 
 is_none : (n : ℕ) → is_zero n ≡ true → n ≡ 0
@@ -18,11 +18,9 @@ closed_join [] ys h = h
 closed_join (x ∷ xs) ys h = ap (closed_at (mark_of x.kind)) (closed_join xs ys h)
 
 pub closed_more : (m : Mark) (c d : ℕ) → c ≤ d → closed_at m c ≤ closed_at m d
-closed_more Opens zero d l = omega arith
 closed_more Opens (suc c) zero l = absurd (omega arith)
-closed_more Opens (suc c) (suc d) l = omega arith
-closed_more Closes c d l = omega arith
 closed_more Neither c d l = l
+closed_more _ _ _ l = omega arith
 
 closed_front : (xs ys : List Item) → closed xs ≤ closed (xs ++ ys)
 closed_front [] ys = omega arith

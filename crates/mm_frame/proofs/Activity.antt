@@ -3,7 +3,7 @@ use Rattle.std.proofs.Common.{◌≡◌, ℕ, zero, suc, ◌+◌, ◌-◌, ◌�
 use native.Mathlib.Decide.{dec_lt}
 use Rattle.std.proofs.lemmas.List.Sums.{sum_by-cons, sum_by-append}
 use Rattle.mm_frame.specs.Language.Item.{Item}
-use Rattle.mm_frame.specs.Language.Scope.{Mark, Opens, Closes, Neither, mark_of, stays, opens, closes, is_start, is_end}
+use Rattle.mm_frame.specs.Language.Scope.{Mark, Closes, Neither, mark_of, stays, opens, closes, is_start, is_end}
 use Rattle.mm_frame.specs.Language.Numbered.{IsEven, IsEndOf, HoldsItem, IsActive, between}
 use Rattle.mm_frame.proofs.Stack.{stays_by_counts}
 use Rattle.mm_frame.proofs.Heights.{IsHeight, EndsAt, Around, from_height, to_height}
@@ -99,9 +99,8 @@ flat_at items i x e m =
     omega arith
 
 start_end : (m : Mark) → opens m ≡ true → closes m ≡ false
-start_end Opens e = refl
 start_end Closes e = absurd (Rattle.std.proofs.lemmas.Bool.false≢true e)
-start_end Neither e = refl
+start_end _ e = refl
 
 rises_at : (items : List Item) → stays items ≡ true → (b : ℕ) (s : Item) → slice_get items b ≡ Some s → is_start s ≡ true → height items (suc b) ≡ suc (height items b)
 rises_at items h b s e t =
@@ -168,7 +167,7 @@ active_by_blocks items i j x y h ei ej mx my l = (to_active, from_active)
         start = d.start;
         there = d.there;
         starts = d.starts;
-        behind = (let a = d.behind in omega arith);
+        behind = (omega arith);
         before_end = λ e f. from_height (height items) (is_height items h) i j b e (stay_heights items h i j s) (let w = flat_at items j y ej my in omega arith) (to_ends items h b e f) (rises_at items h b d.start d.there d.starts) d.behind (d.before_end e f);
       };
     }

@@ -101,10 +101,9 @@ expressions_told all base expressions are = record {
 row_there : {X : Type 0} (tells : List Item → Item → X → Type 0) (said : List Item) (rows : List X) (i : ℕ) → AreRows tells said rows → is_labelled (item_at said i).kind ≡ true → (row : X) × (slice_get rows i ≡ Some row)
 row_there tells said rows i are t =
     let within = slice_get_within said i (item_at said i) (labelled_there said i t) in
-    let count = are.count in
     elim (slice_get_cases rows i).1 [
       | inl there ↦ (there.0, there.2)
-      | inr past ↦ (let p = past.0 in absurd (omega arith))
+      | inr past ↦ (absurd (omega arith))
     ]
 
 -- the expression of an item that is shown
@@ -168,10 +167,9 @@ shared_told all lists base i j (Some k) (Some l) a b s e =
 -- past the last item none is a `$f`
 pub float_none : (found : List store.Item) (said : List Item) (i : ℕ) → AllZip HasKind found said → slice_get (map is_float_item found) i ≡ None → false ≡ is_floating (item_at said i).kind
 float_none [] [] i z e = refl
-float_none [] (y ∷ said) i z e = absurd z
-float_none (x ∷ found) [] i z e = absurd z
 float_none (x ∷ found) (y ∷ said) zero z e = cc
 float_none (x ∷ found) (y ∷ said) (suc i) z e = float_none found said i z.1 e
+float_none _ _ i z e = absurd z
 
 -- ---- the item that carries a label
 

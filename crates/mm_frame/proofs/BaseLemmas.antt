@@ -50,9 +50,9 @@ item_beyond (x ∷ xs) (suc n) l = item_beyond xs n (omega arith)
 -- one more item, with its row
 pub rows_more : {X : Type 0} (tells : List Item → Item → X → Type 0) (said : List Item) (item : Item) (rows : List X) (row : X) → AreRows tells said rows → tells (sound_items said) item row → AreRows tells (said ++ item ∷ []) (rows ++ row ∷ [])
 rows_more {X} tells said item rows row a t = record {
-  count = (let c = a.count in let p = length_push rows row in let q = length_push said item in omega arith);
+  count = (let p = length_push rows row in let q = length_push said item in omega arith);
   each = λ n x e. elim (get_cases rows row x n e) [
-    | inl there ↦ (let c = a.count in let w = slice_get_within rows n x there in earlier n x (omega arith) (a.each n x there))
+    | inl there ↦ (let w = slice_get_within rows n x there in earlier n x (omega arith) (a.each n x there))
     | inr last ↦ (let z : n ≡ length said = last.0 ∙ a.count in subst (λ k. tells (sound_items (take k (said ++ item ∷ []))) (item_at (said ++ item ∷ []) k) x) (sym z) (newest x last.1))
   ];
 }
@@ -91,13 +91,12 @@ fault_beyond before said n l = ap (told_fault before) (item_beyond said n l) ∙
 pub zip_more : {A B : Type 0} (R : A → B → Type 0) (xs : List A) (ys : List B) (i : ℕ) (d : A) (y : B) → i < length xs → AllZip R (take i xs) ys → R (get_or xs i d) y → AllZip R (take (suc i) xs) (ys ++ y ∷ [])
 zip_more R [] ys i d y l z r = absurd (omega arith)
 zip_more R (x ∷ xs) [] zero d y l z r = (r, tt)
-zip_more R (x ∷ xs) (w ∷ ys) zero d y l z r = absurd z
-zip_more R (x ∷ xs) [] (suc i) d y l z r = absurd z
 zip_more R (x ∷ xs) (w ∷ ys) (suc i) d y l z r = (z.0, zip_more R xs ys i d y (omega arith) z.1 r)
+zip_more R (x ∷ xs) _ _ d y l z r = absurd z
 
 -- where there is no row there is no item
 pub row_none : {X : Type 0} (tells : List Item → Item → X → Type 0) (said : List Item) (rows : List X) (n : ℕ) → AreRows tells said rows → slice_get rows n ≡ None → length said ≤ n
-row_none tells said rows n a e = let c = a.count in let w = none_beyond rows n e in omega arith
+row_none tells said rows n a e = let w = none_beyond rows n e in omega arith
   where
     none_beyond : {Y : Type 0} (ys : List Y) (k : ℕ) → slice_get ys k ≡ None → length ys ≤ k
     none_beyond ys k e = elim (slice_get_cases ys k).1 [
@@ -113,10 +112,10 @@ none_found found false e = ap not e
 pub symbols_more : (all : List (List ℕ)) (before : List Item) (item : Item) (expressions : List (List NumberedSymbol)) (symbols : List NumberedSymbol) → AreSymbols all before expressions → All (IsNumbered all) symbols
     → (is_read item.kind ≡ true → symbols_of all symbols ≡ expression before item) → AreSymbols all (before ++ item ∷ []) (expressions ++ symbols ∷ [])
 symbols_more all before item expressions symbols a numbers new = record {
-  count = (let c = a.count in let p = length_push expressions symbols in let q = length_push before item in omega arith);
+  count = (let p = length_push expressions symbols in let q = length_push before item in omega arith);
   numbered = λ n. by_place n (slice_get (expressions ++ symbols ∷ []) n) refl;
   each = λ n x e t. elim (get_cases before item x n e) [
-    | inl there ↦ (let c = a.count in let w = slice_get_within before n x there in
+    | inl there ↦ (let w = slice_get_within before n x there in
         ap (λ o. symbols_of all (kept_or_none o)) (get_before expressions symbols n (omega arith)) ∙ a.each n x there t ∙ ap (λ (w : List Item). expression w x) (sym (take-append-le n before (item ∷ []) (omega arith))))
     | inr last ↦ (let z = last.0 in
         ap (λ k. symbols_of all (expression_kept (expressions ++ symbols ∷ []) k)) (z ∙ sym a.count) ∙ ap (λ o. symbols_of all (kept_or_none o)) (get_last expressions symbols (length expressions) refl)
@@ -312,9 +311,9 @@ same_frame_kept frame kept e = cc
 -- one more name with its number
 numbers_push : (all : List (List ℕ)) (numbers : List ℕ) (names : List (List ℕ)) (number : ℕ) (name : List ℕ) → AreNameNumbers all numbers names → IsNameNumber all number name → AreNameNumbers all (numbers ++ number ∷ []) (names ++ name ∷ [])
 numbers_push all numbers names number name a there = record {
-  count = (let c = a.count in let p = length_push numbers number in let q = length_push names name in omega arith);
+  count = (let p = length_push numbers number in let q = length_push names name in omega arith);
   each = λ i n e. elim (get_cases numbers number n i e) [
-    | inl old ↦ (let c = a.count in let w = slice_get_within numbers i n old in subst (IsNameNumber all n) (sym (get_or-append names (name ∷ []) [] i (omega arith))) (a.each i n old))
+    | inl old ↦ (let w = slice_get_within numbers i n old in subst (IsNameNumber all n) (sym (get_or-append names (name ∷ []) [] i (omega arith))) (a.each i n old))
     | inr last ↦ (let here = get_or_push names name [] i (sym (last.0 ∙ a.count)) in subst (λ k. IsNameNumber all k (get_or (names ++ name ∷ []) i [])) last.1 (subst (IsNameNumber all number) (sym here) there))
   ];
 }

@@ -30,15 +30,14 @@ get_front (z ∷ xs) y x (suc n) e = get_front xs y x n e
 
 pub get_last : {X : Type 0} (xs : List X) (y : X) (n : ℕ) → n ≡ length xs → slice_get (xs ++ y ∷ []) n ≡ Some y
 get_last [] y zero e = refl
-get_last [] y (suc n) e = absurd (omega arith)
-get_last (z ∷ xs) y zero e = absurd (omega arith)
 get_last (z ∷ xs) y (suc n) e = get_last xs y n (omega arith)
+get_last _ y _ e = absurd (omega arith)
 
 pub get_cases : {X : Type 0} (xs : List X) (y x : X) (n : ℕ) → slice_get (xs ++ y ∷ []) n ≡ Some x → (slice_get xs n ≡ Some x) ⊎ ((n ≡ length xs) × (y ≡ x))
 get_cases [] y x zero e = inr (refl, same_Some y x e)
 get_cases [] y x (suc n) e = cc
 get_cases (z ∷ xs) y x zero e = inl e
-get_cases (z ∷ xs) y x (suc n) e = elim (get_cases xs y x n e) [ inl h ↦ inl h | inr h ↦ inr ((let q = h.0 in omega arith), h.1) ]
+get_cases (z ∷ xs) y x (suc n) e = elim (get_cases xs y x n e) [ inl h ↦ inl h | inr h ↦ inr ((omega arith), h.1) ]
 
 -- what holds of each element, and of one more
 each_more : {X : Type 0} (P : ℕ → X → Type 0) (xs : List X) (y : X) → ((n : ℕ) (x : X) → slice_get xs n ≡ Some x → P n x) → P (length xs) y → (n : ℕ) (x : X) → slice_get (xs ++ y ∷ []) n ≡ Some x → P n x
@@ -127,12 +126,11 @@ active_open marks from at d h =
 active_ended : (marks : List Mark) (from at end : ℕ) → from < at → StandsEnded (drop (suc from) marks) from end → stays_by (slice_range marks (from + 1) at) ≡ leb at end
 active_ended marks from at end l s =
     let q : suc from ≡ from + 1 = omega arith in
-    let e = s.number in
     subst (λ n. stays_by (take (at - n) (drop n marks)) ≡ leb at end) q (subst (λ w. stays_by (take (at - suc from) w) ≡ leb at end) (sym s.parts) (by_order (dec_lt end at)))
   where
     by_order : Dec (end < at) → stays_by (take (at - suc from) (s.front ++ Closes ∷ s.rest)) ≡ leb at end
-    by_order (yes a) = (let e = s.number in stays_not s.front s.rest (at - suc end) (at - suc from) s.leaves (omega arith) ∙ sym (lt-leb at end a))
-    by_order (no a) = (let e = s.number in stays_before s.front s.rest (at - suc from) s.leaves (omega arith) ∙ sym (le-leb at end (omega arith)))
+    by_order (yes a) = (stays_not s.front s.rest (at - suc end) (at - suc from) s.leaves (omega arith) ∙ sym (lt-leb at end a))
+    by_order (no a) = (stays_before s.front s.rest (at - suc from) s.leaves (omega arith) ∙ sym (le-leb at end (omega arith)))
 
 -- an entry more among the ends
 entered : (blocks : List ℕ) (ends more : List (Option ℕ)) (outer : List ℕ) (current : ℕ) (marks : List Mark) → ((block : ℕ) → end_of_block more block ≡ end_of_block ends block) → length ends ≤ length more → AreBlocks blocks ends outer current marks → AreBlocks blocks more outer current marks
@@ -141,7 +139,7 @@ entered blocks ends more outer current marks h l k = record {
   unended = λ level block there. h block ∙ k.unended level block there;
   distinct = k.distinct;
   numbered = λ level block there. (let a = k.numbered level block there in omega arith);
-  newest = (let a = k.newest in omega arith);
+  newest = (omega arith);
   last = k.last;
 }
 
@@ -338,7 +336,7 @@ module _ (blocks : List ℕ) (ends : List (Option ℕ)) (outer rest : List ℕ) 
       let n = length-set ends current (Some (length blocks)) in
       elim p [
         | inl e ↦ (let a = k.numbered (length rest) next (subst (λ w. slice_get w (length rest) ≡ Some next) (sym e) (get_last rest next (length rest) refl)) in omega arith)
-        | inr e ↦ (let a = e.2 in omega arith)
+        | inr e ↦ (omega arith)
       ]
 
   -- the block of an earlier item ended, or ends now, or is open
@@ -354,7 +352,6 @@ module _ (blocks : List ℕ) (ends : List (Option ℕ)) (outer rest : List ℕ) 
           let put = stays_put outer rest next (length ends) s.level block p h in
           let within = slice_get_within outer s.level block h in
           let long = length_push outer current in
-          let same = put.1 in
           subst (λ o. Stands (rest ++ next ∷ []) (drop (suc item) marks ++ Closes ∷ []) block item o) (sym (outer_open s.level block h)) (record {
             level = s.level;
             there = put.0;
@@ -362,7 +359,6 @@ module _ (blocks : List ℕ) (ends : List (Option ℕ)) (outer rest : List ℕ) 
           })
       by_cases (inr h) =
           let long = length_push outer current in
-          let at = h.0 in
           let q : length (outer ++ current ∷ []) - suc s.level ≡ 0 = omega arith in
           let behind = length-drop (suc item) marks in
           subst (λ o. Stands (rest ++ next ∷ []) (drop (suc item) marks ++ Closes ∷ []) block item o) (sym (ap (λ b. end_of_block (closing ends current (length blocks)) b) (sym (h.1)) ∙ end_of_closed ends current (length blocks) l)) (record {

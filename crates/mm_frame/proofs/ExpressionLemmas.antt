@@ -11,7 +11,7 @@ cut_length symbols from (end ∷ ends) = ap suc (cut_length symbols end ends)
 -- no part starts or ends behind the last end
 ends_within : (from : ℕ) (ends : List ℕ) (last : ℕ) → EndsFrom from ends last → from ≤ last
 ends_within from [] last e = omega arith
-ends_within from (end ∷ ends) last e = let r = ends_within end ends last e.1 in let l = e.0 in omega arith
+ends_within from (end ∷ ends) last e = let r = ends_within end ends last e.1 in omega arith
 
 pub part_within : (from : ℕ) (ends : List ℕ) (last n : ℕ) → EndsFrom from ends last → n < length ends → (start_at from ends n ≤ get_or ends n 0) × (get_or ends n 0 ≤ last)
 part_within from [] last n e l = absurd (omega arith)
@@ -34,14 +34,12 @@ range_front symbols more from end l m =
 
 range_back : {X : Type 0} (symbols more : List X) (from end : ℕ) → from ≡ length symbols → end ≡ length symbols + length more → slice_range (symbols ++ more) from end ≡ more
 range_back symbols more from end e m =
-    let z : from ≡ length symbols + 0 = omega arith in
     ap (take (end - from)) (drop_behind symbols more from e) ∙ take_all (end - from) more (omega arith)
   where
     drop_behind : {X : Type 0} (xs ys : List X) (n : ℕ) → n ≡ length xs → drop n (xs ++ ys) ≡ ys
     drop_behind [] ys zero e = refl
-    drop_behind [] ys (suc n) e = absurd (omega arith)
-    drop_behind (x ∷ xs) ys zero e = absurd (omega arith)
     drop_behind (x ∷ xs) ys (suc n) e = drop_behind xs ys n (omega arith)
+    drop_behind _ ys _ e = absurd (omega arith)
 
 pub cut_more : {X : Type 0} (symbols more : List X) (from : ℕ) (ends : List ℕ) (end : ℕ) → EndsFrom from ends (length symbols) → end ≡ length symbols + length more
     → cut_from (symbols ++ more) from (ends ++ end ∷ []) ≡ cut_from symbols from ends ++ more ∷ []

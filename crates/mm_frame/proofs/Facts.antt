@@ -1,6 +1,6 @@
 -- What soundness gives.
 use Rattle.std.proofs.Common.{◌≡◌, ℕ, suc, ◌+◌, ◌-◌, ◌≤◌, Bool, true, false, not, ◌&&◌, ltb, leb, ◌==◌, Some, List, [], ◌∷◌, ◌++◌, length, slice_get, refl, sym, ◌∙◌, subst, append_assoc, append-nil, arith, inl, inr, ◌⊎◌}
-use Rattle.std.proofs.lemmas.Bool.{false≢true, or_parts, or_cases, or_left, or_right, le-leb, lt-ltb}
+use Rattle.std.proofs.lemmas.Bool.{false≢true, or_parts, or_cases, le-leb, lt-ltb}
 use Rattle.mm_frame.specs.Language.Item.{Kind, Constants, Floating, Item, is_constants, is_variables, is_floating, is_expression, is_labelled, has}
 use Rattle.mm_frame.specs.Language.Scope.{active, symbols_by, constants, variables, active_variables, typed}
 use Rattle.mm_frame.specs.declared.FrameNumber.TheVariants.{F01, F04, F08, F09, F10, F11, F12}
@@ -136,10 +136,9 @@ float_kind Floating n e = refl
 float_kind _ n e = absurd (false≢true e)
 
 two_of : (symbols : List (List ℕ)) → ltb (length symbols) 2 ≡ false → ((name : List ℕ) → slice_get symbols 2 ≡ Some name → ⊥) → (a : List ℕ) × (b : List ℕ) × (symbols ≡ a ∷ b ∷ [])
-two_of [] l h = absurd (false≢true (sym l))
-two_of (a ∷ []) l h = absurd (false≢true (sym l))
 two_of (a ∷ b ∷ []) l h = (a, b, refl)
 two_of (a ∷ b ∷ c ∷ more) l h = absurd (h c refl)
+two_of _ l h = absurd (false≢true (sym l))
 
 eqb_self : (n : ℕ) → (n == n) ≡ true
 eqb_self n = Rattle.std.proofs.lemmas.Bool.eq-eqb n n refl

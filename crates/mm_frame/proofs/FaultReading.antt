@@ -118,16 +118,12 @@ symbol_number kind before item n name = symbol_fault_of kind before item n name
 
 symbol_of : (kind : Kind) (before : List Item) (item : Item) (n : ℕ) (name : List ℕ) → number_of kind before item false false (at_name n name) ≡ symbol_number kind before item n name
 symbol_of Constants before item n name = λ i. cond (is_repeated item n name) (Some F03) (cond (or-false (is_declared before name) i) (Some F04) (cond (is_label before name) (Some F05) None))
-symbol_of Variables before item n name = refl
 symbol_of Disjoint before item n name = λ i. cond (is_repeated item n name) (Some F03) (cond (or-false (is_no_variable before name) i) (Some F09) None)
 symbol_of Floating before item n name = third_is n (is_no_constant before name) (is_no_variable before name) (is_typed before name) (is_typed_otherwise before item name)
 symbol_of Essential before item n name = expression_is n (is_no_constant before name) (is_no_active_symbol before name) (is_untyped before name)
 symbol_of Axiom before item n name = expression_is n (is_no_constant before name) (is_no_active_symbol before name) (is_untyped before name)
 symbol_of Theorem before item n name = expression_is n (is_no_constant before name) (is_no_active_symbol before name) (is_untyped before name)
-symbol_of BlockStart before item n name = refl
-symbol_of BlockEnd before item n name = refl
-symbol_of Missing before item n name = refl
-symbol_of Passed before item n name = refl
+symbol_of _ before item n name = refl
 
 -- where no symbol stands
 before_symbols : (test : ℕ → List ℕ → Bool) (item : Item) (word : ℕ) → word < first_symbol item → at_symbol test item word ≡ false
@@ -228,16 +224,7 @@ third_first before item word (x ∷ y ∷ z ∷ symbols) = refl
 
 number_first : (kind : Kind) (before : List Item) (item : Item) (word : ℕ) (symbols : List (List ℕ)) → first_fault (symbol_number kind before item) word 0 symbols ≡ first_fault (symbol_fault_of kind before item) word 0 symbols
 number_first Floating before item word symbols = third_first before item word symbols
-number_first Constants before item word symbols = refl
-number_first Variables before item word symbols = refl
-number_first Disjoint before item word symbols = refl
-number_first Essential before item word symbols = refl
-number_first Axiom before item word symbols = refl
-number_first Theorem before item word symbols = refl
-number_first BlockStart before item word symbols = refl
-number_first BlockEnd before item word symbols = refl
-number_first Missing before item word symbols = refl
-number_first Passed before item word symbols = refl
+number_first _ before item word symbols = refl
 
 -- the fault of a statement is the one that is read from left to right
 pub fault_is : (before : List Item) (item : Item) → fault before item ≡ fault_by_kind before item

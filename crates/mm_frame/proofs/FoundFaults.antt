@@ -26,8 +26,6 @@ past_line before item word F02 l = and_right (is_constants item.kind) _ (and_lef
 past_line before item word F03 l = and_right (is_declaring item.kind || is_disjoint item.kind) _ (past_symbols (is_repeated item) item word l)
 past_line before item word F04 l = or_from _ _ (and_right (is_constants item.kind) _ (past_symbols (each (is_declared before)) item word l)) (and_right (is_variables item.kind) _ (past_symbols (each (is_active_symbol before)) item word l))
 past_line before item word F05 l = and_right (is_declaring item.kind) _ (past_symbols (each (is_label before)) item word l)
-past_line before item word F06 l = and_left (word == 0) _ (not_word word 0 (λ e. omega arith))
-past_line before item word F07 l = and_left (word == 0) _ (not_word word 0 (λ e. omega arith))
 past_line before item word F08 l = and_right (is_labelled item.kind) _ (past_symbols (first (is_no_constant before)) item word l)
 past_line before item word F09 l = or_from _ _ (and_right (is_disjoint item.kind) _ (past_symbols (each (is_no_variable before)) item word l)) (and_right (is_floating item.kind) _ (past_symbols (second (is_no_variable before)) item word l))
 past_line before item word F10 l = and_right (is_expression item.kind) _ (past_symbols (later (is_no_active_symbol before)) item word l)
@@ -35,6 +33,7 @@ past_line before item word F11 l = and_right (is_expression item.kind) _ (past_s
 past_line before item word F12 l = and_right (is_floating item.kind) _ (past_symbols (second (is_typed before)) item word l)
 past_line before item word F13 l = and_right (is_floating item.kind) _ (past_symbols (second (is_typed_otherwise before item)) item word l)
 past_line before item word F14 l = refl
+past_line before item word _ l = and_left (word == 0) _ (not_word word 0 (λ e. omega arith))
 
 -- the numbers, by their places
 number_there : (n : FrameNumber) → slice_get numbers (pred (row n)) ≡ Some n
@@ -61,21 +60,8 @@ row_or None = 0
 row_or (Some n) = row n
 
 rows : (k : ℕ) (n : FrameNumber) → slice_get numbers k ≡ Some n → row n ≡ suc k
-rows zero n e = sym (ap row_or e)
-rows (suc zero) n e = sym (ap row_or e)
-rows (suc (suc zero)) n e = sym (ap row_or e)
-rows (suc (suc (suc zero))) n e = sym (ap row_or e)
-rows (suc (suc (suc (suc zero)))) n e = sym (ap row_or e)
-rows (suc (suc (suc (suc (suc zero))))) n e = sym (ap row_or e)
-rows (suc (suc (suc (suc (suc (suc zero)))))) n e = sym (ap row_or e)
-rows (suc (suc (suc (suc (suc (suc (suc zero))))))) n e = sym (ap row_or e)
-rows (suc (suc (suc (suc (suc (suc (suc (suc zero)))))))) n e = sym (ap row_or e)
-rows (suc (suc (suc (suc (suc (suc (suc (suc (suc zero))))))))) n e = sym (ap row_or e)
-rows (suc (suc (suc (suc (suc (suc (suc (suc (suc (suc zero)))))))))) n e = sym (ap row_or e)
-rows (suc (suc (suc (suc (suc (suc (suc (suc (suc (suc (suc zero))))))))))) n e = sym (ap row_or e)
-rows (suc (suc (suc (suc (suc (suc (suc (suc (suc (suc (suc (suc zero)))))))))))) n e = sym (ap row_or e)
-rows (suc (suc (suc (suc (suc (suc (suc (suc (suc (suc (suc (suc (suc zero))))))))))))) n e = sym (ap row_or e)
 rows (suc (suc (suc (suc (suc (suc (suc (suc (suc (suc (suc (suc (suc (suc k)))))))))))))) n e = cc
+rows _ n e = sym (ap row_or e)
 
 -- the first element that passes a test
 pub record IsFirst {X : Type 0} (p : X → Bool) (xs : List X) (x : X) : Type 0 where
@@ -117,7 +103,7 @@ least_at : (before : List Item) (item : Item) (start : ℕ) (o : Option FrameNum
     → IsLeast before item start w n × (start ≤ w)
 least_at before item start (Some m) later w n t e r =
     let p = some_pair start w m n e in
-    (record { found = subst (λ x. number_at before item x ≡ Some n) p.0 (t ∙ ap Some p.1); least = λ v a b. absurd (let q = p.0 in omega arith) }, (let q = p.0 in omega arith))
+    (record { found = subst (λ x. number_at before item x ≡ Some n) p.0 (t ∙ ap Some p.1); least = λ v a b. absurd (omega arith) }, (omega arith))
   where
     some_pair : (a b : ℕ) (x y : FrameNumber) → ◌≡◌ {A = Option (ℕ × FrameNumber)} (Some (a, x)) (Some (b, y)) → (a ≡ b) × (x ≡ y)
     some_pair a b x y e = (ap word_or e, (let z : x ≡ y = same_number x y (ap number_or e) in z))
@@ -211,20 +197,9 @@ sound_found before item s = by_fault (fault before item) refl
 
 -- what is passed over has no fault
 pub passed_sound : (before : List Item) → IsSound before passed
-passed_sound before word F01 = refl
-passed_sound before word F02 = refl
-passed_sound before word F03 = refl
-passed_sound before word F04 = refl
-passed_sound before word F05 = refl
 passed_sound before word F06 = and_right (word == 0) false refl
 passed_sound before word F07 = and_right (word == 0) false refl
-passed_sound before word F08 = refl
-passed_sound before word F09 = refl
-passed_sound before word F10 = refl
-passed_sound before word F11 = refl
-passed_sound before word F12 = refl
-passed_sound before word F13 = refl
-passed_sound before word F14 = refl
+passed_sound before word _ = refl
 
 judged_sound : (before : List Item) (item : Item) (o : Option (ℕ × FrameNumber)) → fault before item ≡ o → IsSound before (judged item o)
 judged_sound before item None e = no_fault_sound before item e

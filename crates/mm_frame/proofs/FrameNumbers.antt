@@ -29,7 +29,7 @@ pub get_front : {X : Type 0} (xs : List X) (i n : ℕ) (x : X) → slice_get (ta
 get_front xs zero n x e = cc
 get_front [] (suc i) n x e = cc
 get_front (y ∷ ys) (suc i) zero x e = (omega arith, e)
-get_front (y ∷ ys) (suc i) (suc n) x e = let r = get_front ys i n x e in let l = r.0 in (omega arith, r.1)
+get_front (y ∷ ys) (suc i) (suc n) x e = let r = get_front ys i n x e in (omega arith, r.1)
 
 -- the front of what is kept is what is kept of the front
 pub kept_front : (said : List Item) (i : ℕ) → take i (sound_items said) ≡ sound_items (take i said)
@@ -164,10 +164,9 @@ frame_is told base i (Some x) e = sym (numbers_told _ (before base i) (said_at b
 
 -- a frame is told exactly for an assertion
 told_some : {X : Type 0} (told : X → List ℕ) (found : Option X) (framed : Bool) (front : List Item) (item : Item) → option_map told found ≡ numbers_if framed front item → is_some found ≡ framed
-told_some told None true front item e = cc
 told_some told None false front item e = refl
 told_some told (Some x) true front item e = refl
-told_some told (Some x) false front item e = cc
+told_some told _ _ front item e = cc
 
 pub framed_some : {X : Type 0} (told : X → List ℕ) (found : Option X) (base : BaseView) (j : ℕ) → option_map told found ≡ hypotheses_at base j → is_some found ≡ is_framed_at base j
 framed_some told found base j e = told_some told found (is_framed_at base j) (before base j) (said_at base j) e
@@ -178,9 +177,8 @@ HasKind item said = kind_of item.kind ≡ said.kind
 
 pub kinds_said : (files : FilesView) (found : List store.Item) (said : List Item) → AllZip (Says files) found said → AllZip HasKind found said
 kinds_said files [] [] z = tt
-kinds_said files [] (y ∷ said) z = absurd z
-kinds_said files (x ∷ found) [] z = absurd z
 kinds_said files (x ∷ found) (y ∷ said) z = (sym (ap (λ (w : Item). w.kind) (z.0).is), kinds_said files found said z.1)
+kinds_said files _ _ z = absurd z
 
 pub kind_at : (found : List store.Item) (said : List Item) (i : ℕ) (item : store.Item) → AllZip HasKind found said → slice_get found i ≡ Some item → kind_of item.kind ≡ (item_at said i).kind
 kind_at [] said i item z e = cc

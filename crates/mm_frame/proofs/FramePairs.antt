@@ -95,11 +95,9 @@ variables_are all before item essentials numbers expressions h e a m =
 
 -- each has the number of a name
 second_kept : (b : Bool) (kept : List NumberedSymbol) (v : NumberedSymbol) → In v (cond b [] (option_to_list (slice_get kept 1))) → In v kept
-second_kept true kept v h = absurd h
-second_kept false [] v h = absurd h
-second_kept false (x ∷ []) v h = absurd h
 second_kept false (x ∷ y ∷ kept) v (inl e) = inr (inl e)
 second_kept false (x ∷ y ∷ kept) v (inr z) = absurd z
+second_kept _ _ v h = absurd h
 
 pub variables_numbered : (all : List (List ℕ)) (essentials numbers : List ℕ) (expressions : List (List NumberedSymbol)) → AreNumbered all expressions → All (IsNumbered all) (float_variables essentials expressions numbers)
 variables_numbered all essentials numbers expressions a k d l =
@@ -157,9 +155,8 @@ active_in_order before item h = filter_same (are_paired (active_pairs before)) (
 
 -- one more hypothesis
 no_second : (symbols : List NumberedSymbol) → length symbols ≤ 1 → slice_get symbols 1 ≡ None
-no_second [] l = refl
-no_second (x ∷ []) l = refl
 no_second (x ∷ y ∷ symbols) l = absurd (omega arith)
+no_second _ l = refl
 
 nothing : (b : Bool) → cond {A = List NumberedSymbol} b [] [] ≡ []
 nothing true = refl

@@ -43,10 +43,10 @@ pub record Rise (high : ℕ → ℕ) (low n : ℕ) : Type 0 where
   pub above : (m : ℕ) → at < m → m ≤ n → low < high m
 
 rise : (high : ℕ → ℕ) → IsHeight high → (low n : ℕ) → low < high n → Rise high low n
-rise high h low zero l = absurd (let b = h.base in omega arith)
+rise high h low zero l = absurd (omega arith)
 rise high h low (suc n) l = elim (dec_lt low (high n)) [
   | yes a ↦ (let r = rise high h low n a in
-      record { at = r.at; behind = (let b = r.behind in omega arith); there = r.there; rises = r.rises; above = λ m x y. more r m x (dec_lt n m) y })
+      record { at = r.at; behind = (omega arith); there = r.there; rises = r.rises; above = λ m x y. more r m x (dec_lt n m) y })
   | no b ↦ (let u = h.up n in
       record { at = n; behind = omega arith; there = omega arith; rises = omega arith; above = λ m x y. (let q : suc n ≡ m = omega arith in subst (λ w. low < high w) q l) })
 ]
@@ -66,14 +66,12 @@ from_height high h i j b e stay flat d s l m = elim (dec_lt j e) [
     by_end n (yes a) =
         let x = inside high h b e i d s (omega arith) m in
         let y = stay (suc e) (omega arith) (omega arith) in
-        let z = d.even in
         omega arith
     by_end n (no c) =
         let q : e ≡ j = omega arith in
         let p : suc (e - 1) ≡ e = omega arith in
         let x = subst (λ w. high b < high w) p (inside high h b e (e - 1) d s (omega arith) (omega arith)) in
         let y : high e ≤ high (suc e) = subst (λ w. high w ≤ high (suc w)) (sym q) flat in
-        let z = d.even in
         omega arith
 
 -- where it goes below that height first, a block ends
@@ -89,17 +87,16 @@ step_above high i k low before y r n c d (no g) =
 
 step_holds : (high : ℕ → ℕ) (i low : ℕ) → (r : Rise high low (suc i)) (e : ℕ) → EndsAt high r.at e → Dec (i < e) → i < e
 step_holds high i low r e d (yes g) = g
-step_holds high i low r e d (no g) = let b = d.behind in let w = r.above (suc e) (omega arith) (omega arith) in let x = d.even in let t = r.there in absurd (omega arith)
+step_holds high i low r e d (no g) = let w = r.above (suc e) (omega arith) (omega arith) in absurd (omega arith)
 
 step_outer : (high : ℕ → ℕ) (i low : ℕ) → high (suc i) ≡ high i → (r : Rise high low (suc i)) → r.at < i
 step_outer high i low flat r = elim (dec_lt r.at i) [
   | yes a ↦ a
-  | no n ↦ (let b = r.behind in let q : r.at ≡ i = omega arith in let z = ap high q in let y = ap (λ w. high (suc w)) q in let t = r.there in let s = r.rises in absurd (omega arith))
+  | no n ↦ (let q : r.at ≡ i = omega arith in let z = ap high q in let y = ap (λ w. high (suc w)) q in absurd (omega arith))
 ]
 
 step : (high : ℕ → ℕ) → IsHeight high → (i j k : ℕ) → high (suc i) ≡ high i → Around high i j → suc (i + suc k) ≤ j → ((n : ℕ) → n ≤ k → high (suc i) ≤ high (suc (i + n))) → Rise high (high (suc (i + suc k))) (suc i) → high (suc (i + suc k)) < high (suc i) → ⊥
 step high h i j k flat blocks l before r y =
-    let b = r.behind in
     let t = r.there in
     let low = high (suc (i + suc k)) in
     let ends : EndsAt high r.at (i + suc k) = record { behind = omega arith; even = sym t; first = λ n c d f. (let w = step_above high i k low before y r (suc n) (omega arith) (omega arith) (dec_lt (suc n) (suc i)) in omega arith) } in

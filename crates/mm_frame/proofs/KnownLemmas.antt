@@ -16,7 +16,7 @@ use Rattle.mm_frame.specs.Language.Statement.{kind_of}
 use Rattle.mm_frame.specs.declared.tables.Tables.{Tables}
 use Rattle.mm_frame.specs.declared.tables.Declared.{Declared}
 use Rattle.mm_frame.specs.declared.tables.Declared.TheVariants.{Constant, Variable}
-use Rattle.mm_frame.specs.Language.Item.{Kind, Constants, Variables, Disjoint, Floating, Essential, Axiom, Theorem, BlockStart, BlockEnd, Missing, Passed, Item, passed, is_constants, is_variables, is_floating, is_labelled, has}
+use Rattle.mm_frame.specs.Language.Item.{Kind, Constants, Variables, Disjoint, Floating, Essential, Axiom, Theorem, BlockStart, BlockEnd, Missing, Item, passed, is_constants, is_variables, is_floating, is_labelled, has}
 use Rattle.mm_frame.specs.Language.Item as meant
 use Rattle.mm_frame.specs.Language.Scope.{constants, variables, active}
 use Rattle.mm_frame.specs.Language.Sound.{is_declared, IsSound, AreSound}
@@ -229,16 +229,7 @@ has_under false symbols name = refl
 
 not_floating : (k : Kind) → is_variables k ≡ true → is_floating k ≡ false
 not_floating Variables e = refl
-not_floating Constants e = absurd (false≢true e)
-not_floating Disjoint e = absurd (false≢true e)
-not_floating Floating e = absurd (false≢true e)
-not_floating Essential e = absurd (false≢true e)
-not_floating Axiom e = absurd (false≢true e)
-not_floating Theorem e = absurd (false≢true e)
-not_floating BlockStart e = absurd (false≢true e)
-not_floating BlockEnd e = absurd (false≢true e)
-not_floating Missing e = absurd (false≢true e)
-not_floating Passed e = absurd (false≢true e)
+not_floating _ e = absurd (false≢true e)
 
 pub declared_next : (before : List Item) (item : Item) (name : List ℕ) → AreSound (before ++ item ∷ []) → declared_in (before ++ item ∷ []) name ≡ name_next item.kind item.symbols (length before) name (declared_in before name)
 declared_next before item name h =

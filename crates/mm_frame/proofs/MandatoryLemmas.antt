@@ -1,5 +1,5 @@
 -- The numbers of the mandatory hypotheses, as the code collects them.
-use Rattle.std.proofs.Common.{Contains, ◌≡◌, ℕ, Bool, true, false, cond, Option, Some, None, List, [], ◌++◌, flat_map, slice_get, refl, sym, ◌∙◌, ap, subst, eqb, inl, inr}
+use Rattle.std.proofs.Common.{Contains, ◌≡◌, ℕ, Bool, true, cond, Option, Some, List, [], ◌++◌, flat_map, slice_get, refl, sym, ◌∙◌, ap, subst, eqb, inl, inr}
 use Rattle.std.specs.Prelude.{All, option_to_list}
 use Rattle.std.specs.List.{dedup}
 use Rattle.std.specs.List.Sorted.{IsPermutation, IsSorted}
@@ -36,10 +36,9 @@ use Rattle.mm_frame.proofs.ActivePairLemmas.{expression_at_number, active_at_num
 
 -- the number of the `$f` of a variable
 under : (b : Bool) (n : ℕ) (o : Option ℕ) → In n (cond b (option_to_list o) []) → (b ≡ true) × (o ≡ Some n)
-under true n None h = absurd h
 under true n (Some m) (inl e) = (refl, ap Some e)
 under true n (Some m) (inr z) = absurd z
-under false n o h = absurd h
+under _ n _ h = absurd h
 
 to_under : (b : Bool) (n : ℕ) (o : Option ℕ) → b ≡ true → o ≡ Some n → In n (cond b (option_to_list o) [])
 to_under b n o t e = subst (λ c. In n (cond c (option_to_list o) [])) (sym t) (subst (λ p. In n (option_to_list p)) (sym e) (inl refl))

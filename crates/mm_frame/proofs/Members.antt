@@ -18,7 +18,7 @@ pub contains_cases : {X : Type 0} (x : X) (xs : List X) (y : X) → Contains (x 
 contains_cases x xs y c = contains_cases_at x xs y c.0 c.1 c.2
 
 pub contains_there : {X : Type 0} (x : X) (xs : List X) (y : X) → Contains xs y → Contains (x ∷ xs) y
-contains_there x xs y c = let h = c.1 in (suc c.0, omega arith, c.2)
+contains_there x xs y c = (suc c.0, omega arith, c.2)
 
 -- x stands in the list
 abbrev pub In : {X : Type 0} → X → List X → Type 0
@@ -31,7 +31,7 @@ in_contains x (y ∷ ys) (inl e) = subst (λ w. Contains (y ∷ ys) w) e (Contai
 in_contains x (y ∷ ys) (inr h) = contains_there y ys x (in_contains x ys h)
 
 pub contains_in : {X : Type 0} (x : X) (xs : List X) → Contains xs x → In x xs
-contains_in x [] c = let l = c.1 in absurd (omega arith)
+contains_in x [] c = absurd (omega arith)
 contains_in x (y ∷ ys) c = elim (contains_cases y ys x c) [ inl e ↦ inl e | inr d ↦ inr (contains_in x ys d) ]
 
 pub in_left : {X : Type 0} (x : X) (xs ys : List X) → In x xs → In x (xs ++ ys)

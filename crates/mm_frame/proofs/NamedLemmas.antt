@@ -33,12 +33,11 @@ by_constants_is before item name h s t n = let same = is_variable (named before 
 each_read : (all : List (List ℕ)) (kept : ℕ → NumberedSymbol) (said : List ℕ → Symbol) → ((n : ℕ) (name : List ℕ) → IsNameNumber all n name → symbol_of all (kept n) ≡ said name) → (numbers : List ℕ) (names : List (List ℕ)) → AreNameNumbers all numbers names
     → symbols_of all (map kept numbers) ≡ map said names
 each_read all kept said h [] [] a = refl
-each_read all kept said h [] (name ∷ names) a = let count = a.count in absurd (omega (arith, count))
-each_read all kept said h (n ∷ numbers) [] a = let count = a.count in absurd (omega (arith, count))
 each_read all kept said h (n ∷ numbers) (name ∷ names) a =
     let count = a.count in
     let rest = each_read all kept said h numbers names (record { count = omega (arith, count); each = λ i m there. a.each (suc i) m there }) in
     (λ i. h n name (a.each 0 n refl) i ∷ rest i)
+each_read all kept said h _ _ a = let count = a.count in absurd (omega (arith, count))
 
 each_numbered : (all : List (List ℕ)) (kept : ℕ → NumberedSymbol) → ((n : ℕ) → (kept n).name ≡ n) → (numbers : List ℕ) (names : List (List ℕ)) → AreNameNumbers all numbers names → All (IsNumbered all) (map kept numbers)
 each_numbered all kept h numbers names a = All-map (IsNumbered all) kept numbers (λ i d l. subst (λ (m : ℕ). m < length all) (sym (h (get_or numbers i d))) (name_within all (get_or numbers i d) (get_or names i []) (number_at all numbers names i d a l)))

@@ -102,12 +102,11 @@ same_all_said laws a b (x ∷ xs) (y ∷ ys) (said ∷ all) (other ∷ others) b
     let first : said ≡ other = same_said laws a b x y said other (record { files = both; item = item; first = s.0; second = t.0 }) f.0 g.0 in
     let later : all ≡ others = same_all_said laws a b xs ys all others both s.1 t.1 rest f.1 g.1 in
     cc
-same_all_said laws a b [] [] [] (other ∷ others) both s t items f g = absurd g
 same_all_said laws a b [] [] (said ∷ all) others both s t items f g = absurd f
 same_all_said laws a b [] (y ∷ ys) all others both s t items f g = cc
 same_all_said laws a b (x ∷ xs) [] all others both s t items f g = cc
 same_all_said laws a b (x ∷ xs) (y ∷ ys) [] others both s t items f g = absurd f
-same_all_said laws a b (x ∷ xs) (y ∷ ys) (said ∷ all) [] both s t items f g = absurd g
+same_all_said laws a b _ _ _ _ both s t items f g = absurd g
 
 -- ---- two bases
 

@@ -182,7 +182,6 @@ count_of_none before numbers last = record { within = omega arith; active = none
 pub number_within : (all : List (List ℕ)) (before : List Item) (expressions : List (List NumberedSymbol)) (numbers rest : List ℕ) (n : ℕ) → AreSymbols all before expressions → numbers ++ rest ≡ active_numbers is_disjoint_item before → number_last numbers ≡ Some n → n < length expressions
 number_within all before expressions numbers rest n a e last =
     let w = number_there before numbers rest n e last in
-    let c = a.count in
     omega arith
 
 -- each symbol with each later one, in turn, and the pairs that are read of these
@@ -445,7 +444,6 @@ list_in_order all lists k pairs is = subst (λ o. AreInOrder (pairs_or_none o)) 
 pub made_more : (all : List (List ℕ)) (before later : List Item) (lists : PairLists) → AreMade all before lists → AreMade all (before ++ later) lists
 made_more all before later lists m count k e =
     let r = m count k e in
-    let w = r.within in
     let c = length-append before later in
     record {
       within = omega arith;

@@ -1,5 +1,5 @@
 -- What a label means at an item, by the number of the item that has the label.
-use Rattle.std.proofs.Common.{◌≡◌, ℕ, suc, ◌<◌, ◌≤◌, Bool, true, false, cond, ◌&&◌, Option, Some, None, List, [], length, take, drop, slice_get, bytes_eq, refl, sym, ◌∙◌, ap, subst, arith, inl, inr}
+use Rattle.std.proofs.Common.{◌≡◌, ℕ, suc, ◌<◌, ◌≤◌, Bool, true, false, cond, ◌&&◌, Option, Some, List, [], length, take, drop, slice_get, bytes_eq, refl, sym, ◌∙◌, ap, subst, arith, inl, inr}
 use Rattle.std.specs.Prelude.{option_to_list}
 use Rattle.std.proofs.lemmas.Bool.{false≢true, false_from_ne_true, or_cases, and_parts}
 use Rattle.std.proofs.lemmas.List.{take-take, drop-map, take-map, length-take-le}
@@ -27,12 +27,11 @@ use Rattle.mm_frame.proofs.FrameNumbers.{get_front, kept_front, shown_kept, show
 
 -- an item that carries a label has it
 label_in : (b : Bool) (own : Option (List ℕ)) (label : List ℕ) → has (cond b (option_to_list own) []) label ≡ true → (b ≡ true) × (own ≡ Some label)
-label_in false own label t = absurd (false≢true t)
-label_in true None label t = absurd (false≢true t)
 label_in true (Some l) label t = elim (or_cases (bytes_eq label l) false t) [
   | inl e ↦ (refl, ap Some (sym ((bytes_eq-Decides label l).0 e)))
   | inr f ↦ absurd (false≢true f)
 ]
+label_in _ _ label t = absurd (false≢true t)
 
 -- the item with the label, and what the label means at another behind it
 pub record IsFound (base : BaseView) (i : ℕ) (label : List ℕ) (j : ℕ) : Type 0 where

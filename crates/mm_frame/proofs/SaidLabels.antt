@@ -47,10 +47,9 @@ said_by files item said s = (kind_of item.kind, tokens_of (slice_range s.read.te
 
 said_words : (files : FilesView) (found : List store.Item) (said : List Item) (j : ℕ) → AllZip (Says files) found said → is_labelled (item_at said j).kind ≡ true → (kind : Kind) × (tokens : List Token) × (item_at said j ≡ item_of kind tokens)
 said_words files [] [] j z t = absurd (false≢true t)
-said_words files [] (y ∷ said) j z t = absurd z
-said_words files (x ∷ found) [] j z t = absurd z
 said_words files (x ∷ found) (y ∷ said) zero z t = said_by files x y z.0
 said_words files (x ∷ found) (y ∷ said) (suc j) z t = said_words files found said j z.1 t
+said_words files _ _ j z t = absurd z
 
 pub item_label : (base : BaseView) → AreSaid base → (j : ℕ) → is_shown_at base j ≡ true → (label : List ℕ) × ((said_at base j).label ≡ Some label)
 item_label base all j s =

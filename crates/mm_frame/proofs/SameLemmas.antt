@@ -33,12 +33,11 @@ same_more {X} {Y} f g xs ys k x y h p q e n v w b c d = elim (dec_lt n k) [
 
 pub same_whole : {X Y Z : Type 0} (f : X → Z) (g : Y → Z) (xs : List X) (ys : List Y) → AreSameTo f g xs ys (length xs) → length xs ≡ length ys → map f xs ≡ map g ys
 same_whole f g [] [] h l = refl
-same_whole f g [] (y ∷ ys) h l = absurd (omega arith)
-same_whole f g (x ∷ xs) [] h l = absurd (omega arith)
 same_whole f g (x ∷ xs) (y ∷ ys) h l =
     let a = h 0 x y (omega arith) refl refl in
     let b = same_whole f g xs ys (λ m v w n c d. h (suc m) v w (omega arith) c d) (omega arith) in
     λ i. a i ∷ b i
+same_whole f g _ _ h l = absurd (omega arith)
 
 -- and where all are, each is
 pub same_each : {X Y Z : Type 0} (f : X → Z) (g : Y → Z) (xs : List X) (ys : List Y) (k : ℕ) (x : X) (y : Y) → map f xs ≡ map g ys → slice_get xs k ≡ Some x → slice_get ys k ≡ Some y → f x ≡ g y
@@ -57,14 +56,13 @@ number_from_reading all distinct x y p q e =
 
 pub numbers_from_readings : (all : List (List ℕ)) → AreDistinct all → (xs ys : List NumberedSymbol) → All (IsNumbered all) xs → All (IsNumbered all) ys → symbols_of all xs ≡ symbols_of all ys → xs ≡ ys
 numbers_from_readings all distinct [] [] p q e = refl
-numbers_from_readings all distinct [] (y ∷ ys) p q e = cc
-numbers_from_readings all distinct (x ∷ xs) [] p q e = cc
 numbers_from_readings all distinct (x ∷ xs) (y ∷ ys) p q e =
     let head : symbol_of all x ≡ symbol_of all y = cc in
     let rest : symbols_of all xs ≡ symbols_of all ys = cc in
     let a = number_from_reading all distinct x y (p 0 x (omega arith)) (q 0 y (omega arith)) head in
     let b = numbers_from_readings all distinct xs ys (λ k d h. p (suc k) d (omega (arith, h))) (λ k d h. q (suc k) d (omega (arith, h))) rest in
     λ i. a i ∷ b i
+numbers_from_readings all distinct _ _ p q e = cc
 
 pub pair_from_reading : (all : List (List ℕ)) → AreDistinct all → (x y : NumberedSymbol × NumberedSymbol) → IsPairNumbered all x → IsPairNumbered all y → pair_of all x ≡ pair_of all y → x ≡ y
 pair_from_reading all distinct x y m n e =
@@ -74,14 +72,13 @@ pair_from_reading all distinct x y m n e =
 
 pub pairs_from_readings : (all : List (List ℕ)) → AreDistinct all → (xs ys : List (NumberedSymbol × NumberedSymbol)) → All (IsPairNumbered all) xs → All (IsPairNumbered all) ys → kept_pairs all xs ≡ kept_pairs all ys → xs ≡ ys
 pairs_from_readings all distinct [] [] p q e = refl
-pairs_from_readings all distinct [] (y ∷ ys) p q e = cc
-pairs_from_readings all distinct (x ∷ xs) [] p q e = cc
 pairs_from_readings all distinct (x ∷ xs) (y ∷ ys) p q e =
     let head : pair_of all x ≡ pair_of all y = cc in
     let rest : kept_pairs all xs ≡ kept_pairs all ys = cc in
     let a = pair_from_reading all distinct x y (p 0 x (omega arith)) (q 0 y (omega arith)) head in
     let b = pairs_from_readings all distinct xs ys (λ k d h. p (suc k) d (omega (arith, h))) (λ k d h. q (suc k) d (omega (arith, h))) rest in
     λ i. a i ∷ b i
+pairs_from_readings all distinct _ _ p q e = cc
 
 -- two tests together
 pub both_decide : {P Q : Type 0} (p q : Bool) → Decides p P → Decides q Q → Decides (p && q) (P × Q)

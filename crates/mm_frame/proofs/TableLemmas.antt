@@ -6,7 +6,7 @@ use Rattle.std.proofs.lemmas.Bool.{false≢true, or_parts, or_cases, or_left, or
 use Rattle.std.proofs.lemmas.Slice.Eq.{bytes_eq-Decides}
 use Rattle.std.proofs.lemmas.Grind.{flat_map-append}
 use Rattle.mm_frame.specs.Language.Item.{Kind, Item, is_constants, is_variables, is_floating, has, labels_of, typecode_of, variable_of, item_at}
-use Rattle.mm_frame.specs.Language.Scope.{Mark, Opens, Closes, Neither, mark_of, closed_at, closed, stays, active, symbols_by, constants, variables, labels, active_variables, floats, typed}
+use Rattle.mm_frame.specs.Language.Scope.{Mark, Closes, Neither, mark_of, closed_at, closed, stays, active, symbols_by, constants, variables, labels, active_variables, floats, typed}
 use Rattle.mm_frame.specs.declared.FrameNumber.TheVariants.{F04, F13}
 use Rattle.mm_frame.specs.Language.Sound.{each, second, is_active_symbol, is_typed_otherwise, IsSound, AreSound}
 use Rattle.mm_frame.specs.Code.LastItems.{number_or_first, last_where, is_active_at, is_active_last, declares_variable, types, carries, is_otherwise_at}
@@ -271,9 +271,8 @@ constants_next before item = symbols_next is_constants before item
 
 -- nothing is closed by an item that is no `$}`
 closes_none : (m : Mark) → (m ≡ Closes → ⊥) → closed_at m 0 ≡ 0
-closes_none Opens n = refl
 closes_none Closes n = absurd (n refl)
-closes_none Neither n = refl
+closes_none _ n = refl
 
 pub not_closing : (m : Mark) → m ≡ Neither → m ≡ Closes → ⊥
 not_closing m e c = let q : Neither ≡ Closes = sym e ∙ c in cc

@@ -71,28 +71,6 @@ adds_more essentials number symbols k d old mid new l so_far one = record {
     last s t (inl e) = subst (IsKeptBy essentials new) e (one.there (ap (λ (w : NumberedSymbol). w.variable) e ∙ t))
     last s t (inr z) = absurd z
 
-pub adds_nothing : (essentials : List ℕ) (number : ℕ) (symbol : NumberedSymbol) (found : List EssentialVariable) → (symbol.variable ≡ true → IsKeptBy essentials found symbol) → AddsOne essentials number symbol found found
-adds_nothing essentials number symbol found there = record {
-  more = [];
-  whole = sym (append-nil found);
-  own = λ v c. absurd (contains_in v [] c);
-  there = there;
-}
-
-pub adds_it : (essentials : List ℕ) (number : ℕ) (symbol : NumberedSymbol) (old new : List EssentialVariable) → Contains essentials number → new ≡ old ++ by_essential number symbol ∷ [] → AddsOne essentials number symbol old new
-adds_it essentials number symbol old new active e =
-    let one = by_essential number symbol in
-    record {
-      more = one ∷ [];
-      whole = e;
-      own = λ v c. only v (contains_in v (one ∷ []) c);
-      there = λ t. (number, active, subst (λ w. Contains w one) (sym e) (Contains-append_right old (one ∷ []) one (in_contains one (one ∷ []) (inl refl))));
-    }
-  where
-    only : (v : EssentialVariable) → In v (by_essential number symbol ∷ []) → v ≡ by_essential number symbol
-    only v (inl q) = sym q
-    only v (inr z) = absurd z
-
 -- ---- one more item
 
 -- a `$e` opens and closes no block

@@ -38,9 +38,9 @@ is_among (Delete file at) count = elim (le_or count at) [
   | inr gt ↦ inl gt
 ]
 is_among (Move file at to) count = elim (le_or count at) [
-  | inl le ↦ inr (λ both. (let lt = both.0 in omega arith))
+  | inl le ↦ inr (λ both. (omega arith))
   | inr gt ↦ elim (le_or count to) [
-    | inl le ↦ inr (λ both. (let lt = both.1 in omega arith))
+    | inl le ↦ inr (λ both. (omega arith))
     | inr also ↦ inl (gt, also)
   ]
 ]
@@ -62,7 +62,7 @@ number_there : (files : List File) (name : List ℕ) (n : ℕ) → file_number f
 number_there files name n at =
     let first = position_or_len (λ (file : File). bytes_eq name file.name) files in
     let s = by_some (nat_lt first (length files)) first n at in
-    let lt : first < length files = (let test = s.0 in grind (arith, nat_tests)) in
+    let lt : first < length files = (grind (arith, nat_tests)) in
     slice_get-get_or files n no_file (omega (arith, lt, s.1))
 
 abbrev Answered : Asked → List File → Type 0

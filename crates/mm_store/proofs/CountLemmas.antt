@@ -1,5 +1,5 @@
 -- Items are no more than bytes.
-use Rattle.std.proofs.Common.{◌≡◌, ℕ, suc, ◌+◌, ◌<◌, ◌≤◌, Bool, true, false, if◌then◌else◌, List, [], ◌∷◌, ◌++◌, length, refl, ap, arith, length-append}
+use Rattle.std.proofs.Common.{◌≡◌, ℕ, suc, ◌+◌, ◌<◌, ◌≤◌, Bool, false, if◌then◌else◌, List, [], ◌∷◌, ◌++◌, length, refl, ap, arith, length-append}
 use Rattle.std.specs.List.{flat_map, concat}
 use Rattle.std.proofs.lemmas.List.{length-map}
 use Rattle.mm_text.specs.declared.word.Word.{Word}
@@ -18,9 +18,8 @@ front_count at b [] = refl
 front_count at b (run ∷ runs) = refl
 
 run_count : (w e : Bool) (at b n : ℕ) (run : Run) (runs : List Run) → length runs ≤ n → length (if w then runs else if e then run ∷ runs else with_front at b runs) ≤ suc n
-run_count true e at b n run runs h = omega arith
-run_count false true at b n run runs h = omega arith
 run_count false false at b n run runs h = omega (arith, front_count at b runs)
+run_count _ _ at b n run runs h = omega arith
 
 runs_few : (at : ℕ) (bytes : List ℕ) → length (runs_from at bytes) ≤ length bytes
 runs_few at [] = omega arith

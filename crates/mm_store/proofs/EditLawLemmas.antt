@@ -16,9 +16,8 @@ use Rattle.mm_store.specs.Language.Edits.{Asked, Insert, Replace, Delete, Move, 
 -- one element of a list set
 module _ {X : Type 0} where
   set_set : (xs : List X) (n : ℕ) (x y : X) → set (set xs n x) n y ≡ set xs n y
-  set_set [] n x y = refl
-  set_set (z ∷ xs) zero x y = refl
   set_set (z ∷ xs) (suc n) x y = ap (λ ys. z ∷ ys) (set_set xs n x y)
+  set_set _ _ x y = refl
 
   set_back : (xs : List X) (n : ℕ) (x : X) → slice_get xs n ≡ Some x → set xs n x ≡ xs
   set_back [] n x there = refl
@@ -31,24 +30,20 @@ module _ {X : Type 0} where
   get_set (z ∷ xs) (suc n) x y there = get_set xs n x y there
 
   get_other : (xs : List X) (n m : ℕ) (y : X) → m ≢ n → slice_get (set xs n y) m ≡ slice_get xs m
-  get_other [] n m y differs = refl
   get_other (z ∷ xs) zero zero y differs = absurd (differs refl)
-  get_other (z ∷ xs) zero (suc m) y differs = refl
-  get_other (z ∷ xs) (suc n) zero y differs = refl
   get_other (z ∷ xs) (suc n) (suc m) y differs = get_other xs n m y (λ e. differs (ap suc e))
+  get_other _ _ _ y differs = refl
 
   longer : (xs : List X) (i : ℕ) (x : X) → i ≤ length xs → length (insert xs i x) ≡ suc (length xs)
-  longer [] zero x le = refl
   longer [] (suc i) x le = absurd (omega arith)
-  longer (y ∷ xs) zero x le = refl
   longer (y ∷ xs) (suc i) x le = ap suc (longer xs i x (omega arith))
+  longer _ zero x le = refl
 
   -- the member that was put in is there, and the list without it is that of before
   put_there : (xs : List X) (i : ℕ) (x d : X) → i ≤ length xs → get_or (insert xs i x) i d ≡ x
-  put_there [] zero x d le = refl
   put_there [] (suc i) x d le = absurd (omega arith)
-  put_there (y ∷ xs) zero x d le = refl
   put_there (y ∷ xs) (suc i) x d le = put_there xs i x d (omega arith)
+  put_there _ zero x d le = refl
 
   remove_put : (xs : List X) (i : ℕ) (x : X) → i ≤ length xs → remove (insert xs i x) i ≡ xs
   remove_put xs zero x le = refl

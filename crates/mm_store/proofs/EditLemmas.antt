@@ -57,8 +57,7 @@ module _ (view : FilesView) (edit : Asked) (number count : ℕ)
     not_new held more (NotOne units) fails = (number, found.file, placed among, subst (λ o. BringsNotOne o units) (sym brings) fails)
     not_new held more TooMany fails = too_many among (subst BringsOneUnit (sym brings) fails.0) (more fails.1)
     not_new held more Memory fails = no_memory
-    not_new held more NoFile fails = absurd fails
-    not_new held more (NoPiece count) fails = absurd fails
+    not_new held more _ fails = absurd fails
 
 pub if_err : {T E : Type 0} (r : Result T E) (P Q : E → Type 0) → IsErrAnd r P → ((e : E) → P e → Q e) → IfErr r Q
 if_err (Ok x) P Q h f = tt

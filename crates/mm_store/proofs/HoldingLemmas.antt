@@ -29,9 +29,8 @@ module _ {X : Type 0} (P : X → Type 0) where
   all_from (x ∷ xs) f = (f 0 x refl, all_from xs (λ n y e. f (suc n) y e))
 
   all_take : (n : ℕ) (xs : List X) → AllByRecursion P xs → AllByRecursion P (take n xs)
-  all_take zero xs h = tt
-  all_take (suc n) [] h = tt
   all_take (suc n) (x ∷ xs) h = (h.0, all_take n xs h.1)
+  all_take _ _ h = tt
 
   all_drop : (n : ℕ) (xs : List X) → AllByRecursion P xs → AllByRecursion P (drop n xs)
   all_drop zero xs h = h
@@ -90,9 +89,8 @@ abbrev pub OneUnitOfCut : Type 0
 OneUnitOfCut = (text piece tail : List ℕ) → IsCut text (piece ∷ []) tail → HoldsOne (ended text)
 
 one_of : OneUnitOfCut → (text : List ℕ) (pieces : List (List ℕ)) (tail : List ℕ) → IsCut text pieces tail → length pieces ≡ 1 → HoldsOne (ended text)
-one_of law text [] tail cut count = absurd (omega arith)
 one_of law text (piece ∷ []) tail cut count = law text piece tail cut
-one_of law text (piece ∷ other ∷ more) tail cut count = absurd (omega arith)
+one_of law text _ tail cut count = absurd (omega arith)
 
 brought : OneUnitOfCut → (text : List ℕ) → HasUnitCount text 1 → HoldsOne (ended text)
 brought law text has = one_of law text has.pieces has.tail has.is_cut has.is_count

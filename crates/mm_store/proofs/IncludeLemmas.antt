@@ -50,12 +50,9 @@ one_cases (Simple (Declaration keyword symbols end) Nothing) are one = inr (decl
 one_cases (Simple (Labelled label keyword symbols end) Nothing) are one = inr (labelled_kind keyword are.0.1, tt)
 one_cases (Simple (Provable label keyword symbols proof steps end) Nothing) are one = inr (theorem_own, tt)
 one_cases (Simple (Inclusion begin name end) Nothing) are one = inl (record { part = shape_part (Inclusion begin name end); name = included_name (Inclusion begin name end) }, refl, refl)
-one_cases (Simple shape (Simple other later)) are one = absurd cc
-one_cases (Simple shape (Block begin inner end later)) are one = absurd cc
 one_cases (Block begin inner end Nothing) are one =
     inr (start_own, all_and IsOwn (named_parts inner) (nameless (part kinds.BlockEnd end end) ∷ []) (inner_own inner are.1) (end_own, tt))
-one_cases (Block begin inner end (Simple other later)) are one = absurd cc
-one_cases (Block begin inner end (Block first more last later)) are one = absurd cc
+one_cases _ are one = absurd cc
 
 -- no parts have no first
 pub no_first : (parts : List Part) (part : Part) → slice_get parts 0 ≡ Some part → (length parts == 0) ≡ true → ⊥

@@ -26,9 +26,8 @@ places_with q (file ∷ files) zero keys lt = omega arith
 places_with q (file ∷ files) (suc n) keys lt = omega (arith, places_with q files n keys (omega arith))
 
 pub places_in : (q : ℕ) (files : List KeyedFile) (n : ℕ) → times q (keys_in files n) ≤ places q files
-places_in q [] n = omega arith
-places_in q (file ∷ files) zero = omega arith
 places_in q (file ∷ files) (suc n) = omega (arith, places_in q files n)
+places_in q _ _ = omega arith
 
 pub in_files : (files : List KeyedFile) (n at : ℕ) → at < length (keys_in files n) → n < length files
 in_files [] n at lt = absurd (omega arith)
@@ -37,14 +36,12 @@ in_files (file ∷ files) (suc n) at lt = omega (arith, in_files files n at lt)
 
 -- keys once more, and the keys that are there
 pub with_with : (files : List KeyedFile) (n : ℕ) (a b : List ℕ) → with_keys (with_keys files n a) n b ≡ with_keys files n b
-with_with [] n a b = refl
-with_with (file ∷ files) zero a b = refl
 with_with (file ∷ files) (suc n) a b = ap (λ fs. file ∷ fs) (with_with files n a b)
+with_with _ _ a b = refl
 
 pub with_same : (files : List KeyedFile) (n : ℕ) → with_keys files n (keys_in files n) ≡ files
-with_same [] n = refl
-with_same (file ∷ files) zero = refl
 with_same (file ∷ files) (suc n) = ap (λ fs. file ∷ fs) (with_same files n)
+with_same _ _ = refl
 
 pub keys_with : (files : List KeyedFile) (n : ℕ) (a : List ℕ) → n < length files → keys_in (with_keys files n a) n ≡ a
 keys_with [] n a lt = absurd (omega arith)
@@ -72,14 +69,12 @@ module _ (p p' : Pieces) (k : ℕ) (same : (q : ℕ) → q ≢ k → text_under 
       ∙ ap (λ fs. plain_file p file ∷ fs) (plain_same files (omega arith))
 
 pub plain_with : (p : Pieces) (files : List KeyedFile) (n : ℕ) (keys : List ℕ) → map (plain_file p) (with_keys files n keys) ≡ with_pieces (map (plain_file p) files) n (map (text_under p) keys)
-plain_with p [] n keys = refl
-plain_with p (file ∷ files) zero keys = refl
 plain_with p (file ∷ files) (suc n) keys = ap (λ fs. plain_file p file ∷ fs) (plain_with p files n keys)
+plain_with p _ _ keys = refl
 
 pub plain_pieces : (p : Pieces) (files : List KeyedFile) (n : ℕ) → pieces_in (map (plain_file p) files) n ≡ map (text_under p) (keys_in files n)
-plain_pieces p [] n = refl
-plain_pieces p (file ∷ files) zero = refl
 plain_pieces p (file ∷ files) (suc n) = plain_pieces p files n
+plain_pieces p _ _ = refl
 
 -- how many bytes these texts have
 abbrev pub size : List (List ℕ) → ℕ
@@ -120,9 +115,8 @@ pub count_members : (p : Pieces) (files : List KeyedFile) (n : ℕ) → length (
 count_members p files n = ap length (plain_pieces p files n) ∙ length-map (keys_in files n) (text_under p)
 
 pub with_pieces_same : (files : List File) (n : ℕ) → with_pieces files n (pieces_in files n) ≡ files
-with_pieces_same [] n = refl
-with_pieces_same (file ∷ files) zero = refl
 with_pieces_same (file ∷ files) (suc n) = ap (λ fs. file ∷ fs) (with_pieces_same files n)
+with_pieces_same _ _ = refl
 
 pub pieces_with : (files : List File) (n : ℕ) (members : List (List ℕ)) → n < length files → pieces_in (with_pieces files n members) n ≡ members
 pieces_with [] n members lt = absurd (omega arith)

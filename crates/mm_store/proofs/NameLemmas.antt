@@ -42,24 +42,23 @@ all_and P [] ys a b = b
 all_and P (x ∷ xs) ys a b = (a.0, all_and P xs ys a.1 b)
 
 second_of : (bytes : List ℕ) (words : List Word) (first name last : List ℕ) → spellings bytes words ≡ first ∷ name ∷ last ∷ [] → name ≡ second_word bytes words
-second_of bytes [] first name last e = absurd (omega (arith, ap length e))
-second_of bytes (word ∷ []) first name last e = absurd (omega (arith, ap length e))
 second_of bytes (word ∷ other ∷ words) first name last e = cc
+second_of bytes _ first name last e = absurd (omega (arith, ap length e))
 
 pub declared_kind : (keyword : Token) → (IsKeyword Constants keyword ⊎ (IsKeyword Variables keyword ⊎ IsKeyword Disjoint keyword)) → word_part parts.Constants keyword.kind ≡ parts.Inclusion → ⊥
-declared_kind keyword (inl is) e = let k : parts.Constants ≡ parts.Inclusion = sym (ap (word_part parts.Constants) is) ∙ e in cc
-declared_kind keyword (inr (inl is)) e = let k : parts.Variables ≡ parts.Inclusion = sym (ap (word_part parts.Constants) is) ∙ e in cc
-declared_kind keyword (inr (inr is)) e = let k : parts.Disjoint ≡ parts.Inclusion = sym (ap (word_part parts.Constants) is) ∙ e in cc
+declared_kind keyword (inl is) e = cc
+declared_kind keyword (inr (inl is)) e = cc
+declared_kind keyword (inr (inr is)) e = cc
 
 pub labelled_kind : (keyword : Token) → (IsKeyword Floating keyword ⊎ (IsKeyword Essential keyword ⊎ IsKeyword Axiom keyword)) → word_part parts.Axiom keyword.kind ≡ parts.Inclusion → ⊥
-labelled_kind keyword (inl is) e = let k : parts.Floating ≡ parts.Inclusion = sym (ap (word_part parts.Axiom) is) ∙ e in cc
-labelled_kind keyword (inr (inl is)) e = let k : parts.Essential ≡ parts.Inclusion = sym (ap (word_part parts.Axiom) is) ∙ e in cc
-labelled_kind keyword (inr (inr is)) e = let k : parts.Axiom ≡ parts.Inclusion = sym (ap (word_part parts.Axiom) is) ∙ e in cc
+labelled_kind keyword (inl is) e = cc
+labelled_kind keyword (inr (inl is)) e = cc
+labelled_kind keyword (inr (inr is)) e = cc
 
 pub inner_kind : (shape : Shape) → IsShape false shape → (shape_part shape).kind ≡ parts.Inclusion → ⊥
 inner_kind (Declaration keyword symbols end) is e = declared_kind keyword is.0 e
 inner_kind (Labelled label keyword symbols end) is e = labelled_kind keyword is.1 e
-inner_kind (Provable label keyword symbols proof steps end) is e = let k : parts.Theorem ≡ parts.Inclusion = e in cc
+inner_kind (Provable label keyword symbols proof steps end) is e = cc
 inner_kind (Inclusion begin name end) is e = absurd (false≢true is.0)
 
 -- in a block nothing is included
@@ -67,9 +66,9 @@ inner_named : (text : List ℕ) (units : Units) → AreUnits false units → All
 inner_named text Nothing are = tt
 inner_named text (Simple shape later) are = (λ e. absurd (inner_kind shape are.0 e), inner_named text later are.1)
 inner_named text (Block begin inner end later) are = (
-  λ e. (let k : parts.BlockStart ≡ parts.Inclusion = e in absurd cc),
+  λ e. (absurd cc),
   all_and (IsNamed text) (named_parts inner) (nameless (part parts.BlockEnd end end) ∷ named_parts later) (inner_named text inner are.1)
-      (λ e. (let k : parts.BlockEnd ≡ parts.Inclusion = e in absurd cc), inner_named text later are.3),
+      (λ e. (absurd cc), inner_named text later are.3),
 )
 
 -- a statement that is alone in its text has these words
@@ -78,16 +77,8 @@ StandsAlone = (text : List ℕ) (shape : Shape) (own : List Word) → HasUnits t
     → spellings (part_bytes text (shape_part shape)) own ≡ map (λ token. token.bytes) (shape_tokens shape)
 
 pub kind_missing : (kind : PartKind) → item_kind kind ≡ items.Missing → kind ≡ parts.Inclusion
-kind_missing parts.Constants e = absurd cc
-kind_missing parts.Variables e = absurd cc
-kind_missing parts.Disjoint e = absurd cc
-kind_missing parts.Floating e = absurd cc
-kind_missing parts.Essential e = absurd cc
-kind_missing parts.Axiom e = absurd cc
-kind_missing parts.Theorem e = absurd cc
-kind_missing parts.BlockStart e = absurd cc
-kind_missing parts.BlockEnd e = absurd cc
 kind_missing parts.Inclusion e = refl
+kind_missing _ e = absurd cc
 
 -- the text under the key of a part has the part, and its name
 abbrev Tied : FilesView → Placed → Type 0
@@ -108,7 +99,7 @@ module _ (stands_alone : StandsAlone) where
   one_named : (text : List ℕ) (shape : Shape) → HasUnits text (Simple shape Nothing) → IsNamed text (record { part = shape_part shape; name = included_name shape })
   one_named text (Declaration keyword symbols end) units e words has = absurd (declared_kind keyword units.are_units.0.0 e)
   one_named text (Labelled label keyword symbols end) units e words has = absurd (labelled_kind keyword units.are_units.0.1 e)
-  one_named text (Provable label keyword symbols proof steps end) units e words has = let k : parts.Theorem ≡ parts.Inclusion = e in absurd cc
+  one_named text (Provable label keyword symbols proof steps end) units e words has = absurd cc
   one_named text (Inclusion begin name end) units e words has =
       let bytes = part_bytes text (shape_part (Inclusion begin name end)) in
       second_of bytes words begin.bytes name.bytes end.bytes (stands_alone text (Inclusion begin name end) words units has)
@@ -116,14 +107,11 @@ module _ (stands_alone : StandsAlone) where
   pub all_named : (text : List ℕ) (units : Units) → HasUnits text units → IsOne units → AllByRecursion (IsNamed text) (named_parts units)
   all_named text Nothing units one = absurd one
   all_named text (Simple shape Nothing) units one = (one_named text shape units, tt)
-  all_named text (Simple shape (Simple other later)) units one = absurd cc
-  all_named text (Simple shape (Block begin inner end later)) units one = absurd cc
   all_named text (Block begin inner end Nothing) units one = (
-    λ e. (let k : parts.BlockStart ≡ parts.Inclusion = e in absurd cc),
-    all_and (IsNamed text) (named_parts inner) (nameless (part parts.BlockEnd end end) ∷ []) (inner_named text inner units.are_units.1) (λ e. (let k : parts.BlockEnd ≡ parts.Inclusion = e in absurd cc), tt),
+    λ e. (absurd cc),
+    all_and (IsNamed text) (named_parts inner) (nameless (part parts.BlockEnd end end) ∷ []) (inner_named text inner units.are_units.1) (λ e. (absurd cc), tt),
   )
-  all_named text (Block begin inner end (Simple other later)) units one = absurd cc
-  all_named text (Block begin inner end (Block first more last later)) units one = absurd cc
+  all_named text _ units one = absurd cc
 
 module _ (one_reading : OneReading) (one_division : OneDivision) (stands_alone : StandsAlone) where
   unit_named : (text : List ℕ) (units : Units) → HasUnits text units → HoldsOne text → AllByRecursion (IsNamed text) (named_parts units)

@@ -24,7 +24,7 @@ named_is : (files : List File) (name : List ℕ) (n : ℕ) (file : File) → fil
 named_is files name n file at there =
     let first = position_or_len (λ (file : File). bytes_eq name file.name) files in
     let s = by_some (nat_lt first (length files)) first n at in
-    let lt : first < length files = (let test = s.0 in grind (arith, nat_tests)) in
+    let lt : first < length files = (grind (arith, nat_tests)) in
     let pass = passes_at_first (λ (file : File). bytes_eq name file.name) files file lt in
     let here : get_or files first file ≡ file = ap (λ k. get_or files k file) s.1 ∙ get_or_from_slice_get files n file file there in
     (bytes_eq-Decides name file.name).0 (ap (λ (file : File). bytes_eq name file.name) (sym here) ∙ pass)

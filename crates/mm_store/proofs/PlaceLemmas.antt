@@ -20,7 +20,7 @@ is_other b = not (is_line_feed b)
 -- no line feed is among bytes exactly where all are other bytes
 other_step : (b : Bool) (p n c : ℕ) → (p ≡ n → c ≡ 0) × (c ≡ 0 → p ≡ n) → (cond (not b) (1 + p) 0 ≡ suc n → cond b 1 0 + c ≡ 0) × (cond b 1 0 + c ≡ 0 → cond (not b) (1 + p) 0 ≡ suc n)
 other_step true p n c h = (λ e. absurd (omega arith), λ e. absurd (omega arith))
-other_step false p n c h = (λ e. (let k : c ≡ 0 = h.0 (omega arith) in omega arith), λ e. (let k : p ≡ n = h.1 (omega arith) in omega arith))
+other_step false p n c h = (λ e. (omega arith), λ e. (omega arith))
 
 all_other : (bytes : List ℕ) → (prefix_len is_other bytes ≡ length bytes → count_by is_line_feed bytes ≡ 0) × (count_by is_line_feed bytes ≡ 0 → prefix_len is_other bytes ≡ length bytes)
 all_other [] = (λ e. refl, λ e. refl)

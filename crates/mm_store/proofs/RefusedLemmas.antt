@@ -26,8 +26,7 @@ pub by_keys_last : (edits : List Asked) (edit : Asked) (old between new : FilesV
     → IsEditByKeys edit between new undo → IsBatchByKeys (edits ++ edit ∷ []) old new (undos ++ undo ∷ [])
 by_keys_last [] edit old between new [] undo are is = (new, subst (λ view. IsEditByKeys edit view new undo) are is, refl)
 by_keys_last (first ∷ edits) edit old between new (one ∷ undos) undo are is = (are.0, are.1, by_keys_last edits edit are.0 between new undos undo are.2 is)
-by_keys_last [] edit old between new (one ∷ undos) undo are is = absurd are
-by_keys_last (first ∷ edits) edit old between new [] undo are is = absurd are
+by_keys_last _ edit old between new _ undo are is = absurd are
 
 -- the edits of a list of which so many are done
 pub mapped_there : (edits : List code.Edit) (n : ℕ) (default : code.Edit) → n < length edits → slice_get (map asked edits) n ≡ Some (asked (get_or edits n default))

@@ -39,9 +39,8 @@ new_missing : ¬ Contains with_other (named 3)
 new_missing there = by there.0 there.1 there.2
   where
     by : (k : ℕ) → k < length with_other → get_or with_other k (named 3) ≡ named 3 → ⊥
-    by zero h e = cc
-    by (suc zero) h e = cc
     by (suc (suc k)) h e = absurd (omega arith)
+    by _ h e = cc
 
 abbrev given : List Placed
 given = part Inclusion 0 2 ∷ part Inclusion 1 2 ∷ part Inclusion 2 3 ∷ part Inclusion 3 3 ∷ part Inclusion 4 1 ∷ part Axiom 5 4 ∷ []

@@ -94,7 +94,6 @@ dropped_stays view k n kind once is =
     }
 
 pub spent_stays : (view : FilesView) (n : ℕ) (act : EditAction) → StandOnce view → CanSettle n act view → Stays view (spent act view)
-spent_stays view n (action.Inserted at) once can = stays_same view
 spent_stays view n (action.Replaced at k) once can = dropped_stays view k n _ once can
 spent_stays view n (action.Deleted at k) once can = dropped_stays view k n _ once can
-spent_stays view n (action.Moved at to) once can = stays_same view
+spent_stays view n _ once can = stays_same view

@@ -4,6 +4,5 @@ use Rattle.std.specs.Prelude.{slice_set}
 
 pub set_last : {X : Type 0} (front : List X) (x y : X) (n : ℕ) → n ≡ length front → slice_set (front ++ x ∷ []) n y ≡ front ++ y ∷ []
 set_last [] x y zero e = refl
-set_last [] x y (suc n) e = absurd (omega arith)
-set_last (first ∷ front) x y zero e = absurd (omega arith)
 set_last (first ∷ front) x y (suc n) e = ap (λ l. first ∷ l) (set_last front x y n (omega arith))
+set_last _ x y _ e = absurd (omega arith)

@@ -82,8 +82,6 @@ no_more first (Some piece ∷ rest) =
     omega (arith, no_more (first + 1) rest, at_most_one (piece_state piece.state), sum_by-cons (λ (o : Option Piece). cond (is_some o) 1 0) (Some piece) rest, sum_by-cons (λ (entry : ℕ × Piece). parked_state (piece_state entry.1.state)) (first, piece) (entries_from (first + 1) rest))
 
 one_less : (first at : ℕ) (slots : List (Option Piece)) (piece : Piece) → get_or slots at None ≡ Some piece → sum_by (λ (entry : ℕ × Piece). parked_state (piece_state entry.1.state)) (entries_from first slots) + 1 ≤ count_by is_some slots + parked_state (piece_state piece.state)
-one_less first at [] piece there = absurd (none-some piece there)
-one_less first zero (None ∷ rest) piece there = absurd (none-some piece there)
 one_less first (suc at) (None ∷ rest) piece there = omega (arith, one_less (first + 1) at rest piece there, sum_by-cons (λ (o : Option Piece). cond (is_some o) 1 0) None rest)
 one_less first zero (Some x ∷ rest) piece there =
     omega (
@@ -95,6 +93,7 @@ one_less first zero (Some x ∷ rest) piece there =
     )
 one_less first (suc at) (Some x ∷ rest) piece there =
     omega (arith, one_less (first + 1) at rest piece there, at_most_one (piece_state x.state), sum_by-cons (λ (o : Option Piece). cond (is_some o) 1 0) (Some x) rest, sum_by-cons (λ (entry : ℕ × Piece). parked_state (piece_state entry.1.state)) (first, x) (entries_from (first + 1) rest))
+one_less first _ _ piece there = absurd (none-some piece there)
 
 -- the other pieces that are parked are fewer than all
 pub others_parked : (slab : Slab Piece) (key : ℕ) (piece : Piece) → get slab key ≡ Some piece → parked_pieces (pieces_of slab) + 1 ≤ slab_len slab + parked_state (piece_state piece.state)

@@ -9,8 +9,6 @@ loop-count-preserved c =
     let found = c.args.found.now in
     let count = c.loop-count.count in
     let so_far = c.loop-count.invariant in
-    let w = so_far.within in
-    let some = c.loop-count-test.true in
     let next : suc (count - 1) ≡ count = omega arith in
     let none : EssentialVariable = record { number = 0; symbol = record { name = 0; variable = false } } in
     record {

@@ -1,4 +1,4 @@
-use Rattle.std.proofs.Common.{◌≡◌, ◌≤◌, ◌<◌, ◌^◌, length, drop, slice_index_or, ◌-◌, suc, sym, ◌∙◌, arith}
+use Rattle.std.proofs.Common.{◌≤◌, ◌<◌, ◌^◌, length, drop, slice_index_or, ◌-◌, suc, sym, ◌∙◌, arith}
 use Rattle.std.proofs.lemmas.Bool.{leb-true}
 use Rattle.mm_frame.specs.Code.KeptLabels.{label_code}
 use Rattle.mm_frame.proofs.LabelCodes.{code_fits}
@@ -10,7 +10,6 @@ overflow_mul-code c =
     let most : length label ≤ 9 = c.if-label-gt-MOST_SHORT.false in
     let fits : label_code (drop c.loop-left.left label) < 2 ^ 57 =
     code_fits c.loop-left.left label c.loop-left-test.true c.loop-left.invariant.0 most c.loop-left.invariant.2 in
-    let code : c.loop-left.code ≡ label_code (drop c.loop-left.left label) = c.loop-left.invariant.1 in
     omega arith
 
 pub overflow_add-code : goal.overflow_add-code
@@ -19,8 +18,6 @@ overflow_add-code c =
     let most : length label ≤ 9 = c.if-label-gt-MOST_SHORT.false in
     let fits : label_code (drop c.loop-left.left label) < 2 ^ 57 =
     code_fits c.loop-left.left label c.loop-left-test.true c.loop-left.invariant.0 most c.loop-left.invariant.2 in
-    let code : c.loop-left.code ≡ label_code (drop c.loop-left.left label) = c.loop-left.invariant.1 in
     let byte = slice_index_or label (c.loop-left.left - 1) 0 in
     let low : suc byte ≤ 128 = leb-true (suc byte) 128 (sym c.is_ascii.ensures ∙ c.if-not-is_ascii.false) in
-    let from : c.from.result ≡ byte = c.from.ensures in
     omega arith

@@ -1,6 +1,6 @@
 use Rattle.std.proofs.Common.{ℕ, List, sym, ap, subst, length, arith}
 use Rattle.mm_store.specs.declared.edit.EditError.{EditError}
-use Rattle.mm_store.specs.declared.edit.EditError.TheVariants.{NoFile, NoPiece, Text, NotOne, TooMany, Memory}
+use Rattle.mm_store.specs.declared.edit.EditError.TheVariants.{Text, NotOne, Memory}
 use Rattle.mm_store.specs.Code.Units.{IsUnit, IsUnitError, IsNewError}
 use Rattle.mm_store.proofs.EditLemmas.{if_err}
 use Rattle.mm_store.proofs.unit.new_piece.Goals as goal
@@ -9,9 +9,7 @@ new_error : (held : ℕ) (text : List ℕ) (error : EditError) → IsUnitError t
 new_error held text (Text fault) fails = fails
 new_error held text (NotOne count) fails = fails
 new_error held text Memory fails = tt
-new_error held text NoFile fails = absurd fails
-new_error held text (NoPiece count) fails = absurd fails
-new_error held text TooMany fails = absurd fails
+new_error held text _ fails = absurd fails
 
 pub returns-in_err-unit-clause-err : goal.returns-in_err-unit-clause-err
 returns-in_err-unit-clause-err c =
