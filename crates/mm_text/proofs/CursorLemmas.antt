@@ -1,11 +1,11 @@
 -- The words that are left to a cursor.
 use Rattle.std.proofs.Common.{◌≡◌, ℕ, zero, suc, ◌+◌, ◌-◌, ◌<◌, ◌≤◌, List, [], ◌∷◌, ◌++◌, Some, None, Ok, Err, length, get_or, refl, sym, ap, ◌∙◌, append_assoc, arith}
-use Rattle.std.specs.Prelude.{slice_get, slice_range}
+use Rattle.std.specs.Prelude.{slice_get, slice_range, Option, IfNone, IfSome, MatchOption}
 use Rattle.std.specs.List.{AllByRecursion, flat_map}
 use Rattle.std.proofs.lemmas.List.{length-append}
 use Rattle.mm_text.specs.declared.word.Word.{Word}
 use Rattle.mm_text.specs.declared.fault.TextFault.{TextFault}
-use Rattle.mm_text.specs.Language.Reading.{HasWords, LiesIn, AreWithin}
+use Rattle.mm_text.specs.Language.Reading.{AreWords, HasWords, LiesIn, AreWithin}
 use Rattle.mm_text.specs.Language.Unit.{spellings}
 use Rattle.mm_text.specs.declared.word.WordKind.TheVariants.{Plain}
 use Rattle.mm_text.specs.Code.LeftToRight.{read_runs, with_words}
@@ -90,8 +90,35 @@ plain_passed text from to at skips =
     }
 
 -- no word is left
-pub none_left : (text : List ℕ) (from : ℕ) → read_runs None (runs_at text from) ≡ Ok [] → words_from text from ≡ []
+none_left : (text : List ℕ) (from : ℕ) → read_runs None (runs_at text from) ≡ Ok [] → words_from text from ≡ []
 none_left text from e = ap words_read e
+
+none_behind : (text : List ℕ) (from to : ℕ) → AreLast text from → words_from text from ≡ [] → runs_at text to ≡ [] → AreLast text to
+none_behind text from to at none end =
+    let left : words_from text to ≡ [] = ap (λ runs. words_read (read_runs None runs)) end in
+    record {
+      whole = at.whole;
+      front = at.front;
+      has_words = at.has_words;
+      divided = at.divided ∙ ap (λ l. at.front ++ l) (none ∙ sym left);
+      no_fault = ap (read_runs None) end ∙ ap Ok (sym left);
+    }
+
+-- a word is taken, or none is left
+pub record Went (text : List ℕ) (from : ℕ) (found : Option Word) (to : ℕ) : Type 0 where
+  pub words : MatchOption found ((words_from text from ≡ []) × (words_from text to ≡ [])) (λ word. words_from text from ≡ word ∷ words_from text to)
+  pub last : AreLast text to
+  pub lies : IfSome found (LiesIn text)
+
+pub went : (text : List ℕ) (from : ℕ) (found : Option Word) (to : ℕ) → AreLast text from
+    → MatchOption found (AreWords (runs_at text from) []) (λ word. TakesWord text from word to) → IfNone found (runs_at text to ≡ []) → Went text from found to
+went text from None to at none end =
+    let left = none_left text from (read_words _ [] none) in
+    let last = none_behind text from to at left end in
+    record { words = (left, ap (λ runs. words_read (read_runs None runs)) end); last = last; lies = tt }
+went text from (Some word) to at taken end =
+    let took = one_taken text from word to at taken in
+    record { words = took.words; last = took.last; lies = took.lies }
 
 -- a fault is not met
 pub no_fault : (text : List ℕ) (from : ℕ) (fault : TextFault) → AreLast text from → read_runs None (runs_at text from) ≡ Err fault → ⊥

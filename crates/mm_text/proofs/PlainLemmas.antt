@@ -1,7 +1,8 @@
 -- Runs without a `$`.
-use Rattle.std.proofs.Common.{◌≡◌, ℕ, suc, ◌+◌, ◌-◌, true, false, Bool, not, eqb, List, [], ◌∷◌, length, take, drop, refl, sym, ap, ◌∙◌, inl, inr, arith}
+use Rattle.std.proofs.Common.{◌≡◌, ℕ, suc, ◌+◌, ◌-◌, ◌<◌, ◌≤◌, true, false, Bool, not, eqb, List, [], ◌∷◌, length, take, drop, get_or, refl, sym, ap, ◌∙◌, inl, inr, arith}
 use Rattle.std.proofs.lemmas.Bool.{cases_Bool, ne_eqb}
 use Rattle.std.proofs.lemmas.List.{take_rest}
+use Rattle.std.proofs.lemmas.List.Sums.{prefix_len-drop_no}
 use Rattle.std.specs.List.{prefix_len}
 use Rattle.mm_text.specs.Language.Run.{is_white, is_solid}
 use Rattle.mm_text.specs.Code.LeftToRight.{is_dollarless, has_dollar}
@@ -53,3 +54,22 @@ module _ (bytes : List ℕ) (p m : ℕ) (p-is : p ≡ prefix_len is_dollarless b
 
   pub dollars : eqb m 0 ≡ not (has_dollar (take (p + m) bytes))
   dollars = sym (twice (eqb m 0)) ∙ ap not (sym (ap (λ (k : ℕ). has_dollar (take k bytes)) whole ∙ dollar_behind bytes ∙ ap (λ (k : ℕ). not (eqb k 0)) (sym behind)))
+
+-- where the bytes without a `$` end, the run ends
+module _ (bytes : List ℕ) (p : ℕ) (p-is : p ≡ prefix_len is_dollarless bytes) (ends : prefix_len is_solid (drop p bytes) ≡ 0) where
+  none : 0 ≡ prefix_len is_solid (take (length bytes - p) (drop p bytes))
+  none = sym (ap (prefix_len is_solid) (take_rest bytes p) ∙ ends)
+
+  pub whole_plain : p ≡ prefix_len is_solid bytes
+  whole_plain = let all = whole bytes p 0 p-is none in omega (arith, all)
+
+  pub no_dollars : has_dollar (take p bytes) ≡ false
+  no_dollars =
+      let all : p + 0 ≡ p = omega arith in
+      sym (twice (has_dollar (take p bytes))) ∙ ap not (sym (dollars bytes p 0 p-is none ∙ ap (λ (k : ℕ). not (has_dollar (take k bytes))) all))
+
+pub ends_white : (bytes : List ℕ) (p d : ℕ) → p < length bytes → is_white (get_or bytes p d) ≡ true → prefix_len is_solid (drop p bytes) ≡ 0
+ends_white bytes p d less white = prefix_len-drop_no is_solid bytes p d less (ap not white)
+
+pub ends_text : (bytes : List ℕ) (p : ℕ) → length bytes ≤ p → prefix_len is_solid (drop p bytes) ≡ 0
+ends_text bytes p le = ap (prefix_len is_solid) (sym (take_rest bytes p) ∙ let none : length bytes - p ≡ 0 = omega arith in ap (λ (k : ℕ). take k (drop p bytes)) none)

@@ -72,13 +72,8 @@ impl<'a> WordCursor<'a> {
         ensures word { MatchOption result ((self.old.words ≡ []) × (self.new.words ≡ [])) (λ word. self.old.words ≡ word ∷ self.new.words) }
         ensures within { IfSome result (LiesIn self.old.text) }
     {
-        let mut ahead = self.reader;
-        match ahead.next_word() {
-            Ok(Some(word)) => {
-                self.reader = ahead;
-                Some(word)
-            }
-            Ok(None) => None,
+        match self.reader.next_word() {
+            Ok(word) => word,
             // a text that has words has no fault
             Err(_) => unreachable!(),
         }

@@ -4,7 +4,9 @@ ghost use Rattle.std.specs.Prelude.{◌≤◌, length};
 
 use crate::fault::{TextFault, TextNumber};
 use crate::skipping::dollarless_len;
-use crate::spelling::{first_run, has_mark, is_closing, is_opening, kind, white_len};
+use crate::spelling::{
+    first_run, has_mark, is_closing, is_opening, kind, plain_run_len, white_len,
+};
 use crate::word::{Word, WordKind};
 
 /// The bytes of a text from `start` to `end`, without white space.
@@ -25,8 +27,8 @@ pub struct Reader<'a> {
 }
 
 impl<'a> Reader<'a> {
-    ghost use Rattle.std.specs.Prelude.{◌≡◌};
-    ghost use Rattle.mm_text.specs.Code.Reader.{TakesRun, EndsComment, GivesWord, SkipsPlain};
+    ghost use Rattle.std.specs.Prelude.{◌≡◌, [], IfNone, IfOk};
+    ghost use Rattle.mm_text.specs.Code.Reader.{TakesRun, EndsComment, GivesWord, SkipsPlain, runs_at};
 
     /// A reader at the beginning of a text.
     pub fn new(text: &'a [u8]) -> Self
@@ -51,6 +53,7 @@ impl<'a> Reader<'a> {
         ensures text { self.new.text.now ≡ self.old.text.now }
         ensures forward { self.old.from ≤ self.new.from }
         ensures run { TakesRun self.old.text.now self.old.from result self.new.from }
+        ensures stays { IfNone result (self.new.from ≡ self.old.from) }
     {
         let start = self.from + white_len(&self.text[self.from..]);
         let run = first_run(&self.text[start..]);
@@ -99,25 +102,26 @@ impl<'a> Reader<'a> {
     pub fn next_word(&mut self) -> Result<Option<Word>, TextFault>
         ensures text { self.new.text.now ≡ self.old.text.now }
         ensures word { GivesWord self.old.text.now self.old.from result self.new.from }
+        ensures end { IfOk result (λ word. IfNone word (runs_at self.new.text.now self.new.from ≡ [])) }
     {
-        let mut ahead = *self;
-        match ahead.next_run() {
-            Some(span) if span.plain => {
-                *self = ahead;
-                Ok(Some(Word {
-                    kind: WordKind::Plain,
-                    start: span.start,
-                    end: span.end,
-                }))
-            }
-            _ => self.any_word(),
+        let start = self.from + white_len(&self.text[self.from..]);
+        let len = plain_run_len(&self.text[start..]);
+        if len == 0 {
+            return self.any_word();
         }
+        self.from = start + len;
+        Ok(Some(Word {
+            kind: WordKind::Plain,
+            start,
+            end: start + len,
+        }))
     }
 
     /// The next word outside comments, whatever stands before it.
     fn any_word(&mut self) -> Result<Option<Word>, TextFault>
         ensures text { self.new.text.now ≡ self.old.text.now }
         ensures word { GivesWord self.old.text.now self.old.from result self.new.from }
+        ensures end { IfOk result (λ word. IfNone word (runs_at self.new.text.now self.new.from ≡ [])) }
     {
         while let Some(span) = self.next_run() {
             if span.plain {

@@ -1,6 +1,6 @@
 //! How words are spelled.
 
-ghost use Rattle.std.specs.Prelude.{◌≡◌, ◌≤◌, ◌↔◌, IsTrue, length, not, take};
+ghost use Rattle.std.specs.Prelude.{◌≡◌, ◌<◌, ◌≤◌, ◌↔◌, IsTrue, false, length, not, take};
 ghost use Rattle.std.specs.List.{list_all, prefix_len};
 ghost use Rattle.mm_text.specs.Language.Unit as labels;
 ghost use Rattle.mm_text.specs.Language.Run.{is_white, is_solid};
@@ -88,6 +88,19 @@ pub fn first_run(bytes: &[u8]) -> Front
         len: plain + more,
         plain: more == 0,
     }
+}
+
+/// How many bytes the run has that these bytes begin with, where it has no `$`; none where it has one, or where there is no run.
+pub fn plain_run_len(bytes: &[u8]) -> usize
+    ensures within { result ≤ length bytes.now }
+    ensures len { 0 < result → result ≡ prefix_len is_solid bytes.now }
+    ensures plain { 0 < result → has_dollar (take result bytes.now) ≡ false }
+{
+    let plain = plain_len(bytes);
+    if plain < bytes.len() && !is_white_space(bytes[plain]) {
+        return 0;
+    }
+    plain
 }
 
 /// The keyword that has this byte behind its `$`, if there is one.
