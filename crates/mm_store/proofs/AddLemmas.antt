@@ -20,7 +20,7 @@ use Rattle.mm_store.specs.declared.file_text.FileText.{FileText}
 use Rattle.mm_store.specs.declared.files.Files.TheInside.{Inside}
 use Rattle.mm_store.specs.Language.Pieces.{HeldPiece, Pieces, standing_piece, text_in, text_under}
 use Rattle.mm_store.specs.Language.FilesView.{File, KeyedFile, plain, plain_file, text_of, bytes_of}
-use Rattle.mm_store.specs.Code.Lines.{AreStarts}
+use Rattle.mm_store.specs.Code.Starts.{HasStarts}
 use Rattle.mm_store.specs.Code.Inside.{ArePut}
 use Rattle.mm_store.specs.Code.Room.{HasRoom}
 use Rattle.mm_store.specs.Code.Kept.{view_of, file_of, one, times, places, standing_count, deleted_state, deletions, IsRoomy, HaveRoom, HaveStarts, IsKept}
@@ -86,7 +86,7 @@ room_more : {Y : Type 0} (p : Pieces) (e : Vec ℕ Y × FileText) (start : ℕ) 
 room_more p e start [] has room = let same : start + 0 ≡ start = omega arith in (subst (λ n. IsRoomy p n e.1) same has, tt)
 room_more p e start (x ∷ es) has room = let same : start + suc (length es) ≡ suc start + length es = omega arith in (room.0, room_more p e (suc start) es (subst (λ n. IsRoomy p n e.1) same has) room.1)
 
-starts_more : {Y : Type 0} (file : File) (e : Vec ℕ Y × FileText) (files : List File) (es : List (Vec ℕ Y × FileText)) → AreStarts file.pieces e.1.starts.items → HasWords e.1.tail.items [] → HaveStarts files es → HaveStarts (files ++ file ∷ []) (es ++ e ∷ [])
+starts_more : {Y : Type 0} (file : File) (e : Vec ℕ Y × FileText) (files : List File) (es : List (Vec ℕ Y × FileText)) → HasStarts file.pieces e.1 → HasWords e.1.tail.items [] → HaveStarts files es → HaveStarts (files ++ file ∷ []) (es ++ e ∷ [])
 starts_more file e [] [] are tail have = (are, tail, refl)
 starts_more file e (x ∷ files) [] are tail have = absurd (none_of_more have)
   where
@@ -115,7 +115,7 @@ module _ (inside : Inside) (kept : IsKept inside) (e : Vec ℕ Global × FileTex
       ∙ ap (λ fs. fs ++ plain_file now (file_of e) ∷ []) (plain_kept inside.pieces now (map file_of es) keeps_texts)
       ∙ ap (λ (ts : List (List ℕ)). map (plain_file inside.pieces) (map file_of es) ++ record { name = e.0.items; pieces = ts; tail = e.1.tail.items } ∷ []) (put_texts inside.pieces now texts e.1.keys.items put)
 
-  pub kept_added : (after : Inside) → after.files.entries ≡ es ++ e ∷ [] → after.pieces ≡ now → e.1.deleted ≡ 0 → HasRoom e.1 → AreStarts texts e.1.starts.items → HasWords e.1.tail.items []
+  pub kept_added : (after : Inside) → after.files.entries ≡ es ++ e ∷ [] → after.pieces ≡ now → e.1.deleted ≡ 0 → HasRoom e.1 → HasStarts texts e.1 → HasWords e.1.tail.items []
       → after.bytes ≡ inside.bytes + length (concat texts ++ e.1.tail.items) → after.bytes ≤ 4294967295 → IsKept after
   kept_added after is pieces deleted room starts tail counted within =
       let p = inside.pieces in

@@ -1,15 +1,14 @@
 -- Where a byte of a piece stands in its file, by the fields of `Files`.
-use Rattle.std.proofs.Common.{◌≡◌, ℕ, ◌+◌, ◌<◌, ◌≤◌, List, [], Some, length, map, take, get_or, sym, ap, ◌∙◌, subst, arith}
+use Rattle.std.proofs.Common.{◌≡◌, ℕ, ◌+◌, ◌<◌, ◌≤◌, List, [], Some, length, map, take, get_or, sym, ap, ◌∙◌, subst}
 use Rattle.std.specs.Prelude.{Vec, slice_get}
 use Rattle.std.specs.List.{concat}
 use Rattle.std.specs.Option.{option_map}
 use Rattle.std.proofs.lemmas.Option.{slice_get-map, slice_get_within, get_or_from_slice_get, same_Some}
 use Rattle.mm_store.specs.declared.file_text.FileText.{FileText}
-use Rattle.mm_store.specs.declared.start.Start.{Start}
 use Rattle.mm_store.specs.Language.Pieces.{Pieces, text_under}
 use Rattle.mm_store.specs.Language.FilesView.{File, FilesView, plain, plain_file, text_of}
 use Rattle.mm_store.specs.Language.FileFacts.{IsByte, piece_offset}
-use Rattle.mm_store.specs.Code.Lines.{AreStarts, IsStart, bytes_before}
+use Rattle.mm_store.specs.Code.Lines.{bytes_before}
 use Rattle.mm_store.specs.Code.Kept.{file_of}
 use Rattle.mm_store.proofs.PlaceLemmas.{before_byte}
 
@@ -42,7 +41,3 @@ module _ {Y : Type 0} (p : Pieces) (entries : List (Vec ℕ Y × FileText)) (num
 
   pub offset_in : offset ≡ length (concat (take piece (map (text_under p) entry.1.keys.items))) + at
   offset_in = byte.is_offset ∙ ap (λ (file : File). piece_offset file piece + at) file_is
-
--- where a piece begins, read from the list
-pub start_read : (texts : List (List ℕ)) (starts : List Start) (piece : ℕ) (start : Start) → AreStarts texts starts → piece < length texts → start ≡ get_or starts piece start → IsStart (concat (take piece texts)) start
-start_read texts starts piece start are h is = subst (IsStart (concat (take piece texts))) (sym is) (are piece start (omega (arith, h)))

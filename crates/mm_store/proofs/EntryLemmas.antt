@@ -2,7 +2,7 @@
 use Rattle.std.proofs.Common.{◌≡◌, ◌≢◌, ℕ, zero, suc, ◌+◌, ◌<◌, List, [], ◌∷◌, Some, map, refl, sym, ap, ◌∙◌, subst, arith}
 use Rattle.std.specs.Prelude.{Vec, slice_get}
 use Rattle.mm_text.specs.Language.Reading.{HasWords}
-use Rattle.mm_store.specs.Code.Lines.{AreStarts}
+use Rattle.mm_store.specs.Code.Starts.{HasStarts}
 use Rattle.mm_store.specs.Code.Edited.{pieces_in, with_pieces}
 use Rattle.std.proofs.lemmas.Option.{same_Some, none-some}
 use Rattle.indexmap.specs.IndexMap.{set_value_at}
@@ -54,10 +54,10 @@ module _ {Y : Type 0} where
   )
 
   -- where pieces begin in the file of this number, and in the files after a change of one
-  pub starts_at : (files : List File) (es : List (Vec ℕ Y × FileText)) (n : ℕ) (v : FileText) → HaveStarts files es → slice_get (texts_of es) n ≡ Some v → AreStarts (pieces_in files n) v.starts.items
+  pub starts_at : (files : List File) (es : List (Vec ℕ Y × FileText)) (n : ℕ) (v : FileText) → HaveStarts files es → slice_get (texts_of es) n ≡ Some v → HasStarts (pieces_in files n) v
   starts_at files [] n v have there = absurd (none-some v there)
   starts_at [] (e ∷ es) n v have there = absurd have
-  starts_at (file ∷ files) (e ∷ es) zero v have there = subst (λ (v : FileText). AreStarts file.pieces v.starts.items) (same_Some e.1 v there) have.0
+  starts_at (file ∷ files) (e ∷ es) zero v have there = subst (HasStarts file.pieces) (same_Some e.1 v there) have.0
   starts_at (file ∷ files) (e ∷ es) (suc n) v have there = starts_at files es n v have.2 there
 
   pub tail_at : (files : List File) (es : List (Vec ℕ Y × FileText)) (n : ℕ) (v : FileText) → HaveStarts files es → slice_get (texts_of es) n ≡ Some v → HasWords v.tail.items []
@@ -66,7 +66,7 @@ module _ {Y : Type 0} where
   tail_at (file ∷ files) (e ∷ es) zero v have there = subst (λ (v : FileText). HasWords v.tail.items []) (same_Some e.1 v there) have.1
   tail_at (file ∷ files) (e ∷ es) (suc n) v have there = tail_at files es n v have.2 there
 
-  pub starts_set : (files : List File) (es : List (Vec ℕ Y × FileText)) (n : ℕ) (w : FileText) (members : List (List ℕ)) → HaveStarts files es → AreStarts members w.starts.items → HasWords w.tail.items []
+  pub starts_set : (files : List File) (es : List (Vec ℕ Y × FileText)) (n : ℕ) (w : FileText) (members : List (List ℕ)) → HaveStarts files es → HasStarts members w → HasWords w.tail.items []
       → HaveStarts (with_pieces files n members) (set_value_at es n w)
   starts_set [] [] n w members have are tail = refl
   starts_set (file ∷ files) [] n w members have are tail = absurd (none_of_more have)

@@ -1,7 +1,7 @@
 -- The files after a change of the keys of one file and of the pieces.
 use Rattle.std.proofs.lemmas.Bool.{cases_eq}
-use Rattle.std.proofs.Common.{◌≡◌, ◌≢◌, inl, inr, ℕ, zero, suc, ◌-◌, ◌<◌, ◌≤◌, List, [], ◌∷◌, Some, length, map, take, get_or, refl, sym, ap, ◌∙◌, subst, arith}
-use Rattle.std.specs.Prelude.{Vec, slice_get, vec_len}
+use Rattle.std.proofs.Common.{◌≡◌, ◌≢◌, inl, inr, ℕ, zero, suc, ◌-◌, ◌<◌, ◌≤◌, List, [], ◌∷◌, Some, length, map, refl, sym, ap, ◌∙◌, subst, arith}
+use Rattle.std.specs.Prelude.{Vec, slice_get}
 use Rattle.std.specs.Global.{Global}
 use Rattle.std.proofs.lemmas.Option.{slice_get_within, none-some}
 use Rattle.std.proofs.lemmas.List.{length-map}
@@ -15,9 +15,7 @@ use Rattle.mm_store.proofs.ReplaceLemmas.{replaced_weight}
 use Rattle.mm_store.proofs.StepLemmas.{parked}
 use Rattle.mm_store.proofs.ListLemmas.{with_same, plain_same, plain_pieces, with_pieces_same}
 use Rattle.mm_text.specs.Language.Reading.{HasWords}
-use Rattle.std.specs.List.{concat}
-use Rattle.mm_store.specs.declared.start.Start.{Start}
-use Rattle.mm_store.specs.Code.Lines.{IsStart, AreStarts}
+use Rattle.mm_store.specs.Code.Starts.{HasStarts, KnowsStarts}
 use Rattle.mm_store.specs.Code.Room.{HasRoom}
 use Rattle.mm_store.specs.Code.Edited.{pieces_in, with_pieces}
 use Rattle.mm_store.proofs.EntryLemmas.{texts_of, keys_at, view_set, room_at, room_same, room_set, starts_at, starts_set, tail_at, same_view}
@@ -57,7 +55,7 @@ module _ (inside : Inside) (n : ℕ) (v w : FileText) (here : slice_get (texts_o
       → bytes ≤ 4294967295
       → (members : List (List ℕ))
       → map (plain_file now) (with_keys (map file_of inside.files.entries) n keys) ≡ with_pieces (map (plain_file inside.pieces) (map file_of inside.files.entries)) n members
-      → AreStarts members w.starts.items
+      → HasStarts members w
       → IsKept after
   kept_after kept once others parked room counted within members means starts = record {
     once = λ q. ap (places q) files_is ∙ once q ∙ ap (λ p. standing_count (finite.get p q)) (sym pieces);
@@ -69,7 +67,7 @@ module _ (inside : Inside) (n : ℕ) (v w : FileText) (here : slice_get (texts_o
         (starts_set (plain (view_of inside)) inside.files.entries n w members kept.starts starts (subst (λ (t : Vec ℕ Global). HasWords t.items []) (sym tail) (tail_at (plain (view_of inside)) inside.files.entries n v kept.starts here)));
   }
 
--- the files after room was made in one of them
+-- the files after room was made in one of them, or it was found where more of its pieces begin
 module _ (inside : Inside) (n : ℕ) (v w : FileText) (here : slice_get (texts_of inside.files.entries) n ≡ Some v) (tail : w.tail ≡ v.tail)
     (items : w.keys.items ≡ v.keys.items) (actual : Pieces) (pieces : actual ≡ inside.pieces) where
   same_keys : w.keys.items ≡ keys_in (map file_of inside.files.entries) n
@@ -80,21 +78,21 @@ module _ (inside : Inside) (n : ℕ) (v w : FileText) (here : slice_get (texts_o
       view_after inside n v w here tail (keys_in (map file_of inside.files.entries) n) same_keys actual inside.pieces pieces inside.bytes
       ∙ ap (λ (files : List KeyedFile). record { keyed = files; pieces = inside.pieces }) (with_same (map file_of inside.files.entries) n)
 
-  pub reserved_kept : w.deleted ≡ v.deleted → HasRoom w
-      → ((number : ℕ) (default : Start) → number ≤ vec_len v.keys → get_or w.starts.items number default ≡ get_or v.starts.items number default)
+  pub reserved_kept : w.deleted ≡ v.deleted → HasRoom w → (KnowsStarts inside.pieces v → KnowsStarts inside.pieces w)
       → IsKept inside → IsKept (record { files = with_value_at inside.files n w; pieces = actual; bytes = inside.bytes })
-  reserved_kept deleted room starts kept =
+  reserved_kept deleted room knows kept =
       let had = room_at inside.pieces 0 inside.files.entries n n v (omega arith) kept.room here in
       let fs : List KeyedFile = map file_of inside.files.entries in
       let same = with_same fs n in
       let members = pieces_in (plain (view_of inside)) n in
-      let count : length members ≡ vec_len v.keys = ap length (plain_pieces inside.pieces fs n ∙ ap (map (text_under inside.pieces)) (keys_at inside.files.entries n v here)) ∙ length-map v.keys.items (text_under inside.pieces) ∙ sym v.keys.ok.0 in
-      let were = starts_at (plain (view_of inside)) inside.files.entries n v kept.starts here in
+      let f = text_under inside.pieces in
+      let texts : members ≡ map f v.keys.items = plain_pieces inside.pieces fs n ∙ ap (map f) (keys_at inside.files.entries n v here) in
+      let were : HasStarts members v = starts_at (plain (view_of inside)) inside.files.entries n v kept.starts here in
       kept_after inside n v w here tail (keys_in fs n) same_keys actual inside.pieces pieces inside.bytes kept
       (λ q. ap (places q) same ∙ kept.once q) (λ m d. refl) (deleted ∙ had.parked) room
       (kept.counted ∙ ap (λ fs. bytes_of (map (plain_file inside.pieces) fs)) (sym same)) kept.within
       members (ap (map (plain_file inside.pieces)) same ∙ sym (with_pieces_same (plain (view_of inside)) n))
-      (λ number default le. subst (IsStart (concat (take number members))) (sym (starts number default (omega (arith, le, count)))) (were number default le))
+      (subst (λ ts. HasStarts ts w) (ap (map f) items ∙ sym texts) (knows (subst (λ ts. HasStarts ts v) texts were)))
 
 pub texts_set : {Y : Type 0} (es : List (Vec ℕ Y × FileText)) (n : ℕ) (v w : FileText) → slice_get (texts_of es) n ≡ Some v → slice_get (texts_of (set_value_at es n w)) n ≡ Some w
 texts_set [] n v w there = absurd (none-some v there)

@@ -4,7 +4,12 @@ use Rattle.std.specs.List.{concat, insert, remove}
 use Rattle.std.proofs.lemmas.Bool.{cases_eq}
 use Rattle.std.proofs.lemmas.List.{length-map, get_or-set_same, get_or-set_other}
 use Rattle.mm_store.specs.declared.start.Start.{Start}
-use Rattle.mm_store.specs.Code.Lines.{IsStart, AreStarts, AreStartsTo}
+use Rattle.std.specs.Prelude.{Vec, vec_len}
+use Rattle.std.specs.Global.{Global}
+use Rattle.mm_store.specs.declared.file_text.FileText.{FileText}
+use Rattle.mm_store.specs.Language.Pieces.{Pieces, text_under}
+use Rattle.mm_store.specs.Code.Starts.{HasStarts, KnowsStarts}
+use Rattle.mm_store.specs.Code.Lines.{IsStart, AreStartsTo}
 
 pub take_insert : (xs : List ℕ) (at key n : ℕ) → n ≤ at → at ≤ length xs → take n (insert xs at key) ≡ take n xs
 take_insert xs at key zero le there = refl
@@ -29,12 +34,40 @@ take_map f zero xs = refl
 take_map f (suc n) [] = refl
 take_map f (suc n) (x ∷ xs) = ap (λ ys. f x ∷ ys) (take_map f n xs)
 
--- starts of a list are those of another as far as both are one
-pub starts_same : (f : ℕ → List ℕ) (old new : List ℕ) (last : ℕ) (starts : List Start) → last ≤ length old → ((n : ℕ) → n ≤ last → take n new ≡ take n old)
-    → AreStarts (map f old) starts → AreStartsTo last (map f new) starts
-starts_same f old new last starts le same are = λ number default lt.
-    subst (λ texts. IsStart (concat texts) (get_or starts number default)) (take_map f number old ∙ ap (map f) (sym (same number lt)) ∙ sym (take_map f number new))
-    (are number default (omega (arith, le, lt, length-map old f)))
+-- what is known of the keys of a file holds of other keys as far as both are one
+pub known_same : (p : Pieces) (v w : FileText) → w.known ≤ v.known → w.known ≤ length w.keys.items → ((n : ℕ) → n ≤ w.known → take n w.keys.items ≡ take n v.keys.items)
+    → w.starts ≡ v.starts → KnowsStarts p v → KnowsStarts p w
+known_same p v w less within same starts knows =
+    let f = text_under p in
+    record {
+      known = omega (arith, within, length-map w.keys.items f);
+      starts = λ number default le.
+          subst (λ (starts : Vec Start Global). IsStart (concat (take number (map f w.keys.items))) (get_or starts.items number default)) (sym starts)
+          (subst (λ texts. IsStart (concat texts) (get_or v.starts.items number default))
+          (take_map f number v.keys.items ∙ ap (map f) (sym (same number le)) ∙ sym (take_map f number w.keys.items)) (knows.starts number default (omega (arith, le, less))));
+    }
+
+-- and where room was made
+pub starts_stay : (p : Pieces) (v w : FileText) → w.keys.items ≡ v.keys.items → w.known ≡ v.known
+    → ((number : ℕ) (default : Start) → number ≤ vec_len v.keys → get_or w.starts.items number default ≡ get_or v.starts.items number default)
+    → KnowsStarts p v → KnowsStarts p w
+starts_stay p v w items known same knows =
+    let f = text_under p in
+    let texts : map f v.keys.items ≡ map f w.keys.items = ap (map f) (sym items) in
+    record {
+      known = omega (arith, known, knows.known, ap length texts);
+      starts = λ number default le.
+          subst (IsStart (concat (take number (map f w.keys.items)))) (sym (same number default (omega (arith, le, known, knows.known, length-map v.keys.items f, v.keys.ok.0))))
+          (subst (λ ts. IsStart (concat (take number ts)) (get_or v.starts.items number default)) texts (knows.starts number default (omega (arith, le, known))));
+    }
+
+-- and where nothing of this changed
+pub starts_alike : (texts : List (List ℕ)) (v w : FileText) → w.known ≡ v.known → w.starts ≡ v.starts → HasStarts texts v → HasStarts texts w
+starts_alike texts v w known starts has = record {
+  known = omega (arith, known, has.known);
+  starts = λ number default le. subst (λ (starts : Vec Start Global). IsStart (concat (take number texts)) (get_or starts.items number default)) (sym starts)
+      (has.starts number default (omega (arith, le, known)));
+}
 
 -- one start more
 pub starts_more : (texts : List (List ℕ)) (starts : List Start) (last : ℕ) (start : Start) → suc last < length starts → IsStart (concat (take (last + 1) texts)) start

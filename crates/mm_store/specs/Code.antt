@@ -3,6 +3,7 @@ pub mod Inside
 pub mod States
 pub mod Slots
 pub mod Room
+pub mod Starts
 pub mod Kept
 pub mod Edited
 pub mod Units

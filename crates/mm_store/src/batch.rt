@@ -93,13 +93,13 @@ impl Files {
         ensures unchanged { OnErr result (self.new ≡ self.old) }
         ensures kept { OnErr result (undos.new ≡ undos.old) }
     {
-        let done = match self.edit(edit) {
+        let done = match self.apply(edit) {
             Ok(undo) => undo,
             Err(error) => return Err(refused(number, error)),
         };
         self.stand_once();
         if let Err(error) = undos.undos.reserve(1) {
-            self.undo(done);
+            self.take_back(done);
             return Err(BatchError::from(error));
         }
         undos.undos.push(done).unwrap();
@@ -110,8 +110,9 @@ impl Files {
     ///
     /// Where one is refused, none is done, and the answer has its number and the reason. `Memory` can come in the place
     /// of each other answer, once the file and the pieces of the first edit are known to be there. After any error the
-    /// files are as before. No edits are done without memory. It takes the time of the edits, and room for what is needed
-    /// to undo each.
+    /// files are as before. No edits are done without memory. It takes the time of the texts that the edits bring, moves
+    /// for each edit the keys behind its place in its file, and then goes once through the pieces behind the first place of
+    /// each file; and it takes room for what is needed to undo each.
     pub fn edit_all(&mut self, edits: &[Edit<'_>]) -> Result<Undos, BatchError>
         ensures ok { OnOk result (IsBatchOf (map asked edits.now) (plain self.old) (plain self.new)) }
         ensures by_keys { IfOk result (IsBatchByKeys (map asked edits.now) self.old self.new) }
@@ -127,20 +128,23 @@ impl Files {
                 return Err(error);
             }
         }
+        self.restart_all();
         Ok(undos)
     }
 
     /// Reverses edits, the last of them first. Where the files stand as the edits left them, they are then as before the
-    /// first of them. It takes the time of undoing each, and no memory.
+    /// first of them. It moves for each the keys behind its place in its file, then goes once through the pieces behind the
+    /// first place of each file, and takes no memory.
     pub fn undo_all(&mut self, undos: Undos)
         requires { (old : FilesView) × IsSpendable old self.old undos }
         ensures { (old : FilesView) → IsSpendable old self.old undos → self.new ≡ old }
     {
         let Undos { mut undos } = undos;
         while let Some(undo) = undos.pop() {
-            self.undo(undo);
+            self.take_back(undo);
         }
         undos.destroy_empty();
+        self.restart_all();
     }
 
     /// Drops the old pieces of edits: these can then no longer be undone. The files stay as they are, and what stands in

@@ -1,24 +1,27 @@
 //! A file by the keys of its pieces.
 
-ghost use Rattle.std.specs.Prelude.{◌≡◌, ℕ, ◌+◌, ◌<◌, ◌≤◌, All, IfOk, OnOk, length, map, slice_index_or, slice_set, vec_len};
+ghost use Rattle.std.specs.Prelude.{◌≡◌, ℕ, ◌+◌, ◌<◌, ◌≤◌, All, IfOk, OnOk, length, map, slice_index_or, slice_set, take, vec_len};
 ghost use Rattle.std.specs.List.{concat, insert, remove};
-ghost use Rattle.mm_store.specs.Language.Pieces.{text_under};
+ghost use Rattle.mm_store.specs.Language.Pieces.{Pieces, text_under};
 ghost use Rattle.mm_store.specs.Language.Undoing.{moved_list};
 ghost use Rattle.mm_store.specs.Code.Inside.{IsPieceKept};
-ghost use Rattle.mm_store.specs.Code.Lines.{AreStarts, AreStartsTo};
+ghost use Rattle.mm_store.specs.Code.Lines.{AreStarts, AreStartsTo, IsStart};
 ghost use Rattle.mm_store.specs.Code.Room.{HasRoom, HasRoomForOne};
+ghost use Rattle.mm_store.specs.Code.Starts.{KnowsStarts};
 
 use crate::piece_text::PieceText;
 use crate::pieces::PieceStore;
 use crate::start::Start;
 use std::alloc::{AllocError, Global};
 
-/// The keys of a file's pieces in order, where each of them and the tail begins, what is behind the last, and how
-/// many of its deleted pieces are parked. Behind the starts that count there are others, as room.
+/// The keys of a file's pieces in order, where each of them and the tail begins, up to which of them this is known, what
+/// is behind the last, and how many of its deleted pieces are parked. Behind the starts that count there are others, as
+/// room.
 #[derive(Drop)]
 pub struct FileText {
     pub(crate) keys: Vec<usize>,
     pub(crate) starts: Vec<Start>,
+    pub(crate) known: usize,
     pub(crate) tail: Vec<u8>,
     pub(crate) deleted: usize,
 }
@@ -50,27 +53,56 @@ impl FileText {
         ensures starts { AreStartsTo (piece + 1) (map (text_under pieces.now) self.old.keys.items) self.new.starts.items }
         ensures many { length self.new.starts.items ≡ length self.old.starts.items }
         ensures keys { self.new.keys ≡ self.old.keys }
+        ensures known { self.new.known ≡ self.old.known }
         ensures tail { self.new.tail ≡ self.old.tail }
         ensures deleted { self.new.deleted ≡ self.old.deleted }
     {
         self.starts[piece + 1] = pieces.next_start(self.starts[piece], self.keys[piece]);
     }
 
-    /// Sets where the pieces and the tail behind one piece begin, in one step for each of them.
-    fn restart(&mut self, pieces: &PieceStore, from: usize)
-        requires there { from ≤ vec_len self.old.keys }
+    /// Sets where those pieces and the tail begin of which it is not known, in one step for each of them.
+    pub(crate) fn restart(&mut self, pieces: &PieceStore)
         requires room { vec_len self.old.keys < length self.old.starts.items }
         requires small { length (concat (map (text_under pieces.now) self.old.keys.items)) ≤ 4294967295 }
-        requires before { AreStartsTo from (map (text_under pieces.now) self.old.keys.items) self.old.starts.items }
-        ensures starts { AreStarts (map (text_under pieces.now) self.old.keys.items) self.new.starts.items }
+        requires starts { KnowsStarts pieces.now self.old }
+        ensures starts { KnowsStarts pieces.now self.new }
         ensures many { length self.new.starts.items ≡ length self.old.starts.items }
         ensures keys { self.new.keys ≡ self.old.keys }
         ensures tail { self.new.tail ≡ self.old.tail }
         ensures deleted { self.new.deleted ≡ self.old.deleted }
     {
-        for piece in from..self.keys.len() {
+        for piece in self.known..self.keys.len() {
             self.set_next(pieces, piece);
         }
+        self.known = self.keys.len();
+    }
+
+    /// Where a piece begins: this is counted on from the last piece before it of which it is known.
+    pub(crate) fn start(&self, pieces: &PieceStore, piece: usize) -> Start
+        requires there { piece < vec_len self.now.keys }
+        requires room { vec_len self.now.keys < length self.now.starts.items }
+        requires small { length (concat (map (text_under pieces.now) self.now.keys.items)) ≤ 4294967295 }
+        requires starts { KnowsStarts pieces.now self.now }
+        ensures { IsStart (concat (take piece (map (text_under pieces.now) self.now.keys.items))) result }
+    {
+        let known = piece.min(self.known);
+        let mut start = self.starts[known];
+        for before in known..piece {
+            start = pieces.next_start(start, self.keys[before]);
+        }
+        start
+    }
+
+    /// Of the pieces behind this one it is no longer known where they begin.
+    fn forget_behind(&mut self, piece: usize)
+        ensures at_most { self.new.known ≤ piece }
+        ensures no_more { self.new.known ≤ self.old.known }
+        ensures keys { self.new.keys ≡ self.old.keys }
+        ensures starts { self.new.starts ≡ self.old.starts }
+        ensures tail { self.new.tail ≡ self.old.tail }
+        ensures deleted { self.new.deleted ≡ self.old.deleted }
+    {
+        self.known = self.known.min(piece);
     }
 
     /// Makes room for one key more, beside the deleted pieces that are parked.
@@ -81,6 +113,7 @@ impl FileText {
         ensures items { self.new.keys.items ≡ self.old.keys.items }
         ensures starts { (number : ℕ) (default : Start) → number ≤ vec_len self.old.keys
             → slice_index_or self.new.starts.items number default ≡ slice_index_or self.old.starts.items number default }
+        ensures known { self.new.known ≡ self.old.known }
         ensures tail { self.new.tail ≡ self.old.tail }
         ensures deleted { self.new.deleted ≡ self.old.deleted }
     {
@@ -92,93 +125,83 @@ impl FileText {
     }
 
     /// Puts another key in the place of one, which is the answer.
-    pub(crate) fn replace_key(&mut self, pieces: &PieceStore, at: usize, key: usize) -> usize
+    pub(crate) fn replace_key(&mut self, at: usize, key: usize) -> usize
         requires there { at < vec_len self.old.keys }
         requires room { HasRoom self.old }
-        requires starts { AreStarts (map (text_under pieces.now) self.old.keys.items) self.old.starts.items }
-        requires small { length (concat (map (text_under pieces.now) (slice_set self.old.keys.items at key))) ≤ 4294967295 }
         ensures value { result ≡ slice_index_or self.old.keys.items at 0 }
         ensures deleted { self.new.deleted ≡ self.old.deleted }
         ensures items { self.new.keys.items ≡ slice_set self.old.keys.items at key }
-        ensures starts { AreStarts (map (text_under pieces.now) self.new.keys.items) self.new.starts.items }
+        ensures starts { (pieces : Pieces) → KnowsStarts pieces self.old → KnowsStarts pieces self.new }
         ensures room { HasRoom self.new }
         ensures tail { self.new.tail ≡ self.old.tail }
     {
         let old = self.keys[at];
         self.keys[at] = key;
-        self.restart(pieces, at);
+        self.forget_behind(at);
         old
     }
 
     /// Puts a key before the one at `at`, for which there is room.
-    pub(crate) fn put_key(&mut self, pieces: &PieceStore, at: usize, key: usize)
+    pub(crate) fn put_key(&mut self, at: usize, key: usize)
         requires there { at ≤ vec_len self.old.keys }
         requires room { HasRoomForOne self.old }
-        requires starts { AreStarts (map (text_under pieces.now) self.old.keys.items) self.old.starts.items }
-        requires small { length (concat (map (text_under pieces.now) (insert self.old.keys.items at key))) ≤ 4294967295 }
         ensures deleted { self.new.deleted ≡ self.old.deleted }
         ensures items { self.new.keys.items ≡ insert self.old.keys.items at key }
-        ensures starts { AreStarts (map (text_under pieces.now) self.new.keys.items) self.new.starts.items }
+        ensures starts { (pieces : Pieces) → KnowsStarts pieces self.old → KnowsStarts pieces self.new }
         ensures room { HasRoom self.new }
         ensures tail { self.new.tail ≡ self.old.tail }
     {
         self.keys.insert(at, key).unwrap();
-        self.restart(pieces, at);
+        self.forget_behind(at);
     }
 
     /// Takes a key out, which is the answer.
-    pub(crate) fn take_key(&mut self, pieces: &PieceStore, at: usize) -> usize
+    pub(crate) fn take_key(&mut self, at: usize) -> usize
         requires there { at < vec_len self.old.keys }
         requires room { HasRoom self.old }
-        requires starts { AreStarts (map (text_under pieces.now) self.old.keys.items) self.old.starts.items }
-        requires small { length (concat (map (text_under pieces.now) (remove self.old.keys.items at))) ≤ 4294967295 }
         ensures value { result ≡ slice_index_or self.old.keys.items at 0 }
         ensures deleted { self.new.deleted ≡ self.old.deleted }
         ensures items { self.new.keys.items ≡ remove self.old.keys.items at }
-        ensures starts { AreStarts (map (text_under pieces.now) self.new.keys.items) self.new.starts.items }
+        ensures starts { (pieces : Pieces) → KnowsStarts pieces self.old → KnowsStarts pieces self.new }
         ensures room { HasRoom self.new }
         ensures tail { self.new.tail ≡ self.old.tail }
     {
         let key = self.keys.remove(at);
-        self.restart(pieces, at);
+        self.forget_behind(at);
         key
     }
 
     /// Takes a key out, whose piece is parked: room for it is kept.
-    pub(crate) fn delete_key(&mut self, pieces: &PieceStore, at: usize) -> usize
+    pub(crate) fn delete_key(&mut self, at: usize) -> usize
         requires there { at < vec_len self.old.keys }
         requires room { HasRoom self.old }
-        requires starts { AreStarts (map (text_under pieces.now) self.old.keys.items) self.old.starts.items }
-        requires small { length (concat (map (text_under pieces.now) (remove self.old.keys.items at))) ≤ 4294967295 }
         ensures value { result ≡ slice_index_or self.old.keys.items at 0 }
         ensures deleted { self.new.deleted ≡ self.old.deleted + 1 }
         ensures items { self.new.keys.items ≡ remove self.old.keys.items at }
-        ensures starts { AreStarts (map (text_under pieces.now) self.new.keys.items) self.new.starts.items }
+        ensures starts { (pieces : Pieces) → KnowsStarts pieces self.old → KnowsStarts pieces self.new }
         ensures room { HasRoom self.new }
         ensures tail { self.new.tail ≡ self.old.tail }
     {
         let key = self.keys.remove(at);
         self.deleted += 1;
-        self.restart(pieces, at);
+        self.forget_behind(at);
         key
     }
 
     /// Puts a key back, whose piece was parked.
-    pub(crate) fn restore_key(&mut self, pieces: &PieceStore, at: usize, key: usize)
+    pub(crate) fn restore_key(&mut self, at: usize, key: usize)
         requires there { at ≤ vec_len self.old.keys }
         requires parked { 0 < self.old.deleted }
         requires room { HasRoom self.old }
-        requires starts { AreStarts (map (text_under pieces.now) self.old.keys.items) self.old.starts.items }
-        requires small { length (concat (map (text_under pieces.now) (insert self.old.keys.items at key))) ≤ 4294967295 }
         ensures deleted { self.new.deleted + 1 ≡ self.old.deleted }
         ensures items { self.new.keys.items ≡ insert self.old.keys.items at key }
-        ensures starts { AreStarts (map (text_under pieces.now) self.new.keys.items) self.new.starts.items }
+        ensures starts { (pieces : Pieces) → KnowsStarts pieces self.old → KnowsStarts pieces self.new }
         ensures room { HasRoom self.new }
         ensures tail { self.new.tail ≡ self.old.tail }
     {
         self.keys.insert(at, key).unwrap();
         self.deleted -= 1;
-        self.restart(pieces, at);
+        self.forget_behind(at);
     }
 
     /// Gives up the room for a deleted piece.
@@ -186,6 +209,7 @@ impl FileText {
         requires { 0 < self.old.deleted }
         ensures keys { self.new.keys ≡ self.old.keys }
         ensures starts { self.new.starts ≡ self.old.starts }
+        ensures known { self.new.known ≡ self.old.known }
         ensures tail { self.new.tail ≡ self.old.tail }
         ensures deleted { self.new.deleted + 1 ≡ self.old.deleted }
     {
@@ -193,20 +217,18 @@ impl FileText {
     }
 
     /// Takes a key out and puts it where it is the one at `to`.
-    pub(crate) fn move_key(&mut self, pieces: &PieceStore, at: usize, to: usize)
+    pub(crate) fn move_key(&mut self, at: usize, to: usize)
         requires there { at < vec_len self.old.keys }
         requires there_too { to < vec_len self.old.keys }
         requires room { HasRoom self.old }
-        requires starts { AreStarts (map (text_under pieces.now) self.old.keys.items) self.old.starts.items }
-        requires small { length (concat (map (text_under pieces.now) (moved_list self.old.keys.items at to))) ≤ 4294967295 }
         ensures deleted { self.new.deleted ≡ self.old.deleted }
         ensures items { self.new.keys.items ≡ moved_list self.old.keys.items at to }
-        ensures starts { AreStarts (map (text_under pieces.now) self.new.keys.items) self.new.starts.items }
+        ensures starts { (pieces : Pieces) → KnowsStarts pieces self.old → KnowsStarts pieces self.new }
         ensures room { HasRoom self.new }
         ensures tail { self.new.tail ≡ self.old.tail }
     {
         let key = self.keys.remove(at);
         self.keys.insert(to, key).unwrap();
-        self.restart(pieces, at.min(to));
+        self.forget_behind(at.min(to));
     }
 }

@@ -28,7 +28,8 @@ ghost use Rattle.mm_store.specs.Language.Keyless.{bare};
 ghost use Rattle.mm_store.specs.Code.Steps.{first_walk, Includes, IncludesNothing, piece_at};
 ghost use Rattle.mm_store.specs.Code.Edited.{pieces_in, with_file, with_pieces, IsReplaced, IsInserted, IsDeleted, IsMoved};
 ghost use Rattle.mm_store.specs.Code.Inside.{HasParts, IsPieceKept};
-ghost use Rattle.mm_store.specs.Code.Lines.{AreLines, AreStarts, bytes_before};
+ghost use Rattle.mm_store.specs.Code.Lines.{AreLines, bytes_before};
+ghost use Rattle.mm_store.specs.Code.Starts.{KnowsStarts};
 ghost use Rattle.mm_store.specs.Code.Batched.{StandOnce};
 
 use crate::edit::{Edit, EditError};
@@ -86,7 +87,7 @@ impl Model for Files {
 
 /// The lines of a file up to a byte of a piece.
 fn lines_at(file: &FileText, pieces: &PieceStore, piece: usize, at: usize) -> Lines
-    requires starts { AreStarts (map (text_under pieces.now) file.now.keys.items) file.now.starts.items }
+    requires starts { KnowsStarts pieces.now file.now }
     requires room { vec_len file.now.keys < length file.now.starts.items }
     requires small { length (concat (map (text_under pieces.now) file.now.keys.items)) ≤ 4294967295 }
     requires piece_in { piece < length file.now.keys.items }
@@ -94,7 +95,7 @@ fn lines_at(file: &FileText, pieces: &PieceStore, piece: usize, at: usize) -> Li
     ensures { AreLines (bytes_before (map (text_under pieces.now) file.now.keys.items) piece at) result }
 {
     let inside = pieces.lines_before(file.keys[piece], at);
-    file.starts[piece].lines.then(inside)
+    file.start(pieces, piece).lines.then(inside)
 }
 
 fn joined(alloc: Global, file: &FileText, pieces: &PieceStore) -> Result<Vec<u8>, AllocError>
@@ -166,12 +167,14 @@ impl Files {
         let Cut { pieces, tail } = cut;
         let kept = kept_pieces(alloc, pieces)?;
         let starts = starts(alloc, &kept)?;
+        let known = kept.len();
         let name = Vec::from_slice(alloc, name)?;
         self.files.reserve(1)?;
         let keys = self.pieces.put_all(alloc, kept)?;
         let file = FileText {
             keys,
             starts,
+            known,
             tail,
             deleted: 0,
         };
@@ -349,7 +352,7 @@ impl Files {
         ensures { (text : List ℕ) (offset : ℕ) → IsByte self.now file piece at text offset → result ≡ offset }
     {
         let (_, text) = self.files.as_slice().get_index(file).unwrap();
-        text.starts[piece].bytes as usize + at
+        text.start(&self.pieces, piece).bytes as usize + at
     }
 
     /// The line and the column, in the text of its file, of the byte `at` of a piece, or of its end where `at` is
@@ -364,6 +367,26 @@ impl Files {
         let (_, text) = self.files.as_slice().get_index(file).unwrap();
         lines_at(text, &self.pieces, piece, at).place()
     }
+
+    /// Goes through those pieces of a file of which it is not known where they begin, if there is such a file.
+    fn restart_file(&mut self, number: usize)
+        ensures { self.new ≡ self.old }
+    {
+        match self.files.get_index_mut(number) {
+            None => (),
+            Some(file) => file.restart(&self.pieces),
+        }
+    }
+
+    /// Goes through those pieces of each file of which it is not known where they begin.
+    pub(crate) fn restart_all(&mut self)
+        ensures { self.new ≡ self.old }
+    {
+        for number in 0..self.files.len() {
+            self.restart_file(number);
+        }
+    }
+
     /// Puts a piece in the place of one, which is parked. After want of memory the files are as before.
     fn replace_piece(
         &mut self,
@@ -380,7 +403,7 @@ impl Files {
         let more = kept.text.len() as u64;
         let key = self.pieces.put(kept)?;
         let file = self.files.get_index_mut(number).unwrap();
-        let old = file.replace_key(&self.pieces, at, key);
+        let old = file.replace_key(at, key);
         let less = self
             .pieces
             .set_state(old, State::Parked(number, EditKind::Replaced));
@@ -410,7 +433,7 @@ impl Files {
         file.reserve_one()?;
         let key = self.pieces.put(kept)?;
         let file_again = self.files.get_index_mut(number).unwrap();
-        file_again.put_key(&self.pieces, at, key);
+        file_again.put_key(at, key);
         self.bytes += more;
         Ok(Undo {
             file: number,
@@ -424,7 +447,7 @@ impl Files {
         ensures { IsDeleted self.old self.new number at result }
     {
         let file = self.files.get_index_mut(number).unwrap();
-        let old = file.delete_key(&self.pieces, at);
+        let old = file.delete_key(at);
         let less = self
             .pieces
             .set_state(old, State::Parked(number, EditKind::Deleted));
@@ -442,7 +465,7 @@ impl Files {
         ensures { IsMoved self.old self.new number at to result }
     {
         let file = self.files.get_index_mut(number).unwrap();
-        file.move_key(&self.pieces, at, to);
+        file.move_key(at, to);
         Undo {
             file: number,
             action: Action::Moved(at, to),
@@ -455,7 +478,7 @@ impl Files {
         ensures { self.new ≡ reversed number (action.Inserted at) self.old }
     {
         let file = self.files.get_index_mut(number).unwrap();
-        let key = file.take_key(&self.pieces, at);
+        let key = file.take_key(at);
         let less = self.pieces.drop_piece(key);
         self.bytes -= less as u64;
     }
@@ -467,7 +490,7 @@ impl Files {
         ensures { self.new ≡ reversed number (action.Replaced at old) self.old }
     {
         let file = self.files.get_index_mut(number).unwrap();
-        let key = file.replace_key(&self.pieces, at, old);
+        let key = file.replace_key(at, old);
         let less = self.pieces.drop_piece(key);
         let more = self.pieces.set_state(old, State::Standing);
         self.bytes = self.bytes - less as u64 + more as u64;
@@ -480,9 +503,25 @@ impl Files {
         ensures { self.new ≡ reversed number (action.Deleted at old) self.old }
     {
         let file = self.files.get_index_mut(number).unwrap();
-        file.restore_key(&self.pieces, at, old);
+        file.restore_key(at, old);
         let more = self.pieces.set_state(old, State::Standing);
         self.bytes += more as u64;
+    }
+
+    /// Reverses an edit, and leaves open where the pieces behind its own begin.
+    pub(crate) fn take_back(&mut self, undo: Undo)
+        requires { CanUndo undo self.old }
+        ensures { self.new ≡ undone undo self.old }
+    {
+        let Undo { file, action } = undo;
+        match action {
+            Action::Inserted(at) => self.take_back_insertion(file, at),
+            Action::Replaced(at, old) => self.take_back_replacement(file, at, old),
+            Action::Deleted(at, old) => self.take_back_deletion(file, at, old),
+            Action::Moved(at, to) => {
+                let Undo { file: _, action: _ } = self.move_piece(file, to, at);
+            }
+        }
     }
 
     /// Reverses an edit: its new piece, if it brought one, is dropped, and its old piece stands in its place again.
@@ -494,15 +533,9 @@ impl Files {
         ensures undone { self.new ≡ undone undo self.old }
         ensures keeps { KeepsOthers (undone_key undo.file undo.action self.old) self.old self.new }
     {
-        let Undo { file, action } = undo;
-        match action {
-            Action::Inserted(at) => self.take_back_insertion(file, at),
-            Action::Replaced(at, old) => self.take_back_replacement(file, at, old),
-            Action::Deleted(at, old) => self.take_back_deletion(file, at, old),
-            Action::Moved(at, to) => {
-                let Undo { file: _, action: _ } = self.move_piece(file, to, at);
-            }
-        }
+        let file = undo.file;
+        self.take_back(undo);
+        self.restart_file(file);
     }
 
     fn drop_replaced(&mut self, number: usize, old: usize)
@@ -651,8 +684,8 @@ impl Files {
         Ok(self.move_piece(number, at, to))
     }
 
-    /// Does an edit.
-    fn apply(&mut self, edit: &Edit<'_>) -> Result<Undo, EditError>
+    /// Does an edit, and leaves open where the pieces behind its own begin.
+    pub(crate) fn apply(&mut self, edit: &Edit<'_>) -> Result<Undo, EditError>
         ensures ok { OnOk result (IsEditOf (asked edit.now) (plain self.old) (plain self.new)) }
         ensures by_keys { IfOk result (IsEditByKeys (asked edit.now) self.old self.new) }
         ensures keys { OnOk result (KeepsKeys self.old self.new) }
@@ -691,6 +724,9 @@ impl Files {
         ensures unchanged { OnErr result (self.new ≡ self.old) }
     {
         let done = self.apply(edit);
+        if let Ok(undo) = &done {
+            self.restart_file(undo.file);
+        }
         self.stand_once();
         done
     }

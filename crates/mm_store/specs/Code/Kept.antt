@@ -7,8 +7,8 @@ use Rattle.mm_store.specs.declared.file_text.FileText.{FileText}
 use Rattle.mm_store.specs.declared.files.Files.TheInside.{Inside}
 use Rattle.mm_store.specs.Language.Pieces.{PieceState, Standing, Parked, Removal, Replaced, Deleted, HeldPiece, Pieces}
 use Rattle.mm_store.specs.Language.FilesView.{KeyedFile, FilesView, File, plain, bytes_of}
-use Rattle.mm_store.specs.Code.Lines.{AreStarts}
 use Rattle.mm_store.specs.Code.Room.{HasRoom}
+use Rattle.mm_store.specs.Code.Starts.{HasStarts}
 
 abbrev pub file_of : {Y : Type 0} → Vec ℕ Y × FileText → KeyedFile
 file_of entry = record { name = entry.0.items; keys = entry.1.keys.items; tail = entry.1.tail.items }
@@ -64,11 +64,11 @@ abbrev pub HaveRoom : {Y : Type 0} → Pieces → ℕ → List (Vec ℕ Y × Fil
 HaveRoom pieces n [] = Unit {0}
 HaveRoom pieces n (entry ∷ entries) = IsRoomy pieces n entry.1 × HaveRoom pieces (suc n) entries
 
--- it is known of each file where its pieces and its tail begin, and the tail holds no word
+-- it is known of each file, up to one of its pieces or to its tail, where they begin, and the tail holds no word
 abbrev pub HaveStarts : {Y : Type 0} → List File → List (Vec ℕ Y × FileText) → Type 0
 HaveStarts files [] = files ≡ []
 HaveStarts [] (entry ∷ entries) = ⊥
-HaveStarts (file ∷ files) (entry ∷ entries) = AreStarts file.pieces entry.1.starts.items × HasWords entry.1.tail.items [] × HaveStarts files entries
+HaveStarts (file ∷ files) (entry ∷ entries) = HasStarts file.pieces entry.1 × HasWords entry.1.tail.items [] × HaveStarts files entries
 
 pub record IsKept (inside : Inside) : Type 0 where
   -- a piece stands in the files at one place, and a parked one at none: so a piece that stands nowhere is parked, and no key of the files

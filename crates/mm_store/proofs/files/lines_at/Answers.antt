@@ -3,12 +3,8 @@ use Rattle.std.specs.List.{concat}
 use Rattle.std.proofs.lemmas.List.{length-map, length-take, get_or-map}
 use Rattle.mm_store.specs.Language.Pieces.{text_under}
 use Rattle.mm_store.specs.Code.Lines.{AreLines}
-use Rattle.mm_store.proofs.ByteLemmas.{start_read}
 use Rattle.mm_store.proofs.PlaceLemmas.{piece_within}
 use Rattle.mm_store.proofs.files.lines_at.Goals as goal
-
-pub index-requires-2 : goal.index-requires-2
-index-requires-2 c = omega (arith, c.requires.piece_in, c.requires.room, c.args.file.now.keys.ok.0, c.args.file.now.starts.ok.0)
 
 pub then-requires : goal.then-requires
 then-requires c =
@@ -17,7 +13,7 @@ then-requires c =
     let texts = map f keys in
     let here : get_or texts c.args.piece [] ≡ f c.index.result.now = get_or-map f keys c.args.piece c.index.result.now [] c.requires.piece_in ∙ ap f (sym c.index.ensures) in
     let within : c.args.piece < length texts = omega (arith, length-map keys f, c.requires.piece_in) in
-    let start = start_read texts c.args.file.now.starts.items c.args.piece c.index-2.result.now c.requires.starts within c.index-2.ensures in
+    let start = c.start.ensures in
     record {
       first = concat (take c.args.piece texts);
       second = take c.args.at (f c.index.result.now);
@@ -33,6 +29,6 @@ returns c =
     let texts = map f keys in
     let here : get_or texts c.args.piece [] ≡ f c.index.result.now = get_or-map f keys c.args.piece c.index.result.now [] c.requires.piece_in ∙ ap f (sym c.index.ensures) in
     let within : c.args.piece < length texts = omega (arith, length-map keys f, c.requires.piece_in) in
-    let start = start_read texts c.args.file.now.starts.items c.args.piece c.index-2.result.now c.requires.starts within c.index-2.ensures in
+    let start = c.start.ensures in
     let before = concat (take c.args.piece texts) in
     subst (λ bytes. AreLines (before ++ take c.args.at bytes) c.then.result) (sym here) (c.then.ensures before (take c.args.at (f c.index.result.now)) start.lines c.lines_before-inside.ensures)

@@ -2,15 +2,17 @@ use Rattle.std.proofs.Common.{◌≡◌, ◌≤◌, true, length, take, ap, ◌�
 use Rattle.std.specs.Prelude.{if◌then◌else◌}
 use Rattle.std.specs.Result.{is_ok}
 use Rattle.std.specs.List.{insert}
-use Rattle.mm_store.specs.Language.Pieces.{text_under}
-use Rattle.mm_store.proofs.StartLemmas.{starts_same, take_insert}
+use Rattle.std.proofs.lemmas.List.Edits.{length-insert}
+use Rattle.mm_store.proofs.StartLemmas.{known_same, take_insert}
 use Rattle.mm_store.proofs.file_text.FileText.put_key.Goals as goal
 
-pub restart-requires-clause-before : goal.restart-requires-clause-before
-restart-requires-clause-before c =
+pub returns-clause-starts : goal.returns-clause-starts
+returns-clause-starts c = λ pieces knows.
     let old = c.args.self.now.keys.items in
     let at = c.args.at in
+    let w = c.forget_behind.new.self in
     let there : at ≤ length old = omega (arith, c.requires.there, c.args.self.now.keys.ok.0) in
     let ok : is_ok c.insert.result ≡ true = ap is_ok c.unwrap.ensures in
-    let items : c.insert.new.self.items ≡ insert old at c.args.key = c.insert.ensures.items ∙ ap (λ b. if b then insert old at c.args.key else old) ok in
-    starts_same (text_under c.args.pieces.now) old (c.insert.new.self.items) at c.args.self.now.starts.items there (λ n le. ap (take n) items ∙ take_insert old at c.args.key n le there) c.requires.starts
+    let items : w.keys.items ≡ insert old at c.args.key = ap (λ k. k.items) c.forget_behind.ensures.keys ∙ c.insert.ensures.items ∙ ap (λ b. if b then insert old at c.args.key else old) ok in
+    known_same pieces c.args.self.now w c.forget_behind.ensures.no_more (omega (arith, c.forget_behind.ensures.at_most, ap length items, length-insert old at c.args.key there))
+    (λ n le. ap (take n) items ∙ take_insert old at c.args.key n (omega (arith, le, c.forget_behind.ensures.at_most)) there) c.forget_behind.ensures.starts knows

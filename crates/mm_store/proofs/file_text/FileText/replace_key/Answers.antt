@@ -1,11 +1,14 @@
-use Rattle.std.proofs.Common.{◌≤◌, length, set, arith}
-use Rattle.mm_store.specs.Language.Pieces.{text_under}
-use Rattle.mm_store.proofs.StartLemmas.{starts_same, take_set}
+use Rattle.std.proofs.Common.{◌≡◌, ◌<◌, length, take, set, ap, ◌∙◌, arith}
+use Rattle.std.proofs.lemmas.List.{length-set}
+use Rattle.mm_store.proofs.StartLemmas.{known_same, take_set}
 use Rattle.mm_store.proofs.file_text.FileText.replace_key.Goals as goal
 
-pub restart-requires-clause-before : goal.restart-requires-clause-before
-restart-requires-clause-before c =
+pub returns-clause-starts : goal.returns-clause-starts
+returns-clause-starts c = λ pieces knows.
     let old = c.args.self.now.keys.items in
     let at = c.args.at in
-    let there : at ≤ length old = omega (arith, c.requires.there, c.args.self.now.keys.ok.0) in
-    starts_same (text_under c.args.pieces.now) old (set old at c.args.key) at c.args.self.now.starts.items there (λ n le. take_set old at c.args.key n le) c.requires.starts
+    let w = c.forget_behind.new.self in
+    let there : at < length old = omega (arith, c.requires.there, c.args.self.now.keys.ok.0) in
+    let items : w.keys.items ≡ set old at c.args.key = ap (λ k. k.items) c.forget_behind.ensures.keys in
+    known_same pieces c.args.self.now w c.forget_behind.ensures.no_more (omega (arith, c.forget_behind.ensures.at_most, ap length items, length-set old at c.args.key, there))
+    (λ n le. ap (take n) items ∙ take_set old at c.args.key n (omega (arith, le, c.forget_behind.ensures.at_most))) c.forget_behind.ensures.starts knows

@@ -1,11 +1,15 @@
-use Rattle.std.proofs.Common.{◌≤◌, length, take, ap, ◌∙◌, arith}
-use Rattle.mm_store.specs.Language.Pieces.{text_under}
-use Rattle.mm_store.proofs.StartLemmas.{starts_same, take_remove}
+use Rattle.std.proofs.Common.{◌≡◌, ◌<◌, length, take, ap, ◌∙◌, arith}
+use Rattle.std.specs.List.{remove}
+use Rattle.std.proofs.lemmas.List.Edits.{length-remove}
+use Rattle.mm_store.proofs.StartLemmas.{known_same, take_remove}
 use Rattle.mm_store.proofs.file_text.FileText.take_key.Goals as goal
 
-pub restart-requires-clause-before : goal.restart-requires-clause-before
-restart-requires-clause-before c =
+pub returns-clause-starts : goal.returns-clause-starts
+returns-clause-starts c = λ pieces knows.
     let old = c.args.self.now.keys.items in
     let at = c.args.at in
-    let there : at ≤ length old = omega (arith, c.requires.there, c.args.self.now.keys.ok.0) in
-    starts_same (text_under c.args.pieces.now) old (c.remove-key.new.self.items) at c.args.self.now.starts.items there (λ n le. ap (take n) c.remove-key.ensures.items ∙ take_remove old at n le) c.requires.starts
+    let w = c.forget_behind.new.self in
+    let there : at < length old = omega (arith, c.requires.there, c.args.self.now.keys.ok.0) in
+    let items : w.keys.items ≡ remove old at = ap (λ k. k.items) c.forget_behind.ensures.keys ∙ c.remove-key.ensures.items in
+    known_same pieces c.args.self.now w c.forget_behind.ensures.no_more (omega (arith, c.forget_behind.ensures.at_most, ap length items, length-remove old at there))
+    (λ n le. ap (take n) items ∙ take_remove old at n (omega (arith, le, c.forget_behind.ensures.at_most))) c.forget_behind.ensures.starts knows

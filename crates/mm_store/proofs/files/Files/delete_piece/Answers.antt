@@ -16,11 +16,11 @@ use Rattle.mm_store.specs.Language.EditedKeys.{deleted}
 use Rattle.mm_store.specs.Code.Edited.{IsDeleted}
 use Rattle.mm_store.specs.Code.Kept.{file_of, places, standing_count}
 use Rattle.mm_store.specs.Language.FilesView.{FilesView, KeyedFile, plain, plain_file, bytes_of}
-use Rattle.mm_store.proofs.ChangeLemmas.{starts_here, small_after, starts_after}
+use Rattle.mm_store.proofs.ChangeLemmas.{starts_here, starts_after}
 use Rattle.mm_store.proofs.StepLemmas.{texts_all}
 use Rattle.mm_store.proofs.PieceLemmas.{text_state}
 use Rattle.std.proofs.Common.{ℕ, ◌≤◌, ◌<◌, refl, sym, List, length, map, get_or, subst}
-use Rattle.std.specs.List.{concat, remove}
+use Rattle.std.specs.List.{remove}
 use Rattle.mm_store.specs.Code.Edited.{pieces_in}
 use Rattle.mm_store.specs.Language.Pieces.{Parked, Deleted, with_state, text_under}
 use Rattle.mm_store.specs.Language.Undoing.{keys_in, key_at}
@@ -140,7 +140,7 @@ invariant_of-self c =
     (remove (pieces_in (map (plain_file p) fs) n) at) (lemmas.plain_deleted fs p n at once there)
     (starts_after fs p p (with_state p (get_or (keys_in fs n) at 0) (Parked n Deleted)) n (remove (keys_in fs n) at) (remove (pieces_in (map (plain_file p) fs) n) at) (in_files fs n at there)
     (lemmas.plain_deleted fs p n at once there) (sym (texts_all p (with_state p (get_or (keys_in fs n) at 0) (Parked n Deleted)) (text_state p (get_or (keys_in fs n) at 0) (Parked n Deleted))
-    (remove (keys_in fs n) at))) w items c.delete_key-old.ensures.starts)
+    (remove (keys_in fs n) at))) w items (c.delete_key-old.ensures.starts p (starts_here p p es n v c.self.invariant.starts here refl)))
 
 pub returns : goal.returns
 returns c =
@@ -168,40 +168,3 @@ returns c =
     subst (λ new. IsDeleted c.args.self.now new n at (record { file = n; action = action.Deleted at c.delete_key-old.result })) (sym is)
     (subst (λ u. IsDeleted c.args.self.now (deleted c.args.self.now n at) n at u) (sym undo_is)
     (is_deleted c.args.self.now n at once_now small_now c.requires.there))
-
-pub delete_key-old-requires-clause-starts : goal.delete_key-old-requires-clause-starts
-delete_key-old-requires-clause-starts c =
-    let n = c.args.number in
-    let at = c.args.at in
-    let inside = c.self.inside in
-    let es = c.self.inside.files.entries in
-    let fs : List KeyedFile = map file_of es in
-    let p = c.self.inside.pieces in
-    let once = c.self.invariant.once in
-    let there = subst (λ (view : FilesView). at < length (keys_in view.keyed n)) (sym c.self.view_is) c.requires.there in
-    let v = c.unwrap-file.result.now in
-    let here : slice_get (texts_of es) n ≡ Some v = sym c.get_index_mut.ensures.value ∙ ap option_copied_mut c.unwrap-file.ensures in
-    let keys = keys_at es n v here in
-    let had = room_at p 0 es n n v (omega arith) c.self.invariant.room here in
-    let less : bytes_of (map (plain_file p) fs) ≡ c.self.inside.bytes = sym c.self.invariant.counted in
-    starts_here p p es n v c.self.invariant.starts here refl
-
-pub delete_key-old-requires-clause-small : goal.delete_key-old-requires-clause-small
-delete_key-old-requires-clause-small c =
-    let n = c.args.number in
-    let at = c.args.at in
-    let inside = c.self.inside in
-    let es = c.self.inside.files.entries in
-    let fs : List KeyedFile = map file_of es in
-    let p = c.self.inside.pieces in
-    let once = c.self.invariant.once in
-    let there = subst (λ (view : FilesView). at < length (keys_in view.keyed n)) (sym c.self.view_is) c.requires.there in
-    let v = c.unwrap-file.result.now in
-    let here : slice_get (texts_of es) n ≡ Some v = sym c.get_index_mut.ensures.value ∙ ap option_copied_mut c.unwrap-file.ensures in
-    let keys = keys_at es n v here in
-    let had = room_at p 0 es n n v (omega arith) c.self.invariant.room here in
-    let less : bytes_of (map (plain_file p) fs) ≡ c.self.inside.bytes = sym c.self.invariant.counted in
-    subst (λ ks. length (concat (map (text_under p) (remove ks at))) ≤ 4294967295) keys
-    (small_after fs p p (with_state p (get_or (keys_in fs n) at 0) (Parked n Deleted)) n (remove (keys_in fs n) at) (remove (pieces_in (map (plain_file p) fs) n) at) (in_files fs n at there)
-    (lemmas.plain_deleted fs p n at once there) (sym (texts_all p (with_state p (get_or (keys_in fs n) at 0) (Parked n Deleted)) (text_state p (get_or (keys_in fs n) at 0) (Parked n Deleted))
-    (remove (keys_in fs n) at))) (omega (arith, lemmas.bytes_deleted fs p n at once there, less, c.self.invariant.within)))

@@ -15,7 +15,7 @@ use Rattle.std.specs.Prelude.{Vec}
 use Rattle.mm_store.specs.declared.start.Start.{Start}
 use Rattle.std.specs.Global.{Global}
 use Rattle.mm_store.specs.Code.Edited.{pieces_in}
-use Rattle.mm_store.specs.Code.Lines.{AreStarts}
+use Rattle.mm_store.proofs.StartLemmas.{starts_alike}
 use Rattle.mm_store.proofs.ListLemmas.{with_pieces_same}
 use Rattle.mm_store.proofs.EntryLemmas.{starts_at}
 use Rattle.mm_store.specs.Language.Undoing.{keys_in}
@@ -77,7 +77,7 @@ invariant_of-self c =
     c.self.invariant.within
     (pieces_in (map (plain_file p) fs) n)
     (ap (map (plain_file (finite.remove p c.args.old))) same ∙ plain_same p (finite.remove p c.args.old) c.args.old (text_drop_other p c.args.old) fs (once c.args.old ∙ (lemmas.parked (finite.get p c.args.old) n Deleted is_parked).none) ∙ sym (with_pieces_same (map (plain_file p) fs) n))
-    (subst (λ (s : Vec Start Global). AreStarts (pieces_in (map (plain_file p) fs) n) s.items) (sym c.forget_deleted.ensures.starts) (starts_at (map (plain_file p) fs) es n v c.self.invariant.starts here))
+    (starts_alike (pieces_in (map (plain_file p) fs) n) v w c.forget_deleted.ensures.known c.forget_deleted.ensures.starts (starts_at (map (plain_file p) fs) es n v c.self.invariant.starts here))
 
 pub returns : goal.returns
 returns c =

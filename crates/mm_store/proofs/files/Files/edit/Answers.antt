@@ -1,11 +1,23 @@
+use Rattle.std.proofs.Common.{◌≡◌, ◌+◌, sym, ◌∙◌, subst}
+use Rattle.std.specs.Result.{OnOk}
+use Rattle.mm_store.specs.Language.EditedKeys.{parks}
+use Rattle.mm_store.specs.Language.FileFacts.{parked_in}
+use Rattle.mm_store.specs.Code.Batched.{StandOnce}
 use Rattle.mm_store.specs.Language.Edits.{asked}
 use Rattle.mm_store.specs.Language.FilesView.{plain}
 use Rattle.mm_store.proofs.BatchLemmas.{parks_more}
 use Rattle.mm_store.proofs.EditLemmas.{no_file_told, no_piece_told}
 use Rattle.mm_store.proofs.files.Files.edit.Goals as goal
+use Rattle.mm_store.proofs.files.Files.edit.Goals.{in-Ok, in_default}
 
 pub returns-clause-parked : goal.returns-clause-parked
-returns-clause-parked c = parks_more (asked c.args.edit.now) c.args.self.now c.apply-done.new.self c.apply-done.result c.stand_once.ensures c.apply-done.ensures.undoes c.apply-done.ensures.by_keys
+returns-clause-parked c =
+    let same : c.match-done.self ≡ c.apply-done.new.self = elim c.match-done.branch [
+      | in-Ok w ↦ w.self-is ∙ w.restart_file.ensures
+      | in_default w ↦ w.self-is
+    ] in
+    subst (λ new. OnOk c.apply-done.result (parked_in new ≡ parked_in c.args.self.now + parks (asked c.args.edit.now))) (sym same)
+    (parks_more (asked c.args.edit.now) c.args.self.now c.apply-done.new.self c.apply-done.result (subst StandOnce same c.stand_once.ensures) c.apply-done.ensures.undoes c.apply-done.ensures.by_keys)
 
 pub returns-clause-no_file : goal.returns-clause-no_file
 returns-clause-no_file c = no_file_told (asked c.args.edit.now) (plain c.args.self.now) (plain c.apply-done.new.self) c.apply-done.result c.apply-done.ensures.ok c.apply-done.ensures.err

@@ -1,5 +1,5 @@
 use Rattle.std.proofs.Common.{◌+◌, [], map, refl, sym, subst, arith, take}
-use Rattle.mm_store.specs.Language.Batches.{IsBatchOf, IsSpendable}
+use Rattle.mm_store.specs.Language.Batches.{IsBatchOf, IsSpendable, KeepsReading}
 use Rattle.mm_store.specs.Language.EditedKeys.{IsBatchByKeys}
 use Rattle.mm_store.specs.Language.Edits.{asked}
 use Rattle.mm_store.specs.Language.FilesView.{plain}
@@ -45,14 +45,16 @@ loop-number-preserved c = record {
 
 pub returns-clause-ok : goal.returns-clause-ok
 returns-clause-ok c =
-    subst (λ edits. IsBatchOf edits (plain c.args.self.now) (plain c.loop-number.self)) (take_whole c.args.edits.now c.loop-number.number (omega (arith, c.loop-number-test.false, c.loop-number.auto.number-end))) c.loop-number.invariant.done
+    subst (λ view. IsBatchOf (map asked c.args.edits.now) (plain c.args.self.now) (plain view)) (sym c.restart_all.ensures)
+    (subst (λ edits. IsBatchOf edits (plain c.args.self.now) (plain c.loop-number.self)) (take_whole c.args.edits.now c.loop-number.number (omega (arith, c.loop-number-test.false, c.loop-number.auto.number-end))) c.loop-number.invariant.done)
 
 pub returns-clause-by_keys : goal.returns-clause-by_keys
 returns-clause-by_keys c =
-    subst (λ edits. IsBatchByKeys edits c.args.self.now c.loop-number.self c.loop-number.undos) (take_whole c.args.edits.now c.loop-number.number (omega (arith, c.loop-number-test.false, c.loop-number.auto.number-end))) c.loop-number.invariant.by_keys
+    subst (λ view. IsBatchByKeys (map asked c.args.edits.now) c.args.self.now view c.loop-number.undos) (sym c.restart_all.ensures)
+    (subst (λ edits. IsBatchByKeys edits c.args.self.now c.loop-number.self c.loop-number.undos) (take_whole c.args.edits.now c.loop-number.number (omega (arith, c.loop-number-test.false, c.loop-number.auto.number-end))) c.loop-number.invariant.by_keys)
 
 pub returns-clause-reading : goal.returns-clause-reading
-returns-clause-reading c = reads_alike c.args.self.now c.loop-number.self c.loop-number.invariant.keys
+returns-clause-reading c = subst (KeepsReading c.args.self.now) (sym c.restart_all.ensures) (reads_alike c.args.self.now c.loop-number.self c.loop-number.invariant.keys)
 
 pub returns-clause-spendable : goal.returns-clause-spendable
-returns-clause-spendable c = c.loop-number.invariant.spendable
+returns-clause-spendable c = subst (λ view. IsSpendable c.args.self.now view c.loop-number.undos) (sym c.restart_all.ensures) c.loop-number.invariant.spendable

@@ -16,4 +16,4 @@ returns-clause-spendable c old before =
     let had = c.reserve.new.self.items in
     let undos : c.push.new.self.items ≡ c.args.undos.now ++ c.in-Ok.undo ∷ [] =
     c.push.ensures.items ∙ ap (λ pushed. if is_ok pushed then had ++ c.in-Ok.undo ∷ [] else had) c.unwrap.ensures ∙ ap (λ undos. undos ++ c.in-Ok.undo ∷ []) (c.reserve.ensures.items ∙ c.undos.view_is) in
-    subst (IsSpendable old c.edit.new.self) (sym undos) (spendable_more old c.args.self.now c.edit.new.self c.args.undos.now c.in-Ok.undo c.stand_once.ensures c.in-Ok.ensures.undoes before)
+    subst (IsSpendable old c.apply.new.self) (sym undos) (spendable_more old c.args.self.now c.apply.new.self c.args.undos.now c.in-Ok.undo c.stand_once.ensures c.in-Ok.ensures.undoes before)

@@ -14,6 +14,7 @@ use Rattle.mm_store.specs.Language.Undoing as action
 use Rattle.mm_store.proofs.EntryLemmas.{texts_of, keys_at, room_at}
 use Rattle.mm_store.proofs.KeptLemmas.{file_in, length_set, reserved_view, reserved_kept, texts_set, view_after, kept_after}
 use Rattle.mm_store.proofs.UndoLemmas.{is_inserted}
+use Rattle.mm_store.proofs.StartLemmas.{starts_stay}
 use Rattle.mm_store.proofs.StepLemmas as lemmas
 use Rattle.mm_store.proofs.files.Files.insert_piece.Goals as goal
 use Rattle.mm_store.specs.Language.EditedKeys.{inserted}
@@ -21,12 +22,12 @@ use Rattle.mm_store.specs.Code.Edited.{pieces_in, with_pieces, IsInserted}
 use Rattle.mm_store.specs.Code.Kept.{view_of, file_of, places, standing_count, IsKept}
 use Rattle.mm_store.specs.Language.FilesView.{FilesView, KeyedFile, plain, plain_file, bytes_of}
 use Rattle.std.proofs.Common.{◌≡◌, ℕ, ◌≤◌, ◌<◌, ◌+◌, refl, sym, List, length, map, subst}
-use Rattle.std.specs.List.{concat, insert}
+use Rattle.std.specs.List.{insert}
 use Rattle.mm_store.specs.Code.Room.{HasRoom, HasRoomForOne}
 use Rattle.mm_store.specs.Code.Edited.{pieces_in}
 use Rattle.mm_store.specs.Language.Pieces.{standing_piece, text_under}
-use Rattle.mm_store.specs.Code.Lines.{AreStarts}
-use Rattle.mm_store.proofs.ChangeLemmas.{starts_here, small_after, starts_after}
+use Rattle.mm_store.specs.Code.Starts.{KnowsStarts}
+use Rattle.mm_store.proofs.ChangeLemmas.{starts_here, starts_after}
 use Rattle.mm_store.proofs.StepLemmas.{texts_all}
 use Rattle.mm_store.specs.Language.Undoing.{with_keys, keys_in}
 
@@ -64,7 +65,7 @@ invariant_of-self c =
     let room : HasRoom w0 = c.reserve_one.ensures.room in
     let tail0 = c.reserve_one.ensures.tail in
     let items0 = c.reserve_one.ensures.items in
-    reserved_kept inside n v w0 here tail0 items0 p refl c.reserve_one.ensures.deleted room c.reserve_one.ensures.starts c.self.invariant
+    reserved_kept inside n v w0 here tail0 items0 p refl c.reserve_one.ensures.deleted room (starts_stay p v w0 items0 c.reserve_one.ensures.known c.reserve_one.ensures.starts) c.self.invariant
 
 pub returns-in_err-reserve_one-clause-err : goal.returns-in_err-reserve_one-clause-err
 returns-in_err-reserve_one-clause-err c =
@@ -98,7 +99,7 @@ invariant_of-self-in_err-key c =
     let room : HasRoom w0 = c.reserve_one.ensures.room in
     let tail0 = c.reserve_one.ensures.tail in
     let items0 = c.reserve_one.ensures.items in
-    reserved_kept inside n v w0 here tail0 items0 c.put.new.self c.in_err-key.ensures.err c.reserve_one.ensures.deleted room c.reserve_one.ensures.starts c.self.invariant
+    reserved_kept inside n v w0 here tail0 items0 c.put.new.self c.in_err-key.ensures.err c.reserve_one.ensures.deleted room (starts_stay p v w0 items0 c.reserve_one.ensures.known c.reserve_one.ensures.starts) c.self.invariant
 
 pub returns-in_err-key-clause-err : goal.returns-in_err-key-clause-err
 returns-in_err-key-clause-err c =
@@ -154,7 +155,7 @@ put_key-requires-clause-there c =
     let inside1 : Inside = record { files = with_value_at inside.files n w0; pieces = p; bytes = inside.bytes } in
     let es1 = set_value_at es n w0 in
     let fs1 : List KeyedFile = map file_of es1 in
-    let kept1 : IsKept inside1 = reserved_kept inside n v w0 here tail0 items0 p refl c.reserve_one.ensures.deleted room c.reserve_one.ensures.starts c.self.invariant in
+    let kept1 : IsKept inside1 = reserved_kept inside n v w0 here tail0 items0 p refl c.reserve_one.ensures.deleted room (starts_stay p v w0 items0 c.reserve_one.ensures.known c.reserve_one.ensures.starts) c.self.invariant in
     let view1 : view_of inside1 ≡ c.args.self.now = reserved_view inside n v w0 here tail0 items0 p refl ∙ c.self.view_is in
     let v1 = c.unwrap-file_again.result.now in
     let here1 : slice_get (texts_of es1) n ≡ Some v1 = sym c.get_index_mut-2.ensures.value ∙ ap option_copied_mut c.unwrap-file_again.ensures in
@@ -183,7 +184,7 @@ put_key-requires-clause-room c =
     let inside1 : Inside = record { files = with_value_at inside.files n w0; pieces = p; bytes = inside.bytes } in
     let es1 = set_value_at es n w0 in
     let fs1 : List KeyedFile = map file_of es1 in
-    let kept1 : IsKept inside1 = reserved_kept inside n v w0 here tail0 items0 p refl c.reserve_one.ensures.deleted room c.reserve_one.ensures.starts c.self.invariant in
+    let kept1 : IsKept inside1 = reserved_kept inside n v w0 here tail0 items0 p refl c.reserve_one.ensures.deleted room (starts_stay p v w0 items0 c.reserve_one.ensures.known c.reserve_one.ensures.starts) c.self.invariant in
     let view1 : view_of inside1 ≡ c.args.self.now = reserved_view inside n v w0 here tail0 items0 p refl ∙ c.self.view_is in
     let v1 = c.unwrap-file_again.result.now in
     let here1 : slice_get (texts_of es1) n ≡ Some v1 = sym c.get_index_mut-2.ensures.value ∙ ap option_copied_mut c.unwrap-file_again.ensures in
@@ -191,79 +192,6 @@ put_key-requires-clause-room c =
     let keys1 = keys_at es1 n v1 here1 in
     let there1 = subst (λ (view : FilesView). at ≤ length (keys_in view.keyed n)) (sym view1) c.requires.there in
     subst HasRoomForOne again c.in_ok-reserve_one.ensures.ok
-
-pub put_key-requires-clause-small : goal.put_key-requires-clause-small
-put_key-requires-clause-small c =
-    let n = c.args.number in
-    let at = c.args.at in
-    let inside = c.self.inside in
-    let es = c.self.inside.files.entries in
-    let fs : List KeyedFile = map file_of es in
-    let p = c.self.inside.pieces in
-    let v = c.unwrap-file.result.now in
-    let w0 = c.reserve_one.new.self in
-    let here : slice_get (texts_of es) n ≡ Some v = sym c.get_index_mut.ensures.value ∙ ap option_copied_mut c.unwrap-file.ensures in
-    let had = room_at p 0 es n n v (omega arith) c.self.invariant.room here in
-    let room : HasRoom w0 = c.reserve_one.ensures.room in
-    let tail0 = c.reserve_one.ensures.tail in
-    let items0 = c.reserve_one.ensures.items in
-    let k = c.in_ok-key.key in
-    let t = c.args.kept.text.items in
-    let inside1 : Inside = record { files = with_value_at inside.files n w0; pieces = p; bytes = inside.bytes } in
-    let es1 = set_value_at es n w0 in
-    let fs1 : List KeyedFile = map file_of es1 in
-    let kept1 : IsKept inside1 = reserved_kept inside n v w0 here tail0 items0 p refl c.reserve_one.ensures.deleted room c.reserve_one.ensures.starts c.self.invariant in
-    let view1 : view_of inside1 ≡ c.args.self.now = reserved_view inside n v w0 here tail0 items0 p refl ∙ c.self.view_is in
-    let v1 = c.unwrap-file_again.result.now in
-    let here1 : slice_get (texts_of es1) n ≡ Some v1 = sym c.get_index_mut-2.ensures.value ∙ ap option_copied_mut c.unwrap-file_again.ensures in
-    let again : w0 ≡ v1 = same_Some w0 v1 (sym (texts_set es n v w0 here) ∙ here1) in
-    let keys1 = keys_at es1 n v1 here1 in
-    let there1 = subst (λ (view : FilesView). at ≤ length (keys_in view.keyed n)) (sym view1) c.requires.there in
-    let file1 = subst (λ (view : FilesView). n < length view.keyed) (sym view1) c.requires.file in
-    let fresh = c.in_ok-key.ensures.fresh in
-    let p2 = finite.insert p k (standing_piece t) in
-    let newkeys = insert (keys_in fs1 n) at k in
-    let members = insert (pieces_in (map (plain_file p) fs1) n) at t in
-    let means : map (plain_file p2) (with_keys fs1 n newkeys) ≡ with_pieces (map (plain_file p) fs1) n members = lemmas.plain_inserted fs1 p n at kept1.once k t file1 fresh in
-    let allowed = subst (λ v. bytes_of (with_pieces (plain v) n (insert (pieces_in (plain v) n) at t)) ≤ 4294967295) (sym view1) c.requires.within in
-    let small : bytes_of (map (plain_file p2) (with_keys fs1 n newkeys)) ≤ 4294967295 = omega (arith, allowed, ap bytes_of means) in
-    subst (λ m. length (concat (map (text_under m) (insert v1.keys.items at k))) ≤ 4294967295) (sym c.in_ok-key.ensures.ok)
-    (subst (λ ks. length (concat (map (text_under p2) (insert ks at k))) ≤ 4294967295) keys1 (small_after fs1 p p2 p2 n newkeys members file1 means refl small))
-
-pub put_key-requires-clause-starts : goal.put_key-requires-clause-starts
-put_key-requires-clause-starts c =
-    let n = c.args.number in
-    let at = c.args.at in
-    let inside = c.self.inside in
-    let es = c.self.inside.files.entries in
-    let fs : List KeyedFile = map file_of es in
-    let p = c.self.inside.pieces in
-    let v = c.unwrap-file.result.now in
-    let w0 = c.reserve_one.new.self in
-    let here : slice_get (texts_of es) n ≡ Some v = sym c.get_index_mut.ensures.value ∙ ap option_copied_mut c.unwrap-file.ensures in
-    let had = room_at p 0 es n n v (omega arith) c.self.invariant.room here in
-    let room : HasRoom w0 = c.reserve_one.ensures.room in
-    let tail0 = c.reserve_one.ensures.tail in
-    let items0 = c.reserve_one.ensures.items in
-    let k = c.in_ok-key.key in
-    let t = c.args.kept.text.items in
-    let inside1 : Inside = record { files = with_value_at inside.files n w0; pieces = p; bytes = inside.bytes } in
-    let es1 = set_value_at es n w0 in
-    let fs1 : List KeyedFile = map file_of es1 in
-    let kept1 : IsKept inside1 = reserved_kept inside n v w0 here tail0 items0 p refl c.reserve_one.ensures.deleted room c.reserve_one.ensures.starts c.self.invariant in
-    let view1 : view_of inside1 ≡ c.args.self.now = reserved_view inside n v w0 here tail0 items0 p refl ∙ c.self.view_is in
-    let v1 = c.unwrap-file_again.result.now in
-    let here1 : slice_get (texts_of es1) n ≡ Some v1 = sym c.get_index_mut-2.ensures.value ∙ ap option_copied_mut c.unwrap-file_again.ensures in
-    let again : w0 ≡ v1 = same_Some w0 v1 (sym (texts_set es n v w0 here) ∙ here1) in
-    let keys1 = keys_at es1 n v1 here1 in
-    let there1 = subst (λ (view : FilesView). at ≤ length (keys_in view.keyed n)) (sym view1) c.requires.there in
-    let file1 = subst (λ (view : FilesView). n < length view.keyed) (sym view1) c.requires.file in
-    let fresh = c.in_ok-key.ensures.fresh in
-    let p2 = finite.insert p k (standing_piece t) in
-    let newkeys = insert (keys_in fs1 n) at k in
-    let members = insert (pieces_in (map (plain_file p) fs1) n) at t in
-    let means : map (plain_file p2) (with_keys fs1 n newkeys) ≡ with_pieces (map (plain_file p) fs1) n members = lemmas.plain_inserted fs1 p n at kept1.once k t file1 fresh in
-    starts_here p c.put.new.self es1 n v1 kept1.starts here1 (ap (λ m. map (text_under m) (keys_in fs1 n)) c.in_ok-key.ensures.ok ∙ lemmas.texts_left fs1 p n at kept1.once k t file1 fresh)
 
 pub invariant_of-self-2 : goal.invariant_of-self-2
 invariant_of-self-2 c =
@@ -285,7 +213,7 @@ invariant_of-self-2 c =
     let inside1 : Inside = record { files = with_value_at inside.files n w0; pieces = p; bytes = inside.bytes } in
     let es1 = set_value_at es n w0 in
     let fs1 : List KeyedFile = map file_of es1 in
-    let kept1 : IsKept inside1 = reserved_kept inside n v w0 here tail0 items0 p refl c.reserve_one.ensures.deleted room c.reserve_one.ensures.starts c.self.invariant in
+    let kept1 : IsKept inside1 = reserved_kept inside n v w0 here tail0 items0 p refl c.reserve_one.ensures.deleted room (starts_stay p v w0 items0 c.reserve_one.ensures.known c.reserve_one.ensures.starts) c.self.invariant in
     let view1 : view_of inside1 ≡ c.args.self.now = reserved_view inside n v w0 here tail0 items0 p refl ∙ c.self.view_is in
     let v1 = c.unwrap-file_again.result.now in
     let here1 : slice_get (texts_of es1) n ≡ Some v1 = sym c.get_index_mut-2.ensures.value ∙ ap option_copied_mut c.unwrap-file_again.ensures in
@@ -311,7 +239,7 @@ invariant_of-self-2 c =
     c.put_key.ensures.room
     (omega (arith, bytes, less, c.len-more.ensures, c.args.kept.text.ok.0))
     (omega (arith, bytes, less, c.len-more.ensures, c.args.kept.text.ok.0, allowed, ap bytes_of (lemmas.plain_inserted fs1 p n at kept1.once k t file1 fresh)))
-    members means (starts_after fs1 p p2 p2 n newkeys members file1 means refl w items (subst (λ m. AreStarts (map (text_under m) w.keys.items) w.starts.items) c.in_ok-key.ensures.ok c.put_key.ensures.starts))
+    members means (starts_after fs1 p p2 p2 n newkeys members file1 means refl w items (subst (λ m. KnowsStarts m w) c.in_ok-key.ensures.ok (c.put_key.ensures.starts c.put.new.self (starts_here p c.put.new.self es1 n v1 kept1.starts here1 (ap (λ m. map (text_under m) (keys_in fs1 n)) c.in_ok-key.ensures.ok ∙ lemmas.texts_left fs1 p n at kept1.once k t file1 fresh)))))
 
 pub returns-clause-ok : goal.returns-clause-ok
 returns-clause-ok c =
@@ -333,7 +261,7 @@ returns-clause-ok c =
     let inside1 : Inside = record { files = with_value_at inside.files n w0; pieces = p; bytes = inside.bytes } in
     let es1 = set_value_at es n w0 in
     let fs1 : List KeyedFile = map file_of es1 in
-    let kept1 : IsKept inside1 = reserved_kept inside n v w0 here tail0 items0 p refl c.reserve_one.ensures.deleted room c.reserve_one.ensures.starts c.self.invariant in
+    let kept1 : IsKept inside1 = reserved_kept inside n v w0 here tail0 items0 p refl c.reserve_one.ensures.deleted room (starts_stay p v w0 items0 c.reserve_one.ensures.known c.reserve_one.ensures.starts) c.self.invariant in
     let view1 : view_of inside1 ≡ c.args.self.now = reserved_view inside n v w0 here tail0 items0 p refl ∙ c.self.view_is in
     let v1 = c.unwrap-file_again.result.now in
     let here1 : slice_get (texts_of es1) n ≡ Some v1 = sym c.get_index_mut-2.ensures.value ∙ ap option_copied_mut c.unwrap-file_again.ensures in

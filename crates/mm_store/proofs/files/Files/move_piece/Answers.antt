@@ -14,12 +14,11 @@ use Rattle.mm_store.proofs.files.Files.move_piece.Goals as goal
 use Rattle.mm_store.specs.Code.Edited.{IsMoved}
 use Rattle.mm_store.specs.Code.Kept.{file_of, places, standing_count}
 use Rattle.mm_store.specs.Language.FilesView.{FilesView, KeyedFile, plain, plain_file, bytes_of}
-use Rattle.mm_store.proofs.ChangeLemmas.{starts_here, small_after, starts_after}
+use Rattle.mm_store.proofs.ChangeLemmas.{starts_here, starts_after}
 use Rattle.mm_store.proofs.StepLemmas.{texts_all}
 use Rattle.std.proofs.Common.{ℕ, ◌≤◌, ◌<◌, refl, sym, [], List, length, map, get_or, subst}
-use Rattle.std.specs.List.{concat, insert, remove}
+use Rattle.std.specs.List.{insert, remove}
 use Rattle.mm_store.specs.Code.Edited.{pieces_in}
-use Rattle.mm_store.specs.Language.Pieces.{text_under}
 use Rattle.mm_store.specs.Language.Undoing.{keys_in, moved_list, moved}
 
 pub unwrap-file-requires : goal.unwrap-file-requires
@@ -109,7 +108,7 @@ invariant_of-self c =
     (omega (arith, bytes, less)) c.self.invariant.within
     (insert (remove (pieces_in (map (plain_file p) fs) n) at) c.args.to (get_or (pieces_in (map (plain_file p) fs) n) at [])) (lemmas.plain_moved fs p n at once there c.args.to)
     (starts_after fs p p p n (moved_list (keys_in fs n) at c.args.to) (insert (remove (pieces_in (map (plain_file p) fs) n) at) c.args.to (get_or (pieces_in (map (plain_file p) fs) n) at []))
-    (in_files fs n at there) (lemmas.plain_moved fs p n at once there c.args.to) refl w items c.move_key.ensures.starts)
+    (in_files fs n at there) (lemmas.plain_moved fs p n at once there c.args.to) refl w items (c.move_key.ensures.starts p (starts_here p p es n v c.self.invariant.starts here refl)))
 
 pub returns : goal.returns
 returns c =
@@ -132,39 +131,3 @@ returns c =
     let is = view_after inside n v w here c.move_key.ensures.tail (moved_list (keys_in fs n) at c.args.to) items p p refl inside.bytes ∙ ap (λ v. moved v n at c.args.to) c.self.view_is in
     subst (λ new. IsMoved c.args.self.now new n at c.args.to (record { file = n; action = action.Moved at c.args.to })) (sym is)
     (is_moved c.args.self.now n at once_now small_now c.requires.there c.args.to c.requires.there_too)
-
-pub move_key-requires-clause-starts : goal.move_key-requires-clause-starts
-move_key-requires-clause-starts c =
-    let n = c.args.number in
-    let at = c.args.at in
-    let inside = c.self.inside in
-    let es = c.self.inside.files.entries in
-    let fs : List KeyedFile = map file_of es in
-    let p = c.self.inside.pieces in
-    let once = c.self.invariant.once in
-    let there = subst (λ (view : FilesView). at < length (keys_in view.keyed n)) (sym c.self.view_is) c.requires.there in
-    let v = c.unwrap-file.result.now in
-    let here : slice_get (texts_of es) n ≡ Some v = sym c.get_index_mut.ensures.value ∙ ap option_copied_mut c.unwrap-file.ensures in
-    let keys = keys_at es n v here in
-    let had = room_at p 0 es n n v (omega arith) c.self.invariant.room here in
-    let less : bytes_of (map (plain_file p) fs) ≡ c.self.inside.bytes = sym c.self.invariant.counted in
-    starts_here p p es n v c.self.invariant.starts here refl
-
-pub move_key-requires-clause-small : goal.move_key-requires-clause-small
-move_key-requires-clause-small c =
-    let n = c.args.number in
-    let at = c.args.at in
-    let inside = c.self.inside in
-    let es = c.self.inside.files.entries in
-    let fs : List KeyedFile = map file_of es in
-    let p = c.self.inside.pieces in
-    let once = c.self.invariant.once in
-    let there = subst (λ (view : FilesView). at < length (keys_in view.keyed n)) (sym c.self.view_is) c.requires.there in
-    let v = c.unwrap-file.result.now in
-    let here : slice_get (texts_of es) n ≡ Some v = sym c.get_index_mut.ensures.value ∙ ap option_copied_mut c.unwrap-file.ensures in
-    let keys = keys_at es n v here in
-    let had = room_at p 0 es n n v (omega arith) c.self.invariant.room here in
-    let less : bytes_of (map (plain_file p) fs) ≡ c.self.inside.bytes = sym c.self.invariant.counted in
-    subst (λ ks. length (concat (map (text_under p) (moved_list ks at c.args.to))) ≤ 4294967295) keys
-    (small_after fs p p p n (moved_list (keys_in fs n) at c.args.to) (insert (remove (pieces_in (map (plain_file p) fs) n) at) c.args.to (get_or (pieces_in (map (plain_file p) fs) n) at []))
-    (in_files fs n at there) (lemmas.plain_moved fs p n at once there c.args.to) refl (omega (arith, lemmas.bytes_moved fs p n at once there c.args.to, less, c.self.invariant.within)))

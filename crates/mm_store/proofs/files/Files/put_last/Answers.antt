@@ -13,6 +13,7 @@ use Rattle.mm_store.specs.Language.Pieces.{parked_pieces}
 use Rattle.mm_store.specs.Language.FilesView.{File, FilesView, plain, plain_file, file_number, bytes_of}
 use Rattle.mm_store.specs.Code.Inside.{ArePut}
 use Rattle.mm_store.specs.Code.Lines.{AreStarts}
+use Rattle.mm_store.specs.Code.Starts.{HasStarts}
 use Rattle.mm_store.specs.Code.Edited.{with_file}
 use Rattle.mm_store.specs.Code.Kept.{file_of}
 use Rattle.mm_store.proofs.NumberLemmas.{number_is}
@@ -39,7 +40,7 @@ invariant_of-self-2 c =
     no_file (λ (key : Vec ℕ Global). bytes_eq c.in_ok-name.name.items key.items) c.reserve.new.self.entries
     (ap (λ (name : List ℕ). position (λ (key : Vec ℕ Global). bytes_eq name key.items) (keys_of c.reserve.new.self.entries)) c.in_ok-name.ensures.items
     ∙ ap (λ es. position (λ (key : Vec ℕ Global). bytes_eq c.args.name.now key.items) (keys_of es)) c.reserve.ensures.entries ∙ missing) in
-    let value : FileText = record { keys = c.in_ok-keys.keys; starts = c.in_ok-starts.starts; tail = c.args.cut.tail; deleted = 0 } in
+    let value : FileText = record { keys = c.in_ok-keys.keys; starts = c.in_ok-starts.starts; tail = c.args.cut.tail; known = c.len-known.result; deleted = 0 } in
     let entries : c.insert.new.self.entries ≡ inside.files.entries ++ (c.in_ok-name.name, value) ∷ [] =
     done_ok c.insert.result c.unwrap.result _ c.unwrap.ensures c.insert.ensures.entries ∙ insert_entry-new (λ x y. bytes_eq x.items y.items) c.reserve.new.self c.in_ok-name.name value none
     ∙ ap (λ (es : List (Vec ℕ Global × FileText)). es ++ (c.in_ok-name.name, value) ∷ []) c.reserve.ensures.entries in
@@ -47,13 +48,18 @@ invariant_of-self-2 c =
     let after : Inside = record { files = c.insert.new.self; pieces = c.put_all.new.self; bytes = inside.bytes + c.args.bytes } in
     let held : bytes_of (plain c.args.self.now) ≡ inside.bytes = ap (λ (v : FilesView). bytes_of (plain v)) (sym c.self.view_is) ∙ sym c.self.invariant.counted in
     let starts : AreStarts texts c.in_ok-starts.starts.items = subst (λ (ps : List PieceText). AreStarts (map (λ (piece : PieceText). piece.text.items) ps) c.in_ok-starts.starts.items) c.deref.ensures.value c.in_ok-starts.ensures.starts in
+    let count = length-map c.in_ok-kept.kept.items (λ (piece : PieceText). piece.text.items) in
+    let has : HasStarts texts value = record {
+      known = omega (arith, c.len-known.ensures, c.in_ok-kept.kept.ok.0, count);
+      starts = λ number default le. starts number default (omega (arith, le, c.len-known.ensures, c.in_ok-kept.kept.ok.0, count));
+    } in
     let many : length c.in_ok-keys.keys.items ≡ length texts = put_many inside.pieces c.put_all.new.self texts c.in_ok-keys.keys.items put in
     kept_added inside c.self.invariant e texts c.put_all.new.self put after entries refl refl
     (record {
       keys = omega (arith, c.in_ok-keys.keys.ok.0, c.in_ok-keys.keys.ok.1);
       starts = omega (arith, c.in_ok-keys.keys.ok.0, many, length-map c.in_ok-kept.kept.items (λ (piece : PieceText). piece.text.items), c.in_ok-starts.ensures.many, ap length c.deref.ensures.value);
     })
-    starts (tail_of cut c.args.cut.tail.items c.requires.pieces)
+    has (tail_of cut c.args.cut.tail.items c.requires.pieces)
     (omega (arith, c.requires.counted, ap (λ (ts : List (List ℕ)). length (concat ts ++ c.args.cut.tail.items)) c.in_ok-kept.ensures.texts)) (omega (arith, held, c.requires.fits))
 
 pub returns-clause-ok : goal.returns-clause-ok
@@ -68,7 +74,7 @@ returns-clause-ok c =
     no_file (λ (key : Vec ℕ Global). bytes_eq c.in_ok-name.name.items key.items) c.reserve.new.self.entries
     (ap (λ (name : List ℕ). position (λ (key : Vec ℕ Global). bytes_eq name key.items) (keys_of c.reserve.new.self.entries)) c.in_ok-name.ensures.items
     ∙ ap (λ es. position (λ (key : Vec ℕ Global). bytes_eq c.args.name.now key.items) (keys_of es)) c.reserve.ensures.entries ∙ missing) in
-    let value : FileText = record { keys = c.in_ok-keys.keys; starts = c.in_ok-starts.starts; tail = c.args.cut.tail; deleted = 0 } in
+    let value : FileText = record { keys = c.in_ok-keys.keys; starts = c.in_ok-starts.starts; tail = c.args.cut.tail; known = c.len-known.result; deleted = 0 } in
     let entries : c.insert.new.self.entries ≡ inside.files.entries ++ (c.in_ok-name.name, value) ∷ [] =
     done_ok c.insert.result c.unwrap.result _ c.unwrap.ensures c.insert.ensures.entries ∙ insert_entry-new (λ x y. bytes_eq x.items y.items) c.reserve.new.self c.in_ok-name.name value none
     ∙ ap (λ (es : List (Vec ℕ Global × FileText)). es ++ (c.in_ok-name.name, value) ∷ []) c.reserve.ensures.entries in

@@ -17,11 +17,10 @@ use Rattle.mm_store.specs.Code.Edited.{pieces_in, with_pieces, IsReplaced}
 use Rattle.mm_store.specs.Code.Kept.{file_of, places, standing_count}
 use Rattle.mm_store.specs.Language.FilesView.{FilesView, KeyedFile, plain, plain_file, bytes_of}
 use Rattle.std.proofs.Common.{◌≡◌, ℕ, ◌≤◌, ◌<◌, ◌+◌, ◌-◌, sym, List, length, map, get_or, set, subst}
-use Rattle.std.specs.List.{concat}
 use Rattle.mm_store.specs.Code.Edited.{pieces_in}
 use Rattle.mm_store.specs.Language.Pieces.{Parked, Replaced, standing_piece, with_state, text_under}
-use Rattle.mm_store.specs.Code.Lines.{AreStarts}
-use Rattle.mm_store.proofs.ChangeLemmas.{starts_here, small_after, starts_after}
+use Rattle.mm_store.specs.Code.Starts.{KnowsStarts}
+use Rattle.mm_store.proofs.ChangeLemmas.{starts_here, starts_after}
 use Rattle.mm_store.proofs.KeptLemmas.{kept_after}
 use Rattle.mm_store.specs.Language.FilesView.{FilesView, plain}
 use Rattle.mm_store.specs.Language.Undoing.{keys_in, with_keys, key_at}
@@ -89,63 +88,6 @@ replace_key-old-requires-clause-room c =
     let same = lemmas.texts_replaced fs p n at k t once there fresh in
     let file = in_files fs n at there in
     had.room
-
-pub replace_key-old-requires-clause-starts : goal.replace_key-old-requires-clause-starts
-replace_key-old-requires-clause-starts c =
-    let n = c.args.number in
-    let at = c.args.at in
-    let k = c.in_ok-key.key in
-    let t = c.args.kept.text.items in
-    let inside = c.self.inside in
-    let es = c.self.inside.files.entries in
-    let fs : List KeyedFile = map file_of es in
-    let p = c.self.inside.pieces in
-    let once = c.self.invariant.once in
-    let fresh = c.in_ok-key.ensures.fresh in
-    let there = subst (λ (v : FilesView). at < length (keys_in v.keyed n)) (sym c.self.view_is) c.requires.there in
-    let v = c.unwrap-file.result.now in
-    let here : slice_get (texts_of es) n ≡ Some v = sym c.get_index_mut.ensures.value ∙ ap option_copied_mut c.unwrap-file.ensures in
-    let keys = keys_at es n v here in
-    let had = room_at p 0 es n n v (omega arith) c.self.invariant.room here in
-    let p1 = finite.insert p k (standing_piece t) in
-    let p2 = with_state p1 (get_or (keys_in fs n) at 0) (Parked n Replaced) in
-    let newkeys = set (keys_in fs n) at k in
-    let members = set (pieces_in (map (plain_file p) fs) n) at t in
-    let means : map (plain_file p2) (with_keys fs n newkeys) ≡ with_pieces (map (plain_file p) fs) n members = lemmas.plain_replaced fs p n at k t once there fresh in
-    let allowed = subst (λ v. bytes_of (with_pieces (plain v) n (set (pieces_in (plain v) n) at t)) ≤ 4294967295) (sym c.self.view_is) c.requires.within in
-    let small : bytes_of (map (plain_file p2) (with_keys fs n newkeys)) ≤ 4294967295 = omega (arith, allowed, ap bytes_of means) in
-    let same = lemmas.texts_replaced fs p n at k t once there fresh in
-    let file = in_files fs n at there in
-    starts_here p c.put.new.self es n v c.self.invariant.starts here (ap (λ m. map (text_under m) (keys_in fs n)) c.in_ok-key.ensures.ok ∙ lemmas.texts_left fs p n at k t once there fresh)
-
-pub replace_key-old-requires-clause-small : goal.replace_key-old-requires-clause-small
-replace_key-old-requires-clause-small c =
-    let n = c.args.number in
-    let at = c.args.at in
-    let k = c.in_ok-key.key in
-    let t = c.args.kept.text.items in
-    let inside = c.self.inside in
-    let es = c.self.inside.files.entries in
-    let fs : List KeyedFile = map file_of es in
-    let p = c.self.inside.pieces in
-    let once = c.self.invariant.once in
-    let fresh = c.in_ok-key.ensures.fresh in
-    let there = subst (λ (v : FilesView). at < length (keys_in v.keyed n)) (sym c.self.view_is) c.requires.there in
-    let v = c.unwrap-file.result.now in
-    let here : slice_get (texts_of es) n ≡ Some v = sym c.get_index_mut.ensures.value ∙ ap option_copied_mut c.unwrap-file.ensures in
-    let keys = keys_at es n v here in
-    let had = room_at p 0 es n n v (omega arith) c.self.invariant.room here in
-    let p1 = finite.insert p k (standing_piece t) in
-    let p2 = with_state p1 (get_or (keys_in fs n) at 0) (Parked n Replaced) in
-    let newkeys = set (keys_in fs n) at k in
-    let members = set (pieces_in (map (plain_file p) fs) n) at t in
-    let means : map (plain_file p2) (with_keys fs n newkeys) ≡ with_pieces (map (plain_file p) fs) n members = lemmas.plain_replaced fs p n at k t once there fresh in
-    let allowed = subst (λ v. bytes_of (with_pieces (plain v) n (set (pieces_in (plain v) n) at t)) ≤ 4294967295) (sym c.self.view_is) c.requires.within in
-    let small : bytes_of (map (plain_file p2) (with_keys fs n newkeys)) ≤ 4294967295 = omega (arith, allowed, ap bytes_of means) in
-    let same = lemmas.texts_replaced fs p n at k t once there fresh in
-    let file = in_files fs n at there in
-    subst (λ m. length (concat (map (text_under m) (set v.keys.items at k))) ≤ 4294967295) (sym c.in_ok-key.ensures.ok)
-    (subst (λ ks. length (concat (map (text_under p1) (set ks at k))) ≤ 4294967295) keys (small_after fs p p1 p2 n newkeys members file means same small))
 
 pub set_state-less-requires : goal.set_state-less-requires
 set_state-less-requires c =
@@ -217,7 +159,7 @@ invariant_of-self-2 c =
     (c.replace_key-old.ensures.deleted ∙ had.parked ∙ sym (lemmas.deletions_replaced fs p n at k t once there fresh n)) c.replace_key-old.ensures.room
     (omega (arith, bytes, less, text, c.len-more.ensures, c.args.kept.text.ok.0, text_within p fs n at there))
     (omega (arith, bytes, less, text, c.len-more.ensures, c.args.kept.text.ok.0, text_within p fs n at there, small))
-    members means (starts_after fs p p1 p2 n newkeys members file means same w items (subst (λ m. AreStarts (map (text_under m) w.keys.items) w.starts.items) c.in_ok-key.ensures.ok c.replace_key-old.ensures.starts))
+    members means (starts_after fs p p1 p2 n newkeys members file means same w items (subst (λ m. KnowsStarts m w) c.in_ok-key.ensures.ok (c.replace_key-old.ensures.starts c.put.new.self (starts_here p c.put.new.self es n v c.self.invariant.starts here (ap (λ m. map (text_under m) (keys_in fs n)) c.in_ok-key.ensures.ok ∙ lemmas.texts_left fs p n at k t once there fresh)))))
 
 pub returns-clause-ok : goal.returns-clause-ok
 returns-clause-ok c =

@@ -11,11 +11,11 @@ use Rattle.mm_store.proofs.StepLemmas as lemmas
 use Rattle.mm_store.proofs.files.Files.take_back_deletion.Goals as goal
 use Rattle.mm_store.specs.Code.Kept.{file_of, deletions}
 use Rattle.mm_store.specs.Language.FilesView.{FilesView, KeyedFile, plain, plain_file, bytes_of}
-use Rattle.mm_store.proofs.ChangeLemmas.{starts_here, small_after, starts_after}
+use Rattle.mm_store.proofs.ChangeLemmas.{starts_here, starts_after}
 use Rattle.mm_store.proofs.StepLemmas.{texts_all}
 use Rattle.mm_store.proofs.PieceLemmas.{text_state}
 use Rattle.std.proofs.Common.{◌≤◌, ◌<◌, refl, sym, List, length, map, subst}
-use Rattle.std.specs.List.{concat, insert}
+use Rattle.std.specs.List.{insert}
 use Rattle.mm_store.specs.Code.Edited.{pieces_in}
 use Rattle.mm_store.specs.Language.Pieces.{Standing, Deleted, with_state, text_under, IsParked}
 use Rattle.mm_store.specs.Language.Undoing.{keys_in, reversed}
@@ -157,7 +157,7 @@ invariant_of-self c =
     (omega (arith, bytes, less, more)) (omega (arith, more, less, bytes, allowed))
     (insert (pieces_in (map (plain_file p) fs) n) at (text_under p c.args.old)) (lemmas.plain_undeleted fs p n at once c.args.old is_parked)
     (starts_after fs p p (with_state p c.args.old Standing) n (insert (keys_in fs n) at c.args.old) (insert (pieces_in (map (plain_file p) fs) n) at (text_under p c.args.old)) file
-    (lemmas.plain_undeleted fs p n at once c.args.old is_parked) (sym (texts_all p (with_state p c.args.old Standing) (text_state p c.args.old Standing) (insert (keys_in fs n) at c.args.old))) w items c.restore_key.ensures.starts)
+    (lemmas.plain_undeleted fs p n at once c.args.old is_parked) (sym (texts_all p (with_state p c.args.old Standing) (text_state p c.args.old Standing) (insert (keys_in fs n) at c.args.old))) w items (c.restore_key.ensures.starts p (starts_here p p es n v c.self.invariant.starts here refl)))
 
 pub returns : goal.returns
 returns c =
@@ -177,44 +177,3 @@ returns c =
     let items : w.keys.items ≡ insert (keys_in fs n) at c.args.old = c.restore_key.ensures.items ∙ ap (λ ks. insert ks at c.args.old) (sym keys) in
     let p2 : c.set_state-more.new.self ≡ with_state p c.args.old Standing = c.set_state-more.ensures.pieces in
     view_after inside n v w here c.restore_key.ensures.tail (insert (keys_in fs n) at c.args.old) items c.set_state-more.new.self (with_state p c.args.old Standing) p2 (inside.bytes + c.set_state-more.result) ∙ ap (reversed n (action.Deleted at c.args.old)) c.self.view_is
-
-pub restore_key-requires-clause-starts : goal.restore_key-requires-clause-starts
-restore_key-requires-clause-starts c =
-    let n = c.args.number in
-    let at = c.args.at in
-    let inside = c.self.inside in
-    let es = c.self.inside.files.entries in
-    let fs : List KeyedFile = map file_of es in
-    let p = c.self.inside.pieces in
-    let once = c.self.invariant.once in
-    let within_keys = subst (λ (view : FilesView). at ≤ length (keys_in view.keyed n)) (sym c.self.view_is) c.requires.fits.0 in
-    let is_parked = subst (λ (view : FilesView). IsParked view.pieces c.args.old n Deleted) (sym c.self.view_is) c.requires.fits.1 in
-    let file : n < length fs = omega (arith, below_bound n (length es) (deletions n p) (c.self.invariant.known n) (omega (arith, lemmas.restored_here fs p n at once c.args.old is_parked)), length-map es (file_of {Y = Global})) in
-    let v = c.unwrap-file.result.now in
-    let here : slice_get (texts_of es) n ≡ Some v = sym c.get_index_mut.ensures.value ∙ ap option_copied_mut c.unwrap-file.ensures in
-    let keys = keys_at es n v here in
-    let had = room_at p 0 es n n v (omega arith) c.self.invariant.room here in
-    let less : bytes_of (map (plain_file p) fs) ≡ c.self.inside.bytes = sym c.self.invariant.counted in
-    starts_here p p es n v c.self.invariant.starts here refl
-
-pub restore_key-requires-clause-small : goal.restore_key-requires-clause-small
-restore_key-requires-clause-small c =
-    let n = c.args.number in
-    let at = c.args.at in
-    let inside = c.self.inside in
-    let es = c.self.inside.files.entries in
-    let fs : List KeyedFile = map file_of es in
-    let p = c.self.inside.pieces in
-    let once = c.self.invariant.once in
-    let within_keys = subst (λ (view : FilesView). at ≤ length (keys_in view.keyed n)) (sym c.self.view_is) c.requires.fits.0 in
-    let is_parked = subst (λ (view : FilesView). IsParked view.pieces c.args.old n Deleted) (sym c.self.view_is) c.requires.fits.1 in
-    let file : n < length fs = omega (arith, below_bound n (length es) (deletions n p) (c.self.invariant.known n) (omega (arith, lemmas.restored_here fs p n at once c.args.old is_parked)), length-map es (file_of {Y = Global})) in
-    let v = c.unwrap-file.result.now in
-    let here : slice_get (texts_of es) n ≡ Some v = sym c.get_index_mut.ensures.value ∙ ap option_copied_mut c.unwrap-file.ensures in
-    let keys = keys_at es n v here in
-    let had = room_at p 0 es n n v (omega arith) c.self.invariant.room here in
-    let less : bytes_of (map (plain_file p) fs) ≡ c.self.inside.bytes = sym c.self.invariant.counted in
-    let allowed = subst (λ v. bytes_of (plain (reversed n (action.Deleted at c.args.old) v)) ≤ 4294967295) (sym c.self.view_is) c.requires.within in
-    subst (λ ks. length (concat (map (text_under p) (insert ks at c.args.old))) ≤ 4294967295) keys
-    (small_after fs p p (with_state p c.args.old Standing) n (insert (keys_in fs n) at c.args.old) (insert (pieces_in (map (plain_file p) fs) n) at (text_under p c.args.old)) file
-    (lemmas.plain_undeleted fs p n at once c.args.old is_parked) (sym (texts_all p (with_state p c.args.old Standing) (text_state p c.args.old Standing) (insert (keys_in fs n) at c.args.old))) allowed)

@@ -13,10 +13,10 @@ use Rattle.mm_store.proofs.StepLemmas as lemmas
 use Rattle.mm_store.proofs.files.Files.take_back_insertion.Goals as goal
 use Rattle.mm_store.specs.Code.Kept.{file_of}
 use Rattle.mm_store.specs.Language.FilesView.{FilesView, KeyedFile, plain_file, bytes_of}
-use Rattle.mm_store.proofs.ChangeLemmas.{starts_here, small_after, starts_after}
+use Rattle.mm_store.proofs.ChangeLemmas.{starts_here, starts_after}
 use Rattle.mm_store.proofs.StepLemmas.{texts_all}
-use Rattle.std.proofs.Common.{◌≤◌, ◌<◌, refl, sym, List, length, map, get_or, subst}
-use Rattle.std.specs.List.{concat, remove}
+use Rattle.std.proofs.Common.{◌<◌, refl, sym, List, length, map, get_or, subst}
+use Rattle.std.specs.List.{remove}
 use Rattle.mm_store.specs.Code.Edited.{pieces_in}
 use Rattle.mm_store.specs.Language.Pieces.{text_under}
 use Rattle.mm_store.specs.Language.Undoing.{keys_in, reversed}
@@ -100,7 +100,7 @@ invariant_of-self c =
     (omega (arith, bytes, less, text)) (omega (arith, c.self.invariant.within))
     (remove (pieces_in (map (plain_file p) fs) n) at) (lemmas.plain_uninserted fs p n at once there)
     (starts_after fs p p (finite.remove p (get_or (keys_in fs n) at 0)) n (remove (keys_in fs n) at) (remove (pieces_in (map (plain_file p) fs) n) at) (in_files fs n at there)
-    (lemmas.plain_uninserted fs p n at once there) (lemmas.texts_uninserted fs p n at once there) w items c.take_key-key.ensures.starts)
+    (lemmas.plain_uninserted fs p n at once there) (lemmas.texts_uninserted fs p n at once there) w items (c.take_key-key.ensures.starts p (starts_here p p es n v c.self.invariant.starts here refl)))
 
 pub returns : goal.returns
 returns c =
@@ -139,39 +139,3 @@ take_key-key-requires-clause-room c =
     let had = room_at p 0 es n n v (omega arith) c.self.invariant.room here in
     let less : bytes_of (map (plain_file p) fs) ≡ c.self.inside.bytes = sym c.self.invariant.counted in
     had.room
-
-pub take_key-key-requires-clause-starts : goal.take_key-key-requires-clause-starts
-take_key-key-requires-clause-starts c =
-    let n = c.args.number in
-    let at = c.args.at in
-    let inside = c.self.inside in
-    let es = c.self.inside.files.entries in
-    let fs : List KeyedFile = map file_of es in
-    let p = c.self.inside.pieces in
-    let once = c.self.invariant.once in
-    let there = subst (λ (view : FilesView). at < length (keys_in view.keyed n)) (sym c.self.view_is) c.requires.fits in
-    let v = c.unwrap-file.result.now in
-    let here : slice_get (texts_of es) n ≡ Some v = sym c.get_index_mut.ensures.value ∙ ap option_copied_mut c.unwrap-file.ensures in
-    let keys = keys_at es n v here in
-    let had = room_at p 0 es n n v (omega arith) c.self.invariant.room here in
-    let less : bytes_of (map (plain_file p) fs) ≡ c.self.inside.bytes = sym c.self.invariant.counted in
-    starts_here p p es n v c.self.invariant.starts here refl
-
-pub take_key-key-requires-clause-small : goal.take_key-key-requires-clause-small
-take_key-key-requires-clause-small c =
-    let n = c.args.number in
-    let at = c.args.at in
-    let inside = c.self.inside in
-    let es = c.self.inside.files.entries in
-    let fs : List KeyedFile = map file_of es in
-    let p = c.self.inside.pieces in
-    let once = c.self.invariant.once in
-    let there = subst (λ (view : FilesView). at < length (keys_in view.keyed n)) (sym c.self.view_is) c.requires.fits in
-    let v = c.unwrap-file.result.now in
-    let here : slice_get (texts_of es) n ≡ Some v = sym c.get_index_mut.ensures.value ∙ ap option_copied_mut c.unwrap-file.ensures in
-    let keys = keys_at es n v here in
-    let had = room_at p 0 es n n v (omega arith) c.self.invariant.room here in
-    let less : bytes_of (map (plain_file p) fs) ≡ c.self.inside.bytes = sym c.self.invariant.counted in
-    subst (λ ks. length (concat (map (text_under p) (remove ks at))) ≤ 4294967295) keys
-    (small_after fs p p (finite.remove p (get_or (keys_in fs n) at 0)) n (remove (keys_in fs n) at) (remove (pieces_in (map (plain_file p) fs) n) at) (in_files fs n at there)
-    (lemmas.plain_uninserted fs p n at once there) (lemmas.texts_uninserted fs p n at once there) (omega (arith, lemmas.bytes_uninserted fs p n at once there, less, c.self.invariant.within)))

@@ -12,10 +12,9 @@ use Rattle.mm_store.proofs.StepLemmas as lemmas
 use Rattle.mm_store.proofs.files.Files.take_back_replacement.Goals as goal
 use Rattle.mm_store.specs.Code.Kept.{file_of}
 use Rattle.mm_store.specs.Language.FilesView.{FilesView, KeyedFile, plain, plain_file, bytes_of}
-use Rattle.mm_store.proofs.ChangeLemmas.{starts_here, small_after, starts_after}
+use Rattle.mm_store.proofs.ChangeLemmas.{starts_here, starts_after}
 use Rattle.mm_store.proofs.StepLemmas.{texts_all}
 use Rattle.std.proofs.Common.{◌≤◌, ◌<◌, refl, sym, List, length, map, get_or, subst}
-use Rattle.std.specs.List.{concat}
 use Rattle.mm_store.specs.Code.Edited.{pieces_in}
 use Rattle.mm_store.specs.Language.Pieces.{Standing, Replaced, with_state, text_under, IsParked}
 use Rattle.mm_store.specs.Language.Undoing.{keys_in, reversed}
@@ -157,7 +156,7 @@ invariant_of-self c =
     (set (pieces_in (map (plain_file p) fs) n) at (text_under p c.args.old)) (lemmas.plain_unreplaced fs p n at once there c.args.old is_parked)
     (starts_after fs p p (with_state (finite.remove p (get_or (keys_in fs n) at 0)) c.args.old Standing) n (set (keys_in fs n) at c.args.old)
     (set (pieces_in (map (plain_file p) fs) n) at (text_under p c.args.old)) (in_files fs n at there) (lemmas.plain_unreplaced fs p n at once there c.args.old is_parked)
-    (lemmas.texts_unreplaced fs p n at once there c.args.old is_parked) w items c.replace_key-key.ensures.starts)
+    (lemmas.texts_unreplaced fs p n at once there c.args.old is_parked) w items (c.replace_key-key.ensures.starts p (starts_here p p es n v c.self.invariant.starts here refl)))
 
 pub returns : goal.returns
 returns c =
@@ -199,43 +198,3 @@ replace_key-key-requires-clause-room c =
     let had = room_at p 0 es n n v (omega arith) c.self.invariant.room here in
     let less : bytes_of (map (plain_file p) fs) ≡ c.self.inside.bytes = sym c.self.invariant.counted in
     had.room
-
-pub replace_key-key-requires-clause-starts : goal.replace_key-key-requires-clause-starts
-replace_key-key-requires-clause-starts c =
-    let n = c.args.number in
-    let at = c.args.at in
-    let inside = c.self.inside in
-    let es = c.self.inside.files.entries in
-    let fs : List KeyedFile = map file_of es in
-    let p = c.self.inside.pieces in
-    let once = c.self.invariant.once in
-    let there = subst (λ (view : FilesView). at < length (keys_in view.keyed n)) (sym c.self.view_is) c.requires.fits.0 in
-    let is_parked = subst (λ (view : FilesView). IsParked view.pieces c.args.old n Replaced) (sym c.self.view_is) c.requires.fits.1 in
-    let v = c.unwrap-file.result.now in
-    let here : slice_get (texts_of es) n ≡ Some v = sym c.get_index_mut.ensures.value ∙ ap option_copied_mut c.unwrap-file.ensures in
-    let keys = keys_at es n v here in
-    let had = room_at p 0 es n n v (omega arith) c.self.invariant.room here in
-    let less : bytes_of (map (plain_file p) fs) ≡ c.self.inside.bytes = sym c.self.invariant.counted in
-    starts_here p p es n v c.self.invariant.starts here refl
-
-pub replace_key-key-requires-clause-small : goal.replace_key-key-requires-clause-small
-replace_key-key-requires-clause-small c =
-    let n = c.args.number in
-    let at = c.args.at in
-    let inside = c.self.inside in
-    let es = c.self.inside.files.entries in
-    let fs : List KeyedFile = map file_of es in
-    let p = c.self.inside.pieces in
-    let once = c.self.invariant.once in
-    let there = subst (λ (view : FilesView). at < length (keys_in view.keyed n)) (sym c.self.view_is) c.requires.fits.0 in
-    let is_parked = subst (λ (view : FilesView). IsParked view.pieces c.args.old n Replaced) (sym c.self.view_is) c.requires.fits.1 in
-    let v = c.unwrap-file.result.now in
-    let here : slice_get (texts_of es) n ≡ Some v = sym c.get_index_mut.ensures.value ∙ ap option_copied_mut c.unwrap-file.ensures in
-    let keys = keys_at es n v here in
-    let had = room_at p 0 es n n v (omega arith) c.self.invariant.room here in
-    let less : bytes_of (map (plain_file p) fs) ≡ c.self.inside.bytes = sym c.self.invariant.counted in
-    let allowed = subst (λ v. bytes_of (plain (reversed n (action.Replaced at c.args.old) v)) ≤ 4294967295) (sym c.self.view_is) c.requires.within in
-    subst (λ ks. length (concat (map (text_under p) (set ks at c.args.old))) ≤ 4294967295) keys
-    (small_after fs p p (with_state (finite.remove p (get_or (keys_in fs n) at 0)) c.args.old Standing) n (set (keys_in fs n) at c.args.old)
-    (set (pieces_in (map (plain_file p) fs) n) at (text_under p c.args.old)) (in_files fs n at there) (lemmas.plain_unreplaced fs p n at once there c.args.old is_parked)
-    (lemmas.texts_unreplaced fs p n at once there c.args.old is_parked) allowed)

@@ -1,0 +1,14 @@
+-- Where the pieces of a file begin, as far as it is known.
+use Rattle.std.specs.Prelude.{ℕ, ◌≤◌, List, length, map}
+use Rattle.mm_store.specs.declared.file_text.FileText.{FileText}
+use Rattle.mm_store.specs.Language.Pieces.{Pieces, text_under}
+use Rattle.mm_store.specs.Code.Lines.{AreStartsTo}
+
+-- of pieces with these texts it is known where they begin, up to one of them or to the tail behind them
+pub record HasStarts (texts : List (List ℕ)) (file : FileText) : Type 0 where
+  pub known : file.known ≤ length texts
+  pub starts : AreStartsTo file.known texts file.starts.items
+
+-- the same of those under the keys of the file
+abbrev pub KnowsStarts : Pieces → FileText → Type 0
+KnowsStarts pieces file = HasStarts (map (text_under pieces) file.keys.items) file
