@@ -21,3 +21,4 @@ pub mod Numbering
 pub mod NumberedBase
 pub mod KeptMarks
 pub mod Spelled
+pub mod ShortSteps

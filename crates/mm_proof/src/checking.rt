@@ -1,6 +1,6 @@
 //! The check of a proof.
 
-ghost use Rattle.std.specs.Prelude.{true, ◌≡◌, ◌<◌, ◌≤◌, ◌+◌, ◌++◌, ◌∷◌, ◌^◌, [], ℕ, List, Err, IfOk, OnOk, OnErr, length};
+ghost use Rattle.std.specs.Prelude.{true, ◌≡◌, ◌<◌, ◌≤◌, ◌+◌, ◌++◌, ◌∷◌, ◌^◌, [], ℕ, List, Err, IfOk, OnOk, OnErr, IfSome, length};
 ghost use Rattle.mm_frame.specs.Language.Base.{BaseView, before, said_at, is_framed_at};
 ghost use Rattle.mm_frame.specs.Language.Framing.{mandatory_numbers};
 ghost use Rattle.mm_frame.specs.Language.Answering.{IsBase};
@@ -12,7 +12,7 @@ ghost use Rattle.mm_frame.specs.Language.Frame.{Symbol, Setting};
 ghost use Rattle.mm_proof.specs.Language.DecodedSteps.{decoded_steps};
 ghost use Rattle.mm_proof.specs.Code.Judged.{HasDecoding, HasProof, IsOutcomeWithin, OfDecoding, OfProof, done_by};
 ghost use Rattle.mm_proof.specs.Language.ReadIn.{HasTheorem, OfTheorem};
-ghost use Rattle.mm_proof.specs.Code.Tasks.{RunSays};
+ghost use Rattle.mm_proof.specs.Code.Tasks.{RunSays, StopsAt};
 ghost use Rattle.mm_proof.specs.declared.step.Undecoded.TheVariants as errors;
 
 use crate::active::Active;
@@ -21,8 +21,9 @@ use crate::citing::cites;
 use crate::decoding_laws::{decodes_short, decodes_surely, labels_are_own, mandatory_are_active};
 use crate::named::{NamingRoom, name_all};
 use crate::reading::{Decoding, decode};
+use crate::short::{steps_before, take_more, takes_more};
 use crate::step::{ProofFault, Undecoded};
-use crate::stepping::{Outcome, run};
+use crate::stepping::{Outcome, run, run_through};
 use crate::used::labels_used;
 use crate::work::{Checked, Scratch, Work};
 use crate::{ProofNumber, Spot, Verdict};
@@ -94,8 +95,50 @@ fn done(outcome: Outcome, steps: usize) -> usize
     }
 }
 
-/// Runs the steps of a proof. The machine's tables get so many places for the keys of variables, if they have fewer.
-fn run_steps(
+/// Runs the steps of a proof before the first that lacks an entry, by the count of entries alone, and looks at that one. It
+/// loads no assertion for a step that lacks an entry. Where that does not tell what the steps come to, it tells nothing.
+fn run_front(
+    alloc: Global,
+    scratch: &mut Scratch,
+    keys: usize,
+    base: &Base,
+    i: usize,
+    proof: &ProofWords,
+    decoding: &Decoding,
+) -> Result<Option<Outcome>, AllocError>
+    requires { HasDecoding base.now i proof.now decoding.now }
+    ensures within { IfOk result (λ found. IfSome found (IsOutcomeWithin (length decoding.now.steps.items))) }
+    ensures says { IfOk result (λ found. IfSome found (λ outcome. OfDecoding base.now i proof.now decoding.now (λ view.
+        StopsAt (setting_at view i) (decoded_steps view decoding.now proof.now).steps outcome))) }
+{
+    places_have_frames();
+    decodes_surely();
+    mandatory_are_active();
+    let count = steps_before(base, &decoding.labels, &decoding.steps);
+    let room = mem::replace(&mut scratch.naming, NamingRoom::new(alloc));
+    let labels = labels_used(alloc, &decoding.labels, &decoding.steps[..count])?;
+    let (named, room) = name_all(alloc, base, &labels, room)?;
+    scratch.naming = room;
+    let active = Active::new(active(base, i));
+    if let Some(outcome) = run_through(
+        alloc,
+        &mut scratch.machine,
+        keys,
+        &named,
+        &active,
+        &decoding.steps[..count],
+    )? {
+        return Ok(Some(outcome));
+    }
+    let entries = scratch.machine.stack.len();
+    if takes_more(base, &decoding.labels, &decoding.steps, count, entries) {
+        return Ok(Some(Outcome::Fault(ProofNumber::P07, count)));
+    }
+    Ok(None)
+}
+
+/// Runs all steps of a proof. The machine's tables get so many places for the keys of variables, if they have fewer.
+fn run_all(
     alloc: Global,
     scratch: &mut Scratch,
     keys: usize,
@@ -126,6 +169,29 @@ fn run_steps(
         &decoding.steps,
         expression(base, i),
     )
+}
+
+/// Runs the steps of a proof. The machine's tables get so many places for the keys of variables, if they have fewer.
+fn run_steps(
+    alloc: Global,
+    scratch: &mut Scratch,
+    keys: usize,
+    base: &Base,
+    i: usize,
+    proof: &ProofWords,
+    decoding: &Decoding,
+) -> Result<Outcome, AllocError>
+    requires { HasDecoding base.now i proof.now decoding.now }
+    ensures within { IfOk result (IsOutcomeWithin (length decoding.now.steps.items)) }
+    ensures says { IfOk result (λ outcome. OfDecoding base.now i proof.now decoding.now (λ view.
+        RunSays (setting_at view i) (decoded_steps view decoding.now proof.now).steps (statement_at view i) outcome)) }
+{
+    if take_more(base, &decoding.labels, decoding.steps.len()) {
+        if let Some(outcome) = run_front(alloc, &mut *scratch, keys, base, i, proof, decoding)? {
+            return Ok(outcome);
+        }
+    }
+    run_all(alloc, &mut *scratch, keys, base, i, proof, decoding)
 }
 
 /// What a check says of a proof that decodes, and how many steps are done.

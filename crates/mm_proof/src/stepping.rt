@@ -12,7 +12,7 @@ ghost use Rattle.mm_proof.specs.Code.Citation.{frame_of, meant_pairs};
 ghost use Rattle.mm_proof.specs.Language.DecodedSteps.{meant};
 ghost use Rattle.mm_proof.specs.Code.Judged.{IsOutcomeWithin};
 ghost use Rattle.mm_proof.specs.Code.MachineState.{state_of, AreRanges};
-ghost use Rattle.mm_proof.specs.Code.Tasks.{AreSavedBefore, AreUses, AreUsesWithin, HasState, IsSavedWithin, IsTaskWithin, MeansTask, RunSays};
+ghost use Rattle.mm_proof.specs.Code.Tasks.{AreDoneTo, AreSavedBefore, AreUses, AreUsesWithin, HasState, IsSavedWithin, IsTaskWithin, MeansTask, RunSays, StopsAt};
 ghost use Rattle.mm_proof.specs.Code.Tasks.{IsUseWithin, MeansUse, actions_mean, named_expressions, named_frames, saves_by, saves_of};
 
 use crate::ProofNumber;
@@ -161,6 +161,40 @@ fn load<'a, S: Kept>(
     Ok(())
 }
 
+/// Runs steps up to the first that is at fault or not known, and tells what they come to. Where there is none, all are done,
+/// and it tells nothing. What the machine has from other runs does not count; its tables get so many places for the keys of
+/// variables, if they have fewer.
+pub fn run_through<'a, S: Kept>(
+    alloc: Global,
+    machine: &mut Machine<S>,
+    keys: usize,
+    named: &Named<'a, S>,
+    active: &Active<'a, S>,
+    steps: &[ProofStep],
+) -> Result<Option<Outcome>, AllocError>
+    requires frames { All (λ a. IsFrame (frame_of S.means a)) named.now.assertions.items }
+    requires within { AreUsesWithin named.now }
+    requires saved { AreSavedBefore steps.now }
+    ensures whole { OnOk result (AreRanges machine.new) }
+    ensures within { IfOk result (λ found. IfSome found (IsOutcomeWithin (length steps.now))) }
+    ensures says { IfOk result (λ found. (place : Setting) (names : List Step) → HasFrames place
+        → AreSamePairs (meant_pairs S.means active.now.pairs.now) place.active → AreUses S.means named.now place names
+        → MatchOption found (AreDoneTo place (actions_mean names steps.now) (state_of S.means machine.new).stack)
+        (StopsAt place (actions_mean names steps.now))) }
+{
+    machine.clear(keys)?;
+    load(alloc, &mut *machine, &*named)?;
+    for place in 0..steps.len() {
+        let Some(task) = todo(&*named, steps[place].action) else {
+            return Ok(Some(Outcome::Unknown(place)));
+        };
+        if let Some(number) = turn(alloc, &mut *machine, &*named, &*active, task)? {
+            return Ok(Some(Outcome::Fault(number, place)));
+        }
+    }
+    Ok(None)
+}
+
 /// Runs the steps of a proof of a statement, up to the first that is at fault or not known. What the machine has from
 /// other runs does not count; its tables get so many places for the keys of variables, if they have fewer.
 pub fn run<'a, S: Kept>(
@@ -180,15 +214,8 @@ pub fn run<'a, S: Kept>(
         → AreSamePairs (meant_pairs S.means active.now.pairs.now) place.active
         → AreUses S.means named.now place names → RunSays place (actions_mean names steps.now) (map S.means statement.now) outcome) }
 {
-    machine.clear(keys)?;
-    load(alloc, &mut *machine, &*named)?;
-    for place in 0..steps.len() {
-        let Some(task) = todo(&*named, steps[place].action) else {
-            return Ok(Outcome::Unknown(place));
-        };
-        if let Some(number) = turn(alloc, &mut *machine, &*named, &*active, task)? {
-            return Ok(Outcome::Fault(number, place));
-        }
+    if let Some(outcome) = run_through(alloc, &mut *machine, keys, &*named, &*active, steps)? {
+        return Ok(outcome);
     }
     if machine.stack.len() != 1 {
         return Ok(Outcome::NotOne);

@@ -107,3 +107,13 @@ RunSays place steps statement (Fault number n) = IsStepFault place (run_part ste
 RunSays place steps statement (Unknown n) = IsFirstUnknown steps n × IsReached place steps
 RunSays place steps statement NotOne = AreAllKnown steps × (stack : List (List Symbol)) × Reaches place steps stack × (length stack ≢ 1)
 RunSays place steps statement Other = AreAllKnown steps × (e : List Symbol) × Reaches place steps (e ∷ []) × (e ≢ statement)
+
+-- the steps stop at one that is at fault or not known
+abbrev pub StopsAt : Setting → List Step → Outcome → Type 0
+StopsAt place steps (Fault number n) = IsStepFault place (run_part steps) n number
+StopsAt place steps (Unknown n) = IsFirstUnknown steps n × IsReached place steps
+StopsAt place steps _ = ⊥
+
+-- all steps are known, and reach the stack
+abbrev pub AreDoneTo : Setting → List Step → List (List Symbol) → Type 0
+AreDoneTo place steps stack = AreAllKnown steps × Reaches place steps stack

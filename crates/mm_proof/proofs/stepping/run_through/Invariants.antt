@@ -8,7 +8,7 @@ use Rattle.mm_proof.proofs.StepLemmas.{KnownUpTo}
 use Rattle.mm_proof.specs.Code.Citation.{meant_pairs}
 use Rattle.mm_proof.specs.Code.MachineState.{AreRanges}
 use Rattle.mm_proof.specs.Code.Tasks.{AreUses, HasState, actions_mean, named_expressions, saves_in}
-use Rattle.mm_proof.proofs.stepping.run.Given as goal
+use Rattle.mm_proof.proofs.stepping.run_through.Given as goal
 
 abbrev pub invariant-loop-place : goal.invariant-loop-place
 invariant-loop-place g l = record {

@@ -23,7 +23,7 @@ use Rattle.mm_proof.proofs.DecodedProofs.{named_by, saved_before}
 use Rattle.mm_proof.proofs.ReaderLemmas.{if_ok}
 use Rattle.mm_proof.proofs.RenamedFrames.{frames_by_number, run_named}
 use Rattle.mm_proof.specs.Code.Judged.{IsOutcomeWithin}
-use Rattle.mm_proof.proofs.checking.run_steps.Goals as goal
+use Rattle.mm_proof.proofs.checking.run_all.Goals as goal
 
 pub name_all-requires : goal.name_all-requires
 name_all-requires c =
