@@ -14,7 +14,8 @@ returns-in_err-skip_comment-clause-word c =
     let same = c.next_run.ensures.text ∙ c.loop-span.invariant.text in
     let opens : slice_range c.next_run.new.self.text.now c.in-Some.span.start c.in-Some.span.end ≡ opening = c.is_opening.ensures.0 c.if-is_opening.true in
     let fails : FailsInside (runs_at c.next_run.new.self.text.now c.next_run.new.self.from) c.in-Some.span.start c.in_err-skip_comment.field-0.0.number c.in_err-skip_comment.field-0.0.at = c.in_err-skip_comment.ensures.end in
-    rw (p.1, p.2) (pass_fails c.args.self.now.text.now c.args.self.now.from c.loop-span.self.from c.in-Some.span c.next_run.new.self.from c.loop-span.invariant.passes (rw c.loop-span.invariant.text at c.in-Some.ensures.run) _ _ (rw same at opens) (rw same at fails))
+    rw (p.1, p.2) (pass_fails c.args.self.now.text.now c.args.self.now.from c.loop-span.self.from c.in-Some.span c.next_run.new.self.from
+    c.loop-span.invariant.passes (rw c.loop-span.invariant.text at c.in-Some.ensures.run) _ _ (rw same at opens) (rw same at fails))
 
 pub loop-span-preserved : goal.loop-span-preserved
 loop-span-preserved c =
@@ -27,7 +28,9 @@ loop-span-preserved c =
     record {
       text = c.in_ok-skip_comment.ensures.text ∙ same;
       forward = omega arith;
-      passes = pass_comment c.args.self.now.text.now c.args.self.now.from c.loop-span.self.from c.in-Some.span c.next_run.new.self.from c.loop-span.invariant.passes (rw c.loop-span.invariant.text at c.in-Some.ensures.run) c.skip_comment.new.self.from (rw same at opens) (rw same at skips);
+      passes = pass_comment c.args.self.now.text.now c.args.self.now.from c.loop-span.self.from c.in-Some.span c.next_run.new.self.from
+          c.loop-span.invariant.passes (rw c.loop-span.invariant.text at c.in-Some.ensures.run) c.skip_comment.new.self.from (rw same at opens)
+          (rw same at skips);
     }
 
 pub returns-in-Some-kind-clause-word : goal.returns-in-Some-kind-clause-word
@@ -36,7 +39,8 @@ returns-in-Some-kind-clause-word c =
     let is : word_kind (slice_range c.next_run.new.self.text.now c.in-Some.span.start c.in-Some.span.end) ≡ Some c.in-Some-kind.kind = sym c.kind.ensures ∙ c.in-Some-kind.is in
     let run : TakesSpan c.loop-span.self.text.now c.loop-span.self.from c.in-Some.span c.next_run.new.self.from = c.in-Some.ensures.run in
     let within : c.next_run.new.self.from ≤ length c.next_run.new.self.text.now = c.next_run.new.self.in_text in
-    pass_word c.args.self.now.text.now c.args.self.now.from c.loop-span.self.from c.in-Some.span c.next_run.new.self.from c.loop-span.invariant.passes (rw c.loop-span.invariant.text at run) c.in-Some-kind.kind (rw same at is) (rw same at within) c.loop-span.invariant.forward
+    pass_word c.args.self.now.text.now c.args.self.now.from c.loop-span.self.from c.in-Some.span c.next_run.new.self.from c.loop-span.invariant.passes
+    (rw c.loop-span.invariant.text at run) c.in-Some-kind.kind (rw same at is) (rw same at within) c.loop-span.invariant.forward
 
 pub returns-then-span-clause-word : goal.returns-then-span-clause-word
 returns-then-span-clause-word c =

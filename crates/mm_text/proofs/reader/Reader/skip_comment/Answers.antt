@@ -12,7 +12,8 @@ returns-then-has_mark-clause-end c =
     let same = c.next_run.ensures.text ∙ c.loop-span.invariant.text in
     let differs : slice_range c.next_run.new.self.text.now c.in-Some.span.start c.in-Some.span.end ≢ closing = λ e. false≢true (sym c.if-is_closing.false ∙ c.is_closing.ensures.1 e) in
     let holds : HoldsMark (slice_range c.next_run.new.self.text.now c.in-Some.span.start c.in-Some.span.end) = mark_stands _ (sym c.has_mark.ensures ∙ c.if-has_mark.true) in
-    skip_fault c.args.self.now.text.now c.args.self.now.from c.loop-span.self.from c.in-Some.span c.next_run.new.self.from c.loop-span.invariant.skips (rw c.loop-span.invariant.text at c.in-Some.ensures.run) c.args.start (rw same at holds) (rw same at differs)
+    skip_fault c.args.self.now.text.now c.args.self.now.from c.loop-span.self.from c.in-Some.span c.next_run.new.self.from c.loop-span.invariant.skips
+    (rw c.loop-span.invariant.text at c.in-Some.ensures.run) c.args.start (rw same at holds) (rw same at differs)
 
 pub loop-span-preserved : goal.loop-span-preserved
 loop-span-preserved c =
@@ -34,5 +35,7 @@ loop-span-preserved-then-span c =
     record {
       text = c.skip_plain.ensures.text ∙ same;
       forward = search rules;
-      skips = skip_all c.args.self.now.text.now c.args.self.now.from c.next_run.new.self.from c.skip_plain.new.self.from (skip_more c.args.self.now.text.now c.args.self.now.from c.loop-span.self.from c.in-Some.span c.next_run.new.self.from c.loop-span.invariant.skips here none) (rw same at skips);
+      skips = skip_all c.args.self.now.text.now c.args.self.now.from c.next_run.new.self.from c.skip_plain.new.self.from
+          (skip_more c.args.self.now.text.now c.args.self.now.from c.loop-span.self.from c.in-Some.span c.next_run.new.self.from c.loop-span.invariant.skips
+          here none) (rw same at skips);
     }
