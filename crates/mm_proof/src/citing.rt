@@ -98,20 +98,22 @@ fn cite(
 }
 
 /// The numbers of the words that cite: those of the labels from entry `skip` on, the first of which is word `from`.
-/// Each assertion that a step names is told once, by the first word that is its label.
+/// Each assertion that a step names is told once, by the first word that is its label. There is room for so many words
+/// from the beginning.
 fn cited(
     alloc: Global,
     marks: &mut Vec<bool>,
     decoding: &Decoding,
     skip: usize,
     from: usize,
+    room: usize,
 ) -> Result<Vec<usize>, AllocError>
     requires { from ≤ 1 }
     ensures { IfOk result (λ words. words.items
         ≡ item_cites (λ j. list_any (names_item decoding.now.labels.items j) decoding.now.steps.items) from (drop skip decoding.now.labels.items)) }
 {
     named(&mut *marks, &decoding.labels, &decoding.steps)?;
-    let mut words = Vec::new(alloc);
+    let mut words = Vec::with_capacity(alloc, room)?;
     for k in skip..decoding.labels.len() {
         cite(&mut *marks, &mut words, decoding.labels[k], k - skip + from)?;
     }
@@ -134,8 +136,10 @@ pub fn cites(
         words.items ≡ cited_words (setting_at view i) proof.now (decoded_steps view decoding.now proof.now).steps) }
 {
     if is_compressed(proof) {
-        cited(alloc, &mut *marks, decoding, mandatory, 1)
+        // Most labels of a list are those of assertions that are cited.
+        let room = decoding.labels.len().saturating_sub(mandatory);
+        cited(alloc, &mut *marks, decoding, mandatory, 1, room)
     } else {
-        cited(alloc, &mut *marks, decoding, 0, 0)
+        cited(alloc, &mut *marks, decoding, 0, 0, 0)
     }
 }

@@ -57,6 +57,11 @@ impl Kept for NumberedSymbol {
     }
 
     fn append(_alloc: Global, to: &mut Vec<Self>, from: &[Self]) -> Result<(), AllocError> {
+        // Most often it is one, and a push takes less than a block of one.
+        if from.len() == 1 {
+            to.push(from[0])?;
+            return Ok(());
+        }
         to.extend_from_slice(from)
     }
 }
