@@ -148,6 +148,5 @@ one_marked fresh i within empty = (get_or-set_same fresh i true false within, λ
 -- a whole list that is written over another of its length
 pub take_front : {X : Type 0} (xs ys : List X) (n : ℕ) → n ≡ length xs → take n (xs ++ ys) ≡ xs
 take_front [] ys zero e = refl
-take_front [] ys (suc n) e = absurd (omega (arith, e))
-take_front (x ∷ xs) ys zero e = absurd (omega (arith, e))
 take_front (x ∷ xs) ys (suc n) e = ap (λ w. x ∷ w) (take_front xs ys n (omega (arith, e)))
+take_front _ ys _ e = absurd (omega (arith, e))

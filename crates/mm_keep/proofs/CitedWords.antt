@@ -42,10 +42,9 @@ above_at n d (x ∷ xs) (suc j) a l = above_at n d xs j a.1 (omega (arith, l))
 
 pub rise_pairs : (xs : List ℕ) → Rise xs → AreRising xs
 rise_pairs [] r i j d l m = absurd (omega (arith, m))
-rise_pairs (x ∷ xs) r zero zero d l m = absurd (omega (arith, l))
 rise_pairs (x ∷ xs) r zero (suc j) d l m = above_at x d xs j r.0 (omega (arith, m))
-rise_pairs (x ∷ xs) r (suc i) zero d l m = absurd (omega (arith, l))
 rise_pairs (x ∷ xs) r (suc i) (suc j) d l m = rise_pairs xs r.1 i j d (omega (arith, l)) (omega (arith, m))
+rise_pairs (x ∷ xs) r _ zero d l m = absurd (omega (arith, l))
 
 -- ---- marks
 

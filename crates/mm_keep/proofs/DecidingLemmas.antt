@@ -35,10 +35,9 @@ dec_not (no n) = yes n
 -- ---- values
 
 pub dec_bool : (a b : Bool) → Dec (a ≡ b)
-dec_bool true true = yes refl
-dec_bool false false = yes refl
 dec_bool true false = no (λ e. false≢true (sym e))
 dec_bool false true = no (λ e. false≢true e)
+dec_bool _ _ = yes refl
 
 pub dec_bytes : (xs ys : List ℕ) → Dec (xs ≡ ys)
 dec_bytes xs ys = dec_from (bytes_eq xs ys) (bytes_eq-Decides xs ys)
@@ -57,9 +56,8 @@ module _ {X : Type 0} (same : (a b : X) → Dec (a ≡ b)) where
 
   pub dec_list : (xs ys : List X) → Dec (xs ≡ ys)
   dec_list [] [] = yes refl
-  dec_list [] (y ∷ ys) = no (λ e. absurd (cc))
-  dec_list (x ∷ xs) [] = no (λ e. absurd (cc))
   dec_list (x ∷ xs) (y ∷ ys) = both_same x y xs ys (same x y) (dec_list xs ys)
+  dec_list _ _ = no (λ e. absurd (cc))
 
   -- ---- members
 
@@ -93,9 +91,8 @@ dec_each P d (x ∷ xs) = dec_and (d x) (dec_each P d xs)
 
 pub dec_zip : {A B : Type 0} (R : A → B → Type 0) → ((a : A) (b : B) → Dec (R a b)) → (xs : List A) (ys : List B) → Dec (AllZip R xs ys)
 dec_zip R d [] [] = yes tt
-dec_zip R d [] (y ∷ ys) = no (λ e. e)
-dec_zip R d (x ∷ xs) [] = no (λ e. e)
 dec_zip R d (x ∷ xs) (y ∷ ys) = dec_and (d x y) (dec_zip R d xs ys)
+dec_zip R d _ _ = no (λ e. e)
 
 -- ---- numbers
 

@@ -172,10 +172,9 @@ module _ (files : FilesView) (base : BaseView) (i : ℕ) (item : store.Item) (th
 -- the element of the one list where there is one of the other
 zip_there : {A B : Type 0} (R : A → B → Type 0) (xs : List A) (ys : List B) (i : ℕ) → AllZip R xs ys → i < length ys → (x : A) × (slice_get xs i ≡ Some x)
 zip_there R [] [] i a less = absurd (omega (arith, less))
-zip_there R [] (z ∷ ys) i a less = absurd a
-zip_there R (w ∷ xs) [] i a less = absurd a
 zip_there R (w ∷ xs) (z ∷ ys) zero a less = (w, refl)
 zip_there R (w ∷ xs) (z ∷ ys) (suc i) a less = zip_there R xs ys i a.1 (omega (arith, less))
+zip_there R _ _ i a less = absurd a
 
 -- each is told rightly
 pub findings : ItemsStand → HasVerdictAt → SpotsAreIn → ItemsHaveFindings

@@ -6,9 +6,7 @@ use Rattle.std.proofs.lemmas.List.{length-map}
 use Rattle.std.proofs.lemmas.List.Elements.{recursion_from_All}
 use Rattle.std.proofs.lemmas.Option.{none-some}
 use Rattle.mm_proof.specs.mm_store.declared.item.Item as store
-use Rattle.mm_proof.specs.mm_store.declared.batch.BatchError.{BatchError}
-use Rattle.mm_proof.specs.mm_store.declared.batch.BatchError.TheVariants as batch
-use Rattle.mm_proof.specs.mm_store.Language.Batches.{IsBatchError, IsBatchOf, KeepsReading, KeepsStanding, ReadsAlike, StartsPlaced}
+use Rattle.mm_proof.specs.mm_store.Language.Batches.{IsBatchOf, KeepsReading, KeepsStanding, ReadsAlike, StartsPlaced}
 use Rattle.mm_proof.specs.mm_store.Language.Edits.{Asked, IsEditOf}
 use Rattle.mm_proof.specs.mm_store.Language.Expansion.{IsExpansion}
 use Rattle.mm_proof.specs.mm_store.Language.FileFacts.{StandsIn}
@@ -16,7 +14,6 @@ use Rattle.mm_proof.specs.mm_store.Language.FilesView.{File, FilesView, FileView
 use Rattle.mm_proof.specs.mm_frame.Language.Base.{BaseView, IsOfFiles}
 use Rattle.mm_proof.specs.mm_frame.Language.Item.{Item}
 use Rattle.mm_proof.specs.mm_frame.Language.Statement.{Says}
-use Rattle.mm_keep.specs.Code.Changing.{IsChangeError}
 use Rattle.mm_keep.specs.Code.Next.{HasTop}
 
 before_map : {X Y : Type 0} (test : Y → Bool) (f : X → Y) (xs : List X) → position_or_len test (map f xs) ≡ position_or_len (λ x. test (f x)) xs
@@ -54,15 +51,13 @@ says_alike old new item said says alike = record { read = alike.read; is = rw (a
 -- what items say stays
 pub says_edited : (old new : FilesView) → KeepsReading old new → (found : List store.Item) (said : List Item) → AllZip (Says old) found said → AllZip (Says new) found said
 says_edited old new keeps [] [] z = tt
-says_edited old new keeps [] (y ∷ ys) z = absurd z
-says_edited old new keeps (x ∷ xs) [] z = absurd z
 says_edited old new keeps (x ∷ xs) (y ∷ ys) z = (says_alike old new x y z.0 (keeps x z.0.read), says_edited old new keeps xs ys z.1)
+says_edited old new keeps _ _ z = absurd z
 
 says_settled : (old new : FilesView) → KeepsStanding old new → (found : List store.Item) (said : List Item) → AllByRecursion (StandsIn old) found → AllZip (Says old) found said → AllZip (Says new) found said
 says_settled old new keeps [] [] a z = tt
-says_settled old new keeps [] (y ∷ ys) a z = absurd z
-says_settled old new keeps (x ∷ xs) [] a z = absurd z
 says_settled old new keeps (x ∷ xs) (y ∷ ys) a z = (says_alike old new x y z.0 (keeps x z.0.read a.0), says_settled old new keeps xs ys a.1 z.1)
+says_settled old new keeps _ _ a z = absurd z
 
 -- each item stands in the files
 abbrev pub ItemsStand : Type 0
@@ -79,7 +74,3 @@ base_settled stand old new top base same keeps is = record {
 pub batch_starts : (edits : List Asked) (files after : List File) → IsBatchOf edits files after → StartsPlaced edits files ⊎ (edits ≡ [])
 batch_starts [] files after b = inr refl
 batch_starts (edit ∷ edits) files after b = inl (edit, b.1.number, b.1.file, refl, b.1.placed)
-
-pub batch_error : (edits : List Asked) (files : List File) (error : BatchError) → IsBatchError edits files error → IsChangeError edits files error
-batch_error edits files (batch.Edit n error) e = e
-batch_error edits files batch.Memory e = inl e

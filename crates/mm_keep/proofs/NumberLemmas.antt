@@ -20,7 +20,7 @@ cases x k xs h = by h.0 h.1 h.2
     by (suc i) l e = inr (i, omega arith, e)
 
 no_member : {X : Type 0} (k : X) → Contains [] k → ⊥
-no_member k h = let l : h.0 < 0 = h.1 in omega arith
+no_member k h = omega arith
 
 -- each number is below each later one
 abbrev Rises : List ℕ → Type 0
@@ -41,7 +41,7 @@ rises [] f = tt
 rises (x ∷ xs) f = (above_by_index x xs (λ j h. f 0 (suc j) 0 (omega arith) (omega arith)), rises xs (λ i j d l h. f (suc i) (suc j) d (omega arith) (omega arith)))
 
 above : (x k : ℕ) (xs : List ℕ) → AllByRecursion (λ n. x < n) xs → Contains xs k → x < k
-above x k xs f h = let l : x < get_or xs h.0 k = above_at x xs h.0 k f h.1 in let e : get_or xs h.0 k ≡ k = h.2 in omega arith
+above x k xs f h = let l : x < get_or xs h.0 k = above_at x xs h.0 k f h.1 in omega arith
 
 one_by_rising : (xs ys : List ℕ) → Rises xs → Rises ys → ((k : ℕ) → Contains xs k → Contains ys k) → ((k : ℕ) → Contains ys k → Contains xs k) → xs ≡ ys
 one_by_rising [] [] f g to from = refl

@@ -5,7 +5,7 @@ use Rattle.std.proofs.lemmas.Bool.{false≢true}
 use Rattle.std.proofs.lemmas.Option.{none-some, same_Some}
 use Rattle.mm_proof.specs.mm_store.Language.FilesView.{FilesView}
 use Rattle.mm_proof.specs.mm_frame.Language.Base.{BaseView, said_at, is_sound_at, is_proof_at, is_shown_at}
-use Rattle.mm_proof.specs.mm_frame.Language.Item.{Kind, Constants, Variables, Disjoint, Floating, Essential, Axiom, Theorem, BlockStart, BlockEnd, Missing, Passed, is_labelled, is_theorem}
+use Rattle.mm_proof.specs.mm_frame.Language.Item.{Kind, Theorem, is_labelled, is_theorem}
 use Rattle.mm_proof.specs.mm_frame.Language.Answering.{IsBaseBy}
 use Rattle.mm_proof.specs.mm_frame.declared.base.Base.{Base}
 use Rattle.mm_proof.specs.Language.BaseMarks.{ItemMark, IsMark, mark_at}
@@ -21,17 +21,7 @@ use Rattle.mm_keep.proofs.RunLemmas.{get_front}
 -- a theorem has a label
 theorem_shown : (sound : Bool) (kind : Kind) → (sound && is_theorem kind) ≡ true → (sound && is_labelled kind) ≡ true
 theorem_shown true Theorem e = refl
-theorem_shown true Constants e = absurd (false≢true e)
-theorem_shown true Variables e = absurd (false≢true e)
-theorem_shown true Disjoint e = absurd (false≢true e)
-theorem_shown true Floating e = absurd (false≢true e)
-theorem_shown true Essential e = absurd (false≢true e)
-theorem_shown true Axiom e = absurd (false≢true e)
-theorem_shown true BlockStart e = absurd (false≢true e)
-theorem_shown true BlockEnd e = absurd (false≢true e)
-theorem_shown true Missing e = absurd (false≢true e)
-theorem_shown true Passed e = absurd (false≢true e)
-theorem_shown false kind e = absurd (false≢true e)
+theorem_shown _ _ e = absurd (false≢true e)
 
 pub shown : (base : BaseView) (i : ℕ) → is_proof_at base i ≡ true → is_shown_at base i ≡ true
 shown base i e = theorem_shown (is_sound_at base i) (said_at base i).kind e

@@ -33,9 +33,8 @@ get_front xs y k x e =
 
 pub zip_push : {A B : Type 0} (R : A → B → Type 0) (xs : List A) (ys : List B) (x : A) (y : B) → AllZip R xs ys → R x y → AllZip R (xs ++ x ∷ []) (ys ++ y ∷ [])
 zip_push R [] [] x y a r = (r, a)
-zip_push R [] (z ∷ ys) x y a r = absurd a
-zip_push R (w ∷ xs) [] x y a r = absurd a
 zip_push R (w ∷ xs) (z ∷ ys) x y a r = (a.0, zip_push R xs ys x y a.1 r)
+zip_push R _ _ x y a r = absurd a
 
 -- numbers below none
 pub those_none : (P : ℕ → Type 0) → AreThose P 0 []

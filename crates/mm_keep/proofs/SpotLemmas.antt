@@ -81,9 +81,8 @@ module _ (files : FilesView) (item : store.Item) (read : CanBeRead files item) (
 
 -- how the word with a number is spelled
 spelled_at : (text : List ℕ) (words : List Word) (n : ℕ) → spelled text (slice_get words n) ≡ slice_index_or (token_names (tokens_of text words)) n []
-spelled_at text [] n = refl
-spelled_at text (word ∷ words) zero = refl
 spelled_at text (word ∷ words) (suc n) = spelled_at text words n
+spelled_at text _ _ = refl
 
 -- what is there of the first words is there of all
 taken_less : (p n : ℕ) (tokens : List Token) → length (slice_index_or (token_names (take p tokens)) n []) ≤ length (slice_index_or (token_names tokens) n [])

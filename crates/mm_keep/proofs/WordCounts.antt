@@ -90,8 +90,7 @@ proof_parts false theorem e = absurd (false≢true e)
 
 shown : (sound labelled : Bool) (e : List Symbol) → sound ≡ true → labelled ≡ true → (if sound && labelled then Some e else None) ≡ Some e
 shown true true e f g = refl
-shown true false e f g = absurd (cc)
-shown false labelled e f g = absurd (cc)
+shown _ _ e f g = absurd (cc)
 
 -- it has an expression
 pub proof_shown : (view : BaseView) (n : ℕ) → is_proof_at view n ≡ true → expression_at view n ≡ Some (expression (before view n) (said_at view n))

@@ -32,7 +32,7 @@ pub contains_at : {X : Type 0} (xs : List X) (n : ℕ) (x : X) → slice_get xs 
 contains_at xs n x e = (n, slice_get_within xs n x e, get_or_from_slice_get xs n x x e)
 
 pub each_all : {X : Type 0} (P : X → Type 0) (xs : List X) (n : ℕ) → length xs ≤ n → EachUpTo P xs n → (x : X) → Contains xs x → P x
-each_all P xs n l f x c = let w = c.1 in f c.0 x (omega arith) (contains_get xs x c)
+each_all P xs n l f x c = f c.0 x (omega arith) (contains_get xs x c)
 
 -- the pair of two symbols, at a place and nowhere
 pub pair_found : (pairs : List (Symbol × Symbol)) (k : ℕ) (p : Symbol × Symbol) (x y : Symbol) → slice_get pairs k ≡ Some p → IsPair p x y → ArePair pairs x y
@@ -55,7 +55,7 @@ pub contains_rest : {S : Type 0} (f : S → Symbol) (xs : List S) (start : ℕ) 
 contains_rest f xs start s c = subst (λ w. Contains w s) (ap (map f) (take_rest xs start) ∙ sym (drop-map f start xs)) c
 
 only : (s v : Symbol) → Contains (s ∷ []) v → s ≡ v
-only s v c = elim (contains_cases s [] v c) [ inl e ↦ e | inr d ↦ (let l = d.1 in absurd (omega arith)) ]
+only s v c = elim (contains_cases s [] v c) [ inl e ↦ e | inr d ↦ (absurd (omega arith)) ]
 
 pub gathered_more : (symbols front before after : List Symbol) (n : ℕ) (s : Symbol) → slice_get symbols n ≡ Some s → GathersOne (length front) s before after → GatheredUpTo symbols front before n → GatheredUpTo symbols front after (n + 1)
 gathered_more symbols front before after n s at (inl a) f =
@@ -63,7 +63,7 @@ gathered_more symbols front before after n s at (inl a) f =
     let more = take_more symbols n s (slice_get_within symbols n s at) ∙ ap (λ w. take n symbols ++ w ∷ []) (get_or_from_slice_get symbols n s s at) in
     record {
       kept = ap (take (length front)) a.1 ∙ take-append-le (length front) before (s ∷ []) f.long ∙ f.kept;
-      long = (let e = ap length a.1 in let l = f.long in omega (arith, length-append before (s ∷ [])));
+      long = (let e = ap length a.1 in omega (arith, length-append before (s ∷ [])));
       same = λ v. (
         λ h. subst (λ w. Contains w v) (sym grown) (elim (Contains-append_cases (take n symbols) (s ∷ []) v (subst (λ w. Contains w v) more h.0)) [
           | inl c ↦ Contains-append_left (drop (length front) before) (s ∷ []) v ((f.same v).0 (c, h.1))
@@ -146,8 +146,8 @@ pub gathers_step : {S : Type 0} (hypotheses : List (Hypothesis S)) (es : List (L
 gathers_step {S = S} hypotheses es before after spans more n h e at_h at_e a f = record {
   count = ap length a.added ∙ length-append spans (a.span ∷ []) ∙ ap (λ k. k + 1) f.count;
   within = λ k s at. elim (at_or_before k s at) [
-    | inl b ↦ (let w = f.within k s b.1 in let l = a.long in (w.0, omega arith))
-    | inr b ↦ subst (IsEntryWithin (length after)) b.1 (let x = a.start in let y = a.end in let l = a.long in (omega arith, omega arith))
+    | inl b ↦ (let w = f.within k s b.1 in (w.0, omega arith))
+    | inr b ↦ subst (IsEntryWithin (length after)) b.1 ((omega arith, omega arith))
   ];
   right = λ k s g d at_s at_g paired at_d. elim (at_or_before k s at_s) [
     | inl b ↦ (λ v. (let w = f.within k s b.1 in let same = read_kept before after s a.kept w.1 in let r = f.right k s g d b.1 at_g paired at_d v in (λ x. subst (λ z. Contains z v) (sym same) (r.0 x), λ x. r.1 (subst (λ z. Contains z v) same x))))
@@ -167,14 +167,12 @@ gathers_step {S = S} hypotheses es before after spans more n h e at_h at_e a f =
         within_more =
             let w = slice_get_within more k s at in
             let x = ap length a.added in
-            let y = f.count in
             omega (arith, length-append spans (a.span ∷ []))
 
         by_case : Dec (k ≡ n) → ((k < n) × (slice_get spans k ≡ Some s)) ⊎ ((k ≡ n) × (a.span ≡ s))
         by_case (yes e) = inr (e, same_Some a.span s (sym (last_at spans a.span k (e ∙ sym f.count)) ∙ ap (λ w. slice_get w k) (sym a.added) ∙ at))
         by_case (no m) =
             let l : k < n = omega (arith, within_more) in
-            let c = f.count in
             inl (l, sym (front_at spans (a.span ∷ []) k (omega arith)) ∙ ap (λ w. slice_get w k) (sym a.added) ∙ at)
 
 -- one entry, by what was gathered of it

@@ -125,27 +125,24 @@ module _ (view : BaseView) where
   known n words = filter (λ (w : ℕ × List ℕ). not (bytes_eq w.1 (codes "?"))) (enumerate_from n words)
 
   aligned_unknown : (n : ℕ) (words : Words) (label : Resolved) (labels : List Resolved) → entry_step view label ≡ NotKnown → Aligned (n + 1) words labels → Aligned n words (label ∷ labels)
-  aligned_unknown n words (answers.Assertion j) labels e rest = cc
-  aligned_unknown n words (answers.Hypothesis j) labels e rest = cc
   aligned_unknown n words answers.Inactive labels e rest = rest
   aligned_unknown n words answers.Unknown labels e rest = rest
+  aligned_unknown n words _ labels e rest = cc
 
   aligned_label : (n : ℕ) (word : List ℕ) (words : Words) (label : Resolved) (labels : List Resolved) → entry_step view label ≡ Named word → Aligned (n + 1) words labels → Aligned n ((n, word) ∷ words) (label ∷ labels)
   aligned_label n word words (answers.Assertion j) labels f rest = let g : label_at view j ≡ word = cc in (words, ap (λ (w : List ℕ). (n, w) ∷ words) (sym g), rest)
   aligned_label n word words (answers.Hypothesis j) labels f rest = let g : label_at view j ≡ word = cc in (words, ap (λ (w : List ℕ). (n, w) ∷ words) (sym g), rest)
-  aligned_label n word words answers.Inactive labels f rest = cc
-  aligned_label n word words answers.Unknown labels f rest = cc
+  aligned_label n word words _ labels f rest = cc
 
   aligned_words : (n : ℕ) (labels : List Resolved) (words : List (List ℕ)) → entry_steps view labels ≡ map word_step words → Aligned n (known n words) labels
   aligned_words n [] [] e = refl
-  aligned_words n [] (word ∷ words) e = cc
-  aligned_words n (label ∷ labels) [] e = cc
   aligned_words n (label ∷ labels) (word ∷ words) e =
       let p = first_is (entry_step view label) (word_step word) (entry_steps view labels) (map word_step words) e in
       elim (cases_Bool (bytes_eq word (codes "?"))) [
         | inl f ↦ let g : entry_step view label ≡ NotKnown = rw f at p.0 in rw f (aligned_unknown n (known (n + 1) words) label labels g (aligned_words (n + 1) labels words p.1))
         | inr f ↦ let g : entry_step view label ≡ Named word = rw f at p.0 in rw f (aligned_label n word (known (n + 1) words) label labels g (aligned_words (n + 1) labels words p.1))
       ]
+  aligned_words n _ _ e = cc
 
   eq_turned : (j k : ℕ) → nat_eq j k ≡ nat_eq k j
   eq_turned j k = elim (cases_Bool (nat_eq j k)) [

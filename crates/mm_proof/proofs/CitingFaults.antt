@@ -82,6 +82,5 @@ cited_by active frame stack es is count l at says result r =
     let given = given_by frame.hypotheses es in
     let g = gives active frame es is count says.0 in
     let s = says.1 given g in
-    let short = s.2 in
     let c = cites_by active frame stack given (λ few. absurd (omega arith)) (all_match given frame.hypotheses es (sym count) g s.0 ∙ sym at) s.1 (λ long. absurd (omega arith)) in
     subst (λ w. Cites active frame stack (take (length stack - length frame.hypotheses) stack ++ w ∷ [])) (sym (r given g)) c

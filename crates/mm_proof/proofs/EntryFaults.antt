@@ -39,19 +39,17 @@ none_more R xs ys n x y a b r f k l at = by_case (ℕ_discrete k n)
     by_case (no m) = f k (omega arith) at
 
 pub any_at : {A B : Type 0} (R : A → B → Type 0) (xs : List A) (ys : List B) (k : ℕ) (x : A) (y : B) → slice_get xs k ≡ Some x → slice_get ys k ≡ Some y → R x y → AnyZip R xs ys
-any_at R [] ys k x y e f r = cc
-any_at R (a ∷ xs) [] k x y e f r = cc
 any_at R (a ∷ xs) (b ∷ ys) zero x y e f r =
     let first : a ≡ x = cc in
     let second : b ≡ y = cc in
     inl (subst (λ w. R w b) (sym first) (subst (R x) (sym second) r))
 any_at R (a ∷ xs) (b ∷ ys) (suc k) x y e f r = inr (any_at R xs ys k x y e f r)
+any_at R _ _ k x y e f r = cc
 
 any_place : {A B : Type 0} (R : A → B → Type 0) (xs : List A) (ys : List B) → AnyZip R xs ys → (k : ℕ) × (x : A) × (y : B) × (slice_get xs k ≡ Some x) × (slice_get ys k ≡ Some y) × R x y
-any_place R [] ys a = absurd a
-any_place R (x ∷ xs) [] a = absurd a
 any_place R (x ∷ xs) (y ∷ ys) (inl r) = (0, x, y, refl, refl, r)
 any_place R (x ∷ xs) (y ∷ ys) (inr a) = let p = any_place R xs ys a in (suc p.0, p.1, p.2, p.3, p.4, p.5)
+any_place R _ _ a = absurd a
 
 pub none_all : {A B : Type 0} (R : A → B → Type 0) (xs : List A) (ys : List B) (n : ℕ) → length xs ≤ n → NoneUpTo R xs ys n → AnyZip R xs ys → ⊥
 none_all R xs ys n l f a =
@@ -62,10 +60,9 @@ none_all R xs ys n l f a =
 -- the entry of a hypothesis
 zip_at : {A B : Type 0} (R : A → B → Type 0) (xs : List A) (ys : List B) (n : ℕ) (x : A) → AllZip R xs ys → slice_get xs n ≡ Some x → (y : B) × (slice_get ys n ≡ Some y) × R x y
 zip_at R [] [] n x a e = cc
-zip_at R [] (z ∷ ys) n x a e = absurd a
-zip_at R (w ∷ xs) [] n x a e = absurd a
 zip_at R (w ∷ xs) (z ∷ ys) zero x a e = let f : w ≡ x = cc in (z, refl, subst (λ v. R v z) f a.0)
 zip_at R (w ∷ xs) (z ∷ ys) (suc n) x a e = zip_at R xs ys n x a.1 e
+zip_at R _ _ n x a e = absurd a
 
 -- what is given for the variable of a slot
 pub slot_gives : (hs : List Mandatory) (given : Symbol → List Symbol) (es : List (List Symbol)) → AreAllTyped hs → GivesEntries given hs es → (j : ℕ) (v : Symbol) → IsSlot hs j v → (e : List Symbol) × (slice_get es j ≡ Some e) × (given v ≡ drop 1 e)

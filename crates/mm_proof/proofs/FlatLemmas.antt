@@ -107,10 +107,9 @@ pub fits_part : (rest part more : List Symbol) (n : ℕ) → length part ≡ n �
 fits_part rest part more n l e = sym (ap (take n) e ∙ take_at part more n l)
 
 pub none_left : {X : Type 0} (n : ℕ) (xs : List X) → drop n xs ≡ [] → length xs ≤ n
-none_left zero [] e = omega arith
 none_left zero (x ∷ xs) e = cc
-none_left (suc n) [] e = omega arith
 none_left (suc n) (x ∷ xs) e = let h = none_left n xs e in omega arith
+none_left _ [] e = omega arith
 
 pub fits_end : (whole entry : List Symbol) (at : ℕ) → at ≤ length entry → entry ≡ whole ++ drop at entry → (at ≡ length entry) ↔ (whole ≡ entry)
 fits_end whole entry at l e = (

@@ -1,5 +1,5 @@
 -- The words of a proof, taken one by one.
-use Rattle.std.proofs.Common.{◌≡◌, ℕ, ◌+◌, ◌<◌, List, [], ◌∷◌, Option, Some, None, true, get_or, length, drop, sym, ◌∙◌, ap, arith, zero-add}
+use Rattle.std.proofs.Common.{◌≡◌, ℕ, ◌+◌, ◌<◌, List, [], ◌∷◌, Option, Some, None, true, get_or, length, drop, sym, ◌∙◌, ap, arith}
 use Rattle.std.specs.Prelude.{MatchOption}
 use Rattle.std.proofs.lemmas.List.{drop_more}
 use Rattle.mm_proof.specs.Language.Decoding.{is_compressed}
@@ -9,9 +9,6 @@ use Rattle.mm_proof.specs.Language.Letters.{letters_from}
 use Rattle.mm_proof.specs.Code.LeftToRight.{read_on}
 use Rattle.mm_proof.proofs.JoinLemmas.{letters_are}
 use Rattle.mm_proof.proofs.ReaderLemmas.{aim_of}
-
-pub all_left : (all left : List (List ℕ)) → left ≡ all → AreLeft all left 0
-all_left all left e = record { are = e; count = zero-add (length left) ∙ ap length e }
 
 -- one more word is taken
 pub record Taken (all new : List (List ℕ)) (n : ℕ) (word : List ℕ) : Type 0 where

@@ -26,8 +26,7 @@ ok_with r spot rest step steps e f = rw (e, f) refl
 
 rest_ok : (r : Result Step ProofNumber) (spot : Spot) (rest : Steps) (steps : List (Step × Spot)) → read_first spot r rest ≡ Ok steps → ((step : Step) × (r ≡ Ok step)) × ((more : List (Step × Spot)) × (rest ≡ Ok more))
 rest_ok (Ok step) spot (Ok more) steps e = ((step, refl), (more, refl))
-rest_ok (Ok step) spot (Err fault) steps e = cc
-rest_ok (Err number) spot rest steps e = cc
+rest_ok _ spot _ steps e = cc
 
 -- one more label
 listed_more :

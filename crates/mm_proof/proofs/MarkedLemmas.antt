@@ -1,5 +1,5 @@
 -- What is marked counts for the assertions of entries alone.
-use Rattle.std.proofs.Common.{◌≡◌, ℕ, zero, suc, ◌+◌, Bool, true, List, [], ◌∷◌, drop, refl, ap, inl, inr, eq-eqb, false, ◌<◌, ◌||◌, length, get_or, sym, ◌∙◌, ◌&&◌, take, ◌⊎◌}
+use Rattle.std.proofs.Common.{◌≡◌, ℕ, suc, ◌+◌, Bool, true, List, [], ◌∷◌, drop, refl, ap, inl, inr, eq-eqb, false, ◌<◌, ◌||◌, length, get_or, sym, ◌∙◌, ◌&&◌, take, ◌⊎◌}
 use Rattle.std.specs.Prelude.{nat_eq, Some}
 use Rattle.std.proofs.lemmas.Bool.{cases_Bool}
 use Rattle.mm_frame.specs.declared.base.Resolved.{Resolved}
@@ -11,14 +11,11 @@ use Rattle.std.proofs.lemmas.List.Folds.{list_any-append}
 -- one of the rest is one of all
 listed_on : (label : Resolved) (labels : List Resolved) (j : ℕ) → is_listed labels j ≡ true → is_listed (label ∷ labels) j ≡ true
 listed_on (answers.Assertion i) labels j e = elim (cases_Bool (nat_eq i j)) [ inl f ↦ rw f refl | inr f ↦ rw (f, e) refl ]
-listed_on (answers.Hypothesis i) labels j e = e
-listed_on answers.Inactive labels j e = e
-listed_on answers.Unknown labels j e = e
+listed_on _ labels j e = e
 
 pub listed_behind : (n : ℕ) (labels : List Resolved) (j : ℕ) → is_listed (drop n labels) j ≡ true → is_listed labels j ≡ true
-listed_behind zero labels j e = e
-listed_behind (suc n) [] j e = e
 listed_behind (suc n) (label ∷ labels) j e = listed_on label labels j (listed_behind n labels j e)
+listed_behind _ _ j e = e
 
 listed_here : (j : ℕ) (labels : List Resolved) → is_listed (answers.Assertion j ∷ labels) j ≡ true
 listed_here j labels = rw (eq-eqb j j refl) refl
@@ -41,9 +38,7 @@ or_false false = refl
 -- an entry that is no assertion cites nothing
 pub cites_other : (left : ℕ → Bool) (n : ℕ) (label : Resolved) (labels : List Resolved) → ((j : ℕ) → label ≡ answers.Assertion j → ⊥) → item_cites left (n + 1) labels ≡ item_cites left n (label ∷ labels)
 cites_other left n (answers.Assertion j) labels f = absurd (f j refl)
-cites_other left n (answers.Hypothesis j) labels f = refl
-cites_other left n answers.Inactive labels f = refl
-cites_other left n answers.Unknown labels f = refl
+cites_other left n _ labels f = refl
 
 -- what one entry more names
 pub listed_next :
@@ -73,6 +68,4 @@ still_off left k j e = rw e refl
 -- what is no assertion names none
 pub not_named : (label : Resolved) (j : ℕ) → ((k : ℕ) → label ≡ answers.Assertion k → ⊥) → is_item (cited_item (Some label)) j ≡ false
 not_named (answers.Assertion k) j f = absurd (f k refl)
-not_named (answers.Hypothesis k) j f = refl
-not_named answers.Inactive j f = refl
-not_named answers.Unknown j f = refl
+not_named _ j f = refl

@@ -32,8 +32,7 @@ labelled true (Some l) label h = elim (cases_Bool (bytes_eq label l)) [
   | inl e ↦ (refl, ap Some (sym ((bytes_eq-Decides label l).0 e)))
   | inr e ↦ absurd (false≢true (rw e at h))
 ]
-labelled true None label h = absurd (false≢true h)
-labelled false o label h = absurd (false≢true h)
+labelled _ _ label h = absurd (false≢true h)
 
 pub sound_label : (kind : Kind) → is_labelled kind ≡ true → is_none (fault_by kind None) ≡ true
 sound_label Floating e = refl
@@ -93,8 +92,7 @@ module _ (view : BaseView) (label : List ℕ) (none : (n : ℕ) → IsCarrier vi
 pub usable : (base : BaseView) (i : ℕ) (label : List ℕ) (told : answer.Resolved) (meaning : Resolved) → IsMeaning base i label told meaning → IsShownItem base told
 usable base i label (answers.Hypothesis n) m h = h.0.carrier.shown
 usable base i label (answers.Assertion n) m h = h.1
-usable base i label answers.Inactive m h = tt
-usable base i label answers.Unknown m h = tt
+usable base i label _ m h = tt
 
 -- whether the meanings are the same is told
 abbrev Says : Bool → Resolved → Resolved → Type 0

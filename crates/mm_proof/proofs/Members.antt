@@ -13,4 +13,4 @@ pub contains_cases : {X : Type 0} (x : X) (xs : List X) (y : X) → Contains (x 
 contains_cases x xs y c = cases_at x xs y c.0 c.1 c.2
 
 pub contains_there : {X : Type 0} (x : X) (xs : List X) (y : X) → Contains xs y → Contains (x ∷ xs) y
-contains_there x xs y c = let h = c.1 in (suc c.0, omega arith, c.2)
+contains_there x xs y c = (suc c.0, omega arith, c.2)

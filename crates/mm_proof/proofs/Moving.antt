@@ -43,9 +43,8 @@ beside R (x ∷ xs) ys (z ∷ zs) a =
 
 both_joined : {A B : Type 0} (R : A → B → Type 0) (xs ys : List A) (zs ws : List B) → AllZip R xs zs → AllZip R ys ws → AllZip R (xs ++ ys) (zs ++ ws)
 both_joined R [] ys [] ws a b = b
-both_joined R [] ys (z ∷ zs) ws a b = absurd a
-both_joined R (x ∷ xs) ys [] ws a b = absurd a
 both_joined R (x ∷ xs) ys (z ∷ zs) ws a b = (a.0, both_joined R xs ys zs ws a.1 b)
+both_joined R _ ys _ ws a b = absurd a
 
 alone_beside : {A B : Type 0} (R : A → B → Type 0) (x : A) (zs : List B) → AllZip R (x ∷ []) zs → (z : B) × (zs ≡ z ∷ []) × R x z
 alone_beside R x [] a = absurd a
@@ -59,11 +58,10 @@ flipped R S (x ∷ xs) [] f a = a
 flipped R S (x ∷ xs) (y ∷ ys) f a = (f x y a.0, flipped R S xs ys f a.1)
 
 taken_beside : {A B : Type 0} (R : A → B → Type 0) (n : ℕ) (xs : List A) (ys : List B) → AllZip R xs ys → AllZip R (take n xs) (take n ys)
-taken_beside R zero xs ys a = tt
-taken_beside R (suc n) [] [] a = tt
 taken_beside R (suc n) [] (y ∷ ys) a = absurd a
 taken_beside R (suc n) (x ∷ xs) [] a = absurd a
 taken_beside R (suc n) (x ∷ xs) (y ∷ ys) a = (a.0, taken_beside R n xs ys a.1)
+taken_beside R _ _ _ a = tt
 
 -- the same, the other way round
 pub frame_back : (a b : Frame) → AreSameFrame a b → AreSameFrame b a
@@ -118,7 +116,7 @@ takes_moved active others a b given entries result s f t = record {
 
 -- what a label with the same meaning means
 same_hypothesis : (r s : Resolved) (e : List Symbol) → AreSameMeaning r s → r ≡ Hypothesis e → s ≡ Hypothesis e
-same_hypothesis (Hypothesis f) (Hypothesis g) e m is = let h : f ≡ e = cc in cc
+same_hypothesis (Hypothesis f) (Hypothesis g) e m is = cc
 same_hypothesis (Assertion f) s e m is = cc
 same_hypothesis Inactive s e m is = cc
 same_hypothesis Unknown s e m is = cc
@@ -126,10 +124,8 @@ same_hypothesis (Hypothesis f) _ e m is = absurd m
 
 same_assertion : (r s : Resolved) (a : Frame) → AreSameMeaning r s → r ≡ Assertion a → (b : Frame) × (s ≡ Assertion b) × AreSameFrame a b
 same_assertion (Assertion f) (Assertion g) a m is = let h : f ≡ a = cc in (g, refl, subst (λ w. AreSameFrame w g) h m)
-same_assertion (Hypothesis f) s a m is = cc
-same_assertion Inactive s a m is = cc
-same_assertion Unknown s a m is = cc
 same_assertion (Assertion f) _ a m is = absurd m
+same_assertion _ s a m is = cc
 
 mutual
   -- what a list derives, a list of the same meaning derives
@@ -165,21 +161,18 @@ there R x None r e b = cc
 either_there : {A B : Type 0} (R : A → B → Type 0) (o t : Option A) (o' t' : Option B) → BothOrNone R o o' → BothOrNone R t t' → BothOrNone R (or_else o t) (or_else o' t')
 either_there R None t None t' b c = c
 either_there R (Some x) t (Some y) t' b c = b
-either_there R None t (Some y) t' b c = absurd b
-either_there R (Some x) t None t' b c = absurd b
+either_there R _ t _ t' b c = absurd b
 
 tested : {A B : Type 0} (R : A → B → Type 0) (b c : Bool) (x : A) (y : B) → b ≡ c → R x y → BothOrNone R (if b then Some x else None) (if c then Some y else None)
 tested R true true x y e r = r
 tested R false false x y e r = tt
-tested R true false x y e r = cc
-tested R false true x y e r = cc
+tested R _ _ x y e r = cc
 
 found_beside : {A B : Type 0} (R : A → B → Type 0) (xs : List A) (ys : List B) (n : ℕ) → AllZip R xs ys → BothOrNone R (slice_get xs n) (slice_get ys n)
 found_beside R [] [] n a = tt
-found_beside R [] (y ∷ ys) n a = absurd a
-found_beside R (x ∷ xs) [] n a = absurd a
 found_beside R (x ∷ xs) (y ∷ ys) zero a = a.0
 found_beside R (x ∷ xs) (y ∷ ys) (suc n) a = found_beside R xs ys n a.1
+found_beside R _ _ n a = absurd a
 
 same_taken : (r s : Resolved) → AreSameMeaning r s → taken_by r ≡ taken_by s
 same_taken (Hypothesis e) (Hypothesis f) m = refl
@@ -190,20 +183,18 @@ same_taken _ _ m = absurd m
 
 same_weight : (p q : Setting) (xs ys : List (List ℕ)) → AreSameLabels p q xs ys → weight p xs ≡ weight q ys
 same_weight p q [] [] a = refl
-same_weight p q [] (y ∷ ys) a = absurd a
-same_weight p q (x ∷ xs) [] a = absurd a
 same_weight p q (x ∷ xs) (y ∷ ys) a =
     let t = same_taken (p.resolve x) (q.resolve y) a.0 in
     let w = same_weight p q xs ys a.1 in
     cc
+same_weight p q _ _ a = absurd a
 
 same_part : (p q : Setting) (xs ys : List (List ℕ)) → AreSameLabels p q xs ys → BothOrNone (AreSameLabels p q) (last_part p xs) (last_part q ys)
 same_part p q [] [] a = tt
-same_part p q [] (y ∷ ys) a = absurd a
-same_part p q (x ∷ xs) [] a = absurd a
 same_part p q (x ∷ xs) (y ∷ ys) a =
     either_there (AreSameLabels p q) (last_part p xs) _ (last_part q ys) _ (same_part p q xs ys a.1)
     (tested (AreSameLabels p q) (int_eq (weight p (x ∷ xs)) (pos 1)) (int_eq (weight q (y ∷ ys)) (pos 1)) (x ∷ xs) (y ∷ ys) (ap (λ w. int_eq w (pos 1)) (same_weight p q (x ∷ xs) (y ∷ ys) a)) a)
+same_part p q _ _ a = absurd a
 
 pub record AreSameExpanded (p q : Setting) (x y : Expanded) : Type 0 where
   pub labels : AreSameLabels p q x.labels y.labels
@@ -212,14 +203,12 @@ pub record AreSameExpanded (p q : Setting) (x y : Expanded) : Type 0 where
 same_save : (p q : Setting) (x y : Expanded) (o r : Option (List (List ℕ))) → AreSameExpanded p q x y → BothOrNone (AreSameLabels p q) o r → BothOrNone (AreSameExpanded p q) (with_saved x o) (with_saved y r)
 same_save p q x y None None s b = tt
 same_save p q x y (Some a) (Some c) s b = record { labels = s.labels; saved = both_joined (AreSameLabels p q) x.saved (a ∷ []) y.saved (c ∷ []) s.saved (b, tt) }
-same_save p q x y None (Some c) s b = absurd b
-same_save p q x y (Some a) None s b = absurd b
+same_save p q x y _ _ s b = absurd b
 
 same_again : (p q : Setting) (x y : Expanded) (o r : Option (List (List ℕ))) → AreSameExpanded p q x y → BothOrNone (AreSameLabels p q) o r → BothOrNone (AreSameExpanded p q) (with_again x o) (with_again y r)
 same_again p q x y None None s b = tt
 same_again p q x y (Some a) (Some c) s b = record { labels = both_joined (λ a b. AreSameMeaning (p.resolve a) (q.resolve b)) x.labels a y.labels c s.labels b; saved = s.saved }
-same_again p q x y None (Some c) s b = absurd b
-same_again p q x y (Some a) None s b = absurd b
+same_again p q x y _ _ s b = absurd b
 
 same_one : (p q : Setting) (x y : Expanded) (a b : Step) → AreSameExpanded p q x y → IsSameStep p q a b → BothOrNone (AreSameExpanded p q) (expand_one p x a) (expand_one q y b)
 same_one p q x y (Named a) (Named b) s m = record { labels = both_joined (λ a b. AreSameMeaning (p.resolve a) (q.resolve b)) x.labels (a ∷ []) y.labels (b ∷ []) s.labels (m, tt); saved = s.saved }
@@ -230,12 +219,11 @@ same_one p q x y _ _ s m = absurd m
 
 same_from : (p q : Setting) (o r : Option Expanded) (xs ys : List Step) → BothOrNone (AreSameExpanded p q) o r → AllZip (IsSameStep p q) xs ys → BothOrNone (AreSameExpanded p q) (expand_from p o xs) (expand_from q r ys)
 same_from p q o r [] [] s a = s
-same_from p q o r [] (y ∷ ys) s a = absurd a
-same_from p q o r (x ∷ xs) [] s a = absurd a
 same_from p q None None (x ∷ xs) (y ∷ ys) s a = tt
 same_from p q (Some v) (Some w) (x ∷ xs) (y ∷ ys) s a = same_from p q (expand_one p v x) (expand_one q w y) xs ys (same_one p q v w x y s a.0) a.1
 same_from p q None (Some w) (x ∷ xs) (y ∷ ys) s a = absurd s
 same_from p q (Some v) None (x ∷ xs) (y ∷ ys) s a = absurd s
+same_from p q o r _ _ s a = absurd a
 
 expansion_moved : (p q : Setting) (xs ys : List Step) (x : Expanded) → AllZip (IsSameStep p q) xs ys → expansion p xs ≡ Some x → (y : Expanded) × (expansion q ys ≡ Some y) × AreSameExpanded p q x y
 expansion_moved p q xs ys x a e =
@@ -280,18 +268,15 @@ pairs_moved active others expression hypotheses pairs b stack number s f e h c =
 
 pub label_moved : (active others : List (Symbol × Symbol)) (r t : Resolved) (stack : List (List Symbol)) (number : ProofNumber) → AreSamePairs active others → AreSameMeaning r t → LabelFails active r stack number → LabelFails others t stack number
 label_moved active others (Assertion a) (Assertion b) stack number s m c = pairs_moved active others a.expression a.hypotheses a.pairs b stack number s m.pairs m.expression m.hypotheses c
-label_moved active others (Hypothesis e) t stack number s m c = absurd c
-label_moved active others Inactive t stack number s m c = absurd c
-label_moved active others Unknown t stack number s m c = absurd c
 label_moved active others (Assertion a) _ stack number s m c = absurd m
+label_moved active others _ t stack number s m c = absurd c
 
 pub line_moved : (p q : Setting) (a b : Step) (stack : List (List Symbol)) (number : ProofNumber) → AreSamePairs p.active q.active → IsSameStep p q a b → StepLineHolds p a stack number → StepLineHolds q b stack number
 line_moved p q (Named a) (Named b) stack number s m c = label_moved p.active q.active (p.resolve a) (q.resolve b) stack number s m c
 line_moved p q Save Save stack number s m c = c
-line_moved p q (Saved n) b stack number s m c = absurd c
-line_moved p q NotKnown b stack number s m c = absurd c
 line_moved p q (Named a) _ stack number s m c = absurd m
 line_moved p q Save _ stack number s m c = absurd m
+line_moved p q _ b stack number s m c = absurd c
 
 pub pairs_back : (pairs others : List (Symbol × Symbol)) → AreSamePairs pairs others → AreSamePairs others pairs
 pairs_back pairs others s = λ x y. ((s x y).1, (s x y).0)
@@ -332,11 +317,8 @@ known_moved p q (x ∷ xs) (y ∷ ys) a k = (one x y a.0 k.0, known_moved p q xs
 
 unknown_at : (p q : Setting) (x y : Option Step) → BothOrNone (IsSameStep p q) x y → x ≡ Some NotKnown → y ≡ Some NotKnown
 unknown_at p q (Some NotKnown) (Some NotKnown) b e = refl
-unknown_at p q (Some (Named a)) y b e = cc
-unknown_at p q (Some (Saved n)) y b e = cc
-unknown_at p q (Some Save) y b e = cc
-unknown_at p q None y b e = cc
 unknown_at p q (Some NotKnown) _ b e = absurd b
+unknown_at p q _ y b e = cc
 
 first_unknown_moved : (p q : Setting) (xs ys : List Step) (n : ℕ) → AllZip (IsSameStep p q) xs ys → IsFirstUnknown xs n → IsFirstUnknown ys n
 first_unknown_moved p q xs ys n a f = (

@@ -40,7 +40,7 @@ before_or_last [] x y (suc n) e = cc
 before_or_last (z ∷ xs) x y zero e = inl e
 before_or_last (z ∷ xs) x y (suc n) e = elim (before_or_last xs x y n e) [
   | inl h ↦ inl h
-  | inr h ↦ (let one : suc n ≡ length (z ∷ xs) = let m = h.0 in omega arith in inr (one, h.1))
+  | inr h ↦ (let one : suc n ≡ length (z ∷ xs) = omega arith in inr (one, h.1))
 ]
 
 -- what a list has for each number of another, it has with one more of each
@@ -82,21 +82,15 @@ uses_grow old new g (u ∷ all) (l ∷ labels) z = (one u l z.0, uses_grow old n
 
 pub uses_more : (naming : Naming) (all : List Use) (labels : List Resolved) (u : Use) (l : Resolved) → AllZip (IsUseOf naming) all labels → IsUseOf naming u l → AllZip (IsUseOf naming) (all ++ u ∷ []) (labels ++ l ∷ [])
 uses_more naming [] [] u l z s = (s, tt)
-uses_more naming [] (m ∷ labels) u l z s = absurd z
-uses_more naming (v ∷ all) [] u l z s = absurd z
 uses_more naming (v ∷ all) (m ∷ labels) u l z s = (z.0, uses_more naming all labels u l z.1 s)
+uses_more naming _ _ u l z s = absurd z
 
 -- they are in range
 one_within : (code : Base) (naming : Naming) → AreNamed code naming → (u : Use) (l : Resolved) → IsUseOf naming u l → IsUseWithin (length naming.hypotheses.items) (length naming.assertions.items) u
 one_within code naming is (uses.Hypothesis n) (answers.Hypothesis j) s = let w = slice_get_within naming.hypothesis_numbers.items.items n j s in omega (arith, is.hypothesis_count)
 one_within code naming is (uses.Assertion n) (answers.Assertion j) s = let w = slice_get_within naming.assertion_numbers.items.items n j s in omega (arith, is.assertion_count)
 one_within code naming is uses.Nothing l s = tt
-one_within code naming is (uses.Hypothesis n) (answers.Assertion j) s = absurd s
-one_within code naming is (uses.Hypothesis n) answers.Inactive s = absurd s
-one_within code naming is (uses.Hypothesis n) answers.Unknown s = absurd s
-one_within code naming is (uses.Assertion n) (answers.Hypothesis j) s = absurd s
-one_within code naming is (uses.Assertion n) answers.Inactive s = absurd s
-one_within code naming is (uses.Assertion n) answers.Unknown s = absurd s
+one_within code naming is _ _ s = absurd s
 
 pub uses_within : (code : Base) (naming : Naming) → AreNamed code naming → (all : List Use) (labels : List Resolved) → AllZip (IsUseOf naming) all labels → All (IsUseWithin (length naming.hypotheses.items) (length naming.assertions.items)) all
 uses_within code naming is [] labels z = All-nil (IsUseWithin (length naming.hypotheses.items) (length naming.assertions.items))

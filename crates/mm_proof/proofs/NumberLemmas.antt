@@ -119,8 +119,6 @@ worths (d ∷ ds) all = let is = digit_is d all.0 in ((omega arith, omega arith)
 
 same_digits : (ds es : List ℕ) → AllByRecursion (λ d. is_digit d ≡ true) ds → AllByRecursion (λ d. is_digit d ≡ true) es → map digit_worth ds ≡ map digit_worth es → ds ≡ es
 same_digits [] [] a b e = refl
-same_digits [] (y ∷ es) a b e = cc
-same_digits (x ∷ ds) [] a b e = cc
 same_digits (x ∷ ds) (y ∷ es) a b e =
     let p = digit_is x a.0 in
     let q = digit_is y b.0 in
@@ -129,13 +127,13 @@ same_digits (x ∷ ds) (y ∷ es) a b e =
     let here : x ≡ y = omega arith in
     let there : ds ≡ es = same_digits ds es a.1 b.1 rest in
     cc
+same_digits _ _ a b e = cc
 
 pub numbers_apart : (ds es : List ℕ) (a b : ℕ) → IsWrittenNumber ds a → IsWrittenNumber es b → value_of ds a ≡ value_of es b → (ds ≡ es) × (a ≡ b)
 numbers_apart ds es a b m n same =
     let p = last_is a m.1 in
     let q = last_is b n.1 in
     let r = number_apart (map digit_worth ds) (map digit_worth es) (a - 64) (b - 64) (worths ds m.0) (worths es n.0) (omega arith) (omega arith) (omega arith) (omega arith) same in
-    let low : a - 64 ≡ b - 64 = r.1 in
     (same_digits ds es m.0 n.0 r.0, omega arith)
 
 spelled : (ds : List ℕ) → AreWorth ds → AllByRecursion (λ d. is_digit d ≡ true) (map (λ d. d + 84) ds)

@@ -30,7 +30,6 @@ module _ {S : Type 0} (means : S → Symbol) (hypotheses : List (Hypothesis S)) 
       let floating = ap (λ (w : Mandatory). w.floating) x.2 ∙ slot.2 in
       let d : Entry = record { start = 0; end = 0; floor = 0 } in
       let l = slice_get_within hypotheses j x.0 x.1 in
-      let c = gathers.count in
       let at = element_at spans j d (omega arith) in
       let s = get_or spans j d in
       let r = gathers.right j s x.0 e.0 at x.1 floating e.1 z in

@@ -13,10 +13,8 @@ use Rattle.mm_proof.proofs.Threaded.{AreDecodedAfter}
 
 -- a known step
 pub known_one : (x : Step) → x ≢ NotKnown → is_unknown x ≡ false
-known_one (Named label) k = refl
-known_one (Saved n) k = refl
-known_one Save k = refl
 known_one NotKnown k = absurd (k refl)
+known_one _ k = refl
 
 pub one_known : (x : Step) → is_unknown x ≡ false → x ≢ NotKnown
 one_known (Named label) k e = cc
@@ -29,10 +27,7 @@ same_one p q (Named a) (Named b) s = refl
 same_one p q (Saved n) (Saved m) s = refl
 same_one p q Save Save s = refl
 same_one p q NotKnown NotKnown s = refl
-same_one p q (Named a) _ s = absurd s
-same_one p q (Saved n) _ s = absurd s
-same_one p q Save _ s = absurd s
-same_one p q NotKnown _ s = absurd s
+same_one p q _ _ s = absurd s
 
 -- a known step is run, and what is behind it counts; an unknown one ends the run
 pub part_one : (x : Step) (steps : List Step) → is_unknown x ≡ false → run_part (x ∷ steps) ≡ x ∷ run_part steps
@@ -68,18 +63,16 @@ part_front (y ∷ steps) n x e = elim (cases_Bool (is_unknown y)) [
 
 -- decoding has made sure of it
 pub part_decoded : (place : Setting) (saves : ℕ) (steps : List Step) → AreDecodedAfter place saves steps → AreDecodedAfter place saves (run_part steps)
-part_decoded place saves [] d = tt
 part_decoded place saves (Named label ∷ steps) d = rw (part_one (Named label) steps refl) (d.0, part_decoded place saves steps d.1)
 part_decoded place saves (Saved n ∷ steps) d = rw (part_one (Saved n) steps refl) (d.0, part_decoded place saves steps d.1)
 part_decoded place saves (Save ∷ steps) d = rw (part_one Save steps refl) (part_decoded place (saves + 1) steps d)
-part_decoded place saves (NotKnown ∷ steps) d = tt
+part_decoded place saves _ d = tt
 
 -- proofs that mean the same run the same
 pub part_same : (p q : Setting) (xs ys : List Step) → AllZip (IsSameStep p q) xs ys → AllZip (IsSameStep p q) (run_part xs) (run_part ys)
 part_same p q [] [] a = tt
-part_same p q [] (y ∷ ys) a = absurd a
-part_same p q (x ∷ xs) [] a = absurd a
 part_same p q (x ∷ xs) (y ∷ ys) a = elim (cases_Bool (is_unknown y)) [
   | inl e ↦ rw (part_none x xs (same_one p q x y a.0 ∙ e), part_none y ys e) tt
   | inr e ↦ rw (part_one x xs (same_one p q x y a.0 ∙ e), part_one y ys e) (a.0, part_same p q xs ys a.1)
 ]
+part_same p q _ _ a = absurd a

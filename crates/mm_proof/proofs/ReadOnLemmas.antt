@@ -32,7 +32,7 @@ told (Ok steps) = Ok (map (λ step. step.0) steps)
 told (Err fault) = Err fault.number
 
 told_with : (step : Step) (at by : Spot) (rest other : Steps) → told rest ≡ told other → told (with_step step at rest) ≡ told (with_step step by other)
-told_with step at by (Ok rest) (Ok other) e = let k : map (λ (s : Step × Spot). s.0) rest ≡ map (λ (s : Step × Spot). s.0) other = cc in cc
+told_with step at by (Ok rest) (Ok other) e = cc
 told_with step at by (Ok rest) (Err fault) e = cc
 told_with step at by (Err fault) (Ok other) e = cc
 told_with step at by (Err fault) (Err another) e = e
@@ -42,10 +42,9 @@ told_first at by (Ok step) rest other e = told_with step at by rest other e
 told_first at by (Err number) rest other e = refl
 
 alone_same : (ds es : List Letter) (step : Step) → bytes ds ≡ bytes es → alone ds step ≡ alone es step
-alone_same [] [] step e = refl
 alone_same [] (y ∷ es) step e = cc
 alone_same (x ∷ ds) [] step e = cc
-alone_same (x ∷ ds) (y ∷ es) step e = refl
+alone_same _ _ step e = refl
 
 letter_same : (names : List Step) (ds es : List Letter) (byte : ℕ) → bytes ds ≡ bytes es → read_letter names ds byte ≡ read_letter names es byte
 letter_same names ds es byte e = rw (e, alone_same ds es Save e, alone_same ds es NotKnown e) refl
@@ -57,10 +56,9 @@ abbrev Same : List Step → ℕ → Spot → Spot → List Group → List Group 
 Same labels saves at by gs hs = told (in_order (each_group labels at saves gs)) ≡ told (in_order (each_group labels by saves hs))
 
 cut_same : (labels : List Step) (saves : ℕ) (at by : Spot) (ds es : List Letter) → bytes ds ≡ bytes es → Same labels saves at by (cut_group ds) (cut_group es)
-cut_same labels saves at by [] [] e = refl
 cut_same labels saves at by [] (y ∷ es) e = cc
 cut_same labels saves at by (x ∷ ds) [] e = cc
-cut_same labels saves at by (x ∷ ds) (y ∷ es) e = refl
+cut_same labels saves at by _ _ e = refl
 
 abbrev grouped : List Letter → Letter → List Group → List Group
 grouped ds l gs = record { digits = ds; last = Some l } ∷ gs
@@ -71,8 +69,6 @@ group_same labels saves at by ds es l m gs hs e f rest =
 
 behind_same : (labels : List Step) (saves : ℕ) (at by : Spot) (ds es ls ms : List Letter) → bytes ds ≡ bytes es → bytes ls ≡ bytes ms → Same labels saves at by (groups_behind ds ls) (groups_behind es ms)
 behind_same labels saves at by ds es [] [] d e = cut_same labels saves at by ds es d
-behind_same labels saves at by ds es [] (m ∷ ms) d e = cc
-behind_same labels saves at by ds es (l ∷ ls) [] d e = cc
 behind_same labels saves at by ds es (l ∷ ls) (m ∷ ms) d e =
     let f : l.byte ≡ m.byte = cc in
     let r : bytes ls ≡ bytes ms = cc in
@@ -80,6 +76,7 @@ behind_same labels saves at by ds es (l ∷ ls) (m ∷ ms) d e =
       | inl is ↦ rw (ap is_digit f ∙ is, is) (behind_same labels saves at by (ds ++ l ∷ []) (es ++ m ∷ []) ls ms (more_same ds es l m d f) r)
       | inr other ↦ rw (ap is_digit f ∙ other, other) (group_same labels saves at by ds es l m (groups ls) (groups ms) d f (λ saves. behind_same labels saves at by [] [] ls ms refl r))
     ]
+behind_same labels saves at by ds es _ _ d e = cc
 
 pub or_false : (a b : Bool) → (a || b) ≡ false → (a ≡ false) × (b ≡ false)
 or_false true b e = cc

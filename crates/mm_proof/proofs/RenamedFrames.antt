@@ -5,7 +5,7 @@ use Rattle.std.specs.Option.{option_map}
 use Rattle.std.proofs.lemmas.List.{length-map, get_or-map}
 use Rattle.std.proofs.lemmas.List.Elements.{All-map}
 use Rattle.std.proofs.lemmas.Option.{slice_get-map}
-use Rattle.mm_frame.specs.Language.Frame.{Symbol, Mandatory, Frame, Resolved, Hypothesis, Assertion, Inactive, Unknown, Setting, ArePair, AreSamePairs}
+use Rattle.mm_frame.specs.Language.Frame.{Symbol, Mandatory, Frame, Resolved, Hypothesis, Assertion, Setting, ArePair, AreSamePairs}
 use Rattle.mm_frame.specs.Language.Typing.{IsTyped, IsTyping, IsFrame, HasFrames}
 use Rattle.mm_proof.specs.Language.SameProof.{AreSameMeaning}
 use Rattle.mm_proof.specs.Language.Renaming.{IsRenaming, renamed_pair, renamed_pairs, renamed_mandatory, renamed_frame, renamed_meaning, IsRenamedSetting}
@@ -26,8 +26,7 @@ use Rattle.mm_proof.proofs.RenamingLemmas.{map_back, contains_map, contains_back
 same_there : (r : Resolved) → AreSameMeaning r r
 same_there (Hypothesis e) = refl
 same_there (Assertion frame) = record { expression = refl; hypotheses = refl; pairs = λ x y. (λ are. are, λ are. are) }
-same_there Inactive = tt
-same_there Unknown = tt
+same_there _ = tt
 
 -- a symbol after another renamed
 second_own : (f : Symbol → Symbol) (g : Symbol → Symbol) → ((s : Symbol) → g (f s) ≡ s) → (xs ys : List Symbol) → slice_get (map f xs) 1 ≡ slice_get (map f ys) 1 → slice_get xs 1 ≡ slice_get ys 1
@@ -71,10 +70,8 @@ module _ (to back : Symbol → Symbol) (is : IsRenaming to back) where
       }
 
   meaning_framed : (r : Resolved) (frame : Frame) → ((other : Frame) → r ≡ Assertion other → IsFrame other) → renamed_meaning to r ≡ Assertion frame → IsFrame frame
-  meaning_framed (Hypothesis e) frame is_frame same = cc
   meaning_framed (Assertion other) frame is_frame same = let here : renamed_frame to other ≡ frame = cc in subst IsFrame here (frame_renamed other (is_frame other refl))
-  meaning_framed Inactive frame is_frame same = cc
-  meaning_framed Unknown frame is_frame same = cc
+  meaning_framed _ frame is_frame same = cc
 
   frames_renamed : (place : Setting) → HasFrames place → HasFrames (renamed_setting to place)
   frames_renamed place has label frame at = meaning_framed (place.resolve label) frame (has label) at

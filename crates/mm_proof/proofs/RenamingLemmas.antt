@@ -54,18 +54,16 @@ any_map P Q f xs each a =
     (c.0, f a.1, c.1, c.2, each a.1 a.4)
 
 any_zip_map : {A B C D : Type 0} (R : A → B → Type 0) (S : C → D → Type 0) (f : A → C) (g : B → D) (xs : List A) (ys : List B) → ((x : A) (y : B) → R x y → S (f x) (g y)) → AnyZip R xs ys → AnyZip S (map f xs) (map g ys)
-any_zip_map R S f g [] ys each a = absurd a
-any_zip_map R S f g (x ∷ xs) [] each a = absurd a
 any_zip_map R S f g (x ∷ xs) (y ∷ ys) each a = elim a [
   | inl r ↦ inl (each x y r)
   | inr b ↦ inr (any_zip_map R S f g xs ys each b)
 ]
+any_zip_map R S f g _ _ each a = absurd a
 
 all_zip_map : {A B C D : Type 0} (R : A → B → Type 0) (S : C → D → Type 0) (f : A → C) (g : B → D) (xs : List A) (ys : List B) → ((x : A) (y : B) → R x y → S (f x) (g y)) → AllZip R xs ys → AllZip S (map f xs) (map g ys)
 all_zip_map R S f g [] [] each a = tt
-all_zip_map R S f g [] (y ∷ ys) each a = absurd a
-all_zip_map R S f g (x ∷ xs) [] each a = absurd a
 all_zip_map R S f g (x ∷ xs) (y ∷ ys) each a = (each x y a.0, all_zip_map R S f g xs ys each a.1)
+all_zip_map R S f g _ _ each a = absurd a
 
 -- pairs, there and back
 pub pair_there : (f : Symbol → Symbol) (pairs : List (Symbol × Symbol)) (x y : Symbol) → ArePair pairs x y → ArePair (renamed_pairs f pairs) (f x) (f y)
@@ -90,10 +88,8 @@ renaming_back to back is = record {
 
 -- what steps expand to knows no symbols
 taken_renamed : (to : Symbol → Symbol) (r : Resolved) → taken_by (renamed_meaning to r) ≡ taken_by r
-taken_renamed to (Hypothesis e) = refl
 taken_renamed to (Assertion frame) = length-map frame.hypotheses (renamed_mandatory to)
-taken_renamed to Inactive = refl
-taken_renamed to Unknown = refl
+taken_renamed to _ = refl
 
 weight_renamed : (to : Symbol → Symbol) (place : Setting) (labels : List (List ℕ)) → weight (renamed_setting to place) labels ≡ weight place labels
 weight_renamed to place [] = refl
@@ -105,10 +101,8 @@ part_renamed to place (label ∷ labels) =
     λ i. or_else (part_renamed to place labels i) (if int_eq (weight_renamed to place (label ∷ labels) i) (pos 1) then Some (label ∷ labels) else None)
 
 one_renamed : (to : Symbol → Symbol) (place : Setting) (x : Expanded) (step : Step) → expand_one (renamed_setting to place) x step ≡ expand_one place x step
-one_renamed to place x (Named label) = refl
-one_renamed to place x (Saved n) = refl
 one_renamed to place x Save = ap (with_saved x) (part_renamed to place x.labels)
-one_renamed to place x NotKnown = refl
+one_renamed to place x _ = refl
 
 from_renamed : (to : Symbol → Symbol) (place : Setting) (o : Option Expanded) (steps : List Step) → expand_from (renamed_setting to place) o steps ≡ expand_from place o steps
 from_renamed to place o [] = refl
@@ -127,8 +121,7 @@ module _ (to back : Symbol → Symbol) (is : IsRenaming to back) where
   chosen : (b c : Bool) (s : Symbol) (xs ys : List Symbol) → b ≡ c → ys ≡ map to xs → (if b then ys else (to s ∷ [])) ≡ map to (if c then xs else (s ∷ []))
   chosen true true s xs ys e same = same
   chosen false false s xs ys e same = refl
-  chosen true false s xs ys e same = cc
-  chosen false true s xs ys e same = cc
+  chosen _ _ s xs ys e same = cc
 
   pub substituted_renamed : (given : Symbol → List Symbol) (e : List Symbol) → substituted (moved given) (map to e) ≡ map to (substituted given e)
   substituted_renamed given [] = refl
@@ -176,7 +169,7 @@ module _ (to back : Symbol → Symbol) (is : IsRenaming to back) where
     entries_match = entries_renamed given frame.hypotheses ∙ ap (map (map to)) t.entries_match;
     result_matches = substituted_renamed given frame.expression ∙ ap (map to) t.result_matches;
     apart = all_apart active frame.pairs given t.apart;
-    short = (let long = length-map result to in let short = t.short in omega arith);
+    short = (let long = length-map result to in omega arith);
   }
 
   mutual
@@ -219,9 +212,8 @@ module _ (to back : Symbol → Symbol) (is : IsRenaming to back) where
 
   heads_own : (xs ys : List Symbol) → slice_get (map to xs) 0 ≡ slice_get (map to ys) 0 → slice_get xs 0 ≡ slice_get ys 0
   heads_own [] [] e = refl
-  heads_own [] (y ∷ ys) e = cc
-  heads_own (x ∷ xs) [] e = cc
   heads_own (x ∷ xs) (y ∷ ys) e = let same : to x ≡ to y = cc in ap Some (sym (is.there x) ∙ ap back same ∙ is.there y)
+  heads_own _ _ e = cc
 
   share_renamed : (xs ys : List Symbol) → ShareVariable xs ys → ShareVariable (map to xs) (map to ys)
   share_renamed xs ys s = (to s.0, has_there xs s.0 s.1, has_there ys s.0 s.2)
@@ -281,9 +273,7 @@ module _ (to back : Symbol → Symbol) (is : IsRenaming to back) where
 
   label_renamed : (active : List (Symbol × Symbol)) (r : Resolved) (stack : List (List Symbol)) (number : ProofNumber) → LabelFails active r stack number → LabelFails (renamed_pairs to active) (renamed_meaning to r) (map (map to) stack) number
   label_renamed active (Assertion frame) stack number c = citing_renamed active frame stack number c
-  label_renamed active (Hypothesis e) stack number c = absurd c
-  label_renamed active Inactive stack number c = absurd c
-  label_renamed active Unknown stack number c = absurd c
+  label_renamed active _ stack number c = absurd c
 
   save_renamed : (stack : List (List Symbol)) (number : ProofNumber) → SaveFails stack number → SaveFails (map (map to) stack) number
   save_renamed stack P13 c = ap (map (map to)) c
@@ -291,9 +281,8 @@ module _ (to back : Symbol → Symbol) (is : IsRenaming to back) where
 
   line_renamed : (place : Setting) (step : Step) (stack : List (List Symbol)) (number : ProofNumber) → StepLineHolds place step stack number → StepLineHolds (renamed_setting to place) step (map (map to) stack) number
   line_renamed place (Named label) stack number c = label_renamed place.active (place.resolve label) stack number c
-  line_renamed place (Saved n) stack number c = absurd c
   line_renamed place Save stack number c = save_renamed stack number c
-  line_renamed place NotKnown stack number c = absurd c
+  line_renamed place _ stack number c = absurd c
 
 -- a renamed setting the other way round
 pairs_back :
@@ -316,10 +305,7 @@ meaning_back to back is (Assertion a) (Assertion b) m = record {
 }
 meaning_back to back is Inactive Inactive m = m
 meaning_back to back is Unknown Unknown m = m
-meaning_back to back is (Hypothesis e) _ m = absurd m
-meaning_back to back is (Assertion a) _ m = absurd m
-meaning_back to back is Inactive _ m = absurd m
-meaning_back to back is Unknown _ m = absurd m
+meaning_back to back is _ _ m = absurd m
 
 pub setting_back : (to back : Symbol → Symbol) → IsRenaming to back → (place other : Setting) → IsRenamedSetting to place other → IsRenamedSetting back other place
 setting_back to back is place other s = record {
@@ -331,8 +317,7 @@ setting_back to back is place other s = record {
 step_alike : (to : Symbol → Symbol) (place other : Setting) → IsRenamedSetting to place other → (step : Step) → IsSameStep (renamed_setting to place) other step step
 step_alike to place other s (Named label) = s.resolve label
 step_alike to place other s (Saved n) = refl
-step_alike to place other s Save = tt
-step_alike to place other s NotKnown = tt
+step_alike to place other s _ = tt
 
 steps_alike : (to : Symbol → Symbol) (place other : Setting) → IsRenamedSetting to place other → (steps : List Step) → AllZip (IsSameStep (renamed_setting to place) other) steps steps
 steps_alike to place other s [] = tt
@@ -428,20 +413,14 @@ usable_alike to label (Hypothesis e) (Hypothesis f) m = refl
 usable_alike to label (Assertion a) (Assertion b) m = refl
 usable_alike to label Inactive Inactive m = refl
 usable_alike to label Unknown Unknown m = refl
-usable_alike to label (Hypothesis e) _ m = absurd m
-usable_alike to label (Assertion a) _ m = absurd m
-usable_alike to label Inactive _ m = absurd m
-usable_alike to label Unknown _ m = absurd m
+usable_alike to label _ _ m = absurd m
 
 means_alike : (to : Symbol → Symbol) (r s : Resolved) → AreSameMeaning (renamed_meaning to r) s → means_assertion r ≡ means_assertion s
 means_alike to (Hypothesis e) (Hypothesis f) m = refl
 means_alike to (Assertion a) (Assertion b) m = refl
 means_alike to Inactive Inactive m = refl
 means_alike to Unknown Unknown m = refl
-means_alike to (Hypothesis e) _ m = absurd m
-means_alike to (Assertion a) _ m = absurd m
-means_alike to Inactive _ m = absurd m
-means_alike to Unknown _ m = absurd m
+means_alike to _ _ m = absurd m
 
 decoding_renamed : (to : Symbol → Symbol) (place other : Setting) → IsRenamedSetting to place other → (mandatory words : List (List ℕ)) → decoding place mandatory words ≡ decoding other mandatory words
 decoding_renamed to place other s mandatory words =

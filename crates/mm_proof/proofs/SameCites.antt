@@ -51,10 +51,7 @@ module _ (p q : Setting) where
   assertion_same (Assertion e) (Assertion f) s = refl
   assertion_same Inactive Inactive s = refl
   assertion_same Unknown Unknown s = refl
-  assertion_same (Hypothesis e) _ s = absurd s
-  assertion_same (Assertion e) _ s = absurd s
-  assertion_same Inactive _ s = absurd s
-  assertion_same Unknown _ s = absurd s
+  assertion_same _ _ s = absurd s
 
   -- a label of no assertion is not this one, which is of one
   pub other_label : (place : Setting) (label a : List ℕ) → means_assertion (place.resolve label) ≡ true → means_assertion (place.resolve a) ≡ false → bytes_eq label a ≡ false
@@ -71,10 +68,7 @@ module _ (p q : Setting) where
   name_same label (Saved n) (Saved m) f g both = refl
   name_same label Save Save f g both = refl
   name_same label NotKnown NotKnown f g both = refl
-  name_same label (Named a) _ f g both = absurd both.0
-  name_same label (Saved n) _ f g both = absurd both.0
-  name_same label Save _ f g both = absurd both.0
-  name_same label NotKnown _ f g both = absurd both.0
+  name_same label _ _ f g both = absurd both.0
 
   any_same :
       (label : List ℕ) (steps others : List (Step × Spot)) → means_assertion (p.resolve label) ≡ true → means_assertion (q.resolve label) ≡ true →
@@ -101,8 +95,7 @@ module _ (p q : Setting) where
   cites_on : (words : List (List ℕ)) (close : Spot) (s t : Steps) → AreSame p q s t → AllByRecursion (λ (w : ℕ × List ℕ). IsSameLabel p q w.1) (label_words words) → cites p words (decoded close s) ≡ cites q words (decoded close t)
   cites_on words close (Ok steps) (Ok others) all s = ap (map (λ (w : ℕ × List ℕ). w.0)) (filter_same _ _ (firsts (label_words words)) (each_same (firsts (label_words words)) steps others all (firsts_all (λ w. IsSameLabel p q w.1) (label_words words) s)))
   cites_on words close (Err fault) (Err same) all s = refl
-  cites_on words close (Ok steps) (Err same) all s = absurd all
-  cites_on words close (Err fault) (Ok others) all s = absurd all
+  cites_on words close _ _ all s = absurd all
 
   pub cites_same : (mandatory others words : List (List ℕ)) → AreSameToDecode p q mandatory others words → cites p words (decoding p mandatory words) ≡ cites q words (decoding q others words)
   cites_same mandatory others words s =

@@ -39,24 +39,19 @@ module _ (p q : Setting) where
   with_same : (spot : Spot) (s t : Step) (rest others : Steps) → IsBoth s t → AreSame rest others → AreSame (with_step s spot rest) (with_step t spot others)
   with_same spot s t (Ok rest) (Ok others) e all = ((e, refl), all)
   with_same spot s t (Err fault) (Err same) e all = all
-  with_same spot s t (Ok rest) (Err same) e all = absurd all
-  with_same spot s t (Err fault) (Ok others) e all = absurd all
+  with_same spot s t _ _ e all = absurd all
 
   first_same : (spot : Spot) (r o : Result Step ProofNumber) (rest others : Steps) → IsSameResult r o → AreSame rest others → AreSame (read_first spot r rest) (read_first spot o others)
   first_same spot (Ok s) (Ok t) rest others e all = with_same spot s t rest others e all
   first_same spot (Err n) (Err m) rest others e all = λ i. record { number = e i; spot = spot }
-  first_same spot (Ok s) (Err m) rest others e all = absurd e
-  first_same spot (Err n) (Ok t) rest others e all = absurd e
+  first_same spot _ _ rest others e all = absurd e
 
   usable_same : (a : List ℕ) (r o : Resolved) → p.resolve a ≡ r → q.resolve a ≡ o → AreSameMeaning r o → IsSameResult (usable a r) (usable a o)
   usable_same a (Hypothesis e) (Hypothesis f) m n s = (rw (m, n) s, inl refl)
   usable_same a (Assertion e) (Assertion f) m n s = (rw (m, n) s, inl refl)
   usable_same a Inactive Inactive m n s = refl
   usable_same a Unknown Unknown m n s = refl
-  usable_same a (Hypothesis e) _ m n s = absurd s
-  usable_same a (Assertion e) _ m n s = absurd s
-  usable_same a Inactive _ m n s = absurd s
-  usable_same a Unknown _ m n s = absurd s
+  usable_same a _ _ m n s = absurd s
 
   label_same : (label : List ℕ) → IsSameLabel p q label → IsSameResult (read_label p label) (read_label q label)
   label_same label s = usable_same label (p.resolve label) (q.resolve label) refl refl s
@@ -84,16 +79,14 @@ module _ (p q : Setting) where
 
   named_at : (labels others : List Step) (saves k : ℕ) → AllZip IsBoth labels others → IsSameOption (slice_get (nameable labels saves) k) (slice_get (nameable others saves) k)
   named_at [] [] saves k all = saved_same 0 saves k
-  named_at [] (o ∷ others) saves k all = absurd all
-  named_at (l ∷ labels) [] saves k all = absurd all
   named_at (l ∷ labels) (o ∷ others) saves zero all = all.0
   named_at (l ∷ labels) (o ∷ others) saves (suc k) all = named_at labels others saves k all.1
+  named_at _ _ saves k all = absurd all
 
   named_same : (s t : Option Step) → IsSameOption s t → IsSameResult (named s) (named t)
   named_same (Some s) (Some t) e = e
   named_same None None e = refl
-  named_same (Some s) None e = absurd e
-  named_same None (Some t) e = absurd e
+  named_same _ _ e = absurd e
 
   alone_same : (digits : List Letter) (step : Step) → IsBoth step step → IsSameResult (alone digits step) (alone digits step)
   alone_same [] step e = e
@@ -128,15 +121,13 @@ module _ (p q : Setting) where
   named_all : (mandatory others listed : List (List ℕ)) → AllZip (IsSameHypothesis p q) mandatory others → AllByRecursion (IsSameLabel p q) listed → AllZip IsBoth (map Named (mandatory ++ listed)) (map Named (others ++ listed))
   named_all [] [] [] h all = tt
   named_all [] [] (label ∷ listed) h all = ((all.0, inl refl), named_all [] [] listed h all.1)
-  named_all [] (o ∷ others) listed h all = absurd h
-  named_all (m ∷ mandatory) [] listed h all = absurd h
   named_all (m ∷ mandatory) (o ∷ others) listed h all = (hypothesis_both m o h.0, named_all mandatory others listed h.1 all)
+  named_all _ _ listed h all = absurd h
 
   read_same : (list others some more : Steps) → AreSame list others → AreSame some more → AreSame (if_read list some) (if_read others more)
   read_same (Ok list) (Ok others) some more e all = all
   read_same (Err fault) (Err same) some more e all = e
-  read_same (Ok list) (Err same) some more e all = absurd e
-  read_same (Err fault) (Ok others) some more e all = absurd e
+  read_same _ _ some more e all = absurd e
 
   compressed_same : (mandatory others words : List (List ℕ)) (close : Spot) → AllZip (IsSameHypothesis p q) mandatory others → AllByRecursion (IsSameLabel p q) (before_first is_close words) → AreSame (compressed_steps p mandatory words close) (compressed_steps q others words close)
   compressed_same mandatory others words close h all = elim (cases_Bool (list_any is_close words)) [
@@ -156,21 +147,18 @@ module _ (p q : Setting) where
 
   only_steps : (steps others : List (Step × Spot)) → AllZip (λ s t. IsBoth s.0 t.0 × (s.1 ≡ t.1)) steps others → AllZip (IsSameStep p q) (map (λ (s : Step × Spot). s.0) steps) (map (λ (s : Step × Spot). s.0) others)
   only_steps [] [] all = tt
-  only_steps [] (o ∷ others) all = absurd all
-  only_steps (s ∷ steps) [] all = absurd all
   only_steps (s ∷ steps) (o ∷ others) all = (all.0.0.0, only_steps steps others all.1)
+  only_steps _ _ all = absurd all
 
   only_spots : (steps others : List (Step × Spot)) → AllZip (λ s t. IsBoth s.0 t.0 × (s.1 ≡ t.1)) steps others → map (λ (s : Step × Spot). s.1) steps ≡ map (λ (s : Step × Spot). s.1) others
   only_spots [] [] all = refl
-  only_spots [] (o ∷ others) all = absurd all
-  only_spots (s ∷ steps) [] all = absurd all
   only_spots (s ∷ steps) (o ∷ others) all = rw (all.0.1, only_spots steps others all.1) refl
+  only_spots _ _ all = absurd all
 
   decoded_same : (close : Spot) (s t : Steps) → AreSamePairs p.active q.active → AreSame s t → IsSameDecoding p q (decoded close s) (decoded close t)
   decoded_same close (Ok steps) (Ok others) a all = record { active = a; steps = only_steps steps others all; spots = only_spots steps others all; close = refl }
   decoded_same close (Err fault) (Err same) a all = all
-  decoded_same close (Ok steps) (Err same) a all = absurd all
-  decoded_same close (Err fault) (Ok others) a all = absurd all
+  decoded_same close _ _ a all = absurd all
 
   pub decodes_same : (mandatory others words : List (List ℕ)) → AreSameToDecode p q mandatory others words → IsSameDecoding p q (decoding p mandatory words) (decoding q others words)
   decodes_same mandatory others words s = decoded_same (word_spot (length words)) (steps_in p mandatory words (word_spot (length words))) (steps_in q others words (word_spot (length words))) s.active (steps_same mandatory others words (word_spot (length words)) s)

@@ -1,5 +1,5 @@
 -- There are at most as many steps as bytes.
-use Rattle.std.proofs.Common.{◌≡◌, ℕ, zero, suc, ◌+◌, ◌<◌, ◌≤◌, cond, Result, Ok, List, [], ◌∷◌, ◌++◌, length, map, drop, refl, sym, ap, ◌∙◌, arith, inl, inr}
+use Rattle.std.proofs.Common.{◌≡◌, ℕ, suc, ◌+◌, ◌<◌, ◌≤◌, cond, Result, Ok, List, [], ◌∷◌, ◌++◌, length, map, drop, refl, sym, ap, ◌∙◌, arith, inl, inr}
 use Rattle.std.specs.Prelude.{flat_map}
 use Rattle.std.specs.List.{AllByRecursion, list_any, before_first, after_first}
 use Rattle.std.proofs.lemmas.Bool.{cases_Bool}
@@ -50,13 +50,12 @@ letters_length : (n : ℕ) (words : List (List ℕ)) → length (letters_from n 
 letters_length n words = sym (length-map (letters_from n words) (λ (l : Letter). l.byte)) ∙ ap length (bytes_from n words)
 
 behind_short : (n : ℕ) (words : List (List ℕ)) → bytes_of (drop n words) ≤ bytes_of words
-behind_short zero words = omega arith
-behind_short (suc n) [] = omega arith
 behind_short (suc n) (word ∷ words) = let s = behind_short n words in omega (arith, length-append word (flat_map (λ word. word) words))
+behind_short _ _ = omega arith
 
 words_short : (words : List (List ℕ)) → AllByRecursion (λ word. 0 < length word) words → length words ≤ bytes_of words
 words_short [] all = omega arith
-words_short (word ∷ words) all = let s = words_short words all.1 in let k = all.0 in omega (arith, length-append word (flat_map (λ word. word) words))
+words_short (word ∷ words) all = let s = words_short words all.1 in omega (arith, length-append word (flat_map (λ word. word) words))
 
 letters_short : (mandatory listed : List (List ℕ)) (n : ℕ) (words : List (List ℕ)) (close : Spot) (steps : List (Step × Spot)) → letter_steps mandatory listed n words close ≡ Ok steps → length steps ≤ bytes_of words
 letters_short mandatory listed n words close steps e =

@@ -23,13 +23,13 @@ read_all_kept before after (e ∷ es) all kept =
     cc
 
 pub ends_of : (n m : ℕ) (es : List Entry) → n ≤ m → All (IsEntryWithin n) es → All (λ e. e.end ≤ m) es
-ends_of n m es l all k d i = let w = all k d i in let h = w.1 in omega arith
+ends_of n m es l all k d i = let w = all k d i in omega arith
 
 pub grown_all : (before more after : List Symbol) (n : ℕ) (es : List Entry) → after ≡ before ++ more → n ≤ length before → All (IsEntryWithin n) es → read_all after es ≡ read_all before es
 grown_all before more after n es e l all = read_all_kept before after es (ends_of n (length before) es l all) (ap (take (length before)) e ∙ take_at before more (length before) refl)
 
 pub wider : (n m : ℕ) (es : List Entry) → n ≤ m → All (IsEntryWithin n) es → All (IsEntryWithin m) es
-wider n m es l all k d i = let w = all k d i in let h = w.1 in (w.0, omega arith)
+wider n m es l all k d i = let w = all k d i in (w.0, omega arith)
 
 -- so it is with one more
 one_more : (P : Entry → Type 0) (es : List Entry) (new : Entry) → All P es → P new → All P (es ++ new ∷ [])
@@ -46,7 +46,7 @@ whole_loaded means before expression after kept end stack saved next new whole e
       kept_within = omega arith;
       within = wider (length before) (length after) stack grown whole.within;
       floors_within = λ k d i. (let w = whole.floors_within k d i in omega arith);
-      saved_within = subst (λ es. All (IsEntryWithin end) es) (sym s) (one_more (IsEntryWithin end) saved new (wider kept end saved (let w = whole.kept_within in omega arith) whole.saved_within) (omega arith, omega arith));
+      saved_within = subst (λ es. All (IsEntryWithin end) es) (sym s) (one_more (IsEntryWithin end) saved new (wider kept end saved (omega arith) whole.saved_within) (omega arith, omega arith));
       apart = whole.apart;
     }
 
@@ -133,13 +133,13 @@ whole_replaced n m kept f below es saved next new whole l low high front e a b c
 
     within_at : (k : ℕ) (s : Entry) → slice_get next k ≡ Some s → IsEntryWithin m s
     within_at k s at = elim (cases k s at) [
-      | inl h ↦ (let w = subst (IsEntryWithin n) (get_or_from_slice_get es k s s h.1) (whole.within k s (slice_get_within es k s h.1)) in let x = front k s h.0 h.1 in let y = x.0 in (w.0, omega arith))
+      | inl h ↦ (let w = subst (IsEntryWithin n) (get_or_from_slice_get es k s s h.1) (whole.within k s (slice_get_within es k s h.1)) in let x = front k s h.0 h.1 in (w.0, omega arith))
       | inr h ↦ subst (IsEntryWithin m) h.1 (omega arith, omega arith)
     ]
 
     floor_at : (k : ℕ) (s : Entry) → slice_get next k ≡ Some s → s.floor ≤ m
     floor_at k s at = elim (cases k s at) [
-      | inl h ↦ (let x = front k s h.0 h.1 in let y = x.1 in omega arith)
+      | inl h ↦ (let x = front k s h.0 h.1 in omega arith)
       | inr h ↦ subst (λ (w : Entry). w.floor ≤ m) h.1 (omega arith)
     ]
 
@@ -147,12 +147,10 @@ whole_replaced n m kept f below es saved next new whole l low high front e a b c
     apart_at i j x y o (inl p) (inl q) = whole.apart i j x y o p.1 q.1
     apart_at i j x y o (inl p) (inr q) =
         let h = front i x p.0 p.1 in
-        let g = h.0 in
-        let k = h.1 in
         let same = ap (λ (w : Entry). w.floor) q.1 in
         (omega arith, omega arith)
-    apart_at i j x y o (inr p) (inl q) = (let s = p.0 in let t = q.0 in absurd (omega arith))
-    apart_at i j x y o (inr p) (inr q) = (let s = p.0 in let t = q.0 in absurd (omega arith))
+    apart_at i j x y o (inr p) (inl q) = (absurd (omega arith))
+    apart_at i j x y o (inr p) (inr q) = (absurd (omega arith))
 
 -- the entries that an assertion takes
 pub entries_taken : {S : Type 0} (means : S → Symbol) (hs : List (Hypothesis S)) (expression : List S) (pairs : List (S × S)) (symbols : List Symbol) (es : List Entry) (below : ℕ) →
@@ -213,7 +211,6 @@ whole_pushed n kept es saved next new whole in_range floor e = record {
     apart_at i j x y o (inl p) (inr q) =
         let w = old_within i x p.1 in
         let f = old_floor i x p.1 in
-        let end = w.1 in
         subst (λ (w : Entry). (x.end ≤ w.floor) × (x.floor ≤ w.floor)) q.1 (omega arith, omega arith)
-    apart_at i j x y o (inr p) (inl q) = let a = p.0 in let b = q.0 in absurd (omega arith)
-    apart_at i j x y o (inr p) (inr q) = let a = p.0 in let b = q.0 in absurd (omega arith)
+    apart_at i j x y o (inr p) (inl q) = absurd (omega arith)
+    apart_at i j x y o (inr p) (inr q) = absurd (omega arith)

@@ -139,9 +139,8 @@ known_more steps n x at other known k l e = by_case (ℕ_discrete k n)
 
 -- what is run begins like the steps
 pub part_begins : (steps : List Step) (n : ℕ) → KnownUpTo steps n → take n (run_part steps) ≡ take n steps
-part_begins [] n known = refl
-part_begins (x ∷ steps) zero known = refl
 part_begins (x ∷ steps) (suc n) known = ap (take (suc n)) (part_one x steps (first_known x steps n known)) ∙ ap (λ w. x ∷ w) (part_begins steps n (behind x steps n known))
+part_begins _ _ known = refl
 
 -- and goes on with the next known step
 pub part_at : (steps : List Step) (n : ℕ) (x : Step) → KnownUpTo steps n → slice_get steps n ≡ Some x → x ≢ NotKnown → slice_get (run_part steps) n ≡ Some x

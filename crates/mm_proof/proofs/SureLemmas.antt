@@ -3,7 +3,7 @@ use Rattle.std.proofs.Common.{◌≤◌, ◌≡◌, ℕ, zero, suc, ◌+◌, ◌
 use Rattle.std.specs.Prelude.{nat_le, slice_get, bytes_eq, codes}
 use Rattle.std.specs.List.{AllByRecursion, range_with_len, before_first, list_any, after_first}
 use Rattle.std.proofs.lemmas.Bool.{cases_Bool, and_parts, leb-true}
-use Rattle.mm_frame.specs.Language.Frame.{Resolved, Hypothesis, Assertion, Inactive, Unknown, Setting}
+use Rattle.mm_frame.specs.Language.Frame.{Resolved, Inactive, Unknown, Setting}
 use Rattle.mm_proof.specs.Language.Expansion.{Step, Named, Saved, Save, NotKnown}
 use Rattle.mm_proof.specs.Language.Machine.{IsUsable, AreDecoded}
 use Rattle.mm_proof.specs.Language.Numbers.{is_last}
@@ -43,19 +43,16 @@ IsAfter place saves save Save = save ≡ true
 IsAfter place saves save NotKnown = save ≡ false
 
 pub usable_is : (label : List ℕ) (r : Resolved) (step : Step) → usable label r ≡ Ok step → (step ≡ Named label) × IsUsable r
-usable_is label (Hypothesis e) step h = (cc, tt)
-usable_is label (Assertion frame) step h = (cc, tt)
 usable_is label Inactive step h = cc
 usable_is label Unknown step h = cc
+usable_is label _ step h = (cc, tt)
 
 label_sure : (place : Setting) (label : List ℕ) (step : Step) → read_label place label ≡ Ok step → IsSure place step
 label_sure place label step h = let u = usable_is label (place.resolve label) step h in rw u.0 u.1
 
 word_from : (place : Setting) (step : Step) → IsSure place step → IsWord place step
-word_from place (Named label) is = is
-word_from place (Saved n) is = is
-word_from place Save is = is
 word_from place NotKnown is = tt
+word_from place _ is = is
 
 word_sure : (place : Setting) (word : List ℕ) (step : Step) → read_word place word ≡ Ok step → IsWord place step
 word_sure place word step h = elim (cases_Bool (bytes_eq word (codes "?"))) [
@@ -65,15 +62,13 @@ word_sure place word step h = elim (cases_Bool (bytes_eq word (codes "?"))) [
 
 word_then : (place : Setting) (saves : ℕ) (step : Step) (more : List Step) → IsWord place step → AreDecodedAfter place saves more → AreDecodedAfter place saves (step ∷ more)
 word_then place saves (Named label) more is rest = (is, rest)
-word_then place saves (Saved n) more is rest = absurd is
-word_then place saves Save more is rest = absurd is
 word_then place saves NotKnown more is rest = rest
+word_then place saves _ more is rest = absurd is
 
 after_then : (place : Setting) (saves : ℕ) (save : Bool) (step : Step) (more : List Step) → IsAfter place saves save step → AreDecodedAfter place (cond save (saves + 1) saves) more → AreDecodedAfter place saves (step ∷ more)
-after_then place saves save (Named label) more is rest = (is.1, rw is.0 at rest)
-after_then place saves save (Saved n) more is rest = (is.1, rw is.0 at rest)
 after_then place saves save Save more is rest = rw is at rest
 after_then place saves save NotKnown more is rest = rw is at rest
+after_then place saves save _ more is rest = (is.1, rw is.0 at rest)
 
 words_sure : (place : Setting) (read : List ℕ → Result Step ProofNumber) → ((word : List ℕ) (step : Step) → read word ≡ Ok step → IsWord place step) → (n : ℕ) (words : List (List ℕ)) (steps : List (Step × Spot)) → in_order (each_word read n words) ≡ Ok steps
     → AreDecodedAfter place 0 (step_list steps)
@@ -100,9 +95,8 @@ saved_at from (suc saves) (suc k) step e = let r = saved_at (from + 1) saves k s
 
 sure_after : (place : Setting) (saves : ℕ) (step : Step) → IsSure place step → IsAfter place saves false step
 sure_after place saves (Named label) is = (refl, is)
-sure_after place saves (Saved n) is = absurd is
-sure_after place saves Save is = absurd is
 sure_after place saves NotKnown is = refl
+sure_after place saves _ is = absurd is
 
 named_at : (place : Setting) (labels : List Step) (saves k : ℕ) (step : Step) → AreSure place labels → slice_get (nameable labels saves) k ≡ Some step → IsAfter place saves false step
 named_at place [] saves k step all e = let r = saved_at 0 saves k step e in rw r.1 (refl, omega arith)

@@ -6,7 +6,7 @@ use Rattle.std.proofs.lemmas.Bool.{false≢true, and_parts, and_from, or_left, o
 use Rattle.std.proofs.lemmas.Option.{same_Some}
 use Rattle.std.proofs.lemmas.Slice.Eq.{bytes_eq-Decides}
 use Rattle.mm_frame.specs.Language.Base.{BaseView, AreSaid, said_at, frame_at}
-use Rattle.mm_frame.specs.Language.Frame.{Mandatory, Resolved, Hypothesis, Assertion, Inactive, Unknown, Setting}
+use Rattle.mm_frame.specs.Language.Frame.{Mandatory, Resolved, Inactive, Unknown, Setting}
 use Rattle.mm_frame.specs.Language.Laws.{KeptNext}
 use Rattle.mm_proof.specs.Language.BaseLabels.{setting_at}
 use Rattle.mm_proof.specs.Language.Citing.{label_words, firsts, means_assertion, names_assertion, is_cited, cites}
@@ -40,7 +40,7 @@ in_contains x (y ∷ ys) (inl e) = subst (λ w. Contains (y ∷ ys) w) e (Contai
 in_contains x (y ∷ ys) (inr h) = contains_there y ys x (in_contains x ys h)
 
 contains_in : {X : Type 0} (x : X) (xs : List X) → Contains xs x → In x xs
-contains_in x [] c = let l = c.1 in absurd (omega arith)
+contains_in x [] c = absurd (omega arith)
 contains_in x (y ∷ ys) c = elim (contains_cases y ys x c) [ inl e ↦ inl e | inr d ↦ inr (contains_in x ys d) ]
 
 in_right : {X : Type 0} (x : X) (xs ys : List X) → In x ys → In x (xs ++ ys)
@@ -115,10 +115,9 @@ IsOf labels _ = Unit {0}
 -- ---- normal proofs
 
 usable_of : (labels : List (List ℕ)) (label : List ℕ) (meaning : Resolved) (step : Step) → In label labels → usable label meaning ≡ Ok step → IsOf labels step
-usable_of labels label (Hypothesis e) step h q = let same : Named label ≡ step = cc in subst (λ (s : Step). IsOf labels s) same h
-usable_of labels label (Assertion f) step h q = let same : Named label ≡ step = cc in subst (λ (s : Step). IsOf labels s) same h
 usable_of labels label Inactive step h q = cc
 usable_of labels label Unknown step h q = cc
+usable_of labels label _ step h q = let same : Named label ≡ step = cc in subst (λ (s : Step). IsOf labels s) same h
 
 word_of : (p : Setting) (labels : List (List ℕ)) (word : List ℕ) (step : Step) → (bytes_eq word (codes "?") ≡ false → In word labels) → read_word p word ≡ Ok step → IsOf labels step
 word_of p labels word step h q = by (bytes_eq word (codes "?")) refl q
@@ -299,9 +298,7 @@ any_names label (s ∷ steps) (inr i) = or_right (names_assertion label s) (list
 
 named_by : (label : List ℕ) (s : Step) → names_assertion label s ≡ true → s ≡ Named label
 named_by label (Named other) h = ap Named (sym ((bytes_eq-Decides label other).0 h))
-named_by label (Saved n) h = absurd (false≢true h)
-named_by label Save h = absurd (false≢true h)
-named_by label NotKnown h = absurd (false≢true h)
+named_by label _ h = absurd (false≢true h)
 
 names_any : (label : List ℕ) (steps : List Step) → list_any (names_assertion label) steps ≡ true → In (Named label) steps
 names_any label [] e = absurd (false≢true e)

@@ -19,26 +19,20 @@ saves_with : (x : Step) (steps : List Step) (b : Bool) → is_save x ≡ b → c
 saves_with x steps b e = sum_by-cons (λ y. cond (is_save y) 1 0) x steps ∙ ap (λ c. cond c 1 0 + count_by is_save steps) e
 
 usable_of : (place : Setting) (saves : ℕ) (steps : List Step) → AreDecodedAfter place saves steps → (n : ℕ) (label : List ℕ) → slice_get steps n ≡ Some (Named label) → IsUsable (place.resolve label)
-usable_of place saves [] d n label e = cc
 usable_of place saves (Named other ∷ steps) d zero label e = let f : other ≡ label = cc in subst (λ l. IsUsable (place.resolve l)) f d.0
-usable_of place saves (Saved m ∷ steps) d zero label e = cc
-usable_of place saves (Save ∷ steps) d zero label e = cc
-usable_of place saves (NotKnown ∷ steps) d zero label e = cc
 usable_of place saves (Named other ∷ steps) d (suc n) label e = usable_of place saves steps d.1 n label e
 usable_of place saves (Saved m ∷ steps) d (suc n) label e = usable_of place saves steps d.1 n label e
 usable_of place saves (Save ∷ steps) d (suc n) label e = usable_of place (saves + 1) steps d n label e
 usable_of place saves (NotKnown ∷ steps) d (suc n) label e = usable_of place saves steps d n label e
+usable_of place saves _ d _ label e = cc
 
 saved_of : (place : Setting) (saves : ℕ) (steps : List Step) → AreDecodedAfter place saves steps → (n k : ℕ) → slice_get steps n ≡ Some (Saved k) → k < saves + count_by is_save (take n steps)
-saved_of place saves [] d n k e = cc
-saved_of place saves (Named label ∷ steps) d zero k e = cc
 saved_of place saves (Saved m ∷ steps) d zero k e = let f : m ≡ k = cc in let l = d.0 in omega arith
-saved_of place saves (Save ∷ steps) d zero k e = cc
-saved_of place saves (NotKnown ∷ steps) d zero k e = cc
 saved_of place saves (Named label ∷ steps) d (suc n) k e = let r = saved_of place saves steps d.1 n k e in let c = saves_with (Named label) (take n steps) false refl in omega arith
 saved_of place saves (Saved m ∷ steps) d (suc n) k e = let r = saved_of place saves steps d.1 n k e in let c = saves_with (Saved m) (take n steps) false refl in omega arith
 saved_of place saves (Save ∷ steps) d (suc n) k e = let r = saved_of place (saves + 1) steps d n k e in let c = saves_with Save (take n steps) true refl in omega arith
 saved_of place saves (NotKnown ∷ steps) d (suc n) k e = let r = saved_of place saves steps d n k e in let c = saves_with NotKnown (take n steps) false refl in omega arith
+saved_of place saves _ d _ k e = cc
 
 -- the count that is carried is the count
 pub counted : (place : Setting) (steps : List Step) → AreDecodedAfter place 0 steps → AreDecoded place steps

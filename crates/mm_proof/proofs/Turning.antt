@@ -29,20 +29,7 @@ number_at n = get_or (P01 ∷ P01 ∷ P02 ∷ P03 ∷ P04 ∷ P05 ∷ P06 ∷ P0
 
 number_at_row : (number : ProofNumber) → number_at (row_of number) ≡ number
 number_at_row P01 = refl
-number_at_row P02 = refl
-number_at_row P03 = refl
-number_at_row P04 = refl
-number_at_row P05 = refl
-number_at_row P06 = refl
-number_at_row P07 = refl
-number_at_row P08 = refl
-number_at_row P09 = refl
-number_at_row P10 = refl
-number_at_row P11 = refl
-number_at_row P12 = refl
-number_at_row P13 = refl
-number_at_row P14 = refl
-number_at_row P15 = refl
+number_at_row _ = refl
 
 -- two numbers of one row are one
 pub same_number : (a b : ProofNumber) → row_of a ≡ row_of b → a ≡ b
@@ -82,21 +69,13 @@ choose_says Right P number rest (no n) to from below go = go n (none_more P numb
 
 -- the lines below P07 say nothing of a citation
 pub none_first : (active : List (Symbol × Symbol)) (frame : Frame) (stack : List (List Symbol)) → NoneBelow (CitingFails active frame stack) 7
-none_first active frame stack P01 p l = p
-none_first active frame stack P02 p l = p
-none_first active frame stack P03 p l = p
-none_first active frame stack P04 p l = p
-none_first active frame stack P05 p l = p
-none_first active frame stack P06 p l = p
 none_first active frame stack P07 p l = omega arith
 none_first active frame stack P08 p l = omega arith
 none_first active frame stack P09 p l = omega arith
 none_first active frame stack P10 p l = omega arith
 none_first active frame stack P11 p l = omega arith
 none_first active frame stack P12 p l = omega arith
-none_first active frame stack P13 p l = p
-none_first active frame stack P14 p l = p
-none_first active frame stack P15 p l = p
+none_first active frame stack _ p l = p
 
 -- what a citation makes of a stack
 pub cite : List (Symbol × Symbol) → Frame → List (List Symbol) → Result (List (List Symbol)) ProofNumber
@@ -113,9 +92,8 @@ cite active frame stack =
 
 -- what is said at some place, said by another substitution
 any_zip_to : {A B : Type 0} (R S : A → B → Type 0) (xs : List A) (ys : List B) → ((x : A) (y : B) → Contains xs x → R x y → S x y) → AnyZip R xs ys → AnyZip S xs ys
-any_zip_to R S [] ys f a = a
-any_zip_to R S (x ∷ xs) [] f a = a
 any_zip_to R S (x ∷ xs) (y ∷ ys) f a = elim a [ inl r ↦ inl (f x y (Contains-here x xs) r) | inr b ↦ inr (any_zip_to R S xs ys (λ w z c r. f w z (contains_there x xs w c) r) b) ]
+any_zip_to R S _ _ f a = a
 
 wrong_by :
     (frame : Frame) → IsFrame frame → (f g : Symbol → List Symbol) (es : List (List Symbol)) → FloatsMatch f frame.hypotheses es →

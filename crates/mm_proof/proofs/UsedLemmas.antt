@@ -23,10 +23,10 @@ entry_of view i u o l e (inr z) entry = subst (IsEntry view i) (same (sym e ∙ 
 
 pub part_entries : (view : BaseView) (i : ℕ) (labels used : List Resolved) → IsPart labels used → AreEntries view i labels → AreEntries view i used
 part_entries view i labels [] part entries = tt
-part_entries view i [] (u ∷ used) part entries = absurd (let c = part.count in omega arith)
+part_entries view i [] (u ∷ used) part entries = absurd (omega arith)
 part_entries view i (l ∷ labels) (u ∷ used) part entries = (
   entry_of view i u (Some l) l refl (part.each 0 u refl) entries.0,
-  part_entries view i labels used (record { count = let c = part.count in omega arith; each = λ k x e. part.each (suc k) x e }) entries.1,
+  part_entries view i labels used (record { count = omega arith; each = λ k x e. part.each (suc k) x e }) entries.1,
 )
 
 one_means : (view : BaseView) (labels used : List Resolved) (action : Action) → KeepsNamed labels used action → meant (entry_steps view used) action ≡ meant (entry_steps view labels) action
@@ -34,9 +34,7 @@ one_means view labels used (actions.Label k) keeps =
     sym (unwrap_or-slice_get (entry_steps view used) k NotKnown)
     ∙ ap (λ o. unwrap_or o NotKnown) (slice_get-map (entry_step view) used k ∙ ap (option_map (entry_step view)) (keeps k refl) ∙ sym (slice_get-map (entry_step view) labels k))
     ∙ unwrap_or-slice_get (entry_steps view labels) k NotKnown
-one_means view labels used (actions.Saved n) keeps = refl
-one_means view labels used actions.Save keeps = refl
-one_means view labels used actions.Unknown keeps = refl
+one_means view labels used _ keeps = refl
 
 pub part_means : (view : BaseView) (labels used : List Resolved) (steps : List ProofStep) → KeepsUsed labels used steps → actions_mean (entry_steps view used) steps ≡ actions_mean (entry_steps view labels) steps
 part_means view labels used [] keeps = refl

@@ -17,7 +17,7 @@ judged-requires c =
     let r = c.requires in
     let within : c.args.i < length c.args.checked.now = omega (arith, r.4, r.3.count) in
     let at = at_index c.args.checked.now c.args.i c.index-checked-i.result within c.index-checked-i.is in
-    let one : slice_get c.args.checked.now c.args.i ≡ Some (Some c.in-Some-checked.checked) = let is = c.in-Some-checked.is in cc in
+    let one : slice_get c.args.checked.now c.args.i ≡ Some (Some c.in-Some-checked.checked) = cc in
     let k = r.3.each c.args.i (Some c.in-Some-checked.checked) one in
     (r.0, r.1, r.2, r.4, k.0, subst (IsVerdictAt r.1 c.args.i) (sym c.verdict.ensures) k.1)
 
@@ -37,7 +37,7 @@ returns-in-None c names view is checked =
     let at = at_index c.args.checked.now c.args.i c.index-checked-i.result within c.index-checked-i.is in
     let one : slice_get c.args.checked.now c.args.i ≡ Some None = let is = c.in-None.is in cc in
     let none = checked.each c.args.i None one in
-    let sound = sound_none c.fault.result (fault_at view c.args.i) (c.fault.ensures view (names, is.read_in.base)) (let e = c.in_default.is in cc) in
+    let sound = sound_none c.fault.result (fault_at view c.args.i) (c.fault.ensures view (names, is.read_in.base)) (cc) in
     let kind = c.item-item.ensures.kind view (names, is.read_in.base) in
     let other = no_theorem (is_sound_at view c.args.i) (is_theorem (said_at view c.args.i).kind) sound none in
     c.unproved.ensures c.args.files.now view c.args.i sound (ap is_theorem kind ∙ other) kind

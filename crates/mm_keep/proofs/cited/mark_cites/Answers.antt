@@ -39,7 +39,6 @@ mark_words-requires-clause-places c =
 
 pub returns-in-Some : goal.returns-in-Some
 returns-in-Some c names view is are =
-    let r = c.requires.item in
     let j = c.args.j in
     let within : j < length view.said = omega (arith, c.requires.item.4, c.requires.item.3.count, are.count) in
     let k = checked_at view c.args.checked.now j c.index-checked-j.result (Some c.in-Some.checked) are within c.index-checked-j.is c.in-Some.is in

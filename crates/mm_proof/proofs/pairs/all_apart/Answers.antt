@@ -41,7 +41,6 @@ loop-n-preserved g c =
 pub returns-then-not-are_apart : goal.returns-then-not-are_apart
 returns-then-not-are_apart g c =
     let m = g.S.Symbol.means in
-    let hs = hypotheses_of m c.args.taken.now.hypotheses.now in
     let variables = map m c.args.gathered.now.variables.items in
     let spans = c.args.gathered.now.spans.items in
     let active = meant_pairs m c.args.active.now.pairs.now in

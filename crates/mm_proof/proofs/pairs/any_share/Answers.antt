@@ -40,7 +40,6 @@ loop-n-preserved g c =
 pub returns-then-share : goal.returns-then-share
 returns-then-share g c =
     let m = g.S.Symbol.means in
-    let hs = hypotheses_of m c.args.taken.now.hypotheses.now in
     let variables = map m c.args.gathered.now.variables.items in
     let spans = c.args.gathered.now.spans.items in
     let x = c.index-pairs-n.result in
