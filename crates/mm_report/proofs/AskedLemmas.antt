@@ -107,9 +107,7 @@ pub only_two : {W T : Type 0} {contents : W → Option (List ℕ)} {command : Co
 only_two {r = Ok done} so = tt
 only_two {r = Err errors.Write} so = inl refl
 only_two {r = Err errors.Memory} so = inr refl
-only_two {r = Err errors.BadLine} so = absurd so.err
-only_two {r = Err errors.Cut} so = absurd so.err
-only_two {r = Err errors.Read} so = absurd so.err
+only_two {r = Err _} so = absurd so.err
 
 -- the axioms of an assertion are found where it is there
 has_found : (session : SessionView) (label : List ℕ) (found : Result (Vec ℕ Global) KeepError) → IfOk found (λ numbers. AreAxiomsOf session label numbers.items) → IsOk found → HasAssertion session label

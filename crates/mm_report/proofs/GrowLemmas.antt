@@ -72,6 +72,9 @@ nothing_between bytes i = let none : i - i ≡ 0 = omega arith in subst (λ (n :
 pub rest_is : (bytes : List ℕ) (i : ℕ) → slice_range bytes i (length bytes) ≡ drop i bytes
 rest_is bytes i = take_rest bytes i
 
+pub rest_of : (seen bytes : List ℕ) (from : ℕ) → seen ≡ bytes → slice_range seen from (length seen) ≡ drop from bytes
+rest_of seen bytes from same = rest_is seen from ∙ ap (drop from) same
+
 -- bytes up to the first line feed
 pub found_line : (bytes hay : List ℕ) (left : Option (List ℕ)) (start end more : ℕ) → hay ≡ drop end bytes → start ≤ end → end ≤ length bytes
     → IsOneLine (slice_range bytes start end) → ((k : ℕ) → k < more → (slice_index hay k == 10) ≡ true → ⊥) → more < length hay → (slice_index hay more == 10) ≡ true

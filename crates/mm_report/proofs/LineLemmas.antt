@@ -111,14 +111,7 @@ file_and_two bytes head tail first second n m cut cut_more some one number is ot
 -- the first words of lines of more words than one, and what is behind them
 pub verb_space : (verb : Verb) → HasNoSpace (verb_word verb)
 verb_space Insert = solid_space (verb_word Insert) refl
-verb_space Replace = solid_space (verb_word Replace) refl
-verb_space Delete = solid_space (verb_word Delete) refl
-verb_space Move = solid_space (verb_word Move) refl
-verb_space Batch = solid_space (verb_word Batch) refl
-verb_space Verdict = solid_space (verb_word Verdict) refl
-verb_space Axioms = solid_space (verb_word Axioms) refl
-verb_space Cites = solid_space (verb_word Cites) refl
-verb_space Users = solid_space (verb_word Users) refl
+verb_space verb = solid_space (verb_word verb) refl
 
 -- the line of an edit has a verb
 pub record HasVerb (line : List ℕ) : Type 0 where

@@ -18,7 +18,7 @@ use Rattle.mm_report.specs.Code.Pending.{pending, ReadsOn, IsNextCommand, IsWhol
 use Rattle.mm_report.specs.Code.Stops.{HasNoEntry, StopsSo}
 use Rattle.mm_report.specs.Language.Answers.{AreAnswers}
 use Rattle.mm_report.specs.Language.Script.{Command, End, Done, CutShort, BadLine, Entry, Blank, Given, AreGood, IsGood, AreRead, IsLongestReading, entries_bytes, command_bytes, commands_of, entry_bytes}
-use Rattle.mm_report.specs.Language.Scripting.{AnswersScript, AnswersFirst, AnswersRead, BeginsAnswers}
+use Rattle.mm_report.specs.Language.Scripting.{AnswersScript, AnswersFirst, AnswersRead, AreFirst, BeginsAnswers}
 use Rattle.mm_report.specs.Language.Stream.{cannot_read, unread, written}
 use Rattle.mm_report.proofs.JoinLemmas.{one_more, reading_behind, reading_done, reading_last, so_far_behind}
 
@@ -219,16 +219,16 @@ module _ (old session : SessionView) (all left before after : Option (List ℕ))
     out = so.first.out;
   }
 
-  -- the write of an answer has failed: that of a whole command
-  pub whole_begun : (new : SessionView) (now : Option (List ℕ)) (pend : List ℕ) (command : Command) (end : ℕ) → IsGood command → IsWholeCommand pend command end
-      → BeginsAnswer session new command after now → HasAnswered old session all left before after pend → BeginsAnswers old new all left before now
-  whole_begun new now pend command end good whole one so = record {
+  -- the write of an answer has failed
+  begun_by : (new : SessionView) (now : Option (List ℕ)) (pend behind : List ℕ) (command : Command) (so : HasAnswered old session all left before after pend)
+      → AreFirst left so.first.bytes (so.first.entries ++ Given command ∷ []) behind → BeginsAnswer session new command after now → BeginsAnswers old new all left before now
+  begun_by new now pend behind command so are one = record {
     bytes = so.first.bytes;
     consumes = so.first.consumes;
     entries = so.first.entries;
     last = command;
-    rest = drop end pend;
-    are = inl (more_read pend command end so good whole);
+    rest = behind;
+    are = are;
     answers = so.first.answers;
     between = session;
     answered = so.first.answered;
@@ -238,24 +238,16 @@ module _ (old session : SessionView) (all left before after : Option (List ℕ))
     out = Appends-trans before after now so.first.answers (take one.out.count one.answer) so.first.out one.out.appends;
   }
 
+  -- that of a whole command
+  pub whole_begun : (new : SessionView) (now : Option (List ℕ)) (pend : List ℕ) (command : Command) (end : ℕ) → IsGood command → IsWholeCommand pend command end
+      → BeginsAnswer session new command after now → HasAnswered old session all left before after pend → BeginsAnswers old new all left before now
+  whole_begun new now pend command end good whole one so = begun_by new now pend (drop end pend) command so (inl (more_read pend command end so good whole)) one
+
   -- or that of the last one
   pub last_begun : (new : SessionView) (now : Option (List ℕ)) (pend : List ℕ) (command : Command) → IsGood command → IsLast pend left command
       → BeginsAnswer session new command after now → HasAnswered old session all left before after pend → BeginsAnswers old new all left before now
-  last_begun new now pend command good last one so = record {
-    bytes = so.first.bytes;
-    consumes = so.first.consumes;
-    entries = so.first.entries;
-    last = command;
-    rest = [];
-    are = inr (last.at_end, (reading_last so.first.bytes so.first.entries pend command (read_as pend so) good last.in_line last.are).divided);
-    answers = so.first.answers;
-    between = session;
-    answered = so.first.answered;
-    answer = one.answer;
-    is = one.is;
-    count = one.out.count;
-    out = Appends-trans before after now so.first.answers (take one.out.count one.answer) so.first.out one.out.appends;
-  }
+  last_begun new now pend command good last one so =
+      begun_by new now pend [] command so (inr (last.at_end, (reading_last so.first.bytes so.first.entries pend command (read_as pend so) good last.in_line last.are).divided)) one
 
 -- ---- one step of the loop
 

@@ -5,7 +5,7 @@ use Rattle.std.proofs.lemmas.Bool.{cases_lt}
 use Rattle.std.proofs.lemmas.List.{append-nil, append_cancel_left, append_cancel_right}
 use Rattle.std.proofs.lemmas.List.Concat.{flat_map-append}
 use Rattle.mm_keep.specs.mm_store.Language.Edits.{edited_text}
-use Rattle.mm_report.specs.Language.Script.{Listed, Command, Change, Batch, Report, Verdict, Axioms, Cites, Users, Entry, Blank, Given, listed_bytes, edit_line, entry_bytes, IsGoodEntry, AreGood}
+use Rattle.mm_report.specs.Language.Script.{Listed, Command, Change, Batch, Entry, Blank, Given, listed_bytes, edit_line, entry_bytes, IsGoodEntry, AreGood}
 use Rattle.mm_report.specs.Language.Script.{IsGood, entries_bytes, line_of, ended_text, behind_line, command_bytes, EndsInLine}
 use Rattle.mm_report.specs.Language.Script.{LacksFeed, HasEntries, IsLongestReading, AreRead, IsReadSoFar, IsCutShort, End, Done, CutShort, BadLine, EndsSo}
 use Rattle.mm_report.proofs.SplitLemmas.{split_at}
@@ -149,13 +149,8 @@ edits_end x (y ∷ xs) = ends_behind (listed_bytes x) (flat_map listed_bytes (y 
 
 command_ends : (c : Command) → EndsInFeed (command_bytes c)
 command_ends (Change edit) = text_ends (edit_line edit) (edited_text edit)
-command_ends (Batch []) = (line_of (Batch []), refl)
 command_ends (Batch (x ∷ xs)) = ends_behind (line_of (Batch (x ∷ xs))) (10 ∷ flat_map listed_bytes (x ∷ xs)) (ends_behind (10 ∷ []) (flat_map listed_bytes (x ∷ xs)) (edits_end x xs))
-command_ends Report = (line_of Report, refl)
-command_ends (Verdict label) = (line_of (Verdict label), refl)
-command_ends (Axioms label) = (line_of (Axioms label), refl)
-command_ends (Cites label) = (line_of (Cites label), refl)
-command_ends (Users label) = (line_of (Users label), refl)
+command_ends c = (line_of c, refl)
 
 pub entry_ends : (x : Entry) → EndsInFeed (entry_bytes x)
 entry_ends Blank = ([], refl)

@@ -5,7 +5,7 @@ use Rattle.std.proofs.lemmas.List.{append-nil}
 use Rattle.std.proofs.lemmas.List.Concat.{flat_map-append}
 use Rattle.mm_keep.specs.mm_store.Language.Edits.{Asked, edited_text}
 use Rattle.mm_report.specs.Code.Stops.{StopsSo, HasTextOf, AreListed, batch_line, batch_bytes}
-use Rattle.mm_report.specs.Language.Script.{Listed, Command, Change, Batch, Report, Verdict, Axioms, Cites, Users, Entry, Blank, Given, End, Done, CutShort, BadLine}
+use Rattle.mm_report.specs.Language.Script.{Listed, Command, Change, Batch, Entry, Blank, Given, End, Done, CutShort, BadLine}
 use Rattle.mm_report.specs.Language.Script.{AreGoodEdits, AreRead, EndsInLine, IsGood, IsGoodEdit, IsGoodEntry, IsNumber, LastInLine}
 use Rattle.mm_report.specs.Language.Script.{command_bytes, edit_bytes, edit_line, ended_text, entry_bytes, line_of, listed_bytes}
 use Rattle.mm_report.specs.Language.ScriptLaws.{HasReading, IsReadSo}
@@ -221,11 +221,7 @@ lone bytes tail line k others e = k ∙ ap (λ (w : List ℕ). w ++ 10 ∷ tail)
 fed_is : (bytes line tail : List ℕ) → bytes ≡ line ++ 10 ∷ tail → (c : Command) → IsGood c → line ≡ line_of c → Begins bytes
 fed_is bytes line tail k (Change e) g is = change_is bytes (edit_is bytes line tail k e g is)
 fed_is bytes line tail k (Batch edits) g is = batch_is (length edits) (length edits) [] tail bytes g.0 tt (omega arith) (k ∙ ap (λ (w : List ℕ). w ++ 10 ∷ tail) is)
-fed_is bytes line tail k Report g is = an_entry (Given Report) tail tt (lone bytes tail line k (line_of Report) is)
-fed_is bytes line tail k (Verdict label) g is = an_entry (Given (Verdict label)) tail g (lone bytes tail line k (line_of (Verdict label)) is)
-fed_is bytes line tail k (Axioms label) g is = an_entry (Given (Axioms label)) tail g (lone bytes tail line k (line_of (Axioms label)) is)
-fed_is bytes line tail k (Cites label) g is = an_entry (Given (Cites label)) tail g (lone bytes tail line k (line_of (Cites label)) is)
-fed_is bytes line tail k (Users label) g is = an_entry (Given (Users label)) tail g (lone bytes tail line k (line_of (Users label)) is)
+fed_is bytes line tail k c g is = an_entry (Given c) tail g (lone bytes tail line k (line_of c) is)
 
 fed_line : (bytes others : List ℕ) → bytes ≡ others → bytes ++ 10 ∷ [] ≡ others ++ 10 ∷ []
 fed_line bytes others e = ap (λ (w : List ℕ). w ++ 10 ∷ []) e
@@ -238,11 +234,7 @@ unfed_is : (bytes : List ℕ) (c : Command) → IsGood c → bytes ≡ line_of c
 unfed_is bytes (Change e) g is = unfed_edit bytes e g is (edited_text e) refl
 unfed_is bytes (Batch []) g is = a_last (Batch []) g tt (fed_line bytes (line_of (Batch [])) is)
 unfed_is bytes (Batch (x ∷ xs)) g is = stop_by bytes (batch_line (length (x ∷ xs))) CutShort is (batch_line_cut (length (x ∷ xs)) g.0 (omega arith))
-unfed_is bytes Report g is = a_last Report tt tt (fed_line bytes (line_of Report) is)
-unfed_is bytes (Verdict label) g is = a_last (Verdict label) g tt (fed_line bytes (line_of (Verdict label)) is)
-unfed_is bytes (Axioms label) g is = a_last (Axioms label) g tt (fed_line bytes (line_of (Axioms label)) is)
-unfed_is bytes (Cites label) g is = a_last (Cites label) g tt (fed_line bytes (line_of (Cites label)) is)
-unfed_is bytes (Users label) g is = a_last (Users label) g tt (fed_line bytes (line_of (Users label)) is)
+unfed_is bytes c g is = a_last c g tt (fed_line bytes (line_of c) is)
 
 unfed_line : (bytes : List ℕ) → Lacks 10 bytes → bytes ≢ [] → IsOrNot (IsCommandLine bytes) → Begins bytes
 unfed_line bytes l some (inl c) = unfed_is bytes c.command c.good c.is

@@ -77,16 +77,8 @@ abbrev pub HasFirst : List (List ℕ) → Type 0
 HasFirst words = (w : List ℕ) × (ws : List (List ℕ)) × (words ≡ w ∷ ws)
 
 pub has_first : (c : Command) → HasFirst (command_words c)
-has_first (Change (Insert file at text)) = (codes "insert", file ∷ decimal at ∷ decimal (length text) ∷ [], refl)
-has_first (Change (Replace file at text)) = (codes "replace", file ∷ decimal at ∷ decimal (length text) ∷ [], refl)
-has_first (Change (Delete file at)) = (codes "delete", file ∷ decimal at ∷ [], refl)
-has_first (Change (Move file at to)) = (codes "move", file ∷ decimal at ∷ decimal to ∷ [], refl)
-has_first (Batch edits) = (codes "batch", decimal (length edits) ∷ [], refl)
-has_first Report = (codes "report", [], refl)
-has_first (Verdict label) = (codes "verdict", label ∷ [], refl)
-has_first (Axioms label) = (codes "axioms", label ∷ [], refl)
-has_first (Cites label) = (codes "cites", label ∷ [], refl)
-has_first (Users label) = (codes "users", label ∷ [], refl)
+has_first (Change (Insert file at text)) = (_, _, refl)
+has_first _ = (_, _, refl)
 
 pub same_words_by_line : (words others : List (List ℕ)) → HasFirst words → HasFirst others → AreSolid words → AreSolid others → join_with_byte 32 words ≡ join_with_byte 32 others → words ≡ others
 same_words_by_line words others f g h k e = by f.0 f.1 g.0 g.1 f.2 g.2
@@ -153,9 +145,7 @@ same_edit _ _ s t g h e k = absurd (omega (arith, ap tag e))
 -- the line of an edit begins with another byte than a line feed
 pub edit_head : (e : Asked) → (b : ℕ) × (rest : List ℕ) × (edit_line e ≡ b ∷ rest) × (b ≢ 10)
 edit_head (Insert file at text) = (_, _, refl, λ e. omega arith)
-edit_head (Replace file at text) = (_, _, refl, λ e. omega arith)
-edit_head (Delete file at) = (_, _, refl, λ e. omega arith)
-edit_head (Move file at to) = (_, _, refl, λ e. omega arith)
+edit_head _ = (_, _, refl, λ e. omega arith)
 
 -- empty lines before another byte are counted
 pub same_blanks : (m n b c : ℕ) (s t : List ℕ) → b ≢ 10 → c ≢ 10 → replicate m 10 ++ b ∷ s ≡ replicate n 10 ++ c ∷ t → (m ≡ n) × (b ∷ s ≡ c ∷ t)
@@ -254,12 +244,4 @@ empty_line _ e = refl
 -- no line of a command is empty
 pub line_some : (c : Command) → line_of c ≡ [] → ⊥
 line_some (Change (Insert file at text)) e = let n : slice_index (slice_index_or (command_words (Change (Insert file at text))) 0 []) 0 ≡ 0 = empty_line (command_words (Change (Insert file at text))) e in omega arith
-line_some (Change (Replace file at text)) e = let n : slice_index (slice_index_or (command_words (Change (Replace file at text))) 0 []) 0 ≡ 0 = empty_line (command_words (Change (Replace file at text))) e in omega arith
-line_some (Change (Delete file at)) e = let n : slice_index (slice_index_or (command_words (Change (Delete file at))) 0 []) 0 ≡ 0 = empty_line (command_words (Change (Delete file at))) e in omega arith
-line_some (Change (Move file at to)) e = let n : slice_index (slice_index_or (command_words (Change (Move file at to))) 0 []) 0 ≡ 0 = empty_line (command_words (Change (Move file at to))) e in omega arith
-line_some (Batch edits) e = let n : slice_index (slice_index_or (command_words (Batch edits)) 0 []) 0 ≡ 0 = empty_line (command_words (Batch edits)) e in omega arith
-line_some Report e = let n : slice_index (slice_index_or (command_words Report) 0 []) 0 ≡ 0 = empty_line (command_words Report) e in omega arith
-line_some (Verdict label) e = let n : slice_index (slice_index_or (command_words (Verdict label)) 0 []) 0 ≡ 0 = empty_line (command_words (Verdict label)) e in omega arith
-line_some (Axioms label) e = let n : slice_index (slice_index_or (command_words (Axioms label)) 0 []) 0 ≡ 0 = empty_line (command_words (Axioms label)) e in omega arith
-line_some (Cites label) e = let n : slice_index (slice_index_or (command_words (Cites label)) 0 []) 0 ≡ 0 = empty_line (command_words (Cites label)) e in omega arith
-line_some (Users label) e = let n : slice_index (slice_index_or (command_words (Users label)) 0 []) 0 ≡ 0 = empty_line (command_words (Users label)) e in omega arith
+line_some c e = let n : slice_index (slice_index_or (command_words c) 0 []) 0 ≡ 0 = empty_line (command_words c) e in omega arith

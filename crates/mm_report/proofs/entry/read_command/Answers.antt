@@ -1,7 +1,9 @@
 use Rattle.std.proofs.Common.{◌≡◌, ◌<◌, ◌∙◌, ap, sym, subst, arith, refl, List, ℕ}
 use Rattle.std.specs.Prelude.{codes, slice_range}
+use Rattle.mm_report.specs.declared.line.CommandLine.{CommandLine}
+use Rattle.mm_report.specs.declared.lines.LineAt.{LineAt}
 use Rattle.mm_report.specs.Code.Growing.{line_bytes}
-use Rattle.mm_report.specs.Code.Lines.{SaysLine, SaysLabel}
+use Rattle.mm_report.specs.Code.Lines.{SaysLine}
 use Rattle.mm_report.specs.Code.Pending.{pending, bytes_of_part, IsCommandIn}
 use Rattle.mm_report.specs.Code.Stops.{IsBadLine}
 use Rattle.mm_report.specs.Language.Script.{Report, Verdict, Axioms, Cites, Users}
@@ -9,6 +11,11 @@ use Rattle.mm_report.proofs.BatchLemmas.{line_some}
 use Rattle.mm_report.proofs.GrowLemmas.{same_error}
 use Rattle.mm_report.proofs.CommandLemmas.{bad_first, bad_edit, cut_edit, held_edit, batch_next, label_next, line_next}
 use Rattle.mm_report.proofs.entry.read_command.Goals as goal
+
+-- what the bytes of a line say is what was found in them
+said_line : (seen bytes : List ℕ) (line : LineAt) (found is : CommandLine) → seen ≡ bytes → SaysLine (slice_range seen line.start line.end) found → found ≡ is → SaysLine (line_bytes bytes line) is
+said_line seen bytes line found is same says e =
+    subst (λ (xs : List ℕ). SaysLine (slice_range xs line.start line.end) is) same (subst (SaysLine (slice_range seen line.start line.end)) e says)
 
 pub returns-in_default-clause-bad : goal.returns-in_default-clause-bad
 returns-in_default-clause-bad g c = λ cut.
@@ -43,52 +50,42 @@ returns-in_ok-read-in-Batch-clause-found g c =
 pub returns-in-Report-clause-found : goal.returns-in-Report-clause-found
 returns-in-Report-clause-found g c =
     let bytes = pending c.args.input.now in
-    let hay = slice_range c.pending.result.now c.args.line.start c.args.line.end in
-    let same : hay ≡ line_bytes bytes c.args.line = ap (λ xs. slice_range xs c.args.line.start c.args.line.end) c.pending.ensures in
-    let says : hay ≡ codes "report" = subst (SaysLine hay) c.in-Report.is c.in-Some.ensures.some in
-    line_next bytes _ c.args.line Report c.of_line.result c.requires.line c.requires.start (sym same ∙ says) refl tt
+    let says = said_line c.pending.result.now bytes c.args.line _ _ c.pending.ensures c.in-Some.ensures.some c.in-Report.is in
+    line_next bytes _ c.args.line Report c.of_line.result c.requires.line c.requires.start says refl tt
     (subst (λ k. IsCommandIn bytes k Report) (sym c.of_line.ensures.command) refl) tt c.of_line.ensures.fed c.of_line.ensures.end
 
 pub returns-in-Verdict-clause-found : goal.returns-in-Verdict-clause-found
 returns-in-Verdict-clause-found g c =
     let bytes = pending c.args.input.now in
-    let hay = slice_range c.pending.result.now c.args.line.start c.args.line.end in
-    let same : hay ≡ line_bytes bytes c.args.line = ap (λ xs. slice_range xs c.args.line.start c.args.line.end) c.pending.ensures in
-    let says : SaysLabel hay (codes "verdict") c.in-Verdict.label = subst (SaysLine hay) c.in-Verdict.is c.in-Some.ensures.some in
+    let says = said_line c.pending.result.now bytes c.args.line _ _ c.pending.ensures c.in-Some.ensures.some c.in-Verdict.is in
     label_next bytes _ c.args.line c.in-Verdict.label (codes "verdict") Verdict c.of_line-in-Verdict.result c.requires.line c.requires.start
-    (subst (λ (xs : List ℕ). SaysLabel xs (codes "verdict") c.in-Verdict.label) same says) (λ name. refl) (λ name. refl) (λ name good. good) (λ name. tt)
+    says (λ name. refl) (λ name. refl) (λ name good. good) (λ name. tt)
     (λ within. subst (λ k. IsCommandIn bytes k (Verdict (bytes_of_part bytes c.in-Verdict.label))) (sym c.of_line-in-Verdict.ensures.command) (within, refl))
     c.of_line-in-Verdict.ensures.fed c.of_line-in-Verdict.ensures.end
 
 pub returns-in-Axioms-clause-found : goal.returns-in-Axioms-clause-found
 returns-in-Axioms-clause-found g c =
     let bytes = pending c.args.input.now in
-    let hay = slice_range c.pending.result.now c.args.line.start c.args.line.end in
-    let same : hay ≡ line_bytes bytes c.args.line = ap (λ xs. slice_range xs c.args.line.start c.args.line.end) c.pending.ensures in
-    let says : SaysLabel hay (codes "axioms") c.in-Axioms.label = subst (SaysLine hay) c.in-Axioms.is c.in-Some.ensures.some in
+    let says = said_line c.pending.result.now bytes c.args.line _ _ c.pending.ensures c.in-Some.ensures.some c.in-Axioms.is in
     label_next bytes _ c.args.line c.in-Axioms.label (codes "axioms") Axioms c.of_line-in-Axioms.result c.requires.line c.requires.start
-    (subst (λ (xs : List ℕ). SaysLabel xs (codes "axioms") c.in-Axioms.label) same says) (λ name. refl) (λ name. refl) (λ name good. good) (λ name. tt)
+    says (λ name. refl) (λ name. refl) (λ name good. good) (λ name. tt)
     (λ within. subst (λ k. IsCommandIn bytes k (Axioms (bytes_of_part bytes c.in-Axioms.label))) (sym c.of_line-in-Axioms.ensures.command) (within, refl))
     c.of_line-in-Axioms.ensures.fed c.of_line-in-Axioms.ensures.end
 
 pub returns-in-Cites-clause-found : goal.returns-in-Cites-clause-found
 returns-in-Cites-clause-found g c =
     let bytes = pending c.args.input.now in
-    let hay = slice_range c.pending.result.now c.args.line.start c.args.line.end in
-    let same : hay ≡ line_bytes bytes c.args.line = ap (λ xs. slice_range xs c.args.line.start c.args.line.end) c.pending.ensures in
-    let says : SaysLabel hay (codes "cites") c.in-Cites.label = subst (SaysLine hay) c.in-Cites.is c.in-Some.ensures.some in
+    let says = said_line c.pending.result.now bytes c.args.line _ _ c.pending.ensures c.in-Some.ensures.some c.in-Cites.is in
     label_next bytes _ c.args.line c.in-Cites.label (codes "cites") Cites c.of_line-in-Cites.result c.requires.line c.requires.start
-    (subst (λ (xs : List ℕ). SaysLabel xs (codes "cites") c.in-Cites.label) same says) (λ name. refl) (λ name. refl) (λ name good. good) (λ name. tt)
+    says (λ name. refl) (λ name. refl) (λ name good. good) (λ name. tt)
     (λ within. subst (λ k. IsCommandIn bytes k (Cites (bytes_of_part bytes c.in-Cites.label))) (sym c.of_line-in-Cites.ensures.command) (within, refl))
     c.of_line-in-Cites.ensures.fed c.of_line-in-Cites.ensures.end
 
 pub returns-in-Users-clause-found : goal.returns-in-Users-clause-found
 returns-in-Users-clause-found g c =
     let bytes = pending c.args.input.now in
-    let hay = slice_range c.pending.result.now c.args.line.start c.args.line.end in
-    let same : hay ≡ line_bytes bytes c.args.line = ap (λ xs. slice_range xs c.args.line.start c.args.line.end) c.pending.ensures in
-    let says : SaysLabel hay (codes "users") c.in-Users.label = subst (SaysLine hay) c.in-Users.is c.in-Some.ensures.some in
+    let says = said_line c.pending.result.now bytes c.args.line _ _ c.pending.ensures c.in-Some.ensures.some c.in-Users.is in
     label_next bytes _ c.args.line c.in-Users.label (codes "users") Users c.of_line-in-Users.result c.requires.line c.requires.start
-    (subst (λ (xs : List ℕ). SaysLabel xs (codes "users") c.in-Users.label) same says) (λ name. refl) (λ name. refl) (λ name good. good) (λ name. tt)
+    says (λ name. refl) (λ name. refl) (λ name good. good) (λ name. tt)
     (λ within. subst (λ k. IsCommandIn bytes k (Users (bytes_of_part bytes c.in-Users.label))) (sym c.of_line-in-Users.ensures.command) (within, refl))
     c.of_line-in-Users.ensures.fed c.of_line-in-Users.ensures.end

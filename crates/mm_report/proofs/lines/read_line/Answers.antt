@@ -2,33 +2,30 @@ use Rattle.std.proofs.Common.{◌≡◌, ◌∙◌, ap, sym, subst, arith, lengt
 use Rattle.std.specs.Prelude.{slice_range}
 use Rattle.mm_report.specs.Code.Pending.{pending}
 use Rattle.mm_report.specs.Code.Stops.{IsOneLine}
-use Rattle.mm_report.proofs.GrowLemmas.{found_line, no_feed_left, last_line, nothing_between, rest_is, same_error, grows_not, grows_then, grown_long, part_grown}
+use Rattle.mm_report.proofs.GrowLemmas.{found_line, no_feed_left, last_line, nothing_between, rest_is, rest_of, same_error, grows_not, grows_then, grown_long, part_grown}
 use Rattle.mm_report.proofs.lines.read_line.Goals as goal
 
 pub returns-in-Some-clause-line : goal.returns-in-Some-clause-line
 returns-in-Some-clause-line g c =
     let bytes = pending c.loop-more.input in
-    let hay = slice_range c.pending-pending.result.now c.loop-more.end (length c.pending-pending.result.now) in
-    let is : hay ≡ drop c.loop-more.end bytes = rest_is c.pending-pending.result.now c.loop-more.end ∙ ap (drop c.loop-more.end) c.pending-pending.ensures in
+    let is = rest_of c.pending-pending.result.now bytes c.loop-more.end c.pending-pending.ensures in
     let found = c.in-Some.ensures in
-    found_line bytes hay _ c.args.start c.loop-more.end c.in-Some.more is c.loop-more.invariant.ordered c.loop-more.invariant.within c.loop-more.invariant.none
+    found_line bytes _ _ c.args.start c.loop-more.end c.in-Some.more is c.loop-more.invariant.ordered c.loop-more.invariant.within c.loop-more.invariant.none
     (λ k low. found.0.before k (omega arith) low) found.0.high found.1
 
 pub returns-in_err-read_on-clause-read : goal.returns-in_err-read_on-clause-read
 returns-in_err-read_on-clause-read g c = λ read.
     let bytes = pending c.loop-more.input in
-    let hay = slice_range c.pending-pending.result.now c.loop-more.end (length c.pending-pending.result.now) in
-    let is : hay ≡ drop c.loop-more.end bytes = rest_is c.pending-pending.result.now c.loop-more.end ∙ ap (drop c.loop-more.end) c.pending-pending.ensures in
-    let one : IsOneLine (drop c.args.start bytes) = no_feed_left bytes hay c.args.start c.loop-more.end is c.loop-more.invariant.ordered c.loop-more.invariant.none
+    let is = rest_of c.pending-pending.result.now bytes c.loop-more.end c.pending-pending.ensures in
+    let one : IsOneLine (drop c.args.start bytes) = no_feed_left bytes _ c.args.start c.loop-more.end is c.loop-more.invariant.ordered c.loop-more.invariant.none
     (λ k low. c.in_default.ensures k (omega arith) low) in
     subst (λ xs. IsOneLine (drop c.args.start xs)) (sym c.in_err-read_on.ensures.kept) one
 
 pub returns-then-not-branch-clause-line : goal.returns-then-not-branch-clause-line
 returns-then-not-branch-clause-line g c =
     let bytes = pending c.loop-more.input in
-    let hay = slice_range c.pending-pending.result.now c.loop-more.end (length c.pending-pending.result.now) in
-    let is : hay ≡ drop c.loop-more.end bytes = rest_is c.pending-pending.result.now c.loop-more.end ∙ ap (drop c.loop-more.end) c.pending-pending.ensures in
-    let one : IsOneLine (drop c.args.start bytes) = no_feed_left bytes hay c.args.start c.loop-more.end is c.loop-more.invariant.ordered c.loop-more.invariant.none
+    let is = rest_of c.pending-pending.result.now bytes c.loop-more.end c.pending-pending.ensures in
+    let one : IsOneLine (drop c.args.start bytes) = no_feed_left bytes _ c.args.start c.loop-more.end is c.loop-more.invariant.ordered c.loop-more.invariant.none
     (λ k low. c.in_default.ensures k (omega arith) low) in
     let ended = c.in_ok-read_on.ensures.end c.if-not-branch.true in
     last_line (pending c.read_on.new.self) _ c.args.start (length c.pending-pending.result.now) (ap length (c.pending-pending.ensures ∙ sym ended.0))
@@ -38,9 +35,8 @@ pub loop-more-preserved : goal.loop-more-preserved
 loop-more-preserved g c =
     let bytes = pending c.loop-more.input in
     let count : length c.pending-pending.result.now ≡ length bytes = ap length c.pending-pending.ensures in
-    let hay = slice_range c.pending-pending.result.now c.loop-more.end (length c.pending-pending.result.now) in
-    let is : hay ≡ drop c.loop-more.end bytes = rest_is c.pending-pending.result.now c.loop-more.end ∙ ap (drop c.loop-more.end) c.pending-pending.ensures in
-    let one : IsOneLine (drop c.args.start bytes) = no_feed_left bytes hay c.args.start c.loop-more.end is c.loop-more.invariant.ordered c.loop-more.invariant.none
+    let is = rest_of c.pending-pending.result.now bytes c.loop-more.end c.pending-pending.ensures in
+    let one : IsOneLine (drop c.args.start bytes) = no_feed_left bytes _ c.args.start c.loop-more.end is c.loop-more.invariant.ordered c.loop-more.invariant.none
     (λ k low. c.in_default.ensures k (omega arith) low) in
     let grows = c.in_ok-read_on.ensures.grows in
     let long = grown_long c.loop-more.input c.read_on.new.self _ _ grows in

@@ -1,10 +1,9 @@
-use Rattle.std.proofs.Common.{◌≡◌, ◌∙◌, ap, sym, refl, subst, arith, length, drop, rules, ◌≤◌}
+use Rattle.std.proofs.Common.{ap, sym, refl, subst, arith, length, drop, rules, ◌≤◌}
 use Rattle.std.proofs.lemmas.List.{length-drop}
-use Rattle.std.specs.Prelude.{slice_range}
 use Rattle.mm_report.specs.declared.script.ScriptError.{ScriptError}
 use Rattle.mm_report.specs.declared.script.ScriptError.TheVariants as errors
 use Rattle.mm_report.specs.Code.Pending.{pending}
-use Rattle.mm_report.proofs.GrowLemmas.{feed_behind, grown_long, grows_not, grows_then, other_byte, other_error, rest_is, same_error}
+use Rattle.mm_report.proofs.GrowLemmas.{feed_behind, grown_long, grows_not, grows_then, other_byte, other_error, rest_of, same_error}
 use Rattle.mm_report.proofs.lines.read_text.Goals as goal
 
 pub loop-byte-init : goal.loop-byte-init
@@ -12,30 +11,25 @@ loop-byte-init g c = record { grows = grows_not _ _; within = c.requires; fewer 
 
 pub returns-then-byte-ne10-clause-bad : goal.returns-then-byte-ne10-clause-bad
 returns-then-byte-ne10-clause-bad g c = λ bad.
-    let hay = slice_range c.pending.result.now c.args.start (length c.pending.result.now) in
-    let is : hay ≡ drop c.args.start (pending c.loop-byte.input) = rest_is c.pending.result.now c.args.start ∙ ap (drop c.args.start) c.pending.ensures in
-    other_byte (pending c.loop-byte.input) hay c.args.start c.args.count c.in-Some.byte.now is (omega (arith, c.in-Some.ensures.lookup)) c.in-Some.ensures.lookup.1 c.if-byte-ne10.true
+    let is = rest_of c.pending.result.now (pending c.loop-byte.input) c.args.start c.pending.ensures in
+    other_byte (pending c.loop-byte.input) _ c.args.start c.args.count c.in-Some.byte.now is (omega (arith, c.in-Some.ensures.lookup)) c.in-Some.ensures.lookup.1 c.if-byte-ne10.true
 
 pub returns-in-Some-clause-within : goal.returns-in-Some-clause-within
 returns-in-Some-clause-within g c =
     let bytes = pending c.loop-byte.input in
-    let hay = slice_range c.pending.result.now c.args.start (length c.pending.result.now) in
-    let is : hay ≡ drop c.args.start bytes = rest_is c.pending.result.now c.args.start ∙ ap (drop c.args.start) c.pending.ensures in
-    let long : length hay ≡ length (drop c.args.start bytes) = ap length is in
-    (record { ordered = omega arith; within = omega (arith, long, length-drop c.args.start bytes, c.in-Some.ensures.lookup) }, refl, refl)
+    let is = rest_of c.pending.result.now bytes c.args.start c.pending.ensures in
+    (record { ordered = omega arith; within = omega (arith, ap length is, length-drop c.args.start bytes, c.in-Some.ensures.lookup) }, refl, refl)
 
 pub returns-in-Some-clause-feed : goal.returns-in-Some-clause-feed
 returns-in-Some-clause-feed g c =
-    let hay = slice_range c.pending.result.now c.args.start (length c.pending.result.now) in
-    let is : hay ≡ drop c.args.start (pending c.loop-byte.input) = rest_is c.pending.result.now c.args.start ∙ ap (drop c.args.start) c.pending.ensures in
-    feed_behind (pending c.loop-byte.input) hay c.args.start c.args.count c.in-Some.byte.now is (omega (arith, c.in-Some.ensures.lookup)) c.in-Some.ensures.lookup.1 c.if-byte-ne10.false
+    let is = rest_of c.pending.result.now (pending c.loop-byte.input) c.args.start c.pending.ensures in
+    feed_behind (pending c.loop-byte.input) _ c.args.start c.args.count c.in-Some.byte.now is (omega (arith, c.in-Some.ensures.lookup)) c.in-Some.ensures.lookup.1 c.if-byte-ne10.false
 
 pub returns-in_err-read_on : goal.returns-in_err-read_on
 returns-in_err-read_on g c =
     let fails = c.in_err-read_on.ensures in
     let bytes = pending c.loop-byte.input in
-    let hay = slice_range c.pending.result.now c.args.start (length c.pending.result.now) in
-    let is : hay ≡ drop c.args.start bytes = rest_is c.pending.result.now c.args.start ∙ ap (drop c.args.start) c.pending.ensures in
+    let is = rest_of c.pending.result.now bytes c.args.start c.pending.ensures in
     let few : length (drop c.args.start bytes) ≤ c.args.count = omega (arith, ap length is, c.in_default.ensures.lookup) in
     let other = λ (error : ScriptError). other_error c.from_residual.result _ c.in_err-read_on.field-0.0 errors.Read errors.Memory error c.from_residual.ensures.1 refl fails.told in
     record {
@@ -56,8 +50,7 @@ returns-then-not-branch-clause-grows g c = grows_then _ _ _ _ _ _ c.loop-byte.in
 pub returns-then-not-branch-clause-cut : goal.returns-then-not-branch-clause-cut
 returns-then-not-branch-clause-cut g c = λ cut.
     let bytes = pending c.loop-byte.input in
-    let hay = slice_range c.pending.result.now c.args.start (length c.pending.result.now) in
-    let is : hay ≡ drop c.args.start bytes = rest_is c.pending.result.now c.args.start ∙ ap (drop c.args.start) c.pending.ensures in
+    let is = rest_of c.pending.result.now bytes c.args.start c.pending.ensures in
     let few : length (drop c.args.start bytes) ≤ c.args.count = omega (arith, ap length is, c.in_default.ensures.lookup) in
     let ended = c.in_ok-read_on.ensures.end c.if-not-branch.true in
     (subst (λ xs. length (drop c.args.start xs) ≤ c.args.count) (sym ended.0) few, ended.1)
