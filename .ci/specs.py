@@ -202,8 +202,8 @@ class Reached:
 
 
 def without_comments(lines):
-    """The text of lines, without comments."""
-    return "\n".join(line.split("--")[0] for line in lines)
+    """The text of lines, without texts in quotes and comments."""
+    return "\n".join(re.sub(r'"(?:\\.|[^"\\])*"', '""', line).split("--")[0] for line in lines)
 
 
 def reached_from(functions):
