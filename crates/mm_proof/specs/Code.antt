@@ -20,4 +20,5 @@ pub mod Judged
 pub mod Numbering
 pub mod NumberedBase
 pub mod KeptMarks
+pub mod InStep
 pub mod Spelled
