@@ -87,12 +87,13 @@ nothing_kept base copy j none = record {
   old_is = λ i. (λ e. cc, λ h. absurd (none i h));
   frame_is = (λ e. absurd (false≢true e), λ k. absurd (none k.i k.one_label));
   pairs_is = (λ e. absurd (false≢true e), λ k. absurd (none k.i k.one_label));
+  in_step_is = λ e. absurd (false≢true e);
 }
 
 -- what stays of one whose label an old one has
 pub some_kept :
     (base copy : BaseView) (i j : ℕ) (frame pairs : Bool) → ((k : ℕ) → ((Some i ≡ Some k) ↔ HaveOneLabel base copy k j)) → (frame ≡ true) ↔ ShareFrame base copy i j →
-    (pairs ≡ true) ↔ (AreTheorems base copy i j × SharePairs base copy i j) → IsMark base copy j (record { old = Some i; frame = frame; pairs = pairs })
+    (pairs ≡ true) ↔ (AreTheorems base copy i j × SharePairs base copy i j) → IsMark base copy j (record { old = Some i; frame = frame; pairs = pairs; in_step = false })
 some_kept base copy i j frame pairs old f p = record {
   old_is = old;
   frame_is = (
@@ -103,6 +104,7 @@ some_kept base copy i j frame pairs old f p = record {
     λ e. (let s = p.0 e in record { i = i; one_label = (old i).0 refl; was = s.0.was; is = s.0.is; same = s.1 }),
     λ k. p.1 (subst (λ (n : ℕ). AreTheorems base copy n j × SharePairs base copy n j) (same_Some k.i i (sym ((old k.i).1 k.one_label))) (record { was = k.was; is = k.is }, k.same)),
   );
+  in_step_is = λ e. absurd (false≢true e);
 }
 
 at_front : {X : Type 0} (xs ys : List X) (n : ℕ) (d : X) → n < length xs → slice_index_or (xs ++ ys) n d ≡ slice_index_or xs n d

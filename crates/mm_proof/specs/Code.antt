@@ -20,5 +20,6 @@ pub mod Judged
 pub mod Numbering
 pub mod NumberedBase
 pub mod KeptMarks
+pub mod InStep
 pub mod Spelled
 pub mod ShortSteps

@@ -1,22 +1,26 @@
 //! What stays of an old base in a new one.
 
-ghost use Rattle.std.specs.Prelude.{◌≡◌, ◌↔◌, ℕ, Some, IfOk, IsTrue};
+ghost use Rattle.std.specs.Prelude.{◌≡◌, ◌↔◌, ◌+◌, ℕ, List, Some, IfOk, IsTrue};
 ghost use Rattle.mm_frame.specs.Language.Base.{BaseView};
-ghost use Rattle.mm_frame.specs.Language.Answering.{IsBaseBy};
+ghost use Rattle.mm_frame.specs.Language.Answering.{BaseAnswers, IsBase, IsBaseBy};
+ghost use Rattle.mm_frame.specs.Language.Resolving.{IsCarrier};
+ghost use Rattle.mm_proof.specs.Code.InStep.{AreOrdinalsOf, HasAlike, IsStepAt, ordinal};
 ghost use Rattle.mm_proof.specs.Code.KeptMarks.{OfBases, OfBasesBy, AreTheorems, SharePairs, ShareFrame, IsCompared, IsComparedOf, kept_mark};
 ghost use Rattle.mm_proof.specs.Language.BaseMarks.{AreMarks, HaveOneLabel, IsMark, mark_at};
 
-use mm_frame::{Base, Names, same_active_pairs, same_frame};
+use crate::ordinals::{Ordinals, is_labelled, same_hypothesis};
+use mm_frame::{Base, Names, has_own_labels, labels_mean, same_active_pairs, same_frame};
 use std::alloc::{AllocError, Global};
 use std::marker::Model;
 
 /// What stays of an item: the number of the sound item of the old base that has its label, whether both have the same
-/// frame, and whether both have the same active pairs.
+/// frame, whether both have the same active pairs, and whether every label means the same at both.
 #[derive(Clone, Copy)]
 struct Mark {
     old: Option<usize>,
     frame: bool,
     pairs: bool,
+    in_step: bool,
 }
 
 /// Nothing stays.
@@ -24,6 +28,7 @@ const NO_MARK: Mark = Mark {
     old: None,
     frame: false,
     pairs: false,
+    in_step: false,
 };
 
 /// What stays of an old base in a new one, for each item of the new one: so that frames and active pairs are compared
@@ -92,12 +97,34 @@ fn same_frames(names: &Names, old: &Base, i: usize, new: &Base, j: usize) -> boo
     old.frame(i).is_some() && new.frame(j).is_some() && same_frame(names, old, i, new, j)
 }
 
+/// Whether an item of a base is sound and has this label.
+fn has_label(base: &Base, i: usize, label: &[u8]) -> bool
+    ensures { (view : BaseView) → IsBase view base.now → IsTrue result → IsCarrier view label.now i }
+{
+    match base.label(i) {
+        Some(own) => own == label && is_labelled(base, i),
+        None => false,
+    }
+}
+
+/// The sound item of a base that has this label. It is looked up where it is not the one that is expected.
+fn find_expected(base: &Base, label: &[u8], expected: usize) -> Option<usize>
+    ensures { (view : BaseView) (i : ℕ) → IsBase view base.now → (result ≡ Some i) ↔ IsCarrier view label.now i }
+{
+    has_own_labels();
+    if has_label(base, expected, label) {
+        Some(expected)
+    } else {
+        base.find(label)
+    }
+}
+
 /// The sound item of the old base that has the label of the item `j` of the new one, which has to be sound, too.
-fn old_of(old: &Base, new: &Base, j: usize) -> Option<usize>
+fn old_of(old: &Base, expected: usize, new: &Base, j: usize) -> Option<usize>
     ensures { OfBases old.now new.now (λ base copy. (i : ℕ) → (result ≡ Some i) ↔ HaveOneLabel base copy i j) }
 {
     new.expression(j)?;
-    old.find(new.label(j)?)
+    find_expected(old, new.label(j)?, expected)
 }
 
 /// What stays of the item with this number, and the two theorems that were compared last.
@@ -107,12 +134,13 @@ fn mark_of(
     new: &Base,
     j: usize,
     last: Option<Compared>,
+    expected: usize,
 ) -> (Mark, Option<Compared>)
     requires { IsCompared old.now new.now last }
     ensures mark { OfBasesBy names.now old.now new.now (λ base copy. IsMark base copy j (kept_mark result.0)) }
     ensures last { IsCompared old.now new.now result.1 }
 {
-    let Some(i) = old_of(old, new, j) else {
+    let Some(i) = old_of(old, expected, new, j) else {
         return (NO_MARK, last);
     };
     let frame = same_frames(names, old, i, new, j);
@@ -123,6 +151,7 @@ fn mark_of(
                 old: old_is,
                 frame,
                 pairs: compared.same,
+                in_step: false,
             };
             (mark, Some(compared))
         }
@@ -131,25 +160,107 @@ fn mark_of(
                 old: old_is,
                 frame,
                 pairs: false,
+                in_step: false,
             };
             (mark, last)
         }
     }
 }
 
+/// Whether the item `j` of the new base has no label, or the old base has one with its label, its ordinal and its meaning.
+fn is_alike(old: &Base, new: &Base, j: usize, ordinals: &Ordinals, mark: Mark) -> bool
+    requires { AreOrdinalsOf old.now new.now ordinals.now }
+    ensures { IsTrue result → OfBases old.now new.now (λ base copy. IsMark base copy j (kept_mark mark) → HasAlike base copy j) }
+{
+    match mark.old {
+        Some(i) => {
+            ordinals.are_same(i, j) && (mark.frame || same_hypothesis(old, i, new, j, ordinals))
+        }
+        None => !is_labelled(new, j),
+    }
+}
+
+/// Whether the item `j` of the new base has the ordinal of the one of the old base with its label.
+fn is_level(ordinals: &Ordinals, mark: Mark, j: usize) -> bool
+    ensures { IsTrue result → (old new : BaseAnswers) → AreOrdinalsOf old new ordinals.now
+        → OfBases old new (λ base copy. (i : ℕ) → mark.old ≡ Some i → ordinal base i ≡ ordinal copy j) }
+{
+    match mark.old {
+        Some(i) => ordinals.are_same(i, j),
+        None => false,
+    }
+}
+
+/// The first labelled item of a base behind the one that was found; else the one that was expected.
+fn next_expected(base: &Base, found: Option<usize>, expected: usize) -> usize {
+    let Some(i) = found else {
+        return expected;
+    };
+    for n in i..base.count() {
+        if n > i && is_labelled(base, n) {
+            return n;
+        }
+    }
+    base.count()
+}
+
+/// What is known before an item of the new base is marked.
+#[derive(Clone, Copy)]
+struct Step {
+    /// The two theorems that were compared last.
+    last: Option<Compared>,
+    /// Whether each labelled item so far means the same as the one of the old base with its ordinal.
+    in_step: bool,
+    /// The item of the old base that is tried first.
+    expected: usize,
+}
+
+/// What is known before the first item is marked.
+const FIRST_STEP: Step = Step {
+    last: None,
+    in_step: true,
+    expected: 0,
+};
+
+/// The mark of an item, and what is known before the next one is marked.
+fn marked(
+    names: &Names,
+    old: &Base,
+    new: &Base,
+    ordinals: &Ordinals,
+    j: usize,
+    step: Step,
+) -> (Mark, Step)
+    requires ordinals { AreOrdinalsOf old.now new.now ordinals.now }
+    requires step { IsStepAt names.now old.now new.now j step }
+    ensures mark { OfBasesBy names.now old.now new.now (λ base copy. IsMark base copy j (kept_mark result.0)) }
+    ensures step { IsStepAt names.now old.now new.now (j + 1) result.1 }
+{
+    labels_mean();
+    let (mark, last) = mark_of(names, old, new, j, step.last, step.expected);
+    let in_step = step.in_step && is_level(ordinals, mark, j);
+    let next = Step {
+        last,
+        in_step: step.in_step && is_alike(old, new, j, ordinals, mark),
+        expected: next_expected(old, mark.old, step.expected),
+    };
+    (Mark { in_step, ..mark }, next)
+}
+
 impl Marks {
     /// Compares an old base with a new one, both over the same names. It takes time near linear in the items, the frames
-    /// and the lists of active pairs of the two, and memory for each item of the new one.
+    /// and the lists of active pairs of the two, and memory for each item of both.
     pub fn build(alloc: Global, names: &Names, old: &Base, new: &Base) -> Result<Marks, AllocError>
         ensures { IfOk result (λ marks. (base copy : BaseView) → IsBaseBy names.now base old.now → IsBaseBy names.now copy new.now
             → AreMarks base copy marks) }
     {
+        let ordinals = Ordinals::build(alloc, old, new)?;
         let mut marks = Vec::with_capacity(alloc, new.count())?;
-        let mut last = None;
+        let mut step = FIRST_STEP;
         for j in 0..new.count() {
-            let (mark, compared) = mark_of(names, old, new, j, last);
+            let (mark, next) = marked(names, old, new, &ordinals, j, step);
             marks.push(mark)?;
-            last = compared;
+            step = next;
         }
         Ok(Marks { marks })
     }
@@ -183,6 +294,16 @@ impl Marks {
     {
         match self.marks.get(j) {
             Some(mark) => mark.pairs,
+            None => false,
+        }
+    }
+
+    /// Whether every label means the same at the item `j` of the new base as at the one of the old base with its label.
+    pub(crate) fn in_step(&self, j: usize) -> bool
+        ensures { result ≡ (mark_at self.now j).in_step }
+    {
+        match self.marks.get(j) {
+            Some(mark) => mark.in_step,
             None => false,
         }
     }

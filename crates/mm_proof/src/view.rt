@@ -264,6 +264,34 @@ fn same_statement(
     same_but_active(names, old, i, new, j, marks) && same_pairs(names, old, i, new, j, marks)
 }
 
+/// Whether the marks tell that the items have one label, and that every label means the same at both.
+fn is_in_step(marks: &Marks, i: usize, j: usize) -> bool
+    ensures { IsTrue result ↔ ((mark_at marks.now j).old ≡ Some i) × ((mark_at marks.now j).in_step ≡ true) }
+{
+    is_marked(marks, i, j) && marks.in_step(j)
+}
+
+/// Whether the labels that these words of a proof name mean the same at both. Nothing is read where the marks tell that
+/// every label does.
+fn same_labels(
+    names: &Names,
+    old: &Base,
+    i: usize,
+    new: &Base,
+    j: usize,
+    marks: Option<&Marks>,
+    words: ProofWords,
+) -> bool
+    requires { IfSome marks (λ m. AreMarksOf names.now old.now new.now m.now) }
+    ensures { OfBasesBy names.now old.now new.now (λ base copy. IsTrue result
+        ↔ AllByRecursion (IsSameLabel (setting_at base i) (setting_at copy j)) (labels_named words.entry)) }
+{
+    match marks {
+        Some(marks) if is_in_step(marks, i, j) => true,
+        _ => same_named(names, old, i, new, j, marks, words),
+    }
+}
+
 /// Whether the proofs of two sound `$p` have the same words, and the labels that these name mean the same.
 fn same_written(
     names: &Names,
@@ -283,7 +311,7 @@ fn same_written(
     let mine = old.item(i);
     let yours = new.item(j);
     same_proof(files, mine, yours)
-        && same_named(names, old, i, new, j, marks, words_of_proof(files, yours))
+        && same_labels(names, old, i, new, j, marks, words_of_proof(files, yours))
 }
 
 /// Whether the sound `$p` `i` of a base and the sound `$p` `j` of another have equal views. Both bases are over these names,
@@ -299,7 +327,7 @@ pub fn same_view(names: &Names, files: &Files, one: &Base, i: usize, other: &Bas
 }
 
 /// Answers what [`same_view`] does, by the marks of the two bases: no frame is compared, and each label that the proof
-/// names is looked up once. It takes no memory.
+/// names is looked up once; none is where the bases are in step up to the two. It takes no memory.
 pub fn same_view_by(
     names: &Names,
     files: &Files,

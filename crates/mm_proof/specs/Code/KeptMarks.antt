@@ -18,7 +18,7 @@ use Rattle.mm_proof.specs.declared.marks.Marks.TheInside.{Inside}
 
 -- what is kept of an item
 abbrev pub kept_mark : code.Mark → ItemMark
-kept_mark mark = record { old = mark.old; frame = mark.frame; pairs = mark.pairs }
+kept_mark mark = record { old = mark.old; frame = mark.frame; pairs = mark.pairs; in_step = mark.in_step }
 
 abbrev pub kept_marks : List code.Mark → List ItemMark
 kept_marks marks = map kept_mark marks

@@ -3,17 +3,20 @@ use Rattle.std.specs.Prelude.{◌≡◌, ◌↔◌, ℕ, ◌<◌, Bool, true, fa
 use Rattle.mm_frame.specs.Language.Base.{BaseView, before, said_at, is_framed_at, is_proof_at, is_shown_at, frame_at}
 use Rattle.mm_frame.specs.Language.Frame.{AreSameFrame, AreSamePairs}
 use Rattle.mm_frame.specs.Language.Framing.{active_pairs}
+use Rattle.mm_proof.specs.Language.BaseLabels.{setting_at}
+use Rattle.mm_proof.specs.Language.SameProof.{IsSameLabel}
 
 -- What is reported of an item: the number of the sound item of the old base that has its label, whether both are assertions with the same
--- frame, and whether both are theorems with the same active pairs.
+-- frame, whether both are theorems with the same active pairs, and whether it is known that every label means the same at both.
 pub record ItemMark : Type 0 where
   pub old : Option ℕ
   pub frame : Bool
   pub pairs : Bool
+  pub in_step : Bool
 
 -- nothing stays
 abbrev pub no_mark : ItemMark
-no_mark = record { old = None; frame = false; pairs = false }
+no_mark = record { old = None; frame = false; pairs = false; in_step = false }
 
 -- the mark of the item with this number; where there is none, nothing stays
 abbrev pub mark_at : List ItemMark → ℕ → ItemMark
@@ -42,11 +45,16 @@ pub record KeepsPairs (old new : BaseView) (j : ℕ) : Type 0 where
   pub is : is_proof_at new j ≡ true
   pub same : AreSamePairs (active_pairs (before old i)) (active_pairs (before new j))
 
+-- every label means the same at it and at the sound item of the old base that has its label
+abbrev pub KeepsLabels : BaseView → BaseView → ℕ → Type 0
+KeepsLabels old new j = (i : ℕ) → HaveOneLabel old new i j → (label : List ℕ) → IsSameLabel (setting_at old i) (setting_at new j) label
+
 -- the mark says this of item j of the new base
 pub record IsMark (old new : BaseView) (j : ℕ) (mark : ItemMark) : Type 0 where
   pub old_is : (i : ℕ) → (mark.old ≡ Some i) ↔ HaveOneLabel old new i j
   pub frame_is : (mark.frame ≡ true) ↔ KeepsFrame old new j
   pub pairs_is : (mark.pairs ≡ true) ↔ KeepsPairs old new j
+  pub in_step_is : mark.in_step ≡ true → KeepsLabels old new j
 
 -- the marks tell this of each item of the new base
 pub record AreMarks (old new : BaseView) (marks : List ItemMark) : Type 0 where

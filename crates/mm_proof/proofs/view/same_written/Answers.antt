@@ -25,7 +25,7 @@ returns-then-same_proof c base copy f g =
     let words = (c.same_proof.ensures (said_at base c.args.i) (said_at copy c.args.j) mine yours).0 c.if-same_proof.true in
     let P = IsSameLabel (setting_at base c.args.i) (setting_at copy c.args.j) in
     let left = c.words_of_proof.ensures.words (said_at copy c.args.j) yours in
-    let labels = c.same_named.ensures base copy f.base g.base in (
+    let labels = c.same_labels.ensures base copy f.base g.base in (
       λ e. record { words = words; labels = subst (λ (ws : List (List ℕ)). AllByRecursion P (labels_named ws)) left (labels.0 e) },
       λ s. labels.1 (subst (λ (ws : List (List ℕ)). AllByRecursion P (labels_named ws)) (sym left) s.labels),
     )

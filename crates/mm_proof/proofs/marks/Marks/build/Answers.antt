@@ -8,12 +8,12 @@ use Rattle.mm_proof.proofs.marks.Marks.build.Goals as goal
 
 pub loop-j-preserved : goal.loop-j-preserved
 loop-j-preserved c = record {
-  last = c.mark_of-compared.ensures.last;
+  step = c.marked.ensures.step;
   marks = λ base copy f g. (
       let j = c.loop-j.j in
       let old = c.loop-j.marks.items in
-      let mark = c.mark_of-compared.result.0 in
-      let more = marked_more base copy j (kept_marks old) (kept_mark mark) (c.loop-j.invariant.marks base copy f g) (c.mark_of-compared.ensures.mark base copy f g) in
+      let mark = c.marked.result.0 in
+      let more = marked_more base copy j (kept_marks old) (kept_mark mark) (c.loop-j.invariant.marks base copy f g) (c.marked.ensures.mark base copy f g) in
       let joined = subst (λ (ms : List ItemMark). AreItemMarks base copy (j + 1) ms) (sym (map-append kept_mark old (mark ∷ []))) more in
       subst (λ (ms : List code.Mark). AreItemMarks base copy (j + 1) (kept_marks ms)) (sym c.in_ok-push.ensures.items) joined);
 }

@@ -1,8 +1,9 @@
-use Rattle.mm_proof.specs.Code.KeptMarks.{OfBasesBy, IsCompared, AreItemMarks, kept_marks}
+use Rattle.mm_proof.specs.Code.InStep.{IsStepAt}
+use Rattle.mm_proof.specs.Code.KeptMarks.{OfBasesBy, AreItemMarks, kept_marks}
 use Rattle.mm_proof.proofs.marks.Marks.build.Given as goal
 
 abbrev pub invariant-loop-j : goal.invariant-loop-j
 invariant-loop-j l = record {
-  last : IsCompared l.old l.new l.last;
+  step : IsStepAt l.names l.old l.new l.j l.step;
   marks : OfBasesBy l.names l.old l.new (λ base copy. AreItemMarks base copy l.j (kept_marks l.marks.items));
 }
