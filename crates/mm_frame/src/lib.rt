@@ -8,6 +8,7 @@ mod blocks;
 mod draft;
 mod essential;
 mod expressions;
+mod item_rows;
 mod judge;
 mod label_numbers;
 mod mandatory;
