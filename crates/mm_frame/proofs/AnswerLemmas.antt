@@ -12,7 +12,6 @@ use Rattle.std.proofs.lemmas.Option.{same_Some, slice_get-map, slice_get_within,
 use Rattle.mm_store.specs.declared.item.Item as store
 use Rattle.mm_frame.specs.declared.FrameNumber.{FrameNumber}
 use Rattle.mm_frame.specs.declared.symbol.NumberedSymbol.{NumberedSymbol}
-use Rattle.mm_frame.specs.declared.draft.Row.{Row}
 use Rattle.mm_frame.specs.declared.draft.Frame.{Frame}
 use Rattle.mm_frame.specs.declared.draft.Parts.{Parts}
 use Rattle.mm_frame.specs.declared.base.Base.TheInside.{Inside}
@@ -30,8 +29,9 @@ use Rattle.mm_frame.specs.Code.KeptSymbols.{AreSymbols, expression_kept, kept_or
 use Rattle.mm_frame.specs.Code.KeptTables.{table_label}
 use Rattle.mm_frame.specs.Code.KeptPairLists.{list_kept}
 use Rattle.mm_frame.specs.Code.BaseInside.{answers_of}
-use Rattle.mm_frame.specs.Code.KeptBase.{TellsRow, TellsFrame, TellsPairs, HoldsFrame, AreParts, is_float_item, row_told, frame_told, number_kept, list_told}
-use Rattle.mm_frame.proofs.BaseLemmas.{row_none, item_beyond, kept_count, expression_some, labelled_there, framed_from}
+use Rattle.mm_frame.specs.Code.KeptRows.{rows_of, label_in, fault_in, is_shown_in}
+use Rattle.mm_frame.specs.Code.KeptBase.{TellsFrame, TellsPairs, HoldsFrame, AreParts, is_float_item, frame_told, number_kept, list_told}
+use Rattle.mm_frame.proofs.BaseLemmas.{row_none, item_beyond, fault_beyond, shown_is, not_shown, kept_count, expression_some, labelled_there, framed_from}
 use Rattle.mm_frame.proofs.FrameNumbers.{HasKind}
 use Rattle.mm_frame.proofs.ResolvingLemmas.{carrier_found, found_carrier}
 use Rattle.mm_frame.proofs.PairListLemmas.{list_read, list_in_order}
@@ -60,10 +60,6 @@ rows_told f tells told step said rows are = record {
 pub is_some_map : {X Y : Type 0} (f : X → Y) (o : Option X) → is_some (option_map f o) ≡ is_some o
 is_some_map f None = refl
 is_some_map f (Some x) = refl
-
--- the label and the fault
-label_told : (front : List Item) (item : Item) (row : Row) → TellsRow front item row → IsLabelTold front item (row_told row)
-label_told front item row t = record { label = t.label; labelled = is_some_map (λ label. label.items) row.label ∙ t.labelled; fault = t.fault }
 
 -- the frame
 pub hypotheses_told : (kept : Option Frame) → option_map (λ it. it.0) (frame_told kept) ≡ option_map (λ (frame : Frame). frame.hypotheses.items) kept
@@ -195,10 +191,32 @@ carrier_told base rows are label j = (to, from)
         row.1 ∙ (λ k. Some (mine k, none k))
 
 -- the tables know it
-pub labels_told : (all : List (List ℕ)) (base : BaseView) (parts : Parts) → AreParts all base.said parts → (label : List ℕ) (j : ℕ) → (table_label parts.tables label ≡ Some j) ↔ (slice_get (map row_told parts.rows.items) j ≡ Some (Some label, None))
+pub labels_told : (all : List (List ℕ)) (base : BaseView) (parts : Parts) → AreParts all base.said parts → (label : List ℕ) (j : ℕ) → (table_label parts.tables label ≡ Some j) ↔ (slice_get (rows_of parts.rows) j ≡ Some (Some label, None))
 labels_told all base parts are label j =
-    let told = carrier_told base (map row_told parts.rows.items) (rows_told row_told TellsRow IsLabelTold label_told base.said parts.rows.items are.rows) label j in
+    let told = carrier_told base (rows_of parts.rows) are.rows label j in
     (λ e. told.1 (found_carrier base label j (sym (are.labels label) ∙ e)), λ t. are.labels label ∙ carrier_found base label j (told.0 t))
+
+-- the label and the fault of an item, and whether it is a sound one that has a label
+pub label_told : (base : BaseView) (rows : List (Option (List ℕ) × Option (ℕ × FrameNumber))) → AreRows IsLabelTold base.said rows → (i : ℕ) → label_in (slice_get rows i) ≡ (said_at base i).label
+label_told base rows are i = by (slice_get rows i) refl
+  where
+    by : (o : Option (Option (List ℕ) × Option (ℕ × FrameNumber))) → slice_get rows i ≡ o → label_in o ≡ (said_at base i).label
+    by (Some row) e = (are.each i row e).label
+    by None e = sym (ap (λ (item : Item). item.label) (item_beyond base.said i (row_none IsLabelTold base.said rows i are e)))
+
+pub fault_told_at : (base : BaseView) (rows : List (Option (List ℕ) × Option (ℕ × FrameNumber))) → AreRows IsLabelTold base.said rows → (i : ℕ) → fault_in (slice_get rows i) ≡ fault_at base i
+fault_told_at base rows are i = by (slice_get rows i) refl
+  where
+    by : (o : Option (Option (List ℕ) × Option (ℕ × FrameNumber))) → slice_get rows i ≡ o → fault_in o ≡ fault_at base i
+    by (Some row) e = (are.each i row e).fault
+    by None e = sym (fault_beyond (before base i) base.said i (row_none IsLabelTold base.said rows i are e))
+
+pub shown_told : (base : BaseView) (rows : List (Option (List ℕ) × Option (ℕ × FrameNumber))) → AreRows IsLabelTold base.said rows → (i : ℕ) → is_shown_in (slice_get rows i) ≡ (is_sound_at base i && is_labelled (said_at base i).kind)
+shown_told base rows are i = by (slice_get rows i) refl
+  where
+    by : (o : Option (Option (List ℕ) × Option (ℕ × FrameNumber))) → slice_get rows i ≡ o → is_shown_in o ≡ (is_sound_at base i && is_labelled (said_at base i).kind)
+    by (Some row) e = let told = are.each i row e in shown_is base i (is_none row.1) (is_some row.0) (ap is_none told.fault) told.labelled
+    by None e = not_shown base i (row_none IsLabelTold base.said rows i are e)
 
 -- what is kept of the items tells them rightly
 pub base_told : (all : List (List ℕ)) (base : BaseView) (inside : Inside) → AreDistinct all → inside.items.items ≡ base.found → length base.found ≡ length base.said → length base.said ≤ 4294967295 → AllZip HasKind base.found base.said
@@ -211,7 +229,7 @@ base_told all base inside distinct found count few kinds parts =
       count = count;
       few = few;
       kinds = kinds;
-      rows = rows_told row_told TellsRow IsLabelTold label_told base.said inside.parts.rows.items parts.rows;
+      rows = parts.rows;
       expressions = expressions_told all base inside.parts.expressions parts.symbols;
       frames = rows_told frame_told (TellsFrame all) (IsFrameTold all) (frames_told all) base.said inside.parts.frames.items parts.frames;
       actives = rows_told (list_told lists) (TellsPairs all lists) (AreActiveTold all) (actives_told all lists) base.said inside.parts.pair_numbers.items parts.pair_numbers;

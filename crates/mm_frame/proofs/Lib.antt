@@ -33,6 +33,7 @@ pub mod VariableLemmas
 pub mod PairListLemmas
 pub mod PairOrderLemmas
 pub mod ExpressionLemmas
+pub mod RowLemmas
 pub mod FrameNumbers
 pub mod ResolvingLemmas
 pub mod SameLemmas

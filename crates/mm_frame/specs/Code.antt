@@ -15,6 +15,7 @@ pub mod KeptScope
 pub mod SeenNames
 pub mod KeptSymbols
 pub mod KeptExpressions
+pub mod KeptRows
 pub mod KeptEarlier
 pub mod KeptActive
 pub mod KeptPairLists

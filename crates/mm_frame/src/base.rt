@@ -15,13 +15,13 @@ ghost use Rattle.mm_frame.specs.Language.Names.{Begins};
 ghost use Rattle.mm_frame.specs.Language.NumberedSymbols.{symbols_of, kept_pairs, AreInOrder, IsNumbered, IsPairNumbered, ArePairsRead};
 ghost use Rattle.mm_frame.specs.Code.KeptSymbols.{expression_kept};
 ghost use Rattle.mm_frame.specs.Language.Answering.{IsBase, IsBaseBy, StandsLater, pairs_in_order};
-ghost use Rattle.mm_frame.specs.Code.KeptBase.{is_float_item, hypotheses_at, row_told, frame_told, number_kept};
+ghost use Rattle.mm_frame.specs.Code.KeptBase.{is_float_item, hypotheses_at, frame_told, number_kept};
 ghost use Rattle.mm_frame.specs.Language.Item as meant;
 ghost use Rattle.mm_frame.specs.Language.Statement.{kind_of};
 ghost use Rattle.mm_frame.specs.Language.Resolving.{IsCarrier, IsMeaning, IsUpTo, Resolves};
 ghost use Rattle.mm_frame.specs.declared.base.Resolved.TheVariants as answers;
 
-use crate::draft::{Draft, Frame, Parts, Row};
+use crate::draft::{Draft, Frame, Parts};
 use crate::judge::FrameFault;
 use crate::names::Names;
 use crate::symbol::NumberedSymbol;
@@ -83,16 +83,6 @@ fn number_at(numbers: &[Option<usize>], i: usize) -> Option<usize>
     }
 }
 
-/// The label of a row.
-fn label_in(row: &Row) -> Option<&[u8]>
-    ensures { option_map (λ label. label.now) result ≡ option_map (λ label. label.items) row.now.label }
-{
-    match &row.label {
-        Some(label) => Some(label),
-        None => None,
-    }
-}
-
 /// The frame, if one is kept.
 fn frame_in(frame: &Option<Frame>) -> Option<&Frame>
     ensures { option_map (λ frame. frame.now) result ≡ frame.now }
@@ -118,13 +108,6 @@ fn floats_among(alloc: Global, items: &[Item]) -> Result<Vec<bool>, AllocError>
         floats.push(is_floating(item.kind))?;
     }
     Ok(floats)
-}
-
-/// Whether a row is that of a sound item with a label.
-fn is_shown_row(row: &Row) -> bool
-    ensures { result ≡ (is_none row.now.fault && is_some row.now.label) }
-{
-    row.fault.is_none() && row.label.is_some()
 }
 
 impl Base {
@@ -157,13 +140,6 @@ impl Base {
         })
     }
 
-    /// What is kept of the item with this number.
-    fn row(&self, i: usize) -> Option<&Row>
-        ensures { option_map (λ row. row_told row.now) result ≡ slice_get self.now.rows i }
-    {
-        at(&self.parts.rows, i)
-    }
-
     /// What is kept of the frame of the item with this number.
     fn frame_row(&self, i: usize) -> Option<&Option<Frame>>
         ensures { option_map (λ frame. frame_told frame.now) result ≡ slice_get self.now.frames i }
@@ -175,10 +151,7 @@ impl Base {
     fn is_shown(&self, i: usize) -> bool
         ensures { (base : BaseView) → IsBase base self.now → result ≡ (is_sound_at base i && is_labelled (said_at base i).kind) }
     {
-        match self.row(i) {
-            Some(row) => is_shown_row(row),
-            None => false,
-        }
+        self.parts.rows.is_shown(i)
     }
 
     /// The symbols that are kept of the item with this number: none where none are kept.
@@ -203,7 +176,7 @@ impl Base {
         ensures count { (base : BaseView) → IsBase base self.now → result ≡ length base.said }
         ensures few { (base : BaseView) → IsBase base self.now → result ≤ 4294967295 }
     {
-        self.parts.rows.len()
+        self.parts.rows.count()
     }
 
     /// The item of the files with this number.
@@ -219,20 +192,14 @@ impl Base {
     pub fn label(&self, i: usize) -> Option<&[u8]>
         ensures { (base : BaseView) → IsBase base self.now → option_map (λ label. label.now) result ≡ (said_at base i).label }
     {
-        match self.row(i) {
-            Some(row) => label_in(row),
-            None => None,
-        }
+        self.parts.rows.label(i)
     }
 
     /// The fault of the item with this number, if it has one. A missing inclusion has F14 at its word 1, the name.
     pub fn fault(&self, i: usize) -> Option<FrameFault>
         ensures { (base : BaseView) → IsBase base self.now → option_map (λ f. (f.word, f.number)) result ≡ fault_at base i }
     {
-        match self.row(i) {
-            Some(row) => row.fault,
-            None => None,
-        }
+        self.parts.rows.fault(i)
     }
 
     /// The expression of the item with this number, where it is a sound `$f`, `$e`, `$a` or `$p`.

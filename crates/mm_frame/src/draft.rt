@@ -33,6 +33,7 @@ use crate::asked::AskedPairs;
 use crate::blocks::Blocks;
 use crate::essential::{EssentialVariable, EssentialVariables};
 use crate::expressions::Expressions;
+use crate::item_rows::Rows;
 use crate::judge::{FrameFault, fault_of};
 use crate::mandatory::{Earlier, hypotheses, mandatory_pairs};
 use crate::names::Names;
@@ -44,15 +45,6 @@ use crate::symbol::{NumberedSymbol, symbols_numbered, variables_numbered};
 use crate::tables::Tables;
 use mm_store::{Files, Item, ItemKind};
 use std::alloc::{AllocError, Global};
-
-/// What is kept of each item.
-#[derive(Drop)]
-pub struct Row {
-    /// Its label, where it is one that has a label.
-    pub label: Option<Vec<u8>>,
-    /// Its fault: F14 where it is a missing inclusion.
-    pub fault: Option<FrameFault>,
-}
 
 /// What citing an assertion needs.
 #[derive(Drop)]
@@ -69,7 +61,8 @@ pub struct Draft<'a> {
     scope: Scope<'a>,
     /// The numbers of the symbols of the last statement.
     numbers: Vec<usize>,
-    rows: Vec<Row>,
+    /// The labels and the faults.
+    rows: Rows,
     /// The symbols of each sound `$f`, `$e`, `$a`, `$p` and `$d`, by its number; none for any other item.
     expressions: Expressions,
     /// The frame of each sound `$a` and `$p`, by its number; none for any other item.
@@ -95,7 +88,8 @@ pub struct Draft<'a> {
 pub struct Parts {
     pub tables: Tables,
     pub blocks: Blocks,
-    pub rows: Vec<Row>,
+    /// The labels and the faults.
+    pub rows: Rows,
     /// The symbols of each sound `$f`, `$e`, `$a`, `$p` and `$d`, by its number; none for any other item.
     pub expressions: Expressions,
     /// The frame of each sound `$a` and `$p`, by its number; none for any other item.
@@ -117,33 +111,6 @@ fn told_fault(kind: ItemKind, fault: Option<FrameFault>) -> Option<FrameFault>
         }),
         _ => fault,
     }
-}
-
-/// A copy of the label, where there is one.
-fn label_of(alloc: Global, statement: &Statement) -> Result<Option<Vec<u8>>, AllocError>
-    ensures label { IfOk result (λ label. option_map (λ label. label.items) label ≡ statement.now.label) }
-    ensures some { IfOk result (λ label. is_some label ≡ meant.is_labelled statement.now.kind) }
-{
-    match statement.label() {
-        Some(label) => Ok(Some(Vec::from_slice(alloc, label)?)),
-        None => Ok(None),
-    }
-}
-
-/// The row of a statement with this fault.
-fn row_of(
-    alloc: Global,
-    statement: &Statement,
-    fault: Option<FrameFault>,
-) -> Result<Row, AllocError>
-    ensures label { IfOk result (λ row. option_map (λ label. label.items) row.label ≡ statement.now.label) }
-    ensures labelled { IfOk result (λ row. is_some row.label ≡ meant.is_labelled statement.now.kind) }
-    ensures fault { IfOk result (λ row. option_map (λ f. (f.word, f.number)) row.fault
-        ≡ fault_by statement.now.kind (option_map (λ f. (f.word, f.number)) fault)) }
-{
-    let label = label_of(alloc, statement)?;
-    let fault = told_fault(statement.kind(), fault);
-    Ok(Row { label, fault })
 }
 
 fn is_disjoint(kind: ItemKind) -> bool
@@ -346,7 +313,7 @@ impl<'a> Draft<'a> {
     pub fn with_room(alloc: Global, count: usize) -> Result<Self, AllocError>
         ensures { IfOk result (λ draft. (all : List (List ℕ)) → AreDistinct all → IsDraft all [] draft) }
     {
-        let rows = Vec::with_capacity(alloc, count)?;
+        let rows = Rows::with_room(alloc, count)?;
         let expressions = Expressions::with_room(alloc, count)?;
         let frames = Vec::with_capacity(alloc, count)?;
         let pair_numbers = Vec::with_capacity(alloc, count)?;
@@ -401,7 +368,7 @@ impl<'a> Draft<'a> {
             has_proof(statement.kind(), sound),
         )?;
         self.frames.push(frame)?;
-        let number = self.rows.len();
+        let number = self.rows.count();
         follow_pairs(
             alloc,
             &mut self.pair_table,
@@ -412,8 +379,8 @@ impl<'a> Draft<'a> {
             sound,
         )?;
         self.expressions.add(&symbols)?;
-        let row = row_of(alloc, statement, fault)?;
-        self.rows.push(row)?;
+        let told = told_fault(statement.kind(), fault);
+        self.rows.add(statement.label(), told)?;
         self.scope.next(alloc, statement, &self.numbers, sound)?;
         let kind = statement.kind();
         let blocks = self.scope.blocks();

@@ -32,7 +32,7 @@ impl Model for Expressions {
 }
 
 /// Where the symbols of the item with this number start.
-fn start_at(ends: &[usize], number: usize) -> usize
+pub fn start_at(ends: &[usize], number: usize) -> usize
     requires { number < length ends.now }
     ensures { result ≡ start_at 0 ends.now number }
 {
@@ -40,7 +40,7 @@ fn start_at(ends: &[usize], number: usize) -> usize
 }
 
 /// Where the symbols of the item with this number end.
-fn end_at(ends: &[usize], number: usize) -> usize
+pub fn end_at(ends: &[usize], number: usize) -> usize
     requires { number < length ends.now }
     ensures { result ≡ slice_index_or ends.now number 0 }
 {

@@ -9,6 +9,7 @@ mod draft;
 mod essential;
 mod examples;
 mod expressions;
+mod item_rows;
 mod judge;
 mod label_numbers;
 mod laws;

@@ -3,20 +3,22 @@ use Rattle.std.specs.Prelude.{◌≡◌, ◌↔◌, ℕ, Some, None, List, map, 
 use Rattle.mm_frame.specs.declared.base.Base.TheInside.{Inside}
 use Rattle.mm_frame.specs.Language.Answering.{BaseAnswers}
 use Rattle.mm_frame.specs.Code.KeptTables.{table_label}
-use Rattle.mm_frame.specs.Code.KeptBase.{row_told, frame_told, list_told, is_float_item}
+use Rattle.mm_frame.specs.Code.KeptRows.{AreRowsKept, rows_of}
+use Rattle.mm_frame.specs.Code.KeptBase.{frame_told, list_told, is_float_item}
 
 abbrev pub answers_of : Inside → BaseAnswers
 answers_of inside = record {
   items = inside.items.items;
-  rows = map row_told inside.parts.rows.items;
+  rows = rows_of inside.parts.rows;
   expressions = inside.parts.expressions;
   frames = map frame_told inside.parts.frames.items;
   actives = map (list_told inside.parts.pair_lists) inside.parts.pair_numbers.items;
   marks = inside.parts.blocks;
 }
 
--- it is kept of each item whether it is a `$f`, and of each label that an item without a fault has, which item that is
+-- what is kept of labels and faults fits together; it is kept of each item whether it is a `$f`, and of each label that an item without a fault has, which item that is
 pub record KnowsItems (inside : Inside) : Type 0 where
+  pub rows : AreRowsKept inside.parts.rows
   pub floats : inside.floats.items ≡ map is_float_item inside.items.items
   pub labels : (label : List ℕ) (j : ℕ) → (table_label inside.parts.tables label ≡ Some j)
-      ↔ (slice_get (map row_told inside.parts.rows.items) j ≡ Some (Some label, None))
+      ↔ (slice_get (rows_of inside.parts.rows) j ≡ Some (Some label, None))

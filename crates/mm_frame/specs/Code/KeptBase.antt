@@ -2,19 +2,18 @@
 use Rattle.std.specs.Prelude.{◌≡◌, ℕ, Bool, true, ◌&&◌, Some, None, is_some, is_none, List, Option}
 use Rattle.std.specs.Option.{option_map}
 use Rattle.mm_store.specs.declared.item.Item as store
-use Rattle.mm_frame.specs.declared.FrameNumber.{FrameNumber}
 use Rattle.mm_frame.specs.declared.draft.Draft.{Draft}
 use Rattle.mm_frame.specs.declared.draft.Parts.{Parts}
-use Rattle.mm_frame.specs.declared.draft.Row.{Row}
 use Rattle.mm_frame.specs.declared.draft.Frame.{Frame}
 use Rattle.mm_frame.specs.declared.symbol.NumberedSymbol.{NumberedSymbol}
 use Rattle.mm_frame.specs.Language.Names.{AreDistinct, Begins}
 use Rattle.mm_frame.specs.Language.NumberedSymbols.{ArePairsRead}
+use Rattle.mm_frame.specs.Code.KeptRows.{AreRowsKept, rows_of}
 use Rattle.mm_frame.specs.Code.KeptSymbols.{AreSymbols}
 use Rattle.mm_frame.specs.Code.KeptPairTable.{KnowsPairs}
 use Rattle.mm_frame.specs.Code.KeptAsked.{KnowsAsked}
 use Rattle.mm_frame.specs.Code.KeptVariables.{AreVariablesOf}
-use Rattle.mm_frame.specs.Language.Item.{Item, is_floating, is_labelled, is_assertion}
+use Rattle.mm_frame.specs.Language.Item.{Item, is_floating, is_assertion}
 use Rattle.mm_frame.specs.Language.Statement.{kind_of}
 use Rattle.mm_frame.specs.Language.Sound.{sound_items}
 use Rattle.mm_frame.specs.declared.pair_lists.PairLists.{PairLists}
@@ -22,18 +21,12 @@ use Rattle.mm_frame.specs.Language.Framing.{frame, active_pairs}
 use Rattle.mm_frame.specs.Code.KeptPairLists.{IsList, AreMade, list_kept}
 use Rattle.mm_frame.specs.Code.LastItems.{last_where, carries, is_essential_item, is_disjoint_item}
 use Rattle.mm_frame.specs.Language.Scope.{active_numbers}
-use Rattle.mm_frame.specs.Language.Answering.{AreRows, numbers_if, told_numbers, is_told_proof, pairs_in_order}
+use Rattle.mm_frame.specs.Language.Answering.{AreRows, IsLabelTold, numbers_if, told_numbers, is_told_proof, pairs_in_order}
 use Rattle.mm_frame.specs.Code.BlockMarks.{block_marks}
 use Rattle.mm_frame.specs.Code.KeptTables.{table_label}
 use Rattle.mm_frame.specs.declared.tables.Tables.{Tables}
 use Rattle.mm_frame.specs.Code.KeptScope.{ScopeHolds}
 use Rattle.mm_frame.specs.Language.Base.{BaseView, before, said_at, told_fault}
-
--- the row tells the label and the fault of an item behind the sound items before it
-pub record TellsRow (before : List Item) (item : Item) (row : Row) : Type 0 where
-  pub label : option_map (λ label. label.items) row.label ≡ item.label
-  pub labelled : is_some row.label ≡ is_labelled item.kind
-  pub fault : option_map (λ fault. (fault.word, fault.number)) row.fault ≡ told_fault before item
 
 -- the numbers of the mandatory hypotheses of the item with this number, where it is a sound `$a` or `$p`
 abbrev pub hypotheses_at : BaseView → ℕ → Option (List ℕ)
@@ -60,7 +53,8 @@ pub record TellsPairs (all : List (List ℕ)) (lists : PairLists) (before : List
 -- the draft is that behind items that say this, by the numbers of names in the list of all
 pub record IsDraft (all : List (List ℕ)) (said : List Item) (draft : Draft) : Type 0 where
   pub scope : ScopeHolds all (sound_items said) draft.scope
-  pub rows : AreRows TellsRow said draft.rows.items
+  pub kept : AreRowsKept draft.rows
+  pub rows : AreRows IsLabelTold said (rows_of draft.rows)
   pub symbols : AreSymbols all (sound_items said) draft.expressions
   pub frames : AreRows (TellsFrame all) said draft.frames.items
   pub essentials : draft.essentials ≡ active_numbers is_essential_item (sound_items said)
@@ -81,7 +75,8 @@ KnowsLabels items tables = (label : List ℕ) → table_label tables label ≡ l
 
 -- what is kept of items that say this
 pub record AreParts (all : List (List ℕ)) (said : List Item) (parts : Parts) : Type 0 where
-  pub rows : AreRows TellsRow said parts.rows.items
+  pub kept : AreRowsKept parts.rows
+  pub rows : AreRows IsLabelTold said (rows_of parts.rows)
   pub symbols : AreSymbols all (sound_items said) parts.expressions
   pub frames : AreRows (TellsFrame all) said parts.frames.items
   pub labels : KnowsLabels (sound_items said) parts.tables
@@ -91,10 +86,6 @@ pub record AreParts (all : List (List ℕ)) (said : List Item) (parts : Parts) :
 -- the item is a `$f`
 abbrev pub is_float_item : store.Item → Bool
 is_float_item item = is_floating (kind_of item.kind)
-
--- what is told of an item, from its row
-abbrev pub row_told : Row → Option (List ℕ) × Option (ℕ × FrameNumber)
-row_told row = (option_map (λ label. label.items) row.label, option_map (λ fault. (fault.word, fault.number)) row.fault)
 
 -- from the frame that is kept, if one is
 abbrev pub frame_told : Option Frame → Option (List ℕ × List (NumberedSymbol × NumberedSymbol))

@@ -17,9 +17,11 @@ invariant_of-result c =
     let read = c.in_ok-draft.ensures.read in
     let names = c.read_all.new.names in
     let base : BaseView = record { found = c.in_ok-items.items.items; said = read.0 } in
+    let parts = c.parts.ensures names read.0 (read.2 names c.distinct.ensures (λ n name there. there)) in
     record {
+      rows = parts.kept;
       floats = c.in_ok-floats.ensures ∙ ap (map is_float_item) c.deref.ensures.value;
-      labels = labels_told names base c.parts.result (c.parts.ensures names read.0 (read.2 names c.distinct.ensures (λ n name there. there)));
+      labels = labels_told names base c.parts.result parts;
     }
 
 pub returns-clause-base : goal.returns-clause-base

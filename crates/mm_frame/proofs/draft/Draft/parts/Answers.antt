@@ -5,6 +5,7 @@ pub returns : goal.returns
 returns c = λ all said d.
     let kept = c.tables_and_blocks-tables.ensures all (sound_items said) d.scope in
     record {
+      kept = d.kept;
       rows = d.rows;
       symbols = d.symbols;
       frames = d.frames;

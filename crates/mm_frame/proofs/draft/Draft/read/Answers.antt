@@ -10,6 +10,7 @@ use Rattle.mm_frame.proofs.draft.Draft.read.Goals as goal
 numbers_aside : (all : List (List ℕ)) (said : List Item) (old : Draft) (numbers : _) → IsDraft all said old → IsDraft all said (record old { numbers = numbers })
 numbers_aside all said old numbers d = record {
   scope = d.scope;
+  kept = d.kept;
   rows = d.rows;
   symbols = d.symbols;
   frames = d.frames;

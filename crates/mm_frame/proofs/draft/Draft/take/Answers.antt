@@ -1,7 +1,9 @@
 use Rattle.std.proofs.Common.{◌≡◌, ℕ, List, true, length, ◌∷◌, ◌++◌, [], ◌∙◌, ap, sym, subst, arith}
+use Rattle.std.specs.Option.{option_map}
 use Rattle.mm_frame.specs.Language.Base.{fault_by}
-use Rattle.mm_frame.specs.Code.KeptBase.{TellsRow, TellsFrame, HoldsFrame}
-use Rattle.mm_frame.specs.Language.Answering.{AreRows}
+use Rattle.mm_frame.specs.Code.KeptBase.{TellsFrame, HoldsFrame}
+use Rattle.mm_frame.specs.Code.KeptRows.{rows_of, fault_told}
+use Rattle.mm_frame.specs.Language.Answering.{AreRows, IsLabelTold}
 use Rattle.mm_frame.specs.Code.KeptPairTable.{KnowsPairs}
 use Rattle.mm_frame.specs.Code.KeptAsked.{KnowsAsked}
 use Rattle.mm_frame.proofs.AskedLemmas.{asked_more}
@@ -21,6 +23,7 @@ use Rattle.mm_frame.specs.Language.Item.{is_essential, is_disjoint}
 use Rattle.mm_frame.specs.Code.KeptPairLists.{AreMade}
 use Rattle.mm_frame.proofs.BaseLemmas.{rows_more, kept_are_sound, kept_taken, kept_count, sound_found_none, none_found, none_fault, symbols_more, symbols_taken, framed_told, framed_parts, essential_sort, disjoint_sort, proof_told}
 use Rattle.mm_frame.proofs.PairListLemmas.{made_more}
+use Rattle.mm_frame.proofs.RowLemmas.{some_lent}
 use Rattle.mm_frame.proofs.draft.Draft.take.Goals as goal
 
 pub returns : goal.returns
@@ -54,7 +57,7 @@ returns c all said first d numbers_first numbers =
     }) in
     let frame_told = subst (λ b. HoldsFrame all b before item c.in_ok-frame.frame) (framed_told before item flag framed (kind_of c.kind.result) kind c.is_framed-framed.ensures (none_fault (λ f. (f.word, f.number)) before item found told ∙ none)) frame in
     let holds = c.in_ok-next.ensures all before are_sound d.scope is_sound (subst (λ w. AreNameNumbers all w item.symbols) (sym c.deref-6.ensures.value) numbers) in
-    let number : c.len-number.result ≡ length before = omega (arith, c.len-number.ensures, kept_count said, d.rows.count, c.args.self.now.rows.ok.0) in
+    let number : c.count-number.result ≡ length before = omega (arith, c.count-number.ensures, kept_count said, d.rows.count) in
     let pairs = c.in_ok-follow_pairs.ensures all before item d.scope.knows.distinct are_sound c.kind-3.ensures.kind number (c.blocks-2.ensures ∙ d.scope.marks)
     (subst (λ w. AreNameNumbers all w item.symbols) (sym c.deref-4.ensures.value) numbers) is_sound d.pair_table in
     let this = c.kind-kind.ensures.kind in
@@ -70,10 +73,11 @@ returns c all said first d numbers_first numbers =
     let made = made_more all before (taken flag item ∷ []) lists (c.in_ok-keep_pairs.ensures.made all before are_sound d.symbols active_disjoints d.made) in
     record {
       scope = subst (λ w. ScopeHolds all w c.next.new.self) more holds;
-      rows = subst (λ w. AreRows TellsRow (said ++ item ∷ []) w) (sym c.in_ok-push-2.ensures.items) (rows_more TellsRow said item c.args.self.now.rows.items c.in_ok-row.row d.rows (record {
-        label = c.in_ok-row.ensures.label;
-        labelled = c.in_ok-row.ensures.labelled;
-        fault = c.in_ok-row.ensures.fault ∙ ap (fault_by item.kind) told;
+      kept = c.in_ok-add-2.ensures.kept d.kept;
+      rows = subst (AreRows IsLabelTold (said ++ item ∷ [])) (sym (c.in_ok-add-2.ensures.more d.kept)) (rows_more IsLabelTold said item (rows_of c.args.self.now.rows) (option_map (λ label. label.now) c.label.result, fault_told c.told_fault-told.result) d.rows (record {
+        label = c.label.ensures.label;
+        labelled = some_lent (λ label. label.now) c.label.result ∙ c.label.ensures.some;
+        fault = c.told_fault-told.ensures ∙ ap (λ k. fault_by k (option_map (λ f. (f.word, f.number)) found)) c.kind-4.ensures.kind ∙ ap (fault_by item.kind) told;
       }));
       symbols = subst (λ w. AreSymbols all w c.add.new.self) more
           (subst (λ w. AreSymbols all (before ++ taken flag item ∷ []) w) (sym added) (symbols_more all before (taken flag item) c.args.self.now.expressions symbols.items d.symbols numbered read));

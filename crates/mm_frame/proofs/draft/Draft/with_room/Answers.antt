@@ -1,8 +1,8 @@
 use Rattle.std.proofs.Common.{ℕ, List, [], sym, subst}
 use Rattle.mm_frame.specs.declared.symbol.NumberedSymbol.{NumberedSymbol}
 use Rattle.mm_frame.specs.Code.KeptVariables.{AreVariablesOf}
-use Rattle.mm_frame.specs.Code.KeptBase.{TellsRow, TellsFrame, TellsPairs}
-use Rattle.mm_frame.specs.Language.Answering.{AreRows}
+use Rattle.mm_frame.specs.Code.KeptBase.{TellsFrame, TellsPairs}
+use Rattle.mm_frame.specs.Language.Answering.{AreRows, IsLabelTold}
 use Rattle.mm_frame.specs.Code.KeptSymbols.{AreSymbols}
 use Rattle.mm_frame.specs.Code.LastItems.{is_essential_item, is_disjoint_item}
 use Rattle.mm_frame.proofs.BaseLemmas.{rows_none, symbols_none}
@@ -11,7 +11,8 @@ use Rattle.mm_frame.proofs.draft.Draft.with_room.Goals as goal
 pub returns : goal.returns
 returns c = λ all distinct. record {
   scope = c.new.ensures all distinct;
-  rows = subst (AreRows TellsRow []) (sym c.in_ok-rows.ensures.items) (rows_none TellsRow);
+  kept = c.in_ok-rows.ensures.kept;
+  rows = subst (AreRows IsLabelTold []) (sym c.in_ok-rows.ensures.none) (rows_none IsLabelTold);
   symbols = subst (AreSymbols all []) (sym c.in_ok-expressions.ensures) (symbols_none all);
   frames = subst (AreRows (TellsFrame all) []) (sym c.in_ok-frames.ensures.items) (rows_none (TellsFrame all));
   essentials = c.new-3.ensures.first is_essential_item;

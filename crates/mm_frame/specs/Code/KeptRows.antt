@@ -1,0 +1,56 @@
+-- The labels and faults of items as the code keeps them: the labels in one list, with the ends of each, and the faults up to the last.
+use Rattle.std.specs.Prelude.{◌≡◌, ℕ, suc, ◌≤◌, ◌&&◌, Bool, false, if◌then◌else◌, is_some, is_none, Option, Some, None, List, [], ◌∷◌, length, slice_get, slice_index_or}
+use Rattle.std.specs.Option.{option_map}
+use Rattle.mm_frame.specs.declared.FrameNumber.{FrameNumber}
+use Rattle.mm_frame.specs.declared.judge.FrameFault.{FrameFault}
+use Rattle.mm_frame.specs.declared.item_rows.Rows.{Rows}
+use Rattle.mm_frame.specs.Code.KeptExpressions.{cut_from, EndsFrom}
+
+-- the bytes of a label: none where there is no label
+abbrev pub bytes_or_none : Option (List ℕ) → List ℕ
+bytes_or_none None = []
+bytes_or_none (Some label) = label
+
+-- what is told of a fault
+abbrev pub fault_told : Option FrameFault → Option (ℕ × FrameNumber)
+fault_told fault = option_map (λ f. (f.word, f.number)) fault
+
+-- the fault at a place: none where there is no such place
+abbrev pub fault_or_none : Option (Option FrameFault) → Option FrameFault
+fault_or_none None = None
+fault_or_none (Some fault) = fault
+
+abbrev pub fault_at : List (Option FrameFault) → ℕ → Option FrameFault
+fault_at faults n = fault_or_none (slice_get faults n)
+
+-- what is told of an item with these bytes, of which it is kept at a place whether it has a label, and its fault
+abbrev pub row_told : List Bool → List (Option FrameFault) → ℕ → List ℕ → Option (List ℕ) × Option (ℕ × FrameNumber)
+row_told flags faults n bytes = (if slice_index_or flags n false then Some bytes else None, fault_told (fault_at faults n))
+
+-- of items one behind another, from this place on
+abbrev pub rows_from : ℕ → List (List ℕ) → List Bool → List (Option FrameFault) → List (Option (List ℕ) × Option (ℕ × FrameNumber))
+rows_from n [] flags faults = []
+rows_from n (bytes ∷ labels) flags faults = row_told flags faults n bytes ∷ rows_from (suc n) labels flags faults
+
+-- the labels and faults of the items
+abbrev pub rows_of : Rows → List (Option (List ℕ) × Option (ℕ × FrameNumber))
+rows_of rows = rows_from 0 (cut_from rows.bytes.items 0 rows.ends.items) rows.labelled.items rows.faults.items
+
+-- the ends are those of all bytes, it is kept of each item whether it has a label, and there are no more faults
+pub record AreRowsKept (rows : Rows) : Type 0 where
+  pub cut : EndsFrom 0 rows.ends.items (length rows.bytes.items)
+  pub flags : length rows.labelled.items ≡ length rows.ends.items
+  pub faults : length rows.faults.items ≤ length rows.ends.items
+
+-- the label of an item, its fault, and whether it has a label and no fault, if there is such an item
+abbrev pub label_in : Option (Option (List ℕ) × Option (ℕ × FrameNumber)) → Option (List ℕ)
+label_in None = None
+label_in (Some row) = row.0
+
+abbrev pub fault_in : Option (Option (List ℕ) × Option (ℕ × FrameNumber)) → Option (ℕ × FrameNumber)
+fault_in None = None
+fault_in (Some row) = row.1
+
+abbrev pub is_shown_in : Option (Option (List ℕ) × Option (ℕ × FrameNumber)) → Bool
+is_shown_in None = false
+is_shown_in (Some row) = is_none row.1 && is_some row.0

@@ -1,0 +1,162 @@
+//! The labels and the faults of the items.
+
+ghost use Rattle.std.specs.Prelude.{◌≡◌, ◌<◌, ◌≤◌, ◌+◌, ◌++◌, ◌∷◌, ℕ, List, [], Some, None, IfOk, OnOk, false, length, slice_get, slice_index_or, slice_range};
+ghost use Rattle.std.specs.Option.{option_map};
+ghost use Rattle.mm_frame.specs.Code.KeptRows.{bytes_or_none, fault_at, fault_told, label_in, fault_in, is_shown_in};
+ghost use Rattle.mm_frame.specs.Code.KeptRows.{AreRowsKept, rows_of};
+
+use crate::expressions::{end_at, start_at};
+use crate::judge::FrameFault;
+use std::alloc::{AllocError, Global};
+
+/// For each item, by its number from 0, its label, where it is one that has a label, and its fault: F14 where it is a missing
+/// inclusion.
+///
+/// To add those of one more item takes time linear in its label on the average; what is kept of an item is found in
+/// constant time.
+#[derive(Drop)]
+pub struct Rows {
+    /// The bytes of the labels, one label behind another.
+    bytes: Vec<u8>,
+    /// For each item, how many bytes there are up to the end of its label.
+    ends: Vec<usize>,
+    /// For each item, whether it has a label.
+    labelled: Vec<bool>,
+    /// The faults, up to the last: most often there is none.
+    faults: Vec<Option<FrameFault>>,
+}
+
+/// Adds the bytes of a label, if there is one.
+fn add_label(bytes: &mut Vec<u8>, label: Option<&[u8]>) -> Result<(), AllocError>
+    ensures { OnOk result (bytes.new.items ≡ bytes.old.items ++ bytes_or_none (option_map (λ label. label.now) label.entry)) }
+{
+    if let Some(label) = label {
+        bytes.extend_from_slice(label)?;
+    }
+    Ok(())
+}
+
+/// Has places for the faults of so many items.
+fn fill(faults: &mut Vec<Option<FrameFault>>, count: usize) -> Result<(), AllocError>
+    ensures same { OnOk result ((n : ℕ) → fault_at faults.new.items n ≡ fault_at faults.old.items n) }
+    ensures count { OnOk result (length faults.old.items ≤ count → length faults.new.items ≡ count) }
+{
+    while faults.len() < count {
+        faults.push(None)?;
+    }
+    Ok(())
+}
+
+/// Adds the fault of the item behind so many, if it has one.
+fn add_fault(
+    faults: &mut Vec<Option<FrameFault>>,
+    count: usize,
+    fault: Option<FrameFault>,
+) -> Result<(), AllocError>
+    ensures same { OnOk result (length faults.old.items ≤ count → (n : ℕ) → n < count → fault_at faults.new.items n ≡ fault_at faults.old.items n) }
+    ensures here { OnOk result (length faults.old.items ≤ count → fault_at faults.new.items count ≡ fault) }
+    ensures within { OnOk result (length faults.old.items ≤ count → length faults.new.items ≤ count + 1) }
+{
+    if fault.is_some() {
+        fill(faults, count)?;
+        faults.push(fault)?;
+    }
+    Ok(())
+}
+
+/// The fault that is kept at a place, if there is one.
+fn kept_fault(faults: &[Option<FrameFault>], n: usize) -> Option<FrameFault>
+    ensures { result ≡ fault_at faults.now n }
+{
+    match faults.get(n) {
+        Some(fault) => *fault,
+        None => None,
+    }
+}
+
+/// Whether there is a label at a place.
+fn is_labelled(flags: &[bool], n: usize) -> bool
+    ensures { result ≡ slice_index_or flags.now n false }
+{
+    match flags.get(n) {
+        Some(labelled) => *labelled,
+        None => false,
+    }
+}
+
+/// The bytes from one place to another.
+fn bytes_between(bytes: &[u8], start: usize, end: usize) -> &[u8]
+    requires start { start ≤ end }
+    requires end { end ≤ length bytes.now }
+    ensures { result.now ≡ slice_range bytes.now start end }
+{
+    &bytes[start..end]
+}
+
+impl Rows {
+    /// No items, with room for this many.
+    pub fn with_room(alloc: Global, count: usize) -> Result<Rows, AllocError>
+        ensures kept { IfOk result AreRowsKept }
+        ensures none { IfOk result (λ rows. rows_of rows ≡ []) }
+    {
+        let ends = Vec::with_capacity(alloc, count)?;
+        let labelled = Vec::with_capacity(alloc, count)?;
+        Ok(Rows {
+            bytes: Vec::new(alloc),
+            ends,
+            labelled,
+            faults: Vec::new(alloc),
+        })
+    }
+
+    /// How many items there are.
+    pub fn count(&self) -> usize
+        ensures { result ≡ length (rows_of self.now) }
+    {
+        self.ends.len()
+    }
+
+    /// The label of the item with this number, if there is such an item and it has one.
+    pub fn label(&self, n: usize) -> Option<&[u8]>
+        requires { AreRowsKept self.now }
+        ensures { option_map (λ label. label.now) result ≡ label_in (slice_get (rows_of self.now) n) }
+    {
+        if !is_labelled(&self.labelled, n) {
+            return None;
+        }
+        let start = start_at(&self.ends, n);
+        Some(bytes_between(&self.bytes, start, end_at(&self.ends, n)))
+    }
+
+    /// The fault of the item with this number, if there is such an item and it has one.
+    pub fn fault(&self, n: usize) -> Option<FrameFault>
+        requires { AreRowsKept self.now }
+        ensures { fault_told result ≡ fault_in (slice_get (rows_of self.now) n) }
+    {
+        kept_fault(&self.faults, n)
+    }
+
+    /// Whether there is an item with this number that has a label and no fault.
+    pub fn is_shown(&self, n: usize) -> bool
+        requires { AreRowsKept self.now }
+        ensures { result ≡ is_shown_in (slice_get (rows_of self.now) n) }
+    {
+        if !is_labelled(&self.labelled, n) {
+            return false;
+        }
+        kept_fault(&self.faults, n).is_none()
+    }
+
+    /// Adds the label and the fault of one more item. Want of memory leaves the rows as good for nothing.
+    pub fn add(&mut self, label: Option<&[u8]>, fault: Option<FrameFault>) -> Result<(), AllocError>
+        ensures kept { OnOk result (AreRowsKept self.old → AreRowsKept self.new) }
+        ensures more { OnOk result (AreRowsKept self.old
+            → rows_of self.new ≡ rows_of self.old ++ (option_map (λ label. label.now) label.entry, fault_told fault) ∷ []) }
+    {
+        add_fault(&mut self.faults, self.ends.len(), fault)?;
+        add_label(&mut self.bytes, label)?;
+        self.labelled.push(label.is_some())?;
+        self.ends.push(self.bytes.len())?;
+        Ok(())
+    }
+}
