@@ -6,7 +6,7 @@ pub verdict_by_names-requires : goal.verdict_by_names-requires
 verdict_by_names-requires c =
     let has = c.requires in (
       has.0,
-      decoded c.args.base.now c.args.i c.args.statement.now c.in-Ok.decoding c.mandatory-mandatory.result.now has.0 has.1 c.mandatory-mandatory.ensures (c.mandatory_are_active.ensures has.0 c.args.i has.1.said)
+      decoded c.args.base.now c.args.i c.args.proof.now c.in-Ok.decoding c.mandatory-mandatory.result.now has.0 has.1 c.mandatory-mandatory.ensures (c.mandatory_are_active.ensures has.0 c.args.i has.1.said)
           c.in-Ok.ensures.ok c.in-Ok.ensures.entries c.in-Ok.ensures.table,
       has.2,
     )
