@@ -7,8 +7,10 @@
 //! beginnings and ends of blocks, and references to files that are missing.
 #![tactic(auto)]
 
+mod adding;
 mod batch;
 mod edit;
+mod editing;
 mod error;
 mod examples;
 mod expanding;
@@ -23,6 +25,7 @@ mod room;
 mod start;
 mod state;
 mod undo;
+mod undoing;
 mod unit;
 mod walk;
 

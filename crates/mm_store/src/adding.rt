@@ -1,0 +1,83 @@
+//! Adding a file.
+
+ghost use Rattle.std.specs.Prelude.{◌≡◌, ◌+◌, ◌<◌, ◌≤◌, ◌↔◌, ◌≢◌};
+ghost use Rattle.std.specs.Prelude.{◌++◌, None, IfErr, OnOk, OnErr};
+ghost use Rattle.std.specs.Prelude.{IsErrOf, All, length, map};
+ghost use Rattle.std.specs.List.{concat, insert};
+ghost use Rattle.mm_text.specs.Language.Cut.{ArePieces};
+ghost use Rattle.mm_store.specs.declared.error.StoreError.TheVariants.{Known};
+ghost use Rattle.mm_store.specs.Language.FilesView.{bytes_of, file_number, number_of, plain};
+ghost use Rattle.mm_store.specs.Language.FileFacts.{IsAdded, KeepsPieces, parked_in};
+ghost use Rattle.mm_store.specs.Language.Answers.{IsAddError, IsAddErrorIn};
+ghost use Rattle.mm_store.specs.Code.Edited.{with_file};
+
+use crate::error::StoreError;
+use crate::file_text::{FileText, starts};
+use crate::files::Files;
+use crate::piece_text::kept_pieces;
+use crate::room::{ended_len, fits};
+use mm_text::{Cut, cut};
+use std::alloc::AllocError;
+
+impl Files {
+    /// Adds a file of this name behind the others: the text is cut into its pieces and its tail, and a line feed
+    /// is put behind it where it does not end in white space. The pieces get keys of their own. Any name will do.
+    ///
+    /// The answer is `Known` where a file has the name, before memory is taken. For a name that no file has it is
+    /// `Text` with the first fault of a text that has one; `TooMany` for a text that has none, with which the files
+    /// would have more than 4,294,967,295 bytes; and `Memory`, which can come in the place of each of these two.
+    /// Whatever the error, the files are then as before. All pieces that are held keep their keys.
+    pub fn add(&mut self, name: &[u8], text: &[u8]) -> Result<(), StoreError>
+        ensures ok { OnOk result (IsAdded (plain self.old) (plain self.new) name.now text.now) }
+        ensures keeps { OnOk result (KeepsPieces self.old self.new) }
+        ensures parked { OnOk result (parked_in self.new ≡ parked_in self.old) }
+        ensures within { OnOk result (bytes_of (plain self.new) ≤ 4294967295) }
+        ensures known { IsErrOf result Known ↔ (file_number (plain self.old) name.now ≢ None) }
+        ensures err { IfErr result (IsAddError (plain self.old) name.now text.now) }
+        ensures fault_within { IfErr result (IsAddErrorIn text.now) }
+        ensures unchanged { OnErr result (self.new ≡ self.old) }
+    {
+        if self.number_of(name).is_some() {
+            return Err(StoreError::Known);
+        }
+        let cut = cut(self.allocator(), text)?;
+        let more = ended_len(text) as u64;
+        if !fits(self.bytes, more) {
+            return Err(StoreError::TooMany);
+        }
+        self.put_last(name, more, cut)?;
+        Ok(())
+    }
+
+    /// Puts a file behind the others. After want of memory the files are as before.
+    fn put_last(&mut self, name: &[u8], bytes: u64, cut: Cut) -> Result<(), AllocError>
+        requires missing { file_number (plain self.old) name.now ≡ None }
+        requires counted { bytes ≡ length (concat (map (λ piece. piece.items) cut.pieces.items) ++ cut.tail.items) }
+        requires fits { bytes_of (plain self.old) + bytes ≤ 4294967295 }
+        requires pieces { ArePieces (map (λ piece. piece.items) cut.pieces.items) cut.tail.items }
+        ensures ok { OnOk result
+            (plain self.new ≡ with_file (plain self.old) name.now (map (λ piece. piece.items) cut.pieces.items) cut.tail.items) }
+        ensures keeps { OnOk result (KeepsPieces self.old self.new) }
+        ensures parked { OnOk result (parked_in self.new ≡ parked_in self.old) }
+        ensures err { OnErr result (self.new ≡ self.old) }
+    {
+        let alloc = self.allocator();
+        let Cut { pieces, tail } = cut;
+        let kept = kept_pieces(alloc, pieces)?;
+        let starts = starts(alloc, &kept)?;
+        let known = kept.len();
+        let name = Vec::from_slice(alloc, name)?;
+        self.files.reserve(1)?;
+        let keys = self.pieces.put_all(alloc, kept)?;
+        let file = FileText {
+            keys,
+            starts,
+            known,
+            tail,
+            deleted: 0,
+        };
+        self.files.insert(name, file).unwrap();
+        self.bytes += bytes;
+        Ok(())
+    }
+}

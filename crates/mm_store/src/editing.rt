@@ -1,0 +1,254 @@
+//! Edits of files: single pieces that come, go and move, and edits by the names of files.
+
+ghost use Rattle.std.specs.Prelude.{◌≡◌, ℕ, ◌+◌, ◌<◌, ◌≤◌, ◌↔◌};
+ghost use Rattle.std.specs.Prelude.{Some, None, IfOk, IfErr, OnOk, OnErr};
+ghost use Rattle.std.specs.Prelude.{IsErrOf, length, slice_index_or, slice_set, []};
+ghost use Rattle.std.specs.List.{insert};
+ghost use Rattle.mm_store.specs.declared.edit.EditError.TheVariants.{NoFile, NoPiece};
+ghost use Rattle.mm_store.specs.Language.Pieces.{Replaced, Deleted};
+ghost use Rattle.mm_store.specs.Language.FilesView.{bytes_of, file_number, number_of, plain};
+ghost use Rattle.mm_store.specs.Language.FileFacts.{parked_in};
+ghost use Rattle.mm_store.specs.Language.Edits.{asked, edited_name, Insert, Replace, Delete, Move, IsEditOf, NamesNoMember};
+ghost use Rattle.mm_store.specs.Language.EditedKeys.{IsEditByKeys, parks};
+ghost use Rattle.mm_store.specs.Language.Undoing as action;
+ghost use Rattle.mm_store.specs.Language.Undoing.{keys_in, spent};
+ghost use Rattle.mm_store.specs.Language.Undoing.{IsUndoable, KeepsKeys};
+ghost use Rattle.mm_store.specs.Language.Answers.{IsEditError};
+ghost use Rattle.mm_store.specs.Code.Edited.{pieces_in, with_pieces, IsReplaced, IsInserted, IsDeleted, IsMoved};
+ghost use Rattle.mm_store.specs.Code.Inside.{IsPieceKept};
+
+use crate::edit::{Edit, EditError};
+use crate::files::Files;
+use crate::piece_text::PieceText;
+use crate::state::{EditKind, State};
+use crate::undo::{Action, Undo};
+use crate::unit::new_piece;
+use std::alloc::AllocError;
+
+impl Files {
+    /// Puts a piece in the place of one, which is parked. After want of memory the files are as before.
+    fn replace_piece(
+        &mut self,
+        number: usize,
+        at: usize,
+        kept: PieceText,
+    ) -> Result<Undo, AllocError>
+        requires there { at < length (keys_in self.old.keyed number) }
+        requires kept { IsPieceKept kept }
+        requires within { bytes_of (with_pieces (plain self.old) number (slice_set (pieces_in (plain self.old) number) at kept.text.items)) ≤ 4294967295 }
+        ensures ok { IfOk result (λ undo. IsReplaced self.old self.new number at kept.text.items undo) }
+        ensures err { OnErr result (self.new ≡ self.old) }
+    {
+        let more = kept.text.len() as u64;
+        let key = self.pieces.put(kept)?;
+        let file = self.files.get_index_mut(number).unwrap();
+        let old = file.replace_key(at, key);
+        let less = self
+            .pieces
+            .set_state(old, State::Parked(number, EditKind::Replaced));
+        self.bytes = self.bytes - less as u64 + more;
+        Ok(Undo {
+            file: number,
+            action: Action::Replaced(at, old),
+        })
+    }
+
+    /// Puts a piece before the one at `at`. After want of memory the files are as before.
+    fn insert_piece(
+        &mut self,
+        number: usize,
+        at: usize,
+        kept: PieceText,
+    ) -> Result<Undo, AllocError>
+        requires file { number < length self.old.keyed }
+        requires there { at ≤ length (keys_in self.old.keyed number) }
+        requires kept { IsPieceKept kept }
+        requires within { bytes_of (with_pieces (plain self.old) number (insert (pieces_in (plain self.old) number) at kept.text.items)) ≤ 4294967295 }
+        ensures ok { IfOk result (λ undo. IsInserted self.old self.new number at kept.text.items undo) }
+        ensures err { OnErr result (self.new ≡ self.old) }
+    {
+        let more = kept.text.len() as u64;
+        let file = self.files.get_index_mut(number).unwrap();
+        file.reserve_one()?;
+        let key = self.pieces.put(kept)?;
+        let file_again = self.files.get_index_mut(number).unwrap();
+        file_again.put_key(at, key);
+        self.bytes += more;
+        Ok(Undo {
+            file: number,
+            action: Action::Inserted(at),
+        })
+    }
+
+    /// Takes a piece out and parks it.
+    fn delete_piece(&mut self, number: usize, at: usize) -> Undo
+        requires there { at < length (keys_in self.old.keyed number) }
+        ensures { IsDeleted self.old self.new number at result }
+    {
+        let file = self.files.get_index_mut(number).unwrap();
+        let old = file.delete_key(at);
+        let less = self
+            .pieces
+            .set_state(old, State::Parked(number, EditKind::Deleted));
+        self.bytes -= less as u64;
+        Undo {
+            file: number,
+            action: Action::Deleted(at, old),
+        }
+    }
+
+    /// Takes a piece out and puts it where it is the one at `to`.
+    pub(crate) fn move_piece(&mut self, number: usize, at: usize, to: usize) -> Undo
+        requires there { at < length (keys_in self.old.keyed number) }
+        requires there_too { to < length (keys_in self.old.keyed number) }
+        ensures { IsMoved self.old self.new number at to result }
+    {
+        let file = self.files.get_index_mut(number).unwrap();
+        file.move_key(at, to);
+        Undo {
+            file: number,
+            action: Action::Moved(at, to),
+        }
+    }
+
+    /// How many bytes the texts have. It takes no memory.
+    fn held(&self) -> u64
+        ensures { result ≡ bytes_of (plain self.now) }
+    {
+        self.bytes
+    }
+
+    /// How many bytes the texts have without this piece. It takes no memory.
+    fn bytes_without(&self, number: usize, at: usize) -> u64
+        requires { at < length (keys_in self.now.keyed number) }
+        ensures { result + length (slice_index_or (pieces_in (plain self.now) number) at []) ≡ bytes_of (plain self.now) }
+    {
+        let (_, file) = self.files.as_slice().get_index(number).unwrap();
+        self.bytes - self.pieces.text(file.keys[at]).len() as u64
+    }
+
+    /// Does an insertion.
+    fn insert_text(&mut self, name: &[u8], at: usize, text: &[u8]) -> Result<Undo, EditError>
+        ensures ok { OnOk result (IsEditOf (Insert name.now at text.now) (plain self.old) (plain self.new)) }
+        ensures by_keys { IfOk result (IsEditByKeys (Insert name.now at text.now) self.old self.new) }
+        ensures keys { OnOk result (KeepsKeys self.old self.new) }
+        ensures undoes { IfOk result (IsUndoable self.old self.new) }
+        ensures err { IfErr result (IsEditError (Insert name.now at text.now) (plain self.old)) }
+        ensures unchanged { OnErr result (self.new ≡ self.old) }
+    {
+        let Some(number) = self.number_of(name) else {
+            return Err(EditError::NoFile);
+        };
+        let count = self.count_in(number);
+        if at > count {
+            return Err(EditError::NoPiece(count));
+        }
+        let kept = new_piece(self.allocator(), self.held(), text)?;
+        Ok(self.insert_piece(number, at, kept)?)
+    }
+
+    /// Does a replacement.
+    fn replace_text(&mut self, name: &[u8], at: usize, text: &[u8]) -> Result<Undo, EditError>
+        ensures ok { OnOk result (IsEditOf (Replace name.now at text.now) (plain self.old) (plain self.new)) }
+        ensures by_keys { IfOk result (IsEditByKeys (Replace name.now at text.now) self.old self.new) }
+        ensures keys { OnOk result (KeepsKeys self.old self.new) }
+        ensures undoes { IfOk result (IsUndoable self.old self.new) }
+        ensures err { IfErr result (IsEditError (Replace name.now at text.now) (plain self.old)) }
+        ensures unchanged { OnErr result (self.new ≡ self.old) }
+    {
+        let Some(number) = self.number_of(name) else {
+            return Err(EditError::NoFile);
+        };
+        let count = self.count_in(number);
+        if at >= count {
+            return Err(EditError::NoPiece(count));
+        }
+        let kept = new_piece(self.allocator(), self.bytes_without(number, at), text)?;
+        Ok(self.replace_piece(number, at, kept)?)
+    }
+
+    /// Does a deletion.
+    fn delete_at(&mut self, name: &[u8], at: usize) -> Result<Undo, EditError>
+        ensures ok { OnOk result (IsEditOf (Delete name.now at) (plain self.old) (plain self.new)) }
+        ensures by_keys { IfOk result (IsEditByKeys (Delete name.now at) self.old self.new) }
+        ensures keys { OnOk result (KeepsKeys self.old self.new) }
+        ensures undoes { IfOk result (IsUndoable self.old self.new) }
+        ensures err { IfErr result (IsEditError (Delete name.now at) (plain self.old)) }
+        ensures unchanged { OnErr result (self.new ≡ self.old) }
+    {
+        let Some(number) = self.number_of(name) else {
+            return Err(EditError::NoFile);
+        };
+        let count = self.count_in(number);
+        if at >= count {
+            return Err(EditError::NoPiece(count));
+        }
+        Ok(self.delete_piece(number, at))
+    }
+
+    /// Does a move.
+    fn move_from(&mut self, name: &[u8], at: usize, to: usize) -> Result<Undo, EditError>
+        ensures ok { OnOk result (IsEditOf (Move name.now at to) (plain self.old) (plain self.new)) }
+        ensures by_keys { IfOk result (IsEditByKeys (Move name.now at to) self.old self.new) }
+        ensures keys { OnOk result (KeepsKeys self.old self.new) }
+        ensures undoes { IfOk result (IsUndoable self.old self.new) }
+        ensures err { IfErr result (IsEditError (Move name.now at to) (plain self.old)) }
+        ensures unchanged { OnErr result (self.new ≡ self.old) }
+    {
+        let Some(number) = self.number_of(name) else {
+            return Err(EditError::NoFile);
+        };
+        let count = self.count_in(number);
+        if at >= count || to >= count {
+            return Err(EditError::NoPiece(count));
+        }
+        Ok(self.move_piece(number, at, to))
+    }
+
+    /// Does an edit, and leaves open where the pieces behind its own begin.
+    pub(crate) fn apply(&mut self, edit: &Edit<'_>) -> Result<Undo, EditError>
+        ensures ok { OnOk result (IsEditOf (asked edit.now) (plain self.old) (plain self.new)) }
+        ensures by_keys { IfOk result (IsEditByKeys (asked edit.now) self.old self.new) }
+        ensures keys { OnOk result (KeepsKeys self.old self.new) }
+        ensures undoes { IfOk result (IsUndoable self.old self.new) }
+        ensures err { IfErr result (IsEditError (asked edit.now) (plain self.old)) }
+        ensures unchanged { OnErr result (self.new ≡ self.old) }
+    {
+        match *edit {
+            Edit::Insert { file, at, text } => self.insert_text(file, at, text),
+            Edit::Replace { file, at, text } => self.replace_text(file, at, text),
+            Edit::Delete { file, at } => self.delete_at(file, at),
+            Edit::Move { file, at, to } => self.move_from(file, at, to),
+        }
+    }
+
+    /// Does an edit, and answers what is needed to undo it.
+    ///
+    /// The text that an edit brings becomes one piece as it is, with a line feed behind it where it does not end in
+    /// white space. The piece that a replacement or a deletion takes out is parked until the answer is spent; its
+    /// key and its text stay, and one piece more is parked. A new piece has a key that no piece had. A move parks
+    /// nothing, and the moved piece keeps its key.
+    ///
+    /// The errors are, in this order: `NoFile`; `NoPiece` with the count of the pieces; `Text` with the first fault of
+    /// the text; `NotOne` with the number of its units; `TooMany` where the files would then have more than
+    /// 4,294,967,295 bytes. The first two come before memory is taken. `Memory` can come in the place of the others
+    /// and of success, and only where the edit brings a text. After any error the files are as before.
+    pub fn edit(&mut self, edit: &Edit<'_>) -> Result<Undo, EditError>
+        ensures ok { OnOk result (IsEditOf (asked edit.now) (plain self.old) (plain self.new)) }
+        ensures by_keys { IfOk result (IsEditByKeys (asked edit.now) self.old self.new) }
+        ensures parked { OnOk result (parked_in self.new ≡ parked_in self.old + parks (asked edit.now)) }
+        ensures keys { OnOk result (KeepsKeys self.old self.new) }
+        ensures undoes { IfOk result (IsUndoable self.old self.new) }
+        ensures no_file { IsErrOf result NoFile ↔ (file_number (plain self.old) (edited_name (asked edit.now)) ≡ None) }
+        ensures no_piece { (count : ℕ) → IsErrOf result (NoPiece count) ↔ NamesNoMember (asked edit.now) (plain self.old) count }
+        ensures err { IfErr result (IsEditError (asked edit.now) (plain self.old)) }
+        ensures unchanged { OnErr result (self.new ≡ self.old) }
+    {
+        let done = self.apply(edit);
+        if let Ok(undo) = &done {
+            self.restart_file(undo.file);
+        }
+        self.stand_once();
+        done
+    }
+}
