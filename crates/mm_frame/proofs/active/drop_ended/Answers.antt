@@ -1,5 +1,5 @@
 use Rattle.std.proofs.Common.{◌-◌, length, slice_get, sym, ◌∙◌, ap, arith}
-use Rattle.mm_frame.proofs.EndLemmas.{dropped_more, dropped_to_active, dropped_to_none, popped_last}
+use Rattle.mm_frame.proofs.lemmas.scope.EndLemmas.{dropped_more, dropped_to_active, dropped_to_none, popped_last}
 use Rattle.mm_frame.proofs.active.drop_ended.Goals as goal
 
 pub returns-then-is_active_behind : goal.returns-then-is_active_behind

@@ -1,4 +1,4 @@
-use Rattle.mm_frame.proofs.EndLemmas.{Dropped}
+use Rattle.mm_frame.proofs.lemmas.scope.EndLemmas.{Dropped}
 use Rattle.mm_frame.proofs.active.drop_ended.Given as goal
 
 abbrev pub invariant-loop-number : goal.invariant-loop-number

@@ -1,6 +1,6 @@
 use Rattle.std.proofs.Common.{◌∷◌, [], ◌++◌, map, take_all, ap, ◌∙◌}
 use Rattle.mm_frame.specs.Code.KeptBase.{is_float_item}
-use Rattle.mm_frame.proofs.Growing.{map_grows}
+use Rattle.mm_frame.proofs.lemmas.lists.Growing.{map_grows}
 use Rattle.mm_frame.proofs.base.floats_among.Goals as goal
 
 pub loop-item-preserved : goal.loop-item-preserved

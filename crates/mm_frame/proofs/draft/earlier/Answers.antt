@@ -1,6 +1,6 @@
 use Rattle.std.proofs.Common.{◌∙◌, sym, subst}
 use Rattle.mm_frame.specs.Code.KeptTables.{Knows}
-use Rattle.mm_frame.proofs.BaseLemmas.{are_expressions}
+use Rattle.mm_frame.proofs.lemmas.base.BaseLemmas.{are_expressions}
 use Rattle.mm_frame.proofs.draft.earlier.Goals as goal
 
 pub returns : goal.returns

@@ -1,7 +1,7 @@
 use Rattle.std.proofs.Common.{◌∙◌, ap, sym}
 use Rattle.mm_frame.specs.Language.Item.{Kind}
 use Rattle.mm_frame.specs.Language.Scope.{closes, mark_of}
-use Rattle.mm_frame.proofs.BaseLemmas.{numbers_passed, numbers_other}
+use Rattle.mm_frame.proofs.lemmas.base.BaseLemmas.{numbers_passed, numbers_other}
 use Rattle.mm_frame.proofs.draft.follow.Goals as goal
 
 pub returns-then-not-sound : goal.returns-then-not-sound

@@ -3,7 +3,7 @@ use Rattle.std.proofs.lemmas.Bool.{false≢true}
 use Rattle.mm_frame.specs.Language.Item.{is_disjoint}
 use Rattle.mm_frame.specs.Code.KeptPairTable.{KnowsPairs}
 use Rattle.mm_frame.specs.Code.KeptScope.{taken}
-use Rattle.mm_frame.proofs.PairTableLemmas.{pairs_passed, pairs_taken}
+use Rattle.mm_frame.proofs.lemmas.pairs.PairTableLemmas.{pairs_passed, pairs_taken}
 use Rattle.mm_frame.proofs.draft.follow_pairs.Goals.{else-sound-via-then-sound+else-is_disjoint, else-sound-via-else-sound}
 use Rattle.mm_frame.proofs.draft.follow_pairs.Goals as goal
 

@@ -4,7 +4,7 @@ use Rattle.mm_frame.specs.Language.NumberedSymbols.{ArePairsRead}
 use Rattle.mm_frame.specs.Language.Answering.{numbers_if}
 use Rattle.mm_frame.specs.Language.Answering.{pairs_in_order}
 use Rattle.mm_frame.specs.declared.draft.Frame.{Frame}
-use Rattle.mm_frame.proofs.BaseLemmas.{same_frame_kept}
+use Rattle.mm_frame.proofs.lemmas.base.BaseLemmas.{same_frame_kept}
 use Rattle.mm_frame.proofs.draft.frame_of.Goals as goal
 
 pub returns-clause-frame : goal.returns-clause-frame

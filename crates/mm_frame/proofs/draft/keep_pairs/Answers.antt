@@ -2,8 +2,8 @@ use Rattle.std.proofs.Common.{Some, None, ◌++◌, ◌∷◌, [], ◌∙◌, sy
 use Rattle.mm_frame.specs.Language.Sound.{sound_items}
 use Rattle.mm_frame.specs.Code.KeptBase.{TellsPairs}
 use Rattle.mm_frame.specs.Language.Answering.{AreRows}
-use Rattle.mm_frame.proofs.BaseLemmas.{kept_are_sound}
-use Rattle.mm_frame.proofs.PairListLemmas.{pairs_more, keeps_all, no_number, some_number}
+use Rattle.mm_frame.proofs.lemmas.base.BaseLemmas.{kept_are_sound}
+use Rattle.mm_frame.proofs.lemmas.pairs.PairListLemmas.{pairs_more, keeps_all, no_number, some_number}
 use Rattle.mm_frame.proofs.draft.keep_pairs.Goals as goal
 
 pub returns-then-not-proof-clause-pairs : goal.returns-then-not-proof-clause-pairs

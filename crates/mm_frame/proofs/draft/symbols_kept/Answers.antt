@@ -3,7 +3,7 @@ use Rattle.std.specs.Prelude.{All}
 use Rattle.std.proofs.lemmas.Result.{IfOk-weaker}
 use Rattle.mm_frame.specs.Language.Item.{is_disjoint}
 use Rattle.mm_frame.specs.Language.NumberedSymbols.{symbols_of, IsNumbered}
-use Rattle.mm_frame.proofs.NamedLemmas.{read_all, variables_read_all, numbered_all, numbered_variables}
+use Rattle.mm_frame.proofs.lemmas.names.NamedLemmas.{read_all, variables_read_all, numbered_all, numbered_variables}
 use Rattle.mm_frame.proofs.draft.symbols_kept.Goals as goal
 
 pub returns-then-is_some-clause-numbered : goal.returns-then-is_some-clause-numbered

@@ -1,7 +1,7 @@
 use Rattle.std.proofs.Common.{ap, sym, ◌∙◌}
 use Rattle.std.specs.Option.{option_map}
 use Rattle.mm_frame.specs.declared.judge.FrameFault.{FrameFault}
-use Rattle.mm_frame.proofs.FaultLemmas.{at_front, at_symbols, at_end}
+use Rattle.mm_frame.proofs.lemmas.faults.FaultLemmas.{at_front, at_symbols, at_end}
 use Rattle.mm_frame.proofs.judge.fault_of.Goals as goal
 
 pub returns-in-Some : goal.returns-in-Some

@@ -1,7 +1,7 @@
 use Rattle.std.proofs.Common.{not, take, [], ◌∷◌, ◌++◌, ◌∙◌, ap, subst}
 use Rattle.mm_frame.specs.Language.Item.{has}
 use Rattle.mm_frame.specs.Code.SeenNames.{HasSeen}
-use Rattle.mm_frame.proofs.FaultLemmas.{twice_not, sees_more}
+use Rattle.mm_frame.proofs.lemmas.faults.FaultLemmas.{twice_not, sees_more}
 use Rattle.mm_frame.proofs.judge.is_repeated.Goals as goal
 
 pub returns-then-kept : goal.returns-then-kept

@@ -1,7 +1,7 @@
 use Rattle.std.proofs.Common.{◌≡◌, ◌<◌, ◌+◌, suc, length, get_or, [], refl, sym, ◌∙◌, ap, arith}
 use Rattle.mm_frame.specs.Code.FaultInOrder.{must_differ}
-use Rattle.mm_frame.proofs.NumberLemmas.{number_at}
-use Rattle.mm_frame.proofs.FaultLemmas.{none_left, fault_there, passes_more}
+use Rattle.mm_frame.proofs.lemmas.names.NumberLemmas.{number_at}
+use Rattle.mm_frame.proofs.lemmas.faults.FaultLemmas.{none_left, fault_there, passes_more}
 use Rattle.mm_frame.proofs.judge.symbols_fault.Goals as goal
 
 pub returns-in-Some : goal.returns-in-Some

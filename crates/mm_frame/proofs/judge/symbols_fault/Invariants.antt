@@ -1,4 +1,4 @@
-use Rattle.mm_frame.proofs.FaultLemmas.{Passes}
+use Rattle.mm_frame.proofs.lemmas.faults.FaultLemmas.{Passes}
 use Rattle.mm_frame.proofs.judge.symbols_fault.Given as goal
 
 abbrev pub invariant-loop-n : goal.invariant-loop-n

@@ -1,7 +1,7 @@
 use Rattle.std.proofs.Common.{◌≤◌, ◌<◌, ◌^◌, length, drop, slice_index_or, ◌-◌, suc, sym, ◌∙◌, arith}
 use Rattle.std.proofs.lemmas.Bool.{leb-true}
 use Rattle.mm_frame.specs.Code.KeptLabels.{label_code}
-use Rattle.mm_frame.proofs.LabelCodes.{code_fits}
+use Rattle.mm_frame.proofs.lemmas.names.LabelCodes.{code_fits}
 use Rattle.mm_frame.proofs.label_numbers.code_of.Goals as goal
 
 pub overflow_mul-code : goal.overflow_mul-code

@@ -1,4 +1,4 @@
-use Rattle.mm_frame.proofs.Activity.{active_by_blocks}
+use Rattle.mm_frame.proofs.lemmas.scope.Activity.{active_by_blocks}
 use Rattle.mm_frame.proofs.laws.active_by_blocks.Goals as goal
 
 pub returns : goal.returns

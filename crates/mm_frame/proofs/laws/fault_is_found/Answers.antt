@@ -1,4 +1,4 @@
-use Rattle.mm_frame.proofs.FoundFaults.{found_fault, fault_found}
+use Rattle.mm_frame.proofs.lemmas.faults.FoundFaults.{found_fault, fault_found}
 use Rattle.mm_frame.proofs.laws.fault_is_found.Goals as goal
 
 pub returns : goal.returns

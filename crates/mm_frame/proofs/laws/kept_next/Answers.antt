@@ -1,4 +1,4 @@
-use Rattle.mm_frame.proofs.FoundFaults.{kept_next}
+use Rattle.mm_frame.proofs.lemmas.faults.FoundFaults.{kept_next}
 use Rattle.mm_frame.proofs.laws.kept_next.Goals as goal
 
 pub returns : goal.returns

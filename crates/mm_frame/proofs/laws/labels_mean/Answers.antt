@@ -1,4 +1,4 @@
-use Rattle.mm_frame.proofs.OwnLabels.{label_or_unknown, assertion_is_meant}
+use Rattle.mm_frame.proofs.lemmas.base.OwnLabels.{label_or_unknown, assertion_is_meant}
 use Rattle.mm_frame.proofs.laws.labels_mean.Goals as goal
 
 pub returns-clause-one : goal.returns-clause-one

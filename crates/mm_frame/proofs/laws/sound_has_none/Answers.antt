@@ -1,4 +1,4 @@
-use Rattle.mm_frame.proofs.FoundFaults.{no_fault_sound, sound_found}
+use Rattle.mm_frame.proofs.lemmas.faults.FoundFaults.{no_fault_sound, sound_found}
 use Rattle.mm_frame.proofs.laws.sound_has_none.Goals as goal
 
 pub returns : goal.returns

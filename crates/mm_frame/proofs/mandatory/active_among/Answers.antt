@@ -5,8 +5,8 @@ use Rattle.mm_frame.specs.declared.symbol.NumberedSymbol.{NumberedSymbol}
 use Rattle.mm_frame.specs.Language.Framing.{active_pairs, pairs_of}
 use Rattle.mm_frame.specs.Language.NumberedSymbols.{symbol_of, symbols_of, ArePairsRead}
 use Rattle.mm_frame.specs.Language.Answering.{are_paired}
-use Rattle.mm_frame.proofs.ActivePairLemmas.{pairs_with}
-use Rattle.mm_frame.proofs.FramePairs.{among_more}
+use Rattle.mm_frame.proofs.lemmas.pairs.ActivePairLemmas.{pairs_with}
+use Rattle.mm_frame.proofs.lemmas.pairs.FramePairs.{among_more}
 use Rattle.mm_frame.proofs.mandatory.active_among.Goals as goal
 
 pub loop-n-preserved : goal.loop-n-preserved

@@ -7,7 +7,7 @@ use Rattle.mm_frame.specs.Language.NumberedSymbols.{symbol_of, symbols_of, IsNum
 use Rattle.mm_frame.specs.Language.Answering.{are_paired}
 use Rattle.mm_frame.specs.Code.KeptPairTable.{ReadsPairs}
 use Rattle.mm_frame.specs.Code.KeptAsked.{KnowsAsked, AsksOn}
-use Rattle.mm_frame.proofs.ActivePairLemmas.{pairs_with}
+use Rattle.mm_frame.proofs.lemmas.pairs.ActivePairLemmas.{pairs_with}
 use Rattle.mm_frame.proofs.mandatory.add_active_with.Given as goal
 
 abbrev pub invariant-loop-second : goal.invariant-loop-second

@@ -1,6 +1,6 @@
 use Rattle.std.proofs.Common.{◌++◌, take_all, ap, ◌∙◌}
 use Rattle.mm_frame.specs.Code.KeptSymbols.{float_number, float_numbers}
-use Rattle.mm_frame.proofs.Growing.{flat_map_grows}
+use Rattle.mm_frame.proofs.lemmas.lists.Growing.{flat_map_grows}
 use Rattle.mm_frame.proofs.mandatory.add_floats.Goals as goal
 
 pub loop-symbol-preserved : goal.loop-symbol-preserved

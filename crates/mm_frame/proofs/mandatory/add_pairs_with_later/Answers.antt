@@ -9,9 +9,9 @@ use Rattle.mm_frame.specs.Language.Framing.{active_pairs}
 use Rattle.mm_frame.specs.Language.NumberedSymbols.{symbol_of, symbols_of, IsNumbered, ArePairsRead}
 use Rattle.mm_frame.specs.Language.Answering.{are_paired}
 use Rattle.mm_frame.specs.Code.KeptPlaces.{ArePlaces}
-use Rattle.mm_frame.proofs.Members.{in_contains, get_in}
-use Rattle.mm_frame.proofs.ActivePairLemmas.{pairs_with}
-use Rattle.mm_frame.proofs.PlaceLemmas.{reads_earlier}
+use Rattle.mm_frame.proofs.lemmas.lists.Members.{in_contains, get_in}
+use Rattle.mm_frame.proofs.lemmas.pairs.ActivePairLemmas.{pairs_with}
+use Rattle.mm_frame.proofs.lemmas.pairs.PlaceLemmas.{reads_earlier}
 use Rattle.mm_frame.proofs.mandatory.add_pairs_with_later.Goals as goal
 
 pub returns-then-are_short-clause-pairs : goal.returns-then-are_short-clause-pairs

@@ -1,5 +1,5 @@
 use Rattle.std.proofs.Common.{◌∙◌, ◌++◌, append-nil, ap, sym}
-use Rattle.mm_frame.proofs.FramePairs.{no_variable, nothing_second}
+use Rattle.mm_frame.proofs.lemmas.pairs.FramePairs.{no_variable, nothing_second}
 use Rattle.mm_frame.proofs.mandatory.add_variable.Goals as goal
 
 pub returns-then-stands_at : goal.returns-then-stands_at

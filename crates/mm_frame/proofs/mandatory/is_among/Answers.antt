@@ -1,5 +1,5 @@
 use Rattle.std.proofs.Common.{◌∙◌}
-use Rattle.mm_frame.proofs.Rising.{among_found}
+use Rattle.mm_frame.proofs.lemmas.lists.Rising.{among_found}
 use Rattle.mm_frame.proofs.mandatory.is_among.Goals as goal
 
 pub returns : goal.returns

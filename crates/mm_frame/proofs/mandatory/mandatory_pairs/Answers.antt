@@ -5,8 +5,8 @@ use Rattle.mm_frame.specs.Language.Framing.{pairs_of, active_pairs}
 use Rattle.mm_frame.specs.Code.LastItems.{is_essential_item, IsRising}
 use Rattle.mm_frame.specs.Language.NumberedSymbols.{symbols_of, IsNumbered, ArePairsRead}
 use Rattle.mm_frame.specs.Language.Answering.{are_paired}
-use Rattle.mm_frame.proofs.HypothesisNumbers.{active_numbers_rise}
-use Rattle.mm_frame.proofs.FramePairs.{variables_are, variables_numbered, active_in_order}
+use Rattle.mm_frame.proofs.lemmas.frames.HypothesisNumbers.{active_numbers_rise}
+use Rattle.mm_frame.proofs.lemmas.pairs.FramePairs.{variables_are, variables_numbered, active_in_order}
 use Rattle.mm_frame.proofs.mandatory.mandatory_pairs.Goals as goal
 
 pub returns-clause-pairs : goal.returns-clause-pairs

@@ -1,6 +1,6 @@
 use Rattle.std.proofs.Common.{◌<◌, sym, ap, subst, ◌∙◌}
 use Rattle.std.specs.Option.{option_copied}
-use Rattle.mm_frame.proofs.PairListLemmas.{count_of_last, count_of_none, number_within}
+use Rattle.mm_frame.proofs.lemmas.pairs.PairListLemmas.{count_of_last, count_of_none, number_within}
 use Rattle.mm_frame.proofs.pair_lists.count_to_last.Goals as goal
 
 pub returns-in-Some : goal.returns-in-Some

@@ -3,7 +3,7 @@ use Rattle.std.specs.Prelude.{Contains}
 use Rattle.mm_frame.specs.Code.LastItems.{IsRising}
 use Rattle.mm_frame.specs.Code.Numbers.{IsNameNumber}
 use Rattle.mm_frame.specs.Code.KeptPairTable.{row_at}
-use Rattle.mm_frame.proofs.AskedLemmas.{IsFirstFrom, active_told, ended_told, next_answer}
+use Rattle.mm_frame.proofs.lemmas.pairs.AskedLemmas.{IsFirstFrom, active_told, ended_told, next_answer}
 use Rattle.mm_frame.proofs.paired.ask.Goals as goal
 
 pub returns-then-is_active_number-clause-value : goal.returns-then-is_active_number-clause-value

@@ -1,5 +1,5 @@
 use Rattle.std.proofs.Common.{◌-◌, length, sym, arith}
-use Rattle.mm_frame.proofs.Members.{in_contains, get_in}
+use Rattle.mm_frame.proofs.lemmas.lists.Members.{in_contains, get_in}
 use Rattle.mm_frame.proofs.paired.end_of.Goals as goal
 
 pub returns-in-Some : goal.returns-in-Some

@@ -1,4 +1,4 @@
-use Rattle.mm_frame.proofs.AskedLemmas.{some_weaker, none_weaker}
+use Rattle.mm_frame.proofs.lemmas.pairs.AskedLemmas.{some_weaker, none_weaker}
 use Rattle.mm_frame.proofs.paired.first_common.Goals as goal
 
 pub returns-then-row-other-clause-least : goal.returns-then-row-other-clause-least

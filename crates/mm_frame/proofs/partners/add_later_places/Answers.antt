@@ -1,7 +1,7 @@
 use Rattle.std.proofs.Common.{false, ◌++◌, flat_map, take_all, ap, ◌∙◌}
 use Rattle.mm_frame.specs.declared.symbol.NumberedSymbol.{NumberedSymbol}
 use Rattle.mm_frame.specs.Code.KeptPlaces.{later_place}
-use Rattle.mm_frame.proofs.Growing.{flat_map_grows}
+use Rattle.mm_frame.proofs.lemmas.lists.Growing.{flat_map_grows}
 use Rattle.mm_frame.proofs.partners.add_later_places.Goals as goal
 
 pub loop-symbol-preserved : goal.loop-symbol-preserved

@@ -1,7 +1,7 @@
 use Rattle.std.proofs.Common.{◌++◌, map, append-nil, ap, sym, ◌∙◌}
 use Rattle.std.specs.Prelude.{option_to_list}
 use Rattle.mm_frame.specs.declared.symbol.NumberedSymbol.{NumberedSymbol}
-use Rattle.mm_frame.proofs.PlaceLemmas.{no_item}
+use Rattle.mm_frame.proofs.lemmas.pairs.PlaceLemmas.{no_item}
 use Rattle.mm_frame.proofs.partners.add_partner_at.Goals as goal
 
 pub returns-in_default : goal.returns-in_default

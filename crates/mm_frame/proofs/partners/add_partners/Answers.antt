@@ -8,8 +8,8 @@ use Rattle.mm_frame.specs.Language.Answering.{are_paired}
 use Rattle.mm_frame.specs.Language.NumberedSymbols.{symbol_of, symbols_of, ArePairsRead}
 use Rattle.mm_frame.specs.Code.KeptPlaces.{later_places_at, pair_at}
 use Rattle.mm_frame.specs.Code.KeptPairTable.{row_at}
-use Rattle.mm_frame.proofs.ActivePairLemmas.{pairs_with}
-use Rattle.mm_frame.proofs.PlaceLemmas.{Searches, partners_added}
+use Rattle.mm_frame.proofs.lemmas.pairs.ActivePairLemmas.{pairs_with}
+use Rattle.mm_frame.proofs.lemmas.pairs.PlaceLemmas.{Searches, partners_added}
 use Rattle.mm_frame.proofs.partners.add_partners.Goals as goal
 
 pub returns : goal.returns

@@ -1,5 +1,5 @@
 use Rattle.std.proofs.Common.{take}
-use Rattle.mm_frame.proofs.SharedPairs.{HasEitherWay}
+use Rattle.mm_frame.proofs.lemmas.pairs.SharedPairs.{HasEitherWay}
 use Rattle.mm_frame.proofs.same.has_each.Given as goal
 
 abbrev pub invariant-loop-pair : goal.invariant-loop-pair

@@ -2,7 +2,7 @@ use Rattle.std.proofs.Common.{sym, ◌∙◌}
 use Rattle.std.proofs.lemmas.Bool.{false≢true}
 use Rattle.mm_frame.specs.Language.Base.{before}
 use Rattle.mm_frame.specs.Language.Framing.{active_pairs}
-use Rattle.mm_frame.proofs.SharedPairs.{all_either_way, same_told}
+use Rattle.mm_frame.proofs.lemmas.pairs.SharedPairs.{all_either_way, same_told}
 use Rattle.mm_frame.proofs.same.same_active_pairs.Goals as goal
 
 pub returns-then-same_pairs : goal.returns-then-same_pairs

@@ -1,6 +1,6 @@
 use Rattle.std.proofs.Common.{◌∙◌, ap, sym}
 use Rattle.mm_frame.specs.Language.NumberedSymbols.{symbols_of}
-use Rattle.mm_frame.proofs.SameLemmas.{expression_shown, expression_there, numbers_from_readings}
+use Rattle.mm_frame.proofs.lemmas.frames.SameLemmas.{expression_shown, expression_there, numbers_from_readings}
 use Rattle.mm_frame.proofs.same.same_expression.Goals as goal
 
 pub returns-in-Some-Some : goal.returns-in-Some-Some

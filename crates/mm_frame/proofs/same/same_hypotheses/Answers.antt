@@ -3,7 +3,7 @@ use Rattle.std.proofs.lemmas.Bool.{false≢true}
 use Rattle.std.proofs.lemmas.List.Elements.{All-get_or}
 use Rattle.std.proofs.lemmas.Option.{slice_get-get_or}
 use Rattle.mm_frame.specs.Language.Base.{is_shown_at, hypothesis_at}
-use Rattle.mm_frame.proofs.SameLemmas.{same_more, same_whole, same_each, same_long}
+use Rattle.mm_frame.proofs.lemmas.frames.SameLemmas.{same_more, same_whole, same_each, same_long}
 use Rattle.mm_frame.proofs.same.same_hypotheses.Goals as goal
 
 pub returns-then-mine-yours : goal.returns-then-mine-yours

@@ -1,5 +1,5 @@
 use Rattle.std.proofs.lemmas.Slice.Eq.{slice_eq-Decides}
-use Rattle.mm_frame.proofs.SameLemmas.{pairs_decide}
+use Rattle.mm_frame.proofs.lemmas.frames.SameLemmas.{pairs_decide}
 use Rattle.mm_frame.proofs.same.same_pairs.Goals as goal
 
 pub returns : goal.returns

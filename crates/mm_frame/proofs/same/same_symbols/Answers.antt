@@ -1,5 +1,5 @@
 use Rattle.std.proofs.lemmas.Slice.Eq.{slice_eq-Decides}
-use Rattle.mm_frame.proofs.SameLemmas.{symbols_decide}
+use Rattle.mm_frame.proofs.lemmas.frames.SameLemmas.{symbols_decide}
 use Rattle.mm_frame.proofs.same.same_symbols.Goals as goal
 
 pub returns : goal.returns

@@ -1,5 +1,5 @@
 use Rattle.std.proofs.Common.{◌∷◌, [], ◌++◌, sym, ◌∙◌}
-use Rattle.mm_frame.proofs.SpokenLemmas.{symbols_passed, symbols_more, symbols_closed, symbols_ended}
+use Rattle.mm_frame.proofs.lemmas.reading.SpokenLemmas.{symbols_passed, symbols_more, symbols_closed, symbols_ended}
 use Rattle.mm_frame.proofs.statement.pass_symbols.Goals as goal
 
 pub returns-in_default-clause-rest : goal.returns-in_default-clause-rest

@@ -1,6 +1,6 @@
 use Rattle.std.proofs.Common.{◌≡◌, List, length}
 use Rattle.mm_store.specs.mm_text.declared.word.Word.{Word}
-use Rattle.mm_frame.proofs.SpokenLemmas.{Symbols}
+use Rattle.mm_frame.proofs.lemmas.reading.SpokenLemmas.{Symbols}
 use Rattle.mm_frame.proofs.statement.pass_symbols.Given as goal
 
 abbrev pub invariant-loop-word : goal.invariant-loop-word

@@ -3,7 +3,7 @@ use Rattle.std.specs.Prelude.{All}
 use Rattle.std.proofs.lemmas.List.Elements.{All-push}
 use Rattle.mm_store.specs.mm_text.Language.Reading.{LiesIn}
 use Rattle.mm_frame.specs.Code.PlainWords.{LiesInText}
-use Rattle.mm_frame.proofs.SpokenLemmas.{Symbols, symbols_more, symbols_closed}
+use Rattle.mm_frame.proofs.lemmas.reading.SpokenLemmas.{Symbols, symbols_more, symbols_closed}
 use Rattle.mm_frame.proofs.statement.read_symbols.Goals as goal
 
 pub returns-then-not-is_plain-clause-rest : goal.returns-then-not-is_plain-clause-rest

@@ -1,7 +1,7 @@
 use Rattle.std.proofs.Common.{◌≡◌, length}
 use Rattle.std.specs.Prelude.{All}
 use Rattle.mm_frame.specs.Code.PlainWords.{LiesInText}
-use Rattle.mm_frame.proofs.SpokenLemmas.{Symbols}
+use Rattle.mm_frame.proofs.lemmas.reading.SpokenLemmas.{Symbols}
 use Rattle.mm_frame.proofs.statement.read_symbols.Given as goal
 
 abbrev pub invariant-loop-word : goal.invariant-loop-word

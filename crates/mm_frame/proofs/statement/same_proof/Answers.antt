@@ -1,6 +1,6 @@
 use Rattle.std.proofs.Common.{refl, sym, ap, ◌∙◌}
 use Rattle.mm_frame.specs.Language.Item.{Item}
-use Rattle.mm_frame.proofs.PieceLemmas.{AreOneRange, same_said}
+use Rattle.mm_frame.proofs.lemmas.reading.PieceLemmas.{AreOneRange, same_said}
 use Rattle.mm_frame.proofs.statement.same_proof.Goals as goal
 
 pub returns-then-is_same_range : goal.returns-then-is_same_range

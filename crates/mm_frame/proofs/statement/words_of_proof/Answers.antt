@@ -3,8 +3,8 @@ use Rattle.std.proofs.lemmas.List.{length-take, length-drop}
 use Rattle.mm_frame.specs.Language.Item.{Item}
 use Rattle.mm_frame.specs.Language.Statement.{kind_of}
 use Rattle.mm_frame.specs.Code.PlainWords.{plain_words}
-use Rattle.mm_frame.proofs.PieceLemmas.{has_words, ends_within, has_one, said_is}
-use Rattle.mm_frame.proofs.SpokenLemmas.{behind_one, item_read, passed, proof_few, proof_some, proof_bytes, rest_few, rest_some, rest_bytes}
+use Rattle.mm_frame.proofs.lemmas.reading.PieceLemmas.{has_words, ends_within, has_one, said_is}
+use Rattle.mm_frame.proofs.lemmas.reading.SpokenLemmas.{behind_one, item_read, passed, proof_few, proof_some, proof_bytes, rest_few, rest_some, rest_bytes}
 use Rattle.mm_frame.proofs.statement.words_of_proof.Goals as goal
 
 pub slice_bounds-text-end : goal.slice_bounds-text-end

@@ -4,9 +4,9 @@ use Rattle.std.proofs.lemmas.Bool.{false≢true}
 use Rattle.std.proofs.lemmas.List.{length-map}
 use Rattle.std.proofs.lemmas.Option.{slice_get_within}
 use Rattle.mm_proof.specs.Code.Keys.{home_at}
-use Rattle.mm_proof.proofs.FlatLemmas.{mapped_get, mapped_at}
-use Rattle.mm_proof.proofs.ApartLemmas.{contains_at}
-use Rattle.mm_proof.proofs.MarkLemmas.{marked_found}
+use Rattle.mm_proof.proofs.lemmas.machine.FlatLemmas.{mapped_get, mapped_at}
+use Rattle.mm_proof.proofs.lemmas.machine.ApartLemmas.{contains_at}
+use Rattle.mm_proof.proofs.lemmas.machine.MarkLemmas.{marked_found}
 use Rattle.mm_proof.proofs.active.is_marked.Goals as goal
 
 pub returns-then-place-xs : goal.returns-then-place-xs

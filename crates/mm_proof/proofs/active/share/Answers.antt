@@ -2,8 +2,8 @@ use Rattle.std.proofs.Common.{map, sym, ◌∙◌, arith, length, subst}
 use Rattle.std.specs.Prelude.{Contains}
 use Rattle.std.proofs.lemmas.Bool.{false≢true}
 use Rattle.std.proofs.lemmas.List.{length-map}
-use Rattle.mm_proof.proofs.FlatLemmas.{mapped_get}
-use Rattle.mm_proof.proofs.ApartLemmas.{each_more, each_all, contains_at}
+use Rattle.mm_proof.proofs.lemmas.machine.FlatLemmas.{mapped_get}
+use Rattle.mm_proof.proofs.lemmas.machine.ApartLemmas.{each_more, each_all, contains_at}
 use Rattle.mm_proof.specs.Code.Keys.{home_at}
 use Rattle.mm_proof.specs.Code.PairClause.{AreKeyPlaces}
 use Rattle.mm_proof.proofs.active.share.Goals as goal

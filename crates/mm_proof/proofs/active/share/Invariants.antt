@@ -1,6 +1,6 @@
 use Rattle.std.proofs.Common.{map}
 use Rattle.std.specs.Prelude.{Contains}
-use Rattle.mm_proof.proofs.ApartLemmas.{EachUpTo}
+use Rattle.mm_proof.proofs.lemmas.machine.ApartLemmas.{EachUpTo}
 use Rattle.mm_proof.proofs.active.share.Given as goal
 
 abbrev pub invariant-loop-i : goal.invariant-loop-i

@@ -1,8 +1,8 @@
 use Rattle.std.proofs.Common.{◌≢◌, map, sym, ◌∙◌, arith, refl, Some, ap}
 use Rattle.std.proofs.lemmas.Bool.{false≢true}
 use Rattle.std.proofs.lemmas.List.{length-map}
-use Rattle.mm_proof.proofs.FlatLemmas.{mapped_get}
-use Rattle.mm_proof.proofs.ApartLemmas.{each_more, each_all, contains_at}
+use Rattle.mm_proof.proofs.lemmas.machine.FlatLemmas.{mapped_get}
+use Rattle.mm_proof.proofs.lemmas.machine.ApartLemmas.{each_more, each_all, contains_at}
 use Rattle.mm_proof.proofs.active.stands_in.Goals as goal
 
 pub loop-i-preserved : goal.loop-i-preserved

@@ -1,5 +1,5 @@
 use Rattle.std.proofs.Common.{◌≢◌, map}
-use Rattle.mm_proof.proofs.ApartLemmas.{EachUpTo}
+use Rattle.mm_proof.proofs.lemmas.machine.ApartLemmas.{EachUpTo}
 use Rattle.mm_proof.proofs.active.stands_in.Given as goal
 
 abbrev pub invariant-loop-i : goal.invariant-loop-i

@@ -11,8 +11,8 @@ use Rattle.mm_proof.specs.Language.Renaming.{renamed_pairs}
 use Rattle.mm_proof.specs.Code.Citation.{meant_pairs}
 use Rattle.mm_proof.specs.Code.Numbering.{unnaming}
 use Rattle.mm_frame.specs.Language.NumberedSymbols.{by_number}
-use Rattle.mm_proof.proofs.KeyOrderLemmas.{numbered_in_order}
-use Rattle.mm_proof.proofs.RenamedFrames.{pairs_by_number}
+use Rattle.mm_proof.proofs.lemmas.machine.KeyOrderLemmas.{numbered_in_order}
+use Rattle.mm_proof.proofs.lemmas.renaming.RenamedFrames.{pairs_by_number}
 use Rattle.mm_proof.proofs.assertion.active.Goals as goal
 
 abbrev Kept : Type 0

@@ -9,8 +9,8 @@ use Rattle.mm_proof.specs.Code.Citation.{meant_pairs}
 use Rattle.mm_proof.specs.Code.Numbering.{unnaming}
 use Rattle.mm_frame.specs.Language.NumberedSymbols.{by_number}
 use Rattle.mm_proof.specs.Code.NumberedBase.{numbered_hypothesis, numbered_frame}
-use Rattle.mm_proof.proofs.FrameLemmas.{shown_framed}
-use Rattle.mm_proof.proofs.RenamedFrames.{pairs_by_number}
+use Rattle.mm_proof.proofs.lemmas.base.FrameLemmas.{shown_framed}
+use Rattle.mm_proof.proofs.lemmas.renaming.RenamedFrames.{pairs_by_number}
 use Rattle.mm_proof.proofs.assertion.assertion_of.Goals as goal
 
 pub returns-in_ok-hypotheses-in-Some : goal.returns-in_ok-hypotheses-in-Some

@@ -1,6 +1,6 @@
 use Rattle.std.proofs.Common.{map, sym, ◌∙◌, ap}
 use Rattle.mm_proof.specs.Code.Numbering.{unnaming}
-use Rattle.mm_proof.proofs.NumberingLemmas.{symbols_numbered}
+use Rattle.mm_proof.proofs.lemmas.renaming.NumberingLemmas.{symbols_numbered}
 use Rattle.mm_proof.proofs.assertion.expression.Goals as goal
 
 pub returns : goal.returns

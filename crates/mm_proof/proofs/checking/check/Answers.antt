@@ -1,5 +1,5 @@
 use Rattle.std.proofs.Common.{◌+◌, ◌∙◌, ap, arith}
-use Rattle.mm_proof.proofs.SaysLemmas.{read_at, theorem_at}
+use Rattle.mm_proof.proofs.lemmas.base.SaysLemmas.{read_at, theorem_at}
 use Rattle.mm_proof.proofs.checking.check.Goals as goal
 
 pub words_of_proof-proof-requires : goal.words_of_proof-proof-requires

@@ -1,5 +1,5 @@
-use Rattle.mm_proof.proofs.DecodedProofs.{decoded}
-use Rattle.mm_proof.proofs.FrameLemmas.{framed_proof}
+use Rattle.mm_proof.proofs.lemmas.decoding.DecodedProofs.{decoded}
+use Rattle.mm_proof.proofs.lemmas.base.FrameLemmas.{framed_proof}
 use Rattle.mm_proof.proofs.checking.judge.Goals as goal
 
 pub judge_steps-requires : goal.judge_steps-requires

@@ -14,8 +14,8 @@ use Rattle.mm_proof.specs.declared.Verdict.{Verdict}
 use Rattle.mm_proof.specs.Language.DecodedSteps.{meant, decoded_steps, entry_steps}
 use Rattle.mm_proof.specs.Code.Judged.{done_by, IsOutcomeWithin}
 use Rattle.mm_proof.specs.Code.Tasks.{actions_mean}
-use Rattle.mm_proof.proofs.FrameLemmas.{framed_proof}
-use Rattle.mm_proof.proofs.DecodedProofs.{done_says}
+use Rattle.mm_proof.proofs.lemmas.base.FrameLemmas.{framed_proof}
+use Rattle.mm_proof.proofs.lemmas.decoding.DecodedProofs.{done_says}
 use Rattle.mm_proof.proofs.checking.judge_steps.Goals as goal
 
 pub returns-clause-verdict : goal.returns-clause-verdict

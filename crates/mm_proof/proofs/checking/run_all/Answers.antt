@@ -14,14 +14,14 @@ use Rattle.mm_proof.specs.Code.NumberedBase.{all_by_number, numbered_setting}
 use Rattle.mm_proof.specs.Language.DecodedSteps.{AreEntries, entry_steps}
 use Rattle.mm_proof.specs.Language.Expansion.{Step}
 use Rattle.mm_proof.specs.Code.UsedLabels.{IsPart, KeepsUsed}
-use Rattle.mm_proof.proofs.UsedLemmas.{part_entries, part_means}
+use Rattle.mm_proof.proofs.lemmas.machine.UsedLemmas.{part_entries, part_means}
 use Rattle.mm_proof.specs.Code.Tasks.{AreSavedBefore, AreUses, RunSays, actions_mean}
 use Rattle.mm_proof.specs.declared.step.ProofStep.{ProofStep}
-use Rattle.mm_proof.proofs.FrameLemmas.{shown_proof}
-use Rattle.mm_proof.proofs.ItemLemmas.{active_usable}
-use Rattle.mm_proof.proofs.DecodedProofs.{named_by, saved_before}
-use Rattle.mm_proof.proofs.ReaderLemmas.{if_ok}
-use Rattle.mm_proof.proofs.RenamedFrames.{frames_by_number, run_named}
+use Rattle.mm_proof.proofs.lemmas.base.FrameLemmas.{shown_proof}
+use Rattle.mm_proof.proofs.lemmas.verdicts.ItemLemmas.{active_usable}
+use Rattle.mm_proof.proofs.lemmas.decoding.DecodedProofs.{named_by, saved_before}
+use Rattle.mm_proof.proofs.lemmas.decoding.ReaderLemmas.{if_ok}
+use Rattle.mm_proof.proofs.lemmas.renaming.RenamedFrames.{frames_by_number, run_named}
 use Rattle.mm_proof.specs.Code.Judged.{IsOutcomeWithin}
 use Rattle.mm_proof.proofs.checking.run_all.Goals as goal
 

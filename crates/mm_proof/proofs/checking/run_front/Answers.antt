@@ -13,19 +13,19 @@ use Rattle.mm_frame.specs.Language.NumberedSymbols.{by_number}
 use Rattle.mm_proof.specs.Code.NumberedBase.{numbered_setting}
 use Rattle.mm_proof.specs.Language.DecodedSteps.{AreEntries, entry_steps}
 use Rattle.mm_proof.specs.Code.UsedLabels.{IsPart, KeepsUsed}
-use Rattle.mm_proof.proofs.UsedLemmas.{part_entries}
+use Rattle.mm_proof.proofs.lemmas.machine.UsedLemmas.{part_entries}
 use Rattle.mm_proof.specs.Code.Tasks.{AreSavedBefore, AreUses, actions_mean}
 use Rattle.mm_proof.specs.declared.step.ProofStep.{ProofStep}
-use Rattle.mm_proof.proofs.LackLemmas.{front_lacks, front_stops, saved_before_front}
+use Rattle.mm_proof.proofs.lemmas.machine.LackLemmas.{front_lacks, front_stops, saved_before_front}
 use Rattle.std.proofs.lemmas.List.{length-map}
 use Rattle.std.proofs.lemmas.Option.{slice_get_within}
 use Rattle.mm_proof.specs.Code.Flat.{read}
 use Rattle.mm_proof.specs.Code.MachineState.{state_of}
 use Rattle.mm_proof.specs.Code.ShortSteps.{TakesMore}
 use Rattle.mm_proof.specs.Code.Tasks.{AreDoneTo, StopsAt}
-use Rattle.mm_proof.proofs.ItemLemmas.{active_usable}
-use Rattle.mm_proof.proofs.DecodedProofs.{named_by, saved_before}
-use Rattle.mm_proof.proofs.RenamedFrames.{frames_by_number}
+use Rattle.mm_proof.proofs.lemmas.verdicts.ItemLemmas.{active_usable}
+use Rattle.mm_proof.proofs.lemmas.decoding.DecodedProofs.{named_by, saved_before}
+use Rattle.mm_proof.proofs.lemmas.renaming.RenamedFrames.{frames_by_number}
 use Rattle.mm_proof.proofs.checking.run_front.Goals as goal
 
 pub name_all-requires : goal.name_all-requires

@@ -3,7 +3,7 @@ use Rattle.mm_proof.specs.Language.DecodedSteps.{decoded_steps}
 use Rattle.mm_proof.specs.Code.Judged.{IsOutcomeWithin}
 use Rattle.mm_proof.specs.Code.Tasks.{RunSays}
 use Rattle.mm_proof.specs.declared.step.ProofStep.{ProofStep}
-use Rattle.mm_proof.proofs.FlatLemmas.{mapped_get}
+use Rattle.mm_proof.proofs.lemmas.machine.FlatLemmas.{mapped_get}
 use Rattle.mm_proof.proofs.checking.verdict.Goals as goal
 
 pub index-requires : goal.index-requires

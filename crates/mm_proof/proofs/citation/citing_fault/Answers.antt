@@ -2,8 +2,8 @@ use Rattle.std.proofs.Common.{map}
 use Rattle.mm_proof.specs.Code.Flat.{read_all}
 use Rattle.mm_proof.specs.Code.Citation.{frame_from}
 use Rattle.mm_proof.specs.Code.Citation.{meant_pairs}
-use Rattle.mm_proof.proofs.EntryFaults.{gives_all, hypotheses_known, count_of}
-use Rattle.mm_proof.proofs.CitingFaults.{says08, says09, says_pairs, says12}
+use Rattle.mm_proof.proofs.lemmas.machine.EntryFaults.{gives_all, hypotheses_known, count_of}
+use Rattle.mm_proof.proofs.lemmas.machine.CitingFaults.{says08, says09, says_pairs, says12}
 use Rattle.mm_proof.proofs.citation.citing_fault.Goals as goal
 
 pub essentials_fit-requires-clause-typed : goal.essentials_fit-requires-clause-typed

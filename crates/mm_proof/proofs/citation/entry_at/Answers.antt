@@ -1,7 +1,7 @@
 use Rattle.std.proofs.Common.{Some, map, get_or, sym, ◌∙◌, ap}
 use Rattle.mm_proof.specs.declared.pattern.Entry.{Entry}
 use Rattle.mm_proof.specs.Code.Flat.{read}
-use Rattle.mm_proof.proofs.FlatLemmas.{mapped_or_get, entry_map}
+use Rattle.mm_proof.proofs.lemmas.machine.FlatLemmas.{mapped_or_get, entry_map}
 use Rattle.mm_proof.proofs.citation.entry_at.Goals as goal
 
 pub returns : goal.returns

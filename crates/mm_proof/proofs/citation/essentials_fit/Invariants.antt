@@ -2,7 +2,7 @@ use Rattle.std.proofs.Common.{List, map}
 use Rattle.mm_frame.specs.Language.Frame.{Symbol}
 use Rattle.mm_proof.specs.Code.Flat.{read_all}
 use Rattle.mm_proof.specs.Code.Citation.{hypotheses_of, GivesEntries, OtherEssential}
-use Rattle.mm_proof.proofs.EntryFaults.{NoneUpTo}
+use Rattle.mm_proof.proofs.lemmas.machine.EntryFaults.{NoneUpTo}
 use Rattle.mm_proof.proofs.citation.essentials_fit.Given as goal
 
 abbrev pub invariant-loop-place : goal.invariant-loop-place

@@ -3,8 +3,8 @@ use Rattle.std.proofs.lemmas.Bool.{false≢true}
 use Rattle.std.proofs.lemmas.List.{length-map}
 use Rattle.mm_proof.specs.Code.Flat.{read_all}
 use Rattle.mm_proof.specs.Code.Citation.{hypotheses_of, mandatory_of, OtherTypecode}
-use Rattle.mm_proof.proofs.FlatLemmas.{mapped_or_get}
-use Rattle.mm_proof.proofs.EntryFaults.{none_more, none_all, any_at}
+use Rattle.mm_proof.proofs.lemmas.machine.FlatLemmas.{mapped_or_get}
+use Rattle.mm_proof.proofs.lemmas.machine.EntryFaults.{none_more, none_all, any_at}
 use Rattle.mm_proof.proofs.citation.typecodes_match.Goals as goal
 
 pub returns-then-is_other_typecode : goal.returns-then-is_other_typecode

@@ -1,6 +1,6 @@
 use Rattle.std.proofs.Common.{ℕ, List, ◌++◌, ap}
 use Rattle.mm_proof.specs.Code.Cited.{marked_at}
-use Rattle.mm_proof.proofs.MarkedLemmas.{cites_other}
+use Rattle.mm_proof.proofs.lemmas.citing.MarkedLemmas.{cites_other}
 use Rattle.mm_proof.proofs.citing.cite.Goals as goal
 
 pub returns-in_default : goal.returns-in_default

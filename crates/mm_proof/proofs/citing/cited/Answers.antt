@@ -1,7 +1,7 @@
 use Rattle.std.proofs.Common.{◌≡◌, ◌+◌, ◌-◌, ◌++◌, List, ℕ, ap, ◌∙◌, arith, drop}
 use Rattle.std.specs.List.{list_any}
 use Rattle.mm_proof.specs.Code.Cited.{item_cites, marked_at, names_item}
-use Rattle.mm_proof.proofs.MarkedLemmas.{listed_behind, cites_alike}
+use Rattle.mm_proof.proofs.lemmas.citing.MarkedLemmas.{listed_behind, cites_alike}
 use Rattle.mm_proof.proofs.citing.cited.Goals as goal
 
 pub loop-k-init : goal.loop-k-init

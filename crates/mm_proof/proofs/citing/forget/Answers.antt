@@ -4,7 +4,7 @@ use Rattle.std.proofs.lemmas.List.{take_all}
 use Rattle.mm_proof.specs.Code.Cited.{is_listed, is_item, cited_item, marked_at}
 use Rattle.std.specs.Prelude.{Some}
 use Rattle.mm_frame.specs.declared.base.Resolved.{Resolved}
-use Rattle.mm_proof.proofs.MarkedLemmas.{listed_next, taken_off, still_off, not_named}
+use Rattle.mm_proof.proofs.lemmas.citing.MarkedLemmas.{listed_next, taken_off, still_off, not_named}
 use Rattle.mm_proof.proofs.citing.forget.Goals.{in-Assertion, in_default}
 use Rattle.mm_frame.specs.declared.base.Resolved.TheVariants as answers
 use Rattle.mm_proof.proofs.citing.forget.Goals as goal

@@ -1,4 +1,4 @@
-use Rattle.mm_proof.proofs.TellLemmas.{each_names, cites_tell}
+use Rattle.mm_proof.proofs.lemmas.citing.TellLemmas.{each_names, cites_tell}
 use Rattle.mm_proof.proofs.citing_laws.cites_tell.Goals as goal
 
 pub returns-clause-each : goal.returns-clause-each

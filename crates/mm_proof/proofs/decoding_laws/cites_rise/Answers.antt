@@ -1,4 +1,4 @@
-use Rattle.mm_proof.proofs.RiseLemmas.{rises}
+use Rattle.mm_proof.proofs.lemmas.citing.RiseLemmas.{rises}
 use Rattle.mm_proof.proofs.decoding_laws.cites_rise.Goals as goal
 
 pub returns : goal.returns

@@ -1,4 +1,4 @@
-use Rattle.mm_proof.proofs.ShortLemmas.{decodes_short}
+use Rattle.mm_proof.proofs.lemmas.decoding.ShortLemmas.{decodes_short}
 use Rattle.mm_proof.proofs.decoding_laws.decodes_short.Goals as goal
 
 pub returns : goal.returns

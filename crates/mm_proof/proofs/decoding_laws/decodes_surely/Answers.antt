@@ -1,4 +1,4 @@
-use Rattle.mm_proof.proofs.SureLemmas.{decodes_surely}
+use Rattle.mm_proof.proofs.lemmas.decoding.SureLemmas.{decodes_surely}
 use Rattle.mm_proof.proofs.decoding_laws.decodes_surely.Goals as goal
 
 pub returns : goal.returns

@@ -1,4 +1,4 @@
-use Rattle.mm_proof.proofs.GroupLemmas.{one_division}
+use Rattle.mm_proof.proofs.lemmas.decoding.GroupLemmas.{one_division}
 use Rattle.mm_proof.proofs.decoding_laws.has_one_division.Goals as goal
 
 pub returns : goal.returns

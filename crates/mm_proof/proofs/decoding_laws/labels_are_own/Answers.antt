@@ -1,4 +1,4 @@
-use Rattle.mm_proof.proofs.BaseLemmas.{labels_are_own}
+use Rattle.mm_proof.proofs.lemmas.base.BaseLemmas.{labels_are_own}
 use Rattle.mm_proof.proofs.decoding_laws.labels_are_own.Goals as goal
 
 pub returns : goal.returns

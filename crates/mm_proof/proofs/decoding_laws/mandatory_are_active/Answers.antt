@@ -1,4 +1,4 @@
-use Rattle.mm_proof.proofs.BaseLemmas.{mandatory_are_active}
+use Rattle.mm_proof.proofs.lemmas.base.BaseLemmas.{mandatory_are_active}
 use Rattle.mm_proof.proofs.decoding_laws.mandatory_are_active.Goals as goal
 
 pub returns : goal.returns

@@ -1,4 +1,4 @@
-use Rattle.mm_proof.proofs.NumberLemmas.{numbers_apart}
+use Rattle.mm_proof.proofs.lemmas.decoding.NumberLemmas.{numbers_apart}
 use Rattle.mm_proof.proofs.decoding_laws.numbers_are_apart.Goals as goal
 
 pub returns : goal.returns

@@ -1,4 +1,4 @@
-use Rattle.mm_proof.proofs.SameCites.{cites_same}
+use Rattle.mm_proof.proofs.lemmas.views.SameCites.{cites_same}
 use Rattle.mm_proof.proofs.decoding_laws.same_cites_same.Goals as goal
 
 pub returns : goal.returns

@@ -1,4 +1,4 @@
-use Rattle.mm_proof.proofs.SameLemmas.{decodes_same}
+use Rattle.mm_proof.proofs.lemmas.views.SameLemmas.{decodes_same}
 use Rattle.mm_proof.proofs.decoding_laws.same_decodes_same.Goals as goal
 
 pub returns : goal.returns

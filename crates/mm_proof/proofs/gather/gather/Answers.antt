@@ -1,7 +1,7 @@
 use Rattle.std.proofs.Common.{map, ℕ, subst, arith, length, ◌≡◌}
 use Rattle.mm_proof.specs.Code.PairClause.{GathersOne, GatheredUpTo}
-use Rattle.mm_proof.proofs.FlatLemmas.{mapped_get}
-use Rattle.mm_proof.proofs.ApartLemmas.{gathered_more, gathered_none}
+use Rattle.mm_proof.proofs.lemmas.machine.FlatLemmas.{mapped_get}
+use Rattle.mm_proof.proofs.lemmas.machine.ApartLemmas.{gathered_more, gathered_none}
 use Rattle.std.proofs.lemmas.List.{length-map}
 use Rattle.mm_proof.proofs.gather.gather.Goals as goal
 

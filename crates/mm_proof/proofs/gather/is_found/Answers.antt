@@ -1,6 +1,6 @@
 use Rattle.std.proofs.Common.{Some, map, get_or, ◌∙◌, ap, arith}
-use Rattle.mm_proof.proofs.FlatLemmas.{mapped_get}
-use Rattle.mm_proof.proofs.ApartLemmas.{contains_behind, contains_rest}
+use Rattle.mm_proof.proofs.lemmas.machine.FlatLemmas.{mapped_get}
+use Rattle.mm_proof.proofs.lemmas.machine.ApartLemmas.{contains_behind, contains_rest}
 use Rattle.mm_proof.proofs.gather.is_found.Goals as goal
 
 pub returns-then-variables-start-le-FEW : goal.returns-then-variables-start-le-FEW

@@ -1,4 +1,4 @@
-use Rattle.mm_proof.proofs.ItemLemmas.{one_count_at}
+use Rattle.mm_proof.proofs.lemmas.verdicts.ItemLemmas.{one_count_at}
 use Rattle.mm_proof.proofs.item_laws.has_one_count_at.Goals as goal
 
 pub returns : goal.returns

@@ -1,4 +1,4 @@
-use Rattle.mm_proof.proofs.ItemLemmas.{has_verdict_at}
+use Rattle.mm_proof.proofs.lemmas.verdicts.ItemLemmas.{has_verdict_at}
 use Rattle.mm_proof.proofs.item_laws.has_verdict_at.Goals as goal
 
 pub returns : goal.returns

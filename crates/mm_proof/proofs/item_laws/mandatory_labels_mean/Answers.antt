@@ -1,4 +1,4 @@
-use Rattle.mm_proof.proofs.ItemLemmas.{labels_mean}
+use Rattle.mm_proof.proofs.lemmas.verdicts.ItemLemmas.{labels_mean}
 use Rattle.mm_proof.proofs.item_laws.mandatory_labels_mean.Goals as goal
 
 pub returns : goal.returns

@@ -1,4 +1,4 @@
-use Rattle.mm_proof.proofs.ItemLemmas.{proved_at}
+use Rattle.mm_proof.proofs.lemmas.verdicts.ItemLemmas.{proved_at}
 use Rattle.mm_proof.proofs.item_laws.proved_is_derived_at.Goals as goal
 
 pub returns : goal.returns

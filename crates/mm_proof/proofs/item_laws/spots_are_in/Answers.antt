@@ -1,4 +1,4 @@
-use Rattle.mm_proof.proofs.SpotLemmas.{spots_at}
+use Rattle.mm_proof.proofs.lemmas.decoding.SpotLemmas.{spots_at}
 use Rattle.mm_proof.proofs.item_laws.spots_are_in.Goals as goal
 
 pub returns : goal.returns

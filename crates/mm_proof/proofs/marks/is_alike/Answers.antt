@@ -1,6 +1,6 @@
 use Rattle.std.proofs.Common.{inl, inr}
 use Rattle.mm_proof.specs.Code.KeptMarks.{kept_mark}
-use Rattle.mm_proof.proofs.InStepLemmas.{frame_kept, same_level}
+use Rattle.mm_proof.proofs.lemmas.views.InStepLemmas.{frame_kept, same_level}
 use Rattle.mm_proof.proofs.marks.is_alike.Goals as goal
 
 pub returns-then-mark : goal.returns-then-mark

@@ -1,7 +1,7 @@
 use Rattle.std.proofs.Common.{◌≡◌, sym, ◌∙◌, subst}
 use Rattle.std.proofs.lemmas.Option.{same_Some}
 use Rattle.mm_proof.specs.Code.InStep.{ordinal}
-use Rattle.mm_proof.proofs.InStepLemmas.{same_level}
+use Rattle.mm_proof.proofs.lemmas.views.InStepLemmas.{same_level}
 use Rattle.mm_proof.proofs.marks.is_level.Goals as goal
 
 pub returns-in-Some : goal.returns-in-Some

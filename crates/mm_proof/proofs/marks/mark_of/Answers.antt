@@ -1,6 +1,6 @@
 use Rattle.std.proofs.Common.{false}
 use Rattle.std.proofs.lemmas.Bool.{false≢true}
-use Rattle.mm_proof.proofs.KeptMarkLemmas.{nothing_kept, some_kept}
+use Rattle.mm_proof.proofs.lemmas.views.KeptMarkLemmas.{nothing_kept, some_kept}
 use Rattle.mm_proof.proofs.marks.mark_of.Goals as goal
 
 pub returns-in_default-clause-mark : goal.returns-in_default-clause-mark

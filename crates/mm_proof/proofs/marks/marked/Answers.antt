@@ -1,6 +1,6 @@
 use Rattle.std.proofs.Common.{sym, ◌∙◌}
 use Rattle.std.proofs.lemmas.Bool.{false≢true}
-use Rattle.mm_proof.proofs.InStepLemmas.{in_step_labels, in_step_more, stepped}
+use Rattle.mm_proof.proofs.lemmas.views.InStepLemmas.{in_step_labels, in_step_more, stepped}
 use Rattle.mm_proof.proofs.marks.marked.Goals.{then-step, else-step, then-step-2, else-step-2}
 use Rattle.mm_proof.proofs.marks.marked.Goals as goal
 

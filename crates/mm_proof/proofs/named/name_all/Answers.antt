@@ -6,8 +6,8 @@ use Rattle.mm_frame.specs.declared.base.Resolved.{Resolved}
 use Rattle.mm_frame.specs.declared.base.Resolved.TheVariants as answers
 use Rattle.mm_proof.specs.Code.NamedItems.{IsUseOf}
 use Rattle.mm_proof.specs.declared.named.Use.{Use}
-use Rattle.mm_proof.proofs.StepLemmas.{take_next}
-use Rattle.mm_proof.proofs.NamedLemmas.{uses_grow, uses_more, uses_within, uses_mean}
+use Rattle.mm_proof.proofs.lemmas.machine.StepLemmas.{take_next}
+use Rattle.mm_proof.proofs.lemmas.machine.NamedLemmas.{uses_grow, uses_more, uses_within, uses_mean}
 use Rattle.mm_proof.proofs.named.name_all.Goals as goal
 
 pub loop-label-preserved : goal.loop-label-preserved

@@ -5,9 +5,9 @@ use Rattle.mm_frame.specs.Language.Frame.{Symbol}
 use Rattle.mm_frame.specs.Language.Typing.{IsTyped}
 use Rattle.mm_proof.specs.Code.Citation.{meant_pairs, meant_pair, hypotheses_of}
 use Rattle.mm_proof.specs.Code.PairClause.{EachApart, SomeNotApart, AtSlots, span_of}
-use Rattle.mm_proof.proofs.FlatLemmas.{mapped_get}
-use Rattle.mm_proof.proofs.ApartLemmas.{each_more}
-use Rattle.mm_proof.proofs.PairClauseLemmas.{mapped_all}
+use Rattle.mm_proof.proofs.lemmas.machine.FlatLemmas.{mapped_get}
+use Rattle.mm_proof.proofs.lemmas.machine.ApartLemmas.{each_more}
+use Rattle.mm_proof.proofs.lemmas.machine.PairClauseLemmas.{mapped_all}
 use Rattle.mm_proof.proofs.pairs.all_apart.Goals as goal
 
 pub span-first-requires-clause-typed : goal.span-first-requires-clause-typed

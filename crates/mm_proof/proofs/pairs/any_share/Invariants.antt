@@ -2,7 +2,7 @@ use Rattle.std.proofs.Common.{map}
 use Rattle.mm_frame.specs.Language.Frame.{Symbol}
 use Rattle.mm_proof.specs.Code.Citation.{meant_pairs, hypotheses_of}
 use Rattle.mm_proof.specs.Code.PairClause.{SomeShared, AtSlots}
-use Rattle.mm_proof.proofs.ApartLemmas.{EachUpTo}
+use Rattle.mm_proof.proofs.lemmas.machine.ApartLemmas.{EachUpTo}
 use Rattle.mm_proof.proofs.pairs.any_share.Given as goal
 
 abbrev pub invariant-loop-n : goal.invariant-loop-n

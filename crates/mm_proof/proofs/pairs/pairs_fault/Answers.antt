@@ -2,7 +2,7 @@ use Rattle.std.proofs.Common.{map, arith}
 use Rattle.std.proofs.lemmas.List.{length-map}
 use Rattle.mm_proof.specs.Code.Flat.{read_all}
 use Rattle.mm_proof.specs.Code.Citation.{meant_pairs}
-use Rattle.mm_proof.proofs.PairClauseLemmas.{apart_given, shared_given, none_shared, lack_given}
+use Rattle.mm_proof.proofs.lemmas.machine.PairClauseLemmas.{apart_given, shared_given, none_shared, lack_given}
 use Rattle.mm_proof.proofs.pairs.pairs_fault.Goals as goal
 
 pub all_apart-requires-clause-spans : goal.all_apart-requires-clause-spans

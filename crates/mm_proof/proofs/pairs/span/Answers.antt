@@ -4,7 +4,7 @@ use Rattle.std.proofs.lemmas.List.{length-map}
 use Rattle.mm_proof.specs.Code.Flat.{read}
 use Rattle.mm_proof.specs.Code.Citation.{hypotheses_of, mandatory_of}
 use Rattle.mm_proof.specs.Code.PairClause.{entry_or}
-use Rattle.mm_proof.proofs.FlatLemmas.{element_at, entry_map}
+use Rattle.mm_proof.proofs.lemmas.machine.FlatLemmas.{element_at, entry_map}
 use Rattle.mm_proof.proofs.pairs.span.Goals as goal
 
 pub returns : goal.returns

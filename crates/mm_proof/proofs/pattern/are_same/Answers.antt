@@ -1,5 +1,5 @@
 use Rattle.std.proofs.Common.{◌<◌, length, arith, refl, sym, ◌∙◌, ap, map}
-use Rattle.mm_proof.proofs.FlatLemmas.{same_at}
+use Rattle.mm_proof.proofs.lemmas.machine.FlatLemmas.{same_at}
 use Rattle.std.proofs.lemmas.Bool.{false≢true}
 use Rattle.std.proofs.lemmas.List.{length-map, take_all}
 use Rattle.mm_proof.proofs.pattern.are_same.Goals as goal

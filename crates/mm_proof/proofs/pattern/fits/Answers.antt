@@ -3,7 +3,7 @@ use Rattle.std.proofs.lemmas.Bool.{false≢true, eqb-true, eq-eqb}
 use Rattle.std.proofs.lemmas.List.{length-map, take_all, length-drop}
 use Rattle.mm_frame.specs.Language.Frame.{Symbol}
 use Rattle.mm_proof.specs.Language.Substitution.{substituted, replacement}
-use Rattle.mm_proof.proofs.FlatLemmas.{element_at, put_more, fits_on, fits_next, fits_short, fits_part, fits_end, range_map}
+use Rattle.mm_proof.proofs.lemmas.machine.FlatLemmas.{element_at, put_more, fits_on, fits_next, fits_short, fits_part, fits_end, range_map}
 use Rattle.mm_proof.proofs.pattern.fits.Goals as goal
 
 pub returns-then-count-entry : goal.returns-then-count-entry

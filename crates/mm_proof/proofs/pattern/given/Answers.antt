@@ -1,7 +1,7 @@
 use Rattle.std.proofs.Common.{map, drop, get_or, sym, ◌∙◌, ap}
 use Rattle.mm_proof.specs.declared.pattern.Entry.{Entry}
 use Rattle.mm_proof.specs.Code.Flat.{read}
-use Rattle.mm_proof.proofs.FlatLemmas.{mapped_or, behind_first}
+use Rattle.mm_proof.proofs.lemmas.machine.FlatLemmas.{mapped_or, behind_first}
 use Rattle.mm_proof.proofs.pattern.given.Goals as goal
 
 pub returns : goal.returns

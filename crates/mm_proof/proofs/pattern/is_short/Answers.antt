@@ -3,8 +3,8 @@ use Rattle.std.proofs.lemmas.List.{length-map, take_all}
 use Rattle.mm_frame.specs.Language.Frame.{Symbol}
 use Rattle.mm_proof.specs.Language.Substitution.{substituted, replacement}
 use Rattle.mm_proof.specs.Code.Citation.{hypotheses_of}
-use Rattle.mm_proof.proofs.BoundLemmas.{short_by, given_short}
-use Rattle.mm_proof.proofs.FlatLemmas.{element_at, put_more, put_rest}
+use Rattle.mm_proof.proofs.lemmas.machine.BoundLemmas.{short_by, given_short}
+use Rattle.mm_proof.proofs.lemmas.machine.FlatLemmas.{element_at, put_more, put_rest}
 use Rattle.mm_proof.proofs.pattern.is_short.Goals as goal
 
 pub returns-then-saturating_mul-half : goal.returns-then-saturating_mul-half

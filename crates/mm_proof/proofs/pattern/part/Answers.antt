@@ -2,9 +2,9 @@ use Rattle.std.proofs.Common.{◌≡◌, ◌∷◌, [], true, map, sym, ◌∙�
 use Rattle.mm_frame.specs.Language.Frame.{Symbol}
 use Rattle.mm_frame.specs.Language.Typing.{IsTyped}
 use Rattle.mm_proof.specs.Code.Citation.{IsSlot, hypotheses_of}
-use Rattle.mm_proof.proofs.Unique.{replacement-variable, replacement-constant}
-use Rattle.mm_proof.proofs.ApartLemmas.{contains_at}
-use Rattle.mm_proof.proofs.FlatLemmas.{mapped_at, of_constant, of_variable}
+use Rattle.mm_proof.proofs.lemmas.verdicts.Unique.{replacement-variable, replacement-constant}
+use Rattle.mm_proof.proofs.lemmas.machine.ApartLemmas.{contains_at}
+use Rattle.mm_proof.proofs.lemmas.machine.FlatLemmas.{mapped_at, of_constant, of_variable}
 use Rattle.mm_proof.proofs.pattern.part.Goals as goal
 
 pub returns-then-not-is_variable : goal.returns-then-not-is_variable

@@ -2,7 +2,7 @@ use Rattle.std.proofs.Common.{◌++◌, [], false, map, take, get_or, sym, ◌�
 use Rattle.std.proofs.lemmas.List.{length-map, take_all}
 use Rattle.mm_frame.specs.Language.Frame.{Symbol}
 use Rattle.mm_proof.specs.Language.Substitution.{substituted, replacement}
-use Rattle.mm_proof.proofs.FlatLemmas.{element_at, put_more}
+use Rattle.mm_proof.proofs.lemmas.machine.FlatLemmas.{element_at, put_more}
 use Rattle.mm_proof.proofs.pattern.substitute.Goals as goal
 
 pub loop-place-preserved : goal.loop-place-preserved

@@ -1,8 +1,8 @@
 use Rattle.mm_proof.specs.Language.BaseLabels.{setting_at}
 use Rattle.std.proofs.Common.{sym, ◌∙◌}
 use Rattle.mm_proof.specs.Language.DecodedSteps.{labels_at, entry_steps}
-use Rattle.mm_proof.proofs.ReaderLemmas.{if_ok, if_err}
-use Rattle.mm_proof.proofs.DecodeLemmas.{compressed_done, normal_done, normal_table, normal_fails}
+use Rattle.mm_proof.proofs.lemmas.decoding.ReaderLemmas.{if_ok, if_err}
+use Rattle.mm_proof.proofs.lemmas.decoding.DecodeLemmas.{compressed_done, normal_done, normal_table, normal_fails}
 use Rattle.mm_proof.proofs.reading.decode.Goals as goal
 
 pub returns-then-is_compressed-clause-ok : goal.returns-then-is_compressed-clause-ok

@@ -1,7 +1,7 @@
 use Rattle.std.proofs.Common.{◌≤◌, length, arith}
 use Rattle.std.proofs.lemmas.Result.{err_from_is_err_and}
-use Rattle.mm_proof.proofs.LeftLemmas.{take_one, none_left}
-use Rattle.mm_proof.proofs.NormalLemmas.{word_on, word_fails, table_is, finishes}
+use Rattle.mm_proof.proofs.lemmas.decoding.LeftLemmas.{take_one, none_left}
+use Rattle.mm_proof.proofs.lemmas.decoding.NormalLemmas.{word_on, word_fails, table_is, finishes}
 use Rattle.mm_proof.proofs.reading.decode_normal.Goals as goal
 
 pub loop-word-preserved : goal.loop-word-preserved

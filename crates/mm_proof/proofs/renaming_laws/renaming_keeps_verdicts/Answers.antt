@@ -1,4 +1,4 @@
-use Rattle.mm_proof.proofs.RenamingLemmas.{keeps_verdicts}
+use Rattle.mm_proof.proofs.lemmas.renaming.RenamingLemmas.{keeps_verdicts}
 use Rattle.mm_proof.proofs.renaming_laws.renaming_keeps_verdicts.Goals as goal
 
 pub returns : goal.returns

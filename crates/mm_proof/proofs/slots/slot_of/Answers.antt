@@ -2,9 +2,9 @@ use Rattle.std.proofs.Common.{get_or, sym, ◌∙◌, arith}
 use Rattle.std.proofs.lemmas.Bool.{false≢true}
 use Rattle.std.proofs.lemmas.List.{length-map}
 use Rattle.mm_proof.specs.Code.Citation.{mandatory_of, hypotheses_of, IsTypingOf}
-use Rattle.mm_proof.proofs.FlatLemmas.{mapped_get}
-use Rattle.mm_proof.proofs.ApartLemmas.{each_more}
-use Rattle.mm_proof.proofs.SlotLemmas.{not_typed}
+use Rattle.mm_proof.proofs.lemmas.machine.FlatLemmas.{mapped_get}
+use Rattle.mm_proof.proofs.lemmas.machine.ApartLemmas.{each_more}
+use Rattle.mm_proof.proofs.lemmas.machine.SlotLemmas.{not_typed}
 use Rattle.mm_proof.proofs.slots.slot_of.Goals as goal
 
 pub returns-then-is_float_of : goal.returns-then-is_float_of

@@ -1,5 +1,5 @@
 use Rattle.mm_proof.specs.Code.Citation.{hypotheses_of, IsTypingOf}
-use Rattle.mm_proof.proofs.ApartLemmas.{EachUpTo}
+use Rattle.mm_proof.proofs.lemmas.machine.ApartLemmas.{EachUpTo}
 use Rattle.mm_proof.proofs.slots.slot_of.Given as goal
 
 abbrev pub invariant-loop-place : goal.invariant-loop-place

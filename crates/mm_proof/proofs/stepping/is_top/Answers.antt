@@ -1,7 +1,7 @@
 use Rattle.std.proofs.Common.{◌≡◌, ◌-◌, ◌∷◌, [], map, take, drop, get_or, sym, ◌∙◌, ap, arith}
 use Rattle.mm_proof.specs.Code.Flat.{read, read_all}
-use Rattle.mm_proof.proofs.FlatLemmas.{entry_map}
-use Rattle.mm_proof.proofs.StackLemmas.{top_of}
+use Rattle.mm_proof.proofs.lemmas.machine.FlatLemmas.{entry_map}
+use Rattle.mm_proof.proofs.lemmas.machine.StackLemmas.{top_of}
 use Rattle.mm_proof.proofs.stepping.is_top.Goals as goal
 
 pub returns : goal.returns

@@ -1,8 +1,8 @@
 use Rattle.std.proofs.Common.{◌++◌, ◌∷◌, [], map, sym, ◌∙◌, ap, arith}
 use Rattle.std.proofs.lemmas.List.{append-nil, length-map, take_all}
 use Rattle.mm_proof.specs.Code.Tasks.{named_expressions}
-use Rattle.mm_proof.proofs.FlatLemmas.{mapped_get}
-use Rattle.mm_proof.proofs.StepLemmas.{take_next}
+use Rattle.mm_proof.proofs.lemmas.machine.FlatLemmas.{mapped_get}
+use Rattle.mm_proof.proofs.lemmas.machine.StepLemmas.{take_next}
 use Rattle.mm_proof.proofs.stepping.load.Goals as goal
 
 pub loop-n-preserved : goal.loop-n-preserved

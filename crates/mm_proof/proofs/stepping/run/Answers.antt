@@ -5,9 +5,9 @@ use Rattle.mm_proof.specs.Language.Reaches.{Reaches}
 use Rattle.mm_proof.specs.declared.pattern.Entry.{Entry}
 use Rattle.mm_proof.specs.Code.Flat.{read, read_all}
 use Rattle.mm_proof.specs.Code.Tasks.{actions_mean}
-use Rattle.mm_proof.proofs.StackLemmas.{top_of}
+use Rattle.mm_proof.proofs.lemmas.machine.StackLemmas.{top_of}
 use Rattle.mm_proof.specs.Code.MachineState.{state_of}
-use Rattle.mm_proof.proofs.LackLemmas.{stopped_says}
+use Rattle.mm_proof.proofs.lemmas.machine.LackLemmas.{stopped_says}
 use Rattle.mm_proof.proofs.stepping.run.Goals as goal
 
 pub returns-in-Some-clause-says : goal.returns-in-Some-clause-says

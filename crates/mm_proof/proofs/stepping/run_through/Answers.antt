@@ -8,8 +8,8 @@ use Rattle.mm_proof.specs.declared.step.ProofStep.{ProofStep}
 use Rattle.mm_proof.specs.Language.DecodedSteps.{meant}
 use Rattle.mm_proof.specs.Code.Flat.{read}
 use Rattle.mm_proof.specs.Code.Tasks.{IsSavedWithin, actions_mean, named_expressions, named_frames, saves_in}
-use Rattle.mm_proof.proofs.Reaching.{at_start}
-use Rattle.mm_proof.proofs.StepLemmas.{nothing_known, known_more, known_all, follows_more, fault_here, unknown_here, reached_all, means_known, action_at, saves_next}
+use Rattle.mm_proof.proofs.lemmas.machine.Reaching.{at_start}
+use Rattle.mm_proof.proofs.lemmas.machine.StepLemmas.{nothing_known, known_more, known_all, follows_more, fault_here, unknown_here, reached_all, means_known, action_at, saves_next}
 use Rattle.mm_proof.proofs.stepping.run_through.Goals as goal
 
 -- a step of a proof, where there is none

@@ -3,8 +3,8 @@ use Rattle.mm_frame.specs.Language.Frame.{Setting, AreSamePairs}
 use Rattle.mm_frame.specs.Language.Typing.{HasFrames}
 use Rattle.mm_proof.specs.Language.Expansion.{Step}
 use Rattle.mm_proof.specs.Language.Machine.{State}
-use Rattle.mm_proof.proofs.Reaching.{Follows}
-use Rattle.mm_proof.proofs.StepLemmas.{KnownUpTo}
+use Rattle.mm_proof.proofs.lemmas.machine.Reaching.{Follows}
+use Rattle.mm_proof.proofs.lemmas.machine.StepLemmas.{KnownUpTo}
 use Rattle.mm_proof.specs.Code.Citation.{meant_pairs}
 use Rattle.mm_proof.specs.Code.MachineState.{AreRanges}
 use Rattle.mm_proof.specs.Code.Tasks.{AreUses, HasState, actions_mean, named_expressions, saves_in}

@@ -8,7 +8,7 @@ use Rattle.mm_proof.specs.declared.step.Action.TheVariants as actions
 use Rattle.mm_proof.specs.declared.named.Use.{Use}
 use Rattle.mm_proof.specs.Language.DecodedSteps.{meant}
 use Rattle.mm_proof.specs.Code.Tasks.{IsUseWithin, MeansUse, named_expressions, named_frames}
-use Rattle.mm_proof.proofs.StepLemmas.{push_means, cite_means, nothing_means}
+use Rattle.mm_proof.proofs.lemmas.machine.StepLemmas.{push_means, cite_means, nothing_means}
 use Rattle.mm_proof.proofs.stepping.todo.Goals as goal
 
 -- what a use means, said of the action that it comes from

@@ -1,4 +1,4 @@
-use Rattle.mm_proof.proofs.SaysLemmas.{read_at, theorem_at}
+use Rattle.mm_proof.proofs.lemmas.base.SaysLemmas.{read_at, theorem_at}
 use Rattle.mm_proof.proofs.symbol_tests.agrees.Goals as goal
 
 pub words_of_proof-proof-requires : goal.words_of_proof-proof-requires

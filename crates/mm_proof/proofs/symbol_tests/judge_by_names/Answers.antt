@@ -1,5 +1,5 @@
-use Rattle.mm_proof.proofs.DecodedProofs.{decoded}
-use Rattle.mm_proof.proofs.FrameLemmas.{framed_proof}
+use Rattle.mm_proof.proofs.lemmas.decoding.DecodedProofs.{decoded}
+use Rattle.mm_proof.proofs.lemmas.base.FrameLemmas.{framed_proof}
 use Rattle.mm_proof.proofs.symbol_tests.judge_by_names.Goals as goal
 
 pub verdict_by_names-requires : goal.verdict_by_names-requires

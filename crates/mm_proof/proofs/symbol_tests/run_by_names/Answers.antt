@@ -4,7 +4,7 @@ use Rattle.mm_frame.specs.declared.symbol.NamedSymbol.{NamedSymbol}
 use Rattle.mm_proof.specs.Code.Citation.{meant_pairs}
 use Rattle.mm_proof.specs.Code.Keys.{AreInKeyOrder, key_by_number}
 use Rattle.mm_proof.specs.Code.Spelled.{key_by_name}
-use Rattle.mm_proof.proofs.SpelledLemmas.{framed_there, alike_count, order_by_name, uses_alike}
+use Rattle.mm_proof.proofs.lemmas.machine.SpelledLemmas.{framed_there, alike_count, order_by_name, uses_alike}
 use Rattle.mm_proof.proofs.symbol_tests.run_by_names.Goals as goal
 
 pub run_lent-requires-clause-frames : goal.run_lent-requires-clause-frames

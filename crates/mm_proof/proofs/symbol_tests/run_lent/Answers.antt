@@ -1,4 +1,4 @@
-use Rattle.mm_proof.proofs.SpelledLemmas.{framed_alike, alike_count, uses_alike}
+use Rattle.mm_proof.proofs.lemmas.machine.SpelledLemmas.{framed_alike, alike_count, uses_alike}
 use Rattle.mm_proof.proofs.symbol_tests.run_lent.Goals as goal
 
 pub run-requires-clause-frames : goal.run-requires-clause-frames

@@ -8,8 +8,8 @@ use Rattle.mm_proof.specs.Language.VerdictAt.{mandatory_labels}
 use Rattle.mm_proof.specs.Code.NamedItems.{IsNamedBy}
 use Rattle.mm_proof.specs.Code.Tasks.{AreSavedBefore}
 use Rattle.mm_proof.specs.declared.step.ProofStep.{ProofStep}
-use Rattle.mm_proof.proofs.ItemLemmas.{active_usable}
-use Rattle.mm_proof.proofs.DecodedProofs.{named_by, saved_before}
+use Rattle.mm_proof.proofs.lemmas.verdicts.ItemLemmas.{active_usable}
+use Rattle.mm_proof.proofs.lemmas.decoding.DecodedProofs.{named_by, saved_before}
 use Rattle.mm_proof.proofs.symbol_tests.verdict_by_names.Goals as goal
 
 pub name_all-requires : goal.name_all-requires

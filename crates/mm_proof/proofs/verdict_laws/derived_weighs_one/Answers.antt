@@ -1,4 +1,4 @@
-use Rattle.mm_proof.proofs.Weights.{weight_of_derived}
+use Rattle.mm_proof.proofs.lemmas.verdicts.Weights.{weight_of_derived}
 use Rattle.mm_proof.proofs.verdict_laws.derived_weighs_one.Goals as goal
 
 pub returns : goal.returns

@@ -1,4 +1,4 @@
-use Rattle.mm_proof.proofs.Unique.{same_derived}
+use Rattle.mm_proof.proofs.lemmas.verdicts.Unique.{same_derived}
 use Rattle.mm_proof.proofs.verdict_laws.derives_at_most_one.Goals as goal
 
 pub returns : goal.returns

@@ -1,4 +1,4 @@
-use Rattle.mm_proof.proofs.OneVerdict.{same_verdict}
+use Rattle.mm_proof.proofs.lemmas.verdicts.OneVerdict.{same_verdict}
 use Rattle.mm_proof.proofs.verdict_laws.has_one_verdict.Goals as goal
 
 pub returns : goal.returns

@@ -1,4 +1,4 @@
-use Rattle.mm_proof.proofs.Running.{runs_reach}
+use Rattle.mm_proof.proofs.lemmas.machine.Running.{runs_reach}
 use Rattle.mm_proof.proofs.verdict_laws.machine_reaches.Goals as goal
 
 pub returns : goal.returns

@@ -1,4 +1,4 @@
-use Rattle.mm_proof.proofs.Turning.{not_both}
+use Rattle.mm_proof.proofs.lemmas.machine.Turning.{not_both}
 use Rattle.mm_proof.proofs.verdict_laws.never_turns_and_fails.Goals as goal
 
 pub returns : goal.returns

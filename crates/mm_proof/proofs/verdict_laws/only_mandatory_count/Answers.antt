@@ -1,4 +1,4 @@
-use Rattle.mm_proof.proofs.Substituted.{only_mandatory}
+use Rattle.mm_proof.proofs.lemmas.machine.Substituted.{only_mandatory}
 use Rattle.mm_proof.proofs.verdict_laws.only_mandatory_count.Goals as goal
 
 pub returns : goal.returns

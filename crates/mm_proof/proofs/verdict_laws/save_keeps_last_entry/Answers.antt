@@ -1,4 +1,4 @@
-use Rattle.mm_proof.proofs.Weights.{last_part_is}
+use Rattle.mm_proof.proofs.lemmas.verdicts.Weights.{last_part_is}
 use Rattle.mm_proof.proofs.verdict_laws.save_keeps_last_entry.Goals as goal
 
 pub returns : goal.returns

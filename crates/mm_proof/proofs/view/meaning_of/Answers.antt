@@ -1,5 +1,5 @@
 use Rattle.std.proofs.Common.{◌≡◌, ℕ, Option, Some, None}
-use Rattle.mm_proof.proofs.MeaningLemmas.{none_means}
+use Rattle.mm_proof.proofs.lemmas.views.MeaningLemmas.{none_means}
 use Rattle.mm_proof.proofs.view.meaning_of.Goals as goal
 
 none_is : (n : ℕ) → ◌≡◌ {A = Option ℕ} None (Some n) → ⊥

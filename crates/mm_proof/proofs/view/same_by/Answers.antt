@@ -5,7 +5,7 @@ use Rattle.mm_frame.specs.Language.Base.{before, is_framed_at}
 use Rattle.mm_frame.specs.Language.Framing.{resolve}
 use Rattle.mm_frame.specs.Language.Resolving.{IsCarrier}
 use Rattle.mm_frame.specs.declared.base.Resolved.TheVariants as answers
-use Rattle.mm_proof.proofs.MeaningLemmas.{none_means, new_framed, old_carries, old_framed, tells_same, usable}
+use Rattle.mm_proof.proofs.lemmas.views.MeaningLemmas.{none_means, new_framed, old_carries, old_framed, tells_same, usable}
 use Rattle.mm_proof.proofs.view.same_by.Goals as goal
 
 none_is : (n : ℕ) → ◌≡◌ {A = Option ℕ} None (Some n) → ⊥

@@ -1,6 +1,6 @@
 use Rattle.mm_frame.specs.Language.Base.{before}
 use Rattle.mm_frame.specs.Language.Framing.{resolve}
-use Rattle.mm_proof.proofs.MeaningLemmas.{tells_same, usable}
+use Rattle.mm_proof.proofs.lemmas.views.MeaningLemmas.{tells_same, usable}
 use Rattle.mm_proof.proofs.view.same_label.Goals as goal
 
 pub returns-in-None : goal.returns-in-None

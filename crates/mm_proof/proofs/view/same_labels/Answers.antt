@@ -1,5 +1,5 @@
 use Rattle.std.proofs.Common.{refl}
-use Rattle.mm_proof.proofs.InStepLemmas.{in_step_kept, of_each}
+use Rattle.mm_proof.proofs.lemmas.views.InStepLemmas.{in_step_kept, of_each}
 use Rattle.mm_proof.specs.Language.BaseLabels.{setting_at}
 use Rattle.mm_proof.specs.Language.SameProof.{IsSameLabel, labels_named}
 use Rattle.mm_proof.proofs.view.same_labels.Goals as goal

@@ -1,7 +1,7 @@
 use Rattle.std.proofs.Common.{refl, sym}
 use Rattle.mm_proof.specs.Language.BaseLabels.{setting_at}
 use Rattle.mm_proof.specs.Language.SameProof.{IsSameLabel}
-use Rattle.mm_proof.proofs.LabelLoops.{OfListed, one_listed, one_more, not_first}
+use Rattle.mm_proof.proofs.lemmas.decoding.LabelLoops.{OfListed, one_listed, one_more, not_first}
 use Rattle.mm_proof.proofs.view.same_listed.Goals as goal
 
 pub returns-then-not-same_label : goal.returns-then-not-same_label

@@ -3,7 +3,7 @@ use Rattle.std.specs.Prelude.{◌↔◌}
 use Rattle.mm_proof.specs.Code.KeptMarks.{OfBasesBy}
 use Rattle.mm_proof.specs.Language.BaseLabels.{setting_at}
 use Rattle.mm_proof.specs.Language.SameProof.{IsSameLabel}
-use Rattle.mm_proof.proofs.LabelLoops.{OfListed}
+use Rattle.mm_proof.proofs.lemmas.decoding.LabelLoops.{OfListed}
 use Rattle.mm_proof.proofs.view.same_listed.Given as goal
 
 abbrev pub invariant-loop-word : goal.invariant-loop-word

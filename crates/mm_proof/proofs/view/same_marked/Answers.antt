@@ -1,6 +1,6 @@
 use Rattle.mm_frame.specs.Language.Base.{before}
 use Rattle.mm_frame.specs.Language.Framing.{resolve}
-use Rattle.mm_proof.proofs.MeaningLemmas.{frames_marked, tells_same, usable}
+use Rattle.mm_proof.proofs.lemmas.views.MeaningLemmas.{frames_marked, tells_same, usable}
 use Rattle.mm_proof.proofs.view.same_marked.Goals as goal
 
 pub returns-in-Assertion-Assertion : goal.returns-in-Assertion-Assertion

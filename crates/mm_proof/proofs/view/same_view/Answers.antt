@@ -1,7 +1,7 @@
 use Rattle.std.proofs.Common.{sym, ◌∙◌}
 use Rattle.std.proofs.lemmas.Bool.{false≢true}
 use Rattle.mm_proof.specs.Code.KeptMarks.{AreTheorems}
-use Rattle.mm_proof.proofs.ViewLemmas.{shared_view, view_proof, view_statement}
+use Rattle.mm_proof.proofs.lemmas.views.ViewLemmas.{shared_view, view_proof, view_statement}
 use Rattle.mm_proof.proofs.view.same_view.Goals as goal
 
 pub returns-then-same_statement : goal.returns-then-same_statement

@@ -3,7 +3,7 @@ use Rattle.std.specs.Prelude.{◌↔◌}
 use Rattle.mm_proof.specs.Code.KeptMarks.{OfBasesBy}
 use Rattle.mm_proof.specs.Language.BaseLabels.{setting_at}
 use Rattle.mm_proof.specs.Language.SameProof.{IsSameLabel}
-use Rattle.mm_proof.proofs.LabelLoops.{OfWords}
+use Rattle.mm_proof.proofs.lemmas.decoding.LabelLoops.{OfWords}
 use Rattle.mm_proof.proofs.view.same_words.Given as goal
 
 abbrev pub invariant-loop-word : goal.invariant-loop-word

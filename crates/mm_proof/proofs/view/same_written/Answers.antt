@@ -4,7 +4,7 @@ use Rattle.std.proofs.lemmas.Bool.{false≢true}
 use Rattle.mm_frame.specs.Language.Base.{said_at}
 use Rattle.mm_proof.specs.Language.BaseLabels.{setting_at}
 use Rattle.mm_proof.specs.Language.SameProof.{IsSameLabel, labels_named}
-use Rattle.mm_proof.proofs.SaysLemmas.{read_at, says_at}
+use Rattle.mm_proof.proofs.lemmas.base.SaysLemmas.{read_at, says_at}
 use Rattle.mm_proof.proofs.view.same_written.Goals as goal
 
 pub same_proof-requires-clause-one : goal.same_proof-requires-clause-one

@@ -1,4 +1,4 @@
-use Rattle.mm_proof.proofs.SpelledLemmas.{from_ok}
+use Rattle.mm_proof.proofs.lemmas.machine.SpelledLemmas.{from_ok}
 use Rattle.mm_proof.proofs.view_tests.holds.Goals as goal
 
 pub is_compared-holds-requires-clause-one : goal.is_compared-holds-requires-clause-one

@@ -5,7 +5,7 @@ use Rattle.std.proofs.lemmas.Option.{slice_get-get_or, get_or_from_slice_get}
 use Rattle.mm_text.specs.declared.part.Part.{Part}
 use Rattle.mm_text.specs.declared.part.PartKind.TheVariants.{Constants}
 use Rattle.mm_text.specs.Language.Part.{IsReadable}
-use Rattle.mm_store.proofs.IncludeLemmas.{nothing_there, included_there, units, no_first, some_first}
+use Rattle.mm_store.proofs.lemmas.expansion.IncludeLemmas.{nothing_there, included_there, units, no_first, some_first}
 use Rattle.mm_store.proofs.expanding.included_name.Goals as goal
 
 pub returns-then-is_empty-clause-none : goal.returns-then-is_empty-clause-none

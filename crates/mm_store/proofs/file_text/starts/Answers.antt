@@ -4,7 +4,7 @@ use Rattle.std.proofs.lemmas.List.{length-map, get_or-map}
 use Rattle.mm_store.specs.declared.piece_text.PieceText.{PieceText}
 use Rattle.mm_store.specs.declared.start.Start.{Start}
 use Rattle.mm_store.specs.Code.Lines.{IsStart}
-use Rattle.mm_store.proofs.PlaceLemmas.{each_more, concat_one, piece_within}
+use Rattle.mm_store.proofs.lemmas.places.PlaceLemmas.{each_more, concat_one, piece_within}
 use Rattle.mm_store.proofs.file_text.starts.Goals as goal
 
 abbrev text_of_piece : PieceText → List ℕ

@@ -1,7 +1,7 @@
 use Rattle.std.proofs.Common.{◌≡◌, ◌+◌, ◌++◌, ℕ, List, map, take, get_or, sym, ap, ◌∙◌, subst}
 use Rattle.std.specs.List.{concat}
 use Rattle.mm_store.specs.Language.Pieces.{text_under}
-use Rattle.mm_store.proofs.FilesLemmas.{concat_more}
+use Rattle.mm_store.proofs.lemmas.files.FilesLemmas.{concat_more}
 use Rattle.mm_store.proofs.files.joined.Goals as goal
 
 pub loop-key-preserved : goal.loop-key-preserved

@@ -3,7 +3,7 @@ use Rattle.std.specs.List.{concat}
 use Rattle.std.proofs.lemmas.List.{length-map, length-take, get_or-map}
 use Rattle.mm_store.specs.Language.Pieces.{text_under}
 use Rattle.mm_store.specs.Code.Lines.{AreLines}
-use Rattle.mm_store.proofs.PlaceLemmas.{piece_within}
+use Rattle.mm_store.proofs.lemmas.places.PlaceLemmas.{piece_within}
 use Rattle.mm_store.proofs.files.lines_at.Goals as goal
 
 pub then-requires : goal.then-requires

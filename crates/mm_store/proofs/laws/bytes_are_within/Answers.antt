@@ -1,4 +1,4 @@
-use Rattle.mm_store.proofs.OffsetLemmas.{byte_within}
+use Rattle.mm_store.proofs.lemmas.places.OffsetLemmas.{byte_within}
 use Rattle.mm_store.proofs.laws.bytes_are_within.Goals as goal
 
 pub returns : goal.returns

@@ -1,4 +1,4 @@
-use Rattle.mm_store.proofs.HoldingLemmas.{edits_keep, keys_given}
+use Rattle.mm_store.proofs.lemmas.edits.HoldingLemmas.{edits_keep, keys_given}
 use Rattle.mm_store.proofs.laws.edits_keep_units.Goals as goal
 
 pub returns-clause-units : goal.returns-clause-units

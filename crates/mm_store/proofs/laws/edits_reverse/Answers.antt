@@ -1,4 +1,4 @@
-use Rattle.mm_store.proofs.EditLawLemmas.{insert_reversed, move_reversed}
+use Rattle.mm_store.proofs.lemmas.edits.EditLawLemmas.{insert_reversed, move_reversed}
 use Rattle.mm_store.proofs.laws.edits_reverse.Goals as goal
 
 pub returns-clause-insert : goal.returns-clause-insert

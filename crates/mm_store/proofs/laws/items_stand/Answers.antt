@@ -1,4 +1,4 @@
-use Rattle.mm_store.proofs.StandLemmas.{expansion_read, expansion_stands}
+use Rattle.mm_store.proofs.lemmas.expansion.StandLemmas.{expansion_read, expansion_stands}
 use Rattle.mm_store.proofs.laws.items_stand.Goals as goal
 
 pub returns-clause-read : goal.returns-clause-read

@@ -1,4 +1,4 @@
-use Rattle.mm_store.proofs.KeylessLemmas.{same_items}
+use Rattle.mm_store.proofs.lemmas.expansion.KeylessLemmas.{same_items}
 use Rattle.mm_store.proofs.laws.keys_do_not_matter.Goals as goal
 
 pub returns : goal.returns

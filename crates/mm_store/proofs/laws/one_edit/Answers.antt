@@ -1,7 +1,7 @@
-use Rattle.mm_store.proofs.AnswerLemmas.{some_answer}
-use Rattle.mm_store.proofs.EditLawLemmas.{one_after}
-use Rattle.mm_store.proofs.ReasonLemmas.{one_reason}
-use Rattle.mm_store.proofs.RefusalLemmas.{not_refused}
+use Rattle.mm_store.proofs.lemmas.edits.AnswerLemmas.{some_answer}
+use Rattle.mm_store.proofs.lemmas.edits.EditLawLemmas.{one_after}
+use Rattle.mm_store.proofs.lemmas.edits.ReasonLemmas.{one_reason}
+use Rattle.mm_store.proofs.lemmas.edits.RefusalLemmas.{not_refused}
 use Rattle.mm_store.proofs.laws.one_edit.Goals as goal
 
 pub returns : goal.returns

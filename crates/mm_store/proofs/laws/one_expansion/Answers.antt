@@ -1,4 +1,4 @@
-use Rattle.mm_store.proofs.ExpansionLemmas.{expansion_one}
+use Rattle.mm_store.proofs.lemmas.expansion.ExpansionLemmas.{expansion_one}
 use Rattle.mm_store.proofs.laws.one_expansion.Goals as goal
 
 pub returns : goal.returns

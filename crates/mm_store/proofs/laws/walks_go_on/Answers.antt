@@ -4,9 +4,9 @@ use Rattle.mm_store.specs.Language.FilesView.{plain}
 use Rattle.mm_store.specs.Language.Keyless.{bare, bare_file, keyless_item}
 use Rattle.mm_store.specs.Language.Walking.{IsWalk}
 use Rattle.std.specs.Prelude.{map}
-use Rattle.mm_store.proofs.ExpansionLemmas.{expansion_one}
-use Rattle.mm_store.proofs.GrowthLemmas.{walk_kept}
-use Rattle.mm_store.proofs.KeylessLemmas.{expansion_bare}
+use Rattle.mm_store.proofs.lemmas.expansion.ExpansionLemmas.{expansion_one}
+use Rattle.mm_store.proofs.lemmas.files.GrowthLemmas.{walk_kept}
+use Rattle.mm_store.proofs.lemmas.expansion.KeylessLemmas.{expansion_bare}
 use Rattle.mm_store.proofs.laws.walks_go_on.Goals as goal
 
 pub returns-clause-added : goal.returns-clause-added

@@ -2,7 +2,7 @@ use Rattle.std.proofs.Common.{◌≡◌, ℕ, ◌+◌, ◌-◌, ◌*◌, ◌<◌
 use Rattle.std.proofs.Math.Seq.{take-add}
 use Rattle.mm_store.specs.declared.lines.Lines.{Lines}
 use Rattle.mm_store.specs.Code.Lines.{AreLines}
-use Rattle.mm_store.proofs.PlaceLemmas.{each_more}
+use Rattle.mm_store.proofs.lemmas.places.PlaceLemmas.{each_more}
 use Rattle.mm_store.proofs.lines.marks.Goals as goal
 
 pub loop-number-preserved : goal.loop-number-preserved

@@ -2,7 +2,7 @@ use Rattle.std.proofs.Common.{◌≡◌, ◌+◌, [], ◌∷◌, ◌++◌, lengt
 use Rattle.std.specs.Prelude.{if◌then◌else◌, vec_len}
 use Rattle.std.specs.Result.{is_ok}
 use Rattle.std.specs.Vec.Iter.{into_iter_items}
-use Rattle.mm_store.proofs.StoreLemmas.{put_more}
+use Rattle.mm_store.proofs.lemmas.files.StoreLemmas.{put_more}
 use Rattle.mm_store.proofs.pieces.put_each.Goals as goal
 
 pub loop-kept-preserved : goal.loop-kept-preserved

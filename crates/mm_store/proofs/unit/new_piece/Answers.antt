@@ -2,7 +2,7 @@ use Rattle.std.proofs.Common.{ℕ, List, sym, ap, subst, length, arith}
 use Rattle.mm_store.specs.declared.edit.EditError.{EditError}
 use Rattle.mm_store.specs.declared.edit.EditError.TheVariants.{Text, NotOne, Memory}
 use Rattle.mm_store.specs.Code.Units.{IsUnit, IsUnitError, IsNewError}
-use Rattle.mm_store.proofs.EditLemmas.{if_err}
+use Rattle.mm_store.proofs.lemmas.edits.EditLemmas.{if_err}
 use Rattle.mm_store.proofs.unit.new_piece.Goals as goal
 
 new_error : (held : ℕ) (text : List ℕ) (error : EditError) → IsUnitError text error → IsNewError held text error

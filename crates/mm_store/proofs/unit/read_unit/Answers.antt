@@ -4,7 +4,7 @@ use Rattle.mm_text.specs.declared.fault.TextError.TheVariants.{Fault, Memory}
 use Rattle.mm_text.specs.Language.Cut.{IsCutError}
 use Rattle.mm_store.specs.Language.Answers.{edit_error_of}
 use Rattle.mm_store.specs.Code.Units.{IsUnitError}
-use Rattle.mm_store.proofs.EditLemmas.{if_err}
+use Rattle.mm_store.proofs.lemmas.edits.EditLemmas.{if_err}
 use Rattle.mm_store.proofs.unit.read_unit.Goals as goal
 
 -- what is told of a text that has no cut

@@ -2,7 +2,7 @@ use Rattle.std.proofs.Common.{◌≡◌, ◌-◌, ◌∷◌, ◌++◌, [], lengt
 use Rattle.std.specs.Prelude.{slice_set}
 use Rattle.std.proofs.lemmas.List.{get_or_at}
 use Rattle.mm_store.specs.Code.Steps.{behind}
-use Rattle.mm_store.proofs.StackLemmas.{set_last}
+use Rattle.mm_store.proofs.lemmas.expansion.StackLemmas.{set_last}
 use Rattle.mm_store.proofs.walk.advance.Goals as goal
 
 pub returns-clause-moved : goal.returns-clause-moved

@@ -1,5 +1,5 @@
 use Rattle.std.proofs.Common.{◌∙◌, ap, map}
-use Rattle.mm_store.proofs.SetLemmas.{inserted}
+use Rattle.mm_store.proofs.lemmas.expansion.SetLemmas.{inserted}
 use Rattle.mm_store.proofs.walk.take_name.Goals as goal
 
 pub returns-clause-ok : goal.returns-clause-ok

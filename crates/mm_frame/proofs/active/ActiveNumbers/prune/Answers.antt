@@ -1,5 +1,5 @@
 use Rattle.std.proofs.Common.{◌∙◌}
-use Rattle.mm_frame.proofs.EndLemmas.{pruned_by_marks}
+use Rattle.mm_frame.proofs.lemmas.scope.EndLemmas.{pruned_by_marks}
 use Rattle.mm_frame.proofs.active.ActiveNumbers.prune.Goals as goal
 
 pub returns : goal.returns

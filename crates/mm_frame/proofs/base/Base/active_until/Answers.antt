@@ -1,6 +1,6 @@
 use Rattle.std.proofs.Common.{◌∙◌, ap, sym}
 use Rattle.std.proofs.lemmas.Bool.{false_from_ne_true}
-use Rattle.mm_frame.proofs.ResolvingLemmas.{active_means, inactive_means}
+use Rattle.mm_frame.proofs.lemmas.base.ResolvingLemmas.{active_means, inactive_means}
 use Rattle.mm_frame.proofs.base.Base.active_until.Goals as goal
 
 pub returns-clause-active : goal.returns-clause-active

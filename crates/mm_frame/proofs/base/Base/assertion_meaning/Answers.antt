@@ -1,4 +1,4 @@
-use Rattle.mm_frame.proofs.ResolvingLemmas.{assertion_means, later_means}
+use Rattle.mm_frame.proofs.lemmas.base.ResolvingLemmas.{assertion_means, later_means}
 use Rattle.mm_frame.proofs.base.Base.assertion_meaning.Goals as goal
 
 pub returns-then-j-i : goal.returns-then-j-i

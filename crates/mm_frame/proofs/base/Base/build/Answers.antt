@@ -8,8 +8,8 @@ use Rattle.mm_frame.specs.Language.Statement.{Says}
 use Rattle.mm_frame.specs.Language.Answering.{IsBaseBy}
 use Rattle.mm_frame.specs.Code.BaseInside.{answers_of}
 use Rattle.mm_frame.specs.Code.KeptBase.{is_float_item}
-use Rattle.mm_frame.proofs.AnswerLemmas.{base_told, labels_told}
-use Rattle.mm_frame.proofs.FrameNumbers.{kinds_said}
+use Rattle.mm_frame.proofs.lemmas.base.AnswerLemmas.{base_told, labels_told}
+use Rattle.mm_frame.proofs.lemmas.frames.FrameNumbers.{kinds_said}
 use Rattle.mm_frame.proofs.base.Base.build.Goals as goal
 
 pub invariant_of-result : goal.invariant_of-result

@@ -3,8 +3,8 @@ use Rattle.std.specs.Prelude.{All}
 use Rattle.mm_frame.specs.Language.Base.{before, said_at}
 use Rattle.mm_frame.specs.Language.Framing.{expression}
 use Rattle.mm_frame.specs.Language.NumberedSymbols.{symbols_of, IsNumbered}
-use Rattle.mm_frame.proofs.AnswerLemmas.{expression_read, expression_numbered}
-use Rattle.mm_frame.proofs.BaseLemmas.{expression_none}
+use Rattle.mm_frame.proofs.lemmas.base.AnswerLemmas.{expression_read, expression_numbered}
+use Rattle.mm_frame.proofs.lemmas.base.BaseLemmas.{expression_none}
 use Rattle.mm_frame.proofs.base.Base.expression.Goals as goal
 
 pub returns-then-is_shown-clause-symbols : goal.returns-then-is_shown-clause-symbols

@@ -1,6 +1,6 @@
 use Rattle.std.proofs.Common.{slice_get, ap, ◌∙◌}
 use Rattle.mm_frame.specs.Code.KeptRows.{fault_in}
-use Rattle.mm_frame.proofs.AnswerLemmas.{fault_told_at}
+use Rattle.mm_frame.proofs.lemmas.base.AnswerLemmas.{fault_told_at}
 use Rattle.mm_frame.proofs.base.Base.fault.Goals as goal
 
 pub returns : goal.returns

@@ -1,5 +1,5 @@
 use Rattle.std.proofs.Common.{slice_get, ◌∙◌, ap, sym}
-use Rattle.mm_frame.proofs.AnswerLemmas.{carrier_told}
+use Rattle.mm_frame.proofs.lemmas.base.AnswerLemmas.{carrier_told}
 use Rattle.mm_frame.proofs.base.Base.find.Goals as goal
 
 pub returns : goal.returns

@@ -1,5 +1,5 @@
-use Rattle.mm_frame.proofs.BaseLemmas.{ordered_pairs, ordered_numbered}
-use Rattle.mm_frame.proofs.FrameNumbers.{frame_means, frame_is, framed_some}
+use Rattle.mm_frame.proofs.lemmas.base.BaseLemmas.{ordered_pairs, ordered_numbered}
+use Rattle.mm_frame.proofs.lemmas.frames.FrameNumbers.{frame_means, frame_is, framed_some}
 use Rattle.mm_frame.proofs.base.Base.frame.Goals as goal
 
 pub returns-clause-some : goal.returns-clause-some

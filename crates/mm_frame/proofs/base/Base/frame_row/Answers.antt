@@ -1,7 +1,7 @@
 use Rattle.std.proofs.Common.{◌∙◌, ap, sym, slice_get}
 use Rattle.std.proofs.lemmas.Option.{slice_get-map}
 use Rattle.mm_frame.specs.Code.KeptBase.{frame_told}
-use Rattle.mm_frame.proofs.AnswerLemmas.{lent_told}
+use Rattle.mm_frame.proofs.lemmas.base.AnswerLemmas.{lent_told}
 use Rattle.mm_frame.proofs.base.Base.frame_row.Goals as goal
 
 pub returns : goal.returns

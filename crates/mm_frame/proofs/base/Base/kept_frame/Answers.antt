@@ -3,8 +3,8 @@ use Rattle.std.specs.Option.{option_map}
 use Rattle.mm_frame.specs.Language.Base.{before, frame_at}
 use Rattle.mm_frame.specs.Language.Answering.{IsFrameTold, pairs_in_order}
 use Rattle.mm_frame.specs.Code.KeptBase.{frame_told}
-use Rattle.mm_frame.proofs.AnswerLemmas.{hypotheses_told, order_told}
-use Rattle.mm_frame.proofs.BaseLemmas.{row_none, frame_beyond, frame_numbers}
+use Rattle.mm_frame.proofs.lemmas.base.AnswerLemmas.{hypotheses_told, order_told}
+use Rattle.mm_frame.proofs.lemmas.base.BaseLemmas.{row_none, frame_beyond, frame_numbers}
 use Rattle.mm_frame.proofs.base.Base.kept_frame.Goals as goal
 
 pub returns-in-Some-clause-numbers : goal.returns-in-Some-clause-numbers

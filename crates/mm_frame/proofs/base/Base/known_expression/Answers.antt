@@ -1,7 +1,7 @@
 use Rattle.std.proofs.Common.{◌∙◌, ap, sym, subst}
 use Rattle.std.specs.Prelude.{All}
 use Rattle.mm_frame.specs.Language.NumberedSymbols.{symbols_of, IsNumbered}
-use Rattle.mm_frame.proofs.AnswerLemmas.{expression_read, expression_numbered}
+use Rattle.mm_frame.proofs.lemmas.base.AnswerLemmas.{expression_read, expression_numbered}
 use Rattle.mm_frame.proofs.base.Base.known_expression.Goals as goal
 
 pub returns-clause-symbols : goal.returns-clause-symbols

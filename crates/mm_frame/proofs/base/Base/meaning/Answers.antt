@@ -1,5 +1,5 @@
 use Rattle.std.proofs.Common.{◌∙◌, ap, sym}
-use Rattle.mm_frame.proofs.ResolvingLemmas.{assertion_means, active_means, inactive_means, later_means}
+use Rattle.mm_frame.proofs.lemmas.base.ResolvingLemmas.{assertion_means, active_means, inactive_means, later_means}
 use Rattle.mm_frame.proofs.base.Base.meaning.Goals as goal
 
 pub returns-then-j-i : goal.returns-then-j-i

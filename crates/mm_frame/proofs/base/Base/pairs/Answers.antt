@@ -5,7 +5,7 @@ use Rattle.mm_frame.specs.Language.Frame.{AreSamePairs}
 use Rattle.mm_frame.specs.Language.Framing.{active_pairs}
 use Rattle.mm_frame.specs.Language.NumberedSymbols.{kept_pairs, AreInOrder, IsPairNumbered}
 use Rattle.mm_frame.specs.Code.KeptBase.{number_kept}
-use Rattle.mm_frame.proofs.AnswerLemmas.{active_in}
+use Rattle.mm_frame.proofs.lemmas.base.AnswerLemmas.{active_in}
 use Rattle.mm_frame.proofs.base.Base.pairs.Goals as goal
 
 pub returns-in-Some-clause-some : goal.returns-in-Some-clause-some

@@ -1,6 +1,6 @@
 use Rattle.std.proofs.Common.{◌∙◌, sym}
 use Rattle.std.proofs.lemmas.Option.{none-some}
-use Rattle.mm_frame.proofs.ResolvingLemmas.{unknown_means}
+use Rattle.mm_frame.proofs.lemmas.base.ResolvingLemmas.{unknown_means}
 use Rattle.mm_frame.proofs.base.Base.resolve.Goals as goal
 
 pub returns-in-Some : goal.returns-in-Some

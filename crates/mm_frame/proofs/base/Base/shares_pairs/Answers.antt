@@ -1,6 +1,6 @@
 use Rattle.std.proofs.Common.{slice_get, refl, ◌∙◌, ap, sym}
 use Rattle.mm_frame.specs.Code.KeptBase.{number_kept}
-use Rattle.mm_frame.proofs.AnswerLemmas.{active_in, shared_told}
+use Rattle.mm_frame.proofs.lemmas.base.AnswerLemmas.{active_in, shared_told}
 use Rattle.mm_frame.proofs.base.Base.shares_pairs.Goals as goal
 
 pub returns : goal.returns

@@ -2,7 +2,7 @@ use Rattle.std.proofs.Common.{◌≡◌, ◌++◌, ◌∷◌, [], length, refl, 
 use Rattle.std.specs.Prelude.{unwrap_or}
 use Rattle.mm_frame.specs.Language.Scope.{Closes, closes}
 use Rattle.mm_frame.specs.Code.KeptBlocks.{marks_from}
-use Rattle.mm_frame.proofs.BlockLemmas.{popped_is, closing, kept_moved, kept_entered, kept_ended, entered_marks, ended_marks, count_within, pushed}
+use Rattle.mm_frame.proofs.lemmas.scope.BlockLemmas.{popped_is, closing, kept_moved, kept_entered, kept_ended, entered_marks, ended_marks, count_within, pushed}
 use Rattle.mm_frame.proofs.blocks.Blocks.end.Goals as goal
 
 pub invariant_of-self-in_err-reserve : goal.invariant_of-self-in_err-reserve

@@ -3,7 +3,7 @@ use Rattle.std.proofs.lemmas.Result.{on_ok_weaker}
 use Rattle.mm_frame.specs.declared.draft.Draft.{Draft}
 use Rattle.mm_frame.specs.Language.Item.{Item}
 use Rattle.mm_frame.specs.Code.KeptBase.{IsDraft}
-use Rattle.mm_frame.proofs.NumberLemmas.{begins_on}
+use Rattle.mm_frame.proofs.lemmas.names.NumberLemmas.{begins_on}
 use Rattle.mm_frame.proofs.draft.Draft.read.Goals as goal
 
 -- the numbers of the last statement's symbols are nothing that is said

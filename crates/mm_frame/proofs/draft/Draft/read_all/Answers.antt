@@ -1,8 +1,8 @@
 use Rattle.std.proofs.Common.{◌≡◌, ◌∷◌, ◌++◌, [], suc, ◌+◌, take, take_all, subst, arith}
 use Rattle.std.specs.List.{AllZip}
 use Rattle.mm_frame.specs.Language.Statement.{Says}
-use Rattle.mm_frame.proofs.NumberLemmas.{begins_on}
-use Rattle.mm_frame.proofs.BaseLemmas.{zip_more}
+use Rattle.mm_frame.proofs.lemmas.names.NumberLemmas.{begins_on}
+use Rattle.mm_frame.proofs.lemmas.base.BaseLemmas.{zip_more}
 use Rattle.mm_frame.proofs.draft.Draft.read_all.Goals as goal
 
 pub loop-item-init : goal.loop-item-init

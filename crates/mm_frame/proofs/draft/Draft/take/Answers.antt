@@ -6,7 +6,7 @@ use Rattle.mm_frame.specs.Code.KeptRows.{rows_of, fault_told}
 use Rattle.mm_frame.specs.Language.Answering.{AreRows, IsLabelTold}
 use Rattle.mm_frame.specs.Code.KeptPairTable.{KnowsPairs}
 use Rattle.mm_frame.specs.Code.KeptAsked.{KnowsAsked}
-use Rattle.mm_frame.proofs.AskedLemmas.{asked_more}
+use Rattle.mm_frame.proofs.lemmas.pairs.AskedLemmas.{asked_more}
 use Rattle.mm_frame.specs.declared.essential.EssentialVariable.{EssentialVariable}
 use Rattle.mm_frame.specs.Code.KeptVariables.{AreVariablesOf}
 use Rattle.mm_frame.specs.Code.KeptTables.{Knows}
@@ -21,9 +21,9 @@ use Rattle.mm_frame.specs.Code.LastItems.{is_essential_item, is_disjoint_item}
 use Rattle.mm_frame.specs.Language.Scope.{active_numbers}
 use Rattle.mm_frame.specs.Language.Item.{is_essential, is_disjoint}
 use Rattle.mm_frame.specs.Code.KeptPairLists.{AreMade}
-use Rattle.mm_frame.proofs.BaseLemmas.{rows_more, kept_are_sound, kept_taken, kept_count, sound_found_none, none_found, none_fault, symbols_more, symbols_taken, framed_told, framed_parts, essential_sort, disjoint_sort, proof_told}
-use Rattle.mm_frame.proofs.PairListLemmas.{made_more}
-use Rattle.mm_frame.proofs.RowLemmas.{some_lent}
+use Rattle.mm_frame.proofs.lemmas.base.BaseLemmas.{rows_more, kept_are_sound, kept_taken, kept_count, sound_found_none, none_found, none_fault, symbols_more, symbols_taken, framed_told, framed_parts, essential_sort, disjoint_sort, proof_told}
+use Rattle.mm_frame.proofs.lemmas.pairs.PairListLemmas.{made_more}
+use Rattle.mm_frame.proofs.lemmas.base.RowLemmas.{some_lent}
 use Rattle.mm_frame.proofs.draft.Draft.take.Goals as goal
 
 pub returns : goal.returns

@@ -5,7 +5,7 @@ use Rattle.mm_frame.specs.Code.KeptBase.{TellsFrame, TellsPairs}
 use Rattle.mm_frame.specs.Language.Answering.{AreRows, IsLabelTold}
 use Rattle.mm_frame.specs.Code.KeptSymbols.{AreSymbols}
 use Rattle.mm_frame.specs.Code.LastItems.{is_essential_item, is_disjoint_item}
-use Rattle.mm_frame.proofs.BaseLemmas.{rows_none, symbols_none}
+use Rattle.mm_frame.proofs.lemmas.base.BaseLemmas.{rows_none, symbols_none}
 use Rattle.mm_frame.proofs.draft.Draft.with_room.Goals as goal
 
 pub returns : goal.returns

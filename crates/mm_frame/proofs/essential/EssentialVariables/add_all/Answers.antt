@@ -1,6 +1,6 @@
 use Rattle.std.proofs.Common.{false}
 use Rattle.mm_frame.specs.declared.symbol.NumberedSymbol.{NumberedSymbol}
-use Rattle.mm_frame.proofs.VariableLemmas.{adds_none, adds_more}
+use Rattle.mm_frame.proofs.lemmas.frames.VariableLemmas.{adds_none, adds_more}
 use Rattle.mm_frame.proofs.essential.EssentialVariables.add_all.Goals as goal
 
 pub loop-k-init : goal.loop-k-init

@@ -7,10 +7,10 @@ use Rattle.mm_frame.specs.Code.LastItems.{is_essential_item, IsRising}
 use Rattle.mm_frame.specs.Code.KeptSymbols.{expression_kept}
 use Rattle.mm_frame.specs.Code.KeptVariables.{AddsAll, AreVariablesOf}
 use Rattle.mm_frame.specs.Code.PairOrder.{is_among}
-use Rattle.mm_frame.proofs.HypothesisNumbers.{active_numbers_rise}
-use Rattle.mm_frame.proofs.Members.{in_contains}
-use Rattle.mm_frame.proofs.Rising.{among_in}
-use Rattle.mm_frame.proofs.VariableLemmas.{variables_left, variables_added}
+use Rattle.mm_frame.proofs.lemmas.frames.HypothesisNumbers.{active_numbers_rise}
+use Rattle.mm_frame.proofs.lemmas.lists.Members.{in_contains}
+use Rattle.mm_frame.proofs.lemmas.lists.Rising.{among_in}
+use Rattle.mm_frame.proofs.lemmas.frames.VariableLemmas.{variables_left, variables_added}
 use Rattle.mm_frame.proofs.essential.EssentialVariables.follow.Goals as goal
 
 pub returns-else-is_among : goal.returns-else-is_among

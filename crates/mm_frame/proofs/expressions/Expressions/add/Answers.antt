@@ -1,7 +1,7 @@
 use Rattle.std.proofs.Common.{◌≡◌, ◌+◌, ◌++◌, ◌∷◌, [], length, sym, ap, ◌∙◌, subst, arith, length-append}
 use Rattle.mm_frame.specs.Code.KeptExpressions.{cut_from, EndsFrom}
-use Rattle.mm_frame.proofs.BlockLemmas.{pushed}
-use Rattle.mm_frame.proofs.ExpressionLemmas.{cut_more, ends_more}
+use Rattle.mm_frame.proofs.lemmas.scope.BlockLemmas.{pushed}
+use Rattle.mm_frame.proofs.lemmas.names.ExpressionLemmas.{cut_more, ends_more}
 use Rattle.mm_frame.proofs.expressions.Expressions.add.Goals as goal
 
 pub invariant_of-self-2 : goal.invariant_of-self-2

@@ -1,5 +1,5 @@
 use Rattle.std.proofs.Common.{◌≡◌, length, sym, ap, ◌∙◌, arith}
-use Rattle.mm_frame.proofs.ExpressionLemmas.{cut_length}
+use Rattle.mm_frame.proofs.lemmas.names.ExpressionLemmas.{cut_length}
 use Rattle.mm_frame.proofs.expressions.Expressions.count.Goals as goal
 
 pub returns : goal.returns

@@ -1,7 +1,7 @@
 use Rattle.std.proofs.Common.{◌≡◌, ◌∷◌, [], ◌++◌, length, sym, ap, ◌∙◌, arith}
 use Rattle.std.specs.Option.{option_map}
 use Rattle.mm_frame.specs.declared.item_rows.Rows.{Rows}
-use Rattle.mm_frame.proofs.RowLemmas.{kept_more, rows_more, some_lent, adds_row}
+use Rattle.mm_frame.proofs.lemmas.base.RowLemmas.{kept_more, rows_more, some_lent, adds_row}
 use Rattle.mm_frame.proofs.item_rows.Rows.add.Goals as goal
 
 pub returns-clause-kept : goal.returns-clause-kept

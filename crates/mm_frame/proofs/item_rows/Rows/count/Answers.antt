@@ -1,5 +1,5 @@
 use Rattle.std.proofs.Common.{◌≡◌, length, sym, ◌∙◌, arith}
-use Rattle.mm_frame.proofs.RowLemmas.{row_count}
+use Rattle.mm_frame.proofs.lemmas.base.RowLemmas.{row_count}
 use Rattle.mm_frame.proofs.item_rows.Rows.count.Goals as goal
 
 pub returns : goal.returns

@@ -1,6 +1,6 @@
 use Rattle.std.proofs.Common.{sym, ap, ◌∙◌}
 use Rattle.mm_frame.specs.Code.KeptRows.{fault_at, fault_told}
-use Rattle.mm_frame.proofs.RowLemmas.{fault_there}
+use Rattle.mm_frame.proofs.lemmas.base.RowLemmas.{fault_there}
 use Rattle.mm_frame.proofs.item_rows.Rows.fault.Goals as goal
 
 pub returns : goal.returns

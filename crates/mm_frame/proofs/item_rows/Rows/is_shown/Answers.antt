@@ -1,8 +1,8 @@
 use Rattle.std.proofs.Common.{false, get_or, sym, ap, ◌∙◌}
 use Rattle.std.specs.Prelude.{is_none}
 use Rattle.mm_frame.specs.Code.KeptRows.{fault_at}
-use Rattle.mm_frame.proofs.BaseLemmas.{none_found}
-use Rattle.mm_frame.proofs.RowLemmas.{shown_none, shown_some}
+use Rattle.mm_frame.proofs.lemmas.base.BaseLemmas.{none_found}
+use Rattle.mm_frame.proofs.lemmas.base.RowLemmas.{shown_none, shown_some}
 use Rattle.mm_frame.proofs.item_rows.Rows.is_shown.Goals as goal
 
 pub returns-then-not-is_labelled : goal.returns-then-not-is_labelled

@@ -2,7 +2,7 @@ use Rattle.std.proofs.Common.{◌≡◌, true, false, refl, ◌∙◌, ap, cond,
 use Rattle.std.specs.Prelude.{nat_eq}
 use Rattle.std.specs.HashMap.{get_by}
 use Rattle.mm_frame.specs.Code.KeptLabels.{is_coded}
-use Rattle.mm_frame.proofs.LabelCodes.{inserted, short_put, long_put}
+use Rattle.mm_frame.proofs.lemmas.names.LabelCodes.{inserted, short_put, long_put}
 use Rattle.mm_frame.proofs.label_numbers.LabelNumbers.insert.Goals as goal
 
 pub returns-in_ok-insert-in-Some : goal.returns-in_ok-insert-in-Some

@@ -2,7 +2,7 @@ use Rattle.std.proofs.Common.{ap, ◌∙◌, sym, map, ◌++◌, ◌∷◌, [], 
 use Rattle.std.specs.Str.{bytes_eq}
 use Rattle.std.specs.List.{list_any}
 use Rattle.std.proofs.lemmas.List.{length-map}
-use Rattle.mm_frame.proofs.NumberLemmas.{inserted, any_by_keys}
+use Rattle.mm_frame.proofs.lemmas.names.NumberLemmas.{inserted, any_by_keys}
 use Rattle.mm_frame.proofs.names.Names.add.Goals as goal
 
 pub returns-clause-ok : goal.returns-clause-ok

@@ -1,5 +1,5 @@
 use Rattle.std.proofs.Common.{◌≡◌, ◌-◌, Some, length, slice_get, sym, ◌∙◌, subst}
-use Rattle.mm_frame.proofs.PairListLemmas.{is_there}
+use Rattle.mm_frame.proofs.lemmas.pairs.PairListLemmas.{is_there}
 use Rattle.mm_frame.proofs.pair_lists.PairLists.is_last.Goals as goal
 
 pub returns-in-Some : goal.returns-in-Some

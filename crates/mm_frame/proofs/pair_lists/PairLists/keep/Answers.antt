@@ -1,6 +1,6 @@
 use Rattle.std.proofs.Common.{◌≡◌, ◌-◌, length, slice_get, refl, ap, ◌∙◌, subst, arith}
 use Rattle.mm_frame.specs.Code.KeptPairLists.{IsThere}
-use Rattle.mm_frame.proofs.BlockLemmas.{get_last}
+use Rattle.mm_frame.proofs.lemmas.scope.BlockLemmas.{get_last}
 use Rattle.mm_frame.proofs.pair_lists.PairLists.keep.Goals as goal
 
 pub returns-then-is_last-clause-there : goal.returns-then-is_last-clause-there

@@ -6,9 +6,9 @@ use Rattle.mm_frame.specs.declared.pair_lists.PairLists.{PairLists}
 use Rattle.mm_frame.specs.Language.NumberedSymbols.{AreSamePairsRead}
 use Rattle.mm_frame.specs.Code.KeptPairLists.{KeepsLists, pairs_among}
 use Rattle.mm_frame.specs.Code.KeptSymbols.{expression_kept}
-use Rattle.mm_frame.proofs.Members.{In, in_left, in_right}
-use Rattle.mm_frame.proofs.ActivePairLemmas.{pairs_at}
-use Rattle.mm_frame.proofs.PairListLemmas.{made_one_more, front_and_more, active_read}
+use Rattle.mm_frame.proofs.lemmas.lists.Members.{In, in_left, in_right}
+use Rattle.mm_frame.proofs.lemmas.pairs.ActivePairLemmas.{pairs_at}
+use Rattle.mm_frame.proofs.lemmas.pairs.PairListLemmas.{made_one_more, front_and_more, active_read}
 use Rattle.mm_frame.proofs.pair_lists.PairLists.outer_list.Goals as goal
 
 pub returns-clause-pairs : goal.returns-clause-pairs

@@ -1,7 +1,7 @@
 use Rattle.std.proofs.Common.{sym, subst}
 use Rattle.std.proofs.lemmas.Result.{IfOk-weaker, on_ok_weaker}
 use Rattle.mm_frame.specs.Code.Numbers.{IsNameNumber}
-use Rattle.mm_frame.proofs.PairTableLemmas.{pair_told, pair_turned_told, same_told}
+use Rattle.mm_frame.proofs.lemmas.pairs.PairTableLemmas.{pair_told, pair_turned_told, same_told}
 use Rattle.mm_frame.proofs.paired.PairTable.is_active_pair.Goals as goal
 
 pub returns-then-first-second-clause-value : goal.returns-then-first-second-clause-value

@@ -1,4 +1,4 @@
-use Rattle.mm_frame.proofs.PairTableLemmas.{puts_row}
+use Rattle.mm_frame.proofs.lemmas.pairs.PairTableLemmas.{puts_row}
 use Rattle.mm_frame.proofs.paired.PairTable.put.Goals as goal
 
 pub returns : goal.returns

@@ -1,4 +1,4 @@
-use Rattle.mm_frame.proofs.PairTableLemmas.{puts_more}
+use Rattle.mm_frame.proofs.lemmas.pairs.PairTableLemmas.{puts_more}
 use Rattle.mm_frame.proofs.paired.PairTable.take.Goals as goal
 
 pub loop-k-preserved : goal.loop-k-preserved

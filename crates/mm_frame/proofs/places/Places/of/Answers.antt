@@ -1,7 +1,7 @@
 use Rattle.std.proofs.Common.{false, sym, ◌∙◌}
 use Rattle.std.proofs.lemmas.Option.{slice_get-get_or}
 use Rattle.mm_frame.specs.declared.symbol.NumberedSymbol.{NumberedSymbol}
-use Rattle.mm_frame.proofs.PlaceLemmas.{placed_more, placed_all, none_there}
+use Rattle.mm_frame.proofs.lemmas.pairs.PlaceLemmas.{placed_more, placed_all, none_there}
 use Rattle.mm_frame.proofs.places.Places.of.Goals as goal
 
 pub loop-n-preserved : goal.loop-n-preserved

@@ -1,4 +1,4 @@
-use Rattle.mm_frame.proofs.PlaceLemmas.{PlacedTo}
+use Rattle.mm_frame.proofs.lemmas.pairs.PlaceLemmas.{PlacedTo}
 use Rattle.mm_frame.proofs.places.Places.of.Given as goal
 
 abbrev pub invariant-loop-n : goal.invariant-loop-n

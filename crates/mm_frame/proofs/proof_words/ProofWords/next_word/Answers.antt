@@ -1,7 +1,7 @@
 use Rattle.std.proofs.Common.{◌∷◌, sym, ◌∙◌, ap, subst}
 use Rattle.mm_store.specs.mm_text.Language.WordsLeft.{WordsLeft}
 use Rattle.mm_frame.specs.Code.PlainWords.{AreFew, word_bytes, plain_bytes}
-use Rattle.mm_frame.proofs.SpokenLemmas.{few_more, proof_more}
+use Rattle.mm_frame.proofs.lemmas.reading.SpokenLemmas.{few_more, proof_more}
 use Rattle.mm_frame.proofs.proof_words.ProofWords.next_word.Goals as goal
 
 pub returns : goal.returns

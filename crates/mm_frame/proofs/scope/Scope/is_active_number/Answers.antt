@@ -1,5 +1,5 @@
 use Rattle.std.proofs.Common.{◌∙◌}
-use Rattle.mm_frame.proofs.KeptScopeLemmas.{active_by_marks}
+use Rattle.mm_frame.proofs.lemmas.scope.KeptScopeLemmas.{active_by_marks}
 use Rattle.mm_frame.proofs.scope.Scope.is_active_number.Goals as goal
 
 pub returns-in-Some : goal.returns-in-Some

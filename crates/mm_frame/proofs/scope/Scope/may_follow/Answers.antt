@@ -9,8 +9,8 @@ use Rattle.mm_frame.specs.Code.Numbers.{IsNameNumber}
 use Rattle.mm_frame.specs.Code.KeptScope.{ScopeHolds}
 use Rattle.mm_frame.specs.Code.KeptTables.{declared_at}
 use Rattle.mm_frame.specs.Code.LastItems.{is_active_last}
-use Rattle.mm_frame.proofs.KnownLemmas.{known_at}
-use Rattle.mm_frame.proofs.FaultLemmas.{may_follow_as, follows_later}
+use Rattle.mm_frame.proofs.lemmas.scope.KnownLemmas.{known_at}
+use Rattle.mm_frame.proofs.lemmas.faults.FaultLemmas.{may_follow_as, follows_later}
 use Rattle.mm_frame.proofs.scope.Scope.may_follow.Goals as goal
 
 told : (scope : Scope) (n : ℕ) (found given : Option Declared) (all : List (List ℕ)) (before : List Item) (name : List ℕ) → AreSound before → ScopeHolds all before scope → IsNameNumber all n name → found ≡ declared_at scope.tables n → found ≡ given

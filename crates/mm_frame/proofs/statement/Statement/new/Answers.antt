@@ -3,7 +3,7 @@ use Rattle.std.specs.Prelude.{All, IfSome}
 use Rattle.mm_frame.specs.Language.Item.{is_labelled}
 use Rattle.mm_frame.specs.Language.Statement.{kind_of}
 use Rattle.mm_frame.specs.Code.PlainWords.{LiesInText}
-use Rattle.mm_frame.proofs.SpokenLemmas.{Reads, behind_one, item_read, label_there, rest_few, rest_some, rest_bytes}
+use Rattle.mm_frame.proofs.lemmas.reading.SpokenLemmas.{Reads, behind_one, item_read, label_there, rest_few, rest_some, rest_bytes}
 use Rattle.mm_frame.proofs.statement.Statement.new.Goals as goal
 
 pub returns : goal.returns

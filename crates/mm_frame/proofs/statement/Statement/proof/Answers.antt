@@ -1,5 +1,5 @@
 use Rattle.std.proofs.Common.{arith}
-use Rattle.mm_frame.proofs.SpokenLemmas.{proof_few, proof_some, proof_bytes}
+use Rattle.mm_frame.proofs.lemmas.reading.SpokenLemmas.{proof_few, proof_some, proof_bytes}
 use Rattle.mm_frame.proofs.statement.Statement.proof.Goals as goal
 
 pub new-requires-clause-few : goal.new-requires-clause-few

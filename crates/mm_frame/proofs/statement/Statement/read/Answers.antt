@@ -1,5 +1,5 @@
 use Rattle.std.proofs.Common.{◌∙◌, arith}
-use Rattle.mm_frame.proofs.PieceLemmas.{has_words, ends_within, has_one, same_item, said_is}
+use Rattle.mm_frame.proofs.lemmas.reading.PieceLemmas.{has_words, ends_within, has_one, same_item, said_is}
 use Rattle.mm_frame.proofs.statement.Statement.read.Goals as goal
 
 pub slice_bounds-text-end : goal.slice_bounds-text-end

@@ -1,5 +1,5 @@
 use Rattle.std.proofs.lemmas.Result.{on_ok_weaker}
-use Rattle.mm_frame.proofs.KnownLemmas.{declares_one}
+use Rattle.mm_frame.proofs.lemmas.scope.KnownLemmas.{declares_one}
 use Rattle.mm_frame.proofs.tables.Tables.declare.Goals as goal
 
 pub returns : goal.returns

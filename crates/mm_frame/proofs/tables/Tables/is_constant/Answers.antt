@@ -1,6 +1,6 @@
 use Rattle.std.proofs.Common.{◌≡◌, rules, Some, false, ◌∙◌, ap, sym}
 use Rattle.mm_frame.specs.Code.KeptTables.{is_constant_as}
-use Rattle.mm_frame.proofs.KnownLemmas.{known_at, constant_in}
+use Rattle.mm_frame.proofs.lemmas.scope.KnownLemmas.{known_at, constant_in}
 use Rattle.mm_frame.proofs.tables.Tables.is_constant.Goals as goal
 
 pub returns-in-Some-Constant-clause-declared : goal.returns-in-Some-Constant-clause-declared

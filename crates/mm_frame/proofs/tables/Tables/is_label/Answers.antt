@@ -1,6 +1,6 @@
 use Rattle.std.proofs.Common.{sym, ◌∙◌, ap}
 use Rattle.std.specs.Prelude.{is_some}
-use Rattle.mm_frame.proofs.TableLemmas.{label_last}
+use Rattle.mm_frame.proofs.lemmas.scope.TableLemmas.{label_last}
 use Rattle.mm_frame.proofs.tables.Tables.is_label.Goals as goal
 
 pub returns : goal.returns

@@ -1,7 +1,7 @@
 use Rattle.std.proofs.Common.{◌∙◌, ap, sym}
 use Rattle.std.specs.Prelude.{is_some}
 use Rattle.mm_frame.specs.Code.KeptTables.{declared_for}
-use Rattle.mm_frame.proofs.KnownLemmas.{is_declared_in}
+use Rattle.mm_frame.proofs.lemmas.scope.KnownLemmas.{is_declared_in}
 use Rattle.mm_frame.proofs.tables.Tables.is_symbol.Goals as goal
 
 pub returns-in-Some : goal.returns-in-Some

@@ -2,7 +2,7 @@ use Rattle.std.proofs.Common.{[], refl}
 use Rattle.std.proofs.lemmas.Result.{on_ok_weaker}
 use Rattle.mm_frame.specs.Language.Item.{Constants, Variables, Floating}
 use Rattle.mm_frame.specs.Language.Statement.{kind_of}
-use Rattle.mm_frame.proofs.KnownLemmas.{knows_next, takes_constants, takes_variables, takes_sound_float, takes_label, takes_nothing}
+use Rattle.mm_frame.proofs.lemmas.scope.KnownLemmas.{knows_next, takes_constants, takes_variables, takes_sound_float, takes_label, takes_nothing}
 use Rattle.mm_frame.proofs.tables.Tables.take.Goals as goal
 
 pub returns-in-Constants : goal.returns-in-Constants

@@ -2,7 +2,7 @@ use Rattle.std.proofs.Common.{cond, Some, ◌∙◌, ap, refl}
 use Rattle.std.specs.Prelude.{option_to_list}
 use Rattle.mm_frame.specs.Language.Item.{has}
 use Rattle.mm_frame.specs.Code.KeptTables.{table_label}
-use Rattle.mm_frame.proofs.KnownLemmas.{has_one}
+use Rattle.mm_frame.proofs.lemmas.scope.KnownLemmas.{has_one}
 use Rattle.mm_frame.proofs.tables.Tables.take_label.Goals as goal
 
 pub returns-in_ok-insert : goal.returns-in_ok-insert

@@ -1,5 +1,5 @@
 use Rattle.std.proofs.Common.{rules, Some, ◌∙◌, ap, sym, refl}
-use Rattle.mm_frame.proofs.KnownLemmas.{types_one, typed_there, stays_there}
+use Rattle.mm_frame.proofs.lemmas.scope.KnownLemmas.{types_one, typed_there, stays_there}
 use Rattle.mm_frame.proofs.tables.Tables.type_variable.Goals as goal
 
 pub returns-in-Some-Variable : goal.returns-in-Some-Variable

@@ -3,7 +3,7 @@ use Rattle.std.specs.Prelude.{Contains}
 use Rattle.mm_frame.specs.Language.Frame.{Symbol}
 use Rattle.mm_proof.specs.Code.PairClause.{Apart}
 use Rattle.mm_proof.specs.Code.Citation.{meant_pairs}
-use Rattle.mm_proof.proofs.ApartLemmas.{EachUpTo}
+use Rattle.mm_proof.proofs.lemmas.machine.ApartLemmas.{EachUpTo}
 use Rattle.mm_proof.proofs.active.Active.are_apart.Given as goal
 
 abbrev pub invariant-loop-i : goal.invariant-loop-i

@@ -5,9 +5,9 @@ use Rattle.mm_frame.specs.Language.Frame.{Symbol}
 use Rattle.mm_frame.specs.Language.NumberedSymbols.{comes_before}
 use Rattle.mm_proof.specs.Code.Citation.{meant_pairs, meant_pair}
 use Rattle.mm_proof.specs.Code.Keys.{pair_keys}
-use Rattle.mm_proof.proofs.FlatLemmas.{element_at}
-use Rattle.mm_proof.proofs.ApartLemmas.{pair_found, pair_nowhere, each_more}
-use Rattle.mm_proof.proofs.KeyOrderLemmas.{none_before, none_behind}
+use Rattle.mm_proof.proofs.lemmas.machine.FlatLemmas.{element_at}
+use Rattle.mm_proof.proofs.lemmas.machine.ApartLemmas.{pair_found, pair_nowhere, each_more}
+use Rattle.mm_proof.proofs.lemmas.machine.KeyOrderLemmas.{none_before, none_behind}
 use Rattle.mm_proof.specs.Code.PairClause.{IsPair}
 use Rattle.mm_proof.proofs.active.Active.has.Goals as goal
 

@@ -1,6 +1,6 @@
 use Rattle.mm_proof.specs.Code.PairClause.{IsPair}
 use Rattle.mm_proof.specs.Code.Citation.{meant_pairs}
-use Rattle.mm_proof.proofs.ApartLemmas.{EachUpTo}
+use Rattle.mm_proof.proofs.lemmas.machine.ApartLemmas.{EachUpTo}
 use Rattle.mm_proof.proofs.active.Active.has.Given as goal
 
 abbrev pub invariant-loop-place : goal.invariant-loop-place

@@ -1,7 +1,7 @@
 use Rattle.std.proofs.Common.{map}
 use Rattle.mm_proof.specs.Code.PairClause.{Apart}
 use Rattle.mm_proof.specs.Code.Citation.{meant_pairs}
-use Rattle.mm_proof.proofs.ApartLemmas.{EachUpTo}
+use Rattle.mm_proof.proofs.lemmas.machine.ApartLemmas.{EachUpTo}
 use Rattle.mm_proof.proofs.active.Active.is_apart_from.Given as goal
 
 abbrev pub invariant-loop-i : goal.invariant-loop-i

@@ -2,7 +2,7 @@ use Rattle.std.proofs.Common.{sym, ◌∙◌, ap, inl, inr}
 use Rattle.std.proofs.lemmas.Bool.{false≢true}
 use Rattle.mm_frame.specs.Language.Frame.{Symbol}
 use Rattle.mm_proof.specs.Code.Citation.{meant_pair}
-use Rattle.mm_proof.proofs.FlatLemmas.{mapped_or}
+use Rattle.mm_proof.proofs.lemmas.machine.FlatLemmas.{mapped_or}
 use Rattle.mm_proof.proofs.active.Active.is_at.Goals.{then-same, else-same}
 use Rattle.mm_proof.proofs.active.Active.is_at.Goals as goal
 

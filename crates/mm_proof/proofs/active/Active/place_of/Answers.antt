@@ -4,8 +4,8 @@ use Rattle.mm_frame.specs.Language.Frame.{Symbol}
 use Rattle.mm_frame.specs.Language.NumberedSymbols.{comes_before}
 use Rattle.mm_proof.specs.Code.Citation.{meant_pairs, meant_pair}
 use Rattle.mm_proof.specs.Code.Keys.{pair_keys}
-use Rattle.mm_proof.proofs.FlatLemmas.{element_at}
-use Rattle.mm_proof.proofs.KeyOrderLemmas.{before_on}
+use Rattle.mm_proof.proofs.lemmas.machine.FlatLemmas.{element_at}
+use Rattle.mm_proof.proofs.lemmas.machine.KeyOrderLemmas.{before_on}
 use Rattle.mm_proof.proofs.active.Active.place_of.Goals as goal
 
 pub loop-low-preserved-then-is_before : goal.loop-low-preserved-then-is_before

@@ -1,8 +1,8 @@
 use Rattle.std.proofs.Common.{map, get_or, arith}
 use Rattle.mm_proof.specs.declared.pattern.Entry.{Entry}
 use Rattle.mm_proof.specs.Code.Flat.{read, read_all}
-use Rattle.mm_proof.proofs.FlatLemmas.{mapped_or_get, element_at}
-use Rattle.mm_proof.proofs.ApartLemmas.{gathers_step}
+use Rattle.mm_proof.proofs.lemmas.machine.FlatLemmas.{mapped_or_get, element_at}
+use Rattle.mm_proof.proofs.lemmas.machine.ApartLemmas.{gathers_step}
 use Rattle.mm_proof.proofs.gather.Gathered.gather_all.Goals as goal
 
 pub loop-place-preserved : goal.loop-place-preserved

@@ -1,6 +1,6 @@
 use Rattle.std.proofs.Common.{length, map, refl, arith}
 use Rattle.std.proofs.lemmas.List.{length-map}
-use Rattle.mm_proof.proofs.ApartLemmas.{entry_gathered, entry_passed}
+use Rattle.mm_proof.proofs.lemmas.machine.ApartLemmas.{entry_gathered, entry_passed}
 use Rattle.mm_proof.proofs.gather.Gathered.gather_entry.Goals as goal
 
 pub returns-then-not-floating : goal.returns-then-not-floating

@@ -1,7 +1,7 @@
 use Rattle.std.proofs.Common.{map, length, sym, arith}
 use Rattle.std.proofs.lemmas.List.{length-map}
 use Rattle.mm_proof.specs.declared.pattern.Entry.{Entry}
-use Rattle.mm_proof.proofs.StackLemmas.{pushed_all, grown_all, whole_loaded, wider}
+use Rattle.mm_proof.proofs.lemmas.machine.StackLemmas.{pushed_all, grown_all, whole_loaded, wider}
 use Rattle.mm_proof.proofs.machine.Machine.load.Goals as goal
 
 pub returns-clause-whole : goal.returns-clause-whole

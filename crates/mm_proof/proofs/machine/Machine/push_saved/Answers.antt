@@ -3,8 +3,8 @@ use Rattle.std.proofs.lemmas.List.{map-append}
 use Rattle.mm_frame.specs.Language.Frame.{Symbol}
 use Rattle.mm_proof.specs.declared.pattern.Entry.{Entry}
 use Rattle.mm_proof.specs.Code.Flat.{read, read_all, IsEntryWithin}
-use Rattle.mm_proof.proofs.FlatLemmas.{mapped_at}
-use Rattle.mm_proof.proofs.StackLemmas.{whole_pushed}
+use Rattle.mm_proof.proofs.lemmas.machine.FlatLemmas.{mapped_at}
+use Rattle.mm_proof.proofs.lemmas.machine.StackLemmas.{whole_pushed}
 use Rattle.mm_proof.proofs.machine.Machine.push_saved.Goals as goal
 
 pub returns-clause-stack : goal.returns-clause-stack

@@ -2,7 +2,7 @@ use Rattle.std.proofs.Common.{◌++◌, ◌∷◌, [], map, take, length, sym, �
 use Rattle.std.specs.Prelude.{slice_get}
 use Rattle.std.proofs.lemmas.List.{length-map, map-append, take-map, length-take-le}
 use Rattle.mm_proof.specs.declared.pattern.Entry.{Entry}
-use Rattle.mm_proof.proofs.StackLemmas.{whole_replaced, replaced_all, cut_all, ends_of}
+use Rattle.mm_proof.proofs.lemmas.machine.StackLemmas.{whole_replaced, replaced_all, cut_all, ends_of}
 use Rattle.mm_proof.proofs.machine.Machine.replace.Goals as goal
 
 pub returns-clause-whole : goal.returns-clause-whole

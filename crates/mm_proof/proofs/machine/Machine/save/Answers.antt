@@ -1,7 +1,7 @@
 use Rattle.std.proofs.Common.{◌-◌, ◌∷◌, [], map, take, refl, ◌∙◌, ap, arith}
 use Rattle.std.proofs.lemmas.List.{map-append}
 use Rattle.mm_proof.specs.Code.Flat.{read, read_all}
-use Rattle.mm_proof.proofs.StackLemmas.{top_of}
+use Rattle.mm_proof.proofs.lemmas.machine.StackLemmas.{top_of}
 use Rattle.mm_proof.proofs.machine.Machine.save.Goals as goal
 
 pub returns-then-entry-self-clause-saves : goal.returns-then-entry-self-clause-saves

@@ -6,9 +6,9 @@ use Rattle.mm_proof.specs.declared.pattern.Entry.{Entry}
 use Rattle.mm_proof.specs.Code.Flat.{read, read_all}
 use Rattle.mm_proof.specs.Code.Citation.{frame_from, mandatory_of}
 use Rattle.mm_proof.specs.Code.Citation.{meant_pairs}
-use Rattle.mm_proof.proofs.EntryFaults.{gives_all, hypotheses_known}
-use Rattle.mm_proof.proofs.CitingFaults.{cited_by, says07}
-use Rattle.mm_proof.proofs.StackLemmas.{entries_taken, slice_taken, all_taken}
+use Rattle.mm_proof.proofs.lemmas.machine.EntryFaults.{gives_all, hypotheses_known}
+use Rattle.mm_proof.proofs.lemmas.machine.CitingFaults.{cited_by, says07}
+use Rattle.mm_proof.proofs.lemmas.machine.StackLemmas.{entries_taken, slice_taken, all_taken}
 use Rattle.mm_proof.proofs.machine.Machine.take.Goals as goal
 
 pub returns-in-Some-clause-cites : goal.returns-in-Some-clause-cites

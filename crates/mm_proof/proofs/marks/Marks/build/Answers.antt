@@ -3,7 +3,7 @@ use Rattle.std.proofs.lemmas.List.{map-append}
 use Rattle.mm_proof.specs.Language.BaseMarks.{ItemMark}
 use Rattle.mm_proof.specs.declared.marks.Mark as code
 use Rattle.mm_proof.specs.Code.KeptMarks.{AreItemMarks, kept_mark, kept_marks}
-use Rattle.mm_proof.proofs.KeptMarkLemmas.{marked_more, all_marked}
+use Rattle.mm_proof.proofs.lemmas.views.KeptMarkLemmas.{marked_more, all_marked}
 use Rattle.mm_proof.proofs.marks.Marks.build.Goals as goal
 
 pub loop-j-preserved : goal.loop-j-preserved

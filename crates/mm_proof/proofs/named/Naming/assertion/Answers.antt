@@ -10,9 +10,9 @@ use Rattle.mm_proof.specs.declared.assertion.Cited.{Cited}
 use Rattle.mm_proof.specs.Code.Citation.{frame_of}
 use Rattle.mm_frame.specs.Language.NumberedSymbols.{by_number}
 use Rattle.mm_proof.specs.Code.NumberedBase.{numbered_frame}
-use Rattle.mm_proof.proofs.FrameLemmas.{frame_moved}
-use Rattle.mm_proof.proofs.RenamedFrames.{frame_by_number}
-use Rattle.mm_proof.proofs.NamedLemmas.{placed_more, stays_more, stands_last}
+use Rattle.mm_proof.proofs.lemmas.base.FrameLemmas.{frame_moved}
+use Rattle.mm_proof.proofs.lemmas.renaming.RenamedFrames.{frame_by_number}
+use Rattle.mm_proof.proofs.lemmas.machine.NamedLemmas.{placed_more, stays_more, stands_last}
 use Rattle.mm_proof.proofs.named.Naming.assertion.Goals as goal
 
 pub returns-clause-named : goal.returns-clause-named

@@ -5,7 +5,7 @@ use Rattle.mm_frame.specs.Language.Base.{is_shown_at}
 use Rattle.mm_frame.specs.Language.Frame.{Symbol}
 use Rattle.mm_frame.specs.declared.symbol.NumberedSymbol.{NumberedSymbol}
 use Rattle.mm_proof.specs.Code.NumberedBase.{all_by_number, numbered_hypothesis}
-use Rattle.mm_proof.proofs.NamedLemmas.{placed_more, stays_more, stands_last}
+use Rattle.mm_proof.proofs.lemmas.machine.NamedLemmas.{placed_more, stays_more, stands_last}
 use Rattle.mm_proof.proofs.named.Naming.hypothesis.Goals as goal
 
 pub returns-clause-named : goal.returns-clause-named

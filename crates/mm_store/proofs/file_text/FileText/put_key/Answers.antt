@@ -3,7 +3,7 @@ use Rattle.std.specs.Prelude.{if◌then◌else◌}
 use Rattle.std.specs.Result.{is_ok}
 use Rattle.std.specs.List.{insert}
 use Rattle.std.proofs.lemmas.List.Edits.{length-insert}
-use Rattle.mm_store.proofs.StartLemmas.{known_same, take_insert}
+use Rattle.mm_store.proofs.lemmas.places.StartLemmas.{known_same, take_insert}
 use Rattle.mm_store.proofs.file_text.FileText.put_key.Goals as goal
 
 pub returns-clause-starts : goal.returns-clause-starts

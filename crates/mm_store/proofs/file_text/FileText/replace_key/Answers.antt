@@ -1,6 +1,6 @@
 use Rattle.std.proofs.Common.{◌≡◌, ◌<◌, length, take, set, ap, ◌∙◌, arith}
 use Rattle.std.proofs.lemmas.List.{length-set}
-use Rattle.mm_store.proofs.StartLemmas.{known_same, take_set}
+use Rattle.mm_store.proofs.lemmas.places.StartLemmas.{known_same, take_set}
 use Rattle.mm_store.proofs.file_text.FileText.replace_key.Goals as goal
 
 pub returns-clause-starts : goal.returns-clause-starts

@@ -3,7 +3,7 @@ use Rattle.std.specs.List.{concat}
 use Rattle.std.proofs.lemmas.List.{length-map, get_or-map}
 use Rattle.mm_store.specs.Language.Pieces.{text_under}
 use Rattle.mm_store.specs.Code.Lines.{IsStart}
-use Rattle.mm_store.proofs.PlaceLemmas.{concat_one, piece_within}
+use Rattle.mm_store.proofs.lemmas.places.PlaceLemmas.{concat_one, piece_within}
 use Rattle.mm_store.proofs.file_text.FileText.start.Goals as goal
 
 pub next_start-start-requires : goal.next_start-start-requires

@@ -8,8 +8,8 @@ use Rattle.mm_text.specs.Language.Reading.{IsTextErrorIn}
 use Rattle.mm_text.specs.Language.Cut.{IsCutError}
 use Rattle.mm_store.specs.Language.FilesView.{File, FilesView, plain, file_number, bytes_of}
 use Rattle.mm_store.specs.Language.Answers.{store_error_of, IsAddError, IsAddErrorIn}
-use Rattle.mm_store.proofs.AddLemmas.{bytes_more}
-use Rattle.mm_store.proofs.EditLemmas.{if_err}
+use Rattle.mm_store.proofs.lemmas.files.AddLemmas.{bytes_more}
+use Rattle.mm_store.proofs.lemmas.edits.EditLemmas.{if_err}
 use Rattle.mm_store.proofs.files.Files.add.Goals as goal
 
 no_number : (number : Option ℕ) → is_some number ≡ false → number ≡ None

@@ -1,7 +1,7 @@
 use Rattle.std.proofs.Common.{◌∙◌, sym, refl}
 use Rattle.std.proofs.lemmas.Option.{none-some}
-use Rattle.mm_store.proofs.ViewLemmas.{number_plain}
-use Rattle.mm_store.proofs.SetLemmas.{not_no_top}
+use Rattle.mm_store.proofs.lemmas.files.ViewLemmas.{number_plain}
+use Rattle.mm_store.proofs.lemmas.expansion.SetLemmas.{not_no_top}
 use Rattle.mm_store.proofs.files.Files.begun.Goals as goal
 
 pub returns-in-None-clause-no_top : goal.returns-in-None-clause-no_top

@@ -7,9 +7,9 @@ use Rattle.std.specs.FinMap as finite
 use Rattle.std.proofs.lemmas.List.{get_or_read, length-map}
 use Rattle.std.proofs.lemmas.Option.{slice_get-map}
 use Rattle.mm_store.specs.declared.file_text.FileText.{FileText}
-use Rattle.mm_store.proofs.EntryLemmas.{texts_of, keys_at}
-use Rattle.mm_store.proofs.ListLemmas.{in_files, text_within, read_member}
-use Rattle.mm_store.proofs.StepLemmas.{here_is_some}
+use Rattle.mm_store.proofs.lemmas.files.EntryLemmas.{texts_of, keys_at}
+use Rattle.mm_store.proofs.lemmas.files.ListLemmas.{in_files, text_within, read_member}
+use Rattle.mm_store.proofs.lemmas.edits.StepLemmas.{here_is_some}
 use Rattle.mm_store.proofs.files.Files.bytes_without.Goals as goal
 use Rattle.mm_store.specs.Code.Edited.{pieces_in}
 use Rattle.mm_store.specs.Code.Kept.{file_of}

@@ -5,7 +5,7 @@ use Rattle.std.specs.Option.{option_map}
 use Rattle.std.specs.Map.Iter.{deref_pair}
 use Rattle.std.proofs.lemmas.Option.{slice_get-map}
 use Rattle.mm_store.specs.declared.file_text.FileText.{FileText}
-use Rattle.mm_store.proofs.EntryLemmas.{texts_of, keys_at}
+use Rattle.mm_store.proofs.lemmas.files.EntryLemmas.{texts_of, keys_at}
 use Rattle.mm_store.proofs.files.Files.count_in.Goals as goal
 use Rattle.mm_store.specs.Language.FilesView.{FilesView}
 use Rattle.mm_store.specs.Language.Undoing.{keys_in}

@@ -1,6 +1,6 @@
 use Rattle.std.proofs.Common.{sym, arith}
 use Rattle.mm_store.specs.Language.Edits.{Delete}
-use Rattle.mm_store.proofs.EditLemmas.{no_member, is_edit}
+use Rattle.mm_store.proofs.lemmas.edits.EditLemmas.{no_member, is_edit}
 use Rattle.mm_store.proofs.files.Files.delete_at.Goals as goal
 
 pub returns-then-at-count-clause-err : goal.returns-then-at-count-clause-err

@@ -6,19 +6,19 @@ use Rattle.std.specs.Option.{option_copied_mut}
 use Rattle.std.specs.FinMap as finite
 use Rattle.std.proofs.lemmas.List.{length-map}
 use Rattle.mm_store.specs.Language.Undoing as action
-use Rattle.mm_store.proofs.EntryLemmas.{texts_of, keys_at, room_at}
-use Rattle.mm_store.proofs.ListLemmas.{in_files, text_within}
-use Rattle.mm_store.proofs.KeptLemmas.{view_after, kept_after}
-use Rattle.mm_store.proofs.UndoLemmas.{is_deleted}
-use Rattle.mm_store.proofs.StepLemmas as lemmas
+use Rattle.mm_store.proofs.lemmas.files.EntryLemmas.{texts_of, keys_at, room_at}
+use Rattle.mm_store.proofs.lemmas.files.ListLemmas.{in_files, text_within}
+use Rattle.mm_store.proofs.lemmas.files.KeptLemmas.{view_after, kept_after}
+use Rattle.mm_store.proofs.lemmas.edits.UndoLemmas.{is_deleted}
+use Rattle.mm_store.proofs.lemmas.edits.StepLemmas as lemmas
 use Rattle.mm_store.proofs.files.Files.delete_piece.Goals as goal
 use Rattle.mm_store.specs.Language.EditedKeys.{deleted}
 use Rattle.mm_store.specs.Code.Edited.{IsDeleted}
 use Rattle.mm_store.specs.Code.Kept.{file_of, places, standing_count}
 use Rattle.mm_store.specs.Language.FilesView.{FilesView, KeyedFile, plain, plain_file, bytes_of}
-use Rattle.mm_store.proofs.ChangeLemmas.{starts_here, starts_after}
-use Rattle.mm_store.proofs.StepLemmas.{texts_all}
-use Rattle.mm_store.proofs.PieceLemmas.{text_state}
+use Rattle.mm_store.proofs.lemmas.places.ChangeLemmas.{starts_here, starts_after}
+use Rattle.mm_store.proofs.lemmas.edits.StepLemmas.{texts_all}
+use Rattle.mm_store.proofs.lemmas.files.PieceLemmas.{text_state}
 use Rattle.std.proofs.Common.{ℕ, ◌≤◌, ◌<◌, refl, sym, List, length, map, get_or, subst}
 use Rattle.std.specs.List.{remove}
 use Rattle.mm_store.specs.Code.Edited.{pieces_in}

@@ -2,11 +2,11 @@ use Rattle.std.proofs.Common.{◌≡◌, List, Some, length, map, sym, ap, ◌�
 use Rattle.std.specs.Prelude.{slice_get, vec_len, vec_capacity}
 use Rattle.std.specs.Option.{option_copied_mut}
 use Rattle.std.specs.FinMap as finite
-use Rattle.mm_store.proofs.EntryLemmas.{texts_of, keys_at, room_at}
-use Rattle.mm_store.proofs.ListLemmas.{plain_same, with_same}
-use Rattle.mm_store.proofs.KeptLemmas.{below_bound, view_after, kept_after}
-use Rattle.mm_store.proofs.PieceLemmas.{stands_settled, text_drop_other}
-use Rattle.mm_store.proofs.StepLemmas as lemmas
+use Rattle.mm_store.proofs.lemmas.files.EntryLemmas.{texts_of, keys_at, room_at}
+use Rattle.mm_store.proofs.lemmas.files.ListLemmas.{plain_same, with_same}
+use Rattle.mm_store.proofs.lemmas.files.KeptLemmas.{below_bound, view_after, kept_after}
+use Rattle.mm_store.proofs.lemmas.files.PieceLemmas.{stands_settled, text_drop_other}
+use Rattle.mm_store.proofs.lemmas.edits.StepLemmas as lemmas
 use Rattle.mm_store.proofs.files.Files.drop_deleted.Goals as goal
 use Rattle.mm_store.specs.Code.Kept.{file_of, places, deletions}
 use Rattle.mm_store.specs.Language.FilesView.{FilesView, KeyedFile, plain_file, bytes_of}
@@ -15,9 +15,9 @@ use Rattle.std.specs.Prelude.{Vec}
 use Rattle.mm_store.specs.declared.start.Start.{Start}
 use Rattle.std.specs.Global.{Global}
 use Rattle.mm_store.specs.Code.Edited.{pieces_in}
-use Rattle.mm_store.proofs.StartLemmas.{starts_alike}
-use Rattle.mm_store.proofs.ListLemmas.{with_pieces_same}
-use Rattle.mm_store.proofs.EntryLemmas.{starts_at}
+use Rattle.mm_store.proofs.lemmas.places.StartLemmas.{starts_alike}
+use Rattle.mm_store.proofs.lemmas.files.ListLemmas.{with_pieces_same}
+use Rattle.mm_store.proofs.lemmas.files.EntryLemmas.{starts_at}
 use Rattle.mm_store.specs.Language.Undoing.{keys_in}
 
 pub unwrap-file-requires : goal.unwrap-file-requires

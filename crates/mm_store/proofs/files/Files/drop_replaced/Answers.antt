@@ -1,7 +1,7 @@
 use Rattle.std.proofs.Common.{◌≡◌, List, map, refl, sym, ap, ◌∙◌, subst}
 use Rattle.std.specs.FinMap as finite
-use Rattle.mm_store.proofs.EntryLemmas.{same_view}
-use Rattle.mm_store.proofs.KeptLemmas.{settled_kept}
+use Rattle.mm_store.proofs.lemmas.files.EntryLemmas.{same_view}
+use Rattle.mm_store.proofs.lemmas.files.KeptLemmas.{settled_kept}
 use Rattle.mm_store.proofs.files.Files.drop_replaced.Goals as goal
 use Rattle.mm_store.specs.Code.Kept.{file_of}
 use Rattle.mm_store.specs.Language.FilesView.{FilesView, KeyedFile}

@@ -5,8 +5,8 @@ use Rattle.mm_store.specs.Language.FileFacts.{parked_in}
 use Rattle.mm_store.specs.Code.Batched.{StandOnce}
 use Rattle.mm_store.specs.Language.Edits.{asked}
 use Rattle.mm_store.specs.Language.FilesView.{plain}
-use Rattle.mm_store.proofs.BatchLemmas.{parks_more}
-use Rattle.mm_store.proofs.EditLemmas.{no_file_told, no_piece_told}
+use Rattle.mm_store.proofs.lemmas.edits.BatchLemmas.{parks_more}
+use Rattle.mm_store.proofs.lemmas.edits.EditLemmas.{no_file_told, no_piece_told}
 use Rattle.mm_store.proofs.files.Files.edit.Goals as goal
 use Rattle.mm_store.proofs.files.Files.edit.Goals.{in-Ok, in_default}
 

@@ -1,7 +1,7 @@
 use Rattle.std.proofs.Common.{◌≡◌, ◌++◌, ◌∷◌, [], if◌then◌else◌, sym, ap, ◌∙◌, subst}
 use Rattle.std.specs.Result.{is_ok}
 use Rattle.mm_store.specs.Language.Batches.{IsSpendable}
-use Rattle.mm_store.proofs.BatchLemmas.{spendable_more}
+use Rattle.mm_store.proofs.lemmas.edits.BatchLemmas.{spendable_more}
 use Rattle.mm_store.proofs.files.Files.edit_next.Goals as goal
 
 pub returns-clause-by_keys : goal.returns-clause-by_keys

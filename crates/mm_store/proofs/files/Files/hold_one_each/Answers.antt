@@ -1,4 +1,4 @@
-use Rattle.mm_store.proofs.HoldingLemmas.{units_each}
+use Rattle.mm_store.proofs.lemmas.edits.HoldingLemmas.{units_each}
 use Rattle.mm_store.proofs.files.Files.hold_one_each.Goals as goal
 
 pub returns : goal.returns

@@ -11,11 +11,11 @@ use Rattle.std.proofs.Common.{Result, Ok, Err}
 use Rattle.std.proofs.lemmas.Option.{same_Some}
 use Rattle.mm_store.specs.declared.files.Files.TheInside.{Inside}
 use Rattle.mm_store.specs.Language.Undoing as action
-use Rattle.mm_store.proofs.EntryLemmas.{texts_of, keys_at, room_at}
-use Rattle.mm_store.proofs.KeptLemmas.{file_in, length_set, reserved_view, reserved_kept, texts_set, view_after, kept_after}
-use Rattle.mm_store.proofs.UndoLemmas.{is_inserted}
-use Rattle.mm_store.proofs.StartLemmas.{starts_stay}
-use Rattle.mm_store.proofs.StepLemmas as lemmas
+use Rattle.mm_store.proofs.lemmas.files.EntryLemmas.{texts_of, keys_at, room_at}
+use Rattle.mm_store.proofs.lemmas.files.KeptLemmas.{file_in, length_set, reserved_view, reserved_kept, texts_set, view_after, kept_after}
+use Rattle.mm_store.proofs.lemmas.edits.UndoLemmas.{is_inserted}
+use Rattle.mm_store.proofs.lemmas.places.StartLemmas.{starts_stay}
+use Rattle.mm_store.proofs.lemmas.edits.StepLemmas as lemmas
 use Rattle.mm_store.proofs.files.Files.insert_piece.Goals as goal
 use Rattle.mm_store.specs.Language.EditedKeys.{inserted}
 use Rattle.mm_store.specs.Code.Edited.{pieces_in, with_pieces, IsInserted}
@@ -27,8 +27,8 @@ use Rattle.mm_store.specs.Code.Room.{HasRoom, HasRoomForOne}
 use Rattle.mm_store.specs.Code.Edited.{pieces_in}
 use Rattle.mm_store.specs.Language.Pieces.{standing_piece, text_under}
 use Rattle.mm_store.specs.Code.Starts.{KnowsStarts}
-use Rattle.mm_store.proofs.ChangeLemmas.{starts_here, starts_after}
-use Rattle.mm_store.proofs.StepLemmas.{texts_all}
+use Rattle.mm_store.proofs.lemmas.places.ChangeLemmas.{starts_here, starts_after}
+use Rattle.mm_store.proofs.lemmas.edits.StepLemmas.{texts_all}
 use Rattle.mm_store.specs.Language.Undoing.{with_keys, keys_in}
 
 on_err : {T E : Type 0} (r : Result T E) (P : Type 0) → P → OnErr r P

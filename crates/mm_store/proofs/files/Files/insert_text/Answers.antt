@@ -7,8 +7,8 @@ use Rattle.mm_store.specs.Language.Edits.{Insert}
 use Rattle.mm_store.specs.Language.Answers.{IsEditError}
 use Rattle.mm_store.specs.Language.EditedKeys.{inserted}
 use Rattle.mm_store.specs.Code.Edited.{pieces_in, with_pieces}
-use Rattle.mm_store.proofs.ListLemmas.{bytes_more}
-use Rattle.mm_store.proofs.EditLemmas.{if_err, no_member, is_edit, no_memory, not_new}
+use Rattle.mm_store.proofs.lemmas.files.ListLemmas.{bytes_more}
+use Rattle.mm_store.proofs.lemmas.edits.EditLemmas.{if_err, no_member, is_edit, no_memory, not_new}
 use Rattle.mm_store.proofs.files.Files.insert_text.Goals as goal
 
 pub returns-then-at-count-clause-err : goal.returns-then-at-count-clause-err

@@ -7,7 +7,7 @@ use Rattle.mm_store.specs.declared.file_text.FileText.{FileText}
 use Rattle.mm_store.specs.declared.files.PieceKey.{PieceKey}
 use Rattle.mm_store.specs.Language.FilesView.{FilesView, piece_view}
 use Rattle.mm_store.specs.Code.Kept.{file_of}
-use Rattle.mm_store.proofs.ViewLemmas.{piece_at_key, held_there}
+use Rattle.mm_store.proofs.lemmas.files.ViewLemmas.{piece_at_key, held_there}
 use Rattle.mm_store.proofs.files.Files.key_at.Goals as goal
 
 pub returns-in_err-at-clause-is : goal.returns-in_err-at-clause-is

@@ -1,6 +1,6 @@
 use Rattle.std.proofs.Common.{sym, arith}
 use Rattle.mm_store.specs.Language.Edits.{Move}
-use Rattle.mm_store.proofs.EditLemmas.{no_member, is_edit}
+use Rattle.mm_store.proofs.lemmas.edits.EditLemmas.{no_member, is_edit}
 use Rattle.mm_store.proofs.files.Files.move_from.Goals as goal
 use Rattle.mm_store.proofs.files.Files.move_from.Goals.{then-at-count-via-then-at-count, then-at-count-via-else-at-count+then-to-count}
 

@@ -2,7 +2,7 @@ use Rattle.std.proofs.Common.{◌≡◌, ℕ, map, refl, sym, ap, ◌∙◌, sub
 use Rattle.std.proofs.lemmas.List.{nil_from_length}
 use Rattle.std.specs.Ordering.{nat_cmp}
 use Rattle.std.specs.FinMap as finite
-use Rattle.mm_store.proofs.EntryLemmas.{same_view}
+use Rattle.mm_store.proofs.lemmas.files.EntryLemmas.{same_view}
 use Rattle.mm_store.proofs.files.Files.new.Goals as goal
 use Rattle.mm_store.specs.Code.Kept.{file_of, places, standing_count, deletions, deleted_state, weigh, HaveRoom, HaveStarts}
 use Rattle.mm_store.specs.Language.FilesView.{plain_file, bytes_of}

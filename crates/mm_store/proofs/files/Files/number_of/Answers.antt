@@ -2,7 +2,7 @@ use Rattle.std.proofs.Common.{length, sym, ap, ◌∙◌, arith}
 use Rattle.std.specs.Global.{Global}
 use Rattle.std.proofs.lemmas.Option.{IfSome_then}
 use Rattle.std.proofs.lemmas.List.{length-map}
-use Rattle.mm_store.proofs.NumberLemmas.{number_is}
+use Rattle.mm_store.proofs.lemmas.files.NumberLemmas.{number_is}
 use Rattle.mm_store.proofs.files.Files.number_of.Goals as goal
 use Rattle.mm_store.specs.Code.Kept.{file_of}
 use Rattle.mm_store.specs.Language.FilesView.{plain, FilesView, file_number}

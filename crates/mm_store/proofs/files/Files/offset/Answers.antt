@@ -9,11 +9,11 @@ use Rattle.std.proofs.lemmas.Option.{slice_get-map}
 use Rattle.mm_store.specs.declared.file_text.FileText.{FileText}
 use Rattle.mm_store.specs.Language.Pieces.{text_under}
 use Rattle.mm_store.specs.Code.Kept.{file_of}
-use Rattle.mm_store.proofs.EntryLemmas.{texts_of, keys_at, room_at}
-use Rattle.mm_store.proofs.ChangeLemmas.{starts_here}
-use Rattle.mm_store.proofs.FilesLemmas.{file_small}
-use Rattle.mm_store.proofs.ByteLemmas.{byte_in, offset_in}
-use Rattle.mm_store.proofs.PlaceLemmas.{piece_within}
+use Rattle.mm_store.proofs.lemmas.files.EntryLemmas.{texts_of, keys_at, room_at}
+use Rattle.mm_store.proofs.lemmas.places.ChangeLemmas.{starts_here}
+use Rattle.mm_store.proofs.lemmas.files.FilesLemmas.{file_small}
+use Rattle.mm_store.proofs.lemmas.places.ByteLemmas.{byte_in, offset_in}
+use Rattle.mm_store.proofs.lemmas.places.PlaceLemmas.{piece_within}
 use Rattle.mm_store.proofs.files.Files.offset.Goals as goal
 
 pub start-requires-clause-there : goal.start-requires-clause-there

@@ -3,7 +3,7 @@ use Rattle.std.specs.Option.{option_map}
 use Rattle.std.proofs.lemmas.List.{length-map}
 use Rattle.mm_store.specs.Language.Pieces.{text_under}
 use Rattle.mm_store.specs.Language.FilesView.{File, FilesView, plain, find_file}
-use Rattle.mm_store.proofs.FilesLemmas.{found_is, none_is}
+use Rattle.mm_store.proofs.lemmas.files.FilesLemmas.{found_is, none_is}
 use Rattle.mm_store.proofs.files.Files.piece_count.Goals as goal
 
 abbrev count : File → ℕ

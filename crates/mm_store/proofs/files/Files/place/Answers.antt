@@ -10,10 +10,10 @@ use Rattle.mm_text.specs.Language.Place.{is_line_feed}
 use Rattle.mm_store.specs.declared.file_text.FileText.{FileText}
 use Rattle.mm_store.specs.Language.Pieces.{text_under}
 use Rattle.mm_store.specs.Code.Kept.{file_of}
-use Rattle.mm_store.proofs.EntryLemmas.{texts_of, keys_at, room_at}
-use Rattle.mm_store.proofs.ChangeLemmas.{starts_here}
-use Rattle.mm_store.proofs.FilesLemmas.{file_small}
-use Rattle.mm_store.proofs.ByteLemmas.{byte_in}
+use Rattle.mm_store.proofs.lemmas.files.EntryLemmas.{texts_of, keys_at, room_at}
+use Rattle.mm_store.proofs.lemmas.places.ChangeLemmas.{starts_here}
+use Rattle.mm_store.proofs.lemmas.files.FilesLemmas.{file_small}
+use Rattle.mm_store.proofs.lemmas.places.ByteLemmas.{byte_in}
 use Rattle.mm_store.proofs.files.Files.place.Goals as goal
 
 pub lines_at-requires-clause-starts : goal.lines_at-requires-clause-starts

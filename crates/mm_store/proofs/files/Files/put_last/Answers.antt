@@ -16,9 +16,9 @@ use Rattle.mm_store.specs.Code.Lines.{AreStarts}
 use Rattle.mm_store.specs.Code.Starts.{HasStarts}
 use Rattle.mm_store.specs.Code.Edited.{with_file}
 use Rattle.mm_store.specs.Code.Kept.{file_of}
-use Rattle.mm_store.proofs.NumberLemmas.{number_is}
-use Rattle.mm_store.proofs.StoreLemmas.{parked_all}
-use Rattle.mm_store.proofs.AddLemmas.{can_be_kept, tail_of, done_ok, no_file, kept_added, plain_added, put_keeps, put_many}
+use Rattle.mm_store.proofs.lemmas.files.NumberLemmas.{number_is}
+use Rattle.mm_store.proofs.lemmas.files.StoreLemmas.{parked_all}
+use Rattle.mm_store.proofs.lemmas.files.AddLemmas.{can_be_kept, tail_of, done_ok, no_file, kept_added, plain_added, put_keeps, put_many}
 use Rattle.mm_store.proofs.files.Files.put_last.Goals as goal
 
 pub kept_pieces-requires : goal.kept_pieces-requires

@@ -6,11 +6,11 @@ use Rattle.std.specs.Option.{option_copied_mut}
 use Rattle.std.specs.FinMap as finite
 use Rattle.indexmap.specs.IndexMap.{set_value_at}
 use Rattle.mm_store.specs.Language.Undoing as action
-use Rattle.mm_store.proofs.EntryLemmas.{texts_of, keys_at, view_set, room_at}
-use Rattle.mm_store.proofs.ListLemmas.{in_files, text_within}
-use Rattle.mm_store.proofs.UndoLemmas.{is_replaced}
-use Rattle.mm_store.proofs.KeptLemmas.{view_after}
-use Rattle.mm_store.proofs.ReplaceLemmas as lemmas
+use Rattle.mm_store.proofs.lemmas.files.EntryLemmas.{texts_of, keys_at, view_set, room_at}
+use Rattle.mm_store.proofs.lemmas.files.ListLemmas.{in_files, text_within}
+use Rattle.mm_store.proofs.lemmas.edits.UndoLemmas.{is_replaced}
+use Rattle.mm_store.proofs.lemmas.files.KeptLemmas.{view_after}
+use Rattle.mm_store.proofs.lemmas.edits.ReplaceLemmas as lemmas
 use Rattle.mm_store.proofs.files.Files.replace_piece.Goals as goal
 use Rattle.mm_store.specs.Language.EditedKeys.{replaced}
 use Rattle.mm_store.specs.Code.Edited.{pieces_in, with_pieces, IsReplaced}
@@ -20,8 +20,8 @@ use Rattle.std.proofs.Common.{◌≡◌, ℕ, ◌≤◌, ◌<◌, ◌+◌, ◌-�
 use Rattle.mm_store.specs.Code.Edited.{pieces_in}
 use Rattle.mm_store.specs.Language.Pieces.{Parked, Replaced, standing_piece, with_state, text_under}
 use Rattle.mm_store.specs.Code.Starts.{KnowsStarts}
-use Rattle.mm_store.proofs.ChangeLemmas.{starts_here, starts_after}
-use Rattle.mm_store.proofs.KeptLemmas.{kept_after}
+use Rattle.mm_store.proofs.lemmas.places.ChangeLemmas.{starts_here, starts_after}
+use Rattle.mm_store.proofs.lemmas.files.KeptLemmas.{kept_after}
 use Rattle.mm_store.specs.Language.FilesView.{FilesView, plain}
 use Rattle.mm_store.specs.Language.Undoing.{keys_in, with_keys, key_at}
 

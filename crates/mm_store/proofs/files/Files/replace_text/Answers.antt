@@ -6,8 +6,8 @@ use Rattle.mm_store.specs.Language.Edits.{Replace}
 use Rattle.mm_store.specs.Language.Answers.{IsEditError}
 use Rattle.mm_store.specs.Language.EditedKeys.{replaced}
 use Rattle.mm_store.specs.Code.Edited.{pieces_in, with_pieces}
-use Rattle.mm_store.proofs.ListLemmas.{bytes_other, count_members}
-use Rattle.mm_store.proofs.EditLemmas.{if_err, no_member, is_edit, no_memory, not_new}
+use Rattle.mm_store.proofs.lemmas.files.ListLemmas.{bytes_other, count_members}
+use Rattle.mm_store.proofs.lemmas.edits.EditLemmas.{if_err, no_member, is_edit, no_memory, not_new}
 use Rattle.mm_store.proofs.files.Files.replace_text.Goals as goal
 
 pub returns-then-at-count-clause-err : goal.returns-then-at-count-clause-err

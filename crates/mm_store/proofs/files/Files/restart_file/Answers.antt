@@ -3,10 +3,10 @@ use Rattle.std.specs.Prelude.{slice_get, vec_len, vec_capacity}
 use Rattle.std.specs.Option.{option_copied_mut}
 use Rattle.mm_store.specs.Code.Kept.{view_of, file_of, IsKept}
 use Rattle.mm_store.specs.Code.Room.{HasRoom}
-use Rattle.mm_store.proofs.EntryLemmas.{texts_of, keys_at, room_at}
-use Rattle.mm_store.proofs.ChangeLemmas.{starts_here}
-use Rattle.mm_store.proofs.FilesLemmas.{file_small}
-use Rattle.mm_store.proofs.KeptLemmas.{reserved_view, reserved_kept}
+use Rattle.mm_store.proofs.lemmas.files.EntryLemmas.{texts_of, keys_at, room_at}
+use Rattle.mm_store.proofs.lemmas.places.ChangeLemmas.{starts_here}
+use Rattle.mm_store.proofs.lemmas.files.FilesLemmas.{file_small}
+use Rattle.mm_store.proofs.lemmas.files.KeptLemmas.{reserved_view, reserved_kept}
 use Rattle.mm_store.proofs.files.Files.restart_file.Goals as goal
 use Rattle.mm_store.proofs.files.Files.restart_file.Goals.{in-None, in-Some}
 

@@ -1,6 +1,6 @@
 use Rattle.std.proofs.Common.{sym, ap, ◌∙◌, subst}
 use Rattle.mm_store.specs.Language.Undoing.{KeepsOthers, settled, settled_key}
-use Rattle.mm_store.proofs.UndoLemmas.{keeps_settled, undo_is}
+use Rattle.mm_store.proofs.lemmas.edits.UndoLemmas.{keeps_settled, undo_is}
 use Rattle.mm_store.proofs.files.Files.settle.Goals as goal
 
 pub returns-in-Replaced-clause-keeps : goal.returns-in-Replaced-clause-keeps

@@ -2,11 +2,11 @@ use Rattle.std.proofs.Common.{◌∙◌, sym, ap, subst, List, [], arith}
 use Rattle.mm_store.specs.declared.item.Item.{Item}
 use Rattle.mm_store.specs.Language.FilesView.{FilesView, files_in, plain, bytes_of}
 use Rattle.mm_store.specs.Language.Walking.{IsWalk}
-use Rattle.mm_store.proofs.ViewLemmas.{number_plain}
-use Rattle.mm_store.proofs.WalkStepLemmas.{walk_begins}
-use Rattle.mm_store.proofs.BudgetLemmas.{expansion_few, bytes_few}
-use Rattle.mm_store.proofs.NameLemmas.{expansion_names}
-use Rattle.mm_store.proofs.StandLemmas.{expansion_read, expansion_stands}
+use Rattle.mm_store.proofs.lemmas.files.ViewLemmas.{number_plain}
+use Rattle.mm_store.proofs.lemmas.expansion.WalkStepLemmas.{walk_begins}
+use Rattle.mm_store.proofs.lemmas.expansion.BudgetLemmas.{expansion_few, bytes_few}
+use Rattle.mm_store.proofs.lemmas.expansion.NameLemmas.{expansion_names}
+use Rattle.mm_store.proofs.lemmas.expansion.StandLemmas.{expansion_read, expansion_stands}
 use Rattle.mm_store.proofs.files.Files.statements.Goals as goal
 
 pub returns-clause-items : goal.returns-clause-items

@@ -5,15 +5,15 @@ use Rattle.std.specs.List.{insert}
 use Rattle.std.specs.Option.{option_copied_mut}
 use Rattle.std.proofs.lemmas.List.{length-map}
 use Rattle.mm_store.specs.Language.Undoing as action
-use Rattle.mm_store.proofs.EntryLemmas.{texts_of, keys_at, room_at}
-use Rattle.mm_store.proofs.KeptLemmas.{below_bound, view_after, kept_after}
-use Rattle.mm_store.proofs.StepLemmas as lemmas
+use Rattle.mm_store.proofs.lemmas.files.EntryLemmas.{texts_of, keys_at, room_at}
+use Rattle.mm_store.proofs.lemmas.files.KeptLemmas.{below_bound, view_after, kept_after}
+use Rattle.mm_store.proofs.lemmas.edits.StepLemmas as lemmas
 use Rattle.mm_store.proofs.files.Files.take_back_deletion.Goals as goal
 use Rattle.mm_store.specs.Code.Kept.{file_of, deletions}
 use Rattle.mm_store.specs.Language.FilesView.{FilesView, KeyedFile, plain, plain_file, bytes_of}
-use Rattle.mm_store.proofs.ChangeLemmas.{starts_here, starts_after}
-use Rattle.mm_store.proofs.StepLemmas.{texts_all}
-use Rattle.mm_store.proofs.PieceLemmas.{text_state}
+use Rattle.mm_store.proofs.lemmas.places.ChangeLemmas.{starts_here, starts_after}
+use Rattle.mm_store.proofs.lemmas.edits.StepLemmas.{texts_all}
+use Rattle.mm_store.proofs.lemmas.files.PieceLemmas.{text_state}
 use Rattle.std.proofs.Common.{◌≤◌, ◌<◌, refl, sym, List, length, map, subst}
 use Rattle.std.specs.List.{insert}
 use Rattle.mm_store.specs.Code.Edited.{pieces_in}

@@ -6,15 +6,15 @@ use Rattle.std.specs.Option.{option_copied_mut}
 use Rattle.std.specs.FinMap as finite
 use Rattle.std.proofs.lemmas.List.{length-map}
 use Rattle.mm_store.specs.Language.Undoing as action
-use Rattle.mm_store.proofs.EntryLemmas.{texts_of, keys_at, room_at}
-use Rattle.mm_store.proofs.ListLemmas.{in_files, text_within}
-use Rattle.mm_store.proofs.KeptLemmas.{view_after, kept_after}
-use Rattle.mm_store.proofs.StepLemmas as lemmas
+use Rattle.mm_store.proofs.lemmas.files.EntryLemmas.{texts_of, keys_at, room_at}
+use Rattle.mm_store.proofs.lemmas.files.ListLemmas.{in_files, text_within}
+use Rattle.mm_store.proofs.lemmas.files.KeptLemmas.{view_after, kept_after}
+use Rattle.mm_store.proofs.lemmas.edits.StepLemmas as lemmas
 use Rattle.mm_store.proofs.files.Files.take_back_insertion.Goals as goal
 use Rattle.mm_store.specs.Code.Kept.{file_of}
 use Rattle.mm_store.specs.Language.FilesView.{FilesView, KeyedFile, plain_file, bytes_of}
-use Rattle.mm_store.proofs.ChangeLemmas.{starts_here, starts_after}
-use Rattle.mm_store.proofs.StepLemmas.{texts_all}
+use Rattle.mm_store.proofs.lemmas.places.ChangeLemmas.{starts_here, starts_after}
+use Rattle.mm_store.proofs.lemmas.edits.StepLemmas.{texts_all}
 use Rattle.std.proofs.Common.{◌<◌, refl, sym, List, length, map, get_or, subst}
 use Rattle.std.specs.List.{remove}
 use Rattle.mm_store.specs.Code.Edited.{pieces_in}

@@ -7,8 +7,8 @@ use Rattle.std.proofs.lemmas.Option.{slice_get-map}
 use Rattle.mm_store.specs.declared.file_text.FileText.{FileText}
 use Rattle.mm_store.specs.Language.FilesView.{FilesView, plain, find_file, text_of}
 use Rattle.mm_store.specs.Code.Kept.{file_of}
-use Rattle.mm_store.proofs.EntryLemmas.{texts_of, keys_at}
-use Rattle.mm_store.proofs.FilesLemmas.{found_is, none_is, key_some}
+use Rattle.mm_store.proofs.lemmas.files.EntryLemmas.{texts_of, keys_at}
+use Rattle.mm_store.proofs.lemmas.files.FilesLemmas.{found_is, none_is, key_some}
 use Rattle.mm_store.proofs.files.Files.text.Goals as goal
 
 pub joined-requires : goal.joined-requires

@@ -1,6 +1,6 @@
 use Rattle.std.proofs.Common.{sym, ◌∙◌, subst}
 use Rattle.mm_store.specs.Language.Undoing.{KeepsOthers, undone_key}
-use Rattle.mm_store.proofs.UndoLemmas.{keeps_undone}
+use Rattle.mm_store.proofs.lemmas.edits.UndoLemmas.{keeps_undone}
 use Rattle.mm_store.proofs.files.Files.undo.Goals as goal
 
 pub returns-clause-keeps : goal.returns-clause-keeps

@@ -1,6 +1,6 @@
 use Rattle.std.proofs.Common.{sym, ap, ◌∙◌, subst, arith}
 use Rattle.mm_store.specs.Language.Batches.{CanUndoAll, undone_all}
-use Rattle.mm_store.proofs.BatchLemmas.{undo_last, undo_others, undone_last, undone_none}
+use Rattle.mm_store.proofs.lemmas.edits.BatchLemmas.{undo_last, undo_others, undone_last, undone_none}
 use Rattle.mm_store.proofs.files.Files.undo_all.Goals as goal
 
 pub loop-undo-init : goal.loop-undo-init

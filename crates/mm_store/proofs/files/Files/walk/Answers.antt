@@ -2,10 +2,10 @@ use Rattle.std.proofs.Common.{◌∙◌, sym, ap, subst, []}
 use Rattle.mm_store.specs.Language.FilesView.{plain}
 use Rattle.mm_store.specs.Language.Keyless.{bare}
 use Rattle.mm_store.specs.Language.Walking.{WalkView, IsWalk}
-use Rattle.mm_store.proofs.BareLemmas.{hold_bare, number_bare}
-use Rattle.mm_store.proofs.ViewLemmas.{number_plain}
-use Rattle.mm_store.proofs.SetLemmas.{ok_map}
-use Rattle.mm_store.proofs.WalkStepLemmas.{walk_begins}
+use Rattle.mm_store.proofs.lemmas.expansion.BareLemmas.{hold_bare, number_bare}
+use Rattle.mm_store.proofs.lemmas.files.ViewLemmas.{number_plain}
+use Rattle.mm_store.proofs.lemmas.expansion.SetLemmas.{ok_map}
+use Rattle.mm_store.proofs.lemmas.expansion.WalkStepLemmas.{walk_begins}
 use Rattle.mm_store.proofs.files.Files.walk.Goals as goal
 
 pub returns-clause-ok : goal.returns-clause-ok

@@ -3,7 +3,7 @@ use Rattle.std.proofs.lemmas.Bool.{false≢true}
 use Rattle.slab.specs.Slab.{get}
 use Rattle.mm_text.specs.Language.Cut.{HoldsOne}
 use Rattle.mm_store.specs.declared.pieces.Piece.{Piece}
-use Rattle.mm_store.proofs.SlabLemmas.{some_slot, text_is}
+use Rattle.mm_store.proofs.lemmas.files.SlabLemmas.{some_slot, text_is}
 use Rattle.mm_store.proofs.pieces.PieceStore.hold_units.Goals as goal
 
 some_piece : (o : Option Piece) → is_some o ≡ true → (piece : Piece) × (o ≡ Some piece)

@@ -4,7 +4,7 @@ use Rattle.std.proofs.lemmas.Option.{none-some}
 use Rattle.slab.specs.Slab.{entries_from}
 use Rattle.mm_store.specs.Language.Pieces.{parked_pieces}
 use Rattle.mm_store.specs.Code.Slots.{entry_view}
-use Rattle.mm_store.proofs.StoreLemmas.{nothing_parked}
+use Rattle.mm_store.proofs.lemmas.files.StoreLemmas.{nothing_parked}
 use Rattle.mm_store.proofs.pieces.PieceStore.new.Goals as goal
 
 pub invariant_of-result : goal.invariant_of-result

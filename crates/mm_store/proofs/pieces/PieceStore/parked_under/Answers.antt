@@ -2,7 +2,7 @@ use Rattle.std.proofs.Common.{sym, ap, ◌∙◌}
 use Rattle.std.specs.Option.{option_map}
 use Rattle.mm_store.specs.Language.Pieces.{parked_count}
 use Rattle.mm_store.specs.Code.Slots.{held}
-use Rattle.mm_store.proofs.StoreLemmas.{at_is, parked_there}
+use Rattle.mm_store.proofs.lemmas.files.StoreLemmas.{at_is, parked_there}
 use Rattle.mm_store.proofs.pieces.PieceStore.parked_under.Goals as goal
 
 pub returns-in-None : goal.returns-in-None

@@ -1,11 +1,11 @@
 use Rattle.std.proofs.Common.{◌≡◌, None, sym, ap, ◌∙◌, subst}
 use Rattle.mm_store.specs.declared.pieces.Piece.{Piece}
-use Rattle.mm_store.proofs.StoreLemmas.{kept_put, parked_put}
+use Rattle.mm_store.proofs.lemmas.files.StoreLemmas.{kept_put, parked_put}
 use Rattle.mm_store.specs.Code.Slots.{pieces_of, AreKeptIn}
 use Rattle.std.specs.Option.{option_map}
 use Rattle.std.specs.FinMap as finite
 use Rattle.mm_store.specs.declared.state.State.TheVariants.{Standing}
-use Rattle.mm_store.proofs.SlabLemmas.{get_is, put_is}
+use Rattle.mm_store.proofs.lemmas.files.SlabLemmas.{get_is, put_is}
 use Rattle.mm_store.proofs.pieces.PieceStore.put.Goals as goal
 use Rattle.mm_store.specs.Code.Slots.{held}
 use Rattle.mm_store.specs.Language.Pieces.{standing_piece, parked_pieces}

@@ -3,7 +3,7 @@ use Rattle.mm_store.specs.declared.piece_text.PieceText.{PieceText}
 use Rattle.mm_store.specs.Language.Pieces.{parked_pieces}
 use Rattle.mm_store.specs.Code.Inside.{ArePut}
 use Rattle.mm_store.specs.Code.Slots.{pieces_of, AreKeptIn}
-use Rattle.mm_store.proofs.StoreLemmas.{are_put, kept_all, parked_all}
+use Rattle.mm_store.proofs.lemmas.files.StoreLemmas.{are_put, kept_all, parked_all}
 use Rattle.mm_store.proofs.pieces.PieceStore.put_all.Goals as goal
 
 pub invariant_of-self : goal.invariant_of-self

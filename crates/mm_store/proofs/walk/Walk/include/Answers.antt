@@ -1,8 +1,8 @@
 use Rattle.std.proofs.Common.{◌∙◌, sym, inr}
 use Rattle.std.proofs.lemmas.Bool.{false≢true}
 use Rattle.mm_store.specs.Language.FilesView.{files_in}
-use Rattle.mm_store.proofs.ViewLemmas.{number_plain}
-use Rattle.mm_store.proofs.SetLemmas.{ok_map}
+use Rattle.mm_store.proofs.lemmas.files.ViewLemmas.{number_plain}
+use Rattle.mm_store.proofs.lemmas.expansion.SetLemmas.{ok_map}
 use Rattle.mm_store.proofs.walk.Walk.include.Goals as goal
 
 pub returns-in-None-clause-ok : goal.returns-in-None-clause-ok

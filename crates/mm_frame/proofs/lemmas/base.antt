@@ -1,0 +1,9 @@
+-- What a base keeps of each item, and what it answers.
+
+pub mod AnswerLemmas
+pub mod BaseLemmas
+pub mod OneBase
+pub mod OwnLabels
+pub mod ResolvingLemmas
+pub mod RowLemmas
+pub mod SaidLabels

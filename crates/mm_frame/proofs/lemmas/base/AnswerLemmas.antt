@@ -1,0 +1,237 @@
+-- What a base tells, from what is kept, and that it is right.
+use Rattle.std.proofs.Common.{◌≡◌, ◌↔◌, ℕ, zero, suc, ◌≤◌, Bool, true, false, cond, ◌&&◌, Option, Some, None, List, [], ◌∷◌, length, map, take, slice_get, nat_eq, is_none, is_some, refl, sym, ◌∙◌, ap, subst, arith, inl, inr}
+use Rattle.std.specs.Prelude.{All, IfSome}
+use Rattle.std.specs.Borrow.{Bor}
+use Rattle.std.proofs.lemmas.List.Elements.{All-nil}
+use Rattle.std.proofs.lemmas.List.{length-map}
+use Rattle.std.specs.Option.{option_map, option_eq}
+use Rattle.std.specs.List.{AllZip}
+use Rattle.std.proofs.lemmas.Bool.{false≢true, and_from, and_parts}
+use Rattle.std.proofs.lemmas.Bool.Decides.{Decides-eqb}
+use Rattle.std.proofs.lemmas.Option.{same_Some, slice_get-map, slice_get_within, slice_get_cases}
+use Rattle.mm_store.specs.declared.item.Item as store
+use Rattle.mm_frame.specs.declared.FrameNumber.{FrameNumber}
+use Rattle.mm_frame.specs.declared.symbol.NumberedSymbol.{NumberedSymbol}
+use Rattle.mm_frame.specs.declared.draft.Frame.{Frame}
+use Rattle.mm_frame.specs.declared.draft.Parts.{Parts}
+use Rattle.mm_frame.specs.declared.base.Base.TheInside.{Inside}
+use Rattle.mm_frame.specs.declared.pair_lists.PairLists.{PairLists}
+use Rattle.mm_frame.specs.Language.Names.{AreDistinct}
+use Rattle.mm_frame.specs.Language.Frame.{Symbol, AreSamePairs}
+use Rattle.mm_frame.specs.Language.Item.{Item, passed, is_floating, is_labelled, is_assertion, item_at}
+use Rattle.mm_frame.specs.Language.Sound.{sound_items}
+use Rattle.mm_frame.specs.Language.Framing.{active_pairs, expression, frame}
+use Rattle.mm_frame.specs.Language.Base.{BaseView, before, said_at, told_fault, fault_at, is_shown_at, is_sound_at, is_proof_at}
+use Rattle.mm_frame.specs.Language.NumberedSymbols.{symbols_of, kept_pairs, IsNumbered, ArePairsRead}
+use Rattle.mm_frame.specs.Language.Resolving.{IsCarrier}
+use Rattle.mm_frame.specs.Language.Answering.{AreRows, IsLabelTold, IsExpressionTold, IsFrameTold, AreActiveTold, BaseAnswers, IsBaseBy, is_told_proof, pairs_in_order}
+use Rattle.mm_frame.specs.Code.KeptSymbols.{AreSymbols, expression_kept, kept_or_none}
+use Rattle.mm_frame.specs.Code.KeptTables.{table_label}
+use Rattle.mm_frame.specs.Code.KeptPairLists.{list_kept}
+use Rattle.mm_frame.specs.Code.BaseInside.{answers_of}
+use Rattle.mm_frame.specs.Code.KeptRows.{rows_of, label_in, fault_in, is_shown_in}
+use Rattle.mm_frame.specs.Code.KeptBase.{TellsFrame, TellsPairs, HoldsFrame, AreParts, is_float_item, frame_told, number_kept, list_told}
+use Rattle.mm_frame.proofs.lemmas.base.BaseLemmas.{row_none, item_beyond, fault_beyond, shown_is, not_shown, kept_count, expression_some, labelled_there, framed_from}
+use Rattle.mm_frame.proofs.lemmas.frames.FrameNumbers.{HasKind}
+use Rattle.mm_frame.proofs.lemmas.base.ResolvingLemmas.{carrier_found, found_carrier}
+use Rattle.mm_frame.proofs.lemmas.pairs.PairListLemmas.{list_read, list_in_order}
+use Rattle.mm_frame.proofs.lemmas.pairs.SharedPairs.{same_turned, same_joined}
+
+-- ---- rows that are told from rows that are kept
+
+-- what is lent tells what is kept
+pub lent_told : {L X Y : Type 0} (now : L → X) (f : X → Y) (lent : Option L) (kept : Option X) → option_map now lent ≡ kept → option_map (λ l. f (now l)) lent ≡ option_map f kept
+lent_told now f None kept e = ap (option_map f) e
+lent_told now f (Some l) kept e = ap (option_map f) e
+
+-- an element that is told is one that is kept
+told_from : {X Y : Type 0} (f : X → Y) (xs : List X) (n : ℕ) (y : Y) → slice_get (map f xs) n ≡ Some y → (x : X) × (slice_get xs n ≡ Some x) × (f x ≡ y)
+told_from f [] n y e = cc
+told_from f (x ∷ xs) zero y e = (x, refl, cc)
+told_from f (x ∷ xs) (suc n) y e = told_from f xs n y e
+
+rows_told : {X Y : Type 0} (f : X → Y) (tells : List Item → Item → X → Type 0) (told : List Item → Item → Y → Type 0) → ((front : List Item) (item : Item) (x : X) → tells front item x → told front item (f x))
+    → (said : List Item) (rows : List X) → AreRows tells said rows → AreRows told said (map f rows)
+rows_told f tells told step said rows are = record {
+  count = length-map rows f ∙ are.count;
+  each = λ n y e. (let r = told_from f rows n y e in subst (told (sound_items (take n said)) (item_at said n)) r.2 (step (sound_items (take n said)) (item_at said n) r.0 (are.each n r.0 r.1)));
+}
+
+pub is_some_map : {X Y : Type 0} (f : X → Y) (o : Option X) → is_some (option_map f o) ≡ is_some o
+is_some_map f None = refl
+is_some_map f (Some x) = refl
+
+-- the frame
+pub hypotheses_told : (kept : Option Frame) → option_map (λ it. it.0) (frame_told kept) ≡ option_map (λ (frame : Frame). frame.hypotheses.items) kept
+hypotheses_told None = refl
+hypotheses_told (Some kept) = refl
+
+pairs_told : (all : List (List ℕ)) (framed : Bool) (front : List Item) (item : Item) (kept : Option Frame) → HoldsFrame all framed front item kept → IfSome (frame_told kept) (λ it. ArePairsRead all (pairs_in_order (frame front item)) it.1)
+pairs_told all framed front item None t = tt
+pairs_told all framed front item (Some kept) t = t.pairs (framed_from framed front item kept.hypotheses.items t.hypotheses) kept refl
+
+frames_told : (all : List (List ℕ)) (front : List Item) (item : Item) (kept : Option Frame) → TellsFrame all front item kept → IsFrameTold all front item (frame_told kept)
+frames_told all front item kept t = record {
+  hypotheses = hypotheses_told kept ∙ t.hypotheses;
+  pairs = pairs_told all (is_none (told_fault front item) && is_assertion item.kind) front item kept t;
+}
+
+-- all active pairs
+actives_told : (all : List (List ℕ)) (lists : PairLists) (front : List Item) (item : Item) (number : Option ℕ) → TellsPairs all lists front item number → AreActiveTold all front item (list_told lists number)
+actives_told all lists front item None t = record { some = t.some; pairs = tt; order = tt }
+actives_told all lists front item (Some k) t = record { some = t.some; pairs = list_read all lists k (active_pairs front) (t.list k refl); order = list_in_order all lists k (active_pairs front) (t.list k refl) }
+
+-- the expressions
+expressions_told : (all : List (List ℕ)) (base : BaseView) (expressions : List (List NumberedSymbol)) → AreSymbols all (sound_items base.said) expressions → AreRows (IsExpressionTold all) base.said expressions
+expressions_told all base expressions are = record {
+  count = are.count ∙ kept_count base.said;
+  each = λ n symbols e. record { expression = read n symbols e; numbered = subst (All (IsNumbered all)) (ap kept_or_none e) (are.numbered n) };
+}
+  where
+    read : (n : ℕ) (symbols : List NumberedSymbol) → slice_get expressions n ≡ Some symbols → is_shown_at base n ≡ true → symbols_of all symbols ≡ expression (before base n) (said_at base n)
+    read n symbols e t = ap (λ o. symbols_of all (kept_or_none o)) (sym e)
+        ∙ same_Some _ _ (sym (expression_some all base n expressions are t) ∙ ap (λ b. cond b (Some (expression (before base n) (said_at base n))) None) t)
+
+-- ---- what is told at a number
+
+row_there : {X : Type 0} (tells : List Item → Item → X → Type 0) (said : List Item) (rows : List X) (i : ℕ) → AreRows tells said rows → is_labelled (item_at said i).kind ≡ true → (row : X) × (slice_get rows i ≡ Some row)
+row_there tells said rows i are t =
+    let within = slice_get_within said i (item_at said i) (labelled_there said i t) in
+    elim (slice_get_cases rows i).1 [
+      | inl there ↦ (there.0, there.2)
+      | inr past ↦ (absurd (omega arith))
+    ]
+
+-- the expression of an item that is shown
+pub expression_read : (all : List (List ℕ)) (base : BaseView) (expressions : List (List NumberedSymbol)) (i : ℕ) → AreRows (IsExpressionTold all) base.said expressions → is_shown_at base i ≡ true
+    → symbols_of all (expression_kept expressions i) ≡ expression (before base i) (said_at base i)
+expression_read all base expressions i are t =
+    let p = and_parts (is_sound_at base i) (is_labelled (said_at base i).kind) t in
+    let row = row_there (IsExpressionTold all) base.said expressions i are p.1 in
+    ap (λ o. symbols_of all (kept_or_none o)) row.1 ∙ (are.each i row.0 row.1).expression t
+
+pub expression_numbered : (all : List (List ℕ)) (said : List Item) (expressions : List (List NumberedSymbol)) (i : ℕ) → AreRows (IsExpressionTold all) said expressions → All (IsNumbered all) (expression_kept expressions i)
+expression_numbered all said expressions i are = by (slice_get expressions i) refl
+  where
+    by : (o : Option (List NumberedSymbol)) → slice_get expressions i ≡ o → All (IsNumbered all) (kept_or_none o)
+    by None e = All-nil (IsNumbered all)
+    by (Some symbols) e = (are.each i symbols e).numbered
+
+-- the pairs of a frame that is lent
+pub order_told : (all : List (List ℕ)) (pairs : List (Symbol × Symbol)) (lent : Option (Bor Frame)) (kept : Option Frame) → option_map (λ frame. frame.now) lent ≡ kept → IfSome (frame_told kept) (λ it. ArePairsRead all pairs it.1)
+    → IfSome lent (λ frame. ArePairsRead all pairs frame.now.pairs.items)
+order_told all pairs None kept e told = tt
+order_told all pairs (Some frame) kept e told = subst (λ o. IfSome (frame_told o) (λ it. ArePairsRead all pairs it.1)) (sym e) told
+
+-- all active pairs at an item, by the number of their list
+proof_beyond : (front said : List Item) (n : ℕ) → length said ≤ n → is_told_proof front (item_at said n) ≡ false
+proof_beyond front said n l = ap (is_told_proof front) (item_beyond said n l) ∙ and_false (is_none (told_fault front passed))
+  where
+    and_false : (b : Bool) → (b && false) ≡ false
+    and_false true = refl
+    and_false false = refl
+
+active_at : (all : List (List ℕ)) (base : BaseView) (lists : PairLists) (numbers : List (Option ℕ)) → AreRows (AreActiveTold all) base.said (map (list_told lists) numbers) → (i : ℕ) (number : Option ℕ) → number ≡ number_kept (slice_get numbers i)
+    → AreActiveTold all (before base i) (said_at base i) (list_told lists number)
+active_at all base lists numbers are i number e = by (slice_get numbers i) refl
+  where
+    by : (kept : Option (Option ℕ)) → slice_get numbers i ≡ kept → AreActiveTold all (before base i) (said_at base i) (list_told lists number)
+    by (Some n) g =
+        subst (λ w. AreActiveTold all (before base i) (said_at base i) (list_told lists w)) (sym (e ∙ ap number_kept g))
+        (are.each i (list_told lists n) (slice_get-map (list_told lists) numbers i ∙ ap (option_map (list_told lists)) g))
+    by None g =
+        let past = row_none (AreActiveTold all) base.said (map (list_told lists) numbers) i are (slice_get-map (list_told lists) numbers i ∙ ap (option_map (list_told lists)) g) in
+        subst (λ w. AreActiveTold all (before base i) (said_at base i) (list_told lists w)) (sym (e ∙ ap number_kept g)) (record { some = sym (proof_beyond (before base i) base.said i past); pairs = tt; order = tt })
+
+-- so it is where a base has them
+pub active_in : (all : List (List ℕ)) (base : BaseView) (answers : BaseAnswers) (lists : PairLists) (numbers : List (Option ℕ)) → map (list_told lists) numbers ≡ answers.actives → IsBaseBy all base answers → (i : ℕ) (number other : Option ℕ)
+    → number ≡ number_kept (slice_get numbers i) → number ≡ other → AreActiveTold all (before base i) (said_at base i) (list_told lists other)
+active_in all base answers lists numbers same is i number other e o =
+    subst (λ w. AreActiveTold all (before base i) (said_at base i) (list_told lists w)) o
+    (active_at all base lists numbers (subst (AreRows (AreActiveTold all) base.said) (sym same) is.actives) i number e)
+
+-- a list that two `$p` share
+pub shared_told : (all : List (List ℕ)) (lists : PairLists) (base : BaseView) (i j : ℕ) (mine yours : Option ℕ) → AreActiveTold all (before base i) (said_at base i) (list_told lists mine)
+    → AreActiveTold all (before base j) (said_at base j) (list_told lists yours) → is_proof_at base i ≡ true → option_eq nat_eq mine yours ≡ true → AreSamePairs (active_pairs (before base i)) (active_pairs (before base j))
+shared_told all lists base i j None yours a b s e = absurd (false≢true (a.some ∙ s))
+shared_told all lists base i j (Some k) None a b s e = absurd (false≢true e)
+shared_told all lists base i j (Some k) (Some l) a b s e =
+    let same : k ≡ l = (Decides-eqb k l).0 e in
+    let mine = subst (λ n. AreSamePairs (kept_pairs all (list_kept lists n)) (active_pairs (before base i))) same a.pairs.pairs in
+    same_joined (active_pairs (before base i)) (kept_pairs all (list_kept lists l)) (active_pairs (before base j)) (same_turned (kept_pairs all (list_kept lists l)) (active_pairs (before base i)) mine) b.pairs.pairs
+
+-- past the last item none is a `$f`
+pub float_none : (found : List store.Item) (said : List Item) (i : ℕ) → AllZip HasKind found said → slice_get (map is_float_item found) i ≡ None → false ≡ is_floating (item_at said i).kind
+float_none [] [] i z e = refl
+float_none (x ∷ found) (y ∷ said) zero z e = cc
+float_none (x ∷ found) (y ∷ said) (suc i) z e = float_none found said i z.1 e
+float_none _ _ i z e = absurd z
+
+-- ---- the item that carries a label
+
+none_is : {X : Type 0} (o : Option X) → is_none o ≡ true → o ≡ None
+none_is None e = refl
+none_is (Some x) e = absurd (false≢true e)
+
+pub carrier_told : (base : BaseView) (rows : List (Option (List ℕ) × Option (ℕ × FrameNumber))) → AreRows IsLabelTold base.said rows → (label : List ℕ) (j : ℕ) → (slice_get rows j ≡ Some (Some label, None)) ↔ IsCarrier base label j
+carrier_told base rows are label j = (to, from)
+  where
+    to : slice_get rows j ≡ Some (Some label, None) → IsCarrier base label j
+    to e =
+        let told = are.each j (Some label, None) e in
+        record { shown = and_from (is_sound_at base j) (is_labelled (said_at base j).kind) (ap is_none (sym told.fault)) (sym told.labelled); label_is = sym told.label }
+
+    from : IsCarrier base label j → slice_get rows j ≡ Some (Some label, None)
+    from c =
+        let p = and_parts (is_sound_at base j) (is_labelled (said_at base j).kind) c.shown in
+        let row = row_there IsLabelTold base.said rows j are p.1 in
+        let told = are.each j row.0 row.1 in
+        let mine = told.label ∙ c.label_is in
+        let none = told.fault ∙ none_is (fault_at base j) p.0 in
+        row.1 ∙ (λ k. Some (mine k, none k))
+
+-- the tables know it
+pub labels_told : (all : List (List ℕ)) (base : BaseView) (parts : Parts) → AreParts all base.said parts → (label : List ℕ) (j : ℕ) → (table_label parts.tables label ≡ Some j) ↔ (slice_get (rows_of parts.rows) j ≡ Some (Some label, None))
+labels_told all base parts are label j =
+    let told = carrier_told base (rows_of parts.rows) are.rows label j in
+    (λ e. told.1 (found_carrier base label j (sym (are.labels label) ∙ e)), λ t. are.labels label ∙ carrier_found base label j (told.0 t))
+
+-- the label and the fault of an item, and whether it is a sound one that has a label
+pub label_told : (base : BaseView) (rows : List (Option (List ℕ) × Option (ℕ × FrameNumber))) → AreRows IsLabelTold base.said rows → (i : ℕ) → label_in (slice_get rows i) ≡ (said_at base i).label
+label_told base rows are i = by (slice_get rows i) refl
+  where
+    by : (o : Option (Option (List ℕ) × Option (ℕ × FrameNumber))) → slice_get rows i ≡ o → label_in o ≡ (said_at base i).label
+    by (Some row) e = (are.each i row e).label
+    by None e = sym (ap (λ (item : Item). item.label) (item_beyond base.said i (row_none IsLabelTold base.said rows i are e)))
+
+pub fault_told_at : (base : BaseView) (rows : List (Option (List ℕ) × Option (ℕ × FrameNumber))) → AreRows IsLabelTold base.said rows → (i : ℕ) → fault_in (slice_get rows i) ≡ fault_at base i
+fault_told_at base rows are i = by (slice_get rows i) refl
+  where
+    by : (o : Option (Option (List ℕ) × Option (ℕ × FrameNumber))) → slice_get rows i ≡ o → fault_in o ≡ fault_at base i
+    by (Some row) e = (are.each i row e).fault
+    by None e = sym (fault_beyond (before base i) base.said i (row_none IsLabelTold base.said rows i are e))
+
+pub shown_told : (base : BaseView) (rows : List (Option (List ℕ) × Option (ℕ × FrameNumber))) → AreRows IsLabelTold base.said rows → (i : ℕ) → is_shown_in (slice_get rows i) ≡ (is_sound_at base i && is_labelled (said_at base i).kind)
+shown_told base rows are i = by (slice_get rows i) refl
+  where
+    by : (o : Option (Option (List ℕ) × Option (ℕ × FrameNumber))) → slice_get rows i ≡ o → is_shown_in o ≡ (is_sound_at base i && is_labelled (said_at base i).kind)
+    by (Some row) e = let told = are.each i row e in shown_is base i (is_none row.1) (is_some row.0) (ap is_none told.fault) told.labelled
+    by None e = not_shown base i (row_none IsLabelTold base.said rows i are e)
+
+-- what is kept of the items tells them rightly
+pub base_told : (all : List (List ℕ)) (base : BaseView) (inside : Inside) → AreDistinct all → inside.items.items ≡ base.found → length base.found ≡ length base.said → length base.said ≤ 4294967295 → AllZip HasKind base.found base.said
+    → AreParts all base.said inside.parts → IsBaseBy all base (answers_of inside)
+base_told all base inside distinct found count few kinds parts =
+    let lists = inside.parts.pair_lists in
+    record {
+      distinct = distinct;
+      found = found;
+      count = count;
+      few = few;
+      kinds = kinds;
+      rows = parts.rows;
+      expressions = expressions_told all base inside.parts.expressions parts.symbols;
+      frames = rows_told frame_told (TellsFrame all) (IsFrameTold all) (frames_told all) base.said inside.parts.frames.items parts.frames;
+      actives = rows_told (list_told lists) (TellsPairs all lists) (AreActiveTold all) (actives_told all lists) base.said inside.parts.pair_numbers.items parts.pair_numbers;
+      marks = parts.marks;
+    }

@@ -1,0 +1,328 @@
+-- Rows kept of the items, one more item, and what a base answers.
+use Rattle.std.proofs.Common.{◌≡◌, ℕ, zero, suc, ◌<◌, ◌≤◌, Bool, true, Option, Some, None, List, [], ◌∷◌, ◌++◌, length, take, drop, slice_get, append_assoc, append-nil, ◌&&◌, ◌||◌, cond, get_or, is_none, is_some, not, false, refl, sym, ◌∙◌, ap, subst, arith, inl, inr}
+use Rattle.std.specs.Option.{option_map}
+use Rattle.std.specs.List.{AllZip}
+use Rattle.std.proofs.lemmas.Bool.{false≢true, and_parts}
+use Rattle.std.proofs.Math.ListN.{get_or-append}
+use Rattle.std.proofs.Math.Seq.{take-suc}
+use Rattle.std.proofs.lemmas.List.{length_push, get_or_push, take-append-le, length-take-le}
+use Rattle.std.proofs.lemmas.Option.{slice_get_within, slice_get_cases, none-some}
+use Rattle.std.specs.Borrow.{Bor}
+use Rattle.std.specs.Prelude.{IfSome, All}
+use Rattle.std.proofs.lemmas.List.Elements.{All-nil}
+use Rattle.mm_frame.specs.declared.FrameNumber.{FrameNumber}
+use Rattle.mm_frame.specs.declared.symbol.NumberedSymbol.{NumberedSymbol}
+use Rattle.mm_frame.specs.Language.Item.{Kind, Axiom, Theorem, Missing, Item, passed, is_labelled, is_disjoint, is_assertion, is_essential, is_theorem, item_at}
+use Rattle.mm_frame.specs.Language.Sound.{IsSound, AreSound, fault, judged, sound_items, sound_items_after}
+use Rattle.mm_frame.specs.Language.Framing.{expression, frame}
+use Rattle.mm_frame.specs.Language.Scope.{Mark, Closes, mark_of, closes, active_numbers}
+use Rattle.mm_frame.specs.Code.Numbers.{IsNameNumber, AreNameNumbers}
+use Rattle.mm_frame.specs.Language.NumberedSymbols.{symbols_of, kept_pairs, IsNumbered, IsPairNumbered, ArePairsRead}
+use Rattle.mm_frame.specs.Code.KeptSymbols.{expression_kept, kept_or_none, is_read, AreSymbols, AreExpressions}
+use Rattle.mm_frame.specs.Code.LastItems.{IsSort}
+use Rattle.mm_frame.specs.Code.KeptScope.{taken}
+use Rattle.mm_frame.specs.Language.Base.{BaseView, before, said_at, fault_by, told_fault, is_sound_at, expression_at, is_framed_at, frame_at}
+use Rattle.mm_frame.specs.Language.Answering.{told_numbers, numbers_if}
+use Rattle.mm_frame.specs.Language.Answering.{AreRows, is_told_proof}
+use Rattle.mm_frame.specs.Language.Frame.{AreSamePairs}
+use Rattle.mm_frame.specs.Language.Answering.{pairs_in_order}
+use Rattle.mm_frame.specs.declared.draft.Frame.{Frame}
+use Rattle.mm_frame.proofs.lemmas.pairs.FramePairs.{same_pairs}
+use Rattle.mm_frame.proofs.lemmas.faults.FoundFaults.{no_fault_sound, sound_found, passed_sound, kept_is_sound, kept_next, kept_after_append}
+use Rattle.mm_frame.proofs.lemmas.scope.SoundItems.{kept_sound, split_at}
+use Rattle.mm_frame.proofs.lemmas.pairs.ActivePairLemmas.{disjoint_neither}
+use Rattle.mm_frame.proofs.lemmas.scope.TableLemmas.{item_between, take_between}
+use Rattle.mm_frame.proofs.lemmas.scope.BlockLemmas.{get_cases, get_last}
+use Rattle.mm_frame.proofs.lemmas.names.NamedLemmas.{get_before}
+use Rattle.mm_frame.proofs.lemmas.frames.VariableLemmas.{essential_neither}
+use Rattle.mm_frame.proofs.lemmas.frames.HypothesisNumbers.{active_numbers_more}
+
+pub item_before : (said : List Item) (item : Item) (n : ℕ) → n < length said → item_at (said ++ item ∷ []) n ≡ item_at said n
+item_before [] item n l = absurd (omega arith)
+item_before (x ∷ xs) item zero l = refl
+item_before (x ∷ xs) item (suc n) l = item_before xs item n (omega arith)
+
+pub item_beyond : (said : List Item) (n : ℕ) → length said ≤ n → item_at said n ≡ passed
+item_beyond [] n l = refl
+item_beyond (x ∷ xs) zero l = absurd (omega arith)
+item_beyond (x ∷ xs) (suc n) l = item_beyond xs n (omega arith)
+
+-- one more item, with its row
+pub rows_more : {X : Type 0} (tells : List Item → Item → X → Type 0) (said : List Item) (item : Item) (rows : List X) (row : X) → AreRows tells said rows → tells (sound_items said) item row → AreRows tells (said ++ item ∷ []) (rows ++ row ∷ [])
+rows_more {X} tells said item rows row a t = record {
+  count = (let p = length_push rows row in let q = length_push said item in omega arith);
+  each = λ n x e. elim (get_cases rows row x n e) [
+    | inl there ↦ (let w = slice_get_within rows n x there in earlier n x (omega arith) (a.each n x there))
+    | inr last ↦ (let z : n ≡ length said = last.0 ∙ a.count in subst (λ k. tells (sound_items (take k (said ++ item ∷ []))) (item_at (said ++ item ∷ []) k) x) (sym z) (newest x last.1))
+  ];
+}
+  where
+    earlier : (n : ℕ) (x : X) → n < length said → tells (sound_items (take n said)) (item_at said n) x → tells (sound_items (take n (said ++ item ∷ []))) (item_at (said ++ item ∷ []) n) x
+    earlier n x l h = subst (λ w. tells (sound_items w) (item_at (said ++ item ∷ []) n) x) (sym (take-append-le n said (item ∷ []) (omega arith))) (subst (λ w. tells (sound_items (take n said)) w x) (sym (item_before said item n l)) h)
+
+    newest : (x : X) → row ≡ x → tells (sound_items (take (length said) (said ++ item ∷ []))) (item_at (said ++ item ∷ []) (length said)) x
+    newest x e = subst (λ w. tells (sound_items w) (item_at (said ++ item ∷ []) (length said)) x) (sym (take_between said item [])) (subst (λ w. tells (sound_items said) w x) (sym (item_between said item [])) (subst (λ w. tells (sound_items said) item w) e t))
+
+-- no rows, and no symbols
+pub rows_none : {X : Type 0} (tells : List Item → Item → X → Type 0) → AreRows tells [] []
+rows_none tells = record { count = refl; each = λ n row e. cc }
+
+pub symbols_none : (all : List (List ℕ)) → AreSymbols all [] []
+symbols_none all = record { count = refl; numbered = λ n. All-nil (IsNumbered all); each = λ n item e t. cc }
+
+-- what is kept is sound
+pub kept_are_sound : (said : List Item) → AreSound (sound_items said)
+kept_are_sound said = kept_sound (sound_items said) (kept_is_sound said)
+
+-- an item is kept as it is where no fault was found
+pub kept_taken : {X : Type 0} (told : X → ℕ × FrameNumber) (said : List Item) (item : Item) (found : Option X) → option_map told found ≡ fault (sound_items said) item → sound_items said ++ taken (is_none found) item ∷ [] ≡ sound_items (said ++ item ∷ [])
+kept_taken told said item None e = ap (λ o. sound_items said ++ judged item o ∷ []) e ∙ sym (kept_next said item)
+kept_taken told said item (Some f) e = ap (λ o. sound_items said ++ judged item o ∷ []) e ∙ sym (kept_next said item)
+
+pub sound_found_none : {X : Type 0} (told : X → ℕ × FrameNumber) (before : List Item) (item : Item) (found : Option X) → option_map told found ≡ fault before item → is_none found ≡ true → IsSound before item
+sound_found_none told before item None e t = no_fault_sound before item (sym e)
+sound_found_none told before item (Some f) e t = absurd (false≢true t)
+
+-- past the last item there is no fault
+pub fault_beyond : (before said : List Item) (n : ℕ) → length said ≤ n → told_fault before (item_at said n) ≡ None
+fault_beyond before said n l = ap (told_fault before) (item_beyond said n l) ∙ sound_found before passed (passed_sound before)
+
+-- one more item says something
+pub zip_more : {A B : Type 0} (R : A → B → Type 0) (xs : List A) (ys : List B) (i : ℕ) (d : A) (y : B) → i < length xs → AllZip R (take i xs) ys → R (get_or xs i d) y → AllZip R (take (suc i) xs) (ys ++ y ∷ [])
+zip_more R [] ys i d y l z r = absurd (omega arith)
+zip_more R (x ∷ xs) [] zero d y l z r = (r, tt)
+zip_more R (x ∷ xs) (w ∷ ys) (suc i) d y l z r = (z.0, zip_more R xs ys i d y (omega arith) z.1 r)
+zip_more R (x ∷ xs) _ _ d y l z r = absurd z
+
+-- where there is no row there is no item
+pub row_none : {X : Type 0} (tells : List Item → Item → X → Type 0) (said : List Item) (rows : List X) (n : ℕ) → AreRows tells said rows → slice_get rows n ≡ None → length said ≤ n
+row_none tells said rows n a e = let w = none_beyond rows n e in omega arith
+  where
+    none_beyond : {Y : Type 0} (ys : List Y) (k : ℕ) → slice_get ys k ≡ None → length ys ≤ k
+    none_beyond ys k e = elim (slice_get_cases ys k).1 [
+      | inl there ↦ absurd (none-some there.0 (sym e ∙ there.2))
+      | inr past ↦ past.0
+    ]
+
+pub none_found : {X : Type 0} (found : Option X) (none : Bool) → is_some found ≡ not none → is_none found ≡ none
+none_found found true e = ap not e
+none_found found false e = ap not e
+
+-- one more item, with the symbols that are kept for it
+pub symbols_more : (all : List (List ℕ)) (before : List Item) (item : Item) (expressions : List (List NumberedSymbol)) (symbols : List NumberedSymbol) → AreSymbols all before expressions → All (IsNumbered all) symbols
+    → (is_read item.kind ≡ true → symbols_of all symbols ≡ expression before item) → AreSymbols all (before ++ item ∷ []) (expressions ++ symbols ∷ [])
+symbols_more all before item expressions symbols a numbers new = record {
+  count = (let p = length_push expressions symbols in let q = length_push before item in omega arith);
+  numbered = λ n. by_place n (slice_get (expressions ++ symbols ∷ []) n) refl;
+  each = λ n x e t. elim (get_cases before item x n e) [
+    | inl there ↦ (let w = slice_get_within before n x there in
+        ap (λ o. symbols_of all (kept_or_none o)) (get_before expressions symbols n (omega arith)) ∙ a.each n x there t ∙ ap (λ (w : List Item). expression w x) (sym (take-append-le n before (item ∷ []) (omega arith))))
+    | inr last ↦ (let z = last.0 in
+        ap (λ k. symbols_of all (expression_kept (expressions ++ symbols ∷ []) k)) (z ∙ sym a.count) ∙ ap (λ o. symbols_of all (kept_or_none o)) (get_last expressions symbols (length expressions) refl)
+        ∙ new (ap (λ (w : Item). is_read w.kind) last.1 ∙ t) ∙ (λ i. expression (sym (ap (λ k. take k (before ++ item ∷ [])) z ∙ take_between before item []) i) (last.1 i)))
+  ];
+}
+  where
+    by_place : (n : ℕ) (o : Option (List NumberedSymbol)) → slice_get (expressions ++ symbols ∷ []) n ≡ o → All (IsNumbered all) (kept_or_none o)
+    by_place n None e = All-nil (IsNumbered all)
+    by_place n (Some kept) e = elim (get_cases expressions symbols kept n e) [
+      | inl there ↦ subst (λ o. All (IsNumbered all) (kept_or_none o)) there (a.numbered n)
+      | inr last ↦ subst (λ (w : List NumberedSymbol). All (IsNumbered all) w) last.1 numbers
+    ]
+
+pub symbols_taken : (all : List (List ℕ)) (before : List Item) (item : Item) (symbols : List NumberedSymbol) (sound : Bool) → (sound ≡ true → is_read item.kind ≡ true → symbols_of all symbols ≡ expression before item)
+    → is_read (taken sound item).kind ≡ true → symbols_of all symbols ≡ expression before (taken sound item)
+symbols_taken all before item symbols true h t = h refl t
+symbols_taken all before item symbols false h t = absurd (false≢true t)
+
+-- where an item stands among what is kept
+kept_after_front : (before items : List Item) → (rest : List Item) × (sound_items_after before items ≡ before ++ rest) × (length rest ≡ length items)
+kept_after_front before [] = ([], sym (append-nil before), refl)
+kept_after_front before (item ∷ items) =
+    let one = judged item (fault before item) in
+    let r = kept_after_front (before ++ one ∷ []) items in
+    (one ∷ r.0, r.1 ∙ append_assoc before (one ∷ []) r.0, ap suc r.2)
+
+pub kept_count : (said : List Item) → length (sound_items said) ≡ length said
+kept_count said = let r = kept_after_front [] said in ap length r.1 ∙ r.2
+
+pub record KeptAt (said : List Item) (i : ℕ) (item : Item) : Type 0 where
+  pub rest : List Item
+  pub whole : sound_items said ≡ sound_items (take i said) ++ judged item (fault (sound_items (take i said)) item) ∷ rest
+  pub number : length (sound_items (take i said)) ≡ i
+
+pub kept_at : (said : List Item) (i : ℕ) (item : Item) → slice_get said i ≡ Some item → KeptAt said i item
+kept_at said i item e =
+    let front = take i said in
+    let back = drop (suc i) said in
+    let one = judged item (fault (sound_items front) item) in
+    let r = kept_after_front (sound_items front ++ one ∷ []) back in
+    let w = slice_get_within said i item e in
+    record {
+      rest = r.0;
+      whole = ap sound_items (split_at said i item e) ∙ kept_after_append [] front (item ∷ back) ∙ r.1 ∙ append_assoc (sound_items front) (one ∷ []) r.0;
+      number = kept_count front ∙ length-take-le i said (omega arith);
+    }
+
+pub kept_front_at : (said : List Item) (i : ℕ) (item : Item) → slice_get said i ≡ Some item → take i (sound_items said) ≡ sound_items (take i said)
+kept_front_at said i item e =
+    let k = kept_at said i item e in
+    ap (take i) k.whole ∙ ap (λ n. take n (sound_items (take i said) ++ judged item (fault (sound_items (take i said)) item) ∷ k.rest)) (sym k.number) ∙ take_between (sound_items (take i said)) (judged item (fault (sound_items (take i said)) item)) k.rest
+
+pub get_between : (front : List Item) (item : Item) (back : List Item) → slice_get (front ++ item ∷ back) (length front) ≡ Some item
+get_between [] item back = refl
+get_between (x ∷ front) item back = get_between front item back
+
+pub kept_item_at : (said : List Item) (i : ℕ) (item : Item) → slice_get said i ≡ Some item → fault (sound_items (take i said)) item ≡ None → slice_get (sound_items said) i ≡ Some item
+kept_item_at said i item e f =
+    let k = kept_at said i item e in
+    ap (λ n. slice_get (sound_items said) n) (sym k.number) ∙ ap (λ w. slice_get w (length (sound_items (take i said)))) (k.whole ∙ ap (λ o. sound_items (take i said) ++ judged item o ∷ k.rest) f) ∙ get_between (sound_items (take i said)) item k.rest
+
+-- where a label is told, no fault is told exactly for a sound item
+pub none_told : (kind : Kind) (f : Option (ℕ × FrameNumber)) → is_none (fault_by kind f) ≡ true → f ≡ None
+none_told Missing f e = absurd (false≢true e)
+none_told _ None e = refl
+none_told _ (Some x) e = absurd (false≢true e)
+
+pub is_none_map : {X Y : Type 0} (f : X → Y) (o : Option X) → is_none (option_map f o) ≡ is_none o
+is_none_map f None = refl
+is_none_map f (Some x) = refl
+
+pub shown_is : (base : BaseView) (i : ℕ) (fault : Bool) (label : Bool) → fault ≡ is_sound_at base i → label ≡ is_labelled (said_at base i).kind → (fault && label) ≡ (is_sound_at base i && is_labelled (said_at base i).kind)
+shown_is base i fault label e g = λ j. e j && g j
+
+pub not_shown : (base : BaseView) (i : ℕ) → length base.said ≤ i → false ≡ (is_sound_at base i && is_labelled (said_at base i).kind)
+not_shown base i l = sym (ap (λ (w : Item). is_none (told_fault (before base i) w) && is_labelled w.kind) (item_beyond base.said i l) ∙ and_false (is_none (told_fault (before base i) passed)))
+  where
+    and_false : (b : Bool) → (b && false) ≡ false
+    and_false true = refl
+    and_false false = refl
+
+pub labelled_there : (said : List Item) (i : ℕ) → is_labelled (item_at said i).kind ≡ true → slice_get said i ≡ Some (item_at said i)
+labelled_there [] i e = absurd (false≢true e)
+labelled_there (x ∷ said) zero e = refl
+labelled_there (x ∷ said) (suc i) e = labelled_there said i e
+
+pub expression_none : (base : BaseView) (i : ℕ) → (is_sound_at base i && is_labelled (said_at base i).kind) ≡ false → expression_at base i ≡ None
+expression_none base i e = ap (λ b. cond b (Some (expression (before base i) (said_at base i))) None) e
+
+pub expression_some : (all : List (List ℕ)) (base : BaseView) (i : ℕ) (expressions : List (List NumberedSymbol)) → AreSymbols all (sound_items base.said) expressions → (is_sound_at base i && is_labelled (said_at base i).kind) ≡ true
+    → expression_at base i ≡ Some (symbols_of all (expression_kept expressions i))
+expression_some all base i expressions a e =
+    let item = said_at base i in
+    let parts = and_parts (is_sound_at base i) (is_labelled item.kind) e in
+    let sound = none_told item.kind (fault (before base i) item) parts.0 in
+    let there = labelled_there base.said i parts.1 in
+    let read : is_read item.kind ≡ true = ap (λ b. b || is_disjoint item.kind) parts.1 in
+    ap (λ b. cond b (Some (expression (before base i) item)) None) e ∙ ap Some (ap (λ w. expression w item) (sym (kept_front_at base.said i item there)) ∙ sym (a.each i item (kept_item_at base.said i item there sound) read))
+
+-- what is read of a `$f`, `$e`, `$a` or `$p` is its expression
+pub are_expressions : (all : List (List ℕ)) (before : List Item) (expressions : List (List NumberedSymbol)) → AreSymbols all before expressions → AreExpressions all before expressions
+are_expressions all before expressions a n item e t = a.each n item e (ap (λ b. b || is_disjoint item.kind) t)
+
+-- an item that is not of the sort and is no `$}` leaves the active items of the sort as they are
+not_closes : (m : Mark) → closes m ≡ false → m ≡ Closes → ⊥
+not_closes m e c = false≢true (sym e ∙ ap closes c)
+
+numbers_same : (test : Item → Bool) (before : List Item) (item : Item) → closes (mark_of item.kind) ≡ false → test item ≡ false → active_numbers test before ≡ active_numbers test (before ++ item ∷ [])
+numbers_same test before item c e = sym (active_numbers_more test before item (not_closes (mark_of item.kind) c) ∙ ap (λ b. active_numbers test before ++ cond b (length before ∷ []) []) e ∙ append-nil (active_numbers test before))
+
+-- a sound item has a frame exactly where it is an assertion
+told_same : (kind : Kind) (f : Option (ℕ × FrameNumber)) → (is_none f && is_assertion kind) ≡ (is_none (fault_by kind f) && is_assertion kind)
+told_same Missing None = refl
+told_same Missing (Some x) = refl
+told_same _ f = refl
+
+pub framed_told : (before : List Item) (item : Item) (flag framed : Bool) (kind : Kind) → kind ≡ item.kind → framed ≡ (flag && is_assertion kind) → is_none (fault before item) ≡ flag → framed ≡ (is_none (told_fault before item) && is_assertion item.kind)
+framed_told before item flag framed kind k e n = e ∙ (λ i. sym n i && is_assertion (k i)) ∙ told_same item.kind (fault before item)
+
+pub frame_beyond : (before said : List Item) (n : ℕ) → length said ≤ n → told_numbers before (item_at said n) ≡ None
+frame_beyond before said n l = ap (told_numbers before) (item_beyond said n l) ∙ none (is_none (told_fault before passed))
+  where
+    none : (b : Bool) → numbers_if (b && false) before passed ≡ None
+    none true = refl
+    none false = refl
+
+pub numbers_passed : (test : Kind → Bool) → IsSort test → (before : List Item) (item : Item) (sound : Bool) → sound ≡ false → active_numbers (λ i. test i.kind) before ≡ active_numbers (λ i. test i.kind) (before ++ taken sound item ∷ [])
+numbers_passed test sort before item sound e = numbers_same (λ i. test i.kind) before passed refl sort.sound ∙ ap (λ b. active_numbers (λ i. test i.kind) (before ++ taken b item ∷ [])) (sym e)
+
+pub numbers_other : (test : Kind → Bool) (before : List Item) (item : Item) (sound : Bool) → sound ≡ true → closes (mark_of item.kind) ≡ false → test item.kind ≡ false → active_numbers (λ i. test i.kind) before ≡ active_numbers (λ i. test i.kind) (before ++ taken sound item ∷ [])
+numbers_other test before item sound e c t = numbers_same (λ i. test i.kind) before item c t ∙ ap (λ b. active_numbers (λ i. test i.kind) (before ++ taken b item ∷ [])) (sym e)
+
+-- the sorts that are followed
+pub essential_sort : IsSort is_essential
+essential_sort = record { statement = essential_neither; sound = refl }
+
+pub disjoint_sort : IsSort is_disjoint
+disjoint_sort = record { statement = disjoint_neither; sound = refl }
+
+-- a sound item has a proof exactly where it is a `$p`
+told_theorem : (kind : Kind) (f : Option (ℕ × FrameNumber)) → (is_none f && is_theorem kind) ≡ (is_none (fault_by kind f) && is_theorem kind)
+told_theorem Missing None = refl
+told_theorem Missing (Some x) = refl
+told_theorem _ f = refl
+
+pub proof_told : (before : List Item) (item : Item) (flag proof : Bool) (kind : Kind) → kind ≡ item.kind → proof ≡ (flag && is_theorem kind) → is_none (fault before item) ≡ flag → proof ≡ is_told_proof before item
+proof_told before item flag proof kind k e n = e ∙ (λ i. sym n i && is_theorem (k i)) ∙ told_theorem item.kind (fault before item)
+
+pub none_fault : {X : Type 0} (told : X → ℕ × FrameNumber) (before : List Item) (item : Item) (found : Option X) → option_map told found ≡ fault before item → is_none (fault before item) ≡ is_none found
+none_fault told before item found e = ap is_none (sym e) ∙ is_none_map told found
+
+-- what has a frame is sound, and an assertion, whose symbols are read
+assertion_read : (kind : Kind) → is_assertion kind ≡ true → is_read kind ≡ true
+assertion_read Axiom e = refl
+assertion_read Theorem e = refl
+assertion_read _ e = absurd (false≢true e)
+
+pub framed_parts : (flag : Bool) (kind item_kind : Kind) → kind ≡ item_kind → (flag && is_assertion kind) ≡ true → (flag ≡ true) × (is_assertion item_kind ≡ true) × (is_read item_kind ≡ true)
+framed_parts flag kind item_kind k e = let p = and_parts flag (is_assertion kind) e in let a = sym (ap is_assertion k) ∙ p.1 in (p.0, a, assertion_read item_kind a)
+
+-- what a frame that is kept tells, read behind a reference
+pub frame_numbers : (lent : Option (Bor Frame)) (kept_frame : Option Frame) → option_map (λ frame. frame.now) lent ≡ kept_frame → option_map (λ frame. frame.now.hypotheses.items) lent ≡ option_map (λ frame. frame.hypotheses.items) kept_frame
+frame_numbers None kept_frame e = ap (option_map (λ (frame : Frame). frame.hypotheses.items)) e
+frame_numbers (Some frame) kept_frame e = ap (option_map (λ (frame : Frame). frame.hypotheses.items)) e
+
+pub framed_from : (framed : Bool) (before : List Item) (item : Item) (numbers : List ℕ) → Some numbers ≡ numbers_if framed before item → framed ≡ true
+framed_from true before item numbers e = refl
+framed_from false before item numbers e = cc
+
+-- the pairs of the frame of an assertion in one order are its pairs
+pub framed_in_order : (base : BaseView) (i : ℕ) → is_framed_at base i ≡ true → AreSamePairs (pairs_in_order (frame_at base i)) (frame_at base i).pairs
+framed_in_order base i t =
+    let item = said_at base i in
+    let parts = and_parts (is_sound_at base i) (is_assertion item.kind) t in
+    let sound = no_fault_sound (before base i) item (none_told item.kind (fault (before base i) item) parts.0) in
+    same_pairs (before base i) item (kept_are_sound (take i base.said)) sound parts.1
+
+-- pairs in this order are those of the frame of an assertion
+pub ordered_pairs : {X : Type 0} (all : List (List ℕ)) (kept : X → List (NumberedSymbol × NumberedSymbol)) (base : BaseView) (i : ℕ) (found : Option X) → is_some found ≡ is_framed_at base i
+    → IfSome found (λ x. ArePairsRead all (pairs_in_order (frame_at base i)) (kept x)) → IfSome found (λ x. AreSamePairs (kept_pairs all (kept x)) (frame_at base i).pairs)
+ordered_pairs all kept base i None s e = tt
+ordered_pairs all kept base i (Some x) s e = subst (λ w. AreSamePairs w (frame_at base i).pairs) (sym e.pairs) (framed_in_order base i (sym s))
+
+pub ordered_numbered : {X : Type 0} (all : List (List ℕ)) (kept : X → List (NumberedSymbol × NumberedSymbol)) (base : BaseView) (i : ℕ) (found : Option X)
+    → IfSome found (λ x. ArePairsRead all (pairs_in_order (frame_at base i)) (kept x)) → IfSome found (λ x. All (IsPairNumbered all) (kept x))
+ordered_numbered all kept base i None e = tt
+ordered_numbered all kept base i (Some x) e = e.numbered
+
+pub same_frame_kept : (frame kept : Frame) → Some frame ≡ Some kept → frame ≡ kept
+same_frame_kept frame kept e = cc
+
+-- one more name with its number
+numbers_push : (all : List (List ℕ)) (numbers : List ℕ) (names : List (List ℕ)) (number : ℕ) (name : List ℕ) → AreNameNumbers all numbers names → IsNameNumber all number name → AreNameNumbers all (numbers ++ number ∷ []) (names ++ name ∷ [])
+numbers_push all numbers names number name a there = record {
+  count = (let p = length_push numbers number in let q = length_push names name in omega arith);
+  each = λ i n e. elim (get_cases numbers number n i e) [
+    | inl old ↦ (let w = slice_get_within numbers i n old in subst (IsNameNumber all n) (sym (get_or-append names (name ∷ []) [] i (omega arith))) (a.each i n old))
+    | inr last ↦ (let here = get_or_push names name [] i (sym (last.0 ∙ a.count)) in subst (λ k. IsNameNumber all k (get_or (names ++ name ∷ []) i [])) last.1 (subst (IsNameNumber all number) (sym here) there))
+  ];
+}
+
+pub numbers_more : (all : List (List ℕ)) (numbers : List ℕ) (names : List (List ℕ)) (n more number : ℕ) (name : List ℕ) → more ≡ suc n → n < length names → name ≡ get_or names n [] → AreNameNumbers all numbers (take n names) → IsNameNumber all number name
+    → AreNameNumbers all (numbers ++ number ∷ []) (take more names)
+numbers_more all numbers names n more number name m l e a there =
+    let longer = ap (λ k. take k names) m ∙ take-suc names n [] l ∙ ap (λ x. take n names ++ x ∷ []) (sym e) in
+    subst (AreNameNumbers all (numbers ++ number ∷ [])) (sym longer) (numbers_push all numbers (take n names) number name a there)
+
+pub numbers_none : (all : List (List ℕ)) → AreNameNumbers all [] []
+numbers_none all = record { count = refl; each = λ i n e. cc }

@@ -1,0 +1,60 @@
+-- A label belongs to one sound item, and a mandatory hypothesis is found by its label.
+use Rattle.std.proofs.Common.{◌≡◌, ◌<◌, ◌⊎◌, ℕ, Bool, true, false, ◌&&◌, ◌||◌, Option, Some, None, List, refl, sym, ◌∙◌, inl, inr, arith}
+use Rattle.std.proofs.lemmas.Option.{none-some}
+use native.Mathlib.Decide.{dec_lt}
+use Rattle.std.proofs.lemmas.Bool.{false≢true}
+use Rattle.mm_frame.specs.declared.base.Resolved.TheVariants as answers
+use Rattle.mm_frame.specs.Language.Item.{Kind, Axiom, Theorem, is_assertion, is_essential, is_floating, has, variable_of}
+use Rattle.mm_frame.specs.Code.BlockMarks.{block_marks}
+use Rattle.mm_frame.specs.Language.Sound.{sound_items}
+use Rattle.mm_frame.specs.Language.Framing.{mandatory_variables}
+use Rattle.mm_frame.specs.Language.Base.{BaseView, before, said_at, is_sound_at, is_framed_at, IsMandatoryAt}
+use Rattle.mm_frame.specs.Language.Resolving.{IsCarrier, IsLabelOf, Resolves}
+use Rattle.mm_frame.specs.Code.KeptBase.{find_in}
+use Rattle.mm_frame.proofs.lemmas.base.ResolvingLemmas.{carrier_found, found_carrier, active_by, active_means, assertion_means, later_means, unknown_means}
+
+-- two sound items with one label are one
+pub own_label : (base : BaseView) (j k : ℕ) (label : List ℕ) → IsCarrier base label j → IsCarrier base label k → j ≡ k
+own_label base j k label a b =
+    let e : Some j ≡ Some k = sym (carrier_found base label j a) ∙ carrier_found base label k b in
+    cc
+
+hypothesis_kind : (kind : Kind) (b : Bool) → (is_essential kind || (is_floating kind && b)) ≡ true → is_assertion kind ≡ false
+hypothesis_kind Axiom b e = absurd (false≢true e)
+hypothesis_kind Theorem b e = absurd (false≢true e)
+hypothesis_kind _ b e = refl
+
+no_frame : (a b : Bool) → b ≡ false → (a && b) ≡ false
+no_frame true b e = e
+no_frame false b e = refl
+
+-- a mandatory hypothesis is what its label means
+pub mandatory_means : (base : BaseView) (i n : ℕ) (label : List ℕ) → IsCarrier base label n → IsMandatoryAt base i n → Resolves base i label (answers.Hypothesis n)
+mandatory_means base i n label c m =
+    let item = said_at base n in
+    let kind = hypothesis_kind item.kind (has (mandatory_variables (before base i) (said_at base i)) (variable_of item)) m.mandatory in
+    active_means base i label n (block_marks (sound_items base.said)) refl c m.earlier (no_frame (is_sound_at base n) (is_assertion item.kind) kind) (active_by base (block_marks (sound_items base.said)) i n refl ∙ m.active)
+
+-- a label is that of a sound item before another, or means nothing there
+abbrev StandsOrNot : BaseView → ℕ → List ℕ → Type 0
+StandsOrNot base i label = ((j : ℕ) × IsLabelOf base i j label) ⊎ (((j : ℕ) → IsLabelOf base i j label → ⊥) × Resolves base i label answers.Unknown)
+
+pub label_or_unknown : (base : BaseView) (i : ℕ) (label : List ℕ) → StandsOrNot base i label
+label_or_unknown base i label = by_item (find_in base label) refl
+  where
+    by_order : (j : ℕ) → IsCarrier base label j → Dec (j < i) → StandsOrNot base i label
+    by_order j carrier (yes l) = inl (j, record { earlier = l; carrier = carrier })
+    by_order j carrier (no m) = inr (
+      λ k h. (let same = own_label base k j label h.carrier carrier in let before = h.earlier in m (omega (arith, same, before))),
+      later_means base i label j carrier (omega (arith, m)),
+    )
+
+    by_item : (found : Option ℕ) → find_in base label ≡ found → StandsOrNot base i label
+    by_item None e =
+        let none : (j : ℕ) → IsCarrier base label j → ⊥ = λ j h. none-some j (sym e ∙ carrier_found base label j h) in
+        inr (λ j h. none j h.carrier, unknown_means base i label none)
+    by_item (Some j) e = by_order j (found_carrier base label j e) (dec_lt j i)
+
+-- the label of an assertion means it
+pub assertion_is_meant : (base : BaseView) (i j : ℕ) (label : List ℕ) → IsLabelOf base i j label → is_framed_at base j ≡ true → Resolves base i label (answers.Assertion j)
+assertion_is_meant base i j label h framed = assertion_means base i label j h.carrier h.earlier framed

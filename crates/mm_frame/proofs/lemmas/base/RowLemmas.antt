@@ -1,0 +1,199 @@
+-- The labels and faults of items: how many there are, each of them, and one more.
+use Rattle.std.proofs.Common.{◌≡◌, ℕ, zero, suc, ◌+◌, ◌<◌, ◌≤◌, Bool, true, false, cond, ◌&&◌, Option, Some, None, List, [], ◌∷◌, ◌++◌, length, slice_get, get_or, refl, sym, ◌∙◌, ap, subst, arith, length-append}
+use Rattle.std.specs.Prelude.{is_some, is_none}
+use Rattle.std.specs.List.{slice_range}
+use Rattle.std.specs.Option.{option_map}
+use native.Mathlib.Decide.{dec_lt}
+use Rattle.std.proofs.Math.Seq.{get_or-append_seam}
+use Rattle.std.proofs.lemmas.Bool.{false≢true}
+use Rattle.std.proofs.lemmas.List.{get_or_append_left}
+use Rattle.std.proofs.lemmas.Option.{slice_get_past}
+use Rattle.mm_frame.specs.declared.judge.FrameFault.{FrameFault}
+use Rattle.mm_frame.specs.declared.item_rows.Rows.{Rows}
+use Rattle.mm_frame.specs.Code.KeptExpressions.{cut_from, EndsFrom, start_at}
+use Rattle.mm_frame.specs.Code.KeptRows.{bytes_or_none, fault_or_none, fault_at, fault_told, row_told, rows_from, rows_of, label_in, fault_in, is_shown_in, AreRowsKept}
+use Rattle.mm_frame.proofs.lemmas.names.ExpressionLemmas.{cut_length, cut_there, cut_more, ends_more}
+
+rows_length : (n : ℕ) (labels : List (List ℕ)) (flags : List Bool) (faults : List (Option FrameFault)) → length (rows_from n labels flags faults) ≡ length labels
+rows_length n [] flags faults = refl
+rows_length n (x ∷ labels) flags faults = ap suc (rows_length (suc n) labels flags faults)
+
+pub row_count : (rows : Rows) → length (rows_of rows) ≡ length rows.ends.items
+row_count rows = rows_length 0 (cut_from rows.bytes.items 0 rows.ends.items) rows.labelled.items rows.faults.items ∙ cut_length rows.bytes.items 0 rows.ends.items
+
+row_from : (n : ℕ) (labels : List (List ℕ)) (flags : List Bool) (faults : List (Option FrameFault)) (k : ℕ) (bytes : List ℕ) → slice_get labels k ≡ Some bytes → slice_get (rows_from n labels flags faults) k ≡ Some (row_told flags faults (n + k) bytes)
+row_from n [] flags faults k bytes e = cc
+row_from n (x ∷ labels) flags faults zero bytes e =
+    let same : x ≡ bytes = cc in
+    let z : n ≡ n + 0 = omega arith in
+    λ i. Some (row_told flags faults (z i) (same i))
+row_from n (x ∷ labels) flags faults (suc k) bytes e =
+    let z : suc n + k ≡ n + suc k = omega arith in
+    row_from (suc n) labels flags faults k bytes e ∙ (λ i. Some (row_told flags faults (z i) bytes))
+
+pub row_there : (rows : Rows) (k : ℕ) (bytes : List ℕ) → slice_get (cut_from rows.bytes.items 0 rows.ends.items) k ≡ Some bytes → slice_get (rows_of rows) k ≡ Some (row_told rows.labelled.items rows.faults.items k bytes)
+row_there rows k bytes e =
+    let z : 0 + k ≡ k = omega arith in
+    row_from 0 (cut_from rows.bytes.items 0 rows.ends.items) rows.labelled.items rows.faults.items k bytes e ∙ (λ i. Some (row_told rows.labelled.items rows.faults.items (z i) bytes))
+
+pub row_at : (rows : Rows) (k : ℕ) → k < length rows.ends.items → slice_get (rows_of rows) k ≡ Some (row_told rows.labelled.items rows.faults.items k (slice_range rows.bytes.items (start_at 0 rows.ends.items k) (get_or rows.ends.items k 0)))
+row_at rows k l = row_there rows k _ (cut_there rows.bytes.items 0 rows.ends.items k l)
+
+pub no_row : (rows : Rows) (k : ℕ) → length rows.ends.items ≤ k → slice_get (rows_of rows) k ≡ None
+no_row rows k l = let count = row_count rows in slice_get_past (rows_of rows) k (omega arith)
+
+-- a flag that is set is there
+pub flag_within : (flags : List Bool) (n : ℕ) → get_or flags n false ≡ true → n < length flags
+flag_within [] n e = absurd (false≢true e)
+flag_within (x ∷ flags) zero e = omega arith
+flag_within (x ∷ flags) (suc n) e = let l = flag_within flags n e in omega arith
+
+pub label_some : (rows : Rows) (k : ℕ) → k < length rows.ends.items → get_or rows.labelled.items k false ≡ true → label_in (slice_get (rows_of rows) k) ≡ Some (slice_range rows.bytes.items (start_at 0 rows.ends.items k) (get_or rows.ends.items k 0))
+label_some rows k l t = ap label_in (row_at rows k l) ∙ ap (λ b. cond b (Some (slice_range rows.bytes.items (start_at 0 rows.ends.items k) (get_or rows.ends.items k 0))) None) t
+
+pub label_none : (rows : Rows) (k : ℕ) → get_or rows.labelled.items k false ≡ false → label_in (slice_get (rows_of rows) k) ≡ None
+label_none rows k f = elim (dec_lt k (length rows.ends.items)) [
+  | yes l ↦ ap label_in (row_at rows k l) ∙ ap (λ b. cond b (Some (slice_range rows.bytes.items (start_at 0 rows.ends.items k) (get_or rows.ends.items k 0))) None) f
+  | no m ↦ ap label_in (no_row rows k (omega arith))
+]
+
+pub fault_there : (rows : Rows) → AreRowsKept rows → (k : ℕ) → fault_in (slice_get (rows_of rows) k) ≡ fault_told (fault_at rows.faults.items k)
+fault_there rows kept k = elim (dec_lt k (length rows.ends.items)) [
+  | yes l ↦ ap fault_in (row_at rows k l)
+  | no m ↦ (
+      let few = kept.faults in
+      ap fault_in (no_row rows k (omega arith)) ∙ sym (ap (λ o. fault_told (fault_or_none o)) (slice_get_past rows.faults.items k (omega arith)))
+      )
+]
+
+pub shown_none : (rows : Rows) (k : ℕ) → get_or rows.labelled.items k false ≡ false → is_shown_in (slice_get (rows_of rows) k) ≡ false
+shown_none rows k f = elim (dec_lt k (length rows.ends.items)) [
+  | yes l ↦ (
+      let row = row_told rows.labelled.items rows.faults.items k (slice_range rows.bytes.items (start_at 0 rows.ends.items k) (get_or rows.ends.items k 0)) in
+      ap is_shown_in (row_at rows k l) ∙ ap (λ b. is_none row.1 && is_some (cond b (Some (slice_range rows.bytes.items (start_at 0 rows.ends.items k) (get_or rows.ends.items k 0))) None)) f ∙ never (is_none row.1)
+      )
+  | no m ↦ ap is_shown_in (no_row rows k (omega arith))
+]
+  where
+    never : (b : Bool) → (b && false) ≡ false
+    never true = refl
+    never false = refl
+
+pub shown_some : (rows : Rows) → AreRowsKept rows → (k : ℕ) → get_or rows.labelled.items k false ≡ true → is_shown_in (slice_get (rows_of rows) k) ≡ is_none (fault_at rows.faults.items k)
+shown_some rows kept k t =
+    let l = flag_within rows.labelled.items k t in
+    let same = kept.flags in
+    let there = row_at rows k (omega arith) in
+    let row = row_told rows.labelled.items rows.faults.items k (slice_range rows.bytes.items (start_at 0 rows.ends.items k) (get_or rows.ends.items k 0)) in
+    ap is_shown_in there ∙ ap (λ b. is_none row.1 && is_some (cond b (Some (slice_range rows.bytes.items (start_at 0 rows.ends.items k) (get_or rows.ends.items k 0))) None)) t ∙ always (fault_at rows.faults.items k)
+  where
+    always : (o : Option FrameFault) → (is_none (fault_told o) && true) ≡ is_none o
+    always None = refl
+    always (Some f) = refl
+
+-- one more fault, or a place for one
+pub place_more : (faults : List (Option FrameFault)) (n : ℕ) → fault_at (faults ++ None ∷ []) n ≡ fault_at faults n
+place_more [] zero = refl
+place_more [] (suc n) = refl
+place_more (x ∷ faults) zero = refl
+place_more (x ∷ faults) (suc n) = place_more faults n
+
+pub fault_front : (faults : List (Option FrameFault)) (fault : Option FrameFault) (n : ℕ) → n < length faults → fault_at (faults ++ fault ∷ []) n ≡ fault_at faults n
+fault_front [] fault n l = absurd (omega arith)
+fault_front (x ∷ faults) fault zero l = refl
+fault_front (x ∷ faults) fault (suc n) l = fault_front faults fault n (omega arith)
+
+pub fault_last : (faults : List (Option FrameFault)) (fault : Option FrameFault) (n : ℕ) → n ≡ length faults → fault_at (faults ++ fault ∷ []) n ≡ fault
+fault_last [] fault zero e = refl
+fault_last [] fault (suc n) e = absurd (omega arith)
+fault_last (x ∷ faults) fault zero e = absurd (omega arith)
+fault_last (x ∷ faults) fault (suc n) e = fault_last faults fault n (omega arith)
+
+pub no_fault : (faults : List (Option FrameFault)) (n : ℕ) → length faults ≤ n → fault_at faults n ≡ None
+no_fault faults n l = ap fault_or_none (slice_get_past faults n l)
+
+-- one more
+rows_same : (n : ℕ) (labels : List (List ℕ)) (flags other : List Bool) (faults more : List (Option FrameFault)) → ((k : ℕ) → k < n + length labels → get_or flags k false ≡ get_or other k false) → ((k : ℕ) → k < n + length labels → fault_at faults k ≡ fault_at more k)
+    → rows_from n labels flags faults ≡ rows_from n labels other more
+rows_same n [] flags other faults more f g = refl
+rows_same n (x ∷ labels) flags other faults more f g =
+    let a = f n (omega arith) in
+    let b = g n (omega arith) in
+    let rest = rows_same (suc n) labels flags other faults more (λ k l. f k (omega arith)) (λ k l. g k (omega arith)) in
+    λ i. (cond (a i) (Some x) None, fault_told (b i)) ∷ rest i
+
+rows_last : (n : ℕ) (labels : List (List ℕ)) (bytes : List ℕ) (flags : List Bool) (faults : List (Option FrameFault)) → rows_from n (labels ++ bytes ∷ []) flags faults ≡ rows_from n labels flags faults ++ row_told flags faults (n + length labels) bytes ∷ []
+rows_last n [] bytes flags faults = let z : n ≡ n + 0 = omega arith in λ i. row_told flags faults (z i) bytes ∷ []
+rows_last n (x ∷ labels) bytes flags faults =
+    let z : suc n + length labels ≡ n + suc (length labels) = omega arith in
+    ap (λ w. row_told flags faults n x ∷ w) (rows_last (suc n) labels bytes flags faults ∙ (λ i. rows_from (suc n) labels flags faults ++ row_told flags faults (z i) bytes ∷ []))
+
+labelled_told : (label : Option (List ℕ)) → cond (is_some label) (Some (bytes_or_none label)) None ≡ label
+labelled_told None = refl
+labelled_told (Some label) = refl
+
+-- what is added for one more item
+pub record AddsRow (old : Rows) (label : Option (List ℕ)) (fault : Option FrameFault) (new : Rows) : Type 0 where
+  pub bytes : new.bytes.items ≡ old.bytes.items ++ bytes_or_none label
+  pub ends : new.ends.items ≡ old.ends.items ++ length new.bytes.items ∷ []
+  pub flags : new.labelled.items ≡ old.labelled.items ++ is_some label ∷ []
+  pub same : (n : ℕ) → n < length old.ends.items → fault_at new.faults.items n ≡ fault_at old.faults.items n
+  pub here : fault_at new.faults.items (length old.ends.items) ≡ fault
+  pub within : length new.faults.items ≤ length old.ends.items + 1
+
+pub some_lent : {L X : Type 0} (now : L → X) (lent : Option L) → is_some (option_map now lent) ≡ is_some lent
+some_lent now None = refl
+some_lent now (Some x) = refl
+
+-- by the count of the items before it
+pub adds_row : (old new : Rows) (label : Option (List ℕ)) (fault : Option FrameFault) (count : ℕ) → count ≡ length old.ends.items → AreRowsKept old → new.bytes.items ≡ old.bytes.items ++ bytes_or_none label
+    → new.ends.items ≡ old.ends.items ++ length new.bytes.items ∷ [] → new.labelled.items ≡ old.labelled.items ++ is_some label ∷ []
+    → (length old.faults.items ≤ count → (n : ℕ) → n < count → fault_at new.faults.items n ≡ fault_at old.faults.items n) → (length old.faults.items ≤ count → fault_at new.faults.items count ≡ fault)
+    → (length old.faults.items ≤ count → length new.faults.items ≤ count + 1) → AddsRow old label fault new
+adds_row old new label fault count e kept bytes ends flags same here within =
+    let few = kept.faults in
+    let l : length old.faults.items ≤ count = omega arith in
+    let most = within l in
+    record {
+      bytes = bytes;
+      ends = ends;
+      flags = flags;
+      same = λ n m. same l n (omega arith);
+      here = ap (fault_at new.faults.items) (sym e) ∙ here l;
+      within = omega arith;
+    }
+
+pub kept_more : (old new : Rows) (label : Option (List ℕ)) (fault : Option FrameFault) → AreRowsKept old → AddsRow old label fault new → AreRowsKept new
+kept_more old new label fault k a =
+    let count = length-append old.ends.items (length new.bytes.items ∷ []) in
+    let ends = ap length a.ends in
+    let flags = ap length a.flags in
+    let marks = length-append old.labelled.items (is_some label ∷ []) in
+    let bytes = ap length a.bytes in
+    let all = length-append old.bytes.items (bytes_or_none label) in
+    let same = k.flags in
+    let within = a.within in
+    record {
+      cut = subst (λ w. EndsFrom 0 w (length new.bytes.items)) (sym a.ends) (ends_more 0 old.ends.items (length old.bytes.items) (length new.bytes.items) k.cut (omega arith));
+      flags = omega arith;
+      faults = omega arith;
+    }
+
+pub rows_more : (old new : Rows) (label : Option (List ℕ)) (fault : Option FrameFault) → AreRowsKept old → AddsRow old label fault new → rows_of new ≡ rows_of old ++ (label, fault_told fault) ∷ []
+rows_more old new label fault k a =
+    let labels = cut_from old.bytes.items 0 old.ends.items in
+    let bytes = bytes_or_none label in
+    let total = ap length a.bytes ∙ length-append old.bytes.items bytes in
+    let cut : cut_from new.bytes.items 0 new.ends.items ≡ labels ++ bytes ∷ [] = (λ i. cut_from (a.bytes i) 0 (a.ends i)) ∙ cut_more old.bytes.items bytes 0 old.ends.items (length new.bytes.items) k.cut total in
+    let count = cut_length old.bytes.items 0 old.ends.items in
+    let same = k.flags in
+    let flags = λ (n : ℕ) (l : n < 0 + length labels). ap (λ w. get_or w n false) a.flags ∙ get_or_append_left old.labelled.items (is_some label ∷ []) false n (omega arith) in
+    let faults = λ (n : ℕ) (l : n < 0 + length labels). a.same n (omega arith) in
+    let z : 0 + length labels ≡ length old.labelled.items = omega arith in
+    let y : 0 + length labels ≡ length old.ends.items = omega arith in
+    let flag = ap (λ n. get_or new.labelled.items n false) z ∙ ap (λ w. get_or w (length old.labelled.items) false) a.flags ∙ get_or-append_seam old.labelled.items (is_some label) [] false in
+    let told : cond (get_or new.labelled.items (0 + length labels) false) (Some bytes) None ≡ label = ap (λ b. cond b (Some bytes) None) flag ∙ labelled_told label in
+    let fault_is = ap (λ n. fault_told (fault_at new.faults.items n)) y ∙ ap fault_told a.here in
+    ap (λ w. rows_from 0 w new.labelled.items new.faults.items) cut
+    ∙ rows_last 0 labels bytes new.labelled.items new.faults.items
+    ∙ (λ i. rows_same 0 labels new.labelled.items old.labelled.items new.faults.items old.faults.items flags faults i ++ (told i, fault_is i) ∷ [])

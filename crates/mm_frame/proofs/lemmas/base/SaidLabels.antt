@@ -1,0 +1,62 @@
+-- Each sound item of a kind that has a label has one, since it has symbols.
+use Rattle.std.proofs.Common.{◌≡◌, ℕ, zero, suc, true, cond, ◌&&◌, ◌==◌, Some, None, List, [], ◌∷◌, length, slice_range, refl, sym, ◌∙◌, ap}
+use Rattle.std.specs.List.{AllZip}
+use Rattle.std.proofs.lemmas.Bool.{false≢true, or_parts, and_parts, and_from, eq-eqb}
+use Rattle.mm_store.specs.mm_text.Language.Unit.{Token, tokens_of}
+use Rattle.mm_store.specs.declared.item.Item as store
+use Rattle.mm_store.specs.Language.FilesView.{FilesView}
+use Rattle.mm_frame.specs.declared.FrameNumber.TheVariants.{F01}
+use Rattle.mm_frame.specs.Language.Item.{Kind, Floating, Essential, Axiom, Theorem, Item, is_floating, is_labelled}
+use Rattle.mm_frame.specs.Language.Sound.{closing_word, at_symbol, is_third, is_short, fault, IsSound}
+use Rattle.mm_frame.specs.Language.Statement.{kind_of, token_names, symbols_in, label_in, item_of, Says}
+use Rattle.mm_frame.specs.Language.Item.{item_at}
+use Rattle.mm_frame.specs.Language.Base.{BaseView, AreSaid, before, said_at, is_sound_at, is_shown_at}
+use Rattle.mm_frame.proofs.lemmas.faults.FoundFaults.{no_fault_sound}
+use Rattle.mm_frame.proofs.lemmas.base.BaseLemmas.{none_told}
+
+short_kind : (kind : Kind) → is_labelled kind ≡ true → is_short kind 0 ≡ true
+short_kind Floating t = refl
+short_kind Essential t = refl
+short_kind Axiom t = refl
+short_kind Theorem t = refl
+short_kind _ t = absurd (false≢true t)
+
+-- a sound one has symbols
+has_symbols : (before : List Item) (item : Item) → IsSound before item → is_labelled item.kind ≡ true → item.symbols ≡ [] → ⊥
+has_symbols before item s t e =
+    let word = closing_word item in
+    let few = (or_parts (is_short item.kind (length item.symbols) && word == word) (is_floating item.kind && at_symbol is_third item word) (s word F01)).0 in
+    let short = ap (λ xs. is_short item.kind (length xs)) e ∙ short_kind item.kind t in
+    false≢true (sym few ∙ and_from (is_short item.kind (length item.symbols)) (word == word) short (eq-eqb word word refl))
+
+no_words : (kind : Kind) → is_labelled kind ≡ true → token_names (symbols_in kind []) ≡ []
+no_words Floating t = refl
+no_words Essential t = refl
+no_words Axiom t = refl
+no_words Theorem t = refl
+no_words _ t = absurd (false≢true t)
+
+-- where there are symbols there is a first word
+label_there : (kind : Kind) (tokens : List Token) → is_labelled kind ≡ true → (token_names (symbols_in kind tokens) ≡ [] → ⊥) → (label : List ℕ) × (label_in kind tokens ≡ Some label)
+label_there kind [] t n = absurd (n (no_words kind t))
+label_there kind (token ∷ tokens) t n = (token.bytes, ap (λ b. cond b (Some token.bytes) None) t)
+
+-- the words that an item is
+said_by : (files : FilesView) (item : store.Item) (said : Item) → Says files item said → (kind : Kind) × (tokens : List Token) × (said ≡ item_of kind tokens)
+said_by files item said s = (kind_of item.kind, tokens_of (slice_range s.read.text item.start item.end) s.read.words, s.is)
+
+said_words : (files : FilesView) (found : List store.Item) (said : List Item) (j : ℕ) → AllZip (Says files) found said → is_labelled (item_at said j).kind ≡ true → (kind : Kind) × (tokens : List Token) × (item_at said j ≡ item_of kind tokens)
+said_words files [] [] j z t = absurd (false≢true t)
+said_words files (x ∷ found) (y ∷ said) zero z t = said_by files x y z.0
+said_words files (x ∷ found) (y ∷ said) (suc j) z t = said_words files found said j z.1 t
+said_words files _ _ j z t = absurd z
+
+pub item_label : (base : BaseView) → AreSaid base → (j : ℕ) → is_shown_at base j ≡ true → (label : List ℕ) × ((said_at base j).label ≡ Some label)
+item_label base all j s =
+    let item = said_at base j in
+    let p = and_parts (is_sound_at base j) (is_labelled item.kind) s in
+    let sound = no_fault_sound (before base j) item (none_told item.kind (fault (before base j) item) p.0) in
+    let w = said_words all.0 base.found base.said j all.1 p.1 in
+    let t = sym (ap (λ (i : Item). is_labelled i.kind) w.2) ∙ p.1 in
+    let l = label_there w.0 w.1 t (λ n. has_symbols (before base j) item sound p.1 (ap (λ (i : Item). i.symbols) w.2 ∙ n)) in
+    (l.0, ap (λ (i : Item). i.label) w.2 ∙ l.1)

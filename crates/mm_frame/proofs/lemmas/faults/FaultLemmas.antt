@@ -1,0 +1,125 @@
+-- What the code that looks for a fault rests on.
+use Rattle.std.proofs.Common.{◌≡◌, ℕ, suc, ◌+◌, ◌<◌, ◌≤◌, Bool, true, false, not, cond, ◌&&◌, ◌||◌, Option, Some, None, List, [], ◌∷◌, ◌++◌, length, take, drop, get_or, bytes_eq, refl, sym, ◌∙◌, ap, subst, arith}
+use Rattle.std.specs.Borrow.{Bor}
+use Rattle.std.specs.Prelude.{is_none}
+use Rattle.std.specs.Option.{option_or}
+use Rattle.std.specs.HashSet.{HashSet, Updates}
+use Rattle.std.proofs.Math.Seq.{take-suc}
+use Rattle.std.proofs.lemmas.Option.{slice_get-get_or}
+use Rattle.std.proofs.lemmas.List.{drop_all}
+use Rattle.std.proofs.lemmas.List.Folds.{list_any-append}
+use Rattle.mm_frame.specs.Language.Item.{Item, has}
+use Rattle.mm_frame.specs.Language.Scope.{constants, active_variables, typed}
+use Rattle.mm_frame.specs.Language.Sound.{first_symbol, closing_word, fault_or, fault, AreSound}
+use Rattle.mm_frame.specs.Code.Numbers.{AreNameNumbers}
+use Rattle.mm_frame.specs.Code.KeptScope.{ScopeHolds}
+use Rattle.mm_frame.specs.declared.scope.Scope.{Scope}
+use Rattle.mm_frame.specs.declared.tables.Declared.{Declared}
+use Rattle.mm_frame.specs.declared.tables.Declared.TheVariants.{Constant, Variable}
+use Rattle.mm_frame.specs.Code.KeptTables.{declared_in, variable_at}
+use Rattle.mm_frame.specs.Code.LastItems.{last_where, declares_variable, types, is_active_last}
+use Rattle.mm_frame.specs.declared.FrameNumber.{FrameNumber}
+use Rattle.mm_frame.specs.declared.FrameNumber.TheVariants.{F10, F11}
+use Rattle.mm_frame.specs.Code.FaultInOrder.{front_fault, end_fault, first_fault, symbol_fault, symbols_fault, later_fault}
+use Rattle.mm_frame.specs.Code.SeenNames.{HasSeen}
+use Rattle.mm_frame.proofs.lemmas.faults.FaultReading.{first_fault_at, fault_is}
+use Rattle.mm_frame.proofs.lemmas.scope.KnownLemmas.{has_one, constant_no_variable}
+use Rattle.mm_frame.proofs.lemmas.scope.TableLemmas.{active_variable_last, typed_last}
+
+-- whether a name that is declared so may stand behind a typecode
+abbrev pub may_follow_as : List Item → Option Declared → Bool
+may_follow_as before None = false
+may_follow_as before (Some Constant) = true
+may_follow_as before (Some (Variable declared float)) = is_active_last before (Some declared) && is_active_last before float
+
+-- what is wrong behind a typecode with a name that is a constant, an active variable, or typed
+abbrev later_as : Bool → Bool → Bool → Option FrameNumber
+later_as constant active typed = cond (not (constant || active)) (Some F10) (cond (active && not typed) (Some F11) None)
+
+pub follows_later : (before : List Item) → AreSound before → (name : List ℕ) → may_follow_as before (declared_in before name) ≡ is_none (later_fault before name)
+follows_later before h name =
+    by_test (has (constants before) name) (last_where (declares_variable name) before) (last_where (types name) before) (has (active_variables before) name) (has (typed before) name)
+    (active_variable_last before h name) (typed_last before h name) (constant_no_variable before h name)
+  where
+    both : (active typed : Bool) → (active && typed) ≡ is_none (later_as false active typed)
+    both true true = refl
+    both true false = refl
+    both false typed = refl
+
+    by_test : (c : Bool) (v t : Option ℕ) (active typed : Bool) → active ≡ is_active_last before v → typed ≡ is_active_last before t → (c ≡ true → v ≡ None)
+        → may_follow_as before (cond c (Some Constant) (variable_at v t)) ≡ is_none (later_as c active typed)
+    by_test true v t active typed a b n = let inactive : active ≡ false = a ∙ ap (is_active_last before) (n refl) in rw inactive refl
+    by_test false None t active typed a b n = rw a refl
+    by_test false (Some d) t active typed a b n = rw (← a, ← b) (both active typed)
+
+-- one more name is seen
+pub sees_more : {S : Type 0} (names : List (List ℕ)) (name : Bor (List ℕ)) (old new : HashSet (Bor (List ℕ)) S) → HasSeen names old → Updates (λ x y. bytes_eq x.now y.now) old new name true → HasSeen (names ++ name.now ∷ []) new
+sees_more names name old new h u other =
+    let key : Bor (List ℕ) = record { ref_ptr = name.ref_ptr; now = other } in
+    u.0 key
+    ∙ (λ i. cond (has_one name.now other i) true (h other i))
+    ∙ either (has (name.now ∷ []) other) (has names other)
+    ∙ sym (list_any-append (bytes_eq other) names (name.now ∷ []))
+  where
+    either : (a b : Bool) → cond a true b ≡ (b || a)
+    either true true = refl
+    either true false = refl
+    either false true = refl
+    either false false = refl
+
+pub twice_not : (b : Bool) → not (not b) ≡ b
+twice_not true = refl
+twice_not false = refl
+
+-- the symbols up to a number have no fault, and are those that were seen where they are kept
+pub record Passes {S : Type 0} (kept : Bool) (scope : Scope) (item : Item) (numbers : List ℕ) (n : ℕ) (seen : HashSet (Bor (List ℕ)) S) : Type 0 where
+  pub sees : kept ≡ true → HasSeen (take n item.symbols) seen
+  pub rest : (all : List (List ℕ)) (before : List Item) → AreSound before → ScopeHolds all before scope → AreNameNumbers all numbers item.symbols → symbols_fault before item ≡ first_fault (symbol_fault before item) (first_symbol item + n) n (drop n item.symbols)
+
+-- the first of the symbols that are left
+next_fault : {S : Type 0} {kept : Bool} {scope : Scope} (item : Item) (numbers : List ℕ) (n : ℕ) (seen : HashSet (Bor (List ℕ)) S) → n < length item.symbols → Passes kept scope item numbers n seen
+    → (all : List (List ℕ)) (before : List Item) → AreSound before → ScopeHolds all before scope → AreNameNumbers all numbers item.symbols
+    → symbols_fault before item ≡ fault_or (first_symbol item + n) (symbol_fault before item n (get_or item.symbols n [])) (first_fault (symbol_fault before item) (suc (first_symbol item + n)) (suc n) (drop (suc n) item.symbols))
+next_fault item numbers n seen l p all before h k a = p.rest all before h k a ∙ first_fault_at (symbol_fault before item) (first_symbol item + n) n n (get_or item.symbols n []) item.symbols (slice_get-get_or item.symbols n [] l)
+
+-- a symbol with a fault
+pub fault_there : {S : Type 0} {kept : Bool} {scope : Scope} (item : Item) (numbers : List ℕ) (n word : ℕ) (seen : HashSet (Bor (List ℕ)) S) (number : FrameNumber) → n < length item.symbols → word ≡ first_symbol item + n → Passes kept scope item numbers n seen
+    → (all : List (List ℕ)) (before : List Item) → AreSound before → ScopeHolds all before scope → AreNameNumbers all numbers item.symbols → Some number ≡ symbol_fault before item n (get_or item.symbols n [])
+    → ◌≡◌ {A = Option (ℕ × FrameNumber)} (Some (word, number)) (symbols_fault before item)
+fault_there item numbers n word seen number l w p all before h k a f =
+    (λ i. fault_or (w i) (f i) (first_fault (symbol_fault before item) (suc (first_symbol item + n)) (suc n) (drop (suc n) item.symbols))) ∙ sym (next_fault item numbers n seen l p all before h k a)
+
+-- no symbol is left
+pub none_left : {S : Type 0} {kept : Bool} {scope : Scope} (item : Item) (numbers : List ℕ) (n : ℕ) (seen : HashSet (Bor (List ℕ)) S) → length item.symbols ≤ n → Passes kept scope item numbers n seen
+    → (all : List (List ℕ)) (before : List Item) → AreSound before → ScopeHolds all before scope → AreNameNumbers all numbers item.symbols → None ≡ symbols_fault before item
+none_left item numbers n seen l p all before h k a = sym (p.rest all before h k a ∙ ap (first_fault (symbol_fault before item) (first_symbol item + n) n) (drop_all n item.symbols l))
+
+-- a symbol with no fault
+pub passes_more : {S : Type 0} {kept : Bool} {scope : Scope} (item : Item) (numbers : List ℕ) (n more : ℕ) (name : List ℕ) (old new : HashSet (Bor (List ℕ)) S) → more ≡ suc n → n < length item.symbols → name ≡ get_or item.symbols n [] → Passes kept scope item numbers n old
+    → (kept ≡ true → HasSeen (take n item.symbols ++ name ∷ []) new)
+    → ((all : List (List ℕ)) (before : List Item) → AreSound before → ScopeHolds all before scope → AreNameNumbers all numbers item.symbols → None ≡ symbol_fault before item n (get_or item.symbols n []))
+    → Passes kept scope item numbers more new
+passes_more {kept = kept} {scope = scope} item numbers n more name old new m l e p seen none = record {
+  sees = λ d. subst (λ names. HasSeen names new) (sym longer) (seen d);
+  rest = λ all before h k a. next_fault item numbers n old l p all before h k a ∙ passed_by all before h k a;
+}
+  where
+    longer : take more item.symbols ≡ take n item.symbols ++ name ∷ []
+    longer = ap (λ w. take w item.symbols) m ∙ take-suc item.symbols n [] l ∙ ap (λ x. take n item.symbols ++ x ∷ []) (sym e)
+
+    passed_by : (all : List (List ℕ)) (before : List Item) → AreSound before → ScopeHolds all before scope → AreNameNumbers all numbers item.symbols
+        → fault_or (first_symbol item + n) (symbol_fault before item n (get_or item.symbols n [])) (first_fault (symbol_fault before item) (suc (first_symbol item + n)) (suc n) (drop (suc n) item.symbols)) ≡ first_fault (symbol_fault before item) (first_symbol item + more) more
+        (drop more item.symbols)
+    passed_by all before h k a =
+        let word : suc (first_symbol item + n) ≡ first_symbol item + more = omega (arith, m) in
+        (λ i. fault_or (first_symbol item + n) (sym (none all before h k a) i) (first_fault (symbol_fault before item) (word i) (sym m i) (drop (sym m i) item.symbols)))
+
+-- the fault of a statement, where it is found at the first word, among the symbols, or neither
+pub at_front : (before : List Item) (item : Item) (number : FrameNumber) → Some number ≡ front_fault before item → ◌≡◌ {A = Option (ℕ × FrameNumber)} (Some (0, number)) (fault before item)
+at_front before item number f = (λ i. fault_or 0 (f i) (option_or (symbols_fault before item) (fault_or (closing_word item) (end_fault item) None))) ∙ sym (fault_is before item)
+
+pub at_symbols : (before : List Item) (item : Item) (found : ℕ × FrameNumber) → None ≡ front_fault before item → Some found ≡ symbols_fault before item → Some found ≡ fault before item
+at_symbols before item found f s = (λ i. fault_or 0 (f i) (option_or (s i) (fault_or (closing_word item) (end_fault item) None))) ∙ sym (fault_is before item)
+
+pub at_end : (before : List Item) (item : Item) (found : Option (ℕ × FrameNumber)) → None ≡ front_fault before item → None ≡ symbols_fault before item → found ≡ fault_or (closing_word item) (end_fault item) None → found ≡ fault before item
+at_end before item found f s e = e ∙ (λ i. fault_or 0 (f i) (option_or (s i) (fault_or (closing_word item) (end_fault item) None))) ∙ sym (fault_is before item)

@@ -1,0 +1,228 @@
+-- What is found is the fault, and what is kept is sound.
+use Rattle.std.proofs.Common.{◌≡◌, ℕ, zero, suc, pred, ◌+◌, ◌-◌, ◌≤◌, ◌<◌, Bool, true, false, cond, ◌||◌, leb, ◌==◌, Option, Some, None, List, [], ◌∷◌, ◌++◌, length, find, slice_get, refl, sym, ◌∙◌, ap, subst, append_assoc, append-nil, arith, inl, inr, ◌⊎◌}
+use native.Mathlib.Decide.{dec_lt}
+use Rattle.std.proofs.lemmas.Bool.{false≢true, and_right, and_left, or_from, ne_eqb}
+use Rattle.std.proofs.lemmas.Option.{slice_get_past}
+use Rattle.mm_frame.specs.Language.Item.{Item, passed, is_constants, is_variables, is_disjoint, is_floating, is_declaring, is_expression, is_labelled}
+use Rattle.mm_frame.specs.Language.Scope.{is_inside}
+use Rattle.mm_frame.specs.declared.FrameNumber.{FrameNumber}
+use Rattle.mm_frame.specs.declared.FrameNumber.TheVariants.{F01, F02, F03, F04, F05, F06, F07, F08, F09, F10, F11, F12, F13, F14}
+use Rattle.mm_frame.specs.Language.Sound.{first_symbol, closing_word, passes, at_symbol, each, first, second, later, is_third, is_repeated, is_declared, is_active_symbol, is_label, is_no_constant, is_no_variable, is_no_active_symbol, is_untyped, is_typed, is_typed_otherwise, is_short, line_holds}
+use Rattle.mm_frame.specs.Language.Sound.{StatementLineHolds, IsSound, row}
+use Rattle.mm_frame.specs.Language.Sound.{IsStatementFault, numbers, number_at, fault_or, fault_from, fault, judged, sound_items_after, sound_items}
+use Rattle.mm_frame.proofs.lemmas.scope.Facts.{AreKept}
+
+-- no line holds behind the statement's words
+past_symbols : (test : ℕ → List ℕ → Bool) (item : Item) (word : ℕ) → closing_word item < word → at_symbol test item word ≡ false
+past_symbols test item word l = and_right (leb (first_symbol item) word) (passes (test (word - first_symbol item)) (slice_get item.symbols (word - first_symbol item)))
+    (subst (λ o. passes (test (word - first_symbol item)) o ≡ false) (sym (slice_get_past item.symbols (word - first_symbol item) (omega arith))) refl)
+
+not_word : (x y : ℕ) → (x ≡ y → ⊥) → (x == y) ≡ false
+not_word x y n = ne_eqb x y n
+
+past_line : (before : List Item) (item : Item) (word : ℕ) (number : FrameNumber) → closing_word item < word → line_holds before item word number ≡ false
+past_line before item word F01 l = or_from _ _ (and_right (is_short item.kind (length item.symbols)) (word == closing_word item) (not_word word (closing_word item) (λ e. omega arith))) (and_right (is_floating item.kind) _ (past_symbols is_third item word l))
+past_line before item word F02 l = and_right (is_constants item.kind) _ (and_left (word == 0) (is_inside before) (not_word word 0 (λ e. omega arith)))
+past_line before item word F03 l = and_right (is_declaring item.kind || is_disjoint item.kind) _ (past_symbols (is_repeated item) item word l)
+past_line before item word F04 l = or_from _ _ (and_right (is_constants item.kind) _ (past_symbols (each (is_declared before)) item word l)) (and_right (is_variables item.kind) _ (past_symbols (each (is_active_symbol before)) item word l))
+past_line before item word F05 l = and_right (is_declaring item.kind) _ (past_symbols (each (is_label before)) item word l)
+past_line before item word F08 l = and_right (is_labelled item.kind) _ (past_symbols (first (is_no_constant before)) item word l)
+past_line before item word F09 l = or_from _ _ (and_right (is_disjoint item.kind) _ (past_symbols (each (is_no_variable before)) item word l)) (and_right (is_floating item.kind) _ (past_symbols (second (is_no_variable before)) item word l))
+past_line before item word F10 l = and_right (is_expression item.kind) _ (past_symbols (later (is_no_active_symbol before)) item word l)
+past_line before item word F11 l = and_right (is_expression item.kind) _ (past_symbols (later (is_untyped before)) item word l)
+past_line before item word F12 l = and_right (is_floating item.kind) _ (past_symbols (second (is_typed before)) item word l)
+past_line before item word F13 l = and_right (is_floating item.kind) _ (past_symbols (second (is_typed_otherwise before item)) item word l)
+past_line before item word F14 l = refl
+past_line before item word _ l = and_left (word == 0) _ (not_word word 0 (λ e. omega arith))
+
+-- the numbers, by their places
+number_there : (n : FrameNumber) → slice_get numbers (pred (row n)) ≡ Some n
+number_there F01 = refl
+number_there F02 = refl
+number_there F03 = refl
+number_there F04 = refl
+number_there F05 = refl
+number_there F06 = refl
+number_there F07 = refl
+number_there F08 = refl
+number_there F09 = refl
+number_there F10 = refl
+number_there F11 = refl
+number_there F12 = refl
+number_there F13 = refl
+number_there F14 = refl
+
+same_number : (n m : FrameNumber) → row n ≡ row m → n ≡ m
+same_number n m e = let a = sym (number_there n) ∙ ap (λ w. slice_get numbers (pred w)) e ∙ number_there m in (cc)
+
+abbrev row_or : Option FrameNumber → ℕ
+row_or None = 0
+row_or (Some n) = row n
+
+rows : (k : ℕ) (n : FrameNumber) → slice_get numbers k ≡ Some n → row n ≡ suc k
+rows (suc (suc (suc (suc (suc (suc (suc (suc (suc (suc (suc (suc (suc (suc k)))))))))))))) n e = cc
+rows _ n e = sym (ap row_or e)
+
+-- the first element that passes a test
+pub record IsFirst {X : Type 0} (p : X → Bool) (xs : List X) (x : X) : Type 0 where
+  pub at : ℕ
+  pub there : slice_get xs at ≡ Some x
+  pub good : p x ≡ true
+  pub first : (j : ℕ) (y : X) → slice_get xs j ≡ Some y → p y ≡ true → at ≤ j
+
+find_at : {X : Type 0} (p : X → Bool) (y : X) (ys : List X) (x : X) (b : Bool) → p y ≡ b → cond b (Some y) (find p ys) ≡ Some x → (find p ys ≡ Some x → IsFirst p ys x) → IsFirst p (y ∷ ys) x
+find_at p y ys x true t e r = let q : y ≡ x = cc in record { at = 0; there = e; good = subst (λ w. p w ≡ true) q t; first = λ j z s h. omega arith }
+find_at p y ys x false t e r = let i = r e in record { at = suc i.at; there = i.there; good = i.good; first = λ j z s h. later j z s h }
+  where
+    later : (j : ℕ) (z : _) → slice_get (y ∷ ys) j ≡ Some z → p z ≡ true → suc (r e).at ≤ j
+    later zero z s h = let q : y ≡ z = cc in absurd (false≢true (sym t ∙ ap p q ∙ h))
+    later (suc j) z s h = let l = (r e).first j z s h in omega arith
+
+find_first : {X : Type 0} (p : X → Bool) (xs : List X) (x : X) → find p xs ≡ Some x → IsFirst p xs x
+find_first p [] x e = cc
+find_first p (y ∷ ys) x e = find_at p y ys x (p y) refl e (λ h. find_first p ys x h)
+
+none_at : {X : Type 0} (p : X → Bool) (y : X) (ys : List X) (j : ℕ) (x : X) (b : Bool) → p y ≡ b → cond b (Some y) (find p ys) ≡ None → slice_get (y ∷ ys) j ≡ Some x → ((k : ℕ) → find p ys ≡ None → slice_get ys k ≡ Some x → p x ≡ false) → p x ≡ false
+none_at p y ys j x true t e s r = cc
+none_at p y ys zero x false t e s r = let q : y ≡ x = cc in subst (λ w. p w ≡ false) q t
+none_at p y ys (suc j) x false t e s r = r j e s
+
+find_none : {X : Type 0} (p : X → Bool) (xs : List X) (j : ℕ) (x : X) → find p xs ≡ None → slice_get xs j ≡ Some x → p x ≡ false
+find_none p [] j x e s = cc
+find_none p (y ∷ ys) j x e s = none_at p y ys j x (p y) refl e s (λ k f g. find_none p ys k x f g)
+
+none_here : (before : List Item) (item : Item) (word : ℕ) (n : FrameNumber) → number_at before item word ≡ None → line_holds before item word n ≡ false
+none_here before item word n e = find_none (λ number. line_holds before item word number) numbers (pred (row n)) n e (number_there n)
+
+-- what a search among words says
+pub record IsLeast (before : List Item) (item : Item) (start word : ℕ) (n : FrameNumber) : Type 0 where
+  pub found : number_at before item word ≡ Some n
+  pub least : (v : ℕ) → start ≤ v → v < word → number_at before item v ≡ None
+
+least_at : (before : List Item) (item : Item) (start : ℕ) (o : Option FrameNumber) (later : Option (ℕ × FrameNumber)) (w : ℕ) (n : FrameNumber) → number_at before item start ≡ o → fault_or start o later ≡ Some (w, n) → (later ≡ Some (w, n) → IsLeast before item (suc start) w n × (suc start ≤ w))
+    → IsLeast before item start w n × (start ≤ w)
+least_at before item start (Some m) later w n t e r =
+    let p = some_pair start w m n e in
+    (record { found = subst (λ x. number_at before item x ≡ Some n) p.0 (t ∙ ap Some p.1); least = λ v a b. absurd (omega arith) }, (omega arith))
+  where
+    some_pair : (a b : ℕ) (x y : FrameNumber) → ◌≡◌ {A = Option (ℕ × FrameNumber)} (Some (a, x)) (Some (b, y)) → (a ≡ b) × (x ≡ y)
+    some_pair a b x y e = (ap word_or e, (let z : x ≡ y = same_number x y (ap number_or e) in z))
+      where
+        word_or : Option (ℕ × FrameNumber) → ℕ
+        word_or None = 0
+        word_or (Some z) = z.0
+
+        number_or : Option (ℕ × FrameNumber) → ℕ
+        number_or None = 0
+        number_or (Some z) = row z.1
+least_at before item start None later w n t e r =
+    let i = r e in
+    let l = i.1 in
+    (record { found = i.0.found; least = λ v a b. at_start v a b (eq_or v a) }, omega arith)
+  where
+    eq_or : (v : ℕ) → start ≤ v → (start ≡ v) ⊎ (suc start ≤ v)
+    eq_or v a = elim (dec_lt start v) [ yes l ↦ inr (omega arith) | no m ↦ inl (omega arith) ]
+
+    at_start : (v : ℕ) → start ≤ v → v < w → (start ≡ v) ⊎ (suc start ≤ v) → number_at before item v ≡ None
+    at_start v a b (inl q) = subst (λ x. number_at before item x ≡ None) q t
+    at_start v a b (inr l) = (r e).0.least v l b
+
+least_from : (before : List Item) (item : Item) (start more w : ℕ) (n : FrameNumber) → fault_from before item start more ≡ Some (w, n) → IsLeast before item start w n × (start ≤ w)
+least_from before item start zero w n e = cc
+least_from before item start (suc more) w n e = least_at before item start (number_at before item start) (fault_from before item (suc start) more) w n refl e (λ h. least_from before item (suc start) more w n h)
+
+nowhere_at : (o : Option FrameNumber) (start : ℕ) (later : Option (ℕ × FrameNumber)) → fault_or start o later ≡ None → (o ≡ None) × (later ≡ None)
+nowhere_at (Some m) start later e = cc
+nowhere_at None start later e = (refl, e)
+
+nowhere : (before : List Item) (item : Item) (start more v : ℕ) → fault_from before item start more ≡ None → start ≤ v → v < start + more → number_at before item v ≡ None
+nowhere before item start zero v e a b = absurd (omega arith)
+nowhere before item start (suc more) v e a b =
+    let h = nowhere_at (number_at before item start) start (fault_from before item (suc start) more) e in
+    elim (dec_lt start v) [
+      | yes l ↦ nowhere before item (suc start) more v h.1 (omega arith) (omega arith)
+      | no m ↦ (let q : start ≡ v = omega arith in subst (λ x. number_at before item x ≡ None) q h.0)
+    ]
+
+-- the fault that is found is the fault
+pub found_fault : (before : List Item) (item : Item) (w : ℕ) (n : FrameNumber) → fault before item ≡ Some (w, n) → IsStatementFault before item w n
+found_fault before item w n e =
+    let i = (least_from before item 0 (closing_word item + 1) w n e).0 in
+    let f = find_first (λ number. line_holds before item w number) numbers n i.found in
+    record {
+      holds = f.good;
+      least_word = λ other m h. elim (dec_lt other w) [
+        | yes l ↦ absurd (false≢true (sym (none_here before item other m (i.least other (omega arith) l)) ∙ h))
+        | no g ↦ omega arith
+      ];
+      lowest_number = λ m h. let l = f.first (pred (row m)) m (number_there m) h in let a = rows f.at n f.there in let b = rows (pred (row m)) m (number_there m) in omega arith;
+    }
+
+-- a statement without a fault is sound
+pub no_fault_sound : (before : List Item) (item : Item) → fault before item ≡ None → IsSound before item
+no_fault_sound before item e word number = elim (dec_lt (closing_word item) word) [
+  | yes l ↦ past_line before item word number l
+  | no g ↦ none_here before item word number (nowhere before item 0 (closing_word item + 1) word e (omega arith) (omega arith))
+]
+
+pub one_fault : (before : List Item) (item : Item) (w v : ℕ) (n m : FrameNumber) → IsStatementFault before item w n → IsStatementFault before item v m → (w ≡ v) × (n ≡ m)
+one_fault before item w v n m a b =
+    let x = a.least_word v m b.holds in
+    let y = b.least_word w n a.holds in
+    let same : w ≡ v = omega arith in
+    let p = a.lowest_number m (subst (λ k. StatementLineHolds before item k m) (sym same) b.holds) in
+    let q = b.lowest_number n (subst (λ k. StatementLineHolds before item k n) same a.holds) in
+    (same, same_number n m (omega arith))
+
+pub fault_cases : (before : List Item) (item : Item) → ((w : ℕ) × (n : FrameNumber) × IsStatementFault before item w n) ⊎ IsSound before item
+fault_cases before item = by_fault (fault before item) refl
+  where
+    by_fault : (o : Option (ℕ × FrameNumber)) → fault before item ≡ o → ((w : ℕ) × (n : FrameNumber) × IsStatementFault before item w n) ⊎ IsSound before item
+    by_fault (Some at) e = inl (at.0, at.1, found_fault before item at.0 at.1 e)
+    by_fault None e = inr (no_fault_sound before item e)
+
+pub fault_found : (before : List Item) (item : Item) (w : ℕ) (n : FrameNumber) → IsStatementFault before item w n → fault before item ≡ Some (w, n)
+fault_found before item w n h = by_fault (fault before item) refl
+  where
+    by_fault : (o : Option (ℕ × FrameNumber)) → fault before item ≡ o → fault before item ≡ Some (w, n)
+    by_fault (Some at) e = let s = one_fault before item at.0 w at.1 n (found_fault before item at.0 at.1 e) h in e ∙ (λ i. Some (s.0 i, s.1 i))
+    by_fault None e = absurd (false≢true (sym (no_fault_sound before item e w n) ∙ h.holds))
+
+pub sound_found : (before : List Item) (item : Item) → IsSound before item → fault before item ≡ None
+sound_found before item s = by_fault (fault before item) refl
+  where
+    by_fault : (o : Option (ℕ × FrameNumber)) → fault before item ≡ o → fault before item ≡ None
+    by_fault (Some at) e = absurd (false≢true (sym (s at.0 at.1) ∙ (found_fault before item at.0 at.1 e).holds))
+    by_fault None e = e
+
+-- what is passed over has no fault
+pub passed_sound : (before : List Item) → IsSound before passed
+passed_sound before word F06 = and_right (word == 0) false refl
+passed_sound before word F07 = and_right (word == 0) false refl
+passed_sound before word _ = refl
+
+judged_sound : (before : List Item) (item : Item) (o : Option (ℕ × FrameNumber)) → fault before item ≡ o → IsSound before (judged item o)
+judged_sound before item None e = no_fault_sound before item e
+judged_sound before item (Some at) e = passed_sound before
+
+pub kept_more : (before front : List Item) (x : Item) → AreKept before front → IsSound (before ++ front) x → AreKept before (front ++ x ∷ [])
+kept_more before [] x k s = (subst (λ w. IsSound w x) (append-nil before) s, tt)
+kept_more before (y ∷ front) x k s = (k.0, kept_more (before ++ y ∷ []) front x k.1 (subst (λ w. IsSound w x) (sym (append_assoc before (y ∷ []) front)) s))
+
+kept_after_sound : (before items : List Item) → AreKept [] before → AreKept [] (sound_items_after before items)
+kept_after_sound before [] k = k
+kept_after_sound before (item ∷ items) k = kept_after_sound (before ++ judged item (fault before item) ∷ []) items (kept_more [] before (judged item (fault before item)) k (judged_sound before item (fault before item) refl))
+
+pub kept_is_sound : (items : List Item) → AreKept [] (sound_items items)
+kept_is_sound items = kept_after_sound [] items tt
+
+-- how the items are kept, from left to right
+pub kept_after_append : (before xs ys : List Item) → sound_items_after before (xs ++ ys) ≡ sound_items_after (sound_items_after before xs) ys
+kept_after_append before [] ys = refl
+kept_after_append before (x ∷ xs) ys = kept_after_append (before ++ judged x (fault before x) ∷ []) xs ys
+
+pub kept_next : (items : List Item) (item : Item) → sound_items (items ++ item ∷ []) ≡ sound_items items ++ judged item (fault (sound_items items) item) ∷ []
+kept_next items item = kept_after_append [] items (item ∷ [])
+
+pub never_sound : (before : List Item) (item : Item) (w : ℕ) (n : FrameNumber) → IsStatementFault before item w n → IsSound before item → ⊥
+never_sound before item w n f s = false≢true (sym (s w n) ∙ f.holds)

@@ -1,0 +1,194 @@
+-- What is kept of an item at its number, and the hypotheses of a frame by their numbers.
+use Rattle.std.proofs.Common.{◌≡◌, ◌↔◌, ℕ, zero, suc, ◌<◌, Bool, true, false, ◌&&◌, ◌||◌, Option, Some, None, List, [], ◌∷◌, length, map, take, take_all, slice_get, get_or, is_none, is_some, refl, sym, ◌∙◌, ap, subst, arith, inl, inr}
+use Rattle.std.specs.Option.{option_map, IfSome}
+use Rattle.std.specs.Prelude.{Contains}
+use Rattle.std.specs.List.{AllZip}
+use Rattle.std.proofs.lemmas.Bool.{false≢true, and_from, and_parts}
+use Rattle.std.proofs.lemmas.List.{take-take}
+use Rattle.std.proofs.lemmas.List.Elements.{All-from_get_or}
+use Rattle.std.proofs.lemmas.Option.{same_Some, slice_get_within, slice_get_cases, slice_get-get_or, get_or_from_slice_get}
+use Rattle.mm_store.specs.declared.item.Item as store
+use Rattle.mm_store.specs.Language.FilesView.{FilesView}
+use Rattle.mm_frame.specs.declared.FrameNumber.{FrameNumber}
+use Rattle.mm_frame.specs.Language.Item.{Kind, Floating, Essential, Missing, Item, passed, is_floating, is_essential, is_labelled, has, variable_of, item_at}
+use Rattle.mm_frame.specs.Language.Sound.{fault, judged, sound_items}
+use Rattle.mm_frame.specs.Language.Framing.{is_mandatory, mandatory_variables, expression, hypothesis, mandatory_numbers}
+use Rattle.mm_frame.specs.Language.Statement.{kind_of, Says}
+use Rattle.mm_frame.specs.Language.Base.{BaseView, before, said_at, fault_by, hypothesis_at, is_sound_at, is_shown_at, is_framed_at, IsMandatoryAt, AreHypotheses}
+use Rattle.mm_frame.specs.Code.KeptBase.{is_float_item, hypotheses_at}
+use Rattle.mm_frame.specs.Language.Answering.{numbers_if}
+use Rattle.mm_frame.proofs.lemmas.lists.Members.{In, in_contains, contains_in}
+use Rattle.mm_frame.proofs.lemmas.frames.Frames.{in_at}
+use Rattle.mm_frame.proofs.lemmas.scope.SoundItems.{map_same}
+use Rattle.mm_frame.proofs.lemmas.pairs.ActivePairLemmas.{expression_at_number}
+use Rattle.mm_frame.proofs.lemmas.frames.HypothesisNumbers.{to_active_number, from_active_number, active_numbers_rise, hypotheses_by_numbers}
+use Rattle.mm_frame.proofs.lemmas.base.BaseLemmas.{kept_item_at, none_told, labelled_there, kept_count, kept_at, kept_front_at, kept_are_sound, get_between}
+
+-- an element of the front of a list
+pub get_front : {X : Type 0} (xs : List X) (i n : ℕ) (x : X) → slice_get (take i xs) n ≡ Some x → (n < i) × (slice_get xs n ≡ Some x)
+get_front xs zero n x e = cc
+get_front [] (suc i) n x e = cc
+get_front (y ∷ ys) (suc i) zero x e = (omega arith, e)
+get_front (y ∷ ys) (suc i) (suc n) x e = let r = get_front ys i n x e in (omega arith, r.1)
+
+-- the front of what is kept is what is kept of the front
+pub kept_front : (said : List Item) (i : ℕ) → take i (sound_items said) ≡ sound_items (take i said)
+kept_front said i = elim (slice_get_cases said i).1 [
+  | inl there ↦ kept_front_at said i there.0 there.2
+  | inr past ↦ (let c = kept_count said in let p = past.0 in take_all i (sound_items said) (omega arith) ∙ ap sound_items (sym (take_all i said p)))
+]
+
+-- what is kept at a number is what is said there, judged by the sound items before it
+pub kept_judged : (said : List Item) (n : ℕ) (x : Item) → slice_get (sound_items said) n ≡ Some x → x ≡ judged (item_at said n) (fault (sound_items (take n said)) (item_at said n))
+kept_judged said n x e =
+    let w = slice_get_within (sound_items said) n x e in
+    let c = kept_count said in
+    let item = item_at said n in
+    let k = kept_at said n item (slice_get-get_or said n passed (omega arith)) in
+    let one = judged item (fault (sound_items (take n said)) item) in
+    let here : slice_get (sound_items said) n ≡ Some one = ap (λ m. slice_get (sound_items said) m) (sym k.number) ∙ ap (λ v. slice_get v (length (sound_items (take n said)))) k.whole ∙ get_between (sound_items (take n said)) one k.rest in
+    let q : Some x ≡ Some one = sym e ∙ here in
+    cc
+
+judged_labelled : (item : Item) (found : Option (ℕ × FrameNumber)) (x : Item) → x ≡ judged item found → is_labelled x.kind ≡ true → (x ≡ item) × (found ≡ None)
+judged_labelled item None x e t = (e, refl)
+judged_labelled item (Some f) x e t = absurd (false≢true (sym (ap (λ (w : Item). is_labelled w.kind) e) ∙ t))
+
+labelled_told : (kind : Kind) → is_labelled kind ≡ true → fault_by kind None ≡ None
+labelled_told Missing t = absurd (false≢true t)
+labelled_told _ t = refl
+
+-- what is kept and may have a label is what is said there, and is sound
+pub shown_kept : (base : BaseView) (n : ℕ) (x : Item) → slice_get (sound_items base.said) n ≡ Some x → is_labelled x.kind ≡ true → (x ≡ said_at base n) × (is_shown_at base n ≡ true)
+shown_kept base n x e t =
+    let item = said_at base n in
+    let j = judged_labelled item (fault (before base n) item) x (kept_judged base.said n x e) t in
+    let u = sym (ap (λ (w : Item). is_labelled w.kind) j.0) ∙ t in
+    (j.0, and_from (is_none (fault_by item.kind (fault (before base n) item))) (is_labelled item.kind) (ap (λ f. is_none (fault_by item.kind f)) j.1 ∙ ap is_none (labelled_told item.kind u)) u)
+
+-- a mandatory hypothesis may have a label
+hypothesis_labelled : (kind : Kind) (b : Bool) → (is_essential kind || (is_floating kind && b)) ≡ true → is_labelled kind ≡ true
+hypothesis_labelled Floating b t = refl
+hypothesis_labelled Essential b t = refl
+hypothesis_labelled _ b t = absurd (false≢true t)
+
+-- a mandatory hypothesis stands before the statement, is sound, and is read there as at its own place
+record IsHypothesisAt (base : BaseView) (i n : ℕ) : Type 0 where
+  earlier : n < i
+  shown : is_shown_at base n ≡ true
+  same : hypothesis_at base n ≡ hypothesis (before base i) (item_at (before base i) n)
+
+mandatory_at : (base : BaseView) (i n : ℕ) → In n (mandatory_numbers (before base i) (said_at base i)) → IsHypothesisAt base i n
+mandatory_at base i n k =
+    let front = before base i in
+    let mandatory = mandatory_variables front (said_at base i) in
+    let r = from_active_number (is_mandatory mandatory) front n k in
+    let x = r.0 in
+    let g = get_front (sound_items base.said) i n x (subst (λ w. slice_get w n ≡ Some x) (sym (kept_front base.said i)) r.1) in
+    let l = g.0 in
+    let t = hypothesis_labelled x.kind (has mandatory (variable_of x)) r.3 in
+    let s = shown_kept base n x g.1 t in
+    let there = get_or_from_slice_get front n x passed r.1 in
+    let place : take n front ≡ before base n = ap (take n) (sym (kept_front base.said i)) ∙ take-take n i (sound_items base.said) (omega arith) ∙ kept_front base.said n in
+    let read = expression_at_number front (kept_are_sound (take i base.said)) n x r.1 r.2 t ∙ ap (λ w. expression w x) place in
+    record {
+      earlier = l;
+      shown = s.1;
+      same = ap (hypothesis (before base n)) (sym s.0) ∙ sym (ap (hypothesis front) there ∙ (λ j. record { floating = is_floating x.kind; expression = read j }));
+    }
+
+-- a sound item with a label stands in the sound items
+pub shown_there : (base : BaseView) (j : ℕ) → is_shown_at base j ≡ true → slice_get (sound_items base.said) j ≡ Some (said_at base j)
+shown_there base j s =
+    let p = and_parts (is_sound_at base j) (is_labelled (said_at base j).kind) s in
+    kept_item_at base.said j (said_at base j) (labelled_there base.said j p.1) (none_told (said_at base j).kind (fault (before base j) (said_at base j)) p.0)
+
+-- an element of a list is one of a front that is long enough
+pub front_get : {X : Type 0} (xs : List X) (i n : ℕ) (x : X) → n < i → slice_get xs n ≡ Some x → slice_get (take i xs) n ≡ Some x
+front_get [] i n x l e = cc
+front_get (y ∷ ys) zero n x l e = absurd (omega arith)
+front_get (y ∷ ys) (suc i) zero x l e = e
+front_get (y ∷ ys) (suc i) (suc n) x l e = front_get ys i n x (omega arith) e
+
+-- it stands among those before a later one
+pub shown_before : (base : BaseView) (i j : ℕ) → j < i → is_shown_at base j ≡ true → slice_get (before base i) j ≡ Some (said_at base j)
+shown_before base i j l s = subst (λ w. slice_get w j ≡ Some (said_at base j)) (kept_front base.said i) (front_get (sound_items base.said) i j (said_at base j) l (shown_there base j s))
+
+-- the mandatory hypotheses are those with these numbers
+which_are : (base : BaseView) (i n : ℕ) → Contains (mandatory_numbers (before base i) (said_at base i)) n ↔ IsMandatoryAt base i n
+which_are base i n =
+    let front = before base i in
+    let mandatory = mandatory_variables front (said_at base i) in
+    let numbers = mandatory_numbers front (said_at base i) in (
+      λ c.
+          let k = contains_in n numbers c in
+          let m = mandatory_at base i n k in
+          let r = from_active_number (is_mandatory mandatory) front n k in
+          let e : Some r.0 ≡ Some (said_at base n) = sym r.1 ∙ shown_before base i n m.earlier m.shown in
+          let same : r.0 ≡ said_at base n = cc in
+          record { earlier = m.earlier; shown = m.shown; active = r.2; mandatory = subst (λ (x : Item). is_mandatory mandatory x ≡ true) same r.3 },
+      λ m. in_contains n numbers (to_active_number (is_mandatory mandatory) front n (said_at base n) (shown_before base i n m.earlier m.shown) m.active m.mandatory),
+    )
+
+-- the mandatory hypotheses by their numbers
+pub mandatory_are : (base : BaseView) (i : ℕ) → AreHypotheses base i (mandatory_numbers (before base i) (said_at base i))
+mandatory_are base i =
+    let front = before base i in
+    let item = said_at base i in
+    let numbers = mandatory_numbers front item in
+    record {
+      which = which_are base i;
+      rise = active_numbers_rise (is_mandatory (mandatory_variables front item)) front;
+      each = All-from_get_or (λ n. (n < i) × (is_shown_at base n ≡ true)) numbers 0 (λ k l. let m = mandatory_at base i (get_or numbers k 0) (in_at numbers k 0 l) in (m.earlier, m.shown));
+      are = map_same (hypothesis_at base) (λ n. hypothesis front (item_at front n)) numbers (λ n k. (mandatory_at base i n k).same) ∙ sym (hypotheses_by_numbers front item);
+    }
+
+numbers_told : (framed : Bool) (front : List Item) (item : Item) (numbers : List ℕ) → numbers_if framed front item ≡ Some numbers → mandatory_numbers front item ≡ numbers
+numbers_told true front item numbers e = cc
+numbers_told false front item numbers e = cc
+
+-- the numbers that are told for an assertion are those of its mandatory hypotheses
+pub frame_numbers : (base : BaseView) (i : ℕ) (numbers : List ℕ) → hypotheses_at base i ≡ Some numbers → AreHypotheses base i numbers
+frame_numbers base i numbers e = subst (AreHypotheses base i) (numbers_told _ (before base i) (said_at base i) numbers e) (mandatory_are base i)
+
+-- the same of what is kept, where it is
+pub frame_means : {X : Type 0} (told : X → List ℕ) (base : BaseView) (i : ℕ) (found : Option X) → option_map told found ≡ hypotheses_at base i → IfSome found (λ x. AreHypotheses base i (told x))
+frame_means told base i None e = tt
+frame_means told base i (Some x) e = frame_numbers base i (told x) (sym e)
+
+-- what is kept, where it is
+pub frame_is : {X : Type 0} (told : X → List ℕ) (base : BaseView) (i : ℕ) (found : Option X) → option_map told found ≡ hypotheses_at base i →
+    IfSome found (λ x. told x ≡ mandatory_numbers (before base i) (said_at base i))
+frame_is told base i None e = tt
+frame_is told base i (Some x) e = sym (numbers_told _ (before base i) (said_at base i) (told x) (sym e))
+
+-- a frame is told exactly for an assertion
+told_some : {X : Type 0} (told : X → List ℕ) (found : Option X) (framed : Bool) (front : List Item) (item : Item) → option_map told found ≡ numbers_if framed front item → is_some found ≡ framed
+told_some told None false front item e = refl
+told_some told (Some x) true front item e = refl
+told_some told _ _ front item e = cc
+
+pub framed_some : {X : Type 0} (told : X → List ℕ) (found : Option X) (base : BaseView) (j : ℕ) → option_map told found ≡ hypotheses_at base j → is_some found ≡ is_framed_at base j
+framed_some told found base j e = told_some told found (is_framed_at base j) (before base j) (said_at base j) e
+
+-- an item of the files is of the kind of what it says
+abbrev pub HasKind : store.Item → Item → Type 0
+HasKind item said = kind_of item.kind ≡ said.kind
+
+pub kinds_said : (files : FilesView) (found : List store.Item) (said : List Item) → AllZip (Says files) found said → AllZip HasKind found said
+kinds_said files [] [] z = tt
+kinds_said files (x ∷ found) (y ∷ said) z = (sym (ap (λ (w : Item). w.kind) (z.0).is), kinds_said files found said z.1)
+kinds_said files _ _ z = absurd z
+
+pub kind_at : (found : List store.Item) (said : List Item) (i : ℕ) (item : store.Item) → AllZip HasKind found said → slice_get found i ≡ Some item → kind_of item.kind ≡ (item_at said i).kind
+kind_at [] said i item z e = cc
+kind_at (x ∷ found) [] i item z e = absurd z
+kind_at (x ∷ found) (y ∷ said) zero item z e = let q : x ≡ item = cc in sym (ap (λ (w : store.Item). kind_of w.kind) q) ∙ z.0
+kind_at (x ∷ found) (y ∷ said) (suc i) item z e = kind_at found said i item z.1 e
+
+-- whether it is a `$f` is kept of each item
+pub float_at : (found : List store.Item) (said : List Item) (i : ℕ) (b : Bool) → AllZip HasKind found said → slice_get (map is_float_item found) i ≡ Some b → b ≡ is_floating (item_at said i).kind
+float_at [] said i b z e = cc
+float_at (x ∷ found) [] i b z e = absurd z
+float_at (x ∷ found) (y ∷ said) zero b z e = sym (same_Some _ _ e) ∙ ap is_floating z.0
+float_at (x ∷ found) (y ∷ said) (suc i) b z e = float_at found said i b z.1 e

@@ -1,0 +1,310 @@
+-- The four facts of a frame.
+use Rattle.std.proofs.Common.{◌≡◌, ◌≢◌, ℕ, zero, suc, ◌<◌, Bool, true, false, cond, ◌&&◌, Some, List, [], ◌∷◌, ◌++◌, length, map, filter, take, slice_get, slice_index_or, get_or, refl, sym, ◌∙◌, ap, subst, append_assoc, arith, inl, inr, ◌⊎◌}
+use Rattle.std.specs.Prelude.{Contains, All, AllPairs}
+use Rattle.std.proofs.lemmas.Bool.{false≢true, true≢false, or_cases, or_right, and_from, false_from_ne_true}
+use Rattle.std.proofs.lemmas.List.Kept.{AllPairs-cons, AllPairs-filter}
+use Rattle.mm_frame.specs.Language.Frame.{Symbol, Mandatory, Frame, Hypothesis, Assertion, Inactive, HasVariable}
+use Rattle.mm_frame.specs.Language.Typing.{IsTyped, IsTyping, IsFrame, HasFrames}
+use Rattle.mm_frame.specs.Language.Item.{Kind, Floating, Essential, Axiom, Theorem, Item, is_constants, is_variables, is_disjoint, is_floating, is_essential, is_expression, is_labelled, is_assertion, has, labels_of, variable_of}
+use Rattle.mm_frame.specs.Language.Scope.{Neither, mark_of, stays, active, symbols_by, constants, active_variables, typed, floats}
+use Rattle.mm_frame.specs.Language.Sound.{IsSound, sound_items}
+use Rattle.mm_frame.specs.Language.Framing.{symbol, expression, mandatory_variables, is_mandatory, hypothesis, mandatory_hypotheses, pairs_of, active_pairs, is_mandatory_pair, frame, meaning, resolve_from, setting_of}
+use Rattle.mm_frame.proofs.lemmas.lists.Members.{In, in_contains, contains_in, in_left, in_right, in_cases, in_map, from_map, in_filter, from_filter, from_flat, in_get, has_in, in_has, from_symbols, to_symbols}
+use Rattle.mm_frame.proofs.lemmas.scope.ActiveBySplit.{active_split, split_active, active_later, stays_front}
+use Rattle.mm_frame.proofs.lemmas.scope.Facts.{and_both, AreKept, sound_at, kept_front, not_constant, first_constant, known, typed_there, float_variable, float_new, float_two}
+use Rattle.mm_frame.proofs.lemmas.faults.FoundFaults.{kept_is_sound}
+
+-- kinds
+pub float_labelled : (k : Kind) → is_floating k ≡ true → is_labelled k ≡ true
+float_labelled Floating e = refl
+float_labelled _ e = absurd (false≢true e)
+
+pub float_neither : (k : Kind) → is_floating k ≡ true → mark_of k ≡ Neither
+float_neither Floating e = refl
+float_neither _ e = absurd (false≢true e)
+
+pub essential_expression : (k : Kind) → is_essential k ≡ true → is_expression k ≡ true
+essential_expression Essential e = refl
+essential_expression _ e = absurd (false≢true e)
+
+essential_neither : (k : Kind) → is_essential k ≡ true → mark_of k ≡ Neither
+essential_neither Essential e = refl
+essential_neither _ e = absurd (false≢true e)
+
+pub assertion_expression : (k : Kind) → is_assertion k ≡ true → is_expression k ≡ true
+assertion_expression Axiom e = refl
+assertion_expression Theorem e = refl
+assertion_expression _ e = absurd (false≢true e)
+
+pub expression_labelled : (k : Kind) → is_expression k ≡ true → is_labelled k ≡ true
+expression_labelled Essential e = refl
+expression_labelled Axiom e = refl
+expression_labelled Theorem e = refl
+expression_labelled _ e = absurd (false≢true e)
+
+-- what was declared or active before an active statement
+pub constants_later : (front : List Item) (e : Item) (back : List Item) (n : List ℕ) → In n (constants front) → In n (constants (front ++ e ∷ back))
+constants_later front e back n h =
+    let r = from_symbols is_constants n front h in
+    to_symbols is_constants n (front ++ e ∷ back) r.0 (in_left r.0 front (e ∷ back) r.1) r.2 r.3
+
+pub variables_later : (front : List Item) (e : Item) (back : List Item) (n : List ℕ) → mark_of e.kind ≡ Neither → stays back ≡ true → In n (active_variables front) → In n (active_variables (front ++ e ∷ back))
+variables_later front e back n m s h =
+    let r = from_symbols is_variables n (active front) h in
+    to_symbols is_variables n (active (front ++ e ∷ back)) r.0 (active_later front e back r.0 m s r.1) r.2 r.3
+
+-- an active `$f` with its variable
+pub from_typed : (xs : List Item) (n : List ℕ) → In n (typed xs) → (f : Item) × In f (active xs) × (is_floating f.kind ≡ true) × (variable_of f ≡ n)
+from_typed xs n h =
+    let r = from_map variable_of n (floats (active xs)) h in
+    let f = from_filter (λ (item : Item). is_floating item.kind) r.0 (active xs) r.1 in
+    (r.0, f.0, f.1, r.2)
+
+pub to_typed : (xs : List Item) (f : Item) → In f (active xs) → is_floating f.kind ≡ true → In (variable_of f) (typed xs)
+to_typed xs f h t = in_map variable_of f (floats (active xs)) (in_filter (λ (item : Item). is_floating item.kind) f (active xs) h t)
+
+typed_later : (front : List Item) (e : Item) (back : List Item) (n : List ℕ) → mark_of e.kind ≡ Neither → stays back ≡ true → In n (typed front) → In n (typed (front ++ e ∷ back))
+typed_later front e back n m s h =
+    let r = from_typed front n h in
+    subst (λ w. In w (typed (front ++ e ∷ back))) r.3 (to_typed (front ++ e ∷ back) r.0 (active_later front e back r.0 m s r.1) r.2)
+
+-- each variable of a sound expression is typed
+variable_typed : (before : List Item) (item : Item) (name : List ℕ) → AreKept [] before → IsSound before item → is_expression item.kind ≡ true → In name item.symbols → In name (active_variables before) → In name (typed before)
+variable_typed before item name k s t h v = by_place (in_get name item.symbols h)
+  where
+    by_place : (p : (k : ℕ) × (slice_get item.symbols k ≡ Some name)) → In name (typed before)
+    by_place (zero, g) = absurd (not_constant before k name (first_constant before item name s (expression_labelled item.kind t) g) v)
+    by_place (suc j, g) = typed_there before item j name s t g v
+
+-- a name of a sound expression is a constant or an active variable
+name_known : (before : List Item) (item : Item) (name : List ℕ) → IsSound before item → is_expression item.kind ≡ true → In name item.symbols → In name (constants before) ⊎ In name (active_variables before)
+name_known before item name s t h = by_place (in_get name item.symbols h)
+  where
+    by_place : (p : (k : ℕ) × (slice_get item.symbols k ≡ Some name)) → In name (constants before) ⊎ In name (active_variables before)
+    by_place (zero, g) = inl (first_constant before item name s (expression_labelled item.kind t) g)
+    by_place (suc j, g) = known before item j name s t g
+
+-- each variable of an active `$e` is typed
+pub essential_typed : (before : List Item) (e : Item) (name : List ℕ) → AreKept [] before → In e (active before) → is_essential e.kind ≡ true → In name e.symbols → In name (active_variables before) → In name (typed before)
+essential_typed before e name k h t n v =
+    let s = active_split before e h in
+    let kept_all = subst (λ w. AreKept [] w) s.whole k in
+    let sound = sound_at [] s.front e s.back kept_all in
+    let x = essential_expression e.kind t in
+    let m = essential_neither e.kind t in
+    elim (name_known s.front e name sound x n) [
+      | inl c ↦ absurd (not_constant before k name (subst (λ w. In name (constants w)) (sym s.whole) (constants_later s.front e s.back name c)) v)
+      | inr a ↦ subst (λ w. In name (typed w)) (sym s.whole) (typed_later s.front e s.back name m s.stayed (variable_typed s.front e name (kept_front [] s.front (e ∷ s.back) kept_all) sound x n a))
+    ]
+
+-- each mandatory variable is typed
+pub mandatory_typed : (before : List Item) (item : Item) (name : List ℕ) → AreKept [] before → IsSound before item → is_expression item.kind ≡ true → In name (mandatory_variables before item) → In name (active_variables before) × In name (typed before)
+mandatory_typed before item name k s t h =
+    let f = from_filter (has (active_variables before)) name (item.symbols ++ symbols_by is_essential (active before)) h in
+    let v = has_in (active_variables before) name f.1 in (
+      v,
+      elim (in_cases name item.symbols (symbols_by is_essential (active before)) f.0) [
+        | inl a ↦ variable_typed before item name k s t a v
+        | inr b ↦ (let r = from_symbols is_essential name (active before) b in essential_typed before r.0 name k r.1 r.2 r.3 v)
+      ],
+    )
+
+-- an active `$f`, as its hypothesis is read
+pub record Float (before : List Item) (f : Item) : Type 0 where
+  pub typecode : List ℕ
+  pub name : List ℕ
+  pub both : f.symbols ≡ typecode ∷ name ∷ []
+  pub constant : has (active_variables before) typecode ≡ false
+  pub variable : has (active_variables before) name ≡ true
+
+pub float_of : (before : List Item) (f : Item) → AreKept [] before → In f (active before) → is_floating f.kind ≡ true → Float before f
+float_of before f k h t =
+    let s = active_split before f h in
+    let kept_all = subst (λ w. AreKept [] w) s.whole k in
+    let sound = sound_at [] s.front f s.back kept_all in
+    let two = float_two s.front f sound t in
+    let m = float_neither f.kind t in
+    let c = first_constant s.front f two.0 sound (float_labelled f.kind t) (ap (λ w. slice_get w 0) two.2) in
+    let v = float_variable s.front f two.1 sound t (ap (λ w. slice_get w 1) two.2) in
+    record {
+      typecode = two.0;
+      name = two.1;
+      both = two.2;
+      constant = false_from_ne_true (has (active_variables before) two.0) (λ a. not_constant before k two.0 (subst (λ w. In two.0 (constants w)) (sym s.whole) (constants_later s.front f s.back two.0 c)) (has_in (active_variables before) two.0 a));
+      variable = in_has (active_variables before) two.1 (subst (λ w. In two.1 (active_variables w)) (sym s.whole) (variables_later s.front f s.back two.1 m s.stayed v));
+    }
+
+pub float_name : (before : List Item) (f : Item) (x : Float before f) → variable_of f ≡ x.name
+float_name before f x = ap (λ w. slice_index_or w 1 []) x.both
+
+-- a mandatory variable has a mandatory `$f`
+named_typed : (before : List Item) (item : Item) (name : List ℕ) → AreKept [] before → IsSound before item → is_expression item.kind ≡ true → In name (mandatory_variables before item) → IsTyped (mandatory_hypotheses before item) (symbol before name)
+named_typed before item name k s t h =
+    let b = mandatory_typed before item name k s t h in
+    let r = from_typed before name b.1 in
+    let x = float_of before r.0 k r.1 r.2 in
+    let same : x.name ≡ name = sym (float_name before r.0 x) ∙ r.3 in
+    let mandatory = or_right (is_essential (r.0).kind) (is_floating (r.0).kind && has (mandatory_variables before item) (variable_of r.0))
+    (and_from (is_floating (r.0).kind) (has (mandatory_variables before item) (variable_of r.0)) r.2 (in_has (mandatory_variables before item) (variable_of r.0) (subst (λ w. In w (mandatory_variables before item)) (sym r.3) h))) in
+    let there = in_map (hypothesis before) r.0 (filter (is_mandatory (mandatory_variables before item)) (active before)) (in_filter (is_mandatory (mandatory_variables before item)) r.0 (active before) r.1 mandatory) in
+    let e : expression before r.0 ≡ symbol before x.typecode ∷ symbol before name ∷ [] = ap (map (symbol before)) x.both ∙ ap (λ w. symbol before x.typecode ∷ symbol before w ∷ []) same in
+    let whole : hypothesis before r.0 ≡ record { floating = true; expression = symbol before x.typecode ∷ symbol before name ∷ [] } = λ i. record { floating = r.2 i; expression = e i } in
+    (symbol before x.typecode, x.constant, in_contains _ (mandatory_hypotheses before item) (subst (λ w. In w (mandatory_hypotheses before item)) whole there))
+
+-- a variable of an expression that is read behind these items
+read_variable : (before : List Item) (names : List (List ℕ)) (v : Symbol) → HasVariable (map (symbol before) names) v → (name : List ℕ) × In name names × In name (active_variables before) × (symbol before name ≡ v)
+read_variable before names v h =
+    let r = from_map (symbol before) v names (contains_in v (map (symbol before) names) h.0) in
+    (r.0, r.1, has_in (active_variables before) r.0 (ap (λ (w : Symbol). w.variable) r.2 ∙ h.1), r.2)
+
+-- two `$f` of different variables
+abbrev pub TypeOthers : Item → Item → Type 0
+TypeOthers f g = is_floating f.kind ≡ true → is_floating g.kind ≡ true → variable_of f ≢ variable_of g
+
+pub in_at : {X : Type 0} (xs : List X) (k : ℕ) (d : X) → k < length xs → In (get_or xs k d) xs
+in_at [] k d l = absurd (omega arith)
+in_at (x ∷ xs) zero d l = inl refl
+in_at (x ∷ xs) (suc k) d l = inr (in_at xs k d (omega arith))
+
+others : (front : List Item) (x : Item) (back : List Item) → AreKept [] (front ++ x ∷ back) → stays back ≡ true → (y : Item) → In y (active back) → TypeOthers x y
+others front x back k s y h fx fy e =
+    let t = active_split back y h in
+    let whole : front ++ x ∷ back ≡ (front ++ x ∷ t.front) ++ y ∷ t.back = ap (λ w. front ++ x ∷ w) t.whole ∙ sym (append_assoc front (x ∷ t.front) (y ∷ t.back)) in
+    let sound = sound_at [] (front ++ x ∷ t.front) y t.back (subst (λ w. AreKept [] w) whole k) in
+    let open_there = stays_front t.front (y ∷ t.back) (subst (λ w. stays w ≡ true) t.whole s) in
+    let there = to_typed (front ++ x ∷ t.front) x (split_active front x t.front open_there) fx in
+    let two = float_two (front ++ x ∷ t.front) y sound fy in
+    let name : variable_of y ≡ two.1 = ap (λ w. slice_index_or w 1 []) two.2 in
+    float_new (front ++ x ∷ t.front) y two.1 sound fy (ap (λ w. slice_get w 1) two.2) (subst (λ w. In w (typed (front ++ x ∷ t.front))) (e ∙ name) there)
+
+pairs_if : (b : Bool) (x : Item) (xs : List Item) → (b ≡ true → All (TypeOthers x) xs) → AllPairs TypeOthers xs → AllPairs TypeOthers (cond b (x ∷ xs) xs)
+pairs_if true x xs a p = AllPairs-cons TypeOthers x xs (a refl) p
+pairs_if false x xs a p = p
+
+active_typed_once : (front xs : List Item) → AreKept [] (front ++ xs) → AllPairs TypeOthers (active xs)
+active_typed_once front [] k = λ i j d l m. absurd (omega arith)
+active_typed_once front (x ∷ xs) k =
+    pairs_if (stays xs) x (active xs) (λ s. λ i d l. others front x xs k s (get_or (active xs) i d) (in_at (active xs) i d l)) (active_typed_once (front ++ x ∷ []) xs (subst (λ w. AreKept [] w) (sym (append_assoc front (x ∷ []) xs)) k))
+
+pairs_map : {X Y : Type 0} (R : X → X → Type 0) (S : Y → Y → Type 0) (f : X → Y) (xs : List X) → ((x y : X) → In x xs → In y xs → R x y → S (f x) (f y)) → AllPairs R xs → AllPairs S (map f xs)
+pairs_map R S f [] g p = λ i j d l m. absurd (omega arith)
+pairs_map R S f (x ∷ xs) g p =
+    AllPairs-cons S (f x) (map f xs) (all_map R S f x xs (λ y h. g x y (inl refl) (inr h)) (λ i d l. p 0 (suc i) d (omega arith) (omega arith)))
+    (pairs_map R S f xs (λ a b h k. g a b (inr h) (inr k)) (λ i j d l m. p (suc i) (suc j) d (omega arith) (omega arith)))
+  where
+    all_map : {X Y : Type 0} (R : X → X → Type 0) (S : Y → Y → Type 0) (f : X → Y) (x : X) (xs : List X) → ((y : X) → In y xs → R x y → S (f x) (f y)) → All (R x) xs → All (S (f x)) (map f xs)
+    all_map R S f x [] g a i d l = absurd (omega arith)
+    all_map R S f x (y ∷ ys) g a zero d l = g y (inl refl) (a 0 y (omega arith))
+    all_map R S f x (y ∷ ys) g a (suc i) d l = all_map R S f x ys (λ z h. g z (inr h)) (λ k e m. a (suc k) e (omega arith)) i d (omega arith)
+
+-- what a hypothesis of a frame comes from
+hypothesis_from : (before : List Item) (item : Item) (h : Mandatory) → In h (mandatory_hypotheses before item) → (f : Item) × In f (active before) × (is_mandatory (mandatory_variables before item) f ≡ true) × (hypothesis before f ≡ h)
+hypothesis_from before item h c =
+    let r = from_map (hypothesis before) h (filter (is_mandatory (mandatory_variables before item)) (active before)) c in
+    let f = from_filter (is_mandatory (mandatory_variables before item)) r.0 (active before) r.1 in
+    (r.0, f.0, f.1, r.2)
+
+-- each variable of a mandatory hypothesis is mandatory
+hypothesis_mandatory : (before : List Item) (item f : Item) (name : List ℕ) → AreKept [] before → In f (active before) → is_mandatory (mandatory_variables before item) f ≡ true → In name f.symbols → In name (active_variables before) → In name (mandatory_variables before item)
+hypothesis_mandatory before item f name k h m n v = elim (or_cases (is_essential f.kind) (is_floating f.kind && has (mandatory_variables before item) (variable_of f)) m) [
+  | inl e ↦ in_filter (has (active_variables before)) name (item.symbols ++ symbols_by is_essential (active before)) (in_right name item.symbols (symbols_by is_essential (active before)) (to_symbols is_essential name (active before) f h e n)) (in_has (active_variables before) name v)
+  | inr b ↦ (let p = and_both (is_floating f.kind) (has (mandatory_variables before item) (variable_of f)) b in
+      let x = float_of before f k h p.0 in
+      elim (subst (λ w. In name w) x.both n) [
+        | inl first ↦ absurd (true≢false (sym (in_has (active_variables before) name v) ∙ ap (has (active_variables before)) (sym first) ∙ x.constant))
+        | inr more ↦ elim more [
+          | inl second ↦ subst (λ w. In w (mandatory_variables before item)) (float_name before f x ∙ second) (has_in (mandatory_variables before item) (variable_of f) p.1)
+          | inr z ↦ absurd z
+        ]
+      ])
+]
+
+expression_typed : (before : List Item) (item : Item) → AreKept [] before → IsSound before item → is_expression item.kind ≡ true → (v : Symbol) → HasVariable (expression before item) v → IsTyped (mandatory_hypotheses before item) v
+expression_typed before item k s t v h =
+    let r = read_variable before item.symbols v h in
+    let m = in_filter (has (active_variables before)) r.0 (item.symbols ++ symbols_by is_essential (active before)) (in_left r.0 item.symbols (symbols_by is_essential (active before)) r.1) (in_has (active_variables before) r.0 r.2) in
+    subst (IsTyped (mandatory_hypotheses before item)) r.3 (named_typed before item r.0 k s t m)
+
+hypothesis_typed : (before : List Item) (item : Item) → AreKept [] before → IsSound before item → is_expression item.kind ≡ true → (h : Mandatory) → Contains (mandatory_hypotheses before item) h → (v : Symbol) → HasVariable h.expression v → IsTyped (mandatory_hypotheses before item) v
+hypothesis_typed before item k s t h c v w =
+    let f = hypothesis_from before item h (contains_in h (mandatory_hypotheses before item) c) in
+    let r = read_variable before (f.0).symbols v (subst (λ (x : Mandatory). HasVariable x.expression v) (sym f.3) w) in
+    subst (IsTyped (mandatory_hypotheses before item)) r.3 (named_typed before item r.0 k s t (hypothesis_mandatory before item f.0 r.0 k f.1 f.2 r.1 r.2))
+
+typing : (before : List Item) (item : Item) → AreKept [] before → (h : Mandatory) → In h (mandatory_hypotheses before item) → h.floating ≡ true → IsTyping h.expression
+typing before item k h c t =
+    let f = hypothesis_from before item h c in
+    let x = float_of before f.0 k f.1 (ap (λ (w : Mandatory). w.floating) f.3 ∙ t) in
+    subst (λ (w : Mandatory). IsTyping w.expression) f.3 (symbol before x.typecode, symbol before x.name, ap (map (symbol before)) x.both, x.constant, x.variable)
+
+typed_once : (before : List Item) (item : Item) → AreKept [] before → AllPairs (λ h g. h.floating ≡ true → g.floating ≡ true → slice_get h.expression 1 ≢ slice_get g.expression 1) (mandatory_hypotheses before item)
+typed_once before item k =
+    pairs_map TypeOthers (λ (h g : Mandatory). h.floating ≡ true → g.floating ≡ true → slice_get h.expression 1 ≢ slice_get g.expression 1) (hypothesis before) (filter (is_mandatory (mandatory_variables before item)) (active before))
+    (λ x y hx hy r fx fy e.
+    let ax = (from_filter (is_mandatory (mandatory_variables before item)) x (active before) hx).0 in
+    let ay = (from_filter (is_mandatory (mandatory_variables before item)) y (active before) hy).0 in
+    let u = float_of before x k ax fx in
+    let v = float_of before y k ay fy in
+    let a : slice_get (expression before x) 1 ≡ Some (symbol before u.name) = ap (λ w. slice_get (map (symbol before) w) 1) u.both in
+    let b : slice_get (expression before y) 1 ≡ Some (symbol before v.name) = ap (λ w. slice_get (map (symbol before) w) 1) v.both in
+    let o : Some (symbol before u.name) ≡ Some (symbol before v.name) = sym a ∙ e ∙ b in
+    let n : symbol before u.name ≡ symbol before v.name = cc in
+    r fx fy (float_name before x u ∙ ap (λ (w : Symbol). w.name) n ∙ sym (float_name before y v)))
+    (AllPairs-filter TypeOthers (is_mandatory (mandatory_variables before item)) (active before) (active_typed_once [] before k))
+
+pub from_pairs : (pair : Symbol × Symbol) (xs : List Symbol) → In pair (pairs_of xs) → In pair.0 xs × In pair.1 xs
+from_pairs pair [] h = absurd h
+from_pairs pair (x ∷ xs) h = elim (in_cases pair (map (λ y. (x, y)) xs) (pairs_of xs) h) [
+  | inl a ↦ (let r = from_map (λ (y : Symbol). (x, y)) pair xs a in
+      (inl (ap (λ (p : Symbol × Symbol). p.0) r.2), inr (subst (λ w. In w xs) (ap (λ (p : Symbol × Symbol). p.1) r.2) r.1)))
+  | inr b ↦ (let r = from_pairs pair xs b in (inr r.0, inr r.1))
+]
+
+pair_in : (b : Bool) (pair : Symbol × Symbol) (xs : List (Symbol × Symbol)) → In pair (cond b xs []) → In pair xs
+pair_in true pair xs h = h
+pair_in false pair xs h = absurd h
+
+side_typed : (before : List Item) (item d : Item) → AreKept [] before → IsSound before item → is_expression item.kind ≡ true → (s : Symbol) → In s (expression before d) → has (mandatory_variables before item) s.name ≡ true → (s.variable ≡ true) × IsTyped (mandatory_hypotheses before item) s
+side_typed before item d k t x s h m =
+    let r = from_map (symbol before) s d.symbols h in
+    let n = subst (λ (w : Symbol). In w.name (mandatory_variables before item)) (sym r.2) (has_in (mandatory_variables before item) s.name m) in
+    let v = in_has (active_variables before) r.0 (mandatory_typed before item r.0 k t x n).0 in
+    (ap (λ (w : Symbol). w.variable) (sym r.2) ∙ v, subst (IsTyped (mandatory_hypotheses before item)) r.2 (named_typed before item r.0 k t x n))
+
+pub pairs_typed_at : (before : List Item) (item : Item) → AreKept [] before → IsSound before item → is_expression item.kind ≡ true → (pair : Symbol × Symbol) → In pair (filter (is_mandatory_pair (mandatory_variables before item)) (active_pairs before))
+    → (pair.0.variable ≡ true) × (pair.1.variable ≡ true) × IsTyped (mandatory_hypotheses before item) pair.0 × IsTyped (mandatory_hypotheses before item) pair.1
+pairs_typed_at before item k s t pair h =
+    let f = from_filter (is_mandatory_pair (mandatory_variables before item)) pair (active_pairs before) h in
+    let r = from_flat (λ (d : Item). cond (is_disjoint d.kind) (pairs_of (expression before d)) []) pair (active before) f.0 in
+    let p = from_pairs pair (expression before r.0) (pair_in (is_disjoint (r.0).kind) pair (pairs_of (expression before r.0)) r.2) in
+    let m = and_both (has (mandatory_variables before item) pair.0.name) (has (mandatory_variables before item) pair.1.name) f.1 in
+    let x = side_typed before item r.0 k s t pair.0 p.0 m.0 in
+    let y = side_typed before item r.0 k s t pair.1 p.1 m.1 in
+    (x.0, y.0, x.1, y.1)
+
+pub is_frame : (before : List Item) (item : Item) → AreKept [] before → IsSound before item → is_expression item.kind ≡ true → IsFrame (frame before item)
+is_frame before item k s t = record {
+  expression_typed = expression_typed before item k s t;
+  hypotheses_typed = hypothesis_typed before item k s t;
+  pairs_typed = λ i d l. pairs_typed_at before item k s t (get_or (frame before item).pairs i d) (in_at (frame before item).pairs i d l);
+  typings = λ i d l. typing before item k (get_or (mandatory_hypotheses before item) i d) (in_at (mandatory_hypotheses before item) i d l);
+  typed_once = typed_once before item k;
+}
+
+-- what resolves to an assertion is one that is sound
+resolved_at : (whole front : List Item) (item : Item) (back : List Item) (label : List ℕ) (f : Frame) (b : Bool) → AreKept [] (front ++ item ∷ back) → cond b (meaning whole front item back) (resolve_from whole (front ++ item ∷ []) back label) ≡ Assertion f
+    → (resolve_from whole (front ++ item ∷ []) back label ≡ Assertion f → IsFrame f) → IsFrame f
+resolved_at whole front item back label f true k e r = by_kind (is_assertion item.kind) (stays back) refl e
+  where
+    by_kind : (a s : Bool) → is_assertion item.kind ≡ a → cond a (Assertion (frame front item)) (cond s (Hypothesis (expression whole item)) Inactive) ≡ Assertion f → IsFrame f
+    by_kind true s t h = let same : frame front item ≡ f = cc in subst IsFrame same (is_frame front item (kept_front [] front (item ∷ back) k) (sound_at [] front item back k) (assertion_expression item.kind t))
+    by_kind false true t h = cc
+    by_kind false false t h = cc
+resolved_at whole front item back label f false k e r = r e
+
+resolved : (whole front back : List Item) (label : List ℕ) (f : Frame) → AreKept [] (front ++ back) → resolve_from whole front back label ≡ Assertion f → IsFrame f
+resolved whole front [] label f k e = cc
+resolved whole front (item ∷ back) label f k e = resolved_at whole front item back label f (has (labels_of item) label) k e (λ h. resolved whole (front ++ item ∷ []) back label f (subst (λ w. AreKept [] w) (sym (append_assoc front (item ∷ []) back)) k) h)
+
+pub has_frames : (items : List Item) (j : ℕ) → HasFrames (setting_of items j)
+has_frames items j label f e = resolved (sound_items (take j items)) [] (sound_items (take j items)) label f (kept_is_sound (take j items)) e

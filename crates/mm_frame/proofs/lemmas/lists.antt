@@ -1,0 +1,5 @@
+-- Lists and rising numbers, whatever they are of.
+
+pub mod Growing
+pub mod Members
+pub mod Rising

@@ -1,0 +1,6 @@
+-- Names, labels and symbols by their numbers.
+
+pub mod ExpressionLemmas
+pub mod LabelCodes
+pub mod NamedLemmas
+pub mod NumberLemmas

@@ -1,0 +1,10 @@
+-- Active pairs of variables: of the `$d`, in tables, in lists, and of frames.
+
+pub mod ActivePairLemmas
+pub mod AskedLemmas
+pub mod FramePairs
+pub mod PairListLemmas
+pub mod PairOrderLemmas
+pub mod PairTableLemmas
+pub mod PlaceLemmas
+pub mod SharedPairs

@@ -1,0 +1,160 @@
+-- What was found for pairs that were asked: after one more item, and what it tells of active pairs.
+use Rattle.std.proofs.Common.{◌≡◌, ℕ, zero, suc, ◌<◌, ◌≤◌, Bool, true, false, Option, Some, None, List, [], ◌∷◌, ◌++◌, length, take, drop, get_or, refl, sym, ◌∙◌, ap, subst, take-append-drop, append_assoc, length-append, arith, inl, inr}
+use Rattle.std.specs.Prelude.{Contains, IfSome, IfNone, is_some}
+use native.Mathlib.Decide.{dec_lt}
+use Rattle.std.proofs.lemmas.Bool.{false≢true}
+use Rattle.std.proofs.lemmas.List.{drop-append-le}
+use Rattle.std.proofs.lemmas.Option.{slice_get_within}
+use Rattle.mm_frame.specs.declared.asked.AskedPairs.{AskedPairs}
+use Rattle.mm_frame.specs.declared.paired.PairTable.{PairTable}
+use Rattle.mm_frame.specs.Language.Item.{Item}
+use Rattle.mm_frame.specs.Language.Scope.{Mark, stays}
+use Rattle.mm_frame.specs.Language.Framing.{active_pairs}
+use Rattle.mm_frame.specs.Language.NumberedSymbols.{as_variable}
+use Rattle.mm_frame.specs.Language.Answering.{are_paired}
+use Rattle.mm_frame.specs.Code.BlockMarks.{stays_by}
+use Rattle.mm_frame.specs.Code.LastItems.{is_active_at}
+use Rattle.mm_frame.specs.Code.Numbers.{IsNameNumber}
+use Rattle.mm_frame.specs.Code.KeptPairTable.{row_at, IsDisjointAt, IsCommon, ReadsPairs}
+use Rattle.mm_frame.specs.Code.KeptAsked.{IsFoundBefore, IsAnswer, KnowsAsked}
+use Rattle.mm_frame.proofs.lemmas.scope.ActiveBySplit.{stays_join, stays_front}
+use Rattle.mm_frame.proofs.lemmas.pairs.PairTableLemmas.{disjoint_front, disjoint_cases, active_before, HavePair, paired_from, paired_to, active_at_marks}
+
+-- ---- what is there, of what there is
+
+pub some_weaker : {P Q : ℕ → Type 0} (o : Option ℕ) → ((n : ℕ) → P n → Q n) → IfSome o P → IfSome o Q
+some_weaker None f h = tt
+some_weaker (Some n) f h = f n h
+
+pub none_weaker : {P Q : Type 0} (o : Option ℕ) → (P → Q) → IfNone o P → IfNone o Q
+none_weaker None f h = f h
+none_weaker (Some n) f h = tt
+
+-- ---- one more item
+
+-- what was active before an active item is active
+drop_on : {X : Type 0} (xs : List X) (m n : ℕ) → m ≤ n → (front : List X) × (drop m xs ≡ front ++ drop n xs)
+drop_on xs zero n l = (take n xs, sym (take-append-drop n xs))
+drop_on [] (suc m) n l = ([], sym (nothing n))
+  where
+    nothing : {X : Type 0} (n : ℕ) → drop {A = X} n [] ≡ []
+    nothing zero = refl
+    nothing (suc n) = refl
+drop_on (x ∷ xs) (suc m) zero l = absurd (omega arith)
+drop_on (x ∷ xs) (suc m) (suc n) l = drop_on xs m n (omega arith)
+
+pub active_below : (before : List Item) (item : Item) (m n : ℕ) → m ≤ n → n < length before → is_active_at before m ≡ true → is_active_at (before ++ item ∷ []) n ≡ true → is_active_at (before ++ item ∷ []) m ≡ true
+active_below before item m n l within first later =
+    let cut = drop_on before (suc m) (suc n) (omega arith) in
+    let front = stays_front cut.0 (drop (suc n) before) (subst (λ w. stays w ≡ true) cut.1 first) in
+    let rest = subst (λ w. stays w ≡ true) (drop-append-le (suc n) before (item ∷ []) (omega arith)) later in
+    let both = stays_join cut.0 (drop (suc n) before ++ item ∷ []) front rest in
+    ap stays (drop-append-le (suc m) before (item ∷ []) (omega arith) ∙ ap (λ w. w ++ item ∷ []) cut.1 ∙ append_assoc cut.0 (drop (suc n) before) (item ∷ [])) ∙ both
+
+disjoint_back : (before : List Item) (item : Item) (name : List ℕ) (n : ℕ) → n < length before → IsDisjointAt (before ++ item ∷ []) name n → IsDisjointAt before name n
+disjoint_back before item name n l d = elim (disjoint_cases before item name n d) [
+  | inl old ↦ old
+  | inr new ↦ (let e = new.0 in absurd (omega arith))
+]
+
+answer_more : (before : List Item) (item : Item) (x y : List ℕ) (upto : ℕ) (common : Option ℕ) → IsAnswer before x y upto common → IsAnswer (before ++ item ∷ []) x y upto common
+answer_more before item x y upto common a =
+    let w = a.within in
+    let long = length-append before (item ∷ []) in
+    record {
+      within = omega arith;
+      cover = λ n l p q active. (
+          let within = a.within in
+          let first = disjoint_back before item x n (omega arith) p in
+          let second = disjoint_back before item y n (omega arith) q in
+          let found = a.cover n l first second (active_before before item x n first active) in
+          record { first = found.first; found = found.found; least = found.least; active = active_below before item found.first n found.least (omega arith) found.active active }
+          );
+      there = λ f e. let d = a.there f e in (disjoint_front before item x f d.0, disjoint_front before item y f d.1);
+    }
+
+pub asked_more : (all : List (List ℕ)) (before : List Item) (item : Item) (asked : AskedPairs) → KnowsAsked all before asked → KnowsAsked all (before ++ item ∷ []) asked
+asked_more all before item asked knows k d l x y a b = answer_more before item x y (get_or asked.answers.items k d).upto (get_or asked.answers.items k d).common (knows k d l x y a b)
+
+-- ---- what an answer tells
+
+common_pair : (all : List (List ℕ)) (before : List Item) (table : PairTable) (blocks : List Mark) (first second : ℕ) (x y : List ℕ) → ReadsPairs all before table blocks → IsNameNumber all first x → IsNameNumber all second y → (n : ℕ)
+    → IsCommon blocks (row_at table first) (row_at table second) n → HavePair before x y n
+common_pair all before table blocks first second x y k a b n common = record {
+  first = (k.knows first x a).there n common.0;
+  second = (k.knows second y b).there n common.1;
+  stayed = active_at_marks before blocks n k.marks ∙ common.2;
+}
+
+pair_common : (all : List (List ℕ)) (before : List Item) (table : PairTable) (blocks : List Mark) (first second : ℕ) (x y : List ℕ) → ReadsPairs all before table blocks → IsNameNumber all first x → IsNameNumber all second y → (n : ℕ)
+    → HavePair before x y n → IsCommon blocks (row_at table first) (row_at table second) n
+pair_common all before table blocks first second x y k a b n have =
+    ((k.knows first x a).cover n have.first have.stayed, (k.knows second y b).cover n have.second have.stayed, sym (active_at_marks before blocks n k.marks) ∙ have.stayed)
+
+pub names_apart : (all : List (List ℕ)) (first second : ℕ) (x y : List ℕ) (before : List Item) (table : PairTable) (blocks : List Mark) → ReadsPairs all before table blocks → IsNameNumber all first x → IsNameNumber all second y → (first ≡ second → ⊥) → x ≡ y → ⊥
+names_apart all first second x y before table blocks k a b apart e = apart (k.distinct first second y (a ∙ ap Some e) b)
+
+-- what was found is active yet
+abbrev pub IsActiveYet : List Mark → Option ℕ → Type 0
+IsActiveYet blocks common = (n : ℕ) × (common ≡ Some n) × (stays_by (drop (suc n) blocks) ≡ true)
+
+-- or not
+abbrev pub IsEnded : List Mark → Option ℕ → Type 0
+IsEnded blocks common = (n : ℕ) → common ≡ Some n → stays_by (drop (suc n) blocks) ≡ false
+
+pub active_told : (all : List (List ℕ)) (before : List Item) (table : PairTable) (blocks : List Mark) (first second : ℕ) (x y : List ℕ) (upto : ℕ) (common : Option ℕ) → ReadsPairs all before table blocks → IsNameNumber all first x → IsNameNumber all second y
+    → (first ≡ second → ⊥) → IsAnswer before x y upto common → IsActiveYet blocks common → true ≡ are_paired (active_pairs before) (as_variable x, as_variable y)
+active_told all before table blocks first second x y upto common k a b apart answer yet =
+    let there = answer.there yet.0 yet.1 in
+    sym (paired_to before x y yet.0 (names_apart all first second x y before table blocks k a b apart) (record { first = there.0; second = there.1; stayed = active_at_marks before blocks yet.0 k.marks ∙ yet.2 }))
+
+-- where none is active of those that were looked at, an active one is no earlier
+later_common : (all : List (List ℕ)) (before : List Item) (table : PairTable) (blocks : List Mark) (first second : ℕ) (x y : List ℕ) (upto : ℕ) (common : Option ℕ) → ReadsPairs all before table blocks → IsNameNumber all first x → IsNameNumber all second y
+    → IsAnswer before x y upto common → IsEnded blocks common → (n : ℕ) → HavePair before x y n → upto ≤ n
+later_common all before table blocks first second x y upto common k a b answer ended n have = elim (dec_lt n upto) [
+  | yes l ↦ (
+      let found = answer.cover n l have.first have.second have.stayed in
+      absurd (false≢true (sym (ended found.first found.found) ∙ sym (active_at_marks before blocks found.first k.marks) ∙ found.active))
+      )
+  | no m ↦ omega arith
+]
+
+-- the first from there on, if there is one
+pub record IsFirstFrom (blocks : List Mark) (row other : List ℕ) (from : ℕ) (common : Option ℕ) : Type 0 where
+  pub some : IfSome common (IsCommon blocks row other)
+  pub least : IfSome common (λ n. (m : ℕ) → from ≤ m → IsCommon blocks row other m → n ≤ m)
+  pub none : IfNone common ((n : ℕ) → from ≤ n → IsCommon blocks row other n → ⊥)
+
+first_told : (all : List (List ℕ)) (before : List Item) (table : PairTable) (blocks : List Mark) (first second : ℕ) (x y : List ℕ) (from : ℕ) (common : Option ℕ) → ReadsPairs all before table blocks → IsNameNumber all first x → IsNameNumber all second y
+    → (first ≡ second → ⊥) → ((n : ℕ) → HavePair before x y n → from ≤ n) → IsFirstFrom blocks (row_at table first) (row_at table second) from common → is_some common ≡ are_paired (active_pairs before) (as_variable x, as_variable y)
+first_told all before table blocks first second x y from (Some n) k a b apart later f =
+    sym (paired_to before x y n (names_apart all first second x y before table blocks k a b apart) (common_pair all before table blocks first second x y k a b n f.some))
+first_told all before table blocks first second x y from None k a b apart later f = by_test (are_paired (active_pairs before) (as_variable x, as_variable y)) refl
+  where
+    by_test : (r : Bool) → are_paired (active_pairs before) (as_variable x, as_variable y) ≡ r → false ≡ are_paired (active_pairs before) (as_variable x, as_variable y)
+    by_test false e = sym e
+    by_test true e = let p = paired_from before x y k.sound e in absurd (f.none p.1 (later p.1 p.2) (pair_common all before table blocks first second x y k a b p.1 p.2))
+
+pub ended_told : (all : List (List ℕ)) (before : List Item) (table : PairTable) (blocks : List Mark) (first second : ℕ) (x y : List ℕ) (upto : ℕ) (known common : Option ℕ) → ReadsPairs all before table blocks → IsNameNumber all first x → IsNameNumber all second y
+    → (first ≡ second → ⊥) → IsAnswer before x y upto known → IsEnded blocks known → IsFirstFrom blocks (row_at table first) (row_at table second) upto common → is_some common ≡ are_paired (active_pairs before) (as_variable x, as_variable y)
+ended_told all before table blocks first second x y upto known common k a b apart answer ended f =
+    first_told all before table blocks first second x y upto common k a b apart (later_common all before table blocks first second x y upto known k a b answer ended) f
+
+-- so there is one more answer
+pub next_answer : (all : List (List ℕ)) (before : List Item) (table : PairTable) (blocks : List Mark) (first second : ℕ) (x y : List ℕ) (upto end : ℕ) (known common : Option ℕ) → ReadsPairs all before table blocks → IsNameNumber all first x → IsNameNumber all second y
+    → IsAnswer before x y upto known → IsEnded blocks known → IsFirstFrom blocks (row_at table first) (row_at table second) upto common → ((count : ℕ) → ((n : ℕ) → Contains (row_at table first) n → n < count) → end ≤ count) → IsAnswer before x y end common
+next_answer all before table blocks first second x y upto end known common k a b answer ended f short = record {
+  within = short (length before) (λ n c. (let d = (k.knows first x a).there n c in slice_get_within before n d.item d.there));
+  cover = λ n l p q active. (
+      let have : HavePair before x y n = record { first = p; second = q; stayed = active } in
+      by_common common f (later_common all before table blocks first second x y upto known k a b answer ended n have) (pair_common all before table blocks first second x y k a b n have)
+      );
+  there = λ n e. (
+      let some = subst (λ o. IfSome o (IsCommon blocks (row_at table first) (row_at table second))) e f.some in
+      ((k.knows first x a).there n some.0, (k.knows second y b).there n some.1)
+      );
+}
+  where
+    by_common : (o : Option ℕ) → IsFirstFrom blocks (row_at table first) (row_at table second) upto o → {n : ℕ} → upto ≤ n → IsCommon blocks (row_at table first) (row_at table second) n → IsFoundBefore before o n
+    by_common None g {n} l c = absurd (g.none n l c)
+    by_common (Some m) g {n} l c = record { first = m; found = refl; least = g.least n l c; active = active_at_marks before blocks m k.marks ∙ (g.some).2 }

@@ -1,0 +1,504 @@
+-- The active pairs are those behind the items up to the last active `$d`, and the lists that are made of them.
+use Rattle.std.proofs.Common.{◌≡◌, ℕ, zero, suc, ◌+◌, ◌-◌, ◌<◌, ◌≤◌, Bool, true, false, cond, ◌&&◌, ◌||◌, Option, Some, None, List, [], ◌∷◌, ◌++◌, length, flat_map, take, drop, slice_get, get_or, nat_eq, Vec, refl, sym, ◌∙◌, ap, subst, append-nil, arith, length-append, length-take-le, inl, inr}
+use native.Mathlib.Decide.{dec_lt}
+use Rattle.std.specs.Prelude.{All, Contains, Decides, ◌⊎◌, ◌↔◌, leb, map}
+use Rattle.std.proofs.lemmas.Simd.{map-map}
+use Rattle.std.proofs.lemmas.List.{map-append}
+use Rattle.std.proofs.lemmas.Grind.{flat_map-append}
+use Rattle.std.specs.Cmp.{decided, unsigned_Decides, booleans_Decides}
+use Rattle.std.specs.Cmp.Lexicographic.{pointwise, pointwise_decides}
+use Rattle.std.proofs.Math.Bool.{beq}
+use Rattle.std.specs.List.{dedup}
+use Rattle.std.specs.List.Sorted.{IsPermutation}
+use Rattle.std.specs.List.Retain.{IsFiltered, DiffersFromLast}
+use Rattle.std.proofs.lemmas.List.Elements.{Contains-append_left, Contains-append_right, Contains-append_cases, All-nil, All-append, All-map, All-contains, All-contains_itself}
+use Rattle.std.proofs.lemmas.List.Sorted.{IsPermutation-sym, Contains-permutation}
+use Rattle.std.proofs.lemmas.List.Filters.{dedup_is}
+use Rattle.std.proofs.lemmas.List.Kept.{Contains-dedup, Contains-from_dedup}
+use Rattle.std.specs.Global.{Global}
+use Rattle.std.proofs.lemmas.Bool.{false≢true}
+use Rattle.std.proofs.lemmas.Bool.Decides.{eqb_tells, Decides-and}
+use Rattle.std.proofs.lemmas.Option.{get_or_from_slice_get, slice_get_within, slice_get-get_or, none-some}
+use Rattle.std.proofs.lemmas.List.{take-append-le, drop-append-le, take-append-drop}
+use Rattle.mm_frame.specs.declared.symbol.NumberedSymbol.{NumberedSymbol}
+use Rattle.mm_frame.specs.declared.pair_lists.PairLists.{PairLists}
+use Rattle.mm_frame.specs.Language.Frame.{Symbol, ArePair, AreSamePairs}
+use Rattle.mm_frame.specs.Language.Item.{Item, passed, is_labelled, is_disjoint}
+use Rattle.mm_frame.specs.Language.Scope.{stays, active_numbers}
+use Rattle.mm_frame.specs.Language.Sound.{AreSound, sound_items}
+use Rattle.mm_frame.specs.Language.Framing.{expression, pairs_of, active_pairs}
+use Rattle.mm_frame.specs.Code.LastItems.{is_active_at, is_disjoint_item, IsRising}
+use Rattle.mm_frame.specs.Language.NumberedSymbols.{symbol_of, symbols_of, pair_of, kept_pairs, IsNumbered, IsPairNumbered, ArePairsRead, AreSamePairsRead, AreInOrder}
+use Rattle.mm_frame.specs.Code.KeptSymbols.{expression_kept, AreSymbols, AreNumbered}
+use Rattle.mm_frame.specs.Code.KeptPairLists.{pairs_among, with_low_first, pairs_or_none, list_kept, IsThere, IsList, list_made, IsMadeFor, AreMade, KeepsLists, AreFrontNumbers, HasEach, HasSame}
+use Rattle.mm_frame.specs.Code.KeptBase.{TellsPairs}
+use Rattle.mm_frame.specs.Language.Answering.{AreRows, is_told_proof}
+use Rattle.mm_frame.proofs.lemmas.lists.Members.{In, in_left, in_right, in_cases, in_get, get_in, in_contains, contains_in, in_map, from_map}
+use Rattle.mm_frame.proofs.lemmas.scope.ActiveBySplit.{stays_join, stays_front}
+use Rattle.mm_frame.proofs.lemmas.scope.SoundItems.{sound_take}
+use Rattle.mm_frame.proofs.lemmas.base.BaseLemmas.{rows_more}
+use Rattle.mm_frame.proofs.lemmas.frames.HypothesisNumbers.{to_active_number, from_active_number, active_numbers_rise, same_rising, above, behind}
+use Rattle.mm_frame.proofs.lemmas.lists.Rising.{rising_front}
+use Rattle.mm_frame.proofs.lemmas.pairs.ActivePairLemmas.{pairs_at, flat_same, active_pairs_by_numbers}
+
+-- the last of rising numbers is the greatest
+at_most_last : (numbers : List ℕ) (n : ℕ) → IsRising numbers → slice_get numbers (length numbers - 1) ≡ Some n → (m : ℕ) → In m numbers → m ≤ n
+at_most_last numbers n r e m h =
+    let last = length numbers - 1 in
+    let g = in_get m numbers h in
+    let w = slice_get_within numbers g.0 m g.1 in
+    let first : get_or numbers g.0 0 ≡ m = get_or_from_slice_get numbers g.0 m 0 g.1 in
+    let second : get_or numbers last 0 ≡ n = get_or_from_slice_get numbers last n 0 e in
+    elim (dec_lt g.0 last) [
+      | yes k ↦ (let l : get_or numbers g.0 0 < get_or numbers last 0 = r g.0 last 0 k (omega arith) in omega arith)
+      | no k ↦ (let z : g.0 ≡ last = omega arith in let same : get_or numbers g.0 0 ≡ get_or numbers last 0 = ap (λ j. get_or numbers j 0) z in omega arith)
+    ]
+
+-- what has no last one is empty
+none_last : {X : Type 0} (xs : List X) → slice_get xs (length xs - 1) ≡ None → xs ≡ []
+none_last [] e = refl
+none_last (x ∷ xs) e = absurd (none-some (get_or (x ∷ xs) (length (x ∷ xs) - 1) x) (sym e ∙ slice_get-get_or (x ∷ xs) (length (x ∷ xs) - 1) x (omega arith)))
+
+-- elements of a beginning
+get_join : {X : Type 0} (xs ys : List X) (n : ℕ) (x : X) → slice_get xs n ≡ Some x → slice_get (xs ++ ys) n ≡ Some x
+get_join [] ys n x e = cc
+get_join (z ∷ xs) ys zero x e = e
+get_join (z ∷ xs) ys (suc n) x e = get_join xs ys n x e
+
+get_take : {X : Type 0} (xs : List X) (m n : ℕ) (x : X) → m < n → slice_get xs m ≡ Some x → slice_get (take n xs) m ≡ Some x
+get_take [] m n x l e = cc
+get_take (z ∷ xs) m zero x l e = absurd (omega arith)
+get_take (z ∷ xs) zero (suc n) x l e = e
+get_take (z ∷ xs) (suc m) (suc n) x l e = get_take xs m n x (omega arith) e
+
+-- a number of an active item of a beginning, behind which the items close no block, is one of all items
+number_of_front : (test : Item → Bool) (a d : List Item) → stays d ≡ true → (m : ℕ) → In m (active_numbers test a) → In m (active_numbers test (a ++ d))
+number_of_front test a d s m h =
+    let r = from_active_number test a m h in
+    let w = slice_get_within a m r.0 r.1 in
+    let stayed : is_active_at (a ++ d) m ≡ true = ap stays (drop-append-le (suc m) a d (omega arith)) ∙ stays_join (drop (suc m) a) d r.2 s in
+    to_active_number test (a ++ d) m r.0 (get_join a d m r.0 r.1) stayed r.3
+
+-- of rising numbers those of a beginning are less than those behind it
+front_below : (numbers rest : List ℕ) (n m : ℕ) → IsRising (numbers ++ rest) → In n numbers → In m rest → n < m
+front_below [] rest n m r h k = absurd h
+front_below (x ∷ xs) rest n m r (inl e) k = let l = above x (xs ++ rest) m r (in_right m xs rest k) in omega arith
+front_below (x ∷ xs) rest n m r (inr h) k = front_below xs rest n m (behind x (xs ++ rest) r) h k
+
+-- the first numbers of the active items are those of the active ones among the items up to the last of them
+front_numbers : (test : Item → Bool) (before : List Item) (numbers rest : List ℕ) (n : ℕ) → numbers ++ rest ≡ active_numbers test before → slice_get numbers (length numbers - 1) ≡ Some n → active_numbers test (take (suc n) before) ≡ numbers
+front_numbers test before numbers rest n w e = same_rising (active_numbers test a) numbers (active_numbers_rise test a) rising to from
+  where
+    a : List Item
+    a = take (suc n) before
+
+    d : List Item
+    d = drop (suc n) before
+
+    whole : a ++ d ≡ before
+    whole = take-append-drop (suc n) before
+
+    rise : IsRising (numbers ++ rest)
+    rise = subst IsRising (sym w) (active_numbers_rise test before)
+
+    rising : IsRising numbers
+    rising = rising_front numbers rest rise
+
+    active_one : (m : ℕ) → In m numbers → In m (active_numbers test before)
+    active_one m h = subst (In m) w (in_left m numbers rest h)
+
+    last : In n numbers
+    last = get_in n numbers (length numbers - 1) e
+
+    to_by : (m : ℕ) → m < suc n → In m numbers ⊎ In m rest → In m numbers
+    to_by m l (inl h) = h
+    to_by m l (inr h) = let k = front_below numbers rest n m rise last h in absurd (omega arith)
+
+    to : (m : ℕ) → In m (active_numbers test a) → In m numbers
+    to m h =
+        let r = from_active_number test before n (active_one n last) in
+        let here = from_active_number test a m h in
+        let within = slice_get_within a m here.0 here.1 in
+        let reached = slice_get_within before n r.0 r.1 in
+        let count = length-take-le (suc n) before (omega arith) in
+        let all = subst (λ w. In m (active_numbers test w)) whole (number_of_front test a d r.2 m h) in
+        to_by m (omega arith) (in_cases m numbers rest (subst (In m) (sym w) all))
+
+    from : (m : ℕ) → In m numbers → In m (active_numbers test a)
+    from m h =
+        let r = from_active_number test before m (active_one m h) in
+        let l = at_most_last numbers n rising e m h in
+        let there = get_take before m (suc n) r.0 (omega arith) r.1 in
+        let within = slice_get_within a m r.0 there in
+        let stayed : stays (drop (suc m) a ++ d) ≡ true = ap stays (sym (drop-append-le (suc m) a d (omega arith)) ∙ ap (drop (suc m)) whole) ∙ r.2 in
+        to_active_number test a m r.0 there (stays_front (drop (suc m) a) d stayed) r.3
+
+-- what a `$d` of a beginning says is the same in the whole list
+pairs_of_front : (a d : List Item) (m : ℕ) → In m (active_numbers is_disjoint_item a) → pairs_at a m ≡ pairs_at (a ++ d) m
+pairs_of_front a d m h =
+    let r = from_active_number is_disjoint_item a m h in
+    let w = slice_get_within a m r.0 r.1 in
+    let here = get_or_from_slice_get a m r.0 passed r.1 in
+    let there = get_or_from_slice_get (a ++ d) m r.0 passed (get_join a d m r.0 r.1) in
+    let front = take-append-le m a d (omega arith) in
+    let same = here ∙ sym there in
+    λ i. pairs_of (expression (sym front i) (same i))
+
+-- the active pairs behind so many of the items are those of their active `$d`
+pub front_pairs : (before : List Item) (numbers : List ℕ) (count : ℕ) → AreSound before → AreFrontNumbers before numbers count → active_pairs (take count before) ≡ flat_map (pairs_at before) numbers
+front_pairs before numbers count h front =
+    let a = take count before in
+    let d = drop count before in
+    let same = flat_same (pairs_at a) (pairs_at (a ++ d)) (active_numbers is_disjoint_item a) (λ m k. pairs_of_front a d m k) in
+    let whole = take-append-drop count before in
+    active_pairs_by_numbers a (sound_take before count h) ∙ same ∙ (λ i. flat_map (pairs_at (whole i)) (sym front.active i))
+
+-- so the items up to the last active `$d` have the active pairs
+pub whole_front : (before : List Item) (numbers : List ℕ) (count : ℕ) → AreSound before → numbers ≡ active_numbers is_disjoint_item before → AreFrontNumbers before numbers count → active_pairs (take count before) ≡ active_pairs before
+whole_front before numbers count h e front = front_pairs before numbers count h front ∙ ap (flat_map (pairs_at before)) e ∙ sym (active_pairs_by_numbers before h)
+
+-- the items up to the last of the first active `$d`, and none where there is none
+abbrev pub number_last : List ℕ → Option ℕ
+number_last numbers = slice_get numbers (length numbers - 1)
+
+-- the number of an active item is that of something
+number_there : (before : List Item) (numbers rest : List ℕ) (n : ℕ) → numbers ++ rest ≡ active_numbers is_disjoint_item before → number_last numbers ≡ Some n → n < length before
+number_there before numbers rest n e last =
+    let r = from_active_number is_disjoint_item before n (subst (In n) e (in_left n numbers rest (get_in n numbers (length numbers - 1) last))) in
+    slice_get_within before n r.0 r.1
+
+pub count_of_last : (before : List Item) (numbers rest : List ℕ) (n count : ℕ) → numbers ++ rest ≡ active_numbers is_disjoint_item before → number_last numbers ≡ Some n → count ≡ n + 1 → AreFrontNumbers before numbers count
+count_of_last before numbers rest n count e last c =
+    let w = number_there before numbers rest n e last in
+    let z : suc n ≡ count = omega arith in
+    record {
+      within = omega arith;
+      active = sym (front_numbers is_disjoint_item before numbers rest n e last) ∙ ap (λ k. active_numbers is_disjoint_item (take k before)) z;
+    }
+
+pub count_of_none : (before : List Item) (numbers : List ℕ) → number_last numbers ≡ None → AreFrontNumbers before numbers 0
+count_of_none before numbers last = record { within = omega arith; active = none_last numbers last }
+
+pub number_within : (all : List (List ℕ)) (before : List Item) (expressions : List (List NumberedSymbol)) (numbers rest : List ℕ) (n : ℕ) → AreSymbols all before expressions → numbers ++ rest ≡ active_numbers is_disjoint_item before → number_last numbers ≡ Some n → n < length expressions
+number_within all before expressions numbers rest n a e last =
+    let w = number_there before numbers rest n e last in
+    omega arith
+
+-- each symbol with each later one, in turn, and the pairs that are read of these
+abbrev in_turn : List NumberedSymbol → List (NumberedSymbol × NumberedSymbol)
+in_turn [] = []
+in_turn (x ∷ xs) = map (λ y. (x, y)) xs ++ in_turn xs
+
+with_each : (all : List (List ℕ)) (x : NumberedSymbol) (xs : List NumberedSymbol) → kept_pairs all (map (λ y. (x, y)) xs) ≡ map (λ y. (symbol_of all x, y)) (symbols_of all xs)
+with_each all x [] = refl
+with_each all x (y ∷ xs) = ap (λ w. (symbol_of all x, symbol_of all y) ∷ w) (with_each all x xs)
+
+among_read : (all : List (List ℕ)) (xs : List NumberedSymbol) → kept_pairs all (in_turn xs) ≡ pairs_of (symbols_of all xs)
+among_read all [] = refl
+among_read all (x ∷ xs) = map-append (pair_of all) (map (λ y. (x, y)) xs) (in_turn xs) ∙ (λ i. with_each all x xs i ++ among_read all xs i)
+
+among_numbered : (all : List (List ℕ)) (xs : List NumberedSymbol) → All (IsNumbered all) xs → All (IsPairNumbered all) (in_turn xs)
+among_numbered all [] h = All-nil (IsPairNumbered all)
+among_numbered all (x ∷ xs) h =
+    let rest : All (IsNumbered all) xs = λ k d l. h (suc k) d (omega (arith, l)) in
+    All-append (IsPairNumbered all) (map (λ y. (x, y)) xs) (in_turn xs) (All-map (IsPairNumbered all) (λ y. (x, y)) xs (λ k d l. (h 0 x (omega arith), rest k d l))) (among_numbered all xs rest)
+
+-- the pairs of what is kept for the active `$d` are the active pairs
+abbrev in_turn_at : List (List NumberedSymbol) → ℕ → List (NumberedSymbol × NumberedSymbol)
+in_turn_at expressions n = in_turn (expression_kept expressions n)
+
+all_read : (all : List (List ℕ)) (expressions : List (List NumberedSymbol)) (numbers : List ℕ) → kept_pairs all (flat_map (in_turn_at expressions) numbers) ≡ flat_map (λ n. pairs_of (symbols_of all (expression_kept expressions n))) numbers
+all_read all expressions [] = refl
+all_read all expressions (n ∷ numbers) =
+    map-append (pair_of all) (in_turn_at expressions n) (flat_map (in_turn_at expressions) numbers) ∙ (λ i. among_read all (expression_kept expressions n) i ++ all_read all expressions numbers i)
+
+all_numbered : (all : List (List ℕ)) (expressions : List (List NumberedSymbol)) (numbers : List ℕ) → AreNumbered all expressions → All (IsPairNumbered all) (flat_map (in_turn_at expressions) numbers)
+all_numbered all expressions [] h = All-nil (IsPairNumbered all)
+all_numbered all expressions (n ∷ numbers) h =
+    All-append (IsPairNumbered all) (in_turn_at expressions n) (flat_map (in_turn_at expressions) numbers) (among_numbered all (expression_kept expressions n) (h n)) (all_numbered all expressions numbers h)
+
+-- these are numbers of `$d`
+abbrev AreDisjoint : List Item → List ℕ → Type 0
+AreDisjoint before numbers = (n : ℕ) → In n numbers → (x : Item) × (slice_get before n ≡ Some x) × (is_disjoint x.kind ≡ true)
+
+pairs_kept : (all : List (List ℕ)) (before : List Item) (expressions : List (List NumberedSymbol)) (numbers : List ℕ) → AreSymbols all before expressions → AreDisjoint before numbers
+    → ArePairsRead all (flat_map (pairs_at before) numbers) (flat_map (in_turn_at expressions) numbers)
+pairs_kept all before expressions numbers a are = record {
+  pairs = all_read all expressions numbers ∙ flat_same read_at (pairs_at before) numbers same;
+  numbered = all_numbered all expressions numbers a.numbered;
+}
+  where
+    read_at : ℕ → List (Symbol × Symbol)
+    read_at n = pairs_of (symbols_of all (expression_kept expressions n))
+
+    read_disjoint : (labelled disjoint : Bool) → disjoint ≡ true → (labelled || disjoint) ≡ true
+    read_disjoint true disjoint t = refl
+    read_disjoint false disjoint t = t
+
+    same : (n : ℕ) → In n numbers → read_at n ≡ pairs_at before n
+    same n k =
+        let r = are n k in
+        let there = get_or_from_slice_get before n r.0 passed r.1 in
+        let read = read_disjoint (is_labelled (r.0).kind) (is_disjoint (r.0).kind) r.2 in
+        ap pairs_of (a.each n r.0 r.1 read ∙ ap (expression (take n before)) (sym there))
+
+-- the pairs of a list with the lower number first, in whatever order and whatever often, are the same
+turned_or_not : (b : Bool) (p q : NumberedSymbol × NumberedSymbol) → cond b p (p.1, p.0) ≡ q → (p ≡ q) ⊎ (p ≡ (q.1, q.0))
+turned_or_not true p q e = inl e
+turned_or_not false p q e = inr (ap (λ (w : NumberedSymbol × NumberedSymbol). (w.1, w.0)) e)
+
+read_pair : (all : List (List ℕ)) (kept : List (NumberedSymbol × NumberedSymbol)) (p : NumberedSymbol × NumberedSymbol) (x y : Symbol) → pair_of all p ≡ (x, y) → In p kept → ArePair (kept_pairs all kept) x y
+read_pair all kept p x y e h = inl (in_contains (x, y) (kept_pairs all kept) (subst (λ w. In w (kept_pairs all kept)) e (in_map (pair_of all) p kept h)))
+
+read_turned : (all : List (List ℕ)) (kept : List (NumberedSymbol × NumberedSymbol)) (p : NumberedSymbol × NumberedSymbol) (x y : Symbol) → pair_of all p ≡ (x, y) → In (p.1, p.0) kept → ArePair (kept_pairs all kept) x y
+read_turned all kept p x y e h = inr (in_contains (y, x) (kept_pairs all kept) (subst (λ w. In w (kept_pairs all kept)) (ap (λ (w : Symbol × Symbol). (w.1, w.0)) e) (in_map (pair_of all) (p.1, p.0) kept h)))
+
+turned_pair : (pairs : List (Symbol × Symbol)) (x y : Symbol) → ArePair pairs x y → ArePair pairs y x
+turned_pair pairs x y (inl a) = inr a
+turned_pair pairs x y (inr b) = inl b
+
+same_read : (all : List (List ℕ)) (said : List (Symbol × Symbol)) (raw kept : List (NumberedSymbol × NumberedSymbol)) → ArePairsRead all said raw → ((p : NumberedSymbol × NumberedSymbol) → In p kept ↔ In p (map with_low_first raw)) → AreSamePairsRead all said kept
+same_read all said raw kept read same = record {
+  pairs = subst (AreSamePairs (kept_pairs all kept)) read.pairs (λ x y. (both_from x y, both_to x y));
+  numbered = λ k d l. numbered_at (get_or kept k d) ((same (get_or kept k d)).0 (contains_in (get_or kept k d) kept (All-contains_itself kept k d l)));
+}
+  where
+    from : (x y : Symbol) → Contains (kept_pairs all kept) (x, y) → ArePair (kept_pairs all raw) x y
+    from x y c =
+        let r = from_map (pair_of all) (x, y) kept (contains_in (x, y) (kept_pairs all kept) c) in
+        let t = from_map with_low_first r.0 raw ((same r.0).0 r.1) in
+        elim (turned_or_not (leb (t.0).0.name (t.0).1.name) t.0 r.0 t.2) [
+          | inl e ↦ read_pair all raw r.0 x y r.2 (subst (λ w. In w raw) e t.1)
+          | inr e ↦ read_turned all raw r.0 x y r.2 (subst (λ w. In w raw) e t.1)
+        ]
+
+    to_by : (b : Bool) (p : NumberedSymbol × NumberedSymbol) (x y : Symbol) → pair_of all p ≡ (x, y) → In (cond b p (p.1, p.0)) kept → ArePair (kept_pairs all kept) x y
+    to_by true p x y e h = read_pair all kept p x y e h
+    to_by false p x y e h = read_turned all kept p x y e h
+
+    to : (x y : Symbol) → Contains (kept_pairs all raw) (x, y) → ArePair (kept_pairs all kept) x y
+    to x y c =
+        let r = from_map (pair_of all) (x, y) raw (contains_in (x, y) (kept_pairs all raw) c) in
+        to_by (leb (r.0).0.name (r.0).1.name) r.0 x y r.2 ((same (with_low_first r.0)).1 (in_map with_low_first r.0 raw r.1))
+
+    both_from : (x y : Symbol) → ArePair (kept_pairs all kept) x y → ArePair (kept_pairs all raw) x y
+    both_from x y (inl c) = from x y c
+    both_from x y (inr c) = turned_pair (kept_pairs all raw) y x (from y x c)
+
+    both_to : (x y : Symbol) → ArePair (kept_pairs all raw) x y → ArePair (kept_pairs all kept) x y
+    both_to x y (inl c) = to x y c
+    both_to x y (inr c) = turned_pair (kept_pairs all kept) y x (to y x c)
+
+    numbered_by : (b : Bool) (p : NumberedSymbol × NumberedSymbol) → IsPairNumbered all p → IsPairNumbered all (cond b p (p.1, p.0))
+    numbered_by true p n = n
+    numbered_by false p n = (n.1, n.0)
+
+    numbered_at : (p : NumberedSymbol × NumberedSymbol) → In p (map with_low_first raw) → IsPairNumbered all p
+    numbered_at p h =
+        let r = from_map with_low_first p raw h in
+        subst (IsPairNumbered all) r.2 (numbered_by (leb (r.0).0.name (r.0).1.name) r.0 (All-contains (IsPairNumbered all) raw r.0 read.numbered (in_contains r.0 raw r.1)))
+
+-- the test of two pairs
+abbrev is_same_symbol : NumberedSymbol → NumberedSymbol → Bool
+is_same_symbol x y = nat_eq x.name y.name && beq x.variable y.variable
+
+abbrev pub is_same_pair : NumberedSymbol × NumberedSymbol → NumberedSymbol × NumberedSymbol → Bool
+is_same_pair p q = is_same_symbol p.0 q.0 && is_same_symbol p.1 q.1
+
+pub symbol_decides : (x y : NumberedSymbol) → Decides (is_same_symbol x y) (x ≡ y)
+symbol_decides x y =
+    let d = Decides-and (nat_eq x.name y.name) (beq x.variable y.variable) (unsigned_Decides x.name y.name) (booleans_Decides x.variable y.variable) in
+    (λ t. let r = d.0 t in let name = r.0 in let variable = r.1 in λ i. record { name = name i; variable = variable i }, λ e. d.1 (ap (λ (s : NumberedSymbol). s.name) e, ap (λ (s : NumberedSymbol). s.variable) e))
+
+pair_decides : (p q : NumberedSymbol × NumberedSymbol) → Decides (is_same_pair p q) (p ≡ q)
+pair_decides p q =
+    let d = Decides-and (is_same_symbol p.0 q.0) (is_same_symbol p.1 q.1) (symbol_decides p.0 q.0) (symbol_decides p.1 q.1) in
+    (λ t. let r = d.0 t in let first = r.0 in let second = r.1 in λ i. (first i, second i), λ e. d.1 (λ i. (e i).0, λ i. (e i).1))
+
+-- sorted, and each once
+pub sorted_once : (listed sorted kept : List (NumberedSymbol × NumberedSymbol)) → IsPermutation listed sorted → IsFiltered (DiffersFromLast is_same_pair) [] sorted kept → HasSame listed kept
+sorted_once listed sorted kept moved filtered = (
+  λ p h. subst (λ w. Contains w p) (sym is) (Contains-dedup (decided is_same_pair pair_decides) (λ a b. (pair_decides a b).0) sorted p (Contains-permutation listed sorted p moved h)),
+  λ p h. Contains-permutation sorted listed p (IsPermutation-sym listed sorted moved) (Contains-from_dedup is_same_pair sorted p (subst (λ w. Contains w p) is h)),
+)
+  where
+    is : kept ≡ dedup is_same_pair sorted
+    is = dedup_is is_same_pair sorted kept filtered
+
+-- what is collected for the active `$d` are these pairs, with the lower number first
+low_among : (xs : List NumberedSymbol) → pairs_among xs ≡ map with_low_first (in_turn xs)
+low_among [] = refl
+low_among (x ∷ xs) = (λ i. sym (map-map with_low_first (λ y. (x, y)) xs) i ++ low_among xs i) ∙ sym (map-append with_low_first (map (λ y. (x, y)) xs) (in_turn xs))
+
+low_all : (expressions : List (List NumberedSymbol)) (numbers : List ℕ) → flat_map (λ n. pairs_among (expression_kept expressions n)) numbers ≡ map with_low_first (flat_map (in_turn_at expressions) numbers)
+low_all expressions [] = refl
+low_all expressions (n ∷ numbers) = (λ i. low_among (expression_kept expressions n) i ++ low_all expressions numbers i) ∙ sym (map-append with_low_first (in_turn_at expressions n) (flat_map (in_turn_at expressions) numbers))
+
+low_read : (all : List (List ℕ)) (before : List Item) (expressions : List (List NumberedSymbol)) (numbers : List ℕ) → AreSymbols all before expressions → AreDisjoint before numbers
+    → AreSamePairsRead all (flat_map (pairs_at before) numbers) (flat_map (λ n. pairs_among (expression_kept expressions n)) numbers)
+low_read all before expressions numbers a are =
+    let listed = flat_map (λ n. pairs_among (expression_kept expressions n)) numbers in
+    let low = low_all expressions numbers in
+    same_read all (flat_map (pairs_at before) numbers) (flat_map (in_turn_at expressions) numbers) listed (pairs_kept all before expressions numbers a are) (λ p. (λ h. subst (In p) low h, λ h. subst (In p) (sym low) h))
+
+pub active_read : (all : List (List ℕ)) (before : List Item) (expressions : List (List NumberedSymbol)) (numbers : List ℕ) → AreSymbols all before expressions → ((n : ℕ) → In n numbers → In n (active_numbers is_disjoint_item before))
+    → AreSamePairsRead all (flat_map (pairs_at before) numbers) (flat_map (λ n. pairs_among (expression_kept expressions n)) numbers)
+active_read all before expressions numbers a active = low_read all before expressions numbers a (λ n h. let r = from_active_number is_disjoint_item before n (active n h) in (r.0, r.1, r.3))
+
+pub front_read : (all : List (List ℕ)) (before : List Item) (expressions : List (List NumberedSymbol)) (numbers : List ℕ) (count : ℕ) → AreSound before → AreSymbols all before expressions → AreFrontNumbers before numbers count
+    → AreSamePairsRead all (active_pairs (take count before)) (flat_map (λ n. pairs_among (expression_kept expressions n)) numbers)
+front_read all before expressions numbers count h a front =
+    let listed = flat_map (λ n. pairs_among (expression_kept expressions n)) numbers in
+    subst (λ w. AreSamePairsRead all w listed) (sym (front_pairs before numbers count h front)) (low_read all before expressions numbers a there)
+  where
+    there : AreDisjoint before numbers
+    there n k =
+        let r = from_active_number is_disjoint_item (take count before) n (subst (In n) front.active k) in
+        (r.0, subst (λ w. slice_get w n ≡ Some r.0) (take-append-drop count before) (get_join (take count before) (drop count before) n r.0 r.1), r.3)
+
+-- the pairs behind so many of the items, with those of the `$d` behind, are the active ones
+pub front_and_own : (before : List Item) (outer own : List ℕ) (count : ℕ) → AreSound before → outer ++ own ≡ active_numbers is_disjoint_item before → AreFrontNumbers before outer count → active_pairs (take count before) ++ flat_map (pairs_at before) own ≡ active_pairs before
+front_and_own before outer own count h e front =
+    ap (λ w. w ++ flat_map (pairs_at before) own) (front_pairs before outer count h front) ∙ sym (flat_map-append (pairs_at before) outer own) ∙ ap (flat_map (pairs_at before)) e ∙ sym (active_pairs_by_numbers before h)
+
+-- so it is with those of the first of these `$d`, and the ones of the others
+pub front_and_more : (before : List Item) (outer done own : List ℕ) (count front : ℕ) → AreSound before → done ++ own ≡ outer → AreFrontNumbers before outer count → AreFrontNumbers before done front
+    → active_pairs (take front before) ++ flat_map (pairs_at before) own ≡ active_pairs (take count before)
+front_and_more before outer done own count front h e all first =
+    ap (λ w. w ++ flat_map (pairs_at before) own) (front_pairs before done front h first) ∙ sym (flat_map-append (pairs_at before) done own) ∙ ap (flat_map (pairs_at before)) e ∙ sym (front_pairs before outer count h all)
+
+-- pairs of a list that has each of some pairs, and of two lists behind one another
+pair_more : (all : List (List ℕ)) (xs ys : List (NumberedSymbol × NumberedSymbol)) (x y : Symbol) → HasEach ys xs → ArePair (kept_pairs all xs) x y → ArePair (kept_pairs all ys) x y
+pair_more all xs ys x y each are = by are
+  where
+    one : (x y : Symbol) → Contains (kept_pairs all xs) (x, y) → ArePair (kept_pairs all ys) x y
+    one x y c =
+        let r = from_map (pair_of all) (x, y) xs (contains_in (x, y) (kept_pairs all xs) c) in
+        read_pair all ys r.0 x y r.2 (contains_in r.0 ys (each r.0 (in_contains r.0 xs r.1)))
+
+    by : ArePair (kept_pairs all xs) x y → ArePair (kept_pairs all ys) x y
+    by (inl c) = one x y c
+    by (inr c) = turned_pair (kept_pairs all ys) y x (one y x c)
+
+pair_left : (ps qs : List (Symbol × Symbol)) (x y : Symbol) → ArePair ps x y → ArePair (ps ++ qs) x y
+pair_left ps qs x y (inl c) = inl (Contains-append_left ps qs (x, y) c)
+pair_left ps qs x y (inr c) = inr (Contains-append_left ps qs (y, x) c)
+
+pair_right : (ps qs : List (Symbol × Symbol)) (x y : Symbol) → ArePair qs x y → ArePair (ps ++ qs) x y
+pair_right ps qs x y (inl c) = inl (Contains-append_right ps qs (x, y) c)
+pair_right ps qs x y (inr c) = inr (Contains-append_right ps qs (y, x) c)
+
+pair_parts : (ps qs : List (Symbol × Symbol)) (x y : Symbol) → ArePair (ps ++ qs) x y → ArePair ps x y ⊎ ArePair qs x y
+pair_parts ps qs x y (inl c) = elim (Contains-append_cases ps qs (x, y) c) [ inl a ↦ inl (inl a) | inr b ↦ inr (inl b) ]
+pair_parts ps qs x y (inr c) = elim (Contains-append_cases ps qs (y, x) c) [ inl a ↦ inl (inr a) | inr b ↦ inr (inr b) ]
+
+-- a list with the same pairs reads the same
+pub same_members : (all : List (List ℕ)) (said : List (Symbol × Symbol)) (xs ys : List (NumberedSymbol × NumberedSymbol)) → HasSame xs ys → AreSamePairsRead all said xs → AreSamePairsRead all said ys
+same_members all said xs ys same read = record {
+  pairs = λ x y. (λ h. (read.pairs x y).0 (pair_more all ys xs x y same.1 h), λ h. pair_more all xs ys x y same.0 ((read.pairs x y).1 h));
+  numbered = λ k d l. All-contains (IsPairNumbered all) xs (get_or ys k d) read.numbered (same.1 (get_or ys k d) (All-contains_itself ys k d l));
+}
+
+-- two lists behind one another
+both_read : (all : List (List ℕ)) (said added : List (Symbol × Symbol)) (base own : List (NumberedSymbol × NumberedSymbol)) → AreSamePairsRead all said base → AreSamePairsRead all added own → AreSamePairsRead all (said ++ added) (own ++ base)
+both_read all said added base own b o = record {
+  pairs = λ x y. (λ h. from x y (pair_parts (kept_pairs all own) (kept_pairs all base) x y (subst (λ w. ArePair w x y) split h)), λ h. subst (λ w. ArePair w x y) (sym split) (to x y (pair_parts said added x y h)));
+  numbered = All-append (IsPairNumbered all) own base o.numbered b.numbered;
+}
+  where
+    split : kept_pairs all (own ++ base) ≡ kept_pairs all own ++ kept_pairs all base
+    split = map-append (pair_of all) own base
+
+    from : (x y : Symbol) → ArePair (kept_pairs all own) x y ⊎ ArePair (kept_pairs all base) x y → ArePair (said ++ added) x y
+    from x y (inl h) = pair_right said added x y ((o.pairs x y).0 h)
+    from x y (inr h) = pair_left said added x y ((b.pairs x y).0 h)
+
+    to : (x y : Symbol) → ArePair said x y ⊎ ArePair added x y → ArePair (kept_pairs all own ++ kept_pairs all base) x y
+    to x y (inl h) = pair_right (kept_pairs all own) (kept_pairs all base) x y ((b.pairs x y).1 h)
+    to x y (inr h) = pair_left (kept_pairs all own) (kept_pairs all base) x y ((o.pairs x y).1 h)
+
+pub joined_read : (all : List (List ℕ)) (said added : List (Symbol × Symbol)) (base own kept : List (NumberedSymbol × NumberedSymbol)) → AreSamePairsRead all said base → AreSamePairsRead all added own → HasSame (own ++ base) kept → AreSamePairsRead all (said ++ added) kept
+joined_read all said added base own kept b o same = same_members all (said ++ added) (own ++ base) kept same (both_read all said added base own b o)
+
+-- a list that has each of the others is of both
+pub shared_same : (base own : List (NumberedSymbol × NumberedSymbol)) → HasEach base own → HasSame (own ++ base) base
+shared_same base own each = (λ p h. elim (Contains-append_cases own base p h) [ inl a ↦ each p a | inr b ↦ b ], λ p h. Contains-append_right own base p h)
+
+-- a list that is there stays there
+pub list_stays : (all : List (List ℕ)) (old new : PairLists) (k : ℕ) (pairs : List (Symbol × Symbol)) → KeepsLists old new → IsList all old k pairs → IsList all new k pairs
+list_stays all old new k pairs keeps is = record {
+  list = is.list;
+  there = ap (λ w. slice_get w k) keeps.whole ∙ get_join old.lists.items keeps.more k is.list is.there;
+  read = is.read;
+  order = is.order;
+}
+
+-- what is read of the list with this number
+pub list_read : (all : List (List ℕ)) (lists : PairLists) (k : ℕ) (pairs : List (Symbol × Symbol)) → IsList all lists k pairs → AreSamePairsRead all pairs (list_kept lists k)
+list_read all lists k pairs is = subst (λ o. AreSamePairsRead all pairs (pairs_or_none o)) (sym is.there) is.read
+
+pub list_in_order : (all : List (List ℕ)) (lists : PairLists) (k : ℕ) (pairs : List (Symbol × Symbol)) → IsList all lists k pairs → AreInOrder (list_kept lists k)
+list_in_order all lists k pairs is = subst (λ o. AreInOrder (pairs_or_none o)) (sym is.there) is.order
+
+-- the lists that are made stay so behind more items
+pub made_more : (all : List (List ℕ)) (before later : List Item) (lists : PairLists) → AreMade all before lists → AreMade all (before ++ later) lists
+made_more all before later lists m count k e =
+    let r = m count k e in
+    let c = length-append before later in
+    record {
+      within = omega arith;
+      list = subst (λ items. IsList all lists k (active_pairs items)) (sym (take-append-le count before later r.within)) r.list;
+    }
+
+-- one more list
+pub made_one_more : (all : List (List ℕ)) (before : List Item) (old new : PairLists) (count k : ℕ) → KeepsLists old new → AreMade all before old → count ≤ length before → IsList all new k (active_pairs (take count before))
+    → ((other : ℕ) → list_made new other ≡ cond (nat_eq count other) (Some k) (list_made old other)) → AreMade all before new
+made_one_more all before old new count k keeps made within is told other j e = by_test (nat_eq count other) refl
+  where
+    this : other ≡ count → k ≡ j → IsMadeFor all before new other j
+    this z y = subst (λ c. IsMadeFor all before new c j) (sym z) (record { within = within; list = subst (λ i. IsList all new i (active_pairs (take count before))) y is })
+
+    before_it : list_made old other ≡ Some j → IsMadeFor all before new other j
+    before_it q = let r = made other j q in record { within = r.within; list = list_stays all old new j (active_pairs (take other before)) keeps r.list }
+
+    same : Some k ≡ Some j → k ≡ j
+    same q = cc
+
+    by_test : (b : Bool) → nat_eq count other ≡ b → IsMadeFor all before new other j
+    by_test true t = elim (eqb_tells count other) [
+      | inl p ↦ this (sym p.1) (same (sym (ap (λ b. cond b (Some k) (list_made old other)) t) ∙ sym (told other) ∙ e))
+      | inr p ↦ absurd (false≢true (sym p.0 ∙ t))
+    ]
+    by_test false t = before_it (sym (ap (λ b. cond b (Some k) (list_made old other)) t) ∙ sym (told other) ∙ e)
+
+-- the last list, where the test says that it is of these pairs
+pub is_there : (lists : PairLists) (last : Vec (NumberedSymbol × NumberedSymbol) Global) (kept : List (NumberedSymbol × NumberedSymbol)) → slice_get lists.lists.items (length lists.lists.items - 1) ≡ Some last → pointwise is_same_pair last.items kept ≡ true
+    → IsThere lists (length lists.lists.items - 1) kept
+is_there lists last kept there t = record { list = last; there = there; same = (pointwise_decides pair_decides last.items kept).0 t }
+
+-- the list with this number is of pairs that are read so
+pub is_list : (all : List (List ℕ)) (lists : PairLists) (k : ℕ) (kept : List (NumberedSymbol × NumberedSymbol)) (pairs : List (Symbol × Symbol)) → IsThere lists k kept → AreSamePairsRead all pairs kept → AreInOrder kept → IsList all lists k pairs
+is_list all lists k kept pairs there read order = record { list = there.list; there = there.there; read = subst (AreSamePairsRead all pairs) (sym there.same) read; order = subst AreInOrder (sym there.same) order }
+
+-- the rows of numbers of lists, where there may be more lists
+pairs_stay : (all : List (List ℕ)) (said : List Item) (old new : PairLists) (numbers : List (Option ℕ)) → KeepsLists old new → AreRows (TellsPairs all old) said numbers → AreRows (TellsPairs all new) said numbers
+pairs_stay all said old new numbers keeps rows = record {
+  count = rows.count;
+  each = λ n row e. let told = rows.each n row e in record { some = told.some; list = λ k q. list_stays all old new k (active_pairs (sound_items (take n said))) keeps (told.list k q) };
+}
+
+pub pairs_more : (all : List (List ℕ)) (said : List Item) (item : Item) (old new : PairLists) (numbers : List (Option ℕ)) (number : Option ℕ) → KeepsLists old new → AreRows (TellsPairs all old) said numbers → TellsPairs all new (sound_items said) item number
+    → AreRows (TellsPairs all new) (said ++ item ∷ []) (numbers ++ number ∷ [])
+pairs_more all said item old new numbers number keeps rows told = rows_more (TellsPairs all new) said item numbers number (pairs_stay all said old new numbers keeps rows) told
+
+pub keeps_all : (lists : PairLists) → KeepsLists lists lists
+keeps_all lists = record { more = []; whole = sym (append-nil lists.lists.items) }
+
+pub no_number : (all : List (List ℕ)) (lists : PairLists) (before : List Item) (item : Item) → false ≡ is_told_proof before item → TellsPairs all lists before item None
+no_number all lists before item e = record { some = e; list = λ k q. absurd (none-some k q) }
+
+pub some_number : (all : List (List ℕ)) (lists : PairLists) (before : List Item) (item : Item) (k : ℕ) → true ≡ is_told_proof before item → IsList all lists k (active_pairs before) → TellsPairs all lists before item (Some k)
+some_number all lists before item k e is = record { some = e; list = λ j q. subst (λ i. IsList all lists i (active_pairs before)) (same k j q) is }
+  where
+    same : (a b : ℕ) → Some a ≡ Some b → a ≡ b
+    same a b q = cc

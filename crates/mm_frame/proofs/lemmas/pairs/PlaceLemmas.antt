@@ -1,0 +1,284 @@
+-- The places of the variables of a frame: with one more of them, and those of the ones that an active `$d` has together with one.
+use Rattle.std.proofs.Common.{◌≡◌, ℕ, zero, suc, ◌+◌, ◌-◌, ◌<◌, ◌≤◌, Bool, true, false, cond, nat_eq, Option, Some, None, List, [], ◌∷◌, ◌++◌, length, map, filter, flat_map, take, drop, slice_get, get_or, refl, sym, ◌∙◌, ap, subst, arith, inl, inr, Contains, eqb}
+use Rattle.std.specs.Prelude.{All, option_to_list, nat_lt, is_some, ◌↔◌}
+use Rattle.std.specs.List.{dedup}
+use Rattle.std.specs.List.Sorted.{IsPermutation, IsSorted}
+use Rattle.std.specs.List.Retain.{IsFiltered, DiffersFromLast}
+use Rattle.std.specs.Ordering.{nat_cmp}
+use native.Mathlib.Decide.{dec_lt}
+use Rattle.std.proofs.lemmas.Bool.{false≢true, false_from_ne_true, eqb-true, eq-eqb, lt-ltb, ltb-true, or_right}
+use Rattle.std.proofs.lemmas.List.{map-append}
+use Rattle.std.proofs.lemmas.List.Elements.{All-append, All-contains}
+use Rattle.std.proofs.lemmas.List.Filters.{dedup_is}
+use Rattle.std.proofs.lemmas.List.Kept.{Contains-dedup_nat, Contains-from_dedup, AllPairs-from_increasing}
+use Rattle.std.proofs.lemmas.List.Sorted.{IsPermutation-sym, Contains-permutation}
+use Rattle.std.proofs.lemmas.Map.Keys.{IsStrictlyIncreasing-dedup}
+use Rattle.std.proofs.lemmas.Option.{same_Some, slice_get_within}
+use Rattle.mm_frame.specs.declared.symbol.NumberedSymbol.{NumberedSymbol}
+use Rattle.mm_frame.specs.declared.paired.PairTable.{PairTable}
+use Rattle.mm_frame.specs.declared.places.Places.{Places}
+use Rattle.mm_frame.specs.declared.mandatory.Earlier.{Earlier}
+use Rattle.mm_frame.specs.Language.Frame.{Symbol}
+use Rattle.mm_frame.specs.Language.Item.{Item, is_labelled, is_disjoint}
+use Rattle.mm_frame.specs.Language.Names.{name_at}
+use Rattle.mm_frame.specs.Language.Scope.{Mark}
+use Rattle.mm_frame.specs.Language.Framing.{symbol, expression, active_pairs}
+use Rattle.mm_frame.specs.Language.NumberedSymbols.{symbol_of, symbols_of, pair_of, kept_pairs, IsNumbered, IsPairNumbered, ArePairsRead}
+use Rattle.mm_frame.specs.Language.Answering.{are_paired}
+use Rattle.mm_frame.specs.Code.BlockMarks.{stays_by}
+use Rattle.mm_frame.specs.Code.KeptEarlier.{KnowsEarlier}
+use Rattle.mm_frame.specs.Code.KeptPairTable.{row_at, IsDisjointAt, ReadsPairs}
+use Rattle.mm_frame.specs.Code.KeptPlaces.{place_of, ArePlaces, later_place, later_places_at, pair_at}
+use Rattle.mm_frame.specs.Code.KeptSymbols.{expression_kept, AreSymbols}
+use Rattle.mm_frame.specs.Code.LastItems.{IsRising}
+use Rattle.mm_frame.specs.Code.Numbers.{IsNameNumber}
+use Rattle.mm_frame.proofs.lemmas.lists.Members.{In, in_contains, contains_in, in_map, from_map, in_filter, from_filter, in_flat, from_flat, get_in, has_in}
+use Rattle.mm_frame.proofs.lemmas.scope.ActiveBySplit.{in_first, in_later}
+use Rattle.mm_frame.proofs.lemmas.frames.Frames.{in_at}
+use Rattle.mm_frame.proofs.lemmas.scope.TableLemmas.{first_cases}
+use Rattle.mm_frame.proofs.lemmas.names.NumberLemmas.{name_there}
+use Rattle.mm_frame.proofs.lemmas.frames.HypothesisNumbers.{rise_step, same_rising}
+use Rattle.mm_frame.proofs.lemmas.lists.Rising.{get_drop}
+use Rattle.mm_frame.proofs.lemmas.pairs.ActivePairLemmas.{pairs_with}
+use Rattle.mm_frame.proofs.lemmas.pairs.PairTableLemmas.{named_in, paired_from, paired_to, active_at_marks}
+use Rattle.mm_frame.proofs.lemmas.pairs.AskedLemmas.{names_apart}
+
+-- ---- one more symbol
+
+-- the first symbols are found by their names, and no other name is
+pub record PlacedTo (n : ℕ) (symbols : List NumberedSymbol) (places : Places) : Type 0 where
+  pub each : (k : ℕ) (symbol : NumberedSymbol) → k < n → slice_get symbols k ≡ Some symbol → place_of places symbol.name ≡ Some k
+  pub only : (k name : ℕ) → place_of places name ≡ Some k → (symbol : NumberedSymbol) × (slice_get symbols k ≡ Some symbol) × (symbol.name ≡ name)
+
+pub placed_more : (n : ℕ) (symbols : List NumberedSymbol) (old new : Places) (one : NumberedSymbol) → slice_get symbols n ≡ Some one → PlacedTo n symbols old → place_of old one.name ≡ None
+    → ((name : ℕ) → place_of new name ≡ cond (nat_eq one.name name) (Some n) (place_of old name)) → PlacedTo (n + 1) symbols new
+placed_more n symbols old new one there p fresh put = record {
+  each = λ k symbol l e. elim (dec_lt k n) [
+    | yes m ↦ (
+        let before = p.each k symbol m e in
+        put symbol.name ∙ ap (λ b. cond b (Some n) (place_of old symbol.name)) (other symbol.name (λ q. (let none : None ≡ Some k = sym fresh ∙ ap (place_of old) q ∙ before in cc))) ∙ before
+        )
+    | no m ↦ (
+        let last : k ≡ n = omega arith in
+        let same = same_Some symbol one (sym e ∙ ap (slice_get symbols) last ∙ there) in
+        put symbol.name ∙ ap (λ (s : NumberedSymbol). cond (nat_eq one.name s.name) (Some n) (place_of old s.name)) same ∙ ap (λ b. cond b (Some n) (place_of old one.name)) (eq-eqb one.name one.name refl) ∙ ap Some (sym last)
+        )
+  ];
+  only = λ k name e. by_name k name (nat_eq one.name name) refl (sym (put name) ∙ e);
+}
+  where
+    other : (name : ℕ) → (one.name ≡ name → ⊥) → nat_eq one.name name ≡ false
+    other name apart = false_from_ne_true (nat_eq one.name name) (λ t. apart (eqb-true one.name name t))
+
+    by_name : (k name : ℕ) (b : Bool) → nat_eq one.name name ≡ b → cond b (Some n) (place_of old name) ≡ Some k → (symbol : NumberedSymbol) × (slice_get symbols k ≡ Some symbol) × (symbol.name ≡ name)
+    by_name k name true q e = (one, ap (slice_get symbols) (same_Some k n (sym e)) ∙ there, eqb-true one.name name q)
+    by_name k name false q e = p.only k name e
+
+pub placed_all : (n : ℕ) (symbols : List NumberedSymbol) (places : Places) → length symbols ≤ n → PlacedTo n symbols places → ArePlaces symbols places
+placed_all n symbols places end p = record { each = λ k symbol e. (let w = slice_get_within symbols k symbol e in p.each k symbol (omega arith) e); only = p.only }
+
+pub no_item : {X : Type 0} (xs : List X) (n : ℕ) → length xs ≤ n → slice_get xs n ≡ None
+no_item [] n l = refl
+no_item (x ∷ xs) zero l = absurd (omega arith)
+no_item (x ∷ xs) (suc n) l = no_item xs n (omega arith)
+
+pub none_there : (o : Option ℕ) → is_some o ≡ false → o ≡ None
+none_there None e = refl
+none_there (Some k) e = absurd (false≢true (sym e))
+
+-- ---- the places of those that pass a test
+
+abbrev pub passing : {X : Type 0} → (X → Bool) → ℕ → List X → List ℕ
+passing test n [] = []
+passing test n (x ∷ xs) = cond (test x) (n ∷ passing test (suc n) xs) (passing test (suc n) xs)
+
+record Passes {X : Type 0} (test : X → Bool) (n : ℕ) (xs : List X) (k : ℕ) : Type 0 where
+  place : ℕ
+  number : k ≡ n + place
+  item : X
+  there : slice_get xs place ≡ Some item
+  good : test item ≡ true
+
+from_passing : {X : Type 0} (test : X → Bool) (n : ℕ) (xs : List X) (k : ℕ) → In k (passing test n xs) → Passes test n xs k
+from_passing test n [] k h = absurd h
+from_passing test n (x ∷ xs) k h = elim (first_cases (test x) n k (passing test (suc n) xs) h) [
+  | inl p ↦ (let q = p.0 in record { place = 0; number = omega arith; item = x; there = refl; good = p.1 })
+  | inr m ↦ (let r = from_passing test (suc n) xs k m in let q = r.number in record { place = suc r.place; number = omega arith; item = r.item; there = r.there; good = r.good })
+]
+
+to_passing : {X : Type 0} (test : X → Bool) (n : ℕ) (xs : List X) (place : ℕ) (x : X) → slice_get xs place ≡ Some x → test x ≡ true → In (n + place) (passing test n xs)
+to_passing test n [] place x e t = cc
+to_passing test n (y ∷ ys) zero x e t =
+    let same = same_Some y x e in
+    let z : n ≡ n + 0 = omega arith in
+    subst (λ w. In w (passing test n (y ∷ ys))) z (in_first (test y) n (passing test (suc n) ys) (ap test same ∙ t))
+to_passing test n (y ∷ ys) (suc place) x e t =
+    let z : suc n + place ≡ n + suc place = omega arith in
+    subst (λ w. In w (passing test n (y ∷ ys))) z (in_later (test y) (suc n + place) n (passing test (suc n) ys) (to_passing test (suc n) ys place x e t))
+
+passing_rise : {X : Type 0} (test : X → Bool) (n : ℕ) (xs : List X) → IsRising (passing test n xs)
+passing_rise test n [] = λ i j d l m. absurd (omega arith)
+passing_rise test n (x ∷ xs) = rise_step (test x) n (passing test (suc n) xs) (λ m h. let r = from_passing test (suc n) xs m h in let q = r.number in omega arith) (passing_rise test (suc n) xs)
+
+-- the pairs of a variable with those at these places
+drop_first : {X : Type 0} (whole : List X) (n : ℕ) (x : X) (xs : List X) → drop n whole ≡ x ∷ xs → (drop (suc n) whole ≡ xs) × (slice_get whole n ≡ Some x)
+drop_first [] zero x xs e = cc
+drop_first [] (suc n) x xs e = cc
+drop_first (y ∷ ys) zero x xs e = (cc, cc)
+drop_first (y ∷ ys) (suc n) x xs e = drop_first ys n x xs e
+
+picked_first : (all : List (List ℕ)) (first : NumberedSymbol) (whole : List NumberedSymbol) (n : ℕ) (x : NumberedSymbol) (ns : List ℕ) (ps : List (Symbol × Symbol)) (b : Bool) → slice_get whole n ≡ Some x
+    → kept_pairs all (flat_map (pair_at first whole) ns) ≡ ps → kept_pairs all (flat_map (pair_at first whole) (cond b (n ∷ ns) ns)) ≡ cond b ((symbol_of all first, symbol_of all x) ∷ ps) ps
+picked_first all first whole n x ns ps true there e =
+    ap (λ (o : Option NumberedSymbol). kept_pairs all (map (λ y. (first, y)) (option_to_list o) ++ flat_map (pair_at first whole) ns)) there ∙ ap (λ w. (symbol_of all first, symbol_of all x) ∷ w) e
+picked_first all first whole n x ns ps false there e = e
+
+picked : (all : List (List ℕ)) (test : Symbol × Symbol → Bool) (first : NumberedSymbol) (whole : List NumberedSymbol) (n : ℕ) (xs : List NumberedSymbol) → drop n whole ≡ xs
+    → kept_pairs all (flat_map (pair_at first whole) (passing (λ y. test (symbol_of all first, symbol_of all y)) n xs)) ≡ filter test (pairs_with (symbol_of all first) (symbols_of all xs))
+picked all test first whole n [] e = refl
+picked all test first whole n (x ∷ xs) e =
+    let d = drop_first whole n x xs e in
+    picked_first all first whole n x (passing (λ y. test (symbol_of all first, symbol_of all y)) (suc n) xs) (filter test (pairs_with (symbol_of all first) (symbols_of all xs))) (test (symbol_of all first, symbol_of all x)) d.1 (picked all test first whole (suc n) xs d.0)
+
+from_option : {X : Type 0} (x : X) (o : Option X) → In x (option_to_list o) → o ≡ Some x
+from_option x None h = absurd h
+from_option x (Some y) (inl e) = ap Some e
+from_option x (Some y) (inr z) = absurd z
+
+to_option : {X : Type 0} (x : X) (o : Option X) → o ≡ Some x → In x (option_to_list o)
+to_option x o e = subst (λ w. In x (option_to_list w)) (sym e) (inl refl)
+
+picked_numbered : (all : List (List ℕ)) (first : NumberedSymbol) (whole : List NumberedSymbol) (places : List ℕ) → IsNumbered all first → All (IsNumbered all) whole → All (IsPairNumbered all) (flat_map (pair_at first whole) places)
+picked_numbered all first whole places a others k d l =
+    let pairs = flat_map (pair_at first whole) places in
+    let r = from_flat (pair_at first whole) (get_or pairs k d) places (in_at pairs k d l) in
+    let s = from_map (λ (y : NumberedSymbol). (first, y)) (get_or pairs k d) (option_to_list (slice_get whole r.0)) r.2 in
+    let y = s.0 in
+    let b = All-contains (IsNumbered all) whole y others (in_contains y whole (get_in y whole r.0 (from_option y (slice_get whole r.0) s.1))) in
+    subst (IsPairNumbered all) s.2 (a, b)
+
+-- ---- those that an active `$d` has together with a variable
+
+-- what the search rests on
+pub record Searches (all : List (List ℕ)) (before : List Item) (table : PairTable) (marks : List Mark) (expressions : List (List NumberedSymbol)) (places : Places) (variables : List NumberedSymbol) (n : ℕ) (first : NumberedSymbol) : Type 0 where
+  pub reads : ReadsPairs all before table marks
+  pub symbols : AreSymbols all before expressions
+  pub placed : ArePlaces variables places
+  pub numbered : All (IsNumbered all) variables
+  pub there : slice_get variables n ≡ Some first
+
+abbrev is_partner : List (List ℕ) → List Item → NumberedSymbol → NumberedSymbol → Bool
+is_partner all before first y = are_paired (active_pairs before) (symbol_of all first, symbol_of all y)
+
+-- an item of a place and its name
+named_there : (all : List (List ℕ)) (variables : List NumberedSymbol) (k : ℕ) (y : NumberedSymbol) → All (IsNumbered all) variables → slice_get variables k ≡ Some y → IsNameNumber all y.name (name_at all y.name)
+named_there all variables k y a e = name_there all y.name (All-contains (IsNumbered all) variables y a (in_contains y variables (get_in y variables k e)))
+
+if_active : (b : Bool) (k : ℕ) (xs : List ℕ) → In k (cond b xs []) → (b ≡ true) × In k xs
+if_active true k xs h = (refl, h)
+if_active false k xs h = absurd h
+
+to_if_active : (b : Bool) (k : ℕ) (xs : List ℕ) → b ≡ true → In k xs → In k (cond b xs [])
+to_if_active b k xs t h = subst (λ c. In k (cond c xs [])) (sym t) h
+
+read_at : (all : List (List ℕ)) (before : List Item) (expressions : List (List NumberedSymbol)) (name : List ℕ) (d : ℕ) → AreSymbols all before expressions → (at : IsDisjointAt before name d) → symbols_of all (expression_kept expressions d) ≡ expression (take d before) at.item
+read_at all before expressions name d a at = a.each d at.item at.there (or_right (is_labelled (at.item).kind) (is_disjoint (at.item).kind) at.disjoint)
+
+found_from : (all : List (List ℕ)) (before : List Item) (table : PairTable) (marks : List Mark) (expressions : List (List NumberedSymbol)) (places : Places) (variables : List NumberedSymbol) (n : ℕ) (first : NumberedSymbol)
+    → Searches all before table marks expressions places variables n first → (k : ℕ) → In k (flat_map (later_places_at places marks expressions n) (row_at table first.name)) → In k (passing (is_partner all before first) (n + 1) (drop (n + 1) variables))
+found_from all before table marks expressions places variables n first s k m =
+    let x = name_at all first.name in
+    let row = from_flat (later_places_at places marks expressions n) k (row_at table first.name) m in
+    let d = row.0 in
+    let kept = expression_kept expressions d in
+    let stayed = if_active (stays_by (drop (suc d) marks)) k (flat_map (later_place places n) kept) row.2 in
+    let one = from_flat (later_place places n) k kept stayed.1 in
+    let later = from_filter (nat_lt n) k (option_to_list (place_of places (one.0).name)) one.2 in
+    let less : n < k = ltb-true n k later.1 in
+    let found = (s.placed).only k (one.0).name (from_option k (place_of places (one.0).name) later.0) in
+    let y = found.0 in
+    let yname = name_at all y.name in
+    let a = named_there all variables n first s.numbered s.there in
+    let b = named_there all variables k y s.numbered found.1 in
+    let at : IsDisjointAt before x d = ((s.reads).knows first.name x a).there d (in_contains d (row_at table first.name) row.1) in
+    let read = read_at all before expressions x d s.symbols at in
+    let there = subst (In (symbol_of all one.0)) read (in_map (symbol_of all) one.0 kept one.1) in
+    let named = named_in (take d before) at.item (symbol_of all one.0) yname there (ap (name_at all) (sym found.2)) in
+    let apart : first.name ≡ y.name → ⊥ = λ e. (
+    let p = (s.placed).each n first s.there in
+    let q = (s.placed).each k y found.1 in
+    let same : n ≡ k = same_Some n k (sym p ∙ ap (place_of places) e ∙ q) in
+    omega arith
+    ) in
+    let names = names_apart all first.name y.name x yname before table marks s.reads a b apart in
+    let second : IsDisjointAt before yname d = record { item = at.item; there = at.there; disjoint = at.disjoint; named = named } in
+    let paired = paired_to before x yname d names (record { first = at; second = second; stayed = active_at_marks before marks d (s.reads).marks ∙ stayed.0 }) in
+    let z : (n + 1) + (k - (n + 1)) ≡ k = omega arith in
+    subst (λ w. In w (passing (is_partner all before first) (n + 1) (drop (n + 1) variables))) z
+    (to_passing (is_partner all before first) (n + 1) (drop (n + 1) variables) (k - (n + 1)) y (get_drop variables (n + 1) (k - (n + 1)) k z ∙ found.1) paired)
+
+found_to : (all : List (List ℕ)) (before : List Item) (table : PairTable) (marks : List Mark) (expressions : List (List NumberedSymbol)) (places : Places) (variables : List NumberedSymbol) (n : ℕ) (first : NumberedSymbol)
+    → Searches all before table marks expressions places variables n first → (k : ℕ) → In k (passing (is_partner all before first) (n + 1) (drop (n + 1) variables)) → In k (flat_map (later_places_at places marks expressions n) (row_at table first.name))
+found_to all before table marks expressions places variables n first s k m =
+    let x = name_at all first.name in
+    let p = from_passing (is_partner all before first) (n + 1) (drop (n + 1) variables) k m in
+    let q = p.number in
+    let z : (n + 1) + p.place ≡ k = sym q in
+    let y = p.item in
+    let yname = name_at all y.name in
+    let there = sym (get_drop variables (n + 1) p.place k z) ∙ p.there in
+    let less : n < k = omega arith in
+    let a = named_there all variables n first s.numbered s.there in
+    let b = named_there all variables k y s.numbered there in
+    let pair = paired_from before x yname (s.reads).sound p.good in
+    let d = pair.1 in
+    let have = pair.2 in
+    let kept = expression_kept expressions d in
+    let read = read_at all before expressions yname d s.symbols have.second in
+    let item = (have.second).item in
+    let said = in_map (symbol (take d before)) yname item.symbols (has_in item.symbols yname (have.second).named) in
+    let one = from_map (symbol_of all) (symbol (take d before) yname) kept (subst (In (symbol (take d before) yname)) (sym read) said) in
+    let name : name_at all (one.0).name ≡ yname = ap (λ (w : Symbol). w.name) one.2 in
+    let numbered = name_there all (one.0).name (All-contains (IsNumbered all) kept one.0 ((s.symbols).numbered d) (in_contains one.0 kept one.1)) in
+    let same : (one.0).name ≡ y.name = (s.reads).distinct (one.0).name y.name yname (numbered ∙ ap Some name) b in
+    let place = ap (place_of places) same ∙ (s.placed).each k y there in
+    let later = in_filter (nat_lt n) k (option_to_list (place_of places (one.0).name)) (to_option k (place_of places (one.0).name) place) (lt-ltb n k less) in
+    let stayed = sym (active_at_marks before marks d (s.reads).marks) ∙ have.stayed in
+    in_flat (later_places_at places marks expressions n) d k (row_at table first.name) (contains_in d (row_at table first.name) (((s.reads).knows first.name x a).cover d have.first have.stayed))
+    (to_if_active (stays_by (drop (suc d) marks)) k (flat_map (later_place places n) kept) stayed (in_flat (later_place places n) one.0 k kept one.1 later))
+
+pub partners_added : (all : List (List ℕ)) (before : List Item) (table : PairTable) (marks : List Mark) (expressions : List (List NumberedSymbol)) (places : Places) (variables : List NumberedSymbol) (n : ℕ) (first : NumberedSymbol)
+    → Searches all before table marks expressions places variables n first → (found : List ℕ) → IsRising found → ((k : ℕ) → Contains found k ↔ Contains (flat_map (later_places_at places marks expressions n) (row_at table first.name)) k)
+    → (said : List (Symbol × Symbol)) (kept : List (NumberedSymbol × NumberedSymbol)) → ArePairsRead all said kept
+    → ArePairsRead all (said ++ filter (are_paired (active_pairs before)) (pairs_with (symbol_of all first) (symbols_of all (drop (n + 1) variables)))) (kept ++ flat_map (pair_at first variables) found)
+partners_added all before table marks expressions places variables n first s found rising same said kept r = record {
+  pairs = map-append (pair_of all) kept (flat_map (pair_at first variables) found)
+      ∙ (λ i. r.pairs i ++ kept_pairs all (flat_map (pair_at first variables) (whole i)))
+      ∙ ap (λ w. said ++ w) (picked all (are_paired (active_pairs before)) first variables (n + 1) (drop (n + 1) variables) refl);
+  numbered = All-append (IsPairNumbered all) kept (flat_map (pair_at first variables) found) r.numbered (picked_numbered all first variables found numbered s.numbered);
+}
+  where
+    reached : List ℕ
+    reached = flat_map (later_places_at places marks expressions n) (row_at table first.name)
+
+    whole : found ≡ passing (is_partner all before first) (n + 1) (drop (n + 1) variables)
+    whole = same_rising found (passing (is_partner all before first) (n + 1) (drop (n + 1) variables)) rising (passing_rise (is_partner all before first) (n + 1) (drop (n + 1) variables))
+        (λ k m. found_from all before table marks expressions places variables n first s k (contains_in k reached ((same k).0 (in_contains k found m))))
+        (λ k m. contains_in k found ((same k).1 (in_contains k reached (found_to all before table marks expressions places variables n first s k m))))
+
+    numbered : IsNumbered all first
+    numbered = All-contains (IsNumbered all) variables first s.numbered (in_contains first variables (get_in first variables n s.there))
+
+-- what is known of the items before an assertion is what a question about active pairs rests on
+pub reads_earlier : (all : List (List ℕ)) (before : List Item) (earlier : Earlier) → KnowsEarlier all before earlier → ReadsPairs all before earlier.pairs.now earlier.blocks.now
+reads_earlier all before earlier known = record { distinct = known.known.distinct; sound = known.sound; knows = known.pairs; marks = known.marks }
+
+-- ---- sorted, and each once
+pub rising_once : (numbers sorted once : List ℕ) → IsSorted nat_cmp sorted → IsFiltered (DiffersFromLast eqb) [] sorted once → IsRising once
+rising_once numbers sorted once s f = subst IsRising (sym (dedup_is eqb sorted once f)) (AllPairs-from_increasing (dedup eqb sorted) (IsStrictlyIncreasing-dedup sorted s))
+
+pub same_once : (numbers sorted once : List ℕ) → IsPermutation numbers sorted → IsFiltered (DiffersFromLast eqb) [] sorted once → (k : ℕ) → Contains once k ↔ Contains numbers k
+same_once numbers sorted once moved f k = (
+  λ m. Contains-permutation sorted numbers k (IsPermutation-sym numbers sorted moved) (Contains-from_dedup eqb sorted k (subst (λ w. Contains w k) (dedup_is eqb sorted once f) m)),
+  λ m. subst (λ w. Contains w k) (sym (dedup_is eqb sorted once f)) (Contains-dedup_nat sorted k (Contains-permutation numbers sorted k moved m)),
+)

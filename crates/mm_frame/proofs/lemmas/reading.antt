@@ -1,0 +1,4 @@
+-- What an item says, read from the words of its piece.
+
+pub mod PieceLemmas
+pub mod SpokenLemmas

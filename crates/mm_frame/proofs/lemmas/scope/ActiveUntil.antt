@@ -1,0 +1,63 @@
+-- Up to where an item is active.
+use Rattle.std.proofs.Common.{◌≡◌, ℕ, suc, ◌+◌, ◌-◌, ◌<◌, ◌≤◌, leb, ◌++◌, ◌∷◌, Bool, true, false, Option, Some, None, List, [], length, min, take, drop, get_or, refl, sym, ◌∙◌, ap, subst, arith}
+use Rattle.std.specs.Prelude.{◌↔◌, slice_range}
+use Rattle.std.proofs.lemmas.Bool.{le-leb, lt-leb, false≢true}
+use Rattle.std.proofs.lemmas.List.{drop-take, length-drop, length-append}
+use Rattle.std.proofs.lemmas.Option.{slice_get-get_or}
+use native.Mathlib.Decide.{dec_lt}
+use Rattle.mm_frame.specs.Language.Scope.{Mark, Closes}
+use Rattle.mm_frame.specs.Language.Resolving.{IsUpTo}
+use Rattle.mm_frame.specs.Code.BlockMarks.{stays_by}
+use Rattle.mm_frame.specs.Code.BlockEnds.{end_of_block}
+use Rattle.mm_frame.specs.Code.KeptBlocks.{marks_from, StandsEnded, Stands, AreBlockEndsKept}
+use Rattle.mm_frame.proofs.lemmas.scope.BlockLemmas.{length_marks, before_none, is_active_open, is_active_ended}
+
+-- what stands between an item and a later one, be there one or not
+behind_range : (marks : List Mark) (from at : ℕ) → from < at → slice_range marks (from + 1) at ≡ drop (suc from) (take at marks)
+behind_range marks from at l =
+    let next : from + 1 ≡ suc from = omega arith in
+    let whole : (from + 1) + (at - (from + 1)) ≡ at = omega arith in
+    sym (drop-take (from + 1) (at - (from + 1)) marks) ∙ ap (λ n. drop (from + 1) (take n marks)) whole ∙ ap (λ n. drop n (take at marks)) next
+
+-- nothing stands behind an item that there is not
+pub until_absent : (marks : List Mark) (from at : ℕ) → length marks ≤ from → (stays_by (drop (suc from) (take at marks)) ≡ true) ↔ IsUpTo at None
+until_absent marks from at l = (λ e. tt, λ u. before_none marks from at (min at (length marks)) refl (omega arith))
+
+pub until_open :
+    (blocks : List ℕ) (ends : List (Option ℕ)) (outer : List ℕ) (current begun ended from at block : ℕ) → AreBlockEndsKept blocks ends outer current begun ended →
+    from < at → from < length blocks → block ≡ get_or blocks from block → end_of_block ends block ≡ None →
+    (stays_by (drop (suc from) (take at (marks_from ends 0 0 blocks))) ≡ true) ↔ IsUpTo at None
+until_open blocks ends outer current begun ended from at block k l w there e =
+    let marks = marks_from ends 0 0 blocks in
+    let stays = is_active_open blocks ends outer current begun ended from at block k w there e in
+    (λ t. tt, λ u. ap stays_by (sym (behind_range marks from at l)) ∙ stays)
+
+up_to : (b : Bool) (at end : ℕ) → b ≡ leb at end → (b ≡ true) ↔ (at < end + 1)
+up_to b at end e = by_order (dec_lt end at)
+  where
+    by_order : Dec (end < at) → (b ≡ true) ↔ (at < end + 1)
+    by_order (yes a) = (λ t. absurd (false≢true (sym (e ∙ lt-leb at end a) ∙ t)), λ l. absurd (omega (arith, l, a)))
+    by_order (no a) = (λ t. omega (arith, a), λ l. e ∙ le-leb at end (omega (arith, l)))
+
+pub until_ended :
+    (blocks : List ℕ) (ends : List (Option ℕ)) (outer : List ℕ) (current begun ended from at block end : ℕ) → AreBlockEndsKept blocks ends outer current begun ended →
+    from < at → from < length blocks → block ≡ get_or blocks from block → end_of_block ends block ≡ Some end →
+    (stays_by (drop (suc from) (take at (marks_from ends 0 0 blocks))) ≡ true) ↔ IsUpTo at (Some (end + 1))
+until_ended blocks ends outer current begun ended from at block end k l w there e =
+    let marks = marks_from ends 0 0 blocks in
+    let told = ap stays_by (sym (behind_range marks from at l)) ∙ is_active_ended blocks ends outer current begun ended from at block end k l w there e in
+    up_to (stays_by (drop (suc from) (take at marks))) at end told
+
+-- the item that ended a block is one of the items
+pub end_there :
+    (blocks : List ℕ) (ends : List (Option ℕ)) (outer : List ℕ) (current begun ended from block end : ℕ) → AreBlockEndsKept blocks ends outer current begun ended →
+    from < length blocks → block ≡ get_or blocks from block → end_of_block ends block ≡ Some end → end < length blocks
+end_there blocks ends outer current begun ended from block end k w there e =
+    let marks = marks_from ends 0 0 blocks in
+    let s : StandsEnded (drop (suc from) marks) from end =
+    subst (λ o. Stands (outer ++ current ∷ []) (drop (suc from) marks) block from o) e (k.are_blocks.stand from block (slice_get-get_or blocks from block w ∙ ap Some (sym there))) in
+    let behind : length (drop (suc from) marks) ≡ length s.front + length (Closes ∷ s.rest) = ap length s.parts ∙ length-append s.front (Closes ∷ s.rest) in
+    let left = length-drop (suc from) marks in
+    let all = length_marks ends 0 0 blocks in
+    let number = s.number in
+    omega (arith, behind, left, all, number, w)

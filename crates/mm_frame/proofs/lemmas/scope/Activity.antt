@@ -1,0 +1,183 @@
+-- Activity by blocks and by what is closed between.
+use Rattle.std.proofs.Common.{◌≡◌, ℕ, zero, suc, ◌+◌, ◌-◌, ◌≤◌, ◌<◌, ◌↔◌, Bool, true, false, cond, Some, List, [], ◌∷◌, take, drop, slice_get, count_by, refl, sym, ◌∙◌, ap, subst, arith, take-add, take-take}
+use native.Mathlib.Decide.{dec_lt}
+use Rattle.std.proofs.lemmas.List.Sums.{sum_by-cons, sum_by-append}
+use Rattle.mm_frame.specs.Language.Item.{Item}
+use Rattle.mm_frame.specs.Language.Scope.{Mark, Closes, Neither, mark_of, stays, opens, closes, is_start, is_end}
+use Rattle.mm_frame.specs.Language.Numbered.{IsEven, IsEndOf, HoldsItem, IsActive, between}
+use Rattle.mm_frame.proofs.lemmas.scope.Stack.{stays_by_counts}
+use Rattle.mm_frame.proofs.lemmas.scope.Heights.{IsHeight, EndsAt, Around, from_height, to_height}
+
+cons_count : (p : Item → Bool) (x : Item) (xs : List Item) → count_by p (x ∷ xs) ≡ cond (p x) 1 0 + count_by p xs
+cons_count p x xs = sum_by-cons (λ i. cond (p i) 1 0) x xs
+
+count_more : (p : Item → Bool) (xs : List Item) (k : ℕ) → count_by p (take k xs) ≤ count_by p (take (suc k) xs)
+count_more p [] zero = omega arith
+count_more p [] (suc k) = omega arith
+count_more p (x ∷ xs) zero = omega arith
+count_more p (x ∷ xs) (suc k) = let a = cons_count p x (take k xs) in let b = cons_count p x (take (suc k) xs) in let c = count_more p xs k in omega arith
+
+small : (b : Bool) → cond b 1 0 ≤ 1
+small true = omega arith
+small false = omega arith
+
+count_one : (p : Item → Bool) (xs : List Item) (k : ℕ) → count_by p (take (suc k) xs) ≤ suc (count_by p (take k xs))
+count_one p [] zero = omega arith
+count_one p [] (suc k) = omega arith
+count_one p (x ∷ xs) zero = let a = cons_count p x [] in let s = small (p x) in omega arith
+count_one p (x ∷ xs) (suc k) = let a = cons_count p x (take k xs) in let b = cons_count p x (take (suc k) xs) in let c = count_one p xs k in omega arith
+
+count_at : (p : Item → Bool) (xs : List Item) (k : ℕ) (x : Item) → slice_get xs k ≡ Some x → count_by p (take (suc k) xs) ≡ count_by p (take k xs) + cond (p x) 1 0
+count_at p [] k x e = cc
+count_at p (y ∷ xs) zero x e = let q : y ≡ x = cc in cons_count p y [] ∙ ap (λ w. cond (p w) 1 0 + 0) q ∙ plain (cond (p x) 1 0)
+  where
+    plain : (n : ℕ) → n + 0 ≡ 0 + n
+    plain n = omega arith
+count_at p (y ∷ xs) (suc k) x e = let a = cons_count p y (take k xs) in let b = cons_count p y (take (suc k) xs) in let c = count_at p xs k x e in omega arith
+
+found_case : (p : Item → Bool) (x : Item) (b : Bool) → p x ≡ b → 0 < cond b 1 0 → p x ≡ true
+found_case p x true e l = e
+found_case p x false e l = absurd (omega arith)
+
+count_found : (p : Item → Bool) (xs : List Item) (k : ℕ) → count_by p (take k xs) < count_by p (take (suc k) xs) → (x : Item) × (slice_get xs k ≡ Some x) × (p x ≡ true)
+count_found p [] zero l = absurd (omega arith)
+count_found p [] (suc k) l = absurd (omega arith)
+count_found p (x ∷ xs) zero l = (x, refl, found_case p x (p x) refl (let a = cons_count p x [] in omega arith))
+count_found p (x ∷ xs) (suc k) l = count_found p xs k (let a = cons_count p x (take k xs) in let b = cons_count p x (take (suc k) xs) in omega arith)
+
+count_split : (p : Item → Bool) (xs : List Item) (b n : ℕ) → count_by p (take (b + n) xs) ≡ count_by p (take b xs) + count_by p (take n (drop b xs))
+count_split p xs b n = ap (count_by p) (take-add b n xs) ∙ sum_by-append (λ i. cond (p i) 1 0) (take b xs) (take n (drop b xs))
+
+-- how many blocks are open before item k
+abbrev height : List Item → ℕ → ℕ
+height items k = count_by is_start (take k items) - count_by is_end (take k items)
+
+nested : (items : List Item) → stays items ≡ true → (k : ℕ) → count_by is_end (take k items) ≤ count_by is_start (take k items)
+nested items h = (stays_by_counts items).0 h
+
+is_height : (items : List Item) → stays items ≡ true → IsHeight (height items)
+is_height items h = record {
+  base = refl;
+  up = λ k. (let a = nested items h k in let b = count_one is_start items k in let c = count_more is_end items k in omega arith);
+  down = λ k. (let a = nested items h (suc k) in let b = count_more is_start items k in let c = count_one is_end items k in omega arith);
+}
+
+even_height : (items : List Item) → stays items ≡ true → (b e : ℕ) → b < e → IsEven items b e → height items (suc e) ≡ height items b
+even_height items h b e l v =
+    let n = e + 1 - b in
+    let q : b + n ≡ suc e = omega arith in
+    let s = subst (λ w. count_by is_start (take w items) ≡ count_by is_start (take b items) + count_by is_start (take n (drop b items))) q (count_split is_start items b n) in
+    let t = subst (λ w. count_by is_end (take w items) ≡ count_by is_end (take b items) + count_by is_end (take n (drop b items))) q (count_split is_end items b n) in
+    let x = nested items h b in
+    omega arith
+
+height_even : (items : List Item) → stays items ≡ true → (b e : ℕ) → b < e → height items (suc e) ≡ height items b → IsEven items b e
+height_even items h b e l v =
+    let n = e + 1 - b in
+    let q : b + n ≡ suc e = omega arith in
+    let s = subst (λ w. count_by is_start (take w items) ≡ count_by is_start (take b items) + count_by is_start (take n (drop b items))) q (count_split is_start items b n) in
+    let t = subst (λ w. count_by is_end (take w items) ≡ count_by is_end (take b items) + count_by is_end (take n (drop b items))) q (count_split is_end items b n) in
+    let x = nested items h b in
+    let y = nested items h (suc e) in
+    omega arith
+
+to_ends : (items : List Item) → stays items ≡ true → (b e : ℕ) → IsEndOf items b e → EndsAt (height items) b e
+to_ends items h b e d = record { behind = d.behind; even = even_height items h b e d.behind d.even; first = λ k x y z. d.first k x y (height_even items h b k x z) }
+
+from_ends : (items : List Item) → stays items ≡ true → (b e : ℕ) → EndsAt (height items) b e → IsEndOf items b e
+from_ends items h b e d = record { behind = d.behind; even = height_even items h b e d.behind d.even; first = λ k x y z. d.first k x y (even_height items h b k x z) }
+
+abbrev unit : Bool → ℕ
+unit b = cond b 1 0
+
+flat_at : (items : List Item) (i : ℕ) (x : Item) → slice_get items i ≡ Some x → mark_of x.kind ≡ Neither → height items (suc i) ≡ height items i
+flat_at items i x e m =
+    let a = count_at is_start items i x e in
+    let b = count_at is_end items i x e in
+    let c : unit (is_start x) ≡ 0 = ap (λ w. unit (opens w)) m in
+    let d : unit (is_end x) ≡ 0 = ap (λ w. unit (closes w)) m in
+    omega arith
+
+start_end : (m : Mark) → opens m ≡ true → closes m ≡ false
+start_end Closes e = absurd (Rattle.std.proofs.lemmas.Bool.false≢true e)
+start_end _ e = refl
+
+rises_at : (items : List Item) → stays items ≡ true → (b : ℕ) (s : Item) → slice_get items b ≡ Some s → is_start s ≡ true → height items (suc b) ≡ suc (height items b)
+rises_at items h b s e t =
+    let a = count_at is_start items b s e in
+    let c = count_at is_end items b s e in
+    let d : unit (is_start s) ≡ 1 = ap unit t in
+    let f : unit (is_end s) ≡ 0 = ap unit (start_end (mark_of s.kind) t) in
+    let n = nested items h b in
+    omega arith
+
+-- the heights between
+stay_heights : (items : List Item) → stays items ≡ true → (i j : ℕ) → stays (between items i j) ≡ true → (k : ℕ) → i < k → k ≤ j → height items (suc i) ≤ height items k
+stay_heights items h i j s k a b =
+    let n = k - (i + 1) in
+    let q : i + 1 + n ≡ k = omega arith in
+    let r : i + 1 ≡ suc i = omega arith in
+    let c = (stays_by_counts (between items i j)).0 s n in
+    let t = take-take n (j - (i + 1)) (drop (i + 1) items) (omega arith) in
+    let x = ap (count_by is_end) t in
+    let y = ap (count_by is_start) t in
+    let u = subst (λ w. count_by is_start (take w items) ≡ count_by is_start (take (i + 1) items) + count_by is_start (take n (drop (i + 1) items))) q (count_split is_start items (i + 1) n) in
+    let v = subst (λ w. count_by is_end (take w items) ≡ count_by is_end (take (i + 1) items) + count_by is_end (take n (drop (i + 1) items))) q (count_split is_end items (i + 1) n) in
+    let z : height items (i + 1) ≤ height items k = omega arith in
+    subst (λ w. height items w ≤ height items k) r z
+
+heights_stay : (items : List Item) → stays items ≡ true → (i j : ℕ) → i < j → ((k : ℕ) → i < k → k ≤ j → height items (suc i) ≤ height items k) → stays (between items i j) ≡ true
+heights_stay items h i j l f = (stays_by_counts (between items i j)).1 (λ k. by_length k (dec_lt k (j - (i + 1))))
+  where
+    inside_of : (n : ℕ) → n ≤ j - (i + 1) → count_by is_end (take n (drop (i + 1) items)) ≤ count_by is_start (take n (drop (i + 1) items))
+    inside_of n a =
+        let r : suc i ≡ i + 1 = omega arith in
+        let c = subst (λ w. height items w ≤ height items (i + 1 + n)) r (f (i + 1 + n) (omega arith) (omega arith)) in
+        let u = count_split is_start items (i + 1) n in
+        let v = count_split is_end items (i + 1) n in
+        let x = nested items h (i + 1) in
+        let y = nested items h (i + 1 + n) in
+        omega arith
+
+    by_length : (k : ℕ) → Dec (k < j - (i + 1)) → count_by is_end (take k (between items i j)) ≤ count_by is_start (take k (between items i j))
+    by_length k (yes a) =
+        let t = take-take k (j - (i + 1)) (drop (i + 1) items) (omega arith) in
+        subst (λ w. count_by is_end w ≤ count_by is_start w) (sym t) (inside_of k (omega arith))
+    by_length k (no a) =
+        let t = take_past k (j - (i + 1)) (drop (i + 1) items) (omega arith) in
+        subst (λ w. count_by is_end w ≤ count_by is_start w) (sym t) (inside_of (j - (i + 1)) (omega arith))
+      where
+        take_past : (m n : ℕ) (xs : List Item) → n ≤ m → take m (take n xs) ≡ take n xs
+        take_past zero zero xs l = refl
+        take_past (suc m) zero xs l = refl
+        take_past zero (suc n) xs l = absurd (omega arith)
+        take_past (suc m) (suc n) [] l = refl
+        take_past (suc m) (suc n) (x ∷ xs) l = ap (λ w. x ∷ w) (take_past m n xs (omega arith))
+
+pub active_by_blocks : (items : List Item) (i j : ℕ) (x y : Item) → stays items ≡ true → slice_get items i ≡ Some x → slice_get items j ≡ Some y → mark_of x.kind ≡ Neither → mark_of y.kind ≡ Neither → i < j → (stays (between items i j) ≡ true) ↔ IsActive items i j
+active_by_blocks items i j x y h ei ej mx my l = (to_active, from_active)
+  where
+    high : IsHeight (height items)
+    high = is_height items h
+
+    to_active : stays (between items i j) ≡ true → IsActive items i j
+    to_active s = record {
+      before = l;
+      blocks = λ b d. record {
+        start = d.start;
+        there = d.there;
+        starts = d.starts;
+        behind = (omega arith);
+        before_end = λ e f. from_height (height items) (is_height items h) i j b e (stay_heights items h i j s) (let w = flat_at items j y ej my in omega arith) (to_ends items h b e f) (rises_at items h b d.start d.there d.starts) d.behind (d.before_end e f);
+      };
+    }
+
+    around : IsActive items i j → Around (height items) i j
+    around a b c s f e d =
+        let p = count_found is_start items b (let o = count_more is_end items b in omega arith) in
+        let w : HoldsItem items b i = record { start = p.0; there = p.1; starts = p.2; behind = c; before_end = λ e d. f e (to_ends items h b e d) } in
+        (a.blocks b w).before_end e (from_ends items h b e d)
+
+    from_active : IsActive items i j → stays (between items i j) ≡ true
+    from_active a = heights_stay items h i j l
+        (λ k u v. (let q : suc (i + (k - suc i)) ≡ k = omega arith in subst (λ w. height items (suc i) ≤ height items w) q (to_height (height items) (is_height items h) i j (flat_at items i x ei mx) (around a) (k - suc i) (omega arith) (k - suc i) (omega arith))))

@@ -1,0 +1,505 @@
+-- Blocks by marks: what ties marks to items, and what one more mark makes of the block numbers.
+use Rattle.std.proofs.Common.{◌≡◌, ◌≢◌, ℕ, zero, suc, pred, ◌+◌, ◌-◌, ◌≤◌, ◌<◌, ◌==◌, leb, Bool, true, false, cond, Option, Some, None, List, [], ◌∷◌, ◌++◌, length, min, take, drop, get_or, set, count_by, slice_get, refl, sym, ◌∙◌, ap, subst, append_assoc, append-nil, arith, ◌⊎◌, inl, inr}
+use Rattle.std.specs.Prelude.{Result, Ok, is_ok, IsSome, slice_range, unwrap_or, option_to_list}
+use Rattle.std.proofs.lemmas.Bool.{eq-eqb, ne_eqb, le-leb, lt-leb, false≢true}
+use Rattle.std.proofs.Math.Seq.{take-append-add}
+use Rattle.std.proofs.lemmas.List.{length_push, take-append-drop, drop-append-le, length-drop, length-take, take_min, drop-take, drop_all, take_rest, take-append-le, length-set, get_or-set_same, get_or-set_other}
+use Rattle.std.proofs.lemmas.List.Sums.{sum_by_push, count_by-le-length}
+use Rattle.std.proofs.lemmas.Option.{slice_get_within, slice_get-get_or, same_Some}
+use native.Mathlib.Decide.{dec_lt}
+use Rattle.mm_frame.specs.Language.Item.{Item}
+use Rattle.mm_frame.specs.Language.Scope.{Mark, Opens, Closes, Neither, mark_of, closed_at, closed, is_zero, stays, opens, closes}
+use Rattle.mm_frame.specs.Code.BlockMarks.{closed_by, stays_by, block_marks}
+use Rattle.mm_frame.specs.Code.BlockEnds.{end_of_block}
+use Rattle.mm_frame.specs.Code.KeptBlocks.{is_at, mark_between, marks_from, last_block, LeavesOpen, StandsOpen, StandsEnded, Stands, AreBlocks, AreBlockEndsKept}
+use Rattle.mm_frame.proofs.lemmas.scope.ActiveBySplit.{closed_more}
+
+-- marks and items
+closed_of : (items : List Item) → closed items ≡ closed_by (block_marks items)
+closed_of [] = refl
+closed_of (item ∷ items) = ap (closed_at (mark_of item.kind)) (closed_of items)
+
+pub stays_of : (items : List Item) → stays items ≡ stays_by (block_marks items)
+stays_of items = ap is_zero (closed_of items)
+
+-- a list with one more element
+pub get_front : {X : Type 0} (xs : List X) (y x : X) (n : ℕ) → slice_get xs n ≡ Some x → slice_get (xs ++ y ∷ []) n ≡ Some x
+get_front [] y x n e = cc
+get_front (z ∷ xs) y x zero e = e
+get_front (z ∷ xs) y x (suc n) e = get_front xs y x n e
+
+pub get_last : {X : Type 0} (xs : List X) (y : X) (n : ℕ) → n ≡ length xs → slice_get (xs ++ y ∷ []) n ≡ Some y
+get_last [] y zero e = refl
+get_last (z ∷ xs) y (suc n) e = get_last xs y n (omega arith)
+get_last _ y _ e = absurd (omega arith)
+
+pub get_cases : {X : Type 0} (xs : List X) (y x : X) (n : ℕ) → slice_get (xs ++ y ∷ []) n ≡ Some x → (slice_get xs n ≡ Some x) ⊎ ((n ≡ length xs) × (y ≡ x))
+get_cases [] y x zero e = inr (refl, same_Some y x e)
+get_cases [] y x (suc n) e = cc
+get_cases (z ∷ xs) y x zero e = inl e
+get_cases (z ∷ xs) y x (suc n) e = elim (get_cases xs y x n e) [ inl h ↦ inl h | inr h ↦ inr ((omega arith), h.1) ]
+
+-- what holds of each element, and of one more
+each_more : {X : Type 0} (P : ℕ → X → Type 0) (xs : List X) (y : X) → ((n : ℕ) (x : X) → slice_get xs n ≡ Some x → P n x) → P (length xs) y → (n : ℕ) (x : X) → slice_get (xs ++ y ∷ []) n ≡ Some x → P n x
+each_more P xs y h k n x e = elim (get_cases xs y x n e) [ inl f ↦ h n x f | inr f ↦ subst (λ m. P m x) (sym f.0) (subst (λ z. P (length xs) z) f.1 k) ]
+
+-- ends
+end_of_past : (ends : List (Option ℕ)) (block : ℕ) → length ends ≤ block → end_of_block ends block ≡ None
+end_of_past [] block l = refl
+end_of_past (end ∷ ends) zero l = absurd (omega arith)
+end_of_past (end ∷ ends) (suc block) l = end_of_past ends block (omega arith)
+
+-- the marks of one more item
+marks_push : (ends : List (Option ℕ)) (item before : ℕ) (blocks : List ℕ) (behind n : ℕ) → n ≡ item + length blocks → marks_from ends item before (blocks ++ behind ∷ []) ≡ marks_from ends item before blocks ++ mark_between ends n (last_block before blocks) behind ∷ []
+marks_push ends item before [] behind n q = (let e : item ≡ n = omega arith in ap (λ w. mark_between ends w before behind ∷ []) e)
+marks_push ends item before (block ∷ blocks) behind n q = ap (λ w. mark_between ends item before block ∷ w) (marks_push ends (suc item) block blocks behind n (omega arith))
+
+-- ends behind the items say nothing of them
+marks_same : (ends more : List (Option ℕ)) (item before : ℕ) (blocks : List ℕ) → ((block n : ℕ) → n < item + length blocks → is_at (end_of_block more block) n ≡ is_at (end_of_block ends block) n) → marks_from more item before blocks ≡ marks_from ends item before blocks
+marks_same ends more item before [] h = refl
+marks_same ends more item before (block ∷ blocks) h =
+    ap (λ w. cond w Closes (cond (before == block) Neither Opens) ∷ marks_from more (suc item) block blocks) (h before item (omega arith)) ∙ ap (λ w. mark_between ends item before block ∷ w) (marks_same ends more (suc item) block blocks (λ b n l. h b n (omega arith)))
+
+pub length_marks : (ends : List (Option ℕ)) (item before : ℕ) (blocks : List ℕ) → length (marks_from ends item before blocks) ≡ length blocks
+length_marks ends item before [] = refl
+length_marks ends item before (block ∷ blocks) = ap suc (length_marks ends (suc item) block blocks)
+
+last_push : (before : ℕ) (blocks : List ℕ) (behind : ℕ) → last_block before (blocks ++ behind ∷ []) ≡ behind
+last_push before [] behind = refl
+last_push before (block ∷ blocks) behind = last_push block blocks behind
+
+-- what marks leave open
+leaves_nothing : LeavesOpen [] 0
+leaves_nothing later = omega arith
+
+leaves_neither : (marks : List Mark) (d e : ℕ) → e ≡ d → LeavesOpen marks d → LeavesOpen (marks ++ Neither ∷ []) e
+leaves_neither marks d e q h later = ap closed_by (append_assoc marks (Neither ∷ []) later) ∙ h (Neither ∷ later) ∙ ap (λ w. closed_by later - w) (sym q)
+
+one_less : (c d e : ℕ) → e ≡ suc d → pred c - d ≡ c - e
+one_less zero d e q = omega arith
+one_less (suc c) d e q = omega arith
+
+leaves_more : (marks : List Mark) (d e : ℕ) → e ≡ suc d → LeavesOpen marks d → LeavesOpen (marks ++ Opens ∷ []) e
+leaves_more marks d e q h later = ap closed_by (append_assoc marks (Opens ∷ []) later) ∙ h (Opens ∷ later) ∙ one_less (closed_by later) d e q
+
+one_more : (c d e : ℕ) → d ≡ suc e → suc c - d ≡ c - e
+one_more c d e q = omega arith
+
+leaves_less : (marks : List Mark) (d e : ℕ) → d ≡ suc e → LeavesOpen marks d → LeavesOpen (marks ++ Closes ∷ []) e
+leaves_less marks d e q h later = ap closed_by (append_assoc marks (Closes ∷ []) later) ∙ h (Closes ∷ later) ∙ one_more (closed_by later) d e q
+
+-- activity by what is left open
+closed_front : (marks later : List Mark) → closed_by marks ≤ closed_by (marks ++ later)
+closed_front [] later = omega arith
+closed_front (mark ∷ marks) later = closed_more mark (closed_by marks) (closed_by (marks ++ later)) (closed_front marks later)
+
+leaves_stays : (marks : List Mark) (d : ℕ) → LeavesOpen marks d → closed_by marks ≡ 0
+leaves_stays marks d h = ap closed_by (sym (append-nil marks)) ∙ h [] ∙ omega arith
+
+none_closed : (n : ℕ) → n ≡ 0 → is_zero n ≡ true
+none_closed n e = ap is_zero e
+
+some_closed : (n : ℕ) → 0 < n → is_zero n ≡ false
+some_closed zero l = absurd (omega arith)
+some_closed (suc n) l = refl
+
+stays_open : (marks : List Mark) (d n : ℕ) → LeavesOpen marks d → stays_by (take n marks) ≡ true
+stays_open marks d n h =
+    let z = leaves_stays marks d h in
+    let l = closed_front (take n marks) (drop n marks) in
+    let j = ap closed_by (take-append-drop n marks) in
+    none_closed (closed_by (take n marks)) (omega arith)
+
+stays_before : (front rest : List Mark) (n : ℕ) → LeavesOpen front 0 → n ≤ length front → stays_by (take n (front ++ Closes ∷ rest)) ≡ true
+stays_before front rest n h l = ap stays_by (take-append-le n front (Closes ∷ rest) l) ∙ stays_open front 0 n h
+
+stays_not : (front rest : List Mark) (k n : ℕ) → LeavesOpen front 0 → n ≡ length front + suc k → stays_by (take n (front ++ Closes ∷ rest)) ≡ false
+stays_not front rest k n h q =
+    let e = h (Closes ∷ take k rest) in
+    ap (λ w. stays_by (take w (front ++ Closes ∷ rest))) q ∙ ap stays_by (take-append-add front (Closes ∷ rest) (suc k)) ∙ some_closed (closed_by (front ++ Closes ∷ take k rest)) (omega arith)
+
+active_open : (marks : List Mark) (from at d : ℕ) → LeavesOpen (drop (suc from) marks) d → stays_by (slice_range marks (from + 1) at) ≡ true
+active_open marks from at d h =
+    let q : suc from ≡ from + 1 = omega arith in
+    subst (λ n. stays_by (take (at - n) (drop n marks)) ≡ true) q (stays_open (drop (suc from) marks) d (at - suc from) h)
+
+active_ended : (marks : List Mark) (from at end : ℕ) → from < at → StandsEnded (drop (suc from) marks) from end → stays_by (slice_range marks (from + 1) at) ≡ leb at end
+active_ended marks from at end l s =
+    let q : suc from ≡ from + 1 = omega arith in
+    subst (λ n. stays_by (take (at - n) (drop n marks)) ≡ leb at end) q (subst (λ w. stays_by (take (at - suc from) w) ≡ leb at end) (sym s.parts) (by_order (dec_lt end at)))
+  where
+    by_order : Dec (end < at) → stays_by (take (at - suc from) (s.front ++ Closes ∷ s.rest)) ≡ leb at end
+    by_order (yes a) = (stays_not s.front s.rest (at - suc end) (at - suc from) s.leaves (omega arith) ∙ sym (lt-leb at end a))
+    by_order (no a) = (stays_before s.front s.rest (at - suc from) s.leaves (omega arith) ∙ sym (le-leb at end (omega arith)))
+
+-- an entry more among the ends
+entered : (blocks : List ℕ) (ends more : List (Option ℕ)) (outer : List ℕ) (current : ℕ) (marks : List Mark) → ((block : ℕ) → end_of_block more block ≡ end_of_block ends block) → length ends ≤ length more → AreBlocks blocks ends outer current marks → AreBlocks blocks more outer current marks
+entered blocks ends more outer current marks h l k = record {
+  stand = λ item block there. subst (λ end. Stands (outer ++ current ∷ []) (drop (suc item) marks) block item end) (sym (h block)) (k.stand item block there);
+  unended = λ level block there. h block ∙ k.unended level block there;
+  distinct = k.distinct;
+  numbered = λ level block there. (let a = k.numbered level block there in omega arith);
+  newest = (omega arith);
+  last = k.last;
+}
+
+pub entered_marks : (ends more : List (Option ℕ)) (blocks : List ℕ) → ((block : ℕ) → end_of_block more block ≡ end_of_block ends block) → marks_from more 0 0 blocks ≡ marks_from ends 0 0 blocks
+entered_marks ends more blocks h = marks_same ends more 0 0 blocks (λ block n l. ap (λ end. is_at end n) (h block))
+
+-- one more mark behind an item
+more_ended : (behind : List Mark) (mark : Mark) (item end : ℕ) → StandsEnded behind item end → StandsEnded (behind ++ mark ∷ []) item end
+more_ended behind mark item end s = record {
+  front = s.front;
+  rest = s.rest ++ mark ∷ [];
+  parts = ap (λ w. w ++ mark ∷ []) s.parts ∙ append_assoc s.front (Closes ∷ s.rest) (mark ∷ []);
+  number = s.number;
+  leaves = s.leaves;
+}
+
+stand_more : (old stack : List ℕ) (behind : List Mark) (mark : Mark) (block item : ℕ) (end : Option ℕ) → Stands old behind block item end → (StandsOpen old behind block → StandsOpen stack (behind ++ mark ∷ []) block) → Stands stack (behind ++ mark ∷ []) block item end
+stand_more old stack behind mark block item None s f = f s
+stand_more old stack behind mark block item (Some end) s f = more_ended behind mark item end s
+
+-- the last item stands in the innermost block
+stand_last : (outer : List ℕ) (behind : List Mark) (block item : ℕ) (end : Option ℕ) → end ≡ None → behind ≡ [] → Stands (outer ++ block ∷ []) behind block item end
+stand_last outer behind block item end e q =
+    let z : 0 ≡ length (outer ++ block ∷ []) - suc (length outer) = omega (arith, length_push outer block) in
+    subst (λ o. Stands (outer ++ block ∷ []) behind block item o) (sym e) (record {
+      level = length outer;
+      there = get_last outer block (length outer) refl;
+      leaves = subst (λ w. LeavesOpen w (length (outer ++ block ∷ []) - suc (length outer))) (sym q) (subst (λ n. LeavesOpen [] n) z leaves_nothing);
+    })
+
+-- the blocks of all items, where those of the earlier ones are known
+stands_all : (blocks : List ℕ) (ends : List (Option ℕ)) (outer : List ℕ) (next : ℕ) (marks : List Mark) (mark : Mark) → length marks ≡ length blocks → end_of_block ends next ≡ None
+    → ((item block : ℕ) → slice_get blocks item ≡ Some block → Stands (outer ++ next ∷ []) (drop (suc item) marks ++ mark ∷ []) block item (end_of_block ends block)) → (item block : ℕ) → slice_get (blocks ++ next ∷ []) item ≡ Some block
+    → Stands (outer ++ next ∷ []) (drop (suc item) (marks ++ mark ∷ [])) block item (end_of_block ends block)
+stands_all blocks ends outer next marks mark count e h = each_more (λ item block. Stands (outer ++ next ∷ []) (drop (suc item) (marks ++ mark ∷ [])) block item (end_of_block ends block)) blocks next earlier
+    (stand_last outer (drop (suc (length blocks)) (marks ++ mark ∷ [])) next (length blocks) (end_of_block ends next) e (let p = length_push marks mark in drop_all (suc (length blocks)) (marks ++ mark ∷ []) (omega arith)))
+  where
+    earlier : (item block : ℕ) → slice_get blocks item ≡ Some block → Stands (outer ++ next ∷ []) (drop (suc item) (marks ++ mark ∷ [])) block item (end_of_block ends block)
+    earlier item block there =
+        let l = slice_get_within blocks item block there in
+        subst (λ behind. Stands (outer ++ next ∷ []) behind block item (end_of_block ends block)) (sym (drop-append-le (suc item) marks (mark ∷ []) (omega arith))) (h item block there)
+
+-- no number stands twice in a list
+abbrev pub IsDistinct : List ℕ → Type 0
+IsDistinct xs = (one other x : ℕ) → slice_get xs one ≡ Some x → slice_get xs other ≡ Some x → one ≡ other
+
+distinct_more : (xs : List ℕ) (y : ℕ) → IsDistinct xs → ((n x : ℕ) → slice_get xs n ≡ Some x → x ≢ y) → IsDistinct (xs ++ y ∷ [])
+distinct_more xs y h f one other x a b = by_cases (get_cases xs y x one a) (get_cases xs y x other b)
+  where
+    by_cases : ((slice_get xs one ≡ Some x) ⊎ ((one ≡ length xs) × (y ≡ x))) → ((slice_get xs other ≡ Some x) ⊎ ((other ≡ length xs) × (y ≡ x))) → one ≡ other
+    by_cases (inl p) (inl q) = h one other x p q
+    by_cases (inl p) (inr q) = absurd (f one x p (sym q.1))
+    by_cases (inr p) (inl q) = absurd (f other x q (sym p.1))
+    by_cases (inr p) (inr q) = p.0 ∙ sym q.0
+
+-- an item that neither begins nor ends a block
+passed : (blocks : List ℕ) (ends : List (Option ℕ)) (outer : List ℕ) (current : ℕ) (marks : List Mark) → length marks ≡ length blocks → AreBlocks blocks ends outer current marks → AreBlocks (blocks ++ current ∷ []) ends outer current (marks ++ Neither ∷ [])
+passed blocks ends outer current marks count k = record {
+  stand = stands_all blocks ends outer current marks Neither count (k.unended (length outer) current (get_last outer current (length outer) refl)) earlier;
+  unended = k.unended;
+  distinct = k.distinct;
+  numbered = k.numbered;
+  newest = k.newest;
+  last = last_push 0 blocks current;
+}
+  where
+    earlier : (item block : ℕ) → slice_get blocks item ≡ Some block → Stands (outer ++ current ∷ []) (drop (suc item) marks ++ Neither ∷ []) block item (end_of_block ends block)
+    earlier item block there = stand_more (outer ++ current ∷ []) (outer ++ current ∷ []) (drop (suc item) marks) Neither block item (end_of_block ends block) (k.stand item block there)
+        (λ s. record { level = s.level; there = s.there; leaves = leaves_neither (drop (suc item) marks) (length (outer ++ current ∷ []) - suc s.level) (length (outer ++ current ∷ []) - suc s.level) refl s.leaves })
+
+mark_neither : (ends : List (Option ℕ)) (item before current : ℕ) → before ≡ current → end_of_block ends current ≡ None → mark_between ends item before current ≡ Neither
+mark_neither ends item before current e z = subst (λ w. mark_between ends item w current ≡ Neither) (sym e) (ap (λ end. cond (is_at end item) Closes (cond (current == current) Neither Opens)) z ∙ ap (λ w. cond w Neither Opens) (eq-eqb current current refl))
+
+pub passed_marks : (blocks : List ℕ) (ends : List (Option ℕ)) (outer : List ℕ) (current : ℕ) (marks : List Mark) → AreBlocks blocks ends outer current marks → marks_from ends 0 0 (blocks ++ current ∷ []) ≡ marks_from ends 0 0 blocks ++ Neither ∷ []
+passed_marks blocks ends outer current marks k =
+    marks_push ends 0 0 blocks current (length blocks) (omega arith) ∙ ap (λ m. marks_from ends 0 0 blocks ++ m ∷ []) (mark_neither ends (length blocks) (last_block 0 blocks) current k.last (k.unended (length outer) current (get_last outer current (length outer) refl)))
+
+-- an item that begins a block
+begun : (blocks : List ℕ) (ends : List (Option ℕ)) (outer : List ℕ) (current next : ℕ) (marks : List Mark) → length marks ≡ length blocks → current < length ends → next ≡ length ends → AreBlocks blocks ends outer current marks
+    → AreBlocks (blocks ++ next ∷ []) ends (outer ++ current ∷ []) next (marks ++ Opens ∷ [])
+begun blocks ends outer current next marks count l q k = record {
+  stand = stands_all blocks ends (outer ++ current ∷ []) next marks Opens count (end_of_past ends next (omega arith)) earlier;
+  unended = each_more (λ level block. end_of_block ends block ≡ None) (outer ++ current ∷ []) next k.unended (end_of_past ends next (omega arith));
+  distinct = distinct_more (outer ++ current ∷ []) next k.distinct (λ level block there e. (let a = known level block there in absurd (omega arith)));
+  numbered = known;
+  newest = omega arith;
+  last = last_push 0 blocks next;
+}
+  where
+    known : (level block : ℕ) → slice_get (outer ++ current ∷ []) level ≡ Some block → block < length ends
+    known = each_more (λ level block. block < length ends) outer current k.numbered l
+
+    earlier : (item block : ℕ) → slice_get blocks item ≡ Some block → Stands ((outer ++ current ∷ []) ++ next ∷ []) (drop (suc item) marks ++ Opens ∷ []) block item (end_of_block ends block)
+    earlier item block there = stand_more (outer ++ current ∷ []) ((outer ++ current ∷ []) ++ next ∷ []) (drop (suc item) marks) Opens block item (end_of_block ends block) (k.stand item block there) (λ s. record {
+      level = s.level;
+      there = get_front (outer ++ current ∷ []) next block s.level s.there;
+      leaves = leaves_more (drop (suc item) marks) (length (outer ++ current ∷ []) - suc s.level) (length ((outer ++ current ∷ []) ++ next ∷ []) - suc s.level) (let w = slice_get_within (outer ++ current ∷ []) s.level block s.there in let p = length_push (outer ++ current ∷ []) next in omega arith)
+          s.leaves;
+    })
+
+mark_opens : (ends : List (Option ℕ)) (item before current next : ℕ) → before ≡ current → end_of_block ends current ≡ None → current ≢ next → mark_between ends item before next ≡ Opens
+mark_opens ends item before current next e z n = subst (λ w. mark_between ends item w next ≡ Opens) (sym e) (ap (λ end. cond (is_at end item) Closes (cond (current == next) Neither Opens)) z ∙ ap (λ w. cond w Neither Opens) (ne_eqb current next n))
+
+pub begun_marks : (blocks : List ℕ) (ends : List (Option ℕ)) (outer : List ℕ) (current next : ℕ) (marks : List Mark) → current < length ends → next ≡ length ends → AreBlocks blocks ends outer current marks → marks_from ends 0 0 (blocks ++ next ∷ []) ≡ marks_from ends 0 0 blocks ++ Opens ∷ []
+begun_marks blocks ends outer current next marks l q k =
+    let n : current ≢ next = λ e. (omega arith) in
+    marks_push ends 0 0 blocks next (length blocks) (omega arith) ∙ ap (λ m. marks_from ends 0 0 blocks ++ m ∷ []) (mark_opens ends (length blocks) (last_block 0 blocks) current next k.last (k.unended (length outer) current (get_last outer current (length outer) refl)) n)
+
+-- what is left of the outer blocks when the innermost one ends, and the block that is innermost then
+abbrev pub Popped : List ℕ → List ℕ → ℕ → ℕ → Type 0
+Popped outer rest next fresh = (outer ≡ rest ++ next ∷ []) ⊎ ((outer ≡ []) × (rest ≡ []) × (next ≡ fresh))
+
+pub popped_is : (outer rest : List ℕ) (next fresh : ℕ) (popped : Option ℕ) → outer ≡ rest ++ option_to_list popped → (0 < length outer → IsSome popped) → next ≡ unwrap_or popped fresh → Popped outer rest next fresh
+popped_is outer rest next fresh (Some block) e v q = inl (e ∙ ap (λ w. rest ++ w ∷ []) (sym q))
+popped_is [] rest next fresh None e v q = inr (refl, sym (e ∙ append-nil rest), q)
+popped_is (block ∷ outer) rest next fresh None e v q = absurd (false≢true (v (omega arith)))
+
+no_element : (level block : ℕ) → slice_get [] level ≡ Some block → ⊥
+no_element level block there = cc
+
+-- an open block that is not the innermost stands where it stood
+stays_put : (outer rest : List ℕ) (next fresh level block : ℕ) → Popped outer rest next fresh → slice_get outer level ≡ Some block → (slice_get (rest ++ next ∷ []) level ≡ Some block) × (length (rest ++ next ∷ []) ≡ length outer)
+stays_put outer rest next fresh level block (inl e) there = (subst (λ w. slice_get w level ≡ Some block) e there, ap length (sym e))
+stays_put outer rest next fresh level block (inr e) there = absurd (no_element level block (subst (λ w. slice_get w level ≡ Some block) (e.0) there))
+
+-- an open block stood among the outer ones, or is the only one, and new
+stood_there : (outer rest : List ℕ) (next fresh level block : ℕ) → Popped outer rest next fresh → slice_get (rest ++ next ∷ []) level ≡ Some block → (slice_get outer level ≡ Some block) ⊎ ((outer ≡ []) × (level ≡ 0) × (block ≡ fresh))
+stood_there outer rest next fresh level block (inl e) there = inl (subst (λ w. slice_get w level ≡ Some block) (sym e) there)
+stood_there outer rest next fresh level block (inr e) there = (let h = the_only level (subst (λ w. slice_get (w ++ next ∷ []) level ≡ Some block) (e.1) there) in inr (e.0, h.0, h.1))
+  where
+    the_only : (level : ℕ) → slice_get (next ∷ []) level ≡ Some block → (level ≡ 0) × (block ≡ fresh)
+    the_only zero h = (refl, sym (same_Some next block h) ∙ e.2)
+    the_only (suc level) h = absurd (cc)
+
+-- the ends, where an item ends a block
+abbrev pub closing : List (Option ℕ) → ℕ → ℕ → List (Option ℕ)
+closing ends block item = set ends block (Some item)
+
+end_of_closed : (ends : List (Option ℕ)) (block item : ℕ) → block < length ends → end_of_block (closing ends block item) block ≡ Some item
+end_of_closed ends block item l = get_or-set_same ends block (Some item) None l
+
+end_of_other : (ends : List (Option ℕ)) (block item other : ℕ) → other ≢ block → end_of_block (closing ends block item) other ≡ end_of_block ends other
+end_of_other ends block item other n = get_or-set_other ends block other (Some item) None n
+
+same_or_not : (a b : ℕ) → (a ≡ b) ⊎ (a ≢ b)
+same_or_not a b = elim (dec_lt a b) [
+  | yes l ↦ inr (λ e. omega arith)
+  | no l ↦ elim (dec_lt b a) [ yes m ↦ inr (λ e. omega arith) | no m ↦ inl (omega arith) ]
+]
+
+-- an item that ends a block
+module _ (blocks : List ℕ) (ends : List (Option ℕ)) (outer rest : List ℕ) (current next : ℕ) (marks : List Mark) (l : current < length ends) (p : Popped outer rest next (length ends)) (k : AreBlocks blocks ends outer current marks) where
+  innermost : end_of_block ends current ≡ None
+  innermost = k.unended (length outer) current (get_last outer current (length outer) refl)
+
+  outer_apart : (level block : ℕ) → slice_get outer level ≡ Some block → block ≢ current
+  outer_apart level block there e =
+      let w = slice_get_within outer level block there in
+      let q = k.distinct level (length outer) block (get_front outer current block level there) (get_last outer current (length outer) refl ∙ ap Some (sym e)) in
+      omega arith
+
+  outer_open : (level block : ℕ) → slice_get outer level ≡ Some block → end_of_block (closing ends current (length blocks)) block ≡ None
+  outer_open level block there = end_of_other ends current (length blocks) block (outer_apart level block there) ∙ k.unended level block (get_front outer current block level there)
+
+  fresh_open : (block : ℕ) → block ≡ length ends → end_of_block (closing ends current (length blocks)) block ≡ None
+  fresh_open block e = (let n = length-set ends current (Some (length blocks)) in end_of_past (closing ends current (length blocks)) block (omega arith))
+
+  ended_unended : (level block : ℕ) → slice_get (rest ++ next ∷ []) level ≡ Some block → end_of_block (closing ends current (length blocks)) block ≡ None
+  ended_unended level block there = elim (stood_there outer rest next (length ends) level block p there) [
+    | inl h ↦ outer_open level block h
+    | inr h ↦ fresh_open block (h.2)
+  ]
+
+  ended_distinct : (one other block : ℕ) → slice_get (rest ++ next ∷ []) one ≡ Some block → slice_get (rest ++ next ∷ []) other ≡ Some block → one ≡ other
+  ended_distinct one other block a b = by_cases (stood_there outer rest next (length ends) one block p a) (stood_there outer rest next (length ends) other block p b)
+    where
+      by_cases : ((slice_get outer one ≡ Some block) ⊎ ((outer ≡ []) × (one ≡ 0) × (block ≡ length ends))) → ((slice_get outer other ≡ Some block) ⊎ ((outer ≡ []) × (other ≡ 0) × (block ≡ length ends))) → one ≡ other
+      by_cases (inl x) (inl y) = k.distinct one other block (get_front outer current block one x) (get_front outer current block other y)
+      by_cases (inl x) (inr y) = absurd (no_element one block (subst (λ w. slice_get w one ≡ Some block) (y.0) x))
+      by_cases (inr x) (inl y) = absurd (no_element other block (subst (λ w. slice_get w other ≡ Some block) (x.0) y))
+      by_cases (inr x) (inr y) = x.1 ∙ sym (y.1)
+
+  ended_numbered : (level block : ℕ) → slice_get rest level ≡ Some block → block < length (closing ends current (length blocks))
+  ended_numbered level block there =
+      let n = length-set ends current (Some (length blocks)) in
+      let known : block < length ends = elim p [
+        | inl e ↦ k.numbered level block (subst (λ w. slice_get w level ≡ Some block) (sym e) (get_front rest next block level there))
+        | inr e ↦ absurd (no_element level block (subst (λ w. slice_get w level ≡ Some block) (e.1) there))
+      ] in
+      omega arith
+
+  ended_newest : next ≤ length (closing ends current (length blocks))
+  ended_newest =
+      let n = length-set ends current (Some (length blocks)) in
+      elim p [
+        | inl e ↦ (let a = k.numbered (length rest) next (subst (λ w. slice_get w (length rest) ≡ Some next) (sym e) (get_last rest next (length rest) refl)) in omega arith)
+        | inr e ↦ (omega arith)
+      ]
+
+  -- the block of an earlier item ended, or ends now, or is open
+  ended_block : (count : length marks ≡ length blocks) (item block : ℕ) (end : Option ℕ) → item < length blocks → end_of_block ends block ≡ end → Stands (outer ++ current ∷ []) (drop (suc item) marks) block item end
+      → Stands (rest ++ next ∷ []) (drop (suc item) marks ++ Closes ∷ []) block item (end_of_block (closing ends current (length blocks)) block)
+  ended_block count item block (Some end) w e s =
+      let n : block ≢ current = λ q. (cc (innermost, e)) in
+      subst (λ o. Stands (rest ++ next ∷ []) (drop (suc item) marks ++ Closes ∷ []) block item o) (sym (end_of_other ends current (length blocks) block n ∙ e)) (more_ended (drop (suc item) marks) Closes item end s)
+  ended_block count item block None w e s = by_cases (get_cases outer current block s.level s.there)
+    where
+      by_cases : ((slice_get outer s.level ≡ Some block) ⊎ ((s.level ≡ length outer) × (current ≡ block))) → Stands (rest ++ next ∷ []) (drop (suc item) marks ++ Closes ∷ []) block item (end_of_block (closing ends current (length blocks)) block)
+      by_cases (inl h) =
+          let put = stays_put outer rest next (length ends) s.level block p h in
+          let within = slice_get_within outer s.level block h in
+          let long = length_push outer current in
+          subst (λ o. Stands (rest ++ next ∷ []) (drop (suc item) marks ++ Closes ∷ []) block item o) (sym (outer_open s.level block h)) (record {
+            level = s.level;
+            there = put.0;
+            leaves = leaves_less (drop (suc item) marks) (length (outer ++ current ∷ []) - suc s.level) (length (rest ++ next ∷ []) - suc s.level) (omega arith) s.leaves;
+          })
+      by_cases (inr h) =
+          let long = length_push outer current in
+          let q : length (outer ++ current ∷ []) - suc s.level ≡ 0 = omega arith in
+          let behind = length-drop (suc item) marks in
+          subst (λ o. Stands (rest ++ next ∷ []) (drop (suc item) marks ++ Closes ∷ []) block item o) (sym (ap (λ b. end_of_block (closing ends current (length blocks)) b) (sym (h.1)) ∙ end_of_closed ends current (length blocks) l)) (record {
+            front = drop (suc item) marks;
+            rest = [];
+            parts = refl;
+            number = omega arith;
+            leaves = subst (λ n. LeavesOpen (drop (suc item) marks) n) q s.leaves;
+          })
+
+  ended : length marks ≡ length blocks → AreBlocks (blocks ++ next ∷ []) (closing ends current (length blocks)) rest next (marks ++ Closes ∷ [])
+  ended count = record {
+    stand = stands_all blocks (closing ends current (length blocks)) rest next marks Closes count (ended_unended (length rest) next (get_last rest next (length rest) refl))
+        (λ item block there. ended_block count item block (end_of_block ends block) (slice_get_within blocks item block there) refl (k.stand item block there));
+    unended = ended_unended;
+    distinct = ended_distinct;
+    numbered = ended_numbered;
+    newest = ended_newest;
+    last = last_push 0 blocks next;
+  }
+
+  same_before : (block n : ℕ) → n < 0 + length blocks → is_at (end_of_block (closing ends current (length blocks)) block) n ≡ is_at (end_of_block ends block) n
+  same_before block n w = elim (same_or_not block current) [
+    | inl e ↦ ap (λ end. is_at end n) (ap (λ b. end_of_block (closing ends current (length blocks)) b) e ∙ end_of_closed ends current (length blocks) l) ∙ ne_eqb (length blocks) n (λ q. omega arith) ∙ ap (λ end. is_at end n) (sym (ap (λ b. end_of_block ends b) e ∙ innermost))
+    | inr e ↦ ap (λ end. is_at end n) (end_of_other ends current (length blocks) block e)
+  ]
+
+  pub ended_marks : marks_from (closing ends current (length blocks)) 0 0 (blocks ++ next ∷ []) ≡ marks_from ends 0 0 blocks ++ Closes ∷ []
+  ended_marks =
+      marks_push (closing ends current (length blocks)) 0 0 blocks next (length blocks) (omega arith) ∙ ap (λ m. marks_from (closing ends current (length blocks)) 0 0 blocks ++ m ∷ []) (mark_closes (last_block 0 blocks) k.last)
+      ∙ ap (λ w. w ++ Closes ∷ []) (marks_same ends (closing ends current (length blocks)) 0 0 blocks same_before)
+    where
+      mark_closes : (before : ℕ) → before ≡ current → mark_between (closing ends current (length blocks)) (length blocks) before next ≡ Closes
+      mark_closes before e = ap (λ end. cond (is_at end (length blocks)) Closes (cond (before == next) Neither Opens)) (ap (λ b. end_of_block (closing ends current (length blocks)) b) e ∙ end_of_closed ends current (length blocks) l)
+          ∙ ap (λ w. cond w Closes (cond (before == next) Neither Opens)) (eq-eqb (length blocks) (length blocks) refl)
+
+-- counts of one more mark
+count_push : (test : Mark → Bool) (marks : List Mark) (mark : Mark) → count_by test (marks ++ mark ∷ []) ≡ count_by test marks + cond (test mark) 1 0
+count_push test marks mark = sum_by_push (λ m. cond (test m) 1 0) marks mark
+
+pub kept_moved : (blocks others : List ℕ) (ends more : List (Option ℕ)) (outer around : List ℕ) (current begun ended : ℕ) → others ≡ blocks → more ≡ ends → around ≡ outer → AreBlockEndsKept blocks ends outer current begun ended → AreBlockEndsKept others more around current begun ended
+kept_moved blocks others ends more outer around current begun ended a b d k =
+    subst (λ w. AreBlockEndsKept w more around current begun ended) (sym a) (subst (λ w. AreBlockEndsKept blocks w around current begun ended) (sym b) (subst (λ w. AreBlockEndsKept blocks ends w current begun ended) (sym d) k))
+
+pub kept_entered : (blocks : List ℕ) (ends more : List (Option ℕ)) (outer : List ℕ) (current begun ended : ℕ) → ((block : ℕ) → end_of_block more block ≡ end_of_block ends block) → length ends ≤ length more → AreBlockEndsKept blocks ends outer current begun ended
+    → AreBlockEndsKept blocks more outer current begun ended
+kept_entered blocks ends more outer current begun ended h l k =
+    let same = entered_marks ends more blocks h in
+    record {
+      are_blocks = subst (λ marks. AreBlocks blocks more outer current marks) (sym same) (entered blocks ends more outer current (marks_from ends 0 0 blocks) h l k.are_blocks);
+      begun_is = k.begun_is ∙ ap (count_by opens) (sym same);
+      ended_is = k.ended_is ∙ ap (count_by closes) (sym same);
+    }
+
+same_count : (test : Mark → Bool) (marks more : List Mark) (mark : Mark) (n m : ℕ) → more ≡ marks ++ mark ∷ [] → n ≡ count_by test marks → m ≡ n + cond (test mark) 1 0 → m ≡ count_by test more
+same_count test marks more mark n m e q r = r ∙ ap (λ w. w + cond (test mark) 1 0) q ∙ sym (count_push test marks mark) ∙ ap (count_by test) (sym e)
+
+pub kept_passed : (blocks : List ℕ) (ends : List (Option ℕ)) (outer : List ℕ) (current begun ended : ℕ) → AreBlockEndsKept blocks ends outer current begun ended → AreBlockEndsKept (blocks ++ current ∷ []) ends outer current begun ended
+kept_passed blocks ends outer current begun ended k =
+    let marks = marks_from ends 0 0 blocks in
+    let more = passed_marks blocks ends outer current marks k.are_blocks in
+    record {
+      are_blocks = subst (λ w. AreBlocks (blocks ++ current ∷ []) ends outer current w) (sym more) (passed blocks ends outer current marks (length_marks ends 0 0 blocks) k.are_blocks);
+      begun_is = same_count opens marks _ Neither begun begun more k.begun_is (omega arith);
+      ended_is = same_count closes marks _ Neither ended ended more k.ended_is (omega arith);
+    }
+
+pub kept_begun : (blocks : List ℕ) (ends : List (Option ℕ)) (outer : List ℕ) (current next begun ended : ℕ) → current < length ends → next ≡ length ends → AreBlockEndsKept blocks ends outer current begun ended
+    → AreBlockEndsKept (blocks ++ next ∷ []) ends (outer ++ current ∷ []) next (begun + 1) ended
+kept_begun blocks ends outer current next begun_count ended l q k =
+    let marks = marks_from ends 0 0 blocks in
+    let more = begun_marks blocks ends outer current next marks l q k.are_blocks in
+    record {
+      are_blocks = subst (λ w. AreBlocks (blocks ++ next ∷ []) ends (outer ++ current ∷ []) next w) (sym more) (begun blocks ends outer current next marks (length_marks ends 0 0 blocks) l q k.are_blocks);
+      begun_is = same_count opens marks _ Opens begun_count (begun_count + 1) more k.begun_is refl;
+      ended_is = same_count closes marks _ Opens ended ended more k.ended_is (omega arith);
+    }
+
+pub kept_ended : (blocks : List ℕ) (ends : List (Option ℕ)) (outer rest : List ℕ) (current next begun ended : ℕ) → current < length ends → Popped outer rest next (length ends) → AreBlockEndsKept blocks ends outer current begun ended
+    → AreBlockEndsKept (blocks ++ next ∷ []) (closing ends current (length blocks)) rest next begun (ended + 1)
+kept_ended blocks ends outer rest current next begun ended_count l p k =
+    let marks = marks_from ends 0 0 blocks in
+    let more = ended_marks blocks ends outer rest current next marks l p k.are_blocks in
+    record {
+      are_blocks = subst (λ w. AreBlocks (blocks ++ next ∷ []) (closing ends current (length blocks)) rest next w) (sym more) (ended blocks ends outer rest current next marks l p k.are_blocks (length_marks ends 0 0 blocks));
+      begun_is = same_count opens marks _ Closes begun begun more k.begun_is (omega arith);
+      ended_is = same_count closes marks _ Closes ended_count (ended_count + 1) more k.ended_is refl;
+    }
+
+-- the counts are no larger than that of the items
+pub count_within : (test : Mark → Bool) (ends : List (Option ℕ)) (blocks : List ℕ) (n : ℕ) → n ≡ count_by test (marks_from ends 0 0 blocks) → n ≤ length blocks
+count_within test ends blocks n e = omega (arith, count_by-le-length test (marks_from ends 0 0 blocks), length_marks ends 0 0 blocks)
+
+pub items_within : (ends : List (Option ℕ)) (blocks : List ℕ) (marks : List Mark) (n : ℕ) → marks_from ends 0 0 blocks ≡ marks → n ≤ length marks → n ≤ length blocks
+items_within ends blocks marks n e l = omega (arith, ap length e, length_marks ends 0 0 blocks)
+
+-- there are as many items as marks
+pub marks_count : (ends : List (Option ℕ)) (blocks : List ℕ) (marks : List Mark) → marks_from ends 0 0 blocks ≡ marks → length marks ≡ length blocks
+marks_count ends blocks marks e = sym (ap length e) ∙ length_marks ends 0 0 blocks
+
+-- what stands behind an item up to the last one
+pub behind_item : (marks : List Mark) (from count : ℕ) → count ≡ length marks → slice_range marks (from + 1) count ≡ drop (suc from) marks
+behind_item marks from count e =
+    let next : from + 1 ≡ suc from = omega arith in
+    ap (slice_range marks (from + 1)) e ∙ take_rest marks (from + 1) ∙ ap (λ n. drop n marks) next
+
+-- nothing stands behind an item that is yet to come
+pub behind_none : (marks : List Mark) (from : ℕ) → length marks ≤ from → stays_by (drop (suc from) marks) ≡ true
+behind_none marks from l = ap stays_by (drop_all (suc from) marks (omega arith))
+
+-- the number of an item, or of the one that is yet to come where there is none
+pub end_within : (ends : List (Option ℕ)) (blocks : List ℕ) (marks : List Mark) (at count end : ℕ) → marks_from ends 0 0 blocks ≡ marks → count ≡ length blocks → end ≡ min at count → end ≡ min at (length marks)
+end_within ends blocks marks at count end v c e = e ∙ ap (min at) (c ∙ sym (marks_count ends blocks marks v))
+
+-- what stands behind an item before another
+pub behind_before : (marks : List Mark) (from at end : ℕ) → end ≡ min at (length marks) → from < end → slice_range marks (from + 1) end ≡ drop (suc from) (take at marks)
+behind_before marks from at end e l =
+    let next : from + 1 ≡ suc from = omega arith in
+    let whole : (from + 1) + (end - (from + 1)) ≡ end = omega arith in
+    sym (drop-take (from + 1) (end - (from + 1)) marks)
+    ∙ ap (λ n. drop (from + 1) (take n marks)) (whole ∙ e)
+    ∙ ap (drop (from + 1)) (take_min at marks)
+    ∙ ap (λ n. drop n (take at marks)) next
+
+pub before_none : (marks : List Mark) (from at end : ℕ) → end ≡ min at (length marks) → end ≤ from → stays_by (drop (suc from) (take at marks)) ≡ true
+before_none marks from at end e l = let c = length-take at marks in ap stays_by (drop_all (suc from) (take at marks) (omega arith))
+
+-- an item whose block is open is active, and one whose block has ended is so up to the end
+pub is_active_open : (blocks : List ℕ) (ends : List (Option ℕ)) (outer : List ℕ) (current begun ended from at block : ℕ) → AreBlockEndsKept blocks ends outer current begun ended → from < length blocks → block ≡ get_or blocks from block → end_of_block ends block ≡ None
+    → stays_by (slice_range (marks_from ends 0 0 blocks) (from + 1) at) ≡ true
+is_active_open blocks ends outer current begun ended from at block k l there e =
+    let marks = marks_from ends 0 0 blocks in
+    let s : StandsOpen (outer ++ current ∷ []) (drop (suc from) marks) block = subst (λ end. Stands (outer ++ current ∷ []) (drop (suc from) marks) block from end) e (k.are_blocks.stand from block (slice_get-get_or blocks from block l ∙ ap Some (sym there))) in
+    active_open marks from at (length (outer ++ current ∷ []) - suc s.level) s.leaves
+
+pub is_active_ended : (blocks : List ℕ) (ends : List (Option ℕ)) (outer : List ℕ) (current begun ended from at block end : ℕ) → AreBlockEndsKept blocks ends outer current begun ended → from < at → from < length blocks → block ≡ get_or blocks from block → end_of_block ends block ≡ Some end
+    → stays_by (slice_range (marks_from ends 0 0 blocks) (from + 1) at) ≡ leb at end
+is_active_ended blocks ends outer current begun ended from at block end k f l there e =
+    let marks = marks_from ends 0 0 blocks in
+    active_ended marks from at end f (subst (λ end. Stands (outer ++ current ∷ []) (drop (suc from) marks) block from end) e (k.are_blocks.stand from block (slice_get-get_or blocks from block l ∙ ap Some (sym there))))
+
+-- what a push that went well made
+pub pushed : {X E : Type 0} (result : Result (Unit {0}) E) (done : Unit {0}) (new whole old : List X) → result ≡ Ok done → new ≡ cond (is_ok result) whole old → new ≡ whole
+pushed result done new whole old e n = n ∙ ap (λ r. cond (is_ok r) whole old) e

@@ -1,0 +1,130 @@
+-- Sound lists keep their items, and labels keep their meaning.
+use Rattle.std.proofs.Common.{◌≡◌, ℕ, zero, suc, Bool, true, false, cond, Some, List, [], ◌∷◌, ◌++◌, map, filter, take, drop, slice_get, refl, sym, ◌∙◌, ap, subst, append_assoc, append-nil, inl, inr, ◌⊎◌}
+use Rattle.std.specs.List.{list_any}
+use Rattle.std.proofs.lemmas.Bool.{false≢true, or_left, or_right, false_from_ne_true}
+use Rattle.std.proofs.lemmas.List.{take-append-drop}
+use Rattle.mm_frame.specs.Language.Frame.{Unknown}
+use Rattle.mm_frame.specs.Language.Item.{Kind, Floating, Essential, Axiom, Theorem, Item, is_floating, is_expression, is_labelled, has, labels_of}
+use Rattle.mm_frame.specs.Language.Scope.{Neither, mark_of, stays, constants, labels, active_variables}
+use Rattle.mm_frame.specs.declared.FrameNumber.TheVariants.{F06}
+use Rattle.mm_frame.specs.Language.Sound.{is_label, IsSound, AreSound}
+use Rattle.mm_frame.specs.Language.Framing.{symbol, expression, meaning, resolve_from, resolve}
+use Rattle.mm_frame.proofs.lemmas.lists.Members.{In, in_flat, in_get, has_in, in_has}
+use Rattle.mm_frame.proofs.lemmas.scope.Facts.{AreKept, sound_at, kept_front, not_constant, first_constant, known, float_variable, float_two}
+use Rattle.mm_frame.proofs.lemmas.faults.FoundFaults.{kept_more}
+use Rattle.mm_frame.proofs.lemmas.frames.Frames.{constants_later, variables_later}
+
+-- an item by its number
+pub split_at : {X : Type 0} (xs : List X) (i : ℕ) (x : X) → slice_get xs i ≡ Some x → xs ≡ take i xs ++ x ∷ drop (suc i) xs
+split_at [] i x e = cc
+split_at (y ∷ xs) zero x e = let q : y ≡ x = cc in ap (λ w. w ∷ xs) q
+split_at (y ∷ xs) (suc i) x e = ap (λ w. y ∷ w) (split_at xs i x e)
+
+pub map_same : {X Y : Type 0} (f g : X → Y) (xs : List X) → ((x : X) → In x xs → f x ≡ g x) → map f xs ≡ map g xs
+map_same f g [] h = refl
+map_same f g (x ∷ xs) h = let a = h x (inl refl) in let b = map_same f g xs (λ y k. h y (inr k)) in cc
+
+pub filter_same : {X : Type 0} (p q : X → Bool) (xs : List X) → ((x : X) → In x xs → p x ≡ q x) → filter p xs ≡ filter q xs
+filter_same p q [] h = refl
+filter_same p q (x ∷ xs) h = let a = h x (inl refl) in let b = filter_same p q xs (λ y k. h y (inr k)) in λ i. cond (a i) (x ∷ b i) (b i)
+
+-- each item is sound against those before it: by splits of the list, and by recursion
+kept_from_splits : (before items : List Item) → ((front : List Item) (item : Item) (back : List Item) → items ≡ front ++ item ∷ back → IsSound (before ++ front) item) → AreKept before items
+kept_from_splits before [] h = tt
+kept_from_splits before (x ∷ xs) h = (subst (λ w. IsSound w x) (append-nil before) (h [] x xs refl), kept_from_splits (before ++ x ∷ []) xs (λ front item back e. subst (λ w. IsSound w item) (sym (append_assoc before (x ∷ []) front)) (h (x ∷ front) item back (ap (λ w. x ∷ w) e))))
+
+pub sound_kept : (items : List Item) → AreSound items → AreKept [] items
+sound_kept items h = kept_from_splits [] items h
+
+pub kept_sound : (items : List Item) → AreKept [] items → AreSound items
+kept_sound items k front item back e = sound_at [] front item back (subst (AreKept []) e k)
+
+pub sound_front : (front back : List Item) → AreSound (front ++ back) → AreSound front
+sound_front front back h = kept_sound front (kept_front [] front back (sound_kept (front ++ back) h))
+
+pub sound_take : (items : List Item) (j : ℕ) → AreSound items → AreSound (take j items)
+sound_take items j h = sound_front (take j items) (drop j items) (subst AreSound (sym (take-append-drop j items)) h)
+
+pub sound_more : (items : List Item) (item : Item) → AreSound items → IsSound items item → AreSound (items ++ item ∷ [])
+sound_more items item h s = kept_sound (items ++ item ∷ []) (kept_more [] items item (sound_kept items h) s)
+
+-- a labelled statement stands in no other block than before it
+pub labelled_neither : (k : Kind) → is_labelled k ≡ true → mark_of k ≡ Neither
+labelled_neither Floating e = refl
+labelled_neither Essential e = refl
+labelled_neither Axiom e = refl
+labelled_neither Theorem e = refl
+labelled_neither _ e = absurd (false≢true e)
+
+labelled_cases : (k : Kind) → is_labelled k ≡ true → (is_floating k ≡ true) ⊎ (is_expression k ≡ true)
+labelled_cases Floating e = inl refl
+labelled_cases Essential e = inr refl
+labelled_cases Axiom e = inr refl
+labelled_cases Theorem e = inr refl
+labelled_cases _ e = absurd (false≢true e)
+
+-- each symbol of a sound labelled statement is a constant or an active variable
+float_symbol : (before : List Item) (item : Item) (k : ℕ) (name : List ℕ) → IsSound before item → is_floating item.kind ≡ true → slice_get item.symbols (suc k) ≡ Some name → In name (active_variables before)
+float_symbol before item zero name s t g = float_variable before item name s t g
+float_symbol before item (suc k) name s t g = let two = float_two before item s t in let n = ap (λ w. slice_get w (suc (suc k))) two.2 in cc
+
+pub named : (before : List Item) (item : Item) (name : List ℕ) → IsSound before item → is_labelled item.kind ≡ true → In name item.symbols → In name (constants before) ⊎ In name (active_variables before)
+named before item name s t h = by_place (in_get name item.symbols h)
+  where
+    by_place : (p : (k : ℕ) × (slice_get item.symbols k ≡ Some name)) → In name (constants before) ⊎ In name (active_variables before)
+    by_place (zero, g) = inl (first_constant before item name s t g)
+    by_place (suc k, g) = elim (labelled_cases item.kind t) [
+      | inl f ↦ inr (float_symbol before item k name s f g)
+      | inr e ↦ known before item k name s e g
+    ]
+
+has_not : (names : List (List ℕ)) (name : List ℕ) → (In name names → ⊥) → has names name ≡ false
+has_not names name n = false_from_ne_true (has names name) (λ e. n (has_in names name e))
+
+-- a symbol of an active statement means what it meant there
+pub variable_kept : (front : List Item) (item : Item) (back : List Item) (name : List ℕ) → AreKept [] (front ++ item ∷ back) → is_labelled item.kind ≡ true → stays back ≡ true → In name item.symbols → has (active_variables (front ++ item ∷ back)) name ≡ has (active_variables front) name
+variable_kept front item back name k t s h =
+    let whole = front ++ item ∷ back in
+    elim (named front item name (sound_at [] front item back k) t h) [
+      | inl c ↦ has_not (active_variables whole) name (λ v. not_constant whole k name (constants_later front item back name c) v) ∙ sym (has_not (active_variables front) name (λ v. not_constant front (kept_front [] front (item ∷ back) k) name c v))
+      | inr v ↦ in_has (active_variables whole) name (variables_later front item back name (labelled_neither item.kind t) s v) ∙ sym (in_has (active_variables front) name v)
+    ]
+
+symbol_kept_at : (front : List Item) (item : Item) (back : List Item) (name : List ℕ) → AreKept [] (front ++ item ∷ back) → is_labelled item.kind ≡ true → stays back ≡ true → In name item.symbols → symbol (front ++ item ∷ back) name ≡ symbol front name
+symbol_kept_at front item back name k t s h = let e = variable_kept front item back name k t s h in λ i. record { name = name; variable = e i }
+
+pub symbol_stays : (items front : List Item) (item : Item) (back : List Item) (name : List ℕ) → AreSound items → items ≡ front ++ item ∷ back → is_labelled item.kind ≡ true → stays back ≡ true → In name item.symbols → symbol items name ≡ symbol front name
+symbol_stays items front item back name h e t s n = ap (λ w. symbol w name) e ∙ symbol_kept_at front item back name (subst (AreKept []) e (sound_kept items h)) t s n
+
+pub expression_stays : (items front : List Item) (item : Item) (back : List Item) → AreSound items → items ≡ front ++ item ∷ back → is_labelled item.kind ≡ true → stays back ≡ true → expression items item ≡ expression front item
+expression_stays items front item back h e t s = map_same (symbol items) (symbol front) item.symbols (λ name n. symbol_stays items front item back name h e t s n)
+
+-- labels
+any_of : (p : List ℕ → Bool) (x : List ℕ) (xs : List (List ℕ)) → In x xs → p x ≡ true → list_any p xs ≡ true
+any_of p x [] h t = absurd h
+any_of p x (y ∷ xs) (inl e) t = or_left (p y) (list_any p xs) (ap p e ∙ t)
+any_of p x (y ∷ xs) (inr h) t = or_right (p y) (list_any p xs) (any_of p x xs h t)
+
+-- a label is no label before its statement
+pub label_new : (before : List Item) (item : Item) (label : List ℕ) → IsSound before item → has (labels_of item) label ≡ true → has (labels before) label ≡ false
+label_new before item label s h = false_from_ne_true (has (labels before) label) (λ t. false≢true (sym (s 0 F06) ∙ any_of (is_label before) label (labels_of item) (has_in (labels_of item) label h) t))
+
+no_label : (items : List Item) (label : List ℕ) → has (labels items) label ≡ false → (x : Item) → In x items → has (labels_of x) label ≡ false
+no_label items label h x i = has_not (labels_of x) label (λ k. false≢true (sym h ∙ in_has (labels items) label (in_flat labels_of x label items i k)))
+
+resolve_skip : (whole before front rest : List Item) (label : List ℕ) → ((x : Item) → In x front → has (labels_of x) label ≡ false) → resolve_from whole before (front ++ rest) label ≡ resolve_from whole (before ++ front) rest label
+resolve_skip whole before [] rest label h = ap (λ w. resolve_from whole w rest label) (sym (append-nil before))
+resolve_skip whole before (x ∷ front) rest label h =
+    ap (λ b. cond b (meaning whole before x (front ++ rest)) (resolve_from whole (before ++ x ∷ []) (front ++ rest) label)) (h x (inl refl))
+    ∙ resolve_skip whole (before ++ x ∷ []) front rest label (λ y k. h y (inr k))
+    ∙ ap (λ w. resolve_from whole w rest label) (append_assoc before (x ∷ []) front)
+
+pub no_item_unknown : (items : List Item) (label : List ℕ) → ((item : Item) → In item items → has (labels_of item) label ≡ false) → resolve items label ≡ Unknown
+no_item_unknown items label h = ap (λ w. resolve_from items [] w label) (sym (append-nil items)) ∙ resolve_skip items [] items [] label h
+
+-- a label that an item has is that item's
+pub resolve_meaning : (items front : List Item) (item : Item) (back : List Item) (label : List ℕ) → AreSound items → items ≡ front ++ item ∷ back → has (labels_of item) label ≡ true → resolve items label ≡ meaning items front item back
+resolve_meaning items front item back label h e t =
+    ap (λ w. resolve_from items [] w label) e
+    ∙ resolve_skip items [] front (item ∷ back) label (no_label front label (label_new front item label (h front item back e) t))
+    ∙ ap (λ b. cond b (meaning items front item back) (resolve_from items (front ++ item ∷ []) back label)) t

@@ -1,0 +1,10 @@
+-- Lemmas by what they are about. What is proved of one function stands in the folder of its module.
+
+pub mod base
+pub mod citing
+pub mod decoding
+pub mod lists
+pub mod machine
+pub mod renaming
+pub mod verdicts
+pub mod views

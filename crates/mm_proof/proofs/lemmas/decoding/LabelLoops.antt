@@ -1,0 +1,29 @@
+-- What is so of each label that the words of a proof name, word by word.
+use Rattle.std.proofs.Common.{◌≡◌, ℕ, false, List, ◌∷◌, sym, ◌∙◌, ap, subst}
+use Rattle.std.specs.Prelude.{◌↔◌, IsTrue, filter}
+use Rattle.std.specs.List.{AllByRecursion, before_first}
+use Rattle.std.proofs.lemmas.Bool.{false≢true}
+use Rattle.mm_proof.specs.Code.KeptMarks.{is_label_word}
+use Rattle.mm_proof.specs.Language.Decoding.{is_close}
+use Rattle.mm_proof.proofs.lemmas.decoding.ListLemmas.{before_one}
+
+-- what holds of the labels that are listed before a `)`
+abbrev pub OfListed : (List ℕ → Type 0) → List (List ℕ) → Type 0
+OfListed P words = AllByRecursion P (before_first is_close words)
+
+-- what holds of the words that are no `?`
+abbrev pub OfWords : (List ℕ → Type 0) → List (List ℕ) → Type 0
+OfWords P words = AllByRecursion P (filter is_label_word words)
+
+-- it holds of them all where it held of the first and holds of those behind it
+pub one_more : (P Q R S : Type 0) → P ↔ (Q × R) → Q → S ↔ P → S ↔ R
+one_more P Q R S both q s = (λ t. (both.0 (s.0 t)).1, λ r. s.1 (both.1 (q, r)))
+
+-- it does not hold of them all where it does not hold of the first
+pub not_first : (P Q R S : Type 0) → P ↔ (Q × R) → IsTrue false ↔ Q → S ↔ P → IsTrue false ↔ S
+not_first P Q R S both q s = (λ t. absurd (false≢true t), λ w. q.1 (both.0 (s.0 w)).0)
+
+pub one_listed : (P : List ℕ → Type 0) (words new : List (List ℕ)) (word : List ℕ) → words ≡ word ∷ new → is_close word ≡ false → OfListed P words ↔ (P word × OfListed P new)
+one_listed P words new word e c =
+    let same : before_first is_close words ≡ word ∷ before_first is_close new = ap (before_first is_close) e ∙ before_one word new c in
+    (λ a. subst (λ ws. AllByRecursion P ws) same a, λ b. subst (λ ws. AllByRecursion P ws) (sym same) b)

@@ -1,0 +1,95 @@
+-- Each edit is accepted, or refused for one reason.
+use Rattle.std.proofs.lemmas.Bool.{cases_eq}
+use Rattle.std.proofs.lemmas.Bool.Decides.{nat_tests}
+use Rattle.std.proofs.Common.{◌≡◌, ◌≢◌, ◌⊎◌, inl, inr, ℕ, ◌-◌, ◌<◌, ◌≤◌, nat_lt, List, [], Option, Some, None, length, get_or, refl, arith}
+use Rattle.std.specs.Prelude.{slice_get}
+use Rattle.std.specs.List.{position_or_len}
+use Rattle.std.specs.Str.{bytes_eq}
+use Rattle.std.proofs.lemmas.Option.{slice_get-get_or}
+use Rattle.mm_text.specs.declared.fault.TextFault.{TextFault}
+use Rattle.mm_text.specs.Language.Cut.{IsCut, IsFirstFault}
+use Rattle.mm_store.specs.declared.edit.EditError.{EditError}
+use Rattle.mm_store.specs.declared.edit.EditError.TheVariants as edits
+use Rattle.mm_store.specs.Language.FilesView.{File, file_number, bytes_of}
+use Rattle.mm_store.specs.Language.Edits.{Asked, Insert, Replace, Delete, Move, edited_name, edited_text, IsAmong, IsEditedFile, IsPlaced, BringsOneUnit, BringsFault, BringsNotOne, IsEditOf, after_edit}
+use Rattle.mm_store.specs.Language.Answers.{IsEditError}
+use Rattle.mm_store.proofs.lemmas.files.NamedLemmas.{by_some}
+
+abbrev pub SomeCut : Type 0
+SomeCut = (text : List ℕ) → ((pieces : List (List ℕ)) × (tail : List ℕ) × IsCut text pieces tail) ⊎ ((fault : TextFault) × IsFirstFault text fault)
+
+le_or : (m n : ℕ) → (m ≤ n) ⊎ (n < m)
+le_or m n = elim (cases_eq (m - n) 0) [
+  | inl none ↦ inl (omega (arith, none))
+  | inr more ↦ inr (omega (arith, more))
+]
+
+is_among : (edit : Asked) (count : ℕ) → IsAmong edit count ⊎ (¬ IsAmong edit count)
+is_among (Insert file at text) count = elim (le_or at count) [
+  | inl le ↦ inl le
+  | inr gt ↦ inr (λ le. omega arith)
+]
+is_among (Replace file at text) count = elim (le_or count at) [
+  | inl le ↦ inr (λ lt. omega arith)
+  | inr gt ↦ inl gt
+]
+is_among (Delete file at) count = elim (le_or count at) [
+  | inl le ↦ inr (λ lt. omega arith)
+  | inr gt ↦ inl gt
+]
+is_among (Move file at to) count = elim (le_or count at) [
+  | inl le ↦ inr (λ both. (omega arith))
+  | inr gt ↦ elim (le_or count to) [
+    | inl le ↦ inr (λ both. (omega arith))
+    | inr also ↦ inl (gt, also)
+  ]
+]
+
+text_is : SomeCut → (brought : Option (List ℕ)) → BringsOneUnit brought ⊎ (((fault : TextFault) × BringsFault brought fault) ⊎ ((count : ℕ) × BringsNotOne brought count))
+text_is some None = inl tt
+text_is some (Some text) = elim (some text) [
+  | inl cut ↦ elim (cases_eq (length cut.0) 1) [
+    | inl one ↦ inl (record { pieces = cut.0; tail = cut.1; is_cut = cut.2; is_count = one })
+    | inr differs ↦ inr (inr (length cut.0, (record { pieces = cut.0; tail = cut.1; is_cut = cut.2; is_count = refl }, differs)))
+  ]
+  | inr fault ↦ inr (inl fault)
+]
+
+abbrev no_file : File
+no_file = record { name = []; pieces = []; tail = [] }
+
+number_there : (files : List File) (name : List ℕ) (n : ℕ) → file_number files name ≡ Some n → slice_get files n ≡ Some (get_or files n no_file)
+number_there files name n at =
+    let first = position_or_len (λ (file : File). bytes_eq name file.name) files in
+    let s = by_some (nat_lt first (length files)) first n at in
+    let lt : first < length files = (grind (arith, nat_tests)) in
+    slice_get-get_or files n no_file (omega (arith, lt, s.1))
+
+abbrev Answered : Asked → List File → Type 0
+Answered edit files = ((after : List File) × IsEditOf edit files after) ⊎ ((error : EditError) × (error ≢ edits.Memory) × IsEditError edit files error)
+
+placed_answer : SomeCut → (edit : Asked) (files : List File) (number : ℕ) (file : File) → IsPlaced files edit number file → Answered edit files
+placed_answer some edit files number file placed = elim (text_is some (edited_text edit)) [
+  | inl one ↦ elim (le_or (bytes_of (after_edit files edit number file)) 4294967295) [
+    | inl le ↦ inl (after_edit files edit number file, record { number = number; file = file; placed = placed; one_unit = one; is_after = refl; within = le })
+    | inr many ↦ inr (edits.TooMany, (λ e. cc), (number, file, placed, one, many))
+  ]
+  | inr wrong ↦ elim wrong [
+    | inl fault ↦ inr (edits.Text fault.0, (λ e. cc), (number, file, placed, fault.1))
+    | inr other ↦ inr (edits.NotOne other.0, (λ e. cc), (number, file, placed, other.1))
+  ]
+]
+
+file_answer : SomeCut → (edit : Asked) (files : List File) (number : ℕ) (file : File) → IsEditedFile files edit number file → Answered edit files
+file_answer some edit files number file there = elim (is_among edit (length file.pieces)) [
+  | inl among ↦ placed_answer some edit files number file (record { file_there = there; among = among })
+  | inr none ↦ inr (edits.NoPiece (length file.pieces), (λ e. cc), (number, file, there, refl, none))
+]
+
+by_number : SomeCut → (edit : Asked) (files : List File) (number : Option ℕ) → file_number files (edited_name edit) ≡ number → Answered edit files
+by_number some edit files None at = inr (edits.NoFile, (λ e. cc), at)
+by_number some edit files (Some number) at = file_answer some edit files number (get_or files number no_file) (record { named = at; there = number_there files (edited_name edit) number at })
+
+-- each edit has an answer beside want of memory
+pub some_answer : SomeCut → (edit : Asked) (files : List File) → Answered edit files
+some_answer some edit files = by_number some edit files (file_number files (edited_name edit)) refl

@@ -1,0 +1,72 @@
+-- From what is done by keys to the edit of the files without keys, and why an edit is refused.
+use Rattle.std.proofs.Common.{◌≡◌, ℕ, ◌+◌, ◌<◌, ◌≤◌, List, Some, length, sym, ap, ◌∙◌, subst}
+use Rattle.std.proofs.lemmas.Option.{none-some}
+use Rattle.std.proofs.Common.{◌↔◌, None, Result, Ok, Err, rules}
+use Rattle.std.specs.Result.{IfErr, OnOk, IsErrOf, IsErrAnd}
+use Rattle.mm_text.specs.Language.Cut.{ended}
+use Rattle.mm_store.specs.declared.edit.EditError.{EditError}
+use Rattle.mm_store.specs.declared.edit.EditError.TheVariants.{NoFile, NoPiece, Text, NotOne, TooMany, Memory}
+use Rattle.mm_store.specs.Language.FilesView.{File, FilesView, plain, file_number, bytes_of}
+use Rattle.mm_store.specs.Language.Undoing.{keys_in}
+use Rattle.mm_store.specs.Language.Edits.{Asked, edited_name, edited_text, IsAmong, edited, after_edit, IsPlaced, NamesNoMember, BringsOneUnit, BringsFault, BringsNotOne, IsEditOf}
+use Rattle.mm_store.specs.Language.Answers.{IsEditError}
+use Rattle.mm_store.specs.Code.Edited.{pieces_in, with_pieces}
+use Rattle.mm_store.specs.Code.Units.{IsNewError}
+use Rattle.mm_store.proofs.lemmas.files.NumberLemmas.{IsThere, file_there, with_pieces_is}
+
+module _ (view : FilesView) (edit : Asked) (number count : ℕ)
+    (named : Some number ≡ file_number (plain view) (edited_name edit)) (there : number < length view.keyed) (counted : count ≡ length (keys_in view.keyed number)) where
+  abbrev pub found : IsThere view number
+  found = file_there view.keyed view.pieces number there
+
+  same_count : length found.file.pieces ≡ count
+  same_count = found.count ∙ sym counted
+
+  pub placed : IsAmong edit count → IsPlaced (plain view) edit number found.file
+  placed among = record { file_there = record { named = sym named; there = found.there }; among = subst (IsAmong edit) (sym same_count) among }
+
+  pub no_member : ¬ IsAmong edit count → NamesNoMember edit (plain view) count
+  no_member beyond = (number, found.file, record { named = sym named; there = found.there }, sym same_count, beyond)
+
+  pub after_is : with_pieces (plain view) number (edited edit (pieces_in (plain view) number)) ≡ after_edit (plain view) edit number found.file
+  after_is = ap (λ ms. with_pieces (plain view) number (edited edit ms)) found.members ∙ with_pieces_is (plain view) number found.file (edited edit found.file.pieces) found.there
+
+  pub is_edit : (new : FilesView) → IsAmong edit count → BringsOneUnit (edited_text edit) → plain new ≡ with_pieces (plain view) number (edited edit (pieces_in (plain view) number)) → bytes_of (plain new) ≤ 4294967295
+      → IsEditOf edit (plain view) (plain new)
+  is_edit new among one means within = record {
+    number = number;
+    file = found.file;
+    placed = placed among;
+    one_unit = one;
+    is_after = means ∙ after_is;
+    within = within;
+  }
+
+  pub too_many : IsAmong edit count → BringsOneUnit (edited_text edit) → 4294967295 < bytes_of (with_pieces (plain view) number (edited edit (pieces_in (plain view) number))) → IsEditError edit (plain view) TooMany
+  too_many among one more = (number, found.file, placed among, one, subst (λ files. 4294967295 < bytes_of files) after_is more)
+
+  module _ (text : List ℕ) (brings : edited_text edit ≡ Some text) (among : IsAmong edit count) where
+    pub no_memory : IsEditError edit (plain view) Memory
+    no_memory = (number, found.file, placed among, λ none. none-some text (sym none ∙ brings))
+
+    -- what is told of a text is told of the edit that brings it
+    pub not_new : (held : ℕ)
+        → (4294967295 < held + length (ended text) → 4294967295 < bytes_of (with_pieces (plain view) number (edited edit (pieces_in (plain view) number))))
+        → (error : EditError) → IsNewError held text error → IsEditError edit (plain view) error
+    not_new held more (Text fault) fails = (number, found.file, placed among, subst (λ o. BringsFault o fault) (sym brings) fails)
+    not_new held more (NotOne units) fails = (number, found.file, placed among, subst (λ o. BringsNotOne o units) (sym brings) fails)
+    not_new held more TooMany fails = too_many among (subst BringsOneUnit (sym brings) fails.0) (more fails.1)
+    not_new held more Memory fails = no_memory
+    not_new held more _ fails = absurd fails
+
+pub if_err : {T E : Type 0} (r : Result T E) (P Q : E → Type 0) → IsErrAnd r P → ((e : E) → P e → Q e) → IfErr r Q
+if_err (Ok x) P Q h f = tt
+if_err (Err e) P Q h f = f e h
+
+-- the two errors that come before memory is taken are told where they hold, and nowhere else
+module _ {T : Type 0} (edit : Asked) (files after : List File) where
+  pub no_file_told : (r : Result T EditError) → OnOk r (IsEditOf edit files after) → IfErr r (IsEditError edit files) → IsErrOf r NoFile ↔ (file_number files (edited_name edit) ≡ None)
+  no_file_told r done fails = search rules
+
+  pub no_piece_told : (count : ℕ) (r : Result T EditError) → OnOk r (IsEditOf edit files after) → IfErr r (IsEditError edit files) → IsErrOf r (NoPiece count) ↔ NamesNoMember edit files count
+  no_piece_told count r done fails = search rules

@@ -1,0 +1,100 @@
+-- Edits that are done one after another, and why one of them is refused.
+use Rattle.std.proofs.Common.{◌≡◌, ℕ, zero, suc, ◌+◌, ◌<◌, List, [], ◌∷◌, ◌++◌, Some, is_some, length, map, take, get_or, refl, sym, ap, ◌∙◌, subst, arith}
+use Rattle.std.specs.Prelude.{slice_get}
+use Rattle.std.specs.FinMap as finite
+use Rattle.std.proofs.Math.Numerals.{suc-eq-add-one}
+use Rattle.std.proofs.lemmas.Option.{none-some}
+use Rattle.mm_store.specs.declared.batch.BatchError.{BatchError}
+use Rattle.mm_store.specs.declared.batch.BatchError.TheVariants.{Edit, Memory}
+use Rattle.mm_store.specs.Language.Batches.{IsBatchError, IsBatchOf, KeepsReading, StartsPlaced}
+use Rattle.mm_store.specs.declared.edit.Edit as code
+use Rattle.mm_store.specs.Language.EditedKeys.{IsBatchByKeys, IsEditByKeys}
+use Rattle.mm_store.specs.Language.Edits.{Asked, asked, IsEditOf, IsPlaced}
+use Rattle.mm_store.specs.Language.FilesView.{File, FilesView}
+use Rattle.mm_store.specs.Language.Pieces.{text_in}
+use Rattle.mm_store.specs.Language.Undoing.{KeepsKeys, UndoView}
+use Rattle.mm_store.specs.Code.Batched.{IsNextError}
+use Rattle.mm_store.proofs.lemmas.files.ViewLemmas.{some_is}
+
+-- one edit more
+pub batch_last : (edits : List Asked) (edit : Asked) (files between after : List File) → IsBatchOf edits files between → IsEditOf edit between after → IsBatchOf (edits ++ edit ∷ []) files after
+batch_last [] edit files between after are is = (after, subst (λ files. IsEditOf edit files after) are is, refl)
+batch_last (first ∷ edits) edit files between after are is = (are.0, are.1, batch_last edits edit are.0 between after are.2 is)
+
+-- one edit more, by keys
+pub by_keys_last : (edits : List Asked) (edit : Asked) (old between new : FilesView) (undos : List UndoView) (undo : UndoView) → IsBatchByKeys edits old between undos
+    → IsEditByKeys edit between new undo → IsBatchByKeys (edits ++ edit ∷ []) old new (undos ++ undo ∷ [])
+by_keys_last [] edit old between new [] undo are is = (new, subst (λ view. IsEditByKeys edit view new undo) are is, refl)
+by_keys_last (first ∷ edits) edit old between new (one ∷ undos) undo are is = (are.0, are.1, by_keys_last edits edit are.0 between new undos undo are.2 is)
+by_keys_last _ edit old between new _ undo are is = absurd are
+
+-- the edits of a list of which so many are done
+pub mapped_there : (edits : List code.Edit) (n : ℕ) (default : code.Edit) → n < length edits → slice_get (map asked edits) n ≡ Some (asked (get_or edits n default))
+mapped_there [] n default lt = absurd (omega arith)
+mapped_there (edit ∷ edits) zero default lt = refl
+mapped_there (edit ∷ edits) (suc n) default lt = mapped_there edits n default (omega arith)
+
+next_taken : (edits : List code.Edit) (n : ℕ) (default : code.Edit) → n < length edits → take (suc n) (map asked edits) ≡ take n (map asked edits) ++ asked (get_or edits n default) ∷ []
+next_taken [] n default lt = absurd (omega arith)
+next_taken (edit ∷ edits) zero default lt = refl
+next_taken (edit ∷ edits) (suc n) default lt = ap (λ rest. asked edit ∷ rest) (next_taken edits n default (omega arith))
+
+pub take_whole : (edits : List code.Edit) (n : ℕ) → n ≡ length edits → take n (map asked edits) ≡ map asked edits
+take_whole [] n is = ap (λ n. take n (map asked [])) is
+take_whole (edit ∷ edits) zero is = absurd (omega arith)
+take_whole (edit ∷ edits) (suc n) is = ap (λ rest. asked edit ∷ rest) (take_whole edits n (omega arith))
+
+pub batch_next : (edits : List code.Edit) (n : ℕ) (default : code.Edit) (files between after : List File)
+    → n < length edits → IsBatchOf (take n (map asked edits)) files between → IsEditOf (asked (get_or edits n default)) between after → IsBatchOf (take (n + 1) (map asked edits)) files after
+batch_next edits n default files between after lt are is =
+    let more = batch_last (take n (map asked edits)) (asked (get_or edits n default)) files between after are is in
+    subst (λ n. IsBatchOf (take n (map asked edits)) files after) (suc-eq-add-one n) (subst (λ edits. IsBatchOf edits files after) (sym (next_taken edits n default lt)) more)
+
+pub by_keys_next : (edits : List code.Edit) (n : ℕ) (default : code.Edit) (old between new : FilesView) (undos : List UndoView) (undo : UndoView)
+    → n < length edits → IsBatchByKeys (take n (map asked edits)) old between undos → IsEditByKeys (asked (get_or edits n default)) between new undo
+    → IsBatchByKeys (take (n + 1) (map asked edits)) old new (undos ++ undo ∷ [])
+by_keys_next edits n default old between new undos undo lt are is =
+    let more = by_keys_last (take n (map asked edits)) (asked (get_or edits n default)) old between new undos undo are is in
+    subst (λ n. IsBatchByKeys (take n (map asked edits)) old new (undos ++ undo ∷ [])) (suc-eq-add-one n) (subst (λ edits. IsBatchByKeys edits old new (undos ++ undo ∷ [])) (sym (next_taken edits n default lt)) more)
+
+pub keys_then : (a b c : FilesView) → KeepsKeys a b → KeepsKeys b c → KeepsKeys a c
+keys_then a b c first then = λ key some.
+    let between = first key some in
+    let now = then key between.there in
+    record { there = now.there; text = now.text ∙ between.text }
+
+starts_placed : (edits : List Asked) (files between : List File) (n : ℕ) (edit : Asked) → IsBatchOf (take n edits) files between → slice_get edits n ≡ Some edit → (at : ℕ) (file : File) → IsPlaced between edit at file → StartsPlaced edits files
+starts_placed [] files between n edit are there at file placed = absurd (none-some edit there)
+starts_placed (first ∷ edits) files between zero edit are there at file placed = (edit, at, file, there, subst (λ files. IsPlaced files edit at file) are placed)
+starts_placed (first ∷ edits) files between (suc n) edit are there at file placed = (first, are.1.number, are.1.file, refl, are.1.placed)
+
+-- why the edit behind others is not done is why they all are not
+pub batch_error : (edits : List Asked) (files between : List File) (n : ℕ) (edit : Asked) (error : BatchError) → IsBatchOf (take n edits) files between → slice_get edits n ≡ Some edit → IsNextError edit between n error → IsBatchError edits files error
+batch_error edits files between n edit (Edit number error) are there fails = record {
+  before = between;
+  accepted = subst (λ n. IsBatchOf (take n edits) files between) (sym fails.0) are;
+  edit = edit;
+  there = ap (slice_get edits) fails.0 ∙ there;
+  refused = fails.1;
+  told = fails.2;
+}
+batch_error edits files between n edit Memory are there fails = starts_placed edits files between n edit are there fails.0 fails.1 fails.2
+
+-- where each key keeps its text, what can be read is read alike
+pub reads_alike : (old new : FilesView) → KeepsKeys old new → KeepsReading old new
+reads_alike old new keeps = λ item was.
+    let kept = keeps item.key.at (ap is_some was.live.held) in
+    let held = some_is (finite.get new.pieces item.key.at) kept.there in
+    record {
+      read = record {
+        text = was.text;
+        live = record { piece = held.0; held = held.1; is_text = was.live.is_text ∙ sym (ap text_in was.live.held) ∙ sym kept.text ∙ ap text_in held.1 };
+        some = was.some;
+        within = was.within;
+        words = was.words;
+        has_words = was.has_words;
+        some_word = was.some_word;
+      };
+      text = refl;
+      words = refl;
+    }

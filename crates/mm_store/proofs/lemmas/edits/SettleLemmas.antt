@@ -1,0 +1,99 @@
+-- What settling leaves as it was.
+use Rattle.std.proofs.Common.{◌≡◌, ◌≢◌, inl, inr, ℕ, zero, suc, ◌≤◌, List, [], ◌∷◌, Some, map, refl, ap, ◌∙◌, arith}
+use Rattle.std.specs.Prelude.{slice_get}
+use Rattle.std.specs.FinMap as finite
+use Rattle.std.proofs.lemmas.Bool.{cases_eq}
+use Rattle.std.proofs.lemmas.List.Sums.{sum_by-cons}
+use Rattle.std.proofs.lemmas.Option.{none-some, same_Some}
+use Rattle.mm_store.specs.Language.Undoing as action
+use Rattle.mm_store.specs.Language.Batches.{KeepsStanding}
+use Rattle.mm_store.specs.Language.FilesView.{FilesView, KeyedFile, PieceView, file_view, files_in, piece_view, plain}
+use Rattle.mm_store.specs.Language.Pieces.{Removal, IsParked, Pieces, text_under}
+use Rattle.mm_store.specs.Language.Undoing.{EditAction, CanSettle, spent}
+use Rattle.mm_store.specs.Code.Batched.{StandOnce}
+use Rattle.mm_store.specs.Code.Kept.{one, places, times}
+use Rattle.mm_store.proofs.lemmas.files.ListLemmas.{one_same, plain_same}
+use Rattle.mm_store.proofs.lemmas.files.MapLemmas.{get_drop_other}
+use Rattle.mm_store.proofs.lemmas.files.PieceLemmas.{text_drop_other}
+use Rattle.mm_store.proofs.lemmas.edits.StepLemmas.{parked}
+
+-- a key that is in a file is at a place
+times_there : (keys : List ℕ) (at key : ℕ) → slice_get keys at ≡ Some key → 1 ≤ times key keys
+times_there [] at key is = absurd (none-some key is)
+times_there (x ∷ keys) zero key is = omega (arith, sum_by-cons (one key) x keys, one_same key, ap (one key) (same_Some x key is))
+times_there (x ∷ keys) (suc at) key is = omega (arith, sum_by-cons (one key) x keys, times_there keys at key is)
+
+places_there : (files : List KeyedFile) (n key : ℕ) (file : KeyedFile) → slice_get files n ≡ Some file → times key file.keys ≤ places key files
+places_there [] n key file is = absurd (none-some file is)
+places_there (first ∷ files) zero key file is = omega (arith, ap (λ (file : KeyedFile). times key file.keys) (same_Some first file is))
+places_there (first ∷ files) (suc n) key file is = omega (arith, places_there files n key file is)
+
+-- files of which no piece has this key, after what is under it has changed
+module _ (p p' : Pieces) (k : ℕ) (same : (q : ℕ) → q ≢ k → text_under p' q ≡ text_under p q) where
+  views_same : (keys : List ℕ) → times k keys ≡ 0 → map (piece_view p') keys ≡ map (piece_view p) keys
+  views_same [] none = refl
+  views_same (x ∷ keys) none =
+      let cons = sum_by-cons (one k) x keys in
+      elim (cases_eq x k) [
+        | inl is ↦ absurd (omega (arith, cons, one_same k, ap (one k) is))
+        | inr differs ↦ ap (λ (text : List ℕ). record { key = record { at = x }; text = text } ∷ map (piece_view p') keys) (same x differs) ∙ ap (λ vs. piece_view p x ∷ vs) (views_same keys (omega (arith, cons)))
+      ]
+
+  keyed_same : (files : List KeyedFile) → places k files ≡ 0 → map (file_view p') files ≡ map (file_view p) files
+  keyed_same [] none = refl
+  keyed_same (file ∷ files) none =
+      ap (λ (pieces : List PieceView). record { name = file.name; pieces = pieces; tail = file.tail } ∷ map (file_view p') files) (views_same file.keys (omega arith))
+      ∙ ap (λ fs. file_view p file ∷ fs) (keyed_same files (omega arith))
+
+-- the files stay as they are, and what stands in them can be read as before
+pub record Stays (old new : FilesView) : Type 0 where
+  pub keys : new.keyed ≡ old.keyed
+  pub plain_is : plain new ≡ plain old
+  pub keyed_is : files_in new ≡ files_in old
+  pub standing : KeepsStanding old new
+
+pub stays_same : (view : FilesView) → Stays view view
+stays_same view = record { keys = refl; plain_is = refl; keyed_is = refl; standing = λ item was stands. record { read = was; text = refl; words = refl } }
+
+pub stays_then : (a b c : FilesView) → Stays a b → Stays b c → Stays a c
+stays_then a b c first then = record {
+  keys = then.keys ∙ first.keys;
+  plain_is = then.plain_is ∙ first.plain_is;
+  keyed_is = then.keyed_is ∙ first.keyed_is;
+  standing = λ item was stands.
+      let between = first.standing item was stands in
+      let now = then.standing item between.read (record { file = stands.file; there = ap (λ files. slice_get files item.file) first.keys ∙ stands.there; is_key = stands.is_key }) in
+      record { read = now.read; text = now.text ∙ between.text; words = now.words ∙ between.words };
+}
+
+-- a piece that is parked is dropped
+dropped_stays : (view : FilesView) (k n : ℕ) (kind : Removal) → StandOnce view → IsParked view.pieces k n kind → Stays view (record { keyed = view.keyed; pieces = finite.remove view.pieces k })
+dropped_stays view k n kind once is =
+    let p = view.pieces in
+    let none : places k view.keyed ≡ 0 = once k ∙ (parked (finite.get p k) n kind is).none in
+    record {
+      keys = refl;
+      plain_is = plain_same p (finite.remove p k) k (text_drop_other p k) view.keyed none;
+      keyed_is = keyed_same p (finite.remove p k) k (text_drop_other p k) view.keyed none;
+      standing = λ item was stands.
+          let key = item.key.at in
+          let differs : key ≢ k = λ same. omega (arith, none, ap (λ q. places q view.keyed) same, places_there view.keyed item.file key stands.file stands.there, times_there stands.file.keys item.piece key stands.is_key) in
+          record {
+            read = record {
+              text = was.text;
+              live = record { piece = was.live.piece; held = get_drop_other p k key differs ∙ was.live.held; is_text = was.live.is_text };
+              some = was.some;
+              within = was.within;
+              words = was.words;
+              has_words = was.has_words;
+              some_word = was.some_word;
+            };
+            text = refl;
+            words = refl;
+          };
+    }
+
+pub spent_stays : (view : FilesView) (n : ℕ) (act : EditAction) → StandOnce view → CanSettle n act view → Stays view (spent act view)
+spent_stays view n (action.Replaced at k) once can = dropped_stays view k n _ once can
+spent_stays view n (action.Deleted at k) once can = dropped_stays view k n _ once can
+spent_stays view n _ once can = stays_same view

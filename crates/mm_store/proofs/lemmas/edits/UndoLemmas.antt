@@ -1,0 +1,255 @@
+-- Edits are done, and their undoing gives the files of before.
+use Rattle.std.proofs.Common.{◌≡◌, ◌≢◌, inl, inr, ℕ, zero, suc, ◌<◌, ◌≤◌, List, [], ◌∷◌, Option, Some, None, is_some, true, length, get_or, set, refl, sym, ap, ◌∙◌, subst, arith}
+use Rattle.std.specs.List.{insert, remove}
+use Rattle.std.proofs.lemmas.Bool.{cases_eq}
+use Rattle.std.proofs.lemmas.List.{set-set, set-get_or, get_or-set_same, length-set}
+use Rattle.std.proofs.lemmas.List.Edits.{length-insert, length-remove, get_or-insert_at}
+use Rattle.std.specs.FinMap as finite
+use Rattle.mm_store.specs.declared.undo.Action.{Action}
+use Rattle.mm_store.specs.declared.undo.Undo.TheInside.{Inside}
+use Rattle.mm_store.specs.Code.Undone.{undo_by, view_of}
+use Rattle.mm_store.proofs.lemmas.files.PieceLemmas.{text_drop_other}
+use Rattle.mm_store.specs.Language.Undoing as action
+use Rattle.mm_store.proofs.lemmas.files.MapLemmas.{get_put_other, get_drop_same, get_drop_other, same_but}
+use Rattle.mm_store.proofs.lemmas.files.ListLemmas.{in_files, back, keys_with}
+use Rattle.mm_store.proofs.lemmas.files.EntryLemmas.{same_view}
+use Rattle.mm_store.proofs.lemmas.files.PieceLemmas.{text_put_other, text_state, get_state_same, get_state_other}
+use Rattle.mm_store.proofs.lemmas.edits.ReplaceLemmas.{key_stands, plain_replaced, old_other}
+use Rattle.mm_store.proofs.lemmas.edits.StepLemmas.{plain_inserted, plain_deleted, plain_moved, bytes_deleted, bytes_moved}
+use Rattle.mm_store.specs.Language.EditedKeys.{replaced, inserted, deleted}
+use Rattle.mm_store.specs.Code.Edited.{IsReplaced, IsInserted, IsDeleted, IsMoved}
+use Rattle.mm_store.specs.Code.Kept.{places, standing_state, standing_count}
+use Rattle.mm_store.specs.Language.FilesView.{KeyedFile, FilesView, plain, bytes_of}
+use Rattle.mm_store.specs.Language.Pieces.{PieceState, Standing, Parked, Removal, Replaced, Deleted, HeldPiece, Pieces, in_state, with_state, standing_piece, state_in, IsParked}
+use Rattle.mm_store.specs.Language.Undoing.{UndoView, EditAction, KeepsOthers, reversed, spent, undone_key, settled_key, keys_in, key_at, moved_list, moved, undone}
+
+-- what an undo says, by what was done
+pub undo_is : (inside : Inside) (did : Action) (undo : UndoView) → view_of inside ≡ undo → inside.action ≡ did → undo_by inside.file did ≡ undo
+undo_is inside did undo is same = ap (undo_by inside.file) (sym same) ∙ is
+
+pub insert_removed : (xs : List ℕ) (i : ℕ) → i < length xs → insert (remove xs i) i (get_or xs i 0) ≡ xs
+insert_removed [] i lt = absurd (omega arith)
+insert_removed (x ∷ xs) zero lt = refl
+insert_removed (x ∷ xs) (suc i) lt = ap (λ ys. x ∷ ys) (insert_removed xs i (omega arith))
+
+pub remove_inserted : (xs : List ℕ) (i y : ℕ) → i ≤ length xs → remove (insert xs i y) i ≡ xs
+remove_inserted xs zero y le = refl
+remove_inserted [] (suc i) y le = absurd (omega arith)
+remove_inserted (x ∷ xs) (suc i) y le = ap (λ ys. x ∷ ys) (remove_inserted xs i y (omega arith))
+
+-- a piece that stands is there
+pub record StandsIn (o : Option HeldPiece) : Type 0 where
+  pub piece : HeldPiece
+  pub is : o ≡ Some piece
+  pub state : piece.state ≡ Standing
+
+standing_is : (s : PieceState) → standing_state s ≡ 1 → s ≡ Standing
+standing_is Standing e = refl
+standing_is (Parked n kind) e = absurd (omega arith)
+
+stands_in : (o : Option HeldPiece) → standing_count o ≡ 1 → StandsIn o
+stands_in None e = absurd (omega arith)
+stands_in (Some piece) e = record { piece = piece; is = refl; state = standing_is piece.state e }
+
+same_piece : (piece : HeldPiece) (s : PieceState) → piece.state ≡ s → record { text = piece.text; state = s } ≡ piece
+same_piece piece s e = λ i. record { text = piece.text; state = sym e i }
+
+twice : (o : Option HeldPiece) (s t : PieceState) → in_state (Some (in_state o s)) t ≡ in_state o t
+twice None s t = refl
+twice (Some piece) s t = refl
+
+state_is : (o : Option HeldPiece) (s : PieceState) → (in_state o s).state ≡ s
+state_is None s = refl
+state_is (Some piece) s = refl
+
+module _ (p : Pieces) (old : ℕ) (stands : StandsIn (finite.get p old)) where
+  revived : in_state (finite.get p old) Standing ≡ stands.piece
+  revived = ap (λ o. in_state o Standing) stands.is ∙ same_piece stands.piece Standing stands.state
+
+  -- parked, and standing again
+  pub parked_back : (n : ℕ) (kind : Removal) → with_state (with_state p old (Parked n kind)) old Standing ≡ p
+  parked_back n kind = same_but _ _ old
+      (get_state_same (with_state p old (Parked n kind)) old Standing ∙ ap Some (ap (λ o. in_state o Standing) (get_state_same p old (Parked n kind)) ∙ twice (finite.get p old) (Parked n kind) Standing ∙ revived) ∙ sym stands.is)
+      (λ q d. get_state_other (with_state p old (Parked n kind)) old Standing q d ∙ get_state_other p old (Parked n kind) q d)
+
+-- a piece put and dropped
+pub put_back : (p : Pieces) (k : ℕ) (v : HeldPiece) → finite.get p k ≡ None → finite.remove (finite.insert p k v) k ≡ p
+put_back p k v fresh = same_but _ _ k (get_drop_same (finite.insert p k v) k ∙ sym fresh) (λ q d. get_drop_other (finite.insert p k v) k q d ∙ get_put_other p k v q d)
+
+-- changes of two keys in either order
+state_drop : (p : Pieces) (old k : ℕ) (s : PieceState) → old ≢ k → finite.remove (with_state p old s) k ≡ with_state (finite.remove p k) old s
+state_drop p old k s differs = same_but _ _ k
+    (get_drop_same (with_state p old s) k ∙ sym (get_state_other (finite.remove p k) old s k (λ e. differs (sym e)) ∙ get_drop_same p k))
+    (λ q d. get_drop_other (with_state p old s) k q d ∙ elim (cases_eq q old) [
+      | inl is ↦ ap (finite.get (with_state p old s)) is ∙ get_state_same p old s ∙ ap (λ o. Some (in_state o s)) (sym (get_drop_other p k old differs)) ∙ sym (get_state_same (finite.remove p k) old s) ∙ ap (finite.get (with_state (finite.remove p k) old s)) (sym is)
+      | inr other ↦ get_state_other p old s q other ∙ sym (get_drop_other p k q d) ∙ sym (get_state_other (finite.remove p k) old s q other)
+    ])
+
+parked_is : (p : Pieces) (old n : ℕ) (kind : Removal) → IsParked (with_state p old (Parked n kind)) old n kind
+parked_is p old n kind = ap state_in (get_state_same p old (Parked n kind)) ∙ ap Some (state_is (finite.get p old) (Parked n kind))
+
+-- a key that has a piece keeps it
+kept_state : (p : Pieces) (old : ℕ) (s : PieceState) (q : ℕ) → is_some (finite.get p q) ≡ true → is_some (finite.get (with_state p old s) q) ≡ true
+kept_state p old s q some = elim (cases_eq q old) [
+  | inl is ↦ ap (λ q. is_some (finite.get (with_state p old s) q)) is ∙ ap is_some (get_state_same p old s)
+  | inr differs ↦ ap is_some (get_state_other p old s q differs) ∙ some
+]
+
+not_fresh : (p : Pieces) (k q : ℕ) → finite.get p k ≡ None → is_some (finite.get p q) ≡ true → q ≢ k
+not_fresh p k q fresh some e = absurd (let none : is_some (finite.get p q) ≡ is_some {T = HeldPiece} None = ap (λ q. is_some (finite.get p q)) e ∙ ap is_some fresh in cc)
+
+module _ (view : FilesView) (n at : ℕ)
+    (once : (q : ℕ) → places q view.keyed ≡ standing_count (finite.get view.pieces q))
+    (small : bytes_of (plain view) ≤ 4294967295) where
+  abbrev fs : List KeyedFile
+  fs = view.keyed
+
+  abbrev p : Pieces
+  p = view.pieces
+
+  abbrev keys : List ℕ
+  keys = keys_in fs n
+
+  abbrev old : ℕ
+  old = get_or keys at 0
+
+  within : (undo : UndoView) (new : FilesView) → undone undo new ≡ view → bytes_of (plain (undone undo new)) ≤ 4294967295
+  within undo new is = subst (λ v. bytes_of (plain v) ≤ 4294967295) (sym is) small
+
+  pub is_inserted : (k : ℕ) (text : List ℕ) → n < length fs → at ≤ length keys → finite.get p k ≡ None → IsInserted view (inserted view n at k text) n at text (record { file = n; action = action.Inserted at })
+  is_inserted k text file there fresh =
+      let undo : UndoView = record { file = n; action = action.Inserted at } in
+      let new = inserted view n at k text in
+      let has = keys_with fs n (insert keys at k) file in
+      let key : key_at new n at ≡ k = ap (λ ks. get_or ks at 0) has ∙ get_or-insert_at keys at k 0 there in
+      let again : undone undo new ≡ view = same_view _ _
+      (back fs n (insert keys at k) _ (ap (λ ks. remove ks at) has ∙ remove_inserted keys at k there))
+      (ap (finite.remove new.pieces) key ∙ put_back p k (standing_piece text) fresh) in
+      record {
+        key = k;
+        fresh = fresh;
+        is = refl;
+        undo_is = refl;
+        done = record {
+          means = plain_inserted fs p n at once k text file fresh;
+          keeps = λ q some. record {
+            there = ap is_some (get_put_other p k (standing_piece text) q (not_fresh p k q fresh some)) ∙ some;
+            text = text_put_other p k (standing_piece text) q (not_fresh p k q fresh some);
+          };
+          can_undo = record { fits = omega (arith, ap length has, length-insert keys at k there, there); within = within undo new again };
+          can_settle = tt;
+          back = again;
+        };
+      }
+
+  module _ (there : at < length keys) where
+    stands : StandsIn (finite.get p old)
+    stands = stands_in (finite.get p old) (key_stands fs p n at once there)
+
+    file_there : n < length fs
+    file_there = in_files fs n at there
+
+    pub is_replaced : (k : ℕ) (text : List ℕ) → finite.get p k ≡ None → IsReplaced view (replaced view n at k text) n at text (record { file = n; action = action.Replaced at old })
+    is_replaced k text fresh =
+        let undo : UndoView = record { file = n; action = action.Replaced at old } in
+        let new = replaced view n at k text in
+        let p1 = finite.insert p k (standing_piece text) in
+        let differs : old ≢ k = old_other fs p n at k text once there fresh in
+        let has = keys_with fs n (set keys at k) file_there in
+        let key : key_at new n at ≡ k = ap (λ ks. get_or ks at 0) has ∙ get_or-set_same keys at k 0 there in
+        let pieces : with_state (finite.remove new.pieces (key_at new n at)) old Standing ≡ p =
+        ap (λ q. with_state (finite.remove new.pieces q) old Standing) key
+        ∙ ap (λ m. with_state m old Standing) (state_drop p1 old k (Parked n Replaced) differs ∙ ap (λ m. with_state m old (Parked n Replaced)) (put_back p k (standing_piece text) fresh))
+        ∙ parked_back p old stands n Replaced in
+        let again : undone undo new ≡ view = same_view _ _
+        (back fs n (set keys at k) _ (ap (λ ks. set ks at old) has ∙ set-set keys at k old ∙ set-get_or keys at 0))
+        pieces in
+        record {
+          key = k;
+          fresh = fresh;
+          is = refl;
+          undo_is = refl;
+          done = record {
+            means = plain_replaced fs p n at k text once there fresh;
+            keeps = λ q some. record {
+              there = kept_state p1 old (Parked n Replaced) q (ap is_some (get_put_other p k (standing_piece text) q (not_fresh p k q fresh some)) ∙ some);
+              text = text_state p1 old (Parked n Replaced) q ∙ text_put_other p k (standing_piece text) q (not_fresh p k q fresh some);
+            };
+            can_undo = record { fits = (omega (arith, ap length has, length-set keys at k, there), parked_is p1 old n Replaced); within = within undo new again };
+            can_settle = parked_is p1 old n Replaced;
+            back = again;
+          };
+        }
+
+    pub is_deleted : IsDeleted view (deleted view n at) n at (record { file = n; action = action.Deleted at old })
+    is_deleted =
+        let undo : UndoView = record { file = n; action = action.Deleted at old } in
+        let new = deleted view n at in
+        let has = keys_with fs n (remove keys at) file_there in
+        let again : undone undo new ≡ view = same_view _ _
+        (back fs n (remove keys at) _ (ap (λ ks. insert ks at old) has ∙ insert_removed keys at there))
+        (parked_back p old stands n Deleted) in
+        record {
+          is = refl;
+          undo_is = refl;
+          within = omega (arith, small, bytes_deleted fs p n at once there);
+          done = record {
+            means = plain_deleted fs p n at once there;
+            keeps = λ q some. record { there = kept_state p old (Parked n Deleted) q some; text = text_state p old (Parked n Deleted) q };
+            can_undo = record { fits = (omega (arith, ap length has, length-remove keys at there, there), parked_is p old n Deleted); within = within undo new again };
+            can_settle = parked_is p old n Deleted;
+            back = again;
+          };
+        }
+
+    pub is_moved : (to : ℕ) → to < length keys → IsMoved view (moved view n at to) n at to (record { file = n; action = action.Moved at to })
+    is_moved to too =
+        let undo : UndoView = record { file = n; action = action.Moved at to } in
+        let new = moved view n at to in
+        let has = keys_with fs n (moved_list keys at to) file_there in
+        let shorter = length-remove keys at there in
+        let le : to ≤ length (remove keys at) = omega (arith, shorter, too) in
+        let list : moved_list (moved_list keys at to) to at ≡ keys =
+        ap (λ x. insert (remove (moved_list keys at to) to) at x) (get_or-insert_at (remove keys at) to old 0 le)
+        ∙ ap (λ ks. insert ks at old) (remove_inserted (remove keys at) to old le) ∙ insert_removed keys at there in
+        let again : undone undo new ≡ view = same_view _ _ (back fs n (moved_list keys at to) _ (ap (λ ks. moved_list ks to at) has ∙ list)) refl in
+        record {
+          is = refl;
+          undo_is = refl;
+          within = omega (arith, small, bytes_moved fs p n at once there to);
+          done = record {
+            means = plain_moved fs p n at once there to;
+            keeps = λ q some. record { there = some; text = refl };
+            can_undo = record { fits = (omega (arith, ap length has, shorter, length-insert (remove keys at) to old le, there), omega (arith, ap length has, shorter, length-insert (remove keys at) to old le, too)); within = within undo new again };
+            can_settle = tt;
+            back = again;
+          };
+        }
+
+-- every key but the dropped one keeps its piece, with its text
+pub keeps_undone : (n : ℕ) (a : EditAction) (view : FilesView) → KeepsOthers (undone_key n a view) view (reversed n a view)
+keeps_undone n (action.Inserted at) view = λ key other some.
+    let p = view.pieces in
+    let k = key_at view n at in
+    let differs : key ≢ k = λ e. other (ap Some (sym e)) in
+    record { there = ap is_some (get_drop_other p k key differs) ∙ some; text = text_drop_other p k key differs }
+keeps_undone n (action.Replaced at old) view = λ key other some.
+    let p = view.pieces in
+    let k = key_at view n at in
+    let differs : key ≢ k = λ e. other (ap Some (sym e)) in
+    record {
+      there = kept_state (finite.remove p k) old Standing key (ap is_some (get_drop_other p k key differs) ∙ some);
+      text = text_state (finite.remove p k) old Standing key ∙ text_drop_other p k key differs;
+    }
+keeps_undone n (action.Deleted at old) view = λ key other some. record { there = kept_state view.pieces old Standing key some; text = text_state view.pieces old Standing key }
+keeps_undone n (action.Moved at to) view = λ key other some. record { there = some; text = refl }
+
+pub keeps_settled : (a : EditAction) (view : FilesView) → KeepsOthers (settled_key a) view (spent a view)
+keeps_settled (action.Inserted at) view = λ key other some. record { there = some; text = refl }
+keeps_settled (action.Replaced at old) view = λ key other some.
+    let differs : key ≢ old = λ e. other (ap Some (sym e)) in
+    record { there = ap is_some (get_drop_other view.pieces old key differs) ∙ some; text = text_drop_other view.pieces old key differs }
+keeps_settled (action.Deleted at old) view = λ key other some.
+    let differs : key ≢ old = λ e. other (ap Some (sym e)) in
+    record { there = ap is_some (get_drop_other view.pieces old key differs) ∙ some; text = text_drop_other view.pieces old key differs }
+keeps_settled (action.Moved at to) view = λ key other some. record { there = some; text = refl }

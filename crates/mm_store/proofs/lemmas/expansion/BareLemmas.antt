@@ -1,0 +1,131 @@
+-- The steps of a walk do not go by keys.
+use Rattle.std.proofs.Common.{◌≡◌, ℕ, List, [], ◌∷◌, Option, Some, None, map, refl, sym, ap, ◌∙◌, subst, inl, inr}
+use Rattle.std.specs.Prelude.{slice_get}
+use Rattle.std.specs.List.{AllByRecursion}
+use Rattle.std.specs.Option.{option_map}
+use Rattle.std.proofs.lemmas.Option.{slice_get-map}
+use Rattle.mm_text.specs.Language.Cut.{HoldsOne}
+use Rattle.mm_store.specs.declared.walk.Spot.{Spot}
+use Rattle.mm_store.specs.declared.walk.Step.TheVariants as steps
+use Rattle.mm_store.specs.Language.FilesView.{PieceView, FileView, FilesView, files_in, plain, number_of}
+use Rattle.mm_store.specs.Language.Expansion.{Placed, IsInclusion}
+use Rattle.mm_store.specs.Language.Keyless.{bare, keyless_placed}
+use Rattle.mm_store.specs.Language.Walking.{LevelView, WalkView}
+use Rattle.mm_store.specs.Code.Gains.{HoldUnits}
+use Rattle.mm_store.specs.Code.Steps.{piece_in, piece_at, IsHere, IncludesNothing, Includes, spot_at, Tells, IsStep}
+use Rattle.mm_store.proofs.lemmas.files.ViewLemmas.{there_from_map}
+use Rattle.mm_store.proofs.lemmas.expansion.KeylessLemmas.{keyless_piece, keyless_file, number_keyless, parts_keyless, keyless_bare}
+
+in_keyless : (o : Option FileView) (n : ℕ) → piece_in (option_map keyless_file o) n ≡ option_map keyless_piece (piece_in o n)
+in_keyless None n = refl
+in_keyless (Some file) n = slice_get-map keyless_piece file.pieces n
+
+own_keyless : (parts : List Placed) → AllByRecursion (λ part. ¬ IsInclusion part) parts → AllByRecursion (λ part. ¬ IsInclusion part) (map keyless_placed parts)
+own_keyless [] h = tt
+own_keyless (part ∷ parts) h = (h.0, own_keyless parts h.1)
+
+nothing_keyless : (file n : ℕ) (piece : PieceView) → IncludesNothing file n piece → IncludesNothing file n (keyless_piece piece)
+nothing_keyless file n piece h = record { placed = map keyless_placed h.placed; are_parts = parts_keyless file n piece h.placed h.are_parts; own = own_keyless h.placed h.own }
+
+includes_keyless : (file n : ℕ) (piece : PieceView) (name : List ℕ) → Includes file n piece name → Includes file n (keyless_piece piece) name
+includes_keyless file n piece name h =
+    record { part = keyless_placed h.part; are_parts = parts_keyless file n piece (h.part ∷ []) h.are_parts; is_inclusion = h.is_inclusion; is_name = h.is_name }
+
+module _ (files : List FileView) where
+  at_keyless : (level : LevelView) → piece_at (map keyless_file files) level ≡ option_map keyless_piece (piece_at files level)
+  at_keyless level = ap (λ file. piece_in file level.piece) (slice_get-map keyless_file files level.file) ∙ in_keyless (slice_get files level.file) level.piece
+
+  here_keyless : (levels front : List LevelView) (level : LevelView) (piece : PieceView) → IsHere files levels front level piece → IsHere (map keyless_file files) levels front level (keyless_piece piece)
+  here_keyless levels front level piece h = record { last = h.last; there = at_keyless level ∙ ap (option_map keyless_piece) h.there }
+
+  module _ (old new : WalkView) where
+    nothing_step : IsStep files old steps.Nothing new → IsStep (map keyless_file files) old steps.Nothing new
+    nothing_step (inl l) = inl (record { front = l.front; level = l.level; last = l.last; none = at_keyless l.level ∙ ap (option_map keyless_piece) l.none; after = l.after })
+    nothing_step (inr (inl a)) = inr (inl (record {
+      front = a.front;
+      level = a.level;
+      piece = keyless_piece a.piece;
+      is_here = here_keyless old.levels a.front a.level a.piece a.is_here;
+      name = a.name;
+      includes = includes_keyless a.level.file a.level.piece a.piece a.name a.includes;
+      known = a.known;
+      after = a.after;
+    }))
+    nothing_step (inr (inr e)) = inr (inr (record {
+      front = e.front;
+      level = e.level;
+      piece = keyless_piece e.piece;
+      is_here = here_keyless old.levels e.front e.level e.piece e.is_here;
+      name = e.name;
+      includes = includes_keyless e.level.file e.level.piece e.piece e.name e.includes;
+      fresh = e.fresh;
+      number = e.number;
+      is_number = number_keyless files e.name ∙ e.is_number;
+      after = e.after;
+    }))
+
+    items_step : (spot : Spot) → IsStep files old (steps.Items spot) new → (other : Spot) × IsStep (map keyless_file files) old (steps.Items other) new
+    items_step spot (inl p) = (
+      spot_at p.level (keyless_piece p.piece),
+      inl (record {
+        front = p.front;
+        level = p.level;
+        piece = keyless_piece p.piece;
+        is_here = here_keyless old.levels p.front p.level p.piece p.is_here;
+        is_spot = refl;
+        nothing = nothing_keyless p.level.file p.level.piece p.piece p.nothing;
+        after = p.after;
+      }),
+    )
+    items_step spot (inr p) = (
+      spot_at p.level (keyless_piece p.piece),
+      inr (record {
+        front = p.front;
+        level = p.level;
+        piece = keyless_piece p.piece;
+        is_here = here_keyless old.levels p.front p.level p.piece p.is_here;
+        is_spot = refl;
+        name = p.name;
+        includes = includes_keyless p.level.file p.level.piece p.piece p.name p.includes;
+        fresh = p.fresh;
+        none = number_keyless files p.name ∙ p.none;
+        told = p.told;
+        after = p.after;
+      }),
+    )
+
+    tells_step : (name : List ℕ) → Tells files old name new → Tells (map keyless_file files) old name new
+    tells_step name t = record {
+      front = t.front;
+      level = t.level;
+      piece = keyless_piece t.piece;
+      is_here = here_keyless old.levels t.front t.level t.piece t.is_here;
+      includes = includes_keyless t.level.file t.level.piece t.piece name t.includes;
+      fresh = t.fresh;
+      none = number_keyless files name ∙ t.none;
+      untold = t.untold;
+      after = t.after;
+    }
+
+  hold_keyless : HoldUnits files → HoldUnits (map keyless_file files)
+  hold_keyless hold number file there n piece here =
+      let f = there_from_map keyless_file files number file there in
+      let p = there_from_map keyless_piece f.0.pieces n piece (subst (λ (file : FileView). slice_get file.pieces n ≡ Some piece) f.2 here) in
+      subst (λ (piece : PieceView). HoldsOne piece.text) (sym p.2) (hold number f.0 f.1 n p.0 p.1)
+
+module _ (view : FilesView) where
+  pub hold_bare : HoldUnits (files_in view) → HoldUnits (bare (plain view))
+  hold_bare hold = subst HoldUnits (keyless_bare view) (hold_keyless (files_in view) hold)
+
+  pub number_bare : (name : List ℕ) → number_of (bare (plain view)) name ≡ number_of (files_in view) name
+  number_bare name = ap (λ files. number_of files name) (sym (keyless_bare view)) ∙ number_keyless (files_in view) name
+
+  module _ (old new : WalkView) where
+    pub bare_nothing : IsStep (files_in view) old steps.Nothing new → IsStep (bare (plain view)) old steps.Nothing new
+    bare_nothing s = subst (λ files. IsStep files old steps.Nothing new) (keyless_bare view) (nothing_step (files_in view) old new s)
+
+    pub bare_items : (spot : Spot) → IsStep (files_in view) old (steps.Items spot) new → (other : Spot) × IsStep (bare (plain view)) old (steps.Items other) new
+    bare_items spot s = (let t = items_step (files_in view) old new spot s in (t.0, subst (λ files. IsStep files old (steps.Items t.0) new) (keyless_bare view) t.1))
+
+    pub bare_tells : (name : List ℕ) → Tells (files_in view) old name new → Tells (bare (plain view)) old name new
+    bare_tells name s = subst (λ files. Tells files old name new) (keyless_bare view) (tells_step (files_in view) old new name s)

@@ -1,0 +1,130 @@
+-- What the files weigh whose names are not taken. Each inclusion of a file takes its name, and its weight with it.
+use Rattle.std.proofs.Common.{◌≡◌, ℕ, zero, suc, ◌+◌, ◌≤◌, Bool, true, false, ◌||◌, List, [], ◌∷◌, ◌++◌, Some, length, map, refl, sym, ap, ◌∙◌, subst, arith, length-append, Contains, ◌⊎◌, inl, inr}
+use Rattle.std.specs.Prelude.{if◌then◌else◌, slice_get}
+use Rattle.std.specs.List.{list_any, concat}
+use Rattle.std.specs.Str.{bytes_eq}
+use Rattle.std.proofs.lemmas.Bool.{false≢true}
+use Rattle.std.proofs.lemmas.Slice.Eq.{bytes_eq-Decides}
+use Rattle.std.proofs.lemmas.List.Elements.{Contains-append_left, Contains-append_right, Contains-append_cases}
+use Rattle.std.proofs.lemmas.Option.{none-some, same_Some}
+use Rattle.std.proofs.lemmas.Simd.{map-map}
+use Rattle.mm_store.specs.declared.item.Item.{Item}
+use Rattle.mm_store.specs.Language.Pieces.{text_under}
+use Rattle.mm_store.specs.Language.FilesView.{KeyedFile, PieceView, FileView, FilesView, files_in, file_view, piece_view, piece_texts, plain, plain_file, bytes_of}
+use Rattle.mm_store.specs.Language.Expansion.{Placed, Expands, nothing, own, again, missing, included, IsExpansion}
+use Rattle.mm_store.proofs.lemmas.expansion.CountLemmas.{placed_few}
+use Rattle.mm_store.proofs.lemmas.files.GrowthLemmas.{name_of_number}
+
+abbrev pub is_among : List ℕ → List (List ℕ) → Bool
+is_among name names = list_any (λ other. bytes_eq name other) names
+
+contains_case : (name other : List ℕ) (names : List (List ℕ)) (b : Bool) → bytes_eq name other ≡ b → (b || is_among name names) ≡ true → (is_among name names ≡ true → Contains names name) → Contains (other ∷ names) name
+contains_case name other names true e h later = (0, omega arith, sym ((bytes_eq-Decides name other).0 e))
+contains_case name other names false e h later = Contains-append_right (other ∷ []) names name (later h)
+
+pub contains_from_among : (name : List ℕ) (names : List (List ℕ)) → is_among name names ≡ true → Contains names name
+contains_from_among name [] h = absurd (false≢true h)
+contains_from_among name (other ∷ names) h = contains_case name other names (bytes_eq name other) refl h (contains_from_among name names)
+
+one_is : (y name : List ℕ) → Contains (y ∷ []) name → name ≡ y
+one_is y name (zero, h, e) = sym e
+one_is y name (suc k, h, e) = absurd (omega arith)
+
+among_case : (name other : List ℕ) (names : List (List ℕ)) (b : Bool) → bytes_eq name other ≡ b → Contains (other ∷ []) name ⊎ Contains names name → (Contains names name → is_among name names ≡ true) → (b || is_among name names) ≡ true
+among_case name other names true e h later = refl
+among_case name other names false e (inl h) later = absurd (false≢true (sym e ∙ (bytes_eq-Decides name other).1 (one_is other name h)))
+among_case name other names false e (inr h) later = later h
+
+pub among_from_contains : (name : List ℕ) (names : List (List ℕ)) → Contains names name → is_among name names ≡ true
+among_from_contains name [] h = absurd (omega (arith, h.1))
+among_from_contains name (other ∷ names) h = among_case name other names (bytes_eq name other) refl (Contains-append_cases (other ∷ []) names name h) (among_from_contains name names)
+
+module _ (w : FileView → ℕ) where
+  abbrev pub weight : List FileView → List (List ℕ) → ℕ
+  weight [] names = 0
+  weight (file ∷ files) names = (if is_among file.name names then 0 else w file) + weight files names
+
+  head_less : (file : FileView) (names : List (List ℕ)) (name : List ℕ) (b : Bool) → is_among file.name names ≡ b → (if is_among file.name (names ++ name ∷ []) then 0 else w file) ≤ (if b then 0 else w file)
+  head_less file names name true e =
+      let more = among_from_contains file.name (names ++ name ∷ []) (Contains-append_left names (name ∷ []) file.name (contains_from_among file.name names e)) in
+      rw more (omega arith)
+  head_less file names name false e = case (is_among file.name (names ++ name ∷ []))
+    where
+      case : (b : Bool) → (if b then 0 else w file) ≤ w file
+      case true = omega arith
+      case false = omega arith
+
+  pub weight_less : (files : List FileView) (names : List (List ℕ)) (name : List ℕ) → weight files (names ++ name ∷ []) ≤ weight files names
+  weight_less [] names name = omega arith
+  weight_less (file ∷ files) names name = omega (arith, head_less file names name (is_among file.name names) refl, weight_less files names name)
+
+  -- a file whose name is taken weighs no more
+  weight_taken : (files : List FileView) (names : List (List ℕ)) (n : ℕ) (file : FileView) → slice_get files n ≡ Some file → is_among file.name names ≡ false → weight files (names ++ file.name ∷ []) + w file ≤ weight files names
+  weight_taken [] names n file there new = absurd (none-some file there)
+  weight_taken (other ∷ files) names zero file there new =
+      let same : file ≡ other = same_Some file other (sym there) in
+      let taken : is_among other.name (names ++ file.name ∷ []) ≡ true = among_from_contains other.name (names ++ file.name ∷ []) (Contains-append_right names (file.name ∷ []) other.name (0, omega arith, ap (λ (file : FileView). file.name) same)) in
+      let fresh : is_among other.name names ≡ false = ap (λ (file : FileView). is_among file.name names) (sym same) ∙ new in
+      let a : (if is_among other.name (names ++ file.name ∷ []) then 0 else w other) ≡ 0 = ap (λ b. if b then 0 else w other) taken in
+      let b : (if is_among other.name names then 0 else w other) ≡ w other = ap (λ b. if b then 0 else w other) fresh in
+      omega (arith, a, b, ap w same, weight_less files names file.name)
+  weight_taken (other ∷ files) names (suc n) file there new =
+      omega (arith, head_less other names file.name (is_among other.name names) refl, weight_taken files names n file there new)
+
+  pub weight_entered : (files : List FileView) (names : List (List ℕ)) (name : List ℕ) (n : ℕ) (file : FileView) → slice_get files n ≡ Some file → name ≡ file.name → ¬ Contains names name → weight files (names ++ name ∷ []) + w file ≤ weight files names
+  weight_entered files names name n file there is new =
+      let fresh = case (is_among file.name names) (λ t. new (subst (Contains names) (sym is) (contains_from_among file.name names t))) in
+      subst (λ name. weight files (names ++ name ∷ []) + w file ≤ weight files names) (sym is) (weight_taken files names n file there fresh)
+    where
+      case : (b : Bool) → (b ≡ true → ⊥) → b ≡ false
+      case true h = absurd (h refl)
+      case false h = refl
+
+-- the bytes of the pieces of a file
+abbrev pub piece_bytes : FileView → ℕ
+piece_bytes file = length (concat (piece_texts file.pieces))
+
+-- items are no more than the parts that give them, and the bytes of the files that are included
+pub expands_few : {files : List FileView} {parts : List Placed} {names after : List (List ℕ)} {items : List Item} → Expands files parts names items after → length items + weight piece_bytes files after ≤ length parts + weight piece_bytes files names
+expands_few nothing = omega arith
+expands_few (own not d) = omega (arith, expands_few d)
+expands_few (again is old d) = omega (arith, expands_few d)
+expands_few {files} (missing {part = part} {names = names} is new none d) = omega (arith, expands_few d, weight_less piece_bytes files names part.name)
+expands_few {files} (included {part = part} {inner = inner} {names = names} {gained = gained} {items = items} {number = number} {file = file} is new at there placed inside d) =
+    omega (
+      arith,
+      expands_few inside,
+      expands_few d,
+      length-append gained items,
+      placed_few number 0 file.pieces inner placed,
+      weight_entered piece_bytes files names part.name number file there (name_of_number files part.name number file at there) new,
+    )
+
+-- all files weigh no more than all of their pieces
+abbrev pub all_bytes : List FileView → ℕ
+all_bytes [] = 0
+all_bytes (file ∷ files) = piece_bytes file + all_bytes files
+
+weight_all : (files : List FileView) → weight piece_bytes files [] ≤ all_bytes files
+weight_all [] = omega arith
+weight_all (file ∷ files) = omega (arith, weight_all files)
+
+pub expansion_few : (files : List FileView) (top : List ℕ) (items : List Item) → IsExpansion files top items → length items ≤ all_bytes files
+expansion_few files top items is =
+    omega (
+      arith,
+      expands_few is.expands,
+      placed_few is.number 0 is.file.pieces is.parts is.placed,
+      weight_all files,
+      weight_entered piece_bytes files [] top is.number is.file is.there (name_of_number files top is.number is.file is.is_top is.there) (λ h. (omega (arith, h.1))),
+    )
+
+-- the bytes of the pieces are no more than those of the texts
+pub bytes_few : (view : FilesView) → all_bytes (files_in view) ≤ bytes_of (plain view)
+bytes_few view = few view.keyed
+  where
+    few : (keyed : List KeyedFile) → all_bytes (map (file_view view.pieces) keyed) ≤ bytes_of (map (plain_file view.pieces) keyed)
+    few [] = omega arith
+    few (file ∷ keyed) =
+        let same = map-map (λ (piece : PieceView). piece.text) (piece_view view.pieces) file.keys in
+        omega (arith, few keyed, ap (λ texts. length (concat texts)) same, length-append (concat (map (text_under view.pieces) file.keys)) file.tail)

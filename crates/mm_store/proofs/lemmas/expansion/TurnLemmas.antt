@@ -1,0 +1,102 @@
+-- A walk takes a number of turns at most: each step but the last makes what is left smaller.
+use Rattle.std.proofs.Common.{◌≡◌, ℕ, ◌+◌, ◌*◌, ◌-◌, ◌<◌, ◌≤◌, Bool, true, false, List, [], ◌∷◌, ◌++◌, Option, Some, None, length, ap, ◌∙◌, arith, inl, inr}
+use Rattle.std.specs.Prelude.{slice_get}
+use Rattle.std.proofs.lemmas.Option.{none-some, slice_get_within}
+use Rattle.mm_store.specs.declared.walk.Spot.{Spot}
+use Rattle.mm_store.specs.declared.walk.Step.TheVariants as steps
+use Rattle.mm_store.specs.Language.FilesView.{PieceView, FileView}
+use Rattle.mm_store.specs.Language.Walking.{LevelView, WalkView}
+use Rattle.mm_store.specs.Code.Steps.{piece_in, behind, beginning, IsHere, Leaves, ComesAgain, Enters, Passes, PassesTold, Tells, IsStep}
+use Rattle.mm_store.proofs.lemmas.files.GrowthLemmas.{name_of_number, there_number}
+use Rattle.mm_store.proofs.lemmas.expansion.BudgetLemmas.{weight, weight_less, weight_entered}
+
+-- how many turns a file takes: one for each piece, one to leave it, and one more
+abbrev pub file_turns : FileView → ℕ
+file_turns file = length file.pieces + 2
+
+abbrev pub turns_in : Option FileView → ℕ → ℕ
+turns_in None piece = 1
+turns_in (Some file) piece = (length file.pieces - piece) + 1
+
+-- how many turns are left in entered files
+abbrev pub level_turns : List FileView → List LevelView → ℕ
+level_turns files [] = 0
+level_turns files (level ∷ levels) = turns_in (slice_get files level.file) level.piece + level_turns files levels
+
+abbrev pub untold : Bool → ℕ
+untold true = 0
+untold false = 1
+
+-- twice the turns that are left at most, and one for telling a missing name
+abbrev pub turns : List FileView → WalkView → ℕ
+turns files walk = 2 * (weight file_turns files walk.names + level_turns files walk.levels) + untold walk.told
+
+level_turns_last : (files : List FileView) (front : List LevelView) (level : LevelView) → level_turns files (front ++ level ∷ []) ≡ level_turns files front + turns_in (slice_get files level.file) level.piece
+level_turns_last files [] level = omega arith
+level_turns_last files (first ∷ front) level = omega (arith, level_turns_last files front level)
+
+some_turn : (file : Option FileView) (piece : ℕ) → 1 ≤ turns_in file piece
+some_turn None piece = omega arith
+some_turn (Some file) piece = omega arith
+
+turn_in : (file : Option FileView) (n : ℕ) (piece : PieceView) → piece_in file n ≡ Some piece → turns_in file (n + 1) + 1 ≡ turns_in file n
+turn_in None n piece there = absurd (none-some piece there)
+turn_in (Some file) n piece there = omega (arith, slice_get_within file.pieces n piece there)
+
+most : (told : Bool) → untold told ≤ 1
+most true = omega arith
+most false = omega arith
+
+-- the turns that are left behind a piece
+moved : (files : List FileView) (levels front : List LevelView) (level : LevelView) (piece : PieceView) → IsHere files levels front level piece → level_turns files (front ++ behind level ∷ []) + 1 ≡ level_turns files levels
+moved files levels front level piece h =
+    omega (arith, level_turns_last files front level, level_turns_last files front (behind level), turn_in (slice_get files level.file) level.piece piece h.there, ap (level_turns files) h.last)
+
+module _ (files : List FileView) (old new : WalkView) where
+  leaves_less : Leaves files old new → turns files new < turns files old
+  leaves_less l =
+      let after = ap (turns files) l.after in
+      omega (arith, after, level_turns_last files l.front l.level, some_turn (slice_get files l.level.file) l.level.piece, ap (level_turns files) l.last)
+
+  again_less : ComesAgain files old new → turns files new < turns files old
+  again_less a =
+      let after = ap (turns files) a.after in
+      omega (arith, after, moved files old.levels a.front a.level a.piece a.is_here)
+
+  passes_less : (spot : Spot) → Passes files old spot new → turns files new < turns files old
+  passes_less spot p =
+      let after = ap (turns files) p.after in
+      omega (arith, after, moved files old.levels p.front p.level p.piece p.is_here)
+
+  told_less : (spot : Spot) → PassesTold files old spot new → turns files new < turns files old
+  told_less spot p =
+      let after = ap (turns files) p.after in
+      omega (arith, after, moved files old.levels p.front p.level p.piece p.is_here, weight_less file_turns files old.names p.name)
+
+  pub tells_less : (name : List ℕ) → Tells files old name new → turns files new < turns files old
+  tells_less name t =
+      let after = ap (turns files) t.after in
+      omega (arith, after, ap untold t.untold)
+
+  enters_less : Enters files old new → turns files new < turns files old
+  enters_less e =
+      let after = ap (turns files) e.after in
+      let found = there_number files e.name e.number e.is_number in
+      let begin : turns_in (slice_get files e.number) 0 ≡ length found.0.pieces + 1 = ap (λ file. turns_in file 0) found.1 ∙ omega arith in
+      omega (
+        arith,
+        after,
+        moved files old.levels e.front e.level e.piece e.is_here,
+        begin,
+        level_turns_last files (e.front ++ behind e.level ∷ []) (beginning e.number),
+        weight_entered file_turns files old.names e.name e.number found.0 found.1 (name_of_number files e.name e.number found.0 e.is_number found.1) e.fresh,
+      )
+
+  pub nothing_less : IsStep files old steps.Nothing new → turns files new < turns files old
+  nothing_less (inl l) = leaves_less l
+  nothing_less (inr (inl a)) = again_less a
+  nothing_less (inr (inr e)) = enters_less e
+
+  pub items_less : (spot : Spot) → IsStep files old (steps.Items spot) new → turns files new < turns files old
+  items_less spot (inl p) = passes_less spot p
+  items_less spot (inr p) = told_less spot p

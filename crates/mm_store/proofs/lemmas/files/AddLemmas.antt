@@ -1,0 +1,164 @@
+-- What a file more makes of the files.
+use Rattle.std.proofs.Common.{◌≡◌, ◌≢◌, is_some, true, ℕ, suc, ◌+◌, ◌≤◌, List, [], ◌∷◌, ◌++◌, Option, Some, None, length, map, refl, sym, ap, ◌∙◌, subst, arith, length-append}
+use Rattle.std.specs.Prelude.{Vec, All, position}
+use Rattle.std.proofs.Common.{Bool, false, not, cond, ltb, Result, Ok}
+use Rattle.std.specs.Result.{OnOk}
+use Rattle.std.specs.List.{position_or_len}
+use Rattle.std.specs.Map.{keys_of, lookup}
+use Rattle.std.proofs.lemmas.Bool.Decides.{nat_tests}
+use Rattle.std.proofs.lemmas.List.{length-map}
+use Rattle.std.proofs.lemmas.List.Elements.{All-nil, All-cons}
+use Rattle.mm_text.specs.Language.Cut.{ArePieces, IsPiece, HoldsOne}
+use Rattle.mm_store.specs.Code.Inside.{CanBeKept}
+use Rattle.std.specs.Global.{Global}
+use Rattle.std.specs.List.{concat}
+use Rattle.std.proofs.lemmas.List.{map-append}
+use Rattle.std.proofs.lemmas.List.Sums.{sum_by-cons}
+use Rattle.std.specs.FinMap as finite
+use Rattle.mm_text.specs.Language.Reading.{HasWords}
+use Rattle.mm_store.specs.declared.file_text.FileText.{FileText}
+use Rattle.mm_store.specs.declared.files.Files.TheInside.{Inside}
+use Rattle.mm_store.specs.Language.Pieces.{HeldPiece, Pieces, standing_piece, text_in, text_under}
+use Rattle.mm_store.specs.Language.FilesView.{File, KeyedFile, plain, plain_file, text_of, bytes_of}
+use Rattle.mm_store.specs.Code.Starts.{HasStarts}
+use Rattle.mm_store.specs.Code.Inside.{ArePut}
+use Rattle.mm_store.specs.Code.Room.{HasRoom}
+use Rattle.mm_store.specs.Code.Kept.{view_of, file_of, one, times, places, standing_count, deleted_state, deletions, IsRoomy, HaveRoom, HaveStarts, IsKept}
+use Rattle.mm_store.proofs.lemmas.files.MapLemmas.{get_put_same, get_put_other}
+use Rattle.mm_store.proofs.lemmas.files.PieceLemmas.{stands_put}
+use Rattle.mm_store.proofs.lemmas.expansion.WeightLemmas.{weight_fresh}
+use Rattle.mm_store.proofs.lemmas.files.ListLemmas.{one_same}
+use Rattle.mm_store.proofs.lemmas.files.EntryLemmas.{room_same}
+
+-- pieces that were put: what was there stays
+pub put_keeps : (p p' : Pieces) (texts : List (List ℕ)) (keys : List ℕ) → ArePut p texts keys p' → (q : ℕ) → is_some (finite.get p q) ≡ true → finite.get p' q ≡ finite.get p q
+put_keeps p p' [] keys put q some = ap (λ m. finite.get m q) put.1
+put_keeps p p' (text ∷ texts) keys put q some =
+    let k = put.0 in
+    let differs : q ≢ k = λ e. absurd (let none : is_some (finite.get p q) ≡ is_some {T = HeldPiece} None = ap (λ q. is_some (finite.get p q)) e ∙ ap is_some put.3 in cc) in
+    let other = get_put_other p k (standing_piece text) q differs in
+    put_keeps (finite.insert p k (standing_piece text)) p' texts put.1 put.4 q (ap is_some other ∙ some) ∙ other
+
+pub put_texts : (p p' : Pieces) (texts : List (List ℕ)) (keys : List ℕ) → ArePut p texts keys p' → map (text_under p') keys ≡ texts
+put_texts p p' [] keys put = ap (map (text_under p')) put.0
+put_texts p p' (text ∷ texts) keys put =
+    let k = put.0 in
+    let p1 = finite.insert p k (standing_piece text) in
+    let first = put_keeps p1 p' texts put.1 put.4 k (ap is_some (get_put_same p k (standing_piece text))) ∙ get_put_same p k (standing_piece text) in
+    ap (map (text_under p')) put.2 ∙ ap (λ (t : List ℕ). t ∷ map (text_under p') put.1) (ap text_in first) ∙ ap (λ ts. text ∷ ts) (put_texts p1 p' texts put.1 put.4)
+
+pub put_stand : (p p' : Pieces) (texts : List (List ℕ)) (keys : List ℕ) → ArePut p texts keys p' → (q : ℕ) → standing_count (finite.get p' q) ≡ standing_count (finite.get p q) + times q keys
+put_stand p p' [] keys put q = omega (arith, ap (λ m. standing_count (finite.get m q)) put.1, ap (times q) put.0)
+put_stand p p' (text ∷ texts) keys put q =
+    let k = put.0 in
+    omega (arith, put_stand (finite.insert p k (standing_piece text)) p' texts put.1 put.4 q, stands_put p k text q put.3, sum_by-cons (one q) k put.1, ap (times q) put.2)
+
+pub put_deletions : (p p' : Pieces) (texts : List (List ℕ)) (keys : List ℕ) → ArePut p texts keys p' → (m : ℕ) → deletions m p' ≡ deletions m p
+put_deletions p p' [] keys put m = ap (deletions m) put.1
+put_deletions p p' (text ∷ texts) keys put m =
+    omega (arith, put_deletions (finite.insert p put.0 (standing_piece text)) p' texts put.1 put.4 m, weight_fresh (λ (piece : HeldPiece). deleted_state m piece.state) p put.0 (standing_piece text) put.3)
+
+pub put_many : (p p' : Pieces) (texts : List (List ℕ)) (keys : List ℕ) → ArePut p texts keys p' → length keys ≡ length texts
+put_many p p' [] keys put = ap length put.0
+put_many p p' (text ∷ texts) keys put = omega (arith, ap length put.2, put_many (finite.insert p put.0 (standing_piece text)) p' texts put.1 put.4)
+
+stands_some : (o : Option HeldPiece) → 1 ≤ standing_count o → is_some o ≡ true
+stands_some None some = absurd (omega arith)
+stands_some (Some piece) some = refl
+
+texts_kept : (p p' : Pieces) (keys : List ℕ) → ((q : ℕ) → 1 ≤ times q keys → text_under p' q ≡ text_under p q) → map (text_under p') keys ≡ map (text_under p) keys
+texts_kept p p' [] same = refl
+texts_kept p p' (k ∷ keys) same =
+    ap (λ t. t ∷ map (text_under p') keys) (same k (omega (arith, sum_by-cons (one k) k keys, one_same k)))
+    ∙ ap (λ ts. text_under p k ∷ ts) (texts_kept p p' keys (λ q some. same q (omega (arith, some, sum_by-cons (one q) k keys))))
+
+pub plain_kept : (p p' : Pieces) (files : List KeyedFile) → ((q : ℕ) → 1 ≤ places q files → text_under p' q ≡ text_under p q) → map (plain_file p') files ≡ map (plain_file p) files
+plain_kept p p' [] same = refl
+plain_kept p p' (file ∷ files) same =
+    ap (λ (texts : List (List ℕ)). record { name = file.name; pieces = texts; tail = file.tail } ∷ map (plain_file p') files) (texts_kept p p' file.keys (λ q some. same q (omega (arith, some))))
+    ∙ ap (λ fs. plain_file p file ∷ fs) (plain_kept p p' files (λ q some. same q (omega (arith, some))))
+
+places_more : {Y : Type 0} (e : Vec ℕ Y × FileText) (q : ℕ) (es : List (Vec ℕ Y × FileText)) → places q (map file_of (es ++ e ∷ [])) ≡ places q (map file_of es) + times q e.1.keys.items
+places_more e q [] = omega arith
+places_more e q (x ∷ es) = omega (arith, places_more e q es)
+
+room_more : {Y : Type 0} (p : Pieces) (e : Vec ℕ Y × FileText) (start : ℕ) (es : List (Vec ℕ Y × FileText)) → IsRoomy p (start + length es) e.1 → HaveRoom p start es → HaveRoom p start (es ++ e ∷ [])
+room_more p e start [] has room = let same : start + 0 ≡ start = omega arith in (subst (λ n. IsRoomy p n e.1) same has, tt)
+room_more p e start (x ∷ es) has room = let same : start + suc (length es) ≡ suc start + length es = omega arith in (room.0, room_more p e (suc start) es (subst (λ n. IsRoomy p n e.1) same has) room.1)
+
+starts_more : {Y : Type 0} (file : File) (e : Vec ℕ Y × FileText) (files : List File) (es : List (Vec ℕ Y × FileText)) → HasStarts file.pieces e.1 → HasWords e.1.tail.items [] → HaveStarts files es → HaveStarts (files ++ file ∷ []) (es ++ e ∷ [])
+starts_more file e [] [] are tail have = (are, tail, refl)
+starts_more file e (x ∷ files) [] are tail have = absurd (none_of_more have)
+  where
+    none_of_more : x ∷ files ≡ [] → ⊥
+    none_of_more e = cc
+starts_more file e [] (y ∷ es) are tail have = absurd have
+starts_more file e (x ∷ files) (y ∷ es) are tail have = (have.0, have.1, starts_more file e files es are tail have.2)
+
+pub bytes_more : (files : List File) (file : File) → bytes_of (files ++ file ∷ []) ≡ bytes_of files + length (text_of file)
+bytes_more [] file = omega arith
+bytes_more (x ∷ files) file = omega (arith, bytes_more files file)
+
+module _ (inside : Inside) (kept : IsKept inside) (e : Vec ℕ Global × FileText) (texts : List (List ℕ)) (now : Pieces) (put : ArePut inside.pieces texts e.1.keys.items now) where
+  abbrev es : List (Vec ℕ Global × FileText)
+  es = inside.files.entries
+
+  abbrev new_file : File
+  new_file = record { name = e.0.items; pieces = texts; tail = e.1.tail.items }
+
+  keeps_texts : (q : ℕ) → 1 ≤ places q (map file_of es) → text_under now q ≡ text_under inside.pieces q
+  keeps_texts q some = ap text_in (put_keeps inside.pieces now texts e.1.keys.items put q (stands_some (finite.get inside.pieces q) (omega (arith, some, kept.once q))))
+
+  pub plain_added : map (plain_file now) (map file_of (es ++ e ∷ [])) ≡ map (plain_file inside.pieces) (map file_of es) ++ new_file ∷ []
+  plain_added =
+      ap (map (plain_file now)) (map-append (file_of {Y = Global}) es (e ∷ [])) ∙ map-append (plain_file now) (map file_of es) (file_of e ∷ [])
+      ∙ ap (λ fs. fs ++ plain_file now (file_of e) ∷ []) (plain_kept inside.pieces now (map file_of es) keeps_texts)
+      ∙ ap (λ (ts : List (List ℕ)). map (plain_file inside.pieces) (map file_of es) ++ record { name = e.0.items; pieces = ts; tail = e.1.tail.items } ∷ []) (put_texts inside.pieces now texts e.1.keys.items put)
+
+  pub kept_added : (after : Inside) → after.files.entries ≡ es ++ e ∷ [] → after.pieces ≡ now → e.1.deleted ≡ 0 → HasRoom e.1 → HasStarts texts e.1 → HasWords e.1.tail.items []
+      → after.bytes ≡ inside.bytes + length (concat texts ++ e.1.tail.items) → after.bytes ≤ 4294967295 → IsKept after
+  kept_added after is pieces deleted room starts tail counted within =
+      let p = inside.pieces in
+      let plain_is : plain (view_of after) ≡ map (plain_file p) (map file_of es) ++ new_file ∷ [] = ap (λ m. map (plain_file m) (map file_of after.files.entries)) pieces ∙ ap (λ es. map (plain_file now) (map file_of es)) is ∙ plain_added in
+      let same : (m : ℕ) → deletions m now ≡ deletions m p = put_deletions p now texts e.1.keys.items put in
+      let none = kept.known (length es) (omega arith) in
+      record {
+        once = λ q. ap (λ es. places q (map file_of es)) is ∙ omega (arith, places_more e q es, kept.once q, put_stand p now texts e.1.keys.items put q, ap (λ m. standing_count (finite.get m q)) pieces);
+        room = subst (λ m. HaveRoom m 0 after.files.entries) (sym pieces) (subst (HaveRoom now 0) (sym is)
+            (room_more now e 0 es (let at : length es ≡ 0 + length es = omega arith in subst (λ n. IsRoomy now n e.1) at (record { parked = deleted ∙ sym none ∙ sym (same (length es)); room = room })) (room_same p now 0 es (λ m lt. same m) kept.room)));
+        known = λ m le. ap (deletions m) pieces ∙ same m ∙ kept.known m (omega (arith, le, ap length is, length-append es (e ∷ [])));
+        starts = subst (λ files. HaveStarts files after.files.entries) (sym plain_is) (subst (HaveStarts (map (plain_file p) (map file_of es) ++ new_file ∷ [])) (sym is) (starts_more new_file e (map (plain_file p) (map file_of es)) es starts tail kept.starts));
+        counted = omega (arith, counted, kept.counted, ap bytes_of plain_is, bytes_more (map (plain_file p) (map file_of es)) new_file);
+        within = within;
+      }
+
+pub done_ok : {T E : Type 0} (r : Result T E) (x : T) (P : Type 0) → r ≡ Ok x → OnOk r P → P
+done_ok r x P is h = subst (λ r. OnOk r P) is h
+
+absent_step : (b : Bool) {T : Type 0} (v : T) (o : Option T) (m n : ℕ) → suc n ≤ cond (not b) (1 + m) 0 → (n ≤ m → o ≡ None) → cond b (Some v) o ≡ None
+absent_step true v o m n le later = absurd (omega arith)
+absent_step false v o m n le later = later (omega arith)
+
+absent_from : {K T : Type 0} (test : K → Bool) (es : List (K × T)) → length es ≤ position_or_len test (keys_of es) → lookup test es ≡ None
+absent_from test [] le = refl
+absent_from test (e ∷ es) le = absent_step (test e.0) e.1 (lookup test es) (position_or_len test (keys_of es)) (length es) le (absent_from test es)
+
+none_or : (n m : ℕ) → cond (ltb n m) (Some n) None ≡ None → m ≤ n
+none_or n m e = grind (arith, nat_tests)
+
+-- a name without a number has no file
+pub no_file : {T : Type 0} (test : Vec ℕ Global → Bool) (es : List (Vec ℕ Global × T)) → position test (keys_of es) ≡ None → lookup test es ≡ None
+no_file {T} test es none = absent_from test es (omega (arith, none_or (position_or_len test (keys_of es)) (length (keys_of es)) none, length-map es (λ (e : Vec ℕ Global × T). e.0)))
+
+unit_of : {text : List ℕ} → IsPiece text → HoldsOne text
+unit_of p = record { words = p.words; units = p.units; has_words = p.has_words; are_units = p.are_units; spells = p.spells; one = p.one; ends = p.ends }
+
+pub can_be_kept : {Y : Type 0} (texts : List (Vec ℕ Y)) (tail : List ℕ) → ArePieces (map (λ text. text.items) texts) tail → length (concat (map (λ text. text.items) texts)) ≤ 4294967295 → All (λ text. CanBeKept text.items) texts
+can_be_kept [] tail are small = All-nil (λ text. CanBeKept text.items)
+can_be_kept (text ∷ texts) tail are small =
+    let long = length-append text.items (concat (map (λ text. text.items) texts)) in
+    All-cons (λ text. CanBeKept text.items) text texts (record { unit = unit_of are.0; small = omega (arith, long) }) (can_be_kept texts tail are.2 (omega (arith, long)))
+
+pub tail_of : (texts : List (List ℕ)) (tail : List ℕ) → ArePieces texts tail → HasWords tail []
+tail_of [] tail are = are
+tail_of (text ∷ texts) tail are = tail_of texts tail are.2

@@ -1,0 +1,118 @@
+-- The numbers that names have, and what one more file changes.
+use Rattle.std.proofs.Common.{◌≡◌, ℕ, zero, suc, ◌+◌, ◌<◌, ◌≤◌, Bool, true, false, not, cond, ltb, List, [], ◌∷◌, ◌++◌, Some, None, length, refl, sym, ap, ◌∙◌, subst, arith, length-append, Contains}
+use Rattle.std.specs.Prelude.{position, slice_get}
+use Rattle.std.specs.List.{position_or_len}
+use Rattle.std.specs.Str.{bytes_eq}
+use Rattle.std.proofs.lemmas.Bool.{ltb-true, ltb-false, lt-ltb, le-ltb, ne_eqb, eq-eqb, false_from_ne_true}
+use Rattle.std.proofs.lemmas.Slice.Eq.{bytes_eq-Decides}
+use Rattle.std.proofs.lemmas.List.Elements.{Contains-append_right}
+use Rattle.std.proofs.lemmas.List.Folds.{position_or_len_push}
+use Rattle.std.proofs.lemmas.List.Quantifiers.{position-Some}
+use Rattle.std.proofs.lemmas.Option.{none-some, same_Some, get_or_from_slice_get}
+use Rattle.mm_store.specs.declared.item.Item.{Item}
+use Rattle.mm_store.specs.Language.FilesView.{FileView, number_of}
+use Rattle.mm_store.specs.Language.Expansion.{Placed}
+use Rattle.mm_store.specs.Language.Walking.{LevelView, WalkView, IsRest, ArePending, Goes, here, own, again, missing, included, IsWalk}
+use Rattle.mm_store.proofs.lemmas.expansion.GoesLemmas.{goes_grows}
+
+some_place : (b : Bool) (m k : ℕ) → cond b (Some m) None ≡ Some k → (b ≡ true) × (m ≡ k)
+some_place true m k e = (refl, same_Some m k e)
+some_place false m k e = absurd (none-some k e)
+
+no_place : (b : Bool) (m : ℕ) → cond b (Some m) None ≡ None → b ≡ false
+no_place true m e = absurd (none-some m (sym e))
+no_place false m e = refl
+
+module _ {X : Type 0} (test : X → Bool) where
+  step_within : (b : Bool) (k n : ℕ) → k ≤ n → cond (not b) (1 + k) 0 ≤ suc n
+  step_within true k n h = omega arith
+  step_within false k n h = omega arith
+
+  place_within : (xs : List X) → position_or_len test xs ≤ length xs
+  place_within [] = omega arith
+  place_within (x ∷ xs) = step_within (test x) (position_or_len test xs) (length xs) (place_within xs)
+
+  place_kept : (xs : List X) (y : X) (k : ℕ) → position test xs ≡ Some k → position test (xs ++ y ∷ []) ≡ Some k
+  place_kept xs y k e =
+      let h = some_place (ltb (position_or_len test xs) (length xs)) (position_or_len test xs) k e in
+      let within = ltb-true (position_or_len test xs) (length xs) h.0 in
+      let other = ne_eqb (position_or_len test xs) (length xs) (λ e. absurd (omega arith)) in
+      let same : position_or_len test (xs ++ y ∷ []) ≡ k = position_or_len_push test xs y ∙ ap (λ b. cond b (length xs + cond (test y) 0 1) (position_or_len test xs)) other ∙ h.1 in
+      let less = lt-ltb k (length (xs ++ y ∷ [])) (omega (arith, length-append xs (y ∷ []))) in
+      ap (λ k. cond (ltb k (length (xs ++ y ∷ []))) (Some k) None) same ∙ ap (λ b. cond b (Some k) None) less
+
+  none_kept : (xs : List X) (y : X) → position test xs ≡ None → test y ≡ false → position test (xs ++ y ∷ []) ≡ None
+  none_kept xs y e fails =
+      let n = position_or_len test xs in
+      let whole = ltb-false n (length xs) (no_place (ltb n (length xs)) n e) in
+      let at : n ≡ length xs = omega (arith, place_within xs) in
+      let push : position_or_len test (xs ++ y ∷ []) ≡ length xs + 1 =
+      position_or_len_push test xs y ∙ ap (λ b. cond b (length xs + cond (test y) 0 1) n) (eq-eqb n (length xs) at) ∙ ap (λ b. length xs + cond b 0 1) fails in
+      let past = le-ltb (length xs + 1) (length (xs ++ y ∷ [])) (omega (arith, length-append xs (y ∷ []))) in
+      ap (λ k. cond (ltb k (length (xs ++ y ∷ []))) (Some k) None) push ∙ ap (λ b. cond b (Some (length xs + 1)) None) past
+
+there_kept : {X : Type 0} (xs : List X) (y : X) (n : ℕ) (x : X) → slice_get xs n ≡ Some x → slice_get (xs ++ y ∷ []) n ≡ Some x
+there_kept [] y n x e = absurd (none-some x e)
+there_kept (z ∷ xs) y zero x e = e
+there_kept (z ∷ xs) y (suc n) x e = there_kept xs y n x e
+
+-- a name that has a number has a file
+pub there_number : (files : List FileView) (name : List ℕ) (n : ℕ) → number_of files name ≡ Some n → (file : FileView) × (slice_get files n ≡ Some file)
+there_number files name n e =
+    let h = some_place (ltb (position_or_len (λ (file : FileView). bytes_eq name file.name) files) (length files)) (position_or_len (λ (file : FileView). bytes_eq name file.name) files) n e in
+    there_at files n (omega (arith, ltb-true (position_or_len (λ (file : FileView). bytes_eq name file.name) files) (length files) h.0, h.1))
+  where
+    there_at : (files : List FileView) (n : ℕ) → n < length files → (file : FileView) × (slice_get files n ≡ Some file)
+    there_at [] n h = absurd (omega arith)
+    there_at (file ∷ files) zero h = (file, refl)
+    there_at (file ∷ files) (suc n) h = there_at files n (omega arith)
+
+-- a file has the name under which it is found
+pub name_of_number : (files : List FileView) (name : List ℕ) (n : ℕ) (file : FileView) → number_of files name ≡ Some n → slice_get files n ≡ Some file → name ≡ file.name
+name_of_number files name n file e there =
+    let h = position-Some (λ (file : FileView). bytes_eq name file.name) files n file e in
+    (bytes_eq-Decides name file.name).0 (ap (λ (file : FileView). bytes_eq name file.name) (sym (get_or_from_slice_get files n file file there)) ∙ h.1)
+
+-- one more file, whose name was not taken
+module _ (files : List FileView) (file : FileView) where
+  pub number_kept : (name : List ℕ) (n : ℕ) → number_of files name ≡ Some n → number_of (files ++ file ∷ []) name ≡ Some n
+  number_kept name n e = place_kept (λ (file : FileView). bytes_eq name file.name) files file n e
+
+  pub file_kept : (n : ℕ) (other : FileView) → slice_get files n ≡ Some other → slice_get (files ++ file ∷ []) n ≡ Some other
+  file_kept n other e = there_kept files file n other e
+
+  pub none_stays : (name : List ℕ) → number_of files name ≡ None → (name ≡ file.name → ⊥) → number_of (files ++ file ∷ []) name ≡ None
+  none_stays name e other = none_kept (λ (file : FileView). bytes_eq name file.name) files file e (false_from_ne_true (bytes_eq name file.name) (λ t. other ((bytes_eq-Decides name file.name).0 t)))
+
+  rest_kept : (level : LevelView) (parts : List Placed) → IsRest files level parts → IsRest (files ++ file ∷ []) level parts
+  rest_kept level parts r = record { file = r.file; there = file_kept level.file r.file r.there; placed = r.placed }
+
+  pub pending_kept : (levels : List LevelView) (parts : List Placed) → ArePending files levels parts → ArePending (files ++ file ∷ []) levels parts
+  pending_kept [] parts are = are
+  pending_kept (level ∷ inner) parts are = (are.0, are.1, pending_kept inner are.0 are.2, rest_kept level are.1 are.3, are.4)
+
+last_in : (names : List (List ℕ)) (name : List ℕ) → Contains (names ++ name ∷ []) name
+last_in names name = Contains-append_right names (name ∷ []) name (0, omega arith, refl)
+
+pub goes_kept : {files : List FileView} {parts rest : List Placed} {names after : List (List ℕ)} {items : List Item} (file : FileView) → ¬ Contains after file.name → Goes files parts names items rest after → Goes (files ++ file ∷ []) parts names items rest after
+goes_kept file new here = here
+goes_kept file new (own not d) = own not (goes_kept file new d)
+goes_kept file new (again is old d) = again is old (goes_kept file new d)
+goes_kept {files} {after = after} file new (missing {part = part} {names = names} is fresh none d) =
+    missing is fresh (none_stays files file part.name none (λ e. new (subst (Contains after) e (goes_grows part.name d (last_in names part.name))))) (goes_kept file new d)
+goes_kept {files} file new (included {part = part} {number = number} {file = other} inner is fresh at there placed d) =
+    included inner is fresh (number_kept files file part.name number at) (file_kept files file number other there) placed (goes_kept file new d)
+
+-- a walk goes on among more files
+pub walk_kept : (files : List FileView) (file : FileView) (top : List ℕ) (items : List Item) (walk : WalkView) → IsWalk files top items walk → ¬ Contains walk.names file.name → IsWalk (files ++ file ∷ []) top items walk
+walk_kept files file top items walk is new = record {
+  number = is.number;
+  file = is.file;
+  is_top = number_kept files file top is.number is.is_top;
+  there = file_kept files file is.number is.file is.there;
+  parts = is.parts;
+  placed = is.placed;
+  pending = is.pending;
+  are_pending = pending_kept files file walk.levels is.pending is.are_pending;
+  goes = goes_kept file new is.goes;
+}

@@ -1,0 +1,125 @@
+-- The files after a change of the keys of one file and of the pieces.
+use Rattle.std.proofs.lemmas.Bool.{cases_eq}
+use Rattle.std.proofs.Common.{◌≡◌, ◌≢◌, inl, inr, ℕ, zero, suc, ◌-◌, ◌<◌, ◌≤◌, List, [], ◌∷◌, Some, length, map, refl, sym, ap, ◌∙◌, subst, arith}
+use Rattle.std.specs.Prelude.{Vec, slice_get}
+use Rattle.std.specs.Global.{Global}
+use Rattle.std.proofs.lemmas.Option.{slice_get_within, none-some}
+use Rattle.std.proofs.lemmas.List.{length-map}
+use Rattle.std.specs.FinMap as finite
+use Rattle.indexmap.specs.IndexMap.{set_value_at, with_value_at}
+use Rattle.mm_store.specs.declared.file_text.FileText.{FileText}
+use Rattle.mm_store.specs.declared.files.Files.TheInside.{Inside}
+use Rattle.mm_store.proofs.lemmas.files.PieceLemmas.{stands_settled, text_drop_other}
+use Rattle.mm_store.proofs.lemmas.expansion.WeightLemmas.{weight_dropped}
+use Rattle.mm_store.proofs.lemmas.edits.ReplaceLemmas.{replaced_weight}
+use Rattle.mm_store.proofs.lemmas.edits.StepLemmas.{parked}
+use Rattle.mm_store.proofs.lemmas.files.ListLemmas.{with_same, plain_same, plain_pieces, with_pieces_same}
+use Rattle.mm_text.specs.Language.Reading.{HasWords}
+use Rattle.mm_store.specs.Code.Starts.{HasStarts, KnowsStarts}
+use Rattle.mm_store.specs.Code.Room.{HasRoom}
+use Rattle.mm_store.specs.Code.Edited.{pieces_in, with_pieces}
+use Rattle.mm_store.proofs.lemmas.files.EntryLemmas.{texts_of, keys_at, view_set, room_at, room_same, room_set, starts_at, starts_set, tail_at, same_view}
+use Rattle.mm_store.specs.Code.Kept.{view_of, file_of, places, standing_count, deleted_state, deletions, HaveStarts, IsKept}
+use Rattle.mm_store.specs.Language.FilesView.{plain, KeyedFile, plain_file, bytes_of}
+use Rattle.mm_store.specs.Language.Pieces.{Replaced, text_under, HeldPiece, Pieces, IsParked}
+use Rattle.mm_store.specs.Language.Undoing.{keys_in, with_keys}
+
+pub length_set : {Y : Type 0} (es : List (Vec ℕ Y × FileText)) (n : ℕ) (w : FileText) → length (set_value_at es n w) ≡ length es
+length_set [] n w = refl
+length_set (e ∷ es) zero w = refl
+length_set (e ∷ es) (suc n) w = omega (arith, length_set es n w)
+
+pub file_in : {Y : Type 0} (es : List (Vec ℕ Y × FileText)) (n : ℕ) (v : FileText) → slice_get (texts_of es) n ≡ Some v → n < length es
+file_in {Y} es n v here = omega (arith, slice_get_within (texts_of es) n v here, length-map es (λ (e : Vec ℕ Y × FileText). e.1))
+
+module _ (inside : Inside) (n : ℕ) (v w : FileText) (here : slice_get (texts_of inside.files.entries) n ≡ Some v) (tail : w.tail ≡ v.tail)
+    (keys : List ℕ) (items : w.keys.items ≡ keys) (actual now : Pieces) (pieces : actual ≡ now) (bytes : ℕ) where
+  fs : List KeyedFile
+  fs = map file_of inside.files.entries
+
+  abbrev after : Inside
+  after = record { files = with_value_at inside.files n w; pieces = actual; bytes = bytes }
+
+  files_is : map file_of (set_value_at inside.files.entries n w) ≡ with_keys (map file_of inside.files.entries) n keys
+  files_is = view_set inside.files.entries n v w here tail ∙ ap (with_keys (map file_of inside.files.entries) n) items
+
+  pub view_after : view_of after ≡ record { keyed = with_keys (map file_of inside.files.entries) n keys; pieces = now }
+  view_after = same_view _ _ files_is pieces
+
+  pub kept_after : IsKept inside
+      → ((q : ℕ) → places q (with_keys (map file_of inside.files.entries) n keys) ≡ standing_count (finite.get now q))
+      → ((m : ℕ) → m ≢ n → deletions m now ≡ deletions m inside.pieces)
+      → w.deleted ≡ deletions n now
+      → HasRoom w
+      → bytes ≡ bytes_of (map (plain_file now) (with_keys (map file_of inside.files.entries) n keys))
+      → bytes ≤ 4294967295
+      → (members : List (List ℕ))
+      → map (plain_file now) (with_keys (map file_of inside.files.entries) n keys) ≡ with_pieces (map (plain_file inside.pieces) (map file_of inside.files.entries)) n members
+      → HasStarts members w
+      → IsKept after
+  kept_after kept once others parked room counted within members means starts = record {
+    once = λ q. ap (places q) files_is ∙ once q ∙ ap (λ p. standing_count (finite.get p q)) (sym pieces);
+    room = room_set inside.pieces actual 0 inside.files.entries n n w (omega arith) (λ m d. ap (deletions m) pieces ∙ others m d) (record { parked = parked ∙ ap (deletions n) (sym pieces); room = room }) kept.room;
+    known = λ m le. ap (deletions m) pieces ∙ others m (λ e. omega (arith, e, file_in inside.files.entries n v here, length_set inside.files.entries n w, le)) ∙ kept.known m (omega (arith, length_set inside.files.entries n w, le));
+    counted = counted ∙ ap (λ p. bytes_of (map (plain_file p) (with_keys (map file_of inside.files.entries) n keys))) (sym pieces) ∙ ap (λ gs. bytes_of (map (plain_file actual) gs)) (sym files_is);
+    within = within;
+    starts = subst (λ files. HaveStarts files (set_value_at inside.files.entries n w)) (sym (ap (λ v. plain v) view_after ∙ means))
+        (starts_set (plain (view_of inside)) inside.files.entries n w members kept.starts starts (subst (λ (t : Vec ℕ Global). HasWords t.items []) (sym tail) (tail_at (plain (view_of inside)) inside.files.entries n v kept.starts here)));
+  }
+
+-- the files after room was made in one of them, or it was found where more of its pieces begin
+module _ (inside : Inside) (n : ℕ) (v w : FileText) (here : slice_get (texts_of inside.files.entries) n ≡ Some v) (tail : w.tail ≡ v.tail)
+    (items : w.keys.items ≡ v.keys.items) (actual : Pieces) (pieces : actual ≡ inside.pieces) where
+  same_keys : w.keys.items ≡ keys_in (map file_of inside.files.entries) n
+  same_keys = items ∙ sym (keys_at inside.files.entries n v here)
+
+  pub reserved_view : view_of (record { files = with_value_at inside.files n w; pieces = actual; bytes = inside.bytes }) ≡ view_of inside
+  reserved_view =
+      view_after inside n v w here tail (keys_in (map file_of inside.files.entries) n) same_keys actual inside.pieces pieces inside.bytes
+      ∙ ap (λ (files : List KeyedFile). record { keyed = files; pieces = inside.pieces }) (with_same (map file_of inside.files.entries) n)
+
+  pub reserved_kept : w.deleted ≡ v.deleted → HasRoom w → (KnowsStarts inside.pieces v → KnowsStarts inside.pieces w)
+      → IsKept inside → IsKept (record { files = with_value_at inside.files n w; pieces = actual; bytes = inside.bytes })
+  reserved_kept deleted room knows kept =
+      let had = room_at inside.pieces 0 inside.files.entries n n v (omega arith) kept.room here in
+      let fs : List KeyedFile = map file_of inside.files.entries in
+      let same = with_same fs n in
+      let members = pieces_in (plain (view_of inside)) n in
+      let f = text_under inside.pieces in
+      let texts : members ≡ map f v.keys.items = plain_pieces inside.pieces fs n ∙ ap (map f) (keys_at inside.files.entries n v here) in
+      let were : HasStarts members v = starts_at (plain (view_of inside)) inside.files.entries n v kept.starts here in
+      kept_after inside n v w here tail (keys_in fs n) same_keys actual inside.pieces pieces inside.bytes kept
+      (λ q. ap (places q) same ∙ kept.once q) (λ m d. refl) (deleted ∙ had.parked) room
+      (kept.counted ∙ ap (λ fs. bytes_of (map (plain_file inside.pieces) fs)) (sym same)) kept.within
+      members (ap (map (plain_file inside.pieces)) same ∙ sym (with_pieces_same (plain (view_of inside)) n))
+      (subst (λ ts. HasStarts ts w) (ap (map f) items ∙ sym texts) (knows (subst (λ ts. HasStarts ts v) texts were)))
+
+pub texts_set : {Y : Type 0} (es : List (Vec ℕ Y × FileText)) (n : ℕ) (v w : FileText) → slice_get (texts_of es) n ≡ Some v → slice_get (texts_of (set_value_at es n w)) n ≡ Some w
+texts_set [] n v w there = absurd (none-some v there)
+texts_set (e ∷ es) zero v w there = refl
+texts_set (e ∷ es) (suc n) v w there = texts_set es n v w there
+
+-- the files after a piece that was replaced is dropped
+pub settled_kept : (inside : Inside) (n old : ℕ) → IsParked inside.pieces old n Replaced → (actual : Pieces) → actual ≡ finite.remove inside.pieces old → IsKept inside → IsKept (record { files = inside.files; pieces = actual; bytes = inside.bytes })
+settled_kept inside n old is_parked actual is kept =
+    let p = inside.pieces in
+    let p' = finite.remove p old in
+    let was = parked (finite.get p old) n Replaced is_parked in
+    let same : (m : ℕ) → deletions m actual ≡ deletions m p = λ m. (let less = weight_dropped (λ (piece : HeldPiece). deleted_state m piece.state) p old was.piece was.is in
+    ap (deletions m) is ∙ omega (arith, less, ap (deleted_state m) was.state, replaced_weight m n)) in
+    let plain_is : map (plain_file p') (map file_of inside.files.entries) ≡ map (plain_file p) (map file_of inside.files.entries) = plain_same p p' old (text_drop_other p old) (map file_of inside.files.entries) (kept.once old ∙ was.none) in
+    record {
+      once = λ q. kept.once q ∙ sym (stands_settled p old n Replaced q was.none) ∙ ap (λ p. standing_count (finite.get p q)) (sym is);
+      room = room_same p actual 0 inside.files.entries (λ m lt. same m) kept.room;
+      known = λ m le. same m ∙ kept.known m le;
+      counted = kept.counted ∙ ap bytes_of (sym plain_is) ∙ ap (λ p. bytes_of (map (plain_file p) (map file_of inside.files.entries))) (sym is);
+      within = kept.within;
+      starts = subst (λ files. HaveStarts files inside.files.entries) (sym (ap (λ p. map (plain_file p) (map file_of inside.files.entries)) is ∙ plain_is)) kept.starts;
+    }
+
+-- below a bound, from what holds beyond it
+pub below_bound : (n bound d : ℕ) → (bound ≤ n → d ≡ 0) → 0 < d → n < bound
+below_bound n bound d beyond some = elim (cases_eq (bound - n) 0) [
+  | inl none ↦ absurd (omega (arith, beyond (omega (arith, none))))
+  | inr more ↦ omega (arith, more)
+]

@@ -1,0 +1,90 @@
+-- Files by name: each name has one number, and a file that comes last is found where no other has its name.
+use Rattle.std.proofs.Common.{◌≡◌, ◌≢◌, ℕ, ◌<◌, Bool, true, false, cond, nat_lt, List, [], ◌∷◌, ◌++◌, Some, None, length, get_or, refl, sym, ap, ◌∙◌, arith}
+use Rattle.std.specs.Prelude.{slice_get}
+use Rattle.std.specs.List.{find, position_or_len}
+use Rattle.std.specs.Option.{option_map}
+use Rattle.std.specs.Str.{bytes_eq}
+use Rattle.std.proofs.lemmas.Bool.Decides.{nat_tests}
+use Rattle.std.proofs.lemmas.List.Folds.{find_at}
+use Rattle.std.proofs.lemmas.List.Sums.{passes_at_first}
+use Rattle.std.proofs.lemmas.Option.{get_or_from_slice_get, none-some, same_Some, slice_get_past}
+use Rattle.std.proofs.lemmas.Slice.Eq.{bytes_eq-Decides}
+use Rattle.mm_text.specs.Language.Cut.{IsCut, ended}
+use Rattle.mm_store.specs.Language.FilesView.{File, file_number, file_at, find_file, text_of}
+use Rattle.mm_store.specs.Language.FileFacts.{IsAdded}
+use Rattle.mm_store.specs.Language.Edits.{Asked, edited, edited_name, with_members, IsEditOf}
+use Rattle.mm_store.proofs.lemmas.edits.EditLawLemmas.{changed_there, number_kept, others_kept}
+
+pub by_some : (b : Bool) (m n : ℕ) → cond b (Some m) None ≡ Some n → (b ≡ true) × (m ≡ n)
+by_some true m n e = (refl, same_Some m n e)
+by_some false m n e = absurd (none-some n e)
+
+-- the file of a name has this name
+named_is : (files : List File) (name : List ℕ) (n : ℕ) (file : File) → file_number files name ≡ Some n → slice_get files n ≡ Some file → name ≡ file.name
+named_is files name n file at there =
+    let first = position_or_len (λ (file : File). bytes_eq name file.name) files in
+    let s = by_some (nat_lt first (length files)) first n at in
+    let lt : first < length files = (grind (arith, nat_tests)) in
+    let pass = passes_at_first (λ (file : File). bytes_eq name file.name) files file lt in
+    let here : get_or files first file ≡ file = ap (λ k. get_or files k file) s.1 ∙ get_or_from_slice_get files n file file there in
+    (bytes_eq-Decides name file.name).0 (ap (λ (file : File). bytes_eq name file.name) (sym here) ∙ pass)
+
+pub other_kept : (edit : Asked) (files after : List File) (name : List ℕ) → IsEditOf edit files after → name ≢ edited_name edit → find_file after name ≡ find_file files name
+other_kept edit files after name is differs =
+    let there = is.placed.file_there.there in
+    others_kept edit files after is name (λ at. differs (named_is files name is.number is.file at there ∙ sym (named_is files (edited_name edit) is.number is.file is.placed.file_there.named there)))
+
+pub edited_kept : (edit : Asked) (files after : List File) (file : File) → IsEditOf edit files after → find_file files (edited_name edit) ≡ Some file → find_file after (edited_name edit) ≡ Some (with_members file (edited edit file.pieces))
+edited_kept edit files after file is found =
+    let there = is.placed.file_there in
+    let same : is.file ≡ file = same_Some is.file file (sym (ap (file_at files) there.named ∙ there.there) ∙ found) in
+    ap (file_at after) (number_kept edit files after is (edited_name edit) ∙ there.named) ∙ changed_there edit files after is ∙ ap (λ (file : File). Some (with_members file (edited edit file.pieces))) same
+
+-- the file of a name is the first with it
+at_place : (files : List File) (m : ℕ) (b : Bool) → nat_lt m (length files) ≡ b → file_at files (cond b (Some m) None) ≡ slice_get files m
+at_place files m true e = refl
+at_place files m false e = sym (slice_get_past files m (grind (arith, nat_tests)))
+
+found_first : (files : List File) (name : List ℕ) → find_file files name ≡ find (λ file. bytes_eq name file.name) files
+found_first files name =
+    let first = position_or_len (λ (file : File). bytes_eq name file.name) files in
+    at_place files first (nat_lt first (length files)) refl ∙ sym (find_at (λ (file : File). bytes_eq name file.name) files)
+
+module _ (test : File → Bool) (file : File) where
+  find_last : (files : List File) → find test files ≡ None → test file ≡ true → find test (files ++ file ∷ []) ≡ Some file
+  find_last [] none is = ap (λ b. cond b (Some file) None) is
+  find_last (first ∷ files) none is = by (test first) none (λ e. find_last files e is)
+    where
+      by : (b : Bool) → cond b (Some first) (find test files) ≡ None → (find test files ≡ None → find test (files ++ file ∷ []) ≡ Some file) → cond b (Some first) (find test (files ++ file ∷ [])) ≡ Some file
+      by true e later = absurd (none-some first (sym e))
+      by false e later = later e
+
+  find_other : (files : List File) → test file ≡ false → find test (files ++ file ∷ []) ≡ find test files
+  find_other [] is = ap (λ b. cond b (Some file) None) is
+  find_other (first ∷ files) is = ap (λ found. cond (test first) (Some first) found) (find_other files is)
+
+is_false : (b : Bool) → b ≢ true → b ≡ false
+is_false true differs = absurd (differs refl)
+is_false false differs = refl
+
+pub added_text : (old new : List File) (name text : List ℕ) → file_number old name ≡ None → IsAdded old new name text → option_map text_of (find_file new name) ≡ Some (ended text)
+added_text old new name text none is =
+    let test = (bytes_eq-Decides name is.file.name).1 (sym is.is_name) in
+    let absent : find (λ (file : File). bytes_eq name file.name) old ≡ None = sym (found_first old name) ∙ ap (file_at old) none in
+    ap (λ files. option_map text_of (find_file files name)) is.last
+    ∙ ap (option_map text_of) (found_first (old ++ is.file ∷ []) name ∙ find_last (λ (file : File). bytes_eq name file.name) is.file old absent test) ∙ ap Some is.is_cut.joined
+
+pub added_others : (old new : List File) (name text other : List ℕ) → IsAdded old new name text → other ≢ name → find_file new other ≡ find_file old other
+added_others old new name text other is differs =
+    let test = is_false (bytes_eq other is.file.name) (λ e. differs ((bytes_eq-Decides other is.file.name).0 e ∙ is.is_name)) in
+    ap (λ files. find_file files other) is.last ∙ found_first (old ++ is.file ∷ []) other ∙ find_other (λ (file : File). bytes_eq other file.name) is.file old test ∙ sym (found_first old other)
+
+abbrev pub OneCut : Type 0
+OneCut = (text : List ℕ) (a b : List (List ℕ)) (s t : List ℕ) → IsCut text a s → IsCut text b t → (a ≡ b) × (s ≡ t)
+
+pub one_added : OneCut → (old a b : List File) (name text : List ℕ) → IsAdded old a name text → IsAdded old b name text → a ≡ b
+one_added one_cut old a b name text is other =
+    let cut = one_cut text is.file.pieces other.file.pieces is.file.tail other.file.tail is.is_cut other.is_cut in
+    let name : is.file.name ≡ other.file.name = is.is_name ∙ sym other.is_name in
+    let file : is.file ≡ other.file = λ i. record { name = name i; pieces = cut.0 i; tail = cut.1 i } in
+    is.last ∙ ap (λ file. old ++ file ∷ []) file ∙ sym other.last

@@ -1,0 +1,144 @@
+-- What is kept of the pieces in a slab, after changes of it.
+use Rattle.std.proofs.Common.{◌≡◌, inl, inr, is_some, true, ℕ, zero, suc, ◌+◌, ◌≤◌, List, [], ◌∷◌, ◌++◌, Option, Some, None, map, cond, get_or, count_by, refl, sym, ap, ◌∙◌, subst, arith}
+use Rattle.std.specs.Prelude.{All}
+use Rattle.std.specs.List.{sum_by}
+use Rattle.std.specs.Option.{option_map}
+use Rattle.std.proofs.lemmas.Bool.{cases_eq}
+use Rattle.std.proofs.lemmas.Option.{same_Some, none-some}
+use Rattle.std.proofs.lemmas.List.Sums.{sum_by-cons}
+use Rattle.std.specs.FinMap as finite
+use Rattle.std.specs.FinMap.{get-from_entries}
+use Rattle.std.proofs.lemmas.List.{nil_from_length}
+use Rattle.std.specs.Ordering.{nat_cmp}
+use Rattle.std.specs.Cmp.{nat_cmp_total}
+use Rattle.slab.specs.Slab.{Slab, get, entries_from, Updates, slab_len}
+use Rattle.mm_store.specs.declared.state.State.TheVariants as code
+use Rattle.mm_store.specs.declared.piece_text.PieceText.{PieceText}
+use Rattle.mm_store.specs.declared.pieces.Piece.{Piece}
+use Rattle.mm_store.specs.Language.Pieces.{HeldPiece, Pieces, PieceState, Standing, Parked, standing_piece, in_state, with_state, parked_state, parked_count, parked_under, parked_pieces, text_in, text_under}
+use Rattle.mm_store.specs.Code.Inside.{IsPieceKept, ArePut}
+use Rattle.mm_store.specs.Code.Kept.{weigh}
+use Rattle.mm_store.specs.Code.States.{piece_state}
+use Rattle.mm_store.specs.Code.Slots.{held, entry_view, pieces_of, AreKeptIn, ArePutIn}
+use Rattle.mm_store.proofs.lemmas.files.SlabLemmas.{below, get_is, put_is}
+use Rattle.mm_store.proofs.lemmas.expansion.WeightLemmas.{weight_fresh, weight_put, weight_dropped}
+
+pub kept_put : (old new : Slab Piece) (key : ℕ) (piece : Piece) → Updates old new key (Some piece) → IsPieceKept piece.kept → AreKeptIn old → AreKeptIn new
+kept_put old new key piece updates is_kept kept k x there = elim (cases_eq k key) [
+  | inl is ↦ subst (λ (y : Piece). IsPieceKept y.kept) (same_Some piece x (sym updates.changed ∙ ap (get new) (sym is) ∙ there)) is_kept
+  | inr differs ↦ kept k x (sym (updates.others k differs) ∙ there)
+]
+
+pub kept_drop : (old new : Slab Piece) (key : ℕ) → Updates old new key None → AreKeptIn old → AreKeptIn new
+kept_drop old new key updates kept k x there = elim (cases_eq k key) [
+  | inl is ↦ absurd (none-some x (sym updates.changed ∙ ap (get new) (sym is) ∙ there))
+  | inr differs ↦ kept k x (sym (updates.others k differs) ∙ there)
+]
+
+abbrev parked_weight : HeldPiece → ℕ
+parked_weight piece = parked_state piece.state
+
+weigh_is : (es : List (ℕ × HeldPiece)) → sum_by (λ entry. parked_state entry.1.state) es ≡ weigh parked_weight es
+weigh_is [] = refl
+weigh_is (e ∷ es) = sum_by-cons (λ (entry : ℕ × HeldPiece). parked_state entry.1.state) e es ∙ ap (λ n. parked_state e.1.state + n) (weigh_is es)
+
+pub parked_is : (p : Pieces) → parked_pieces p ≡ weigh parked_weight (finite.entries p)
+parked_is p = weigh_is (finite.entries p)
+
+pub parked_put : (p : Pieces) (k : ℕ) (text : List ℕ) → finite.get p k ≡ None → parked_pieces (finite.insert p k (standing_piece text)) ≡ parked_pieces p
+parked_put p k text fresh = omega (arith, parked_is p, parked_is (finite.insert p k (standing_piece text)), weight_fresh parked_weight p k (standing_piece text) fresh)
+
+state_parked : (o : Option HeldPiece) (s : PieceState) → parked_state (in_state o s).state ≡ parked_state s
+state_parked None s = refl
+state_parked (Some piece) s = refl
+
+pub parked_changed : (p : Pieces) (k : ℕ) (piece : HeldPiece) (s : PieceState) → finite.get p k ≡ Some piece → parked_pieces (with_state p k s) + parked_under p k ≡ parked_pieces p + parked_state s
+parked_changed p k piece s is =
+    omega (arith, parked_is p, parked_is (with_state p k s), weight_put parked_weight p k piece (in_state (finite.get p k) s) is, state_parked (finite.get p k) s, ap parked_count is)
+
+pub parked_dropped : (p : Pieces) (k : ℕ) (piece : HeldPiece) → finite.get p k ≡ Some piece → parked_pieces (finite.remove p k) + parked_state piece.state ≡ parked_pieces p
+parked_dropped p k piece is = omega (arith, parked_is p, parked_is (finite.remove p k), weight_dropped parked_weight p k piece is)
+
+pub nothing_parked : parked_pieces finite.empty ≡ 0
+nothing_parked = ap (sum_by (λ (entry : ℕ × HeldPiece). parked_state entry.1.state)) (nil_from_length (finite.entries finite.empty) (sym (finite.len-entries finite.empty) ∙ finite.len-empty nat_cmp HeldPiece))
+
+-- the map of the pieces weighs what the slots do
+weigh_slots : (first : ℕ) (slots : List (Option Piece)) → weigh parked_weight (finite.entries (finite.from_entries {R = nat_cmp} (map entry_view (entries_from first slots)))) ≡ sum_by (λ (entry : ℕ × Piece). parked_state (piece_state entry.1.state)) (entries_from first slots)
+weigh_slots first [] = sym (parked_is finite.empty) ∙ nothing_parked
+weigh_slots first (None ∷ rest) = weigh_slots (first + 1) rest
+weigh_slots first (Some piece ∷ rest) =
+    let later = finite.from_entries {R = nat_cmp} (map entry_view (entries_from (first + 1) rest)) in
+    let fresh : finite.get later first ≡ None = get-from_entries nat_cmp_total (map entry_view (entries_from (first + 1) rest)) first ∙ below first (first + 1) rest (omega arith) in
+    omega (arith, weight_fresh parked_weight later first (held piece) fresh, weigh_slots (first + 1) rest, sum_by-cons (λ (entry : ℕ × Piece). parked_state (piece_state entry.1.state)) (first, piece) (entries_from (first + 1) rest))
+
+at_most_one : (s : PieceState) → parked_state s ≤ 1
+at_most_one Standing = omega arith
+at_most_one (Parked n kind) = omega arith
+
+no_more : (first : ℕ) (slots : List (Option Piece)) → sum_by (λ (entry : ℕ × Piece). parked_state (piece_state entry.1.state)) (entries_from first slots) ≤ count_by is_some slots
+no_more first [] = omega arith
+no_more first (None ∷ rest) = omega (arith, no_more (first + 1) rest, sum_by-cons (λ (o : Option Piece). cond (is_some o) 1 0) None rest)
+no_more first (Some piece ∷ rest) =
+    omega (arith, no_more (first + 1) rest, at_most_one (piece_state piece.state), sum_by-cons (λ (o : Option Piece). cond (is_some o) 1 0) (Some piece) rest, sum_by-cons (λ (entry : ℕ × Piece). parked_state (piece_state entry.1.state)) (first, piece) (entries_from (first + 1) rest))
+
+one_less : (first at : ℕ) (slots : List (Option Piece)) (piece : Piece) → get_or slots at None ≡ Some piece → sum_by (λ (entry : ℕ × Piece). parked_state (piece_state entry.1.state)) (entries_from first slots) + 1 ≤ count_by is_some slots + parked_state (piece_state piece.state)
+one_less first (suc at) (None ∷ rest) piece there = omega (arith, one_less (first + 1) at rest piece there, sum_by-cons (λ (o : Option Piece). cond (is_some o) 1 0) None rest)
+one_less first zero (Some x ∷ rest) piece there =
+    omega (
+      arith,
+      no_more (first + 1) rest,
+      ap (λ (y : Piece). parked_state (piece_state y.state)) (same_Some x piece there),
+      sum_by-cons (λ (o : Option Piece). cond (is_some o) 1 0) (Some x) rest,
+      sum_by-cons (λ (entry : ℕ × Piece). parked_state (piece_state entry.1.state)) (first, x) (entries_from (first + 1) rest),
+    )
+one_less first (suc at) (Some x ∷ rest) piece there =
+    omega (arith, one_less (first + 1) at rest piece there, at_most_one (piece_state x.state), sum_by-cons (λ (o : Option Piece). cond (is_some o) 1 0) (Some x) rest, sum_by-cons (λ (entry : ℕ × Piece). parked_state (piece_state entry.1.state)) (first, x) (entries_from (first + 1) rest))
+one_less first _ _ piece there = absurd (none-some piece there)
+
+-- the other pieces that are parked are fewer than all
+pub others_parked : (slab : Slab Piece) (key : ℕ) (piece : Piece) → get slab key ≡ Some piece → parked_pieces (pieces_of slab) + 1 ≤ slab_len slab + parked_state (piece_state piece.state)
+others_parked slab key piece there = omega (arith, one_less 0 key slab.slots piece there, parked_is (pieces_of slab), weigh_slots 0 slab.slots)
+
+-- pieces put one after another
+pub put_more : (old mid new : Slab Piece) (pieces : List PieceText) (keys : List ℕ) (kept : PieceText) (key : ℕ) → ArePutIn old pieces keys mid
+    → get mid key ≡ None → Updates mid new key (Some (record { kept = kept; state = code.Standing })) → ArePutIn old (pieces ++ kept ∷ []) (keys ++ key ∷ []) new
+put_more old mid new [] keys kept key put fresh updates =
+    (key, [], new, ap (λ ks. ks ++ key ∷ []) put.0, ap (λ s. get s key) (sym put.1) ∙ fresh, subst (λ s. Updates s new key (Some (record { kept = kept; state = code.Standing }))) put.1 updates, (refl, refl))
+put_more old mid new (first ∷ pieces) keys kept key put fresh updates =
+    (put.0, put.1 ++ key ∷ [], put.2, ap (λ ks. ks ++ key ∷ []) put.3, put.4, put.5, put_more put.2 mid new pieces put.1 kept key put.6 fresh updates)
+
+pub are_put : (old new : Slab Piece) (pieces : List PieceText) (keys : List ℕ) → ArePutIn old pieces keys new → ArePut (pieces_of old) (map (λ piece. piece.text.items) pieces) keys (pieces_of new)
+are_put old new [] keys put = (put.0, ap pieces_of put.1)
+are_put old new (first ∷ pieces) keys put = (
+  put.0,
+  put.1,
+  put.3,
+  get_is old put.0 ∙ ap (option_map held) put.4,
+  subst (λ m. ArePut m (map (λ (piece : PieceText). piece.text.items) pieces) put.1 (pieces_of new)) (put_is old put.2 put.0 (record { kept = first; state = code.Standing }) put.5) (are_put put.2 new pieces put.1 put.6),
+)
+
+pub kept_all : (old new : Slab Piece) (pieces : List PieceText) (keys : List ℕ) → ArePutIn old pieces keys new → All IsPieceKept pieces → AreKeptIn old → AreKeptIn new
+kept_all old new [] keys put all kept = subst AreKeptIn (sym put.1) kept
+kept_all old new (first ∷ pieces) keys put all kept =
+    kept_all put.2 new pieces put.1 put.6 (λ n d h. all (suc n) d (omega arith)) (kept_put old put.2 put.0 (record { kept = first; state = code.Standing }) put.5 (all 0 first (omega arith)) kept)
+
+pub parked_all : (old new : Pieces) (texts : List (List ℕ)) (keys : List ℕ) → ArePut old texts keys new → parked_pieces new ≡ parked_pieces old
+parked_all old new [] keys put = ap parked_pieces put.1
+parked_all old new (text ∷ texts) keys put = parked_all (finite.insert old put.0 (standing_piece text)) new texts put.1 put.4 ∙ parked_put old put.0 text put.3
+
+-- what the map has under a key is what the slab has
+pub at_is : (slab : Slab Piece) (key : ℕ) (m : Pieces) → pieces_of slab ≡ m → finite.get m key ≡ option_map held (get slab key)
+at_is slab key m is = ap (λ m. finite.get m key) (sym is) ∙ get_is slab key
+
+pub slot_there : (slab : Slab Piece) (key : ℕ) (m : Pieces) → pieces_of slab ≡ m → is_some (finite.get m key) ≡ true → (piece : Piece) × (get slab key ≡ Some piece)
+slot_there slab key m is there = by (get slab key) refl
+  where
+    by : (o : Option Piece) → get slab key ≡ o → (piece : Piece) × (get slab key ≡ Some piece)
+    by None e = absurd (let none : is_some (finite.get m key) ≡ is_some {T = HeldPiece} None = ap is_some (at_is slab key m is ∙ ap (option_map held) e) in cc)
+    by (Some piece) e = (piece, e)
+
+pub none_text : (slab : Slab Piece) (key : ℕ) (m : Pieces) → pieces_of slab ≡ m → None ≡ get slab key → text_under m key ≡ []
+none_text slab key m is none = ap text_in (at_is slab key m is ∙ ap (option_map held) (sym none))
+
+pub parked_there : (slab : Slab Piece) (key : ℕ) (m : Pieces) (piece : Piece) → pieces_of slab ≡ m → get slab key ≡ Some piece → parked_under m key ≡ parked_state (piece_state piece.state)
+parked_there slab key m piece is there = ap parked_count (at_is slab key m is ∙ ap (option_map held) there)

@@ -1,0 +1,43 @@
+-- Where a byte of a piece stands in its file, by the fields of `Files`.
+use Rattle.std.proofs.Common.{◌≡◌, ℕ, ◌+◌, ◌<◌, ◌≤◌, List, [], Some, length, map, take, get_or, sym, ap, ◌∙◌, subst}
+use Rattle.std.specs.Prelude.{Vec, slice_get}
+use Rattle.std.specs.List.{concat}
+use Rattle.std.specs.Option.{option_map}
+use Rattle.std.proofs.lemmas.Option.{slice_get-map, slice_get_within, get_or_from_slice_get, same_Some}
+use Rattle.mm_store.specs.declared.file_text.FileText.{FileText}
+use Rattle.mm_store.specs.Language.Pieces.{Pieces, text_under}
+use Rattle.mm_store.specs.Language.FilesView.{File, FilesView, plain, plain_file, text_of}
+use Rattle.mm_store.specs.Language.FileFacts.{IsByte, piece_offset}
+use Rattle.mm_store.specs.Code.Lines.{bytes_before}
+use Rattle.mm_store.specs.Code.Kept.{file_of}
+use Rattle.mm_store.proofs.lemmas.places.PlaceLemmas.{before_byte}
+
+-- a byte of one of these texts, and the bytes of all before it
+pub record IsIn (texts : List (List ℕ)) (piece at : ℕ) (before : List ℕ) : Type 0 where
+  pub piece_in : piece < length texts
+  pub within : at ≤ length (get_or texts piece [])
+  pub is_before : before ≡ bytes_before texts piece at
+
+in_file : (file : File) (piece at : ℕ) (bytes : List ℕ) → slice_get file.pieces piece ≡ Some bytes → at ≤ length bytes → IsIn file.pieces piece at (take (piece_offset file piece + at) (text_of file))
+in_file file piece at bytes there within = record {
+  piece_in = slice_get_within file.pieces piece bytes there;
+  within = subst (λ t. at ≤ length t) (sym (get_or_from_slice_get file.pieces piece bytes [] there)) within;
+  is_before = before_byte file piece at bytes there within;
+}
+
+module _ {Y : Type 0} (p : Pieces) (entries : List (Vec ℕ Y × FileText)) (number : ℕ) (entry : Vec ℕ Y × FileText) (there : slice_get entries number ≡ Some entry)
+    (view : FilesView) (is : record { keyed = map file_of entries; pieces = p } ≡ view) (piece at : ℕ) (text : List ℕ) (offset : ℕ) (byte : IsByte view number piece at text offset) where
+  file_is : byte.file ≡ plain_file p (file_of entry)
+  file_is =
+      let here : slice_get (map (plain_file p) (map file_of entries)) number ≡ Some (plain_file p (file_of entry)) =
+      slice_get-map (plain_file p) (map file_of entries) number ∙ ap (option_map (plain_file p)) (slice_get-map (file_of {Y = Y}) entries number ∙ ap (option_map (file_of {Y = Y})) there) in
+      same_Some byte.file (plain_file p (file_of entry)) (sym byte.there ∙ ap (λ (v : FilesView). slice_get (plain v) number) (sym is) ∙ here)
+
+  pub byte_in : IsIn (map (text_under p) entry.1.keys.items) piece at (take offset text)
+  byte_in =
+      let before = ap (λ n. take n text) byte.is_offset ∙ ap (take (piece_offset byte.file piece + at)) byte.is_text in
+      let found = in_file byte.file piece at byte.bytes byte.is_piece byte.within in
+      subst (λ (file : File). IsIn file.pieces piece at (take offset text)) file_is (subst (IsIn byte.file.pieces piece at) (sym before) found)
+
+  pub offset_in : offset ≡ length (concat (take piece (map (text_under p) entry.1.keys.items))) + at
+  offset_in = byte.is_offset ∙ ap (λ (file : File). piece_offset file piece + at) file_is
