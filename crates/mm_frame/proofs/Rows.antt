@@ -36,7 +36,8 @@ abbrev q : List ℕ
 q = codes "q"
 
 abbrev five : List Item
-five = plain Constants (wff ∷ turnstile ∷ arrow ∷ left ∷ right ∷ []) ∷ plain Variables (p ∷ q ∷ []) ∷ labelled (codes "wp") Floating (wff ∷ p ∷ []) ∷ labelled (codes "wq") Floating (wff ∷ q ∷ []) ∷ labelled (codes "wi") Axiom (wff ∷ left ∷ p ∷ arrow ∷ q ∷ right ∷ []) ∷ []
+five = plain Constants (wff ∷ turnstile ∷ arrow ∷ left ∷ right ∷ []) ∷ plain Variables (p ∷ q ∷ []) ∷ labelled (codes "wp") Floating (wff ∷ p ∷ []) ∷
+    labelled (codes "wq") Floating (wff ∷ q ∷ []) ∷ labelled (codes "wi") Axiom (wff ∷ left ∷ p ∷ arrow ∷ q ∷ right ∷ []) ∷ []
 
 abbrev constant : List ℕ → Symbol
 constant name = record { name = name; variable = false }

@@ -19,7 +19,9 @@ pub record AreCarried (base copy : BaseView) (plan : List (Option ℕ)) (count :
   pub left : (k i : ℕ) (one : Option Judgement) → count ≤ k → slice_get plan k ≡ Some (Some i) → slice_get old i ≡ Some one → IsCheckedAt base i one
 
 -- all are checked
-pub carried_all : (base copy : BaseView) (old : List (Option Judgement)) (plan : List (Option ℕ)) (new : List (Option Judgement)) → CanCarry base copy old plan new → (spent result : List (Option Judgement)) → AreCarried base copy plan (length plan) spent result → length result ≡ length new
+pub carried_all : (base copy : BaseView) (old : List (Option Judgement)) (plan : List (Option ℕ)) (new : List (Option Judgement))
+    → CanCarry base copy old plan new → (spent result : List (Option Judgement)) → AreCarried base copy plan (length plan) spent result
+    → length result ≡ length new
     → AreChecked copy result
 carried_all base copy old plan new can spent result are long = record {
   count = long ∙ can.count ∙ can.planned.count;

@@ -50,10 +50,13 @@ changed_settled stand before after settled undos top names checked next can same
     (record { top = refl; runs = record { old = can.old; new = can.base; were = can.old_is; are = of_files; those = can.goes_on.runs }; base = can.base; of_files = of_files; steps = can.goes_on.steps })
 
 -- the old base can be read in edited files
-pub old_in : (before after : FilesView) (undos : List UndoView) (top : List ℕ) (names : List (List ℕ)) (code : Base) (checked : List (Option Judgement)) → (were : WereKept before after undos top names code checked) → IsOldIn names after code were.base
+pub old_in : (before after : FilesView) (undos : List UndoView) (top : List ℕ) (names : List (List ℕ)) (code : Base) (checked : List (Option Judgement))
+    → (were : WereKept before after undos top names code checked) → IsOldIn names after code were.base
 old_in before after undos top names code checked were = record { later = were.kept.built.later; each = says_edited before after were.reading were.base.found were.base.said were.kept.built.of_files.each }
 
-pub can_take : (before after : FilesView) (undos : List UndoView) (top : List ℕ) (names all : List (List ℕ)) (code : Base) (checked : List (Option Judgement)) (next : Next) → (were : WereKept before after undos top names code checked) → IsNextBase all after top were.base next
+pub can_take : (before after : FilesView) (undos : List UndoView) (top : List ℕ) (names all : List (List ℕ)) (code : Base)
+    (checked : List (Option Judgement)) (next : Next) → (were : WereKept before after undos top names code checked)
+    → IsNextBase all after top were.base next
     → CanTake before after undos top all checked next
 can_take before after undos top names all code checked next were is = record {
   spendable = were.spendable;
@@ -67,7 +70,8 @@ can_take before after undos top names all code checked next were is = record {
 }
 
 -- what is kept once the edits are undone
-pub kept_undone : (before after files : FilesView) (undos : List UndoView) (top : List ℕ) (names all : List (List ℕ)) (code : Base) (checked : List (Option Judgement)) → WereKept before after undos top names code checked → files ≡ before → Begins names all → AreDistinct all
+pub kept_undone : (before after files : FilesView) (undos : List UndoView) (top : List ℕ) (names all : List (List ℕ)) (code : Base)
+    (checked : List (Option Judgement)) → WereKept before after undos top names code checked → files ≡ before → Begins names all → AreDistinct all
     → HasKept files top all code checked
 kept_undone before after files undos top names all code checked were is grows distinct =
     subst (λ (fs : FilesView). HasKept fs top all code checked) (sym is) (

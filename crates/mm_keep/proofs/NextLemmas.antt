@@ -13,7 +13,8 @@ pub built_read : (names : List (List ℕ)) (files : FilesView) (top : List ℕ) 
 built_read names files top code view built = record { base = built.by_names; each = built.of_files.each }
 
 -- old names have the same numbers among more
-pub both_read : (names all : List (List ℕ)) (files : FilesView) (top : List ℕ) (old new : Base) (view copy : BaseView) → AreDistinct all → Begins names all → IsOldIn names files old view → IsBuilt all files top new copy → AreBothRead all files old new view copy
+pub both_read : (names all : List (List ℕ)) (files : FilesView) (top : List ℕ) (old new : Base) (view copy : BaseView) → AreDistinct all → Begins names all
+    → IsOldIn names files old view → IsBuilt all files top new copy → AreBothRead all files old new view copy
 both_read names all files top old new view copy distinct grows is built = record {
   old_is = record { base = is.later all distinct grows; each = is.each };
   new_is = built_read all files top new copy built;

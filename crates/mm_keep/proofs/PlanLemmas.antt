@@ -42,7 +42,8 @@ plans_no_theorem base copy j mark is i e f had = false≢true (sym f ∙ ap (is_
 pub plans_changed : (base copy : BaseView) (j : ℕ) (mark : ItemMark) → IsMark base copy j mark → (i : ℕ) → mark.old ≡ Some i → ¬ AreSameViews (view_at base i) (view_at copy j) → IsPlanned base copy j None
 plans_changed base copy j mark is i e not had = not (subst (λ k. AreSameViews (view_at base k) (view_at copy j)) (one_had base copy j mark is i e had.0 had.1) had.1.view)
 
-pub plans_kept : (base copy : BaseView) (j : ℕ) (mark : ItemMark) → IsMark base copy j mark → (i : ℕ) → mark.old ≡ Some i → is_proof_at base i ≡ true → is_proof_at copy j ≡ true → AreSameViews (view_at base i) (view_at copy j) → IsPlanned base copy j (Some i)
+pub plans_kept : (base copy : BaseView) (j : ℕ) (mark : ItemMark) → IsMark base copy j mark → (i : ℕ) → mark.old ≡ Some i → is_proof_at base i ≡ true
+    → is_proof_at copy j ≡ true → AreSameViews (view_at base i) (view_at copy j) → IsPlanned base copy j (Some i)
 plans_kept base copy j mark is i e was theorem view = let one = (is.old_is i).0 e in record { within = one.within; was = was; is = theorem; label = one.label; view = view }
 
 -- views of one base have as many items
@@ -50,7 +51,8 @@ pub one_count : (names others : List (List ℕ)) (a b : BaseView) (code : Base) 
 one_count names others a b code is other = sym is.count ∙ ap length (sym is.found ∙ other.found) ∙ other.count
 
 -- what was checked of a theorem holds of one with an equal view
-pub checked_same : SameViewSameVerdict → SameViewSameCites → (base copy : BaseView) (checked : List (Option Judgement)) (plan : List (Option ℕ)) (ran : List (Option Judgement)) → CanCarry base copy checked plan ran → (i j : ℕ) → HasSameView base copy i j
+pub checked_same : SameViewSameVerdict → SameViewSameCites → (base copy : BaseView) (checked : List (Option Judgement)) (plan : List (Option ℕ))
+    (ran : List (Option Judgement)) → CanCarry base copy checked plan ran → (i j : ℕ) → HasSameView base copy i j
     → (one : Option Judgement) → IsCheckedAt base i one → IsCheckedAt copy j one
 checked_same verdicts cites base copy checked plan ran can i j same None is = absurd (false≢true (sym is ∙ same.was))
 checked_same verdicts cites base copy checked plan ran can i j same (Some judgement) is = (
@@ -60,7 +62,8 @@ checked_same verdicts cites base copy checked plan ran can i j same (Some judgem
 )
 
 -- what was checked of one theorem is kept by one at most
-pub kept_by_one : LabelsAreOwn → (base copy : BaseView) (checked : List (Option Judgement)) (plan : List (Option ℕ)) (ran : List (Option Judgement)) → CanCarry base copy checked plan ran → (i j k : ℕ) → HasSameView base copy i j → HasSameView base copy i k → j ≡ k
+pub kept_by_one : LabelsAreOwn → (base copy : BaseView) (checked : List (Option Judgement)) (plan : List (Option ℕ)) (ran : List (Option Judgement))
+    → CanCarry base copy checked plan ran → (i j k : ℕ) → HasSameView base copy i j → HasSameView base copy i k → j ≡ k
 kept_by_one own base copy checked plan ran can i j k a b =
     own copy can.new_said j k (shown copy j a.is) (shown copy k b.is) (ap (λ (l : Option (List ℕ)). unwrap_or l []) (sym a.label ∙ b.label))
 

@@ -81,7 +81,9 @@ steps_more base runs total j count steps done = record {
 }
 
 -- what one item more gives
-pub run_more : (new : BaseView) (plan : List (Option ℕ)) (checked : List (Option Judgement)) (from : Option ℕ) (one : Option Judgement) → AreRunBy new plan checked → slice_get plan (length checked) ≡ Some from → IsRunBy new from (length checked) one → AreRunBy new plan (checked ++ one ∷ [])
+pub run_more : (new : BaseView) (plan : List (Option ℕ)) (checked : List (Option Judgement)) (from : Option ℕ) (one : Option Judgement)
+    → AreRunBy new plan checked → slice_get plan (length checked) ≡ Some from → IsRunBy new from (length checked) one
+    → AreRunBy new plan (checked ++ one ∷ [])
 run_more new plan checked from one ran there is = record {
   within = let l = slice_get_within plan (length checked) from there in let n = length_push checked one in omega arith;
   each = λ j other its e f.
@@ -136,7 +138,8 @@ begun_runs base plan runs count none those =
     (λ k l. (λ r. r.theorem, λ t. record { theorem = t; nothing = let w : k < length plan = omega arith in slice_get-get_or plan k None w ∙ ap Some (none k (get_or plan k None) (slice_get-get_or plan k None w)) }))
 
 -- what is checked by it is each theorem
-pub begun_checked : (base : BaseView) (plan : List (Option ℕ)) (checked : List (Option Judgement)) → length plan ≡ length base.said → ((k : ℕ) (from : Option ℕ) → slice_get plan k ≡ Some from → from ≡ None) → AreRunBy base plan checked → length checked ≡ length plan
+pub begun_checked : (base : BaseView) (plan : List (Option ℕ)) (checked : List (Option Judgement)) → length plan ≡ length base.said
+    → ((k : ℕ) (from : Option ℕ) → slice_get plan k ≡ Some from → from ≡ None) → AreRunBy base plan checked → length checked ≡ length plan
     → AreChecked base checked
 begun_checked base plan checked count none ran long = record {
   count = long ∙ count;

@@ -72,7 +72,14 @@ proof_few files item said says =
     let tokens = tokens_of (slice_range says.read.text item.start item.end) says.read.words in
     let proof = proof_in (kind_of item.kind) tokens in
     let is : length said.proof ≡ length (item_of (kind_of item.kind) tokens).proof = ap (λ (one : Item). length one.proof) says.is in
-    omega (arith, is, length-map proof (λ (token : Token). token.bytes), plain_few (symbols_from (kind_of item.kind) + length (symbols_in (kind_of item.kind) tokens) + 1) tokens, tokens_count (slice_range says.read.text item.start item.end) says.read.words)
+    omega (
+      arith,
+      is,
+      length-map proof (λ (token : Token). token.bytes),
+      plain_few (symbols_from (kind_of item.kind) + length
+          (symbols_in (kind_of item.kind) tokens) + 1) tokens,
+      tokens_count (slice_range says.read.text item.start item.end) says.read.words,
+    )
 
 -- ---- the symbols of a sound theorem
 

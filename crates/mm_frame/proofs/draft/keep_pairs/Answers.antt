@@ -9,11 +9,15 @@ use Rattle.mm_frame.proofs.draft.keep_pairs.Goals as goal
 pub returns-then-not-proof-clause-pairs : goal.returns-then-not-proof-clause-pairs
 returns-then-not-proof-clause-pairs c all said item a d m e rows =
     let lists = c.args.pair_lists.now in
-    subst (λ w. AreRows (TellsPairs all lists) (said ++ item ∷ []) w) (sym c.in_ok-push.ensures.items) (pairs_more all said item lists lists c.args.pairs.now.items None (keeps_all lists) rows (no_number all lists (sound_items said) item (sym c.if-not-proof.true ∙ e)))
+    subst (λ w. AreRows (TellsPairs all lists) (said ++ item ∷ []) w) (sym c.in_ok-push.ensures.items)
+    (pairs_more all said item lists lists c.args.pairs.now.items None (keeps_all lists) rows (no_number all lists (sound_items said) item
+    (sym c.if-not-proof.true ∙ e)))
 
 pub returns-clause-pairs : goal.returns-clause-pairs
 returns-clause-pairs c all said item a d m e rows =
     let old = c.args.pair_lists.now in
     let new = c.list_of.new.self in
     let is = c.in_ok-k.ensures.pairs all (sound_items said) (kept_are_sound said) a d m in
-    subst (λ w. AreRows (TellsPairs all new) (said ++ item ∷ []) w) (sym c.in_ok-push-2.ensures.items) (pairs_more all said item old new c.args.pairs.now.items (Some c.in_ok-k.k) c.in_ok-k.ensures.kept rows (some_number all new (sound_items said) item c.in_ok-k.k (sym c.if-not-proof.false ∙ e) is))
+    subst (λ w. AreRows (TellsPairs all new) (said ++ item ∷ []) w) (sym c.in_ok-push-2.ensures.items)
+    (pairs_more all said item old new c.args.pairs.now.items (Some c.in_ok-k.k) c.in_ok-k.ensures.kept rows
+    (some_number all new (sound_items said) item c.in_ok-k.k (sym c.if-not-proof.false ∙ e) is))

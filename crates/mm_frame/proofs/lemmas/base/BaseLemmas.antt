@@ -61,7 +61,8 @@ rows_more {X} tells said item rows row a t = record {
     earlier n x l h = subst (λ w. tells (sound_items w) (item_at (said ++ item ∷ []) n) x) (sym (take-append-le n said (item ∷ []) (omega arith))) (subst (λ w. tells (sound_items (take n said)) w x) (sym (item_before said item n l)) h)
 
     newest : (x : X) → row ≡ x → tells (sound_items (take (length said) (said ++ item ∷ []))) (item_at (said ++ item ∷ []) (length said)) x
-    newest x e = subst (λ w. tells (sound_items w) (item_at (said ++ item ∷ []) (length said)) x) (sym (take_between said item [])) (subst (λ w. tells (sound_items said) w x) (sym (item_between said item [])) (subst (λ w. tells (sound_items said) item w) e t))
+    newest x e = subst (λ w. tells (sound_items w) (item_at (said ++ item ∷ []) (length said)) x) (sym (take_between said item []))
+        (subst (λ w. tells (sound_items said) w x) (sym (item_between said item [])) (subst (λ w. tells (sound_items said) item w) e t))
 
 -- no rows, and no symbols
 pub rows_none : {X : Type 0} (tells : List Item → Item → X → Type 0) → AreRows tells [] []
@@ -75,7 +76,8 @@ pub kept_are_sound : (said : List Item) → AreSound (sound_items said)
 kept_are_sound said = kept_sound (sound_items said) (kept_is_sound said)
 
 -- an item is kept as it is where no fault was found
-pub kept_taken : {X : Type 0} (told : X → ℕ × FrameNumber) (said : List Item) (item : Item) (found : Option X) → option_map told found ≡ fault (sound_items said) item → sound_items said ++ taken (is_none found) item ∷ [] ≡ sound_items (said ++ item ∷ [])
+pub kept_taken : {X : Type 0} (told : X → ℕ × FrameNumber) (said : List Item) (item : Item) (found : Option X)
+    → option_map told found ≡ fault (sound_items said) item → sound_items said ++ taken (is_none found) item ∷ [] ≡ sound_items (said ++ item ∷ [])
 kept_taken told said item None e = ap (λ o. sound_items said ++ judged item o ∷ []) e ∙ sym (kept_next said item)
 kept_taken told said item (Some f) e = ap (λ o. sound_items said ++ judged item o ∷ []) e ∙ sym (kept_next said item)
 
@@ -167,7 +169,8 @@ kept_at said i item e =
 pub kept_front_at : (said : List Item) (i : ℕ) (item : Item) → slice_get said i ≡ Some item → take i (sound_items said) ≡ sound_items (take i said)
 kept_front_at said i item e =
     let k = kept_at said i item e in
-    ap (take i) k.whole ∙ ap (λ n. take n (sound_items (take i said) ++ judged item (fault (sound_items (take i said)) item) ∷ k.rest)) (sym k.number) ∙ take_between (sound_items (take i said)) (judged item (fault (sound_items (take i said)) item)) k.rest
+    ap (take i) k.whole ∙ ap (λ n. take n (sound_items (take i said) ++ judged item (fault (sound_items (take i said)) item) ∷ k.rest)) (sym k.number) ∙
+    take_between (sound_items (take i said)) (judged item (fault (sound_items (take i said)) item)) k.rest
 
 pub get_between : (front : List Item) (item : Item) (back : List Item) → slice_get (front ++ item ∷ back) (length front) ≡ Some item
 get_between [] item back = refl
@@ -233,7 +236,8 @@ told_same Missing None = refl
 told_same Missing (Some x) = refl
 told_same _ f = refl
 
-pub framed_told : (before : List Item) (item : Item) (flag framed : Bool) (kind : Kind) → kind ≡ item.kind → framed ≡ (flag && is_assertion kind) → is_none (fault before item) ≡ flag → framed ≡ (is_none (told_fault before item) && is_assertion item.kind)
+pub framed_told : (before : List Item) (item : Item) (flag framed : Bool) (kind : Kind) → kind ≡ item.kind → framed ≡ (flag && is_assertion kind)
+    → is_none (fault before item) ≡ flag → framed ≡ (is_none (told_fault before item) && is_assertion item.kind)
 framed_told before item flag framed kind k e n = e ∙ (λ i. sym n i && is_assertion (k i)) ∙ told_same item.kind (fault before item)
 
 pub frame_beyond : (before said : List Item) (n : ℕ) → length said ≤ n → told_numbers before (item_at said n) ≡ None
@@ -246,7 +250,8 @@ frame_beyond before said n l = ap (told_numbers before) (item_beyond said n l) �
 pub numbers_passed : (test : Kind → Bool) → IsSort test → (before : List Item) (item : Item) (sound : Bool) → sound ≡ false → active_numbers (λ i. test i.kind) before ≡ active_numbers (λ i. test i.kind) (before ++ taken sound item ∷ [])
 numbers_passed test sort before item sound e = numbers_same (λ i. test i.kind) before passed refl sort.sound ∙ ap (λ b. active_numbers (λ i. test i.kind) (before ++ taken b item ∷ [])) (sym e)
 
-pub numbers_other : (test : Kind → Bool) (before : List Item) (item : Item) (sound : Bool) → sound ≡ true → closes (mark_of item.kind) ≡ false → test item.kind ≡ false → active_numbers (λ i. test i.kind) before ≡ active_numbers (λ i. test i.kind) (before ++ taken sound item ∷ [])
+pub numbers_other : (test : Kind → Bool) (before : List Item) (item : Item) (sound : Bool) → sound ≡ true → closes (mark_of item.kind) ≡ false
+    → test item.kind ≡ false → active_numbers (λ i. test i.kind) before ≡ active_numbers (λ i. test i.kind) (before ++ taken sound item ∷ [])
 numbers_other test before item sound e c t = numbers_same (λ i. test i.kind) before item c t ∙ ap (λ b. active_numbers (λ i. test i.kind) (before ++ taken b item ∷ [])) (sym e)
 
 -- the sorts that are followed
@@ -318,7 +323,8 @@ numbers_push all numbers names number name a there = record {
   ];
 }
 
-pub numbers_more : (all : List (List ℕ)) (numbers : List ℕ) (names : List (List ℕ)) (n more number : ℕ) (name : List ℕ) → more ≡ suc n → n < length names → name ≡ get_or names n [] → AreNameNumbers all numbers (take n names) → IsNameNumber all number name
+pub numbers_more : (all : List (List ℕ)) (numbers : List ℕ) (names : List (List ℕ)) (n more number : ℕ) (name : List ℕ) → more ≡ suc n → n < length names
+    → name ≡ get_or names n [] → AreNameNumbers all numbers (take n names) → IsNameNumber all number name
     → AreNameNumbers all (numbers ++ number ∷ []) (take more names)
 numbers_more all numbers names n more number name m l e a there =
     let longer = ap (λ k. take k names) m ∙ take-suc names n [] l ∙ ap (λ x. take n names ++ x ∷ []) (sym e) in

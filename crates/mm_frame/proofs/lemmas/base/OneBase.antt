@@ -94,7 +94,8 @@ same_said laws a b x y said other alike f g =
 abbrev Stand : FilesView → List store.Item → Type 0
 Stand files items = AllByRecursion (StandsIn files) items
 
-same_all_said : ReadingLaws → (a b : FilesView) (xs ys : List store.Item) (all others : List Item) → plain a ≡ plain b → Stand a xs → Stand b ys → map keyless_item xs ≡ map keyless_item ys → AllZip (Says a) xs all → AllZip (Says b) ys others → all ≡ others
+same_all_said : ReadingLaws → (a b : FilesView) (xs ys : List store.Item) (all others : List Item) → plain a ≡ plain b → Stand a xs → Stand b ys
+    → map keyless_item xs ≡ map keyless_item ys → AllZip (Says a) xs all → AllZip (Says b) ys others → all ≡ others
 same_all_said laws a b [] [] [] [] both s t items f g = refl
 same_all_said laws a b (x ∷ xs) (y ∷ ys) (said ∷ all) (other ∷ others) both s t items f g =
     let item : keyless_item x ≡ keyless_item y = cc in

@@ -91,8 +91,10 @@ assertion_means base i label j e l t =
 no_assertion : (base : BaseView) (j : ℕ) → is_shown_at base j ≡ true → is_framed_at base j ≡ false → is_assertion (said_at base j).kind ≡ false
 no_assertion base j s f = let p = and_parts (is_sound_at base j) (is_labelled (said_at base j).kind) s in sym (ap (λ b. b && is_assertion (said_at base j).kind) p.0) ∙ f
 
-hypothesis_means : (base : BaseView) (i : ℕ) (label : List ℕ) (j : ℕ) → IsFound base i label j → is_framed_at base j ≡ false → resolve (before base i) label ≡ cond (stays (drop (suc j) (before base i))) (Hypothesis (expression (before base i) (said_at base j))) Inactive
-hypothesis_means base i label j f t = f.means ∙ ap (λ b. cond b (Assertion (frame_at base j)) (cond (stays (drop (suc j) (before base i))) (Hypothesis (expression (before base i) (said_at base j))) Inactive)) (no_assertion base j f.labels.carrier.shown t)
+hypothesis_means : (base : BaseView) (i : ℕ) (label : List ℕ) (j : ℕ) → IsFound base i label j → is_framed_at base j ≡ false
+    → resolve (before base i) label ≡ cond (stays (drop (suc j) (before base i))) (Hypothesis (expression (before base i) (said_at base j))) Inactive
+hypothesis_means base i label j f t = f.means ∙ ap (λ b. cond b (Assertion (frame_at base j)) (cond (stays (drop (suc j) (before base i)))
+    (Hypothesis (expression (before base i) (said_at base j))) Inactive)) (no_assertion base j f.labels.carrier.shown t)
 
 -- activity by what the items do to the blocks
 pub active_by : (base : BaseView) (marks : List Mark) (i j : ℕ) → marks ≡ block_marks (sound_items base.said) → stays_by (drop (suc j) (take i marks)) ≡ stays (drop (suc j) (before base i))
@@ -103,7 +105,9 @@ active_by base marks i j m =
     ∙ sym (stays_of (drop (suc j) (take i (sound_items base.said))))
     ∙ ap (λ w. stays (drop (suc j) w)) (kept_front base.said i)
 
-pub active_means : (base : BaseView) (i : ℕ) (label : List ℕ) (j : ℕ) (marks : List Mark) → marks ≡ block_marks (sound_items base.said) → IsCarrier base label j → j < i → is_framed_at base j ≡ false → stays_by (drop (suc j) (take i marks)) ≡ true → Resolves base i label (answers.Hypothesis j)
+pub active_means : (base : BaseView) (i : ℕ) (label : List ℕ) (j : ℕ) (marks : List Mark) → marks ≡ block_marks (sound_items base.said)
+    → IsCarrier base label j → j < i → is_framed_at base j ≡ false → stays_by (drop (suc j) (take i marks)) ≡ true
+    → Resolves base i label (answers.Hypothesis j)
 active_means base i label j marks m e l t a =
     let f = is_found base i label j e l in
     let item = said_at base j in
@@ -112,7 +116,8 @@ active_means base i label j marks m e l t a =
     let read = expression_at_number (before base i) (kept_are_sound (take i base.said)) j item f.there s p.1 ∙ ap (λ w. expression w item) f.front in
     (f.labels, hypothesis_means base i label j f t ∙ ap (λ b. cond b (Hypothesis (expression (before base i) item)) Inactive) s ∙ ap Hypothesis read)
 
-pub inactive_means : (base : BaseView) (i : ℕ) (label : List ℕ) (j : ℕ) (marks : List Mark) → marks ≡ block_marks (sound_items base.said) → IsCarrier base label j → j < i → is_framed_at base j ≡ false → stays_by (drop (suc j) (take i marks)) ≡ false → Resolves base i label answers.Inactive
+pub inactive_means : (base : BaseView) (i : ℕ) (label : List ℕ) (j : ℕ) (marks : List Mark) → marks ≡ block_marks (sound_items base.said)
+    → IsCarrier base label j → j < i → is_framed_at base j ≡ false → stays_by (drop (suc j) (take i marks)) ≡ false → Resolves base i label answers.Inactive
 inactive_means base i label j marks m e l t a =
     let f = is_found base i label j e l in
     let s = sym (active_by base marks i j m) ∙ a in

@@ -21,7 +21,8 @@ rows_length n (x ∷ labels) flags faults = ap suc (rows_length (suc n) labels f
 pub row_count : (rows : Rows) → length (rows_of rows) ≡ length rows.ends.items
 row_count rows = rows_length 0 (cut_from rows.bytes.items 0 rows.ends.items) rows.labelled.items rows.faults.items ∙ cut_length rows.bytes.items 0 rows.ends.items
 
-row_from : (n : ℕ) (labels : List (List ℕ)) (flags : List Bool) (faults : List (Option FrameFault)) (k : ℕ) (bytes : List ℕ) → slice_get labels k ≡ Some bytes → slice_get (rows_from n labels flags faults) k ≡ Some (row_told flags faults (n + k) bytes)
+row_from : (n : ℕ) (labels : List (List ℕ)) (flags : List Bool) (faults : List (Option FrameFault)) (k : ℕ) (bytes : List ℕ)
+    → slice_get labels k ≡ Some bytes → slice_get (rows_from n labels flags faults) k ≡ Some (row_told flags faults (n + k) bytes)
 row_from n [] flags faults k bytes e = cc
 row_from n (x ∷ labels) flags faults zero bytes e =
     let same : x ≡ bytes = cc in
@@ -113,7 +114,9 @@ pub no_fault : (faults : List (Option FrameFault)) (n : ℕ) → length faults �
 no_fault faults n l = ap fault_or_none (slice_get_past faults n l)
 
 -- one more
-rows_same : (n : ℕ) (labels : List (List ℕ)) (flags other : List Bool) (faults more : List (Option FrameFault)) → ((k : ℕ) → k < n + length labels → get_or flags k false ≡ get_or other k false) → ((k : ℕ) → k < n + length labels → fault_at faults k ≡ fault_at more k)
+rows_same : (n : ℕ) (labels : List (List ℕ)) (flags other : List Bool) (faults more : List (Option FrameFault))
+    → ((k : ℕ) → k < n + length labels → get_or flags k false ≡ get_or other k false) → ((k : ℕ) → k < n + length labels
+    → fault_at faults k ≡ fault_at more k)
     → rows_from n labels flags faults ≡ rows_from n labels other more
 rows_same n [] flags other faults more f g = refl
 rows_same n (x ∷ labels) flags other faults more f g =
@@ -122,7 +125,8 @@ rows_same n (x ∷ labels) flags other faults more f g =
     let rest = rows_same (suc n) labels flags other faults more (λ k l. f k (omega arith)) (λ k l. g k (omega arith)) in
     λ i. (cond (a i) (Some x) None, fault_told (b i)) ∷ rest i
 
-rows_last : (n : ℕ) (labels : List (List ℕ)) (bytes : List ℕ) (flags : List Bool) (faults : List (Option FrameFault)) → rows_from n (labels ++ bytes ∷ []) flags faults ≡ rows_from n labels flags faults ++ row_told flags faults (n + length labels) bytes ∷ []
+rows_last : (n : ℕ) (labels : List (List ℕ)) (bytes : List ℕ) (flags : List Bool) (faults : List (Option FrameFault))
+    → rows_from n (labels ++ bytes ∷ []) flags faults ≡ rows_from n labels flags faults ++ row_told flags faults (n + length labels) bytes ∷ []
 rows_last n [] bytes flags faults = let z : n ≡ n + 0 = omega arith in λ i. row_told flags faults (z i) bytes ∷ []
 rows_last n (x ∷ labels) bytes flags faults =
     let z : suc n + length labels ≡ n + suc (length labels) = omega arith in

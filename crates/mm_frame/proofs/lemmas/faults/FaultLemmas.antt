@@ -74,7 +74,8 @@ twice_not false = refl
 -- the symbols up to a number have no fault, and are those that were seen where they are kept
 pub record Passes {S : Type 0} (kept : Bool) (scope : Scope) (item : Item) (numbers : List ℕ) (n : ℕ) (seen : HashSet (Bor (List ℕ)) S) : Type 0 where
   pub sees : kept ≡ true → HasSeen (take n item.symbols) seen
-  pub rest : (all : List (List ℕ)) (before : List Item) → AreSound before → ScopeHolds all before scope → AreNameNumbers all numbers item.symbols → symbols_fault before item ≡ first_fault (symbol_fault before item) (first_symbol item + n) n (drop n item.symbols)
+  pub rest : (all : List (List ℕ)) (before : List Item) → AreSound before → ScopeHolds all before scope → AreNameNumbers all numbers item.symbols
+      → symbols_fault before item ≡ first_fault (symbol_fault before item) (first_symbol item + n) n (drop n item.symbols)
 
 -- the first of the symbols that are left
 next_fault : {S : Type 0} {kept : Bool} {scope : Scope} (item : Item) (numbers : List ℕ) (n : ℕ) (seen : HashSet (Bor (List ℕ)) S) → n < length item.symbols → Passes kept scope item numbers n seen
@@ -83,7 +84,8 @@ next_fault : {S : Type 0} {kept : Bool} {scope : Scope} (item : Item) (numbers :
 next_fault item numbers n seen l p all before h k a = p.rest all before h k a ∙ first_fault_at (symbol_fault before item) (first_symbol item + n) n n (get_or item.symbols n []) item.symbols (slice_get-get_or item.symbols n [] l)
 
 -- a symbol with a fault
-pub fault_there : {S : Type 0} {kept : Bool} {scope : Scope} (item : Item) (numbers : List ℕ) (n word : ℕ) (seen : HashSet (Bor (List ℕ)) S) (number : FrameNumber) → n < length item.symbols → word ≡ first_symbol item + n → Passes kept scope item numbers n seen
+pub fault_there : {S : Type 0} {kept : Bool} {scope : Scope} (item : Item) (numbers : List ℕ) (n word : ℕ) (seen : HashSet (Bor (List ℕ)) S)
+    (number : FrameNumber) → n < length item.symbols → word ≡ first_symbol item + n → Passes kept scope item numbers n seen
     → (all : List (List ℕ)) (before : List Item) → AreSound before → ScopeHolds all before scope → AreNameNumbers all numbers item.symbols → Some number ≡ symbol_fault before item n (get_or item.symbols n [])
     → ◌≡◌ {A = Option (ℕ × FrameNumber)} (Some (word, number)) (symbols_fault before item)
 fault_there item numbers n word seen number l w p all before h k a f =
@@ -95,7 +97,8 @@ pub none_left : {S : Type 0} {kept : Bool} {scope : Scope} (item : Item) (number
 none_left item numbers n seen l p all before h k a = sym (p.rest all before h k a ∙ ap (first_fault (symbol_fault before item) (first_symbol item + n) n) (drop_all n item.symbols l))
 
 -- a symbol with no fault
-pub passes_more : {S : Type 0} {kept : Bool} {scope : Scope} (item : Item) (numbers : List ℕ) (n more : ℕ) (name : List ℕ) (old new : HashSet (Bor (List ℕ)) S) → more ≡ suc n → n < length item.symbols → name ≡ get_or item.symbols n [] → Passes kept scope item numbers n old
+pub passes_more : {S : Type 0} {kept : Bool} {scope : Scope} (item : Item) (numbers : List ℕ) (n more : ℕ) (name : List ℕ)
+    (old new : HashSet (Bor (List ℕ)) S) → more ≡ suc n → n < length item.symbols → name ≡ get_or item.symbols n [] → Passes kept scope item numbers n old
     → (kept ≡ true → HasSeen (take n item.symbols ++ name ∷ []) new)
     → ((all : List (List ℕ)) (before : List Item) → AreSound before → ScopeHolds all before scope → AreNameNumbers all numbers item.symbols → None ≡ symbol_fault before item n (get_or item.symbols n []))
     → Passes kept scope item numbers more new
@@ -108,7 +111,8 @@ passes_more {kept = kept} {scope = scope} item numbers n more name old new m l e
     longer = ap (λ w. take w item.symbols) m ∙ take-suc item.symbols n [] l ∙ ap (λ x. take n item.symbols ++ x ∷ []) (sym e)
 
     passed_by : (all : List (List ℕ)) (before : List Item) → AreSound before → ScopeHolds all before scope → AreNameNumbers all numbers item.symbols
-        → fault_or (first_symbol item + n) (symbol_fault before item n (get_or item.symbols n [])) (first_fault (symbol_fault before item) (suc (first_symbol item + n)) (suc n) (drop (suc n) item.symbols)) ≡ first_fault (symbol_fault before item) (first_symbol item + more) more
+        → fault_or (first_symbol item + n) (symbol_fault before item n (get_or item.symbols n [])) (first_fault (symbol_fault before item)
+        (suc (first_symbol item + n)) (suc n) (drop (suc n) item.symbols)) ≡ first_fault (symbol_fault before item) (first_symbol item + more) more
         (drop more item.symbols)
     passed_by all before h k a =
         let word : suc (first_symbol item + n) ≡ first_symbol item + more = omega (arith, m) in

@@ -37,7 +37,9 @@ abbrev number_of : Kind → List Item → Item → Bool → Bool → ((ℕ → L
 number_of kind before item ends starts at = find (λ number. line_of kind before item ends starts at number) numbers
 
 -- what is found at a word, by what is known of the word
-by_word : (before : List Item) (item : Item) (word : ℕ) (ends starts : Bool) (at : (ℕ → List ℕ → Bool) → Bool) → (is_short item.kind (length item.symbols) && word == closing_word item) ≡ ends → (word == 0) ≡ starts → ((test : ℕ → List ℕ → Bool) → at_symbol test item word ≡ at test)
+by_word : (before : List Item) (item : Item) (word : ℕ) (ends starts : Bool) (at : (ℕ → List ℕ → Bool) → Bool)
+    → (is_short item.kind (length item.symbols) && word == closing_word item) ≡ ends → (word == 0) ≡ starts
+    → ((test : ℕ → List ℕ → Bool) → at_symbol test item word ≡ at test)
     → number_at before item word ≡ number_of item.kind before item ends starts at
 by_word before item word ends starts at e s a = λ i. number_of item.kind before item (e i) (s i) (λ test. a test i)
 
@@ -93,10 +95,12 @@ third_is : (n : ℕ) (x y z w : Bool)
 third_is zero x y z w = refl
 third_is (suc zero) x y z w = refl
 third_is (suc (suc zero)) x y z w = refl
-third_is (suc (suc (suc n))) x y z w = same (suc (suc (suc n)) == 0) (suc (suc (suc n)) == 1) (suc (suc (suc n)) == 2) (ne_eqb (suc (suc (suc n))) 0 (λ e. omega arith)) (ne_eqb (suc (suc (suc n))) 1 (λ e. omega arith)) (ne_eqb (suc (suc (suc n))) 2 (λ e. omega arith))
+third_is (suc (suc (suc n))) x y z w = same (suc (suc (suc n)) == 0) (suc (suc (suc n)) == 1) (suc (suc (suc n)) == 2)
+    (ne_eqb (suc (suc (suc n))) 0 (λ e. omega arith)) (ne_eqb (suc (suc (suc n))) 1 (λ e. omega arith)) (ne_eqb (suc (suc (suc n))) 2 (λ e. omega arith))
   where
     same : (a b c : Bool) → a ≡ false → b ≡ false → c ≡ false
-        → cond c (Some F01) (cond (a && x) (Some F08) (cond (b && y) (Some F09) (cond (b && z) (Some F12) (cond (b && w) (Some F13) None)))) ≡ cond a (cond x (Some F08) None) (cond b (cond y (Some F09) (cond z (Some F12) (cond w (Some F13) None))) (cond c (Some F01) None))
+        → cond c (Some F01) (cond (a && x) (Some F08) (cond (b && y) (Some F09) (cond (b && z) (Some F12) (cond (b && w) (Some F13) None)))) ≡ cond a
+        (cond x (Some F08) None) (cond b (cond y (Some F09) (cond z (Some F12) (cond w (Some F13) None))) (cond c (Some F01) None))
     same a b c p q r = (λ i. cond (r i) (Some F01) (cond (p i && x) (Some F08) (cond (q i && y) (Some F09) (cond (q i && z) (Some F12) (cond (q i && w) (Some F13) None)))))
         ∙ sym (λ i. cond (p i) (cond x (Some F08) None) (cond (q i) (cond y (Some F09) (cond z (Some F12) (cond w (Some F13) None))) (cond (r i) (Some F01) None)))
 
@@ -156,10 +160,12 @@ keyword_is before item word l m = by_word before item word false false nothing (
 symbol_is : (before : List Item) (item : Item) (n : ℕ) (name : List ℕ) → slice_get item.symbols n ≡ Some name → number_at before item (first_symbol item + n) ≡ symbol_number item.kind before item n name
 symbol_is before item n name g =
     let l = slice_get_within item.symbols n name g in
-    by_word before item (first_symbol item + n) false false (at_name n name) (not_closing item (first_symbol item + n) (λ e. omega arith)) (ne_eqb (first_symbol item + n) 0 (λ e. omega arith)) (λ test. at_place test item n name g) ∙ symbol_of item.kind before item n name
+    by_word before item (first_symbol item + n) false false (at_name n name) (not_closing item (first_symbol item + n) (λ e. omega arith))
+    (ne_eqb (first_symbol item + n) 0 (λ e. omega arith)) (λ test. at_place test item n name g) ∙ symbol_of item.kind before item n name
 
 end_is : (before : List Item) (item : Item) → number_at before item (closing_word item) ≡ end_fault item
-end_is before item = by_word before item (closing_word item) (is_short item.kind (length item.symbols)) false nothing (at_end (is_short item.kind (length item.symbols)) (closing_word item == closing_word item) (eq-eqb (closing_word item) (closing_word item) refl))
+end_is before item = by_word before item (closing_word item) (is_short item.kind (length item.symbols)) false nothing
+    (at_end (is_short item.kind (length item.symbols)) (closing_word item == closing_word item) (eq-eqb (closing_word item) (closing_word item) refl))
     (ne_eqb (closing_word item) 0 (λ e. omega arith)) (λ test. at_closing test item) ∙ end_of item.kind before item (is_short item.kind (length item.symbols))
   where
     at_end : (x y : Bool) → y ≡ true → (x && y) ≡ x
@@ -197,7 +203,8 @@ pass_over before item start zero more h =
 pass_over before item start (suc gap) more h =
     let next : suc gap + more ≡ suc (gap + more) = omega arith in
     let there : suc start + gap ≡ start + suc gap = omega arith in
-    ap (fault_from before item start) next ∙ ap (λ o. fault_or start o (fault_from before item (suc start) (gap + more))) (h start (omega arith) (omega arith)) ∙ pass_over before item (suc start) gap more (λ word l m. h word (omega arith) (omega arith))
+    ap (fault_from before item start) next ∙ ap (λ o. fault_or start o (fault_from before item (suc start) (gap + more)))
+    (h start (omega arith) (omega arith)) ∙ pass_over before item (suc start) gap more (λ word l m. h word (omega arith) (omega arith))
     ∙ ap (λ w. fault_from before item w more) there
 
 -- the symbols from one on, and the word behind them
@@ -239,7 +246,8 @@ fault_is before item =
     ap (fault_from before item 0) count ∙ (λ i. fault_or 0 (front_is before item i) (behind i))
 
 -- what code over the symbols by their numbers takes
-pub first_fault_at : (test : ℕ → List ℕ → Option FrameNumber) (word n k : ℕ) (name : List ℕ) (symbols : List (List ℕ)) → slice_get symbols k ≡ Some name → first_fault test word n (drop k symbols) ≡ fault_or word (test n name) (first_fault test (suc word) (suc n) (drop (suc k) symbols))
+pub first_fault_at : (test : ℕ → List ℕ → Option FrameNumber) (word n k : ℕ) (name : List ℕ) (symbols : List (List ℕ)) → slice_get symbols k ≡ Some name
+    → first_fault test word n (drop k symbols) ≡ fault_or word (test n name) (first_fault test (suc word) (suc n) (drop (suc k) symbols))
 first_fault_at test word n k name [] g = cc
 first_fault_at test word n zero name (x ∷ symbols) g = let e : x ≡ name = cc in ap (λ w. fault_or word (test n w) (first_fault test (suc word) (suc n) symbols)) e
 first_fault_at test word n (suc k) name (x ∷ symbols) g = first_fault_at test word n k name symbols g

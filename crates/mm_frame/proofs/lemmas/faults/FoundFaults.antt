@@ -21,7 +21,8 @@ not_word : (x y : ℕ) → (x ≡ y → ⊥) → (x == y) ≡ false
 not_word x y n = ne_eqb x y n
 
 past_line : (before : List Item) (item : Item) (word : ℕ) (number : FrameNumber) → closing_word item < word → line_holds before item word number ≡ false
-past_line before item word F01 l = or_from _ _ (and_right (is_short item.kind (length item.symbols)) (word == closing_word item) (not_word word (closing_word item) (λ e. omega arith))) (and_right (is_floating item.kind) _ (past_symbols is_third item word l))
+past_line before item word F01 l = or_from _ _ (and_right (is_short item.kind (length item.symbols)) (word == closing_word item)
+    (not_word word (closing_word item) (λ e. omega arith))) (and_right (is_floating item.kind) _ (past_symbols is_third item word l))
 past_line before item word F02 l = and_right (is_constants item.kind) _ (and_left (word == 0) (is_inside before) (not_word word 0 (λ e. omega arith)))
 past_line before item word F03 l = and_right (is_declaring item.kind || is_disjoint item.kind) _ (past_symbols (is_repeated item) item word l)
 past_line before item word F04 l = or_from _ _ (and_right (is_constants item.kind) _ (past_symbols (each (is_declared before)) item word l)) (and_right (is_variables item.kind) _ (past_symbols (each (is_active_symbol before)) item word l))
@@ -99,7 +100,8 @@ pub record IsLeast (before : List Item) (item : Item) (start word : ℕ) (n : Fr
   pub found : number_at before item word ≡ Some n
   pub least : (v : ℕ) → start ≤ v → v < word → number_at before item v ≡ None
 
-least_at : (before : List Item) (item : Item) (start : ℕ) (o : Option FrameNumber) (later : Option (ℕ × FrameNumber)) (w : ℕ) (n : FrameNumber) → number_at before item start ≡ o → fault_or start o later ≡ Some (w, n) → (later ≡ Some (w, n) → IsLeast before item (suc start) w n × (suc start ≤ w))
+least_at : (before : List Item) (item : Item) (start : ℕ) (o : Option FrameNumber) (later : Option (ℕ × FrameNumber)) (w : ℕ) (n : FrameNumber)
+    → number_at before item start ≡ o → fault_or start o later ≡ Some (w, n) → (later ≡ Some (w, n) → IsLeast before item (suc start) w n × (suc start ≤ w))
     → IsLeast before item start w n × (start ≤ w)
 least_at before item start (Some m) later w n t e r =
     let p = some_pair start w m n e in

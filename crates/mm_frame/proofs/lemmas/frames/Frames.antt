@@ -98,7 +98,8 @@ essential_typed before e name k h t n v =
     ]
 
 -- each mandatory variable is typed
-pub mandatory_typed : (before : List Item) (item : Item) (name : List ℕ) → AreKept [] before → IsSound before item → is_expression item.kind ≡ true → In name (mandatory_variables before item) → In name (active_variables before) × In name (typed before)
+pub mandatory_typed : (before : List Item) (item : Item) (name : List ℕ) → AreKept [] before → IsSound before item → is_expression item.kind ≡ true
+    → In name (mandatory_variables before item) → In name (active_variables before) × In name (typed before)
 mandatory_typed before item name k s t h =
     let f = from_filter (has (active_variables before)) name (item.symbols ++ symbols_by is_essential (active before)) h in
     let v = has_in (active_variables before) name f.1 in (
@@ -205,9 +206,13 @@ hypothesis_from before item h c =
     (r.0, f.0, f.1, r.2)
 
 -- each variable of a mandatory hypothesis is mandatory
-hypothesis_mandatory : (before : List Item) (item f : Item) (name : List ℕ) → AreKept [] before → In f (active before) → is_mandatory (mandatory_variables before item) f ≡ true → In name f.symbols → In name (active_variables before) → In name (mandatory_variables before item)
+hypothesis_mandatory : (before : List Item) (item f : Item) (name : List ℕ) → AreKept [] before → In f (active before)
+    → is_mandatory (mandatory_variables before item) f ≡ true → In name f.symbols → In name (active_variables before)
+    → In name (mandatory_variables before item)
 hypothesis_mandatory before item f name k h m n v = elim (or_cases (is_essential f.kind) (is_floating f.kind && has (mandatory_variables before item) (variable_of f)) m) [
-  | inl e ↦ in_filter (has (active_variables before)) name (item.symbols ++ symbols_by is_essential (active before)) (in_right name item.symbols (symbols_by is_essential (active before)) (to_symbols is_essential name (active before) f h e n)) (in_has (active_variables before) name v)
+  | inl e ↦ in_filter (has (active_variables before)) name (item.symbols ++ symbols_by is_essential (active before))
+      (in_right name item.symbols (symbols_by is_essential (active before)) (to_symbols is_essential name (active before) f h e n))
+      (in_has (active_variables before) name v)
   | inr b ↦ (let p = and_both (is_floating f.kind) (has (mandatory_variables before item) (variable_of f)) b in
       let x = float_of before f k h p.0 in
       elim (subst (λ w. In name w) x.both n) [
@@ -225,7 +230,8 @@ expression_typed before item k s t v h =
     let m = in_filter (has (active_variables before)) r.0 (item.symbols ++ symbols_by is_essential (active before)) (in_left r.0 item.symbols (symbols_by is_essential (active before)) r.1) (in_has (active_variables before) r.0 r.2) in
     subst (IsTyped (mandatory_hypotheses before item)) r.3 (named_typed before item r.0 k s t m)
 
-hypothesis_typed : (before : List Item) (item : Item) → AreKept [] before → IsSound before item → is_expression item.kind ≡ true → (h : Mandatory) → Contains (mandatory_hypotheses before item) h → (v : Symbol) → HasVariable h.expression v → IsTyped (mandatory_hypotheses before item) v
+hypothesis_typed : (before : List Item) (item : Item) → AreKept [] before → IsSound before item → is_expression item.kind ≡ true → (h : Mandatory)
+    → Contains (mandatory_hypotheses before item) h → (v : Symbol) → HasVariable h.expression v → IsTyped (mandatory_hypotheses before item) v
 hypothesis_typed before item k s t h c v w =
     let f = hypothesis_from before item h (contains_in h (mandatory_hypotheses before item) c) in
     let r = read_variable before (f.0).symbols v (subst (λ (x : Mandatory). HasVariable x.expression v) (sym f.3) w) in
@@ -264,14 +270,16 @@ pair_in : (b : Bool) (pair : Symbol × Symbol) (xs : List (Symbol × Symbol)) �
 pair_in true pair xs h = h
 pair_in false pair xs h = absurd h
 
-side_typed : (before : List Item) (item d : Item) → AreKept [] before → IsSound before item → is_expression item.kind ≡ true → (s : Symbol) → In s (expression before d) → has (mandatory_variables before item) s.name ≡ true → (s.variable ≡ true) × IsTyped (mandatory_hypotheses before item) s
+side_typed : (before : List Item) (item d : Item) → AreKept [] before → IsSound before item → is_expression item.kind ≡ true → (s : Symbol)
+    → In s (expression before d) → has (mandatory_variables before item) s.name ≡ true → (s.variable ≡ true) × IsTyped (mandatory_hypotheses before item) s
 side_typed before item d k t x s h m =
     let r = from_map (symbol before) s d.symbols h in
     let n = subst (λ (w : Symbol). In w.name (mandatory_variables before item)) (sym r.2) (has_in (mandatory_variables before item) s.name m) in
     let v = in_has (active_variables before) r.0 (mandatory_typed before item r.0 k t x n).0 in
     (ap (λ (w : Symbol). w.variable) (sym r.2) ∙ v, subst (IsTyped (mandatory_hypotheses before item)) r.2 (named_typed before item r.0 k t x n))
 
-pub pairs_typed_at : (before : List Item) (item : Item) → AreKept [] before → IsSound before item → is_expression item.kind ≡ true → (pair : Symbol × Symbol) → In pair (filter (is_mandatory_pair (mandatory_variables before item)) (active_pairs before))
+pub pairs_typed_at : (before : List Item) (item : Item) → AreKept [] before → IsSound before item → is_expression item.kind ≡ true
+    → (pair : Symbol × Symbol) → In pair (filter (is_mandatory_pair (mandatory_variables before item)) (active_pairs before))
     → (pair.0.variable ≡ true) × (pair.1.variable ≡ true) × IsTyped (mandatory_hypotheses before item) pair.0 × IsTyped (mandatory_hypotheses before item) pair.1
 pairs_typed_at before item k s t pair h =
     let f = from_filter (is_mandatory_pair (mandatory_variables before item)) pair (active_pairs before) h in
@@ -292,7 +300,8 @@ is_frame before item k s t = record {
 }
 
 -- what resolves to an assertion is one that is sound
-resolved_at : (whole front : List Item) (item : Item) (back : List Item) (label : List ℕ) (f : Frame) (b : Bool) → AreKept [] (front ++ item ∷ back) → cond b (meaning whole front item back) (resolve_from whole (front ++ item ∷ []) back label) ≡ Assertion f
+resolved_at : (whole front : List Item) (item : Item) (back : List Item) (label : List ℕ) (f : Frame) (b : Bool) → AreKept [] (front ++ item ∷ back)
+    → cond b (meaning whole front item back) (resolve_from whole (front ++ item ∷ []) back label) ≡ Assertion f
     → (resolve_from whole (front ++ item ∷ []) back label ≡ Assertion f → IsFrame f) → IsFrame f
 resolved_at whole front item back label f true k e r = by_kind (is_assertion item.kind) (stays back) refl e
   where
@@ -304,7 +313,8 @@ resolved_at whole front item back label f false k e r = r e
 
 resolved : (whole front back : List Item) (label : List ℕ) (f : Frame) → AreKept [] (front ++ back) → resolve_from whole front back label ≡ Assertion f → IsFrame f
 resolved whole front [] label f k e = cc
-resolved whole front (item ∷ back) label f k e = resolved_at whole front item back label f (has (labels_of item) label) k e (λ h. resolved whole (front ++ item ∷ []) back label f (subst (λ w. AreKept [] w) (sym (append_assoc front (item ∷ []) back)) k) h)
+resolved whole front (item ∷ back) label f k e = resolved_at whole front item back label f (has (labels_of item) label) k e
+    (λ h. resolved whole (front ++ item ∷ []) back label f (subst (λ w. AreKept [] w) (sym (append_assoc front (item ∷ []) back)) k) h)
 
 pub has_frames : (items : List Item) (j : ℕ) → HasFrames (setting_of items j)
 has_frames items j label f e = resolved (sound_items (take j items)) [] (sound_items (take j items)) label f (kept_is_sound (take j items)) e

@@ -173,7 +173,11 @@ mandatory_last before h item t name m = some_active before (last_where (types na
 pub last_there : (test : Item → Bool) (before : List Item) (n : ℕ) → last_where test before ≡ Some n → (x : Item) × (slice_get before n ≡ Some x) × (test x ≡ true)
 last_there test before n e = elim (last_cases test before) [
   | inl none ↦ (let q : None ≡ Some n = sym (last_none test before none) ∙ e in cc)
-  | inr l ↦ (let q : Some (length l.front) ≡ Some n = sym (last_number test before l) ∙ e in let z : length l.front ≡ n = cc in (l.item, ap (λ w. slice_get w n) l.whole ∙ subst (λ w. slice_get (l.front ++ l.item ∷ l.back) w ≡ Some l.item) z (get_between l.front l.item l.back), l.good))
+  | inr l ↦ (let q : Some (length l.front) ≡ Some n = sym (last_number test before l) ∙ e in let z : length l.front ≡ n = cc in (
+    l.item,
+    ap (λ w. slice_get w n) l.whole ∙ subst (λ w. slice_get (l.front ++ l.item ∷ l.back) w ≡ Some l.item) z (get_between l.front l.item l.back),
+    l.good,
+  ))
 ]
   where
     get_between : (front : List Item) (item : Item) (back : List Item) → slice_get (front ++ item ∷ back) (length front) ≡ Some item
@@ -204,7 +208,8 @@ number_to before h item t n (inr p) =
     let r = last_there (types p.0) before n p.2 in
     let f = typed_by p.0 r.0 r.2 in
     to_active_number (is_mandatory mandatory) before n r.0 r.1 (subst (λ w. is_active_at before w ≡ true) z a.2)
-    (or_right (is_essential (r.0).kind) (is_floating (r.0).kind && has mandatory (variable_of r.0)) (and_from (is_floating (r.0).kind) (has mandatory (variable_of r.0)) f.0 (in_has mandatory (variable_of r.0) (subst (λ w. In w mandatory) (sym f.1) m))))
+    (or_right (is_essential (r.0).kind) (is_floating (r.0).kind && has mandatory (variable_of r.0)) (and_from (is_floating (r.0).kind)
+    (has mandatory (variable_of r.0)) f.0 (in_has mandatory (variable_of r.0) (subst (λ w. In w mandatory) (sym f.1) m))))
 
 -- the mandatory hypotheses by their numbers
 pub hypotheses_by_numbers : (before : List Item) (item : Item) → mandatory_hypotheses before item ≡ map (λ n. hypothesis before (item_at before n)) (mandatory_numbers before item)

@@ -57,7 +57,8 @@ float_from all before tables kept n h k a m =
     let u = under (r.0).variable n (float_of (declared_at tables (r.0).name)) r.2 in
     (symbol_of all r.0, in_map (symbol_of all) r.0 kept r.1, u.0, sym (float_last all before tables (r.0).name (name_at all (r.0).name) h k (name_of all kept r.0 a r.1)) ∙ u.1)
 
-float_to : (all : List (List ℕ)) (before : List Item) (tables : Tables) (kept : List NumberedSymbol) (s : Symbol) (n : ℕ) → AreSound before → Knows all before tables → All (IsNumbered all) kept → In s (symbols_of all kept) → s.variable ≡ true → last_where (types s.name) before ≡ Some n
+float_to : (all : List (List ℕ)) (before : List Item) (tables : Tables) (kept : List NumberedSymbol) (s : Symbol) (n : ℕ) → AreSound before
+    → Knows all before tables → All (IsNumbered all) kept → In s (symbols_of all kept) → s.variable ≡ true → last_where (types s.name) before ≡ Some n
     → In n (float_numbers tables kept)
 float_to all before tables kept s n h k a m t e =
     let r = from_map (symbol_of all) s kept m in
@@ -80,10 +81,12 @@ own_mandatory before item s m t =
 essential_mandatory : (before : List Item) (item e : Item) (s : Symbol) → In e (active before) → is_essential e.kind ≡ true → In s (expression before e) → s.variable ≡ true → In s.name (mandatory_variables before item)
 essential_mandatory before item e s a k m t =
     let r = named_in before e s m in
-    in_filter (has (active_variables before)) s.name (item.symbols ++ symbols_by is_essential (active before)) (in_right s.name item.symbols (symbols_by is_essential (active before)) (to_symbols is_essential s.name (active before) e a k r.0)) (r.1 ∙ t)
+    in_filter (has (active_variables before)) s.name (item.symbols ++ symbols_by is_essential (active before))
+    (in_right s.name item.symbols (symbols_by is_essential (active before)) (to_symbols is_essential s.name (active before) e a k r.0)) (r.1 ∙ t)
 
 -- what is kept for an active `$e` is its expression
-kept_essential : (all : List (List ℕ)) (before : List Item) (expressions : List (List NumberedSymbol)) (n : ℕ) (e : Item) → AreSound before → AreExpressions all before expressions → slice_get before n ≡ Some e → is_active_at before n ≡ true → is_essential e.kind ≡ true
+kept_essential : (all : List (List ℕ)) (before : List Item) (expressions : List (List NumberedSymbol)) (n : ℕ) (e : Item) → AreSound before
+    → AreExpressions all before expressions → slice_get before n ≡ Some e → is_active_at before n ≡ true → is_essential e.kind ≡ true
     → symbols_of all (expression_kept expressions n) ≡ expression before e
 kept_essential all before expressions n e h a there s t =
     let labelled = expression_labelled e.kind (essential_expression e.kind t) in
@@ -171,8 +174,12 @@ collected_is_known tables expressions essentials found own are n h =
     elim (in_cases n first (flat_map (λ m. float_numbers tables (expression_kept expressions m)) essentials) h) [ inl a ↦ in_left n first known a | inr b ↦ in_right n first known (known_to tables essentials expressions found are n b) ]
 
 -- sorted, and each once
-pub hypotheses_sorted : (tables : Tables) (expressions : List (List NumberedSymbol)) (essentials : List ℕ) (found : List EssentialVariable) (own : List NumberedSymbol) (numbers once sorted kept : List ℕ) → numbers ≡ collected_known tables essentials found own → IsFiltered (DiffersFromLast eqb) [] numbers once
-    → IsPermutation once sorted → IsSorted nat_cmp sorted → IsFiltered (DiffersFromLast eqb) [] sorted kept → (all : List (List ℕ)) (before : List Item) (item : Item) → IsAssertionBehind all before item tables expressions own → AreVariablesOf essentials expressions found
+pub hypotheses_sorted : (tables : Tables) (expressions : List (List NumberedSymbol)) (essentials : List ℕ) (found : List EssentialVariable)
+    (own : List NumberedSymbol) (numbers once sorted kept : List ℕ) → numbers ≡ collected_known tables essentials found own
+    → IsFiltered (DiffersFromLast eqb) [] numbers once
+    → IsPermutation once sorted → IsSorted nat_cmp sorted → IsFiltered (DiffersFromLast eqb) [] sorted kept
+    → (all : List (List ℕ)) (before : List Item) (item : Item) → IsAssertionBehind all before item tables expressions own
+    → AreVariablesOf essentials expressions found
     → essentials ≡ active_numbers is_essential_item before → kept ≡ mandatory_numbers before item
 hypotheses_sorted tables expressions essentials found own numbers once sorted kept whole fewer moved rising filtered all before item b are e =
     let first = dedup_is eqb numbers once fewer in
@@ -184,7 +191,9 @@ hypotheses_sorted tables expressions essentials found own numbers once sorted ke
       λ m. collected_from all before item tables expressions own b n (here n (known_collected tables expressions essentials found own are n (subst (In n) whole (contains_in n numbers
           (Contains-from_dedup eqb numbers n (subst (λ w. Contains w n) first (Contains-permutation sorted once n (IsPermutation-sym once sorted moved) (Contains-from_dedup eqb sorted n m)))))))),
       λ f. Contains-dedup_nat sorted n (Contains-permutation once sorted n moved
-          (subst (λ w. Contains w n) (sym first) (Contains-dedup_nat numbers n (in_contains n numbers (subst (In n) (sym whole) (collected_is_known tables expressions essentials found own are n (there n (collected_to all before item tables expressions own b n f)))))))),
+          (subst (λ w. Contains w n) (sym first) (Contains-dedup_nat numbers n (in_contains n numbers
+          (subst (In n) (sym whole) (collected_is_known tables expressions essentials found own are n
+          (there n (collected_to all before item tables expressions own b n f)))))))),
     ))
 
 -- a `$f` is no `$e`

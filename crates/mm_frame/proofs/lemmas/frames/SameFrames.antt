@@ -26,7 +26,9 @@ paired_from pairs others s named t =
     let pair = r.0 in
     elim ((s pair.0 pair.1).0 (inl (in_contains pair pairs r.1))) [
       | inl c ↦ in_any (are_names named) pair others (contains_in pair others c) r.2
-      | inr c ↦ in_any (are_names named) (pair.1, pair.0) others (contains_in (pair.1, pair.0) others c) (swapped (bytes_eq pair.0.name named.0.name) (bytes_eq pair.1.name named.1.name) (bytes_eq pair.0.name named.1.name) (bytes_eq pair.1.name named.0.name) r.2)
+      | inr c ↦ in_any (are_names named) (pair.1, pair.0) others (contains_in (pair.1, pair.0) others c)
+          (swapped (bytes_eq pair.0.name named.0.name) (bytes_eq pair.1.name named.1.name) (bytes_eq pair.0.name named.1.name)
+          (bytes_eq pair.1.name named.0.name) r.2)
     ]
 
 both_ways : (a b : Bool) → (a ≡ true → b ≡ true) → (b ≡ true → a ≡ true) → a ≡ b
@@ -44,7 +46,8 @@ same_in_order frame other s =
     ∙ ap (λ (hypotheses : List Mandatory). filter (are_paired other.pairs) (pairs_of (typed_variables hypotheses))) s.hypotheses
 
 -- and frames whose pairs in one order are their pairs are the same where these are
-pub same_from_order : (frame other : Frame) → AreSamePairs (pairs_in_order frame) frame.pairs → AreSamePairs (pairs_in_order other) other.pairs → frame.expression ≡ other.expression → frame.hypotheses ≡ other.hypotheses → pairs_in_order frame ≡ pairs_in_order other → AreSameFrame frame other
+pub same_from_order : (frame other : Frame) → AreSamePairs (pairs_in_order frame) frame.pairs → AreSamePairs (pairs_in_order other) other.pairs
+    → frame.expression ≡ other.expression → frame.hypotheses ≡ other.hypotheses → pairs_in_order frame ≡ pairs_in_order other → AreSameFrame frame other
 same_from_order frame other a b e h p = record {
   expression = e;
   hypotheses = h;
@@ -52,7 +55,8 @@ same_from_order frame other a b e h p = record {
 }
 
 -- the test of both parts of two frames
-pub same_by_parts : (frame other : Frame) (parts pairs : Bool) → AreSamePairs (pairs_in_order frame) frame.pairs → AreSamePairs (pairs_in_order other) other.pairs → IsTrue parts ↔ ((frame.expression ≡ other.expression) × (frame.hypotheses ≡ other.hypotheses))
+pub same_by_parts : (frame other : Frame) (parts pairs : Bool) → AreSamePairs (pairs_in_order frame) frame.pairs
+    → AreSamePairs (pairs_in_order other) other.pairs → IsTrue parts ↔ ((frame.expression ≡ other.expression) × (frame.hypotheses ≡ other.hypotheses))
     → IsTrue pairs ↔ (pairs_in_order frame ≡ pairs_in_order other) → IsTrue (parts && pairs) ↔ AreSameFrame frame other
 same_by_parts frame other parts pairs a b e p = (
   λ t. (let q = and_parts parts pairs t in let r = e.0 q.0 in same_from_order frame other a b r.0 r.1 (p.0 q.1)),
@@ -71,7 +75,8 @@ framed_shown base i e =
     and_from (is_sound_at base i) (is_labelled (said_at base i).kind) p.0 (assertion_labelled (said_at base i).kind p.1)
 
 -- hypotheses by their numbers are the same where those of the frames are
-pub same_by_numbers : (base copy : BaseView) (i j : ℕ) (mine yours : List ℕ) (P : Type 0) → AreHypotheses base i mine → AreHypotheses copy j yours → P ↔ (map (hypothesis_at base) mine ≡ map (hypothesis_at copy) yours) → P ↔ ((frame_at base i).hypotheses ≡ (frame_at copy j).hypotheses)
+pub same_by_numbers : (base copy : BaseView) (i j : ℕ) (mine yours : List ℕ) (P : Type 0) → AreHypotheses base i mine → AreHypotheses copy j yours
+    → P ↔ (map (hypothesis_at base) mine ≡ map (hypothesis_at copy) yours) → P ↔ ((frame_at base i).hypotheses ≡ (frame_at copy j).hypotheses)
 same_by_numbers base copy i j mine yours P a b p = (λ x. sym a.are ∙ p.0 x ∙ b.are, λ e. p.1 (a.are ∙ e ∙ sym b.are))
 
 -- the numbers of hypotheses are those of sound items with labels

@@ -126,7 +126,8 @@ record AreLeftOf (essentials : List ℕ) (expressions : List (List NumberedSymbo
   from : (v : EssentialVariable) → Contains found v → Contains (expression_kept expressions v.number) v.symbol
   to : (n : ℕ) (s : NumberedSymbol) → (n < count) → Contains essentials n → Contains (expression_kept expressions n) s → s.variable ≡ true → IsKeptVariable essentials found n s
 
-left : (before : List Item) (item : Item) (old : List (List NumberedSymbol)) (symbols : List NumberedSymbol) (found : List EssentialVariable) (count : ℕ) → length old ≡ length before → AreVariablesOf (active_numbers is_essential_item before) old found
+left : (before : List Item) (item : Item) (old : List (List NumberedSymbol)) (symbols : List NumberedSymbol) (found : List EssentialVariable) (count : ℕ)
+    → length old ≡ length before → AreVariablesOf (active_numbers is_essential_item before) old found
     → ((v : EssentialVariable) → Contains (drop count found) v → (n : ℕ) → Contains (active_numbers is_essential_item (before ++ item ∷ [])) n → n < v.number)
     → AreLeftOf (active_numbers is_essential_item (before ++ item ∷ [])) (old ++ symbols ∷ []) (length before) (take count found)
 left before item old symbols found count long are gone = record {
@@ -158,7 +159,8 @@ left before item old symbols found count long are gone = record {
     was : (v : EssentialVariable) → Contains (take count found) v → Contains found v
     was v c = subst (λ w. Contains w v) (take-append-drop count found) (Contains-append_left (take count found) (drop count found) v c)
 
-pub variables_left : (before : List Item) (item : Item) (old : List (List NumberedSymbol)) (symbols : List NumberedSymbol) (found : List EssentialVariable) (count : ℕ) → length old ≡ length before → AreVariablesOf (active_numbers is_essential_item before) old found
+pub variables_left : (before : List Item) (item : Item) (old : List (List NumberedSymbol)) (symbols : List NumberedSymbol) (found : List EssentialVariable)
+    (count : ℕ) → length old ≡ length before → AreVariablesOf (active_numbers is_essential_item before) old found
     → ((v : EssentialVariable) → Contains (drop count found) v → (n : ℕ) → Contains (active_numbers is_essential_item (before ++ item ∷ [])) n → n < v.number)
     → is_among (active_numbers is_essential_item (before ++ item ∷ [])) (length before) ≡ false → AreVariablesOf (active_numbers is_essential_item (before ++ item ∷ [])) (old ++ symbols ∷ []) (take count found)
 variables_left before item old symbols found count long are gone out =
@@ -173,15 +175,25 @@ variables_left before item old symbols found count long are gone out =
       ]) e c t;
     }
 
-pub variables_added : (before : List Item) (item : Item) (old : List (List NumberedSymbol)) (symbols : List NumberedSymbol) (found new : List EssentialVariable) (count : ℕ) → length old ≡ length before → AreVariablesOf (active_numbers is_essential_item before) old found
+pub variables_added : (before : List Item) (item : Item) (old : List (List NumberedSymbol)) (symbols : List NumberedSymbol)
+    (found new : List EssentialVariable) (count : ℕ) → length old ≡ length before → AreVariablesOf (active_numbers is_essential_item before) old found
     → ((v : EssentialVariable) → Contains (drop count found) v → (n : ℕ) → Contains (active_numbers is_essential_item (before ++ item ∷ [])) n → n < v.number)
-    → is_among (active_numbers is_essential_item (before ++ item ∷ [])) (length before) ≡ true → AddsAll (active_numbers is_essential_item (before ++ item ∷ [])) (length before) (expression_kept (old ++ symbols ∷ []) (length before)) (take count found) new
+    → is_among (active_numbers is_essential_item (before ++ item ∷ [])) (length before) ≡ true → AddsAll
+    (active_numbers is_essential_item (before ++ item ∷ [])) (length before) (expression_kept (old ++ symbols ∷ []) (length before)) (take count found)
+    new
     → AreVariablesOf (active_numbers is_essential_item (before ++ item ∷ [])) (old ++ symbols ∷ []) new
 variables_added before item old symbols found new count long are gone among adds = record {
   within = λ v c. elim (cases v c) [ inl a ↦ l.within v a | inr b ↦ (let e = (adds.own v b).0 in let k = length-append old (symbols ∷ []) in omega arith) ];
   from = λ v c. elim (cases v c) [ inl a ↦ l.from v a | inr b ↦ (let r = adds.own v b in subst (λ w. Contains (expression_kept (old ++ symbols ∷ []) w) v.symbol) (sym r.0) r.1) ];
   to = λ n s e c t. elim (earlier_or_last before item n (contains_in n behind e)) [
-    | inl h ↦ (let kept = l.to n s (earlier_within before n h) e c t in record { first = kept.first; earlier = kept.earlier; active = kept.active; there = subst (λ w. Contains w (by_essential kept.first s)) (sym adds.whole) (Contains-append_left (take count found) adds.more (by_essential kept.first s) kept.there) })
+    | inl h ↦ (let kept = l.to n s (earlier_within before n h) e c t in record {
+      first = kept.first;
+      earlier = kept.earlier;
+      active = kept.active;
+      there =
+          subst (λ w. Contains w (by_essential kept.first s)) (sym adds.whole) (Contains-append_left (take count found) adds.more (by_essential kept.first s)
+          kept.there);
+    })
     | inr z ↦ last n s z (adds.there s (subst (λ w. Contains (expression_kept (old ++ symbols ∷ []) w) s) z c) t)
   ];
 }

@@ -64,7 +64,8 @@ unfolding KeepsOthers
 other_entries eq test old new h = h
 
 -- the look-ups by bytes behind a write at one key
-written : {X S : Type 0} (bs : List ℕ) (m n : HashMap (Vec ℕ Global) X S) (x : X) → UpdatesBy (λ a b. bytes_eq a.items b.items) (λ k. bytes_eq bs k.items) m n (Some x) → (cs : List ℕ) → get_by (λ k. bytes_eq cs k.items) n ≡ cond (bytes_eq bs cs) (Some x) (get_by (λ k. bytes_eq cs k.items) m)
+written : {X S : Type 0} (bs : List ℕ) (m n : HashMap (Vec ℕ Global) X S) (x : X) → UpdatesBy (λ a b. bytes_eq a.items b.items) (λ k. bytes_eq bs k.items) m
+    n (Some x) → (cs : List ℕ) → get_by (λ k. bytes_eq cs k.items) n ≡ cond (bytes_eq bs cs) (Some x) (get_by (λ k. bytes_eq cs k.items) m)
 written bs m n x h cs = elim (cases_Bool (bytes_eq bs cs)) [
   | inl y ↦ subst (λ (l : List ℕ). get_by (λ k. bytes_eq l k.items) n ≡ Some x) ((bytes_eq-Decides bs cs).0 y) h.1 ∙ sym (cond-true (bytes_eq bs cs) (Some x) (get_by (λ k. bytes_eq cs k.items) m) y)
   | inr e ↦ other_entries (λ a b. bytes_eq a.items b.items) (λ k. bytes_eq bs k.items) m.entries n.entries h.3 (λ k. bytes_eq cs k.items) (λ a b. nat_list_eq_equiv.congr cs a.items b.items) (λ k. apart bs cs k.items e)

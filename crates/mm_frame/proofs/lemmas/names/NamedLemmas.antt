@@ -30,7 +30,8 @@ by_constants_is before item name h s t n = let same = is_variable (named before 
     is_variable (inr v) = ap not (false_from_ne_true (has (constants before) name) (λ c. not_constant before (sound_kept before h) name (has_in (constants before) name c) v)) ∙ sym (in_has (active_variables before) name v)
 
 -- what is made of each number, where it is known what is made of the number of a name
-each_read : (all : List (List ℕ)) (kept : ℕ → NumberedSymbol) (said : List ℕ → Symbol) → ((n : ℕ) (name : List ℕ) → IsNameNumber all n name → symbol_of all (kept n) ≡ said name) → (numbers : List ℕ) (names : List (List ℕ)) → AreNameNumbers all numbers names
+each_read : (all : List (List ℕ)) (kept : ℕ → NumberedSymbol) (said : List ℕ → Symbol) → ((n : ℕ) (name : List ℕ) → IsNameNumber all n name
+    → symbol_of all (kept n) ≡ said name) → (numbers : List ℕ) (names : List (List ℕ)) → AreNameNumbers all numbers names
     → symbols_of all (map kept numbers) ≡ map said names
 each_read all kept said h [] [] a = refl
 each_read all kept said h (n ∷ numbers) (name ∷ names) a =
@@ -40,7 +41,8 @@ each_read all kept said h (n ∷ numbers) (name ∷ names) a =
 each_read all kept said h _ _ a = let count = a.count in absurd (omega (arith, count))
 
 each_numbered : (all : List (List ℕ)) (kept : ℕ → NumberedSymbol) → ((n : ℕ) → (kept n).name ≡ n) → (numbers : List ℕ) (names : List (List ℕ)) → AreNameNumbers all numbers names → All (IsNumbered all) (map kept numbers)
-each_numbered all kept h numbers names a = All-map (IsNumbered all) kept numbers (λ i d l. subst (λ (m : ℕ). m < length all) (sym (h (get_or numbers i d))) (name_within all (get_or numbers i d) (get_or names i []) (number_at all numbers names i d a l)))
+each_numbered all kept h numbers names a = All-map (IsNumbered all) kept numbers (λ i d l. subst (λ (m : ℕ). m < length all) (sym (h (get_or numbers i d)))
+    (name_within all (get_or numbers i d) (get_or names i []) (number_at all numbers names i d a l)))
 
 -- the symbols of a sound `$f`, `$e`, `$a` or `$p` are its expression
 pub read_all : (all : List (List ℕ)) (tables : Tables) (before : List Item) (item : Item) (numbers : List ℕ) → AreSound before → Knows all before tables → AreNameNumbers all numbers item.symbols → IsSound before item → is_labelled item.kind ≡ true
@@ -53,7 +55,8 @@ read_all all tables before item numbers h k a s t =
     known_as n name there = ap is_constant_as (known_at all before tables n name k there) ∙ constant_in before name
 
 -- so are those of a sound `$d`, as variables
-pub variables_read_all : (all : List (List ℕ)) (before : List Item) (item : Item) (numbers : List ℕ) → AreNameNumbers all numbers item.symbols → IsSound before item → is_disjoint item.kind ≡ true → symbols_of all (map variable_by numbers) ≡ expression before item
+pub variables_read_all : (all : List (List ℕ)) (before : List Item) (item : Item) (numbers : List ℕ) → AreNameNumbers all numbers item.symbols
+    → IsSound before item → is_disjoint item.kind ≡ true → symbols_of all (map variable_by numbers) ≡ expression before item
 variables_read_all all before item numbers a s t =
     each_read all variable_by as_variable (λ n name there i. record { name = name_read all n name there i; variable = true }) numbers item.symbols a
     ∙ map_same as_variable (symbol before) item.symbols (λ name m. let v = in_has (active_variables before) name (disjoint_named before item name s t m) in λ i. record { name = name; variable = sym v i })

@@ -60,7 +60,8 @@ module _ {Y : Type 0} where
   ]
 
   -- a new key goes last
-  pub inserted : (keys : List (Vec ℕ Y)) (key : Vec ℕ Y) (name : List ℕ) → key.items ≡ name → list_any (λ other. bytes_eq name other.items) keys ≡ false → map (λ key. key.items) (insert_key (λ x y. bytes_eq x.items y.items) keys key) ≡ map (λ key. key.items) keys ++ name ∷ []
+  pub inserted : (keys : List (Vec ℕ Y)) (key : Vec ℕ Y) (name : List ℕ) → key.items ≡ name → list_any (λ other. bytes_eq name other.items) keys ≡ false
+      → map (λ key. key.items) (insert_key (λ x y. bytes_eq x.items y.items) keys key) ≡ map (λ key. key.items) keys ++ name ∷ []
   inserted keys key name is new =
       let none : list_any (λ other. bytes_eq key.items other.items) keys ≡ false = ap (λ n. list_any (λ other. bytes_eq n other.items) keys) is ∙ new in
       ap (λ b. map (λ key. key.items) (if b then keys else keys ++ key ∷ [])) none ∙ map_push (λ key. key.items) keys key ∙ ap (λ n. map (λ key. key.items) keys ++ n ∷ []) is

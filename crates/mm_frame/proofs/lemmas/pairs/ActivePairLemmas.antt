@@ -31,11 +31,13 @@ disjoint_named before item name s t h =
     has_in (active_variables before) name (not_not (has (active_variables before) name) (no_symbol_of (is_disjoint item.kind) (each (is_no_variable before)) item (λ word. (or_parts _ _ (s word F09)).0) t g.0 name g.1))
 
 -- and stays one as long as the `$d` is active
-pub disjoint_variable : (items front : List Item) (item : Item) (back : List Item) (name : List ℕ) → AreSound items → items ≡ front ++ item ∷ back → is_disjoint item.kind ≡ true → stays back ≡ true → In name item.symbols → In name (active_variables items)
+pub disjoint_variable : (items front : List Item) (item : Item) (back : List Item) (name : List ℕ) → AreSound items → items ≡ front ++ item ∷ back
+    → is_disjoint item.kind ≡ true → stays back ≡ true → In name item.symbols → In name (active_variables items)
 disjoint_variable items front item back name h e t s n = subst (λ w. In name (active_variables w)) (sym e) (variables_later front item back name (disjoint_neither item.kind t) s (disjoint_named front item name (h front item back e) t n))
 
 -- an active `$d` reads as at its own place
-disjoint_symbol : (items front : List Item) (item : Item) (back : List Item) (name : List ℕ) → AreSound items → items ≡ front ++ item ∷ back → is_disjoint item.kind ≡ true → stays back ≡ true → In name item.symbols → symbol items name ≡ symbol front name
+disjoint_symbol : (items front : List Item) (item : Item) (back : List Item) (name : List ℕ) → AreSound items → items ≡ front ++ item ∷ back
+    → is_disjoint item.kind ≡ true → stays back ≡ true → In name item.symbols → symbol items name ≡ symbol front name
 disjoint_symbol items front item back name h e t s n =
     let here = in_has (active_variables items) name (disjoint_variable items front item back name h e t s n) in
     let there = in_has (active_variables front) name (disjoint_named front item name (h front item back e) t n) in
@@ -64,7 +66,9 @@ flat_same f g (x ∷ xs) h = let a = h x (inl refl) in let b = flat_same f g xs 
 abbrev pub pairs_at : List Item → ℕ → List (Symbol × Symbol)
 pairs_at items n = pairs_of (expression (take n items) (item_at items n))
 
-disjoint_only_at : (items : List Item) (x : Item) (xs : List Item) (b : Bool) (ps : List (Symbol × Symbol)) → ps ≡ flat_map (λ y. pairs_of (expression items y)) xs → cond b (pairs_of (expression items x)) [] ++ ps ≡ flat_map (λ y. pairs_of (expression items y)) (cond b (x ∷ xs) xs)
+disjoint_only_at : (items : List Item) (x : Item) (xs : List Item) (b : Bool) (ps : List (Symbol × Symbol))
+    → ps ≡ flat_map (λ y. pairs_of (expression items y)) xs → cond b (pairs_of (expression items x)) [] ++ ps ≡ flat_map
+    (λ y. pairs_of (expression items y)) (cond b (x ∷ xs) xs)
 disjoint_only_at items x xs true ps e = ap (λ w. pairs_of (expression items x) ++ w) e
 disjoint_only_at items x xs false ps e = e
 
@@ -79,7 +83,8 @@ flat_of_map f g (x ∷ xs) = ap (λ w. f (g x) ++ w) (flat_of_map f g xs)
 pub active_pairs_by_numbers : (before : List Item) → AreSound before → active_pairs before ≡ flat_map (pairs_at before) (active_numbers is_disjoint_item before)
 active_pairs_by_numbers before h =
     let said = λ (y : Item). pairs_of (expression before y) in
-    disjoint_only before (active before) ∙ ap (flat_map said) (sym (active_number_items is_disjoint_item before)) ∙ flat_of_map said (item_at before) (active_numbers is_disjoint_item before) ∙ flat_same (λ n. said (item_at before n)) (pairs_at before) (active_numbers is_disjoint_item before) same
+    disjoint_only before (active before) ∙ ap (flat_map said) (sym (active_number_items is_disjoint_item before)) ∙ flat_of_map said (item_at before)
+    (active_numbers is_disjoint_item before) ∙ flat_same (λ n. said (item_at before n)) (pairs_at before) (active_numbers is_disjoint_item before) same
   where
     same : (n : ℕ) → In n (active_numbers is_disjoint_item before) → pairs_of (expression before (item_at before n)) ≡ pairs_at before n
     same n k =
@@ -122,12 +127,16 @@ row_next f s (z ∷ zs) (suc n) d l = ap (λ w. pairs_with s (f z ∷ []) ++ w) 
 pub row_last : {X : Type 0} (f : X → Symbol) (s : Symbol) (later : List X) (n : ℕ) (d : X) → n < length later → pairs_with s (map f (take (n + 1) later)) ≡ pairs_with s (map f (take n later)) ++ (s, f (get_or later n d)) ∷ []
 row_last f s later n d l = let z : n + 1 ≡ suc n = omega arith in ap (λ k. pairs_with s (map f (take k later))) z ∙ row_next f s later n d l
 
-all_next : {X : Type 0} (f : X → Symbol) (variables : List X) (n : ℕ) (d : X) → n < length variables → pairs_of (map f (drop n variables)) ≡ pairs_with (f (get_or variables n d)) (map f (drop (suc n) variables)) ++ pairs_of (map f (drop (suc n) variables))
+all_next : {X : Type 0} (f : X → Symbol) (variables : List X) (n : ℕ) (d : X) → n < length variables
+    → pairs_of (map f (drop n variables)) ≡ pairs_with (f (get_or variables n d)) (map f (drop (suc n) variables)) ++ pairs_of
+    (map f (drop (suc n) variables))
 all_next f [] n d l = absurd (omega arith)
 all_next f (z ∷ zs) zero d l = refl
 all_next f (z ∷ zs) (suc n) d l = all_next f zs n d (omega arith)
 
-pub all_more : {X : Type 0} (f : X → Symbol) (variables : List X) (n : ℕ) (d : X) → n < length variables → pairs_of (map f (drop n variables)) ≡ pairs_with (f (get_or variables n d)) (map f (drop (n + 1) variables)) ++ pairs_of (map f (drop (n + 1) variables))
+pub all_more : {X : Type 0} (f : X → Symbol) (variables : List X) (n : ℕ) (d : X) → n < length variables
+    → pairs_of (map f (drop n variables)) ≡ pairs_with (f (get_or variables n d)) (map f (drop (n + 1) variables)) ++ pairs_of
+    (map f (drop (n + 1) variables))
 all_more f variables n d l = let z : suc n ≡ n + 1 = omega arith in all_next f variables n d l ∙ ap (λ k. pairs_with (f (get_or variables n d)) (map f (drop k variables)) ++ pairs_of (map f (drop k variables))) z
 
 -- of two elements of a list, one stands before the other

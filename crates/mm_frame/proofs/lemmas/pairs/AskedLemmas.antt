@@ -91,7 +91,8 @@ pair_common : (all : List (List ℕ)) (before : List Item) (table : PairTable) (
 pair_common all before table blocks first second x y k a b n have =
     ((k.knows first x a).cover n have.first have.stayed, (k.knows second y b).cover n have.second have.stayed, sym (active_at_marks before blocks n k.marks) ∙ have.stayed)
 
-pub names_apart : (all : List (List ℕ)) (first second : ℕ) (x y : List ℕ) (before : List Item) (table : PairTable) (blocks : List Mark) → ReadsPairs all before table blocks → IsNameNumber all first x → IsNameNumber all second y → (first ≡ second → ⊥) → x ≡ y → ⊥
+pub names_apart : (all : List (List ℕ)) (first second : ℕ) (x y : List ℕ) (before : List Item) (table : PairTable) (blocks : List Mark)
+    → ReadsPairs all before table blocks → IsNameNumber all first x → IsNameNumber all second y → (first ≡ second → ⊥) → x ≡ y → ⊥
 names_apart all first second x y before table blocks k a b apart e = apart (k.distinct first second y (a ∙ ap Some e) b)
 
 -- what was found is active yet
@@ -102,14 +103,16 @@ IsActiveYet blocks common = (n : ℕ) × (common ≡ Some n) × (stays_by (drop 
 abbrev pub IsEnded : List Mark → Option ℕ → Type 0
 IsEnded blocks common = (n : ℕ) → common ≡ Some n → stays_by (drop (suc n) blocks) ≡ false
 
-pub active_told : (all : List (List ℕ)) (before : List Item) (table : PairTable) (blocks : List Mark) (first second : ℕ) (x y : List ℕ) (upto : ℕ) (common : Option ℕ) → ReadsPairs all before table blocks → IsNameNumber all first x → IsNameNumber all second y
+pub active_told : (all : List (List ℕ)) (before : List Item) (table : PairTable) (blocks : List Mark) (first second : ℕ) (x y : List ℕ) (upto : ℕ)
+    (common : Option ℕ) → ReadsPairs all before table blocks → IsNameNumber all first x → IsNameNumber all second y
     → (first ≡ second → ⊥) → IsAnswer before x y upto common → IsActiveYet blocks common → true ≡ are_paired (active_pairs before) (as_variable x, as_variable y)
 active_told all before table blocks first second x y upto common k a b apart answer yet =
     let there = answer.there yet.0 yet.1 in
     sym (paired_to before x y yet.0 (names_apart all first second x y before table blocks k a b apart) (record { first = there.0; second = there.1; stayed = active_at_marks before blocks yet.0 k.marks ∙ yet.2 }))
 
 -- where none is active of those that were looked at, an active one is no earlier
-later_common : (all : List (List ℕ)) (before : List Item) (table : PairTable) (blocks : List Mark) (first second : ℕ) (x y : List ℕ) (upto : ℕ) (common : Option ℕ) → ReadsPairs all before table blocks → IsNameNumber all first x → IsNameNumber all second y
+later_common : (all : List (List ℕ)) (before : List Item) (table : PairTable) (blocks : List Mark) (first second : ℕ) (x y : List ℕ) (upto : ℕ)
+    (common : Option ℕ) → ReadsPairs all before table blocks → IsNameNumber all first x → IsNameNumber all second y
     → IsAnswer before x y upto common → IsEnded blocks common → (n : ℕ) → HavePair before x y n → upto ≤ n
 later_common all before table blocks first second x y upto common k a b answer ended n have = elim (dec_lt n upto) [
   | yes l ↦ (
@@ -125,7 +128,8 @@ pub record IsFirstFrom (blocks : List Mark) (row other : List ℕ) (from : ℕ) 
   pub least : IfSome common (λ n. (m : ℕ) → from ≤ m → IsCommon blocks row other m → n ≤ m)
   pub none : IfNone common ((n : ℕ) → from ≤ n → IsCommon blocks row other n → ⊥)
 
-first_told : (all : List (List ℕ)) (before : List Item) (table : PairTable) (blocks : List Mark) (first second : ℕ) (x y : List ℕ) (from : ℕ) (common : Option ℕ) → ReadsPairs all before table blocks → IsNameNumber all first x → IsNameNumber all second y
+first_told : (all : List (List ℕ)) (before : List Item) (table : PairTable) (blocks : List Mark) (first second : ℕ) (x y : List ℕ) (from : ℕ)
+    (common : Option ℕ) → ReadsPairs all before table blocks → IsNameNumber all first x → IsNameNumber all second y
     → (first ≡ second → ⊥) → ((n : ℕ) → HavePair before x y n → from ≤ n) → IsFirstFrom blocks (row_at table first) (row_at table second) from common → is_some common ≡ are_paired (active_pairs before) (as_variable x, as_variable y)
 first_told all before table blocks first second x y from (Some n) k a b apart later f =
     sym (paired_to before x y n (names_apart all first second x y before table blocks k a b apart) (common_pair all before table blocks first second x y k a b n f.some))
@@ -135,14 +139,17 @@ first_told all before table blocks first second x y from None k a b apart later 
     by_test false e = sym e
     by_test true e = let p = paired_from before x y k.sound e in absurd (f.none p.1 (later p.1 p.2) (pair_common all before table blocks first second x y k a b p.1 p.2))
 
-pub ended_told : (all : List (List ℕ)) (before : List Item) (table : PairTable) (blocks : List Mark) (first second : ℕ) (x y : List ℕ) (upto : ℕ) (known common : Option ℕ) → ReadsPairs all before table blocks → IsNameNumber all first x → IsNameNumber all second y
+pub ended_told : (all : List (List ℕ)) (before : List Item) (table : PairTable) (blocks : List Mark) (first second : ℕ) (x y : List ℕ) (upto : ℕ)
+    (known common : Option ℕ) → ReadsPairs all before table blocks → IsNameNumber all first x → IsNameNumber all second y
     → (first ≡ second → ⊥) → IsAnswer before x y upto known → IsEnded blocks known → IsFirstFrom blocks (row_at table first) (row_at table second) upto common → is_some common ≡ are_paired (active_pairs before) (as_variable x, as_variable y)
 ended_told all before table blocks first second x y upto known common k a b apart answer ended f =
     first_told all before table blocks first second x y upto common k a b apart (later_common all before table blocks first second x y upto known k a b answer ended) f
 
 -- so there is one more answer
-pub next_answer : (all : List (List ℕ)) (before : List Item) (table : PairTable) (blocks : List Mark) (first second : ℕ) (x y : List ℕ) (upto end : ℕ) (known common : Option ℕ) → ReadsPairs all before table blocks → IsNameNumber all first x → IsNameNumber all second y
-    → IsAnswer before x y upto known → IsEnded blocks known → IsFirstFrom blocks (row_at table first) (row_at table second) upto common → ((count : ℕ) → ((n : ℕ) → Contains (row_at table first) n → n < count) → end ≤ count) → IsAnswer before x y end common
+pub next_answer : (all : List (List ℕ)) (before : List Item) (table : PairTable) (blocks : List Mark) (first second : ℕ) (x y : List ℕ) (upto end : ℕ)
+    (known common : Option ℕ) → ReadsPairs all before table blocks → IsNameNumber all first x → IsNameNumber all second y
+    → IsAnswer before x y upto known → IsEnded blocks known → IsFirstFrom blocks (row_at table first) (row_at table second) upto common
+    → ((count : ℕ) → ((n : ℕ) → Contains (row_at table first) n → n < count) → end ≤ count) → IsAnswer before x y end common
 next_answer all before table blocks first second x y upto end known common k a b answer ended f short = record {
   within = short (length before) (λ n c. (let d = (k.knows first x a).there n c in slice_get_within before n d.item d.there));
   cover = λ n l p q active. (

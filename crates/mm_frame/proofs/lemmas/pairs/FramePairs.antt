@@ -141,7 +141,8 @@ typed_variable before item v h m =
         ]
 
 -- mandatory variables are a pair of the frame where they are an active pair
-paired_same : (mandatory : List (List ℕ)) (pairs : List (Symbol × Symbol)) (named : Symbol × Symbol) → has mandatory named.0.name ≡ true → has mandatory named.1.name ≡ true → are_paired pairs named ≡ are_paired (filter (is_mandatory_pair mandatory) pairs) named
+paired_same : (mandatory : List (List ℕ)) (pairs : List (Symbol × Symbol)) (named : Symbol × Symbol) → has mandatory named.0.name ≡ true
+    → has mandatory named.1.name ≡ true → are_paired pairs named ≡ are_paired (filter (is_mandatory_pair mandatory) pairs) named
 paired_same mandatory pairs named a b = sym (any-filter_same (is_pair named) (is_mandatory_pair mandatory) true (λ pair t. kept pair (same_names named pair t)) pairs)
   where
     kept : (pair : Symbol × Symbol) → SameNames named pair → is_mandatory_pair mandatory pair ≡ true
@@ -167,7 +168,8 @@ pub no_variable : (essentials : List ℕ) (expressions : List (List NumberedSymb
 no_variable essentials expressions n place e =
     ap (λ b. cond b [] (option_to_list (slice_get (expression_kept expressions n) 1))) (in_among essentials n (get_in n essentials place e))
 
-pub nothing_second : (essentials : List ℕ) (expressions : List (List NumberedSymbol)) (n : ℕ) (symbols so_far : List NumberedSymbol) → symbols ≡ expression_kept expressions n → length symbols ≤ 1 → so_far ≡ so_far ++ float_variable essentials expressions n
+pub nothing_second : (essentials : List ℕ) (expressions : List (List NumberedSymbol)) (n : ℕ) (symbols so_far : List NumberedSymbol)
+    → symbols ≡ expression_kept expressions n → length symbols ≤ 1 → so_far ≡ so_far ++ float_variable essentials expressions n
 nothing_second essentials expressions n symbols so_far e l =
     sym (append-nil so_far)
     ∙ ap (λ w. so_far ++ w) (sym (ap (λ o. cond (is_among essentials n) [] (option_to_list o)) (ap (λ w. slice_get w 1) (sym e) ∙ no_second symbols l) ∙ nothing (is_among essentials n)))
@@ -182,7 +184,8 @@ variables_more essentials expressions numbers n l =
     ∙ ap (λ w. float_variables essentials expressions (take n numbers) ++ w) (append-nil (float_variable essentials expressions (get_or numbers n 0)))
 
 -- a pair that is kept if it passes a test
-pub pair_added : (all : List (List ℕ)) (test : Symbol × Symbol → Bool) (said : List (Symbol × Symbol)) (kept : List (NumberedSymbol × NumberedSymbol)) (x y : NumberedSymbol) → IsNumbered all x → IsNumbered all y → test (symbol_of all x, symbol_of all y) ≡ true → ArePairsRead all said kept
+pub pair_added : (all : List (List ℕ)) (test : Symbol × Symbol → Bool) (said : List (Symbol × Symbol)) (kept : List (NumberedSymbol × NumberedSymbol))
+    (x y : NumberedSymbol) → IsNumbered all x → IsNumbered all y → test (symbol_of all x, symbol_of all y) ≡ true → ArePairsRead all said kept
     → ArePairsRead all (said ++ filter test ((symbol_of all x, symbol_of all y) ∷ [])) (kept ++ (x, y) ∷ [])
 pair_added all test said kept x y a b t r =
     let pair : Symbol × Symbol = (symbol_of all x, symbol_of all y) in
@@ -191,12 +194,14 @@ pair_added all test said kept x y a b t r =
       numbered = All-push (IsPairNumbered all) kept (x, y) r.numbered (a, b);
     }
 
-pub pair_left : (all : List (List ℕ)) (test : Symbol × Symbol → Bool) (said : List (Symbol × Symbol)) (kept : List (NumberedSymbol × NumberedSymbol)) (pair : Symbol × Symbol) → test pair ≡ false → ArePairsRead all said kept → ArePairsRead all (said ++ filter test (pair ∷ [])) kept
+pub pair_left : (all : List (List ℕ)) (test : Symbol × Symbol → Bool) (said : List (Symbol × Symbol)) (kept : List (NumberedSymbol × NumberedSymbol))
+    (pair : Symbol × Symbol) → test pair ≡ false → ArePairsRead all said kept → ArePairsRead all (said ++ filter test (pair ∷ [])) kept
 pair_left all test said kept pair t r = subst (λ w. ArePairsRead all w kept) (sym (append-nil said) ∙ sym (ap (λ c. said ++ cond c (pair ∷ []) []) t)) r
 
 -- one more pair of a variable, and none
 pub with_more : (all : List (List ℕ)) (test : Symbol × Symbol → Bool) (s : Symbol) (later : List NumberedSymbol) (n : ℕ) (d : NumberedSymbol) (said : List (Symbol × Symbol)) (kept : List (NumberedSymbol × NumberedSymbol)) → n < length later
-    → ArePairsRead all ((said ++ filter test (pairs_with s (symbols_of all (take n later)))) ++ filter test ((s, symbol_of all (get_or later n d)) ∷ [])) kept → ArePairsRead all (said ++ filter test (pairs_with s (symbols_of all (take (n + 1) later)))) kept
+    → ArePairsRead all ((said ++ filter test (pairs_with s (symbols_of all (take n later)))) ++ filter test ((s, symbol_of all (get_or later n d)) ∷ []))
+    kept → ArePairsRead all (said ++ filter test (pairs_with s (symbols_of all (take (n + 1) later)))) kept
 with_more all test s later n d said kept l r =
     let so_far = pairs_with s (symbols_of all (take n later)) in
     let one : List (Symbol × Symbol) = (s, symbol_of all (get_or later n d)) ∷ [] in
@@ -206,14 +211,16 @@ no_pairs : (test : Symbol × Symbol → Bool) (s : Symbol) (others : List Symbol
 no_pairs test s [] h = refl
 no_pairs test s (y ∷ others) h = ap (λ b. cond b ((s, y) ∷ filter test (pairs_with s others)) (filter test (pairs_with s others))) (h y) ∙ no_pairs test s others h
 
-pub with_none : (all : List (List ℕ)) (before : List Item) (table : PairTable) (blocks : List Mark) (x : NumberedSymbol) (others : List Symbol) (said : List (Symbol × Symbol)) (kept : List (NumberedSymbol × NumberedSymbol)) → ReadsPairs all before table blocks
+pub with_none : (all : List (List ℕ)) (before : List Item) (table : PairTable) (blocks : List Mark) (x : NumberedSymbol) (others : List Symbol)
+    (said : List (Symbol × Symbol)) (kept : List (NumberedSymbol × NumberedSymbol)) → ReadsPairs all before table blocks
     → IsNumbered all x → row_at table x.name ≡ [] → ArePairsRead all said kept → ArePairsRead all (said ++ filter (are_paired (active_pairs before)) (pairs_with (symbol_of all x) others)) kept
 with_none all before table blocks x others said kept k a e r =
     let told = λ (y : Symbol). none_told all before table blocks x.name (name_at all x.name) y.name k (name_there all x.name a) e in
     subst (λ w. ArePairsRead all w kept) (sym (append-nil said) ∙ ap (λ w. said ++ w) (sym (no_pairs (are_paired (active_pairs before)) (symbol_of all x) others told))) r
 
 -- one more variable
-pub among_more : (all : List (List ℕ)) (test : Symbol × Symbol → Bool) (variables : List NumberedSymbol) (n : ℕ) (d : NumberedSymbol) (said whole : List (Symbol × Symbol)) → n < length variables → said ++ filter test (pairs_of (symbols_of all (drop n variables))) ≡ whole
+pub among_more : (all : List (List ℕ)) (test : Symbol × Symbol → Bool) (variables : List NumberedSymbol) (n : ℕ) (d : NumberedSymbol)
+    (said whole : List (Symbol × Symbol)) → n < length variables → said ++ filter test (pairs_of (symbols_of all (drop n variables))) ≡ whole
     → (said ++ filter test (pairs_with (symbol_of all (get_or variables n d)) (symbols_of all (drop (n + 1) variables)))) ++ filter test (pairs_of (symbols_of all (drop (n + 1) variables))) ≡ whole
 among_more all test variables n d said whole l so_far =
     let row = pairs_with (symbol_of all (get_or variables n d)) (symbols_of all (drop (n + 1) variables)) in
@@ -251,7 +258,9 @@ same_pairs before item h s a = λ x y. (both_from x y, both_to x y)
     known pair m = pairs_typed_at before item (sound_kept before h) s (assertion_expression item.kind a) pair m
 
     in_typed : (v : Symbol) → IsTyped (mandatory_hypotheses before item) v → In v typed
-    in_typed v t = in_flat (λ (x : Mandatory). variables_if x.floating x.expression) (record { floating = true; expression = t.0 ∷ v ∷ [] }) v (mandatory_hypotheses before item) (contains_in (record { floating = true; expression = t.0 ∷ v ∷ [] }) (mandatory_hypotheses before item) t.2) (inl refl)
+    in_typed v t = in_flat (λ (x : Mandatory). variables_if x.floating x.expression) (record { floating = true; expression = t.0 ∷ v ∷ [] }) v
+        (mandatory_hypotheses before item) (contains_in (record { floating = true; expression = t.0 ∷ v ∷ [] }) (mandatory_hypotheses before item) t.2)
+        (inl refl)
 
     from : (x y : Symbol) → In (x, y) in_frame_order → ArePair of_frame x y
     from x y m =

@@ -179,7 +179,8 @@ count_of_last before numbers rest n count e last c =
 pub count_of_none : (before : List Item) (numbers : List ℕ) → number_last numbers ≡ None → AreFrontNumbers before numbers 0
 count_of_none before numbers last = record { within = omega arith; active = none_last numbers last }
 
-pub number_within : (all : List (List ℕ)) (before : List Item) (expressions : List (List NumberedSymbol)) (numbers rest : List ℕ) (n : ℕ) → AreSymbols all before expressions → numbers ++ rest ≡ active_numbers is_disjoint_item before → number_last numbers ≡ Some n → n < length expressions
+pub number_within : (all : List (List ℕ)) (before : List Item) (expressions : List (List NumberedSymbol)) (numbers rest : List ℕ) (n : ℕ)
+    → AreSymbols all before expressions → numbers ++ rest ≡ active_numbers is_disjoint_item before → number_last numbers ≡ Some n → n < length expressions
 number_within all before expressions numbers rest n a e last =
     let w = number_there before numbers rest n e last in
     omega arith
@@ -257,7 +258,8 @@ turned_pair : (pairs : List (Symbol × Symbol)) (x y : Symbol) → ArePair pairs
 turned_pair pairs x y (inl a) = inr a
 turned_pair pairs x y (inr b) = inl b
 
-same_read : (all : List (List ℕ)) (said : List (Symbol × Symbol)) (raw kept : List (NumberedSymbol × NumberedSymbol)) → ArePairsRead all said raw → ((p : NumberedSymbol × NumberedSymbol) → In p kept ↔ In p (map with_low_first raw)) → AreSamePairsRead all said kept
+same_read : (all : List (List ℕ)) (said : List (Symbol × Symbol)) (raw kept : List (NumberedSymbol × NumberedSymbol)) → ArePairsRead all said raw
+    → ((p : NumberedSymbol × NumberedSymbol) → In p kept ↔ In p (map with_low_first raw)) → AreSamePairsRead all said kept
 same_read all said raw kept read same = record {
   pairs = subst (AreSamePairs (kept_pairs all kept)) read.pairs (λ x y. (both_from x y, both_to x y));
   numbered = λ k d l. numbered_at (get_or kept k d) ((same (get_or kept k d)).0 (contains_in (get_or kept k d) kept (All-contains_itself kept k d l)));
@@ -357,7 +359,8 @@ front_read all before expressions numbers count h a front =
         (r.0, subst (λ w. slice_get w n ≡ Some r.0) (take-append-drop count before) (get_join (take count before) (drop count before) n r.0 r.1), r.3)
 
 -- the pairs behind so many of the items, with those of the `$d` behind, are the active ones
-pub front_and_own : (before : List Item) (outer own : List ℕ) (count : ℕ) → AreSound before → outer ++ own ≡ active_numbers is_disjoint_item before → AreFrontNumbers before outer count → active_pairs (take count before) ++ flat_map (pairs_at before) own ≡ active_pairs before
+pub front_and_own : (before : List Item) (outer own : List ℕ) (count : ℕ) → AreSound before → outer ++ own ≡ active_numbers is_disjoint_item before
+    → AreFrontNumbers before outer count → active_pairs (take count before) ++ flat_map (pairs_at before) own ≡ active_pairs before
 front_and_own before outer own count h e front =
     ap (λ w. w ++ flat_map (pairs_at before) own) (front_pairs before outer count h front) ∙ sym (flat_map-append (pairs_at before) outer own) ∙ ap (flat_map (pairs_at before)) e ∙ sym (active_pairs_by_numbers before h)
 
@@ -417,7 +420,8 @@ both_read all said added base own b o = record {
     to x y (inl h) = pair_right (kept_pairs all own) (kept_pairs all base) x y ((b.pairs x y).1 h)
     to x y (inr h) = pair_left (kept_pairs all own) (kept_pairs all base) x y ((o.pairs x y).1 h)
 
-pub joined_read : (all : List (List ℕ)) (said added : List (Symbol × Symbol)) (base own kept : List (NumberedSymbol × NumberedSymbol)) → AreSamePairsRead all said base → AreSamePairsRead all added own → HasSame (own ++ base) kept → AreSamePairsRead all (said ++ added) kept
+pub joined_read : (all : List (List ℕ)) (said added : List (Symbol × Symbol)) (base own kept : List (NumberedSymbol × NumberedSymbol))
+    → AreSamePairsRead all said base → AreSamePairsRead all added own → HasSame (own ++ base) kept → AreSamePairsRead all (said ++ added) kept
 joined_read all said added base own kept b o same = same_members all (said ++ added) (own ++ base) kept same (both_read all said added base own b o)
 
 -- a list that has each of the others is of both
@@ -472,7 +476,8 @@ made_one_more all before old new count k keeps made within is told other j e = b
     by_test false t = before_it (sym (ap (λ b. cond b (Some k) (list_made old other)) t) ∙ sym (told other) ∙ e)
 
 -- the last list, where the test says that it is of these pairs
-pub is_there : (lists : PairLists) (last : Vec (NumberedSymbol × NumberedSymbol) Global) (kept : List (NumberedSymbol × NumberedSymbol)) → slice_get lists.lists.items (length lists.lists.items - 1) ≡ Some last → pointwise is_same_pair last.items kept ≡ true
+pub is_there : (lists : PairLists) (last : Vec (NumberedSymbol × NumberedSymbol) Global) (kept : List (NumberedSymbol × NumberedSymbol))
+    → slice_get lists.lists.items (length lists.lists.items - 1) ≡ Some last → pointwise is_same_pair last.items kept ≡ true
     → IsThere lists (length lists.lists.items - 1) kept
 is_there lists last kept there t = record { list = last; there = there; same = (pointwise_decides pair_decides last.items kept).0 t }
 
@@ -487,7 +492,8 @@ pairs_stay all said old new numbers keeps rows = record {
   each = λ n row e. let told = rows.each n row e in record { some = told.some; list = λ k q. list_stays all old new k (active_pairs (sound_items (take n said))) keeps (told.list k q) };
 }
 
-pub pairs_more : (all : List (List ℕ)) (said : List Item) (item : Item) (old new : PairLists) (numbers : List (Option ℕ)) (number : Option ℕ) → KeepsLists old new → AreRows (TellsPairs all old) said numbers → TellsPairs all new (sound_items said) item number
+pub pairs_more : (all : List (List ℕ)) (said : List Item) (item : Item) (old new : PairLists) (numbers : List (Option ℕ)) (number : Option ℕ)
+    → KeepsLists old new → AreRows (TellsPairs all old) said numbers → TellsPairs all new (sound_items said) item number
     → AreRows (TellsPairs all new) (said ++ item ∷ []) (numbers ++ number ∷ [])
 pairs_more all said item old new numbers number keeps rows told = rows_more (TellsPairs all new) said item numbers number (pairs_stay all said old new numbers keeps rows) told
 

@@ -69,7 +69,8 @@ puts_row old grown marks name number left row pushed there same is pruned added 
       others = λ n apart. ap numbers_or_none (get_set_other rows name n pushed apart) ∙ same n;
     }
 
-pub puts_more : (old mid new : PairTable) (marks : List Mark) (names : List ℕ) (k number : ℕ) → AreOnce names → k < length names → PutsAll old marks (take k names) number mid → Puts mid marks (get_or names k 0) number new → PutsAll old marks (take (k + 1) names) number new
+pub puts_more : (old mid new : PairTable) (marks : List Mark) (names : List ℕ) (k number : ℕ) → AreOnce names → k < length names
+    → PutsAll old marks (take k names) number mid → Puts mid marks (get_or names k 0) number new → PutsAll old marks (take (k + 1) names) number new
 puts_more old mid new marks names k number once l a p = subst (λ w. PutsAll old marks w number new) (sym more) (record { each = λ n c. each n (in_cases n (take k names) (x ∷ []) (contains_in n (take k names ++ x ∷ []) c)); others = others })
   where
     x : ℕ
@@ -198,7 +199,8 @@ numbers_once all numbers names a u i j n p q = elim (dec_lt i j) [
         false≢true (sym (u j name second) ∙ in_has (take j names) name (place_in names i j name first l))
 
 -- a sound `$d` goes into the rows of its variables
-pub pairs_taken : (all : List (List ℕ)) (before : List Item) (item : Item) (numbers : List ℕ) (old new : PairTable) (marks : List Mark) (number : ℕ) → AreDistinct all → IsSound before item → is_disjoint item.kind ≡ true → AreNameNumbers all numbers item.symbols
+pub pairs_taken : (all : List (List ℕ)) (before : List Item) (item : Item) (numbers : List ℕ) (old new : PairTable) (marks : List Mark) (number : ℕ)
+    → AreDistinct all → IsSound before item → is_disjoint item.kind ≡ true → AreNameNumbers all numbers item.symbols
     → length before ≡ number → marks ≡ block_marks before → KnowsPairs all before old → (AreOnce numbers → PutsAll old marks numbers number new) → KnowsPairs all (before ++ item ∷ []) new
 pairs_taken all before item numbers old new marks number distinct sound d are l m k takes n name there = by_test (is_among numbers n) refl
   where
@@ -257,8 +259,10 @@ paired_from before x y h t = by_names f.2
 
 pub paired_to : (before : List Item) (x y : List ℕ) (n : ℕ) → x ≢ y → HavePair before x y n → are_paired (active_pairs before) (as_variable x, as_variable y) ≡ true
 paired_to before x y n apart p = elim (in_order (symbol before x) (symbol before y) (expression before item) (λ e. apart (ap (λ (s : Symbol). s.name) e)) (there x p.first.named) (there y named)) [
-  | inl m ↦ to_paired (as_variable x, as_variable y) (symbol before x, symbol before y) (active_pairs before) (to_active_pairs before (symbol before x, symbol before y) item an_active p.first.disjoint m) (pair_here (symbol before x) (symbol before y))
-  | inr m ↦ to_paired (as_variable x, as_variable y) (symbol before y, symbol before x) (active_pairs before) (to_active_pairs before (symbol before y, symbol before x) item an_active p.first.disjoint m) (pair_turned (symbol before y) (symbol before x))
+  | inl m ↦ to_paired (as_variable x, as_variable y) (symbol before x, symbol before y) (active_pairs before)
+      (to_active_pairs before (symbol before x, symbol before y) item an_active p.first.disjoint m) (pair_here (symbol before x) (symbol before y))
+  | inr m ↦ to_paired (as_variable x, as_variable y) (symbol before y, symbol before x) (active_pairs before)
+      (to_active_pairs before (symbol before y, symbol before x) item an_active p.first.disjoint m) (pair_turned (symbol before y) (symbol before x))
 ]
   where
     item : Item
@@ -284,7 +288,8 @@ HaveCommon marks row other = (n : ℕ) × IsCommon marks row other n
 abbrev HaveNone : List Mark → List ℕ → List ℕ → Type 0
 HaveNone marks row other = (n : ℕ) → IsCommon marks row other n → ⊥
 
-rows_told : (all : List (List ℕ)) (before : List Item) (table : PairTable) (blocks : List Mark) (first second : ℕ) (x y : List ℕ) (r : Bool) → ReadsPairs all before table blocks → IsNameNumber all first x → IsNameNumber all second y → (first ≡ second → ⊥)
+rows_told : (all : List (List ℕ)) (before : List Item) (table : PairTable) (blocks : List Mark) (first second : ℕ) (x y : List ℕ) (r : Bool)
+    → ReadsPairs all before table blocks → IsNameNumber all first x → IsNameNumber all second y → (first ≡ second → ⊥)
     → MatchBool r (HaveCommon blocks (row_at table first) (row_at table second)) (HaveNone blocks (row_at table first) (row_at table second)) → r ≡ are_paired (active_pairs before) (as_variable x, as_variable y)
 rows_told all before table blocks first second x y true k a b apart c =
     let common = c.1 in
@@ -298,7 +303,8 @@ rows_told all before table blocks first second x y false k a b apart c = sym (fa
     let have = p.2 in
     c p.1 ((k.knows first x a).cover p.1 have.first have.stayed, (k.knows second y b).cover p.1 have.second have.stayed, sym (active_at_marks before blocks p.1 k.marks) ∙ have.stayed)))
 
-pub pair_told : (all : List (List ℕ)) (before : List Item) (table : PairTable) (blocks : List Mark) (first second : ℕ) (row other : List ℕ) (x y : List ℕ) (r : Bool) → row ≡ row_at table first → other ≡ row_at table second → ReadsPairs all before table blocks
+pub pair_told : (all : List (List ℕ)) (before : List Item) (table : PairTable) (blocks : List Mark) (first second : ℕ) (row other : List ℕ) (x y : List ℕ)
+    (r : Bool) → row ≡ row_at table first → other ≡ row_at table second → ReadsPairs all before table blocks
     → IsNameNumber all first x → IsNameNumber all second y → (first ≡ second → ⊥) → (IsRising other → MatchBool r (HaveCommon blocks row other) (HaveNone blocks row other)) → r ≡ are_paired (active_pairs before) (as_variable x, as_variable y)
 pair_told all before table blocks first second row other x y r e f k a b apart c =
     rows_told all before table blocks first second x y r k a b apart (subst (λ w. MatchBool r (HaveCommon blocks w (row_at table second)) (HaveNone blocks w (row_at table second))) e
@@ -309,7 +315,8 @@ common_turned : (marks : List Mark) (row other : List ℕ) (r : Bool) → MatchB
 common_turned marks row other true c = let common = c.1 in (c.0, (common.1, common.0, common.2))
 common_turned marks row other false c = λ n common. c n (common.1, common.0, common.2)
 
-pub pair_turned_told : (all : List (List ℕ)) (before : List Item) (table : PairTable) (blocks : List Mark) (first second : ℕ) (row other : List ℕ) (x y : List ℕ) (r : Bool) → row ≡ row_at table first → other ≡ row_at table second → ReadsPairs all before table blocks
+pub pair_turned_told : (all : List (List ℕ)) (before : List Item) (table : PairTable) (blocks : List Mark) (first second : ℕ) (row other : List ℕ)
+    (x y : List ℕ) (r : Bool) → row ≡ row_at table first → other ≡ row_at table second → ReadsPairs all before table blocks
     → IsNameNumber all first x → IsNameNumber all second y → (first ≡ second → ⊥) → (IsRising row → MatchBool r (HaveCommon blocks other row) (HaveNone blocks other row)) → r ≡ are_paired (active_pairs before) (as_variable x, as_variable y)
 pair_turned_told all before table blocks first second row other x y r e f k a b apart c =
     pair_told all before table blocks first second row other x y r e f k a b apart (λ _. common_turned blocks other row r (c (subst IsRising (sym e) (k.knows first x a).rising)))
@@ -318,7 +325,9 @@ pair_turned_told all before table blocks first second row other x y r e f k a b 
 pub same_told : (all : List (List ℕ)) (before : List Item) (n : ℕ) (x y : List ℕ) → AreSound before → IsNameNumber all n x → IsNameNumber all n y → are_paired (active_pairs before) (as_variable x, as_variable y) ≡ false
 same_told all before n x y h a b = false_from_ne_true (are_paired (active_pairs before) (as_variable x, as_variable y)) (λ t. (paired_from before x y h t).0 (same_Some x y (sym a ∙ b)))
 
-pub none_told : (all : List (List ℕ)) (before : List Item) (table : PairTable) (blocks : List Mark) (n : ℕ) (x y : List ℕ) → ReadsPairs all before table blocks → IsNameNumber all n x → row_at table n ≡ [] → are_paired (active_pairs before) (as_variable x, as_variable y) ≡ false
+pub none_told : (all : List (List ℕ)) (before : List Item) (table : PairTable) (blocks : List Mark) (n : ℕ) (x y : List ℕ)
+    → ReadsPairs all before table blocks → IsNameNumber all n x → row_at table n ≡ [] → are_paired (active_pairs before) (as_variable x, as_variable y) ≡
+    false
 none_told all before table blocks n x y k a e = false_from_ne_true (are_paired (active_pairs before) (as_variable x, as_variable y)) (λ t.
     let p = paired_from before x y k.sound t in
     let have = p.2 in

@@ -138,7 +138,9 @@ picked : (all : List (List ℕ)) (test : Symbol × Symbol → Bool) (first : Num
 picked all test first whole n [] e = refl
 picked all test first whole n (x ∷ xs) e =
     let d = drop_first whole n x xs e in
-    picked_first all first whole n x (passing (λ y. test (symbol_of all first, symbol_of all y)) (suc n) xs) (filter test (pairs_with (symbol_of all first) (symbols_of all xs))) (test (symbol_of all first, symbol_of all x)) d.1 (picked all test first whole (suc n) xs d.0)
+    picked_first all first whole n x (passing (λ y. test (symbol_of all first, symbol_of all y)) (suc n) xs)
+    (filter test (pairs_with (symbol_of all first) (symbols_of all xs))) (test (symbol_of all first, symbol_of all x)) d.1
+    (picked all test first whole (suc n) xs d.0)
 
 from_option : {X : Type 0} (x : X) (o : Option X) → In x (option_to_list o) → o ≡ Some x
 from_option x None h = absurd h
@@ -181,11 +183,13 @@ if_active false k xs h = absurd h
 to_if_active : (b : Bool) (k : ℕ) (xs : List ℕ) → b ≡ true → In k xs → In k (cond b xs [])
 to_if_active b k xs t h = subst (λ c. In k (cond c xs [])) (sym t) h
 
-read_at : (all : List (List ℕ)) (before : List Item) (expressions : List (List NumberedSymbol)) (name : List ℕ) (d : ℕ) → AreSymbols all before expressions → (at : IsDisjointAt before name d) → symbols_of all (expression_kept expressions d) ≡ expression (take d before) at.item
+read_at : (all : List (List ℕ)) (before : List Item) (expressions : List (List NumberedSymbol)) (name : List ℕ) (d : ℕ) → AreSymbols all before expressions
+    → (at : IsDisjointAt before name d) → symbols_of all (expression_kept expressions d) ≡ expression (take d before) at.item
 read_at all before expressions name d a at = a.each d at.item at.there (or_right (is_labelled (at.item).kind) (is_disjoint (at.item).kind) at.disjoint)
 
 found_from : (all : List (List ℕ)) (before : List Item) (table : PairTable) (marks : List Mark) (expressions : List (List NumberedSymbol)) (places : Places) (variables : List NumberedSymbol) (n : ℕ) (first : NumberedSymbol)
-    → Searches all before table marks expressions places variables n first → (k : ℕ) → In k (flat_map (later_places_at places marks expressions n) (row_at table first.name)) → In k (passing (is_partner all before first) (n + 1) (drop (n + 1) variables))
+    → Searches all before table marks expressions places variables n first → (k : ℕ) → In k (flat_map (later_places_at places marks expressions n)
+    (row_at table first.name)) → In k (passing (is_partner all before first) (n + 1) (drop (n + 1) variables))
 found_from all before table marks expressions places variables n first s k m =
     let x = name_at all first.name in
     let row = from_flat (later_places_at places marks expressions n) k (row_at table first.name) m in
@@ -218,7 +222,8 @@ found_from all before table marks expressions places variables n first s k m =
     (to_passing (is_partner all before first) (n + 1) (drop (n + 1) variables) (k - (n + 1)) y (get_drop variables (n + 1) (k - (n + 1)) k z ∙ found.1) paired)
 
 found_to : (all : List (List ℕ)) (before : List Item) (table : PairTable) (marks : List Mark) (expressions : List (List NumberedSymbol)) (places : Places) (variables : List NumberedSymbol) (n : ℕ) (first : NumberedSymbol)
-    → Searches all before table marks expressions places variables n first → (k : ℕ) → In k (passing (is_partner all before first) (n + 1) (drop (n + 1) variables)) → In k (flat_map (later_places_at places marks expressions n) (row_at table first.name))
+    → Searches all before table marks expressions places variables n first → (k : ℕ) → In k (passing (is_partner all before first) (n + 1)
+    (drop (n + 1) variables)) → In k (flat_map (later_places_at places marks expressions n) (row_at table first.name))
 found_to all before table marks expressions places variables n first s k m =
     let x = name_at all first.name in
     let p = from_passing (is_partner all before first) (n + 1) (drop (n + 1) variables) k m in

@@ -72,7 +72,8 @@ module _ (all : List (List ℕ)) (distinct : AreDistinct all) (list pairs : List
       ]
 
 -- two lists by distinct names are of the same pairs exactly where each has those of the other
-pub same_either_way : (all : List (List ℕ)) → AreDistinct all → (mine yours : List (NumberedSymbol × NumberedSymbol)) → All (IsPairNumbered all) mine → All (IsPairNumbered all) yours → (HasEitherWay mine yours × HasEitherWay yours mine) ↔ AreSamePairs (kept_pairs all mine) (kept_pairs all yours)
+pub same_either_way : (all : List (List ℕ)) → AreDistinct all → (mine yours : List (NumberedSymbol × NumberedSymbol)) → All (IsPairNumbered all) mine
+    → All (IsPairNumbered all) yours → (HasEitherWay mine yours × HasEitherWay yours mine) ↔ AreSamePairs (kept_pairs all mine) (kept_pairs all yours)
 same_either_way all distinct mine yours m n = (
   λ h. λ x y. (read_each all yours mine h.1 x y, read_each all mine yours h.0 x y),
   λ s. (each_read all distinct mine yours m n (λ x y p. (s x y).1 p), each_read all distinct yours mine n m (λ x y p. (s x y).0 p)),
@@ -92,7 +93,8 @@ pub element_there : {X : Type 0} (xs : List X) (n : ℕ) (d : X) → n < length 
 element_there xs n d l = in_contains (get_or xs n d) xs (get_in (get_or xs n d) xs n (slice_get-get_or xs n d l))
 
 -- one more pair that the list has
-pub either_way_more : (list pairs : List (NumberedSymbol × NumberedSymbol)) (n : ℕ) (d : NumberedSymbol × NumberedSymbol) → n < length pairs → HasEitherWay list (take n pairs) → Contains list (get_or pairs n d) ⊎ Contains list ((get_or pairs n d).1, (get_or pairs n d).0)
+pub either_way_more : (list pairs : List (NumberedSymbol × NumberedSymbol)) (n : ℕ) (d : NumberedSymbol × NumberedSymbol) → n < length pairs
+    → HasEitherWay list (take n pairs) → Contains list (get_or pairs n d) ⊎ Contains list ((get_or pairs n d).1, (get_or pairs n d).0)
     → HasEitherWay list (take (n + 1) pairs)
 either_way_more list pairs n d l so_far new p c =
     let next : take (n + 1) pairs ≡ take n pairs ++ get_or pairs n d ∷ [] = (let z : n + 1 ≡ suc n = omega arith in ap (λ k. take k pairs) z ∙ take-suc pairs n d l) in

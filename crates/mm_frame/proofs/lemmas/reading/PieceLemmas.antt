@@ -47,7 +47,9 @@ module _ (files : FilesView) (item : store.Item) (piece : List ℕ) (r : CanBeRe
   has_one words only = subst (λ ws. 0 < length ws) (sym (only r.words has_words)) r.some_word
 
 -- the item that is read under the key is what it says
-pub said_is : (files : FilesView) (item : store.Item) (piece : List ℕ) → IsTextOf files item piece → (words : List Word) → OnlyWords (bytes_in piece item) words → (said : Item) → Says files item said → item_of (kind_of item.kind) (tokens_of (bytes_in piece item) words) ≡ said
+pub said_is : (files : FilesView) (item : store.Item) (piece : List ℕ) → IsTextOf files item piece → (words : List Word)
+    → OnlyWords (bytes_in piece item) words → (said : Item) → Says files item said → item_of (kind_of item.kind) (tokens_of (bytes_in piece item) words) ≡
+    said
 said_is files item piece is words only said says =
     let r = says.read in
     same_item files item piece r is words (only r.words (has_words files item piece r is)) ∙ sym says.is

@@ -121,7 +121,8 @@ behind_label false words new None h = ap (drop 1) h
 behind_label true words new None h = absurd h
 behind_label false words new (Some word) h = absurd h
 
-label_is : (labelled : Bool) (text : List ℕ) (words new : List Word) (label : Option Word) → TakesLabel labelled words label new → option_map (word_bytes text) label ≡ (if labelled then option_map (λ (token : Token). token.bytes) (slice_get (tokens_of text words) 0) else None)
+label_is : (labelled : Bool) (text : List ℕ) (words new : List Word) (label : Option Word) → TakesLabel labelled words label new
+    → option_map (word_bytes text) label ≡ (if labelled then option_map (λ (token : Token). token.bytes) (slice_get (tokens_of text words) 0) else None)
 label_is true text words new (Some word) h = sym (ap (λ (ws : List Word). option_map (λ (token : Token). token.bytes) (slice_get (tokens_of text ws) 0)) h)
 label_is false text words new None h = refl
 label_is true text words new None h = absurd h
@@ -155,7 +156,8 @@ item_read kind text words label symbols rest h =
     let spelled : map (word_bytes text) symbols ≡ token_names (symbols_in kind (tokens_of text words)) = ap (map (word_bytes text)) h.all.are ∙ ap (plain_bytes text) first ∙ sym (names_from text words from) in
     let count : length (plain_words h.first) ≡ length (symbols_in kind (tokens_of text words)) = ap length (sym h.all.are) ∙ sym (count_bytes text symbols) ∙ ap length spelled ∙ count_names (symbols_in kind (tokens_of text words)) in
     let places : from + (length (plain_words h.first) + 1) ≡ from + length (symbols_in kind (tokens_of text words)) + 1 = omega (arith, count) in
-    let behind : rest ≡ drop (from + length (symbols_in kind (tokens_of text words)) + 1) words = h.all.rest ∙ ap (drop (length (plain_words h.first) + 1)) first ∙ drop-drop (length (plain_words h.first) + 1) from words ∙ ap (λ k. drop k words) places in
+    let behind : rest ≡ drop (from + length (symbols_in kind (tokens_of text words)) + 1) words = h.all.rest ∙ ap (drop (length (plain_words h.first) + 1))
+    first ∙ drop-drop (length (plain_words h.first) + 1) from words ∙ ap (λ k. drop k words) places in
     let proof : plain_bytes text rest ≡ token_names (proof_in kind (tokens_of text words)) = ap (plain_bytes text) behind ∙ sym (names_from text words (from + length (symbols_in kind (tokens_of text words)) + 1)) in
     let labelled : option_map (word_bytes text) label ≡ label_in kind (tokens_of text words) = label_is (is_labelled kind) text words h.behind label h.takes in
     λ i. record { kind = kind; label = labelled i; symbols = spelled i; proof = proof i }

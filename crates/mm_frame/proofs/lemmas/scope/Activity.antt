@@ -154,7 +154,8 @@ heights_stay items h i j l f = (stays_by_counts (between items i j)).1 (λ k. by
         take_past (suc m) (suc n) [] l = refl
         take_past (suc m) (suc n) (x ∷ xs) l = ap (λ w. x ∷ w) (take_past m n xs (omega arith))
 
-pub active_by_blocks : (items : List Item) (i j : ℕ) (x y : Item) → stays items ≡ true → slice_get items i ≡ Some x → slice_get items j ≡ Some y → mark_of x.kind ≡ Neither → mark_of y.kind ≡ Neither → i < j → (stays (between items i j) ≡ true) ↔ IsActive items i j
+pub active_by_blocks : (items : List Item) (i j : ℕ) (x y : Item) → stays items ≡ true → slice_get items i ≡ Some x → slice_get items j ≡ Some y
+    → mark_of x.kind ≡ Neither → mark_of y.kind ≡ Neither → i < j → (stays (between items i j) ≡ true) ↔ IsActive items i j
 active_by_blocks items i j x y h ei ej mx my l = (to_active, from_active)
   where
     high : IsHeight (height items)
@@ -168,7 +169,9 @@ active_by_blocks items i j x y h ei ej mx my l = (to_active, from_active)
         there = d.there;
         starts = d.starts;
         behind = (omega arith);
-        before_end = λ e f. from_height (height items) (is_height items h) i j b e (stay_heights items h i j s) (let w = flat_at items j y ej my in omega arith) (to_ends items h b e f) (rises_at items h b d.start d.there d.starts) d.behind (d.before_end e f);
+        before_end = λ e f. from_height (height items) (is_height items h) i j b e (stay_heights items h i j s)
+            (let w = flat_at items j y ej my in omega arith) (to_ends items h b e f) (rises_at items h b d.start d.there d.starts) d.behind
+            (d.before_end e f);
       };
     }
 
@@ -180,4 +183,5 @@ active_by_blocks items i j x y h ei ej mx my l = (to_active, from_active)
 
     from_active : IsActive items i j → stays (between items i j) ≡ true
     from_active a = heights_stay items h i j l
-        (λ k u v. (let q : suc (i + (k - suc i)) ≡ k = omega arith in subst (λ w. height items (suc i) ≤ height items w) q (to_height (height items) (is_height items h) i j (flat_at items i x ei mx) (around a) (k - suc i) (omega arith) (k - suc i) (omega arith))))
+        (λ k u v. (let q : suc (i + (k - suc i)) ≡ k = omega arith in subst (λ w. height items (suc i) ≤ height items w) q
+        (to_height (height items) (is_height items h) i j (flat_at items i x ei mx) (around a) (k - suc i) (omega arith) (k - suc i) (omega arith))))

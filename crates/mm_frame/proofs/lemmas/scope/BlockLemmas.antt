@@ -50,15 +50,18 @@ end_of_past (end ∷ ends) zero l = absurd (omega arith)
 end_of_past (end ∷ ends) (suc block) l = end_of_past ends block (omega arith)
 
 -- the marks of one more item
-marks_push : (ends : List (Option ℕ)) (item before : ℕ) (blocks : List ℕ) (behind n : ℕ) → n ≡ item + length blocks → marks_from ends item before (blocks ++ behind ∷ []) ≡ marks_from ends item before blocks ++ mark_between ends n (last_block before blocks) behind ∷ []
+marks_push : (ends : List (Option ℕ)) (item before : ℕ) (blocks : List ℕ) (behind n : ℕ) → n ≡ item + length blocks
+    → marks_from ends item before (blocks ++ behind ∷ []) ≡ marks_from ends item before blocks ++ mark_between ends n (last_block before blocks) behind ∷ []
 marks_push ends item before [] behind n q = (let e : item ≡ n = omega arith in ap (λ w. mark_between ends w before behind ∷ []) e)
 marks_push ends item before (block ∷ blocks) behind n q = ap (λ w. mark_between ends item before block ∷ w) (marks_push ends (suc item) block blocks behind n (omega arith))
 
 -- ends behind the items say nothing of them
-marks_same : (ends more : List (Option ℕ)) (item before : ℕ) (blocks : List ℕ) → ((block n : ℕ) → n < item + length blocks → is_at (end_of_block more block) n ≡ is_at (end_of_block ends block) n) → marks_from more item before blocks ≡ marks_from ends item before blocks
+marks_same : (ends more : List (Option ℕ)) (item before : ℕ) (blocks : List ℕ) → ((block n : ℕ) → n < item + length blocks
+    → is_at (end_of_block more block) n ≡ is_at (end_of_block ends block) n) → marks_from more item before blocks ≡ marks_from ends item before blocks
 marks_same ends more item before [] h = refl
 marks_same ends more item before (block ∷ blocks) h =
-    ap (λ w. cond w Closes (cond (before == block) Neither Opens) ∷ marks_from more (suc item) block blocks) (h before item (omega arith)) ∙ ap (λ w. mark_between ends item before block ∷ w) (marks_same ends more (suc item) block blocks (λ b n l. h b n (omega arith)))
+    ap (λ w. cond w Closes (cond (before == block) Neither Opens) ∷ marks_from more (suc item) block blocks) (h before item (omega arith)) ∙ ap
+    (λ w. mark_between ends item before block ∷ w) (marks_same ends more (suc item) block blocks (λ b n l. h b n (omega arith)))
 
 pub length_marks : (ends : List (Option ℕ)) (item before : ℕ) (blocks : List ℕ) → length (marks_from ends item before blocks) ≡ length blocks
 length_marks ends item before [] = refl
@@ -133,7 +136,9 @@ active_ended marks from at end l s =
     by_order (no a) = (stays_before s.front s.rest (at - suc from) s.leaves (omega arith) ∙ sym (le-leb at end (omega arith)))
 
 -- an entry more among the ends
-entered : (blocks : List ℕ) (ends more : List (Option ℕ)) (outer : List ℕ) (current : ℕ) (marks : List Mark) → ((block : ℕ) → end_of_block more block ≡ end_of_block ends block) → length ends ≤ length more → AreBlocks blocks ends outer current marks → AreBlocks blocks more outer current marks
+entered : (blocks : List ℕ) (ends more : List (Option ℕ)) (outer : List ℕ) (current : ℕ) (marks : List Mark)
+    → ((block : ℕ) → end_of_block more block ≡ end_of_block ends block) → length ends ≤ length more → AreBlocks blocks ends outer current marks
+    → AreBlocks blocks more outer current marks
 entered blocks ends more outer current marks h l k = record {
   stand = λ item block there. subst (λ end. Stands (outer ++ current ∷ []) (drop (suc item) marks) block item end) (sym (h block)) (k.stand item block there);
   unended = λ level block there. h block ∙ k.unended level block there;
@@ -156,7 +161,8 @@ more_ended behind mark item end s = record {
   leaves = s.leaves;
 }
 
-stand_more : (old stack : List ℕ) (behind : List Mark) (mark : Mark) (block item : ℕ) (end : Option ℕ) → Stands old behind block item end → (StandsOpen old behind block → StandsOpen stack (behind ++ mark ∷ []) block) → Stands stack (behind ++ mark ∷ []) block item end
+stand_more : (old stack : List ℕ) (behind : List Mark) (mark : Mark) (block item : ℕ) (end : Option ℕ) → Stands old behind block item end
+    → (StandsOpen old behind block → StandsOpen stack (behind ++ mark ∷ []) block) → Stands stack (behind ++ mark ∷ []) block item end
 stand_more old stack behind mark block item None s f = f s
 stand_more old stack behind mark block item (Some end) s f = more_ended behind mark item end s
 
@@ -196,7 +202,8 @@ distinct_more xs y h f one other x a b = by_cases (get_cases xs y x one a) (get_
     by_cases (inr p) (inr q) = p.0 ∙ sym q.0
 
 -- an item that neither begins nor ends a block
-passed : (blocks : List ℕ) (ends : List (Option ℕ)) (outer : List ℕ) (current : ℕ) (marks : List Mark) → length marks ≡ length blocks → AreBlocks blocks ends outer current marks → AreBlocks (blocks ++ current ∷ []) ends outer current (marks ++ Neither ∷ [])
+passed : (blocks : List ℕ) (ends : List (Option ℕ)) (outer : List ℕ) (current : ℕ) (marks : List Mark) → length marks ≡ length blocks
+    → AreBlocks blocks ends outer current marks → AreBlocks (blocks ++ current ∷ []) ends outer current (marks ++ Neither ∷ [])
 passed blocks ends outer current marks count k = record {
   stand = stands_all blocks ends outer current marks Neither count (k.unended (length outer) current (get_last outer current (length outer) refl)) earlier;
   unended = k.unended;
@@ -211,11 +218,14 @@ passed blocks ends outer current marks count k = record {
         (λ s. record { level = s.level; there = s.there; leaves = leaves_neither (drop (suc item) marks) (length (outer ++ current ∷ []) - suc s.level) (length (outer ++ current ∷ []) - suc s.level) refl s.leaves })
 
 mark_neither : (ends : List (Option ℕ)) (item before current : ℕ) → before ≡ current → end_of_block ends current ≡ None → mark_between ends item before current ≡ Neither
-mark_neither ends item before current e z = subst (λ w. mark_between ends item w current ≡ Neither) (sym e) (ap (λ end. cond (is_at end item) Closes (cond (current == current) Neither Opens)) z ∙ ap (λ w. cond w Neither Opens) (eq-eqb current current refl))
+mark_neither ends item before current e z = subst (λ w. mark_between ends item w current ≡ Neither) (sym e)
+    (ap (λ end. cond (is_at end item) Closes (cond (current == current) Neither Opens)) z ∙ ap (λ w. cond w Neither Opens) (eq-eqb current current refl))
 
 pub passed_marks : (blocks : List ℕ) (ends : List (Option ℕ)) (outer : List ℕ) (current : ℕ) (marks : List Mark) → AreBlocks blocks ends outer current marks → marks_from ends 0 0 (blocks ++ current ∷ []) ≡ marks_from ends 0 0 blocks ++ Neither ∷ []
 passed_marks blocks ends outer current marks k =
-    marks_push ends 0 0 blocks current (length blocks) (omega arith) ∙ ap (λ m. marks_from ends 0 0 blocks ++ m ∷ []) (mark_neither ends (length blocks) (last_block 0 blocks) current k.last (k.unended (length outer) current (get_last outer current (length outer) refl)))
+    marks_push ends 0 0 blocks current (length blocks) (omega arith) ∙ ap (λ m. marks_from ends 0 0 blocks ++ m ∷ [])
+    (mark_neither ends (length blocks) (last_block 0 blocks) current k.last (k.unended (length outer) current
+    (get_last outer current (length outer) refl)))
 
 -- an item that begins a block
 begun : (blocks : List ℕ) (ends : List (Option ℕ)) (outer : List ℕ) (current next : ℕ) (marks : List Mark) → length marks ≡ length blocks → current < length ends → next ≡ length ends → AreBlocks blocks ends outer current marks
@@ -236,17 +246,21 @@ begun blocks ends outer current next marks count l q k = record {
     earlier item block there = stand_more (outer ++ current ∷ []) ((outer ++ current ∷ []) ++ next ∷ []) (drop (suc item) marks) Opens block item (end_of_block ends block) (k.stand item block there) (λ s. record {
       level = s.level;
       there = get_front (outer ++ current ∷ []) next block s.level s.there;
-      leaves = leaves_more (drop (suc item) marks) (length (outer ++ current ∷ []) - suc s.level) (length ((outer ++ current ∷ []) ++ next ∷ []) - suc s.level) (let w = slice_get_within (outer ++ current ∷ []) s.level block s.there in let p = length_push (outer ++ current ∷ []) next in omega arith)
+      leaves = leaves_more (drop (suc item) marks) (length (outer ++ current ∷ []) - suc s.level) (length ((outer ++ current ∷ []) ++ next ∷ []) - suc
+          s.level) (let w = slice_get_within (outer ++ current ∷ []) s.level block s.there in let p = length_push (outer ++ current ∷ []) next in omega arith)
           s.leaves;
     })
 
 mark_opens : (ends : List (Option ℕ)) (item before current next : ℕ) → before ≡ current → end_of_block ends current ≡ None → current ≢ next → mark_between ends item before next ≡ Opens
 mark_opens ends item before current next e z n = subst (λ w. mark_between ends item w next ≡ Opens) (sym e) (ap (λ end. cond (is_at end item) Closes (cond (current == next) Neither Opens)) z ∙ ap (λ w. cond w Neither Opens) (ne_eqb current next n))
 
-pub begun_marks : (blocks : List ℕ) (ends : List (Option ℕ)) (outer : List ℕ) (current next : ℕ) (marks : List Mark) → current < length ends → next ≡ length ends → AreBlocks blocks ends outer current marks → marks_from ends 0 0 (blocks ++ next ∷ []) ≡ marks_from ends 0 0 blocks ++ Opens ∷ []
+pub begun_marks : (blocks : List ℕ) (ends : List (Option ℕ)) (outer : List ℕ) (current next : ℕ) (marks : List Mark) → current < length ends
+    → next ≡ length ends → AreBlocks blocks ends outer current marks → marks_from ends 0 0 (blocks ++ next ∷ []) ≡ marks_from ends 0 0 blocks ++ Opens ∷ []
 begun_marks blocks ends outer current next marks l q k =
     let n : current ≢ next = λ e. (omega arith) in
-    marks_push ends 0 0 blocks next (length blocks) (omega arith) ∙ ap (λ m. marks_from ends 0 0 blocks ++ m ∷ []) (mark_opens ends (length blocks) (last_block 0 blocks) current next k.last (k.unended (length outer) current (get_last outer current (length outer) refl)) n)
+    marks_push ends 0 0 blocks next (length blocks) (omega arith) ∙ ap (λ m. marks_from ends 0 0 blocks ++ m ∷ [])
+    (mark_opens ends (length blocks) (last_block 0 blocks) current next k.last (k.unended (length outer) current
+    (get_last outer current (length outer) refl)) n)
 
 -- what is left of the outer blocks when the innermost one ends, and the block that is innermost then
 abbrev pub Popped : List ℕ → List ℕ → ℕ → ℕ → Type 0
@@ -382,7 +396,8 @@ module _ (blocks : List ℕ) (ends : List (Option ℕ)) (outer rest : List ℕ) 
 
   same_before : (block n : ℕ) → n < 0 + length blocks → is_at (end_of_block (closing ends current (length blocks)) block) n ≡ is_at (end_of_block ends block) n
   same_before block n w = elim (same_or_not block current) [
-    | inl e ↦ ap (λ end. is_at end n) (ap (λ b. end_of_block (closing ends current (length blocks)) b) e ∙ end_of_closed ends current (length blocks) l) ∙ ne_eqb (length blocks) n (λ q. omega arith) ∙ ap (λ end. is_at end n) (sym (ap (λ b. end_of_block ends b) e ∙ innermost))
+    | inl e ↦ ap (λ end. is_at end n) (ap (λ b. end_of_block (closing ends current (length blocks)) b) e ∙ end_of_closed ends current (length blocks) l) ∙
+        ne_eqb (length blocks) n (λ q. omega arith) ∙ ap (λ end. is_at end n) (sym (ap (λ b. end_of_block ends b) e ∙ innermost))
     | inr e ↦ ap (λ end. is_at end n) (end_of_other ends current (length blocks) block e)
   ]
 
@@ -399,11 +414,13 @@ module _ (blocks : List ℕ) (ends : List (Option ℕ)) (outer rest : List ℕ) 
 count_push : (test : Mark → Bool) (marks : List Mark) (mark : Mark) → count_by test (marks ++ mark ∷ []) ≡ count_by test marks + cond (test mark) 1 0
 count_push test marks mark = sum_by_push (λ m. cond (test m) 1 0) marks mark
 
-pub kept_moved : (blocks others : List ℕ) (ends more : List (Option ℕ)) (outer around : List ℕ) (current begun ended : ℕ) → others ≡ blocks → more ≡ ends → around ≡ outer → AreBlockEndsKept blocks ends outer current begun ended → AreBlockEndsKept others more around current begun ended
+pub kept_moved : (blocks others : List ℕ) (ends more : List (Option ℕ)) (outer around : List ℕ) (current begun ended : ℕ) → others ≡ blocks → more ≡ ends
+    → around ≡ outer → AreBlockEndsKept blocks ends outer current begun ended → AreBlockEndsKept others more around current begun ended
 kept_moved blocks others ends more outer around current begun ended a b d k =
     subst (λ w. AreBlockEndsKept w more around current begun ended) (sym a) (subst (λ w. AreBlockEndsKept blocks w around current begun ended) (sym b) (subst (λ w. AreBlockEndsKept blocks ends w current begun ended) (sym d) k))
 
-pub kept_entered : (blocks : List ℕ) (ends more : List (Option ℕ)) (outer : List ℕ) (current begun ended : ℕ) → ((block : ℕ) → end_of_block more block ≡ end_of_block ends block) → length ends ≤ length more → AreBlockEndsKept blocks ends outer current begun ended
+pub kept_entered : (blocks : List ℕ) (ends more : List (Option ℕ)) (outer : List ℕ) (current begun ended : ℕ)
+    → ((block : ℕ) → end_of_block more block ≡ end_of_block ends block) → length ends ≤ length more → AreBlockEndsKept blocks ends outer current begun ended
     → AreBlockEndsKept blocks more outer current begun ended
 kept_entered blocks ends more outer current begun ended h l k =
     let same = entered_marks ends more blocks h in
@@ -487,14 +504,18 @@ pub before_none : (marks : List Mark) (from at end : ℕ) → end ≡ min at (le
 before_none marks from at end e l = let c = length-take at marks in ap stays_by (drop_all (suc from) (take at marks) (omega arith))
 
 -- an item whose block is open is active, and one whose block has ended is so up to the end
-pub is_active_open : (blocks : List ℕ) (ends : List (Option ℕ)) (outer : List ℕ) (current begun ended from at block : ℕ) → AreBlockEndsKept blocks ends outer current begun ended → from < length blocks → block ≡ get_or blocks from block → end_of_block ends block ≡ None
+pub is_active_open : (blocks : List ℕ) (ends : List (Option ℕ)) (outer : List ℕ) (current begun ended from at block : ℕ)
+    → AreBlockEndsKept blocks ends outer current begun ended → from < length blocks → block ≡ get_or blocks from block → end_of_block ends block ≡ None
     → stays_by (slice_range (marks_from ends 0 0 blocks) (from + 1) at) ≡ true
 is_active_open blocks ends outer current begun ended from at block k l there e =
     let marks = marks_from ends 0 0 blocks in
-    let s : StandsOpen (outer ++ current ∷ []) (drop (suc from) marks) block = subst (λ end. Stands (outer ++ current ∷ []) (drop (suc from) marks) block from end) e (k.are_blocks.stand from block (slice_get-get_or blocks from block l ∙ ap Some (sym there))) in
+    let s : StandsOpen (outer ++ current ∷ []) (drop (suc from) marks) block = subst (λ end. Stands (outer ++ current ∷ []) (drop (suc from) marks) block
+    from end) e (k.are_blocks.stand from block (slice_get-get_or blocks from block l ∙ ap Some (sym there))) in
     active_open marks from at (length (outer ++ current ∷ []) - suc s.level) s.leaves
 
-pub is_active_ended : (blocks : List ℕ) (ends : List (Option ℕ)) (outer : List ℕ) (current begun ended from at block end : ℕ) → AreBlockEndsKept blocks ends outer current begun ended → from < at → from < length blocks → block ≡ get_or blocks from block → end_of_block ends block ≡ Some end
+pub is_active_ended : (blocks : List ℕ) (ends : List (Option ℕ)) (outer : List ℕ) (current begun ended from at block end : ℕ)
+    → AreBlockEndsKept blocks ends outer current begun ended → from < at → from < length blocks → block ≡ get_or blocks from block
+    → end_of_block ends block ≡ Some end
     → stays_by (slice_range (marks_from ends 0 0 blocks) (from + 1) at) ≡ leb at end
 is_active_ended blocks ends outer current begun ended from at block end k f l there e =
     let marks = marks_from ends 0 0 blocks in

@@ -124,7 +124,8 @@ active_by_marks items n =
     let z : suc n ≡ n + 1 = omega arith in
     stays_of (drop (suc n) items) ∙ ap stays_by (sym (drop-map (λ (i : Item). mark_of i.kind) (suc n) items)) ∙ ap (λ k. stays_by (drop k (block_marks items))) z
 
-pub pruned_by_marks : (marks : List Mark) (old new : List ℕ) → IsPruned marks old new → (test : Item → Bool) (before : List Item) (item : Item) → test item ≡ false → marks ≡ block_marks (before ++ item ∷ []) → old ≡ active_numbers test before → new ≡ active_numbers test (before ++ item ∷ [])
+pub pruned_by_marks : (marks : List Mark) (old new : List ℕ) → IsPruned marks old new → (test : Item → Bool) (before : List Item) (item : Item)
+    → test item ≡ false → marks ≡ block_marks (before ++ item ∷ []) → old ≡ active_numbers test before → new ≡ active_numbers test (before ++ item ∷ [])
 pruned_by_marks marks old new p test before item t m o =
     pruned_numbers test before item new p.gone t (sym o ∙ p.parts)
     (λ n h. active_by_marks (before ++ item ∷ []) n ∙ ap (λ w. stays_by (drop (n + 1) w)) (sym m) ∙ p.ended n (in_contains n p.gone h))
@@ -169,7 +170,8 @@ dropped_to_none marks old new d none = record {
 }
 
 -- what a `pop` takes is the last number
-pub popped_last : (now new : List ℕ) (popped : Option ℕ) (n len : ℕ) → now ≡ new ++ option_to_list popped → ((d : ℕ) → 0 < len → popped ≡ Some (get_or now (len - 1) d)) → len ≡ length now → slice_get now (length now - 1) ≡ Some n → now ≡ new ++ n ∷ []
+pub popped_last : (now new : List ℕ) (popped : Option ℕ) (n len : ℕ) → now ≡ new ++ option_to_list popped
+    → ((d : ℕ) → 0 < len → popped ≡ Some (get_or now (len - 1) d)) → len ≡ length now → slice_get now (length now - 1) ≡ Some n → now ≡ new ++ n ∷ []
 popped_last now new popped n len e last l there =
     let w = slice_get_within now (length now - 1) n there in
     let z : length now - 1 ≡ len - 1 = omega arith in

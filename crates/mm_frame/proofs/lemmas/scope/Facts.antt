@@ -21,7 +21,8 @@ not_not true h = refl
 not_not false h = absurd (false≢true (sym h))
 
 -- a test that fails at all words fails at each symbol
-test_fails : (first word k : ℕ) (test : ℕ → List ℕ → Bool) (symbols : List (List ℕ)) (name : List ℕ) → first ≤ word → word - first ≡ k → slice_get symbols k ≡ Some name → (leb first word && passes (test (word - first)) (slice_get symbols (word - first))) ≡ false → test k name ≡ false
+test_fails : (first word k : ℕ) (test : ℕ → List ℕ → Bool) (symbols : List (List ℕ)) (name : List ℕ) → first ≤ word → word - first ≡ k
+    → slice_get symbols k ≡ Some name → (leb first word && passes (test (word - first)) (slice_get symbols (word - first))) ≡ false → test k name ≡ false
 test_fails first word k test symbols name l d s h =
     let a = and_rest (leb first word) (passes (test (word - first)) (slice_get symbols (word - first))) h (le-leb first word l) in
     let b = subst (λ n. passes (test n) (slice_get symbols n) ≡ false) d a in

@@ -95,7 +95,8 @@ step_outer high i low flat r = elim (dec_lt r.at i) [
   | no n ↦ (let q : r.at ≡ i = omega arith in let z = ap high q in let y = ap (λ w. high (suc w)) q in absurd (omega arith))
 ]
 
-step : (high : ℕ → ℕ) → IsHeight high → (i j k : ℕ) → high (suc i) ≡ high i → Around high i j → suc (i + suc k) ≤ j → ((n : ℕ) → n ≤ k → high (suc i) ≤ high (suc (i + n))) → Rise high (high (suc (i + suc k))) (suc i) → high (suc (i + suc k)) < high (suc i) → ⊥
+step : (high : ℕ → ℕ) → IsHeight high → (i j k : ℕ) → high (suc i) ≡ high i → Around high i j → suc (i + suc k) ≤ j
+    → ((n : ℕ) → n ≤ k → high (suc i) ≤ high (suc (i + n))) → Rise high (high (suc (i + suc k))) (suc i) → high (suc (i + suc k)) < high (suc i) → ⊥
 step high h i j k flat blocks l before r y =
     let t = r.there in
     let low = high (suc (i + suc k)) in
@@ -103,7 +104,9 @@ step high h i j k flat blocks l before r y =
     let z = blocks r.at (step_outer high i low flat r) (r.rises ∙ ap suc (sym t)) (λ e d. step_holds high i low r e d (dec_lt i e)) (i + suc k) ends in
     omega arith
 
-step_case : (high : ℕ → ℕ) → IsHeight high → (i j k : ℕ) → high (suc i) ≡ high i → Around high i j → suc (i + suc k) ≤ j → ((n : ℕ) → n ≤ k → high (suc i) ≤ high (suc (i + n))) → (m : ℕ) → m ≤ suc k → Dec (k < m) → Dec (high (suc (i + suc k)) < high (suc i)) → high (suc i) ≤ high (suc (i + m))
+step_case : (high : ℕ → ℕ) → IsHeight high → (i j k : ℕ) → high (suc i) ≡ high i → Around high i j → suc (i + suc k) ≤ j
+    → ((n : ℕ) → n ≤ k → high (suc i) ≤ high (suc (i + n))) → (m : ℕ) → m ≤ suc k → Dec (k < m) → Dec (high (suc (i + suc k)) < high (suc i))
+    → high (suc i) ≤ high (suc (i + m))
 step_case high h i j k flat blocks l before m a (no n) d = before m (omega arith)
 step_case high h i j k flat blocks l before m a (yes n) (yes y) = absurd (step high h i j k flat blocks l before (rise high h (high (suc (i + suc k))) (suc i) y) y)
 step_case high h i j k flat blocks l before m a (yes n) (no y) = let q : suc k ≡ m = omega arith in subst (λ w. high (suc i) ≤ high (suc (i + w))) q (omega arith)

@@ -30,7 +30,8 @@ typecodes_count now before kept e = sym (length-map kept now) ∙ ap length e �
 pub marks_more : (before : List Item) (item : Item) (kind : Kind) (old new : List Mark) → kind ≡ item.kind → old ≡ block_marks before → new ≡ old ++ mark_of kind ∷ [] → new ≡ block_marks (before ++ item ∷ [])
 marks_more before item kind old new k m e = e ∙ (λ i. m i ++ mark_of (k i) ∷ []) ∙ sym (map-append (λ (other : Item). mark_of other.kind) before (item ∷ []))
 
-pub types_more : {X : Type 0} (now : X → List ℕ) (before : List Item) (item : Item) (old new : List X) (last : X) → map now old ≡ map typecode_of before → now last ≡ typecode_of item → new ≡ old ++ last ∷ [] → map now new ≡ map typecode_of (before ++ item ∷ [])
+pub types_more : {X : Type 0} (now : X → List ℕ) (before : List Item) (item : Item) (old new : List X) (last : X) → map now old ≡ map typecode_of before
+    → now last ≡ typecode_of item → new ≡ old ++ last ∷ [] → map now new ≡ map typecode_of (before ++ item ∷ [])
 types_more now before item old new last t l e =
     ap (map now) e ∙ map-append now old (last ∷ []) ∙ (λ i. t i ++ l i ∷ []) ∙ sym (map-append typecode_of before (item ∷ []))
 

@@ -41,7 +41,8 @@ pub has_one : (bs cs : List ℕ) → bytes_eq bs cs ≡ has (bs ∷ []) cs
 has_one bs cs = nat_list_eq_equiv.symm bs cs ∙ sym (or_none (bytes_eq cs bs))
 
 -- what is told of names, where what is told by one number changes
-told_of : (all : List (List ℕ)) (old new : Tables) (n : ℕ) (name other : List ℕ) (f : Option Declared → Option Declared) → AreDistinct all → IsNameNumber all n name → ((m : ℕ) → declared_at new m ≡ cond (nat_eq m n) (f (declared_at old m)) (declared_at old m))
+told_of : (all : List (List ℕ)) (old new : Tables) (n : ℕ) (name other : List ℕ) (f : Option Declared → Option Declared) → AreDistinct all
+    → IsNameNumber all n name → ((m : ℕ) → declared_at new m ≡ cond (nat_eq m n) (f (declared_at old m)) (declared_at old m))
     → table_name all new other ≡ cond (bytes_eq name other) (f (table_name all old other)) (table_name all old other)
 told_of all old new n name other f distinct there put = by_test (bytes_eq name other) refl (number_in all other) refl
   where
@@ -55,7 +56,8 @@ told_of all old new n name other f distinct there put = by_test (bytes_eq name o
         put m ∙ ap (λ b. cond b (f (declared_at old m)) (declared_at old m)) (other_number m n other_name)
 
 -- what is put at the number of a name
-pub declares_one : (all : List (List ℕ)) (old new : Tables) (n : ℕ) (name : List ℕ) (declared : Declared) → AreDistinct all → IsNameNumber all n name → ((m : ℕ) → declared_at new m ≡ cond (nat_eq m n) (Some declared) (declared_at old m)) → new.labels ≡ old.labels
+pub declares_one : (all : List (List ℕ)) (old new : Tables) (n : ℕ) (name : List ℕ) (declared : Declared) → AreDistinct all → IsNameNumber all n name
+    → ((m : ℕ) → declared_at new m ≡ cond (nat_eq m n) (Some declared) (declared_at old m)) → new.labels ≡ old.labels
     → Declares all old (name ∷ []) (λ _. declared) new
 declares_one all old new n name declared distinct there put l = record {
   names = λ other. told_of all old new n name other (λ _. Some declared) distinct there put ∙ ap (λ b. cond b (Some declared) (table_name all old other)) (has_one name other);
@@ -70,7 +72,8 @@ types_one all old new n name number distinct there put l = record {
 }
 
 -- a variable is typed in its place, and what is no variable stays as it is
-pub typed_there : (told : List (Option Declared)) (n m number declared : ℕ) (float : Option ℕ) → get_or told n None ≡ Some (Variable declared float) → get_or (set told n (Some (Variable declared (Some number)))) m None ≡ cond (nat_eq m n) (typed_by number (get_or told m None)) (get_or told m None)
+pub typed_there : (told : List (Option Declared)) (n m number declared : ℕ) (float : Option ℕ) → get_or told n None ≡ Some (Variable declared float)
+    → get_or (set told n (Some (Variable declared (Some number)))) m None ≡ cond (nat_eq m n) (typed_by number (get_or told m None)) (get_or told m None)
 typed_there told n m number declared float e = by_test (nat_eq m n) refl
   where
     within : (xs : List (Option Declared)) (k : ℕ) → get_or xs k None ≡ Some (Variable declared float) → k < length xs
@@ -90,7 +93,8 @@ stays_there tables n m number e = by_test (nat_eq m n) refl
     by_test false t = refl
 
 -- one more name is declared
-pub declares_more : (all : List (List ℕ)) (old mid new : Tables) (symbols : List (List ℕ)) (n more : ℕ) (declared : Option Declared → Declared) (name : List ℕ) (last : Declared) → more ≡ suc n → ((o : Option Declared) → declared (Some (declared o)) ≡ declared o) → n < length symbols
+pub declares_more : (all : List (List ℕ)) (old mid new : Tables) (symbols : List (List ℕ)) (n more : ℕ) (declared : Option Declared → Declared)
+    (name : List ℕ) (last : Declared) → more ≡ suc n → ((o : Option Declared) → declared (Some (declared o)) ≡ declared o) → n < length symbols
     → name ≡ get_or symbols n [] → Declares all old (take n symbols) declared mid → last ≡ declared (table_name all mid name) → Declares all mid (name ∷ []) (λ _. last) new → Declares all old (take more symbols) declared new
 declares_more all old mid new symbols n more declared name last s again l e d w m = record {
   names = names;
@@ -118,8 +122,10 @@ abbrev pub DeclaresFirst : List ℕ → ℕ → Tables → (Option Declared → 
 DeclaresFirst numbers n old declared new = (all symbols : List (List ℕ)) → AreDistinct all → AreNameNumbers all numbers symbols → Declares all old (take n symbols) declared new
 
 -- so is the name of the next one
-pub declares_first : (numbers : List ℕ) (n more d : ℕ) (old mid new : Tables) (declared : Option Declared → Declared) (last : Declared) → more ≡ suc n → n < length numbers → ((o : Option Declared) → declared (Some (declared o)) ≡ declared o) → DeclaresFirst numbers n old declared mid
-    → last ≡ declared (declared_at mid (get_or numbers n d)) → ((all : List (List ℕ)) (name : List ℕ) → AreDistinct all → IsNameNumber all (get_or numbers n d) name → Declares all mid (name ∷ []) (λ _. last) new) → DeclaresFirst numbers more old declared new
+pub declares_first : (numbers : List ℕ) (n more d : ℕ) (old mid new : Tables) (declared : Option Declared → Declared) (last : Declared) → more ≡ suc n
+    → n < length numbers → ((o : Option Declared) → declared (Some (declared o)) ≡ declared o) → DeclaresFirst numbers n old declared mid
+    → last ≡ declared (declared_at mid (get_or numbers n d)) → ((all : List (List ℕ)) (name : List ℕ) → AreDistinct all
+    → IsNameNumber all (get_or numbers n d) name → Declares all mid (name ∷ []) (λ _. last) new) → DeclaresFirst numbers more old declared new
 declares_first numbers n more d old mid new declared last s l again first w m all symbols distinct are =
     let there = number_at all numbers symbols n d are l in
     let count = are.count in
@@ -127,7 +133,9 @@ declares_first numbers n more d old mid new declared last s l again first w m al
     (w ∙ ap declared (declared_named all mid (get_or numbers n d) (get_or symbols n []) distinct there)) (m all (get_or symbols n []) distinct there)
 
 -- and so are all
-pub declares_all : (numbers : List ℕ) (n : ℕ) (old new : Tables) (declared : Option Declared → Declared) → length numbers ≤ n → DeclaresFirst numbers n old declared new → (all symbols : List (List ℕ)) → AreDistinct all → AreNameNumbers all numbers symbols → Declares all old symbols declared new
+pub declares_all : (numbers : List ℕ) (n : ℕ) (old new : Tables) (declared : Option Declared → Declared) → length numbers ≤ n
+    → DeclaresFirst numbers n old declared new → (all symbols : List (List ℕ)) → AreDistinct all → AreNameNumbers all numbers symbols
+    → Declares all old symbols declared new
 declares_all numbers n old new declared l first all symbols distinct are =
     let count = are.count in
     subst (λ names. Declares all old names declared new) (take_all n symbols (omega (arith, l, count))) (first all symbols distinct are)
@@ -241,7 +249,8 @@ declared_next before item name h =
     front = sound_front before (item ∷ []) h
 
     constant : has (constants (before ++ item ∷ [])) name ≡ (has (constants before) name || (is_constants item.kind && has item.symbols name))
-    constant = ap (λ w. has w name) (constants_next before item) ∙ list_any-append (bytes_eq name) (constants before) (cond (is_constants item.kind) item.symbols []) ∙ ap (λ b. has (constants before) name || b) (has_under (is_constants item.kind) item.symbols name)
+    constant = ap (λ w. has w name) (constants_next before item) ∙ list_any-append (bytes_eq name) (constants before)
+        (cond (is_constants item.kind) item.symbols []) ∙ ap (λ b. has (constants before) name || b) (has_under (is_constants item.kind) item.symbols name)
 
     fresh : declares_variable name item ≡ true → has (constants before) name ≡ false
     fresh t = false_from_ne_true (has (constants before) name) (λ c. false≢true (
@@ -264,7 +273,9 @@ pub record Takes (all : List (List ℕ)) (kind : Kind) (item : Item) (number : �
   pub names : (name : List ℕ) → table_name all new name ≡ name_next kind item.symbols number name (table_name all old name)
   pub labels : (label : List ℕ) → table_label new label ≡ label_next kind item.label number label (table_label old label)
 
-pub knows_next : (all : List (List ℕ)) (before : List Item) (item : Item) (kind : Kind) (number : ℕ) (old new : Tables) → kind ≡ item.kind → AreSound (before ++ item ∷ []) → length before ≡ number → Knows all before old → Takes all kind item number old new → Knows all (before ++ item ∷ []) new
+pub knows_next : (all : List (List ℕ)) (before : List Item) (item : Item) (kind : Kind) (number : ℕ) (old new : Tables) → kind ≡ item.kind
+    → AreSound (before ++ item ∷ []) → length before ≡ number → Knows all before old → Takes all kind item number old new
+    → Knows all (before ++ item ∷ []) new
 knows_next all before item kind number old new e h l k t = record {
   distinct = k.distinct;
   names = λ name. (let q = k.names name in t.names name ∙ (λ i. name_next (e i) item.symbols (sym l i) name (q i)) ∙ sym (declared_next before item name h));
@@ -305,13 +316,17 @@ takes_sound_float all before item number old mid new s e t c =
     takes_float all item number old mid new (t (omega (arith, count))) c
 
 -- what only carries a label
-pub takes_label : (all : List (List ℕ)) (kind : ItemKind) (item : Item) (number : ℕ) (old new : Tables) → (kind ≡ items.Essential) ⊎ ((kind ≡ items.Axiom) ⊎ (kind ≡ items.Theorem)) → Carries all old (option_to_list item.label) number new → Takes all (kind_of kind) item number old new
+pub takes_label : (all : List (List ℕ)) (kind : ItemKind) (item : Item) (number : ℕ) (old new : Tables)
+    → (kind ≡ items.Essential) ⊎ ((kind ≡ items.Axiom) ⊎ (kind ≡ items.Theorem)) → Carries all old (option_to_list item.label) number new
+    → Takes all (kind_of kind) item number old new
 takes_label all kind item number old new (inl e) c = subst (λ k. Takes all (kind_of k) item number old new) (sym e) (record { names = c.names; labels = c.labels })
 takes_label all kind item number old new (inr (inl e)) c = subst (λ k. Takes all (kind_of k) item number old new) (sym e) (record { names = c.names; labels = c.labels })
 takes_label all kind item number old new (inr (inr e)) c = subst (λ k. Takes all (kind_of k) item number old new) (sym e) (record { names = c.names; labels = c.labels })
 
 -- what declares and carries nothing
-pub takes_nothing : (all : List (List ℕ)) (kind : ItemKind) (item : Item) (number : ℕ) (tables : Tables) → (kind ≡ items.Disjoint) ⊎ ((kind ≡ items.BlockStart) ⊎ ((kind ≡ items.BlockEnd) ⊎ (kind ≡ items.Missing))) → Takes all (kind_of kind) item number tables tables
+pub takes_nothing : (all : List (List ℕ)) (kind : ItemKind) (item : Item) (number : ℕ) (tables : Tables)
+    → (kind ≡ items.Disjoint) ⊎ ((kind ≡ items.BlockStart) ⊎ ((kind ≡ items.BlockEnd) ⊎ (kind ≡ items.Missing)))
+    → Takes all (kind_of kind) item number tables tables
 takes_nothing all kind item number tables (inl e) = subst (λ k. Takes all (kind_of k) item number tables tables) (sym e) (record { names = λ name. refl; labels = λ label. refl })
 takes_nothing all kind item number tables (inr (inl e)) = subst (λ k. Takes all (kind_of k) item number tables tables) (sym e) (record { names = λ name. refl; labels = λ label. refl })
 takes_nothing all kind item number tables (inr (inr (inl e))) = subst (λ k. Takes all (kind_of k) item number tables tables) (sym e) (record { names = λ name. refl; labels = λ label. refl })

@@ -31,7 +31,11 @@ filter_same p q (x ∷ xs) h = let a = h x (inl refl) in let b = filter_same p q
 -- each item is sound against those before it: by splits of the list, and by recursion
 kept_from_splits : (before items : List Item) → ((front : List Item) (item : Item) (back : List Item) → items ≡ front ++ item ∷ back → IsSound (before ++ front) item) → AreKept before items
 kept_from_splits before [] h = tt
-kept_from_splits before (x ∷ xs) h = (subst (λ w. IsSound w x) (append-nil before) (h [] x xs refl), kept_from_splits (before ++ x ∷ []) xs (λ front item back e. subst (λ w. IsSound w item) (sym (append_assoc before (x ∷ []) front)) (h (x ∷ front) item back (ap (λ w. x ∷ w) e))))
+kept_from_splits before (x ∷ xs) h = (
+  subst (λ w. IsSound w x) (append-nil before) (h [] x xs refl),
+  kept_from_splits (before ++ x ∷ []) xs
+      (λ front item back e. subst (λ w. IsSound w item) (sym (append_assoc before (x ∷ []) front)) (h (x ∷ front) item back (ap (λ w. x ∷ w) e))),
+)
 
 pub sound_kept : (items : List Item) → AreSound items → AreKept [] items
 sound_kept items h = kept_from_splits [] items h
@@ -82,7 +86,8 @@ has_not : (names : List (List ℕ)) (name : List ℕ) → (In name names → ⊥
 has_not names name n = false_from_ne_true (has names name) (λ e. n (has_in names name e))
 
 -- a symbol of an active statement means what it meant there
-pub variable_kept : (front : List Item) (item : Item) (back : List Item) (name : List ℕ) → AreKept [] (front ++ item ∷ back) → is_labelled item.kind ≡ true → stays back ≡ true → In name item.symbols → has (active_variables (front ++ item ∷ back)) name ≡ has (active_variables front) name
+pub variable_kept : (front : List Item) (item : Item) (back : List Item) (name : List ℕ) → AreKept [] (front ++ item ∷ back) → is_labelled item.kind ≡ true
+    → stays back ≡ true → In name item.symbols → has (active_variables (front ++ item ∷ back)) name ≡ has (active_variables front) name
 variable_kept front item back name k t s h =
     let whole = front ++ item ∷ back in
     elim (named front item name (sound_at [] front item back k) t h) [
@@ -90,10 +95,12 @@ variable_kept front item back name k t s h =
       | inr v ↦ in_has (active_variables whole) name (variables_later front item back name (labelled_neither item.kind t) s v) ∙ sym (in_has (active_variables front) name v)
     ]
 
-symbol_kept_at : (front : List Item) (item : Item) (back : List Item) (name : List ℕ) → AreKept [] (front ++ item ∷ back) → is_labelled item.kind ≡ true → stays back ≡ true → In name item.symbols → symbol (front ++ item ∷ back) name ≡ symbol front name
+symbol_kept_at : (front : List Item) (item : Item) (back : List Item) (name : List ℕ) → AreKept [] (front ++ item ∷ back) → is_labelled item.kind ≡ true
+    → stays back ≡ true → In name item.symbols → symbol (front ++ item ∷ back) name ≡ symbol front name
 symbol_kept_at front item back name k t s h = let e = variable_kept front item back name k t s h in λ i. record { name = name; variable = e i }
 
-pub symbol_stays : (items front : List Item) (item : Item) (back : List Item) (name : List ℕ) → AreSound items → items ≡ front ++ item ∷ back → is_labelled item.kind ≡ true → stays back ≡ true → In name item.symbols → symbol items name ≡ symbol front name
+pub symbol_stays : (items front : List Item) (item : Item) (back : List Item) (name : List ℕ) → AreSound items → items ≡ front ++ item ∷ back
+    → is_labelled item.kind ≡ true → stays back ≡ true → In name item.symbols → symbol items name ≡ symbol front name
 symbol_stays items front item back name h e t s n = ap (λ w. symbol w name) e ∙ symbol_kept_at front item back name (subst (AreKept []) e (sound_kept items h)) t s n
 
 pub expression_stays : (items front : List Item) (item : Item) (back : List Item) → AreSound items → items ≡ front ++ item ∷ back → is_labelled item.kind ≡ true → stays back ≡ true → expression items item ≡ expression front item

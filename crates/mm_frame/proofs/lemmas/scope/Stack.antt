@@ -37,7 +37,8 @@ closed_least Neither n d a b za zb r h = r d (λ k. let l = h k in omega arith)
 
 by_counts : (items : List Item) (d : ℕ) → ((k : ℕ) → count_by is_end (take k items) ≤ d + count_by is_start (take k items)) → closed items ≤ d
 by_counts [] d h = omega arith
-by_counts (x ∷ xs) d h = closed_least (mark_of x.kind) (closed xs) d (λ k. count_by is_end (take k xs)) (λ k. count_by is_start (take k xs)) refl refl (λ e r. by_counts xs e r) (λ k. shift _ _ _ _ d (sym (ends_cons x (take k xs))) (sym (starts_cons x (take k xs))) (h (suc k)))
+by_counts (x ∷ xs) d h = closed_least (mark_of x.kind) (closed xs) d (λ k. count_by is_end (take k xs)) (λ k. count_by is_start (take k xs)) refl refl
+    (λ e r. by_counts xs e r) (λ k. shift _ _ _ _ d (sym (ends_cons x (take k xs))) (sym (starts_cons x (take k xs))) (h (suc k)))
 
 pub stays_by_counts : (items : List Item) → (stays items ≡ true) ↔ ((k : ℕ) → count_by is_end (take k items) ≤ count_by is_start (take k items))
 stays_by_counts items = ((λ h k. let z = closed_none items h in let l = counts items k in omega arith), (λ h. let l = by_counts items 0 (λ k. let l = h k in omega arith) in let n : closed items ≡ 0 = omega arith in ap is_zero n))
@@ -54,15 +55,18 @@ not_statement m x false live e f = refl
 is_statement : (x : Item) (live : List Item) → mark_of x.kind ≡ Neither → statements (x ∷ live) ≡ x ∷ statements live
 is_statement x live e = subst (λ t. cond (is_statement_mark t) (x ∷ statements live) (statements live) ≡ x ∷ statements live) (sym e) refl
 
-read_put : (x : Item) (c : ℕ) (scope : List Item) (scopes : List (List Item)) (live : List Item) → mark_of x.kind ≡ Neither → all_of (drop c ((scope ++ x ∷ []) ∷ scopes)) ++ statements live ≡ all_of (drop c (scope ∷ scopes)) ++ statements (cond (is_zero c) (x ∷ live) live)
+read_put : (x : Item) (c : ℕ) (scope : List Item) (scopes : List (List Item)) (live : List Item) → mark_of x.kind ≡ Neither
+    → all_of (drop c ((scope ++ x ∷ []) ∷ scopes)) ++ statements live ≡ all_of (drop c (scope ∷ scopes)) ++ statements (cond (is_zero c) (x ∷ live) live)
 read_put x zero scope scopes live e =
     ap (λ w. w ++ statements live) (sym (append_assoc (all_of scopes) scope (x ∷ []))) ∙ append_assoc (all_of scopes ++ scope) (x ∷ []) (statements live) ∙ ap (λ w. (all_of scopes ++ scope) ++ w) (sym (is_statement x live e))
 read_put x (suc c) scope scopes live e = refl
 
-read_at : (m : Mark) (x : Item) (xs : List Item) (scopes : List (List Item)) (c : ℕ) (live : List Item) → mark_of x.kind ≡ m → closed_at m c < length scopes → ((s : List (List Item)) → c < length s → all_of (read_scopes s xs) ≡ all_of (drop c s) ++ statements live)
+read_at : (m : Mark) (x : Item) (xs : List Item) (scopes : List (List Item)) (c : ℕ) (live : List Item) → mark_of x.kind ≡ m → closed_at m c < length scopes
+    → ((s : List (List Item)) → c < length s → all_of (read_scopes s xs) ≡ all_of (drop c s) ++ statements live)
     → all_of (read_scopes (turn m x scopes) xs) ≡ all_of (drop (closed_at m c) scopes) ++ statements (cond (is_zero c) (x ∷ live) live)
 read_at m x xs [] c live e l r = absurd (omega arith)
-read_at Opens x xs (scope ∷ scopes) c live e l r = r ([] ∷ scope ∷ scopes) (below c (scope ∷ scopes) l) ∙ read_opens x c (scope ∷ scopes) (statements live) ∙ ap (λ w. all_of (drop (pred c) (scope ∷ scopes)) ++ w) (sym (not_statement Opens x (is_zero c) live e refl))
+read_at Opens x xs (scope ∷ scopes) c live e l r = r ([] ∷ scope ∷ scopes) (below c (scope ∷ scopes) l) ∙ read_opens x c (scope ∷ scopes) (statements live)
+    ∙ ap (λ w. all_of (drop (pred c) (scope ∷ scopes)) ++ w) (sym (not_statement Opens x (is_zero c) live e refl))
   where
     below : (c : ℕ) (s : List (List Item)) → pred c < length s → c < length ([] ∷ s)
     below zero s l = omega arith

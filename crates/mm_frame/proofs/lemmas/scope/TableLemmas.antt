@@ -96,7 +96,9 @@ active_cases (x ∷ front) item back i h = elim (first_cases (stays (front ++ it
 ]
 
 -- where no two items that pass are active at once, one that passes is active if the last one is
-last_active : (test : Item → Bool) (before : List Item) → ((front : List Item) (item : Item) (back : List Item) → before ≡ front ++ item ∷ back → test item ≡ true → (y : Item) → In y (active front) → test y ≡ true → ⊥) → (b : Bool) → (b ≡ true → (y : Item) × In y (active before) × (test y ≡ true))
+last_active : (test : Item → Bool) (before : List Item) → ((front : List Item) (item : Item) (back : List Item) → before ≡ front ++ item ∷ back
+    → test item ≡ true → (y : Item) → In y (active front) → test y ≡ true → ⊥) → (b : Bool) → (b ≡ true
+    → (y : Item) × In y (active before) × (test y ≡ true))
     → ((y : Item) → In y (active before) → test y ≡ true → b ≡ true) → b ≡ is_active_last before (last_where test before)
 last_active test before alone b from to = elim (last_cases test before) [
   | inl n ↦ false_from_ne_true b (λ t. let r = from t in false≢true (sym (n r.0 (active_in before r.0 r.1)) ∙ r.2)) ∙ sym (ap (is_active_last before) (last_none test before n))
@@ -202,7 +204,8 @@ pub typed_otherwise_last : (before : List Item) → AreSound before → (name : 
 typed_otherwise_last before h name item = elim (last_cases (types name) before) [
   | inl n ↦ false_from_ne_true (is_typed_otherwise before item name) (λ t. let r = otherwise_from before item name t in false≢true (sym (n r.0 r.1) ∙ r.2)) ∙ sym (ap (is_otherwise_at before item) (last_none (types name) before n))
   | inr l ↦ by_test l (bytes_eq (typecode_of l.item) (typecode_of item)) refl
-      ∙ sym (ap (is_otherwise_at before item) (last_number (types name) before l) ∙ ap (λ w. not (bytes_eq (typecode_of (item_at w (length l.front))) (typecode_of item))) l.whole ∙ ap (λ w. not (bytes_eq (typecode_of w) (typecode_of item))) (item_between l.front l.item l.back))
+      ∙ sym (ap (is_otherwise_at before item) (last_number (types name) before l) ∙ ap (λ w. not (bytes_eq (typecode_of (item_at w (length l.front)))
+      (typecode_of item))) l.whole ∙ ap (λ w. not (bytes_eq (typecode_of w) (typecode_of item))) (item_between l.front l.item l.back))
 ]
   where
     same : (l : Last (types name) before) (y : Item) → In y before → types name y ≡ true → typecode_of y ≡ typecode_of l.item
@@ -256,11 +259,13 @@ stands_in x (y ∷ xs) (inl e) = record { front = []; back = xs; whole = ap (λ 
 stands_in x (y ∷ xs) (inr h) = let p = stands_in x xs h in record { front = y ∷ p.front; back = p.back; whole = ap (λ w. y ∷ w) p.whole }
 
 -- the item that has a label is the last that has it, since it is the only one
-pub label_first : (before : List Item) → AreSound before → (label : List ℕ) (front : List Item) (item : Item) (back : List Item) → before ≡ front ++ item ∷ back → has (labels_of item) label ≡ true → last_where (carries label) before ≡ Some (length front)
+pub label_first : (before : List Item) → AreSound before → (label : List ℕ) (front : List Item) (item : Item) (back : List Item)
+    → before ≡ front ++ item ∷ back → has (labels_of item) label ≡ true → last_where (carries label) before ≡ Some (length front)
 label_first before h label front item back e t = ap (last_where (carries label)) e ∙ last_is (carries label) front item back t (λ y k. false_from_ne_true (carries label y) (λ u.
     let p = stands_in y back k in
     let s = h (front ++ item ∷ p.front) y p.back (e ∙ ap (λ w. front ++ item ∷ w) p.whole ∙ sym (append_assoc front (item ∷ p.front) (y ∷ p.back))) in
-    false≢true (sym (label_new (front ++ item ∷ p.front) y label s u) ∙ in_has (labels (front ++ item ∷ p.front)) label (in_flat labels_of item label (front ++ item ∷ p.front) (in_right item front (item ∷ p.front) (inl refl)) (has_in (labels_of item) label t)))))
+    false≢true (sym (label_new (front ++ item ∷ p.front) y label s u) ∙ in_has (labels (front ++ item ∷ p.front)) label
+    (in_flat labels_of item label (front ++ item ∷ p.front) (in_right item front (item ∷ p.front) (inl refl)) (has_in (labels_of item) label t)))))
 
 -- one more item
 pub symbols_next : (test : Kind → Bool) (before : List Item) (item : Item) → symbols_by test (before ++ item ∷ []) ≡ symbols_by test before ++ cond (test item.kind) item.symbols []

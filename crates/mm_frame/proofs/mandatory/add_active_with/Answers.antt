@@ -29,4 +29,6 @@ loop-second-preserved c = record {
 pub returns-clause-pairs : goal.returns-clause-pairs
 returns-clause-pairs c all before said reads m a others r =
     let later = c.args.later.now in
-    subst (λ w. ArePairsRead all (said ++ filter (are_paired (active_pairs before)) (pairs_with (symbol_of all c.args.first) (symbols_of all w))) c.loop-second.pairs.items) (take_all c.loop-second.second-index later c.loop-second-test.false) (c.loop-second.invariant.pairs all before said reads m a others r)
+    subst (λ w. ArePairsRead all (said ++ filter (are_paired (active_pairs before)) (pairs_with (symbol_of all c.args.first) (symbols_of all w)))
+    c.loop-second.pairs.items) (take_all c.loop-second.second-index later c.loop-second-test.false)
+    (c.loop-second.invariant.pairs all before said reads m a others r)

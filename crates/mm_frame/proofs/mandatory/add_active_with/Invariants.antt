@@ -13,6 +13,7 @@ use Rattle.mm_frame.proofs.mandatory.add_active_with.Given as goal
 abbrev pub invariant-loop-second : goal.invariant-loop-second
 invariant-loop-second l = record {
   asked : AsksOn l.table l.blocks l.initial.asked l.asked;
-  pairs : (all : List (List ℕ)) (before : List Item) (said : List (Symbol × Symbol)) → ReadsPairs all before l.table l.blocks → KnowsAsked all before l.initial.asked → IsNumbered all l.first → All (IsNumbered all) l.later → ArePairsRead all said l.initial.pairs.items
+  pairs : (all : List (List ℕ)) (before : List Item) (said : List (Symbol × Symbol)) → ReadsPairs all before l.table l.blocks
+      → KnowsAsked all before l.initial.asked → IsNumbered all l.first → All (IsNumbered all) l.later → ArePairsRead all said l.initial.pairs.items
       → ArePairsRead all (said ++ filter (are_paired (active_pairs before)) (pairs_with (symbol_of all l.first) (symbols_of all (take l.second-index l.later)))) l.pairs.items;
 }

@@ -16,7 +16,8 @@ returns-then-same_pairs c names base copy is are s t =
 
 pub returns-then-has_each : goal.returns-then-has_each
 returns-then-has_each c names base copy is are s t =
-    let told = same_told names is.distinct c.in-Some-Some.mine.now c.in-Some-Some.yours.now (active_pairs (before base c.args.i)) (active_pairs (before copy c.args.j)) (c.in-Some-Some.ensures.numbered names base is) (c.in-Some-Some.ensures'.numbered names copy are)
+    let told = same_told names is.distinct c.in-Some-Some.mine.now c.in-Some-Some.yours.now (active_pairs (before base c.args.i))
+    (active_pairs (before copy c.args.j)) (c.in-Some-Some.ensures.numbered names base is) (c.in-Some-Some.ensures'.numbered names copy are)
     (c.in-Some-Some.ensures.pairs names base is) (c.in-Some-Some.ensures'.pairs names copy are) in
     let first = c.has_each.ensures.0 c.if-has_each.true in
     let second = c.has_each-then-has_each.ensures in
@@ -24,6 +25,7 @@ returns-then-has_each c names base copy is are s t =
 
 pub returns-else-has_each : goal.returns-else-has_each
 returns-else-has_each c names base copy is are s t =
-    let told = same_told names is.distinct c.in-Some-Some.mine.now c.in-Some-Some.yours.now (active_pairs (before base c.args.i)) (active_pairs (before copy c.args.j)) (c.in-Some-Some.ensures.numbered names base is) (c.in-Some-Some.ensures'.numbered names copy are)
+    let told = same_told names is.distinct c.in-Some-Some.mine.now c.in-Some-Some.yours.now (active_pairs (before base c.args.i))
+    (active_pairs (before copy c.args.j)) (c.in-Some-Some.ensures.numbered names base is) (c.in-Some-Some.ensures'.numbered names copy are)
     (c.in-Some-Some.ensures.pairs names base is) (c.in-Some-Some.ensures'.pairs names copy are) in
     (λ q. absurd (false≢true (sym c.if-has_each.false ∙ q)), λ e. c.has_each.ensures.1 (told.1 e).0)

@@ -40,7 +40,25 @@ new-requires-clause-few c =
     let keyword = behind_one c.read_label.new.words.words first c.next_word.result c.next_word.ensures.word in
     let reads = passed (kind_of c.args.item.now.kind) words c.read_label.result c.read_label.new.words.words first rest c.read_label.ensures.label keyword c.pass_symbols.ensures.rest in
     record {
-      few = omega (arith, proof_few text rest, rest_few text (kind_of c.args.item.now.kind) words c.read_label.result (plain_words first) rest reads, c.new-words.ensures.few, c.piece.ensures.small, length-take (c.args.item.now.end - c.args.item.now.start) (drop c.args.item.now.start c.piece.result.now), length-drop c.args.item.now.start c.piece.result.now);
+      few = omega (
+        arith,
+        proof_few text rest,
+        rest_few text (kind_of c.args.item.now.kind) words c.read_label.result (plain_words first) rest reads,
+        c.new-words.ensures.few,
+        c.piece.ensures.small,
+        length-take (c.args.item.now.end - c.args.item.now.start)
+            (drop c.args.item.now.start c.piece.result.now),
+        length-drop c.args.item.now.start c.piece.result.now,
+      );
       some = proof_some text rest (rest_some text (kind_of c.args.item.now.kind) words c.read_label.result (plain_words first) rest reads c.new-words.ensures.some);
-      bytes = omega (arith, proof_bytes text rest, rest_bytes text (kind_of c.args.item.now.kind) words c.read_label.result (plain_words first) rest reads, c.new-words.ensures.bytes, c.piece.ensures.small, length-take (c.args.item.now.end - c.args.item.now.start) (drop c.args.item.now.start c.piece.result.now), length-drop c.args.item.now.start c.piece.result.now);
+      bytes = omega (
+        arith,
+        proof_bytes text rest,
+        rest_bytes text (kind_of c.args.item.now.kind) words c.read_label.result (plain_words first) rest reads,
+        c.new-words.ensures.bytes,
+        c.piece.ensures.small,
+        length-take (c.args.item.now.end - c.args.item.now.start)
+            (drop c.args.item.now.start c.piece.result.now),
+        length-drop c.args.item.now.start c.piece.result.now,
+      );
     }

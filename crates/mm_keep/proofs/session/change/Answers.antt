@@ -15,17 +15,20 @@ go_on-requires c =
 pub returns-in-Ok-go_on-clause-kept : goal.returns-in-Ok-go_on-clause-kept
 returns-in-Ok-go_on-clause-kept c =
     let e = c.in-Ok.ensures in
-    c.go_on.ensures.kept c.args.files.now (were_kept c.edits_keep_files.ensures.numbers c.args.files.now c.edit_all.new.self c.in-Ok.undos c.args.top.now c.args.names.now c.args.base.now _ c.requires (map asked c.args.edits.now) e.ok e.reading e.spendable)
+    c.go_on.ensures.kept c.args.files.now (were_kept c.edits_keep_files.ensures.numbers c.args.files.now c.edit_all.new.self c.in-Ok.undos c.args.top.now
+    c.args.names.now c.args.base.now _ c.requires (map asked c.args.edits.now) e.ok e.reading e.spendable)
 
 pub returns-in-Ok-go_on-clause-runs : goal.returns-in-Ok-go_on-clause-runs
 returns-in-Ok-go_on-clause-runs c =
     let e = c.in-Ok.ensures in
-    c.in-Ok-go_on.ensures.runs c.args.files.now (were_kept c.edits_keep_files.ensures.numbers c.args.files.now c.edit_all.new.self c.in-Ok.undos c.args.top.now c.args.names.now c.args.base.now _ c.requires (map asked c.args.edits.now) e.ok e.reading e.spendable)
+    c.in-Ok-go_on.ensures.runs c.args.files.now (were_kept c.edits_keep_files.ensures.numbers c.args.files.now c.edit_all.new.self c.in-Ok.undos
+    c.args.top.now c.args.names.now c.args.base.now _ c.requires (map asked c.args.edits.now) e.ok e.reading e.spendable)
 
 pub returns-in-Err-go_on-clause-kept : goal.returns-in-Err-go_on-clause-kept
 returns-in-Err-go_on-clause-kept c =
     let e = c.in-Ok.ensures in
-    c.go_on.ensures.kept c.args.files.now (were_kept c.edits_keep_files.ensures.numbers c.args.files.now c.edit_all.new.self c.in-Ok.undos c.args.top.now c.args.names.now c.args.base.now _ c.requires (map asked c.args.edits.now) e.ok e.reading e.spendable)
+    c.go_on.ensures.kept c.args.files.now (were_kept c.edits_keep_files.ensures.numbers c.args.files.now c.edit_all.new.self c.in-Ok.undos c.args.top.now
+    c.args.names.now c.args.base.now _ c.requires (map asked c.args.edits.now) e.ok e.reading e.spendable)
 
 pub returns-in-Err-go_on-clause-refused : goal.returns-in-Err-go_on-clause-refused
 returns-in-Err-go_on-clause-refused c =
@@ -35,4 +38,5 @@ returns-in-Err-go_on-clause-refused c =
 pub returns-in-Err-go_on-clause-unchanged : goal.returns-in-Err-go_on-clause-unchanged
 returns-in-Err-go_on-clause-unchanged c =
     let e = c.in-Ok.ensures in
-    c.in-Err-go_on.ensures.undone c.args.files.now (were_kept c.edits_keep_files.ensures.numbers c.args.files.now c.edit_all.new.self c.in-Ok.undos c.args.top.now c.args.names.now c.args.base.now _ c.requires (map asked c.args.edits.now) e.ok e.reading e.spendable)
+    c.in-Err-go_on.ensures.undone c.args.files.now (were_kept c.edits_keep_files.ensures.numbers c.args.files.now c.edit_all.new.self c.in-Ok.undos
+    c.args.top.now c.args.names.now c.args.base.now _ c.requires (map asked c.args.edits.now) e.ok e.reading e.spendable)

@@ -27,14 +27,16 @@ returns-then-not-essentials_fit g c =
     let m = g.S.Symbol.means in
     let frame = frame_from m c.args.taken.now.hypotheses.now c.args.expression.now c.args.pairs.now in
     let es = read_all (map m c.args.taken.now.symbols.now) c.args.taken.now.entries.now in
-    says09 (meant_pairs m c.args.active.now.pairs.now) frame es c.requires.frame (count_of m (map m c.args.taken.now.symbols.now) c.args.taken.now.entries.now c.args.taken.now.hypotheses.now c.requires.count) c.if-not-typecodes_match.ensures c.if-not-essentials_fit.ensures
+    says09 (meant_pairs m c.args.active.now.pairs.now) frame es c.requires.frame (count_of m (map m c.args.taken.now.symbols.now)
+    c.args.taken.now.entries.now c.args.taken.now.hypotheses.now c.requires.count) c.if-not-typecodes_match.ensures c.if-not-essentials_fit.ensures
 
 pub returns-in-Some : goal.returns-in-Some
 returns-in-Some g c =
     let m = g.S.Symbol.means in
     let frame = frame_from m c.args.taken.now.hypotheses.now c.args.expression.now c.args.pairs.now in
     let es = read_all (map m c.args.taken.now.symbols.now) c.args.taken.now.entries.now in
-    says_pairs (meant_pairs m c.args.active.now.pairs.now) frame es c.requires.frame (count_of m (map m c.args.taken.now.symbols.now) c.args.taken.now.entries.now c.args.taken.now.hypotheses.now c.requires.count) c.if-not-typecodes_match.ensures c.if-not-essentials_fit.ensures
+    says_pairs (meant_pairs m c.args.active.now.pairs.now) frame es c.requires.frame (count_of m (map m c.args.taken.now.symbols.now)
+    c.args.taken.now.entries.now c.args.taken.now.hypotheses.now c.requires.count) c.if-not-typecodes_match.ensures c.if-not-essentials_fit.ensures
     c.in-Some.number (rw c.in-Some.is at c.in_ok-number.ensures)
 
 pub returns-then-not-is_short : goal.returns-then-not-is_short
@@ -42,7 +44,8 @@ returns-then-not-is_short g c =
     let m = g.S.Symbol.means in
     let frame = frame_from m c.args.taken.now.hypotheses.now c.args.expression.now c.args.pairs.now in
     let es = read_all (map m c.args.taken.now.symbols.now) c.args.taken.now.entries.now in
-    says12 (meant_pairs m c.args.active.now.pairs.now) frame es c.requires.frame (count_of m (map m c.args.taken.now.symbols.now) c.args.taken.now.entries.now c.args.taken.now.hypotheses.now c.requires.count) c.if-not-typecodes_match.ensures c.if-not-essentials_fit.ensures
+    says12 (meant_pairs m c.args.active.now.pairs.now) frame es c.requires.frame (count_of m (map m c.args.taken.now.symbols.now)
+    c.args.taken.now.entries.now c.args.taken.now.hypotheses.now c.requires.count) c.if-not-typecodes_match.ensures c.if-not-essentials_fit.ensures
     (rw c.in_default.is at c.in_ok-number.ensures)
     (λ given gives. c.if-not-is_short.ensures given (gives_all frame.hypotheses given es frame.expression (hypotheses_known frame c.requires.frame) gives c.requires.frame.expression_typed))
 

@@ -33,5 +33,6 @@ loop-place-preserved g c given gives =
 pub returns : goal.returns
 returns g c given gives =
     let m = g.S.Symbol.means in
-    none_all (OtherEssential given) (hypotheses_of m c.args.taken.now.hypotheses.now) (read_all (map m c.args.taken.now.symbols.now) c.args.taken.now.entries.now) c.loop-place.place (omega (arith, length-map c.args.taken.now.hypotheses.now (mandatory_of m), c.loop-place-test.false))
+    none_all (OtherEssential given) (hypotheses_of m c.args.taken.now.hypotheses.now) (read_all (map m c.args.taken.now.symbols.now)
+    c.args.taken.now.entries.now) c.loop-place.place (omega (arith, length-map c.args.taken.now.hypotheses.now (mandatory_of m), c.loop-place-test.false))
     (c.loop-place.invariant given gives)

@@ -19,7 +19,8 @@ loop-place-preserved g c =
     let m = g.S.Symbol.means in
     let h = get_or c.args.taken.now.hypotheses.now c.loop-place.place c.index-taken-place.result in
     none_more OtherTypecode (hypotheses_of m c.args.taken.now.hypotheses.now) (read_all (map m c.args.taken.now.symbols.now) c.args.taken.now.entries.now) c.loop-place.place (mandatory_of m h) (map m c.entry_at.result.now)
-    (mapped_or_get (mandatory_of m) c.args.taken.now.hypotheses.now c.loop-place.place c.index-taken-place.result c.loop-place-test.true) c.entry_at.ensures (λ r. false≢true (sym c.if-is_other_typecode.false ∙ c.is_other_typecode.ensures.1 r)) c.loop-place.invariant
+    (mapped_or_get (mandatory_of m) c.args.taken.now.hypotheses.now c.loop-place.place c.index-taken-place.result c.loop-place-test.true) c.entry_at.ensures
+    (λ r. false≢true (sym c.if-is_other_typecode.false ∙ c.is_other_typecode.ensures.1 r)) c.loop-place.invariant
 
 pub returns : goal.returns
 returns g c =

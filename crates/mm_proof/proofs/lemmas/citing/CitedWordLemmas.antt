@@ -58,7 +58,8 @@ none_less P label other e = elim (cases_Bool (bytes_eq label other)) [
 ]
 
 told_no : (P : List ℕ → Bool) (n : ℕ) (label : List ℕ) (words : Words) → P label ≡ false → told P ((n, label) ∷ words) ≡ told P words
-told_no P n label words e = rw e (ap (map (λ (w : ℕ × List ℕ). w.0)) (both (λ (w : ℕ × List ℕ). P w.1) (λ (w : ℕ × List ℕ). not (bytes_eq label w.1)) (firsts words) ∙ alike (λ (w : ℕ × List ℕ). less P label w.1) (λ (w : ℕ × List ℕ). P w.1) (firsts words) (λ w. none_less P label w.1 e)))
+told_no P n label words e = rw e (ap (map (λ (w : ℕ × List ℕ). w.0)) (both (λ (w : ℕ × List ℕ). P w.1) (λ (w : ℕ × List ℕ). not (bytes_eq label w.1))
+    (firsts words) ∙ alike (λ (w : ℕ × List ℕ). less P label w.1) (λ (w : ℕ × List ℕ). P w.1) (firsts words) (λ w. none_less P label w.1 e)))
 
 module _ (view : BaseView) where
   -- the words are those of the entries, from word n on
@@ -193,7 +194,12 @@ module _ (view : BaseView) where
       AreEntries view i entries →
       Agrees (is_cited (setting_at view i) (map (λ (step : ProofStep). meant (entry_steps view labels) step.action) steps)) (λ j. list_any (names_item labels j) steps) entries
   agree own i labels steps [] all some = tt
-  agree own i labels steps (answers.Assertion j ∷ entries) all some = (some.0.0.carrier.shown, rw (entry_some i j some.0) (any_named own i j labels steps all some.0.0.carrier.shown (entry_some i j some.0)), agree own i labels steps entries all some.1)
+  agree own i labels steps (answers.Assertion j ∷ entries) all some = (
+    some.0.0.carrier.shown,
+    rw (entry_some i j some.0)
+        (any_named own i j labels steps all some.0.0.carrier.shown (entry_some i j some.0)),
+    agree own i labels steps entries all some.1,
+  )
   agree own i labels steps (answers.Hypothesis j ∷ entries) all some = (rw (entry_none i j some.0) refl, agree own i labels steps entries all some.1)
   agree own i labels steps (answers.Inactive ∷ entries) all some = agree own i labels steps entries all some.1
   agree own i labels steps (answers.Unknown ∷ entries) all some = agree own i labels steps entries all some.1

@@ -56,5 +56,6 @@ labels_rise words = elim (cases_Bool (is_compressed words)) [
 ]
 
 pub rises : (place : Setting) (words : List (List ℕ)) (decoding : Result Decoded ProofFault) → Rise (cites place words decoding)
-rises place words (Ok d) = only_numbers (filter (λ (w : ℕ × List ℕ). is_cited place d.steps w.1) (firsts (label_words words))) (kept (λ (w : ℕ × List ℕ). is_cited place d.steps w.1) (firsts (label_words words)) (firsts_rise (label_words words) (labels_rise words)))
+rises place words (Ok d) = only_numbers (filter (λ (w : ℕ × List ℕ). is_cited place d.steps w.1) (firsts (label_words words)))
+    (kept (λ (w : ℕ × List ℕ). is_cited place d.steps w.1) (firsts (label_words words)) (firsts_rise (label_words words) (labels_rise words)))
 rises place words (Err fault) = tt

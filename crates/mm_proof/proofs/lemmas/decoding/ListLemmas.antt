@@ -81,7 +81,8 @@ at_end place mandatory close listed are =
     ∙ ap (λ (w : Bool). parts place mandatory close listed w (after_first is_close (listed ++ []))) (none_end listed are.1)
     ∙ rw are.0.1 refl
 
-at_close : (place : Setting) (mandatory : List (List ℕ)) (close : Spot) (listed words : List (List ℕ)) → AreListed place 1 listed → compressed_steps place mandatory (listed ++ codes ")" ∷ words) close ≡ letter_steps mandatory listed (1 + length listed + 1) words close
+at_close : (place : Setting) (mandatory : List (List ℕ)) (close : Spot) (listed words : List (List ℕ)) → AreListed place 1 listed
+    → compressed_steps place mandatory (listed ++ codes ")" ∷ words) close ≡ letter_steps mandatory listed (1 + length listed + 1) words close
 at_close place mandatory close listed words are =
     let k : length listed + 2 ≡ 1 + length listed + 1 = omega arith in
     compressed_is place mandatory close listed words are.1
@@ -93,7 +94,8 @@ at_fault :
     AreListed place 1 listed → is_close word ≡ false → read_label place word ≡ Err number →
     compressed_steps place mandatory (listed ++ word ∷ words) close ≡ Err (record { number = number; spot = word_spot (1 + length listed) })
 at_fault place mandatory close listed word words number are other fails =
-    ap (λ (w : List (List ℕ)). parts place mandatory close w (list_any is_close (listed ++ word ∷ words)) (after_first is_close (listed ++ word ∷ words))) (before_none listed (word ∷ words) are.1 ∙ ap (λ (w : List (List ℕ)). listed ++ w) (before_one word words other))
+    ap (λ (w : List (List ℕ)). parts place mandatory close w (list_any is_close (listed ++ word ∷ words)) (after_first is_close (listed ++ word ∷ words)))
+    (before_none listed (word ∷ words) are.1 ∙ ap (λ (w : List (List ℕ)). listed ++ w) (before_one word words other))
     ∙ rw (fails_at place 1 listed word (before_first is_close words) number are.0.0 are.0.1 fails) refl
 
 by_label :

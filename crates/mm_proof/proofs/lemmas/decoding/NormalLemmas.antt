@@ -49,8 +49,11 @@ module _ (view : BaseView) (i : ℕ) (words : List (List ℕ)) (n : ℕ) (labels
   -- what the words from there on give, by the first of them
   by_word :
       (word : List ℕ) (more : List Step) → n < length words → word ≡ get_or words n [] →
-      with_steps (meant_steps (entry_steps view labels ++ more) steps) (read_first (word_spot n) (read_word (setting_at view i) word) (in_order (each_word (read_word (setting_at view i)) (n + 1) (drop (n + 1) words)))) ≡ in_order (each_word (read_word (setting_at view i)) 0 words)
-  by_word word more less is = ap (λ (w : List (List ℕ)). with_steps (meant_steps (entry_steps view labels ++ more) steps) (in_order (each_word (read_word (setting_at view i)) n w))) (ap (λ (w : List ℕ). w ∷ drop (n + 1) words) is ∙ sym (next_is words n [] less)) ∙ normal.rest more
+      with_steps (meant_steps (entry_steps view labels ++ more) steps) (read_first (word_spot n) (read_word (setting_at view i) word)
+      (in_order (each_word (read_word (setting_at view i)) (n + 1) (drop (n + 1) words)))) ≡ in_order (each_word (read_word (setting_at view i)) 0 words)
+  by_word word more less is = ap (λ (w : List (List ℕ)). with_steps (meant_steps (entry_steps view labels ++ more) steps)
+      (in_order (each_word (read_word (setting_at view i)) n w))) (ap (λ (w : List ℕ). w ∷ drop (n + 1) words) is ∙ sym (next_is words n [] less)) ∙
+      normal.rest more
 
   -- one more word
   pub word_on :

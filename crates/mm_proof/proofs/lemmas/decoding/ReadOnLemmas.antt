@@ -63,7 +63,8 @@ cut_same labels saves at by _ _ e = refl
 abbrev grouped : List Letter → Letter → List Group → List Group
 grouped ds l gs = record { digits = ds; last = Some l } ∷ gs
 
-group_same : (labels : List Step) (saves : ℕ) (at by : Spot) (ds es : List Letter) (l m : Letter) (gs hs : List Group) → bytes ds ≡ bytes es → l.byte ≡ m.byte → ((saves : ℕ) → Same labels saves at by gs hs) → Same labels saves at by (grouped ds l gs) (grouped es m hs)
+group_same : (labels : List Step) (saves : ℕ) (at by : Spot) (ds es : List Letter) (l m : Letter) (gs hs : List Group) → bytes ds ≡ bytes es
+    → l.byte ≡ m.byte → ((saves : ℕ) → Same labels saves at by gs hs) → Same labels saves at by (grouped ds l gs) (grouped es m hs)
 group_same labels saves at by ds es l m gs hs e f rest =
     rw (f, letter_same (nameable labels saves) ds es m.byte e) (told_first l.spot m.spot (read_letter (nameable labels saves) es m.byte) _ _ (rest (cond (m.byte == 90) (saves + 1) saves)))
 
@@ -125,7 +126,9 @@ told_decoded : (close : Spot) (s : Steps) → without_spots (decoded close s) �
 told_decoded close (Ok steps) = refl
 told_decoded close (Err fault) = refl
 
-letters_same : (mandatory listed : List (List ℕ)) (n : ℕ) (at by : Spot) (some others : List (List ℕ)) → flat_map (λ word. word) some ≡ flat_map (λ word. word) others → told (letter_steps mandatory listed n some at) ≡ told (letter_steps mandatory listed n others by)
+letters_same : (mandatory listed : List (List ℕ)) (n : ℕ) (at by : Spot) (some others : List (List ℕ))
+    → flat_map (λ word. word) some ≡ flat_map (λ word. word) others → told (letter_steps mandatory listed n some at) ≡ told
+    (letter_steps mandatory listed n others by)
 letters_same mandatory listed n at by some others e = behind_same (map Named (mandatory ++ listed)) 0 at by [] [] (letters_from n some) (letters_from n others) refl (bytes_from n some ∙ e ∙ sym (bytes_from n others))
 
 -- the spot behind a compressed proof with these listed labels and these words of letters

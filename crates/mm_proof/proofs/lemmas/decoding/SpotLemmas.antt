@@ -129,7 +129,8 @@ module _ (words : List (List ℕ)) where
       let from : drop (length listed + 2) words ≡ after_first is_close behind = ap (λ n. drop (n + 2) words) count ∙ further (prefix_len (λ word. not (is_close word)) behind) words in
       behind_in (in_order (each_word (read_label place) 1 listed)) _ (order_in (each_word (read_label place) 1 listed) (each_in (read_label place) 1 listed short))
       (elim (cases_Bool (list_any is_close behind)) [
-        | inl has ↦ rw has (order_in _ (read_in (map Named (mandatory ++ listed)) close 0 _ (groups_in close end_in [] (letters_from (length listed + 2) (after_first is_close behind)) (all_letters (length listed + 2) (after_first is_close behind) from))))
+        | inl has ↦ rw has (order_in _ (read_in (map Named (mandatory ++ listed)) close 0 _ (groups_in close end_in []
+            (letters_from (length listed + 2) (after_first is_close behind)) (all_letters (length listed + 2) (after_first is_close behind) from))))
         | inr none ↦ rw none end_in
       ])
 

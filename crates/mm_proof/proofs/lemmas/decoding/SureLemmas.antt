@@ -70,7 +70,8 @@ after_then place saves save Save more is rest = rw is at rest
 after_then place saves save NotKnown more is rest = rw is at rest
 after_then place saves save _ more is rest = (is.1, rw is.0 at rest)
 
-words_sure : (place : Setting) (read : List ℕ → Result Step ProofNumber) → ((word : List ℕ) (step : Step) → read word ≡ Ok step → IsWord place step) → (n : ℕ) (words : List (List ℕ)) (steps : List (Step × Spot)) → in_order (each_word read n words) ≡ Ok steps
+words_sure : (place : Setting) (read : List ℕ → Result Step ProofNumber) → ((word : List ℕ) (step : Step) → read word ≡ Ok step → IsWord place step)
+    → (n : ℕ) (words : List (List ℕ)) (steps : List (Step × Spot)) → in_order (each_word read n words) ≡ Ok steps
     → AreDecodedAfter place 0 (step_list steps)
 words_sure place read each n [] steps e = let k : steps ≡ [] = cc in rw k tt
 words_sure place read each n (word ∷ words) steps e =
@@ -129,11 +130,13 @@ byte_sure place labels saves digits byte step all e = elim (cases_Bool (is_last 
   ]
 ]
 
-group_sure : (place : Setting) (labels : List Step) (saves : ℕ) (digits : List Letter) (last : Option Letter) (step : Step) → AreSure place labels → read_group (nameable labels saves) digits last ≡ Ok step → IsAfter place saves (is_save_letter last) step
+group_sure : (place : Setting) (labels : List Step) (saves : ℕ) (digits : List Letter) (last : Option Letter) (step : Step) → AreSure place labels
+    → read_group (nameable labels saves) digits last ≡ Ok step → IsAfter place saves (is_save_letter last) step
 group_sure place labels saves digits (Some letter) step all e = byte_sure place labels saves digits letter.byte step all e
 group_sure place labels saves digits None step all e = cc
 
-pub groups_sure : (place : Setting) (labels : List Step) (close : Spot) (saves : ℕ) (gs : List Group) (steps : List (Step × Spot)) → AreSure place labels → in_order (each_group labels close saves gs) ≡ Ok steps → AreDecodedAfter place saves (step_list steps)
+pub groups_sure : (place : Setting) (labels : List Step) (close : Spot) (saves : ℕ) (gs : List Group) (steps : List (Step × Spot)) → AreSure place labels
+    → in_order (each_group labels close saves gs) ≡ Ok steps → AreDecodedAfter place saves (step_list steps)
 groups_sure place labels close saves [] steps all e = let k : steps ≡ [] = cc in rw k tt
 groups_sure place labels close saves (g ∷ gs) steps all e =
     let r = read_ok (group_spot close g.last) (read_group (nameable labels saves) g.digits g.last) (in_order (each_group labels close (cond (is_save_letter g.last) (saves + 1) saves) gs)) steps e in
@@ -143,16 +146,22 @@ pub read_behind : (list rest : Steps) (steps : List (Step × Spot)) → if_read 
 read_behind (Ok some) rest steps e = ((some, refl), e)
 read_behind (Err fault) rest steps e = cc
 
-compressed_sure : (place : Setting) (mandatory words : List (List ℕ)) (close : Spot) (steps : List (Step × Spot)) → AllByRecursion (λ label. IsUsable (place.resolve label)) mandatory → compressed_steps place mandatory words close ≡ Ok steps → AreDecodedAfter place 0 (step_list steps)
+compressed_sure : (place : Setting) (mandatory words : List (List ℕ)) (close : Spot) (steps : List (Step × Spot))
+    → AllByRecursion (λ label. IsUsable (place.resolve label)) mandatory → compressed_steps place mandatory words close ≡ Ok steps
+    → AreDecodedAfter place 0 (step_list steps)
 compressed_sure place mandatory words close steps all e =
     let r = read_behind (in_order (each_word (read_label place) 1 (before_first is_close words))) _ steps e in
     let listed = list_sure place 1 (before_first is_close words) r.0.0 r.0.1 in
     elim (cases_Bool (list_any is_close words)) [
-      | inl has ↦ groups_sure place (map Named (mandatory ++ before_first is_close words)) close 0 (groups (letters_from (length (before_first is_close words) + 2) (after_first is_close words))) steps (all_sure place mandatory (before_first is_close words) all listed) (rw has at r.1)
+      | inl has ↦ groups_sure place (map Named (mandatory ++ before_first is_close words)) close 0 (groups
+          (letters_from (length (before_first is_close words) + 2) (after_first is_close words))) steps
+          (all_sure place mandatory (before_first is_close words) all listed) (rw has at r.1)
       | inr none ↦ let bad = rw none at r.1 in cc
     ]
 
-steps_sure : (place : Setting) (mandatory words : List (List ℕ)) (close : Spot) (steps : List (Step × Spot)) → AllByRecursion (λ label. IsUsable (place.resolve label)) mandatory → steps_in place mandatory words close ≡ Ok steps → AreDecodedAfter place 0 (step_list steps)
+steps_sure : (place : Setting) (mandatory words : List (List ℕ)) (close : Spot) (steps : List (Step × Spot))
+    → AllByRecursion (λ label. IsUsable (place.resolve label)) mandatory → steps_in place mandatory words close ≡ Ok steps
+    → AreDecodedAfter place 0 (step_list steps)
 steps_sure place mandatory words close steps all e = elim (cases_Bool (is_compressed words)) [
   | inl is ↦ compressed_sure place mandatory (drop 1 words) close steps all (rw is at e)
   | inr normal ↦ words_sure place (read_word place) (word_sure place) 0 words steps (rw normal at e)
@@ -166,7 +175,8 @@ same_count : (steps : List (Step × Spot)) → length (map (λ (step : Step × S
 same_count [] = refl
 same_count (step ∷ steps) = ap suc (same_count steps)
 
-pub decodes_surely : (place : Setting) (mandatory words : List (List ℕ)) (d : Decoded) → AllByRecursion (λ label. IsUsable (place.resolve label)) mandatory → decoding place mandatory words ≡ Ok d → AreDecoded place d.steps × (length d.spots ≡ length d.steps)
+pub decodes_surely : (place : Setting) (mandatory words : List (List ℕ)) (d : Decoded) → AllByRecursion (λ label. IsUsable (place.resolve label)) mandatory
+    → decoding place mandatory words ≡ Ok d → AreDecoded place d.steps × (length d.spots ≡ length d.steps)
 decodes_surely place mandatory words d all e =
     let s = decoded_ok (word_spot (length words)) (steps_in place mandatory words (word_spot (length words))) d e in
     rw s.2 (counted place (step_list s.0) (steps_sure place mandatory words (word_spot (length words)) s.0 all s.1), same_count s.0)

@@ -44,7 +44,8 @@ module _ (view : BaseView) (i : ℕ) (mandatory words : List (List ℕ)) (n : �
   by_next word less is = lists.before ∙ ap (λ (w : List (List ℕ)). lists.listed ++ w) (next_is words n [] less ∙ ap (λ (w : List ℕ). w ∷ drop (n + 1) words) (sym is))
 
   -- what the words from there on give, by the first of them
-  by_word : (word : List ℕ) → n < length words → word ≡ get_or words n [] → compressed_steps (setting_at view i) mandatory (drop 1 words) (word_spot (length words)) ≡ list_on (setting_at view i) mandatory (word_spot (length words)) lists.listed n (word ∷ drop (n + 1) words)
+  by_word : (word : List ℕ) → n < length words → word ≡ get_or words n [] → compressed_steps (setting_at view i) mandatory (drop 1 words)
+      (word_spot (length words)) ≡ list_on (setting_at view i) mandatory (word_spot (length words)) lists.listed n (word ∷ drop (n + 1) words)
   by_word word less is = lists.rest ∙ ap (list_on (setting_at view i) mandatory (word_spot (length words)) lists.listed n) (next_is words n [] less ∙ ap (λ (w : List ℕ). w ∷ drop (n + 1) words) (sym is))
 
   -- at the `)`
@@ -59,7 +60,9 @@ module _ (view : BaseView) (i : ℕ) (mandatory words : List (List ℕ)) (n : �
   }
 
   -- at a label that can be used
-  pub goes_on : (word : List ℕ) (meaning : Resolved) → n < length words → word ≡ get_or words n [] → is_close word ≡ false → read_label (setting_at view i) word ≡ Ok (entry_step view meaning) → IsEntry view i meaning → Lists view i mandatory words (n + 1) (labels ++ meaning ∷ [])
+  pub goes_on : (word : List ℕ) (meaning : Resolved) → n < length words → word ≡ get_or words n [] → is_close word ≡ false
+      → read_label (setting_at view i) word ≡ Ok (entry_step view meaning) → IsEntry view i meaning → Lists view i mandatory words (n + 1)
+      (labels ++ meaning ∷ [])
   goes_on word meaning less is other read entry =
       let named = (usable_is word ((setting_at view i).resolve word) (entry_step view meaning) read).0 in
       record {
@@ -72,7 +75,9 @@ module _ (view : BaseView) (i : ℕ) (mandatory words : List (List ℕ)) (n : �
       }
 
   -- at a label that cannot be used
-  pub fails : (word : List ℕ) (e : Undecoded) → n < length words → word ≡ get_or words n [] → is_close word ≡ false → TellsWord e n (read_label (setting_at view i) word) → TellsSteps e (compressed_steps (setting_at view i) mandatory (drop 1 words) (word_spot (length words)))
+  pub fails : (word : List ℕ) (e : Undecoded) → n < length words → word ≡ get_or words n [] → is_close word ≡ false
+      → TellsWord e n (read_label (setting_at view i) word) → TellsSteps e (compressed_steps (setting_at view i) mandatory (drop 1 words)
+      (word_spot (length words)))
   fails word (errors.Fault fault) less is other tells = by_word word less is ∙ rw (other, tells.0, tells.1) refl
   fails word errors.Memory less is other tells = tt
 
@@ -90,7 +95,9 @@ hypothesis_entries view i [] all = tt
 hypothesis_entries view i (j ∷ numbers) all = (all.0, hypothesis_entries view i numbers all.1)
 
 -- behind the `(`, with the mandatory hypotheses as entries
-pub list_begins : (view : BaseView) (i : ℕ) (numbers : List ℕ) (words behind : List (List ℕ)) (labels : List Resolved) → labels ≡ map answers.Hypothesis numbers → AreActive view i numbers → AreLeft words behind 1 → BeginsTable view i (labels_at view numbers) words behind labels
+pub list_begins : (view : BaseView) (i : ℕ) (numbers : List ℕ) (words behind : List (List ℕ)) (labels : List Resolved)
+    → labels ≡ map answers.Hypothesis numbers → AreActive view i numbers → AreLeft words behind 1 → BeginsTable view i (labels_at view numbers) words behind
+    labels
 list_begins view i numbers words behind labels e active left = record { left = left; labels_are = rw e (hypothesis_steps view numbers); entries = rw e (hypothesis_entries view i numbers active) }
 
 -- the letters behind the list

@@ -141,7 +141,8 @@ read_last before after s a b =
     count : s.end - s.start ≡ length after - length before
     count = omega arith
 
-pub gathers_step : {S : Type 0} (hypotheses : List (Hypothesis S)) (es : List (List Symbol)) (before after : List Symbol) (spans more : List Entry) (n : ℕ) (h : Hypothesis S) (e : List Symbol) → slice_get hypotheses n ≡ Some h → slice_get es n ≡ Some e →
+pub gathers_step : {S : Type 0} (hypotheses : List (Hypothesis S)) (es : List (List Symbol)) (before after : List Symbol) (spans more : List Entry) (n : ℕ)
+    (h : Hypothesis S) (e : List Symbol) → slice_get hypotheses n ≡ Some h → slice_get es n ≡ Some e →
     GathersEntry h.floating e before after spans more → Gathers hypotheses es before spans n → Gathers hypotheses es after more (n + 1)
 gathers_step {S = S} hypotheses es before after spans more n h e at_h at_e a f = record {
   count = ap length a.added ∙ length-append spans (a.span ∷ []) ∙ ap (λ k. k + 1) f.count;
@@ -191,7 +192,8 @@ entry_gathered xs before after e n start end paired spans more is l f a b c = re
   );
 }
 
-pub entry_passed : (before after e : List Symbol) (start end : ℕ) (paired : Bool) (spans more : List Entry) → paired ≡ false → after ≡ before → start ≡ length before → end ≡ length after → more ≡ spans ++ record { start = start; end = end; floor = start } ∷ [] →
+pub entry_passed : (before after e : List Symbol) (start end : ℕ) (paired : Bool) (spans more : List Entry) → paired ≡ false → after ≡ before
+    → start ≡ length before → end ≡ length after → more ≡ spans ++ record { start = start; end = end; floor = start } ∷ [] →
     GathersEntry paired e before after spans more
 entry_passed before after e start end paired spans more off same a b c = record {
   span = record { start = start; end = end; floor = start };

@@ -52,14 +52,25 @@ module _ (active : List (Symbol × Symbol)) (frame : Frame) (es : List (List Sym
       below10 stack l at = none_more (CitingFails active frame stack) P09 (below09 stack l at) (λ q. n9 q.0 (subst (λ w. GivesEntries q.0 frame.hypotheses w) at q.1) (subst (λ w. AnyZip (OtherEssential q.0) frame.hypotheses w) at q.2))
 
       says10 : ((given : Symbol → List Symbol) → GivesEntries given frame.hypotheses es → Any (λ pair. ShareVariable (given pair.0) (given pair.1)) frame.pairs) → CitingSays active frame es (Some P10)
-      says10 q stack l at = lowest (CitingFails active frame stack) P10 (below10 stack l at) (given_by frame.hypotheses es, subst (λ w. GivesEntries (given_by frame.hypotheses es) frame.hypotheses w) (sym at) gives, q (given_by frame.hypotheses es) gives)
+      says10 q stack l at = lowest (CitingFails active frame stack) P10 (below10 stack l at) (
+        given_by frame.hypotheses es,
+        subst
+            (λ w. GivesEntries (given_by frame.hypotheses es) frame.hypotheses w) (sym at) gives,
+        q (given_by frame.hypotheses es) gives,
+      )
 
-      below11 : ((given : Symbol → List Symbol) → GivesEntries given frame.hypotheses es → Any (λ pair. ShareVariable (given pair.0) (given pair.1)) frame.pairs → ⊥) → (stack : List (List Symbol)) → length frame.hypotheses ≤ length stack → entries_for frame stack ≡ es →
+      below11 : ((given : Symbol → List Symbol) → GivesEntries given frame.hypotheses es → Any (λ pair. ShareVariable (given pair.0) (given pair.1))
+          frame.pairs → ⊥) → (stack : List (List Symbol)) → length frame.hypotheses ≤ length stack → entries_for frame stack ≡ es →
           NoneBelow (CitingFails active frame stack) 11
       below11 n10 stack l at = none_more (CitingFails active frame stack) P10 (below10 stack l at) (λ q. n10 q.0 (subst (λ w. GivesEntries q.0 frame.hypotheses w) at q.1) q.2)
 
-      says11 : ((given : Symbol → List Symbol) → GivesEntries given frame.hypotheses es → (Any (λ pair. ShareVariable (given pair.0) (given pair.1)) frame.pairs → ⊥) × Any (λ pair. LackPair active (given pair.0) (given pair.1)) frame.pairs) → CitingSays active frame es (Some P11)
-      says11 q stack l at = lowest (CitingFails active frame stack) P11 (below11 (λ given g. (q given g).0) stack l at) (given_by frame.hypotheses es, subst (λ w. GivesEntries (given_by frame.hypotheses es) frame.hypotheses w) (sym at) gives, (q (given_by frame.hypotheses es) gives).1)
+      says11 : ((given : Symbol → List Symbol) → GivesEntries given frame.hypotheses es → (Any (λ pair. ShareVariable (given pair.0) (given pair.1))
+          frame.pairs → ⊥) × Any (λ pair. LackPair active (given pair.0) (given pair.1)) frame.pairs) → CitingSays active frame es (Some P11)
+      says11 q stack l at = lowest (CitingFails active frame stack) P11 (below11 (λ given g. (q given g).0) stack l at) (
+        given_by frame.hypotheses es,
+        subst (λ w. GivesEntries (given_by frame.hypotheses es) frame.hypotheses w) (sym at) gives,
+        (q (given_by frame.hypotheses es) gives).1,
+      )
 
       -- a number that is said of pairs
       pub says_pairs : (number : ProofNumber) → ((given : Symbol → List Symbol) → GivesEntries given frame.hypotheses es → PairsSay active given frame.pairs (Some number)) → CitingSays active frame es (Some number)
@@ -70,13 +81,21 @@ module _ (active : List (Symbol × Symbol)) (frame : Frame) (es : List (List Sym
       module _ (n11 : (given : Symbol → List Symbol) → GivesEntries given frame.hypotheses es → All (λ pair. AreApart active (given pair.0) (given pair.1)) frame.pairs) where
         below12 : (stack : List (List Symbol)) → length frame.hypotheses ≤ length stack → entries_for frame stack ≡ es → NoneBelow (CitingFails active frame stack) 12
         below12 stack l at = none_more (CitingFails active frame stack) P11 (below11 (λ given g a. (let x = n11 given g a.0 a.1 a.2 in (subst (λ (w : Symbol × Symbol). AreApart active (given w.0) (given w.1)) a.3 x).unshared a.4)) stack l at)
-            (λ q. (let g = subst (λ w. GivesEntries q.0 frame.hypotheses w) at q.1 in let a = q.2 in let x = subst (λ (w : Symbol × Symbol). AreApart active (q.0 w.0) (q.0 w.1)) a.3 (n11 q.0 g a.0 a.1 a.2) in let y = a.4 in y.5 (x.paired y.0 y.1 y.2 y.3 y.4)))
+            (λ q. (let g = subst (λ w. GivesEntries q.0 frame.hypotheses w) at q.1 in let a = q.2 in let x = subst
+            (λ (w : Symbol × Symbol). AreApart active (q.0 w.0) (q.0 w.1)) a.3 (n11 q.0 g a.0 a.1 a.2) in let y = a.4 in y.5
+            (x.paired y.0 y.1 y.2 y.3 y.4)))
 
         pub says12 : ((given : Symbol → List Symbol) → GivesEntries given frame.hypotheses es → 1000000 < length (substituted given frame.expression)) → CitingSays active frame es (Some P12)
-        says12 q stack l at = lowest (CitingFails active frame stack) P12 (below12 stack l at) (given_by frame.hypotheses es, subst (λ w. GivesEntries (given_by frame.hypotheses es) frame.hypotheses w) (sym at) gives, q (given_by frame.hypotheses es) gives)
+        says12 q stack l at = lowest (CitingFails active frame stack) P12 (below12 stack l at) (
+          given_by frame.hypotheses es,
+          subst
+              (λ w. GivesEntries (given_by frame.hypotheses es) frame.hypotheses w) (sym at) gives,
+          q (given_by frame.hypotheses es) gives,
+        )
 
 -- where nothing is wrong, the assertion is cited, and its result is any that the entries give
-pub cited_by : (active : List (Symbol × Symbol)) (frame : Frame) (stack : List (List Symbol)) (es : List (List Symbol)) → IsFrame frame → length es ≡ length frame.hypotheses → length frame.hypotheses ≤ length stack → entries_for frame stack ≡ es → CitingSays active frame es None →
+pub cited_by : (active : List (Symbol × Symbol)) (frame : Frame) (stack : List (List Symbol)) (es : List (List Symbol)) → IsFrame frame
+    → length es ≡ length frame.hypotheses → length frame.hypotheses ≤ length stack → entries_for frame stack ≡ es → CitingSays active frame es None →
     (result : List Symbol) → ((given : Symbol → List Symbol) → GivesEntries given frame.hypotheses es → result ≡ substituted given frame.expression) → Cites active frame stack (take (length stack - length frame.hypotheses) stack ++ result ∷ [])
 cited_by active frame stack es is count l at says result r =
     let given = given_by frame.hypotheses es in

@@ -81,7 +81,8 @@ slot_gives hs given es is gives j v slot =
     (z.0, z.1, ap given (sym same) ∙ sym (ap (λ w. drop 1 w) joined))
 
 -- of an expression whose variables are typed
-pub gives_all : (hs : List Mandatory) (given : Symbol → List Symbol) (es : List (List Symbol)) (expression : List Symbol) → AreAllTyped hs → GivesEntries given hs es → ((v : Symbol) → HasVariable expression v → IsTyped hs v) → GivesVariables given hs es expression
+pub gives_all : (hs : List Mandatory) (given : Symbol → List Symbol) (es : List (List Symbol)) (expression : List Symbol) → AreAllTyped hs
+    → GivesEntries given hs es → ((v : Symbol) → HasVariable expression v → IsTyped hs v) → GivesVariables given hs es expression
 gives_all hs given es expression is gives typed = record { typed = typed; slots = slot_gives hs given es is gives }
 
 -- of a `$e`

@@ -79,7 +79,8 @@ same_at f xs ys i x y at_x at_y in_xs in_ys e =
     ap f at_x ∙ sym (get_or-map f xs i x (f x) in_xs) ∙ ap (λ ms. get_or ms i (f x)) e ∙ get_or-map f ys i y (f x) in_ys ∙ sym (ap f at_y)
 
 -- the whole expression, by the symbols so far, one more, and the rest
-pub put_rest : (given : Symbol → List Symbol) (expression : List Symbol) (k : ℕ) (s : Symbol) → slice_get expression k ≡ Some s → substituted given expression ≡ substituted given (take k expression) ++ (replacement given s ++ substituted given (drop (k + 1) expression))
+pub put_rest : (given : Symbol → List Symbol) (expression : List Symbol) (k : ℕ) (s : Symbol) → slice_get expression k ≡ Some s
+    → substituted given expression ≡ substituted given (take k expression) ++ (replacement given s ++ substituted given (drop (k + 1) expression))
 put_rest given expression k s e =
     ap (substituted given) (sym (take-append-drop (k + 1) expression))
     ∙ flat_map-append (replacement given) (take (k + 1) expression) (drop (k + 1) expression)
@@ -96,9 +97,11 @@ fits_on entry front part at n p e =
     ∙ sym (append_assoc front part (drop (at + n) entry))
 
 -- where it is the whole, its next part is that of the next symbol
-pub fits_next : (given : Symbol → List Symbol) (expression : List Symbol) (k : ℕ) (s : Symbol) (entry : List Symbol) (at : ℕ) → slice_get expression k ≡ Some s → entry ≡ substituted given (take k expression) ++ drop at entry → substituted given expression ≡ entry →
+pub fits_next : (given : Symbol → List Symbol) (expression : List Symbol) (k : ℕ) (s : Symbol) (entry : List Symbol) (at : ℕ)
+    → slice_get expression k ≡ Some s → entry ≡ substituted given (take k expression) ++ drop at entry → substituted given expression ≡ entry →
     drop at entry ≡ replacement given s ++ substituted given (drop (k + 1) expression)
-fits_next given expression k s entry at is e whole = append_cancel_left (substituted given (take k expression)) (drop at entry) (replacement given s ++ substituted given (drop (k + 1) expression)) (sym e ∙ sym whole ∙ put_rest given expression k s is)
+fits_next given expression k s entry at is e whole = append_cancel_left (substituted given (take k expression)) (drop at entry)
+    (replacement given s ++ substituted given (drop (k + 1) expression)) (sym e ∙ sym whole ∙ put_rest given expression k s is)
 
 pub fits_short : (rest part more : List Symbol) → rest ≡ part ++ more → length part ≤ length rest
 fits_short rest part more e = let n = ap length e in omega (arith, length-append part more)

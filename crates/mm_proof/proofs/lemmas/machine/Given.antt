@@ -94,7 +94,8 @@ floats_match_by f [] [] l t o n a = tt
 floats_match_by f [] (e ∷ es) l t o n a = cc
 floats_match_by f (h ∷ hs) [] l t o n a = cc
 floats_match_by f (h ∷ hs) (e ∷ es) l t o n a = (
-  λ is. entry_is f h e (All-head (λ h. h.floating ≡ true → IsTyping h.expression) h hs t is) (typecode_of (λ m. n (inl (is, m))) (dec_option (slice_get h.expression 0) (slice_get e 0))) (λ v s. a v h (Contains-here h hs) (is, s) ∙ given_here h hs e es v (is, s)),
+  λ is. entry_is f h e (All-head (λ h. h.floating ≡ true → IsTyping h.expression) h hs t is) (typecode_of (λ m. n (inl (is, m)))
+      (dec_option (slice_get h.expression 0) (slice_get e 0))) (λ v s. a v h (Contains-here h hs) (is, s) ∙ given_here h hs e es v (is, s)),
   floats_match_by f hs es (cc) (All-tail (λ h. h.floating ≡ true → IsTyping h.expression) h hs t) (once_tail h hs o) (λ z. n (inr z)) (λ v g c u. a v g (contains_there h hs g c) u ∙ given_there h hs e es v (λ w. once_head h hs v o w g c u)),
 )
 
@@ -102,7 +103,8 @@ pub floats_match : (hs : List Mandatory) (es : List (List Symbol)) → length hs
 floats_match hs es l t o n = floats_match_by (given_by hs es) hs es l t o n (λ v h c u. refl)
 
 -- with each `$e` too, the whole matches
-pub all_match : (f : Symbol → List Symbol) (hs : List Mandatory) (es : List (List Symbol)) → length hs ≡ length es → FloatsMatch f hs es → (AnyZip (λ h e. (h.floating ≡ false) × (substituted f h.expression ≢ e)) hs es → ⊥) → map (λ h. substituted f h.expression) hs ≡ es
+pub all_match : (f : Symbol → List Symbol) (hs : List Mandatory) (es : List (List Symbol)) → length hs ≡ length es → FloatsMatch f hs es
+    → (AnyZip (λ h e. (h.floating ≡ false) × (substituted f h.expression ≢ e)) hs es → ⊥) → map (λ h. substituted f h.expression) hs ≡ es
 all_match f [] [] l m n = refl
 all_match f [] (e ∷ es) l m n = cc
 all_match f (h ∷ hs) [] l m n = cc
@@ -111,7 +113,9 @@ all_match f (h ∷ hs) (e ∷ es) l m n =
     let head = one_matches f h e h.floating refl m.0 (λ k. n (inl k)) (expression_discrete (substituted f h.expression) e) in
     cc
   where
-    one_matches : (f : Symbol → List Symbol) (h : Mandatory) (e : List Symbol) (b : Bool) → h.floating ≡ b → (h.floating ≡ true → substituted f h.expression ≡ e) → ((h.floating ≡ false) × (substituted f h.expression ≢ e) → ⊥) → Dec (substituted f h.expression ≡ e) →
+    one_matches : (f : Symbol → List Symbol) (h : Mandatory) (e : List Symbol) (b : Bool) → h.floating ≡ b
+        → (h.floating ≡ true → substituted f h.expression ≡ e) → ((h.floating ≡ false) × (substituted f h.expression ≢ e) → ⊥)
+        → Dec (substituted f h.expression ≡ e) →
         substituted f h.expression ≡ e
     one_matches f h e true is m n d = m is
     one_matches f h e false is m n (yes s) = s

@@ -142,7 +142,8 @@ module _ (names : List (List ℕ)) (view : BaseView) (i : ℕ) (labels used : Li
       let number = t.names.number in
       let within = slice_get_within steps n t.step t.at in
       let there : slice_get labels t.k ≡ Some (answers.Assertion number) = t.there ∙ ap Some t.names.is in
-      let means : meant table t.step.action ≡ Named (label_at view number) = ap (meant table) t.action ∙ get_or_from_slice_get table t.k (Named (label_at view number)) NotKnown (slice_get-map (entry_step view) labels t.k ∙ ap (option_map (entry_step view)) there) in
+      let means : meant table t.step.action ≡ Named (label_at view number) = ap (meant table) t.action ∙ get_or_from_slice_get table t.k
+      (Named (label_at view number)) NotKnown (slice_get-map (entry_step view) labels t.k ∙ ap (option_map (entry_step view)) there) in
       let next : drop n steps ≡ t.step ∷ drop (n + 1) steps = drop_more steps n t.step within ∙ ap (λ (s : ProofStep). s ∷ drop (n + 1) steps) (get_or_from_slice_get steps n t.step t.step t.at) in
       let behind = actions_mean table (drop (n + 1) steps) in
       let whole : actions_mean table steps ≡ front ++ Named (label_at view number) ∷ behind = divided table steps n ∙ ap (λ (w : List ProofStep). front ++ actions_mean table w) next ∙ ap (λ (s : Step). front ++ s ∷ behind) means in

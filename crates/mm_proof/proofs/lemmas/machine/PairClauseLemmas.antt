@@ -38,7 +38,8 @@ module _ {S : Type 0} (means : S → Symbol) (hypotheses : List (Hypothesis S)) 
         λ h. subst (λ w. HasVariable w z) (sym e.2) (r.1 (subst (λ w. Contains w z) same h)),
       )
 
-  pub apart_given : (active pairs : List (Symbol × Symbol)) → ((k : ℕ) (p : Symbol × Symbol) → slice_get pairs k ≡ Some p → AtSlots (EachApart active) (hypotheses_of means hypotheses) all spans p) → All (λ pair. AreApart active (given pair.0) (given pair.1)) pairs
+  pub apart_given : (active pairs : List (Symbol × Symbol)) → ((k : ℕ) (p : Symbol × Symbol) → slice_get pairs k ≡ Some p
+      → AtSlots (EachApart active) (hypotheses_of means hypotheses) all spans p) → All (λ pair. AreApart active (given pair.0) (given pair.1)) pairs
   apart_given active pairs each k d l =
       let p = get_or pairs k d in
       let x = each k p (element_at pairs k d l) in
@@ -53,7 +54,9 @@ module _ {S : Type 0} (means : S → Symbol) (hypotheses : List (Hypothesis S)) 
   pub shared_given : (pairs : List (Symbol × Symbol)) (k : ℕ) (p : Symbol × Symbol) → slice_get pairs k ≡ Some p → AtSlots SomeShared (hypotheses_of means hypotheses) all spans p → Any (λ pair. ShareVariable (given pair.0) (given pair.1)) pairs
   shared_given pairs k p at x = let s = x.4 in any_pair ShareVariable pairs k p at (s.0, (span_gives x.0 p.0 x.2 s.0).1 s.1, (span_gives x.1 p.1 x.3 s.0).1 s.2)
 
-  pub none_shared : (pairs : List (Symbol × Symbol)) → ((k : ℕ) (p : Symbol × Symbol) → slice_get pairs k ≡ Some p → AtSlots (λ xs ys. SomeShared xs ys → ⊥) (hypotheses_of means hypotheses) all spans p) → Any (λ pair. ShareVariable (given pair.0) (given pair.1)) pairs → ⊥
+  pub none_shared : (pairs : List (Symbol × Symbol)) → ((k : ℕ) (p : Symbol × Symbol) → slice_get pairs k ≡ Some p
+      → AtSlots (λ xs ys. SomeShared xs ys → ⊥) (hypotheses_of means hypotheses) all spans p) → Any (λ pair. ShareVariable (given pair.0) (given pair.1))
+      pairs → ⊥
   none_shared pairs none a =
       let p = a.1 in
       let at : slice_get pairs a.0 ≡ Some p = slice_get-get_or pairs a.0 p a.2 ∙ ap Some a.3 in
@@ -61,7 +64,8 @@ module _ {S : Type 0} (means : S → Symbol) (hypotheses : List (Hypothesis S)) 
       let s = a.4 in
       x.4 (s.0, (span_gives x.0 p.0 x.2 s.0).0 s.1, (span_gives x.1 p.1 x.3 s.0).0 s.2)
 
-  pub lack_given : (active pairs : List (Symbol × Symbol)) (k : ℕ) (p : Symbol × Symbol) → slice_get pairs k ≡ Some p → AtSlots (SomeNotApart active) (hypotheses_of means hypotheses) all spans p → ((k : ℕ) (p : Symbol × Symbol) → slice_get pairs k ≡ Some p →
+  pub lack_given : (active pairs : List (Symbol × Symbol)) (k : ℕ) (p : Symbol × Symbol) → slice_get pairs k ≡ Some p
+      → AtSlots (SomeNotApart active) (hypotheses_of means hypotheses) all spans p → ((k : ℕ) (p : Symbol × Symbol) → slice_get pairs k ≡ Some p →
       AtSlots (λ xs ys. SomeShared xs ys → ⊥) (hypotheses_of means hypotheses) all spans p) → Any (λ pair. LackPair active (given pair.0) (given pair.1)) pairs
   lack_given active pairs k p at x none =
       let s = x.4 in

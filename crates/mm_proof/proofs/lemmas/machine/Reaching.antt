@@ -22,7 +22,9 @@ expand_more place x (Some s) (y ∷ steps) step e = expand_more place x (expand_
 expand_more place x None (y ∷ steps) step e = cc
 
 -- what goes on with one more step has gone on before it
-pub expand_less : (place : Setting) (so_far : Option Expanded) (x : Expanded) (steps : List Step) (step : Step) → expand_from place so_far (steps ++ step ∷ []) ≡ Some x → (y : Expanded) × (expand_from place so_far steps ≡ Some y) × (expand_one place y step ≡ Some x)
+pub expand_less : (place : Setting) (so_far : Option Expanded) (x : Expanded) (steps : List Step) (step : Step)
+    → expand_from place so_far (steps ++ step ∷ []) ≡ Some x → (y : Expanded) × (expand_from place so_far steps ≡ Some y) ×
+    (expand_one place y step ≡ Some x)
 expand_less place (Some s) x [] step e = (s, refl, e)
 expand_less place None x [] step e = cc
 expand_less place (Some s) x (y ∷ steps) step e = expand_less place (expand_one place s y) x steps step e
@@ -57,7 +59,8 @@ pub only : {place : Setting} {a : List (List ℕ)} {e : List Symbol} → DeriveI
 only (first_then h nothing) = rw append-nil h
 
 -- the list of the last entry
-top_of : {place : Setting} {labels : List (List ℕ)} (below : List (List Symbol)) (e : List Symbol) (stack : List (List Symbol)) → DeriveInOrder place labels stack → stack ≡ below ++ e ∷ [] → (part : List (List ℕ)) × Derives place part e × (last_part place labels ≡ Some part)
+top_of : {place : Setting} {labels : List (List ℕ)} (below : List (List Symbol)) (e : List Symbol) (stack : List (List Symbol))
+    → DeriveInOrder place labels stack → stack ≡ below ++ e ∷ [] → (part : List (List ℕ)) × Derives place part e × (last_part place labels ≡ Some part)
 top_of {place} {labels} below e stack d is =
     let c = cut below (e ∷ []) stack d is in
     let one = only c.of_back in
@@ -110,7 +113,8 @@ pub record Goes (place : Setting) (step : Step) (before : State) (next : List (L
 pub one_stack : (place : Setting) → HasFrames place → {a b : List (List ℕ)} (xs ys : List (List Symbol)) → a ≡ b → DeriveInOrder place a xs → DeriveInOrder place b ys → xs ≡ ys
 one_stack place is {a = a} xs ys e d d' = same_stack place is (length a) xs ys (omega arith) e d d'
 
-goes_label : (place : Setting) → HasFrames place → (label : List ℕ) (before : State) (next : List (List Symbol)) (labels : List (List ℕ)) → DeriveInOrder place labels before.stack → DeriveInOrder place (labels ++ label ∷ []) next → Goes place (Named label) before next
+goes_label : (place : Setting) → HasFrames place → (label : List ℕ) (before : State) (next : List (List Symbol)) (labels : List (List ℕ))
+    → DeriveInOrder place labels before.stack → DeriveInOrder place (labels ++ label ∷ []) next → Goes place (Named label) before next
 goes_label place is label before [] labels d d' =
     let e = ap length (no_stack d' refl) in
     absurd (omega (arith, length-append labels (label ∷ [])))

@@ -51,7 +51,9 @@ faulty place is done rest s step number f p = record {
   number_is = record { holds = p.0; lowest = p.1 };
 }
 
-pub decoded_on : (place : Setting) (s after : State) (step : Step) (rest : List Step) → step ≢ NotKnown → AreDecodedAfter place (length s.saved) (step ∷ rest) → IsReady place s step × (Turns place step s after → AreDecodedAfter place (length after.saved) rest)
+pub decoded_on : (place : Setting) (s after : State) (step : Step) (rest : List Step) → step ≢ NotKnown
+    → AreDecodedAfter place (length s.saved) (step ∷ rest) → IsReady place s step × (Turns place step s after
+    → AreDecodedAfter place (length after.saved) rest)
 decoded_on place s after (Named label) rest k d = (d.0, λ t. subst (λ l. AreDecodedAfter place l rest) (ap length (sym t.1)) d.1)
 decoded_on place s after (Saved n) rest k d = (d.0, λ t. subst (λ l. AreDecodedAfter place l rest) (ap length (sym t.3)) d.1)
 decoded_on place s after Save rest k d = (tt, λ t. subst (λ l. AreDecodedAfter place l rest) (sym (length-append s.saved (t.1 ∷ [])) ∙ ap length (sym t.4)) d)
@@ -65,7 +67,8 @@ run_case :
 run_case place is done rest s step (Ok after) f p k = k after p
 run_case place is done rest s step (Err number) f p k = faulty place is done rest s step number f p
 
-pub run_says : (place : Setting) → HasFrames place → (done : List Step) (s : State) (rest : List Step) → Follows place done s → AreDecodedAfter place (length s.saved) rest → AreAllKnown rest → RunSays place (done ++ rest) (run_from place (length done) s rest)
+pub run_says : (place : Setting) → HasFrames place → (done : List Step) (s : State) (rest : List Step) → Follows place done s
+    → AreDecodedAfter place (length s.saved) rest → AreAllKnown rest → RunSays place (done ++ rest) (run_from place (length done) s rest)
 unfolding run_from
 run_says place is done s [] f d k = subst (λ l. Follows place l s) (sym (append-nil done)) f
 run_says place is done s (step ∷ rest) f d k =

@@ -50,7 +50,9 @@ whole_loaded means before expression after kept end stack saved next new whole e
       apart = whole.apart;
     }
 
-pub pushed_all : (before more after : List Symbol) (n : ℕ) (es next : List Entry) (new : Entry) → after ≡ before ++ more → n ≡ length before → All (IsEntryWithin n) es → next ≡ es ++ new ∷ [] → new.start ≡ length before → new.end ≡ length after → read_all after next ≡ read_all before es ++ more ∷ []
+pub pushed_all : (before more after : List Symbol) (n : ℕ) (es next : List Entry) (new : Entry) → after ≡ before ++ more → n ≡ length before
+    → All (IsEntryWithin n) es → next ≡ es ++ new ∷ [] → new.start ≡ length before → new.end ≡ length after
+    → read_all after next ≡ read_all before es ++ more ∷ []
 pushed_all before more after n es next new e l all s a b =
     let last : read after new ≡ more =
     ap (λ k. take (new.end - new.start) (drop k after)) a
@@ -78,7 +80,8 @@ cut_all symbols more after f es e l all =
     read_all_kept (take f symbols) after es (λ k d i. let w = all k d i in omega arith) (ap (take (length (take f symbols))) e ∙ take_at (take f symbols) more (length (take f symbols)) refl)
     ∙ cut_kept symbols f es l all
 
-pub replaced_all : (symbols more after : List Symbol) (f below : ℕ) (es next : List Entry) (new : Entry) → after ≡ take f symbols ++ more → f ≤ length symbols → ((i : ℕ) (e : Entry) → i < below → slice_get es i ≡ Some e → e.end ≤ f) → next ≡ take below es ++ new ∷ [] → new.start ≡ f →
+pub replaced_all : (symbols more after : List Symbol) (f below : ℕ) (es next : List Entry) (new : Entry) → after ≡ take f symbols ++ more
+    → f ≤ length symbols → ((i : ℕ) (e : Entry) → i < below → slice_get es i ≡ Some e → e.end ≤ f) → next ≡ take below es ++ new ∷ [] → new.start ≡ f →
     new.end ≡ length after → read_all after next ≡ take below (read_all symbols es) ++ more ∷ []
 replaced_all symbols more after f below es next new e l all s a b =
     let c = length-take-le f symbols l in
@@ -118,7 +121,8 @@ cut_or_last es below k new s l at = by_case (ℕ_discrete k below)
         let high : k < length es = omega arith in
         inl (low, slice_get-get_or es k s high ∙ ap Some (sym (get_or-take below es k s low) ∙ get_or_from_slice_get (take below es) k s s in_front))
 
-pub whole_replaced : (n m kept f below : ℕ) (es saved next : List Entry) (new : Entry) → AreOrderedRanges n kept es saved → below ≤ length es → kept ≤ f → f ≤ m → ((i : ℕ) (e : Entry) → i < below → slice_get es i ≡ Some e → (e.end ≤ f) × (e.floor ≤ f)) → next ≡ take below es ++ new ∷ [] →
+pub whole_replaced : (n m kept f below : ℕ) (es saved next : List Entry) (new : Entry) → AreOrderedRanges n kept es saved → below ≤ length es → kept ≤ f
+    → f ≤ m → ((i : ℕ) (e : Entry) → i < below → slice_get es i ≡ Some e → (e.end ≤ f) × (e.floor ≤ f)) → next ≡ take below es ++ new ∷ [] →
     new.start ≡ f → new.end ≡ m → new.floor ≡ f → AreOrderedRanges m kept next saved
 whole_replaced n m kept f below es saved next new whole l low high front e a b c = record {
   kept_within = omega arith;
@@ -161,7 +165,8 @@ entries_taken means hs expression pairs symbols es below e =
     count : length (read_all symbols es) - length (frame_from means hs expression pairs).hypotheses ≡ below
     count = omega (arith, e, length-map es (read symbols), length-map hs (mandatory_of means))
 
-pub slice_taken : {X : Type 0} (read_symbols symbols : List X) (f : X → Symbol) (read_es es : List Entry) (below : ℕ) → read_symbols ≡ symbols → read_es ≡ es → read_all (map f read_symbols) (take (length read_es - below) (drop below read_es)) ≡ read_all (map f symbols) (drop below es)
+pub slice_taken : {X : Type 0} (read_symbols symbols : List X) (f : X → Symbol) (read_es es : List Entry) (below : ℕ) → read_symbols ≡ symbols
+    → read_es ≡ es → read_all (map f read_symbols) (take (length read_es - below) (drop below read_es)) ≡ read_all (map f symbols) (drop below es)
 slice_taken read_symbols symbols f read_es es below a b =
     ap (read_all (map f read_symbols)) (take_rest read_es below ∙ ap (drop below) b) ∙ ap (λ w. read_all (map f w) (drop below es)) a
 

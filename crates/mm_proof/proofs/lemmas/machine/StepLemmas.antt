@@ -43,7 +43,8 @@ pub means_cite :
     (label : List ℕ) × (kept frame : Frame) × (step ≡ Named label) × (slice_get frames n ≡ Some kept) × (place.resolve label ≡ Assertion frame) × AreSameFrame kept frame
 means_cite expressions frames place n t step is m = by_step step (subst (λ (w : Task). MeansTask expressions frames place w step) is m)
   where
-    by_step : (step : Step) → MeansTask expressions frames place (tasks.Cite n) step → (label : List ℕ) × (kept frame : Frame) × (step ≡ Named label) × (slice_get frames n ≡ Some kept) × (place.resolve label ≡ Assertion frame) × AreSameFrame kept frame
+    by_step : (step : Step) → MeansTask expressions frames place (tasks.Cite n) step → (label : List ℕ) × (kept frame : Frame) × (step ≡ Named label) ×
+        (slice_get frames n ≡ Some kept) × (place.resolve label ≡ Assertion frame) × AreSameFrame kept frame
     by_step (Named label) m = (label, m.0, m.1, refl, m.2, m.3, m.4)
     by_step _ m = absurd m
 
@@ -98,7 +99,8 @@ cite_turns active place label kept frame stack before after None pairs at same i
 cite_turns active place label kept frame stack before after (Some number) pairs at same is saved c =
     let d = subst (λ w. IsLowestCiting active kept w number) is c in record {
       holds = subst (λ (r : Resolved). LabelFails place.active r before.stack number) (sym at) (label_moved active place.active (Assertion kept) (Assertion frame) before.stack number pairs same d.0);
-      lowest = λ other p. d.1 other (label_moved place.active active (Assertion frame) (Assertion kept) before.stack other (pairs_back active place.active pairs) (frame_back kept frame same) (subst (λ (r : Resolved). LabelFails place.active r before.stack other) at p));
+      lowest = λ other p. d.1 other (label_moved place.active active (Assertion frame) (Assertion kept) before.stack other
+          (pairs_back active place.active pairs) (frame_back kept frame same) (subst (λ (r : Resolved). LabelFails place.active r before.stack other) at p));
     }
 
 -- ---- behind what is kept
@@ -163,17 +165,22 @@ known_all (x ∷ steps) zero l known = absurd (omega arith)
 known_all (x ∷ steps) (suc n) l known = (one_known x (first_known x steps n known), known_all steps n (omega arith) (behind x steps n known))
 
 pub follows_more : (place : Setting) (steps : List Step) (k : ℕ) (s : Step) (before after : State) → slice_get steps k ≡ Some s → Follows place (take k steps) before → Turns place s before after → Follows place (take (k + 1) steps) after
-follows_more place steps k s before after at f t = subst (λ (w : List Step). Follows place w after) (sym (take_more steps k s (slice_get_within steps k s at) ∙ ap (λ w. take k steps ++ w ∷ []) (get_or_from_slice_get steps k s s at))) (follows_on place (take k steps) s before after f t)
+follows_more place steps k s before after at f t = subst (λ (w : List Step). Follows place w after) (sym
+    (take_more steps k s (slice_get_within steps k s at) ∙ ap (λ w. take k steps ++ w ∷ []) (get_or_from_slice_get steps k s s at)))
+    (follows_on place (take k steps) s before after f t)
 
-fault_of : (place : Setting) → HasFrames place → (steps : List Step) (k : ℕ) (s : Step) (state : State) (number : ProofNumber) → slice_get steps k ≡ Some s → Follows place (take k steps) state → IsLowest place s state.stack number → IsStepFault place steps k number
+fault_of : (place : Setting) → HasFrames place → (steps : List Step) (k : ℕ) (s : Step) (state : State) (number : ProofNumber) → slice_get steps k ≡ Some s
+    → Follows place (take k steps) state → IsLowest place s state.stack number → IsStepFault place steps k number
 fault_of place is steps k s state number at f low =
     let l = slice_get_within steps k s at in
     let whole : take k steps ++ s ∷ drop (k + 1) steps ≡ steps = ap (λ w. take k steps ++ w) (sym (drop_more steps k s l ∙ ap (λ w. w ∷ drop (k + 1) steps) (get_or_from_slice_get steps k s s at))) ∙ take-append-drop k steps in
     let count : length (take k steps) ≡ k = length-take-le k steps (omega arith) in
-    subst (λ (w : List Step). IsStepFault place w k number) whole (subst (λ (n : ℕ). IsStepFault place (take k steps ++ s ∷ drop (k + 1) steps) n number) count (faulty place is (take k steps) (drop (k + 1) steps) state s number f (low.holds, low.lowest)))
+    subst (λ (w : List Step). IsStepFault place w k number) whole (subst (λ (n : ℕ). IsStepFault place (take k steps ++ s ∷ drop (k + 1) steps) n number)
+    count (faulty place is (take k steps) (drop (k + 1) steps) state s number f (low.holds, low.lowest)))
 
 -- the next step is at fault
-pub fault_here : (place : Setting) → HasFrames place → (steps : List Step) (k : ℕ) (s : Step) (state : State) (number : ProofNumber) → KnownUpTo steps k → slice_get steps k ≡ Some s → s ≢ NotKnown → Follows place (take k steps) state → IsLowest place s state.stack number →
+pub fault_here : (place : Setting) → HasFrames place → (steps : List Step) (k : ℕ) (s : Step) (state : State) (number : ProofNumber) → KnownUpTo steps k
+    → slice_get steps k ≡ Some s → s ≢ NotKnown → Follows place (take k steps) state → IsLowest place s state.stack number →
     IsStepFault place (run_part steps) k number
 fault_here place is steps k s state number known at other f low =
     fault_of place is (run_part steps) k s state number (part_at steps k s known at other) (subst (λ (w : List Step). Follows place w state) (sym (part_begins steps k known)) f) low

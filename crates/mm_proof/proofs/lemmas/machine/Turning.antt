@@ -114,7 +114,8 @@ pairs_by R frame is f g es a b any =
     let second = agree f g frame.hypotheses es pair.1 a b t.1 t.3 in
     (any.0, any.1, any.2, any.3, subst (λ w. R w (g pair.1)) first (subst (R (f pair.0)) second any.4))
 
-long_by : (frame : Frame) → IsFrame frame → (f g : Symbol → List Symbol) (es : List (List Symbol)) → FloatsMatch f frame.hypotheses es → FloatsMatch g frame.hypotheses es → 1000000 < length (substituted f frame.expression) → 1000000 < length (substituted g frame.expression)
+long_by : (frame : Frame) → IsFrame frame → (f g : Symbol → List Symbol) (es : List (List Symbol)) → FloatsMatch f frame.hypotheses es
+    → FloatsMatch g frame.hypotheses es → 1000000 < length (substituted f frame.expression) → 1000000 < length (substituted g frame.expression)
 long_by frame is f g es a b l =
     let s = ap length (same_substituted f g frame.expression (λ v w. agree f g frame.hypotheses es v a b w.1 (is.expression_typed v w))) in
     omega arith
@@ -246,7 +247,8 @@ no_turn place is s after Save _ h t = h
 no_turn place is s after NotKnown number h t = h
 
 -- a step has a turn, or a lowest line
-answer_of : (place : Setting) (s : State) (step : Step) (r : Result State ProofNumber) → Says (λ after. Turns place step s after) (StepLineHolds place step s.stack) r → ((after : State) × Turns place step s after) ⊎ ((number : ProofNumber) × IsLowest place step s.stack number)
+answer_of : (place : Setting) (s : State) (step : Step) (r : Result State ProofNumber) → Says (λ after. Turns place step s after)
+    (StepLineHolds place step s.stack) r → ((after : State) × Turns place step s after) ⊎ ((number : ProofNumber) × IsLowest place step s.stack number)
 answer_of place s step (Ok after) p = inl (after, p)
 answer_of place s step (Err number) p = inr (number, record { holds = p.0; lowest = p.1 })
 

@@ -228,7 +228,8 @@ module _ (to back : Symbol → Symbol) (is : IsRenaming to back) where
     λ are. l.5 (subst₂ (ArePair active) (is.there l.0) (is.there l.1) (pair_back to back is.there active (to l.0) (to l.1) are)),
   )
 
-  citing_renamed : (active : List (Symbol × Symbol)) (frame : Frame) (stack : List (List Symbol)) (number : ProofNumber) → CitingFails active frame stack number → CitingFails (renamed_pairs to active) (renamed_frame to frame) (map (map to) stack) number
+  citing_renamed : (active : List (Symbol × Symbol)) (frame : Frame) (stack : List (List Symbol)) (number : ProofNumber)
+      → CitingFails active frame stack number → CitingFails (renamed_pairs to active) (renamed_frame to frame) (map (map to) stack) number
   citing_renamed active frame stack P07 c = let n = length-map stack (map to) in let m = length-map frame.hypotheses (renamed_mandatory to) in omega arith
   citing_renamed active frame stack P08 c =
       let R : Mandatory → List Symbol → Type 0 = λ h e. (h.floating ≡ true) × (slice_get h.expression 0 ≢ slice_get e 0) in

@@ -51,7 +51,8 @@ dec_any_zip d (x ∷ xs) (y ∷ ys) = either_of (d x y) (dec_any_zip d xs ys)
 dec_any_zip d _ _ = no (λ a. a)
 
 pub dec_contains : (pairs : List (Symbol × Symbol)) (x y : Symbol) → Dec (Contains pairs (x, y))
-dec_contains pairs x y = by_same (λ s. subst (λ p. Contains pairs p) (λ i. (s.2.0 i, s.2.1 i)) s.1) (λ c. ((x, y), c, (refl, refl))) (dec_some {P = λ (p : Symbol × Symbol). (p.0 ≡ x) × (p.1 ≡ y)} (λ p. both_of (symbol_discrete p.0 x) (symbol_discrete p.1 y)) pairs)
+dec_contains pairs x y = by_same (λ s. subst (λ p. Contains pairs p) (λ i. (s.2.0 i, s.2.1 i)) s.1) (λ c. ((x, y), c, (refl, refl)))
+    (dec_some {P = λ (p : Symbol × Symbol). (p.0 ≡ x) × (p.1 ≡ y)} (λ p. both_of (symbol_discrete p.0 x) (symbol_discrete p.1 y)) pairs)
 
 pub dec_pair : (pairs : List (Symbol × Symbol)) (x y : Symbol) → Dec (ArePair pairs x y)
 dec_pair pairs x y = either_of (dec_contains pairs x y) (dec_contains pairs y x)

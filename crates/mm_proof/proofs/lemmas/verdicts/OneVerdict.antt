@@ -167,4 +167,5 @@ part_verdict place statement d l u (Err fault) f = let t = spot_at d fault.0 f.s
 
 -- and one at least, for steps as decoding gives them
 pub some_verdict : (place : Setting) → HasFrames place → (statement : List Symbol) (d : Decoded) → AreDecoded place d.steps → length d.spots ≡ length d.steps → (v : Verdict) × IsVerdict place statement (Ok d) v
-some_verdict place is statement d decoded l = part_verdict place statement d l (first_unknown d.steps) (run place (run_part d.steps)) (run_right place is (run_part d.steps) (part_decoded place 0 d.steps (threaded place d.steps decoded)) (part_known d.steps))
+some_verdict place is statement d decoded l = part_verdict place statement d l (first_unknown d.steps) (run place (run_part d.steps))
+    (run_right place is (run_part d.steps) (part_decoded place 0 d.steps (threaded place d.steps decoded)) (part_known d.steps))

@@ -12,7 +12,8 @@ use Rattle.mm_proof.proofs.lemmas.lists.Members.{Contains-here}
 use Rattle.mm_proof.proofs.lemmas.verdicts.Joins.{join, alone, cut}
 
 -- a label goes on from a join
-pub go_on : {place : Setting} {labels : List (List ℕ)} {stack next : List (List Symbol)} (label : List ℕ) (r : Resolved) → place.resolve label ≡ r → DeriveInOrder place labels stack → Moves place.active r stack next → DeriveInOrder place (labels ++ label ∷ []) next
+pub go_on : {place : Setting} {labels : List (List ℕ)} {stack next : List (List Symbol)} (label : List ℕ) (r : Resolved) → place.resolve label ≡ r
+    → DeriveInOrder place labels stack → Moves place.active r stack next → DeriveInOrder place (labels ++ label ∷ []) next
 go_on {place} {labels} label (Hypothesis e) is d m =
     let P : List (List Symbol) → Type 0 = λ s. DeriveInOrder place (labels ++ label ∷ []) s in
     subst P (sym m) (join d (alone (by_hypothesis is)))
@@ -50,7 +51,16 @@ pub last_label : {place : Setting} {first rest : List (List ℕ)} {e : List Symb
 last_label {place} {first} {e = e} h nothing = rw append-nil (last_of_one h)
 last_label {place} {first} {e = e} h (first_then {first = f} {rest = r} {e = x} {es = xs} h' t) =
     let l = last_label h' t in
-    record { labels = first ++ l.labels; label = l.label; stack = e ∷ l.stack; whole = ap (λ s. first ++ s) l.whole ∙ sym (append_assoc first l.labels (l.label ∷ [])); of_labels = first_then h l.of_labels; moves = under place.active e (place.resolve l.label) l.stack (x ∷ xs) l.moves }
+    record {
+      labels = first ++ l.labels;
+      label = l.label;
+      stack = e ∷ l.stack;
+      whole = ap (λ s. first ++ s) l.whole ∙ sym
+          (append_assoc first l.labels (l.label ∷ []));
+      of_labels = first_then h l.of_labels;
+      moves = under place.active e (place.resolve l.label) l.stack
+          (x ∷ xs) l.moves;
+    }
 
 -- two substitutions that give the same at each hypothesis give each typed variable the same
 same_at : (f g : Mandatory → List Symbol) (xs : List Mandatory) (x : Mandatory) → map f xs ≡ map g xs → Contains xs x → f x ≡ g x

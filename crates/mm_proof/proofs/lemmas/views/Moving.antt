@@ -97,7 +97,8 @@ apart_moved active others xs ys s a = record {
   paired = λ x y h k n. (s x y).0 (a.paired x y h k n);
 }
 
-all_apart : (active others : List (Symbol × Symbol)) (a b : Frame) (given : Symbol → List Symbol) → AreSamePairs active others → AreSameFrame a b → All (λ pair. AreApart active (given pair.0) (given pair.1)) a.pairs → All (λ pair. AreApart others (given pair.0) (given pair.1)) b.pairs
+all_apart : (active others : List (Symbol × Symbol)) (a b : Frame) (given : Symbol → List Symbol) → AreSamePairs active others → AreSameFrame a b
+    → All (λ pair. AreApart active (given pair.0) (given pair.1)) a.pairs → All (λ pair. AreApart others (given pair.0) (given pair.1)) b.pairs
 all_apart active others a b given s f all k d l =
     let pair = get_or b.pairs k d in
     let in_a = (f.pairs pair.0 pair.1).1 (inl (k, l, get_or_default b.pairs k pair d l)) in
@@ -106,7 +107,8 @@ all_apart active others a b given s f all k d l =
       | inr c ↦ apart_back active (given pair.1) (given pair.0) (All-contains (λ pair. AreApart active (given pair.0) (given pair.1)) a.pairs (pair.1, pair.0) all c)
     ])
 
-pub takes_moved : (active others : List (Symbol × Symbol)) (a b : Frame) (given : Symbol → List Symbol) (entries : List (List Symbol)) (result : List Symbol) → AreSamePairs active others → AreSameFrame a b → Takes active a given entries result → Takes others b given entries result
+pub takes_moved : (active others : List (Symbol × Symbol)) (a b : Frame) (given : Symbol → List Symbol) (entries : List (List Symbol))
+    (result : List Symbol) → AreSamePairs active others → AreSameFrame a b → Takes active a given entries result → Takes others b given entries result
 takes_moved active others a b given entries result s f t = record {
   entries_match = ap (λ hs. map (λ (h : Mandatory). substituted given h.expression) hs) (sym f.hypotheses) ∙ t.entries_match;
   result_matches = ap (substituted given) (sym f.expression) ∙ t.result_matches;
@@ -212,7 +214,8 @@ same_again p q x y _ _ s b = absurd b
 
 same_one : (p q : Setting) (x y : Expanded) (a b : Step) → AreSameExpanded p q x y → IsSameStep p q a b → BothOrNone (AreSameExpanded p q) (expand_one p x a) (expand_one q y b)
 same_one p q x y (Named a) (Named b) s m = record { labels = both_joined (λ a b. AreSameMeaning (p.resolve a) (q.resolve b)) x.labels (a ∷ []) y.labels (b ∷ []) s.labels (m, tt); saved = s.saved }
-same_one p q x y (Saved n) (Saved k) s m = same_again p q x y (slice_get x.saved n) (slice_get y.saved k) s (subst (λ j. BothOrNone (AreSameLabels p q) (slice_get x.saved n) (slice_get y.saved j)) m (found_beside (AreSameLabels p q) x.saved y.saved n s.saved))
+same_one p q x y (Saved n) (Saved k) s m = same_again p q x y (slice_get x.saved n) (slice_get y.saved k) s
+    (subst (λ j. BothOrNone (AreSameLabels p q) (slice_get x.saved n) (slice_get y.saved j)) m (found_beside (AreSameLabels p q) x.saved y.saved n s.saved))
 same_one p q x y Save Save s m = same_save p q x y (last_part p x.labels) (last_part q y.labels) s (same_part p q x.labels y.labels s.labels)
 same_one p q x y NotKnown NotKnown s m = tt
 same_one p q x y _ _ s m = absurd m

@@ -79,7 +79,8 @@ module _ (p q : Setting) where
   any_same label (s ∷ steps) [] f g all = absurd all
   any_same label (s ∷ steps) (t ∷ others) f g all = rw (name_same label s.0 t.0 f g all.0.0, any_same label steps others f g all.1) refl
 
-  cited_same : (label : List ℕ) (steps others : List (Step × Spot)) → AllZip (λ s t. IsBoth p q s.0 t.0 × (s.1 ≡ t.1)) steps others → IsSameLabel p q label → is_cited p (map (λ (s : Step × Spot). s.0) steps) label ≡ is_cited q (map (λ (s : Step × Spot). s.0) others) label
+  cited_same : (label : List ℕ) (steps others : List (Step × Spot)) → AllZip (λ s t. IsBoth p q s.0 t.0 × (s.1 ≡ t.1)) steps others → IsSameLabel p q label
+      → is_cited p (map (λ (s : Step × Spot). s.0) steps) label ≡ is_cited q (map (λ (s : Step × Spot). s.0) others) label
   cited_same label steps others all s = elim (cases_Bool (means_assertion (q.resolve label))) [
     | inl e ↦ let f = assertion_same (p.resolve label) (q.resolve label) s ∙ e in rw (f, e) (any_same label steps others f e all)
     | inr e ↦ rw (assertion_same (p.resolve label) (q.resolve label) s, e) refl
@@ -93,7 +94,8 @@ module _ (p q : Setting) where
   each_same (word ∷ words) steps others all s = (cited_same word.1 steps others all s.0, each_same words steps others all s.1)
 
   cites_on : (words : List (List ℕ)) (close : Spot) (s t : Steps) → AreSame p q s t → AllByRecursion (λ (w : ℕ × List ℕ). IsSameLabel p q w.1) (label_words words) → cites p words (decoded close s) ≡ cites q words (decoded close t)
-  cites_on words close (Ok steps) (Ok others) all s = ap (map (λ (w : ℕ × List ℕ). w.0)) (filter_same _ _ (firsts (label_words words)) (each_same (firsts (label_words words)) steps others all (firsts_all (λ w. IsSameLabel p q w.1) (label_words words) s)))
+  cites_on words close (Ok steps) (Ok others) all s = ap (map (λ (w : ℕ × List ℕ). w.0)) (filter_same _ _ (firsts (label_words words))
+      (each_same (firsts (label_words words)) steps others all (firsts_all (λ w. IsSameLabel p q w.1) (label_words words) s)))
   cites_on words close (Err fault) (Err same) all s = refl
   cites_on words close _ _ all s = absurd all
 

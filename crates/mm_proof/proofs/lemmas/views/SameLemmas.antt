@@ -129,7 +129,9 @@ module _ (p q : Setting) where
   read_same (Err fault) (Err same) some more e all = e
   read_same _ _ some more e all = absurd e
 
-  compressed_same : (mandatory others words : List (List ℕ)) (close : Spot) → AllZip (IsSameHypothesis p q) mandatory others → AllByRecursion (IsSameLabel p q) (before_first is_close words) → AreSame (compressed_steps p mandatory words close) (compressed_steps q others words close)
+  compressed_same : (mandatory others words : List (List ℕ)) (close : Spot) → AllZip (IsSameHypothesis p q) mandatory others
+      → AllByRecursion (IsSameLabel p q) (before_first is_close words) → AreSame (compressed_steps p mandatory words close)
+      (compressed_steps q others words close)
   compressed_same mandatory others words close h all = elim (cases_Bool (list_any is_close words)) [
     | inl e ↦
         let listed = before_first is_close words in
@@ -161,4 +163,5 @@ module _ (p q : Setting) where
   decoded_same close _ _ a all = absurd all
 
   pub decodes_same : (mandatory others words : List (List ℕ)) → AreSameToDecode p q mandatory others words → IsSameDecoding p q (decoding p mandatory words) (decoding q others words)
-  decodes_same mandatory others words s = decoded_same (word_spot (length words)) (steps_in p mandatory words (word_spot (length words))) (steps_in q others words (word_spot (length words))) s.active (steps_same mandatory others words (word_spot (length words)) s)
+  decodes_same mandatory others words s = decoded_same (word_spot (length words)) (steps_in p mandatory words (word_spot (length words)))
+      (steps_in q others words (word_spot (length words))) s.active (steps_same mandatory others words (word_spot (length words)) s)

@@ -6,4 +6,5 @@ use Rattle.mm_proof.proofs.lemmas.machine.ApartLemmas.{EachUpTo}
 use Rattle.mm_proof.proofs.pairs.any_share.Given as goal
 
 abbrev pub invariant-loop-n : goal.invariant-loop-n
-invariant-loop-n g l = EachUpTo (λ (p : Symbol × Symbol). AtSlots (λ xs ys. SomeShared xs ys → ⊥) (hypotheses_of g.S.Symbol.means l.taken.hypotheses.now) (map g.S.Symbol.means l.gathered.variables.items) l.gathered.spans.items p) (meant_pairs g.S.Symbol.means l.pairs) l.n
+invariant-loop-n g l = EachUpTo (λ (p : Symbol × Symbol). AtSlots (λ xs ys. SomeShared xs ys → ⊥) (hypotheses_of g.S.Symbol.means l.taken.hypotheses.now)
+    (map g.S.Symbol.means l.gathered.variables.items) l.gathered.spans.items p) (meant_pairs g.S.Symbol.means l.pairs) l.n

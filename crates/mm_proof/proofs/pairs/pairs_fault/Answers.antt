@@ -14,14 +14,16 @@ any_share-requires-clause-spans g c k s at = let w = c.in_ok-gather_all.ensures.
 pub returns-then-all_apart : goal.returns-then-all_apart
 returns-then-all_apart g c given gives =
     let m = g.S.Symbol.means in
-    apart_given m c.args.taken.now.hypotheses.now (read_all (map m c.args.taken.now.symbols.now) c.args.taken.now.entries.now) (map m c.gather_all.new.self.variables.items) c.gather_all.new.self.spans.items given c.requires.hypotheses gives c.in_ok-gather_all.ensures
+    apart_given m c.args.taken.now.hypotheses.now (read_all (map m c.args.taken.now.symbols.now) c.args.taken.now.entries.now)
+    (map m c.gather_all.new.self.variables.items) c.gather_all.new.self.spans.items given c.requires.hypotheses gives c.in_ok-gather_all.ensures
     (meant_pairs m c.args.active.now.pairs.now) (meant_pairs m c.args.pairs.now) c.if-all_apart.ensures
 
 pub returns-then-any_share : goal.returns-then-any_share
 returns-then-any_share g c given gives =
     let m = g.S.Symbol.means in
     let h = c.if-any_share.ensures in
-    shared_given m c.args.taken.now.hypotheses.now (read_all (map m c.args.taken.now.symbols.now) c.args.taken.now.entries.now) (map m c.gather_all.new.self.variables.items) c.gather_all.new.self.spans.items given c.requires.hypotheses gives c.in_ok-gather_all.ensures
+    shared_given m c.args.taken.now.hypotheses.now (read_all (map m c.args.taken.now.symbols.now) c.args.taken.now.entries.now)
+    (map m c.gather_all.new.self.variables.items) c.gather_all.new.self.spans.items given c.requires.hypotheses gives c.in_ok-gather_all.ensures
     (meant_pairs m c.args.pairs.now) h.0 h.1 h.2 h.3
 
 pub returns : goal.returns

@@ -7,5 +7,7 @@ use Rattle.mm_proof.proofs.pattern.is_short.Given as goal
 abbrev pub invariant-loop-place : goal.invariant-loop-place
 invariant-loop-place g l = record {
   low : l.count ≤ 1000000;
-  so_far : (given : Symbol → List Symbol) → GivesVariables given (hypotheses_of g.S.Symbol.means l.taken.hypotheses.now) (entries_of g.S.Symbol.means l.taken) (map g.S.Symbol.means l.expression) → l.count ≡ length (substituted given (take l.place (map g.S.Symbol.means l.expression)));
+  so_far : (given : Symbol → List Symbol) → GivesVariables given (hypotheses_of g.S.Symbol.means l.taken.hypotheses.now)
+      (entries_of g.S.Symbol.means l.taken) (map g.S.Symbol.means l.expression) → l.count ≡ length (substituted given
+      (take l.place (map g.S.Symbol.means l.expression)));
 }

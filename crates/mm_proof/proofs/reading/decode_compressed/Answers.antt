@@ -36,7 +36,8 @@ returns-clause-ok c view is active =
     let listed = c.in_ok-close.ensures.ok view (labels_at view c.args.mandatory.now) words is begins in
     let labels = c.read_list.new.labels in
     let len : length (entry_steps view labels.items) ≡ c.len.result = omega (arith, length-map labels.items (entry_step view), c.len.ensures, labels.ok.0) in
-    compressed_ok view c.args.i (labels_at view c.args.mandatory.now) words c.in_ok-close.close labels.items c.in_ok-steps.steps.items listed (c.in_ok-steps.ensures.ok (entry_steps view labels.items) words len (c.in_ok-close.ensures.behind words left))
+    compressed_ok view c.args.i (labels_at view c.args.mandatory.now) words c.in_ok-close.close labels.items c.in_ok-steps.steps.items listed
+    (c.in_ok-steps.ensures.ok (entry_steps view labels.items) words len (c.in_ok-close.ensures.behind words left))
 
 pub returns-clause-entries : goal.returns-clause-entries
 returns-clause-entries c view is active =

@@ -16,7 +16,8 @@ loop-word-preserved c =
       left = took.left;
       normal = λ view is.
           let normal = at.invariant.normal view is in
-          rw (c.in_ok-push.ensures.items, c.in_ok-push-2.ensures.items) (word_on view c.args.i words at.n at.labels.items at.steps.items normal word read.label read.action took.within took.is (e.ok view is) (λ before after len. e.action view before after is len) (e.entry view is));
+          rw (c.in_ok-push.ensures.items, c.in_ok-push-2.ensures.items) (word_on view c.args.i words at.n at.labels.items at.steps.items normal word
+          read.label read.action took.within took.is (e.ok view is) (λ before after len. e.action view before after is len) (e.entry view is));
     }
 
 pub returns-in_err-label-clause-err : goal.returns-in_err-label-clause-err

@@ -14,7 +14,9 @@ loop-n-preserved g c =
       whole = c.in_ok-load.ensures.whole;
       stack = c.in_ok-load.ensures.stack ∙ c.loop-n.invariant.stack;
       saved = c.in_ok-load.ensures.saved ∙ ap (λ w. w ++ e ∷ []) c.loop-n.invariant.saved
-          ∙ sym (take_next expressions c.loop-n.n e (mapped_get (λ e. map m e.now) c.args.named.now.hypotheses.items c.loop-n.n c.index-expression.result.now (omega (arith, c.loop-n-test.true, c.len-n-end.ensures, c.args.named.now.hypotheses.ok)) c.index-expression.ensures));
+          ∙ sym (take_next expressions c.loop-n.n e (mapped_get (λ e. map m e.now) c.args.named.now.hypotheses.items c.loop-n.n
+          c.index-expression.result.now (omega (arith, c.loop-n-test.true, c.len-n-end.ensures, c.args.named.now.hypotheses.ok))
+          c.index-expression.ensures));
     }
 
 pub returns-clause-state : goal.returns-clause-state
@@ -23,5 +25,11 @@ returns-clause-state g c =
     let expressions = named_expressions m c.args.named.now in
     record {
       stack = c.loop-n.invariant.stack;
-      saved = c.loop-n.invariant.saved ∙ take_all c.loop-n.n expressions (omega (arith, c.loop-n-test.false, c.len-n-end.ensures, c.args.named.now.hypotheses.ok, length-map c.args.named.now.hypotheses.items (λ e. map m e.now))) ∙ sym (append-nil expressions);
+      saved = c.loop-n.invariant.saved ∙ take_all c.loop-n.n expressions (omega (
+        arith,
+        c.loop-n-test.false,
+        c.len-n-end.ensures,
+        c.args.named.now.hypotheses.ok,
+        length-map c.args.named.now.hypotheses.items (λ e. map m e.now),
+      )) ∙ sym (append-nil expressions);
     }

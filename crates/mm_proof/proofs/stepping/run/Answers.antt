@@ -41,7 +41,8 @@ returns-else-is_top-clause-says g c place names is pairs all =
     let d : Entry = record { start = 0; end = 0; floor = 0 } in
     let e = read symbols (get_or machine.stack.items 0 d) in
     let some : 0 < length machine.stack.items = omega (arith, l, c.if-len-ne1.false, c.len.ensures) in
-    let top : read_all symbols machine.stack.items ≡ e ∷ [] = top_of (read symbols) machine.stack.items 0 (get_or machine.stack.items 0 d) some (omega (arith, l, c.if-len-ne1.false, c.len.ensures)) (get_or_default machine.stack.items 0 d (get_or machine.stack.items 0 d) some) in (
+    let top : read_all symbols machine.stack.items ≡ e ∷ [] = top_of (read symbols) machine.stack.items 0 (get_or machine.stack.items 0 d) some
+    (omega (arith, l, c.if-len-ne1.false, c.len.ensures)) (get_or_default machine.stack.items 0 d (get_or machine.stack.items 0 d) some) in (
       done.0,
       e,
       subst (λ w. Reaches place steps w) top done.1,

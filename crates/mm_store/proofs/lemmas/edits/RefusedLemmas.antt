@@ -69,7 +69,8 @@ starts_placed (first ∷ edits) files between zero edit are there at file placed
 starts_placed (first ∷ edits) files between (suc n) edit are there at file placed = (first, are.1.number, are.1.file, refl, are.1.placed)
 
 -- why the edit behind others is not done is why they all are not
-pub batch_error : (edits : List Asked) (files between : List File) (n : ℕ) (edit : Asked) (error : BatchError) → IsBatchOf (take n edits) files between → slice_get edits n ≡ Some edit → IsNextError edit between n error → IsBatchError edits files error
+pub batch_error : (edits : List Asked) (files between : List File) (n : ℕ) (edit : Asked) (error : BatchError) → IsBatchOf (take n edits) files between
+    → slice_get edits n ≡ Some edit → IsNextError edit between n error → IsBatchError edits files error
 batch_error edits files between n edit (Edit number error) are there fails = record {
   before = between;
   accepted = subst (λ n. IsBatchOf (take n edits) files between) (sym fails.0) are;

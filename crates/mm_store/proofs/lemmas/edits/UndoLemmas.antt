@@ -81,7 +81,8 @@ state_drop : (p : Pieces) (old k : ℕ) (s : PieceState) → old ≢ k → finit
 state_drop p old k s differs = same_but _ _ k
     (get_drop_same (with_state p old s) k ∙ sym (get_state_other (finite.remove p k) old s k (λ e. differs (sym e)) ∙ get_drop_same p k))
     (λ q d. get_drop_other (with_state p old s) k q d ∙ elim (cases_eq q old) [
-      | inl is ↦ ap (finite.get (with_state p old s)) is ∙ get_state_same p old s ∙ ap (λ o. Some (in_state o s)) (sym (get_drop_other p k old differs)) ∙ sym (get_state_same (finite.remove p k) old s) ∙ ap (finite.get (with_state (finite.remove p k) old s)) (sym is)
+      | inl is ↦ ap (finite.get (with_state p old s)) is ∙ get_state_same p old s ∙ ap (λ o. Some (in_state o s)) (sym (get_drop_other p k old differs)) ∙
+          sym (get_state_same (finite.remove p k) old s) ∙ ap (finite.get (with_state (finite.remove p k) old s)) (sym is)
       | inr other ↦ get_state_other p old s q other ∙ sym (get_drop_other p k q d) ∙ sym (get_state_other (finite.remove p k) old s q other)
     ])
 

@@ -71,7 +71,8 @@ module _ (w : FileView → ℕ) where
   weight_taken (other ∷ files) names (suc n) file there new =
       omega (arith, head_less other names file.name (is_among other.name names) refl, weight_taken files names n file there new)
 
-  pub weight_entered : (files : List FileView) (names : List (List ℕ)) (name : List ℕ) (n : ℕ) (file : FileView) → slice_get files n ≡ Some file → name ≡ file.name → ¬ Contains names name → weight files (names ++ name ∷ []) + w file ≤ weight files names
+  pub weight_entered : (files : List FileView) (names : List (List ℕ)) (name : List ℕ) (n : ℕ) (file : FileView) → slice_get files n ≡ Some file
+      → name ≡ file.name → ¬ Contains names name → weight files (names ++ name ∷ []) + w file ≤ weight files names
   weight_entered files names name n file there is new =
       let fresh = case (is_among file.name names) (λ t. new (subst (Contains names) (sym is) (contains_from_among file.name names t))) in
       subst (λ name. weight files (names ++ name ∷ []) + w file ≤ weight files names) (sym is) (weight_taken files names n file there fresh)

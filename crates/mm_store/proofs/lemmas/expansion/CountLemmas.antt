@@ -52,7 +52,18 @@ of_piece : (file n : ℕ) (piece : PieceView) (placed : List Placed) → ArePart
 of_piece file n piece placed are =
     let named = named_parts are.units in
     let many = length-map named (λ named. named.part) in
-    omega (arith, ap length are.parts, length-map named (placed_part file n piece.key), many, ap length (named_are are.units), parts_few are.units, ap length are.spells, length-map are.words (token_of piece.text), words_few piece.text are.words are.has_words)
+    omega (
+      arith,
+      ap length are.parts,
+      length-map named (placed_part file n piece.key),
+      many,
+      ap length (named_are are.units),
+      parts_few are.units,
+      ap
+          length are.spells,
+      length-map are.words (token_of piece.text),
+      words_few piece.text are.words are.has_words,
+    )
 
 pub placed_few : (file n : ℕ) (pieces : List PieceView) (placed : List Placed) → ArePlaced file n pieces placed → length placed ≤ length (concat (piece_texts pieces))
 placed_few file n [] placed are = omega (arith, ap length are)

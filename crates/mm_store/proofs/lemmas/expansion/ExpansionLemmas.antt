@@ -67,13 +67,15 @@ way (included {inner = inner} {between = between} {gained = gained} {items = ite
 abbrev One : List FileView → List Placed → List (List ℕ) → List Item → List (List ℕ) → Type 0
 One files parts names items after = (b : List Item) (y : List (List ℕ)) → Expands files parts names b y → (items ≡ b) × (after ≡ y)
 
-own_one : {files : List FileView} {part : Placed} {parts : List Placed} {names after y : List (List ℕ)} {items b : List Item} → ¬ IsInclusion part → One files parts names items after → Way files (part ∷ parts) names b y → (placed_item part ∷ items ≡ b) × (after ≡ y)
+own_one : {files : List FileView} {part : Placed} {parts : List Placed} {names after y : List (List ℕ)} {items b : List Item} → ¬ IsInclusion part
+    → One files parts names items after → Way files (part ∷ parts) names b y → (placed_item part ∷ items ≡ b) × (after ≡ y)
 own_one {part = part} {y = y} not one (inl (inl o)) = (let r = one o.rest y o.later in (ap (λ l. placed_item part ∷ l) r.0 ∙ sym o.is, r.1))
 own_one not one (inl (inr g)) = absurd (not g.is_inclusion)
 own_one not one (inr (inl l)) = absurd (not l.is_inclusion)
 own_one not one (inr (inr t)) = absurd (not t.is_inclusion)
 
-again_one : {files : List FileView} {part : Placed} {parts : List Placed} {names after y : List (List ℕ)} {items b : List Item} → IsInclusion part → Contains names part.name → One files parts names items after → Way files (part ∷ parts) names b y → (items ≡ b) × (after ≡ y)
+again_one : {files : List FileView} {part : Placed} {parts : List Placed} {names after y : List (List ℕ)} {items b : List Item} → IsInclusion part
+    → Contains names part.name → One files parts names items after → Way files (part ∷ parts) names b y → (items ≡ b) × (after ≡ y)
 again_one is old one (inl (inl o)) = absurd (o.is_own is)
 again_one {y = y} {b = b} is old one (inl (inr g)) = one b y g.later
 again_one is old one (inr (inl l)) = absurd (l.new old)

@@ -42,7 +42,8 @@ pub record Split (files : List FileView) (front rest : List Placed) (names : Lis
 abbrev Splits : List FileView → List Placed → List Placed → Type 0
 Splits files front rest = (names after : List (List ℕ)) (all : List Item) → Expands files (front ++ rest) names all after → Split files front rest names all after
 
-split_way : {files : List FileView} (part : Placed) (front rest : List Placed) {names after : List (List ℕ)} {all : List Item} → Splits files front rest → Way files (part ∷ (front ++ rest)) names all after → Split files (part ∷ front) rest names all after
+split_way : {files : List FileView} (part : Placed) (front rest : List Placed) {names after : List (List ℕ)} {all : List Item} → Splits files front rest
+    → Way files (part ∷ (front ++ rest)) names all after → Split files (part ∷ front) rest names all after
 split_way part front rest {after = after} splits (inl (inl o)) =
     let s = splits _ after o.rest o.later in
     record { gained = placed_item part ∷ s.gained; items = s.items; between = s.between; first = whole.own o.is_own s.first; later = s.later; joined = o.is ∙ ap (λ l. placed_item part ∷ l) s.joined }

@@ -93,7 +93,9 @@ module _ (text : List ℕ) (parts : List Part) (unit : HoldsOne text) (divided :
       case : Alone unit.units ⊎ AllByRecursion IsOwn (named_parts unit.units) → Includes file n (record { key = key; text = text }) name
       case (inl (named, at, _)) =
           let same : named.part ≡ part = same_Some named.part part (sym (ap (λ l. slice_get l 0) (first_part named at)) ∙ there) in
-          let is_named = (subst (AllByRecursion (λ named. named.part.kind ≡ kinds.Inclusion → (words : List Word) → HasWords (part_bytes text named.part) words → named.name ≡ second_word (part_bytes text named.part) words)) at (all_named alone text unit.units units unit.one)).0 in
+          let is_named = (subst (AllByRecursion (λ named. named.part.kind ≡ kinds.Inclusion → (words : List Word)
+          → HasWords (part_bytes text named.part) words → named.name ≡ second_word (part_bytes text named.part) words)) at
+          (all_named alone text unit.units units unit.one)).0 in
           let own : HasWords (part_bytes text named.part) words = subst (λ part. HasWords (part_bytes text part) words) (sym same) has in
           let kind_is : named.part.kind ≡ kinds.Inclusion = ap (λ (part : Part). part.kind) same ∙ kind in
           record {

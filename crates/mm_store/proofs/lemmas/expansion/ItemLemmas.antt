@@ -39,7 +39,8 @@ spot_held view old new spot holds (inr p) =
     subst (λ (spot : Spot). IsSome (finite.get view.pieces spot.key.at)) (sym p.is_spot) (held_there view p.level.file p.level.piece there.file p.piece.key.at holds there.there there.is_key)
 
 -- its text is the one under its key
-own_parts : (view : FilesView) (level : LevelView) (piece : PieceView) (spot : Spot) (parts : List Part) → PieceThere view level.file level.piece piece → spot ≡ spot_at level piece → HasParts (text_under view.pieces spot.key.at) parts → HasParts piece.text parts
+own_parts : (view : FilesView) (level : LevelView) (piece : PieceView) (spot : Spot) (parts : List Part) → PieceThere view level.file level.piece piece
+    → spot ≡ spot_at level piece → HasParts (text_under view.pieces spot.key.at) parts → HasParts piece.text parts
 own_parts view level piece spot parts there is divided =
     subst (λ text. HasParts text parts) (sym there.text) (subst (λ (spot : Spot). HasParts (text_under view.pieces spot.key.at) parts) is divided)
 

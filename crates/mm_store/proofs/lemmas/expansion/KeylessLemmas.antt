@@ -55,7 +55,8 @@ placed_keyless file n [] placed are = ap (map keyless_placed) are
 placed_keyless file n (piece ∷ pieces) placed are =
     (map keyless_placed are.0, map keyless_placed are.1, parts_keyless file n piece are.0 are.2, placed_keyless file (n + 1) pieces are.1 are.3, ap (map keyless_placed) are.4 ∙ map-append keyless_placed are.0 are.1)
 
-pub expands_keyless : {files : List FileView} {parts : List Placed} {names after : List (List ℕ)} {items : List Item} → Expands files parts names items after → Expands (map keyless_file files) (map keyless_placed parts) names (map keyless_item items) after
+pub expands_keyless : {files : List FileView} {parts : List Placed} {names after : List (List ℕ)} {items : List Item}
+    → Expands files parts names items after → Expands (map keyless_file files) (map keyless_placed parts) names (map keyless_item items) after
 expands_keyless nothing = nothing
 expands_keyless (own not d) = own not (expands_keyless d)
 expands_keyless (again is old d) = again is old (expands_keyless d)
@@ -77,7 +78,8 @@ expansion_keyless files top items is =
       expands = expands_keyless is.expands;
     }
 
-pub same_items : OneReading → OneDivision → (a b : List FileView) (top : List ℕ) (items others : List Item) → map without_keys a ≡ map without_keys b → IsExpansion a top items → IsExpansion b top others → map keyless_item items ≡ map keyless_item others
+pub same_items : OneReading → OneDivision → (a b : List FileView) (top : List ℕ) (items others : List Item) → map without_keys a ≡ map without_keys b
+    → IsExpansion a top items → IsExpansion b top others → map keyless_item items ≡ map keyless_item others
 same_items one_reading one_division a b top items others same p q =
     expansion_one one_reading one_division (map keyless_file b) top (map keyless_item items) (map keyless_item others)
     (subst (λ files. IsExpansion files top (map keyless_item items)) (same_keyless a b same) (expansion_keyless a top items p)) (expansion_keyless b top others q)

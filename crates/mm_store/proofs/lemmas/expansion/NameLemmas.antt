@@ -31,7 +31,8 @@ named_are (Simple shape later) = ap (λ ps. shape_part shape ∷ ps) (named_are 
 named_are (Block begin inner end later) =
     let first = part parts.BlockStart begin begin in
     let last = part parts.BlockEnd end end in
-    ap (λ ps. first ∷ ps) (map-append (λ named. named.part) (named_parts inner) (nameless last ∷ named_parts later) ∙ ap (λ ps. ps ++ last ∷ map (λ named. named.part) (named_parts later)) (named_are inner) ∙ ap (λ ps. parts_of inner ++ last ∷ ps) (named_are later))
+    ap (λ ps. first ∷ ps) (map-append (λ named. named.part) (named_parts inner) (nameless last ∷ named_parts later) ∙ ap
+    (λ ps. ps ++ last ∷ map (λ named. named.part) (named_parts later)) (named_are inner) ∙ ap (λ ps. parts_of inner ++ last ∷ ps) (named_are later))
 
 pub all_mapped : {X Y : Type 0} (P : Y → Type 0) (f : X → Y) (xs : List X) → AllByRecursion P (map f xs) → AllByRecursion (λ x. P (f x)) xs
 all_mapped P f [] h = tt
@@ -133,7 +134,8 @@ module _ (one_reading : OneReading) (one_division : OneDivision) (stands_alone :
       let rest = placed_tied view file number (n + 1) (front ++ piece ∷ []) pieces are.1 hold there (whole ∙ sym (append_assoc front (piece ∷ []) pieces)) next are.3 in
       subst (AllByRecursion (Tied view)) (sym are.4) (all_and (Tied view) are.0 are.1 first rest)
 
-  items_tied : (view : FilesView) {files : List FileView} {parts : List Placed} {names after : List (List ℕ)} {items : List Item} → files ≡ files_in view → HoldUnits (files_in view) → Expands files parts names items after → AllByRecursion (Tied view) parts
+  items_tied : (view : FilesView) {files : List FileView} {parts : List Placed} {names after : List (List ℕ)} {items : List Item} → files ≡ files_in view
+      → HoldUnits (files_in view) → Expands files parts names items after → AllByRecursion (Tied view) parts
       → AllByRecursion (NamesNoFile view) items
   items_tied view e hold nothing h = tt
   items_tied view e hold (own {part = part} not d) h = ((λ kind. absurd (not (kind_missing part.part.kind kind))), items_tied view e hold d h.1)

@@ -22,7 +22,8 @@ one_is : (y name : List ℕ) (k : ℕ) → k < 1 → get_or (y ∷ []) k name �
 one_is y name zero h e = e
 one_is y name (suc k) h e = absurd (omega arith)
 
-found : {Y : Type 0} (name : List ℕ) (x : Vec ℕ Y) (names : List (Vec ℕ Y)) (b : Bool) → bytes_eq name x.items ≡ b → (b || tests name names) ≡ true → (tests name names ≡ true → Contains (names_of names) name) → Contains (x.items ∷ names_of names) name
+found : {Y : Type 0} (name : List ℕ) (x : Vec ℕ Y) (names : List (Vec ℕ Y)) (b : Bool) → bytes_eq name x.items ≡ b → (b || tests name names) ≡ true
+    → (tests name names ≡ true → Contains (names_of names) name) → Contains (x.items ∷ names_of names) name
 found name x names true e h later = (0, omega arith, sym ((bytes_eq-Decides name x.items).0 e))
 found name x names false e h later = Contains-append_right (x.items ∷ []) (names_of names) name (later h)
 
@@ -31,7 +32,9 @@ pub contains_from_test : {Y : Type 0} (name : List ℕ) (names : List (Vec ℕ Y
 contains_from_test name [] h = absurd (false≢true h)
 contains_from_test name (x ∷ names) h = found name x names (bytes_eq name x.items) refl h (contains_from_test name names)
 
-missed : {Y : Type 0} (name : List ℕ) (x : Vec ℕ Y) (names : List (Vec ℕ Y)) (b : Bool) → bytes_eq name x.items ≡ b → Contains (x.items ∷ []) name ⊎ Contains (names_of names) name → (Contains (names_of names) name → tests name names ≡ true) → (b || tests name names) ≡ true
+missed : {Y : Type 0} (name : List ℕ) (x : Vec ℕ Y) (names : List (Vec ℕ Y)) (b : Bool) → bytes_eq name x.items ≡ b
+    → Contains (x.items ∷ []) name ⊎ Contains (names_of names) name → (Contains (names_of names) name → tests name names ≡ true)
+    → (b || tests name names) ≡ true
 missed name x names true e h later = refl
 missed name x names false e (inl here) later = absurd (false≢true (sym e ∙ (bytes_eq-Decides name x.items).1 (sym (one_is x.items name here.0 here.1 here.2))))
 missed name x names false e (inr there) later = later there

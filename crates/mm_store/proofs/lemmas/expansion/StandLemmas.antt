@@ -43,13 +43,15 @@ can_be_read view part holds h =
       some_word = readable.some_word;
     }
 
-parts_stand : (view : FilesView) (number n : ℕ) (piece : PieceView) (parts : List Named) → AllByRecursion (λ named. IsReadable piece.text named.part) parts → PieceThere view number n piece → AllByRecursion (Stands view) (map (placed_part number n piece.key) parts)
+parts_stand : (view : FilesView) (number n : ℕ) (piece : PieceView) (parts : List Named) → AllByRecursion (λ named. IsReadable piece.text named.part) parts
+    → PieceThere view number n piece → AllByRecursion (Stands view) (map (placed_part number n piece.key) parts)
 parts_stand view number n piece [] h there = tt
 parts_stand view number n piece (part ∷ parts) h there =
     (record { file = there.file; there = there.there; is_key = there.is_key; readable = subst (λ text. IsReadable text part.part) there.text h.0 }, parts_stand view number n piece parts h.1 there)
 
 module _ (parts_are_texts : PartsAreTexts) (view : FilesView) where
-  placed_stand : (file : FileView) (number n : ℕ) (front pieces : List PieceView) (placed : List Placed) → slice_get (files_in view) number ≡ Some file → file.pieces ≡ front ++ pieces → n ≡ length front → ArePlaced number n pieces placed → AllByRecursion (Stands view) placed
+  placed_stand : (file : FileView) (number n : ℕ) (front pieces : List PieceView) (placed : List Placed) → slice_get (files_in view) number ≡ Some file
+      → file.pieces ≡ front ++ pieces → n ≡ length front → ArePlaced number n pieces placed → AllByRecursion (Stands view) placed
   placed_stand file number n front [] placed there whole at are = subst (AllByRecursion (Stands view)) (sym are) tt
   placed_stand file number n front (piece ∷ pieces) placed there whole at are =
       let long : n < length (front ++ piece ∷ pieces) = omega (arith, length-append front (piece ∷ pieces)) in

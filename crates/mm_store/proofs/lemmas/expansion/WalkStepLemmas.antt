@@ -112,7 +112,8 @@ leaves files old new pending l are =
     subst (λ new. Went files old new pending []) (sym l.after) went
 
 module _ (one_reading : OneReading) (one_division : OneDivision) (files : List FileView) where
-  pub included_first : (front : List LevelView) (level : LevelView) (piece : PieceView) (name : List ℕ) (pending : List Placed) (b : Before files front level piece pending) (i : Includes level.file level.piece piece name) → pending ≡ i.part ∷ (b.later ++ b.outer)
+  pub included_first : (front : List LevelView) (level : LevelView) (piece : PieceView) (name : List ℕ) (pending : List Placed)
+      (b : Before files front level piece pending) (i : Includes level.file level.piece piece name) → pending ≡ i.part ∷ (b.later ++ b.outer)
   included_first front level piece name pending b i =
       b.joined ∙ ap (λ l. l ++ (b.later ++ b.outer)) (parts_one one_reading one_division level.file level.piece piece b.first (i.part ∷ []) b.are_parts i.are_parts)
 

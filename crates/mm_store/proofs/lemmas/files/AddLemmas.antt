@@ -125,9 +125,12 @@ module _ (inside : Inside) (kept : IsKept inside) (e : Vec ℕ Global × FileTex
       record {
         once = λ q. ap (λ es. places q (map file_of es)) is ∙ omega (arith, places_more e q es, kept.once q, put_stand p now texts e.1.keys.items put q, ap (λ m. standing_count (finite.get m q)) pieces);
         room = subst (λ m. HaveRoom m 0 after.files.entries) (sym pieces) (subst (HaveRoom now 0) (sym is)
-            (room_more now e 0 es (let at : length es ≡ 0 + length es = omega arith in subst (λ n. IsRoomy now n e.1) at (record { parked = deleted ∙ sym none ∙ sym (same (length es)); room = room })) (room_same p now 0 es (λ m lt. same m) kept.room)));
+            (room_more now e 0 es (let at : length es ≡ 0 + length es = omega arith in subst (λ n. IsRoomy now n e.1) at
+            (record { parked = deleted ∙ sym none ∙ sym (same (length es)); room = room })) (room_same p now 0 es (λ m lt. same m) kept.room)));
         known = λ m le. ap (deletions m) pieces ∙ same m ∙ kept.known m (omega (arith, le, ap length is, length-append es (e ∷ [])));
-        starts = subst (λ files. HaveStarts files after.files.entries) (sym plain_is) (subst (HaveStarts (map (plain_file p) (map file_of es) ++ new_file ∷ [])) (sym is) (starts_more new_file e (map (plain_file p) (map file_of es)) es starts tail kept.starts));
+        starts = subst (λ files. HaveStarts files after.files.entries) (sym plain_is) (subst (HaveStarts
+            (map (plain_file p) (map file_of es) ++ new_file ∷ [])) (sym is) (starts_more new_file e (map (plain_file p) (map file_of es)) es starts tail
+            kept.starts));
         counted = omega (arith, counted, kept.counted, ap bytes_of plain_is, bytes_more (map (plain_file p) (map file_of es)) new_file);
         within = within;
       }

@@ -41,7 +41,8 @@ module _ {Y : Type 0} where
     room_same p p' (suc start) es (λ m lt. same m (omega arith)) room.1,
   )
 
-  pub room_set : (p p' : Pieces) (start : ℕ) (es : List (Vec ℕ Y × FileText)) (n at : ℕ) (w : FileText) → at ≡ start + n → ((m : ℕ) → m ≢ at → deletions m p' ≡ deletions m p) → IsRoomy p' at w → HaveRoom p start es → HaveRoom p' start (set_value_at es n w)
+  pub room_set : (p p' : Pieces) (start : ℕ) (es : List (Vec ℕ Y × FileText)) (n at : ℕ) (w : FileText) → at ≡ start + n
+      → ((m : ℕ) → m ≢ at → deletions m p' ≡ deletions m p) → IsRoomy p' at w → HaveRoom p start es → HaveRoom p' start (set_value_at es n w)
   room_set p p' start [] n at w is same has room = tt
   room_set p p' start (e ∷ es) zero at w is same has room =
       let here : at ≡ start = omega arith in (

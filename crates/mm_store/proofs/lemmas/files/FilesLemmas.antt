@@ -19,7 +19,8 @@ use Rattle.mm_store.proofs.lemmas.files.ListLemmas.{times_at, places_in, members
 use Rattle.mm_store.proofs.lemmas.files.NumberLemmas.{number_is}
 
 module _ {Y : Type 0} (p : Pieces) (name : List ℕ) (entries : List (Vec ℕ Y × FileText)) where
-  pub found_is : (n : ℕ) (entry : Vec ℕ Y × FileText) → Some n ≡ position (λ key. bytes_eq name key.items) (keys_of entries) → slice_get entries n ≡ Some entry → find_file (map (plain_file p) (map file_of entries)) name ≡ Some (plain_file p (file_of entry))
+  pub found_is : (n : ℕ) (entry : Vec ℕ Y × FileText) → Some n ≡ position (λ key. bytes_eq name key.items) (keys_of entries)
+      → slice_get entries n ≡ Some entry → find_file (map (plain_file p) (map file_of entries)) name ≡ Some (plain_file p (file_of entry))
   found_is n entry at there =
       ap (file_at (map (plain_file p) (map file_of entries))) (number_is p name entries ∙ sym at)
       ∙ slice_get-map (plain_file p) (map file_of entries) n ∙ ap (option_map (plain_file p)) (slice_get-map (file_of {Y = Y}) entries n ∙ ap (option_map (file_of {Y = Y})) there)

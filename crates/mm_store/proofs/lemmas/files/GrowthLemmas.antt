@@ -94,7 +94,8 @@ module _ (files : List FileView) (file : FileView) where
 last_in : (names : List (List ℕ)) (name : List ℕ) → Contains (names ++ name ∷ []) name
 last_in names name = Contains-append_right names (name ∷ []) name (0, omega arith, refl)
 
-pub goes_kept : {files : List FileView} {parts rest : List Placed} {names after : List (List ℕ)} {items : List Item} (file : FileView) → ¬ Contains after file.name → Goes files parts names items rest after → Goes (files ++ file ∷ []) parts names items rest after
+pub goes_kept : {files : List FileView} {parts rest : List Placed} {names after : List (List ℕ)} {items : List Item} (file : FileView)
+    → ¬ Contains after file.name → Goes files parts names items rest after → Goes (files ++ file ∷ []) parts names items rest after
 goes_kept file new here = here
 goes_kept file new (own not d) = own not (goes_kept file new d)
 goes_kept file new (again is old d) = again is old (goes_kept file new d)

@@ -105,7 +105,8 @@ pub bytes_more : (files : List File) (n at : ℕ) (text : List ℕ) → n < leng
 bytes_more files n at text lt = omega (arith, bytes_with files n (insert (pieces_in files n) at text) lt, sum_by-insert length (pieces_in files n) at text)
 
 -- the bytes after a replacement
-pub bytes_other : (files : List File) (n at : ℕ) (text : List ℕ) → n < length files → at < length (pieces_in files n) → bytes_of (with_pieces files n (set (pieces_in files n) at text)) + length (get_or (pieces_in files n) at []) ≡ bytes_of files + length text
+pub bytes_other : (files : List File) (n at : ℕ) (text : List ℕ) → n < length files → at < length (pieces_in files n)
+    → bytes_of (with_pieces files n (set (pieces_in files n) at text)) + length (get_or (pieces_in files n) at []) ≡ bytes_of files + length text
 bytes_other files n at text lt there = omega (arith, bytes_with files n (set (pieces_in files n) at text) lt, sum_by-set length (pieces_in files n) at text [] there)
 
 pub read_member : (p : Pieces) (files : List KeyedFile) (n at : ℕ) → at < length (keys_in files n) → get_or (pieces_in (map (plain_file p) files) n) at [] ≡ text_under p (get_or (keys_in files n) at 0)

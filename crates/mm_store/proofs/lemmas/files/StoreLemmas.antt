@@ -63,7 +63,8 @@ pub nothing_parked : parked_pieces finite.empty ≡ 0
 nothing_parked = ap (sum_by (λ (entry : ℕ × HeldPiece). parked_state entry.1.state)) (nil_from_length (finite.entries finite.empty) (sym (finite.len-entries finite.empty) ∙ finite.len-empty nat_cmp HeldPiece))
 
 -- the map of the pieces weighs what the slots do
-weigh_slots : (first : ℕ) (slots : List (Option Piece)) → weigh parked_weight (finite.entries (finite.from_entries {R = nat_cmp} (map entry_view (entries_from first slots)))) ≡ sum_by (λ (entry : ℕ × Piece). parked_state (piece_state entry.1.state)) (entries_from first slots)
+weigh_slots : (first : ℕ) (slots : List (Option Piece)) → weigh parked_weight (finite.entries (finite.from_entries {R = nat_cmp}
+    (map entry_view (entries_from first slots)))) ≡ sum_by (λ (entry : ℕ × Piece). parked_state (piece_state entry.1.state)) (entries_from first slots)
 weigh_slots first [] = sym (parked_is finite.empty) ∙ nothing_parked
 weigh_slots first (None ∷ rest) = weigh_slots (first + 1) rest
 weigh_slots first (Some piece ∷ rest) =
@@ -79,9 +80,18 @@ no_more : (first : ℕ) (slots : List (Option Piece)) → sum_by (λ (entry : �
 no_more first [] = omega arith
 no_more first (None ∷ rest) = omega (arith, no_more (first + 1) rest, sum_by-cons (λ (o : Option Piece). cond (is_some o) 1 0) None rest)
 no_more first (Some piece ∷ rest) =
-    omega (arith, no_more (first + 1) rest, at_most_one (piece_state piece.state), sum_by-cons (λ (o : Option Piece). cond (is_some o) 1 0) (Some piece) rest, sum_by-cons (λ (entry : ℕ × Piece). parked_state (piece_state entry.1.state)) (first, piece) (entries_from (first + 1) rest))
+    omega (
+      arith,
+      no_more (first + 1) rest,
+      at_most_one (piece_state piece.state),
+      sum_by-cons (λ (o : Option Piece). cond (is_some o) 1 0) (Some piece)
+          rest,
+      sum_by-cons (λ (entry : ℕ × Piece). parked_state (piece_state entry.1.state)) (first, piece) (entries_from (first + 1) rest),
+    )
 
-one_less : (first at : ℕ) (slots : List (Option Piece)) (piece : Piece) → get_or slots at None ≡ Some piece → sum_by (λ (entry : ℕ × Piece). parked_state (piece_state entry.1.state)) (entries_from first slots) + 1 ≤ count_by is_some slots + parked_state (piece_state piece.state)
+one_less : (first at : ℕ) (slots : List (Option Piece)) (piece : Piece) → get_or slots at None ≡ Some piece
+    → sum_by (λ (entry : ℕ × Piece). parked_state (piece_state entry.1.state)) (entries_from first slots) + 1 ≤ count_by is_some slots + parked_state
+    (piece_state piece.state)
 one_less first (suc at) (None ∷ rest) piece there = omega (arith, one_less (first + 1) at rest piece there, sum_by-cons (λ (o : Option Piece). cond (is_some o) 1 0) None rest)
 one_less first zero (Some x ∷ rest) piece there =
     omega (
@@ -92,7 +102,14 @@ one_less first zero (Some x ∷ rest) piece there =
       sum_by-cons (λ (entry : ℕ × Piece). parked_state (piece_state entry.1.state)) (first, x) (entries_from (first + 1) rest),
     )
 one_less first (suc at) (Some x ∷ rest) piece there =
-    omega (arith, one_less (first + 1) at rest piece there, at_most_one (piece_state x.state), sum_by-cons (λ (o : Option Piece). cond (is_some o) 1 0) (Some x) rest, sum_by-cons (λ (entry : ℕ × Piece). parked_state (piece_state entry.1.state)) (first, x) (entries_from (first + 1) rest))
+    omega (
+      arith,
+      one_less (first + 1) at rest piece there,
+      at_most_one (piece_state x.state),
+      sum_by-cons (λ (o : Option Piece). cond (is_some o) 1 0)
+          (Some x) rest,
+      sum_by-cons (λ (entry : ℕ × Piece). parked_state (piece_state entry.1.state)) (first, x) (entries_from (first + 1) rest),
+    )
 one_less first _ _ piece there = absurd (none-some piece there)
 
 -- the other pieces that are parked are fewer than all

@@ -63,7 +63,8 @@ pub each_more : {X : Type 0} (P : ℕ → X → Type 0) (xs : List X) (x : X) (n
 each_more P [] x n long each last zero d h = subst (λ m. P m x) (sym long) last
 each_more P [] x n long each last (suc k) d h = absurd (omega arith)
 each_more P (y ∷ xs) x n long each last zero d h = each 0 d (omega arith)
-each_more P (y ∷ xs) x n long each last (suc k) d h = each_more (λ j z. P (suc j) z) xs x (n - 1) (omega arith) (λ j e lt. each (suc j) e (omega arith)) (let same : suc (n - 1) ≡ n = omega arith in subst (λ m. P m x) (sym same) last) k d (omega arith)
+each_more P (y ∷ xs) x n long each last (suc k) d h = each_more (λ j z. P (suc j) z) xs x (n - 1) (omega arith) (λ j e lt. each (suc j) e (omega arith))
+    (let same : suc (n - 1) ≡ n = omega arith in subst (λ m. P m x) (sym same) last) k d (omega arith)
 
 pub concat_one : (texts : List (List ℕ)) (n : ℕ) → n < length texts → concat (take (n + 1) texts) ≡ concat (take n texts) ++ get_or texts n []
 concat_one texts n h = rw (take_more texts n [] h, concat-append) (ap (λ l. concat (take n texts) ++ l) (append-nil (get_or texts n [])))
@@ -71,7 +72,8 @@ concat_one texts n h = rw (take_more texts n [] h, concat-append) (ap (λ l. con
 -- the bytes before the next piece
 pub next_piece : (texts : List (List ℕ)) (n at : ℕ) → n < length texts → bytes_before texts (n + 1) 0 ≡ bytes_before texts n at ++ drop at (get_or texts n [])
 next_piece texts n at h =
-    append-nil (concat (take (n + 1) texts)) ∙ concat_one texts n h ∙ ap (λ l. concat (take n texts) ++ l) (sym (take-append-drop at (get_or texts n []))) ∙ sym (append_assoc (concat (take n texts)) (take at (get_or texts n [])) (drop at (get_or texts n [])))
+    append-nil (concat (take (n + 1) texts)) ∙ concat_one texts n h ∙ ap (λ l. concat (take n texts) ++ l) (sym (take-append-drop at (get_or texts n []))) ∙
+    sym (append_assoc (concat (take n texts)) (take at (get_or texts n [])) (drop at (get_or texts n [])))
 
 -- bytes of a piece lie within the joined texts
 pub within_joined : (texts : List (List ℕ)) (n at : ℕ) → n < length texts → length (bytes_before texts n at) + length (drop at (get_or texts n [])) ≤ length (concat texts)
@@ -94,7 +96,8 @@ before_in texts n at tail h within =
     let x = get_or texts n [] in
     let d = concat (drop (n + 1) texts) in
     let whole : concat texts ≡ a ++ (x ++ d) = ap concat (sym (take-append-drop n texts)) ∙ concat-append (take n texts) (drop n texts) ∙ ap (λ l. a ++ concat l) (drop_more texts n [] h) in
-    ap (λ l. take (length a + at) (l ++ tail)) whole ∙ ap (take (length a + at)) (append_assoc a (x ++ d) tail) ∙ take-append-add a ((x ++ d) ++ tail) at ∙ ap (λ l. a ++ l) (ap (take at) (append_assoc x d tail) ∙ take-append-le at x (d ++ tail) within)
+    ap (λ l. take (length a + at) (l ++ tail)) whole ∙ ap (take (length a + at)) (append_assoc a (x ++ d) tail) ∙ take-append-add a ((x ++ d) ++ tail) at ∙
+    ap (λ l. a ++ l) (ap (take at) (append_assoc x d tail) ∙ take-append-le at x (d ++ tail) within)
 
 -- the bytes of a file before a byte of a piece
 pub before_byte : (file : File) (n at : ℕ) (text : List ℕ) → slice_get file.pieces n ≡ Some text → at ≤ length text → take (piece_offset file n + at) (text_of file) ≡ bytes_before file.pieces n at

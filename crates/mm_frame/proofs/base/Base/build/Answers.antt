@@ -33,5 +33,7 @@ returns-clause-base c =
     let base : BaseView = record { found = found; said = read.0 } in
     let built : Inside = record { items = c.in_ok-items.items; floats = c.in_ok-floats.floats; parts = c.parts.result } in
     let by : (all : List (List ℕ)) → AreDistinct all → Begins c.read_all.new.names all → IsBaseBy all base (answers_of built) = λ all distinct more.
-    base_told all base built distinct refl (sym (AllZip-long (Says files) found read.0 each)) (omega (arith, AllZip-long (Says files) found read.0 each, c.in_ok-items.ensures.small)) (kinds_said files found read.0 each) (c.parts.ensures all read.0 (read.2 all distinct more)) in
+    base_told all base built distinct refl (sym (AllZip-long (Says files) found read.0 each)) (omega
+    (arith, AllZip-long (Says files) found read.0 each, c.in_ok-items.ensures.small)) (kinds_said files found read.0 each)
+    (c.parts.ensures all read.0 (read.2 all distinct more)) in
     (base, record { expansion = c.in_ok-items.ensures.items; each = each }, by c.read_all.new.names c.distinct.ensures (λ n name there. there), by)

@@ -28,7 +28,8 @@ invariant_of-self-2 c =
     let next : c.len-block.result ≡ length ends.items = omega (arith, c.len-block.ensures, ends.ok.0) in
     let kept = kept_entered i.block_of.items i.ends.items ends.items i.outer.items i.current i.begun i.ended c.enter.ensures.same c.enter.ensures.longer c.self.invariant in
     let outer = pushed c.push-2.result c.unwrap.result c.push-2.new.self.items (c.reserve.new.self.items ++ i.current ∷ []) c.reserve.new.self.items c.unwrap.ensures c.push-2.ensures.items ∙ ap (λ w. w ++ i.current ∷ []) c.reserve.ensures.items in
-    kept_moved _ c.push.new.self.items _ ends.items _ c.push-2.new.self.items c.len-block.result _ i.ended c.in_ok-push.ensures.items refl outer (kept_begun i.block_of.items ends.items i.outer.items i.current c.len-block.result i.begun i.ended c.in_ok-enter.ensures.ok next kept)
+    kept_moved _ c.push.new.self.items _ ends.items _ c.push-2.new.self.items c.len-block.result _ i.ended c.in_ok-push.ensures.items refl outer
+    (kept_begun i.block_of.items ends.items i.outer.items i.current c.len-block.result i.begun i.ended c.in_ok-enter.ensures.ok next kept)
 
 pub returns-clause-ok : goal.returns-clause-ok
 returns-clause-ok c =

@@ -12,9 +12,24 @@ is_active-requires-clause-within c =
 pub returns-then-from-len : goal.returns-then-from-len
 returns-then-from-len c =
     let inside = c.self.inside in
-    le-leb c.len.result c.args.from c.if-from-len.true ∙ sym (behind_none c.args.self.now c.args.from (omega (arith, c.if-from-len.true, c.len.ensures, inside.block_of.ok.0, marks_count inside.ends.items inside.block_of.items c.args.self.now c.self.view_is)))
+    le-leb c.len.result c.args.from c.if-from-len.true ∙ sym (behind_none c.args.self.now c.args.from
+    (omega (
+      arith,
+      c.if-from-len.true,
+      c.len.ensures,
+      inside.block_of.ok.0,
+      marks_count inside.ends.items inside.block_of.items c.args.self.now
+          c.self.view_is,
+    )))
 
 pub returns-else-from-len : goal.returns-else-from-len
 returns-else-from-len c =
     let inside = c.self.inside in
-    c.is_active.ensures ∙ ap stays_by (behind_item c.args.self.now c.args.from c.len-else-from-len.result (omega (arith, c.len-else-from-len.ensures, inside.block_of.ok.0, marks_count inside.ends.items inside.block_of.items c.args.self.now c.self.view_is)))
+    c.is_active.ensures ∙ ap stays_by (behind_item c.args.self.now c.args.from c.len-else-from-len.result
+    (omega (
+      arith,
+      c.len-else-from-len.ensures,
+      inside.block_of.ok.0,
+      marks_count inside.ends.items inside.block_of.items c.args.self.now
+          c.self.view_is,
+    )))

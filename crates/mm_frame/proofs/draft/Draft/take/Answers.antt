@@ -55,7 +55,8 @@ returns c all said first d numbers_first numbers =
       assertion = (parts t).1;
       symbols = subst (AreSymbolsRead all (expression before item)) (sym c.deref-3.ensures.value) (record { symbols = own (parts t).0 (parts t).2; numbered = numbered });
     }) in
-    let frame_told = subst (λ b. HoldsFrame all b before item c.in_ok-frame.frame) (framed_told before item flag framed (kind_of c.kind.result) kind c.is_framed-framed.ensures (none_fault (λ f. (f.word, f.number)) before item found told ∙ none)) frame in
+    let frame_told = subst (λ b. HoldsFrame all b before item c.in_ok-frame.frame) (framed_told before item flag framed (kind_of c.kind.result) kind
+    c.is_framed-framed.ensures (none_fault (λ f. (f.word, f.number)) before item found told ∙ none)) frame in
     let holds = c.in_ok-next.ensures all before are_sound d.scope is_sound (subst (λ w. AreNameNumbers all w item.symbols) (sym c.deref-6.ensures.value) numbers) in
     let number : c.count-number.result ≡ length before = omega (arith, c.count-number.ensures, kept_count said, d.rows.count) in
     let pairs = c.in_ok-follow_pairs.ensures all before item d.scope.knows.distinct are_sound c.kind-3.ensures.kind number (c.blocks-2.ensures ∙ d.scope.marks)
@@ -74,11 +75,16 @@ returns c all said first d numbers_first numbers =
     record {
       scope = subst (λ w. ScopeHolds all w c.next.new.self) more holds;
       kept = c.in_ok-add-2.ensures.kept d.kept;
-      rows = subst (AreRows IsLabelTold (said ++ item ∷ [])) (sym (c.in_ok-add-2.ensures.more d.kept)) (rows_more IsLabelTold said item (rows_of c.args.self.now.rows) (option_map (λ label. label.now) c.label.result, fault_told c.told_fault-told.result) d.rows (record {
-        label = c.label.ensures.label;
-        labelled = some_lent (λ label. label.now) c.label.result ∙ c.label.ensures.some;
-        fault = c.told_fault-told.ensures ∙ ap (λ k. fault_by k (option_map (λ f. (f.word, f.number)) found)) c.kind-4.ensures.kind ∙ ap (fault_by item.kind) told;
-      }));
+      rows = subst (AreRows IsLabelTold (said ++ item ∷ [])) (sym (c.in_ok-add-2.ensures.more d.kept))
+          (rows_more IsLabelTold said item (rows_of c.args.self.now.rows) (
+            option_map (λ label. label.now) c.label.result,
+            fault_told
+                c.told_fault-told.result,
+          ) d.rows (record {
+            label = c.label.ensures.label;
+            labelled = some_lent (λ label. label.now) c.label.result ∙ c.label.ensures.some;
+            fault = c.told_fault-told.ensures ∙ ap (λ k. fault_by k (option_map (λ f. (f.word, f.number)) found)) c.kind-4.ensures.kind ∙ ap (fault_by item.kind) told;
+          }));
       symbols = subst (λ w. AreSymbols all w c.add.new.self) more
           (subst (λ w. AreSymbols all (before ++ taken flag item ∷ []) w) (sym added) (symbols_more all before (taken flag item) c.args.self.now.expressions symbols.items d.symbols numbered read));
       frames = subst (λ w. AreRows (TellsFrame all) (said ++ item ∷ []) w) (sym c.in_ok-push.ensures.items) (rows_more (TellsFrame all) said item c.args.self.now.frames.items c.in_ok-frame.frame d.frames frame_told);

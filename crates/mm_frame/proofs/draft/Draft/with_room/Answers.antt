@@ -21,5 +21,6 @@ returns c = λ all distinct. record {
   pair_numbers = subst (AreRows (TellsPairs all c.new-5.result) []) (sym c.in_ok-pair_numbers.ensures.items) (rows_none (TellsPairs all c.new-5.result));
   pair_table = c.new-6.ensures all;
   asked = c.new-7.ensures all;
-  variables = subst (λ (w : List (List NumberedSymbol)). AreVariablesOf c.new-3.result w c.new-8.result.found.items) (sym c.in_ok-expressions.ensures) (subst (λ (w : List ℕ). AreVariablesOf w [] c.new-8.result.found.items) (sym c.new-3.ensures.none) c.new-8.ensures);
+  variables = subst (λ (w : List (List NumberedSymbol)). AreVariablesOf c.new-3.result w c.new-8.result.found.items) (sym c.in_ok-expressions.ensures)
+      (subst (λ (w : List ℕ). AreVariablesOf w [] c.new-8.result.found.items) (sym c.new-3.ensures.none) c.new-8.ensures);
 }

@@ -9,4 +9,5 @@ loop-k-init c rising active = adds_none c.args.essentials.now c.args.number c.ar
 pub loop-k-preserved : goal.loop-k-preserved
 loop-k-preserved c rising active =
     let none : NumberedSymbol = record { name = 0; variable = false } in
-    adds_more c.args.essentials.now c.args.number c.args.symbols.now c.loop-k.k none c.args.self.now.found.items c.loop-k.self.found.items c.add.new.self.found.items c.loop-k-test.true (c.loop-k.invariant rising active) (c.in_ok-add.ensures rising active)
+    adds_more c.args.essentials.now c.args.number c.args.symbols.now c.loop-k.k none c.args.self.now.found.items c.loop-k.self.found.items
+    c.add.new.self.found.items c.loop-k-test.true (c.loop-k.invariant rising active) (c.in_ok-add.ensures rising active)

@@ -13,7 +13,9 @@ returns-then-row-le-SHORT_ROW-clause-value c all before x y reads m a b =
 
 pub returns-then-other-le-SHORT_ROW-clause-value : goal.returns-then-other-le-SHORT_ROW-clause-value
 returns-then-other-le-SHORT_ROW-clause-value c all before x y reads m a b =
-    pair_turned_told all before c.args.self.now c.args.blocks.now c.args.first c.args.second c.row-row.result.now c.row-other.result.now x y c.have_common-then-other-le-SHORT_ROW.result c.row-row.ensures c.row-other.ensures reads a b c.if-first-second.false c.have_common-then-other-le-SHORT_ROW.ensures
+    pair_turned_told all before c.args.self.now c.args.blocks.now c.args.first c.args.second c.row-row.result.now c.row-other.result.now x y
+    c.have_common-then-other-le-SHORT_ROW.result c.row-row.ensures c.row-other.ensures reads a b c.if-first-second.false
+    c.have_common-then-other-le-SHORT_ROW.ensures
 
 pub returns-clause-value : goal.returns-clause-value
 returns-clause-value c = IfOk-weaker c.ask.result _ _ (λ r told all before x y reads m a b. told all before x y c.args.self.now reads c.row-row.ensures c.row-other.ensures m a b c.if-first-second.false) c.ask.ensures.value

@@ -7,7 +7,9 @@ use Rattle.mm_frame.proofs.places.Places.of.Goals as goal
 pub loop-n-preserved : goal.loop-n-preserved
 loop-n-preserved c =
     let none : NumberedSymbol = record { name = 0; variable = false } in
-    placed_more c.loop-n.n c.args.symbols.now (record { places = c.loop-n.places }) (record { places = c.insert.new.self }) _ (slice_get-get_or c.args.symbols.now c.loop-n.n none c.loop-n-test.true) c.loop-n.invariant (sym c.in_ok-twice.ensures.old ∙ none_there c.in_ok-twice.twice (sym c.is_some.ensures ∙ c.if-is_some.false)) (λ name. c.in_ok-twice.ensures.updates.0 name)
+    placed_more c.loop-n.n c.args.symbols.now (record { places = c.loop-n.places }) (record { places = c.insert.new.self }) _
+    (slice_get-get_or c.args.symbols.now c.loop-n.n none c.loop-n-test.true) c.loop-n.invariant (sym c.in_ok-twice.ensures.old ∙ none_there
+    c.in_ok-twice.twice (sym c.is_some.ensures ∙ c.if-is_some.false)) (λ name. c.in_ok-twice.ensures.updates.0 name)
 
 pub returns : goal.returns
 returns c = placed_all c.loop-n.n c.args.symbols.now (record { places = c.loop-n.places }) c.loop-n-test.false c.loop-n.invariant

@@ -9,14 +9,16 @@ pub returns-in-Constants : goal.returns-in-Constants
 returns-in-Constants c =
     let item = c.args.statement.now in
     on_ok_weaker c.take_constants.result
-    (λ d all before h l a k. knows_next all before item Constants c.args.number c.args.self.now c.take_constants.new.self c.in-Constants.ensures.kind h l k (takes_constants all item c.args.number c.args.self.now c.take_constants.new.self (d all item.symbols k.distinct a)))
+    (λ d all before h l a k. knows_next all before item Constants c.args.number c.args.self.now c.take_constants.new.self c.in-Constants.ensures.kind h l k
+    (takes_constants all item c.args.number c.args.self.now c.take_constants.new.self (d all item.symbols k.distinct a)))
     c.take_constants.ensures
 
 pub returns-in-Variables : goal.returns-in-Variables
 returns-in-Variables c =
     let item = c.args.statement.now in
     on_ok_weaker c.take_variables.result
-    (λ d all before h l a k. knows_next all before item Variables c.args.number c.args.self.now c.take_variables.new.self c.in-Variables.ensures.kind h l k (takes_variables all item c.args.number c.args.self.now c.take_variables.new.self (d all item.symbols k.distinct a)))
+    (λ d all before h l a k. knows_next all before item Variables c.args.number c.args.self.now c.take_variables.new.self c.in-Variables.ensures.kind h l k
+    (takes_variables all item c.args.number c.args.self.now c.take_variables.new.self (d all item.symbols k.distinct a)))
     c.take_variables.ensures
 
 pub returns-in-Floating : goal.returns-in-Floating

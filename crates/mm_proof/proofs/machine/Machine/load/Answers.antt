@@ -19,7 +19,8 @@ returns-clause-saved g c =
     let k = c.args.self.now.symbols.ok in
     let l = c.append.new.to.ok in
     let w = c.requires.kept_within in
-    pushed_all (map m c.args.self.now.symbols.items) (map m c.args.expression.now) (map m c.append.new.to.items) (length c.args.self.now.symbols.items) c.args.self.now.saved.items c.push.new.self.items new c.in_ok-append.ensures (sym (length-map c.args.self.now.symbols.items
+    pushed_all (map m c.args.self.now.symbols.items) (map m c.args.expression.now) (map m c.append.new.to.items) (length c.args.self.now.symbols.items)
+    c.args.self.now.saved.items c.push.new.self.items new c.in_ok-append.ensures (sym (length-map c.args.self.now.symbols.items
     m)) (wider c.args.self.now.kept (length c.args.self.now.symbols.items) c.args.self.now.saved.items w c.requires.saved_within) c.in_ok-push.ensures.items
     (omega (arith, c.len-start.ensures, k, length-map c.args.self.now.symbols.items m)) (omega (arith, c.len-end.ensures, l, length-map c.append.new.to.items m))
 

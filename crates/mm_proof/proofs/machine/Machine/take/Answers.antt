@@ -48,7 +48,8 @@ returns-clause-cites g c =
     (omega (arith, c.len.ensures, k, c.if-len-count.false, length-map es (read (map m symbols)), length-map hs (mandatory_of m)))
     (entries_taken m hs c.args.expression.now c.args.pairs.now (map m symbols) es below (omega (arith, c.len.ensures, c.len-2.ensures, k, c.if-len-count.false)) ∙ sym taken)
     says result
-    (λ given gives. c.in_ok-substitute.ensures given (gives_all frame.hypotheses given (read_all (map m c.deref.result.now) entries) frame.expression (hypotheses_known frame c.requires.frame) gives c.requires.frame.expression_typed) ∙ ap (λ w. map m w ++ substituted given
+    (λ given gives. c.in_ok-substitute.ensures given (gives_all frame.hypotheses given (read_all (map m c.deref.result.now) entries) frame.expression
+    (hypotheses_known frame c.requires.frame) gives c.requires.frame.expression_typed) ∙ ap (λ w. map m w ++ substituted given
     (map m c.args.expression.now)) c.clear.ensures.items) in
     subst (λ w. Cites active frame stack w) (ap (λ k. take k stack ++ result ∷ []) here ∙ sym c.in_ok-replace.ensures.stack) whole
 

@@ -35,7 +35,8 @@ returns-clause-named c =
       assertion_count = omega (arith, is.assertion_count, length-append numbers (c.args.number ∷ []), length-append old.assertions.items (cited ∷ []));
       hypotheses = is.hypotheses;
       assertions = λ names view base n j at framed.
-          placed_more (λ k. is_framed_at view k ≡ true) (λ kept k. AreSameFrame kept (numbered_frame names view k)) numbers c.add.new.self.items.items (frames old.assertions.items) (frames c.push.new.self.items) c.args.number (frame_of by_number cited)
+          placed_more (λ k. is_framed_at view k ≡ true) (λ kept k. AreSameFrame kept (numbered_frame names view k)) numbers c.add.new.self.items.items
+          (frames old.assertions.items) (frames c.push.new.self.items) c.args.number (frame_of by_number cited)
           (length-map old.assertions.items (frame_of by_number) ∙ is.assertion_count) c.in_ok-add.ensures.items
           (ap frames c.in_ok-push.ensures.items ∙ map-append (frame_of by_number) old.assertions.items (cited ∷ []))
           (λ f. c.in_ok-assertion_of.ensures names view base f) (λ m k there f. is.assertions names view base m k there f) n j at framed;

@@ -163,8 +163,14 @@ returns c =
     let text : c.set_state-less.result ≡ length (text_under p (get_or (keys_in fs n) at 0)) = c.set_state-less.ensures.len ∙ ap (λ q. length (text_under p q)) old in
     let once_now = subst (λ (view : FilesView). (q : ℕ) → places q view.keyed ≡ standing_count (finite.get view.pieces q)) c.self.view_is c.self.invariant.once in
     let small_now = subst (λ (view : FilesView). bytes_of (plain view) ≤ 4294967295) c.self.view_is (omega (arith, c.self.invariant.counted, c.self.invariant.within)) in
-    let is = view_after inside n v w here c.delete_key-old.ensures.tail (remove (keys_in fs n) at) items c.set_state-less.new.self (with_state p (get_or (keys_in fs n) at 0) (Parked n Deleted)) p2 (inside.bytes - c.set_state-less.result) ∙ ap (λ v. deleted v n at) c.self.view_is in
-    let undo_is : record { file = n; action = action.Deleted at c.delete_key-old.result } ≡ record { file = n; action = action.Deleted at (key_at c.args.self.now n at) } = ap (λ o. record { file = n; action = action.Deleted at o }) (old ∙ ap (λ v. key_at v n at) c.self.view_is) in
+    let is = view_after inside n v w here c.delete_key-old.ensures.tail (remove (keys_in fs n) at) items c.set_state-less.new.self
+    (with_state p (get_or (keys_in fs n) at 0) (Parked n Deleted)) p2 (inside.bytes - c.set_state-less.result) ∙ ap (λ v. deleted v n at) c.self.view_is
+    in
+    let undo_is : record { file = n; action = action.Deleted at c.delete_key-old.result } ≡ record {
+      file = n;
+      action = action.Deleted at
+          (key_at c.args.self.now n at);
+    } = ap (λ o. record { file = n; action = action.Deleted at o }) (old ∙ ap (λ v. key_at v n at) c.self.view_is) in
     subst (λ new. IsDeleted c.args.self.now new n at (record { file = n; action = action.Deleted at c.delete_key-old.result })) (sym is)
     (subst (λ u. IsDeleted c.args.self.now (deleted c.args.self.now n at) n at u) (sym undo_is)
     (is_deleted c.args.self.now n at once_now small_now c.requires.there))

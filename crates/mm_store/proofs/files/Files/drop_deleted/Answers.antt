@@ -76,7 +76,8 @@ invariant_of-self c =
     (once c.args.old ∙ (lemmas.parked (finite.get p c.args.old) n Deleted is_parked).none))) ∙ ap (λ gs. bytes_of (map (plain_file (finite.remove p c.args.old)) gs)) (sym same))
     c.self.invariant.within
     (pieces_in (map (plain_file p) fs) n)
-    (ap (map (plain_file (finite.remove p c.args.old))) same ∙ plain_same p (finite.remove p c.args.old) c.args.old (text_drop_other p c.args.old) fs (once c.args.old ∙ (lemmas.parked (finite.get p c.args.old) n Deleted is_parked).none) ∙ sym (with_pieces_same (map (plain_file p) fs) n))
+    (ap (map (plain_file (finite.remove p c.args.old))) same ∙ plain_same p (finite.remove p c.args.old) c.args.old (text_drop_other p c.args.old) fs
+    (once c.args.old ∙ (lemmas.parked (finite.get p c.args.old) n Deleted is_parked).none) ∙ sym (with_pieces_same (map (plain_file p) fs) n))
     (starts_alike (pieces_in (map (plain_file p) fs) n) v w c.forget_deleted.ensures.known c.forget_deleted.ensures.starts (starts_at (map (plain_file p) fs) es n v c.self.invariant.starts here))
 
 pub returns : goal.returns

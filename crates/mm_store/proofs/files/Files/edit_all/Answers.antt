@@ -51,7 +51,8 @@ returns-clause-ok c =
 pub returns-clause-by_keys : goal.returns-clause-by_keys
 returns-clause-by_keys c =
     subst (λ view. IsBatchByKeys (map asked c.args.edits.now) c.args.self.now view c.loop-number.undos) (sym c.restart_all.ensures)
-    (subst (λ edits. IsBatchByKeys edits c.args.self.now c.loop-number.self c.loop-number.undos) (take_whole c.args.edits.now c.loop-number.number (omega (arith, c.loop-number-test.false, c.loop-number.auto.number-end))) c.loop-number.invariant.by_keys)
+    (subst (λ edits. IsBatchByKeys edits c.args.self.now c.loop-number.self c.loop-number.undos) (take_whole c.args.edits.now c.loop-number.number
+    (omega (arith, c.loop-number-test.false, c.loop-number.auto.number-end))) c.loop-number.invariant.by_keys)
 
 pub returns-clause-reading : goal.returns-clause-reading
 returns-clause-reading c = subst (KeepsReading c.args.self.now) (sym c.restart_all.ensures) (reads_alike c.args.self.now c.loop-number.self c.loop-number.invariant.keys)

@@ -239,7 +239,9 @@ invariant_of-self-2 c =
     c.put_key.ensures.room
     (omega (arith, bytes, less, c.len-more.ensures, c.args.kept.text.ok.0))
     (omega (arith, bytes, less, c.len-more.ensures, c.args.kept.text.ok.0, allowed, ap bytes_of (lemmas.plain_inserted fs1 p n at kept1.once k t file1 fresh)))
-    members means (starts_after fs1 p p2 p2 n newkeys members file1 means refl w items (subst (λ m. KnowsStarts m w) c.in_ok-key.ensures.ok (c.put_key.ensures.starts c.put.new.self (starts_here p c.put.new.self es1 n v1 kept1.starts here1 (ap (λ m. map (text_under m) (keys_in fs1 n)) c.in_ok-key.ensures.ok ∙ lemmas.texts_left fs1 p n at kept1.once k t file1 fresh)))))
+    members means (starts_after fs1 p p2 p2 n newkeys members file1 means refl w items (subst (λ m. KnowsStarts m w) c.in_ok-key.ensures.ok
+    (c.put_key.ensures.starts c.put.new.self (starts_here p c.put.new.self es1 n v1 kept1.starts here1
+    (ap (λ m. map (text_under m) (keys_in fs1 n)) c.in_ok-key.ensures.ok ∙ lemmas.texts_left fs1 p n at kept1.once k t file1 fresh)))))
 
 pub returns-clause-ok : goal.returns-clause-ok
 returns-clause-ok c =
@@ -272,7 +274,8 @@ returns-clause-ok c =
     let items : w.keys.items ≡ insert (keys_in fs1 n) at k = c.put_key.ensures.items ∙ ap (λ ks. insert ks at k) (sym keys1) in
     let once_now = subst (λ (view : FilesView). (q : ℕ) → places q view.keyed ≡ standing_count (finite.get view.pieces q)) c.self.view_is c.self.invariant.once in
     let small_now = subst (λ (view : FilesView). bytes_of (plain view) ≤ 4294967295) c.self.view_is (omega (arith, c.self.invariant.counted, c.self.invariant.within)) in
-    let is = view_after inside1 n v1 w here1 c.put_key.ensures.tail (insert (keys_in fs1 n) at k) items c.put.new.self (finite.insert p k (standing_piece t)) c.in_ok-key.ensures.ok (c.self.inside.bytes + c.len-more.result) ∙ ap (λ v. inserted v n at k t) view1 in
+    let is = view_after inside1 n v1 w here1 c.put_key.ensures.tail (insert (keys_in fs1 n) at k) items c.put.new.self
+    (finite.insert p k (standing_piece t)) c.in_ok-key.ensures.ok (c.self.inside.bytes + c.len-more.result) ∙ ap (λ v. inserted v n at k t) view1 in
     let fresh_now = ap (λ (v : FilesView). finite.get v.pieces k) (sym c.self.view_is) ∙ c.in_ok-key.ensures.fresh in
     subst (λ new. IsInserted c.args.self.now new n at t (record { file = n; action = action.Inserted at })) (sym is)
     (is_inserted c.args.self.now n at once_now small_now k t c.requires.file c.requires.there fresh_now)

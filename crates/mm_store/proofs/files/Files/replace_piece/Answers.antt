@@ -159,7 +159,9 @@ invariant_of-self-2 c =
     (c.replace_key-old.ensures.deleted ∙ had.parked ∙ sym (lemmas.deletions_replaced fs p n at k t once there fresh n)) c.replace_key-old.ensures.room
     (omega (arith, bytes, less, text, c.len-more.ensures, c.args.kept.text.ok.0, text_within p fs n at there))
     (omega (arith, bytes, less, text, c.len-more.ensures, c.args.kept.text.ok.0, text_within p fs n at there, small))
-    members means (starts_after fs p p1 p2 n newkeys members file means same w items (subst (λ m. KnowsStarts m w) c.in_ok-key.ensures.ok (c.replace_key-old.ensures.starts c.put.new.self (starts_here p c.put.new.self es n v c.self.invariant.starts here (ap (λ m. map (text_under m) (keys_in fs n)) c.in_ok-key.ensures.ok ∙ lemmas.texts_left fs p n at k t once there fresh)))))
+    members means (starts_after fs p p1 p2 n newkeys members file means same w items (subst (λ m. KnowsStarts m w) c.in_ok-key.ensures.ok
+    (c.replace_key-old.ensures.starts c.put.new.self (starts_here p c.put.new.self es n v c.self.invariant.starts here
+    (ap (λ m. map (text_under m) (keys_in fs n)) c.in_ok-key.ensures.ok ∙ lemmas.texts_left fs p n at k t once there fresh)))))
 
 pub returns-clause-ok : goal.returns-clause-ok
 returns-clause-ok c =
@@ -184,7 +186,9 @@ returns-clause-ok c =
     let is = view_after c.self.inside n v w here c.replace_key-old.ensures.tail (set (keys_in fs n) at k) items c.set_state-less.new.self
     (with_state (finite.insert c.self.inside.pieces k (standing_piece t)) (get_or (keys_in fs n) at 0) (Parked n Replaced)) p2 (c.self.inside.bytes - c.set_state-less.result + c.len-more.result)
     ∙ ap (λ v. replaced v n at k t) c.self.view_is in
-    let undo_is : record { file = n; action = action.Replaced at c.replace_key-old.result } ≡ record { file = n; action = action.Replaced at (key_at c.args.self.now n at) } = ap (λ o. record { file = n; action = action.Replaced at o }) (old ∙ ap (λ v. key_at v n at) c.self.view_is) in
+    let undo_is : record { file = n; action = action.Replaced at c.replace_key-old.result } ≡ record
+    { file = n; action = action.Replaced at (key_at c.args.self.now n at) } = ap (λ o. record { file = n; action = action.Replaced at o })
+    (old ∙ ap (λ v. key_at v n at) c.self.view_is) in
     let fresh_now = ap (λ (v : FilesView). finite.get v.pieces k) (sym c.self.view_is) ∙ c.in_ok-key.ensures.fresh in
     subst (λ new. IsReplaced c.args.self.now new n at t (record { file = n; action = action.Replaced at c.replace_key-old.result })) (sym is)
     (subst (λ u. IsReplaced c.args.self.now (replaced c.args.self.now n at k t) n at t u) (sym undo_is)

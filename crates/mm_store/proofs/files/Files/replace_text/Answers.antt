@@ -11,7 +11,8 @@ use Rattle.mm_store.proofs.lemmas.edits.EditLemmas.{if_err, no_member, is_edit, 
 use Rattle.mm_store.proofs.files.Files.replace_text.Goals as goal
 
 pub returns-then-at-count-clause-err : goal.returns-then-at-count-clause-err
-returns-then-at-count-clause-err c = no_member c.args.self.now (Replace c.args.name.now c.args.at c.args.text.now) c.in-Some.number c.count_in-count.result c.in-Some.ensures.number c.in-Some.ensures.within c.count_in-count.ensures (λ lt. omega (arith, lt, c.if-at-count.true))
+returns-then-at-count-clause-err c = no_member c.args.self.now (Replace c.args.name.now c.args.at c.args.text.now) c.in-Some.number c.count_in-count.result
+    c.in-Some.ensures.number c.in-Some.ensures.within c.count_in-count.ensures (λ lt. omega (arith, lt, c.if-at-count.true))
 
 pub returns-in_err-kept-clause-err : goal.returns-in_err-kept-clause-err
 returns-in_err-kept-clause-err c =

@@ -157,7 +157,8 @@ invariant_of-self c =
     (omega (arith, bytes, less, more)) (omega (arith, more, less, bytes, allowed))
     (insert (pieces_in (map (plain_file p) fs) n) at (text_under p c.args.old)) (lemmas.plain_undeleted fs p n at once c.args.old is_parked)
     (starts_after fs p p (with_state p c.args.old Standing) n (insert (keys_in fs n) at c.args.old) (insert (pieces_in (map (plain_file p) fs) n) at (text_under p c.args.old)) file
-    (lemmas.plain_undeleted fs p n at once c.args.old is_parked) (sym (texts_all p (with_state p c.args.old Standing) (text_state p c.args.old Standing) (insert (keys_in fs n) at c.args.old))) w items (c.restore_key.ensures.starts p (starts_here p p es n v c.self.invariant.starts here refl)))
+    (lemmas.plain_undeleted fs p n at once c.args.old is_parked) (sym (texts_all p (with_state p c.args.old Standing) (text_state p c.args.old Standing)
+    (insert (keys_in fs n) at c.args.old))) w items (c.restore_key.ensures.starts p (starts_here p p es n v c.self.invariant.starts here refl)))
 
 pub returns : goal.returns
 returns c =
@@ -176,4 +177,5 @@ returns c =
     let w = c.restore_key.new.self in
     let items : w.keys.items ≡ insert (keys_in fs n) at c.args.old = c.restore_key.ensures.items ∙ ap (λ ks. insert ks at c.args.old) (sym keys) in
     let p2 : c.set_state-more.new.self ≡ with_state p c.args.old Standing = c.set_state-more.ensures.pieces in
-    view_after inside n v w here c.restore_key.ensures.tail (insert (keys_in fs n) at c.args.old) items c.set_state-more.new.self (with_state p c.args.old Standing) p2 (inside.bytes + c.set_state-more.result) ∙ ap (reversed n (action.Deleted at c.args.old)) c.self.view_is
+    view_after inside n v w here c.restore_key.ensures.tail (insert (keys_in fs n) at c.args.old) items c.set_state-more.new.self
+    (with_state p c.args.old Standing) p2 (inside.bytes + c.set_state-more.result) ∙ ap (reversed n (action.Deleted at c.args.old)) c.self.view_is

@@ -121,7 +121,8 @@ returns c =
     let key : c.take_key-key.result ≡ get_or (keys_in fs n) at 0 = c.take_key-key.ensures.value ∙ ap (λ ks. get_or ks at 0) (sym keys) in
     let p2 : c.drop_piece-less.new.self ≡ finite.remove p (get_or (keys_in fs n) at 0) = c.drop_piece-less.ensures.pieces ∙ ap (finite.remove p) key in
     let text : c.drop_piece-less.result ≡ length (text_under p (get_or (keys_in fs n) at 0)) = c.drop_piece-less.ensures.len ∙ ap (λ q. length (text_under p q)) key in
-    view_after inside n v w here c.take_key-key.ensures.tail (remove (keys_in fs n) at) items c.drop_piece-less.new.self (finite.remove p (get_or (keys_in fs n) at 0)) p2 (inside.bytes - c.drop_piece-less.result) ∙ ap (reversed n (action.Inserted at)) c.self.view_is
+    view_after inside n v w here c.take_key-key.ensures.tail (remove (keys_in fs n) at) items c.drop_piece-less.new.self
+    (finite.remove p (get_or (keys_in fs n) at 0)) p2 (inside.bytes - c.drop_piece-less.result) ∙ ap (reversed n (action.Inserted at)) c.self.view_is
 
 pub take_key-key-requires-clause-room : goal.take_key-key-requires-clause-room
 take_key-key-requires-clause-room c =

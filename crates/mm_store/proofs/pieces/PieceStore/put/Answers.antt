@@ -14,7 +14,8 @@ pub returns-clause-fresh : goal.returns-clause-fresh
 returns-clause-fresh c = ap (λ m. finite.get m c.in_ok-insert.field-0) (sym c.self.view_is) ∙ get_is c.self.inside.slab c.in_ok-insert.field-0 ∙ ap (option_map held) c.in_ok-insert.ensures.was_vacant
 
 pub returns-clause-ok : goal.returns-clause-ok
-returns-clause-ok c = put_is c.self.inside.slab c.insert.new.self c.in_ok-insert.field-0 (record { kept = c.args.kept; state = Standing }) c.in_ok-insert.ensures.updates ∙ ap (λ m. finite.insert m c.in_ok-insert.field-0 (standing_piece c.args.kept.text.items)) c.self.view_is
+returns-clause-ok c = put_is c.self.inside.slab c.insert.new.self c.in_ok-insert.field-0 (record { kept = c.args.kept; state = Standing })
+    c.in_ok-insert.ensures.updates ∙ ap (λ m. finite.insert m c.in_ok-insert.field-0 (standing_piece c.args.kept.text.items)) c.self.view_is
 
 pub invariant_of-self : goal.invariant_of-self
 invariant_of-self c = record {
