@@ -1,5 +1,6 @@
 -- Rows kept of the items, one more item, and what a base answers.
-use Rattle.std.proofs.Common.{◌≡◌, ℕ, zero, suc, ◌<◌, ◌≤◌, Bool, true, Option, Some, None, List, [], ◌∷◌, ◌++◌, length, take, drop, slice_get, append_assoc, append-nil, ◌&&◌, ◌||◌, cond, get_or, is_none, is_some, not, false, refl, sym, ◌∙◌, ap, subst, arith, inl, inr}
+use Rattle.std.proofs.Common.{◌≡◌, ℕ, zero, suc, ◌<◌, ◌≤◌, Bool, true, Option, Some, None, List, [], ◌∷◌, ◌++◌, length, take, drop, slice_get, append_assoc}
+use Rattle.std.proofs.Common.{append-nil, ◌&&◌, ◌||◌, cond, get_or, is_none, is_some, not, false, refl, sym, ◌∙◌, ap, subst, arith, inl, inr}
 use Rattle.std.specs.Option.{option_map}
 use Rattle.std.specs.List.{AllZip}
 use Rattle.std.proofs.lemmas.Bool.{false≢true, and_parts}

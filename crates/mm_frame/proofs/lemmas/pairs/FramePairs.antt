@@ -1,5 +1,6 @@
 -- The pairs of a frame: those of its variables, in order, that an active `$d` has.
-use Rattle.std.proofs.Common.{◌≡◌, ◌≢◌, ℕ, suc, ◌+◌, ◌<◌, ◌≤◌, Bool, true, false, cond, ◌&&◌, Some, None, List, [], ◌∷◌, ◌++◌, length, map, filter, flat_map, take, drop, slice_get, get_or, refl, sym, ◌∙◌, ap, subst, append_assoc, append-nil, take-suc, arith, inl, inr, ◌⊎◌}
+use Rattle.std.proofs.Common.{◌≡◌, ◌≢◌, ℕ, suc, ◌+◌, ◌<◌, ◌≤◌, Bool, true, false, cond, ◌&&◌, Some, None, List, [], ◌∷◌, ◌++◌, length, map, filter, flat_map}
+use Rattle.std.proofs.Common.{take, drop, slice_get, get_or, refl, sym, ◌∙◌, ap, subst, append_assoc, append-nil, take-suc, arith, inl, inr, ◌⊎◌}
 use Rattle.std.specs.Prelude.{All, option_to_list}
 use Rattle.std.proofs.lemmas.Bool.{or_cases, and_from, false_from_ne_true}
 use Rattle.std.proofs.lemmas.Grind.{flat_map-append}

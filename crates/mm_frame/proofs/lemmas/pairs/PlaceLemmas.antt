@@ -1,5 +1,6 @@
 -- The places of the variables of a frame: with one more of them, and those of the ones that an active `$d` has together with one.
-use Rattle.std.proofs.Common.{◌≡◌, ℕ, zero, suc, ◌+◌, ◌-◌, ◌<◌, ◌≤◌, Bool, true, false, cond, nat_eq, Option, Some, None, List, [], ◌∷◌, ◌++◌, length, map, filter, flat_map, take, drop, slice_get, get_or, refl, sym, ◌∙◌, ap, subst, arith, inl, inr, Contains, eqb}
+use Rattle.std.proofs.Common.{◌≡◌, ℕ, zero, suc, ◌+◌, ◌-◌, ◌<◌, ◌≤◌, Bool, true, false, cond, nat_eq, Option, Some, None, List, [], ◌∷◌, ◌++◌, length, map}
+use Rattle.std.proofs.Common.{filter, flat_map, take, drop, slice_get, get_or, refl, sym, ◌∙◌, ap, subst, arith, inl, inr, Contains, eqb}
 use Rattle.std.specs.Prelude.{All, option_to_list, nat_lt, is_some, ◌↔◌}
 use Rattle.std.specs.List.{dedup}
 use Rattle.std.specs.List.Sorted.{IsPermutation, IsSorted}

@@ -8,7 +8,9 @@ use Rattle.mm_proof.specs.Language.Expansion.{Step, Named, Saved, Save, NotKnown
 use Rattle.mm_proof.specs.Language.Machine.{IsUsable, AreDecoded}
 use Rattle.mm_proof.specs.Language.Numbers.{is_last}
 use Rattle.mm_proof.specs.Language.Letters.{Letter, Group, groups, letters_from}
-use Rattle.mm_proof.specs.Language.Decoding.{Steps, in_order, usable, read_label, read_word, each_word, nameable, named, alone, read_letter, read_group, group_spot, is_save_letter, each_group, is_close, is_compressed, compressed_steps, steps_in, word_spot, decoded, decoding, if_read}
+use Rattle.mm_proof.specs.Language.Decoding.{Steps, in_order, usable, read_label, read_word, each_word, nameable, named, alone, read_letter, read_group}
+use Rattle.mm_proof.specs.Language.Decoding.{group_spot, is_save_letter, each_group, is_close, is_compressed, compressed_steps, steps_in, word_spot, decoded}
+use Rattle.mm_proof.specs.Language.Decoding.{decoding, if_read}
 use Rattle.mm_proof.specs.Language.Verdict.{Decoded}
 use Rattle.mm_proof.specs.declared.Spot.{Spot}
 use Rattle.mm_proof.specs.declared.ProofNumber.{ProofNumber}
