@@ -48,18 +48,7 @@ keyword_is b k =
 
 kind_of-keyword : (k : Keyword) → word_kind (spelling k) ≡ Some (kinds.Keyword k)
 kind_of-keyword BlockStart = refl
-kind_of-keyword BlockEnd = refl
-kind_of-keyword Constants = refl
-kind_of-keyword Variables = refl
-kind_of-keyword Floating = refl
-kind_of-keyword Essential = refl
-kind_of-keyword Disjoint = refl
-kind_of-keyword Axiom = refl
-kind_of-keyword Theorem = refl
-kind_of-keyword StatementEnd = refl
-kind_of-keyword ProofStart = refl
-kind_of-keyword InclusionStart = refl
-kind_of-keyword InclusionEnd = refl
+kind_of-keyword _ = refl
 
 -- a run with no `$`, or one with a `$` that is no keyword
 plain_is : (bytes : List ℕ) (kind : WordKind) → plain_unless (list_any (λ c. c == 36) bytes) ≡ Some kind → IsSpelled kind bytes

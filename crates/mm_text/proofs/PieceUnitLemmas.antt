@@ -170,9 +170,7 @@ HasOne tokens = (n : ℕ) → 0 < n → n < length tokens → ¬ WholeRun (take 
 
 shape_some : (shape : Shape) → 0 < length (shape_tokens shape)
 shape_some (Declaration keyword symbols end) = omega arith
-shape_some (Labelled label keyword symbols end) = omega arith
-shape_some (Provable label keyword symbols proof steps end) = omega arith
-shape_some (Inclusion begin name end) = omega arith
+shape_some _ = omega arith
 
 units_some : (units : Units) → (units ≡ Nothing) ⊎ (0 < length (unit_tokens units))
 units_some Nothing = inl refl

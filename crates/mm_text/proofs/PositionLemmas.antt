@@ -245,13 +245,9 @@ first_fault_at_lies text T02 at h = open_lies text at h.1.ends
 first_fault_at_lies text T03 at h = stop_lies text T03 at h.1.stop
 first_fault_at_lies text T04 at h = stop_lies text T04 at h.1.stop
 first_fault_at_lies text T05 at h = stop_lies text T05 at h.1.stop
-first_fault_at_lies text T06 at h = unit_stop_lies text T06 at h.1
 first_fault_at_lies text T07 at h = unit_end_lies text EndsInUnit at h
 first_fault_at_lies text T08 at h = unit_end_lies text EndsInBlock at h
-first_fault_at_lies text T09 at h = unit_stop_lies text T09 at h.1
-first_fault_at_lies text T10 at h = unit_stop_lies text T10 at h.1
-first_fault_at_lies text T11 at h = unit_stop_lies text T11 at h.1
-first_fault_at_lies text T12 at h = unit_stop_lies text T12 at h.1
+first_fault_at_lies text number at h = unit_stop_lies text number at h.1
 
 -- the first fault of a text is at one of its bytes
 pub first_fault_lies : (text : List ℕ) (fault : TextFault) → IsFirstFault text fault → fault.at < length text

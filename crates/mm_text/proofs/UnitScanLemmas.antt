@@ -220,11 +220,7 @@ whole_or_fault tokens = by_run (m.run m.Begin 0 tokens) refl where
   by_state : (phase : m.Phase) (depth : ℕ) → m.run m.Begin 0 tokens ≡ Ok (m.phase_state phase depth) → IsWhole tokens ⊎ ((number : TextNumber) × (word : ℕ) × IsUnitFault tokens number word)
   by_state m.Begin zero e = inl (run-IsWhole tokens e)
   by_state m.Begin (suc depth) e = let fault : (word : ℕ) × IsUnitFault tokens T08 word = open_block tokens depth e in inr (T08, fault.0, fault.1)
-  by_state m.Labelled depth e = open_at m.Labelled depth e (λ e. cc)
-  by_state m.Symbols depth e = open_at m.Symbols depth e (λ e. cc)
-  by_state m.Expression depth e = open_at m.Expression depth e (λ e. cc)
-  by_state m.Including depth e = open_at m.Including depth e (λ e. cc)
-  by_state m.Named depth e = open_at m.Named depth e (λ e. cc)
+  by_state phase depth e = open_at phase depth e (λ e. cc)
 
   by_run : (step : m.UnitStep) → m.run m.Begin 0 tokens ≡ step → IsWhole tokens ⊎ ((number : TextNumber) × (word : ℕ) × IsUnitFault tokens number word)
   by_run (Ok s) e = by_state s.0 s.1 e

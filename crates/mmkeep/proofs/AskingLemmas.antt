@@ -11,17 +11,14 @@ use Rattle.mmkeep.specs.Language.Asking.{said, words_of}
 -- the words that are given, where there are two or three
 two_words : (words : List (Bor (List ℕ))) (d : Bor (List ℕ)) → length words ≡ 2 → said words ≡ (get_or words 0 d).now ∷ ((get_or words 1 d).now ∷ [])
 two_words [] d l = cc
-two_words (x ∷ []) d l = absurd (omega arith)
 two_words (x ∷ (y ∷ [])) d l = refl
-two_words (x ∷ (y ∷ (z ∷ words))) d l = absurd (omega arith)
+two_words _ d l = absurd (omega arith)
 
 three_words : (words : List (Bor (List ℕ))) (d : Bor (List ℕ)) → length words ≡ 3
     → said words ≡ (get_or words 0 d).now ∷ ((get_or words 1 d).now ∷ ((get_or words 2 d).now ∷ []))
 three_words [] d l = cc
-three_words (x ∷ []) d l = absurd (omega arith)
-three_words (x ∷ (y ∷ [])) d l = absurd (omega arith)
 three_words (x ∷ (y ∷ (z ∷ []))) d l = refl
-three_words (x ∷ (y ∷ (z ∷ (v ∷ words)))) d l = absurd (omega arith)
+three_words _ d l = absurd (omega arith)
 
 -- the first of them is this one
 pub said_two : (words : List (Bor (List ℕ))) (d : Bor (List ℕ)) (first : List ℕ) → length words ≡ 2 → (get_or words 0 d).now ≡ first

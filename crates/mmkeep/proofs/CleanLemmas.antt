@@ -32,26 +32,19 @@ none_behind one all i w f p =
 
 -- no line stands in a report where nothing is incomplete, wrong or at fault
 pub no_lines : (names : List (List ℕ)) (items : List Item) (all : List Told) → HaveNoLines all → lines names items all ≡ []
-no_lines names [] all n = refl
-no_lines names (x ∷ xs) [] n = refl
 no_lines names (x ∷ xs) (Incomplete at ∷ ys) n = absurd (omega (arith, n.0, count_cons is_incomplete (Incomplete at) ys))
 no_lines names (x ∷ xs) (Wrong number at ∷ ys) n = absurd (omega (arith, n.1, count_cons is_wrong (Wrong number at) ys))
 no_lines names (x ∷ xs) (Fault number shown ∷ ys) n = absurd (omega (arith, n.2, count_cons is_fault (Fault number shown) ys))
-no_lines names (x ∷ xs) (Quiet ∷ ys) n = no_lines names xs ys (none_behind Quiet ys refl refl refl n)
-no_lines names (x ∷ xs) (AnAxiom ∷ ys) n = no_lines names xs ys (none_behind AnAxiom ys refl refl refl n)
-no_lines names (x ∷ xs) (Proved ∷ ys) n = no_lines names xs ys (none_behind Proved ys refl refl refl n)
+no_lines names (x ∷ xs) (one ∷ ys) n = no_lines names xs ys (none_behind one ys refl refl refl n)
+no_lines names _ _ n = refl
 
 -- and one stands there where something is
 pub some_line : (names : List (List ℕ)) (items : List Item) (all : List Told) → length all ≡ length items → lines names items all ≡ [] → HaveNoLines all
 some_line names [] [] e l = (refl, refl, refl)
-some_line names [] (y ∷ ys) e l = cc
-some_line names (x ∷ xs) [] e l = cc
-some_line names (x ∷ xs) (Incomplete at ∷ ys) e l = cc
-some_line names (x ∷ xs) (Wrong number at ∷ ys) e l = cc
-some_line names (x ∷ xs) (Fault number shown ∷ ys) e l = cc
 some_line names (x ∷ xs) (Quiet ∷ ys) e l = none_more Quiet ys refl refl refl (some_line names xs ys (cc) l)
 some_line names (x ∷ xs) (AnAxiom ∷ ys) e l = none_more AnAxiom ys refl refl refl (some_line names xs ys (cc) l)
 some_line names (x ∷ xs) (Proved ∷ ys) e l = none_more Proved ys refl refl refl (some_line names xs ys (cc) l)
+some_line names _ _ e l = cc
 
 -- ---- the answer
 

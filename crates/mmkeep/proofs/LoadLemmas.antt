@@ -1,5 +1,5 @@
 -- Files that are loaded: none is parked, those that are there stay, and a walk goes on among them.
-use Rattle.std.proofs.Common.{◌≡◌, ◌≢◌, ℕ, ◌+◌, ◌<◌, suc, Bool, true, false, not, cond, List, [], ◌∷◌, ◌++◌, ◌⊎◌, Option, Some, None, IfSome, Result, Ok, Err, OnOk, IfErr, IsErrOf, length, map, sym, ap, ◌∙◌, subst, refl, inl, inr, arith}
+use Rattle.std.proofs.Common.{◌≡◌, ◌≢◌, ℕ, ◌+◌, ◌<◌, suc, Bool, true, false, not, cond, List, [], ◌∷◌, ◌++◌, ◌⊎◌, Option, Some, None, Result, Ok, Err, OnOk, IfErr, IsErrOf, length, map, sym, ap, ◌∙◌, subst, refl, inl, inr, arith}
 use Rattle.std.specs.Prelude.{Contains, position}
 use Rattle.std.specs.List.{position_or_len, sum_by}
 use Rattle.std.specs.Str.{bytes_eq}
@@ -18,10 +18,8 @@ use Rattle.mm_report.specs.mm_store.Language.FilesView.{File, FilesView, file_nu
 use Rattle.mm_report.specs.mm_store.Language.Keyless.{bare, bare_file}
 use Rattle.mm_report.specs.mm_store.Language.Pieces.{HeldPiece, parked_state}
 use Rattle.mm_report.specs.mm_store.Language.Walking.{WalkView, IsWalk, FindsMissing}
-use Rattle.mmkeep.specs.declared.adding.FileError.{FileError}
-use Rattle.mmkeep.specs.declared.adding.FileError.TheVariants as file_errors
 use Rattle.mmkeep.specs.Code.Loaded.{AddsIfOpened, AddsOpened, HasFile, HasWalked, KeepsFiles}
-use Rattle.mmkeep.specs.Language.Loading.{AddsFile, AreLoaded, Bytes, IsFileError, IsNew, IsTextError, KnownFile, Loads, NoFile, Opens, TakesFile, TakesTop, Unknown}
+use Rattle.mmkeep.specs.Language.Loading.{AddsFile, AreLoaded, Bytes, IsNew, KnownFile, Loads, NoFile, Opens, TakesFile, TakesTop, Unknown}
 
 pub nothing_parked : parked_in no_files ≡ 0
 nothing_parked = ap (sum_by (λ (entry : ℕ × HeldPiece). parked_state entry.1.state)) (nil_from_length (finite.entries finite.empty) (sym (finite.len-entries finite.empty) ∙ finite.len-empty nat_cmp HeldPiece))
@@ -176,16 +174,3 @@ walked_on law old new top name items before after finds (inl same) =
 walked_on law old new top name items before after finds (inr added) =
     let untaken : ¬ Contains after.names name = λ taken. finds.stands.new (subst (Contains after.names) (sym finds.is_name) taken) in
     (top, items ++ finds.goes_on.more, law (plain old) (plain new) name added.0 top (items ++ finds.goes_on.more) after added.1 untaken finds.goes_on.is_walk)
-
--- ---- why a file is not added
-
-pub refused_by_text : (files : List File) (unread : Option (List ℕ)) (text : List ℕ) (error : FileError) → IfSome unread (λ bytes. text ≡ bytes)
-    → IsTextError files text error → IsFileError files unread error
-refused_by_text files None text error is e = inr tt
-refused_by_text files (Some bytes) text error is e = inr (subst (λ (t : List ℕ). IsTextError files t error) is e)
-
-pub refused_by_reading : (files : List File) (unread : Option (List ℕ)) (error : FileError) → (error ≡ file_errors.Read) ⊎ (error ≡ file_errors.Memory)
-    → IsFileError files unread error
-refused_by_reading files unread error (inl e) = inl e
-refused_by_reading files None error (inr e) = inr tt
-refused_by_reading files (Some bytes) error (inr e) = inr (subst (λ (x : FileError). IsTextError files bytes x) (sym e) tt)

@@ -58,30 +58,12 @@ at_name n name test = test n name
 start_of : (kind : Kind) (before : List Item) (item : Item)
     → number_of kind before item false true nothing ≡ cond (is_constants kind && is_inside before) (Some F02) (cond (list_any (is_label before) (labels_of item)) (Some F06) (cond (list_any (is_declared before) (labels_of item)) (Some F07) None))
 start_of Constants before item = refl
-start_of Variables before item = refl
-start_of Disjoint before item = refl
-start_of Floating before item = refl
-start_of Essential before item = refl
-start_of Axiom before item = refl
-start_of Theorem before item = refl
-start_of BlockStart before item = refl
-start_of BlockEnd before item = refl
-start_of Missing before item = refl
-start_of Passed before item = refl
+start_of _ before item = refl
 
 -- at a keyword behind a label
 keyword_of : (kind : Kind) (before : List Item) (item : Item) → number_of kind before item false false nothing ≡ None
 keyword_of Constants before item = refl
-keyword_of Variables before item = refl
-keyword_of Disjoint before item = refl
-keyword_of Floating before item = refl
-keyword_of Essential before item = refl
-keyword_of Axiom before item = refl
-keyword_of Theorem before item = refl
-keyword_of BlockStart before item = refl
-keyword_of BlockEnd before item = refl
-keyword_of Missing before item = refl
-keyword_of Passed before item = refl
+keyword_of _ before item = refl
 
 -- behind the last symbol
 end_of : (kind : Kind) (before : List Item) (item : Item) (ends : Bool) → number_of kind before item ends false nothing ≡ cond ends (Some F01) None

@@ -42,19 +42,7 @@ past_line before item word _ l = and_left (word == 0) _ (not_word word 0 (λ e. 
 -- the numbers, by their places
 number_there : (n : FrameNumber) → slice_get numbers (pred (row n)) ≡ Some n
 number_there F01 = refl
-number_there F02 = refl
-number_there F03 = refl
-number_there F04 = refl
-number_there F05 = refl
-number_there F06 = refl
-number_there F07 = refl
-number_there F08 = refl
-number_there F09 = refl
-number_there F10 = refl
-number_there F11 = refl
-number_there F12 = refl
-number_there F13 = refl
-number_there F14 = refl
+number_there _ = refl
 
 same_number : (n m : FrameNumber) → row n ≡ row m → n ≡ m
 same_number n m e = let a = sym (number_there n) ∙ ap (λ w. slice_get numbers (pred w)) e ∙ number_there m in (cc)
