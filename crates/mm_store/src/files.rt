@@ -36,6 +36,7 @@ use crate::error::StoreError;
 use crate::expanding::{included_name, push_rest};
 use crate::file_text::{FileText, starts};
 use crate::item::Item;
+use crate::kept_part::KeptPart;
 use crate::lines::Lines;
 use crate::piece_text::{PieceText, kept_pieces};
 use crate::pieces::PieceStore;
@@ -45,7 +46,7 @@ use crate::undo::{Action, Undo};
 use crate::unit::new_piece;
 use crate::walk::Walk;
 use indexmap::IndexMap;
-use mm_text::{Cut, Part, Place, cut, parts_are_texts, words_stand_alone};
+use mm_text::{Cut, Place, cut, parts_are_texts, words_stand_alone};
 use std::alloc::{AllocError, Global};
 use std::marker::Model;
 
@@ -270,7 +271,7 @@ impl Files {
     }
 
     /// The parts of the piece with this key.
-    pub(crate) fn parts(&self, key: PieceKey) -> &[Part]
+    pub(crate) fn parts(&self, key: PieceKey) -> &[KeptPart]
         requires { IsSome (finite.get self.now.pieces key.at) }
         ensures { HasParts (text_under self.now.pieces key.at) result.now }
     {
