@@ -17,6 +17,7 @@ ghost use Rattle.mm_store.specs.Code.Steps.{Includes, IncludesNothing};
 
 use crate::files::Files;
 use crate::item::{Item, ItemKind};
+use crate::kept_part::KeptPart;
 use crate::walk::{Spot, Step, Walk};
 use mm_text::{Part, PartKind, nth_word};
 use std::alloc::AllocError;
@@ -77,7 +78,7 @@ fn named(text: &[u8], part: Part) -> &[u8]
 }
 
 /// The name that a piece includes; `None` where it includes nothing.
-pub(crate) fn included_name<'a>(text: &'a [u8], parts: &[Part]) -> Option<&'a [u8]>
+pub(crate) fn included_name<'a>(text: &'a [u8], parts: &[KeptPart]) -> Option<&'a [u8]>
     requires unit { HoldsOne text.now }
     requires divided { HasParts text.now parts.now }
     ensures none { IfNone result ((file number : ℕ) (key : PieceKey) → IncludesNothing file number (record { key = key; text = text.now })) }
@@ -89,7 +90,7 @@ pub(crate) fn included_name<'a>(text: &'a [u8], parts: &[Part]) -> Option<&'a [u
     if parts.is_empty() {
         return None;
     }
-    let part = parts[0];
+    let part = parts[0].part();
     if !is_inclusion(part.kind) {
         return None;
     }
@@ -97,11 +98,11 @@ pub(crate) fn included_name<'a>(text: &'a [u8], parts: &[Part]) -> Option<&'a [u
 }
 
 /// Puts the items of a piece behind others.
-fn push_items(spot: Spot, parts: &[Part], items: &mut Vec<Item>) -> Result<(), AllocError>
+fn push_items(spot: Spot, parts: &[KeptPart], items: &mut Vec<Item>) -> Result<(), AllocError>
     ensures { OnOk result (items.new.items ≡ items.old.items ++ map (item_of_part spot) parts.now) }
 {
     for part in parts {
-        items.push(item_of(spot, *part))?;
+        items.push(item_of(spot, part.part()))?;
     }
     Ok(())
 }

@@ -29,11 +29,12 @@ use crate::error::StoreError;
 use crate::expanding::{included_name, push_rest};
 use crate::file_text::{FileText, starts};
 use crate::item::Item;
+use crate::kept_part::KeptPart;
 use crate::lines::Lines;
 use crate::pieces::PieceStore;
 use crate::walk::Walk;
 use indexmap::IndexMap;
-use mm_text::{Part, Place, parts_are_texts, words_stand_alone};
+use mm_text::{Place, parts_are_texts, words_stand_alone};
 use std::alloc::{AllocError, Global};
 use std::marker::Model;
 
@@ -199,7 +200,7 @@ impl Files {
     }
 
     /// The parts of the piece with this key.
-    pub(crate) fn parts(&self, key: PieceKey) -> &[Part]
+    pub(crate) fn parts(&self, key: PieceKey) -> &[KeptPart]
         requires { IsSome (finite.get self.now.pieces key.at) }
         ensures { HasParts (text_under self.now.pieces key.at) result.now }
     {

@@ -17,6 +17,7 @@ mod expanding;
 mod file_text;
 mod files;
 mod item;
+mod kept_part;
 mod laws;
 mod lines;
 mod piece_text;

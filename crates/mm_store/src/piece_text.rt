@@ -3,8 +3,9 @@
 ghost use Rattle.std.specs.Prelude.{◌≡◌, All, IfOk, map};
 ghost use Rattle.mm_store.specs.Code.Inside.{CanBeKept, IsPieceKept};
 
+use crate::kept_part::{KeptPart, kept_parts};
 use crate::lines::{Lines, lines_before, marks};
-use mm_text::{Part, parts};
+use mm_text::parts;
 use std::alloc::{AllocError, Global};
 
 /// The text of a piece, and what is found of it once, when it is cut.
@@ -13,7 +14,7 @@ pub struct PieceText {
     /// The bytes of the piece.
     pub(crate) text: Vec<u8>,
     /// Its statements and inclusions, and the beginnings and ends of its blocks.
-    pub(crate) parts: Vec<Part>,
+    pub(crate) parts: Vec<KeptPart>,
     /// The lines of its first kilobyte, of its first two, and so on.
     pub(crate) marks: Vec<Lines>,
     /// The lines of the whole text.
@@ -26,7 +27,7 @@ pub(crate) fn kept_piece(alloc: Global, text: Vec<u8>) -> Result<PieceText, Allo
     ensures text { IfOk result (λ piece. piece.text.items ≡ text.items) }
     ensures kept { IfOk result IsPieceKept }
 {
-    let parts = parts(alloc, &text)?;
+    let parts = kept_parts(alloc, &parts(alloc, &text)?)?;
     let marks = marks(alloc, &text)?;
     let lines = lines_before(&text, &marks, text.len());
     Ok(PieceText {

@@ -10,11 +10,11 @@ ghost use Rattle.mm_store.specs.Code.Lines.{AreLines, IsStart, StaysSmall};
 ghost use Rattle.mm_store.specs.Code.Slots.{ArePutIn};
 ghost use Rattle.mm_store.specs.Code.States.{piece_state};
 
+use crate::kept_part::KeptPart;
 use crate::lines::{Lines, lines_before};
 use crate::piece_text::PieceText;
 use crate::start::Start;
 use crate::state::State;
-use mm_text::Part;
 use slab::Slab;
 use std::alloc::{AllocError, Global};
 use std::marker::Model;
@@ -176,7 +176,7 @@ impl PieceStore {
     }
 
     /// The parts of the piece under a key.
-    pub(crate) fn parts(&self, key: usize) -> &[Part]
+    pub(crate) fn parts(&self, key: usize) -> &[KeptPart]
         requires { IsSome (finite.get self.now key) }
         ensures parts { HasParts (text_under self.now key) result.now }
         ensures unit { HoldsOne (text_under self.now key) }

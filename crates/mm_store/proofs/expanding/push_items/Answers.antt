@@ -12,4 +12,5 @@ one_more f before old new xs n d y within old_is y_is new_is =
 pub loop-part-preserved : goal.loop-part-preserved
 loop-part-preserved c =
     one_more (item_of_part c.args.spot) c.args.items.now.items c.loop-part.items.items c.push.new.self.items c.args.parts.now c.loop-part.part-index _
-    c.item_of.result c.loop-part-test.true c.loop-part.invariant c.item_of.ensures c.in_ok-push.ensures.items
+    c.item_of.result c.loop-part-test.true c.loop-part.invariant (c.item_of.ensures ∙ ap (item_of_part c.args.spot) (c.part.ensures ∙ c.part-item.is))
+    c.in_ok-push.ensures.items
