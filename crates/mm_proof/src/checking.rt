@@ -43,7 +43,7 @@ pub fn mandatory(base: &Base, i: usize) -> &[usize]
 }
 
 /// The fault that decoding tells; want of memory stays what it is.
-pub fn told(error: Undecoded) -> Result<ProofFault, AllocError>
+pub fn decoding_fault(error: Undecoded) -> Result<ProofFault, AllocError>
     ensures { IfOk result (λ fault. error ≡ errors.Fault fault) }
 {
     match error {
@@ -53,7 +53,7 @@ pub fn told(error: Undecoded) -> Result<ProofFault, AllocError>
 }
 
 /// The spot behind the words of a proof.
-fn close(words: ProofWords) -> Spot
+fn closing_spot(words: ProofWords) -> Spot
     requires { length words ≤ 4294967295 }
     ensures { result ≡ word_spot (length words.entry) }
 {
@@ -77,13 +77,13 @@ pub fn verdict(outcome: Outcome, decoding: &Decoding, words: ProofWords) -> Verd
         Outcome::Proved => Verdict::Proved,
         Outcome::Fault(number, n) => Verdict::Wrong(number, decoding.steps[n].spot),
         Outcome::Unknown(n) => Verdict::Incomplete(decoding.steps[n].spot),
-        Outcome::NotOne => Verdict::Wrong(ProofNumber::P14, close(words)),
-        Outcome::Other => Verdict::Wrong(ProofNumber::P15, close(words)),
+        Outcome::NotOne => Verdict::Wrong(ProofNumber::P14, closing_spot(words)),
+        Outcome::Other => Verdict::Wrong(ProofNumber::P15, closing_spot(words)),
     }
 }
 
 /// How many of so many steps are done in a run that came to this.
-fn done(outcome: Outcome, steps: usize) -> usize
+fn steps_done(outcome: Outcome, steps: usize) -> usize
     requires { IsOutcomeWithin steps outcome }
     ensures value { result ≡ done_by steps outcome }
     ensures within { result ≤ steps }
@@ -216,7 +216,7 @@ fn judge_steps(
     let hypotheses = mandatory(base, i).len();
     let cites = cites(alloc, &mut scratch.marks, decoding, hypotheses, proof)?;
     let outcome = run_steps(alloc, &mut *scratch, keys, base, i, proof, decoding)?;
-    let done = done(outcome, decoding.steps.len());
+    let done = steps_done(outcome, decoding.steps.len());
     let verdict = verdict(outcome, decoding, proof.again());
     Ok((Checked::new(verdict, cites), done as u64))
 }
@@ -246,7 +246,7 @@ fn judge(
             Ok(judged)
         }
         Err(error) => {
-            let fault = told(error)?;
+            let fault = decoding_fault(error)?;
             let verdict = Verdict::Wrong(fault.number, fault.spot);
             Ok((Checked::new(verdict, Vec::new(alloc)), 0))
         }

@@ -7,7 +7,7 @@ ghost use Rattle.mm_proof.specs.Code.Citation.{entries_of};
 ghost use Rattle.mm_proof.specs.Code.PairClause.{GatheredUpTo, GathersOne, GathersEntry, Gathers};
 
 use crate::active::stands_in;
-use crate::pattern::{Entry, Taken, given};
+use crate::pattern::{Entry, Taken, entry_symbols};
 use crate::slots::home;
 use crate::symbol::Kept;
 use mm_frame::Symbol;
@@ -112,7 +112,7 @@ impl<S: Kept> Gathered<S> {
         }
         gather(
             alloc,
-            given(&*taken, place),
+            entry_symbols(&*taken, place),
             &mut self.places,
             &mut self.variables,
         )?;

@@ -17,7 +17,7 @@ use mm_frame::Symbol;
 use std::alloc::{AllocError, Global};
 
 /// The variables of the entry of a variable's `$f`.
-fn span<'s, 'g, 'a, S: Kept>(
+fn variables_of<'s, 'g, 'a, S: Kept>(
     taken: &Taken<'s, 'a, S>,
     gathered: &'g Gathered<S>,
     variable: &S,
@@ -49,8 +49,8 @@ fn all_apart<'s, 'a, S: Kept>(
 {
     for n in 0..pairs.len() {
         let pair = &pairs[n];
-        let first = span(&*taken, &*gathered, &pair.0);
-        let second = span(&*taken, &*gathered, &pair.1);
+        let first = variables_of(&*taken, &*gathered, &pair.0);
+        let second = variables_of(&*taken, &*gathered, &pair.1);
         if !active.are_apart(first, second) {
             return false;
         }
@@ -74,8 +74,8 @@ fn any_share<'s, 'a, S: Kept>(
 {
     for n in 0..pairs.len() {
         let pair = &pairs[n];
-        let first = span(&*taken, &*gathered, &pair.0);
-        let second = span(&*taken, &*gathered, &pair.1);
+        let first = variables_of(&*taken, &*gathered, &pair.0);
+        let second = variables_of(&*taken, &*gathered, &pair.1);
         if share(first, second, &mut *marks) {
             return true;
         }

@@ -39,7 +39,7 @@ pub struct Taken<'s, 'a, S> {
 }
 
 /// What an entry gives: its symbols behind the typecode. None where there is no such entry.
-pub fn given<'s, 'a, S: Kept>(taken: &Taken<'s, 'a, S>, slot: usize) -> &'s [S]
+pub fn entry_symbols<'s, 'a, S: Kept>(taken: &Taken<'s, 'a, S>, slot: usize) -> &'s [S]
     requires { All (IsEntryWithin (length taken.now.symbols.now)) taken.now.entries.now }
     ensures { (e : List Meaning) → slice_get (entries_of S.means taken.now) slot ≡ Some e → map S.means result.now ≡ drop 1 e }
 {
@@ -102,7 +102,7 @@ impl<'s, 'a, S: Kept> Replacement<'s, 'a, S> {
 }
 
 /// What stands for the symbol at a place of an expression.
-fn part<'s, 'a, S: Kept>(
+fn replacement_of<'s, 'a, S: Kept>(
     taken: &Taken<'s, 'a, S>,
     expression: &'a [S],
     place: usize,
@@ -124,7 +124,7 @@ fn part<'s, 'a, S: Kept>(
     let slot = slot_of(&*taken.hypotheses, &*taken.places, symbol);
     Replacement {
         symbol,
-        given: given(taken, slot),
+        given: entry_symbols(taken, slot),
     }
 }
 
@@ -142,7 +142,7 @@ pub fn substitute<'s, 'a, S: Kept>(
         → map S.means to.new.items ≡ map S.means to.old.items ++ substituted given (map S.means expression.now)) }
 {
     for place in 0..expression.len() {
-        part(&*taken, expression, place).put(alloc, &mut *to)?;
+        replacement_of(&*taken, expression, place).put(alloc, &mut *to)?;
     }
     Ok(())
 }
@@ -162,7 +162,7 @@ pub fn is_short<'s, 'a, S: Kept>(taken: &Taken<'s, 'a, S>, expression: &'a [S]) 
     }
     let mut count = 0;
     for place in 0..expression.len() {
-        let more = part(&*taken, expression, place).count();
+        let more = replacement_of(&*taken, expression, place).count();
         if more > LONGEST_RESULT - count {
             return false;
         }
@@ -195,7 +195,7 @@ pub fn fits<'s, 'a, S: Kept>(taken: &Taken<'s, 'a, S>, expression: &'a [S], entr
 {
     let mut at = 0;
     for place in 0..expression.len() {
-        let part = part(&*taken, expression, place);
+        let part = replacement_of(&*taken, expression, place);
         let count = part.count();
         if count > entry.len() - at {
             return false;

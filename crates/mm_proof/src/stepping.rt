@@ -54,7 +54,7 @@ pub enum Outcome {
 }
 
 /// What an entry of a proof's table is used for; nothing where there is no such entry.
-fn used(uses: &[Use], k: usize) -> Use
+fn use_of(uses: &[Use], k: usize) -> Use
     ensures means { (expressions : List (List Meaning)) (frames : List Frame) (place : Setting) (names : List Step)
         → AllZip (MeansUse expressions frames place) uses.now names
         → MeansUse expressions frames place result (slice_index_or names k NotKnown) }
@@ -68,7 +68,7 @@ fn used(uses: &[Use], k: usize) -> Use
 }
 
 /// What the machine does at a step with this action; nothing where the step is not known.
-fn todo<'a, S: Kept>(named: &Named<'a, S>, action: Action) -> Option<Task>
+fn task_of<'a, S: Kept>(named: &Named<'a, S>, action: Action) -> Option<Task>
     ensures means { (place : Setting) (names : List Step) → AreUses S.means named.now place names
         → MatchOption result (meant names action ≡ NotKnown)
         (λ task. MeansTask (named_expressions S.means named.now) (named_frames S.means named.now) place task (meant names action)) }
@@ -77,7 +77,7 @@ fn todo<'a, S: Kept>(named: &Named<'a, S>, action: Action) -> Option<Task>
     ensures saves { IfSome result (λ task. saves_of task ≡ saves_by action) }
 {
     match action {
-        Action::Label(k) => match used(&named.uses, k) {
+        Action::Label(k) => match use_of(&named.uses, k) {
             Use::Hypothesis(n) => Some(Task::Push(n)),
             Use::Assertion(n) => Some(Task::Cite(n)),
             Use::Nothing => None,
@@ -89,7 +89,7 @@ fn todo<'a, S: Kept>(named: &Named<'a, S>, action: Action) -> Option<Task>
 }
 
 /// Does one task. Answers the number of its fault, if it has one.
-fn turn<'a, S: Kept>(
+fn do_task<'a, S: Kept>(
     alloc: Global,
     machine: &mut Machine<S>,
     named: &Named<'a, S>,
@@ -185,10 +185,10 @@ pub fn run_through<'a, S: Kept>(
     machine.clear(keys)?;
     load(alloc, &mut *machine, &*named)?;
     for place in 0..steps.len() {
-        let Some(task) = todo(&*named, steps[place].action) else {
+        let Some(task) = task_of(&*named, steps[place].action) else {
             return Ok(Some(Outcome::Unknown(place)));
         };
-        if let Some(number) = turn(alloc, &mut *machine, &*named, &*active, task)? {
+        if let Some(number) = do_task(alloc, &mut *machine, &*named, &*active, task)? {
             return Ok(Some(Outcome::Fault(number, place)));
         }
     }

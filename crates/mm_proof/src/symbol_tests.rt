@@ -14,7 +14,7 @@ ghost use Rattle.mm_proof.specs.Code.Tasks.{AreSavedBefore, AreUsesWithin, IsUse
 use crate::Verdict;
 use crate::active::Active;
 use crate::assertion::{Cited, Hypothesis, active, expression};
-use crate::checking::{mandatory, told, verdict};
+use crate::checking::{decoding_fault, mandatory, verdict};
 use crate::citing::cites;
 use crate::decoding_laws::{decodes_surely, mandatory_are_active};
 use crate::machine::Machine;
@@ -322,7 +322,7 @@ fn judge_by_names(
             Ok(Checked::new(verdict, cites))
         }
         Err(error) => {
-            let fault = told(error)?;
+            let fault = decoding_fault(error)?;
             let verdict = Verdict::Wrong(fault.number, fault.spot);
             Ok(Checked::new(verdict, Vec::new(alloc)))
         }

@@ -112,7 +112,7 @@ impl Files {
     }
 
     /// How many bytes the texts have. It takes no memory.
-    fn held(&self) -> u64
+    fn bytes_held(&self) -> u64
         ensures { result ≡ bytes_of (plain self.now) }
     {
         self.bytes
@@ -143,7 +143,7 @@ impl Files {
         if at > count {
             return Err(EditError::NoPiece(count));
         }
-        let kept = new_piece(self.allocator(), self.held(), text)?;
+        let kept = new_piece(self.allocator(), self.bytes_held(), text)?;
         Ok(self.insert_piece(number, at, kept)?)
     }
 

@@ -86,7 +86,7 @@ fn lines_at(file: &FileText, pieces: &PieceStore, piece: usize, at: usize) -> Li
     file.start(pieces, piece).lines.then(inside)
 }
 
-fn joined(alloc: Global, file: &FileText, pieces: &PieceStore) -> Result<Vec<u8>, AllocError>
+fn joined_text(alloc: Global, file: &FileText, pieces: &PieceStore) -> Result<Vec<u8>, AllocError>
     requires { All (λ key. IsSome (finite.get pieces.now key)) file.now.keys.items }
     ensures { IfOk result (λ text. text.items ≡ concat (map (text_under pieces.now) file.now.keys.items) ++ file.now.tail.items) }
 {
@@ -117,7 +117,11 @@ impl Files {
     {
         match self.files.get_full(name) {
             None => Ok(None),
-            Some((_, _, file)) => Ok(Some(joined(*self.files.allocator(), file, &self.pieces)?)),
+            Some((_, _, file)) => Ok(Some(joined_text(
+                *self.files.allocator(),
+                file,
+                &self.pieces,
+            )?)),
         }
     }
 
@@ -155,7 +159,7 @@ impl Files {
         self.holds_pieces();
         self.hold_units();
         let _ = &self.bytes;
-        let mut walk = self.begun(top)?;
+        let mut walk = self.walk_from_top(top)?;
         let mut items = Vec::new(self.allocator());
         push_rest(self, &mut walk, &mut items)?;
         Ok(items)
@@ -171,11 +175,11 @@ impl Files {
         ensures err { IfErr result IsExpansionError }
     {
         self.hold_units();
-        self.begun(top)
+        self.walk_from_top(top)
     }
 
     /// A walk before the first piece of the top file.
-    fn begun(&self, top: &[u8]) -> Result<Walk, StoreError>
+    fn walk_from_top(&self, top: &[u8]) -> Result<Walk, StoreError>
         ensures ok { IfOk result (λ walk. (number : ℕ) × (file_number (plain self.now) top.now ≡ Some number) × (walk ≡ first_walk top.now number)) }
         ensures no_top { IsErrOf result NoTop ↔ (file_number (plain self.now) top.now ≡ None) }
         ensures no_file { IsErrOf result NoTop ↔ (number_of (files_in self.now) top.now ≡ None) }

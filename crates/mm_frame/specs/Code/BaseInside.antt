@@ -16,7 +16,8 @@ answers_of inside = record {
   marks = inside.parts.blocks;
 }
 
--- what is kept of labels and faults fits together; it is kept of each item whether it is a `$f`, and of each label that an item without a fault has, which item that is
+-- what is kept of labels and faults fits together; it is kept of each item whether it is a `$f`, and of each label that an item without a fault has,
+-- which item that is
 pub record KnowsItems (inside : Inside) : Type 0 where
   pub rows : AreRowsKept inside.parts.rows
   pub floats : inside.floats.items ≡ map is_float_item inside.items.items

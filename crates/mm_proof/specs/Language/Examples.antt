@@ -46,7 +46,8 @@ HasSixSteps = decoding_at base 7 ≡ Ok (record {
 
 -- Without the `Z` nothing is saved, and `C` names nothing: the fault P06, at that letter.
 abbrev pub NamesNothing : Type 0
-NamesNothing = decoding (setting database) (codes "wp" ∷ []) (codes "(" ∷ codes "wi" ∷ codes ")" ∷ codes "AABCB" ∷ []) ≡ Err (record { number = P06; spot = letter 3 })
+NamesNothing = decoding (setting database) (codes "wp" ∷ []) (codes "(" ∷ codes "wi" ∷ codes ")" ∷ codes "AABCB" ∷ [])
+    ≡ Err (record { number = P06; spot = letter 3 })
 
 -- The steps stand for seven labels: those of `( p > p )`, which are saved, the same once more, and `wi`.
 abbrev pub StandForSevenLabels : Type 0

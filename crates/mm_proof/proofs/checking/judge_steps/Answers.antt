@@ -51,8 +51,8 @@ returns-clause-done c view is =
     let steps = actions_mean names d.steps.items in
     let done = done_says place (statement_at view i) steps c.in_ok-outcome.outcome (c.in_ok-outcome.ensures.says view is) in
     let count : length steps ≡ c.len.result = omega (arith, c.len.ensures, d.steps.ok, length-map d.steps.items (λ (step : ProofStep). meant names step.action)) in
-    let here = ap (λ n. done_by n c.in_ok-outcome.outcome) count ∙ sym c.done-done.ensures.value in
-    subst (λ (o : Result Decoded ProofFault). AreDoneIn place o c.done-done.result) (sym is.decodes) (subst (λ n. AreDone place steps n) here done)
+    let here = ap (λ n. done_by n c.in_ok-outcome.outcome) count ∙ sym c.steps_done-done.ensures.value in
+    subst (λ (o : Result Decoded ProofFault). AreDoneIn place o c.steps_done-done.result) (sym is.decodes) (subst (λ n. AreDone place steps n) here done)
 
 pub returns-clause-few : goal.returns-clause-few
 returns-clause-few c =
@@ -65,7 +65,7 @@ returns-clause-few c =
     let some = subst (λ (ws : List (List ℕ)). AllByRecursion (λ word. 0 < length word) ws) same c.again.ensures.some in
     let bytes = subst (λ (ws : List (List ℕ)). length (flat_map (λ word. word) ws) ≤ 4294967295) same c.again.ensures.bytes in
     let short = c.decodes_short.ensures (setting_at view i) (mandatory_labels view i) (said_at view i).proof (decoded_steps view d c.args.proof.now) some has.1.decodes in
-    omega (arith, c.done-done.ensures.within, c.len.ensures, d.steps.ok, length-map d.steps.items (λ (step : ProofStep). meant names step.action))
+    omega (arith, c.steps_done-done.ensures.within, c.len.ensures, d.steps.ok, length-map d.steps.items (λ (step : ProofStep). meant names step.action))
 
 pub mandatory-hypotheses-requires : goal.mandatory-hypotheses-requires
 mandatory-hypotheses-requires c = let has = c.requires in (has.0, has.1.theorem.base, framed_proof has.0 c.args.i has.1.theorem.is_sound)
@@ -73,8 +73,8 @@ mandatory-hypotheses-requires c = let has = c.requires in (has.0, has.1.theorem.
 pub run_steps-requires : goal.run_steps-requires
 run_steps-requires c = c.requires
 
-pub done-done-requires : goal.done-done-requires
-done-done-requires c =
+pub steps_done-done-requires : goal.steps_done-done-requires
+steps_done-done-requires c =
     let steps = c.args.decoding.now.steps in
     let count : length steps.items ≡ c.len.result = omega (arith, c.len.ensures, steps.ok) in
     subst (λ n. IsOutcomeWithin n c.in_ok-outcome.outcome) count c.in_ok-outcome.ensures.within

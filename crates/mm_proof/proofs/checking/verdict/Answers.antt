@@ -16,11 +16,11 @@ index-requires-in-Unknown c =
     let within = subst (IsOutcomeWithin (length c.args.decoding.now.steps.items)) c.in-Unknown.is c.requires.within in
     omega (arith, within, c.args.decoding.now.steps.ok)
 
-pub close-requires : goal.close-requires
-close-requires c = c.requires.few
+pub closing_spot-requires : goal.closing_spot-requires
+closing_spot-requires c = c.requires.few
 
-pub close-requires-in-Other : goal.close-requires-in-Other
-close-requires-in-Other c = c.requires.few
+pub closing_spot-requires-in-Other : goal.closing_spot-requires-in-Other
+closing_spot-requires-in-Other c = c.requires.few
 
 pub returns-in-Proved : goal.returns-in-Proved
 returns-in-Proved c view place statement says = subst (RunSays place (decoded_steps view c.args.decoding.now c.args.words).steps statement) c.in-Proved.is says
@@ -36,9 +36,9 @@ returns-in-Unknown c view place statement says =
 pub returns-in-NotOne : goal.returns-in-NotOne
 returns-in-NotOne c view place statement says =
     let run = subst (RunSays place (decoded_steps view c.args.decoding.now c.args.words).steps statement) c.in-NotOne.is says in
-    (run.0, run.1, run.2, run.3, c.close.ensures)
+    (run.0, run.1, run.2, run.3, c.closing_spot.ensures)
 
 pub returns-in-Other : goal.returns-in-Other
 returns-in-Other c view place statement says =
     let run = subst (RunSays place (decoded_steps view c.args.decoding.now c.args.words).steps statement) c.in-Other.is says in
-    (run.0, run.1, run.2, run.3, c.close-in-Other.ensures)
+    (run.0, run.1, run.2, run.3, c.closing_spot-in-Other.ensures)

@@ -10,14 +10,14 @@ use Rattle.mm_proof.proofs.lemmas.machine.ApartLemmas.{each_more}
 use Rattle.mm_proof.proofs.lemmas.machine.PairClauseLemmas.{mapped_all}
 use Rattle.mm_proof.proofs.pairs.any_share.Goals as goal
 
-pub span-first-requires-clause-typed : goal.span-first-requires-clause-typed
-span-first-requires-clause-typed g c =
+pub variables_of-first-requires-clause-typed : goal.variables_of-first-requires-clause-typed
+variables_of-first-requires-clause-typed g c =
     let m = g.S.Symbol.means in
     let hs = hypotheses_of m c.args.taken.now.hypotheses.now in
     (mapped_all (meant_pair m) (λ (p : Symbol × Symbol). IsTyped hs p.0 × IsTyped hs p.1) c.args.pairs.now c.loop-n.n c.index-pairs-n.result c.loop-n-test.true c.index-pairs-n.is c.requires.typed).0
 
-pub span-second-requires-clause-typed : goal.span-second-requires-clause-typed
-span-second-requires-clause-typed g c =
+pub variables_of-second-requires-clause-typed : goal.variables_of-second-requires-clause-typed
+variables_of-second-requires-clause-typed g c =
     let m = g.S.Symbol.means in
     let hs = hypotheses_of m c.args.taken.now.hypotheses.now in
     (mapped_all (meant_pair m) (λ (p : Symbol × Symbol). IsTyped hs p.0 × IsTyped hs p.1) c.args.pairs.now c.loop-n.n c.index-pairs-n.result c.loop-n-test.true c.index-pairs-n.is c.requires.typed).1
@@ -29,12 +29,12 @@ loop-n-preserved g c =
     let variables = map m c.args.gathered.now.variables.items in
     let spans = c.args.gathered.now.spans.items in
     let x = c.index-pairs-n.result in
-    let first = c.span-first.ensures in
-    let second = c.span-second.ensures in
+    let first = c.variables_of-first.ensures in
+    let second = c.variables_of-second.ensures in
     let P : List Symbol → List Symbol → Type 0 = λ xs ys. SomeShared xs ys → ⊥ in
     each_more (λ (p : Symbol × Symbol). AtSlots P hs variables spans p) (meant_pairs m c.args.pairs.now) c.loop-n.n (meant_pair m x)
     (mapped_get (meant_pair m) c.args.pairs.now c.loop-n.n x c.loop-n-test.true c.index-pairs-n.is)
-    (first.0, second.0, first.1, second.1, subst (λ w. P w (span_of variables spans second.0)) first.2 (subst (λ w. P (map m c.span-first.result.now) w) second.2 c.if-share.ensures))
+    (first.0, second.0, first.1, second.1, subst (λ w. P w (span_of variables spans second.0)) first.2 (subst (λ w. P (map m c.variables_of-first.result.now) w) second.2 c.if-share.ensures))
     c.loop-n.invariant
 
 pub returns-then-share : goal.returns-then-share
@@ -43,13 +43,13 @@ returns-then-share g c =
     let variables = map m c.args.gathered.now.variables.items in
     let spans = c.args.gathered.now.spans.items in
     let x = c.index-pairs-n.result in
-    let first = c.span-first.ensures in
-    let second = c.span-second.ensures in
+    let first = c.variables_of-first.ensures in
+    let second = c.variables_of-second.ensures in
     let P : List Symbol → List Symbol → Type 0 = SomeShared in (
       c.loop-n.n,
       meant_pair m x,
       mapped_get (meant_pair m) c.args.pairs.now c.loop-n.n x c.loop-n-test.true c.index-pairs-n.is,
-      (first.0, second.0, first.1, second.1, subst (λ w. P w (span_of variables spans second.0)) first.2 (subst (λ w. P (map m c.span-first.result.now) w) second.2 c.if-share.ensures)),
+      (first.0, second.0, first.1, second.1, subst (λ w. P w (span_of variables spans second.0)) first.2 (subst (λ w. P (map m c.variables_of-first.result.now) w) second.2 c.if-share.ensures)),
     )
 
 pub returns : goal.returns
@@ -61,14 +61,14 @@ returns g c k p at =
 pub loop-n-init : goal.loop-n-init
 loop-n-init g c k x l at = absurd (omega arith)
 
-pub span-first-requires-clause-spans : goal.span-first-requires-clause-spans
-span-first-requires-clause-spans g c = c.requires.spans
+pub variables_of-first-requires-clause-spans : goal.variables_of-first-requires-clause-spans
+variables_of-first-requires-clause-spans g c = c.requires.spans
 
-pub span-first-requires-clause-count : goal.span-first-requires-clause-count
-span-first-requires-clause-count g c = c.requires.count
+pub variables_of-first-requires-clause-count : goal.variables_of-first-requires-clause-count
+variables_of-first-requires-clause-count g c = c.requires.count
 
-pub span-second-requires-clause-spans : goal.span-second-requires-clause-spans
-span-second-requires-clause-spans g c = c.requires.spans
+pub variables_of-second-requires-clause-spans : goal.variables_of-second-requires-clause-spans
+variables_of-second-requires-clause-spans g c = c.requires.spans
 
-pub span-second-requires-clause-count : goal.span-second-requires-clause-count
-span-second-requires-clause-count g c = c.requires.count
+pub variables_of-second-requires-clause-count : goal.variables_of-second-requires-clause-count
+variables_of-second-requires-clause-count g c = c.requires.count

@@ -15,7 +15,7 @@ returns-then-count-entry g c given slots =
     let k = c.loop-place.place in
     let s = get_or expression k d in
     let here = element_at expression k d (omega (arith, length-map c.args.expression.now m, c.loop-place-test.true)) in
-    let part = ap length (c.part-part.ensures given s slots here) in (
+    let part = ap length (c.replacement_of-part.ensures given s slots here) in (
       λ t. absurd (false≢true t),
       λ whole.
           let next = fits_next given expression k s entry c.loop-place.at here (c.loop-place.invariant.joined given slots) whole in
@@ -34,7 +34,7 @@ returns-then-not-is g c given slots =
     let n = c.count-count.result in
     let at = c.loop-place.at in
     let here = element_at expression k d (omega (arith, length-map c.args.expression.now m, c.loop-place-test.true)) in
-    let part = c.part-part.ensures given s slots here in (
+    let part = c.replacement_of-part.ensures given s slots here in (
       λ t. absurd (false≢true t),
       λ whole.
           let next = fits_next given expression k s entry at here (c.loop-place.invariant.joined given slots) whole in
@@ -55,7 +55,7 @@ loop-place-preserved g c = record {
       let n = c.count-count.result in
       let at = c.loop-place.at in
       let here = element_at expression k d (omega (arith, length-map c.args.expression.now m, c.loop-place-test.true)) in
-      let part = c.part-part.ensures given s slots here in
+      let part = c.replacement_of-part.ensures given s slots here in
       let front = substituted given (take k expression) in
       let same = sym part ∙ c.is.ensures.0 c.if-not-is.false ∙ range_map m c.args.entry.now at n in
       fits_on entry front (replacement given s) at n same (c.loop-place.invariant.joined given slots)

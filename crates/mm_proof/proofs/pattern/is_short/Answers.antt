@@ -28,7 +28,7 @@ returns-then-more-count g c given slots =
     let here = element_at expression k d (omega (arith, length-map c.args.expression.now m, c.loop-place-test.true)) in
     let whole = ap length (put_rest given expression k s here) in
     let so_far = c.loop-place.invariant.so_far given slots in
-    let part = ap length (c.part.ensures given s slots here) in
+    let part = ap length (c.replacement_of.ensures given s slots here) in
     let over = c.if-more-count.true in
     let low = c.loop-place.invariant.low in
     omega (arith, length-append (substituted given (take k expression)) (replacement given s ++ substituted given (drop (k + 1) expression)), length-append (replacement given s) (substituted given (drop (k + 1) expression)), c.count-more.ensures)
@@ -45,7 +45,7 @@ loop-place-preserved g c = record {
       let here = element_at expression k d (omega (arith, length-map c.args.expression.now m, c.loop-place-test.true)) in
       let more = ap length (put_more given expression k s here) in
       let so_far = c.loop-place.invariant.so_far given slots in
-      let part = ap length (c.part.ensures given s slots here) in
+      let part = ap length (c.replacement_of.ensures given s slots here) in
       omega (arith, length-append (substituted given (take k expression)) (replacement given s), c.count-more.ensures);
 }
 

@@ -15,7 +15,7 @@ loop-place-preserved g c given slots =
     let front = substituted given (take k expression) in
     let part = replacement given (get_or expression k d) in
     c.in_ok-put.ensures
-    ∙ ap (λ w. map m c.loop-place.to.items ++ w) (c.part.ensures given (get_or expression k d) slots here)
+    ∙ ap (λ w. map m c.loop-place.to.items ++ w) (c.replacement_of.ensures given (get_or expression k d) slots here)
     ∙ ap (λ w. w ++ part) (c.loop-place.invariant given slots)
     ∙ append_assoc (map m c.args.to.now.items) front part
     ∙ ap (λ w. map m c.args.to.now.items ++ w) (sym (put_more given expression k (get_or expression k d) here))

@@ -29,8 +29,8 @@ loop-place-init g c =
       follows = λ place names is pairs all. (nothing_known (actions_mean names c.args.steps.now), nothing_yet, state, at_start place);
     }
 
-pub turn-requires-clause-within : goal.turn-requires-clause-within
-turn-requires-clause-within g c =
+pub do_task-requires-clause-within : goal.do_task-requires-clause-within
+do_task-requires-clause-within g c =
     let steps = c.args.steps.now in
     let k = c.loop-place.place in
     let h = length c.args.named.now.hypotheses.items in
@@ -90,14 +90,14 @@ load-requires-clause-nothing g c = c.in_ok-clear.ensures.state
 pub returns-in_default-clause-within : goal.returns-in_default-clause-within
 returns-in_default-clause-within g c = c.loop-place-test.true
 
-pub turn-requires-clause-whole : goal.turn-requires-clause-whole
-turn-requires-clause-whole g c = c.loop-place.invariant.whole
+pub do_task-requires-clause-whole : goal.do_task-requires-clause-whole
+do_task-requires-clause-whole g c = c.loop-place.invariant.whole
 
-pub turn-requires-clause-frames : goal.turn-requires-clause-frames
-turn-requires-clause-frames g c = c.requires.frames
+pub do_task-requires-clause-frames : goal.do_task-requires-clause-frames
+do_task-requires-clause-frames g c = c.requires.frames
 
-pub turn-requires-clause-loaded : goal.turn-requires-clause-loaded
-turn-requires-clause-loaded g c = omega (arith, c.loop-place.invariant.count)
+pub do_task-requires-clause-loaded : goal.do_task-requires-clause-loaded
+do_task-requires-clause-loaded g c = omega (arith, c.loop-place.invariant.count)
 
 pub returns-in-Some-2-clause-within : goal.returns-in-Some-2-clause-within
 returns-in-Some-2-clause-within g c = c.loop-place-test.true

@@ -24,7 +24,7 @@ returns-in_err-kept-clause-err c =
     if_err c.from_residual.result _ _ c.from_residual.ensures.1
     (λ e is. subst (IsEditError (Insert c.args.name.now c.args.at c.args.text.now) (plain c.args.self.now)) (sym is)
     (not_new c.args.self.now (Insert c.args.name.now c.args.at c.args.text.now) c.in-Some.number c.count_in-count.result c.in-Some.ensures.number c.in-Some.ensures.within c.count_in-count.ensures c.args.text.now refl (omega arith)
-    c.held.result (λ more. omega (arith, bytes, more, c.held.ensures)) c.in_err-kept.field-0.0 c.in_err-kept.ensures.err))
+    c.bytes_held.result (λ more. omega (arith, bytes, more, c.bytes_held.ensures)) c.in_err-kept.field-0.0 c.in_err-kept.ensures.err))
 
 pub insert_piece-requires-clause-within : goal.insert_piece-requires-clause-within
 insert_piece-requires-clause-within c =
@@ -32,7 +32,7 @@ insert_piece-requires-clause-within c =
     let n = c.in-Some.number in
     let long : n < length (plain view) = omega (arith, c.in-Some.ensures.within, length-map view.keyed (plain_file view.pieces)) in
     let bytes = bytes_more (plain view) n c.args.at c.in_ok-kept.kept.text.items long in
-    omega (arith, bytes, c.held.ensures, c.in_ok-kept.ensures.fits)
+    omega (arith, bytes, c.bytes_held.ensures, c.in_ok-kept.ensures.fits)
 
 pub returns-in_err-insert_piece-clause-err : goal.returns-in_err-insert_piece-clause-err
 returns-in_err-insert_piece-clause-err c =
@@ -49,7 +49,7 @@ returns-clause-ok c =
     let done = c.in_ok-insert_piece.ensures.ok.done.means in
     let means = done ∙ ap (λ (t : List ℕ). with_pieces (plain view) n (insert (pieces_in (plain view) n) c.args.at t)) c.in_ok-kept.ensures.unit.whole in
     is_edit c.args.self.now (Insert c.args.name.now c.args.at c.args.text.now) c.in-Some.number c.count_in-count.result c.in-Some.ensures.number c.in-Some.ensures.within c.count_in-count.ensures c.insert_piece.new.self (omega arith)
-    c.in_ok-kept.ensures.unit.one means (omega (arith, ap bytes_of done, bytes, c.held.ensures, c.in_ok-kept.ensures.fits))
+    c.in_ok-kept.ensures.unit.one means (omega (arith, ap bytes_of done, bytes, c.bytes_held.ensures, c.in_ok-kept.ensures.fits))
 
 pub returns-clause-by_keys : goal.returns-clause-by_keys
 returns-clause-by_keys c =

@@ -11,8 +11,8 @@ use Rattle.mm_store.proofs.lemmas.files.EntryLemmas.{texts_of, keys_at}
 use Rattle.mm_store.proofs.lemmas.files.FilesLemmas.{found_is, none_is, key_some}
 use Rattle.mm_store.proofs.files.Files.text.Goals as goal
 
-pub joined-requires : goal.joined-requires
-joined-requires c =
+pub joined_text-requires : goal.joined_text-requires
+joined_text-requires c =
     let es = c.self.inside.files.entries in
     let v = c.in-Some.file.now in
     let n = c.in-Some.field-0-0 in
@@ -25,9 +25,9 @@ returns-in-None c =
     let inside = c.self.inside in
     sym (ap (λ (v : FilesView). option_map text_of (find_file (plain v) c.args.name.now)) (sym c.self.view_is) ∙ ap (option_map text_of) (none_is inside.pieces c.args.name.now inside.files.entries c.in-None.ensures.index))
 
-pub returns-in_ok-joined-in-Some : goal.returns-in_ok-joined-in-Some
-returns-in_ok-joined-in-Some c =
+pub returns-in_ok-joined_text-in-Some : goal.returns-in_ok-joined_text-in-Some
+returns-in_ok-joined_text-in-Some c =
     let inside = c.self.inside in
     let file = c.in-Some.file.now in
     let found = found_is inside.pieces c.args.name.now inside.files.entries c.in-Some.field-0-0 (c.in-Some.field-0-1.now, file) c.in-Some.ensures.index c.in-Some.ensures.entry in
-    sym (ap (λ (v : FilesView). option_map text_of (find_file (plain v) c.args.name.now)) (sym c.self.view_is) ∙ ap (option_map text_of) found ∙ ap Some (sym c.in_ok-joined-in-Some.ensures))
+    sym (ap (λ (v : FilesView). option_map text_of (find_file (plain v) c.args.name.now)) (sym c.self.view_is) ∙ ap (option_map text_of) found ∙ ap Some (sym c.in_ok-joined_text-in-Some.ensures))

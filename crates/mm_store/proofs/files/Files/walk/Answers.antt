@@ -13,8 +13,8 @@ returns-clause-ok c =
     let view = c.args.self.now in
     let top = c.args.top.now in
     let files = bare (plain view) in
-    ok_map c.begun.result
-    (λ walk h. subst (IsWalk files top []) (sym h.2) (walk_begins files (hold_bare view c.hold_units.ensures) top h.0 (number_bare view top ∙ sym (number_plain view top) ∙ h.1))) c.begun.ensures.ok
+    ok_map c.walk_from_top.result
+    (λ walk h. subst (IsWalk files top []) (sym h.2) (walk_begins files (hold_bare view c.hold_units.ensures) top h.0 (number_bare view top ∙ sym (number_plain view top) ∙ h.1))) c.walk_from_top.ensures.ok
 
 pub returns-clause-untold : goal.returns-clause-untold
-returns-clause-untold c = ok_map c.begun.result (λ walk h. ap (λ (walk : WalkView). walk.told) h.2) c.begun.ensures.ok
+returns-clause-untold c = ok_map c.walk_from_top.result (λ walk h. ap (λ (walk : WalkView). walk.told) h.2) c.walk_from_top.ensures.ok

@@ -14,7 +14,7 @@ use Rattle.mm_proof.specs.Code.MachineState.{state_of}
 use Rattle.mm_proof.specs.Code.Tasks.{HasState, IsTaskWithin, named_expressions, named_frames, saves_of}
 use Rattle.mm_proof.proofs.lemmas.machine.FlatLemmas.{mapped_or, mapped_or_get}
 use Rattle.mm_proof.proofs.lemmas.machine.StepLemmas.{means_push, means_cite, means_again, means_keep, cite_turns, kept_at, saved_at, TurnsTo, pushed_turns, again_turns, kept_turns, cited_turns, save_fails, saved_same, saved_more, if_none}
-use Rattle.mm_proof.proofs.stepping.turn.Goals as goal
+use Rattle.mm_proof.proofs.stepping.do_task.Goals as goal
 
 pub cite-requires-clause-frame : goal.cite-requires-clause-frame
 cite-requires-clause-frame g c =

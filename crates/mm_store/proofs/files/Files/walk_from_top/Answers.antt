@@ -2,7 +2,7 @@ use Rattle.std.proofs.Common.{◌∙◌, sym, refl}
 use Rattle.std.proofs.lemmas.Option.{none-some}
 use Rattle.mm_store.proofs.lemmas.files.ViewLemmas.{number_plain}
 use Rattle.mm_store.proofs.lemmas.expansion.SetLemmas.{not_no_top}
-use Rattle.mm_store.proofs.files.Files.begun.Goals as goal
+use Rattle.mm_store.proofs.files.Files.walk_from_top.Goals as goal
 
 pub returns-in-None-clause-no_top : goal.returns-in-None-clause-no_top
 returns-in-None-clause-no_top c = (λ e. sym c.in-None.ensures.number, λ e. refl)

@@ -1,5 +1,5 @@
 use Rattle.std.proofs.Common.{◌≡◌, ◌+◌, length}
-use Rattle.mm_proof.proofs.checking.close.Given as goal
+use Rattle.mm_proof.proofs.checking.closing_spot.Given as goal
 
 abbrev pub invariant-loop-words : goal.invariant-loop-words
 invariant-loop-words l = l.word + length l.words ≡ length l.initial.words

@@ -2,7 +2,7 @@ use Rattle.std.proofs.Common.{◌≡◌, ◌+◌, ◌++◌, ℕ, List, map, take
 use Rattle.std.specs.List.{concat}
 use Rattle.mm_store.specs.Language.Pieces.{text_under}
 use Rattle.mm_store.proofs.lemmas.files.FilesLemmas.{concat_more}
-use Rattle.mm_store.proofs.files.joined.Goals as goal
+use Rattle.mm_store.proofs.files.joined_text.Goals as goal
 
 pub loop-key-preserved : goal.loop-key-preserved
 loop-key-preserved c =

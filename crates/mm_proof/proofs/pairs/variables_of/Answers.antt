@@ -5,7 +5,7 @@ use Rattle.mm_proof.specs.Code.Flat.{read}
 use Rattle.mm_proof.specs.Code.Citation.{hypotheses_of, mandatory_of}
 use Rattle.mm_proof.specs.Code.PairClause.{entry_or}
 use Rattle.mm_proof.proofs.lemmas.machine.FlatLemmas.{element_at, entry_map}
-use Rattle.mm_proof.proofs.pairs.span.Goals as goal
+use Rattle.mm_proof.proofs.pairs.variables_of.Goals as goal
 
 pub returns : goal.returns
 returns g c =

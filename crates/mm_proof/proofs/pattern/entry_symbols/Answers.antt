@@ -2,7 +2,7 @@ use Rattle.std.proofs.Common.{map, drop, get_or, sym, ◌∙◌, ap}
 use Rattle.mm_proof.specs.declared.pattern.Entry.{Entry}
 use Rattle.mm_proof.specs.Code.Flat.{read}
 use Rattle.mm_proof.proofs.lemmas.machine.FlatLemmas.{mapped_or, behind_first}
-use Rattle.mm_proof.proofs.pattern.given.Goals as goal
+use Rattle.mm_proof.proofs.pattern.entry_symbols.Goals as goal
 
 pub returns : goal.returns
 returns g c e is =

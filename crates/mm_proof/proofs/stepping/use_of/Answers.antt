@@ -1,7 +1,7 @@
 use Rattle.std.proofs.Common.{arith}
 use Rattle.std.proofs.lemmas.Option.{slice_get-get_or}
 use Rattle.mm_proof.proofs.lemmas.machine.StepLemmas.{used_at, unused_at}
-use Rattle.mm_proof.proofs.stepping.used.Goals as goal
+use Rattle.mm_proof.proofs.stepping.use_of.Goals as goal
 
 pub returns-then-k-uses-clause-means : goal.returns-then-k-uses-clause-means
 returns-then-k-uses-clause-means c expressions frames place names all =

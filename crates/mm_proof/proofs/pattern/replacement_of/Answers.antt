@@ -5,7 +5,7 @@ use Rattle.mm_proof.specs.Code.Citation.{IsSlot, hypotheses_of}
 use Rattle.mm_proof.proofs.lemmas.verdicts.Unique.{replacement-variable, replacement-constant}
 use Rattle.mm_proof.proofs.lemmas.machine.ApartLemmas.{contains_at}
 use Rattle.mm_proof.proofs.lemmas.machine.FlatLemmas.{mapped_at, of_constant, of_variable}
-use Rattle.mm_proof.proofs.pattern.part.Goals as goal
+use Rattle.mm_proof.proofs.pattern.replacement_of.Goals as goal
 
 pub returns-then-not-is_variable : goal.returns-then-not-is_variable
 returns-then-not-is_variable g c given s slots is =
@@ -25,4 +25,4 @@ returns g c given s slots is =
     let typed = slots.typed s (contains_at (map m symbols) c.args.place s is, variable) in
     let found = c.slot_of-slot.ensures (subst (λ w. IsTyped hypotheses w) this typed) in
     let slot = slots.slots c.slot_of-slot.result s (subst (λ w. IsSlot hypotheses c.slot_of-slot.result w) (sym this) found) in
-    of_variable _ _ _ kind ∙ c.given.ensures slot.0 slot.1 ∙ sym slot.2 ∙ sym (replacement-variable given s variable)
+    of_variable _ _ _ kind ∙ c.entry_symbols.ensures slot.0 slot.1 ∙ sym slot.2 ∙ sym (replacement-variable given s variable)
