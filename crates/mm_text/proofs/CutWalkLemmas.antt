@@ -23,7 +23,7 @@ use Rattle.mm_text.specs.Code.LeftToRight.{has_dollar}
 use Rattle.mm_text.specs.Code.Reader.{runs_at, TakesSpan, SkipsComment, FailsInside, TakesWord, FailsBehind}
 use Rattle.mm_text.specs.Language.Cut.{ended, IsCut, IsFirstFault}
 use Rattle.mm_text.proofs.KindLemmas.{mark_stands, stands_mark}
-use Rattle.mm_text.proofs.RunLemmas.{no_run, next_run, run_here, run_ends}
+use Rattle.mm_text.proofs.RunLemmas.{no_run, white_at, takes_run}
 use Rattle.mm_text.proofs.ReadingLemmas.{is_from, not_from}
 use Rattle.mm_text.proofs.ReaderLemmas.{Skipping, skip_none, skip_more, skip_end, skip_fault, skip_open, Passing, pass_none, pass_end, pass_word, pass_close, pass_dollar, pass_comment, pass_fails}
 use Rattle.mm_text.proofs.UnitScanLemmas.{is_begin}
@@ -44,22 +44,7 @@ solid_most text from n is =
 
 run_by : (text : List ℕ) (from w n : ℕ) → w ≡ prefix_len is_white (take (length text - from) (drop from text)) → n ≡ prefix_len is_solid (take (length text - (from + w)) (drop (from + w) text)) → (runs_at text from ≡ []) ⊎ NextRun text from
 run_by text from w zero w-is n-is = inl (no_run text from w 0 w-is n-is refl)
-run_by text from w (suc n) w-is n-is = inr (span, from + w + suc n, takes, within) where
-  span : Span
-  span = record { start = from + w; end = from + w + suc n; plain = not (has_dollar (slice_range text (from + w) (from + w + suc n))) }
-
-  takes : TakesSpan text from span (from + w + suc n)
-  takes = record {
-    begins = omega arith;
-    some = omega arith;
-    next = refl;
-    run = next_run text from w (suc n) w-is n-is (omega arith);
-    here = run_here text (from + w) (suc n) n-is (omega arith);
-    ends =
-        run_ends text (from + w) (suc n) n-is;
-    plain = refl;
-  }
-
+run_by text from w (suc n) w-is n-is = inr (_, from + w + suc n, takes_run text from (from + w) (suc n) _ (omega arith) (omega arith) (white_at text from w w-is) n-is refl, within) where
   within : from + w + suc n ≤ length text
   within = let most : suc n ≤ length text - (from + w) = solid_most text (from + w) (suc n) n-is in omega arith
 

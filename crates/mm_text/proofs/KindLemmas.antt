@@ -1,12 +1,13 @@
 -- Kinds of words, and marks, against how they are spelled.
-use Rattle.std.proofs.Common.{◌≡◌, ℕ, suc, zero, ◌<◌, Bool, true, false, not, cond, eqb, ◌||◌, List, [], ◌∷◌, length, get_or, Option, Some, None, Contains, refl, sym, ap, ◌∙◌, subst, arith, inl, inr, ◌⊎◌, eq-eqb}
-use Rattle.std.specs.List.{list_any}
+use Rattle.std.proofs.Common.{◌≡◌, ℕ, suc, zero, ◌<◌, ◌≤◌, Bool, true, false, not, cond, eqb, ◌||◌, List, [], ◌∷◌, length, get_or, drop, Option, IfSome, Some, None, Contains, refl, sym, ap, ◌∙◌, subst, arith, inl, inr, ◌⊎◌, eq-eqb}
+use Rattle.std.specs.List.{list_any, prefix_len}
 use Rattle.std.specs.Prelude.{option_map, ◌==◌}
 use Rattle.std.proofs.lemmas.Bool.{cases_Bool, cond-false, eqb-true, ne_eqb, false≢true, or_left, or_right, or_cases, and_parts, false_from_ne_true}
 use Rattle.mm_text.specs.declared.word.Keyword.{Keyword}
 use Rattle.mm_text.specs.declared.word.Keyword.TheVariants.{BlockStart, BlockEnd, Constants, Variables, Floating, Essential, Disjoint, Axiom, Theorem, StatementEnd, ProofStart, InclusionStart, InclusionEnd}
 use Rattle.mm_text.specs.declared.word.WordKind.{WordKind}
 use Rattle.mm_text.specs.declared.word.WordKind.TheVariants as kinds
+use Rattle.mm_text.specs.Language.Run.{is_white, is_solid, ends_run}
 use Rattle.mm_text.specs.Language.Spelling.{spelling, IsSpelled, HoldsMark, HasBytesAt, opening, closing}
 use Rattle.mm_text.specs.Code.LeftToRight.{keyword_at, plain_unless, word_kind, is_mark, holds_mark, has_dollar}
 
@@ -45,6 +46,22 @@ keyword_is b k =
     pick b 123 BlockStart k _ refl (pick b 125 BlockEnd k _ refl (pick b 99 Constants k _ refl (pick b 118 Variables k _ refl (pick b 102 Floating k _ refl
     (pick b 101 Essential k _ refl (pick b 100 Disjoint k _ refl (pick b 97 Axiom k _ refl (pick b 112 Theorem k _ refl (pick b 46 StatementEnd k _ refl
     (pick b 61 ProofStart k _ refl (pick b 91 InclusionStart k _ refl (pick b 93 InclusionEnd k None refl (λ e. absurd cc)))))))))))))
+
+none_white : (k : Keyword) → is_white (get_or (spelling k) 1 0) ≡ false
+unfolding is_white
+none_white BlockStart = refl
+none_white _ = refl
+
+-- a keyword behind which white space stands, or nothing, is a run of its own
+keyword_here : (b : ℕ) (k : Keyword) (bytes : List ℕ) → keyword_at b ≡ Some k → ends_run bytes ≡ true → prefix_len is_solid (36 ∷ b ∷ bytes) ≡ 2
+unfolding is_white
+keyword_here b k [] is ends = rw (ap (λ (run : List ℕ). is_white (get_or run 1 0)) (keyword_is b k is) ∙ none_white k) refl
+keyword_here b k (c ∷ bytes) is ends = rw (ap (λ (run : List ℕ). is_white (get_or run 1 0)) (keyword_is b k is) ∙ none_white k, ends) refl
+
+pub keyword_run_len : (bytes : List ℕ) (found : Option Keyword) → 2 ≤ length bytes → get_or bytes 0 0 ≡ 36 → ends_run (drop 2 bytes) ≡ true → found ≡ keyword_at (get_or bytes 1 0) → IfSome found (λ _. prefix_len is_solid bytes ≡ 2)
+keyword_run_len bytes None some first ends is = tt
+keyword_run_len (a ∷ b ∷ bytes) (Some k) some first ends is = rw first (keyword_here b k bytes (sym is) ends)
+keyword_run_len _ (Some k) some first ends is = absurd (omega arith)
 
 kind_of-keyword : (k : Keyword) → word_kind (spelling k) ≡ Some (kinds.Keyword k)
 kind_of-keyword BlockStart = refl

@@ -1,13 +1,14 @@
 -- What the steps of a reader read, and the faults that they meet.
-use Rattle.std.proofs.Common.{◌≡◌, ◌≢◌, ℕ, ◌-◌, ◌≤◌, List, [], ◌∷◌, ◌++◌, append_assoc, length, drop, slice_range, Option, Some, None, Ok, Err, refl, sym, ap, ◌∙◌, subst, inl, inr, arith}
+use Rattle.std.proofs.Common.{◌≡◌, ◌≢◌, ℕ, ◌+◌, ◌-◌, ◌<◌, ◌≤◌, List, [], ◌∷◌, ◌++◌, append_assoc, length, take, drop, slice_range, Option, Some, None, Ok, Err, refl, sym, ap, ◌∙◌, subst, inl, inr, arith}
 use Rattle.std.proofs.lemmas.List.{append-nil, length-take-le, length-drop}
 use Rattle.std.proofs.lemmas.Grind.{flat_map-append}
+use Rattle.std.specs.List.{prefix_len}
 use Rattle.mm_text.specs.declared.reader.Span.{Span}
 use Rattle.mm_text.specs.declared.word.Word.{Word}
 use Rattle.mm_text.specs.declared.word.WordKind.{WordKind}
 use Rattle.mm_text.specs.declared.fault.TextNumber.{TextNumber}
 use Rattle.mm_text.specs.declared.fault.TextNumber.TheVariants.{T02, T03, T04, T05}
-use Rattle.mm_text.specs.Language.Run.{Run, runs}
+use Rattle.mm_text.specs.Language.Run.{Run, runs, is_solid}
 use Rattle.mm_text.specs.Language.Spelling.{IsWord, HoldsMark, opening, closing}
 use Rattle.mm_text.specs.Language.Reading as words
 use Rattle.mm_text.specs.Language.Reading.{segment_runs, segment_words, HoldNoMarks, IsSegment, AreWords, EndsOpen, first_bad}
@@ -16,6 +17,7 @@ use Rattle.mm_text.specs.Language.Unit.{tokens_of, IsViable}
 use Rattle.mm_text.specs.Code.LeftToRight.{Read, read_runs, cons_word, with_words, word_kind, word_alone, words_fault_at}
 use Rattle.mm_text.specs.Code.Reader.{runs_at, run_of, TakesSpan, SkipsComment, FailsInside, TakesWord, IsRunRefused, MeetsRun, FailsBehind}
 use Rattle.mm_text.proofs.KindLemmas.{kind_spelled, spelled_kind, no_kind, stands_mark}
+use Rattle.mm_text.proofs.RunLemmas.{front_is, takes_run}
 use Rattle.mm_text.proofs.ReadLemmas.{inside_mark, outside_close, outside_word}
 use Rattle.mm_text.proofs.ReadingLemmas.{none_read, all_append, InComment, Behind, word_step, read_whole, stops, is_whole, goes_on, is_open, not_whole, stop_fault, open_fault}
 
@@ -153,6 +155,13 @@ module _ (text : List ℕ) (from at : ℕ) (span : Span) (to : ℕ) (h : Passing
     refused = (record { front = h.seen; first = run_of text span; inside = fails.inside; joined = refl; before = h.reads; opened = opens; no_marks = fails.no_marks }, fails.holds, fails.differs);
   }
   pass_fails _ place opens fails = absurd fails
+
+-- a word that begins behind white space alone
+pub word_here : (text : List ℕ) (from start n : ℕ) (kind : WordKind) → from ≤ start → start + n ≤ length text → runs_at text from ≡ runs_at text start
+    → n ≡ prefix_len is_solid (take (length text - start) (drop start text)) → 0 < n → word_kind (take n (take (length text - start) (drop start text))) ≡ Some kind
+    → TakesWord text from (record { kind = kind; start = start; end = start + n }) (start + n)
+word_here text from start n kind forward within white len some is =
+    pass_word text from from _ (start + n) (pass_none text from) (takes_run text from start n _ forward some white len refl) kind (sym (ap word_kind (front_is text start n)) ∙ is) within (omega arith)
 
 -- ---- what is read
 

@@ -5,7 +5,7 @@ ghost use Rattle.std.specs.Prelude.{◌≤◌, length};
 use crate::fault::{TextFault, TextNumber};
 use crate::skipping::dollarless_len;
 use crate::spelling::{
-    first_run, has_mark, is_closing, is_opening, kind, plain_run_len, white_len,
+    first_run, has_mark, is_closing, is_opening, keyword_run, kind, plain_run_len, white_len,
 };
 use crate::word::{Word, WordKind};
 
@@ -74,11 +74,8 @@ impl<'a> Reader<'a> {
         ensures forward { self.old.from ≤ self.new.from }
         ensures end { EndsComment self.old.text.now self.old.from start result self.new.from }
     {
+        self.skip_plain();
         while let Some(span) = self.next_run() {
-            if span.plain {
-                self.skip_plain();
-                continue;
-            }
             let bytes = &self.text[span.start..span.end];
             if is_closing(bytes) {
                 return Ok(());
@@ -89,6 +86,7 @@ impl<'a> Reader<'a> {
                     at: span.start,
                 });
             }
+            self.skip_plain();
         }
         Err(TextFault {
             number: TextNumber::T02,
@@ -107,13 +105,33 @@ impl<'a> Reader<'a> {
         let start = self.from + white_len(&self.text[self.from..]);
         let len = plain_run_len(&self.text[start..]);
         if len == 0 {
-            return self.any_word();
+            return self.other_word(start);
         }
         self.from = start + len;
         Ok(Some(Word {
             kind: WordKind::Plain,
             start,
             end: start + len,
+        }))
+    }
+
+    /// The next word outside comments, where only white space stands before `start`. A keyword at `start` is told at once.
+    fn other_word(&mut self, start: usize) -> Result<Option<Word>, TextFault>
+        requires within { start ≤ length self.old.text.now }
+        requires forward { self.old.from ≤ start }
+        requires white { runs_at self.old.text.now self.old.from ≡ runs_at self.old.text.now start }
+        ensures text { self.new.text.now ≡ self.old.text.now }
+        ensures word { GivesWord self.old.text.now self.old.from result self.new.from }
+        ensures end { IfOk result (λ word. IfNone word (runs_at self.new.text.now self.new.from ≡ [])) }
+    {
+        let Some(keyword) = keyword_run(&self.text[start..]) else {
+            return self.any_word();
+        };
+        self.from = start + 2;
+        Ok(Some(Word {
+            kind: WordKind::Keyword(keyword),
+            start,
+            end: start + 2,
         }))
     }
 

@@ -1,9 +1,10 @@
 //! How words are spelled.
 
-ghost use Rattle.std.specs.Prelude.{◌≡◌, ◌<◌, ◌≤◌, ◌↔◌, IsTrue, false, length, not, take};
+ghost use Rattle.std.specs.Prelude.{◌≡◌, ◌<◌, ◌≤◌, ◌↔◌, IfSome, IsTrue, Some, false, length, not, take};
 ghost use Rattle.std.specs.List.{list_all, prefix_len};
+ghost use Rattle.mm_text.specs.declared.word.WordKind.TheVariants as kinds;
 ghost use Rattle.mm_text.specs.Language.Unit as labels;
-ghost use Rattle.mm_text.specs.Language.Run.{is_white, is_solid};
+ghost use Rattle.mm_text.specs.Language.Run.{is_white, is_solid, ends_run};
 ghost use Rattle.mm_text.specs.Language.Reading.{is_allowed};
 ghost use Rattle.mm_text.specs.Language.Spelling.{opening, closing};
 ghost use Rattle.mm_text.specs.Code.LeftToRight.{has_dollar, is_dollarless, keyword_at, word_kind, is_mark, holds_mark};
@@ -121,6 +122,28 @@ fn keyword_of(byte: u8) -> Option<Keyword>
         b'=' => Some(Keyword::ProofStart),
         b'[' => Some(Keyword::InclusionStart),
         b']' => Some(Keyword::InclusionEnd),
+        _ => None,
+    }
+}
+
+/// Whether these bytes begin with white space, or are none.
+fn is_end_of_run(bytes: &[u8]) -> bool
+    ensures { result ≡ ends_run bytes.now }
+{
+    match bytes {
+        [byte, ..] => is_white_space(*byte),
+        [] => true,
+    }
+}
+
+/// The keyword that these bytes begin with, where it is a run of its own. A comment mark is no keyword.
+pub fn keyword_run(bytes: &[u8]) -> Option<Keyword>
+    ensures within { IfSome result (λ _. 2 ≤ length bytes.now) }
+    ensures len { IfSome result (λ _. prefix_len is_solid bytes.now ≡ 2) }
+    ensures kind { IfSome result (λ keyword. word_kind (take 2 bytes.now) ≡ Some (kinds.Keyword keyword)) }
+{
+    match bytes {
+        [b'$', byte, behind @ ..] if is_end_of_run(behind) => keyword_of(*byte),
         _ => None,
     }
 }

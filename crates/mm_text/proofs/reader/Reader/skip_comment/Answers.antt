@@ -1,11 +1,18 @@
 use Rattle.std.proofs.Common.{◌≢◌, rules, slice_range, sym, ◌∙◌}
 use Rattle.std.proofs.lemmas.Bool.{false≢true}
 use Rattle.mm_text.specs.Language.Spelling.{HoldsMark, closing}
-use Rattle.mm_text.specs.Code.Reader.{TakesSpan, SkipsPlain}
-use Rattle.mm_text.proofs.KindLemmas.{mark_stands, no_mark, stands_mark}
-use Rattle.mm_text.proofs.ReaderLemmas.{skip_more, skip_fault}
+use Rattle.mm_text.specs.Code.Reader.{SkipsPlain}
+use Rattle.mm_text.proofs.KindLemmas.{mark_stands, stands_mark}
+use Rattle.mm_text.proofs.ReaderLemmas.{skip_none, skip_more, skip_fault}
 use Rattle.mm_text.proofs.SkipLemmas.{skip_all}
 use Rattle.mm_text.proofs.reader.Reader.skip_comment.Goals as goal
+
+pub loop-span-init : goal.loop-span-init
+loop-span-init c = record {
+  text = c.skip_plain.ensures.text;
+  forward = c.skip_plain.ensures.forward;
+  skips = skip_all c.args.self.now.text.now c.args.self.now.from c.args.self.now.from c.skip_plain.new.self.from (skip_none c.args.self.now.text.now c.args.self.now.from) c.skip_plain.ensures.skips;
+}
 
 pub returns-then-has_mark-clause-end : goal.returns-then-has_mark-clause-end
 returns-then-has_mark-clause-end c =
@@ -19,23 +26,11 @@ pub loop-span-preserved : goal.loop-span-preserved
 loop-span-preserved c =
     let same = c.next_run.ensures.text ∙ c.loop-span.invariant.text in
     let none : ¬ HoldsMark (slice_range c.next_run.new.self.text.now c.in-Some.span.start c.in-Some.span.end) = λ h. false≢true (sym c.if-has_mark.false ∙ c.has_mark.ensures ∙ stands_mark _ h) in
+    let skips : SkipsPlain c.next_run.new.self.text.now c.next_run.new.self.from c.skip_plain-in-Some.new.self.from = c.skip_plain-in-Some.ensures.skips in
     record {
-      text = same;
+      text = c.skip_plain-in-Some.ensures.text ∙ same;
       forward = search rules;
-      skips = skip_more c.args.self.now.text.now c.args.self.now.from c.loop-span.self.from c.in-Some.span c.next_run.new.self.from c.loop-span.invariant.skips (rw c.loop-span.invariant.text at c.in-Some.ensures.run) (rw same at none);
-    }
-
-pub loop-span-preserved-then-span : goal.loop-span-preserved-then-span
-loop-span-preserved-then-span c =
-    let same = c.next_run.ensures.text ∙ c.loop-span.invariant.text in
-    let run : TakesSpan c.loop-span.self.text.now c.loop-span.self.from c.in-Some.span c.next_run.new.self.from = c.in-Some.ensures.run in
-    let here = rw c.loop-span.invariant.text at run in
-    let skips : SkipsPlain c.next_run.new.self.text.now c.next_run.new.self.from c.skip_plain.new.self.from = c.skip_plain.ensures.skips in
-    let none : ¬ HoldsMark (slice_range c.args.self.now.text.now c.in-Some.span.start c.in-Some.span.end) = no_mark (slice_range c.args.self.now.text.now c.in-Some.span.start c.in-Some.span.end) (sym here.plain ∙ c.if-span.true) in
-    record {
-      text = c.skip_plain.ensures.text ∙ same;
-      forward = search rules;
-      skips = skip_all c.args.self.now.text.now c.args.self.now.from c.next_run.new.self.from c.skip_plain.new.self.from
+      skips = skip_all c.args.self.now.text.now c.args.self.now.from c.next_run.new.self.from c.skip_plain-in-Some.new.self.from
           (skip_more c.args.self.now.text.now c.args.self.now.from c.loop-span.self.from c.in-Some.span c.next_run.new.self.from c.loop-span.invariant.skips
-          here none) (rw same at skips);
+          (rw c.loop-span.invariant.text at c.in-Some.ensures.run) (rw same at none)) (rw same at skips);
     }
