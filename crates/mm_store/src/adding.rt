@@ -18,6 +18,7 @@ use crate::piece_text::kept_pieces;
 use crate::room::{ended_len, fits};
 use mm_text::{Cut, cut};
 use std::alloc::AllocError;
+use std::collections::VecDeque;
 
 impl Files {
     /// Adds a file of this name behind the others: the text is cut into its pieces and its tail, and a line feed
@@ -70,7 +71,7 @@ impl Files {
         self.files.reserve(1)?;
         let keys = self.pieces.put_all(alloc, kept)?;
         let file = FileText {
-            keys,
+            keys: VecDeque::from_vec(keys),
             starts,
             known,
             tail,

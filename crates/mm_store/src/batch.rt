@@ -111,8 +111,8 @@ impl Files {
     /// Where one is refused, none is done, and the answer has its number and the reason. `Memory` can come in the place
     /// of each other answer, once the file and the pieces of the first edit are known to be there. After any error the
     /// files are as before. No edits are done without memory. It takes the time of the texts that the edits bring, moves
-    /// for each edit the keys behind its place in its file, and then goes once through the pieces behind the first place of
-    /// each file; and it takes room for what is needed to undo each.
+    /// for each edit the keys on the shorter side of its place in its file (of both its places, for a move), and then goes
+    /// once through the pieces behind the first place of each file; and it takes room for what is needed to undo each.
     pub fn edit_all(&mut self, edits: &[Edit<'_>]) -> Result<Undos, BatchError>
         ensures ok { OnOk result (IsBatchOf (map asked edits.now) (plain self.old) (plain self.new)) }
         ensures by_keys { IfOk result (IsBatchByKeys (map asked edits.now) self.old self.new) }
@@ -133,8 +133,8 @@ impl Files {
     }
 
     /// Reverses edits, the last of them first. Where the files stand as the edits left them, they are then as before the
-    /// first of them. It moves for each the keys behind its place in its file, then goes once through the pieces behind the
-    /// first place of each file, and takes no memory.
+    /// first of them. It moves for each the keys on the shorter side of its place in its file (of both its places, for a
+    /// move), then goes once through the pieces behind the first place of each file, and takes no memory.
     pub fn undo_all(&mut self, undos: Undos)
         requires { (old : FilesView) × IsSpendable old self.old undos }
         ensures { (old : FilesView) → IsSpendable old self.old undos → self.new ≡ old }

@@ -1,7 +1,8 @@
 //! A file by the keys of its pieces.
 
-ghost use Rattle.std.specs.Prelude.{◌≡◌, ℕ, ◌+◌, ◌<◌, ◌≤◌, All, IfOk, OnOk, length, map, slice_index_or, slice_set, take, vec_len};
+ghost use Rattle.std.specs.Prelude.{◌≡◌, ℕ, ◌+◌, ◌<◌, ◌≤◌, All, IfOk, OnOk, length, map, slice_index_or, slice_set, take};
 ghost use Rattle.std.specs.List.{concat, insert, remove};
+ghost use Rattle.std.specs.VecDeque.{deque_len};
 ghost use Rattle.mm_store.specs.Language.Pieces.{Pieces, text_under};
 ghost use Rattle.mm_store.specs.Language.Undoing.{moved_list};
 ghost use Rattle.mm_store.specs.Code.Inside.{IsPieceKept};
@@ -13,13 +14,14 @@ use crate::piece_text::PieceText;
 use crate::pieces::PieceStore;
 use crate::start::Start;
 use std::alloc::{AllocError, Global};
+use std::collections::VecDeque;
 
 /// The keys of a file's pieces in order, where each of them and the tail begins, up to which of them this is known, what
 /// is behind the last, and how many of its deleted pieces are parked. Behind the starts that count there are others, as
 /// room.
 #[derive(Drop)]
 pub struct FileText {
-    pub(crate) keys: Vec<usize>,
+    pub(crate) keys: VecDeque<usize>,
     pub(crate) starts: Vec<Start>,
     pub(crate) known: usize,
     pub(crate) tail: Vec<u8>,
@@ -46,8 +48,8 @@ pub(crate) fn starts(alloc: Global, pieces: &[PieceText]) -> Result<Vec<Start>, 
 impl FileText {
     /// Sets where the piece or the tail behind one piece begins.
     fn set_next(&mut self, pieces: &PieceStore, piece: usize)
-        requires there { piece < vec_len self.old.keys }
-        requires room { vec_len self.old.keys < length self.old.starts.items }
+        requires there { piece < deque_len self.old.keys }
+        requires room { deque_len self.old.keys < length self.old.starts.items }
         requires small { length (concat (map (text_under pieces.now) self.old.keys.items)) ≤ 4294967295 }
         requires before { AreStartsTo piece (map (text_under pieces.now) self.old.keys.items) self.old.starts.items }
         ensures starts { AreStartsTo (piece + 1) (map (text_under pieces.now) self.old.keys.items) self.new.starts.items }
@@ -62,7 +64,7 @@ impl FileText {
 
     /// Sets where those pieces and the tail begin of which it is not known, in one step for each of them.
     pub(crate) fn restart(&mut self, pieces: &PieceStore)
-        requires room { vec_len self.old.keys < length self.old.starts.items }
+        requires room { deque_len self.old.keys < length self.old.starts.items }
         requires small { length (concat (map (text_under pieces.now) self.old.keys.items)) ≤ 4294967295 }
         requires starts { KnowsStarts pieces.now self.old }
         ensures starts { KnowsStarts pieces.now self.new }
@@ -79,8 +81,8 @@ impl FileText {
 
     /// Where a piece begins: this is counted on from the last piece before it of which it is known.
     pub(crate) fn start(&self, pieces: &PieceStore, piece: usize) -> Start
-        requires there { piece < vec_len self.now.keys }
-        requires room { vec_len self.now.keys < length self.now.starts.items }
+        requires there { piece < deque_len self.now.keys }
+        requires room { deque_len self.now.keys < length self.now.starts.items }
         requires small { length (concat (map (text_under pieces.now) self.now.keys.items)) ≤ 4294967295 }
         requires starts { KnowsStarts pieces.now self.now }
         ensures { IsStart (concat (take piece (map (text_under pieces.now) self.now.keys.items))) result }
@@ -105,20 +107,23 @@ impl FileText {
         self.known = self.known.min(piece);
     }
 
-    /// Makes room for one key more, beside the deleted pieces that are parked.
+    /// Makes room for one key more, beside the deleted pieces that are parked. Where there is none, it is made twice as large.
     pub(crate) fn reserve_one(&mut self) -> Result<(), AllocError>
         requires room { HasRoom self.old }
         ensures ok { OnOk result (HasRoomForOne self.new) }
         ensures room { HasRoom self.new }
         ensures items { self.new.keys.items ≡ self.old.keys.items }
-        ensures starts { (number : ℕ) (default : Start) → number ≤ vec_len self.old.keys
+        ensures starts { (number : ℕ) (default : Start) → number ≤ deque_len self.old.keys
             → slice_index_or self.new.starts.items number default ≡ slice_index_or self.old.starts.items number default }
         ensures known { self.new.known ≡ self.old.known }
         ensures tail { self.new.tail ≡ self.old.tail }
         ensures deleted { self.new.deleted ≡ self.old.deleted }
     {
-        self.keys.reserve(self.deleted + 1)?;
-        if self.starts.len() <= self.keys.len() + self.deleted + 1 {
+        let held = self.keys.len() + self.deleted;
+        if self.keys.capacity() <= held {
+            self.keys.reserve(held + self.deleted + 1)?;
+        }
+        if self.starts.len() <= held + 1 {
             self.starts.push(Start::first())?;
         }
         Ok(())
@@ -126,7 +131,7 @@ impl FileText {
 
     /// Puts another key in the place of one, which is the answer.
     pub(crate) fn replace_key(&mut self, at: usize, key: usize) -> usize
-        requires there { at < vec_len self.old.keys }
+        requires there { at < deque_len self.old.keys }
         requires room { HasRoom self.old }
         ensures value { result ≡ slice_index_or self.old.keys.items at 0 }
         ensures deleted { self.new.deleted ≡ self.old.deleted }
@@ -143,7 +148,7 @@ impl FileText {
 
     /// Puts a key before the one at `at`, for which there is room.
     pub(crate) fn put_key(&mut self, at: usize, key: usize)
-        requires there { at ≤ vec_len self.old.keys }
+        requires there { at ≤ deque_len self.old.keys }
         requires room { HasRoomForOne self.old }
         ensures deleted { self.new.deleted ≡ self.old.deleted }
         ensures items { self.new.keys.items ≡ insert self.old.keys.items at key }
@@ -157,7 +162,7 @@ impl FileText {
 
     /// Takes a key out, which is the answer.
     pub(crate) fn take_key(&mut self, at: usize) -> usize
-        requires there { at < vec_len self.old.keys }
+        requires there { at < deque_len self.old.keys }
         requires room { HasRoom self.old }
         ensures value { result ≡ slice_index_or self.old.keys.items at 0 }
         ensures deleted { self.new.deleted ≡ self.old.deleted }
@@ -166,14 +171,14 @@ impl FileText {
         ensures room { HasRoom self.new }
         ensures tail { self.new.tail ≡ self.old.tail }
     {
-        let key = self.keys.remove(at);
+        let key = self.keys.remove(at).unwrap();
         self.forget_behind(at);
         key
     }
 
     /// Takes a key out, whose piece is parked: room for it is kept.
     pub(crate) fn delete_key(&mut self, at: usize) -> usize
-        requires there { at < vec_len self.old.keys }
+        requires there { at < deque_len self.old.keys }
         requires room { HasRoom self.old }
         ensures value { result ≡ slice_index_or self.old.keys.items at 0 }
         ensures deleted { self.new.deleted ≡ self.old.deleted + 1 }
@@ -182,7 +187,7 @@ impl FileText {
         ensures room { HasRoom self.new }
         ensures tail { self.new.tail ≡ self.old.tail }
     {
-        let key = self.keys.remove(at);
+        let key = self.keys.remove(at).unwrap();
         self.deleted += 1;
         self.forget_behind(at);
         key
@@ -190,7 +195,7 @@ impl FileText {
 
     /// Puts a key back, whose piece was parked.
     pub(crate) fn restore_key(&mut self, at: usize, key: usize)
-        requires there { at ≤ vec_len self.old.keys }
+        requires there { at ≤ deque_len self.old.keys }
         requires parked { 0 < self.old.deleted }
         requires room { HasRoom self.old }
         ensures deleted { self.new.deleted + 1 ≡ self.old.deleted }
@@ -218,8 +223,8 @@ impl FileText {
 
     /// Takes a key out and puts it where it is the one at `to`.
     pub(crate) fn move_key(&mut self, at: usize, to: usize)
-        requires there { at < vec_len self.old.keys }
-        requires there_too { to < vec_len self.old.keys }
+        requires there { at < deque_len self.old.keys }
+        requires there_too { to < deque_len self.old.keys }
         requires room { HasRoom self.old }
         ensures deleted { self.new.deleted ≡ self.old.deleted }
         ensures items { self.new.keys.items ≡ moved_list self.old.keys.items at to }
@@ -227,7 +232,7 @@ impl FileText {
         ensures room { HasRoom self.new }
         ensures tail { self.new.tail ≡ self.old.tail }
     {
-        let key = self.keys.remove(at);
+        let key = self.keys.remove(at).unwrap();
         self.keys.insert(to, key).unwrap();
         self.forget_behind(at.min(to));
     }

@@ -2,10 +2,11 @@
 
 ghost use Rattle.std.specs.Prelude.{◌≡◌, ℕ, ◌+◌, ◌<◌, ◌≤◌, ◌↔◌, IsSome};
 ghost use Rattle.std.specs.Prelude.{◌++◌, List, Some, None, IfSome, IfOk, IfErr};
-ghost use Rattle.std.specs.Prelude.{IsErrOf, All, length, map, slice_get, slice_index_or, vec_len, []};
+ghost use Rattle.std.specs.Prelude.{IsErrOf, All, length, map, slice_get, slice_index_or, []};
 ghost use Rattle.std.specs.Prelude.{false, IfNone};
 ghost use Rattle.std.specs.Option.{option_map};
 ghost use Rattle.std.specs.List.{concat};
+ghost use Rattle.std.specs.VecDeque.{deque_len};
 ghost use Rattle.std.specs.FinMap as finite;
 ghost use Rattle.mm_text.specs.Language.Place.{line_at, column_at};
 ghost use Rattle.mm_store.specs.declared.error.StoreError.TheVariants.{NoTop};
@@ -76,7 +77,7 @@ impl Model for Files {
 /// The lines of a file up to a byte of a piece.
 fn lines_at(file: &FileText, pieces: &PieceStore, piece: usize, at: usize) -> Lines
     requires starts { KnowsStarts pieces.now file.now }
-    requires room { vec_len file.now.keys < length file.now.starts.items }
+    requires room { deque_len file.now.keys < length file.now.starts.items }
     requires small { length (concat (map (text_under pieces.now) file.now.keys.items)) ≤ 4294967295 }
     requires piece_in { piece < length file.now.keys.items }
     requires within { at ≤ length (slice_index_or (map (text_under pieces.now) file.now.keys.items) piece []) }

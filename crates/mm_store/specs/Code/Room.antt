@@ -1,13 +1,14 @@
 -- The room of a file.
-use Rattle.std.specs.Prelude.{◌+◌, ◌<◌, ◌≤◌, length, vec_len, vec_capacity}
+use Rattle.std.specs.Prelude.{◌+◌, ◌<◌, ◌≤◌, length}
+use Rattle.std.specs.VecDeque.{deque_len, deque_capacity}
 use Rattle.mm_store.specs.declared.file_text.FileText.{FileText}
 
 -- there is room for the keys and the starts of the deleted pieces that are parked
 pub record HasRoom (file : FileText) : Type 0 where
-  pub keys : vec_len file.keys + file.deleted ≤ vec_capacity file.keys
-  pub starts : vec_len file.keys + file.deleted < length file.starts.items
+  pub keys : deque_len file.keys + file.deleted ≤ deque_capacity file.keys
+  pub starts : deque_len file.keys + file.deleted < length file.starts.items
 
 -- and for one more
 pub record HasRoomForOne (file : FileText) : Type 0 where
-  pub keys : vec_len file.keys + file.deleted + 1 ≤ vec_capacity file.keys
-  pub starts : vec_len file.keys + file.deleted + 1 < length file.starts.items
+  pub keys : deque_len file.keys + file.deleted + 1 ≤ deque_capacity file.keys
+  pub starts : deque_len file.keys + file.deleted + 1 < length file.starts.items

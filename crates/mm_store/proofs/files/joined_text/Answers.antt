@@ -1,16 +1,18 @@
-use Rattle.std.proofs.Common.{◌≡◌, ◌+◌, ◌++◌, ℕ, List, map, take, get_or, sym, ap, ◌∙◌, subst}
+use Rattle.std.proofs.Common.{◌≡◌, ℕ, suc, ◌∷◌, ◌++◌, is_some, true, length, map, get_or, sym, ap, ◌∙◌, subst, append_assoc, arith}
 use Rattle.std.specs.List.{concat}
+use Rattle.std.specs.FinMap as finite
+use Rattle.std.specs.VecDeque.Iter.{deque_iter_rest}
 use Rattle.mm_store.specs.Language.Pieces.{text_under}
-use Rattle.mm_store.proofs.lemmas.files.FilesLemmas.{concat_more}
 use Rattle.mm_store.proofs.files.joined_text.Goals as goal
 
 pub loop-key-preserved : goal.loop-key-preserved
 loop-key-preserved c =
     let p = c.args.pieces.now in
-    let keys = c.deref-key-items.result.now in
-    let n = c.loop-key.key-index in
-    let at = c.deref-key-items.ensures.value in
-    let so_far : c.loop-key.text.items ≡ concat (map (text_under p) (take n keys)) = subst (λ (keys : List ℕ). c.loop-key.text.items ≡ concat (map (text_under p) (take n keys))) (sym at) c.loop-key.invariant in
-    let text : c.text.result.now ≡ text_under p (get_or keys n 0) = c.text.ensures.text in
-    subst (λ (keys : List ℕ). c.extend_from_slice.new.self.items ≡ concat (map (text_under p) (take (n + 1) keys))) at
-    (c.in_ok-extend_from_slice.ensures.items ∙ ap (λ t. c.loop-key.text.items ++ t) text ∙ ap (λ t. t ++ text_under p (get_or keys n 0)) so_far ∙ sym (concat_more p keys n 0 c.loop-key-test.true))
+    let at = c.loop-key in
+    let rest = deque_iter_rest c.next.new.self in
+    let steps : deque_iter_rest at.key-iterator ≡ c.in-Some.key.now ∷ rest = c.in-Some.ensures.steps in
+    record {
+      text = ap (λ t. t ++ concat (map (text_under p) rest)) (c.in_ok-extend_from_slice.ensures.items ∙ ap (λ t. at.text.items ++ t) c.text.ensures.text) ∙ append_assoc at.text.items _ _
+          ∙ ap (λ ks. at.text.items ++ concat (map (text_under p) ks)) (sym steps) ∙ at.invariant.text;
+      there = λ i d lt. subst (λ ks. is_some (finite.get p (get_or ks (suc i) d)) ≡ true) steps (at.invariant.there (suc i) d (omega (arith, lt, ap length steps)));
+    }

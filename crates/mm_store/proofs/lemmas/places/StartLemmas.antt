@@ -1,10 +1,10 @@
 -- Where pieces begin, after a change of their list.
-use Rattle.std.proofs.Common.{◌≡◌, inl, inr, ℕ, zero, suc, ◌+◌, ◌<◌, ◌≤◌, List, [], ◌∷◌, length, map, take, get_or, set, refl, sym, ap, ◌∙◌, subst, arith}
+use Rattle.std.proofs.Common.{◌≡◌, inl, inr, ℕ, zero, suc, ◌+◌, ◌<◌, ◌≤◌, List, [], ◌∷◌, length, map, deque_len, take, get_or, set, refl, sym, ap, ◌∙◌, subst, arith}
 use Rattle.std.specs.List.{concat, insert, remove}
 use Rattle.std.proofs.lemmas.Bool.{cases_eq}
 use Rattle.std.proofs.lemmas.List.{length-map, get_or-set_same, get_or-set_other}
 use Rattle.mm_store.specs.declared.start.Start.{Start}
-use Rattle.std.specs.Prelude.{Vec, vec_len}
+use Rattle.std.specs.Prelude.{Vec}
 use Rattle.std.specs.Global.{Global}
 use Rattle.mm_store.specs.declared.file_text.FileText.{FileText}
 use Rattle.mm_store.specs.Language.Pieces.{Pieces, text_under}
@@ -49,7 +49,7 @@ known_same p v w less within same starts knows =
 
 -- and where room was made
 pub starts_stay : (p : Pieces) (v w : FileText) → w.keys.items ≡ v.keys.items → w.known ≡ v.known
-    → ((number : ℕ) (default : Start) → number ≤ vec_len v.keys → get_or w.starts.items number default ≡ get_or v.starts.items number default)
+    → ((number : ℕ) (default : Start) → number ≤ deque_len v.keys → get_or w.starts.items number default ≡ get_or v.starts.items number default)
     → KnowsStarts p v → KnowsStarts p w
 starts_stay p v w items known same knows =
     let f = text_under p in

@@ -1,7 +1,5 @@
-use Rattle.std.proofs.Common.{◌≡◌, ◌+◌, ◌<◌, ◌≤◌, true, length, take, ap, ◌∙◌, arith}
-use Rattle.std.specs.Prelude.{if◌then◌else◌}
-use Rattle.std.specs.Result.{is_ok}
-use Rattle.std.specs.List.{insert}
+use Rattle.std.proofs.Common.{◌≡◌, ◌+◌, ◌<◌, ◌≤◌, length, take, ap, ◌∙◌, arith}
+use Rattle.std.specs.List.{insert, remove}
 use Rattle.std.proofs.lemmas.List.Edits.{length-insert, length-remove}
 use Rattle.mm_store.proofs.lemmas.places.StartLemmas.{known_same, take_insert, take_remove}
 use Rattle.mm_store.proofs.file_text.FileText.move_key.Goals as goal
@@ -11,15 +9,15 @@ returns-clause-starts c = λ pieces knows.
     let old = c.args.self.now.keys.items in
     let at = c.args.at in
     let to = c.args.to in
-    let key = c.remove-key.result in
-    let short = c.remove-key.new.self.items in
+    let key = c.unwrap-key.result in
+    let short = c.remove.new.self.items in
+    let removed : short ≡ remove old at = rw c.unwrap-key.ensures at c.remove.ensures.items in
     let w = c.forget_behind.new.self in
     let there : at < length old = omega (arith, c.requires.there, c.args.self.now.keys.ok.0) in
-    let ok : is_ok c.insert.result ≡ true = ap is_ok c.unwrap.ensures in
-    let items : w.keys.items ≡ insert short to key = ap (λ k. k.items) c.forget_behind.ensures.keys ∙ c.insert.ensures.items ∙ ap (λ b. if b then insert short to key else short) ok in
-    let less : length short + 1 ≡ length old = omega (arith, ap length c.remove-key.ensures.items, length-remove old at there) in
+    let items : w.keys.items ≡ insert short to key = ap (λ k. k.items) c.forget_behind.ensures.keys ∙ rw c.unwrap.ensures at c.insert.ensures.items in
+    let less : length short + 1 ≡ length old = omega (arith, ap length removed, length-remove old at there) in
     let long : to ≤ length short = omega (arith, less, c.requires.there_too, c.args.self.now.keys.ok.0) in
     let least : (w.known ≤ at) × (w.known ≤ to) = (omega (arith, c.min.ensures, c.forget_behind.ensures.at_most), omega (arith, c.min.ensures, c.forget_behind.ensures.at_most)) in
     known_same pieces c.args.self.now w c.forget_behind.ensures.no_more (omega (arith, least.0, ap length items, length-insert short to key long, less, there))
-    (λ n le. ap (take n) items ∙ take_insert short to key n (omega (arith, le, least.1)) long ∙ ap (take n) c.remove-key.ensures.items ∙ take_remove old at n (omega (arith, le, least.0)))
+    (λ n le. ap (take n) items ∙ take_insert short to key n (omega (arith, le, least.1)) long ∙ ap (take n) removed ∙ take_remove old at n (omega (arith, le, least.0)))
     c.forget_behind.ensures.starts knows

@@ -1,6 +1,4 @@
-use Rattle.std.proofs.Common.{◌≡◌, ◌≤◌, true, length, take, ap, ◌∙◌, arith}
-use Rattle.std.specs.Prelude.{if◌then◌else◌}
-use Rattle.std.specs.Result.{is_ok}
+use Rattle.std.proofs.Common.{◌≡◌, ◌≤◌, length, take, ap, ◌∙◌, arith}
 use Rattle.std.specs.List.{insert}
 use Rattle.std.proofs.lemmas.List.Edits.{length-insert}
 use Rattle.mm_store.proofs.lemmas.places.StartLemmas.{known_same, take_insert}
@@ -12,7 +10,6 @@ returns-clause-starts c = λ pieces knows.
     let at = c.args.at in
     let w = c.forget_behind.new.self in
     let there : at ≤ length old = omega (arith, c.requires.there, c.args.self.now.keys.ok.0) in
-    let ok : is_ok c.insert.result ≡ true = ap is_ok c.unwrap.ensures in
-    let items : w.keys.items ≡ insert old at c.args.key = ap (λ k. k.items) c.forget_behind.ensures.keys ∙ c.insert.ensures.items ∙ ap (λ b. if b then insert old at c.args.key else old) ok in
+    let items : w.keys.items ≡ insert old at c.args.key = ap (λ k. k.items) c.forget_behind.ensures.keys ∙ rw c.unwrap.ensures at c.insert.ensures.items in
     known_same pieces c.args.self.now w c.forget_behind.ensures.no_more (omega (arith, c.forget_behind.ensures.at_most, ap length items, length-insert old at c.args.key there))
     (λ n le. ap (take n) items ∙ take_insert old at c.args.key n (omega (arith, le, c.forget_behind.ensures.at_most)) there) c.forget_behind.ensures.starts knows

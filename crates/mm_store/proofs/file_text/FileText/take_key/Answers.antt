@@ -10,6 +10,6 @@ returns-clause-starts c = λ pieces knows.
     let at = c.args.at in
     let w = c.forget_behind.new.self in
     let there : at < length old = omega (arith, c.requires.there, c.args.self.now.keys.ok.0) in
-    let items : w.keys.items ≡ remove old at = ap (λ k. k.items) c.forget_behind.ensures.keys ∙ c.remove-key.ensures.items in
+    let items : w.keys.items ≡ remove old at = ap (λ k. k.items) c.forget_behind.ensures.keys ∙ rw c.unwrap-key.ensures at c.remove.ensures.items in
     known_same pieces c.args.self.now w c.forget_behind.ensures.no_more (omega (arith, c.forget_behind.ensures.at_most, ap length items, length-remove old at there))
     (λ n le. ap (take n) items ∙ take_remove old at n (omega (arith, le, c.forget_behind.ensures.at_most))) c.forget_behind.ensures.starts knows

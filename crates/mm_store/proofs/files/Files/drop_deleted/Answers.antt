@@ -1,5 +1,6 @@
 use Rattle.std.proofs.Common.{◌≡◌, List, Some, length, map, sym, ap, ◌∙◌, subst, arith}
-use Rattle.std.specs.Prelude.{slice_get, vec_len, vec_capacity}
+use Rattle.std.specs.Prelude.{slice_get}
+use Rattle.std.specs.VecDeque.{deque_len, deque_capacity}
 use Rattle.std.specs.Option.{option_copied_mut}
 use Rattle.std.specs.FinMap as finite
 use Rattle.mm_store.proofs.lemmas.files.EntryLemmas.{texts_of, keys_at, room_at}
@@ -69,8 +70,8 @@ invariant_of-self c =
     (lemmas.settled_others fs p n 0 once c.args.old is_parked)
     (omega (arith, c.forget_deleted.ensures.deleted, had.parked, lemmas.settled_here fs p n 0 once c.args.old is_parked))
     (record {
-      keys = omega (arith, had.room.keys, ap (λ k. vec_len k) c.forget_deleted.ensures.keys, ap (λ k. vec_capacity k) c.forget_deleted.ensures.keys, c.forget_deleted.ensures.deleted);
-      starts = omega (arith, had.room.starts, ap (λ k. vec_len k) c.forget_deleted.ensures.keys, ap (λ (s : Vec Start Global). length s.items) c.forget_deleted.ensures.starts, c.forget_deleted.ensures.deleted);
+      keys = omega (arith, had.room.keys, ap (λ k. deque_len k) c.forget_deleted.ensures.keys, ap (λ k. deque_capacity k) c.forget_deleted.ensures.keys, c.forget_deleted.ensures.deleted);
+      starts = omega (arith, had.room.starts, ap (λ k. deque_len k) c.forget_deleted.ensures.keys, ap (λ (s : Vec Start Global). length s.items) c.forget_deleted.ensures.starts, c.forget_deleted.ensures.deleted);
     })
     (c.self.invariant.counted ∙ sym (ap bytes_of (plain_same p (finite.remove p c.args.old) c.args.old (text_drop_other p c.args.old) fs
     (once c.args.old ∙ (lemmas.parked (finite.get p c.args.old) n Deleted is_parked).none))) ∙ ap (λ gs. bytes_of (map (plain_file (finite.remove p c.args.old)) gs)) (sym same))

@@ -19,8 +19,8 @@ returns-in_err-at-clause-is c =
     let at : slice_get entries c.args.file ≡ Some entry = ap (λ l. slice_get l c.args.file) (sym c.as_slice.ensures.entries) ∙ sym c.in_ok-file.ensures.entry in
     let there : slice_get view.keyed c.args.file ≡ Some (file_of entry) =
     ap (λ (view : FilesView). slice_get view.keyed c.args.file) (sym c.self.view_is) ∙ slice_get-map file_of entries c.args.file ∙ ap (option_map file_of) at in
-    let past = c.in_err-at.ensures.lookup.3 in
-    let none = slice_get_past keys c.args.piece (omega (arith, past, ap length c.deref.ensures.value)) in
+    let past = c.in_err-at.ensures.item.3 in
+    let none = slice_get_past keys c.args.piece past in
     ap (option_map (λ (key : PieceKey). piece_view view.pieces key.at)) c.from_residual-in_err-at.ensures
     ∙ sym (piece_at_key view c.args.file c.args.piece (file_of entry) there ∙ ap (option_map (piece_view view.pieces)) none)
 
@@ -34,9 +34,9 @@ returns-clause-is c =
     let at : slice_get entries c.args.file ≡ Some entry = ap (λ l. slice_get l c.args.file) (sym c.as_slice.ensures.entries) ∙ sym c.in_ok-file.ensures.entry in
     let there : slice_get view.keyed c.args.file ≡ Some (file_of entry) =
     ap (λ (view : FilesView). slice_get view.keyed c.args.file) (sym c.self.view_is) ∙ slice_get-map file_of entries c.args.file ∙ ap (option_map file_of) at in
-    let h = c.in_ok-at.ensures.lookup.3 in
+    let h = c.in_ok-at.ensures.item.3 in
     let is : slice_get keys c.args.piece ≡ Some key =
-    slice_get_read keys (length keys) c.args.piece key refl (omega (arith, h.0, ap length c.deref.ensures.value)) (h.1 key ∙ ap (λ l. get_or l c.args.piece key) c.deref.ensures.value) in
+    slice_get_read keys (length keys) c.args.piece key refl h.0 (h.1 key) in
     sym (piece_at_key view c.args.file c.args.piece (file_of entry) there ∙ ap (option_map (piece_view view.pieces)) is)
 
 pub returns-clause-held : goal.returns-clause-held
@@ -49,7 +49,7 @@ returns-clause-held c =
     let at : slice_get entries c.args.file ≡ Some entry = ap (λ l. slice_get l c.args.file) (sym c.as_slice.ensures.entries) ∙ sym c.in_ok-file.ensures.entry in
     let there : slice_get view.keyed c.args.file ≡ Some (file_of entry) =
     ap (λ (view : FilesView). slice_get view.keyed c.args.file) (sym c.self.view_is) ∙ slice_get-map file_of entries c.args.file ∙ ap (option_map file_of) at in
-    let h = c.in_ok-at.ensures.lookup.3 in
+    let h = c.in_ok-at.ensures.item.3 in
     let is : slice_get keys c.args.piece ≡ Some key =
-    slice_get_read keys (length keys) c.args.piece key refl (omega (arith, h.0, ap length c.deref.ensures.value)) (h.1 key ∙ ap (λ l. get_or l c.args.piece key) c.deref.ensures.value) in
+    slice_get_read keys (length keys) c.args.piece key refl h.0 (h.1 key) in
     held_there view c.args.file c.args.piece (file_of entry) key c.holds_pieces.ensures there is

@@ -33,14 +33,15 @@ invariant_of-self-2 c =
     let inside = c.self.inside in
     let texts = map (λ (piece : PieceText). piece.text.items) c.in_ok-kept.kept.items in
     let cut = map (λ (piece : Vec ℕ Global). piece.items) c.args.cut.pieces.items in
-    let put : ArePut inside.pieces texts c.in_ok-keys.keys.items c.put_all.new.self = c.in_ok-keys.ensures.ok in
+    let keys = c.from_vec.result in
+    let put : ArePut inside.pieces texts keys.items c.put_all.new.self = subst (λ ks. ArePut inside.pieces texts ks c.put_all.new.self) (sym c.from_vec.ensures.items) c.in_ok-keys.ensures.ok in
     let missing : position (λ key. bytes_eq c.args.name.now key.items) (keys_of inside.files.entries) ≡ None =
     sym (number_is inside.pieces c.args.name.now inside.files.entries) ∙ ap (λ (v : FilesView). file_number (plain v) c.args.name.now) c.self.view_is ∙ c.requires.missing in
     let none : lookup (λ (key : Vec ℕ Global). bytes_eq c.in_ok-name.name.items key.items) c.reserve.new.self.entries ≡ None =
     no_file (λ (key : Vec ℕ Global). bytes_eq c.in_ok-name.name.items key.items) c.reserve.new.self.entries
     (ap (λ (name : List ℕ). position (λ (key : Vec ℕ Global). bytes_eq name key.items) (keys_of c.reserve.new.self.entries)) c.in_ok-name.ensures.items
     ∙ ap (λ es. position (λ (key : Vec ℕ Global). bytes_eq c.args.name.now key.items) (keys_of es)) c.reserve.ensures.entries ∙ missing) in
-    let value : FileText = record { keys = c.in_ok-keys.keys; starts = c.in_ok-starts.starts; tail = c.args.cut.tail; known = c.len-known.result; deleted = 0 } in
+    let value : FileText = record { keys = keys; starts = c.in_ok-starts.starts; tail = c.args.cut.tail; known = c.len-known.result; deleted = 0 } in
     let entries : c.insert.new.self.entries ≡ inside.files.entries ++ (c.in_ok-name.name, value) ∷ [] =
     done_ok c.insert.result c.unwrap.result _ c.unwrap.ensures c.insert.ensures.entries ∙ insert_entry-new (λ x y. bytes_eq x.items y.items) c.reserve.new.self c.in_ok-name.name value none
     ∙ ap (λ (es : List (Vec ℕ Global × FileText)). es ++ (c.in_ok-name.name, value) ∷ []) c.reserve.ensures.entries in
@@ -53,11 +54,11 @@ invariant_of-self-2 c =
       known = omega (arith, c.len-known.ensures, c.in_ok-kept.kept.ok.0, count);
       starts = λ number default le. starts number default (omega (arith, le, c.len-known.ensures, c.in_ok-kept.kept.ok.0, count));
     } in
-    let many : length c.in_ok-keys.keys.items ≡ length texts = put_many inside.pieces c.put_all.new.self texts c.in_ok-keys.keys.items put in
+    let many : length keys.items ≡ length texts = put_many inside.pieces c.put_all.new.self texts keys.items put in
     kept_added inside c.self.invariant e texts c.put_all.new.self put after entries refl refl
     (record {
-      keys = omega (arith, c.in_ok-keys.keys.ok.0, c.in_ok-keys.keys.ok.1);
-      starts = omega (arith, c.in_ok-keys.keys.ok.0, many, length-map c.in_ok-kept.kept.items (λ (piece : PieceText). piece.text.items), c.in_ok-starts.ensures.many, ap length c.deref.ensures.value);
+      keys = omega (arith, c.from_vec.ensures.len, c.from_vec.ensures.capacity, c.in_ok-keys.keys.ok.1);
+      starts = omega (arith, keys.ok.0, many, length-map c.in_ok-kept.kept.items (λ (piece : PieceText). piece.text.items), c.in_ok-starts.ensures.many, ap length c.deref.ensures.value);
     })
     has (tail_of cut c.args.cut.tail.items c.requires.pieces)
     (omega (arith, c.requires.counted, ap (λ (ts : List (List ℕ)). length (concat ts ++ c.args.cut.tail.items)) c.in_ok-kept.ensures.texts)) (omega (arith, held, c.requires.fits))
@@ -67,14 +68,15 @@ returns-clause-ok c =
     let inside = c.self.inside in
     let texts = map (λ (piece : PieceText). piece.text.items) c.in_ok-kept.kept.items in
     let cut = map (λ (piece : Vec ℕ Global). piece.items) c.args.cut.pieces.items in
-    let put : ArePut inside.pieces texts c.in_ok-keys.keys.items c.put_all.new.self = c.in_ok-keys.ensures.ok in
+    let keys = c.from_vec.result in
+    let put : ArePut inside.pieces texts keys.items c.put_all.new.self = subst (λ ks. ArePut inside.pieces texts ks c.put_all.new.self) (sym c.from_vec.ensures.items) c.in_ok-keys.ensures.ok in
     let missing : position (λ key. bytes_eq c.args.name.now key.items) (keys_of inside.files.entries) ≡ None =
     sym (number_is inside.pieces c.args.name.now inside.files.entries) ∙ ap (λ (v : FilesView). file_number (plain v) c.args.name.now) c.self.view_is ∙ c.requires.missing in
     let none : lookup (λ (key : Vec ℕ Global). bytes_eq c.in_ok-name.name.items key.items) c.reserve.new.self.entries ≡ None =
     no_file (λ (key : Vec ℕ Global). bytes_eq c.in_ok-name.name.items key.items) c.reserve.new.self.entries
     (ap (λ (name : List ℕ). position (λ (key : Vec ℕ Global). bytes_eq name key.items) (keys_of c.reserve.new.self.entries)) c.in_ok-name.ensures.items
     ∙ ap (λ es. position (λ (key : Vec ℕ Global). bytes_eq c.args.name.now key.items) (keys_of es)) c.reserve.ensures.entries ∙ missing) in
-    let value : FileText = record { keys = c.in_ok-keys.keys; starts = c.in_ok-starts.starts; tail = c.args.cut.tail; known = c.len-known.result; deleted = 0 } in
+    let value : FileText = record { keys = keys; starts = c.in_ok-starts.starts; tail = c.args.cut.tail; known = c.len-known.result; deleted = 0 } in
     let entries : c.insert.new.self.entries ≡ inside.files.entries ++ (c.in_ok-name.name, value) ∷ [] =
     done_ok c.insert.result c.unwrap.result _ c.unwrap.ensures c.insert.ensures.entries ∙ insert_entry-new (λ x y. bytes_eq x.items y.items) c.reserve.new.self c.in_ok-name.name value none
     ∙ ap (λ (es : List (Vec ℕ Global × FileText)). es ++ (c.in_ok-name.name, value) ∷ []) c.reserve.ensures.entries in

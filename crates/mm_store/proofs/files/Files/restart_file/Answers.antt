@@ -1,5 +1,6 @@
 use Rattle.std.proofs.Common.{◌≡◌, Some, map, refl, sym, ap, ◌∙◌, subst, arith}
-use Rattle.std.specs.Prelude.{slice_get, vec_len, vec_capacity}
+use Rattle.std.specs.Prelude.{slice_get}
+use Rattle.std.specs.VecDeque.{deque_len, deque_capacity}
 use Rattle.std.specs.Option.{option_copied_mut}
 use Rattle.mm_store.specs.Code.Kept.{view_of, file_of, IsKept}
 use Rattle.mm_store.specs.Code.Room.{HasRoom}
@@ -49,8 +50,8 @@ invariant_of-self c = elim c.match-get_index_mut.branch [
       let had = room_at p 0 es n n v (omega arith) c.self.invariant.room here in
       let done = w.restart.ensures in
       let room : HasRoom w.restart.new.self = record {
-        keys = omega (arith, had.room.keys, ap (λ k. vec_len k) done.keys, ap (λ k. vec_capacity k) done.keys, done.deleted);
-        starts = omega (arith, had.room.starts, ap (λ k. vec_len k) done.keys, done.many, done.deleted);
+        keys = omega (arith, had.room.keys, ap (λ k. deque_len k) done.keys, ap (λ k. deque_capacity k) done.keys, done.deleted);
+        starts = omega (arith, had.room.starts, ap (λ k. deque_len k) done.keys, done.many, done.deleted);
       } in
       subst IsKept (sym w.self-inside-is)
       (reserved_kept c.self.inside n v w.restart.new.self here done.tail (ap (λ k. k.items) done.keys) p refl done.deleted room (λ knows. done.starts) c.self.invariant)
