@@ -20,11 +20,11 @@ pub fn is_white_space(byte: u8) -> bool
 }
 
 /// Whether a text may hold this byte.
-#[tactic(auto, unfolding(crate::specs::Language::Reading::is_allowed))]
+#[tactic(auto, unfolding(crate::specs::Language::Reading::is_allowed, crate::specs::Language::Run::is_white))]
 pub fn is_text_byte(byte: u8) -> bool
     ensures { result ≡ is_allowed byte }
 {
-    is_white_space(byte) || matches!(byte, 0x21..=0x7e)
+    matches!(byte, b' '..=b'~') || (matches!(byte, b'\t'..=b'\r') && byte != 0x0b)
 }
 
 /// How much white space these bytes begin with.
