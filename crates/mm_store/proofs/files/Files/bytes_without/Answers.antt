@@ -23,7 +23,6 @@ unwrap-requires c =
     let at = c.args.at in
     let es = c.self.inside.files.entries in
     let fs : List KeyedFile = map file_of es in
-    let p = c.self.inside.pieces in
     let there = subst (λ (view : FilesView). at < length (keys_in view.keyed n)) (sym c.self.view_is) c.requires in
     c.get_index.ensures.found.1 (omega (arith, in_files fs n at there, length-map es (file_of {Y = Global}), ap length c.as_slice.ensures.entries))
 
@@ -32,8 +31,6 @@ index-requires c =
     let n = c.args.number in
     let at = c.args.at in
     let es = c.self.inside.files.entries in
-    let fs : List KeyedFile = map file_of es in
-    let p = c.self.inside.pieces in
     let there = subst (λ (view : FilesView). at < length (keys_in view.keyed n)) (sym c.self.view_is) c.requires in
     let v = c.unwrap.result.1.now in
     let entry : slice_get es n ≡ Some (c.unwrap.result.0.now, v) = ap (λ xs. slice_get xs n) (sym c.as_slice.ensures.entries) ∙ sym c.get_index.ensures.entry ∙ ap (option_map deref_pair) c.unwrap.ensures in

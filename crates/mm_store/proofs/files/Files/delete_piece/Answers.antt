@@ -29,11 +29,8 @@ pub unwrap-file-requires : goal.unwrap-file-requires
 unwrap-file-requires c =
     let n = c.args.number in
     let at = c.args.at in
-    let inside = c.self.inside in
     let es = c.self.inside.files.entries in
     let fs : List KeyedFile = map file_of es in
-    let p = c.self.inside.pieces in
-    let once = c.self.invariant.once in
     let there = subst (λ (view : FilesView). at < length (keys_in view.keyed n)) (sym c.self.view_is) c.requires.there in
     c.get_index_mut.ensures.found.1 (omega (arith, in_files fs n at there, length-map es (file_of {Y = Global})))
 
@@ -41,40 +38,27 @@ pub delete_key-old-requires-clause-there : goal.delete_key-old-requires-clause-t
 delete_key-old-requires-clause-there c =
     let n = c.args.number in
     let at = c.args.at in
-    let inside = c.self.inside in
     let es = c.self.inside.files.entries in
-    let fs : List KeyedFile = map file_of es in
-    let p = c.self.inside.pieces in
-    let once = c.self.invariant.once in
     let there = subst (λ (view : FilesView). at < length (keys_in view.keyed n)) (sym c.self.view_is) c.requires.there in
     let v = c.unwrap-file.result.now in
     let here : slice_get (texts_of es) n ≡ Some v = sym c.get_index_mut.ensures.value ∙ ap option_copied_mut c.unwrap-file.ensures in
     let keys = keys_at es n v here in
-    let had = room_at p 0 es n n v (omega arith) c.self.invariant.room here in
-    let less : bytes_of (map (plain_file p) fs) ≡ c.self.inside.bytes = sym c.self.invariant.counted in
     omega (arith, ap length keys, v.keys.ok.0, there)
 
 pub delete_key-old-requires-clause-room : goal.delete_key-old-requires-clause-room
 delete_key-old-requires-clause-room c =
     let n = c.args.number in
-    let at = c.args.at in
-    let inside = c.self.inside in
     let es = c.self.inside.files.entries in
-    let fs : List KeyedFile = map file_of es in
     let p = c.self.inside.pieces in
-    let once = c.self.invariant.once in
     let v = c.unwrap-file.result.now in
     let here : slice_get (texts_of es) n ≡ Some v = sym c.get_index_mut.ensures.value ∙ ap option_copied_mut c.unwrap-file.ensures in
-    let keys = keys_at es n v here in
     let had = room_at p 0 es n n v (omega arith) c.self.invariant.room here in
-    let less : bytes_of (map (plain_file p) fs) ≡ c.self.inside.bytes = sym c.self.invariant.counted in
     had.room
 
 pub set_state-less-requires : goal.set_state-less-requires
 set_state-less-requires c =
     let n = c.args.number in
     let at = c.args.at in
-    let inside = c.self.inside in
     let es = c.self.inside.files.entries in
     let fs : List KeyedFile = map file_of es in
     let p = c.self.inside.pieces in
@@ -83,10 +67,6 @@ set_state-less-requires c =
     let v = c.unwrap-file.result.now in
     let here : slice_get (texts_of es) n ≡ Some v = sym c.get_index_mut.ensures.value ∙ ap option_copied_mut c.unwrap-file.ensures in
     let keys = keys_at es n v here in
-    let had = room_at p 0 es n n v (omega arith) c.self.invariant.room here in
-    let less : bytes_of (map (plain_file p) fs) ≡ c.self.inside.bytes = sym c.self.invariant.counted in
-    let w = c.delete_key-old.new.self in
-    let items : w.keys.items ≡ remove (keys_in fs n) at = c.delete_key-old.ensures.items ∙ ap (λ ks. remove ks at) (sym keys) in
     let old : c.delete_key-old.result ≡ get_or (keys_in fs n) at 0 = c.delete_key-old.ensures.value ∙ ap (λ ks. get_or ks at 0) (sym keys) in
     ap (λ q. is_some (finite.get p q)) old ∙ lemmas.here_is_some fs p n at once there
 
@@ -94,21 +74,15 @@ pub overflow_sub-self : goal.overflow_sub-self
 overflow_sub-self c =
     let n = c.args.number in
     let at = c.args.at in
-    let inside = c.self.inside in
     let es = c.self.inside.files.entries in
     let fs : List KeyedFile = map file_of es in
     let p = c.self.inside.pieces in
-    let once = c.self.invariant.once in
     let there = subst (λ (view : FilesView). at < length (keys_in view.keyed n)) (sym c.self.view_is) c.requires.there in
     let v = c.unwrap-file.result.now in
     let here : slice_get (texts_of es) n ≡ Some v = sym c.get_index_mut.ensures.value ∙ ap option_copied_mut c.unwrap-file.ensures in
     let keys = keys_at es n v here in
-    let had = room_at p 0 es n n v (omega arith) c.self.invariant.room here in
     let less : bytes_of (map (plain_file p) fs) ≡ c.self.inside.bytes = sym c.self.invariant.counted in
-    let w = c.delete_key-old.new.self in
-    let items : w.keys.items ≡ remove (keys_in fs n) at = c.delete_key-old.ensures.items ∙ ap (λ ks. remove ks at) (sym keys) in
     let old : c.delete_key-old.result ≡ get_or (keys_in fs n) at 0 = c.delete_key-old.ensures.value ∙ ap (λ ks. get_or ks at 0) (sym keys) in
-    let p2 : c.set_state-less.new.self ≡ with_state p (get_or (keys_in fs n) at 0) (Parked n Deleted) = c.set_state-less.ensures.pieces ∙ ap (λ q. with_state p q (Parked n Deleted)) old in
     let text : c.set_state-less.result ≡ length (text_under p (get_or (keys_in fs n) at 0)) = c.set_state-less.ensures.len ∙ ap (λ q. length (text_under p q)) old in
     omega (arith, text, less, text_within p fs n at there)
 
@@ -150,17 +124,13 @@ returns c =
     let es = c.self.inside.files.entries in
     let fs : List KeyedFile = map file_of es in
     let p = c.self.inside.pieces in
-    let once = c.self.invariant.once in
     let v = c.unwrap-file.result.now in
     let here : slice_get (texts_of es) n ≡ Some v = sym c.get_index_mut.ensures.value ∙ ap option_copied_mut c.unwrap-file.ensures in
     let keys = keys_at es n v here in
-    let had = room_at p 0 es n n v (omega arith) c.self.invariant.room here in
-    let less : bytes_of (map (plain_file p) fs) ≡ c.self.inside.bytes = sym c.self.invariant.counted in
     let w = c.delete_key-old.new.self in
     let items : w.keys.items ≡ remove (keys_in fs n) at = c.delete_key-old.ensures.items ∙ ap (λ ks. remove ks at) (sym keys) in
     let old : c.delete_key-old.result ≡ get_or (keys_in fs n) at 0 = c.delete_key-old.ensures.value ∙ ap (λ ks. get_or ks at 0) (sym keys) in
     let p2 : c.set_state-less.new.self ≡ with_state p (get_or (keys_in fs n) at 0) (Parked n Deleted) = c.set_state-less.ensures.pieces ∙ ap (λ q. with_state p q (Parked n Deleted)) old in
-    let text : c.set_state-less.result ≡ length (text_under p (get_or (keys_in fs n) at 0)) = c.set_state-less.ensures.len ∙ ap (λ q. length (text_under p q)) old in
     let once_now = subst (λ (view : FilesView). (q : ℕ) → places q view.keyed ≡ standing_count (finite.get view.pieces q)) c.self.view_is c.self.invariant.once in
     let small_now = subst (λ (view : FilesView). bytes_of (plain view) ≤ 4294967295) c.self.view_is (omega (arith, c.self.invariant.counted, c.self.invariant.within)) in
     let is = view_after inside n v w here c.delete_key-old.ensures.tail (remove (keys_in fs n) at) items c.set_state-less.new.self

@@ -24,7 +24,6 @@ use Rattle.mm_store.specs.Language.Undoing.{keys_in}
 pub unwrap-file-requires : goal.unwrap-file-requires
 unwrap-file-requires c =
     let n = c.args.number in
-    let inside = c.self.inside in
     let es = c.self.inside.files.entries in
     let fs : List KeyedFile = map file_of es in
     let p = c.self.inside.pieces in
@@ -35,7 +34,6 @@ unwrap-file-requires c =
 pub forget_deleted-requires : goal.forget_deleted-requires
 forget_deleted-requires c =
     let n = c.args.number in
-    let inside = c.self.inside in
     let es = c.self.inside.files.entries in
     let fs : List KeyedFile = map file_of es in
     let p = c.self.inside.pieces in
@@ -43,9 +41,7 @@ forget_deleted-requires c =
     let is_parked = subst (λ (view : FilesView). IsParked view.pieces c.args.old n Deleted) (sym c.self.view_is) c.requires in
     let v = c.unwrap-file.result.now in
     let here : slice_get (texts_of es) n ≡ Some v = sym c.get_index_mut.ensures.value ∙ ap option_copied_mut c.unwrap-file.ensures in
-    let keys = keys_at es n v here in
     let had = room_at p 0 es n n v (omega arith) c.self.invariant.room here in
-    let less : bytes_of (map (plain_file p) fs) ≡ c.self.inside.bytes = sym c.self.invariant.counted in
     omega (arith, had.parked, lemmas.settled_here fs p n 0 once c.args.old is_parked)
 
 pub invariant_of-self : goal.invariant_of-self
@@ -61,7 +57,6 @@ invariant_of-self c =
     let here : slice_get (texts_of es) n ≡ Some v = sym c.get_index_mut.ensures.value ∙ ap option_copied_mut c.unwrap-file.ensures in
     let keys = keys_at es n v here in
     let had = room_at p 0 es n n v (omega arith) c.self.invariant.room here in
-    let less : bytes_of (map (plain_file p) fs) ≡ c.self.inside.bytes = sym c.self.invariant.counted in
     let w = c.forget_deleted.new.self in
     let items : w.keys.items ≡ keys_in fs n = ap (λ k. k.items) c.forget_deleted.ensures.keys ∙ sym keys in
     let same = with_same fs n in
@@ -88,12 +83,9 @@ returns c =
     let es = c.self.inside.files.entries in
     let fs : List KeyedFile = map file_of es in
     let p = c.self.inside.pieces in
-    let once = c.self.invariant.once in
     let v = c.unwrap-file.result.now in
     let here : slice_get (texts_of es) n ≡ Some v = sym c.get_index_mut.ensures.value ∙ ap option_copied_mut c.unwrap-file.ensures in
     let keys = keys_at es n v here in
-    let had = room_at p 0 es n n v (omega arith) c.self.invariant.room here in
-    let less : bytes_of (map (plain_file p) fs) ≡ c.self.inside.bytes = sym c.self.invariant.counted in
     let w = c.forget_deleted.new.self in
     let items : w.keys.items ≡ keys_in fs n = ap (λ k. k.items) c.forget_deleted.ensures.keys ∙ sym keys in
     view_after inside n v w here c.forget_deleted.ensures.tail (keys_in fs n) items c.drop_piece.new.self (finite.remove p c.args.old) c.drop_piece.ensures.pieces c.self.inside.bytes

@@ -25,11 +25,8 @@ pub unwrap-file-requires : goal.unwrap-file-requires
 unwrap-file-requires c =
     let n = c.args.number in
     let at = c.args.at in
-    let inside = c.self.inside in
     let es = c.self.inside.files.entries in
     let fs : List KeyedFile = map file_of es in
-    let p = c.self.inside.pieces in
-    let once = c.self.invariant.once in
     let there = subst (λ (view : FilesView). at < length (keys_in view.keyed n)) (sym c.self.view_is) c.requires.there in
     c.get_index_mut.ensures.found.1 (omega (arith, in_files fs n at there, length-map es (file_of {Y = Global})))
 
@@ -37,51 +34,31 @@ pub move_key-requires-clause-there : goal.move_key-requires-clause-there
 move_key-requires-clause-there c =
     let n = c.args.number in
     let at = c.args.at in
-    let inside = c.self.inside in
     let es = c.self.inside.files.entries in
-    let fs : List KeyedFile = map file_of es in
-    let p = c.self.inside.pieces in
-    let once = c.self.invariant.once in
     let there = subst (λ (view : FilesView). at < length (keys_in view.keyed n)) (sym c.self.view_is) c.requires.there in
     let v = c.unwrap-file.result.now in
     let here : slice_get (texts_of es) n ≡ Some v = sym c.get_index_mut.ensures.value ∙ ap option_copied_mut c.unwrap-file.ensures in
     let keys = keys_at es n v here in
-    let had = room_at p 0 es n n v (omega arith) c.self.invariant.room here in
-    let less : bytes_of (map (plain_file p) fs) ≡ c.self.inside.bytes = sym c.self.invariant.counted in
     omega (arith, ap length keys, v.keys.ok.0, there)
 
 pub move_key-requires-clause-there_too : goal.move_key-requires-clause-there_too
 move_key-requires-clause-there_too c =
     let n = c.args.number in
-    let at = c.args.at in
-    let inside = c.self.inside in
     let es = c.self.inside.files.entries in
-    let fs : List KeyedFile = map file_of es in
-    let p = c.self.inside.pieces in
-    let once = c.self.invariant.once in
-    let there = subst (λ (view : FilesView). at < length (keys_in view.keyed n)) (sym c.self.view_is) c.requires.there in
     let v = c.unwrap-file.result.now in
     let here : slice_get (texts_of es) n ≡ Some v = sym c.get_index_mut.ensures.value ∙ ap option_copied_mut c.unwrap-file.ensures in
     let keys = keys_at es n v here in
-    let had = room_at p 0 es n n v (omega arith) c.self.invariant.room here in
-    let less : bytes_of (map (plain_file p) fs) ≡ c.self.inside.bytes = sym c.self.invariant.counted in
     let too = subst (λ (view : FilesView). c.args.to < length (keys_in view.keyed n)) (sym c.self.view_is) c.requires.there_too in
     omega (arith, ap length keys, v.keys.ok.0, too)
 
 pub move_key-requires-clause-room : goal.move_key-requires-clause-room
 move_key-requires-clause-room c =
     let n = c.args.number in
-    let at = c.args.at in
-    let inside = c.self.inside in
     let es = c.self.inside.files.entries in
-    let fs : List KeyedFile = map file_of es in
     let p = c.self.inside.pieces in
-    let once = c.self.invariant.once in
     let v = c.unwrap-file.result.now in
     let here : slice_get (texts_of es) n ≡ Some v = sym c.get_index_mut.ensures.value ∙ ap option_copied_mut c.unwrap-file.ensures in
-    let keys = keys_at es n v here in
     let had = room_at p 0 es n n v (omega arith) c.self.invariant.room here in
-    let less : bytes_of (map (plain_file p) fs) ≡ c.self.inside.bytes = sym c.self.invariant.counted in
     had.room
 
 pub invariant_of-self : goal.invariant_of-self
@@ -118,12 +95,9 @@ returns c =
     let es = c.self.inside.files.entries in
     let fs : List KeyedFile = map file_of es in
     let p = c.self.inside.pieces in
-    let once = c.self.invariant.once in
     let v = c.unwrap-file.result.now in
     let here : slice_get (texts_of es) n ≡ Some v = sym c.get_index_mut.ensures.value ∙ ap option_copied_mut c.unwrap-file.ensures in
     let keys = keys_at es n v here in
-    let had = room_at p 0 es n n v (omega arith) c.self.invariant.room here in
-    let less : bytes_of (map (plain_file p) fs) ≡ c.self.inside.bytes = sym c.self.invariant.counted in
     let w = c.move_key.new.self in
     let items : w.keys.items ≡ moved_list (keys_in fs n) at c.args.to = c.move_key.ensures.items ∙ ap (λ ks. moved_list ks at c.args.to) (sym keys) in
     let once_now = subst (λ (view : FilesView). (q : ℕ) → places q view.keyed ≡ standing_count (finite.get view.pieces q)) c.self.view_is c.self.invariant.once in

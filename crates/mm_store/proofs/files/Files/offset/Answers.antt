@@ -24,7 +24,6 @@ start-requires-clause-there c =
     let v = c.unwrap.result.1.now in
     let entry : Vec ℕ Global × FileText = (c.unwrap.result.0.now, v) in
     let there : slice_get es c.args.file ≡ Some entry = ap (λ es. slice_get es c.args.file) (sym c.as_slice.ensures.entries) ∙ sym c.get_index.ensures.entry ∙ ap (option_map deref_pair) c.unwrap.ensures in
-    let here : slice_get (texts_of es) c.args.file ≡ Some v = slice_get-map (λ (e : Vec ℕ Global × FileText). e.1) es c.args.file ∙ ap (option_map (λ (e : Vec ℕ Global × FileText). e.1)) there in
     let found = byte_in p es c.args.file entry there c.args.self.now c.self.view_is c.args.piece c.args.at c.requires.0 c.requires.1 c.requires.2 in
     omega (arith, found.piece_in, length-map v.keys.items (text_under p), v.keys.ok.0)
 
@@ -85,10 +84,6 @@ returns c text offset byte =
     let v = c.unwrap.result.1.now in
     let entry : Vec ℕ Global × FileText = (c.unwrap.result.0.now, v) in
     let there : slice_get es c.args.file ≡ Some entry = ap (λ es. slice_get es c.args.file) (sym c.as_slice.ensures.entries) ∙ sym c.get_index.ensures.entry ∙ ap (option_map deref_pair) c.unwrap.ensures in
-    let here : slice_get (texts_of es) c.args.file ≡ Some v = slice_get-map (λ (e : Vec ℕ Global × FileText). e.1) es c.args.file ∙ ap (option_map (λ (e : Vec ℕ Global × FileText). e.1)) there in
-    let small : length (concat (map (text_under p) v.keys.items)) ≤ 4294967295 = omega (arith, file_small p (map file_of es) c.args.file v.keys.items (keys_at es c.args.file v here), c.self.invariant.counted, c.self.invariant.within) in
-    let texts = map (text_under p) v.keys.items in
-    let found = byte_in p es c.args.file entry there c.args.self.now c.self.view_is c.args.piece c.args.at text offset byte in
     let start = c.start.ensures in
     let is = offset_in p es c.args.file entry there c.args.self.now c.self.view_is c.args.piece c.args.at text offset byte in
     omega (arith, is, start.bytes)

@@ -26,7 +26,6 @@ lines_at-requires-clause-starts c =
     let there : slice_get es c.args.file ≡ Some entry = ap (λ es. slice_get es c.args.file) (sym c.as_slice.ensures.entries) ∙ sym c.get_index.ensures.entry ∙ ap (option_map deref_pair) c.unwrap.ensures in
     let here : slice_get (texts_of es) c.args.file ≡ Some v = slice_get-map (λ (e : Vec ℕ Global × FileText). e.1) es c.args.file ∙ ap (option_map (λ (e : Vec ℕ Global × FileText). e.1)) there in
     let starts = starts_here p p es c.args.file v c.self.invariant.starts here refl in
-    let small : length (concat (map (text_under p) v.keys.items)) ≤ 4294967295 = omega (arith, file_small p (map file_of es) c.args.file v.keys.items (keys_at es c.args.file v here), c.self.invariant.counted, c.self.invariant.within) in
     starts
 
 pub lines_at-requires-clause-room : goal.lines_at-requires-clause-room
@@ -50,7 +49,6 @@ lines_at-requires-clause-small c =
     let entry : Vec ℕ Global × FileText = (c.unwrap.result.0.now, v) in
     let there : slice_get es c.args.file ≡ Some entry = ap (λ es. slice_get es c.args.file) (sym c.as_slice.ensures.entries) ∙ sym c.get_index.ensures.entry ∙ ap (option_map deref_pair) c.unwrap.ensures in
     let here : slice_get (texts_of es) c.args.file ≡ Some v = slice_get-map (λ (e : Vec ℕ Global × FileText). e.1) es c.args.file ∙ ap (option_map (λ (e : Vec ℕ Global × FileText). e.1)) there in
-    let starts = starts_here p p es c.args.file v c.self.invariant.starts here refl in
     let small : length (concat (map (text_under p) v.keys.items)) ≤ 4294967295 = omega (arith, file_small p (map file_of es) c.args.file v.keys.items (keys_at es c.args.file v here), c.self.invariant.counted, c.self.invariant.within) in
     small
 
@@ -62,7 +60,6 @@ lines_at-requires-clause-piece_in c =
     let v = c.unwrap.result.1.now in
     let entry : Vec ℕ Global × FileText = (c.unwrap.result.0.now, v) in
     let there : slice_get es c.args.file ≡ Some entry = ap (λ es. slice_get es c.args.file) (sym c.as_slice.ensures.entries) ∙ sym c.get_index.ensures.entry ∙ ap (option_map deref_pair) c.unwrap.ensures in
-    let here : slice_get (texts_of es) c.args.file ≡ Some v = slice_get-map (λ (e : Vec ℕ Global × FileText). e.1) es c.args.file ∙ ap (option_map (λ (e : Vec ℕ Global × FileText). e.1)) there in
     let found = byte_in p es c.args.file entry there c.args.self.now c.self.view_is c.args.piece c.args.at c.requires.0 c.requires.1 c.requires.2 in
     omega (arith, found.piece_in, length-map v.keys.items (text_under p))
 
@@ -74,7 +71,6 @@ lines_at-requires-clause-within c =
     let v = c.unwrap.result.1.now in
     let entry : Vec ℕ Global × FileText = (c.unwrap.result.0.now, v) in
     let there : slice_get es c.args.file ≡ Some entry = ap (λ es. slice_get es c.args.file) (sym c.as_slice.ensures.entries) ∙ sym c.get_index.ensures.entry ∙ ap (option_map deref_pair) c.unwrap.ensures in
-    let here : slice_get (texts_of es) c.args.file ≡ Some v = slice_get-map (λ (e : Vec ℕ Global × FileText). e.1) es c.args.file ∙ ap (option_map (λ (e : Vec ℕ Global × FileText). e.1)) there in
     let found = byte_in p es c.args.file entry there c.args.self.now c.self.view_is c.args.piece c.args.at c.requires.0 c.requires.1 c.requires.2 in
     found.within
 
@@ -86,7 +82,6 @@ returns-clause-line c text offset byte =
     let v = c.unwrap.result.1.now in
     let entry : Vec ℕ Global × FileText = (c.unwrap.result.0.now, v) in
     let there : slice_get es c.args.file ≡ Some entry = ap (λ es. slice_get es c.args.file) (sym c.as_slice.ensures.entries) ∙ sym c.get_index.ensures.entry ∙ ap (option_map deref_pair) c.unwrap.ensures in
-    let here : slice_get (texts_of es) c.args.file ≡ Some v = slice_get-map (λ (e : Vec ℕ Global × FileText). e.1) es c.args.file ∙ ap (option_map (λ (e : Vec ℕ Global × FileText). e.1)) there in
     let found = byte_in p es c.args.file entry there c.args.self.now c.self.view_is c.args.piece c.args.at text offset byte in
     c.place.ensures.line ∙ ap (λ n. n + 1) (c.lines_at.ensures.feeds ∙ ap (count_by is_line_feed) (sym found.is_before))
 
@@ -98,6 +93,5 @@ returns-clause-column c text offset byte =
     let v = c.unwrap.result.1.now in
     let entry : Vec ℕ Global × FileText = (c.unwrap.result.0.now, v) in
     let there : slice_get es c.args.file ≡ Some entry = ap (λ es. slice_get es c.args.file) (sym c.as_slice.ensures.entries) ∙ sym c.get_index.ensures.entry ∙ ap (option_map deref_pair) c.unwrap.ensures in
-    let here : slice_get (texts_of es) c.args.file ≡ Some v = slice_get-map (λ (e : Vec ℕ Global × FileText). e.1) es c.args.file ∙ ap (option_map (λ (e : Vec ℕ Global × FileText). e.1)) there in
     let found = byte_in p es c.args.file entry there c.args.self.now c.self.view_is c.args.piece c.args.at text offset byte in
     c.place.ensures.column ∙ ap (λ n. n + 1) (c.lines_at.ensures.behind ∙ ap (λ before. length (after_last is_line_feed before)) (sym found.is_before))

@@ -4,9 +4,8 @@ use Rattle.std.proofs.Common.{◌≡◌, ℕ, ◌+◌, ◌-◌, ◌<◌, ◌≤�
 use Rattle.std.specs.Prelude.{slice_get}
 use Rattle.std.specs.Option.{option_copied_mut}
 use Rattle.std.specs.FinMap as finite
-use Rattle.indexmap.specs.IndexMap.{set_value_at}
 use Rattle.mm_store.specs.Language.Undoing as action
-use Rattle.mm_store.proofs.lemmas.files.EntryLemmas.{texts_of, keys_at, view_set, room_at}
+use Rattle.mm_store.proofs.lemmas.files.EntryLemmas.{texts_of, keys_at, room_at}
 use Rattle.mm_store.proofs.lemmas.files.ListLemmas.{in_files, text_within}
 use Rattle.mm_store.proofs.lemmas.edits.UndoLemmas.{is_replaced}
 use Rattle.mm_store.proofs.lemmas.files.KeptLemmas.{view_after}
@@ -37,56 +36,21 @@ pub replace_key-old-requires-clause-there : goal.replace_key-old-requires-clause
 replace_key-old-requires-clause-there c =
     let n = c.args.number in
     let at = c.args.at in
-    let k = c.in_ok-key.key in
-    let t = c.args.kept.text.items in
-    let inside = c.self.inside in
     let es = c.self.inside.files.entries in
-    let fs : List KeyedFile = map file_of es in
-    let p = c.self.inside.pieces in
-    let once = c.self.invariant.once in
-    let fresh = c.in_ok-key.ensures.fresh in
     let there = subst (λ (v : FilesView). at < length (keys_in v.keyed n)) (sym c.self.view_is) c.requires.there in
     let v = c.unwrap-file.result.now in
     let here : slice_get (texts_of es) n ≡ Some v = sym c.get_index_mut.ensures.value ∙ ap option_copied_mut c.unwrap-file.ensures in
     let keys = keys_at es n v here in
-    let had = room_at p 0 es n n v (omega arith) c.self.invariant.room here in
-    let p1 = finite.insert p k (standing_piece t) in
-    let p2 = with_state p1 (get_or (keys_in fs n) at 0) (Parked n Replaced) in
-    let newkeys = set (keys_in fs n) at k in
-    let members = set (pieces_in (map (plain_file p) fs) n) at t in
-    let means : map (plain_file p2) (with_keys fs n newkeys) ≡ with_pieces (map (plain_file p) fs) n members = lemmas.plain_replaced fs p n at k t once there fresh in
-    let allowed = subst (λ v. bytes_of (with_pieces (plain v) n (set (pieces_in (plain v) n) at t)) ≤ 4294967295) (sym c.self.view_is) c.requires.within in
-    let small : bytes_of (map (plain_file p2) (with_keys fs n newkeys)) ≤ 4294967295 = omega (arith, allowed, ap bytes_of means) in
-    let same = lemmas.texts_replaced fs p n at k t once there fresh in
-    let file = in_files fs n at there in
     omega (arith, ap length keys, v.keys.ok.0, there)
 
 pub replace_key-old-requires-clause-room : goal.replace_key-old-requires-clause-room
 replace_key-old-requires-clause-room c =
     let n = c.args.number in
-    let at = c.args.at in
-    let k = c.in_ok-key.key in
-    let t = c.args.kept.text.items in
-    let inside = c.self.inside in
     let es = c.self.inside.files.entries in
-    let fs : List KeyedFile = map file_of es in
     let p = c.self.inside.pieces in
-    let once = c.self.invariant.once in
-    let fresh = c.in_ok-key.ensures.fresh in
-    let there = subst (λ (v : FilesView). at < length (keys_in v.keyed n)) (sym c.self.view_is) c.requires.there in
     let v = c.unwrap-file.result.now in
     let here : slice_get (texts_of es) n ≡ Some v = sym c.get_index_mut.ensures.value ∙ ap option_copied_mut c.unwrap-file.ensures in
-    let keys = keys_at es n v here in
     let had = room_at p 0 es n n v (omega arith) c.self.invariant.room here in
-    let p1 = finite.insert p k (standing_piece t) in
-    let p2 = with_state p1 (get_or (keys_in fs n) at 0) (Parked n Replaced) in
-    let newkeys = set (keys_in fs n) at k in
-    let members = set (pieces_in (map (plain_file p) fs) n) at t in
-    let means : map (plain_file p2) (with_keys fs n newkeys) ≡ with_pieces (map (plain_file p) fs) n members = lemmas.plain_replaced fs p n at k t once there fresh in
-    let allowed = subst (λ v. bytes_of (with_pieces (plain v) n (set (pieces_in (plain v) n) at t)) ≤ 4294967295) (sym c.self.view_is) c.requires.within in
-    let small : bytes_of (map (plain_file p2) (with_keys fs n newkeys)) ≤ 4294967295 = omega (arith, allowed, ap bytes_of means) in
-    let same = lemmas.texts_replaced fs p n at k t once there fresh in
-    let file = in_files fs n at there in
     had.room
 
 pub set_state-less-requires : goal.set_state-less-requires
@@ -178,8 +142,6 @@ returns-clause-ok c =
     let old : c.replace_key-old.result ≡ get_or (keys_in fs n) at 0 = c.replace_key-old.ensures.value ∙ ap (λ ks. get_or ks at 0) (sym keys) in
     let p2 : c.set_state-less.new.self ≡ with_state (finite.insert c.self.inside.pieces k (standing_piece t)) (get_or (keys_in fs n) at 0) (Parked n Replaced) =
     c.set_state-less.ensures.pieces ∙ ap (λ q. with_state c.put.new.self q (Parked n Replaced)) old ∙ ap (λ p. with_state p (get_or (keys_in fs n) at 0) (Parked n Replaced)) c.in_ok-key.ensures.ok in
-    let files : map file_of (set_value_at es n w) ≡ with_keys fs n (set (keys_in fs n) at k) =
-    view_set es n v w here c.replace_key-old.ensures.tail ∙ ap (with_keys fs n) (c.replace_key-old.ensures.items ∙ ap (λ ks. set ks at k) (sym keys)) in
     let once_now = subst (λ (view : FilesView). (q : ℕ) → places q view.keyed ≡ standing_count (finite.get view.pieces q)) c.self.view_is c.self.invariant.once in
     let small_now = subst (λ (view : FilesView). bytes_of (plain view) ≤ 4294967295) c.self.view_is (omega (arith, c.self.invariant.counted, c.self.invariant.within)) in
     let items : w.keys.items ≡ set (keys_in fs n) at k = c.replace_key-old.ensures.items ∙ ap (λ ks. set ks at k) (sym keys) in

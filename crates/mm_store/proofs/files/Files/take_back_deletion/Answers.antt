@@ -24,12 +24,10 @@ pub unwrap-file-requires : goal.unwrap-file-requires
 unwrap-file-requires c =
     let n = c.args.number in
     let at = c.args.at in
-    let inside = c.self.inside in
     let es = c.self.inside.files.entries in
     let fs : List KeyedFile = map file_of es in
     let p = c.self.inside.pieces in
     let once = c.self.invariant.once in
-    let within_keys = subst (λ (view : FilesView). at ≤ length (keys_in view.keyed n)) (sym c.self.view_is) c.requires.fits.0 in
     let is_parked = subst (λ (view : FilesView). IsParked view.pieces c.args.old n Deleted) (sym c.self.view_is) c.requires.fits.1 in
     let file : n < length fs = omega (arith, below_bound n (length es) (deletions n p) (c.self.invariant.known n) (omega (arith, lemmas.restored_here fs p n at once c.args.old is_parked)), length-map es (file_of {Y = Global})) in
     c.get_index_mut.ensures.found.1 (omega (arith, file, length-map es (file_of {Y = Global})))
@@ -38,90 +36,60 @@ pub restore_key-requires-clause-there : goal.restore_key-requires-clause-there
 restore_key-requires-clause-there c =
     let n = c.args.number in
     let at = c.args.at in
-    let inside = c.self.inside in
     let es = c.self.inside.files.entries in
-    let fs : List KeyedFile = map file_of es in
-    let p = c.self.inside.pieces in
-    let once = c.self.invariant.once in
     let within_keys = subst (λ (view : FilesView). at ≤ length (keys_in view.keyed n)) (sym c.self.view_is) c.requires.fits.0 in
-    let is_parked = subst (λ (view : FilesView). IsParked view.pieces c.args.old n Deleted) (sym c.self.view_is) c.requires.fits.1 in
-    let file : n < length fs = omega (arith, below_bound n (length es) (deletions n p) (c.self.invariant.known n) (omega (arith, lemmas.restored_here fs p n at once c.args.old is_parked)), length-map es (file_of {Y = Global})) in
     let v = c.unwrap-file.result.now in
     let here : slice_get (texts_of es) n ≡ Some v = sym c.get_index_mut.ensures.value ∙ ap option_copied_mut c.unwrap-file.ensures in
     let keys = keys_at es n v here in
-    let had = room_at p 0 es n n v (omega arith) c.self.invariant.room here in
-    let less : bytes_of (map (plain_file p) fs) ≡ c.self.inside.bytes = sym c.self.invariant.counted in
     omega (arith, ap length keys, v.keys.ok.0, within_keys)
 
 pub restore_key-requires-clause-parked : goal.restore_key-requires-clause-parked
 restore_key-requires-clause-parked c =
     let n = c.args.number in
     let at = c.args.at in
-    let inside = c.self.inside in
     let es = c.self.inside.files.entries in
     let fs : List KeyedFile = map file_of es in
     let p = c.self.inside.pieces in
     let once = c.self.invariant.once in
-    let within_keys = subst (λ (view : FilesView). at ≤ length (keys_in view.keyed n)) (sym c.self.view_is) c.requires.fits.0 in
     let is_parked = subst (λ (view : FilesView). IsParked view.pieces c.args.old n Deleted) (sym c.self.view_is) c.requires.fits.1 in
-    let file : n < length fs = omega (arith, below_bound n (length es) (deletions n p) (c.self.invariant.known n) (omega (arith, lemmas.restored_here fs p n at once c.args.old is_parked)), length-map es (file_of {Y = Global})) in
     let v = c.unwrap-file.result.now in
     let here : slice_get (texts_of es) n ≡ Some v = sym c.get_index_mut.ensures.value ∙ ap option_copied_mut c.unwrap-file.ensures in
-    let keys = keys_at es n v here in
     let had = room_at p 0 es n n v (omega arith) c.self.invariant.room here in
-    let less : bytes_of (map (plain_file p) fs) ≡ c.self.inside.bytes = sym c.self.invariant.counted in
     omega (arith, had.parked, lemmas.restored_here fs p n at once c.args.old is_parked)
 
 pub restore_key-requires-clause-room : goal.restore_key-requires-clause-room
 restore_key-requires-clause-room c =
     let n = c.args.number in
-    let at = c.args.at in
-    let inside = c.self.inside in
     let es = c.self.inside.files.entries in
-    let fs : List KeyedFile = map file_of es in
     let p = c.self.inside.pieces in
-    let once = c.self.invariant.once in
     let v = c.unwrap-file.result.now in
     let here : slice_get (texts_of es) n ≡ Some v = sym c.get_index_mut.ensures.value ∙ ap option_copied_mut c.unwrap-file.ensures in
-    let keys = keys_at es n v here in
     let had = room_at p 0 es n n v (omega arith) c.self.invariant.room here in
-    let less : bytes_of (map (plain_file p) fs) ≡ c.self.inside.bytes = sym c.self.invariant.counted in
     had.room
 
 pub set_state-more-requires : goal.set_state-more-requires
 set_state-more-requires c =
     let n = c.args.number in
     let at = c.args.at in
-    let inside = c.self.inside in
     let es = c.self.inside.files.entries in
     let fs : List KeyedFile = map file_of es in
     let p = c.self.inside.pieces in
     let once = c.self.invariant.once in
-    let within_keys = subst (λ (view : FilesView). at ≤ length (keys_in view.keyed n)) (sym c.self.view_is) c.requires.fits.0 in
     let is_parked = subst (λ (view : FilesView). IsParked view.pieces c.args.old n Deleted) (sym c.self.view_is) c.requires.fits.1 in
-    let file : n < length fs = omega (arith, below_bound n (length es) (deletions n p) (c.self.invariant.known n) (omega (arith, lemmas.restored_here fs p n at once c.args.old is_parked)), length-map es (file_of {Y = Global})) in
     lemmas.deleted_is_some fs p n at once c.args.old is_parked
 
 pub overflow_add-self : goal.overflow_add-self
 overflow_add-self c =
     let n = c.args.number in
     let at = c.args.at in
-    let inside = c.self.inside in
     let es = c.self.inside.files.entries in
     let fs : List KeyedFile = map file_of es in
     let p = c.self.inside.pieces in
     let once = c.self.invariant.once in
-    let within_keys = subst (λ (view : FilesView). at ≤ length (keys_in view.keyed n)) (sym c.self.view_is) c.requires.fits.0 in
     let is_parked = subst (λ (view : FilesView). IsParked view.pieces c.args.old n Deleted) (sym c.self.view_is) c.requires.fits.1 in
     let file : n < length fs = omega (arith, below_bound n (length es) (deletions n p) (c.self.invariant.known n) (omega (arith, lemmas.restored_here fs p n at once c.args.old is_parked)), length-map es (file_of {Y = Global})) in
     let v = c.unwrap-file.result.now in
-    let here : slice_get (texts_of es) n ≡ Some v = sym c.get_index_mut.ensures.value ∙ ap option_copied_mut c.unwrap-file.ensures in
-    let keys = keys_at es n v here in
-    let had = room_at p 0 es n n v (omega arith) c.self.invariant.room here in
     let less : bytes_of (map (plain_file p) fs) ≡ c.self.inside.bytes = sym c.self.invariant.counted in
-    let w = c.restore_key.new.self in
-    let items : w.keys.items ≡ insert (keys_in fs n) at c.args.old = c.restore_key.ensures.items ∙ ap (λ ks. insert ks at c.args.old) (sym keys) in
-    let p2 : c.set_state-more.new.self ≡ with_state p c.args.old Standing = c.set_state-more.ensures.pieces in
     let more : c.set_state-more.result ≡ length (text_under p c.args.old) = c.set_state-more.ensures.len in
     let bytes = lemmas.bytes_undeleted fs p n at once c.args.old is_parked file in
     let allowed = subst (λ v. bytes_of (plain (reversed n (action.Deleted at c.args.old) v)) ≤ 4294967295) (sym c.self.view_is) c.requires.within in
@@ -136,7 +104,6 @@ invariant_of-self c =
     let fs : List KeyedFile = map file_of es in
     let p = c.self.inside.pieces in
     let once = c.self.invariant.once in
-    let within_keys = subst (λ (view : FilesView). at ≤ length (keys_in view.keyed n)) (sym c.self.view_is) c.requires.fits.0 in
     let is_parked = subst (λ (view : FilesView). IsParked view.pieces c.args.old n Deleted) (sym c.self.view_is) c.requires.fits.1 in
     let file : n < length fs = omega (arith, below_bound n (length es) (deletions n p) (c.self.invariant.known n) (omega (arith, lemmas.restored_here fs p n at once c.args.old is_parked)), length-map es (file_of {Y = Global})) in
     let v = c.unwrap-file.result.now in
@@ -168,12 +135,9 @@ returns c =
     let es = c.self.inside.files.entries in
     let fs : List KeyedFile = map file_of es in
     let p = c.self.inside.pieces in
-    let once = c.self.invariant.once in
     let v = c.unwrap-file.result.now in
     let here : slice_get (texts_of es) n ≡ Some v = sym c.get_index_mut.ensures.value ∙ ap option_copied_mut c.unwrap-file.ensures in
     let keys = keys_at es n v here in
-    let had = room_at p 0 es n n v (omega arith) c.self.invariant.room here in
-    let less : bytes_of (map (plain_file p) fs) ≡ c.self.inside.bytes = sym c.self.invariant.counted in
     let w = c.restore_key.new.self in
     let items : w.keys.items ≡ insert (keys_in fs n) at c.args.old = c.restore_key.ensures.items ∙ ap (λ ks. insert ks at c.args.old) (sym keys) in
     let p2 : c.set_state-more.new.self ≡ with_state p c.args.old Standing = c.set_state-more.ensures.pieces in

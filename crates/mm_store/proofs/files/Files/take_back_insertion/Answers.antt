@@ -25,11 +25,8 @@ pub unwrap-file-requires : goal.unwrap-file-requires
 unwrap-file-requires c =
     let n = c.args.number in
     let at = c.args.at in
-    let inside = c.self.inside in
     let es = c.self.inside.files.entries in
     let fs : List KeyedFile = map file_of es in
-    let p = c.self.inside.pieces in
-    let once = c.self.invariant.once in
     let there = subst (λ (view : FilesView). at < length (keys_in view.keyed n)) (sym c.self.view_is) c.requires.fits in
     c.get_index_mut.ensures.found.1 (omega (arith, in_files fs n at there, length-map es (file_of {Y = Global})))
 
@@ -37,38 +34,26 @@ pub take_key-key-requires-clause-there : goal.take_key-key-requires-clause-there
 take_key-key-requires-clause-there c =
     let n = c.args.number in
     let at = c.args.at in
-    let inside = c.self.inside in
     let es = c.self.inside.files.entries in
-    let fs : List KeyedFile = map file_of es in
-    let p = c.self.inside.pieces in
-    let once = c.self.invariant.once in
     let there = subst (λ (view : FilesView). at < length (keys_in view.keyed n)) (sym c.self.view_is) c.requires.fits in
     let v = c.unwrap-file.result.now in
     let here : slice_get (texts_of es) n ≡ Some v = sym c.get_index_mut.ensures.value ∙ ap option_copied_mut c.unwrap-file.ensures in
     let keys = keys_at es n v here in
-    let had = room_at p 0 es n n v (omega arith) c.self.invariant.room here in
-    let less : bytes_of (map (plain_file p) fs) ≡ c.self.inside.bytes = sym c.self.invariant.counted in
     omega (arith, ap length keys, v.keys.ok.0, there)
 
 pub overflow_sub-self : goal.overflow_sub-self
 overflow_sub-self c =
     let n = c.args.number in
     let at = c.args.at in
-    let inside = c.self.inside in
     let es = c.self.inside.files.entries in
     let fs : List KeyedFile = map file_of es in
     let p = c.self.inside.pieces in
-    let once = c.self.invariant.once in
     let there = subst (λ (view : FilesView). at < length (keys_in view.keyed n)) (sym c.self.view_is) c.requires.fits in
     let v = c.unwrap-file.result.now in
     let here : slice_get (texts_of es) n ≡ Some v = sym c.get_index_mut.ensures.value ∙ ap option_copied_mut c.unwrap-file.ensures in
     let keys = keys_at es n v here in
-    let had = room_at p 0 es n n v (omega arith) c.self.invariant.room here in
     let less : bytes_of (map (plain_file p) fs) ≡ c.self.inside.bytes = sym c.self.invariant.counted in
-    let w = c.take_key-key.new.self in
-    let items : w.keys.items ≡ remove (keys_in fs n) at = c.take_key-key.ensures.items ∙ ap (λ ks. remove ks at) (sym keys) in
     let key : c.take_key-key.result ≡ get_or (keys_in fs n) at 0 = c.take_key-key.ensures.value ∙ ap (λ ks. get_or ks at 0) (sym keys) in
-    let p2 : c.drop_piece-less.new.self ≡ finite.remove p (get_or (keys_in fs n) at 0) = c.drop_piece-less.ensures.pieces ∙ ap (finite.remove p) key in
     let text : c.drop_piece-less.result ≡ length (text_under p (get_or (keys_in fs n) at 0)) = c.drop_piece-less.ensures.len ∙ ap (λ q. length (text_under p q)) key in
     omega (arith, text, less, text_within p fs n at there)
 
@@ -110,33 +95,22 @@ returns c =
     let es = c.self.inside.files.entries in
     let fs : List KeyedFile = map file_of es in
     let p = c.self.inside.pieces in
-    let once = c.self.invariant.once in
     let v = c.unwrap-file.result.now in
     let here : slice_get (texts_of es) n ≡ Some v = sym c.get_index_mut.ensures.value ∙ ap option_copied_mut c.unwrap-file.ensures in
     let keys = keys_at es n v here in
-    let had = room_at p 0 es n n v (omega arith) c.self.invariant.room here in
-    let less : bytes_of (map (plain_file p) fs) ≡ c.self.inside.bytes = sym c.self.invariant.counted in
     let w = c.take_key-key.new.self in
     let items : w.keys.items ≡ remove (keys_in fs n) at = c.take_key-key.ensures.items ∙ ap (λ ks. remove ks at) (sym keys) in
     let key : c.take_key-key.result ≡ get_or (keys_in fs n) at 0 = c.take_key-key.ensures.value ∙ ap (λ ks. get_or ks at 0) (sym keys) in
     let p2 : c.drop_piece-less.new.self ≡ finite.remove p (get_or (keys_in fs n) at 0) = c.drop_piece-less.ensures.pieces ∙ ap (finite.remove p) key in
-    let text : c.drop_piece-less.result ≡ length (text_under p (get_or (keys_in fs n) at 0)) = c.drop_piece-less.ensures.len ∙ ap (λ q. length (text_under p q)) key in
     view_after inside n v w here c.take_key-key.ensures.tail (remove (keys_in fs n) at) items c.drop_piece-less.new.self
     (finite.remove p (get_or (keys_in fs n) at 0)) p2 (inside.bytes - c.drop_piece-less.result) ∙ ap (reversed n (action.Inserted at)) c.self.view_is
 
 pub take_key-key-requires-clause-room : goal.take_key-key-requires-clause-room
 take_key-key-requires-clause-room c =
     let n = c.args.number in
-    let at = c.args.at in
-    let inside = c.self.inside in
     let es = c.self.inside.files.entries in
-    let fs : List KeyedFile = map file_of es in
     let p = c.self.inside.pieces in
-    let once = c.self.invariant.once in
-    let there = subst (λ (view : FilesView). at < length (keys_in view.keyed n)) (sym c.self.view_is) c.requires.fits in
     let v = c.unwrap-file.result.now in
     let here : slice_get (texts_of es) n ≡ Some v = sym c.get_index_mut.ensures.value ∙ ap option_copied_mut c.unwrap-file.ensures in
-    let keys = keys_at es n v here in
     let had = room_at p 0 es n n v (omega arith) c.self.invariant.room here in
-    let less : bytes_of (map (plain_file p) fs) ≡ c.self.inside.bytes = sym c.self.invariant.counted in
     had.room

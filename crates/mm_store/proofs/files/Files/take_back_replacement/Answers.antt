@@ -23,38 +23,26 @@ pub unwrap-file-requires : goal.unwrap-file-requires
 unwrap-file-requires c =
     let n = c.args.number in
     let at = c.args.at in
-    let inside = c.self.inside in
     let es = c.self.inside.files.entries in
     let fs : List KeyedFile = map file_of es in
-    let p = c.self.inside.pieces in
-    let once = c.self.invariant.once in
     let there = subst (λ (view : FilesView). at < length (keys_in view.keyed n)) (sym c.self.view_is) c.requires.fits.0 in
-    let is_parked = subst (λ (view : FilesView). IsParked view.pieces c.args.old n Replaced) (sym c.self.view_is) c.requires.fits.1 in
     c.get_index_mut.ensures.found.1 (omega (arith, in_files fs n at there, length-map es (file_of {Y = Global})))
 
 pub replace_key-key-requires-clause-there : goal.replace_key-key-requires-clause-there
 replace_key-key-requires-clause-there c =
     let n = c.args.number in
     let at = c.args.at in
-    let inside = c.self.inside in
     let es = c.self.inside.files.entries in
-    let fs : List KeyedFile = map file_of es in
-    let p = c.self.inside.pieces in
-    let once = c.self.invariant.once in
     let there = subst (λ (view : FilesView). at < length (keys_in view.keyed n)) (sym c.self.view_is) c.requires.fits.0 in
-    let is_parked = subst (λ (view : FilesView). IsParked view.pieces c.args.old n Replaced) (sym c.self.view_is) c.requires.fits.1 in
     let v = c.unwrap-file.result.now in
     let here : slice_get (texts_of es) n ≡ Some v = sym c.get_index_mut.ensures.value ∙ ap option_copied_mut c.unwrap-file.ensures in
     let keys = keys_at es n v here in
-    let had = room_at p 0 es n n v (omega arith) c.self.invariant.room here in
-    let less : bytes_of (map (plain_file p) fs) ≡ c.self.inside.bytes = sym c.self.invariant.counted in
     omega (arith, ap length keys, v.keys.ok.0, there)
 
 pub set_state-more-requires : goal.set_state-more-requires
 set_state-more-requires c =
     let n = c.args.number in
     let at = c.args.at in
-    let inside = c.self.inside in
     let es = c.self.inside.files.entries in
     let fs : List KeyedFile = map file_of es in
     let p = c.self.inside.pieces in
@@ -64,35 +52,23 @@ set_state-more-requires c =
     let v = c.unwrap-file.result.now in
     let here : slice_get (texts_of es) n ≡ Some v = sym c.get_index_mut.ensures.value ∙ ap option_copied_mut c.unwrap-file.ensures in
     let keys = keys_at es n v here in
-    let had = room_at p 0 es n n v (omega arith) c.self.invariant.room here in
-    let less : bytes_of (map (plain_file p) fs) ≡ c.self.inside.bytes = sym c.self.invariant.counted in
-    let w = c.replace_key-key.new.self in
-    let items : w.keys.items ≡ set (keys_in fs n) at c.args.old = c.replace_key-key.ensures.items ∙ ap (λ ks. set ks at c.args.old) (sym keys) in
     let key : c.replace_key-key.result ≡ get_or (keys_in fs n) at 0 = c.replace_key-key.ensures.value ∙ ap (λ ks. get_or ks at 0) (sym keys) in
     let p1 : c.drop_piece-less.new.self ≡ finite.remove p (get_or (keys_in fs n) at 0) = c.drop_piece-less.ensures.pieces ∙ ap (finite.remove p) key in
-    let text : c.drop_piece-less.result ≡ length (text_under p (get_or (keys_in fs n) at 0)) = c.drop_piece-less.ensures.len ∙ ap (λ q. length (text_under p q)) key in
     ap (λ m. is_some (finite.get m c.args.old)) p1 ∙ lemmas.old_left fs p n at once there c.args.old is_parked
 
 pub overflow_sub-self : goal.overflow_sub-self
 overflow_sub-self c =
     let n = c.args.number in
     let at = c.args.at in
-    let inside = c.self.inside in
     let es = c.self.inside.files.entries in
     let fs : List KeyedFile = map file_of es in
     let p = c.self.inside.pieces in
-    let once = c.self.invariant.once in
     let there = subst (λ (view : FilesView). at < length (keys_in view.keyed n)) (sym c.self.view_is) c.requires.fits.0 in
-    let is_parked = subst (λ (view : FilesView). IsParked view.pieces c.args.old n Replaced) (sym c.self.view_is) c.requires.fits.1 in
     let v = c.unwrap-file.result.now in
     let here : slice_get (texts_of es) n ≡ Some v = sym c.get_index_mut.ensures.value ∙ ap option_copied_mut c.unwrap-file.ensures in
     let keys = keys_at es n v here in
-    let had = room_at p 0 es n n v (omega arith) c.self.invariant.room here in
     let less : bytes_of (map (plain_file p) fs) ≡ c.self.inside.bytes = sym c.self.invariant.counted in
-    let w = c.replace_key-key.new.self in
-    let items : w.keys.items ≡ set (keys_in fs n) at c.args.old = c.replace_key-key.ensures.items ∙ ap (λ ks. set ks at c.args.old) (sym keys) in
     let key : c.replace_key-key.result ≡ get_or (keys_in fs n) at 0 = c.replace_key-key.ensures.value ∙ ap (λ ks. get_or ks at 0) (sym keys) in
-    let p1 : c.drop_piece-less.new.self ≡ finite.remove p (get_or (keys_in fs n) at 0) = c.drop_piece-less.ensures.pieces ∙ ap (finite.remove p) key in
     let text : c.drop_piece-less.result ≡ length (text_under p (get_or (keys_in fs n) at 0)) = c.drop_piece-less.ensures.len ∙ ap (λ q. length (text_under p q)) key in
     omega (arith, text, less, text_within p fs n at there)
 
@@ -100,7 +76,6 @@ pub overflow_add-self : goal.overflow_add-self
 overflow_add-self c =
     let n = c.args.number in
     let at = c.args.at in
-    let inside = c.self.inside in
     let es = c.self.inside.files.entries in
     let fs : List KeyedFile = map file_of es in
     let p = c.self.inside.pieces in
@@ -110,14 +85,10 @@ overflow_add-self c =
     let v = c.unwrap-file.result.now in
     let here : slice_get (texts_of es) n ≡ Some v = sym c.get_index_mut.ensures.value ∙ ap option_copied_mut c.unwrap-file.ensures in
     let keys = keys_at es n v here in
-    let had = room_at p 0 es n n v (omega arith) c.self.invariant.room here in
     let less : bytes_of (map (plain_file p) fs) ≡ c.self.inside.bytes = sym c.self.invariant.counted in
-    let w = c.replace_key-key.new.self in
-    let items : w.keys.items ≡ set (keys_in fs n) at c.args.old = c.replace_key-key.ensures.items ∙ ap (λ ks. set ks at c.args.old) (sym keys) in
     let key : c.replace_key-key.result ≡ get_or (keys_in fs n) at 0 = c.replace_key-key.ensures.value ∙ ap (λ ks. get_or ks at 0) (sym keys) in
     let p1 : c.drop_piece-less.new.self ≡ finite.remove p (get_or (keys_in fs n) at 0) = c.drop_piece-less.ensures.pieces ∙ ap (finite.remove p) key in
     let text : c.drop_piece-less.result ≡ length (text_under p (get_or (keys_in fs n) at 0)) = c.drop_piece-less.ensures.len ∙ ap (λ q. length (text_under p q)) key in
-    let p2 : c.set_state-more.new.self ≡ with_state (finite.remove p (get_or (keys_in fs n) at 0)) c.args.old Standing = c.set_state-more.ensures.pieces ∙ ap (λ m. with_state m c.args.old Standing) p1 in
     let more : c.set_state-more.result ≡ length (text_under p c.args.old) = c.set_state-more.ensures.len ∙ ap length (ap (λ m. text_under m c.args.old) p1 ∙ lemmas.old_text_left fs p n at once there c.args.old is_parked) in
     let bytes = lemmas.bytes_unreplaced fs p n at once there c.args.old is_parked in
     let allowed = subst (λ v. bytes_of (plain (reversed n (action.Replaced at c.args.old) v)) ≤ 4294967295) (sym c.self.view_is) c.requires.within in
@@ -166,17 +137,13 @@ returns c =
     let es = c.self.inside.files.entries in
     let fs : List KeyedFile = map file_of es in
     let p = c.self.inside.pieces in
-    let once = c.self.invariant.once in
     let v = c.unwrap-file.result.now in
     let here : slice_get (texts_of es) n ≡ Some v = sym c.get_index_mut.ensures.value ∙ ap option_copied_mut c.unwrap-file.ensures in
     let keys = keys_at es n v here in
-    let had = room_at p 0 es n n v (omega arith) c.self.invariant.room here in
-    let less : bytes_of (map (plain_file p) fs) ≡ c.self.inside.bytes = sym c.self.invariant.counted in
     let w = c.replace_key-key.new.self in
     let items : w.keys.items ≡ set (keys_in fs n) at c.args.old = c.replace_key-key.ensures.items ∙ ap (λ ks. set ks at c.args.old) (sym keys) in
     let key : c.replace_key-key.result ≡ get_or (keys_in fs n) at 0 = c.replace_key-key.ensures.value ∙ ap (λ ks. get_or ks at 0) (sym keys) in
     let p1 : c.drop_piece-less.new.self ≡ finite.remove p (get_or (keys_in fs n) at 0) = c.drop_piece-less.ensures.pieces ∙ ap (finite.remove p) key in
-    let text : c.drop_piece-less.result ≡ length (text_under p (get_or (keys_in fs n) at 0)) = c.drop_piece-less.ensures.len ∙ ap (λ q. length (text_under p q)) key in
     let p2 : c.set_state-more.new.self ≡ with_state (finite.remove p (get_or (keys_in fs n) at 0)) c.args.old Standing = c.set_state-more.ensures.pieces ∙ ap (λ m. with_state m c.args.old Standing) p1 in
     view_after inside n v w here c.replace_key-key.ensures.tail (set (keys_in fs n) at c.args.old) items c.set_state-more.new.self
     (with_state (finite.remove p (get_or (keys_in fs n) at 0)) c.args.old Standing) p2 (inside.bytes - c.drop_piece-less.result + c.set_state-more.result) ∙ ap (reversed n (action.Replaced at c.args.old)) c.self.view_is
@@ -184,17 +151,9 @@ returns c =
 pub replace_key-key-requires-clause-room : goal.replace_key-key-requires-clause-room
 replace_key-key-requires-clause-room c =
     let n = c.args.number in
-    let at = c.args.at in
-    let inside = c.self.inside in
     let es = c.self.inside.files.entries in
-    let fs : List KeyedFile = map file_of es in
     let p = c.self.inside.pieces in
-    let once = c.self.invariant.once in
-    let there = subst (λ (view : FilesView). at < length (keys_in view.keyed n)) (sym c.self.view_is) c.requires.fits.0 in
-    let is_parked = subst (λ (view : FilesView). IsParked view.pieces c.args.old n Replaced) (sym c.self.view_is) c.requires.fits.1 in
     let v = c.unwrap-file.result.now in
     let here : slice_get (texts_of es) n ≡ Some v = sym c.get_index_mut.ensures.value ∙ ap option_copied_mut c.unwrap-file.ensures in
-    let keys = keys_at es n v here in
     let had = room_at p 0 es n n v (omega arith) c.self.invariant.room here in
-    let less : bytes_of (map (plain_file p) fs) ≡ c.self.inside.bytes = sym c.self.invariant.counted in
     had.room
