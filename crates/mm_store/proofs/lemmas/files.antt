@@ -2,6 +2,7 @@
 
 pub mod AddLemmas
 pub mod EntryLemmas
+pub mod FileLemmas
 pub mod FilesLemmas
 pub mod GrowthLemmas
 pub mod HoldLemmas

@@ -28,7 +28,6 @@ returns c =
     let keys = c.args.file.now.keys.items in
     let texts = map f keys in
     let here : get_or texts c.args.piece [] ≡ f c.index.result.now = get_or-map f keys c.args.piece c.index.result.now [] c.requires.piece_in ∙ ap f (sym c.index.ensures) in
-    let within : c.args.piece < length texts = omega (arith, length-map keys f, c.requires.piece_in) in
     let start = c.start.ensures in
     let before = concat (take c.args.piece texts) in
     subst (λ bytes. AreLines (before ++ take c.args.at bytes) c.then.result) (sym here) (c.then.ensures before (take c.args.at (f c.index.result.now)) start.lines c.lines_before-inside.ensures)

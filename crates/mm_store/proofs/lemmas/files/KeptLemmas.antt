@@ -1,6 +1,6 @@
 -- The files after a change of the keys of one file and of the pieces.
 use Rattle.std.proofs.lemmas.Bool.{cases_eq}
-use Rattle.std.proofs.Common.{◌≡◌, ◌≢◌, inl, inr, ℕ, zero, suc, ◌-◌, ◌<◌, ◌≤◌, List, [], ◌∷◌, Some, length, map, refl, sym, ap, ◌∙◌, subst, arith}
+use Rattle.std.proofs.Common.{◌≡◌, ◌≢◌, inl, inr, ℕ, zero, suc, ◌-◌, ◌<◌, ◌≤◌, List, [], ◌∷◌, Some, length, map, get_or, deque_len, refl, sym, ap, ◌∙◌, subst, arith}
 use Rattle.std.specs.Prelude.{Vec, slice_get}
 use Rattle.std.specs.Global.{Global}
 use Rattle.std.proofs.lemmas.Option.{slice_get_within, none-some}
@@ -12,16 +12,19 @@ use Rattle.mm_store.specs.declared.files.Files.TheInside.{Inside}
 use Rattle.mm_store.proofs.lemmas.files.PieceLemmas.{stands_settled, text_drop_other}
 use Rattle.mm_store.proofs.lemmas.expansion.WeightLemmas.{weight_dropped}
 use Rattle.mm_store.proofs.lemmas.edits.ReplaceLemmas.{replaced_weight}
-use Rattle.mm_store.proofs.lemmas.edits.StepLemmas.{parked}
+use Rattle.mm_store.proofs.lemmas.edits.StepLemmas.{parked, settled_here}
 use Rattle.mm_store.proofs.lemmas.files.ListLemmas.{with_same, plain_same, plain_pieces, with_pieces_same}
 use Rattle.mm_text.specs.Language.Reading.{HasWords}
 use Rattle.mm_store.specs.Code.Starts.{HasStarts, KnowsStarts}
 use Rattle.mm_store.specs.Code.Room.{HasRoom}
+use Rattle.mm_store.specs.declared.start.Start.{Start}
+use Rattle.mm_store.proofs.lemmas.places.ChangeLemmas.{starts_after}
+use Rattle.mm_store.proofs.lemmas.places.StartLemmas.{starts_stay}
 use Rattle.mm_store.specs.Code.Edited.{pieces_in, with_pieces}
 use Rattle.mm_store.proofs.lemmas.files.EntryLemmas.{texts_of, keys_at, view_set, room_at, room_same, room_set, starts_at, starts_set, tail_at, same_view}
 use Rattle.mm_store.specs.Code.Kept.{view_of, file_of, places, standing_count, deleted_state, deletions, HaveStarts, IsKept}
-use Rattle.mm_store.specs.Language.FilesView.{plain, KeyedFile, plain_file, bytes_of}
-use Rattle.mm_store.specs.Language.Pieces.{Replaced, text_under, HeldPiece, Pieces, IsParked}
+use Rattle.mm_store.specs.Language.FilesView.{FilesView, plain, KeyedFile, plain_file, bytes_of}
+use Rattle.mm_store.specs.Language.Pieces.{Replaced, Deleted, text_under, HeldPiece, Pieces, IsParked}
 use Rattle.mm_store.specs.Language.Undoing.{keys_in, with_keys}
 
 pub length_set : {Y : Type 0} (es : List (Vec ℕ Y × FileText)) (n : ℕ) (w : FileText) → length (set_value_at es n w) ≡ length es
@@ -67,6 +70,19 @@ module _ (inside : Inside) (n : ℕ) (v w : FileText) (here : slice_get (texts_o
         (starts_set (plain (view_of inside)) inside.files.entries n w members kept.starts starts (subst (λ (t : Vec ℕ Global). HasWords t.items []) (sym tail) (tail_at (plain (view_of inside)) inside.files.entries n v kept.starts here)));
   }
 
+  pub kept_edited : IsKept inside
+      → ((q : ℕ) → places q (with_keys (map file_of inside.files.entries) n keys) ≡ standing_count (finite.get now q))
+      → ((m : ℕ) → m ≢ n → deletions m now ≡ deletions m inside.pieces)
+      → w.deleted ≡ deletions n now
+      → HasRoom w
+      → bytes ≡ bytes_of (map (plain_file now) (with_keys (map file_of inside.files.entries) n keys))
+      → bytes ≤ 4294967295
+      → (members : List (List ℕ))
+      → map (plain_file now) (with_keys (map file_of inside.files.entries) n keys) ≡ with_pieces (map (plain_file inside.pieces) (map file_of inside.files.entries)) n members
+      → (p : Pieces) → map (text_under p) keys ≡ map (text_under now) keys → n < length (map (file_of {Y = Global}) inside.files.entries) → KnowsStarts p w → IsKept after
+  kept_edited kept once others parked room counted within members means p same there knows =
+      kept_after kept once others parked room counted within members means (starts_after (map file_of inside.files.entries) inside.pieces p now n keys members there means same w items knows)
+
 -- the files after room was made in one of them, or it was found where more of its pieces begin
 module _ (inside : Inside) (n : ℕ) (v w : FileText) (here : slice_get (texts_of inside.files.entries) n ≡ Some v) (tail : w.tail ≡ v.tail)
     (items : w.keys.items ≡ v.keys.items) (actual : Pieces) (pieces : actual ≡ inside.pieces) where
@@ -94,6 +110,12 @@ module _ (inside : Inside) (n : ℕ) (v w : FileText) (here : slice_get (texts_o
       members (ap (map (plain_file inside.pieces)) same ∙ sym (with_pieces_same (plain (view_of inside)) n))
       (subst (λ ts. HasStarts ts w) (ap (map f) items ∙ sym texts) (knows (subst (λ ts. HasStarts ts v) texts were)))
 
+  -- in the words of the call that makes room
+  pub reserved : {view : FilesView} → IsKept inside → view_of inside ≡ view → w.deleted ≡ v.deleted → HasRoom w → w.known ≡ v.known
+      → ((number : ℕ) (default : Start) → number ≤ deque_len v.keys → get_or w.starts.items number default ≡ get_or v.starts.items number default)
+      → IsKept (record { files = with_value_at inside.files n w; pieces = actual; bytes = inside.bytes }) × (view_of (record { files = with_value_at inside.files n w; pieces = actual; bytes = inside.bytes }) ≡ view)
+  reserved kept is deleted room known starts = (reserved_kept deleted room (starts_stay inside.pieces v w items known starts) kept, reserved_view ∙ is)
+
 pub texts_set : {Y : Type 0} (es : List (Vec ℕ Y × FileText)) (n : ℕ) (v w : FileText) → slice_get (texts_of es) n ≡ Some v → slice_get (texts_of (set_value_at es n w)) n ≡ Some w
 texts_set [] n v w there = absurd (none-some v there)
 texts_set (e ∷ es) zero v w there = refl
@@ -118,8 +140,16 @@ settled_kept inside n old is_parked actual is kept =
     }
 
 -- below a bound, from what holds beyond it
-pub below_bound : (n bound d : ℕ) → (bound ≤ n → d ≡ 0) → 0 < d → n < bound
+below_bound : (n bound d : ℕ) → (bound ≤ n → d ≡ 0) → 0 < d → n < bound
 below_bound n bound d beyond some = elim (cases_eq (bound - n) 0) [
   | inl none ↦ absurd (omega (arith, beyond (omega (arith, none))))
   | inr more ↦ omega (arith, more)
 ]
+
+-- a file has the pieces that were deleted from it
+pub deleted_from : {view : FilesView} (inside : Inside) (n old : ℕ) → IsKept inside → view_of inside ≡ view → IsParked view.pieces old n Deleted → 0 < deletions n inside.pieces
+deleted_from inside n old kept is is_parked =
+    omega (arith, settled_here (map file_of inside.files.entries) inside.pieces n 0 kept.once old (subst (λ (view : FilesView). IsParked view.pieces old n Deleted) (sym is) is_parked))
+
+pub deleted_file : {view : FilesView} (inside : Inside) (n old : ℕ) → IsKept inside → view_of inside ≡ view → IsParked view.pieces old n Deleted → n < length inside.files.entries
+deleted_file inside n old kept is is_parked = below_bound n (length inside.files.entries) (deletions n inside.pieces) (kept.known n) (deleted_from inside n old kept is is_parked)

@@ -1,15 +1,18 @@
 -- Where a byte of a piece stands in its file, by the fields of `Files`.
 use Rattle.std.proofs.Common.{◌≡◌, ℕ, ◌+◌, ◌<◌, ◌≤◌, List, [], Some, length, map, take, get_or, sym, ap, ◌∙◌, subst}
 use Rattle.std.specs.Prelude.{Vec, slice_get}
+use Rattle.std.specs.Global.{Global}
 use Rattle.std.specs.List.{concat}
 use Rattle.std.specs.Option.{option_map}
 use Rattle.std.proofs.lemmas.Option.{slice_get-map, slice_get_within, get_or_from_slice_get, same_Some}
 use Rattle.mm_store.specs.declared.file_text.FileText.{FileText}
+use Rattle.mm_store.specs.declared.files.Files.TheInside.{Inside}
+use Rattle.mm_store.proofs.lemmas.files.FileLemmas.{IsShown}
 use Rattle.mm_store.specs.Language.Pieces.{Pieces, text_under}
 use Rattle.mm_store.specs.Language.FilesView.{File, FilesView, plain, plain_file, text_of}
 use Rattle.mm_store.specs.Language.FileFacts.{IsByte, piece_offset}
 use Rattle.mm_store.specs.Code.Lines.{bytes_before}
-use Rattle.mm_store.specs.Code.Kept.{file_of}
+use Rattle.mm_store.specs.Code.Kept.{view_of, file_of}
 use Rattle.mm_store.proofs.lemmas.places.PlaceLemmas.{before_byte}
 
 -- a byte of one of these texts, and the bytes of all before it
@@ -25,12 +28,15 @@ in_file file piece at bytes there within = record {
   is_before = before_byte file piece at bytes there within;
 }
 
-module _ {Y : Type 0} (p : Pieces) (entries : List (Vec ℕ Y × FileText)) (number : ℕ) (entry : Vec ℕ Y × FileText) (there : slice_get entries number ≡ Some entry)
-    (view : FilesView) (is : record { keyed = map file_of entries; pieces = p } ≡ view) (piece at : ℕ) (text : List ℕ) (offset : ℕ) (byte : IsByte view number piece at text offset) where
+module _ {inside : Inside} {number : ℕ} {entry : Vec ℕ Global × FileText} {view : FilesView} {piece at : ℕ} {text : List ℕ} {offset : ℕ} (had : IsShown inside number entry)
+    (is : view_of inside ≡ view) (byte : IsByte view number piece at text offset) where
+  abbrev p : Pieces
+  p = inside.pieces
+
   file_is : byte.file ≡ plain_file p (file_of entry)
   file_is =
-      let here : slice_get (map (plain_file p) (map file_of entries)) number ≡ Some (plain_file p (file_of entry)) =
-      slice_get-map (plain_file p) (map file_of entries) number ∙ ap (option_map (plain_file p)) (slice_get-map (file_of {Y = Y}) entries number ∙ ap (option_map (file_of {Y = Y})) there) in
+      let here : slice_get (map (plain_file p) (map file_of inside.files.entries)) number ≡ Some (plain_file p (file_of entry)) =
+      slice_get-map (plain_file p) (map file_of inside.files.entries) number ∙ ap (option_map (plain_file p)) (slice_get-map (file_of {Y = Global}) inside.files.entries number ∙ ap (option_map (file_of {Y = Global})) had.there) in
       same_Some byte.file (plain_file p (file_of entry)) (sym byte.there ∙ ap (λ (v : FilesView). slice_get (plain v) number) (sym is) ∙ here)
 
   pub byte_in : IsIn (map (text_under p) entry.1.keys.items) piece at (take offset text)

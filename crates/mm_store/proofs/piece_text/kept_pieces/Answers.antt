@@ -1,4 +1,4 @@
-use Rattle.std.proofs.Common.{◌≡◌, [], ◌∷◌, ◌++◌, All, length, map, sym, ap, ◌∙◌, subst, append_assoc, arith}
+use Rattle.std.proofs.Common.{◌≡◌, [], ◌∷◌, ◌++◌, All, map, sym, ap, ◌∙◌, subst, append_assoc, arith}
 use Rattle.std.specs.Vec.Iter.{into_iter_items}
 use Rattle.std.proofs.lemmas.List.{map-append}
 use Rattle.std.proofs.lemmas.List.Elements.{All-nil, All-cons, All-append}
@@ -16,8 +16,6 @@ loop-text-preserved c =
     record {
       rest = append_assoc at.yielded (text ∷ []) _ ∙ rw (← steps) at.invariant.rest;
       many = (let was = at.invariant.many in
-          let gone = c.in-Some.ensures.steps.1 in
-          let short = ap length steps in
           omega arith);
       texts = ap (map (λ piece. piece.text.items)) pushed ∙ map-append (λ piece. piece.text.items) at.pieces.items (piece ∷ []) ∙ ap (λ ts. ts ++ piece.text.items ∷ []) at.invariant.texts
           ∙ ap (λ t. map (λ text. text.items) at.yielded ++ t ∷ []) c.in_ok-kept_piece.ensures.text ∙ sym (map-append (λ text. text.items) at.yielded (text ∷ []));

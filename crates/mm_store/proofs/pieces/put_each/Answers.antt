@@ -12,7 +12,6 @@ loop-kept-preserved c =
     let key = c.insert_reserved-key.result in
     let put = at.invariant.put in
     let steps : into_iter_items at.kept-iterator ≡ kept ∷ into_iter_items c.next.new.self = c.in-Some.ensures.steps.0 in
-    let gone = c.in-Some.ensures.steps.1 in
     let short = ap length steps in
     let ok : is_ok c.push.result ≡ true = c.push.ensures.succeeds (omega (arith, at.invariant.key_room, short)) in
     let pushed : c.push.new.self.items ≡ at.keys.items ++ key ∷ [] = c.push.ensures.items ∙ ap (λ b. if b then at.keys.items ++ key ∷ [] else at.keys.items) ok in

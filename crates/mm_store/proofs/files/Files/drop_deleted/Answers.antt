@@ -1,15 +1,13 @@
-use Rattle.std.proofs.Common.{◌≡◌, List, Some, length, map, sym, ap, ◌∙◌, subst, arith}
-use Rattle.std.specs.Prelude.{slice_get}
+use Rattle.std.proofs.Common.{◌≡◌, List, length, map, sym, ap, ◌∙◌, subst, arith}
 use Rattle.std.specs.VecDeque.{deque_len, deque_capacity}
-use Rattle.std.specs.Option.{option_copied_mut}
 use Rattle.std.specs.FinMap as finite
-use Rattle.mm_store.proofs.lemmas.files.EntryLemmas.{texts_of, keys_at, room_at}
+use Rattle.mm_store.proofs.lemmas.files.FileLemmas.{lent}
 use Rattle.mm_store.proofs.lemmas.files.ListLemmas.{plain_same, with_same}
-use Rattle.mm_store.proofs.lemmas.files.KeptLemmas.{below_bound, view_after, kept_after}
+use Rattle.mm_store.proofs.lemmas.files.KeptLemmas.{view_after, kept_after, deleted_from, deleted_file}
 use Rattle.mm_store.proofs.lemmas.files.PieceLemmas.{stands_settled, text_drop_other}
 use Rattle.mm_store.proofs.lemmas.edits.StepLemmas as lemmas
 use Rattle.mm_store.proofs.files.Files.drop_deleted.Goals as goal
-use Rattle.mm_store.specs.Code.Kept.{file_of, places, deletions}
+use Rattle.mm_store.specs.Code.Kept.{file_of, places}
 use Rattle.mm_store.specs.Language.FilesView.{FilesView, KeyedFile, plain_file, bytes_of}
 use Rattle.mm_store.specs.Language.Pieces.{Deleted, IsParked}
 use Rattle.std.specs.Prelude.{Vec}
@@ -22,31 +20,12 @@ use Rattle.mm_store.proofs.lemmas.files.EntryLemmas.{starts_at}
 use Rattle.mm_store.specs.Language.Undoing.{keys_in}
 
 pub unwrap-file-requires : goal.unwrap-file-requires
-unwrap-file-requires c =
-    let n = c.args.number in
-    let inside = c.self.inside in
-    let es = c.self.inside.files.entries in
-    let fs : List KeyedFile = map file_of es in
-    let p = c.self.inside.pieces in
-    let once = c.self.invariant.once in
-    let is_parked = subst (λ (view : FilesView). IsParked view.pieces c.args.old n Deleted) (sym c.self.view_is) c.requires in
-    c.get_index_mut.ensures.found.1 (below_bound n (length es) (deletions n p) (c.self.invariant.known n) (omega (arith, lemmas.settled_here fs p n 0 once c.args.old is_parked)))
+unwrap-file-requires c = c.get_index_mut.ensures.found.1 (deleted_file c.self.inside c.args.number c.args.old c.self.invariant c.self.view_is c.requires)
 
 pub forget_deleted-requires : goal.forget_deleted-requires
 forget_deleted-requires c =
-    let n = c.args.number in
-    let inside = c.self.inside in
-    let es = c.self.inside.files.entries in
-    let fs : List KeyedFile = map file_of es in
-    let p = c.self.inside.pieces in
-    let once = c.self.invariant.once in
-    let is_parked = subst (λ (view : FilesView). IsParked view.pieces c.args.old n Deleted) (sym c.self.view_is) c.requires in
-    let v = c.unwrap-file.result.now in
-    let here : slice_get (texts_of es) n ≡ Some v = sym c.get_index_mut.ensures.value ∙ ap option_copied_mut c.unwrap-file.ensures in
-    let keys = keys_at es n v here in
-    let had = room_at p 0 es n n v (omega arith) c.self.invariant.room here in
-    let less : bytes_of (map (plain_file p) fs) ≡ c.self.inside.bytes = sym c.self.invariant.counted in
-    omega (arith, had.parked, lemmas.settled_here fs p n 0 once c.args.old is_parked)
+    let file = lent c.self.inside c.args.number c.self.invariant c.get_index_mut.ensures.value c.unwrap-file.ensures in
+    omega (arith, file.has.parked, deleted_from c.self.inside c.args.number c.args.old c.self.invariant c.self.view_is c.requires)
 
 pub invariant_of-self : goal.invariant_of-self
 invariant_of-self c =
@@ -58,20 +37,17 @@ invariant_of-self c =
     let once = c.self.invariant.once in
     let is_parked = subst (λ (view : FilesView). IsParked view.pieces c.args.old n Deleted) (sym c.self.view_is) c.requires in
     let v = c.unwrap-file.result.now in
-    let here : slice_get (texts_of es) n ≡ Some v = sym c.get_index_mut.ensures.value ∙ ap option_copied_mut c.unwrap-file.ensures in
-    let keys = keys_at es n v here in
-    let had = room_at p 0 es n n v (omega arith) c.self.invariant.room here in
-    let less : bytes_of (map (plain_file p) fs) ≡ c.self.inside.bytes = sym c.self.invariant.counted in
+    let file = lent inside n c.self.invariant c.get_index_mut.ensures.value c.unwrap-file.ensures in
     let w = c.forget_deleted.new.self in
-    let items : w.keys.items ≡ keys_in fs n = ap (λ k. k.items) c.forget_deleted.ensures.keys ∙ sym keys in
+    let items : w.keys.items ≡ keys_in fs n = ap (λ k. k.items) c.forget_deleted.ensures.keys ∙ sym file.keys in
     let same = with_same fs n in
-    kept_after inside n v w here c.forget_deleted.ensures.tail (keys_in fs n) items c.drop_piece.new.self (finite.remove p c.args.old) c.drop_piece.ensures.pieces c.self.inside.bytes c.self.invariant
+    kept_after inside n v w file.here c.forget_deleted.ensures.tail (keys_in fs n) items c.drop_piece.new.self (finite.remove p c.args.old) c.drop_piece.ensures.pieces c.self.inside.bytes c.self.invariant
     (λ q. ap (places q) same ∙ once q ∙ sym (stands_settled p c.args.old n Deleted q (lemmas.parked (finite.get p c.args.old) n Deleted is_parked).none))
     (lemmas.settled_others fs p n 0 once c.args.old is_parked)
-    (omega (arith, c.forget_deleted.ensures.deleted, had.parked, lemmas.settled_here fs p n 0 once c.args.old is_parked))
+    (omega (arith, c.forget_deleted.ensures.deleted, file.has.parked, lemmas.settled_here fs p n 0 once c.args.old is_parked))
     (record {
-      keys = omega (arith, had.room.keys, ap (λ k. deque_len k) c.forget_deleted.ensures.keys, ap (λ k. deque_capacity k) c.forget_deleted.ensures.keys, c.forget_deleted.ensures.deleted);
-      starts = omega (arith, had.room.starts, ap (λ k. deque_len k) c.forget_deleted.ensures.keys, ap (λ (s : Vec Start Global). length s.items) c.forget_deleted.ensures.starts, c.forget_deleted.ensures.deleted);
+      keys = omega (arith, file.has.room.keys, ap (λ k. deque_len k) c.forget_deleted.ensures.keys, ap (λ k. deque_capacity k) c.forget_deleted.ensures.keys, c.forget_deleted.ensures.deleted);
+      starts = omega (arith, file.has.room.starts, ap (λ k. deque_len k) c.forget_deleted.ensures.keys, ap (λ (s : Vec Start Global). length s.items) c.forget_deleted.ensures.starts, c.forget_deleted.ensures.deleted);
     })
     (c.self.invariant.counted ∙ sym (ap bytes_of (plain_same p (finite.remove p c.args.old) c.args.old (text_drop_other p c.args.old) fs
     (once c.args.old ∙ (lemmas.parked (finite.get p c.args.old) n Deleted is_parked).none))) ∙ ap (λ gs. bytes_of (map (plain_file (finite.remove p c.args.old)) gs)) (sym same))
@@ -79,7 +55,7 @@ invariant_of-self c =
     (pieces_in (map (plain_file p) fs) n)
     (ap (map (plain_file (finite.remove p c.args.old))) same ∙ plain_same p (finite.remove p c.args.old) c.args.old (text_drop_other p c.args.old) fs
     (once c.args.old ∙ (lemmas.parked (finite.get p c.args.old) n Deleted is_parked).none) ∙ sym (with_pieces_same (map (plain_file p) fs) n))
-    (starts_alike (pieces_in (map (plain_file p) fs) n) v w c.forget_deleted.ensures.known c.forget_deleted.ensures.starts (starts_at (map (plain_file p) fs) es n v c.self.invariant.starts here))
+    (starts_alike (pieces_in (map (plain_file p) fs) n) v w c.forget_deleted.ensures.known c.forget_deleted.ensures.starts (starts_at (map (plain_file p) fs) es n v c.self.invariant.starts file.here))
 
 pub returns : goal.returns
 returns c =
@@ -88,14 +64,10 @@ returns c =
     let es = c.self.inside.files.entries in
     let fs : List KeyedFile = map file_of es in
     let p = c.self.inside.pieces in
-    let once = c.self.invariant.once in
     let v = c.unwrap-file.result.now in
-    let here : slice_get (texts_of es) n ≡ Some v = sym c.get_index_mut.ensures.value ∙ ap option_copied_mut c.unwrap-file.ensures in
-    let keys = keys_at es n v here in
-    let had = room_at p 0 es n n v (omega arith) c.self.invariant.room here in
-    let less : bytes_of (map (plain_file p) fs) ≡ c.self.inside.bytes = sym c.self.invariant.counted in
+    let file = lent inside n c.self.invariant c.get_index_mut.ensures.value c.unwrap-file.ensures in
     let w = c.forget_deleted.new.self in
-    let items : w.keys.items ≡ keys_in fs n = ap (λ k. k.items) c.forget_deleted.ensures.keys ∙ sym keys in
-    view_after inside n v w here c.forget_deleted.ensures.tail (keys_in fs n) items c.drop_piece.new.self (finite.remove p c.args.old) c.drop_piece.ensures.pieces c.self.inside.bytes
+    let items : w.keys.items ≡ keys_in fs n = ap (λ k. k.items) c.forget_deleted.ensures.keys ∙ sym file.keys in
+    view_after inside n v w file.here c.forget_deleted.ensures.tail (keys_in fs n) items c.drop_piece.new.self (finite.remove p c.args.old) c.drop_piece.ensures.pieces c.self.inside.bytes
     ∙ ap (λ (files : List KeyedFile). record { keyed = files; pieces = finite.remove p c.args.old }) (with_same fs n)
     ∙ ap (λ (v : FilesView). record { keyed = v.keyed; pieces = finite.remove v.pieces c.args.old }) c.self.view_is

@@ -1,10 +1,9 @@
-use Rattle.std.proofs.Common.{◌≡◌, List, map, refl, sym, ap, ◌∙◌, subst}
+use Rattle.std.proofs.Common.{◌≡◌, refl, sym, ap, ◌∙◌, subst}
 use Rattle.std.specs.FinMap as finite
 use Rattle.mm_store.proofs.lemmas.files.EntryLemmas.{same_view}
 use Rattle.mm_store.proofs.lemmas.files.KeptLemmas.{settled_kept}
 use Rattle.mm_store.proofs.files.Files.drop_replaced.Goals as goal
-use Rattle.mm_store.specs.Code.Kept.{file_of}
-use Rattle.mm_store.specs.Language.FilesView.{FilesView, KeyedFile}
+use Rattle.mm_store.specs.Language.FilesView.{FilesView}
 use Rattle.std.proofs.Common.{refl}
 use Rattle.mm_store.specs.Language.Pieces.{Replaced, IsParked}
 
@@ -12,20 +11,11 @@ pub invariant_of-self : goal.invariant_of-self
 invariant_of-self c =
     let n = c.args.number in
     let inside = c.self.inside in
-    let es = c.self.inside.files.entries in
-    let fs : List KeyedFile = map file_of es in
     let p = c.self.inside.pieces in
-    let once = c.self.invariant.once in
     let is_parked = subst (λ (view : FilesView). IsParked view.pieces c.args.old n Replaced) (sym c.self.view_is) c.requires in
     let p2 : c.drop_piece.new.self ≡ finite.remove p c.args.old = c.drop_piece.ensures.pieces in
     settled_kept inside n c.args.old is_parked c.drop_piece.new.self p2 c.self.invariant
 
 pub returns : goal.returns
 returns c =
-    let n = c.args.number in
-    let inside = c.self.inside in
-    let es = c.self.inside.files.entries in
-    let fs : List KeyedFile = map file_of es in
-    let p = c.self.inside.pieces in
-    let once = c.self.invariant.once in
     same_view _ _ refl c.drop_piece.ensures.pieces ∙ ap (λ (v : FilesView). record { keyed = v.keyed; pieces = finite.remove v.pieces c.args.old }) c.self.view_is

@@ -67,7 +67,6 @@ pub returns-clause-ok : goal.returns-clause-ok
 returns-clause-ok c =
     let inside = c.self.inside in
     let texts = map (λ (piece : PieceText). piece.text.items) c.in_ok-kept.kept.items in
-    let cut = map (λ (piece : Vec ℕ Global). piece.items) c.args.cut.pieces.items in
     let keys = c.from_vec.result in
     let put : ArePut inside.pieces texts keys.items c.put_all.new.self = subst (λ ks. ArePut inside.pieces texts ks c.put_all.new.self) (sym c.from_vec.ensures.items) c.in_ok-keys.ensures.ok in
     let missing : position (λ key. bytes_eq c.args.name.now key.items) (keys_of inside.files.entries) ≡ None =
@@ -81,7 +80,6 @@ returns-clause-ok c =
     done_ok c.insert.result c.unwrap.result _ c.unwrap.ensures c.insert.ensures.entries ∙ insert_entry-new (λ x y. bytes_eq x.items y.items) c.reserve.new.self c.in_ok-name.name value none
     ∙ ap (λ (es : List (Vec ℕ Global × FileText)). es ++ (c.in_ok-name.name, value) ∷ []) c.reserve.ensures.entries in
     let e : Vec ℕ Global × FileText = (c.in_ok-name.name, value) in
-    let after : Inside = record { files = c.insert.new.self; pieces = c.put_all.new.self; bytes = inside.bytes + c.args.bytes } in
     let old : plain (record { keyed = map file_of inside.files.entries; pieces = inside.pieces }) ≡ plain c.args.self.now = ap (λ (v : FilesView). plain v) c.self.view_is in
     ap (λ es. map (plain_file c.put_all.new.self) (map file_of es)) entries ∙ plain_added inside c.self.invariant e texts c.put_all.new.self put
     ∙ ap (λ (files : List File). with_file files c.in_ok-name.name.items texts c.args.cut.tail.items) old

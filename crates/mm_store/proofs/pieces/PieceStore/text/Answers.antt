@@ -16,7 +16,6 @@ unwrap-piece-requires c =
 pub returns-clause-text : goal.returns-clause-text
 returns-clause-text c =
     let there : get c.self.inside.slab c.args.key ≡ Some c.unwrap-piece.result.now = sym c.get.ensures ∙ ap option_copied c.unwrap-piece.ensures in
-    let kept = c.self.invariant.kept c.args.key c.unwrap-piece.result.now there in
     let text = text_is c.self.inside.slab c.args.key c.args.self.now c.unwrap-piece.result.now c.self.view_is there in
     c.deref.ensures.value ∙ sym text
 
@@ -24,5 +23,4 @@ pub returns-clause-small : goal.returns-clause-small
 returns-clause-small c =
     let there : get c.self.inside.slab c.args.key ≡ Some c.unwrap-piece.result.now = sym c.get.ensures ∙ ap option_copied c.unwrap-piece.ensures in
     let kept = c.self.invariant.kept c.args.key c.unwrap-piece.result.now there in
-    let text = text_is c.self.inside.slab c.args.key c.args.self.now c.unwrap-piece.result.now c.self.view_is there in
     rw c.deref.ensures.value kept.text.small
