@@ -1,5 +1,5 @@
 -- Each text has its cut or its first fault: what `cut` does, without its code.
-use Rattle.std.proofs.Common.{not, ◌≡◌, ◌≢◌, ◌⊎◌, ℕ, zero, suc, ◌+◌, ◌-◌, ◌<◌, ◌≤◌, List, [], ◌∷◌, ◌++◌, length, take, drop, Option, Some, None, Ok, Err, refl, sym, ap, ◌∙◌, inl, inr, arith}
+use Rattle.std.proofs.Common.{◌≡◌, ◌≢◌, ◌⊎◌, ℕ, zero, suc, ◌+◌, ◌-◌, ◌<◌, ◌≤◌, List, [], ◌∷◌, ◌++◌, length, take, drop, Option, Some, None, Ok, Err, refl, sym, ap, ◌∙◌, inl, inr, arith}
 use Rattle.std.specs.Prelude.{slice_range}
 use Rattle.std.specs.List.{prefix_len}
 use Rattle.std.specs.Str.{bytes_eq}
@@ -19,7 +19,6 @@ use Rattle.mm_text.specs.Language.Unit.{token_of}
 use Rattle.mm_text.specs.Code.UnitReading as m
 use Rattle.mm_text.specs.Code.LeftToRight.{word_kind, holds_mark, words_fault_at}
 use Rattle.mm_text.specs.Code.Grammar.{first_behind, blocks_behind}
-use Rattle.mm_text.specs.Code.LeftToRight.{has_dollar}
 use Rattle.mm_text.specs.Code.Reader.{runs_at, TakesSpan, SkipsComment, FailsInside, TakesWord, FailsBehind}
 use Rattle.mm_text.specs.Language.Cut.{ended, IsCut, IsFirstFault}
 use Rattle.mm_text.proofs.KindLemmas.{mark_stands, stands_mark}

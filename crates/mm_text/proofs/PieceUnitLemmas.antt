@@ -7,24 +7,24 @@ use Rattle.std.proofs.lemmas.Bool.{cases_Bool, false≢true}
 use Rattle.std.proofs.lemmas.List.{append-nil, take-append-drop, append_cancel_right, take-append-le, drop-append-le, drop-drop, length-append, length-map, length-take-le, length-drop, take-map}
 use Rattle.std.proofs.lemmas.List.Elements.{All-append, All-take, All-drop, All-nil, All-cons}
 use Rattle.std.proofs.lemmas.List.Quantifiers.{position-Some}
-use Rattle.std.proofs.lemmas.List.Sums.{fails_before_first, prefix_len-le-length}
+use Rattle.std.proofs.lemmas.List.Sums.{prefix_len-le-length}
 use Rattle.mm_text.specs.declared.word.Word.{Word}
 use Rattle.mm_text.specs.declared.word.WordKind.{WordKind}
 use Rattle.mm_text.specs.Language.Run.{Run, runs, runs_from, is_white, ends_run}
 use Rattle.mm_text.specs.Language.Reading.{is_allowed, first_bad, AreWords, HasWords}
-use Rattle.mm_text.specs.Language.Unit.{Token, token_of, tokens_of, Shape, Declaration, Labelled, Provable, Inclusion, shape_tokens, Units, Nothing, Simple, Block, unit_tokens, AreUnits}
+use Rattle.mm_text.specs.Language.Unit.{Token, token_of, tokens_of, Shape, Declaration, shape_tokens, Units, Nothing, Simple, Block, unit_tokens, AreUnits}
 use Rattle.mm_text.specs.Code.UnitReading as m
 use Rattle.mm_text.specs.Language.Cut.{ends_white, ended, IsOne, end_of_words, IsPiece, BeginsSolid}
 use Rattle.mm_text.specs.Code.Reader.{runs_at}
 use Rattle.mm_text.proofs.RunLemmas.{skip_white}
-use Rattle.mm_text.proofs.PositionLemmas.{Lying, words_lie, none_bad, passes}
+use Rattle.mm_text.proofs.PositionLemmas.{Lying, words_lie, none_found, passes}
 use Rattle.mm_text.proofs.UnitReadingLemmas.{IsWhole-run, run-IsWhole}
 use Rattle.mm_text.proofs.PieceLemmas.{feed_white, Seam, runs-append, shift_run, shift_word, runs-shift, words_unshift, line_end, ended_is, runs-ended, ended_white, ended-append, ends_behind}
 
 -- ---- bytes that a text may hold
 
 pub allowed_all : (text : List ℕ) → first_bad text ≡ None → AllPass is_allowed text
-allowed_all text e k d lt = passes (is_allowed (get_or text k d)) (fails_before_first (λ b. not (is_allowed b)) text k d (omega (arith, lt, none_bad text e)))
+allowed_all text e k d lt = passes (is_allowed (get_or text k d)) (none_found (λ b. not (is_allowed b)) text e k d lt)
 
 pub all_allowed : (text : List ℕ) → AllPass is_allowed text → first_bad text ≡ None
 all_allowed text h = by_place (first_bad text) refl where

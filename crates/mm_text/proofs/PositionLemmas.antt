@@ -2,7 +2,7 @@
 use Rattle.std.proofs.Common.{◌≡◌, ℕ, ◌+◌, ◌-◌, ◌<◌, ◌≤◌, Bool, true, false, not, ◌||◌, ◌&&◌, eqb, List, [], ◌∷◌, ◌++◌, append_assoc, length, take, drop, get_or, Option, Some, None, IfSome, Result}
 use Rattle.std.proofs.Common.{Err, IfErr, All, AllPairs, refl, sym, ap, ◌∙◌, subst, arith, inl, inr}
 use Rattle.std.specs.Prelude.{nat_le, nat_lt, slice_range, slice_get}
-use Rattle.std.specs.List.{flat_map, AllByRecursion, position_or_len}
+use Rattle.std.specs.List.{flat_map, AllByRecursion, position, position_or_len}
 use Rattle.std.proofs.lemmas.Bool.{cases_Bool, false≢true, or_cases, and_parts, eqb-true, leb-true, ltb-false}
 use Rattle.std.proofs.lemmas.List.{length-append}
 use Rattle.std.proofs.lemmas.Option.{slice_get_within, get_or_from_slice_get}
@@ -16,7 +16,7 @@ use Rattle.mm_text.specs.declared.fault.TextFault.{TextFault}
 use Rattle.mm_text.specs.declared.fault.TextError.{TextError}
 use Rattle.mm_text.specs.declared.fault.TextError.TheVariants as errors
 use Rattle.mm_text.specs.declared.fault.TextNumber.{TextNumber}
-use Rattle.mm_text.specs.declared.fault.TextNumber.TheVariants.{T01, T02, T03, T04, T05, T06, T07, T08, T09, T10, T11, T12}
+use Rattle.mm_text.specs.declared.fault.TextNumber.TheVariants.{T01, T02, T03, T04, T05, T07, T08}
 use Rattle.mm_text.specs.Language.Run.{Run, is_white, ends_run, runs}
 use Rattle.mm_text.specs.Language.Layout.{IsLaidOut}
 use Rattle.mm_text.specs.Language.Spelling.{IsSpelled, IsWord}
@@ -170,11 +170,11 @@ allowed_below b e =
       | inr printable ↦ let le : b ≤ 126 = leb-true b 126 (and_parts (nat_le 33 b) (nat_le b 126) printable).1 in omega (arith, le)
     ]
 
-pub none_bad : (text : List ℕ) → first_bad text ≡ None → length text ≤ position_or_len (λ b. not (is_allowed b)) text
-none_bad text e =
-    elim (cases_Bool (nat_lt (position_or_len (λ b. not (is_allowed b)) text) (length text))) [
+pub none_found : (test : ℕ → Bool) (bytes : List ℕ) → position test bytes ≡ None → (k d : ℕ) → k < length bytes → test (get_or bytes k d) ≡ false
+none_found test bytes e k d lt =
+    elim (cases_Bool (nat_lt (position_or_len test bytes) (length bytes))) [
       | inl found ↦ absurd (cc)
-      | inr none ↦ ltb-false (position_or_len (λ b. not (is_allowed b)) text) (length text) none
+      | inr none ↦ let most = ltb-false (position_or_len test bytes) (length bytes) none in fails_before_first test bytes k d (omega (arith, lt, most))
     ]
 
 pub passes : (b : Bool) → not b ≡ false → b ≡ true
@@ -183,9 +183,7 @@ passes false e = absurd cc
 
 -- a text without a bad byte has only bytes below 127
 pub all_below : (text : List ℕ) → first_bad text ≡ None → All (λ b. b < 127) text
-all_below text e k d lt =
-    let before : k < position_or_len (λ b. not (is_allowed b)) text = omega (arith, lt, none_bad text e) in
-    allowed_below (get_or text k d) (passes (is_allowed (get_or text k d)) (fails_before_first (λ b. not (is_allowed b)) text k d before))
+all_below text e k d lt = allowed_below (get_or text k d) (passes (is_allowed (get_or text k d)) (none_found (λ b. not (is_allowed b)) text e k d lt))
 
 -- the n-th word of a text lies in it
 pub nth_lies : (text : List ℕ) (words : List Word) (n : ℕ) (found : Option Word) → HasWords text words → found ≡ slice_get words n → IfSome found (LiesIn text)
