@@ -43,7 +43,7 @@ solid_most text from n is =
 
 run_by : (text : List ℕ) (from w n : ℕ) → w ≡ prefix_len is_white (take (length text - from) (drop from text)) → n ≡ prefix_len is_solid (take (length text - (from + w)) (drop (from + w) text)) → (runs_at text from ≡ []) ⊎ NextRun text from
 run_by text from w zero w-is n-is = inl (no_run text from w 0 w-is n-is refl)
-run_by text from w (suc n) w-is n-is = inr (_, from + w + suc n, takes_run text from (from + w) (suc n) _ (omega arith) (omega arith) (white_at text from w w-is) n-is refl, within) where
+run_by text from w (suc n) w-is n-is = inr (_, from + w + suc n, takes_run text from (from + w) (suc n) (omega arith) (omega arith) (white_at text from w w-is) n-is, within) where
   within : from + w + suc n ≤ length text
   within = let most : suc n ≤ length text - (from + w) = solid_most text (from + w) (suc n) n-is in omega arith
 

@@ -161,7 +161,7 @@ pub word_here : (text : List ℕ) (from start n : ℕ) (kind : WordKind) → fro
     → n ≡ prefix_len is_solid (take (length text - start) (drop start text)) → 0 < n → word_kind (take n (take (length text - start) (drop start text))) ≡ Some kind
     → TakesWord text from (record { kind = kind; start = start; end = start + n }) (start + n)
 word_here text from start n kind forward within white len some is =
-    pass_word text from from _ (start + n) (pass_none text from) (takes_run text from start n _ forward some white len refl) kind (sym (ap word_kind (front_is text start n)) ∙ is) within (omega arith)
+    pass_word text from from _ (start + n) (pass_none text from) (takes_run text from start n forward some white len) kind (sym (ap word_kind (front_is text start n)) ∙ is) within (omega arith)
 
 -- ---- what is read
 

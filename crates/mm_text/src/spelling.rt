@@ -39,7 +39,7 @@ pub fn white_len(bytes: &[u8]) -> usize
 }
 
 /// How many bytes stand before the first white space, or before the end.
-fn run_len(bytes: &[u8]) -> usize
+pub fn run_len(bytes: &[u8]) -> usize
     ensures within { result ≤ length bytes.now }
     ensures value { result ≡ prefix_len is_solid bytes.now }
 {
@@ -55,40 +55,6 @@ fn is_plain_byte(byte: u8) -> bool
     ensures { result ≡ is_dollarless byte }
 {
     byte > b'$' || !(byte == b'$' || is_white_space(byte))
-}
-
-/// How many bytes stand before the first white space or `$`, or before the end.
-fn plain_len(bytes: &[u8]) -> usize
-    ensures within { result ≤ length bytes.now }
-    ensures value { result ≡ prefix_len is_dollarless bytes.now }
-{
-    bytes
-        .iter()
-        .take_while(|byte| is_plain_byte(**byte))
-        .count()
-}
-
-/// The run that some bytes begin with.
-#[derive(Clone, Copy)]
-pub struct Front {
-    /// How many bytes it has: none where there is no run.
-    pub len: usize,
-    /// It has no `$`.
-    pub plain: bool,
-}
-
-/// The run that these bytes begin with. Each byte of a run without `$` is looked at once.
-pub fn first_run(bytes: &[u8]) -> Front
-    ensures within { result.len ≤ length bytes.now }
-    ensures len { result.len ≡ prefix_len is_solid bytes.now }
-    ensures plain { result.plain ≡ not (has_dollar (take result.len bytes.now)) }
-{
-    let plain = plain_len(bytes);
-    let more = run_len(&bytes[plain..]);
-    Front {
-        len: plain + more,
-        plain: more == 0,
-    }
 }
 
 /// Where the first white space or `$` stands.
