@@ -56,8 +56,7 @@ join_tokens a b ws vs f g =
     ∙ map-append bare (tokens_of a ws) (tokens_of (a ++ b) (map (shift_word (length a)) vs)) ∙ ap (λ (ts : List Token). map bare (tokens_of a ws) ++ ts) later ∙ sym (map-append bare (tokens_of a ws) (tokens_of b vs))
 
 join_whole : (a b : List ℕ) (ws vs : List Word) → HasWords a ws → HasWords b vs → WholeRun (tokens_of a ws) → WholeRun (tokens_of b vs) → WholeRun (tokens_of (a ++ b) (ws ++ map (shift_word (length a)) vs))
-join_whole a b ws vs f g x y =
-    run_bare (tokens_of (a ++ b) (ws ++ map (shift_word (length a)) vs)) (tokens_of a ws ++ tokens_of b vs) m.Begin 0 (join_tokens a b ws vs f g) ∙ run-append (tokens_of a ws) (tokens_of b vs) m.Begin 0 (m.Begin, 0) x ∙ y
+join_whole a b ws vs f g x y = run_bare (tokens_of (a ++ b) (ws ++ map (shift_word (length a)) vs)) (tokens_of a ws ++ tokens_of b vs) m.Begin 0 (join_tokens a b ws vs f g) ∙ run-append (tokens_of a ws) (tokens_of b vs) m.Begin 0 (m.Begin, 0) x ∙ y
 
 -- ---- the words of a text that has a cut
 
@@ -163,17 +162,7 @@ meets text number at allowed fault h = record {
 
 sorted : (text : List ℕ) (number : TextNumber) (at : ℕ) → IsFirstFaultAt text number at → Sorted text number at
 sorted text T01 at h = inl (refl, h)
-sorted text T02 at h = inr (inl (record {
-  allowed = h.0;
-  fault = (h.0, h.1.ends);
-  front = runs text;
-  rest = [];
-  joined = sym (append-nil (runs text));
-  found = h.1.found;
-  held = inr h.1.read;
-  viable = h.1.viable;
-  stuck = λ run more e. absurd cc;
-}))
+sorted text T02 at h = inr (inl (record { allowed = h.0; fault = (h.0, h.1.ends); front = runs text; rest = []; joined = sym (append-nil (runs text)); found = h.1.found; held = inr h.1.read; viable = h.1.viable; stuck = λ run more e. absurd cc }))
 sorted text T03 at h = inr (inl (meets text T03 at h.0 (h.0, h.1.stop) h.1))
 sorted text T04 at h = inr (inl (meets text T04 at h.0 (h.0, h.1.stop) h.1))
 sorted text T05 at h = inr (inl (meets text T05 at h.0 (h.0, h.1.stop) h.1))
@@ -358,8 +347,7 @@ no_longer p (z ∷ zs) rest f g solid = absurd (false≢true (sym solid ∙ pass
   lie = words_lie p f.words f.has_words
 
   tokens : unit_tokens f.units ++ tokens_of (p ++ z ∷ zs) more.0 ≡ unit_tokens g.units
-  tokens =
-      ap (λ (ts : List Token). ts ++ tokens_of (p ++ z ∷ zs) more.0) (f.spells ∙ sym (tokens-front p (z ∷ zs) f.words 0 lie)) ∙ sym (map-append (token_of (p ++ z ∷ zs)) f.words more.0) ∙ ap (tokens_of (p ++ z ∷ zs)) (sym more.1) ∙ sym g.spells
+  tokens = ap (λ (ts : List Token). ts ++ tokens_of (p ++ z ∷ zs) more.0) (f.spells ∙ sym (tokens-front p (z ∷ zs) f.words 0 lie)) ∙ sym (map-append (token_of (p ++ z ∷ zs)) f.words more.0) ∙ ap (tokens_of (p ++ z ∷ zs)) (sym more.1) ∙ sym g.spells
 
   same : g.words ≡ f.words
   same = more.1 ∙ ap (λ (us : List Word). f.words ++ us) (no_words_left (p ++ z ∷ zs) more.0 (one_piece_more f.units g.units (tokens_of (p ++ z ∷ zs) more.0) f.are_units g.are_units f.one g.one tokens)) ∙ append-nil f.words
@@ -400,9 +388,7 @@ same_pieces (p ∷ ps) (q ∷ qs) s t e f g = by_cut (cut_twice p (concat ps ++ 
   all = sym (append_assoc p (concat ps) s) ∙ e ∙ append_assoc q (concat qs) t
 
   alike : p ≡ q → ((concat ps ++ s ≡ concat qs ++ t) → (ps ≡ qs) × (s ≡ t)) → (p ∷ ps ≡ q ∷ qs) × (s ≡ t)
-  alike same more =
-      let rest = more (append_cancel_left q (concat ps ++ s) (concat qs ++ t) (ap (λ (bs : List ℕ). bs ++ (concat ps ++ s)) (sym same) ∙ all)) in
-      (cc, rest.1)
+  alike same more = let rest = more (append_cancel_left q (concat ps ++ s) (concat qs ++ t) (ap (λ (bs : List ℕ). bs ++ (concat ps ++ s)) (sym same) ∙ all)) in (cc, rest.1)
 
   by_cut : ((zs : List ℕ) × (p ≡ q ++ zs) × (zs ++ (concat ps ++ s) ≡ concat qs ++ t)) ⊎ ((zs : List ℕ) × (q ≡ p ++ zs) × (concat ps ++ s ≡ zs ++ (concat qs ++ t)))
       → ((concat ps ++ s ≡ concat qs ++ t) → (ps ≡ qs) × (s ≡ t)) → (p ∷ ps ≡ q ∷ qs) × (s ≡ t)

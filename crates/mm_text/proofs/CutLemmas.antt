@@ -271,8 +271,7 @@ module _ (text : List ℕ) (pieces : List (List ℕ)) (from at : ℕ) (phase : m
       long = ap length (map-append (token_of text) h.part (word ∷ [])) ∙ length-append (tokens_of text h.part) (token_of text word ∷ [])
 
       inner_next : (n : ℕ) → 0 < n → n ≤ length (tokens_of text h.part) → ¬ WholeRun (take n (tokens_of text more_words))
-      inner_next n some less whole =
-          h.inner n some less (ap (m.run m.Begin 0) (sym (ap (take n) (map-append (token_of text) h.part (word ∷ [])) ∙ take-append-le n (tokens_of text h.part) (token_of text word ∷ []) less)) ∙ whole)
+      inner_next n some less whole = h.inner n some less (ap (m.run m.Begin 0) (sym (ap (take n) (map-append (token_of text) h.part (word ∷ [])) ∙ take-append-le n (tokens_of text h.part) (token_of text word ∷ []) less)) ∙ whole)
 
       pub progress_more : ¬ ((next ≡ m.Begin) × (next_blocks ≡ [])) → Progress text pieces from to next next_first next_blocks
       progress_more on = record {

@@ -4,9 +4,7 @@ use Rattle.std.proofs.lemmas.List.{length-drop}
 use Rattle.mm_text.specs.Code.LeftToRight.{is_mark, holds_mark}
 
 mark_at : (run : List ℕ) (k : ℕ) → suc k < length run → holds_mark (drop k run) ≡ (is_mark (get_or run k 0) (get_or run (suc k) 0) || holds_mark (drop (suc k) run))
-mark_at run k lt =
-    let here : k < length run = omega arith in
-    rw (drop-cons run k 0, drop-cons run (suc k) 0) refl
+mark_at run k lt = let here : k < length run = omega arith in rw (drop-cons run k 0, drop-cons run (suc k) 0) refl
 
 pub mark_step : (run : List ℕ) (i : ℕ) → 1 ≤ i → i < length run → is_mark (get_or run (i - 1) 0) (get_or run i 0) ≡ false → holds_mark (drop (i - 1) run) ≡ holds_mark (drop (i + 1 - 1) run)
 mark_step run i some lt not_mark =

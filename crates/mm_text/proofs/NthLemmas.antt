@@ -32,6 +32,4 @@ nth_of words left new n (Some word) at h = ap (λ (l : List Word). slice_get l 0
 
 -- where no word is left there is none behind
 pub nth_past : (words left : List Word) (n m : ℕ) → left ≡ drop n words → left ≡ [] → n < m → None ≡ slice_get words m
-nth_past words left n m at none less =
-    let past : length words ≤ m = omega (arith, length-drop n words, ap length (sym at ∙ none)) in
-    sym (slice_get_past words m past)
+nth_past words left n m at none less = let past : length words ≤ m = omega (arith, length-drop n words, ap length (sym at ∙ none)) in sym (slice_get_past words m past)

@@ -84,15 +84,7 @@ alone_from text first more has word to taken within =
     let all = first ∷ more in
     let f = first_word (read_runs None (runs_at text 0)) (read_runs None (runs_at text to)) word all (word_read text 0 word to taken) (read_words (runs text) all has.words_are) in
     let same : word.start ≡ first.start = (let e : word ≡ first = cc in ap (λ (w : Word). w.start) e) in
-    subst (Alone text all has) same (walk text all has word.start (length text) to (omega arith) (record {
-      begun = begun_first text 0 word to taken;
-      rest = f.0;
-      reads = f.2;
-      joined = f.1;
-      last = taken.next;
-      ends = taken.ends;
-      within = within;
-    }))
+    subst (Alone text all has) same (walk text all has word.start (length text) to (omega arith) (record { begun = begun_first text 0 word to taken; rest = f.0; reads = f.2; joined = f.1; last = taken.next; ends = taken.ends; within = within }))
 
 pub alone : (text : List ℕ) (first : Word) (more : List Word) (has : HasWords text (first ∷ more)) → Alone text (first ∷ more) has first.start
 alone text first more has = by_given (word_from (length text) text 0 0 (omega arith) (omega arith) (pass_none text 0)) where
@@ -122,8 +114,7 @@ last_end text [] last (word ∷ []) at lie e = let same : last ≡ token_of text
 last_end text [] last (word ∷ next ∷ words) at lie e = absurd (omega (arith, ap length e))
 last_end text (token ∷ front) last (word ∷ []) at lie e = absurd (omega (arith, ap length e, length-append front (last ∷ [])))
 last_end text (token ∷ front) last (word ∷ next ∷ words) at lie e =
-    let rest : front ++ last ∷ [] ≡ tokens_of text (next ∷ words) = cc in
-    last_end text front last (next ∷ words) (word.end + 1) lie.2 rest
+    let rest : front ++ last ∷ [] ≡ tokens_of text (next ∷ words) = cc in last_end text front last (next ∷ words) (word.end + 1) lie.2 rest
 
 -- the first word of a statement and its last
 record Ends (shape : Shape) : Type 0 where
@@ -157,8 +148,7 @@ statement_alone text shape own units are = by units.words units.has_words (sym (
   ends : Ends shape
   ends = ends_of shape
 
-  by : (words : List Word) → HasWords text words → shape_tokens shape ≡ tokens_of text words
-      → spellings (slice_range text (shape_part shape).start (shape_part shape).end) own ≡ map (λ token. token.bytes) (shape_tokens shape)
+  by : (words : List Word) → HasWords text words → shape_tokens shape ≡ tokens_of text words → spellings (slice_range text (shape_part shape).start (shape_part shape).end) own ≡ map (λ token. token.bytes) (shape_tokens shape)
   by [] has tokens = absurd (let none : ends.first ∷ ends.more ≡ [] = sym ends.begins ∙ tokens in omega (arith, ap length none))
   by (word ∷ words) has tokens =
       let all : ends.first ∷ ends.more ≡ tokens_of text (word ∷ words) = sym ends.begins ∙ tokens in

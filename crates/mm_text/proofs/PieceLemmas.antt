@@ -164,44 +164,27 @@ abbrev pub line_end : List ℕ → List ℕ
 line_end text = if ends_white text then [] else 10 ∷ []
 
 pub ended_is : (text : List ℕ) → ended text ≡ text ++ line_end text
-ended_is text =
-    elim (cases_Bool (ends_white text)) [
-      | inl white ↦ rw white (sym (append-nil text))
-      | inr open_end ↦ rw open_end refl
-    ]
+ended_is text = elim (cases_Bool (ends_white text)) [ inl white ↦ rw white (sym (append-nil text)) | inr open_end ↦ rw open_end refl ]
 
 pub feed_white : is_white 10 ≡ true
 unfolding is_white
 feed_white = refl
 
 seam_end : (text : List ℕ) → Seam text (line_end text)
-seam_end text =
-    elim (cases_Bool (ends_white text)) [
-      | inl white ↦ rw white refl
-      | inr open_end ↦ rw (open_end, feed_white) refl
-    ]
+seam_end text = elim (cases_Bool (ends_white text)) [ inl white ↦ rw white refl | inr open_end ↦ rw (open_end, feed_white) refl ]
 
 no_runs : (text : List ℕ) (at : ℕ) → runs_from at (line_end text) ≡ []
-no_runs text at =
-    elim (cases_Bool (ends_white text)) [
-      | inl white ↦ rw white refl
-      | inr open_end ↦ rw (open_end, feed_white) refl
-    ]
+no_runs text at = elim (cases_Bool (ends_white text)) [ inl white ↦ rw white refl | inr open_end ↦ rw (open_end, feed_white) refl ]
 
 pub runs-ended : (at : ℕ) (text : List ℕ) → runs_from at (ended text) ≡ runs_from at text
-runs-ended at text =
-    ap (runs_from at) (ended_is text) ∙ runs-append text (line_end text) at (seam_end text) ∙ ap (λ (rs : List Run). runs_from at text ++ rs) (no_runs text (at + length text)) ∙ append-nil (runs_from at text)
+runs-ended at text = ap (runs_from at) (ended_is text) ∙ runs-append text (line_end text) at (seam_end text) ∙ ap (λ (rs : List Run). runs_from at text ++ rs) (no_runs text (at + length text)) ∙ append-nil (runs_from at text)
 
 ends_feed : (text : List ℕ) → ends_white (text ++ 10 ∷ []) ≡ true
 ends_feed (b ∷ c ∷ text) = ends_feed (c ∷ text)
 ends_feed _ = feed_white
 
 pub ended_white : (text : List ℕ) → ends_white (ended text) ≡ true
-ended_white text =
-    elim (cases_Bool (ends_white text)) [
-      | inl white ↦ rw (white, white) refl
-      | inr open_end ↦ rw open_end (ends_feed text)
-    ]
+ended_white text = elim (cases_Bool (ends_white text)) [ inl white ↦ rw (white, white) refl | inr open_end ↦ rw open_end (ends_feed text) ]
 
 pub ends_behind : (a b : List ℕ) (c : ℕ) → ends_white (a ++ c ∷ b) ≡ ends_white (c ∷ b)
 ends_behind (d ∷ e ∷ a) b c = ends_behind (e ∷ a) b c
@@ -226,8 +209,7 @@ ended-append a (c ∷ b) h solid = by_white (cases_Bool (ends_white a)) (cases_B
   by_white : (ends_white a ≡ true) ⊎ (ends_white a ≡ false) → (ends_white (c ∷ b) ≡ true) ⊎ (ends_white (c ∷ b) ≡ false) → ended (a ++ c ∷ b) ≡ ended a ++ ended (c ∷ b)
   by_white (inr no_white) either = absurd (last no_white)
   by_white (inl white) (inl all) = kept (a ++ c ∷ b) (behind ∙ all) ∙ ap (λ (bs : List ℕ). bs ++ c ∷ b) (sym (kept a white)) ∙ ap (λ (bs : List ℕ). ended a ++ bs) (sym (kept (c ∷ b) all))
-  by_white (inl white) (inr open_end) =
-      fed (a ++ c ∷ b) (behind ∙ open_end) ∙ append_assoc a (c ∷ b) (10 ∷ []) ∙ ap (λ (bs : List ℕ). bs ++ ((c ∷ b) ++ 10 ∷ [])) (sym (kept a white)) ∙ ap (λ (bs : List ℕ). ended a ++ bs) (sym (fed (c ∷ b) open_end))
+  by_white (inl white) (inr open_end) = fed (a ++ c ∷ b) (behind ∙ open_end) ∙ append_assoc a (c ∷ b) (10 ∷ []) ∙ ap (λ (bs : List ℕ). bs ++ ((c ∷ b) ++ 10 ∷ [])) (sym (kept a white)) ∙ ap (λ (bs : List ℕ). ended a ++ bs) (sym (fed (c ∷ b) open_end))
 
 abbrev pub white_or_none : Option ℕ → Bool
 white_or_none None = true

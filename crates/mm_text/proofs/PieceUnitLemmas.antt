@@ -31,9 +31,7 @@ all_allowed text h = by_place (first_bad text) refl where
   by_place : (o : Option ℕ) → first_bad text ≡ o → first_bad text ≡ None
   by_place None e = e
   by_place (Some i) e =
-      let bad = position-Some (λ b. not (is_allowed b)) text i 0 e in
-      let good : is_allowed (get_or text i 0) ≡ true = h i 0 bad.0 in
-      absurd (false≢true (ap not (sym good) ∙ bad.1))
+      let bad = position-Some (λ b. not (is_allowed b)) text i 0 e in let good : is_allowed (get_or text i 0) ≡ true = h i 0 bad.0 in absurd (false≢true (ap not (sym good) ∙ bad.1))
 
 feed_allowed : is_allowed 10 ≡ true
 unfolding is_allowed is_white
@@ -192,8 +190,7 @@ later_none front later one some whole = by_units (units_some later) where
 
 is_one : (tokens : List Token) (units : Units) → AreUnits true units → unit_tokens units ≡ tokens → 0 < length tokens → HasOne tokens → IsOne units
 is_one tokens Nothing h e some one = let none : length tokens ≡ 0 = ap length (sym e) in omega arith
-is_one tokens (Simple shape later) h e some one =
-    later_none (shape_tokens shape) later (subst HasOne (sym e) one) (shape_some shape) (IsWhole-run (shape_tokens shape) (Simple shape Nothing, (h.0, tt), append-nil (shape_tokens shape)))
+is_one tokens (Simple shape later) h e some one = later_none (shape_tokens shape) later (subst HasOne (sym e) one) (shape_some shape) (IsWhole-run (shape_tokens shape) (Simple shape Nothing, (h.0, tt), append-nil (shape_tokens shape)))
 is_one tokens (Block begin inner end later) h e some one =
     let joined : tokens ≡ (begin ∷ (unit_tokens inner ++ end ∷ [])) ++ unit_tokens later = sym e ∙ ap (λ (ts : List Token). begin ∷ ts) (sym (append_assoc (unit_tokens inner) (end ∷ []) (unit_tokens later))) in
     later_none (begin ∷ (unit_tokens inner ++ end ∷ [])) later (subst HasOne joined one) (omega arith) (IsWhole-run (begin ∷ (unit_tokens inner ++ end ∷ [])) (Block begin inner end Nothing, (h.0, h.1, h.2, tt), refl))

@@ -11,10 +11,7 @@ use Rattle.mm_text.proofs.SkipLemmas.{none_before}
 
 -- a run that ends at the first byte that is white space or a `$`, or where there is none
 solid_is : (b : ℕ) → not (is_dollarless b) ≡ false → (is_solid b ≡ true) × (¬ (eqb b 36 ≡ true))
-solid_is b e = elim (cases_Bool (is_white b)) [
-  | inl white ↦ absurd (false≢true (sym (rw white at e)))
-  | inr solid ↦ (rw solid refl, λ dollar. false≢true (sym (rw (solid, dollar) at e)))
-]
+solid_is b e = elim (cases_Bool (is_white b)) [ inl white ↦ absurd (false≢true (sym (rw white at e))) | inr solid ↦ (rw solid refl, λ dollar. false≢true (sym (rw (solid, dollar) at e))) ]
 
 white_is : (b : ℕ) → not (is_dollarless b) ≡ true → ¬ (b ≡ 36) → is_solid b ≡ false
 white_is b e other = elim (cases_Bool (is_white b)) [ inl white ↦ rw white refl | inr solid ↦ absurd (false≢true (rw (solid, ne_eqb b 36 other) at e)) ]

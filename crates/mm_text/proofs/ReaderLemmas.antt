@@ -69,16 +69,7 @@ module _ (text : List ℕ) (from at : ℕ) (span : Span) (to : ℕ) (h : Skippin
   skip_end closes = record { inside = h.inside; last = run_of text span; joined = onto; no_marks = h.no_marks; closed = closes }
 
   pub skip_fault : (start : ℕ) → HoldsMark (run_of text span).bytes → (run_of text span).bytes ≢ closing → FailsInside (runs_at text from) start T03 span.start
-  skip_fault start holds differs = record {
-    inside = h.inside;
-    run = run_of text span;
-    rest = runs_at text to;
-    joined = onto;
-    no_marks = h.no_marks;
-    holds = holds;
-    differs = differs;
-    place = refl;
-  }
+  skip_fault start holds differs = record { inside = h.inside; run = run_of text span; rest = runs_at text to; joined = onto; no_marks = h.no_marks; holds = holds; differs = differs; place = refl }
 
 pub skip_open : (text : List ℕ) (from at start : ℕ) → Skipping text from at → runs_at text at ≡ [] → FailsInside (runs_at text from) start T02 start
 skip_open text from at start h none =
@@ -100,8 +91,7 @@ pass_none text from = record { seen = []; joined = refl; reads = none_read }
 
 pub pass_end : (text : List ℕ) (from at : ℕ) → Passing text from at → runs_at text at ≡ [] → AreWords (runs_at text from) []
 pass_end text from at h none =
-    let all : h.seen ≡ runs_at text from = sym (append-nil h.seen) ∙ sym (h.joined ∙ ap (λ (rs : List Run). h.seen ++ rs) none) in
-    subst (λ (rs : List Run). AreWords rs []) all h.reads
+    let all : h.seen ≡ runs_at text from = sym (append-nil h.seen) ∙ sym (h.joined ∙ ap (λ (rs : List Run). h.seen ++ rs) none) in subst (λ (rs : List Run). AreWords rs []) all h.reads
 
 module _ (text : List ℕ) (from at : ℕ) (span : Span) (to : ℕ) (h : Passing text from at) (run : TakesSpan text at span to) where
   there : runs_at text from ≡ h.seen ++ run_of text span ∷ runs_at text to

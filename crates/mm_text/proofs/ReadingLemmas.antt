@@ -81,8 +81,7 @@ made_word kind start end = record { kind = kind; start = start; end = end }
 
 word_is : (run : Run) (word : Word) → IsWord run word → word_at run word.kind ≡ word
 unfolding made_word
-word_is run word is =
-    ap (λ (s : ℕ). made_word word.kind s (run.start + length run.bytes)) (sym is.start) ∙ ap (λ (e : ℕ). made_word word.kind word.start e) (sym is.end)
+word_is run word is = ap (λ (s : ℕ). made_word word.kind s (run.start + length run.bytes)) (sym is.start) ∙ ap (λ (e : ℕ). made_word word.kind word.start e) (sym is.end)
 
 not_opening : (kind : WordKind) (bytes : List ℕ) → IsSpelled kind bytes → bytes ≢ opening
 not_opening kind bytes is e = let found : word_kind opening ≡ Some kind = ap word_kind (sym e) ∙ spelled_kind kind bytes is in cc
@@ -104,8 +103,7 @@ closing_marks bytes e = mark_stands bytes (ap holds_mark e)
 
 read_inside : (start : ℕ) (inside tail : List Run) → HoldNoMarks inside → read_runs (Some start) (inside ++ tail) ≡ read_runs (Some start) tail
 read_inside start [] tail h = refl
-read_inside start (run ∷ inside) tail h =
-    inside_more start run (inside ++ tail) (λ e. h.0 (closing_marks run.bytes e)) (no_mark_is run.bytes h.0) ∙ read_inside start inside tail h.1
+read_inside start (run ∷ inside) tail h = inside_more start run (inside ++ tail) (λ e. h.0 (closing_marks run.bytes e)) (no_mark_is run.bytes h.0) ∙ read_inside start inside tail h.1
 
 with_none : (r : Read) → with_words [] r ≡ r
 with_none (Ok words) = refl
@@ -117,8 +115,7 @@ with_cons word words (Err fault) = refl
 
 read_parts : (parts : List Segment) → AllByRecursion IsSegment parts → (tail : List Run) → read_runs None (flat_map segment_runs parts ++ tail) ≡ with_words (flat_map segment_words parts) (read_runs None tail)
 read_parts [] each tail = sym (with_none (read_runs None tail))
-read_parts (Single run word ∷ parts) each tail =
-    read_word run word (flat_map segment_runs parts ++ tail) each.0 ∙ ap (cons_word word) (read_parts parts each.1 tail) ∙ with_cons word (flat_map segment_words parts) (read_runs None tail)
+read_parts (Single run word ∷ parts) each tail = read_word run word (flat_map segment_runs parts ++ tail) each.0 ∙ ap (cons_word word) (read_parts parts each.1 tail) ∙ with_cons word (flat_map segment_words parts) (read_runs None tail)
 read_parts (Comment first inside last ∷ parts) each tail =
     ap (read_runs None) (ap (λ (rs : List Run). first ∷ rs) (append_assoc (inside ++ last ∷ []) (flat_map segment_runs parts) tail ∙ append_assoc inside (last ∷ []) (flat_map segment_runs parts ++ tail)))
     ∙ outside_open first (inside ++ last ∷ (flat_map segment_runs parts ++ tail)) each.0.opened
@@ -127,8 +124,7 @@ read_parts (Comment first inside last ∷ parts) each tail =
     ∙ read_parts parts each.1 tail
 
 pub read_whole : (seen : List Run) (words : List Word) → AreWords seen words → (tail : List Run) → read_runs None (seen ++ tail) ≡ with_words words (read_runs None tail)
-read_whole seen words h tail =
-    ap (λ (rs : List Run). read_runs None (rs ++ tail)) (sym h.reading.joined) ∙ read_parts h.parts h.reading.each tail ∙ ap (λ (ws : List Word). with_words ws (read_runs None tail)) h.singles
+read_whole seen words h tail = ap (λ (rs : List Run). read_runs None (rs ++ tail)) (sym h.reading.joined) ∙ read_parts h.parts h.reading.each tail ∙ ap (λ (ws : List Word). with_words ws (read_runs None tail)) h.singles
 
 read_behind : (state : Option ℕ) (seen : List Run) (words : List Word) → Behind state seen words → (tail : List Run) → read_runs None (seen ++ tail) ≡ with_words words (read_runs state tail)
 read_behind None seen words h tail = read_whole seen words h tail
@@ -285,24 +281,11 @@ fault_from_read runs fault e = subst (λ (r : Read). Outcome runs [] r) e (outco
 -- ---- a fault is what is read
 
 open_read : (runs : List Run) (first : Run) (h : IsOpen runs first) → (words : List Word) × InComment first.start runs words
-open_read runs first h = (
-  flat_map segment_words h.before.0,
-  record {
-    front = h.front;
-    first = first;
-    inside = h.inside;
-    joined = h.joined;
-    before = whole_words h.front h.before.0 h.before.1;
-    begins = refl;
-    opened = h.opened;
-    no_marks = h.no_marks;
-  },
-)
+open_read runs first h = (flat_map segment_words h.before.0, record { front = h.front; first = first; inside = h.inside; joined = h.joined; before = whole_words h.front h.before.0 h.before.1; begins = refl; opened = h.opened; no_marks = h.no_marks })
 
 split_read : (runs front : List Run) (run : Run) (rest : List Run) (state : Option ℕ) (words : List Word) (fault : TextFault) → runs ≡ front ++ run ∷ rest → Behind state front words
     → read_runs state (run ∷ rest) ≡ Err fault → read_runs None runs ≡ Err fault
-split_read runs front run rest state words fault joined h e =
-    ap (read_runs None) joined ∙ read_behind state front words h (run ∷ rest) ∙ err_with words fault (read_runs state (run ∷ rest)) e
+split_read runs front run rest state words fault joined h e = ap (read_runs None) joined ∙ read_behind state front words h (run ∷ rest) ∙ err_with words fault (read_runs state (run ∷ rest)) e
 
 placed : (number : TextNumber) (runs : List Run) (start at : ℕ) → at ≡ start → read_runs None runs ≡ Err (words_fault_at number start) → read_runs None runs ≡ Err (words_fault_at number at)
 placed number runs start at e h = h ∙ ap (λ (k : ℕ). Err (words_fault_at number k)) (sym e)

@@ -17,18 +17,14 @@ plain_split : (xs ys : List Token) (p q : Token) (s t : List Token) → AllByRec
 plain_split [] [] p q s t f g no_p no_q e = (refl, cc, cc)
 plain_split [] (y ∷ ys) p q s t f g no_p no_q e = let same : y ≡ p = cc in absurd (no_p (subst (λ (t : Token). IsPlain t) same g.0))
 plain_split (x ∷ xs) [] p q s t f g no_p no_q e = let same : x ≡ q = cc in absurd (no_q (subst (λ (t : Token). IsPlain t) same f.0))
-plain_split (x ∷ xs) (y ∷ ys) p q s t f g no_p no_q e =
-    let rest : xs ++ p ∷ s ≡ ys ++ q ∷ t = cc in
-    let more = plain_split xs ys p q s t f.1 g.1 no_p no_q rest in
-    (cc, more.1, more.2)
+plain_split (x ∷ xs) (y ∷ ys) p q s t f g no_p no_q e = let rest : xs ++ p ∷ s ≡ ys ++ q ∷ t = cc in let more = plain_split xs ys p q s t f.1 g.1 no_p no_q rest in (cc, more.1, more.2)
 
 not_plain : (token : Token) (k : Keyword) → IsKeyword k token → ¬ IsPlain token
 not_plain token k is plain = cc
 
 rest_split : (xs ys : List Token) (p q : Token) (s t : List Token) → AllByRecursion IsPlain xs → AllByRecursion IsPlain ys → IsKeyword StatementEnd p → IsKeyword StatementEnd q
     → (xs ++ p ∷ []) ++ s ≡ (ys ++ q ∷ []) ++ t → (xs ≡ ys) × (p ≡ q) × (s ≡ t)
-rest_split xs ys p q s t f g is_p is_q e =
-    plain_split xs ys p q s t f g (not_plain p StatementEnd is_p) (not_plain q StatementEnd is_q) (sym (append_assoc xs (p ∷ []) s) ∙ e ∙ append_assoc ys (q ∷ []) t)
+rest_split xs ys p q s t f g is_p is_q e = plain_split xs ys p q s t f g (not_plain p StatementEnd is_p) (not_plain q StatementEnd is_q) (sym (append_assoc xs (p ∷ []) s) ∙ e ∙ append_assoc ys (q ∷ []) t)
 
 proof_split : (xs ys : List Token) (p q : Token) (xs' ys' : List Token) (p' q' : Token) (s t : List Token) → AllByRecursion IsPlain xs → AllByRecursion IsPlain ys → IsKeyword ProofStart p → IsKeyword ProofStart q
     → AllByRecursion IsPlain xs' → AllByRecursion IsPlain ys' → IsKeyword StatementEnd p' → IsKeyword StatementEnd q' → (xs ++ p ∷ (xs' ++ p' ∷ [])) ++ s ≡ (ys ++ q ∷ (ys' ++ q' ∷ [])) ++ t
@@ -59,17 +55,13 @@ labels_not token (inr (inr is)) other = cc
 
 pub one_shape : (o : Bool) (a b : Shape) (s t : List Token) → IsShape o a → IsShape o b → shape_tokens a ++ s ≡ shape_tokens b ++ t → (a ≡ b) × (s ≡ t)
 one_shape o (Declaration k xs p) (Declaration l ys q) s t f g e =
-    let rest : (xs ++ p ∷ []) ++ s ≡ (ys ++ q ∷ []) ++ t = cc in
-    let split : (xs ≡ ys) × (p ≡ q) × (s ≡ t) = rest_split xs ys p q s t f.1 g.1 f.2 g.2 rest in
-    (cc, split.2)
+    let rest : (xs ++ p ∷ []) ++ s ≡ (ys ++ q ∷ []) ++ t = cc in let split : (xs ≡ ys) × (p ≡ q) × (s ≡ t) = rest_split xs ys p q s t f.1 g.1 f.2 g.2 rest in (cc, split.2)
 one_shape o (Declaration k xs p) (Labelled m l ys q) s t f g e = let first : m ≡ k = cc in absurd (declares_not k f.0 (inl (subst (λ (t : Token). IsPlain t) first g.0.0)))
 one_shape o (Declaration k xs p) (Provable m l ys q zs r) s t f g e = let first : m ≡ k = cc in absurd (declares_not k f.0 (inl (subst (λ (t : Token). IsPlain t) first g.0.0)))
 one_shape o (Declaration k xs p) (Inclusion b n d) s t f g e = let first : b ≡ k = cc in absurd (declares_not k f.0 (inr (subst (λ (t : Token). IsKeyword InclusionStart t) first g.1)))
 one_shape o (Labelled m k xs p) (Declaration l ys q) s t f g e = let first : m ≡ l = cc in absurd (declares_not l g.0 (inl (subst (λ (t : Token). IsPlain t) first f.0.0)))
 one_shape o (Labelled m k xs p) (Labelled n l ys q) s t f g e =
-    let rest : (xs ++ p ∷ []) ++ s ≡ (ys ++ q ∷ []) ++ t = cc in
-    let split : (xs ≡ ys) × (p ≡ q) × (s ≡ t) = rest_split xs ys p q s t f.2 g.2 f.3 g.3 rest in
-    (cc, split.2)
+    let rest : (xs ++ p ∷ []) ++ s ≡ (ys ++ q ∷ []) ++ t = cc in let split : (xs ≡ ys) × (p ≡ q) × (s ≡ t) = rest_split xs ys p q s t f.2 g.2 f.3 g.3 rest in (cc, split.2)
 one_shape o (Labelled m k xs p) (Provable n l ys q zs r) s t f g e = let second : l ≡ k = cc in absurd (labels_not k f.1 (subst (λ (t : Token). IsKeyword Theorem t) second g.1))
 one_shape o (Labelled m k xs p) (Inclusion b n d) s t f g e = let first : m ≡ b = cc in absurd (not_plain b InclusionStart g.1 (subst (λ (t : Token). IsPlain t) first f.0.0))
 one_shape o (Provable m k xs p zs r) (Declaration l ys q) s t f g e = let first : m ≡ l = cc in absurd (declares_not l g.0 (inl (subst (λ (t : Token). IsPlain t) first f.0.0)))
@@ -127,9 +119,7 @@ no_shape_there o shape tail s is stops e =
 
 no_block_there : (begin : Token) (tail s : List Token) → IsKeyword BlockStart begin → Stops s → s ≡ begin ∷ tail → ⊥
 no_block_there begin tail s is stops e =
-    let end : IsKeyword BlockEnd begin = subst (λ (ts : List Token). Stops ts) e stops in
-    let same : kinds.Keyword BlockStart ≡ kinds.Keyword BlockEnd = sym is ∙ end in
-    cc
+    let end : IsKeyword BlockEnd begin = subst (λ (ts : List Token). Stops ts) e stops in let same : kinds.Keyword BlockStart ≡ kinds.Keyword BlockEnd = sym is ∙ end in cc
 
 not_both : (o : Bool) (shape : Shape) (begin : Token) (s t : List Token) → IsShape o shape → IsKeyword BlockStart begin → shape_tokens shape ++ s ≡ begin ∷ t → ⊥
 not_both o shape begin s t is starts e =
@@ -150,10 +140,8 @@ one_units o (Simple x u) (Simple y v) s t f g p q e =
     let first : (x ≡ y) × (unit_tokens u ++ s ≡ unit_tokens v ++ t) = one_shape o x y (unit_tokens u ++ s) (unit_tokens v ++ t) f.0 g.0 (sym (append_assoc (shape_tokens x) (unit_tokens u) s) ∙ e ∙ append_assoc (shape_tokens y) (unit_tokens v) t) in
     let more : (u ≡ v) × (s ≡ t) = one_units o u v s t f.1 g.1 p q first.1 in
     (cc, more.1)
-one_units o (Simple x u) (Block begin inner end later) s t f g p q e =
-    absurd (not_both o x begin (unit_tokens u ++ s) ((unit_tokens inner ++ end ∷ unit_tokens later) ++ t) f.0 g.0 (sym (append_assoc (shape_tokens x) (unit_tokens u) s) ∙ e))
-one_units o (Block begin inner end later) (Simple y v) s t f g p q e =
-    absurd (not_both o y begin (unit_tokens v ++ t) ((unit_tokens inner ++ end ∷ unit_tokens later) ++ s) g.0 f.0 (sym (append_assoc (shape_tokens y) (unit_tokens v) t) ∙ sym e))
+one_units o (Simple x u) (Block begin inner end later) s t f g p q e = absurd (not_both o x begin (unit_tokens u ++ s) ((unit_tokens inner ++ end ∷ unit_tokens later) ++ t) f.0 g.0 (sym (append_assoc (shape_tokens x) (unit_tokens u) s) ∙ e))
+one_units o (Block begin inner end later) (Simple y v) s t f g p q e = absurd (not_both o y begin (unit_tokens v ++ t) ((unit_tokens inner ++ end ∷ unit_tokens later) ++ s) g.0 f.0 (sym (append_assoc (shape_tokens y) (unit_tokens v) t) ∙ sym e))
 one_units o (Block begin inner end u) (Block begin' inner' end' v) s t f g p q e =
     let first : begin ≡ begin' = cc in
     let rest : (unit_tokens inner ++ end ∷ unit_tokens u) ++ s ≡ (unit_tokens inner' ++ end' ∷ unit_tokens v) ++ t = cc in

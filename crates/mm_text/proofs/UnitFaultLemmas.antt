@@ -63,8 +63,7 @@ may_begin_from front depth e = run-IsViable (front ++ a_block ∷ []) (m.Begin, 
 
 pub may_begin_phase : (front : List Token) (phase : m.Phase) (depth : ℕ) → m.run m.Begin 0 front ≡ Ok (m.phase_state phase depth) → MayBegin front → phase ≡ m.Begin
 may_begin_phase front phase depth e h =
-    let all = viable_run (front ++ a_block ∷ []) h in
-    begins_only phase depth (m.could_label a_block) all.0 (sym (run_push front a_block phase depth e) ∙ all.1)
+    let all = viable_run (front ++ a_block ∷ []) h in begins_only phase depth (m.could_label a_block) all.0 (sym (run_push front a_block phase depth e) ∙ all.1)
 
 pub may_begin : (front : List Token) → MayBegin front ↔ ((depth : ℕ) × (m.run m.Begin 0 front ≡ Ok (m.Begin, depth)))
 may_begin front = (to, λ h. may_begin_from front h.0 h.1) where
@@ -338,8 +337,7 @@ inner_shape outside (Provable label keyword symbols proof steps end) (labels, th
     inner_symbols symbols (proof ∷ (steps ++ end ∷ [])) plain (inner_kind proof (kinds.Keyword ProofStart) proves refl refl, inner_symbols steps (end ∷ []) more (inner_kind end (kinds.Keyword StatementEnd) ended refl refl, tt)),
   ),
 )
-inner_shape outside (Inclusion begin name end) h =
-    (inner_kind begin (kinds.Keyword InclusionStart) h.1 refl refl, (inner_kind name kinds.Plain h.2 refl refl, (inner_kind end (kinds.Keyword InclusionEnd) h.3 refl refl, tt)))
+inner_shape outside (Inclusion begin name end) h = (inner_kind begin (kinds.Keyword InclusionStart) h.1 refl refl, (inner_kind name kinds.Plain h.2 refl refl, (inner_kind end (kinds.Keyword InclusionEnd) h.3 refl refl, tt)))
 
 -- no end of the list has more `${` than `$}`
 abbrev pub Covered : List Token → Type 0
@@ -362,9 +360,7 @@ covered_from (token ∷ tokens) h = (h 0, covered_from tokens (λ n. h (suc n)))
 covered_inner : (xs ys : List Token) → AllByRecursion IsInner xs → Covered ys → Covered (xs ++ ys)
 covered_inner [] ys f g = g
 covered_inner (x ∷ xs) ys f g =
-    let more : Covered (xs ++ ys) = covered_inner xs ys f.1 g in
-    let rest : starts (xs ++ ys) ≤ ends (xs ++ ys) = covered_all (xs ++ ys) more in
-    (omega arith, more)
+    let more : Covered (xs ++ ys) = covered_inner xs ys f.1 g in let rest : starts (xs ++ ys) ≤ ends (xs ++ ys) = covered_all (xs ++ ys) more in (omega arith, more)
 
 pub covered-append : (xs ys : List Token) → Covered xs → Covered ys → Covered (xs ++ ys)
 covered-append [] ys f g = g
@@ -378,10 +374,7 @@ covered-append (x ∷ xs) ys f g =
 inner_counts : (xs : List Token) → AllByRecursion IsInner xs → (starts xs ≡ 0) × (ends xs ≡ 0)
 inner_counts [] h = (refl, refl)
 inner_counts (x ∷ xs) h =
-    let more : (starts xs ≡ 0) × (ends xs ≡ 0) = inner_counts xs h.1 in
-    let start : is_start_word x.kind ≡ 0 = h.0.0 in
-    let end : is_end_word x.kind ≡ 0 = h.0.1 in
-    (omega arith, omega arith)
+    let more : (starts xs ≡ 0) × (ends xs ≡ 0) = inner_counts xs h.1 in let start : is_start_word x.kind ≡ 0 = h.0.0 in let end : is_end_word x.kind ≡ 0 = h.0.1 in (omega arith, omega arith)
 
 balanced_shape : (outside : Bool) (shape : Shape) (tail : List Token) → IsShape outside shape → starts tail ≡ ends tail → starts (shape_tokens shape ++ tail) ≡ ends (shape_tokens shape ++ tail)
 balanced_shape outside shape tail is more =
@@ -411,10 +404,7 @@ balanced outside (Block begin inner end later) h =
 pub covered : (outside : Bool) (units : Units) → AreUnits outside units → Covered (unit_tokens units)
 covered outside Nothing h = tt
 covered outside (Simple shape later) h = covered_inner (shape_tokens shape) (unit_tokens later) (inner_shape outside shape h.0) (covered outside later h.1)
-covered outside (Block begin inner end later) h = (
-  le_of_eq (balanced outside (Block begin inner end later) h),
-  covered-append (unit_tokens inner) (end ∷ unit_tokens later) (covered false inner h.1) (last, covered outside later h.3),
-) where
+covered outside (Block begin inner end later) h = (le_of_eq (balanced outside (Block begin inner end later) h), covered-append (unit_tokens inner) (end ∷ unit_tokens later) (covered false inner h.1) (last, covered outside later h.3)) where
   last : starts (end ∷ unit_tokens later) ≤ ends (end ∷ unit_tokens later)
   last =
       let y : starts (unit_tokens later) ≡ ends (unit_tokens later) = balanced outside later h.3 in
@@ -577,15 +567,7 @@ closed_units xs depth d e even h = both (cut_twice xs (blocks d) (unit_tokens cl
 
 pub ends_in_block : (tokens : List Token) (word d : ℕ) (token : Token) → m.run m.Begin 0 tokens ≡ Ok (m.phase_state m.Begin d) → slice_get tokens word ≡ Some token → IsKeyword BlockStart token
     → starts (drop (word + 1) tokens) ≡ ends (drop (word + 1) tokens) → ((n : ℕ) → word < n → starts (drop n tokens) ≤ ends (drop n tokens)) → IsUnitFault tokens T08 word
-ends_in_block tokens word d token e there opens even fewer = record {
-  begin = token;
-  inner = units.0;
-  there = there;
-  opens = opens;
-  begins = may_begin_from (take word tokens) front.0.1 front_begins;
-  inside = units.1;
-  behind = units.2;
-} where
+ends_in_block tokens word d token e there opens even fewer = record { begin = token; inner = units.0; there = there; opens = opens; begins = may_begin_from (take word tokens) front.0.1 front_begins; inside = units.1; behind = units.2 } where
   viable : IsViable tokens
   viable = run-IsViable tokens (m.Begin, d) e
 

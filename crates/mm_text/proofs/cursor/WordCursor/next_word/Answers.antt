@@ -7,8 +7,7 @@ use Rattle.mm_text.proofs.ReaderLemmas.{fails_read}
 use Rattle.mm_text.proofs.cursor.WordCursor.next_word.Goals as goal
 
 pub unreachable-requires : goal.unreachable-requires
-unreachable-requires c =
-    no_fault c.self.inside.reader.text.now c.self.inside.reader.from c.in-Err.field-0 c.self.invariant (fails_read _ [] _ _ c.in-Err.ensures.word)
+unreachable-requires c = no_fault c.self.inside.reader.text.now c.self.inside.reader.from c.in-Err.field-0 c.self.invariant (fails_read _ [] _ _ c.in-Err.ensures.word)
 
 pub invariant_of-self : goal.invariant_of-self
 invariant_of-self c =
