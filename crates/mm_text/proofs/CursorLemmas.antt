@@ -8,7 +8,7 @@ use Rattle.mm_text.specs.declared.fault.TextFault.{TextFault}
 use Rattle.mm_text.specs.Language.Reading.{AreWords, HasWords, LiesIn, AreWithin}
 use Rattle.mm_text.specs.Language.Unit.{spellings}
 use Rattle.mm_text.specs.declared.word.WordKind.TheVariants.{Plain}
-use Rattle.mm_text.specs.Code.LeftToRight.{read_runs, with_words}
+use Rattle.mm_text.specs.Code.LeftToRight.{read_runs}
 use Rattle.mm_text.specs.Language.Run.{Run, runs}
 use Rattle.mm_text.specs.Code.Reader.{runs_at, TakesWord, SkipsPlain}
 use Rattle.mm_text.specs.Language.WordsLeft.{SkipsPlainWords}
@@ -62,8 +62,7 @@ pub plain_passed : (text : List ℕ) (from to : ℕ) → AreLast text from → S
 plain_passed text from to at skips =
     let passed = plain_words skips.inside in
     let whole = read_whole skips.inside passed (are_plain_words skips.inside skips.plain) (runs_at text to) in
-    let read : with_words passed (read_runs None (runs_at text to)) ≡ Ok (words_from text from) = sym (ap (read_runs None) skips.joined ∙ whole) ∙ at.no_fault in
-    let more = read_on passed (read_runs None (runs_at text to)) (words_from text from) read in
+    let more = read_on passed (read_runs None (runs_at text to)) (words_from text from) (sym (ap (read_runs None) skips.joined ∙ whole) ∙ at.no_fault) in
     let rest : words_from text to ≡ more.0 = ap words_read more.1 in
     let joined : words_from text from ≡ passed ++ words_from text to = more.2 ∙ ap (λ l. passed ++ l) (sym rest) in
     record {

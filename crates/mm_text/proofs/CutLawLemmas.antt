@@ -212,12 +212,11 @@ stop_more : (a b : List Token) (number : TextNumber) (word : ℕ) (h : units.Sto
 stop_more a b number word h =
     let within : word < length a = slice_get_within a word h.token h.there in
     let front : take word a ≡ take word (a ++ b) = sym (take-append-le word a b (omega arith)) in
-    let next : take (word + 1) a ≡ take (word + 1) (a ++ b) = sym (take-append-le (word + 1) a b (omega arith)) in
     record {
       token = h.token;
       there = slice_get-front a b word h.token h.there;
       goes_on = subst (λ (ts : List Token). IsViable ts) front h.goes_on;
-      stops = subst (λ (ts : List Token). ¬ IsViable ts) next h.stops;
+      stops = subst (λ (ts : List Token). ¬ IsViable ts) (sym (take-append-le (word + 1) a b (omega arith))) h.stops;
       is_number = subst (λ (ts : List Token). units.IsUnitNumber number ts h.token) front h.is_number;
     }
 
@@ -395,9 +394,7 @@ same_pieces (p ∷ ps) (q ∷ qs) s t e f g = by_cut (cut_twice p (concat ps ++ 
   by_cut (inl h) more =
       let none : h.0 ≡ [] = no_longer q h.0 (concat ps ++ s) g.0 (subst IsPiece h.1 f.0) (subst BeginsSolid (sym h.2) g.1) in
       alike (h.1 ∙ ap (λ (zs : List ℕ). q ++ zs) none ∙ append-nil q) more
-  by_cut (inr h) more =
-      let none : h.0 ≡ [] = no_longer p h.0 (concat qs ++ t) f.0 (subst IsPiece h.1 g.0) (subst BeginsSolid h.2 f.1) in
-      alike (sym (h.1 ∙ ap (λ (zs : List ℕ). p ++ zs) none ∙ append-nil p)) more
+  by_cut (inr h) more = alike (sym (h.1 ∙ ap (λ (zs : List ℕ). p ++ zs) (no_longer p h.0 (concat qs ++ t) f.0 (subst IsPiece h.1 g.0) (subst BeginsSolid h.2 f.1)) ∙ append-nil p)) more
 
 pub one_cut : (text : List ℕ) (ps qs : List (List ℕ)) (s t : List ℕ) → IsCut text ps s → IsCut text qs t → (ps ≡ qs) × (s ≡ t)
 one_cut text ps qs s t f g = same_pieces ps qs s t (f.joined ∙ sym g.joined) f.are_pieces g.are_pieces

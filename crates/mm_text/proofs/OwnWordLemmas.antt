@@ -46,14 +46,13 @@ module _ (text : List ℕ) (all : List Word) (has : HasWords text all) (from : �
   found at h none =
       let own = begun_words text from at has.allowed h.within h.begun h.ends in
       let whole : all ≡ h.begun.words = h.joined ∙ ap (λ rest. h.begun.words ++ rest) none ∙ append-nil h.begun.words in
-      let end : at ≡ end_of_words all = h.last ∙ ap end_of_words (sym whole) in
       let part = slice_range text from at in
       let same : spellings part own.0 ≡ spellings text all =
       sym (bytes_bare (tokens_of part own.0))
       ∙ ap (map (λ token. token.bytes)) (sym (tokens-shift text part (drop (at - from) (drop from text)) from (sym (take-append-drop (at - from) (drop from text))) own.0 0 (words_lie part own.0 own.1)))
       ∙ bytes_bare (tokens_of text (map (shift_word from) own.0))
       ∙ ap (spellings text) (sym (whole ∙ own.3)) in
-      subst (λ n. (own : List Word) × HasWords (slice_range text from n) own × (spellings (slice_range text from n) own ≡ spellings text all)) end (own.0, own.1, same)
+      subst (λ n. (own : List Word) × HasWords (slice_range text from n) own × (spellings (slice_range text from n) own ≡ spellings text all)) (h.last ∙ ap end_of_words (sym whole)) (own.0, own.1, same)
 
   next : (at : ℕ) (h : UpTo at) (word : Word) (to : ℕ) → TakesWord text at word to → to ≤ length text → UpTo to
   next at h word to taken within =

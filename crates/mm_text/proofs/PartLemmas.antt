@@ -15,7 +15,7 @@ use Rattle.mm_text.specs.declared.fault.TextNumber.{TextNumber}
 use Rattle.mm_text.specs.Language.Run.{Run, runs, runs_from, ends_run}
 use Rattle.mm_text.specs.Language.Reading.{first_bad, AreWords, HasWords}
 use Rattle.mm_text.specs.Language.Unit.{Token, token_of, tokens_of, IsKeyword, IsPlain, Shape, Declaration, Labelled, Provable, Inclusion, shape_tokens, IsShape, Units, Nothing, Simple, Block, unit_tokens, AreUnits}
-use Rattle.mm_text.specs.Code.LeftToRight.{Read, read_runs, with_words, words_fault_at}
+use Rattle.mm_text.specs.Code.LeftToRight.{Read, read_runs, words_fault_at}
 use Rattle.mm_text.specs.Code.Reader.{runs_at, run_between, TakesWord, FailsBehind, SkipsPlain}
 use Rattle.mm_text.specs.Language.Cut.{ends_white, IsPiece, ArePieces}
 use Rattle.mm_text.specs.Language.Part.{HasUnits, token_end, part, word_part, shape_part, parts_of, IsReadable}
@@ -280,8 +280,7 @@ module _ (text : List ℕ) (found : List Part) (start : ℕ) (kind : PartKind) (
   rest_behind : Left text found (Some start) kind (read_runs None (runs_at text to))
   rest_behind units has =
       let left = h.rest units has in
-      let read : with_words (plain_words s.inside) (read_runs None (runs_at text to)) ≡ Ok left.0 = sym (ap (read_runs None) s.joined ∙ read_whole s.inside (plain_words s.inside) (are_plain_words s.inside s.plain) (runs_at text to)) ∙ left.1 in
-      let more = read_on (plain_words s.inside) (read_runs None (runs_at text to)) left.0 read in
+      let more = read_on (plain_words s.inside) (read_runs None (runs_at text to)) left.0 (sym (ap (read_runs None) s.joined ∙ read_whole s.inside (plain_words s.inside) (are_plain_words s.inside s.plain) (runs_at text to)) ∙ left.1) in
       let emitted : emit (Some start) kind (tokens_of text left.0) ≡ emit (Some start) kind (tokens_of text more.0) =
       ap (λ (ws : List Word). emit (Some start) kind (tokens_of text ws)) more.2 ∙ ap (emit (Some start) kind) (map-append (token_of text) (plain_words s.inside) more.0)
       ∙ emit_symbols start kind (tokens_of text (plain_words s.inside)) (tokens_of text more.0) (plain_tokens text s.inside) in

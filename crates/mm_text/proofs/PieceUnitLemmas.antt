@@ -19,7 +19,7 @@ use Rattle.mm_text.specs.Code.Reader.{runs_at}
 use Rattle.mm_text.proofs.RunLemmas.{skip_white}
 use Rattle.mm_text.proofs.PositionLemmas.{Lying, words_lie, none_found, passes}
 use Rattle.mm_text.proofs.UnitReadingLemmas.{IsWhole-run, run-IsWhole}
-use Rattle.mm_text.proofs.PieceLemmas.{feed_white, Seam, runs-append, shift_run, shift_word, runs-shift, words_unshift, line_end, ended_is, runs-ended, ended_white, ended-append, ends_behind}
+use Rattle.mm_text.proofs.PieceLemmas.{feed_white, Seam, runs-append, shift_word, runs-shift, words_unshift, line_end, ended_is, runs-ended, ended_white, ended-append, ends_behind}
 
 -- ---- bytes that a text may hold
 
@@ -263,8 +263,7 @@ module _ (text : List ℕ) (from to : ℕ) (since : List Run) (part : List Word)
   piece_words : (ws : List Word) × AreWords (runs piece_bytes) ws × (part ++ word ∷ [] ≡ map (shift_word from) ws)
   piece_words =
       let place : from ≡ from + 0 = omega arith in
-      let same : since ≡ map (shift_run from) (runs piece_bytes) = sym piece_runs ∙ ap (λ (n : ℕ). runs_from n piece_bytes) place ∙ runs-shift from 0 piece_bytes in
-      words_unshift from (runs piece_bytes) (part ++ word ∷ []) (subst (λ (rs : List Run). AreWords rs (part ++ word ∷ [])) same reads)
+      words_unshift from (runs piece_bytes) (part ++ word ∷ []) (subst (λ (rs : List Run). AreWords rs (part ++ word ∷ [])) (sym piece_runs ∙ ap (λ (n : ℕ). runs_from n piece_bytes) place ∙ runs-shift from 0 piece_bytes) reads)
 
   has : HasWords piece_bytes piece_words.0
   has = record { allowed = allowed_part text from (to + white) allowed; words_are = piece_words.1 }

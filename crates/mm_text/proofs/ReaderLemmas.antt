@@ -72,9 +72,7 @@ module _ (text : List ℕ) (from at : ℕ) (span : Span) (to : ℕ) (h : Skippin
   skip_fault start holds differs = record { inside = h.inside; run = run_of text span; rest = runs_at text to; joined = onto; no_marks = h.no_marks; holds = holds; differs = differs; place = refl }
 
 pub skip_open : (text : List ℕ) (from at start : ℕ) → Skipping text from at → runs_at text at ≡ [] → FailsInside (runs_at text from) start T02 start
-skip_open text from at start h none =
-    let all : h.inside ≡ runs_at text from = sym (append-nil h.inside) ∙ sym (h.joined ∙ ap (λ (rs : List Run). h.inside ++ rs) none) in
-    (subst (λ (rs : List Run). HoldNoMarks rs) all h.no_marks, refl)
+skip_open text from at start h none = (subst (λ (rs : List Run). HoldNoMarks rs) (sym (append-nil h.inside) ∙ sym (h.joined ∙ ap (λ (rs : List Run). h.inside ++ rs) none)) h.no_marks, refl)
 
 -- ---- outside comments
 

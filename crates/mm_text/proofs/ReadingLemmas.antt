@@ -262,8 +262,7 @@ outcome (Some start) (run ∷ runs) seen words h =
             at_fault (seen ++ run ∷ runs) words (words_fault_at T03 run.start) (read_runs (Some start) (run ∷ runs)) (inside_mark start run runs differs mark)
             (stops_at (Some start) seen words run runs T03 h (λ tail. inside_mark start run tail differs mark) (h.first, is_open start seen words h, mark_stands run.bytes mark, differs))
         | inr no_mark ↦
-            let differs = not_from run.bytes closing no_close in
-            moved seen run runs words (read_runs (Some start) runs) (read_runs (Some start) (run ∷ runs)) (inside_more start run runs differs no_mark)
+            moved seen run runs words (read_runs (Some start) runs) (read_runs (Some start) (run ∷ runs)) (inside_more start run runs (not_from run.bytes closing no_close) no_mark)
             (outcome (Some start) runs (seen ++ run ∷ []) words (more_step start seen words run h (λ marked. false≢true (sym no_mark ∙ stands_mark run.bytes marked))))
       ]
     ]
@@ -310,10 +309,9 @@ stop_fault T04 runs at h =
 stop_fault T05 runs at h =
     let before = whole_words h.front h.is_number.0.0 h.is_number.0.1 in
     let words = flat_map segment_words h.is_number.0.0 in
-    let no_open : h.run.bytes ≢ opening = λ opens. h.stops (goes_on (Some h.run.start) (h.front ++ h.run ∷ []) words (open_step h.front words h.run before opens)) in
     let none : word_kind h.run.bytes ≡ None = no_kind_found h.run (word_kind h.run.bytes) refl h.is_number.3 in
     placed T05 runs h.run.start at h.place (split_read runs h.front h.run h.rest None words (words_fault_at T05 h.run.start) h.joined before
-    (outside_word h.run h.rest no_open h.is_number.2 ∙ ap (λ (k : Option WordKind). word_alone h.run k (read_runs None h.rest)) none))
+    (outside_word h.run h.rest (λ opens. h.stops (goes_on (Some h.run.start) (h.front ++ h.run ∷ []) words (open_step h.front words h.run before opens))) h.is_number.2 ∙ ap (λ (k : Option WordKind). word_alone h.run k (read_runs None h.rest)) none))
 stop_fault number runs at h = absurd h.is_number
 
 -- ---- whole texts

@@ -70,8 +70,7 @@ may_begin front = (to, λ h. may_begin_from front h.0 h.1) where
   to : MayBegin front → (depth : ℕ) × (m.run m.Begin 0 front ≡ Ok (m.Begin, depth))
   to h =
       let before = viable_run front (viable_front front (a_block ∷ []) h) in
-      let is : before.0.0 ≡ m.Begin = may_begin_phase front before.0.0 before.0.1 before.1 h in
-      (before.0.1, before.1 ∙ ap (λ (p : m.Phase). Ok (p, before.0.1)) is)
+      (before.0.1, before.1 ∙ ap (λ (p : m.Phase). Ok (p, before.0.1)) (may_begin_phase front before.0.0 before.0.1 before.1 h))
 
 -- ---- where an inclusion has begun
 
@@ -83,8 +82,7 @@ pub inclusion_phase : (front : List Token) (phase : m.Phase) (depth : ℕ) → m
 inclusion_phase front phase depth e (before, begin, joined, is) =
     let all : m.run m.Begin 0 (before ++ begin ∷ []) ≡ Ok (m.phase_state phase depth) = ap (m.run m.Begin 0) (sym joined) ∙ e in
     let first = viable_run before (viable_front before (begin ∷ []) (run-IsViable (before ++ begin ∷ []) (phase, depth) all)) in
-    let step : m.next first.0.0 first.0.1 begin.kind (m.could_label begin) ≡ Ok (phase, depth) = sym (run_push before begin first.0.0 first.0.1 first.1) ∙ all in
-    including_only first.0.0 first.0.1 (m.could_label begin) (phase, depth) (ap (λ (k : WordKind). m.next first.0.0 first.0.1 k (m.could_label begin)) (sym is) ∙ step)
+    including_only first.0.0 first.0.1 (m.could_label begin) (phase, depth) (ap (λ (k : WordKind). m.next first.0.0 first.0.1 k (m.could_label begin)) (sym is) ∙ (sym (run_push before begin first.0.0 first.0.1 first.1) ∙ all))
 
 abbrev pub reached : m.UnitStep → m.Phase
 reached (Ok s) = s.0

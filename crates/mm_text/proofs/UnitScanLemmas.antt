@@ -192,9 +192,7 @@ below v w l other = omega arith
 pub last_fault : (tokens : List Token) (phase : m.Phase) (depth : ℕ) → m.run m.Begin 0 tokens ≡ Ok (m.phase_state phase depth) → phase ≢ m.Begin → (last : LastBegin tokens (length tokens)) → IsUnitFault tokens T07 last.word
 last_fault tokens phase depth e other last = ends_in_unit tokens last.word last.depth (below last.word (length tokens) last.within apart) last.begins last.later where
   apart : last.word ≢ length tokens
-  apart is =
-      let all : take last.word tokens ≡ tokens = ap (λ (n : ℕ). take n tokens) is ∙ take_all (length tokens) tokens (omega arith) in
-      other (may_begin_phase tokens phase depth e (may_begin_from tokens last.depth (ap (m.run m.Begin 0) (sym all) ∙ last.begins)))
+  apart is = other (may_begin_phase tokens phase depth e (may_begin_from tokens last.depth (ap (m.run m.Begin 0) (sym (ap (λ (n : ℕ). take n tokens) is ∙ take_all (length tokens) tokens (omega arith))) ∙ last.begins)))
 
 pub open_unit : (tokens : List Token) (phase : m.Phase) (depth : ℕ) → m.run m.Begin 0 tokens ≡ Ok (m.phase_state phase depth) → phase ≢ m.Begin → (word : ℕ) × IsUnitFault tokens T07 word
 open_unit tokens phase depth e other =

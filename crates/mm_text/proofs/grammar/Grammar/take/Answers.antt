@@ -17,8 +17,7 @@ same_phase phase (suc n) outside kind could_label is =
 pub returns-in-Err : goal.returns-in-Err
 returns-in-Err c =
     let old = c.args.self.now in
-    let outside = c.is_empty-outside.ensures ∙ ap (λ (n : ℕ). n == 0) old.blocks.ok.0 in
-    record { number = sym (same_phase old.phase _ c.is_empty-outside.result c.args.word.now.kind _ outside) ∙ sym c.behind.ensures ∙ c.in-Err.is; at = refl }
+    record { number = sym (same_phase old.phase _ c.is_empty-outside.result c.args.word.now.kind _ (c.is_empty-outside.ensures ∙ ap (λ (n : ℕ). n == 0) old.blocks.ok.0)) ∙ sym c.behind.ensures ∙ c.in-Err.is; at = refl }
 
 pub returns : goal.returns
 returns c =
