@@ -70,10 +70,6 @@ plain_passed text from to at skips =
       last = record { whole = at.whole; front = at.front ++ passed; has_words = at.has_words; divided = at.divided ∙ ap (λ l. at.front ++ l) joined ∙ sym (append_assoc at.front passed (words_from text to)); no_fault = more.1 ∙ ap Ok (sym rest) };
     }
 
--- no word is left
-none_left : (text : List ℕ) (from : ℕ) → read_runs None (runs_at text from) ≡ Ok [] → words_from text from ≡ []
-none_left text from e = ap words_read e
-
 none_behind : (text : List ℕ) (from to : ℕ) → AreLast text from → words_from text from ≡ [] → runs_at text to ≡ [] → AreLast text to
 none_behind text from to at none end =
     let left : words_from text to ≡ [] = ap (λ runs. words_read (read_runs None runs)) end in
@@ -87,7 +83,7 @@ pub record Went (text : List ℕ) (from : ℕ) (found : Option Word) (to : ℕ) 
 
 pub went : (text : List ℕ) (from : ℕ) (found : Option Word) (to : ℕ) → AreLast text from → MatchOption found (AreWords (runs_at text from) []) (λ word. TakesWord text from word to) → IfNone found (runs_at text to ≡ []) → Went text from found to
 went text from None to at none end =
-    let left = none_left text from (read_words _ [] none) in
+    let left = ap words_read (read_words _ [] none) in
     let last = none_behind text from to at left end in
     record { words = (left, ap (λ runs. words_read (read_runs None runs)) end); last = last; lies = tt }
 went text from (Some word) to at taken end = let took = one_taken text from word to at taken in record { words = took.words; last = took.last; lies = took.lies }

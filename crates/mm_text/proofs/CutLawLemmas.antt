@@ -36,15 +36,12 @@ runs_joined a b white =
     let place : 0 + length a ≡ length a + 0 = omega arith in
     runs-append a b 0 (seam a b white) ∙ ap (λ (n : ℕ). runs a ++ runs_from n b) place ∙ ap (λ (rs : List Run). runs a ++ rs) (runs-shift (length a) 0 b)
 
-allowed_both : (a b : List ℕ) → first_bad a ≡ None → first_bad b ≡ None → first_bad (a ++ b) ≡ None
-allowed_both a b f g = all_allowed (a ++ b) (All-append (λ x. is_allowed x ≡ true) a b (allowed_all a f) (allowed_all b g))
-
 allowed_front : (a b : List ℕ) → first_bad (a ++ b) ≡ None → first_bad a ≡ None
 allowed_front a b h = all_allowed a (subst (λ (bs : List ℕ). AllPass is_allowed bs) (take-append_seam a b) (All-take (λ x. is_allowed x ≡ true) (length a) (a ++ b) (allowed_all (a ++ b) h)))
 
 join_words : (a b : List ℕ) (ws vs : List Word) → ends_white a ≡ true → HasWords a ws → HasWords b vs → HasWords (a ++ b) (ws ++ map (shift_word (length a)) vs)
 join_words a b ws vs white f g = record {
-  allowed = allowed_both a b f.allowed g.allowed;
+  allowed = all_allowed (a ++ b) (All-append (λ x. is_allowed x ≡ true) a b (allowed_all a f.allowed) (allowed_all b g.allowed));
   words_are = subst (λ (rs : List Run). AreWords rs (ws ++ map (shift_word (length a)) vs)) (sym (runs_joined a b white))
       (words-append (runs a) (map (shift_run (length a)) (runs b)) ws (map (shift_word (length a)) vs) f.words_are (words-shift (length a) (runs b) vs g.words_are));
 }
@@ -66,9 +63,6 @@ record HasUnits (text : List ℕ) : Type 0 where
   has_words : HasWords text found
   whole : WholeRun (tokens_of text found)
 
-piece_whole : (piece : List ℕ) (h : IsPiece piece) → WholeRun (tokens_of piece h.words)
-piece_whole piece h = IsWhole-run (tokens_of piece h.words) (h.units, h.are_units, h.spells)
-
 pieces_words : (pieces : List (List ℕ)) (tail : List ℕ) → ArePieces pieces tail → HasUnits (concat pieces ++ tail)
 pieces_words [] tail h = record { found = []; has_words = h; whole = refl }
 pieces_words (piece ∷ pieces) tail h =
@@ -76,7 +70,7 @@ pieces_words (piece ∷ pieces) tail h =
     subst (λ (bs : List ℕ). HasUnits bs) (sym (append_assoc piece (concat pieces) tail)) (record {
       found = h.0.words ++ map (shift_word (length piece)) rest.found;
       has_words = join_words piece (concat pieces ++ tail) h.0.words rest.found h.0.ends h.0.has_words rest.has_words;
-      whole = join_whole piece (concat pieces ++ tail) h.0.words rest.found h.0.has_words rest.has_words (piece_whole piece h.0) rest.whole;
+      whole = join_whole piece (concat pieces ++ tail) h.0.words rest.found h.0.has_words rest.has_words (IsWhole-run (tokens_of piece h.0.words) (h.0.units, h.0.are_units, h.0.spells)) rest.whole;
     })
 
 cut_units : (text : List ℕ) (pieces : List (List ℕ)) (tail : List ℕ) → IsCut text pieces tail → HasUnits text

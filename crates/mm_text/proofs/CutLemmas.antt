@@ -44,9 +44,6 @@ pub record Gathers (text : List ℕ) (pieces : List (List ℕ)) (rest : List ℕ
   pub joined : concat pieces ++ ended rest ≡ ended text
   pub are : (more : List (List ℕ)) (tail : List ℕ) → concat more ++ tail ≡ ended rest → ArePieces more tail → ArePieces (pieces ++ more) tail
 
-gathers_none : (text : List ℕ) → Gathers text [] text
-gathers_none text = record { joined = refl; are = λ more tail e h. h }
-
 gathers_more : (text : List ℕ) (pieces : List (List ℕ)) (rest piece next : List ℕ) → Gathers text pieces rest → ended rest ≡ piece ++ ended next → IsPiece piece → BeginsSolid (ended next) → Gathers text (pieces ++ piece ∷ []) next
 gathers_more text pieces rest piece next g split is solid = record {
   joined = ap (λ (bs : List ℕ). bs ++ ended next) (concat-append pieces (piece ∷ []) ∙ ap (λ (bs : List ℕ). concat pieces ++ bs) (append-nil piece)) ∙ append_assoc (concat pieces) piece (ended next)
@@ -87,7 +84,7 @@ progress_start text first = record {
   stands = stands_none first;
   inner = λ n some none. absurd (omega arith);
   within = omega arith;
-  gathers = gathers_none text;
+  gathers = record { joined = refl; are = λ more tail e h. h };
 }
 
 abbrev ok_step : m.Phase → ℕ → m.UnitStep

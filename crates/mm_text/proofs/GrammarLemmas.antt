@@ -314,14 +314,11 @@ plain_first m.Symbols first start within = refl
 plain_first m.Expression first start within = refl
 plain_first _ first start within = absurd (false≢true within)
 
-plain_blocks : (kind : WordKind) (blocks : List ℕ) (start : ℕ) → kind ≡ kinds.Plain → blocks_behind kind blocks start ≡ blocks
-plain_blocks kind blocks start plain = ap (λ (k : WordKind). blocks_behind k blocks start) plain
-
 pub stands_plain : (tokens more : List Token) (phase : m.Phase) (first : ℕ) (blocks : List ℕ) → is_within phase ≡ true → AllByRecursion IsPlain more → Stands tokens phase first blocks → Stands (tokens ++ more) phase first blocks
 stands_plain tokens [] phase first blocks within plain h = subst (λ (ts : List Token). Stands ts phase first blocks) (sym (append-nil tokens)) h
 stands_plain tokens (token ∷ more) phase first blocks within plain h =
     let next : Stands (tokens ++ token ∷ []) phase (first_behind phase first token.start) (blocks_behind token.kind blocks token.start) =
     stands_more tokens phase first blocks h token phase (length blocks) (plain_step phase (length blocks) token within plain.0) in
     let here : Stands (tokens ++ token ∷ []) phase first blocks = subst (λ (n : ℕ). Stands (tokens ++ token ∷ []) phase n blocks) (plain_first phase first token.start within)
-    (subst (λ (bs : List ℕ). Stands (tokens ++ token ∷ []) phase (first_behind phase first token.start) bs) (plain_blocks token.kind blocks token.start plain.0) next) in
+    (subst (λ (bs : List ℕ). Stands (tokens ++ token ∷ []) phase (first_behind phase first token.start) bs) (ap (λ (k : WordKind). blocks_behind k blocks token.start) plain.0) next) in
     subst (λ (ts : List Token). Stands ts phase first blocks) (append_assoc tokens (token ∷ []) more) (stands_plain (tokens ++ token ∷ []) more phase first blocks within plain.1 here)

@@ -29,9 +29,6 @@ contains_at (c ∷ bytes) (suc k) lt e = or_right (eqb c 36) (list_any (λ c. c 
 contains_any : (bytes : List ℕ) → Contains bytes 36 → list_any (λ c. c == 36) bytes ≡ true
 contains_any bytes h = contains_at bytes h.0 h.1 h.2
 
-none_any : (bytes : List ℕ) → ¬ Contains bytes 36 → list_any (λ c. c == 36) bytes ≡ false
-none_any bytes none = false_from_ne_true (list_any (λ c. c == 36) bytes) (λ e. none (any_contains bytes e))
-
 -- ---- keywords
 
 pick : (b n : ℕ) (first k : Keyword) (rest : Option Keyword) → 36 ∷ n ∷ [] ≡ spelling first → (rest ≡ Some k → 36 ∷ b ∷ [] ≡ spelling k) → cond (eqb b n) (Some first) rest ≡ Some k → 36 ∷ b ∷ [] ≡ spelling k
@@ -92,7 +89,7 @@ kind_spelled (a ∷ b ∷ []) kind e =
 kind_spelled (a ∷ b ∷ c ∷ bytes) kind e = plain_is (a ∷ b ∷ c ∷ bytes) kind e
 
 plain_kind : (bytes : List ℕ) → ¬ Contains bytes 36 → plain_unless (list_any (λ c. c == 36) bytes) ≡ Some kinds.Plain
-plain_kind bytes none = ap plain_unless (none_any bytes none)
+plain_kind bytes none = ap plain_unless (false_from_ne_true (list_any (λ c. c == 36) bytes) (λ e. none (any_contains bytes e)))
 
 pub spelled_kind : (kind : WordKind) (bytes : List ℕ) → IsSpelled kind bytes → word_kind bytes ≡ Some kind
 spelled_kind (kinds.Keyword k) bytes e = ap word_kind e ∙ kind_of-keyword k

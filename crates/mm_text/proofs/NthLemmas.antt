@@ -17,13 +17,9 @@ first_at xs zero = refl
 first_at [] (suc n) = refl
 first_at (x ∷ xs) (suc n) = first_at xs n
 
--- what is behind it
-behind_first : {X : Type 0} (xs : List X) (n : ℕ) (x : X) (rest : List X) → drop n xs ≡ x ∷ rest → drop (n + 1) xs ≡ rest
-behind_first xs n x rest e = sym (drop-drop 1 n xs) ∙ ap (drop 1) e
-
 -- one more word is taken
 pub goes_on : (words left new : List Word) (n : ℕ) (word : Word) → left ≡ drop n words → left ≡ word ∷ new → new ≡ drop (n + 1) words
-goes_on words left new n word at e = sym (behind_first words n word new (sym at ∙ e))
+goes_on words left new n word at e = sym (sym (drop-drop 1 n words) ∙ ap (drop 1) (sym at ∙ e))
 
 -- the word that a cursor gives behind n words
 pub nth_of : (words left new : List Word) (n : ℕ) (found : Option Word) → left ≡ drop n words → MatchOption found ((left ≡ []) × (new ≡ [])) (λ word. left ≡ word ∷ new) → found ≡ slice_get words n

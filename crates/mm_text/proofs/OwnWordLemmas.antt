@@ -13,15 +13,11 @@ use Rattle.mm_text.specs.Code.Reader.{runs_at, TakesWord}
 use Rattle.mm_text.proofs.ReadingLemmas.{read_words, same_words}
 use Rattle.mm_text.proofs.ReaderLemmas.{pass_none, slice_length, word_read, fails_read}
 use Rattle.mm_text.proofs.PieceLemmas.{shift_word}
-use Rattle.mm_text.proofs.PieceUnitLemmas.{bare, tokens-shift}
+use Rattle.mm_text.proofs.PieceUnitLemmas.{bare, ends_at_last, tokens-shift}
 use Rattle.mm_text.proofs.PositionLemmas.{Lying, words_lie}
 use Rattle.mm_text.proofs.CutWalkLemmas.{Given, word_from}
 use Rattle.mm_text.proofs.NthLemmas.{first_word}
 use Rattle.mm_text.proofs.PartLemmas.{Begun, begun_first, begun_more, begun_words}
-
-end_behind : (words : List Word) (word : Word) → end_of_words (words ++ word ∷ []) ≡ word.end
-end_behind (w ∷ v ∷ words) word = end_behind (v ∷ words) word
-end_behind _ word = refl
 
 bytes_bare : (tokens : List Token) → map (λ token. token.bytes) (map bare tokens) ≡ map (λ token. token.bytes) tokens
 bytes_bare [] = refl
@@ -62,7 +58,7 @@ module _ (text : List ℕ) (all : List Word) (has : HasWords text all) (from : �
         rest = f.0;
         reads = f.2;
         joined = h.joined ∙ ap (λ rest. h.begun.words ++ rest) f.1 ∙ sym (append_assoc h.begun.words (word ∷ []) f.0);
-        last = taken.next ∙ sym (end_behind h.begun.words word);
+        last = taken.next ∙ sym (ends_at_last h.begun.words word);
         ends = taken.ends;
         within = within;
       }

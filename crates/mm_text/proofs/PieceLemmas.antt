@@ -14,7 +14,7 @@ use Rattle.mm_text.specs.Language.Cut.{ends_white, ended}
 use Rattle.mm_text.specs.Code.LeftToRight.{Read, read_runs, word_kind, word_alone, holds_mark, word_at}
 use Rattle.mm_text.proofs.LayoutLemmas.{front_step}
 use Rattle.mm_text.proofs.ReadLemmas.{inside_end, inside_mark, inside_more, outside_open, outside_close, outside_word}
-use Rattle.mm_text.proofs.ReadingLemmas.{read_words, words_from_read, is_from, not_from}
+use Rattle.mm_text.proofs.ReadingLemmas.{made_word, read_words, words_from_read, is_from, not_from}
 
 -- ---- runs of a text in two parts
 
@@ -108,12 +108,8 @@ abbrev shift_state : ℕ → Option ℕ → Option ℕ
 shift_state k None = None
 shift_state k (Some start) = Some (k + start)
 
-word_there : WordKind → ℕ → ℕ → Word
-word_there kind start end = record { kind = kind; start = start; end = end }
-
 word_at-shift : (k : ℕ) (run : Run) (kind : WordKind) → word_at (shift_run k run) kind ≡ shift_word k (word_at run kind)
-unfolding word_there
-word_at-shift k run kind = let same : k + run.start + length run.bytes ≡ k + (run.start + length run.bytes) = omega arith in ap (word_there kind (k + run.start)) same
+word_at-shift k run kind = let same : k + run.start + length run.bytes ≡ k + (run.start + length run.bytes) = omega arith in ap (made_word kind (k + run.start)) same
 
 alone-shift : (k : ℕ) (run : Run) (kind : Option WordKind) (r : Read) → word_alone (shift_run k run) kind (shift_read k r) ≡ shift_read k (word_alone run kind r)
 alone-shift k run (Some kind) (Ok words) = ap (λ (w : Word). Ok (w ∷ map (shift_word k) words)) (word_at-shift k run kind)

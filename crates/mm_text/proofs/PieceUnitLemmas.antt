@@ -197,7 +197,7 @@ is_one tokens (Block begin inner end later) h e some one =
 
 -- ---- where the last word ends
 
-ends_at_last : (part : List Word) (word : Word) → end_of_words (part ++ word ∷ []) ≡ word.end
+pub ends_at_last : (part : List Word) (word : Word) → end_of_words (part ++ word ∷ []) ≡ word.end
 ends_at_last (w ∷ v ∷ part) word = ends_at_last (v ∷ part) word
 ends_at_last _ word = refl
 

@@ -76,11 +76,10 @@ close_step start seen words run h closes =
 
 -- ---- a reading is what is read
 
-made_word : WordKind → ℕ → ℕ → Word
+abbrev pub made_word : WordKind → ℕ → ℕ → Word
 made_word kind start end = record { kind = kind; start = start; end = end }
 
 word_is : (run : Run) (word : Word) → IsWord run word → word_at run word.kind ≡ word
-unfolding made_word
 word_is run word is = ap (λ (s : ℕ). made_word word.kind s (run.start + length run.bytes)) (sym is.start) ∙ ap (λ (e : ℕ). made_word word.kind word.start e) (sym is.end)
 
 not_opening : (kind : WordKind) (bytes : List ℕ) → IsSpelled kind bytes → bytes ≢ opening
@@ -98,12 +97,9 @@ read_word run word tail is =
 no_mark_is : (bytes : List ℕ) → ¬ HoldsMark bytes → holds_mark bytes ≡ false
 no_mark_is bytes no_mark = elim (cases_Bool (holds_mark bytes)) [ inl e ↦ absurd (no_mark (mark_stands bytes e)) | inr e ↦ e ]
 
-closing_marks : (bytes : List ℕ) → bytes ≡ closing → HoldsMark bytes
-closing_marks bytes e = mark_stands bytes (ap holds_mark e)
-
 read_inside : (start : ℕ) (inside tail : List Run) → HoldNoMarks inside → read_runs (Some start) (inside ++ tail) ≡ read_runs (Some start) tail
 read_inside start [] tail h = refl
-read_inside start (run ∷ inside) tail h = inside_more start run (inside ++ tail) (λ e. h.0 (closing_marks run.bytes e)) (no_mark_is run.bytes h.0) ∙ read_inside start inside tail h.1
+read_inside start (run ∷ inside) tail h = inside_more start run (inside ++ tail) (λ e. h.0 (mark_stands run.bytes (ap holds_mark e))) (no_mark_is run.bytes h.0) ∙ read_inside start inside tail h.1
 
 with_none : (r : Read) → with_words [] r ≡ r
 with_none (Ok words) = refl
@@ -274,9 +270,6 @@ none_read = record { parts = []; reading = record { each = tt; joined = refl }; 
 pub words_from_read : (runs : List Run) (words : List Word) → read_runs None runs ≡ Ok words → AreWords runs words
 words_from_read runs words e = subst (λ (r : Read). Outcome runs [] r) e (outcome None runs [] [] none_read)
 
-pub fault_from_read : (runs : List Run) (fault : TextFault) → read_runs None runs ≡ Err fault → IsRunFault runs fault.number fault.at
-fault_from_read runs fault e = subst (λ (r : Read). Outcome runs [] r) e (outcome None runs [] [] none_read)
-
 -- ---- a fault is what is read
 
 open_read : (runs : List Run) (first : Run) (h : IsOpen runs first) → (words : List Word) × InComment first.start runs words
@@ -333,7 +326,7 @@ checked_words text None words is e = record { allowed = is; words_are = words_fr
 checked_words text (Some at) words is e = absurd cc
 
 checked_fault : (text : List ℕ) (bad : Option ℕ) (fault : TextFault) → first_bad text ≡ bad → checked bad (read_runs None (runs text)) ≡ Err fault → IsWordsFault text fault
-checked_fault text None fault is e = run_fault text fault.number fault.at is (fault_from_read (runs text) fault e)
+checked_fault text None fault is e = run_fault text fault.number fault.at is (subst (λ (r : Read). Outcome (runs text) [] r) e (outcome None (runs text) [] [] none_read))
 checked_fault text (Some at) fault is e = let same : words_fault_at T01 at ≡ fault = cc in subst (IsWordsFault text) same is
 
 pub words_of_text : (text : List ℕ) (words : List Word) → read_text text ≡ Ok words → HasWords text words

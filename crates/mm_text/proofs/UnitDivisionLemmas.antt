@@ -2,12 +2,11 @@
 use Rattle.std.proofs.Common.{◌≡◌, ◌⊎◌, Bool, true, false, List, [], ◌∷◌, ◌++◌, append_assoc, refl, sym, ap, ◌∙◌, subst, inl, inr, arith}
 use Rattle.std.specs.List.{AllByRecursion, flat_map}
 use Rattle.std.proofs.lemmas.List.{append-nil}
-use Rattle.mm_text.specs.declared.word.Keyword.{Keyword}
 use Rattle.mm_text.specs.declared.word.Keyword.TheVariants.{BlockStart, BlockEnd, Constants, Variables, Floating, Essential, Disjoint, Axiom, Theorem, StatementEnd, ProofStart, InclusionStart}
 use Rattle.mm_text.specs.declared.word.WordKind.TheVariants as kinds
 use Rattle.mm_text.specs.Language.Unit.{Token, IsKeyword, IsPlain, Shape, Declaration, Labelled, Provable, Inclusion, shape_tokens, IsShape, Units, Nothing, Simple, Block, unit_tokens, AreUnits}
 use Rattle.mm_text.specs.Code.BlockCounts.{is_start_word, is_end_word}
-use Rattle.mm_text.proofs.UnitFaultLemmas.{IsInner, inner_shape, start_counts, end_counts}
+use Rattle.mm_text.proofs.UnitFaultLemmas.{IsInner, inner_shape, no_plain, start_counts, end_counts}
 
 -- ---- the machine over shapes and plain words
 
@@ -19,18 +18,15 @@ plain_split [] (y ∷ ys) p q s t f g no_p no_q e = let same : y ≡ p = cc in a
 plain_split (x ∷ xs) [] p q s t f g no_p no_q e = let same : x ≡ q = cc in absurd (no_q (subst (λ (t : Token). IsPlain t) same f.0))
 plain_split (x ∷ xs) (y ∷ ys) p q s t f g no_p no_q e = let rest : xs ++ p ∷ s ≡ ys ++ q ∷ t = cc in let more = plain_split xs ys p q s t f.1 g.1 no_p no_q rest in (cc, more.1, more.2)
 
-not_plain : (token : Token) (k : Keyword) → IsKeyword k token → ¬ IsPlain token
-not_plain token k is plain = cc
-
 rest_split : (xs ys : List Token) (p q : Token) (s t : List Token) → AllByRecursion IsPlain xs → AllByRecursion IsPlain ys → IsKeyword StatementEnd p → IsKeyword StatementEnd q
     → (xs ++ p ∷ []) ++ s ≡ (ys ++ q ∷ []) ++ t → (xs ≡ ys) × (p ≡ q) × (s ≡ t)
-rest_split xs ys p q s t f g is_p is_q e = plain_split xs ys p q s t f g (not_plain p StatementEnd is_p) (not_plain q StatementEnd is_q) (sym (append_assoc xs (p ∷ []) s) ∙ e ∙ append_assoc ys (q ∷ []) t)
+rest_split xs ys p q s t f g is_p is_q e = plain_split xs ys p q s t f g (no_plain p StatementEnd is_p) (no_plain q StatementEnd is_q) (sym (append_assoc xs (p ∷ []) s) ∙ e ∙ append_assoc ys (q ∷ []) t)
 
 proof_split : (xs ys : List Token) (p q : Token) (xs' ys' : List Token) (p' q' : Token) (s t : List Token) → AllByRecursion IsPlain xs → AllByRecursion IsPlain ys → IsKeyword ProofStart p → IsKeyword ProofStart q
     → AllByRecursion IsPlain xs' → AllByRecursion IsPlain ys' → IsKeyword StatementEnd p' → IsKeyword StatementEnd q' → (xs ++ p ∷ (xs' ++ p' ∷ [])) ++ s ≡ (ys ++ q ∷ (ys' ++ q' ∷ [])) ++ t
     → ((xs ≡ ys) × (p ≡ q)) × ((xs' ≡ ys') × (p' ≡ q') × (s ≡ t))
 proof_split xs ys p q xs' ys' p' q' s t f g is_p is_q f' g' is_p' is_q' e =
-    let first : (xs ≡ ys) × (p ≡ q) × ((xs' ++ p' ∷ []) ++ s ≡ (ys' ++ q' ∷ []) ++ t) = plain_split xs ys p q ((xs' ++ p' ∷ []) ++ s) ((ys' ++ q' ∷ []) ++ t) f g (not_plain p ProofStart is_p) (not_plain q ProofStart is_q)
+    let first : (xs ≡ ys) × (p ≡ q) × ((xs' ++ p' ∷ []) ++ s ≡ (ys' ++ q' ∷ []) ++ t) = plain_split xs ys p q ((xs' ++ p' ∷ []) ++ s) ((ys' ++ q' ∷ []) ++ t) f g (no_plain p ProofStart is_p) (no_plain q ProofStart is_q)
     (sym (append_assoc xs (p ∷ (xs' ++ p' ∷ [])) s) ∙ e ∙ append_assoc ys (q ∷ (ys' ++ q' ∷ [])) t) in
     ((first.0, first.1), rest_split xs' ys' p' q' s t f' g' is_p' is_q' first.2)
 
@@ -63,7 +59,7 @@ one_shape o (Labelled m k xs p) (Declaration l ys q) s t f g e = let first : m �
 one_shape o (Labelled m k xs p) (Labelled n l ys q) s t f g e =
     let rest : (xs ++ p ∷ []) ++ s ≡ (ys ++ q ∷ []) ++ t = cc in let split : (xs ≡ ys) × (p ≡ q) × (s ≡ t) = rest_split xs ys p q s t f.2 g.2 f.3 g.3 rest in (cc, split.2)
 one_shape o (Labelled m k xs p) (Provable n l ys q zs r) s t f g e = let second : l ≡ k = cc in absurd (labels_not k f.1 (subst (λ (t : Token). IsKeyword Theorem t) second g.1))
-one_shape o (Labelled m k xs p) (Inclusion b n d) s t f g e = let first : m ≡ b = cc in absurd (not_plain b InclusionStart g.1 (subst (λ (t : Token). IsPlain t) first f.0.0))
+one_shape o (Labelled m k xs p) (Inclusion b n d) s t f g e = let first : m ≡ b = cc in absurd (no_plain b InclusionStart g.1 (subst (λ (t : Token). IsPlain t) first f.0.0))
 one_shape o (Provable m k xs p zs r) (Declaration l ys q) s t f g e = let first : m ≡ l = cc in absurd (declares_not l g.0 (inl (subst (λ (t : Token). IsPlain t) first f.0.0)))
 one_shape o (Provable m k xs p zs r) (Labelled n l ys q) s t f g e = let second : k ≡ l = cc in absurd (labels_not l g.1 (subst (λ (t : Token). IsKeyword Theorem t) second f.1))
 one_shape o (Provable m k xs p zs r) (Provable n l ys q ws u) s t f g e =
@@ -71,10 +67,10 @@ one_shape o (Provable m k xs p zs r) (Provable n l ys q ws u) s t f g e =
     let split : ((xs ≡ ys) × (p ≡ q)) × ((zs ≡ ws) × (r ≡ u) × (s ≡ t)) = proof_split xs ys p q zs ws r u s t f.2 g.2 f.3 g.3 f.4 g.4 f.5 g.5 rest in
     let proved : (zs ≡ ws) × (r ≡ u) × (s ≡ t) = split.1 in
     (cc, proved.2)
-one_shape o (Provable m k xs p zs r) (Inclusion b n d) s t f g e = let first : m ≡ b = cc in absurd (not_plain b InclusionStart g.1 (subst (λ (t : Token). IsPlain t) first f.0.0))
+one_shape o (Provable m k xs p zs r) (Inclusion b n d) s t f g e = let first : m ≡ b = cc in absurd (no_plain b InclusionStart g.1 (subst (λ (t : Token). IsPlain t) first f.0.0))
 one_shape o (Inclusion b n d) (Declaration l ys q) s t f g e = let first : b ≡ l = cc in absurd (declares_not l g.0 (inr (subst (λ (t : Token). IsKeyword InclusionStart t) first f.1)))
-one_shape o (Inclusion b n d) (Labelled m l ys q) s t f g e = let first : m ≡ b = cc in absurd (not_plain b InclusionStart f.1 (subst (λ (t : Token). IsPlain t) first g.0.0))
-one_shape o (Inclusion b n d) (Provable m l ys q zs r) s t f g e = let first : m ≡ b = cc in absurd (not_plain b InclusionStart f.1 (subst (λ (t : Token). IsPlain t) first g.0.0))
+one_shape o (Inclusion b n d) (Labelled m l ys q) s t f g e = let first : m ≡ b = cc in absurd (no_plain b InclusionStart f.1 (subst (λ (t : Token). IsPlain t) first g.0.0))
+one_shape o (Inclusion b n d) (Provable m l ys q zs r) s t f g e = let first : m ≡ b = cc in absurd (no_plain b InclusionStart f.1 (subst (λ (t : Token). IsPlain t) first g.0.0))
 one_shape o (Inclusion b n d) (Inclusion b' n' d') s t f g e = (cc, cc)
 
 shape_head : (o : Bool) (shape : Shape) → IsShape o shape → (first : Token) × (rest : List Token) × (shape_tokens shape ≡ first ∷ rest) × IsInner first

@@ -153,7 +153,7 @@ plain_word token is start = false≢true (ap starts_inclusion (sym is ∙ start)
 other_keyword : (token : Token) (k : Keyword) → IsKeyword k token → starts_inclusion (kinds.Keyword k) ≡ false → ¬ IsKeyword InclusionStart token
 other_keyword token k is other start = false≢true (sym other ∙ ap starts_inclusion (sym is ∙ start))
 
-no_plain : (token : Token) (k : Keyword) → IsKeyword k token → ¬ IsPlain token
+pub no_plain : (token : Token) (k : Keyword) → IsKeyword k token → ¬ IsPlain token
 no_plain token k is plain = cc
 
 neither : (token : Token) (k : Keyword) → IsKeyword k token → ends_block (kinds.Keyword k) ≡ false → ¬ (IsKeyword BlockEnd token ⊎ IsPlain token)
@@ -291,9 +291,6 @@ one_stop tokens a b v w f g =
 
 not_all : (tokens : List Token) (word : ℕ) → EndsInUnit tokens word → ¬ MayBegin tokens
 not_all tokens word h begins = h.unfinished (length tokens) h.within (omega arith) (subst (λ (ts : List Token). MayBegin ts) (sym (take_all (length tokens) tokens (omega arith))) begins)
-
-one_unfinished : (tokens : List Token) (v w : ℕ) → EndsInUnit tokens v → EndsInUnit tokens w → v ≡ w
-one_unfinished tokens v w f g = by_order v w (λ l. f.unfinished w l (le_of_lt g.within) g.begins) (λ l. g.unfinished v l (le_of_lt f.within) f.begins)
 
 -- ---- the counts of `${` and `$}`
 
@@ -469,7 +466,7 @@ same_fault tokens a b v w (inl f) (inl g) = one_stop tokens a b v w f g
 same_fault tokens a b v w (inl f) (inr (inl g)) = absurd (not_viable_all tokens a v f g.1.viable)
 same_fault tokens a b v w (inl f) (inr (inr g)) = absurd (not_viable_all tokens a v f (block_viable tokens w g.1))
 same_fault tokens a b v w (inr (inl f)) (inl g) = absurd (not_viable_all tokens b w g f.1.viable)
-same_fault tokens a b v w (inr (inl f)) (inr (inl g)) = (f.0 ∙ sym g.0, one_unfinished tokens v w f.1 g.1)
+same_fault tokens a b v w (inr (inl f)) (inr (inl g)) = (f.0 ∙ sym g.0, (by_order v w (λ l. f.1.unfinished w l (le_of_lt g.1.within) g.1.begins) (λ l. g.1.unfinished v l (le_of_lt f.1.within) f.1.begins)))
 same_fault tokens a b v w (inr (inl f)) (inr (inr g)) = absurd (not_all tokens v f.1 (block_begins tokens w g.1))
 same_fault tokens a b v w (inr (inr f)) (inl g) = absurd (not_viable_all tokens b w g (block_viable tokens v f.1))
 same_fault tokens a b v w (inr (inr f)) (inr (inl g)) = absurd (not_all tokens w g.1 (block_begins tokens v f.1))
