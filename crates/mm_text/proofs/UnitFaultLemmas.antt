@@ -234,36 +234,17 @@ ends_in_unit tokens word depth within e later = record {
 -- behind the same words, the same word has one number
 pub same_number : (front : List Token) (token : Token) (a b : TextNumber) → ¬ (MayBegin front × EndsInInclusion front) → IsUnitNumber a front token → IsUnitNumber b front token → a ≡ b
 same_number front token T12 T12 apart f g = refl
-same_number front token T12 T10 apart f g = absurd (g.0 f.0)
-same_number front token T12 T09 apart f g = absurd (apart (g.0, f.0))
-same_number front token T12 T11 apart f g = absurd (f.1 g.1)
-same_number front token T12 T06 apart f g = absurd (g.0 f)
-same_number front token T12 _ apart f g = absurd g
-same_number front token T10 T12 apart f g = absurd (f.0 g.0)
 same_number front token T10 T10 apart f g = refl
-same_number front token T10 T09 apart f g = absurd (cc)
-same_number front token T10 T11 apart f g = absurd (cc)
-same_number front token T10 T06 apart f g = absurd (g.1 f.1)
-same_number front token T10 _ apart f g = absurd g
-same_number front token T09 T12 apart f g = absurd (apart (f.0, g.0))
-same_number front token T09 T10 apart f g = absurd (cc)
 same_number front token T09 T09 apart f g = refl
-same_number front token T09 T11 apart f g = absurd (cc)
-same_number front token T09 T06 apart f g = absurd (g.2 (f.0, inl f.1))
-same_number front token T09 _ apart f g = absurd g
-same_number front token T11 T12 apart f g = absurd (g.1 f.1)
-same_number front token T11 T10 apart f g = absurd (cc)
-same_number front token T11 T09 apart f g = absurd (cc)
 same_number front token T11 T11 apart f g = refl
-same_number front token T11 T06 apart f g = absurd (g.2 (f.0, inr f.1))
-same_number front token T11 _ apart f g = absurd g
-same_number front token T06 T12 apart f g = absurd (f.0 g)
-same_number front token T06 T10 apart f g = absurd (f.1 g.1)
-same_number front token T06 T09 apart f g = absurd (f.2 (g.0, inl g.1))
-same_number front token T06 T11 apart f g = absurd (f.2 (g.0, inr g.1))
 same_number front token T06 T06 apart f g = refl
-same_number front token T06 _ apart f g = absurd g
-same_number front token _ b apart f g = absurd f
+same_number front token T12 T10 apart f g = absurd (g.0 f.0)
+same_number front token T10 T12 apart f g = absurd (f.0 g.0)
+same_number front token T06 _ apart f g = absurd (search (f.0, f.1, f.2, g, inl, inr))
+same_number front token _ T06 apart f g = absurd (search (g.0, g.1, g.2, f, inl, inr))
+same_number front token T12 _ apart f g = absurd (search (apart, f.1, g))
+same_number front token _ T12 apart f g = absurd (search (apart, g.1, f))
+same_number front token _ _ apart f g = absurd (first_of (cc, search (f, g)))
 
 apart_at : (front : List Token) → IsViable front → ¬ (MayBegin front × EndsInInclusion front)
 apart_at front h (begins, ends) =

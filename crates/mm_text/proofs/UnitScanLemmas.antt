@@ -1,8 +1,8 @@
 -- Every list of words is whole or has a fault, and what loops that look for the fault keep.
-use Rattle.std.proofs.Common.{◌≡◌, ◌≢◌, ◌⊎◌, ℕ, zero, suc, ◌+◌, ◌<◌, ◌≤◌, Bool, true, List, [], ◌∷◌, ◌++◌, append_assoc, length, take, drop, slice_get, drop_of_length-le, Some, Ok, Err, refl, sym, ap, ◌∙◌, subst, inl, inr, ⊎_elim, ◌-◌, arith}
+use Rattle.std.proofs.Common.{rules, ◌≡◌, ◌≢◌, ◌⊎◌, ℕ, zero, suc, ◌+◌, ◌<◌, ◌≤◌, Bool, true, List, [], ◌∷◌, ◌++◌, append_assoc, length, take, drop, slice_get, drop_of_length-le, Some, Ok, Err, refl, sym, ap, ◌∙◌, subst, inl, inr, ⊎_elim, ◌-◌, arith}
 use Rattle.std.proofs.lemmas.Bool.{cases_lt}
 use Rattle.std.proofs.lemmas.List.{take_all, take_at}
-use Rattle.mm_text.specs.declared.word.Keyword.TheVariants.{BlockStart, BlockEnd, Constants, Variables, Floating, Essential, Disjoint, Axiom, Theorem, StatementEnd, ProofStart, InclusionStart, InclusionEnd}
+use Rattle.mm_text.specs.declared.word.Keyword.TheVariants.{BlockStart, BlockEnd, Floating, InclusionStart, InclusionEnd}
 use Rattle.mm_text.specs.declared.word.WordKind.{WordKind}
 use Rattle.mm_text.specs.declared.word.WordKind.TheVariants as kinds
 use Rattle.mm_text.specs.declared.fault.TextNumber.{TextNumber}
@@ -24,21 +24,13 @@ pub step_counts : (phase : m.Phase) (depth : ℕ) (kind : WordKind) (b : Bool) �
 step_counts m.Begin depth kinds.Plain true = refl
 step_counts m.Begin depth (kinds.Keyword BlockStart) b = omega arith
 step_counts m.Begin (suc depth) (kinds.Keyword BlockEnd) b = omega arith
-step_counts m.Begin depth (kinds.Keyword Constants) b = refl
-step_counts m.Begin depth (kinds.Keyword Variables) b = refl
-step_counts m.Begin depth (kinds.Keyword Disjoint) b = refl
 step_counts m.Begin zero (kinds.Keyword InclusionStart) b = refl
 step_counts m.Labelled depth (kinds.Keyword Floating) b = refl
-step_counts m.Labelled depth (kinds.Keyword Essential) b = refl
-step_counts m.Labelled depth (kinds.Keyword Axiom) b = refl
-step_counts m.Labelled depth (kinds.Keyword Theorem) b = refl
 step_counts m.Symbols depth kinds.Plain b = refl
-step_counts m.Symbols depth (kinds.Keyword StatementEnd) b = refl
 step_counts m.Expression depth kinds.Plain b = refl
-step_counts m.Expression depth (kinds.Keyword ProofStart) b = refl
 step_counts m.Including depth kinds.Plain b = refl
 step_counts m.Named depth (kinds.Keyword InclusionEnd) b = refl
-step_counts _ _ _ _ = tt
+step_counts _ _ _ _ = search rules
 
 pub run_counts : (tokens : List Token) (phase : m.Phase) (depth : ℕ) (s : m.Phase × ℕ) → m.run phase depth tokens ≡ Ok s → depth + starts tokens ≡ s.1 + ends tokens
 run_counts [] phase depth s e = let same : m.phase_state phase depth ≡ s = cc in let last : depth ≡ s.1 = ap (λ (s : m.Phase × ℕ). s.1) same in omega arith
