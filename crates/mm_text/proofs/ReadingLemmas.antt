@@ -101,7 +101,7 @@ read_inside : (start : ℕ) (inside tail : List Run) → HoldNoMarks inside → 
 read_inside start [] tail h = refl
 read_inside start (run ∷ inside) tail h = inside_more start run (inside ++ tail) (λ e. h.0 (mark_stands run.bytes (ap holds_mark e))) (no_mark_is run.bytes h.0) ∙ read_inside start inside tail h.1
 
-with_none : (r : Read) → with_words [] r ≡ r
+pub with_none : (r : Read) → with_words [] r ≡ r
 with_none (Ok words) = refl
 with_none (Err fault) = refl
 
