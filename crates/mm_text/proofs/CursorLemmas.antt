@@ -8,7 +8,7 @@ use Rattle.mm_text.specs.declared.fault.TextFault.{TextFault}
 use Rattle.mm_text.specs.Language.Reading.{AreWords, HasWords, LiesIn, AreWithin}
 use Rattle.mm_text.specs.Language.Unit.{spellings}
 use Rattle.mm_text.specs.declared.word.WordKind.TheVariants.{Plain}
-use Rattle.mm_text.specs.Code.LeftToRight.{read_runs, with_words}
+use Rattle.mm_text.specs.Code.LeftToRight.{read_runs}
 use Rattle.mm_text.specs.Language.Run.{Run, runs}
 use Rattle.mm_text.specs.Code.Reader.{runs_at, TakesWord, SkipsPlain}
 use Rattle.mm_text.specs.Language.WordsLeft.{SkipsPlainWords}
@@ -26,13 +26,7 @@ all_left text words from has e = ap words_read (ap (λ n. read_runs None (runs_a
 pub at_first : (text : List ℕ) (words : List Word) (from : ℕ) → HasWords text words → from ≡ 0 → AreLast text from
 at_first text words from has e =
     let left = all_left text words from has e in
-    record {
-      whole = words;
-      front = [];
-      has_words = has;
-      divided = sym left;
-      no_fault = ap (λ n. read_runs None (runs_at text n)) e ∙ read_words (runs text) words has.words_are ∙ ap Ok (sym left);
-    }
+    record { whole = words; front = []; has_words = has; divided = sym left; no_fault = ap (λ n. read_runs None (runs_at text n)) e ∙ read_words (runs text) words has.words_are ∙ ap Ok (sym left) }
 
 -- a word is taken
 pub record Took (text : List ℕ) (from : ℕ) (word : Word) (to : ℕ) : Type 0 where
@@ -48,13 +42,7 @@ one_taken text from word to at taken =
     let divided : at.whole ≡ at.front ++ word ∷ words_from text to = at.divided ∙ ap (λ l. at.front ++ l) words in
     record {
       words = words;
-      last = record {
-        whole = at.whole;
-        front = at.front ++ word ∷ [];
-        has_words = at.has_words;
-        divided = divided ∙ sym (append_assoc at.front (word ∷ []) (words_from text to));
-        no_fault = first.2 ∙ ap Ok (sym rest);
-      };
+      last = record { whole = at.whole; front = at.front ++ word ∷ []; has_words = at.has_words; divided = divided ∙ sym (append_assoc at.front (word ∷ []) (words_from text to)); no_fault = first.2 ∙ ap Ok (sym rest) };
       lies = nth_lies text at.whole (length at.front) (Some word) at.has_words (sym (ap (λ l. slice_get l (length at.front)) divided ∙ at_seam at.front word (words_from text to)));
     } where
       at_seam : (front : List Word) (word : Word) (more : List Word) → slice_get (front ++ word ∷ more) (length front) ≡ Some word
@@ -74,35 +62,18 @@ pub plain_passed : (text : List ℕ) (from to : ℕ) → AreLast text from → S
 plain_passed text from to at skips =
     let passed = plain_words skips.inside in
     let whole = read_whole skips.inside passed (are_plain_words skips.inside skips.plain) (runs_at text to) in
-    let read : with_words passed (read_runs None (runs_at text to)) ≡ Ok (words_from text from) = sym (ap (read_runs None) skips.joined ∙ whole) ∙ at.no_fault in
-    let more = read_on passed (read_runs None (runs_at text to)) (words_from text from) read in
+    let more = read_on passed (read_runs None (runs_at text to)) (words_from text from) (sym (ap (read_runs None) skips.joined ∙ whole) ∙ at.no_fault) in
     let rest : words_from text to ≡ more.0 = ap words_read more.1 in
     let joined : words_from text from ≡ passed ++ words_from text to = more.2 ∙ ap (λ l. passed ++ l) (sym rest) in
     record {
       words = record { passed = passed; joined = joined; plain = are_plain skips.inside };
-      last = record {
-        whole = at.whole;
-        front = at.front ++ passed;
-        has_words = at.has_words;
-        divided = at.divided ∙ ap (λ l. at.front ++ l) joined ∙ sym (append_assoc at.front passed (words_from text to));
-        no_fault = more.1 ∙ ap Ok (sym rest);
-      };
+      last = record { whole = at.whole; front = at.front ++ passed; has_words = at.has_words; divided = at.divided ∙ ap (λ l. at.front ++ l) joined ∙ sym (append_assoc at.front passed (words_from text to)); no_fault = more.1 ∙ ap Ok (sym rest) };
     }
-
--- no word is left
-none_left : (text : List ℕ) (from : ℕ) → read_runs None (runs_at text from) ≡ Ok [] → words_from text from ≡ []
-none_left text from e = ap words_read e
 
 none_behind : (text : List ℕ) (from to : ℕ) → AreLast text from → words_from text from ≡ [] → runs_at text to ≡ [] → AreLast text to
 none_behind text from to at none end =
     let left : words_from text to ≡ [] = ap (λ runs. words_read (read_runs None runs)) end in
-    record {
-      whole = at.whole;
-      front = at.front;
-      has_words = at.has_words;
-      divided = at.divided ∙ ap (λ l. at.front ++ l) (none ∙ sym left);
-      no_fault = ap (read_runs None) end ∙ ap Ok (sym left);
-    }
+    record { whole = at.whole; front = at.front; has_words = at.has_words; divided = at.divided ∙ ap (λ l. at.front ++ l) (none ∙ sym left); no_fault = ap (read_runs None) end ∙ ap Ok (sym left) }
 
 -- a word is taken, or none is left
 pub record Went (text : List ℕ) (from : ℕ) (found : Option Word) (to : ℕ) : Type 0 where
@@ -110,15 +81,12 @@ pub record Went (text : List ℕ) (from : ℕ) (found : Option Word) (to : ℕ) 
   pub last : AreLast text to
   pub lies : IfSome found (LiesIn text)
 
-pub went : (text : List ℕ) (from : ℕ) (found : Option Word) (to : ℕ) → AreLast text from
-    → MatchOption found (AreWords (runs_at text from) []) (λ word. TakesWord text from word to) → IfNone found (runs_at text to ≡ []) → Went text from found to
+pub went : (text : List ℕ) (from : ℕ) (found : Option Word) (to : ℕ) → AreLast text from → MatchOption found (AreWords (runs_at text from) []) (λ word. TakesWord text from word to) → IfNone found (runs_at text to ≡ []) → Went text from found to
 went text from None to at none end =
-    let left = none_left text from (read_words _ [] none) in
+    let left = ap words_read (read_words _ [] none) in
     let last = none_behind text from to at left end in
     record { words = (left, ap (λ runs. words_read (read_runs None runs)) end); last = last; lies = tt }
-went text from (Some word) to at taken end =
-    let took = one_taken text from word to at taken in
-    record { words = took.words; last = took.last; lies = took.lies }
+went text from (Some word) to at taken end = let took = one_taken text from word to at taken in record { words = took.words; last = took.last; lies = took.lies }
 
 -- a fault is not met
 pub no_fault : (text : List ℕ) (from : ℕ) (fault : TextFault) → AreLast text from → read_runs None (runs_at text from) ≡ Err fault → ⊥

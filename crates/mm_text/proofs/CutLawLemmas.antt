@@ -36,15 +36,12 @@ runs_joined a b white =
     let place : 0 + length a ≡ length a + 0 = omega arith in
     runs-append a b 0 (seam a b white) ∙ ap (λ (n : ℕ). runs a ++ runs_from n b) place ∙ ap (λ (rs : List Run). runs a ++ rs) (runs-shift (length a) 0 b)
 
-allowed_both : (a b : List ℕ) → first_bad a ≡ None → first_bad b ≡ None → first_bad (a ++ b) ≡ None
-allowed_both a b f g = all_allowed (a ++ b) (All-append (λ x. is_allowed x ≡ true) a b (allowed_all a f) (allowed_all b g))
-
 allowed_front : (a b : List ℕ) → first_bad (a ++ b) ≡ None → first_bad a ≡ None
 allowed_front a b h = all_allowed a (subst (λ (bs : List ℕ). AllPass is_allowed bs) (take-append_seam a b) (All-take (λ x. is_allowed x ≡ true) (length a) (a ++ b) (allowed_all (a ++ b) h)))
 
 join_words : (a b : List ℕ) (ws vs : List Word) → ends_white a ≡ true → HasWords a ws → HasWords b vs → HasWords (a ++ b) (ws ++ map (shift_word (length a)) vs)
 join_words a b ws vs white f g = record {
-  allowed = allowed_both a b f.allowed g.allowed;
+  allowed = all_allowed (a ++ b) (All-append (λ x. is_allowed x ≡ true) a b (allowed_all a f.allowed) (allowed_all b g.allowed));
   words_are = subst (λ (rs : List Run). AreWords rs (ws ++ map (shift_word (length a)) vs)) (sym (runs_joined a b white))
       (words-append (runs a) (map (shift_run (length a)) (runs b)) ws (map (shift_word (length a)) vs) f.words_are (words-shift (length a) (runs b) vs g.words_are));
 }
@@ -56,8 +53,7 @@ join_tokens a b ws vs f g =
     ∙ map-append bare (tokens_of a ws) (tokens_of (a ++ b) (map (shift_word (length a)) vs)) ∙ ap (λ (ts : List Token). map bare (tokens_of a ws) ++ ts) later ∙ sym (map-append bare (tokens_of a ws) (tokens_of b vs))
 
 join_whole : (a b : List ℕ) (ws vs : List Word) → HasWords a ws → HasWords b vs → WholeRun (tokens_of a ws) → WholeRun (tokens_of b vs) → WholeRun (tokens_of (a ++ b) (ws ++ map (shift_word (length a)) vs))
-join_whole a b ws vs f g x y =
-    run_bare (tokens_of (a ++ b) (ws ++ map (shift_word (length a)) vs)) (tokens_of a ws ++ tokens_of b vs) m.Begin 0 (join_tokens a b ws vs f g) ∙ run-append (tokens_of a ws) (tokens_of b vs) m.Begin 0 (m.Begin, 0) x ∙ y
+join_whole a b ws vs f g x y = run_bare (tokens_of (a ++ b) (ws ++ map (shift_word (length a)) vs)) (tokens_of a ws ++ tokens_of b vs) m.Begin 0 (join_tokens a b ws vs f g) ∙ run-append (tokens_of a ws) (tokens_of b vs) m.Begin 0 (m.Begin, 0) x ∙ y
 
 -- ---- the words of a text that has a cut
 
@@ -67,9 +63,6 @@ record HasUnits (text : List ℕ) : Type 0 where
   has_words : HasWords text found
   whole : WholeRun (tokens_of text found)
 
-piece_whole : (piece : List ℕ) (h : IsPiece piece) → WholeRun (tokens_of piece h.words)
-piece_whole piece h = IsWhole-run (tokens_of piece h.words) (h.units, h.are_units, h.spells)
-
 pieces_words : (pieces : List (List ℕ)) (tail : List ℕ) → ArePieces pieces tail → HasUnits (concat pieces ++ tail)
 pieces_words [] tail h = record { found = []; has_words = h; whole = refl }
 pieces_words (piece ∷ pieces) tail h =
@@ -77,7 +70,7 @@ pieces_words (piece ∷ pieces) tail h =
     subst (λ (bs : List ℕ). HasUnits bs) (sym (append_assoc piece (concat pieces) tail)) (record {
       found = h.0.words ++ map (shift_word (length piece)) rest.found;
       has_words = join_words piece (concat pieces ++ tail) h.0.words rest.found h.0.ends h.0.has_words rest.has_words;
-      whole = join_whole piece (concat pieces ++ tail) h.0.words rest.found h.0.has_words rest.has_words (piece_whole piece h.0) rest.whole;
+      whole = join_whole piece (concat pieces ++ tail) h.0.words rest.found h.0.has_words rest.has_words (IsWhole-run (tokens_of piece h.0.words) (h.0.units, h.0.are_units, h.0.spells)) rest.whole;
     })
 
 cut_units : (text : List ℕ) (pieces : List (List ℕ)) (tail : List ℕ) → IsCut text pieces tail → HasUnits text
@@ -163,17 +156,7 @@ meets text number at allowed fault h = record {
 
 sorted : (text : List ℕ) (number : TextNumber) (at : ℕ) → IsFirstFaultAt text number at → Sorted text number at
 sorted text T01 at h = inl (refl, h)
-sorted text T02 at h = inr (inl (record {
-  allowed = h.0;
-  fault = (h.0, h.1.ends);
-  front = runs text;
-  rest = [];
-  joined = sym (append-nil (runs text));
-  found = h.1.found;
-  held = inr h.1.read;
-  viable = h.1.viable;
-  stuck = λ run more e. absurd cc;
-}))
+sorted text T02 at h = inr (inl (record { allowed = h.0; fault = (h.0, h.1.ends); front = runs text; rest = []; joined = sym (append-nil (runs text)); found = h.1.found; held = inr h.1.read; viable = h.1.viable; stuck = λ run more e. absurd cc }))
 sorted text T03 at h = inr (inl (meets text T03 at h.0 (h.0, h.1.stop) h.1))
 sorted text T04 at h = inr (inl (meets text T04 at h.0 (h.0, h.1.stop) h.1))
 sorted text T05 at h = inr (inl (meets text T05 at h.0 (h.0, h.1.stop) h.1))
@@ -223,12 +206,11 @@ stop_more : (a b : List Token) (number : TextNumber) (word : ℕ) (h : units.Sto
 stop_more a b number word h =
     let within : word < length a = slice_get_within a word h.token h.there in
     let front : take word a ≡ take word (a ++ b) = sym (take-append-le word a b (omega arith)) in
-    let next : take (word + 1) a ≡ take (word + 1) (a ++ b) = sym (take-append-le (word + 1) a b (omega arith)) in
     record {
       token = h.token;
       there = slice_get-front a b word h.token h.there;
       goes_on = subst (λ (ts : List Token). IsViable ts) front h.goes_on;
-      stops = subst (λ (ts : List Token). ¬ IsViable ts) next h.stops;
+      stops = subst (λ (ts : List Token). ¬ IsViable ts) (sym (take-append-le (word + 1) a b (omega arith))) h.stops;
       is_number = subst (λ (ts : List Token). units.IsUnitNumber number ts h.token) front h.is_number;
     }
 
@@ -358,8 +340,7 @@ no_longer p (z ∷ zs) rest f g solid = absurd (false≢true (sym solid ∙ pass
   lie = words_lie p f.words f.has_words
 
   tokens : unit_tokens f.units ++ tokens_of (p ++ z ∷ zs) more.0 ≡ unit_tokens g.units
-  tokens =
-      ap (λ (ts : List Token). ts ++ tokens_of (p ++ z ∷ zs) more.0) (f.spells ∙ sym (tokens-front p (z ∷ zs) f.words 0 lie)) ∙ sym (map-append (token_of (p ++ z ∷ zs)) f.words more.0) ∙ ap (tokens_of (p ++ z ∷ zs)) (sym more.1) ∙ sym g.spells
+  tokens = ap (λ (ts : List Token). ts ++ tokens_of (p ++ z ∷ zs) more.0) (f.spells ∙ sym (tokens-front p (z ∷ zs) f.words 0 lie)) ∙ sym (map-append (token_of (p ++ z ∷ zs)) f.words more.0) ∙ ap (tokens_of (p ++ z ∷ zs)) (sym more.1) ∙ sym g.spells
 
   same : g.words ≡ f.words
   same = more.1 ∙ ap (λ (us : List Word). f.words ++ us) (no_words_left (p ++ z ∷ zs) more.0 (one_piece_more f.units g.units (tokens_of (p ++ z ∷ zs) more.0) f.are_units g.are_units f.one g.one tokens)) ∙ append-nil f.words
@@ -400,18 +381,14 @@ same_pieces (p ∷ ps) (q ∷ qs) s t e f g = by_cut (cut_twice p (concat ps ++ 
   all = sym (append_assoc p (concat ps) s) ∙ e ∙ append_assoc q (concat qs) t
 
   alike : p ≡ q → ((concat ps ++ s ≡ concat qs ++ t) → (ps ≡ qs) × (s ≡ t)) → (p ∷ ps ≡ q ∷ qs) × (s ≡ t)
-  alike same more =
-      let rest = more (append_cancel_left q (concat ps ++ s) (concat qs ++ t) (ap (λ (bs : List ℕ). bs ++ (concat ps ++ s)) (sym same) ∙ all)) in
-      (cc, rest.1)
+  alike same more = let rest = more (append_cancel_left q (concat ps ++ s) (concat qs ++ t) (ap (λ (bs : List ℕ). bs ++ (concat ps ++ s)) (sym same) ∙ all)) in (cc, rest.1)
 
   by_cut : ((zs : List ℕ) × (p ≡ q ++ zs) × (zs ++ (concat ps ++ s) ≡ concat qs ++ t)) ⊎ ((zs : List ℕ) × (q ≡ p ++ zs) × (concat ps ++ s ≡ zs ++ (concat qs ++ t)))
       → ((concat ps ++ s ≡ concat qs ++ t) → (ps ≡ qs) × (s ≡ t)) → (p ∷ ps ≡ q ∷ qs) × (s ≡ t)
   by_cut (inl h) more =
       let none : h.0 ≡ [] = no_longer q h.0 (concat ps ++ s) g.0 (subst IsPiece h.1 f.0) (subst BeginsSolid (sym h.2) g.1) in
       alike (h.1 ∙ ap (λ (zs : List ℕ). q ++ zs) none ∙ append-nil q) more
-  by_cut (inr h) more =
-      let none : h.0 ≡ [] = no_longer p h.0 (concat qs ++ t) f.0 (subst IsPiece h.1 g.0) (subst BeginsSolid h.2 f.1) in
-      alike (sym (h.1 ∙ ap (λ (zs : List ℕ). p ++ zs) none ∙ append-nil p)) more
+  by_cut (inr h) more = alike (sym (h.1 ∙ ap (λ (zs : List ℕ). p ++ zs) (no_longer p h.0 (concat qs ++ t) f.0 (subst IsPiece h.1 g.0) (subst BeginsSolid h.2 f.1)) ∙ append-nil p)) more
 
 pub one_cut : (text : List ℕ) (ps qs : List (List ℕ)) (s t : List ℕ) → IsCut text ps s → IsCut text qs t → (ps ≡ qs) × (s ≡ t)
 one_cut text ps qs s t f g = same_pieces ps qs s t (f.joined ∙ sym g.joined) f.are_pieces g.are_pieces

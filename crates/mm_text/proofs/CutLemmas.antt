@@ -23,7 +23,7 @@ use Rattle.mm_text.proofs.ReaderLemmas.{words-append, fails_more, first_of_words
 use Rattle.mm_text.proofs.SkipLemmas.{plain_words, are_plain_words, plain_tokens}
 use Rattle.mm_text.proofs.UnitReadingLemmas.{run-append, run-IsViable}
 use Rattle.mm_text.proofs.GrammarLemmas.{Stands, stands_none, stands_more, stands_plain, stands_unit, stands_block, plain_run, is_no_begin, first_of_units}
-use Rattle.mm_text.proofs.PieceLemmas.{shift_run, shift_word, runs-shift, words_unshift, runs-ended}
+use Rattle.mm_text.proofs.PieceLemmas.{shift_word, runs-shift, words_unshift, runs-ended}
 use Rattle.mm_text.proofs.PieceUnitLemmas.{allowed-ended, allowed_rest, solid_ended, WholeRun, white_within, rest_solid, rest_ended, runs_behind, piece_is}
 
 -- ---- where words lie
@@ -36,17 +36,13 @@ lying_last text at (w ∷ ws) word h = let more = lying_last text (w.end + 1) ws
 pub last_lies : (text : List ℕ) (from : ℕ) (since rest : List Run) (part : List Word) (word : Word) → from ≤ length text → runs_at text from ≡ since ++ rest → AreWords since (part ++ word ∷ []) → (from ≤ word.start) × LiesIn text word
 last_lies text from since rest part word within joined h =
     let all : Standing text from (runs_at text from) = runs_stand text (take from text) (drop from text) from (runs_at text from) (sym (take-append-drop from text)) (sym (length-take-le from text within)) (laid_out from (drop from text)) in
-    let front : Standing text from since = standing_front text from since rest (subst (Standing text from) joined all) in
-    lying_last text from part word (subst (Lying text from) h.singles (parts_lie text from h.parts h.reading.each (subst (Standing text from) (sym h.reading.joined) front)))
+    lying_last text from part word (subst (Lying text from) h.singles (parts_lie text from h.parts h.reading.each (subst (Standing text from) (sym h.reading.joined) (standing_front text from since rest (subst (Standing text from) joined all)))))
 
 -- ---- the pieces so far
 
 pub record Gathers (text : List ℕ) (pieces : List (List ℕ)) (rest : List ℕ) : Type 0 where
   pub joined : concat pieces ++ ended rest ≡ ended text
   pub are : (more : List (List ℕ)) (tail : List ℕ) → concat more ++ tail ≡ ended rest → ArePieces more tail → ArePieces (pieces ++ more) tail
-
-gathers_none : (text : List ℕ) → Gathers text [] text
-gathers_none text = record { joined = refl; are = λ more tail e h. h }
 
 gathers_more : (text : List ℕ) (pieces : List (List ℕ)) (rest piece next : List ℕ) → Gathers text pieces rest → ended rest ≡ piece ++ ended next → IsPiece piece → BeginsSolid (ended next) → Gathers text (pieces ++ piece ∷ []) next
 gathers_more text pieces rest piece next g split is solid = record {
@@ -88,7 +84,7 @@ progress_start text first = record {
   stands = stands_none first;
   inner = λ n some none. absurd (omega arith);
   within = omega arith;
-  gathers = gathers_none text;
+  gathers = record { joined = refl; are = λ more tail e h. h };
 }
 
 abbrev ok_step : m.Phase → ℕ → m.UnitStep
@@ -150,8 +146,7 @@ module _ (text : List ℕ) (pieces : List (List ℕ)) (from at : ℕ) (phase : m
   no_words : AreWords (runs_at text from) [] → first_bad text ≡ None → HasWords (ended (drop from text)) []
   no_words none allowed =
       let place : from ≡ from + 0 = omega arith in
-      let same : runs_at text from ≡ map (shift_run from) (runs (drop from text)) = ap (λ (n : ℕ). runs_at_place n) place ∙ runs-shift from 0 (drop from text) in
-      let words = words_unshift from (runs (drop from text)) [] (subst (λ (rs : List Run). AreWords rs []) same none) in
+      let words = words_unshift from (runs (drop from text)) [] (subst (λ (rs : List Run). AreWords rs []) (ap (λ (n : ℕ). runs_at_place n) place ∙ runs-shift from 0 (drop from text)) none) in
       record {
         allowed = allowed-ended (drop from text) (allowed_rest text from allowed);
         words_are = subst (λ (rs : List Run). AreWords rs []) (sym (runs-ended 0 (drop from text))) (subst (λ (ws : List Word). AreWords (runs (drop from text)) ws) (is_none words.0 words.2) words.1);
@@ -170,9 +165,8 @@ module _ (text : List ℕ) (pieces : List (List ℕ)) (from at : ℕ) (phase : m
   } where
     rest : AreWords (runs_at text from) []
     rest =
-        let all : AreWords (h.since ++ runs_at text at) (h.part ++ []) = words-append h.since (runs_at text at) h.part [] h.reads_part none in
         let no_part : h.part ++ [] ≡ [] = ap (λ (ws : List Word). ws ++ []) (part_none is no_open h.part refl) in
-        subst (λ (rs : List Run). AreWords rs []) (sym h.at_now) (subst (λ (ws : List Word). AreWords (h.since ++ runs_at text at) ws) no_part all)
+        subst (λ (rs : List Run). AreWords rs []) (sym h.at_now) (subst (λ (ws : List Word). AreWords (h.since ++ runs_at text at) ws) no_part (words-append h.since (runs_at text at) h.part [] h.reads_part none))
 
   -- ---- plain words inside a statement
 
@@ -186,12 +180,10 @@ module _ (text : List ℕ) (pieces : List (List ℕ)) (from at : ℕ) (phase : m
     runs_skipped : (n : ℕ) → length (tokens_of text h.part) ≤ n → m.run m.Begin 0 (take n (tokens_of text (h.part ++ words_skipped))) ≡ Ok (m.phase_state phase (length blocks))
     runs_skipped n le =
         let count : length (tokens_of text h.part) + (n - length (tokens_of text h.part)) ≡ n = omega arith in
-        let taken = take-append-add (tokens_of text h.part) (tokens_of text words_skipped) (n - length (tokens_of text h.part)) in
-        let front : m.run m.Begin 0 (tokens_of text h.part) ≡ Ok (m.phase_state phase (length blocks)) = part_state h.part (phase, length blocks) h.stands.state in
         ap (λ (ts : List Token). m.run m.Begin 0 (take n ts)) tokens_skipped
         ∙ ap (λ (k : ℕ). m.run m.Begin 0 (take k (tokens_of text h.part ++ tokens_of text words_skipped))) (sym count)
-        ∙ ap (m.run m.Begin 0) taken
-        ∙ run-append (tokens_of text h.part) (take (n - length (tokens_of text h.part)) (tokens_of text words_skipped)) m.Begin 0 (phase, length blocks) front
+        ∙ ap (m.run m.Begin 0) (take-append-add (tokens_of text h.part) (tokens_of text words_skipped) (n - length (tokens_of text h.part)))
+        ∙ run-append (tokens_of text h.part) (take (n - length (tokens_of text h.part)) (tokens_of text words_skipped)) m.Begin 0 (phase, length blocks) (part_state h.part (phase, length blocks) h.stands.state)
         ∙ plain_run phase (length blocks) inside (tokens_of text words_skipped) (plain_tokens text s.inside) (n - length (tokens_of text h.part))
 
     inner_skipped : (n : ℕ) → 0 < n → (n ≤ length (tokens_of text h.part)) ⊎ (length (tokens_of text h.part) ≤ n) → ¬ WholeRun (take n (tokens_of text (h.part ++ words_skipped)))
@@ -271,8 +263,7 @@ module _ (text : List ℕ) (pieces : List (List ℕ)) (from at : ℕ) (phase : m
       long = ap length (map-append (token_of text) h.part (word ∷ [])) ∙ length-append (tokens_of text h.part) (token_of text word ∷ [])
 
       inner_next : (n : ℕ) → 0 < n → n ≤ length (tokens_of text h.part) → ¬ WholeRun (take n (tokens_of text more_words))
-      inner_next n some less whole =
-          h.inner n some less (ap (m.run m.Begin 0) (sym (ap (take n) (map-append (token_of text) h.part (word ∷ [])) ∙ take-append-le n (tokens_of text h.part) (token_of text word ∷ []) less)) ∙ whole)
+      inner_next n some less whole = h.inner n some less (ap (m.run m.Begin 0) (sym (ap (take n) (map-append (token_of text) h.part (word ∷ [])) ∙ take-append-le n (tokens_of text h.part) (token_of text word ∷ []) less)) ∙ whole)
 
       pub progress_more : ¬ ((next ≡ m.Begin) × (next_blocks ≡ [])) → Progress text pieces from to next next_first next_blocks
       progress_more on = record {

@@ -1,5 +1,5 @@
 -- Each text has its cut or its first fault: what `cut` does, without its code.
-use Rattle.std.proofs.Common.{not, ◌≡◌, ◌≢◌, ◌⊎◌, ℕ, zero, suc, ◌+◌, ◌-◌, ◌<◌, ◌≤◌, List, [], ◌∷◌, ◌++◌, length, take, drop, Option, Some, None, Ok, Err, refl, sym, ap, ◌∙◌, inl, inr, arith}
+use Rattle.std.proofs.Common.{◌≡◌, ◌≢◌, ◌⊎◌, ℕ, zero, suc, ◌+◌, ◌-◌, ◌<◌, ◌≤◌, List, [], ◌∷◌, ◌++◌, length, take, drop, Option, Some, None, Ok, Err, refl, sym, ap, ◌∙◌, inl, inr, arith}
 use Rattle.std.specs.Prelude.{slice_range}
 use Rattle.std.specs.List.{prefix_len}
 use Rattle.std.specs.Str.{bytes_eq}
@@ -19,7 +19,6 @@ use Rattle.mm_text.specs.Language.Unit.{token_of}
 use Rattle.mm_text.specs.Code.UnitReading as m
 use Rattle.mm_text.specs.Code.LeftToRight.{word_kind, holds_mark, words_fault_at}
 use Rattle.mm_text.specs.Code.Grammar.{first_behind, blocks_behind}
-use Rattle.mm_text.specs.Code.LeftToRight.{has_dollar}
 use Rattle.mm_text.specs.Code.Reader.{runs_at, TakesSpan, SkipsComment, FailsInside, TakesWord, FailsBehind}
 use Rattle.mm_text.specs.Language.Cut.{ended, IsCut, IsFirstFault}
 use Rattle.mm_text.proofs.KindLemmas.{mark_stands, stands_mark}
@@ -44,7 +43,7 @@ solid_most text from n is =
 
 run_by : (text : List ℕ) (from w n : ℕ) → w ≡ prefix_len is_white (take (length text - from) (drop from text)) → n ≡ prefix_len is_solid (take (length text - (from + w)) (drop (from + w) text)) → (runs_at text from ≡ []) ⊎ NextRun text from
 run_by text from w zero w-is n-is = inl (no_run text from w 0 w-is n-is refl)
-run_by text from w (suc n) w-is n-is = inr (_, from + w + suc n, takes_run text from (from + w) (suc n) _ (omega arith) (omega arith) (white_at text from w w-is) n-is refl, within) where
+run_by text from w (suc n) w-is n-is = inr (_, from + w + suc n, takes_run text from (from + w) (suc n) (omega arith) (omega arith) (white_at text from w w-is) n-is, within) where
   within : from + w + suc n ≤ length text
   within = let most : suc n ≤ length text - (from + w) = solid_most text (from + w) (suc n) n-is in omega arith
 

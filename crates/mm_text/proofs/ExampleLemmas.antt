@@ -62,7 +62,4 @@ type_piece = record {
 
 pub is_cut_in_two : IsCutInTwo
 unfolding is_white is_allowed
-is_cut_in_two = record {
-  joined = refl;
-  are_pieces = (constants_piece, refl, (type_piece, refl, words_of_text (codes "$( end $)\n") [] refl));
-}
+is_cut_in_two = record { joined = refl; are_pieces = (constants_piece, refl, (type_piece, refl, words_of_text (codes "$( end $)\n") [] refl)) }

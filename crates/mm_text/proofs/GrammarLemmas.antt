@@ -90,8 +90,7 @@ opens_start [] tokens token h opens = record { before = tokens; begin = token; i
 opens_start (start ∷ blocks) tokens token h opens = opens_inside start tokens token h (opens_start blocks h.inner token h.goes_on opens)
 
 opens_end : (blocks : List ℕ) (last : ℕ) (tokens : List Token) (token : Token) → Opens tokens (blocks ++ last ∷ []) → IsKeyword BlockEnd token → Opens (tokens ++ token ∷ []) blocks
-opens_end [] last tokens token h closes =
-    subst (λ (ts : List Token). IsClosed ts) (sym (behind tokens h.before h.inner h.begin token h.joined)) (closed_block h.before h.inner h.begin token h.closed h.goes_on h.opens closes)
+opens_end [] last tokens token h closes = subst (λ (ts : List Token). IsClosed ts) (sym (behind tokens h.before h.inner h.begin token h.joined)) (closed_block h.before h.inner h.begin token h.closed h.goes_on h.opens closes)
 opens_end (start ∷ blocks) last tokens token h closes = opens_inside start tokens token h (opens_end blocks last h.inner token h.goes_on closes)
 
 -- the innermost open block
@@ -157,8 +156,7 @@ blocks_more : (kind : WordKind) (blocks : List ℕ) (tokens : List Token) (token
     → Opens tokens blocks → Opens (tokens ++ token ∷ []) (blocks_behind kind blocks token.start)
 blocks_more (kinds.Keyword BlockStart) blocks tokens token depth is e h = opens_start blocks tokens token h is
 blocks_more (kinds.Keyword BlockEnd) blocks tokens token depth is e h =
-    let last = last_of blocks (omega arith) in
-    opens_end (take (length blocks - 1) blocks) last.0 tokens token (subst (λ (bs : List ℕ). Opens tokens bs) last.1 h) is
+    let last = last_of blocks (omega arith) in opens_end (take (length blocks - 1) blocks) last.0 tokens token (subst (λ (bs : List ℕ). Opens tokens bs) last.1 h) is
 blocks_more _ blocks tokens token depth is e h = opens_more blocks tokens token h (ap is_start_word is) (ap is_end_word is)
 
 -- ---- one more word
@@ -306,8 +304,7 @@ plain_step _ depth token within plain = absurd (false≢true within)
 pub plain_run : (phase : m.Phase) (depth : ℕ) → is_within phase ≡ true → (tokens : List Token) → AllByRecursion IsPlain tokens → (k : ℕ) → m.run phase depth (take k tokens) ≡ Ok (m.phase_state phase depth)
 plain_run phase depth within tokens plain zero = refl
 plain_run phase depth within [] plain (suc k) = refl
-plain_run phase depth within (token ∷ tokens) plain (suc k) =
-    ap (λ (step : m.UnitStep). m.after step (λ p d. m.run p d (take k tokens))) (plain_step phase depth token within plain.0) ∙ plain_run phase depth within tokens plain.1 k
+plain_run phase depth within (token ∷ tokens) plain (suc k) = ap (λ (step : m.UnitStep). m.after step (λ p d. m.run p d (take k tokens))) (plain_step phase depth token within plain.0) ∙ plain_run phase depth within tokens plain.1 k
 
 pub is_no_begin : (phase : m.Phase) → is_within phase ≡ true → phase ≢ m.Begin
 is_no_begin phase within is = false≢true (sym (ap is_within is) ∙ within)
@@ -317,14 +314,11 @@ plain_first m.Symbols first start within = refl
 plain_first m.Expression first start within = refl
 plain_first _ first start within = absurd (false≢true within)
 
-plain_blocks : (kind : WordKind) (blocks : List ℕ) (start : ℕ) → kind ≡ kinds.Plain → blocks_behind kind blocks start ≡ blocks
-plain_blocks kind blocks start plain = ap (λ (k : WordKind). blocks_behind k blocks start) plain
-
 pub stands_plain : (tokens more : List Token) (phase : m.Phase) (first : ℕ) (blocks : List ℕ) → is_within phase ≡ true → AllByRecursion IsPlain more → Stands tokens phase first blocks → Stands (tokens ++ more) phase first blocks
 stands_plain tokens [] phase first blocks within plain h = subst (λ (ts : List Token). Stands ts phase first blocks) (sym (append-nil tokens)) h
 stands_plain tokens (token ∷ more) phase first blocks within plain h =
     let next : Stands (tokens ++ token ∷ []) phase (first_behind phase first token.start) (blocks_behind token.kind blocks token.start) =
     stands_more tokens phase first blocks h token phase (length blocks) (plain_step phase (length blocks) token within plain.0) in
     let here : Stands (tokens ++ token ∷ []) phase first blocks = subst (λ (n : ℕ). Stands (tokens ++ token ∷ []) phase n blocks) (plain_first phase first token.start within)
-    (subst (λ (bs : List ℕ). Stands (tokens ++ token ∷ []) phase (first_behind phase first token.start) bs) (plain_blocks token.kind blocks token.start plain.0) next) in
+    (subst (λ (bs : List ℕ). Stands (tokens ++ token ∷ []) phase (first_behind phase first token.start) bs) (ap (λ (k : WordKind). blocks_behind k blocks token.start) plain.0) next) in
     subst (λ (ts : List Token). Stands ts phase first blocks) (append_assoc tokens (token ∷ []) more) (stands_plain (tokens ++ token ∷ []) more phase first blocks within plain.1 here)

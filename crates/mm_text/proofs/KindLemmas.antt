@@ -29,17 +29,10 @@ contains_at (c ∷ bytes) (suc k) lt e = or_right (eqb c 36) (list_any (λ c. c 
 contains_any : (bytes : List ℕ) → Contains bytes 36 → list_any (λ c. c == 36) bytes ≡ true
 contains_any bytes h = contains_at bytes h.0 h.1 h.2
 
-none_any : (bytes : List ℕ) → ¬ Contains bytes 36 → list_any (λ c. c == 36) bytes ≡ false
-none_any bytes none = false_from_ne_true (list_any (λ c. c == 36) bytes) (λ e. none (any_contains bytes e))
-
 -- ---- keywords
 
 pick : (b n : ℕ) (first k : Keyword) (rest : Option Keyword) → 36 ∷ n ∷ [] ≡ spelling first → (rest ≡ Some k → 36 ∷ b ∷ [] ≡ spelling k) → cond (eqb b n) (Some first) rest ≡ Some k → 36 ∷ b ∷ [] ≡ spelling k
-pick b n first k rest spelled else' e =
-    elim (cases_Bool (eqb b n)) [
-      | inl same ↦ rw (eqb-true b n same) (spelled ∙ ap spelling (cc))
-      | inr other ↦ else' (rw other at e)
-    ]
+pick b n first k rest spelled else' e = elim (cases_Bool (eqb b n)) [ inl same ↦ rw (eqb-true b n same) (spelled ∙ ap spelling (cc)) | inr other ↦ else' (rw other at e) ]
 
 keyword_is : (b : ℕ) (k : Keyword) → keyword_at b ≡ Some k → 36 ∷ b ∷ [] ≡ spelling k
 keyword_is b k =
@@ -82,9 +75,7 @@ pair_other a b other = cond-false (eqb a 36) (option_map kinds.Keyword (keyword_
 
 keyword_spelled : (b : ℕ) (found : Option Keyword) (kind : WordKind) → keyword_at b ≡ found → option_map kinds.Keyword found ≡ Some kind → IsSpelled kind (36 ∷ b ∷ [])
 keyword_spelled b None kind is e = absurd cc
-keyword_spelled b (Some k) kind is e =
-    let same : kinds.Keyword k ≡ kind = cc in
-    subst (λ (v : WordKind). IsSpelled v (36 ∷ b ∷ [])) same (keyword_is b k is)
+keyword_spelled b (Some k) kind is e = let same : kinds.Keyword k ≡ kind = cc in subst (λ (v : WordKind). IsSpelled v (36 ∷ b ∷ [])) same (keyword_is b k is)
 
 -- a kind is found exactly where the bytes spell it
 pub kind_spelled : (bytes : List ℕ) (kind : WordKind) → word_kind bytes ≡ Some kind → IsSpelled kind bytes
@@ -98,32 +89,22 @@ kind_spelled (a ∷ b ∷ []) kind e =
 kind_spelled (a ∷ b ∷ c ∷ bytes) kind e = plain_is (a ∷ b ∷ c ∷ bytes) kind e
 
 plain_kind : (bytes : List ℕ) → ¬ Contains bytes 36 → plain_unless (list_any (λ c. c == 36) bytes) ≡ Some kinds.Plain
-plain_kind bytes none = ap plain_unless (none_any bytes none)
+plain_kind bytes none = ap plain_unless (false_from_ne_true (list_any (λ c. c == 36) bytes) (λ e. none (any_contains bytes e)))
 
 pub spelled_kind : (kind : WordKind) (bytes : List ℕ) → IsSpelled kind bytes → word_kind bytes ≡ Some kind
 spelled_kind (kinds.Keyword k) bytes e = ap word_kind e ∙ kind_of-keyword k
 spelled_kind kinds.Plain [] none = plain_kind [] none
 spelled_kind kinds.Plain (a ∷ []) none = plain_kind (a ∷ []) none
-spelled_kind kinds.Plain (a ∷ b ∷ []) none =
-    let other : eqb a 36 ≡ false = ne_eqb a 36 (λ e. none (0, omega arith, e)) in
-    pair_other a b other ∙ plain_kind (a ∷ b ∷ []) none
+spelled_kind kinds.Plain (a ∷ b ∷ []) none = let other : eqb a 36 ≡ false = ne_eqb a 36 (λ e. none (0, omega arith, e)) in pair_other a b other ∙ plain_kind (a ∷ b ∷ []) none
 spelled_kind kinds.Plain (a ∷ b ∷ c ∷ bytes) none = plain_kind (a ∷ b ∷ c ∷ bytes) none
 
 plain_none : (bytes : List ℕ) → plain_unless (list_any (λ c. c == 36) bytes) ≡ None → Contains bytes 36
-plain_none bytes e =
-    elim (cases_Bool (list_any (λ c. c == 36) bytes)) [
-      | inl some ↦ any_contains bytes some
-      | inr none ↦ absurd (cc)
-    ]
+plain_none bytes e = elim (cases_Bool (list_any (λ c. c == 36) bytes)) [ inl some ↦ any_contains bytes some | inr none ↦ absurd (cc) ]
 
 pub no_kind : (bytes : List ℕ) → word_kind bytes ≡ None → Contains bytes 36
 no_kind [] e = plain_none [] e
 no_kind (a ∷ []) e = plain_none (a ∷ []) e
-no_kind (a ∷ b ∷ []) e =
-    elim (cases_Bool (eqb a 36)) [
-      | inl same ↦ (0, omega arith, eqb-true a 36 same)
-      | inr other ↦ plain_none (a ∷ b ∷ []) (sym (pair_other a b other) ∙ e)
-    ]
+no_kind (a ∷ b ∷ []) e = elim (cases_Bool (eqb a 36)) [ inl same ↦ (0, omega arith, eqb-true a 36 same) | inr other ↦ plain_none (a ∷ b ∷ []) (sym (pair_other a b other) ∙ e) ]
 no_kind (a ∷ b ∷ c ∷ bytes) e = plain_none (a ∷ b ∷ c ∷ bytes) e
 
 -- ---- marks
@@ -138,10 +119,7 @@ mark_is a b bytes e =
 
 pub mark_stands : (bytes : List ℕ) → holds_mark bytes ≡ true → HoldsMark bytes
 mark_stands (a ∷ b ∷ bytes) e =
-    elim (or_cases (is_mark a b) (holds_mark (b ∷ bytes)) e) [
-      | inl here ↦ (0, mark_is a b bytes here)
-      | inr later ↦ let w = mark_stands (b ∷ bytes) later in (suc w.0, w.1)
-    ]
+    elim (or_cases (is_mark a b) (holds_mark (b ∷ bytes)) e) [ inl here ↦ (0, mark_is a b bytes here) | inr later ↦ let w = mark_stands (b ∷ bytes) later in (suc w.0, w.1) ]
 mark_stands _ e = absurd cc
 
 stands_at : (bytes : List ℕ) (k : ℕ) → HasBytesAt bytes opening k ⊎ HasBytesAt bytes closing k → holds_mark bytes ≡ true

@@ -62,9 +62,7 @@ laid_out at (b ∷ bytes) =
 
 gap_skip : (at : ℕ) (gap rest : List ℕ) → IsGap gap → runs_from at (gap ++ rest) ≡ runs_from (at + length gap) rest
 gap_skip at [] rest h = ap (λ (k : ℕ). runs_from k rest) (omega arith)
-gap_skip at (b ∷ gap) rest h =
-    let same : at + 1 + length gap ≡ at + length (b ∷ gap) = omega arith in
-    rw h.0 (gap_skip (at + 1) gap rest h.1 ∙ ap (λ (k : ℕ). runs_from k rest) same)
+gap_skip at (b ∷ gap) rest h = let same : at + 1 + length gap ≡ at + length (b ∷ gap) = omega arith in rw h.0 (gap_skip (at + 1) gap rest h.1 ∙ ap (λ (k : ℕ). runs_from k rest) same)
 
 made : ℕ → List ℕ → Run
 made at bytes = record { start = at; bytes = bytes }

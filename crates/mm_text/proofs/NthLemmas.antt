@@ -17,13 +17,9 @@ first_at xs zero = refl
 first_at [] (suc n) = refl
 first_at (x ∷ xs) (suc n) = first_at xs n
 
--- what is behind it
-behind_first : {X : Type 0} (xs : List X) (n : ℕ) (x : X) (rest : List X) → drop n xs ≡ x ∷ rest → drop (n + 1) xs ≡ rest
-behind_first xs n x rest e = sym (drop-drop 1 n xs) ∙ ap (drop 1) e
-
 -- one more word is taken
 pub goes_on : (words left new : List Word) (n : ℕ) (word : Word) → left ≡ drop n words → left ≡ word ∷ new → new ≡ drop (n + 1) words
-goes_on words left new n word at e = sym (behind_first words n word new (sym at ∙ e))
+goes_on words left new n word at e = sym (sym (drop-drop 1 n words) ∙ ap (drop 1) (sym at ∙ e))
 
 -- the word that a cursor gives behind n words
 pub nth_of : (words left new : List Word) (n : ℕ) (found : Option Word) → left ≡ drop n words → MatchOption found ((left ≡ []) × (new ≡ [])) (λ word. left ≡ word ∷ new) → found ≡ slice_get words n
@@ -32,6 +28,4 @@ nth_of words left new n (Some word) at h = ap (λ (l : List Word). slice_get l 0
 
 -- where no word is left there is none behind
 pub nth_past : (words left : List Word) (n m : ℕ) → left ≡ drop n words → left ≡ [] → n < m → None ≡ slice_get words m
-nth_past words left n m at none less =
-    let past : length words ≤ m = omega (arith, length-drop n words, ap length (sym at ∙ none)) in
-    sym (slice_get_past words m past)
+nth_past words left n m at none less = let past : length words ≤ m = omega (arith, length-drop n words, ap length (sym at ∙ none)) in sym (slice_get_past words m past)

@@ -13,15 +13,11 @@ use Rattle.mm_text.specs.Code.Reader.{runs_at, TakesWord}
 use Rattle.mm_text.proofs.ReadingLemmas.{read_words, same_words}
 use Rattle.mm_text.proofs.ReaderLemmas.{pass_none, slice_length, word_read, fails_read}
 use Rattle.mm_text.proofs.PieceLemmas.{shift_word}
-use Rattle.mm_text.proofs.PieceUnitLemmas.{bare, tokens-shift}
+use Rattle.mm_text.proofs.PieceUnitLemmas.{bare, ends_at_last, tokens-shift}
 use Rattle.mm_text.proofs.PositionLemmas.{Lying, words_lie}
 use Rattle.mm_text.proofs.CutWalkLemmas.{Given, word_from}
 use Rattle.mm_text.proofs.NthLemmas.{first_word}
 use Rattle.mm_text.proofs.PartLemmas.{Begun, begun_first, begun_more, begun_words}
-
-end_behind : (words : List Word) (word : Word) → end_of_words (words ++ word ∷ []) ≡ word.end
-end_behind (w ∷ v ∷ words) word = end_behind (v ∷ words) word
-end_behind _ word = refl
 
 bytes_bare : (tokens : List Token) → map (λ token. token.bytes) (map bare tokens) ≡ map (λ token. token.bytes) tokens
 bytes_bare [] = refl
@@ -46,14 +42,13 @@ module _ (text : List ℕ) (all : List Word) (has : HasWords text all) (from : �
   found at h none =
       let own = begun_words text from at has.allowed h.within h.begun h.ends in
       let whole : all ≡ h.begun.words = h.joined ∙ ap (λ rest. h.begun.words ++ rest) none ∙ append-nil h.begun.words in
-      let end : at ≡ end_of_words all = h.last ∙ ap end_of_words (sym whole) in
       let part = slice_range text from at in
       let same : spellings part own.0 ≡ spellings text all =
       sym (bytes_bare (tokens_of part own.0))
       ∙ ap (map (λ token. token.bytes)) (sym (tokens-shift text part (drop (at - from) (drop from text)) from (sym (take-append-drop (at - from) (drop from text))) own.0 0 (words_lie part own.0 own.1)))
       ∙ bytes_bare (tokens_of text (map (shift_word from) own.0))
       ∙ ap (spellings text) (sym (whole ∙ own.3)) in
-      subst (λ n. (own : List Word) × HasWords (slice_range text from n) own × (spellings (slice_range text from n) own ≡ spellings text all)) end (own.0, own.1, same)
+      subst (λ n. (own : List Word) × HasWords (slice_range text from n) own × (spellings (slice_range text from n) own ≡ spellings text all)) (h.last ∙ ap end_of_words (sym whole)) (own.0, own.1, same)
 
   next : (at : ℕ) (h : UpTo at) (word : Word) (to : ℕ) → TakesWord text at word to → to ≤ length text → UpTo to
   next at h word to taken within =
@@ -63,7 +58,7 @@ module _ (text : List ℕ) (all : List Word) (has : HasWords text all) (from : �
         rest = f.0;
         reads = f.2;
         joined = h.joined ∙ ap (λ rest. h.begun.words ++ rest) f.1 ∙ sym (append_assoc h.begun.words (word ∷ []) f.0);
-        last = taken.next ∙ sym (end_behind h.begun.words word);
+        last = taken.next ∙ sym (ends_at_last h.begun.words word);
         ends = taken.ends;
         within = within;
       }
@@ -84,15 +79,7 @@ alone_from text first more has word to taken within =
     let all = first ∷ more in
     let f = first_word (read_runs None (runs_at text 0)) (read_runs None (runs_at text to)) word all (word_read text 0 word to taken) (read_words (runs text) all has.words_are) in
     let same : word.start ≡ first.start = (let e : word ≡ first = cc in ap (λ (w : Word). w.start) e) in
-    subst (Alone text all has) same (walk text all has word.start (length text) to (omega arith) (record {
-      begun = begun_first text 0 word to taken;
-      rest = f.0;
-      reads = f.2;
-      joined = f.1;
-      last = taken.next;
-      ends = taken.ends;
-      within = within;
-    }))
+    subst (Alone text all has) same (walk text all has word.start (length text) to (omega arith) (record { begun = begun_first text 0 word to taken; rest = f.0; reads = f.2; joined = f.1; last = taken.next; ends = taken.ends; within = within }))
 
 pub alone : (text : List ℕ) (first : Word) (more : List Word) (has : HasWords text (first ∷ more)) → Alone text (first ∷ more) has first.start
 alone text first more has = by_given (word_from (length text) text 0 0 (omega arith) (omega arith) (pass_none text 0)) where
@@ -122,8 +109,7 @@ last_end text [] last (word ∷ []) at lie e = let same : last ≡ token_of text
 last_end text [] last (word ∷ next ∷ words) at lie e = absurd (omega (arith, ap length e))
 last_end text (token ∷ front) last (word ∷ []) at lie e = absurd (omega (arith, ap length e, length-append front (last ∷ [])))
 last_end text (token ∷ front) last (word ∷ next ∷ words) at lie e =
-    let rest : front ++ last ∷ [] ≡ tokens_of text (next ∷ words) = cc in
-    last_end text front last (next ∷ words) (word.end + 1) lie.2 rest
+    let rest : front ++ last ∷ [] ≡ tokens_of text (next ∷ words) = cc in last_end text front last (next ∷ words) (word.end + 1) lie.2 rest
 
 -- the first word of a statement and its last
 record Ends (shape : Shape) : Type 0 where
@@ -157,8 +143,7 @@ statement_alone text shape own units are = by units.words units.has_words (sym (
   ends : Ends shape
   ends = ends_of shape
 
-  by : (words : List Word) → HasWords text words → shape_tokens shape ≡ tokens_of text words
-      → spellings (slice_range text (shape_part shape).start (shape_part shape).end) own ≡ map (λ token. token.bytes) (shape_tokens shape)
+  by : (words : List Word) → HasWords text words → shape_tokens shape ≡ tokens_of text words → spellings (slice_range text (shape_part shape).start (shape_part shape).end) own ≡ map (λ token. token.bytes) (shape_tokens shape)
   by [] has tokens = absurd (let none : ends.first ∷ ends.more ≡ [] = sym ends.begins ∙ tokens in omega (arith, ap length none))
   by (word ∷ words) has tokens =
       let all : ends.first ∷ ends.more ≡ tokens_of text (word ∷ words) = sym ends.begins ∙ tokens in

@@ -15,7 +15,7 @@ use Rattle.mm_text.specs.declared.fault.TextNumber.{TextNumber}
 use Rattle.mm_text.specs.Language.Run.{Run, runs, runs_from, ends_run}
 use Rattle.mm_text.specs.Language.Reading.{first_bad, AreWords, HasWords}
 use Rattle.mm_text.specs.Language.Unit.{Token, token_of, tokens_of, IsKeyword, IsPlain, Shape, Declaration, Labelled, Provable, Inclusion, shape_tokens, IsShape, Units, Nothing, Simple, Block, unit_tokens, AreUnits}
-use Rattle.mm_text.specs.Code.LeftToRight.{Read, read_runs, with_words, words_fault_at}
+use Rattle.mm_text.specs.Code.LeftToRight.{Read, read_runs, words_fault_at}
 use Rattle.mm_text.specs.Code.Reader.{runs_at, run_between, TakesWord, FailsBehind, SkipsPlain}
 use Rattle.mm_text.specs.Language.Cut.{ends_white, IsPiece, ArePieces}
 use Rattle.mm_text.specs.Language.Part.{HasUnits, token_end, part, word_part, shape_part, parts_of, IsReadable}
@@ -41,8 +41,7 @@ emit_symbols start kind (token ∷ symbols) tail h = emit_by (Some start) kind k
 
 emit_rest : (start : ℕ) (kind : PartKind) (symbols : List Token) (end : Token) (tail : List Token) → AllByRecursion IsPlain symbols → IsKeyword StatementEnd end
     → emit (Some start) kind ((symbols ++ end ∷ []) ++ tail) ≡ made_part kind start (token_end end) ∷ emit None kind tail
-emit_rest start kind symbols end tail plain is =
-    ap (emit (Some start) kind) (append_assoc symbols (end ∷ []) tail) ∙ emit_symbols start kind symbols (end ∷ tail) plain ∙ emit_by (Some start) kind (kinds.Keyword StatementEnd) end tail is
+emit_rest start kind symbols end tail plain is = ap (emit (Some start) kind) (append_assoc symbols (end ∷ []) tail) ∙ emit_symbols start kind symbols (end ∷ tail) plain ∙ emit_by (Some start) kind (kinds.Keyword StatementEnd) end tail is
 
 -- what follows a part is found with the part's kind
 abbrev Emits : PartKind → List Token → List Part → List Token → Type 0
@@ -208,17 +207,14 @@ module _ (text : List ℕ) (found : List Part) (first : Option ℕ) (kind : Part
 
   pub divides_fault : (number : TextNumber) (place : ℕ) → FailsBehind (runs_at text at) [] number place → (units : Units) → ¬ HasUnits text units
   divides_fault number place fails units has =
-      let left = h.rest units has in
-      let b : read_runs None (runs_at text at) ≡ Err (words_fault_at number place) = fails_read (runs_at text at) [] number place fails in
-      cc
+      let left = h.rest units has in let b : read_runs None (runs_at text at) ≡ Err (words_fault_at number place) = fails_read (runs_at text at) [] number place fails in cc
 
   module _ (word : Word) (to : ℕ) (taken : TakesWord text at word to) (most : to ≤ length text) where
     abbrev start : ℕ
     start = unwrap_or first word.start
 
     -- the rest, whose first word is this
-    after_word : (units : Units) → HasUnits text units
-        → (more : List Word) × (read_runs None (runs_at text to) ≡ Ok more) × (found ++ emit_word first kind word.kind (token_of text word) (λ f k. emit f k (tokens_of text more)) ≡ parts_of units)
+    after_word : (units : Units) → HasUnits text units → (more : List Word) × (read_runs None (runs_at text to) ≡ Ok more) × (found ++ emit_word first kind word.kind (token_of text word) (λ f k. emit f k (tokens_of text more)) ≡ parts_of units)
     after_word units has =
         let left = h.rest units has in
         let next = first_word (read_runs None (runs_at text at)) (read_runs None (runs_at text to)) word left.0 (word_read text at word to taken) left.1 in
@@ -235,13 +231,7 @@ module _ (text : List ℕ) (found : List Part) (first : Option ℕ) (kind : Part
     made_readable =
         let begun : Begun text start to = begins first refl in
         let words = begun_words text start to h.allowed most begun taken.ends in
-        record {
-          some = starts first refl;
-          within = omega (arith, most, taken.next);
-          words = words.0;
-          has_words = subst (λ n. HasWords (slice_range text start n) words.0) taken.next words.1;
-          some_word = words.2;
-        } where
+        record { some = starts first refl; within = omega (arith, most, taken.next); words = words.0; has_words = subst (λ n. HasWords (slice_range text start n) words.0) taken.next words.1; some_word = words.2 } where
           starts : (o : Option ℕ) → first ≡ o → unwrap_or o word.start < word.end
           starts None e = taken.some
           starts (Some s) e = let b = h.begun s e in omega (arith, b.before, taken.begins, taken.some)
@@ -290,20 +280,14 @@ module _ (text : List ℕ) (found : List Part) (start : ℕ) (kind : PartKind) (
   rest_behind : Left text found (Some start) kind (read_runs None (runs_at text to))
   rest_behind units has =
       let left = h.rest units has in
-      let read : with_words (plain_words s.inside) (read_runs None (runs_at text to)) ≡ Ok left.0 = sym (ap (read_runs None) s.joined ∙ read_whole s.inside (plain_words s.inside) (are_plain_words s.inside s.plain) (runs_at text to)) ∙ left.1 in
-      let more = read_on (plain_words s.inside) (read_runs None (runs_at text to)) left.0 read in
+      let more = read_on (plain_words s.inside) (read_runs None (runs_at text to)) left.0 (sym (ap (read_runs None) s.joined ∙ read_whole s.inside (plain_words s.inside) (are_plain_words s.inside s.plain) (runs_at text to)) ∙ left.1) in
       let emitted : emit (Some start) kind (tokens_of text left.0) ≡ emit (Some start) kind (tokens_of text more.0) =
       ap (λ (ws : List Word). emit (Some start) kind (tokens_of text ws)) more.2 ∙ ap (emit (Some start) kind) (map-append (token_of text) (plain_words s.inside) more.0)
       ∙ emit_symbols start kind (tokens_of text (plain_words s.inside)) (tokens_of text more.0) (plain_tokens text s.inside) in
       (more.0, more.1, ap (λ (ps : List Part). found ++ ps) (sym emitted) ∙ left.2)
 
   pub divides_skip : at ≤ to → Divides text found (Some start) kind to
-  divides_skip le = record {
-    allowed = h.allowed;
-    rest = rest_behind;
-    readable = h.readable;
-    begun = λ n e. (let same : start ≡ n = cc in subst (λ k. Begun text k to) same (begun_skip le (h.begun start refl)));
-  }
+  divides_skip le = record { allowed = h.allowed; rest = rest_behind; readable = h.readable; begun = λ n e. (let same : start ≡ n = cc in subst (λ k. Begun text k to) same (begun_skip le (h.begun start refl))) }
 
 -- ---- pieces
 

@@ -14,7 +14,7 @@ use Rattle.mm_text.specs.Language.Cut.{ends_white, ended}
 use Rattle.mm_text.specs.Code.LeftToRight.{Read, read_runs, word_kind, word_alone, holds_mark, word_at}
 use Rattle.mm_text.proofs.LayoutLemmas.{front_step}
 use Rattle.mm_text.proofs.ReadLemmas.{inside_end, inside_mark, inside_more, outside_open, outside_close, outside_word}
-use Rattle.mm_text.proofs.ReadingLemmas.{read_words, words_from_read, is_from, not_from}
+use Rattle.mm_text.proofs.ReadingLemmas.{made_word, read_words, words_from_read, is_from, not_from}
 
 -- ---- runs of a text in two parts
 
@@ -108,12 +108,8 @@ abbrev shift_state : ℕ → Option ℕ → Option ℕ
 shift_state k None = None
 shift_state k (Some start) = Some (k + start)
 
-word_there : WordKind → ℕ → ℕ → Word
-word_there kind start end = record { kind = kind; start = start; end = end }
-
 word_at-shift : (k : ℕ) (run : Run) (kind : WordKind) → word_at (shift_run k run) kind ≡ shift_word k (word_at run kind)
-unfolding word_there
-word_at-shift k run kind = let same : k + run.start + length run.bytes ≡ k + (run.start + length run.bytes) = omega arith in ap (word_there kind (k + run.start)) same
+word_at-shift k run kind = let same : k + run.start + length run.bytes ≡ k + (run.start + length run.bytes) = omega arith in ap (made_word kind (k + run.start)) same
 
 alone-shift : (k : ℕ) (run : Run) (kind : Option WordKind) (r : Read) → word_alone (shift_run k run) kind (shift_read k r) ≡ shift_read k (word_alone run kind r)
 alone-shift k run (Some kind) (Ok words) = ap (λ (w : Word). Ok (w ∷ map (shift_word k) words)) (word_at-shift k run kind)
@@ -164,44 +160,27 @@ abbrev pub line_end : List ℕ → List ℕ
 line_end text = if ends_white text then [] else 10 ∷ []
 
 pub ended_is : (text : List ℕ) → ended text ≡ text ++ line_end text
-ended_is text =
-    elim (cases_Bool (ends_white text)) [
-      | inl white ↦ rw white (sym (append-nil text))
-      | inr open_end ↦ rw open_end refl
-    ]
+ended_is text = elim (cases_Bool (ends_white text)) [ inl white ↦ rw white (sym (append-nil text)) | inr open_end ↦ rw open_end refl ]
 
 pub feed_white : is_white 10 ≡ true
 unfolding is_white
 feed_white = refl
 
 seam_end : (text : List ℕ) → Seam text (line_end text)
-seam_end text =
-    elim (cases_Bool (ends_white text)) [
-      | inl white ↦ rw white refl
-      | inr open_end ↦ rw (open_end, feed_white) refl
-    ]
+seam_end text = elim (cases_Bool (ends_white text)) [ inl white ↦ rw white refl | inr open_end ↦ rw (open_end, feed_white) refl ]
 
 no_runs : (text : List ℕ) (at : ℕ) → runs_from at (line_end text) ≡ []
-no_runs text at =
-    elim (cases_Bool (ends_white text)) [
-      | inl white ↦ rw white refl
-      | inr open_end ↦ rw (open_end, feed_white) refl
-    ]
+no_runs text at = elim (cases_Bool (ends_white text)) [ inl white ↦ rw white refl | inr open_end ↦ rw (open_end, feed_white) refl ]
 
 pub runs-ended : (at : ℕ) (text : List ℕ) → runs_from at (ended text) ≡ runs_from at text
-runs-ended at text =
-    ap (runs_from at) (ended_is text) ∙ runs-append text (line_end text) at (seam_end text) ∙ ap (λ (rs : List Run). runs_from at text ++ rs) (no_runs text (at + length text)) ∙ append-nil (runs_from at text)
+runs-ended at text = ap (runs_from at) (ended_is text) ∙ runs-append text (line_end text) at (seam_end text) ∙ ap (λ (rs : List Run). runs_from at text ++ rs) (no_runs text (at + length text)) ∙ append-nil (runs_from at text)
 
 ends_feed : (text : List ℕ) → ends_white (text ++ 10 ∷ []) ≡ true
 ends_feed (b ∷ c ∷ text) = ends_feed (c ∷ text)
 ends_feed _ = feed_white
 
 pub ended_white : (text : List ℕ) → ends_white (ended text) ≡ true
-ended_white text =
-    elim (cases_Bool (ends_white text)) [
-      | inl white ↦ rw (white, white) refl
-      | inr open_end ↦ rw open_end (ends_feed text)
-    ]
+ended_white text = elim (cases_Bool (ends_white text)) [ inl white ↦ rw (white, white) refl | inr open_end ↦ rw open_end (ends_feed text) ]
 
 pub ends_behind : (a b : List ℕ) (c : ℕ) → ends_white (a ++ c ∷ b) ≡ ends_white (c ∷ b)
 ends_behind (d ∷ e ∷ a) b c = ends_behind (e ∷ a) b c
@@ -226,8 +205,7 @@ ended-append a (c ∷ b) h solid = by_white (cases_Bool (ends_white a)) (cases_B
   by_white : (ends_white a ≡ true) ⊎ (ends_white a ≡ false) → (ends_white (c ∷ b) ≡ true) ⊎ (ends_white (c ∷ b) ≡ false) → ended (a ++ c ∷ b) ≡ ended a ++ ended (c ∷ b)
   by_white (inr no_white) either = absurd (last no_white)
   by_white (inl white) (inl all) = kept (a ++ c ∷ b) (behind ∙ all) ∙ ap (λ (bs : List ℕ). bs ++ c ∷ b) (sym (kept a white)) ∙ ap (λ (bs : List ℕ). ended a ++ bs) (sym (kept (c ∷ b) all))
-  by_white (inl white) (inr open_end) =
-      fed (a ++ c ∷ b) (behind ∙ open_end) ∙ append_assoc a (c ∷ b) (10 ∷ []) ∙ ap (λ (bs : List ℕ). bs ++ ((c ∷ b) ++ 10 ∷ [])) (sym (kept a white)) ∙ ap (λ (bs : List ℕ). ended a ++ bs) (sym (fed (c ∷ b) open_end))
+  by_white (inl white) (inr open_end) = fed (a ++ c ∷ b) (behind ∙ open_end) ∙ append_assoc a (c ∷ b) (10 ∷ []) ∙ ap (λ (bs : List ℕ). bs ++ ((c ∷ b) ++ 10 ∷ [])) (sym (kept a white)) ∙ ap (λ (bs : List ℕ). ended a ++ bs) (sym (fed (c ∷ b) open_end))
 
 abbrev pub white_or_none : Option ℕ → Bool
 white_or_none None = true

@@ -7,33 +7,31 @@ use Rattle.std.proofs.lemmas.Bool.{cases_Bool, false≢true}
 use Rattle.std.proofs.lemmas.List.{append-nil, take-append-drop, append_cancel_right, take-append-le, drop-append-le, drop-drop, length-append, length-map, length-take-le, length-drop, take-map}
 use Rattle.std.proofs.lemmas.List.Elements.{All-append, All-take, All-drop, All-nil, All-cons}
 use Rattle.std.proofs.lemmas.List.Quantifiers.{position-Some}
-use Rattle.std.proofs.lemmas.List.Sums.{fails_before_first, prefix_len-le-length}
+use Rattle.std.proofs.lemmas.List.Sums.{prefix_len-le-length}
 use Rattle.mm_text.specs.declared.word.Word.{Word}
 use Rattle.mm_text.specs.declared.word.WordKind.{WordKind}
 use Rattle.mm_text.specs.Language.Run.{Run, runs, runs_from, is_white, ends_run}
 use Rattle.mm_text.specs.Language.Reading.{is_allowed, first_bad, AreWords, HasWords}
-use Rattle.mm_text.specs.Language.Unit.{Token, token_of, tokens_of, Shape, Declaration, Labelled, Provable, Inclusion, shape_tokens, Units, Nothing, Simple, Block, unit_tokens, AreUnits}
+use Rattle.mm_text.specs.Language.Unit.{Token, token_of, tokens_of, Shape, Declaration, shape_tokens, Units, Nothing, Simple, Block, unit_tokens, AreUnits}
 use Rattle.mm_text.specs.Code.UnitReading as m
 use Rattle.mm_text.specs.Language.Cut.{ends_white, ended, IsOne, end_of_words, IsPiece, BeginsSolid}
 use Rattle.mm_text.specs.Code.Reader.{runs_at}
 use Rattle.mm_text.proofs.RunLemmas.{skip_white}
-use Rattle.mm_text.proofs.PositionLemmas.{Lying, words_lie, none_bad, passes}
+use Rattle.mm_text.proofs.PositionLemmas.{Lying, words_lie, none_found, passes}
 use Rattle.mm_text.proofs.UnitReadingLemmas.{IsWhole-run, run-IsWhole}
-use Rattle.mm_text.proofs.PieceLemmas.{feed_white, Seam, runs-append, shift_run, shift_word, runs-shift, words_unshift, line_end, ended_is, runs-ended, ended_white, ended-append, ends_behind}
+use Rattle.mm_text.proofs.PieceLemmas.{feed_white, Seam, runs-append, shift_word, runs-shift, words_unshift, line_end, ended_is, runs-ended, ended_white, ended-append, ends_behind}
 
 -- ---- bytes that a text may hold
 
 pub allowed_all : (text : List ℕ) → first_bad text ≡ None → AllPass is_allowed text
-allowed_all text e k d lt = passes (is_allowed (get_or text k d)) (fails_before_first (λ b. not (is_allowed b)) text k d (omega (arith, lt, none_bad text e)))
+allowed_all text e k d lt = passes (is_allowed (get_or text k d)) (none_found (λ b. not (is_allowed b)) text e k d lt)
 
 pub all_allowed : (text : List ℕ) → AllPass is_allowed text → first_bad text ≡ None
 all_allowed text h = by_place (first_bad text) refl where
   by_place : (o : Option ℕ) → first_bad text ≡ o → first_bad text ≡ None
   by_place None e = e
   by_place (Some i) e =
-      let bad = position-Some (λ b. not (is_allowed b)) text i 0 e in
-      let good : is_allowed (get_or text i 0) ≡ true = h i 0 bad.0 in
-      absurd (false≢true (ap not (sym good) ∙ bad.1))
+      let bad = position-Some (λ b. not (is_allowed b)) text i 0 e in let good : is_allowed (get_or text i 0) ≡ true = h i 0 bad.0 in absurd (false≢true (ap not (sym good) ∙ bad.1))
 
 feed_allowed : is_allowed 10 ≡ true
 unfolding is_allowed is_white
@@ -192,15 +190,14 @@ later_none front later one some whole = by_units (units_some later) where
 
 is_one : (tokens : List Token) (units : Units) → AreUnits true units → unit_tokens units ≡ tokens → 0 < length tokens → HasOne tokens → IsOne units
 is_one tokens Nothing h e some one = let none : length tokens ≡ 0 = ap length (sym e) in omega arith
-is_one tokens (Simple shape later) h e some one =
-    later_none (shape_tokens shape) later (subst HasOne (sym e) one) (shape_some shape) (IsWhole-run (shape_tokens shape) (Simple shape Nothing, (h.0, tt), append-nil (shape_tokens shape)))
+is_one tokens (Simple shape later) h e some one = later_none (shape_tokens shape) later (subst HasOne (sym e) one) (shape_some shape) (IsWhole-run (shape_tokens shape) (Simple shape Nothing, (h.0, tt), append-nil (shape_tokens shape)))
 is_one tokens (Block begin inner end later) h e some one =
     let joined : tokens ≡ (begin ∷ (unit_tokens inner ++ end ∷ [])) ++ unit_tokens later = sym e ∙ ap (λ (ts : List Token). begin ∷ ts) (sym (append_assoc (unit_tokens inner) (end ∷ []) (unit_tokens later))) in
     later_none (begin ∷ (unit_tokens inner ++ end ∷ [])) later (subst HasOne joined one) (omega arith) (IsWhole-run (begin ∷ (unit_tokens inner ++ end ∷ [])) (Block begin inner end Nothing, (h.0, h.1, h.2, tt), refl))
 
 -- ---- where the last word ends
 
-ends_at_last : (part : List Word) (word : Word) → end_of_words (part ++ word ∷ []) ≡ word.end
+pub ends_at_last : (part : List Word) (word : Word) → end_of_words (part ++ word ∷ []) ≡ word.end
 ends_at_last (w ∷ v ∷ part) word = ends_at_last (v ∷ part) word
 ends_at_last _ word = refl
 
@@ -266,8 +263,7 @@ module _ (text : List ℕ) (from to : ℕ) (since : List Run) (part : List Word)
   piece_words : (ws : List Word) × AreWords (runs piece_bytes) ws × (part ++ word ∷ [] ≡ map (shift_word from) ws)
   piece_words =
       let place : from ≡ from + 0 = omega arith in
-      let same : since ≡ map (shift_run from) (runs piece_bytes) = sym piece_runs ∙ ap (λ (n : ℕ). runs_from n piece_bytes) place ∙ runs-shift from 0 piece_bytes in
-      words_unshift from (runs piece_bytes) (part ++ word ∷ []) (subst (λ (rs : List Run). AreWords rs (part ++ word ∷ [])) same reads)
+      words_unshift from (runs piece_bytes) (part ++ word ∷ []) (subst (λ (rs : List Run). AreWords rs (part ++ word ∷ [])) (sym piece_runs ∙ ap (λ (n : ℕ). runs_from n piece_bytes) place ∙ runs-shift from 0 piece_bytes) reads)
 
   has : HasWords piece_bytes piece_words.0
   has = record { allowed = allowed_part text from (to + white) allowed; words_are = piece_words.1 }

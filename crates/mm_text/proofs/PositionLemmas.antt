@@ -2,7 +2,7 @@
 use Rattle.std.proofs.Common.{◌≡◌, ℕ, ◌+◌, ◌-◌, ◌<◌, ◌≤◌, Bool, true, false, not, ◌||◌, ◌&&◌, eqb, List, [], ◌∷◌, ◌++◌, append_assoc, length, take, drop, get_or, Option, Some, None, IfSome, Result}
 use Rattle.std.proofs.Common.{Err, IfErr, All, AllPairs, refl, sym, ap, ◌∙◌, subst, arith, inl, inr}
 use Rattle.std.specs.Prelude.{nat_le, nat_lt, slice_range, slice_get}
-use Rattle.std.specs.List.{flat_map, AllByRecursion, position_or_len}
+use Rattle.std.specs.List.{flat_map, AllByRecursion, position, position_or_len}
 use Rattle.std.proofs.lemmas.Bool.{cases_Bool, false≢true, or_cases, and_parts, eqb-true, leb-true, ltb-false}
 use Rattle.std.proofs.lemmas.List.{length-append}
 use Rattle.std.proofs.lemmas.Option.{slice_get_within, get_or_from_slice_get}
@@ -16,7 +16,7 @@ use Rattle.mm_text.specs.declared.fault.TextFault.{TextFault}
 use Rattle.mm_text.specs.declared.fault.TextError.{TextError}
 use Rattle.mm_text.specs.declared.fault.TextError.TheVariants as errors
 use Rattle.mm_text.specs.declared.fault.TextNumber.{TextNumber}
-use Rattle.mm_text.specs.declared.fault.TextNumber.TheVariants.{T01, T02, T03, T04, T05, T06, T07, T08, T09, T10, T11, T12}
+use Rattle.mm_text.specs.declared.fault.TextNumber.TheVariants.{T01, T02, T03, T04, T05, T07, T08}
 use Rattle.mm_text.specs.Language.Run.{Run, is_white, ends_run, runs}
 use Rattle.mm_text.specs.Language.Layout.{IsLaidOut}
 use Rattle.mm_text.specs.Language.Spelling.{IsSpelled, IsWord}
@@ -42,14 +42,12 @@ Standing text at (run ∷ runs) = Stands text at run × Standing text (run.start
 at_or_before : (text : List ℕ) (low at : ℕ) (runs : List Run) → (Standing text at runs → low ≤ at) → Standing text at runs → Standing text low runs
 at_or_before text low at [] le h = tt
 at_or_before text low at (run ∷ runs) le h =
-    let lower : low ≤ at = le h in
-    (record { behind = omega (arith, h.0.behind, lower); some = h.0.some; within = h.0.within; bytes_are = h.0.bytes_are }, h.1)
+    let lower : low ≤ at = le h in (record { behind = omega (arith, h.0.behind, lower); some = h.0.some; within = h.0.within; bytes_are = h.0.bytes_are }, h.1)
 
 -- runs in front are left out
 pub skip : (text : List ℕ) (at : ℕ) (front later : List Run) → Standing text at (front ++ later) → Standing text at later
 skip text at [] later h = h
-skip text at (run ∷ front) later h =
-    at_or_before text at (run.start + length run.bytes + 1) later (λ x. omega (arith, h.0.behind)) (skip text (run.start + length run.bytes + 1) front later h.1)
+skip text at (run ∷ front) later h = at_or_before text at (run.start + length run.bytes + 1) later (λ x. omega (arith, h.0.behind)) (skip text (run.start + length run.bytes + 1) front later h.1)
 
 -- runs behind are left out
 pub standing_front : (text : List ℕ) (at : ℕ) (a b : List Run) → Standing text at (a ++ b) → Standing text at a
@@ -62,8 +60,7 @@ gap_behind text at later [] ends laid h = tt
 gap_behind text at later (run ∷ runs) ends laid h = by_gap laid.gap run.bytes laid.joined laid.place laid.solid laid.some where
   by_gap : (gap bytes : List ℕ) → later ≡ gap ++ (bytes ++ laid.later) → run.start ≡ at + length gap → AllByRecursion (λ b. is_white b ≡ false) bytes → 0 < length bytes → Standing text (at + 1) (run ∷ runs)
   by_gap (g ∷ gap) bytes joined place solid some =
-      let behind : at + 1 ≤ run.start = omega arith in
-      (record { behind = behind; some = h.0.some; within = h.0.within; bytes_are = h.0.bytes_are }, h.1)
+      let behind : at + 1 ≤ run.start = omega arith in (record { behind = behind; some = h.0.some; within = h.0.within; bytes_are = h.0.bytes_are }, h.1)
   by_gap [] (b ∷ bytes) joined place solid some = absurd (false≢true (sym solid.0 ∙ (sym (ap ends_run joined) ∙ ends)))
   by_gap [] [] joined place solid some = absurd (omega arith)
 
@@ -105,11 +102,7 @@ Lying text at (word ∷ words) = (at ≤ word.start) × LiesIn text word × Lyin
 word_lies : (text : List ℕ) (at : ℕ) (run : Run) (word : Word) → IsWord run word → Stands text at run → LiesIn text word
 word_lies text at run word is h =
     let from : slice_range text word.start word.end ≡ slice_range text run.start (run.start + length run.bytes) = ap (λ (k : ℕ). slice_range text k word.end) is.start ∙ ap (λ (k : ℕ). slice_range text run.start k) is.end in
-    record {
-      some = omega (arith, is.start, is.end, h.some);
-      within = omega (arith, is.end, h.within);
-      spelled = subst (IsSpelled word.kind) (sym (from ∙ h.bytes_are)) is.kind;
-    }
+    record { some = omega (arith, is.start, is.end, h.some); within = omega (arith, is.end, h.within); spelled = subst (IsSpelled word.kind) (sym (from ∙ h.bytes_are)) is.kind }
 
 pub parts_lie : (text : List ℕ) (at : ℕ) (parts : List Segment) → AllByRecursion IsSegment parts → Standing text at (flat_map segment_runs parts) → Lying text at (flat_map segment_words parts)
 parts_lie text at [] each h = tt
@@ -126,13 +119,11 @@ each_lies text at (word ∷ words) h = All-cons (LiesIn text) word words h.1 (ea
 
 all_behind : (text : List ℕ) (place at : ℕ) (words : List Word) → place < at → Lying text at words → All (λ word. place < word.start) words
 all_behind text place at [] lt h = All-nil (λ word. place < word.start)
-all_behind text place at (word ∷ words) lt h =
-    All-cons (λ word. place < word.start) word words (omega (arith, lt, h.0)) (all_behind text place (word.end + 1) words (omega (arith, lt, h.0, h.1.some)) h.2)
+all_behind text place at (word ∷ words) lt h = All-cons (λ word. place < word.start) word words (omega (arith, lt, h.0)) (all_behind text place (word.end + 1) words (omega (arith, lt, h.0, h.1.some)) h.2)
 
 all_rise : (text : List ℕ) (at : ℕ) (words : List Word) → Lying text at words → AllPairs (λ earlier later. earlier.end < later.start) words
 all_rise text at [] h = λ i j d lt within. absurd (omega (arith, within))
-all_rise text at (word ∷ words) h =
-    AllPairs-cons (λ (earlier later : Word). earlier.end < later.start) word words (all_behind text word.end (word.end + 1) words (omega arith) h.2) (all_rise text (word.end + 1) words h.2)
+all_rise text at (word ∷ words) h = AllPairs-cons (λ (earlier later : Word). earlier.end < later.start) word words (all_behind text word.end (word.end + 1) words (omega arith) h.2) (all_rise text (word.end + 1) words h.2)
 
 read_lie : (text : List ℕ) (runs : List Run) (words : List Word) → Standing text 0 runs → AreWords runs words → Lying text 0 words
 read_lie text runs words standing h = subst (Lying text 0) h.singles (parts_lie text 0 h.parts h.reading.each (subst (Standing text 0) (sym h.reading.joined) standing))
@@ -142,9 +133,7 @@ words_lie text words h = read_lie text (runs text) words (text_stands text) h.wo
 
 -- the words of a text lie in it, in order
 pub are_within : (text : List ℕ) (words : List Word) → HasWords text words → AreWithin text words
-are_within text words h =
-    let lying = words_lie text words h in
-    record { each = each_lies text 0 words lying; rising = all_rise text 0 words lying }
+are_within text words h = let lying = words_lie text words h in record { each = each_lies text 0 words lying; rising = all_rise text 0 words lying }
 
 -- ---- bytes
 
@@ -170,11 +159,11 @@ allowed_below b e =
       | inr printable ↦ let le : b ≤ 126 = leb-true b 126 (and_parts (nat_le 33 b) (nat_le b 126) printable).1 in omega (arith, le)
     ]
 
-pub none_bad : (text : List ℕ) → first_bad text ≡ None → length text ≤ position_or_len (λ b. not (is_allowed b)) text
-none_bad text e =
-    elim (cases_Bool (nat_lt (position_or_len (λ b. not (is_allowed b)) text) (length text))) [
+pub none_found : (test : ℕ → Bool) (bytes : List ℕ) → position test bytes ≡ None → (k d : ℕ) → k < length bytes → test (get_or bytes k d) ≡ false
+none_found test bytes e k d lt =
+    elim (cases_Bool (nat_lt (position_or_len test bytes) (length bytes))) [
       | inl found ↦ absurd (cc)
-      | inr none ↦ ltb-false (position_or_len (λ b. not (is_allowed b)) text) (length text) none
+      | inr none ↦ let most = ltb-false (position_or_len test bytes) (length bytes) none in fails_before_first test bytes k d (omega (arith, lt, most))
     ]
 
 pub passes : (b : Bool) → not b ≡ false → b ≡ true
@@ -183,23 +172,18 @@ passes false e = absurd cc
 
 -- a text without a bad byte has only bytes below 127
 pub all_below : (text : List ℕ) → first_bad text ≡ None → All (λ b. b < 127) text
-all_below text e k d lt =
-    let before : k < position_or_len (λ b. not (is_allowed b)) text = omega (arith, lt, none_bad text e) in
-    allowed_below (get_or text k d) (passes (is_allowed (get_or text k d)) (fails_before_first (λ b. not (is_allowed b)) text k d before))
+all_below text e k d lt = allowed_below (get_or text k d) (passes (is_allowed (get_or text k d)) (none_found (λ b. not (is_allowed b)) text e k d lt))
 
 -- the n-th word of a text lies in it
 pub nth_lies : (text : List ℕ) (words : List Word) (n : ℕ) (found : Option Word) → HasWords text words → found ≡ slice_get words n → IfSome found (LiesIn text)
 nth_lies text words n None h is = tt
-nth_lies text words n (Some word) h is =
-    subst (LiesIn text) (get_or_from_slice_get words n word word (sym is)) ((are_within text words h).each n word (slice_get_within words n word (sym is)))
+nth_lies text words n (Some word) h is = subst (LiesIn text) (get_or_from_slice_get words n word word (sym is)) ((are_within text words h).each n word (slice_get_within words n word (sym is)))
 
 -- ---- faults
 
 -- a run among those of a text begins in it
 run_begins : (text : List ℕ) (front rest : List Run) (run : Run) → runs text ≡ front ++ run ∷ rest → run.start < length text
-run_begins text front rest run joined =
-    let here = skip text 0 front (run ∷ rest) (subst (Standing text 0) joined (text_stands text)) in
-    omega (arith, here.0.some, here.0.within)
+run_begins text front rest run joined = let here = skip text 0 front (run ∷ rest) (subst (Standing text 0) joined (text_stands text)) in omega (arith, here.0.some, here.0.within)
 
 stop_lies : (text : List ℕ) (number : TextNumber) (at : ℕ) → StopsAtRun (runs text) number at → at < length text
 stop_lies text number at h = let begins = run_begins text h.front h.rest h.run h.joined in omega (arith, h.place)
@@ -220,13 +204,11 @@ fault_lies text fault h = fault_at_lies text fault.number fault.at h
 
 each_begins : (text : List ℕ) (at : ℕ) (words : List Word) → Lying text at words → All (λ token. token.start < length text) (tokens_of text words)
 each_begins text at [] h = All-nil (λ (token : Token). token.start < length text)
-each_begins text at (word ∷ words) h =
-    All-cons (λ (token : Token). token.start < length text) (token_of text word) (tokens_of text words) (omega (arith, h.1.some, h.1.within)) (each_begins text (word.end + 1) words h.2)
+each_begins text at (word ∷ words) h = All-cons (λ (token : Token). token.start < length text) (token_of text word) (tokens_of text words) (omega (arith, h.1.some, h.1.within)) (each_begins text (word.end + 1) words h.2)
 
 -- a word among those of a text begins in it
 token_begins : (text : List ℕ) (at : ℕ) (words : List Word) (n : ℕ) (token : Token) → Lying text at words → slice_get (tokens_of text words) n ≡ Some token → token.start < length text
-token_begins text at words n token h there =
-    subst (λ (t : Token). t.start < length text) (get_or_from_slice_get (tokens_of text words) n token token there) (each_begins text at words h n token (slice_get_within (tokens_of text words) n token there))
+token_begins text at words n token h there = subst (λ (t : Token). t.start < length text) (get_or_from_slice_get (tokens_of text words) n token token there) (each_begins text at words h n token (slice_get_within (tokens_of text words) n token there))
 
 unit_stop_lies : (text : List ℕ) (number : TextNumber) (at : ℕ) → StopsUnits text number at → at < length text
 unit_stop_lies text number at h =
@@ -235,9 +217,7 @@ unit_stop_lies text number at h =
     omega (arith, h.place)
 
 unit_end_lies : (text : List ℕ) (Ends : List Token → ℕ → Type 0) (at : ℕ) → EndsUnits text Ends at → at < length text
-unit_end_lies text Ends at h =
-    let begins = token_begins text 0 h.found h.word h.token (words_lie text h.found h.has_words) h.there in
-    omega (arith, h.place)
+unit_end_lies text Ends at h = let begins = token_begins text 0 h.found h.word h.token (words_lie text h.found h.has_words) h.there in omega (arith, h.place)
 
 first_fault_at_lies : (text : List ℕ) (number : TextNumber) (at : ℕ) → IsFirstFaultAt text number at → at < length text
 first_fault_at_lies text T01 at h = fault_at_lies text T01 at h

@@ -69,21 +69,10 @@ module _ (text : List ℕ) (from at : ℕ) (span : Span) (to : ℕ) (h : Skippin
   skip_end closes = record { inside = h.inside; last = run_of text span; joined = onto; no_marks = h.no_marks; closed = closes }
 
   pub skip_fault : (start : ℕ) → HoldsMark (run_of text span).bytes → (run_of text span).bytes ≢ closing → FailsInside (runs_at text from) start T03 span.start
-  skip_fault start holds differs = record {
-    inside = h.inside;
-    run = run_of text span;
-    rest = runs_at text to;
-    joined = onto;
-    no_marks = h.no_marks;
-    holds = holds;
-    differs = differs;
-    place = refl;
-  }
+  skip_fault start holds differs = record { inside = h.inside; run = run_of text span; rest = runs_at text to; joined = onto; no_marks = h.no_marks; holds = holds; differs = differs; place = refl }
 
 pub skip_open : (text : List ℕ) (from at start : ℕ) → Skipping text from at → runs_at text at ≡ [] → FailsInside (runs_at text from) start T02 start
-skip_open text from at start h none =
-    let all : h.inside ≡ runs_at text from = sym (append-nil h.inside) ∙ sym (h.joined ∙ ap (λ (rs : List Run). h.inside ++ rs) none) in
-    (subst (λ (rs : List Run). HoldNoMarks rs) all h.no_marks, refl)
+skip_open text from at start h none = (subst (λ (rs : List Run). HoldNoMarks rs) (sym (append-nil h.inside) ∙ sym (h.joined ∙ ap (λ (rs : List Run). h.inside ++ rs) none)) h.no_marks, refl)
 
 -- ---- outside comments
 
@@ -100,8 +89,7 @@ pass_none text from = record { seen = []; joined = refl; reads = none_read }
 
 pub pass_end : (text : List ℕ) (from at : ℕ) → Passing text from at → runs_at text at ≡ [] → AreWords (runs_at text from) []
 pass_end text from at h none =
-    let all : h.seen ≡ runs_at text from = sym (append-nil h.seen) ∙ sym (h.joined ∙ ap (λ (rs : List Run). h.seen ++ rs) none) in
-    subst (λ (rs : List Run). AreWords rs []) all h.reads
+    let all : h.seen ≡ runs_at text from = sym (append-nil h.seen) ∙ sym (h.joined ∙ ap (λ (rs : List Run). h.seen ++ rs) none) in subst (λ (rs : List Run). AreWords rs []) all h.reads
 
 module _ (text : List ℕ) (from at : ℕ) (span : Span) (to : ℕ) (h : Passing text from at) (run : TakesSpan text at span to) where
   there : runs_at text from ≡ h.seen ++ run_of text span ∷ runs_at text to
@@ -161,7 +149,7 @@ pub word_here : (text : List ℕ) (from start n : ℕ) (kind : WordKind) → fro
     → n ≡ prefix_len is_solid (take (length text - start) (drop start text)) → 0 < n → word_kind (take n (take (length text - start) (drop start text))) ≡ Some kind
     → TakesWord text from (record { kind = kind; start = start; end = start + n }) (start + n)
 word_here text from start n kind forward within white len some is =
-    pass_word text from from _ (start + n) (pass_none text from) (takes_run text from start n _ forward some white len refl) kind (sym (ap word_kind (front_is text start n)) ∙ is) within (omega arith)
+    pass_word text from from _ (start + n) (pass_none text from) (takes_run text from start n forward some white len) kind (sym (ap word_kind (front_is text start n)) ∙ is) within (omega arith)
 
 -- ---- what is read
 

@@ -76,13 +76,11 @@ close_step start seen words run h closes =
 
 -- ---- a reading is what is read
 
-made_word : WordKind → ℕ → ℕ → Word
+abbrev pub made_word : WordKind → ℕ → ℕ → Word
 made_word kind start end = record { kind = kind; start = start; end = end }
 
 word_is : (run : Run) (word : Word) → IsWord run word → word_at run word.kind ≡ word
-unfolding made_word
-word_is run word is =
-    ap (λ (s : ℕ). made_word word.kind s (run.start + length run.bytes)) (sym is.start) ∙ ap (λ (e : ℕ). made_word word.kind word.start e) (sym is.end)
+word_is run word is = ap (λ (s : ℕ). made_word word.kind s (run.start + length run.bytes)) (sym is.start) ∙ ap (λ (e : ℕ). made_word word.kind word.start e) (sym is.end)
 
 not_opening : (kind : WordKind) (bytes : List ℕ) → IsSpelled kind bytes → bytes ≢ opening
 not_opening kind bytes is e = let found : word_kind opening ≡ Some kind = ap word_kind (sym e) ∙ spelled_kind kind bytes is in cc
@@ -99,15 +97,11 @@ read_word run word tail is =
 no_mark_is : (bytes : List ℕ) → ¬ HoldsMark bytes → holds_mark bytes ≡ false
 no_mark_is bytes no_mark = elim (cases_Bool (holds_mark bytes)) [ inl e ↦ absurd (no_mark (mark_stands bytes e)) | inr e ↦ e ]
 
-closing_marks : (bytes : List ℕ) → bytes ≡ closing → HoldsMark bytes
-closing_marks bytes e = mark_stands bytes (ap holds_mark e)
-
 read_inside : (start : ℕ) (inside tail : List Run) → HoldNoMarks inside → read_runs (Some start) (inside ++ tail) ≡ read_runs (Some start) tail
 read_inside start [] tail h = refl
-read_inside start (run ∷ inside) tail h =
-    inside_more start run (inside ++ tail) (λ e. h.0 (closing_marks run.bytes e)) (no_mark_is run.bytes h.0) ∙ read_inside start inside tail h.1
+read_inside start (run ∷ inside) tail h = inside_more start run (inside ++ tail) (λ e. h.0 (mark_stands run.bytes (ap holds_mark e))) (no_mark_is run.bytes h.0) ∙ read_inside start inside tail h.1
 
-with_none : (r : Read) → with_words [] r ≡ r
+pub with_none : (r : Read) → with_words [] r ≡ r
 with_none (Ok words) = refl
 with_none (Err fault) = refl
 
@@ -117,8 +111,7 @@ with_cons word words (Err fault) = refl
 
 read_parts : (parts : List Segment) → AllByRecursion IsSegment parts → (tail : List Run) → read_runs None (flat_map segment_runs parts ++ tail) ≡ with_words (flat_map segment_words parts) (read_runs None tail)
 read_parts [] each tail = sym (with_none (read_runs None tail))
-read_parts (Single run word ∷ parts) each tail =
-    read_word run word (flat_map segment_runs parts ++ tail) each.0 ∙ ap (cons_word word) (read_parts parts each.1 tail) ∙ with_cons word (flat_map segment_words parts) (read_runs None tail)
+read_parts (Single run word ∷ parts) each tail = read_word run word (flat_map segment_runs parts ++ tail) each.0 ∙ ap (cons_word word) (read_parts parts each.1 tail) ∙ with_cons word (flat_map segment_words parts) (read_runs None tail)
 read_parts (Comment first inside last ∷ parts) each tail =
     ap (read_runs None) (ap (λ (rs : List Run). first ∷ rs) (append_assoc (inside ++ last ∷ []) (flat_map segment_runs parts) tail ∙ append_assoc inside (last ∷ []) (flat_map segment_runs parts ++ tail)))
     ∙ outside_open first (inside ++ last ∷ (flat_map segment_runs parts ++ tail)) each.0.opened
@@ -127,8 +120,7 @@ read_parts (Comment first inside last ∷ parts) each tail =
     ∙ read_parts parts each.1 tail
 
 pub read_whole : (seen : List Run) (words : List Word) → AreWords seen words → (tail : List Run) → read_runs None (seen ++ tail) ≡ with_words words (read_runs None tail)
-read_whole seen words h tail =
-    ap (λ (rs : List Run). read_runs None (rs ++ tail)) (sym h.reading.joined) ∙ read_parts h.parts h.reading.each tail ∙ ap (λ (ws : List Word). with_words ws (read_runs None tail)) h.singles
+read_whole seen words h tail = ap (λ (rs : List Run). read_runs None (rs ++ tail)) (sym h.reading.joined) ∙ read_parts h.parts h.reading.each tail ∙ ap (λ (ws : List Word). with_words ws (read_runs None tail)) h.singles
 
 read_behind : (state : Option ℕ) (seen : List Run) (words : List Word) → Behind state seen words → (tail : List Run) → read_runs None (seen ++ tail) ≡ with_words words (read_runs state tail)
 read_behind None seen words h tail = read_whole seen words h tail
@@ -266,8 +258,7 @@ outcome (Some start) (run ∷ runs) seen words h =
             at_fault (seen ++ run ∷ runs) words (words_fault_at T03 run.start) (read_runs (Some start) (run ∷ runs)) (inside_mark start run runs differs mark)
             (stops_at (Some start) seen words run runs T03 h (λ tail. inside_mark start run tail differs mark) (h.first, is_open start seen words h, mark_stands run.bytes mark, differs))
         | inr no_mark ↦
-            let differs = not_from run.bytes closing no_close in
-            moved seen run runs words (read_runs (Some start) runs) (read_runs (Some start) (run ∷ runs)) (inside_more start run runs differs no_mark)
+            moved seen run runs words (read_runs (Some start) runs) (read_runs (Some start) (run ∷ runs)) (inside_more start run runs (not_from run.bytes closing no_close) no_mark)
             (outcome (Some start) runs (seen ++ run ∷ []) words (more_step start seen words run h (λ marked. false≢true (sym no_mark ∙ stands_mark run.bytes marked))))
       ]
     ]
@@ -279,30 +270,14 @@ none_read = record { parts = []; reading = record { each = tt; joined = refl }; 
 pub words_from_read : (runs : List Run) (words : List Word) → read_runs None runs ≡ Ok words → AreWords runs words
 words_from_read runs words e = subst (λ (r : Read). Outcome runs [] r) e (outcome None runs [] [] none_read)
 
-pub fault_from_read : (runs : List Run) (fault : TextFault) → read_runs None runs ≡ Err fault → IsRunFault runs fault.number fault.at
-fault_from_read runs fault e = subst (λ (r : Read). Outcome runs [] r) e (outcome None runs [] [] none_read)
-
 -- ---- a fault is what is read
 
 open_read : (runs : List Run) (first : Run) (h : IsOpen runs first) → (words : List Word) × InComment first.start runs words
-open_read runs first h = (
-  flat_map segment_words h.before.0,
-  record {
-    front = h.front;
-    first = first;
-    inside = h.inside;
-    joined = h.joined;
-    before = whole_words h.front h.before.0 h.before.1;
-    begins = refl;
-    opened = h.opened;
-    no_marks = h.no_marks;
-  },
-)
+open_read runs first h = (flat_map segment_words h.before.0, record { front = h.front; first = first; inside = h.inside; joined = h.joined; before = whole_words h.front h.before.0 h.before.1; begins = refl; opened = h.opened; no_marks = h.no_marks })
 
 split_read : (runs front : List Run) (run : Run) (rest : List Run) (state : Option ℕ) (words : List Word) (fault : TextFault) → runs ≡ front ++ run ∷ rest → Behind state front words
     → read_runs state (run ∷ rest) ≡ Err fault → read_runs None runs ≡ Err fault
-split_read runs front run rest state words fault joined h e =
-    ap (read_runs None) joined ∙ read_behind state front words h (run ∷ rest) ∙ err_with words fault (read_runs state (run ∷ rest)) e
+split_read runs front run rest state words fault joined h e = ap (read_runs None) joined ∙ read_behind state front words h (run ∷ rest) ∙ err_with words fault (read_runs state (run ∷ rest)) e
 
 placed : (number : TextNumber) (runs : List Run) (start at : ℕ) → at ≡ start → read_runs None runs ≡ Err (words_fault_at number start) → read_runs None runs ≡ Err (words_fault_at number at)
 placed number runs start at e h = h ∙ ap (λ (k : ℕ). Err (words_fault_at number k)) (sym e)
@@ -327,10 +302,9 @@ stop_fault T04 runs at h =
 stop_fault T05 runs at h =
     let before = whole_words h.front h.is_number.0.0 h.is_number.0.1 in
     let words = flat_map segment_words h.is_number.0.0 in
-    let no_open : h.run.bytes ≢ opening = λ opens. h.stops (goes_on (Some h.run.start) (h.front ++ h.run ∷ []) words (open_step h.front words h.run before opens)) in
     let none : word_kind h.run.bytes ≡ None = no_kind_found h.run (word_kind h.run.bytes) refl h.is_number.3 in
     placed T05 runs h.run.start at h.place (split_read runs h.front h.run h.rest None words (words_fault_at T05 h.run.start) h.joined before
-    (outside_word h.run h.rest no_open h.is_number.2 ∙ ap (λ (k : Option WordKind). word_alone h.run k (read_runs None h.rest)) none))
+    (outside_word h.run h.rest (λ opens. h.stops (goes_on (Some h.run.start) (h.front ++ h.run ∷ []) words (open_step h.front words h.run before opens))) h.is_number.2 ∙ ap (λ (k : Option WordKind). word_alone h.run k (read_runs None h.rest)) none))
 stop_fault number runs at h = absurd h.is_number
 
 -- ---- whole texts
@@ -352,7 +326,7 @@ checked_words text None words is e = record { allowed = is; words_are = words_fr
 checked_words text (Some at) words is e = absurd cc
 
 checked_fault : (text : List ℕ) (bad : Option ℕ) (fault : TextFault) → first_bad text ≡ bad → checked bad (read_runs None (runs text)) ≡ Err fault → IsWordsFault text fault
-checked_fault text None fault is e = run_fault text fault.number fault.at is (fault_from_read (runs text) fault e)
+checked_fault text None fault is e = run_fault text fault.number fault.at is (subst (λ (r : Read). Outcome (runs text) [] r) e (outcome None (runs text) [] [] none_read))
 checked_fault text (Some at) fault is e = let same : words_fault_at T01 at ≡ fault = cc in subst (IsWordsFault text) same is
 
 pub words_of_text : (text : List ℕ) (words : List Word) → read_text text ≡ Ok words → HasWords text words

@@ -2,12 +2,11 @@
 use Rattle.std.proofs.Common.{◌≡◌, ◌⊎◌, Bool, true, false, List, [], ◌∷◌, ◌++◌, append_assoc, refl, sym, ap, ◌∙◌, subst, inl, inr, arith}
 use Rattle.std.specs.List.{AllByRecursion, flat_map}
 use Rattle.std.proofs.lemmas.List.{append-nil}
-use Rattle.mm_text.specs.declared.word.Keyword.{Keyword}
 use Rattle.mm_text.specs.declared.word.Keyword.TheVariants.{BlockStart, BlockEnd, Constants, Variables, Floating, Essential, Disjoint, Axiom, Theorem, StatementEnd, ProofStart, InclusionStart}
 use Rattle.mm_text.specs.declared.word.WordKind.TheVariants as kinds
 use Rattle.mm_text.specs.Language.Unit.{Token, IsKeyword, IsPlain, Shape, Declaration, Labelled, Provable, Inclusion, shape_tokens, IsShape, Units, Nothing, Simple, Block, unit_tokens, AreUnits}
 use Rattle.mm_text.specs.Code.BlockCounts.{is_start_word, is_end_word}
-use Rattle.mm_text.proofs.UnitFaultLemmas.{IsInner, inner_shape, start_counts, end_counts}
+use Rattle.mm_text.proofs.UnitFaultLemmas.{IsInner, inner_shape, no_plain, start_counts, end_counts}
 
 -- ---- the machine over shapes and plain words
 
@@ -17,24 +16,17 @@ plain_split : (xs ys : List Token) (p q : Token) (s t : List Token) → AllByRec
 plain_split [] [] p q s t f g no_p no_q e = (refl, cc, cc)
 plain_split [] (y ∷ ys) p q s t f g no_p no_q e = let same : y ≡ p = cc in absurd (no_p (subst (λ (t : Token). IsPlain t) same g.0))
 plain_split (x ∷ xs) [] p q s t f g no_p no_q e = let same : x ≡ q = cc in absurd (no_q (subst (λ (t : Token). IsPlain t) same f.0))
-plain_split (x ∷ xs) (y ∷ ys) p q s t f g no_p no_q e =
-    let rest : xs ++ p ∷ s ≡ ys ++ q ∷ t = cc in
-    let more = plain_split xs ys p q s t f.1 g.1 no_p no_q rest in
-    (cc, more.1, more.2)
-
-not_plain : (token : Token) (k : Keyword) → IsKeyword k token → ¬ IsPlain token
-not_plain token k is plain = cc
+plain_split (x ∷ xs) (y ∷ ys) p q s t f g no_p no_q e = let rest : xs ++ p ∷ s ≡ ys ++ q ∷ t = cc in let more = plain_split xs ys p q s t f.1 g.1 no_p no_q rest in (cc, more.1, more.2)
 
 rest_split : (xs ys : List Token) (p q : Token) (s t : List Token) → AllByRecursion IsPlain xs → AllByRecursion IsPlain ys → IsKeyword StatementEnd p → IsKeyword StatementEnd q
     → (xs ++ p ∷ []) ++ s ≡ (ys ++ q ∷ []) ++ t → (xs ≡ ys) × (p ≡ q) × (s ≡ t)
-rest_split xs ys p q s t f g is_p is_q e =
-    plain_split xs ys p q s t f g (not_plain p StatementEnd is_p) (not_plain q StatementEnd is_q) (sym (append_assoc xs (p ∷ []) s) ∙ e ∙ append_assoc ys (q ∷ []) t)
+rest_split xs ys p q s t f g is_p is_q e = plain_split xs ys p q s t f g (no_plain p StatementEnd is_p) (no_plain q StatementEnd is_q) (sym (append_assoc xs (p ∷ []) s) ∙ e ∙ append_assoc ys (q ∷ []) t)
 
 proof_split : (xs ys : List Token) (p q : Token) (xs' ys' : List Token) (p' q' : Token) (s t : List Token) → AllByRecursion IsPlain xs → AllByRecursion IsPlain ys → IsKeyword ProofStart p → IsKeyword ProofStart q
     → AllByRecursion IsPlain xs' → AllByRecursion IsPlain ys' → IsKeyword StatementEnd p' → IsKeyword StatementEnd q' → (xs ++ p ∷ (xs' ++ p' ∷ [])) ++ s ≡ (ys ++ q ∷ (ys' ++ q' ∷ [])) ++ t
     → ((xs ≡ ys) × (p ≡ q)) × ((xs' ≡ ys') × (p' ≡ q') × (s ≡ t))
 proof_split xs ys p q xs' ys' p' q' s t f g is_p is_q f' g' is_p' is_q' e =
-    let first : (xs ≡ ys) × (p ≡ q) × ((xs' ++ p' ∷ []) ++ s ≡ (ys' ++ q' ∷ []) ++ t) = plain_split xs ys p q ((xs' ++ p' ∷ []) ++ s) ((ys' ++ q' ∷ []) ++ t) f g (not_plain p ProofStart is_p) (not_plain q ProofStart is_q)
+    let first : (xs ≡ ys) × (p ≡ q) × ((xs' ++ p' ∷ []) ++ s ≡ (ys' ++ q' ∷ []) ++ t) = plain_split xs ys p q ((xs' ++ p' ∷ []) ++ s) ((ys' ++ q' ∷ []) ++ t) f g (no_plain p ProofStart is_p) (no_plain q ProofStart is_q)
     (sym (append_assoc xs (p ∷ (xs' ++ p' ∷ [])) s) ∙ e ∙ append_assoc ys (q ∷ (ys' ++ q' ∷ [])) t) in
     ((first.0, first.1), rest_split xs' ys' p' q' s t f' g' is_p' is_q' first.2)
 
@@ -59,19 +51,15 @@ labels_not token (inr (inr is)) other = cc
 
 pub one_shape : (o : Bool) (a b : Shape) (s t : List Token) → IsShape o a → IsShape o b → shape_tokens a ++ s ≡ shape_tokens b ++ t → (a ≡ b) × (s ≡ t)
 one_shape o (Declaration k xs p) (Declaration l ys q) s t f g e =
-    let rest : (xs ++ p ∷ []) ++ s ≡ (ys ++ q ∷ []) ++ t = cc in
-    let split : (xs ≡ ys) × (p ≡ q) × (s ≡ t) = rest_split xs ys p q s t f.1 g.1 f.2 g.2 rest in
-    (cc, split.2)
+    let rest : (xs ++ p ∷ []) ++ s ≡ (ys ++ q ∷ []) ++ t = cc in let split : (xs ≡ ys) × (p ≡ q) × (s ≡ t) = rest_split xs ys p q s t f.1 g.1 f.2 g.2 rest in (cc, split.2)
 one_shape o (Declaration k xs p) (Labelled m l ys q) s t f g e = let first : m ≡ k = cc in absurd (declares_not k f.0 (inl (subst (λ (t : Token). IsPlain t) first g.0.0)))
 one_shape o (Declaration k xs p) (Provable m l ys q zs r) s t f g e = let first : m ≡ k = cc in absurd (declares_not k f.0 (inl (subst (λ (t : Token). IsPlain t) first g.0.0)))
 one_shape o (Declaration k xs p) (Inclusion b n d) s t f g e = let first : b ≡ k = cc in absurd (declares_not k f.0 (inr (subst (λ (t : Token). IsKeyword InclusionStart t) first g.1)))
 one_shape o (Labelled m k xs p) (Declaration l ys q) s t f g e = let first : m ≡ l = cc in absurd (declares_not l g.0 (inl (subst (λ (t : Token). IsPlain t) first f.0.0)))
 one_shape o (Labelled m k xs p) (Labelled n l ys q) s t f g e =
-    let rest : (xs ++ p ∷ []) ++ s ≡ (ys ++ q ∷ []) ++ t = cc in
-    let split : (xs ≡ ys) × (p ≡ q) × (s ≡ t) = rest_split xs ys p q s t f.2 g.2 f.3 g.3 rest in
-    (cc, split.2)
+    let rest : (xs ++ p ∷ []) ++ s ≡ (ys ++ q ∷ []) ++ t = cc in let split : (xs ≡ ys) × (p ≡ q) × (s ≡ t) = rest_split xs ys p q s t f.2 g.2 f.3 g.3 rest in (cc, split.2)
 one_shape o (Labelled m k xs p) (Provable n l ys q zs r) s t f g e = let second : l ≡ k = cc in absurd (labels_not k f.1 (subst (λ (t : Token). IsKeyword Theorem t) second g.1))
-one_shape o (Labelled m k xs p) (Inclusion b n d) s t f g e = let first : m ≡ b = cc in absurd (not_plain b InclusionStart g.1 (subst (λ (t : Token). IsPlain t) first f.0.0))
+one_shape o (Labelled m k xs p) (Inclusion b n d) s t f g e = let first : m ≡ b = cc in absurd (no_plain b InclusionStart g.1 (subst (λ (t : Token). IsPlain t) first f.0.0))
 one_shape o (Provable m k xs p zs r) (Declaration l ys q) s t f g e = let first : m ≡ l = cc in absurd (declares_not l g.0 (inl (subst (λ (t : Token). IsPlain t) first f.0.0)))
 one_shape o (Provable m k xs p zs r) (Labelled n l ys q) s t f g e = let second : k ≡ l = cc in absurd (labels_not l g.1 (subst (λ (t : Token). IsKeyword Theorem t) second f.1))
 one_shape o (Provable m k xs p zs r) (Provable n l ys q ws u) s t f g e =
@@ -79,10 +67,10 @@ one_shape o (Provable m k xs p zs r) (Provable n l ys q ws u) s t f g e =
     let split : ((xs ≡ ys) × (p ≡ q)) × ((zs ≡ ws) × (r ≡ u) × (s ≡ t)) = proof_split xs ys p q zs ws r u s t f.2 g.2 f.3 g.3 f.4 g.4 f.5 g.5 rest in
     let proved : (zs ≡ ws) × (r ≡ u) × (s ≡ t) = split.1 in
     (cc, proved.2)
-one_shape o (Provable m k xs p zs r) (Inclusion b n d) s t f g e = let first : m ≡ b = cc in absurd (not_plain b InclusionStart g.1 (subst (λ (t : Token). IsPlain t) first f.0.0))
+one_shape o (Provable m k xs p zs r) (Inclusion b n d) s t f g e = let first : m ≡ b = cc in absurd (no_plain b InclusionStart g.1 (subst (λ (t : Token). IsPlain t) first f.0.0))
 one_shape o (Inclusion b n d) (Declaration l ys q) s t f g e = let first : b ≡ l = cc in absurd (declares_not l g.0 (inr (subst (λ (t : Token). IsKeyword InclusionStart t) first f.1)))
-one_shape o (Inclusion b n d) (Labelled m l ys q) s t f g e = let first : m ≡ b = cc in absurd (not_plain b InclusionStart f.1 (subst (λ (t : Token). IsPlain t) first g.0.0))
-one_shape o (Inclusion b n d) (Provable m l ys q zs r) s t f g e = let first : m ≡ b = cc in absurd (not_plain b InclusionStart f.1 (subst (λ (t : Token). IsPlain t) first g.0.0))
+one_shape o (Inclusion b n d) (Labelled m l ys q) s t f g e = let first : m ≡ b = cc in absurd (no_plain b InclusionStart f.1 (subst (λ (t : Token). IsPlain t) first g.0.0))
+one_shape o (Inclusion b n d) (Provable m l ys q zs r) s t f g e = let first : m ≡ b = cc in absurd (no_plain b InclusionStart f.1 (subst (λ (t : Token). IsPlain t) first g.0.0))
 one_shape o (Inclusion b n d) (Inclusion b' n' d') s t f g e = (cc, cc)
 
 shape_head : (o : Bool) (shape : Shape) → IsShape o shape → (first : Token) × (rest : List Token) × (shape_tokens shape ≡ first ∷ rest) × IsInner first
@@ -127,9 +115,7 @@ no_shape_there o shape tail s is stops e =
 
 no_block_there : (begin : Token) (tail s : List Token) → IsKeyword BlockStart begin → Stops s → s ≡ begin ∷ tail → ⊥
 no_block_there begin tail s is stops e =
-    let end : IsKeyword BlockEnd begin = subst (λ (ts : List Token). Stops ts) e stops in
-    let same : kinds.Keyword BlockStart ≡ kinds.Keyword BlockEnd = sym is ∙ end in
-    cc
+    let end : IsKeyword BlockEnd begin = subst (λ (ts : List Token). Stops ts) e stops in let same : kinds.Keyword BlockStart ≡ kinds.Keyword BlockEnd = sym is ∙ end in cc
 
 not_both : (o : Bool) (shape : Shape) (begin : Token) (s t : List Token) → IsShape o shape → IsKeyword BlockStart begin → shape_tokens shape ++ s ≡ begin ∷ t → ⊥
 not_both o shape begin s t is starts e =
@@ -150,10 +136,8 @@ one_units o (Simple x u) (Simple y v) s t f g p q e =
     let first : (x ≡ y) × (unit_tokens u ++ s ≡ unit_tokens v ++ t) = one_shape o x y (unit_tokens u ++ s) (unit_tokens v ++ t) f.0 g.0 (sym (append_assoc (shape_tokens x) (unit_tokens u) s) ∙ e ∙ append_assoc (shape_tokens y) (unit_tokens v) t) in
     let more : (u ≡ v) × (s ≡ t) = one_units o u v s t f.1 g.1 p q first.1 in
     (cc, more.1)
-one_units o (Simple x u) (Block begin inner end later) s t f g p q e =
-    absurd (not_both o x begin (unit_tokens u ++ s) ((unit_tokens inner ++ end ∷ unit_tokens later) ++ t) f.0 g.0 (sym (append_assoc (shape_tokens x) (unit_tokens u) s) ∙ e))
-one_units o (Block begin inner end later) (Simple y v) s t f g p q e =
-    absurd (not_both o y begin (unit_tokens v ++ t) ((unit_tokens inner ++ end ∷ unit_tokens later) ++ s) g.0 f.0 (sym (append_assoc (shape_tokens y) (unit_tokens v) t) ∙ sym e))
+one_units o (Simple x u) (Block begin inner end later) s t f g p q e = absurd (not_both o x begin (unit_tokens u ++ s) ((unit_tokens inner ++ end ∷ unit_tokens later) ++ t) f.0 g.0 (sym (append_assoc (shape_tokens x) (unit_tokens u) s) ∙ e))
+one_units o (Block begin inner end later) (Simple y v) s t f g p q e = absurd (not_both o y begin (unit_tokens v ++ t) ((unit_tokens inner ++ end ∷ unit_tokens later) ++ s) g.0 f.0 (sym (append_assoc (shape_tokens y) (unit_tokens v) t) ∙ sym e))
 one_units o (Block begin inner end u) (Block begin' inner' end' v) s t f g p q e =
     let first : begin ≡ begin' = cc in
     let rest : (unit_tokens inner ++ end ∷ unit_tokens u) ++ s ≡ (unit_tokens inner' ++ end' ∷ unit_tokens v) ++ t = cc in

@@ -63,16 +63,14 @@ may_begin_from front depth e = run-IsViable (front ++ a_block ∷ []) (m.Begin, 
 
 pub may_begin_phase : (front : List Token) (phase : m.Phase) (depth : ℕ) → m.run m.Begin 0 front ≡ Ok (m.phase_state phase depth) → MayBegin front → phase ≡ m.Begin
 may_begin_phase front phase depth e h =
-    let all = viable_run (front ++ a_block ∷ []) h in
-    begins_only phase depth (m.could_label a_block) all.0 (sym (run_push front a_block phase depth e) ∙ all.1)
+    let all = viable_run (front ++ a_block ∷ []) h in begins_only phase depth (m.could_label a_block) all.0 (sym (run_push front a_block phase depth e) ∙ all.1)
 
 pub may_begin : (front : List Token) → MayBegin front ↔ ((depth : ℕ) × (m.run m.Begin 0 front ≡ Ok (m.Begin, depth)))
 may_begin front = (to, λ h. may_begin_from front h.0 h.1) where
   to : MayBegin front → (depth : ℕ) × (m.run m.Begin 0 front ≡ Ok (m.Begin, depth))
   to h =
       let before = viable_run front (viable_front front (a_block ∷ []) h) in
-      let is : before.0.0 ≡ m.Begin = may_begin_phase front before.0.0 before.0.1 before.1 h in
-      (before.0.1, before.1 ∙ ap (λ (p : m.Phase). Ok (p, before.0.1)) is)
+      (before.0.1, before.1 ∙ ap (λ (p : m.Phase). Ok (p, before.0.1)) (may_begin_phase front before.0.0 before.0.1 before.1 h))
 
 -- ---- where an inclusion has begun
 
@@ -84,8 +82,7 @@ pub inclusion_phase : (front : List Token) (phase : m.Phase) (depth : ℕ) → m
 inclusion_phase front phase depth e (before, begin, joined, is) =
     let all : m.run m.Begin 0 (before ++ begin ∷ []) ≡ Ok (m.phase_state phase depth) = ap (m.run m.Begin 0) (sym joined) ∙ e in
     let first = viable_run before (viable_front before (begin ∷ []) (run-IsViable (before ++ begin ∷ []) (phase, depth) all)) in
-    let step : m.next first.0.0 first.0.1 begin.kind (m.could_label begin) ≡ Ok (phase, depth) = sym (run_push before begin first.0.0 first.0.1 first.1) ∙ all in
-    including_only first.0.0 first.0.1 (m.could_label begin) (phase, depth) (ap (λ (k : WordKind). m.next first.0.0 first.0.1 k (m.could_label begin)) (sym is) ∙ step)
+    including_only first.0.0 first.0.1 (m.could_label begin) (phase, depth) (ap (λ (k : WordKind). m.next first.0.0 first.0.1 k (m.could_label begin)) (sym is) ∙ (sym (run_push before begin first.0.0 first.0.1 first.1) ∙ all))
 
 abbrev pub reached : m.UnitStep → m.Phase
 reached (Ok s) = s.0
@@ -156,7 +153,7 @@ plain_word token is start = false≢true (ap starts_inclusion (sym is ∙ start)
 other_keyword : (token : Token) (k : Keyword) → IsKeyword k token → starts_inclusion (kinds.Keyword k) ≡ false → ¬ IsKeyword InclusionStart token
 other_keyword token k is other start = false≢true (sym other ∙ ap starts_inclusion (sym is ∙ start))
 
-no_plain : (token : Token) (k : Keyword) → IsKeyword k token → ¬ IsPlain token
+pub no_plain : (token : Token) (k : Keyword) → IsKeyword k token → ¬ IsPlain token
 no_plain token k is plain = cc
 
 neither : (token : Token) (k : Keyword) → IsKeyword k token → ends_block (kinds.Keyword k) ≡ false → ¬ (IsKeyword BlockEnd token ⊎ IsPlain token)
@@ -237,36 +234,17 @@ ends_in_unit tokens word depth within e later = record {
 -- behind the same words, the same word has one number
 pub same_number : (front : List Token) (token : Token) (a b : TextNumber) → ¬ (MayBegin front × EndsInInclusion front) → IsUnitNumber a front token → IsUnitNumber b front token → a ≡ b
 same_number front token T12 T12 apart f g = refl
-same_number front token T12 T10 apart f g = absurd (g.0 f.0)
-same_number front token T12 T09 apart f g = absurd (apart (g.0, f.0))
-same_number front token T12 T11 apart f g = absurd (f.1 g.1)
-same_number front token T12 T06 apart f g = absurd (g.0 f)
-same_number front token T12 _ apart f g = absurd g
-same_number front token T10 T12 apart f g = absurd (f.0 g.0)
 same_number front token T10 T10 apart f g = refl
-same_number front token T10 T09 apart f g = absurd (cc)
-same_number front token T10 T11 apart f g = absurd (cc)
-same_number front token T10 T06 apart f g = absurd (g.1 f.1)
-same_number front token T10 _ apart f g = absurd g
-same_number front token T09 T12 apart f g = absurd (apart (f.0, g.0))
-same_number front token T09 T10 apart f g = absurd (cc)
 same_number front token T09 T09 apart f g = refl
-same_number front token T09 T11 apart f g = absurd (cc)
-same_number front token T09 T06 apart f g = absurd (g.2 (f.0, inl f.1))
-same_number front token T09 _ apart f g = absurd g
-same_number front token T11 T12 apart f g = absurd (g.1 f.1)
-same_number front token T11 T10 apart f g = absurd (cc)
-same_number front token T11 T09 apart f g = absurd (cc)
 same_number front token T11 T11 apart f g = refl
-same_number front token T11 T06 apart f g = absurd (g.2 (f.0, inr f.1))
-same_number front token T11 _ apart f g = absurd g
-same_number front token T06 T12 apart f g = absurd (f.0 g)
-same_number front token T06 T10 apart f g = absurd (f.1 g.1)
-same_number front token T06 T09 apart f g = absurd (f.2 (g.0, inl g.1))
-same_number front token T06 T11 apart f g = absurd (f.2 (g.0, inr g.1))
 same_number front token T06 T06 apart f g = refl
-same_number front token T06 _ apart f g = absurd g
-same_number front token _ b apart f g = absurd f
+same_number front token T12 T10 apart f g = absurd (g.0 f.0)
+same_number front token T10 T12 apart f g = absurd (f.0 g.0)
+same_number front token T06 _ apart f g = absurd (search (f.0, f.1, f.2, g, inl, inr))
+same_number front token _ T06 apart f g = absurd (search (g.0, g.1, g.2, f, inl, inr))
+same_number front token T12 _ apart f g = absurd (search (apart, f.1, g))
+same_number front token _ T12 apart f g = absurd (search (apart, g.1, f))
+same_number front token _ _ apart f g = absurd (first_of (cc, search (f, g)))
 
 apart_at : (front : List Token) → IsViable front → ¬ (MayBegin front × EndsInInclusion front)
 apart_at front h (begins, ends) =
@@ -294,9 +272,6 @@ one_stop tokens a b v w f g =
 
 not_all : (tokens : List Token) (word : ℕ) → EndsInUnit tokens word → ¬ MayBegin tokens
 not_all tokens word h begins = h.unfinished (length tokens) h.within (omega arith) (subst (λ (ts : List Token). MayBegin ts) (sym (take_all (length tokens) tokens (omega arith))) begins)
-
-one_unfinished : (tokens : List Token) (v w : ℕ) → EndsInUnit tokens v → EndsInUnit tokens w → v ≡ w
-one_unfinished tokens v w f g = by_order v w (λ l. f.unfinished w l (le_of_lt g.within) g.begins) (λ l. g.unfinished v l (le_of_lt f.within) f.begins)
 
 -- ---- the counts of `${` and `$}`
 
@@ -338,8 +313,7 @@ inner_shape outside (Provable label keyword symbols proof steps end) (labels, th
     inner_symbols symbols (proof ∷ (steps ++ end ∷ [])) plain (inner_kind proof (kinds.Keyword ProofStart) proves refl refl, inner_symbols steps (end ∷ []) more (inner_kind end (kinds.Keyword StatementEnd) ended refl refl, tt)),
   ),
 )
-inner_shape outside (Inclusion begin name end) h =
-    (inner_kind begin (kinds.Keyword InclusionStart) h.1 refl refl, (inner_kind name kinds.Plain h.2 refl refl, (inner_kind end (kinds.Keyword InclusionEnd) h.3 refl refl, tt)))
+inner_shape outside (Inclusion begin name end) h = (inner_kind begin (kinds.Keyword InclusionStart) h.1 refl refl, (inner_kind name kinds.Plain h.2 refl refl, (inner_kind end (kinds.Keyword InclusionEnd) h.3 refl refl, tt)))
 
 -- no end of the list has more `${` than `$}`
 abbrev pub Covered : List Token → Type 0
@@ -362,9 +336,7 @@ covered_from (token ∷ tokens) h = (h 0, covered_from tokens (λ n. h (suc n)))
 covered_inner : (xs ys : List Token) → AllByRecursion IsInner xs → Covered ys → Covered (xs ++ ys)
 covered_inner [] ys f g = g
 covered_inner (x ∷ xs) ys f g =
-    let more : Covered (xs ++ ys) = covered_inner xs ys f.1 g in
-    let rest : starts (xs ++ ys) ≤ ends (xs ++ ys) = covered_all (xs ++ ys) more in
-    (omega arith, more)
+    let more : Covered (xs ++ ys) = covered_inner xs ys f.1 g in let rest : starts (xs ++ ys) ≤ ends (xs ++ ys) = covered_all (xs ++ ys) more in (omega arith, more)
 
 pub covered-append : (xs ys : List Token) → Covered xs → Covered ys → Covered (xs ++ ys)
 covered-append [] ys f g = g
@@ -378,10 +350,7 @@ covered-append (x ∷ xs) ys f g =
 inner_counts : (xs : List Token) → AllByRecursion IsInner xs → (starts xs ≡ 0) × (ends xs ≡ 0)
 inner_counts [] h = (refl, refl)
 inner_counts (x ∷ xs) h =
-    let more : (starts xs ≡ 0) × (ends xs ≡ 0) = inner_counts xs h.1 in
-    let start : is_start_word x.kind ≡ 0 = h.0.0 in
-    let end : is_end_word x.kind ≡ 0 = h.0.1 in
-    (omega arith, omega arith)
+    let more : (starts xs ≡ 0) × (ends xs ≡ 0) = inner_counts xs h.1 in let start : is_start_word x.kind ≡ 0 = h.0.0 in let end : is_end_word x.kind ≡ 0 = h.0.1 in (omega arith, omega arith)
 
 balanced_shape : (outside : Bool) (shape : Shape) (tail : List Token) → IsShape outside shape → starts tail ≡ ends tail → starts (shape_tokens shape ++ tail) ≡ ends (shape_tokens shape ++ tail)
 balanced_shape outside shape tail is more =
@@ -411,10 +380,7 @@ balanced outside (Block begin inner end later) h =
 pub covered : (outside : Bool) (units : Units) → AreUnits outside units → Covered (unit_tokens units)
 covered outside Nothing h = tt
 covered outside (Simple shape later) h = covered_inner (shape_tokens shape) (unit_tokens later) (inner_shape outside shape h.0) (covered outside later h.1)
-covered outside (Block begin inner end later) h = (
-  le_of_eq (balanced outside (Block begin inner end later) h),
-  covered-append (unit_tokens inner) (end ∷ unit_tokens later) (covered false inner h.1) (last, covered outside later h.3),
-) where
+covered outside (Block begin inner end later) h = (le_of_eq (balanced outside (Block begin inner end later) h), covered-append (unit_tokens inner) (end ∷ unit_tokens later) (covered false inner h.1) (last, covered outside later h.3)) where
   last : starts (end ∷ unit_tokens later) ≤ ends (end ∷ unit_tokens later)
   last =
       let y : starts (unit_tokens later) ≡ ends (unit_tokens later) = balanced outside later h.3 in
@@ -481,7 +447,7 @@ same_fault tokens a b v w (inl f) (inl g) = one_stop tokens a b v w f g
 same_fault tokens a b v w (inl f) (inr (inl g)) = absurd (not_viable_all tokens a v f g.1.viable)
 same_fault tokens a b v w (inl f) (inr (inr g)) = absurd (not_viable_all tokens a v f (block_viable tokens w g.1))
 same_fault tokens a b v w (inr (inl f)) (inl g) = absurd (not_viable_all tokens b w g f.1.viable)
-same_fault tokens a b v w (inr (inl f)) (inr (inl g)) = (f.0 ∙ sym g.0, one_unfinished tokens v w f.1 g.1)
+same_fault tokens a b v w (inr (inl f)) (inr (inl g)) = (f.0 ∙ sym g.0, (by_order v w (λ l. f.1.unfinished w l (le_of_lt g.1.within) g.1.begins) (λ l. g.1.unfinished v l (le_of_lt f.1.within) f.1.begins)))
 same_fault tokens a b v w (inr (inl f)) (inr (inr g)) = absurd (not_all tokens v f.1 (block_begins tokens w g.1))
 same_fault tokens a b v w (inr (inr f)) (inl g) = absurd (not_viable_all tokens b w g (block_viable tokens v f.1))
 same_fault tokens a b v w (inr (inr f)) (inr (inl g)) = absurd (not_all tokens w g.1 (block_begins tokens v f.1))
@@ -577,15 +543,7 @@ closed_units xs depth d e even h = both (cut_twice xs (blocks d) (unit_tokens cl
 
 pub ends_in_block : (tokens : List Token) (word d : ℕ) (token : Token) → m.run m.Begin 0 tokens ≡ Ok (m.phase_state m.Begin d) → slice_get tokens word ≡ Some token → IsKeyword BlockStart token
     → starts (drop (word + 1) tokens) ≡ ends (drop (word + 1) tokens) → ((n : ℕ) → word < n → starts (drop n tokens) ≤ ends (drop n tokens)) → IsUnitFault tokens T08 word
-ends_in_block tokens word d token e there opens even fewer = record {
-  begin = token;
-  inner = units.0;
-  there = there;
-  opens = opens;
-  begins = may_begin_from (take word tokens) front.0.1 front_begins;
-  inside = units.1;
-  behind = units.2;
-} where
+ends_in_block tokens word d token e there opens even fewer = record { begin = token; inner = units.0; there = there; opens = opens; begins = may_begin_from (take word tokens) front.0.1 front_begins; inside = units.1; behind = units.2 } where
   viable : IsViable tokens
   viable = run-IsViable tokens (m.Begin, d) e
 

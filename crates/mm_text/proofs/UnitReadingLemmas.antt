@@ -63,8 +63,7 @@ through_shape (suc depth) (Inclusion begin name end) tail h = absurd (false≢tr
 
 pub through_units : (depth : ℕ) (units : Units) (tail : List Token) → AreUnits (outside depth) units → m.run m.Begin depth (unit_tokens units ++ tail) ≡ m.run m.Begin depth tail
 through_units depth Nothing tail h = refl
-through_units depth (Simple shape later) tail h =
-    ap (m.run m.Begin depth) (append_assoc (shape_tokens shape) (unit_tokens later) tail) ∙ through_shape depth shape (unit_tokens later ++ tail) h.0 ∙ through_units depth later tail h.1
+through_units depth (Simple shape later) tail h = ap (m.run m.Begin depth) (append_assoc (shape_tokens shape) (unit_tokens later) tail) ∙ through_shape depth shape (unit_tokens later ++ tail) h.0 ∙ through_units depth later tail h.1
 through_units depth (Block begin inner end later) tail h =
     ap (m.run m.Begin depth) (ap (λ (ts : List Token). begin ∷ ts) (append_assoc (unit_tokens inner) (end ∷ unit_tokens later) tail))
     ∙ step_by m.Begin depth begin (unit_tokens inner ++ end ∷ (unit_tokens later ++ tail)) (kinds.Keyword BlockStart) (m.Begin, suc depth) h.0 refl
@@ -144,12 +143,10 @@ all_append [] ys f g = g
 all_append (x ∷ xs) ys f g = (f.0, all_append xs ys f.1 g)
 
 declared : (depth : ℕ) (token : Token) (tokens : List Token) → (IsKeyword Constants token ⊎ (IsKeyword Variables token ⊎ IsKeyword Disjoint token)) → Ends depth (Completes depth) tokens → Completes depth (token ∷ tokens)
-declared depth token tokens is h =
-    subst (λ (ts : List Token). Completes depth (token ∷ ts)) (sym h.joined) (shape_more depth (Declaration token h.symbols h.end) h.later (is, h.plain, h.is_end) h.goes_on)
+declared depth token tokens is h = subst (λ (ts : List Token). Completes depth (token ∷ ts)) (sym h.joined) (shape_more depth (Declaration token h.symbols h.end) h.later (is, h.plain, h.is_end) h.goes_on)
 
 labels : (depth : ℕ) (label token : Token) (tokens : List Token) → IsLabel label → (IsKeyword Floating token ⊎ (IsKeyword Essential token ⊎ IsKeyword Axiom token)) → Ends depth (Completes depth) tokens → Completes depth (label ∷ token ∷ tokens)
-labels depth label token tokens is_label is h =
-    subst (λ (ts : List Token). Completes depth (label ∷ token ∷ ts)) (sym h.joined) (shape_more depth (Labelled label token h.symbols h.end) h.later (is_label, is, h.plain, h.is_end) h.goes_on)
+labels depth label token tokens is_label is h = subst (λ (ts : List Token). Completes depth (label ∷ token ∷ ts)) (sym h.joined) (shape_more depth (Labelled label token h.symbols h.end) h.later (is_label, is, h.plain, h.is_end) h.goes_on)
 
 proves : (depth : ℕ) (label keyword : Token) (before : List Token) (proof : Token) (tokens : List Token) → IsLabel label → IsKeyword Theorem keyword → AllByRecursion IsPlain before → IsKeyword ProofStart proof → Ends depth (Completes depth) tokens
     → Completes depth (label ∷ keyword ∷ (before ++ proof ∷ tokens))
@@ -162,8 +159,7 @@ one_step : (phase : m.Phase) (depth : ℕ) (token : Token) (tokens : List Token)
     → m.after (m.next phase depth kind is_label) (λ p d. m.run p d tokens) ≡ Ok (m.Begin, 0) → Meaning phase depth (token ∷ tokens)
 one_step m.Begin depth token tokens kinds.Plain true later is label e = later m.Labelled depth e token (is, label)
 one_step m.Begin depth token tokens (kinds.Keyword BlockStart) b later is label e = block_more depth token tokens is (later m.Begin (suc depth) e)
-one_step m.Begin (suc depth) token tokens (kinds.Keyword BlockEnd) b later is label e =
-    record { inner = Nothing; end = token; later = tokens; inside = tt; is_end = is; joined = refl; goes_on = later m.Begin depth e }
+one_step m.Begin (suc depth) token tokens (kinds.Keyword BlockEnd) b later is label e = record { inner = Nothing; end = token; later = tokens; inside = tt; is_end = is; joined = refl; goes_on = later m.Begin depth e }
 one_step m.Begin depth token tokens (kinds.Keyword Constants) b later is label e = declared depth token tokens (inl is) (later m.Symbols depth e)
 one_step m.Begin depth token tokens (kinds.Keyword Variables) b later is label e = declared depth token tokens (inr (inl is)) (later m.Symbols depth e)
 one_step m.Begin depth token tokens (kinds.Keyword Disjoint) b later is label e = declared depth token tokens (inr (inr is)) (later m.Symbols depth e)
@@ -175,20 +171,16 @@ one_step m.Labelled depth token tokens (kinds.Keyword Theorem) b later is label 
 one_step m.Symbols depth token tokens kinds.Plain b later is label e =
     let h = later m.Symbols depth e in
     record { symbols = token ∷ h.symbols; end = h.end; later = h.later; plain = (is, h.plain); is_end = h.is_end; joined = ap (λ (ts : List Token). token ∷ ts) h.joined; goes_on = h.goes_on }
-one_step m.Symbols depth token tokens (kinds.Keyword StatementEnd) b later is label e =
-    record { symbols = []; end = token; later = tokens; plain = tt; is_end = is; joined = refl; goes_on = later m.Begin depth e }
+one_step m.Symbols depth token tokens (kinds.Keyword StatementEnd) b later is label e = record { symbols = []; end = token; later = tokens; plain = tt; is_end = is; joined = refl; goes_on = later m.Begin depth e }
 one_step m.Expression depth token tokens kinds.Plain b later is label e = λ first keyword is_label is_theorem before plain.
     subst (λ (ts : List Token). Completes depth (first ∷ keyword ∷ ts)) (append_assoc before (token ∷ []) tokens) (later m.Expression depth e first keyword is_label is_theorem (before ++ token ∷ []) (all_append before (token ∷ []) plain (is, tt)))
-one_step m.Expression depth token tokens (kinds.Keyword ProofStart) b later is label e = λ first keyword is_label is_theorem before plain.
-    proves depth first keyword before token tokens is_label is_theorem plain is (later m.Symbols depth e)
+one_step m.Expression depth token tokens (kinds.Keyword ProofStart) b later is label e = λ first keyword is_label is_theorem before plain. proves depth first keyword before token tokens is_label is_theorem plain is (later m.Symbols depth e)
 one_step m.Including depth token tokens kinds.Plain b later is label e = λ first is_outside begins. later m.Named depth e first token is_outside begins is
 one_step m.Named depth token tokens (kinds.Keyword InclusionEnd) b later is label e = λ first name is_outside begins plain. shape_more depth (Inclusion first name token) tokens (is_outside, begins, plain, is) (later m.Begin depth e)
 one_step _ _ token tokens _ _ later is label e = absurd cc
 
 pub stands : (phase : m.Phase) (depth : ℕ) → m.run phase depth [] ≡ Ok (m.Begin, 0) → (phase ≡ m.Begin) × (depth ≡ 0)
-stands phase depth e =
-    let pair : m.phase_state phase depth ≡ m.phase_state m.Begin 0 = cc in
-    (ap (λ (s : m.Phase × ℕ). s.0) pair, ap (λ (s : m.Phase × ℕ). s.1) pair)
+stands phase depth e = let pair : m.phase_state phase depth ≡ m.phase_state m.Begin 0 = cc in (ap (λ (s : m.Phase × ℕ). s.0) pair, ap (λ (s : m.Phase × ℕ). s.1) pair)
 
 pub whole_run : (tokens : List Token) (phase : m.Phase) (depth : ℕ) → m.run phase depth tokens ≡ Ok (m.Begin, 0) → Meaning phase depth tokens
 whole_run [] m.Begin zero e = (Nothing, tt, refl)
@@ -238,19 +230,13 @@ named_run depth = step_by m.Named depth (key InclusionEnd) (blocks depth) (kinds
 
 pub completed : (phase : m.Phase) (depth : ℕ) → (more : List Token) × (m.run phase depth more ≡ Ok (m.Begin, 0))
 completed m.Begin depth = (blocks depth, blocks_run depth)
-completed m.Labelled depth = (
-  key Axiom ∷ key StatementEnd ∷ blocks depth,
-  step_by m.Labelled depth (key Axiom) (key StatementEnd ∷ blocks depth) (kinds.Keyword Axiom) (m.Symbols, depth) (key-kind Axiom) refl ∙ ended_run depth,
-)
+completed m.Labelled depth = (key Axiom ∷ key StatementEnd ∷ blocks depth, step_by m.Labelled depth (key Axiom) (key StatementEnd ∷ blocks depth) (kinds.Keyword Axiom) (m.Symbols, depth) (key-kind Axiom) refl ∙ ended_run depth)
 completed m.Symbols depth = (key StatementEnd ∷ blocks depth, ended_run depth)
 completed m.Expression depth = (
   key ProofStart ∷ key StatementEnd ∷ blocks depth,
   step_by m.Expression depth (key ProofStart) (key StatementEnd ∷ blocks depth) (kinds.Keyword ProofStart) (m.Symbols, depth) (key-kind ProofStart) refl ∙ ended_run depth,
 )
-completed m.Including depth = (
-  name ∷ key InclusionEnd ∷ blocks depth,
-  step_by m.Including depth name (key InclusionEnd ∷ blocks depth) kinds.Plain (m.Named, depth) name-kind refl ∙ named_run depth,
-)
+completed m.Including depth = (name ∷ key InclusionEnd ∷ blocks depth, step_by m.Including depth name (key InclusionEnd ∷ blocks depth) kinds.Plain (m.Named, depth) name-kind refl ∙ named_run depth)
 completed m.Named depth = (key InclusionEnd ∷ blocks depth, named_run depth)
 
 after_ok : (step : m.UnitStep) (more : List Token) (front : List Token) (s : m.Phase × ℕ) → m.after step (λ p d. m.run p d front) ≡ Ok s → ((p : m.Phase) (d : ℕ) → m.run p d front ≡ Ok s → m.run p d (front ++ more) ≡ m.run s.0 s.1 more)
@@ -259,9 +245,7 @@ after_ok (Ok state) more front s e later = later state.0 state.1 e
 after_ok (Err number) more front s e later = absurd cc
 
 pub run-append : (front more : List Token) (phase : m.Phase) (depth : ℕ) (s : m.Phase × ℕ) → m.run phase depth front ≡ Ok s → m.run phase depth (front ++ more) ≡ m.run s.0 s.1 more
-run-append [] more phase depth s e =
-    let same : m.phase_state phase depth ≡ s = cc in
-    ap (λ (s : m.Phase × ℕ). m.run s.0 s.1 more) same
+run-append [] more phase depth s e = let same : m.phase_state phase depth ≡ s = cc in ap (λ (s : m.Phase × ℕ). m.run s.0 s.1 more) same
 run-append (token ∷ front) more phase depth s e = after_ok (m.next phase depth token.kind (m.could_label token)) more front s e (λ p d h. run-append front more p d s h)
 
 after_err : (step : m.UnitStep) (more : List Token) (front : List Token) (number : TextNumber) → m.after step (λ p d. m.run p d front) ≡ Err number → ((p : m.Phase) (d : ℕ) → m.run p d front ≡ Err number → m.run p d (front ++ more) ≡ Err number)
@@ -274,9 +258,7 @@ run-append_err [] more phase depth number e = absurd cc
 run-append_err (token ∷ front) more phase depth number e = after_err (m.next phase depth token.kind (m.could_label token)) more front number e (λ p d h. run-append_err front more p d number h)
 
 pub run-IsViable : (tokens : List Token) (s : m.Phase × ℕ) → m.run m.Begin 0 tokens ≡ Ok s → IsViable tokens
-run-IsViable tokens s e =
-    let last = completed s.0 s.1 in
-    (last.0, run-IsWhole (tokens ++ last.0) (run-append tokens last.0 m.Begin 0 s e ∙ last.1))
+run-IsViable tokens s e = let last = completed s.0 s.1 in (last.0, run-IsWhole (tokens ++ last.0) (run-append tokens last.0 m.Begin 0 s e ∙ last.1))
 
 pub run-not_viable : (tokens : List Token) (number : TextNumber) → m.run m.Begin 0 tokens ≡ Err number → ¬ IsViable tokens
 run-not_viable tokens number e h =

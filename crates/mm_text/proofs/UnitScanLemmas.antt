@@ -1,8 +1,8 @@
 -- Every list of words is whole or has a fault, and what loops that look for the fault keep.
-use Rattle.std.proofs.Common.{◌≡◌, ◌≢◌, ◌⊎◌, ℕ, zero, suc, ◌+◌, ◌<◌, ◌≤◌, Bool, true, List, [], ◌∷◌, ◌++◌, append_assoc, length, take, drop, slice_get, drop_of_length-le, Some, Ok, Err, refl, sym, ap, ◌∙◌, subst, inl, inr, ⊎_elim, ◌-◌, arith}
+use Rattle.std.proofs.Common.{rules, ◌≡◌, ◌≢◌, ◌⊎◌, ℕ, zero, suc, ◌+◌, ◌<◌, ◌≤◌, Bool, true, List, [], ◌∷◌, ◌++◌, append_assoc, length, take, drop, slice_get, drop_of_length-le, Some, Ok, Err, refl, sym, ap, ◌∙◌, subst, inl, inr, ⊎_elim, ◌-◌, arith}
 use Rattle.std.proofs.lemmas.Bool.{cases_lt}
 use Rattle.std.proofs.lemmas.List.{take_all, take_at}
-use Rattle.mm_text.specs.declared.word.Keyword.TheVariants.{BlockStart, BlockEnd, Constants, Variables, Floating, Essential, Disjoint, Axiom, Theorem, StatementEnd, ProofStart, InclusionStart, InclusionEnd}
+use Rattle.mm_text.specs.declared.word.Keyword.TheVariants.{BlockStart, BlockEnd, Floating, InclusionStart, InclusionEnd}
 use Rattle.mm_text.specs.declared.word.WordKind.{WordKind}
 use Rattle.mm_text.specs.declared.word.WordKind.TheVariants as kinds
 use Rattle.mm_text.specs.declared.fault.TextNumber.{TextNumber}
@@ -24,27 +24,16 @@ pub step_counts : (phase : m.Phase) (depth : ℕ) (kind : WordKind) (b : Bool) �
 step_counts m.Begin depth kinds.Plain true = refl
 step_counts m.Begin depth (kinds.Keyword BlockStart) b = omega arith
 step_counts m.Begin (suc depth) (kinds.Keyword BlockEnd) b = omega arith
-step_counts m.Begin depth (kinds.Keyword Constants) b = refl
-step_counts m.Begin depth (kinds.Keyword Variables) b = refl
-step_counts m.Begin depth (kinds.Keyword Disjoint) b = refl
 step_counts m.Begin zero (kinds.Keyword InclusionStart) b = refl
 step_counts m.Labelled depth (kinds.Keyword Floating) b = refl
-step_counts m.Labelled depth (kinds.Keyword Essential) b = refl
-step_counts m.Labelled depth (kinds.Keyword Axiom) b = refl
-step_counts m.Labelled depth (kinds.Keyword Theorem) b = refl
 step_counts m.Symbols depth kinds.Plain b = refl
-step_counts m.Symbols depth (kinds.Keyword StatementEnd) b = refl
 step_counts m.Expression depth kinds.Plain b = refl
-step_counts m.Expression depth (kinds.Keyword ProofStart) b = refl
 step_counts m.Including depth kinds.Plain b = refl
 step_counts m.Named depth (kinds.Keyword InclusionEnd) b = refl
-step_counts _ _ _ _ = tt
+step_counts _ _ _ _ = search rules
 
 pub run_counts : (tokens : List Token) (phase : m.Phase) (depth : ℕ) (s : m.Phase × ℕ) → m.run phase depth tokens ≡ Ok s → depth + starts tokens ≡ s.1 + ends tokens
-run_counts [] phase depth s e =
-    let same : m.phase_state phase depth ≡ s = cc in
-    let last : depth ≡ s.1 = ap (λ (s : m.Phase × ℕ). s.1) same in
-    omega arith
+run_counts [] phase depth s e = let same : m.phase_state phase depth ≡ s = cc in let last : depth ≡ s.1 = ap (λ (s : m.Phase × ℕ). s.1) same in omega arith
 run_counts (token ∷ tokens) phase depth s e = by_step (λ p d h. run_counts tokens p d s h) (m.next phase depth token.kind (m.could_label token)) (step_counts phase depth token.kind (m.could_label token)) e where
   by_step : ((p : m.Phase) (d : ℕ) → m.run p d tokens ≡ Ok s → d + starts tokens ≡ s.1 + ends tokens) → (step : m.UnitStep) → Counts depth token.kind step
       → m.after step (λ p d. m.run p d tokens) ≡ Ok s → depth + starts (token ∷ tokens) ≡ s.1 + ends (token ∷ tokens)
@@ -101,14 +90,11 @@ scan_other tokens word level token there f g h = let counts : (is_start_word tok
 
 -- the scan stops at a `${` that nothing behind it closes
 pub scan_found : (tokens : List Token) (word d : ℕ) (token : Token) → m.run m.Begin 0 tokens ≡ Ok (m.phase_state m.Begin d) → slice_get tokens word ≡ Some token → IsKeyword BlockStart token → Scan tokens (word + 1) 0 → IsUnitFault tokens T08 word
-scan_found tokens word d token e there is h =
-    ends_in_block tokens word d token e there is (omega arith) (λ n l. h.fewer n (omega arith))
+scan_found tokens word d token e there is h = ends_in_block tokens word d token e there is (omega arith) (λ n l. h.fewer n (omega arith))
 
 -- the scan does not come to the first word where a block is open
 pub scan_all : (tokens : List Token) (level d : ℕ) → m.run m.Begin 0 tokens ≡ Ok (m.phase_state m.Begin (suc d)) → Scan tokens 0 level → ⊥
-scan_all tokens level d e h =
-    let count : 0 + starts tokens ≡ suc d + ends tokens = run_counts tokens m.Begin 0 (m.Begin, suc d) e in
-    omega arith
+scan_all tokens level d e h = let count : 0 + starts tokens ≡ suc d + ends tokens = run_counts tokens m.Begin 0 (m.Begin, suc d) e in omega arith
 
 place_here : (tokens : List Token) (word : ℕ) → word < length tokens → (token : Token) × (slice_get tokens word ≡ Some token)
 place_here [] word l = absurd (omega arith)
@@ -149,16 +135,11 @@ HasFault tokens number = (word : ℕ) × IsUnitFault tokens number word
 
 pub stop_from : (rest front : List Token) (phase : m.Phase) (depth : ℕ) (number : TextNumber) → m.run m.Begin 0 front ≡ Ok (m.phase_state phase depth) → m.run phase depth rest ≡ Err number → (word : ℕ) × IsUnitFault (front ++ rest) number word
 stop_from [] front phase depth number e f = absurd cc
-stop_from (token ∷ rest) front phase depth number e f =
-    by_step (λ s is h. stop_from rest (front ++ token ∷ []) s.0 s.1 number (run_push front token phase depth e ∙ is) h) (m.next phase depth token.kind (m.could_label token)) refl f where
-      by_step : ((s : m.Phase × ℕ) → m.next phase depth token.kind (m.could_label token) ≡ Ok s → m.run s.0 s.1 rest ≡ Err number → (word : ℕ) × IsUnitFault ((front ++ token ∷ []) ++ rest) number word)
-          → (step : m.UnitStep) → m.next phase depth token.kind (m.could_label token) ≡ step → m.after step (λ p d. m.run p d rest) ≡ Err number → (word : ℕ) × IsUnitFault (front ++ token ∷ rest) number word
-      by_step more (Ok s) is h = subst (λ (ts : List Token). HasFault ts number) (append_assoc front (token ∷ []) rest) (more s is h)
-      by_step more (Err other) is h = (
-        length front,
-        stops_at (front ++ token ∷ rest) (length front) token phase depth number (slice_get_at front rest token)
-            (ap (m.run m.Begin 0) (take_at front (token ∷ rest) (length front) refl) ∙ e) (is ∙ h),
-      )
+stop_from (token ∷ rest) front phase depth number e f = by_step (λ s is h. stop_from rest (front ++ token ∷ []) s.0 s.1 number (run_push front token phase depth e ∙ is) h) (m.next phase depth token.kind (m.could_label token)) refl f where
+  by_step : ((s : m.Phase × ℕ) → m.next phase depth token.kind (m.could_label token) ≡ Ok s → m.run s.0 s.1 rest ≡ Err number → (word : ℕ) × IsUnitFault ((front ++ token ∷ []) ++ rest) number word)
+      → (step : m.UnitStep) → m.next phase depth token.kind (m.could_label token) ≡ step → m.after step (λ p d. m.run p d rest) ≡ Err number → (word : ℕ) × IsUnitFault (front ++ token ∷ rest) number word
+  by_step more (Ok s) is h = subst (λ (ts : List Token). HasFault ts number) (append_assoc front (token ∷ []) rest) (more s is h)
+  by_step more (Err other) is h = (length front, stops_at (front ++ token ∷ rest) (length front) token phase depth number (slice_get_at front rest token) (ap (m.run m.Begin 0) (take_at front (token ∷ rest) (length front) refl) ∙ e) (is ∙ h))
 
 -- the last place where a unit may begin
 pub record LastBegin (tokens : List Token) (n : ℕ) : Type 0 where
@@ -203,14 +184,11 @@ below v w l other = omega arith
 pub last_fault : (tokens : List Token) (phase : m.Phase) (depth : ℕ) → m.run m.Begin 0 tokens ≡ Ok (m.phase_state phase depth) → phase ≢ m.Begin → (last : LastBegin tokens (length tokens)) → IsUnitFault tokens T07 last.word
 last_fault tokens phase depth e other last = ends_in_unit tokens last.word last.depth (below last.word (length tokens) last.within apart) last.begins last.later where
   apart : last.word ≢ length tokens
-  apart is =
-      let all : take last.word tokens ≡ tokens = ap (λ (n : ℕ). take n tokens) is ∙ take_all (length tokens) tokens (omega arith) in
-      other (may_begin_phase tokens phase depth e (may_begin_from tokens last.depth (ap (m.run m.Begin 0) (sym all) ∙ last.begins)))
+  apart is = other (may_begin_phase tokens phase depth e (may_begin_from tokens last.depth (ap (m.run m.Begin 0) (sym (ap (λ (n : ℕ). take n tokens) is ∙ take_all (length tokens) tokens (omega arith))) ∙ last.begins)))
 
 pub open_unit : (tokens : List Token) (phase : m.Phase) (depth : ℕ) → m.run m.Begin 0 tokens ≡ Ok (m.phase_state phase depth) → phase ≢ m.Begin → (word : ℕ) × IsUnitFault tokens T07 word
 open_unit tokens phase depth e other =
-    let last : LastBegin tokens (length tokens) = last_begin tokens (length tokens) (run-IsViable tokens (phase, depth) e) in
-    (last.word, last_fault tokens phase depth e other last)
+    let last : LastBegin tokens (length tokens) = last_begin tokens (length tokens) (run-IsViable tokens (phase, depth) e) in (last.word, last_fault tokens phase depth e other last)
 
 pub whole_or_fault : (tokens : List Token) → IsWhole tokens ⊎ ((number : TextNumber) × (word : ℕ) × IsUnitFault tokens number word)
 whole_or_fault tokens = by_run (m.run m.Begin 0 tokens) refl where

@@ -5,7 +5,7 @@ ghost use Rattle.std.specs.Prelude.{◌≤◌, length};
 use crate::fault::{TextFault, TextNumber};
 use crate::skipping::dollarless_len;
 use crate::spelling::{
-    first_run, has_mark, is_closing, is_opening, keyword_run, kind, plain_run_len, white_len,
+    has_mark, is_closing, is_opening, keyword_run, kind, plain_run_len, run_len, white_len,
 };
 use crate::word::{Word, WordKind};
 
@@ -14,8 +14,6 @@ use crate::word::{Word, WordKind};
 pub struct Span {
     pub start: usize,
     pub end: usize,
-    /// No `$` is among them.
-    pub plain: bool,
 }
 
 /// A text that was read up to the byte `from`.
@@ -56,15 +54,14 @@ impl<'a> Reader<'a> {
         ensures stays { IfNone result (self.new.from ≡ self.old.from) }
     {
         let start = self.from + white_len(&self.text[self.from..]);
-        let run = first_run(&self.text[start..]);
-        if run.len == 0 {
+        let len = run_len(&self.text[start..]);
+        if len == 0 {
             return None;
         }
-        self.from = start + run.len;
+        self.from = start + len;
         Some(Span {
             start,
-            end: start + run.len,
-            plain: run.plain,
+            end: start + len,
         })
     }
 
@@ -142,13 +139,6 @@ impl<'a> Reader<'a> {
         ensures end { IfOk result (λ word. IfNone word (runs_at self.new.text.now self.new.from ≡ [])) }
     {
         while let Some(span) = self.next_run() {
-            if span.plain {
-                return Ok(Some(Word {
-                    kind: WordKind::Plain,
-                    start: span.start,
-                    end: span.end,
-                }));
-            }
             let bytes = &self.text[span.start..span.end];
             if is_opening(bytes) {
                 self.skip_comment(span.start)?;

@@ -1,7 +1,7 @@
 //! How words are spelled.
 
 ghost use Rattle.std.specs.Prelude.{◌≡◌, ◌<◌, ◌≤◌, ◌↔◌, IfSome, IsTrue, Some, false, length, not, take};
-ghost use Rattle.std.specs.List.{list_all, prefix_len};
+ghost use Rattle.std.specs.List.{list_all, position, prefix_len};
 ghost use Rattle.mm_text.specs.declared.word.WordKind.TheVariants as kinds;
 ghost use Rattle.mm_text.specs.Language.Unit as labels;
 ghost use Rattle.mm_text.specs.Language.Run.{is_white, is_solid, ends_run};
@@ -39,7 +39,7 @@ pub fn white_len(bytes: &[u8]) -> usize
 }
 
 /// How many bytes stand before the first white space, or before the end.
-fn run_len(bytes: &[u8]) -> usize
+pub fn run_len(bytes: &[u8]) -> usize
     ensures within { result ≤ length bytes.now }
     ensures value { result ≡ prefix_len is_solid bytes.now }
 {
@@ -57,38 +57,11 @@ fn is_plain_byte(byte: u8) -> bool
     byte > b'$' || !(byte == b'$' || is_white_space(byte))
 }
 
-/// How many bytes stand before the first white space or `$`, or before the end.
-fn plain_len(bytes: &[u8]) -> usize
-    ensures within { result ≤ length bytes.now }
-    ensures value { result ≡ prefix_len is_dollarless bytes.now }
+/// Where the first white space or `$` stands.
+fn plain_end(bytes: &[u8]) -> Option<usize>
+    ensures { result ≡ position (λ b. not (is_dollarless b)) bytes.now }
 {
-    bytes
-        .iter()
-        .take_while(|byte| is_plain_byte(**byte))
-        .count()
-}
-
-/// The run that some bytes begin with.
-#[derive(Clone, Copy)]
-pub struct Front {
-    /// How many bytes it has: none where there is no run.
-    pub len: usize,
-    /// It has no `$`.
-    pub plain: bool,
-}
-
-/// The run that these bytes begin with. Each byte of a run without `$` is looked at once.
-pub fn first_run(bytes: &[u8]) -> Front
-    ensures within { result.len ≤ length bytes.now }
-    ensures len { result.len ≡ prefix_len is_solid bytes.now }
-    ensures plain { result.plain ≡ not (has_dollar (take result.len bytes.now)) }
-{
-    let plain = plain_len(bytes);
-    let more = run_len(&bytes[plain..]);
-    Front {
-        len: plain + more,
-        plain: more == 0,
-    }
+    bytes.iter().position(|byte| !is_plain_byte(*byte))
 }
 
 /// How many bytes the run has that these bytes begin with, where it has no `$`; none where it has one, or where there is no run.
@@ -97,11 +70,11 @@ pub fn plain_run_len(bytes: &[u8]) -> usize
     ensures len { 0 < result → result ≡ prefix_len is_solid bytes.now }
     ensures plain { 0 < result → has_dollar (take result bytes.now) ≡ false }
 {
-    let plain = plain_len(bytes);
-    if plain < bytes.len() && !is_white_space(bytes[plain]) {
-        return 0;
+    match plain_end(bytes) {
+        Some(at) if bytes[at] == b'$' => 0,
+        Some(at) => at,
+        None => bytes.len(),
     }
-    plain
 }
 
 /// The keyword that has this byte behind its `$`, if there is one.

@@ -1,5 +1,5 @@
 -- A reader, and what its steps do.
-use Rattle.std.specs.Prelude.{◌≡◌, ◌≢◌, ℕ, ◌<◌, ◌≤◌, true, false, not, List, [], ◌∷◌, ◌++◌, drop, slice_range, Option, None, Result, MatchOption, MatchResult}
+use Rattle.std.specs.Prelude.{◌≡◌, ◌≢◌, ℕ, ◌<◌, ◌≤◌, true, false, List, [], ◌∷◌, ◌++◌, drop, slice_range, Option, None, Result, MatchOption, MatchResult}
 use Rattle.std.specs.List.{AllByRecursion}
 use Rattle.mm_text.specs.declared.reader.Span.{Span}
 use Rattle.mm_text.specs.declared.word.Word.{Word}
@@ -28,7 +28,6 @@ pub record TakesSpan (text : List ℕ) (from : ℕ) (span : Span) (to : ℕ) : T
   pub run : runs_at text from ≡ run_of text span ∷ runs_at text to
   pub here : runs_at text span.start ≡ run_of text span ∷ runs_at text to
   pub ends : ends_run (drop to text) ≡ true
-  pub plain : span.plain ≡ not (has_dollar (run_of text span).bytes)
 
 abbrev pub TakesRun : List ℕ → ℕ → Option Span → ℕ → Type 0
 TakesRun text from result to = MatchOption result (runs_at text from ≡ []) (λ span. TakesSpan text from span to)

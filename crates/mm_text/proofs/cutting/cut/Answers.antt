@@ -15,9 +15,7 @@ pub cut_units-requires-clause-allowed : goal.cut_units-requires-clause-allowed
 cut_units-requires-clause-allowed c = sym c.first_bad_byte.ensures ∙ c.in_default.is
 
 pub returns-in_err-from-clause-fault : goal.returns-in_err-from-clause-fault
-returns-in_err-from-clause-fault c =
-    let p = err_from_is_err_and c.from_residual.result c.from_residual.ensures.1 in
-    rw (p.1, p.2) c.in_err-from.ensures.fault
+returns-in_err-from-clause-fault c = let p = err_from_is_err_and c.from_residual.result c.from_residual.ensures.1 in rw (p.1, p.2) c.in_err-from.ensures.fault
 
 pub returns-in_err-from-clause-fault_within : goal.returns-in_err-from-clause-fault_within
 returns-in_err-from-clause-fault_within c = cut_error_lies c.args.text.now c.from_residual.result (returns-in_err-from-clause-fault c)

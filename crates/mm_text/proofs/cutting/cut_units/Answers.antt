@@ -12,32 +12,23 @@ abbrev bytes_of : Vec ℕ Global → List ℕ
 bytes_of piece = piece.items
 
 pub loop-grammar-init : goal.loop-grammar-init
-loop-grammar-init c = record {
-  text = c.new-reader.ensures.text;
-  progress = rw (c.requires.empty, c.new-reader.ensures.from, c.new-grammar.ensures.phase, c.new-grammar.ensures.closed) (progress_start c.args.text.now _);
-}
+loop-grammar-init c = record { text = c.new-reader.ensures.text; progress = rw (c.requires.empty, c.new-reader.ensures.from, c.new-grammar.ensures.phase, c.new-grammar.ensures.closed) (progress_start c.args.text.now _) }
 
 pub returns-in_err-word-clause-fault : goal.returns-in_err-word-clause-fault
 returns-in_err-word-clause-fault c =
     let p = err_from_is_err_and c.from_residual.result c.from_residual.ensures.1 in
-    let fails = rw c.loop-grammar.invariant.text at c.in_err-word.ensures.word in
-    rw (p.1, p.2) (words_fault _ _ _ _ _ _ _ c.loop-grammar.invariant.progress _ _ c.requires.allowed fails)
+    rw (p.1, p.2) (words_fault _ _ _ _ _ _ _ c.loop-grammar.invariant.progress _ _ c.requires.allowed (rw c.loop-grammar.invariant.text at c.in_err-word.ensures.word))
 
 pub returns-in_err-take-clause-fault : goal.returns-in_err-take-clause-fault
 returns-in_err-take-clause-fault c =
     let p = err_from_is_err_and c.from_residual-in_err-take.result c.from_residual-in_err-take.ensures.1 in
-    let taken = rw (c.in-Some.is, c.loop-grammar.invariant.text) at c.in_ok-word.ensures.word in
-    rw (p.1, p.2) (refused _ _ _ _ c.loop-grammar.grammar c.loop-grammar.invariant.progress _ _ taken _ c.take.new.self refl _ c.requires.allowed c.in_err-take.ensures)
+    rw (p.1, p.2) (refused _ _ _ _ c.loop-grammar.grammar c.loop-grammar.invariant.progress _ _ (rw (c.in-Some.is, c.loop-grammar.invariant.text) at c.in_ok-word.ensures.word) _ c.take.new.self refl _ c.requires.allowed c.in_err-take.ensures)
 
 pub slice_bounds-push_copy-count : goal.slice_bounds-push_copy-count
-slice_bounds-push_copy-count c =
-    let taken = rw (c.in-Some.is, c.loop-grammar.invariant.text) at c.in_ok-word.ensures.word in
-    from_before _ _ _ _ c.loop-grammar.grammar c.loop-grammar.invariant.progress _ _ taken c.white_len.result
+slice_bounds-push_copy-count c = from_before _ _ _ _ c.loop-grammar.grammar c.loop-grammar.invariant.progress _ _ (rw (c.in-Some.is, c.loop-grammar.invariant.text) at c.in_ok-word.ensures.word) c.white_len.result
 
 pub slice_bounds-push_copy-start : goal.slice_bounds-push_copy-start
-slice_bounds-push_copy-start c =
-    let le : c.loop-grammar.from ≤ c.in-Some.word.end + c.white_len.result = slice_bounds-push_copy-count c in
-    search rules
+slice_bounds-push_copy-start c = let le : c.loop-grammar.from ≤ c.in-Some.word.end + c.white_len.result = slice_bounds-push_copy-count c in search rules
 
 pub loop-grammar-preserved-then-is_whole : goal.loop-grammar-preserved-then-is_whole
 loop-grammar-preserved-then-is_whole c =
@@ -64,39 +55,28 @@ loop-grammar-preserved-then-is_within c =
     let same = c.in_ok-word.ensures.text ∙ c.loop-grammar.invariant.text in
     let more = keeps_more _ _ _ _ c.loop-grammar.grammar c.loop-grammar.invariant.progress _ _ taken _ c.take.new.self refl c.in_ok-take.ensures (λ whole. false≢true (sym c.if-is_whole.false ∙ c.is_whole.ensures.1 whole)) in
     let skips : SkipsPlain c.next_word.new.self.text.now c.next_word.new.self.from c.skip_plain.new.self.from = c.skip_plain.ensures.skips in
-    record {
-      text = c.skip_plain.ensures.text ∙ same;
-      progress = progress_skip _ _ _ _ _ _ _ more _ (rw same at skips) (sym c.is_within.ensures ∙ c.if-is_within.true);
-    }
+    record { text = c.skip_plain.ensures.text ∙ same; progress = progress_skip _ _ _ _ _ _ _ more _ (rw same at skips) (sym c.is_within.ensures ∙ c.if-is_within.true) }
 
 pub returns-in_err-push_copy-clause-fault : goal.returns-in_err-push_copy-clause-fault
-returns-in_err-push_copy-clause-fault c =
-    let p = err_from_is_err_and c.from_residual-in_err-push_copy.result c.from_residual-in_err-push_copy.ensures.1 in
-    rw (p.1, p.2) tt
+returns-in_err-push_copy-clause-fault c = let p = err_from_is_err_and c.from_residual-in_err-push_copy.result c.from_residual-in_err-push_copy.ensures.1 in rw (p.1, p.2) tt
 
 pub returns-in-Some-end-clause-fault : goal.returns-in-Some-end-clause-fault
-returns-in-Some-end-clause-fault c =
-    let none = rw (c.in_default.is, c.loop-grammar.invariant.text) at c.in_ok-word.ensures.word in
-    ends_fault _ _ _ _ c.loop-grammar.grammar c.loop-grammar.invariant.progress _ _ c.requires.allowed none c.in-Some-end.ensures
+returns-in-Some-end-clause-fault c = ends_fault _ _ _ _ c.loop-grammar.grammar c.loop-grammar.invariant.progress _ _ c.requires.allowed (rw (c.in_default.is, c.loop-grammar.invariant.text) at c.in_ok-word.ensures.word) c.in-Some-end.ensures
 
 pub returns-clause-within : goal.returns-clause-within
 returns-clause-within c = c.loop-grammar.invariant.progress.within
 
 pub returns-clause-cut : goal.returns-clause-cut
-returns-clause-cut c =
-    let none = rw (c.in_default.is, c.loop-grammar.invariant.text) at c.in_ok-word.ensures.word in
-    ends_cut _ _ _ _ c.loop-grammar.grammar c.loop-grammar.invariant.progress c.requires.allowed none c.in-None.ensures
+returns-clause-cut c = ends_cut _ _ _ _ c.loop-grammar.grammar c.loop-grammar.invariant.progress c.requires.allowed (rw (c.in_default.is, c.loop-grammar.invariant.text) at c.in_ok-word.ensures.word) c.in-None.ensures
 
 -- the reader goes on with each word, and further where it skips plain words
 pub loop-grammar-smaller-then-is_whole : goal.loop-grammar-smaller-then-is_whole
 loop-grammar-smaller-then-is_whole c =
-    let taken = rw c.in-Some.is at c.in_ok-word.ensures.word in
-    omega (arith, ap length c.in_ok-word.ensures.text, taken.begins, taken.some, taken.next, c.next_word.new.self.in_text)
+    let taken = rw c.in-Some.is at c.in_ok-word.ensures.word in omega (arith, ap length c.in_ok-word.ensures.text, taken.begins, taken.some, taken.next, c.next_word.new.self.in_text)
 
 pub loop-grammar-smaller : goal.loop-grammar-smaller
 loop-grammar-smaller c =
-    let taken = rw c.in-Some.is at c.in_ok-word.ensures.word in
-    omega (arith, ap length c.in_ok-word.ensures.text, taken.begins, taken.some, taken.next, c.next_word.new.self.in_text)
+    let taken = rw c.in-Some.is at c.in_ok-word.ensures.word in omega (arith, ap length c.in_ok-word.ensures.text, taken.begins, taken.some, taken.next, c.next_word.new.self.in_text)
 
 pub loop-grammar-smaller-then-is_within : goal.loop-grammar-smaller-then-is_within
 loop-grammar-smaller-then-is_within c =

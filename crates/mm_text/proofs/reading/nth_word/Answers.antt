@@ -20,5 +20,4 @@ returns-in_err-next_word-clause-nth c words has =
 pub returns-clause-nth : goal.returns-clause-nth
 returns-clause-nth c words has =
     let all : c.loop-number._number ≡ c.args.n = omega arith in
-    let left = c.loop-number.invariant.left words has ∙ ap (λ k. drop k words) all in
-    nth_of words c.loop-number.cursor.words c.next_word-2.new.self.words c.args.n c.next_word-2.result left c.next_word-2.ensures.word
+    nth_of words c.loop-number.cursor.words c.next_word-2.new.self.words c.args.n c.next_word-2.result (c.loop-number.invariant.left words has ∙ ap (λ k. drop k words) all) c.next_word-2.ensures.word

@@ -1,18 +1,15 @@
-use Rattle.std.proofs.Common.{◌≡◌, drop, sym, ◌∙◌, arith}
-use Rattle.std.specs.List.{prefix_len}
-use Rattle.mm_text.specs.Language.Run.{is_solid}
-use Rattle.mm_text.proofs.PlainLemmas.{whole_plain, no_dollars, ends_white, ends_text}
+use Rattle.std.proofs.Common.{sym, ◌∙◌}
+use Rattle.mm_text.proofs.PlainLemmas.{plain_stop, plain_all}
 use Rattle.mm_text.proofs.spelling.plain_run_len.Goals as goal
-use Rattle.mm_text.proofs.spelling.plain_run_len.Goals.{else-plain-bytes-via-then-plain-bytes+else-not-is_white_space, else-plain-bytes-via-else-plain-bytes}
 
-ends : (c : goal.Joined-else-plain-bytes) → prefix_len is_solid (drop c.plain_len-plain.result c.args.bytes.now) ≡ 0
-ends c = elim c.else-plain-bytes.branch [
-  | else-plain-bytes-via-then-plain-bytes+else-not-is_white_space w ↦ ends_white c.args.bytes.now c.plain_len-plain.result 0 w.if-plain-bytes.true (sym w.is_white_space.ensures ∙ w.if-not-is_white_space.false)
-  | else-plain-bytes-via-else-plain-bytes w ↦ ends_text c.args.bytes.now c.plain_len-plain.result (omega arith)
-]
+pub returns-in-Some-2-clause-len : goal.returns-in-Some-2-clause-len
+returns-in-Some-2-clause-len c = λ some. (plain_stop c.args.bytes.now c.in-Some.at (sym c.plain_end.ensures ∙ c.in-Some.is) c.if-bytes-at-eq36.false).0
 
-pub returns-clause-len : goal.returns-clause-len
-returns-clause-len c = λ some. whole_plain c.args.bytes.now c.plain_len-plain.result c.plain_len-plain.ensures.value (ends c)
+pub returns-in-Some-2-clause-plain : goal.returns-in-Some-2-clause-plain
+returns-in-Some-2-clause-plain c = λ some. (plain_stop c.args.bytes.now c.in-Some.at (sym c.plain_end.ensures ∙ c.in-Some.is) c.if-bytes-at-eq36.false).1
 
-pub returns-clause-plain : goal.returns-clause-plain
-returns-clause-plain c = λ some. no_dollars c.args.bytes.now c.plain_len-plain.result c.plain_len-plain.ensures.value (ends c)
+pub returns-in-None-clause-len : goal.returns-in-None-clause-len
+returns-in-None-clause-len c = λ some. (plain_all c.args.bytes.now (sym c.plain_end.ensures ∙ c.in-None.is)).0
+
+pub returns-in-None-clause-plain : goal.returns-in-None-clause-plain
+returns-in-None-clause-plain c = λ some. (plain_all c.args.bytes.now (sym c.plain_end.ensures ∙ c.in-None.is)).1

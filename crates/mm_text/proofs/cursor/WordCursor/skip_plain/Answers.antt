@@ -6,8 +6,7 @@ use Rattle.mm_text.proofs.cursor.WordCursor.skip_plain.Goals as goal
 
 pub invariant_of-self : goal.invariant_of-self
 invariant_of-self c =
-    let passed = plain_passed c.self.inside.reader.text.now c.self.inside.reader.from c.skip_plain.new.self.from c.self.invariant c.skip_plain.ensures.skips in
-    subst (λ text. AreLast text c.skip_plain.new.self.from) (sym c.skip_plain.ensures.text) passed.last
+    subst (λ text. AreLast text c.skip_plain.new.self.from) (sym c.skip_plain.ensures.text) (plain_passed c.self.inside.reader.text.now c.self.inside.reader.from c.skip_plain.new.self.from c.self.invariant c.skip_plain.ensures.skips).last
 
 pub returns-clause-skips : goal.returns-clause-skips
 returns-clause-skips c =

@@ -1,10 +1,8 @@
 use Rattle.std.proofs.Common.{◌≡◌, ◌≤◌, length, slice_range, sym, ◌∙◌, Some, arith}
 use Rattle.std.proofs.lemmas.Result.{err_from_is_err_and}
 use Rattle.mm_text.specs.Language.Spelling.{opening}
-use Rattle.mm_text.specs.declared.word.WordKind.TheVariants.{Plain}
 use Rattle.mm_text.specs.Code.LeftToRight.{word_kind}
 use Rattle.mm_text.specs.Code.Reader.{runs_at, TakesSpan, SkipsComment, FailsInside}
-use Rattle.mm_text.proofs.KindLemmas.{plain_word}
 use Rattle.mm_text.proofs.ReaderLemmas.{pass_word, pass_comment, pass_fails}
 use Rattle.mm_text.proofs.reader.Reader.any_word.Goals as goal
 
@@ -41,12 +39,3 @@ returns-in-Some-kind-clause-word c =
     let within : c.next_run.new.self.from ≤ length c.next_run.new.self.text.now = c.next_run.new.self.in_text in
     pass_word c.args.self.now.text.now c.args.self.now.from c.loop-span.self.from c.in-Some.span c.next_run.new.self.from c.loop-span.invariant.passes
     (rw c.loop-span.invariant.text at run) c.in-Some-kind.kind (rw same at is) (rw same at within) c.loop-span.invariant.forward
-
-pub returns-then-span-clause-word : goal.returns-then-span-clause-word
-returns-then-span-clause-word c =
-    let same = c.next_run.ensures.text ∙ c.loop-span.invariant.text in
-    let run : TakesSpan c.loop-span.self.text.now c.loop-span.self.from c.in-Some.span c.next_run.new.self.from = c.in-Some.ensures.run in
-    let here = rw c.loop-span.invariant.text at run in
-    let within : c.next_run.new.self.from ≤ length c.next_run.new.self.text.now = c.next_run.new.self.in_text in
-    pass_word c.args.self.now.text.now c.args.self.now.from c.loop-span.self.from c.in-Some.span c.next_run.new.self.from c.loop-span.invariant.passes here Plain
-    (plain_word (slice_range c.args.self.now.text.now c.in-Some.span.start c.in-Some.span.end) (sym here.plain ∙ c.if-span.true)) (rw same at within) c.loop-span.invariant.forward
