@@ -175,16 +175,12 @@ no_runs text at = elim (cases_Bool (ends_white text)) [ inl white ↦ rw white r
 pub runs-ended : (at : ℕ) (text : List ℕ) → runs_from at (ended text) ≡ runs_from at text
 runs-ended at text = ap (runs_from at) (ended_is text) ∙ runs-append text (line_end text) at (seam_end text) ∙ ap (λ (rs : List Run). runs_from at text ++ rs) (no_runs text (at + length text)) ∙ append-nil (runs_from at text)
 
-ends_feed : (text : List ℕ) → ends_white (text ++ 10 ∷ []) ≡ true
-ends_feed (b ∷ c ∷ text) = ends_feed (c ∷ text)
-ends_feed _ = feed_white
-
-pub ended_white : (text : List ℕ) → ends_white (ended text) ≡ true
-ended_white text = elim (cases_Bool (ends_white text)) [ inl white ↦ rw (white, white) refl | inr open_end ↦ rw open_end (ends_feed text) ]
-
 pub ends_behind : (a b : List ℕ) (c : ℕ) → ends_white (a ++ c ∷ b) ≡ ends_white (c ∷ b)
 ends_behind (d ∷ e ∷ a) b c = ends_behind (e ∷ a) b c
 ends_behind _ b c = refl
+
+pub ended_white : (text : List ℕ) → ends_white (ended text) ≡ true
+ended_white text = elim (cases_Bool (ends_white text)) [ inl white ↦ rw (white, white) refl | inr open_end ↦ rw open_end (ends_behind text [] 10 ∙ feed_white) ]
 
 -- a part that ends in white space, or the last one
 pub ended-append : (a b : List ℕ) → Seam a b → (ends_run b ≡ true → b ≡ []) → ended (a ++ b) ≡ ended a ++ ended b

@@ -1,5 +1,5 @@
 -- A part of a text with one unit is a piece.
-use Rattle.std.proofs.Common.{◌≡◌, ◌⊎◌, ℕ, suc, ◌+◌, ◌-◌, ◌<◌, ◌≤◌, Bool, true, false, not, ◌||◌, List, [], ◌∷◌, ◌++◌, append_assoc, map, length, take, drop, get_or, Option, Some, None, Ok, Err, refl, sym, ap, ◌∙◌, subst, inl, inr, arith}
+use Rattle.std.proofs.Common.{◌≡◌, ◌⊎◌, ℕ, ◌+◌, ◌-◌, ◌<◌, ◌≤◌, Bool, true, false, not, ◌||◌, List, [], ◌∷◌, ◌++◌, append_assoc, map, length, take, drop, get_or, Option, Some, None, Ok, Err, refl, sym, ap, ◌∙◌, subst, inl, inr, arith}
 use Rattle.std.specs.Prelude.{slice_range}
 use Rattle.std.specs.List.{AllByRecursion, AllPass, prefix_len}
 use Rattle.std.proofs.Math.Seq.{take-add, take-append_seam, drop-append_seam}
@@ -16,7 +16,7 @@ use Rattle.mm_text.specs.Language.Unit.{Token, token_of, tokens_of, Shape, Decla
 use Rattle.mm_text.specs.Code.UnitReading as m
 use Rattle.mm_text.specs.Language.Cut.{ends_white, ended, IsOne, end_of_words, IsPiece, BeginsSolid}
 use Rattle.mm_text.specs.Code.Reader.{runs_at}
-use Rattle.mm_text.proofs.RunLemmas.{skip_white}
+use Rattle.mm_text.proofs.RunLemmas.{one_more, skip_white}
 use Rattle.mm_text.proofs.PositionLemmas.{Lying, words_lie, none_found, passes}
 use Rattle.mm_text.proofs.UnitReadingLemmas.{IsWhole-run, run-IsWhole}
 use Rattle.mm_text.proofs.PieceLemmas.{feed_white, Seam, runs-append, shift_word, runs-shift, words_unshift, line_end, ended_is, runs-ended, ended_white, ended-append, ends_behind}
@@ -37,12 +37,17 @@ feed_allowed : is_allowed 10 ≡ true
 unfolding is_allowed is_white
 feed_allowed = refl
 
+-- the line feed that is added, where one is
+feed_passes : (test : ℕ → Bool) (text : List ℕ) → test 10 ≡ true → AllPass test (line_end text)
+feed_passes test text feed =
+    elim (cases_Bool (ends_white text)) [
+      | inl white ↦ rw white (All-nil (λ b. test b ≡ true))
+      | inr no_white ↦ rw no_white (All-cons (λ b. test b ≡ true) 10 [] feed (All-nil (λ b. test b ≡ true)))
+    ]
+
 pub allowed-ended : (text : List ℕ) → first_bad text ≡ None → first_bad (ended text) ≡ None
 allowed-ended text e =
-    subst (λ (bs : List ℕ). first_bad bs ≡ None) (sym (ended_is text)) (all_allowed (text ++ line_end text) (All-append (λ b. is_allowed b ≡ true) text (line_end text) (allowed_all text e) (by_end (cases_Bool (ends_white text))))) where
-      by_end : (ends_white text ≡ true) ⊎ (ends_white text ≡ false) → AllPass is_allowed (line_end text)
-      by_end (inl white) = rw white (All-nil (λ b. is_allowed b ≡ true))
-      by_end (inr no_white) = rw no_white (All-cons (λ b. is_allowed b ≡ true) 10 [] feed_allowed (All-nil (λ b. is_allowed b ≡ true)))
+    subst (λ (bs : List ℕ). first_bad bs ≡ None) (sym (ended_is text)) (all_allowed (text ++ line_end text) (All-append (λ b. is_allowed b ≡ true) text (line_end text) (allowed_all text e) (feed_passes is_allowed text feed_allowed)))
 
 pub allowed_part : (text : List ℕ) (from to : ℕ) → first_bad text ≡ None → first_bad (slice_range text from to) ≡ None
 allowed_part text from to e = all_allowed (slice_range text from to) (All-take (λ b. is_allowed b ≡ true) (to - from) (drop from text) (All-drop (λ b. is_allowed b ≡ true) from text (allowed_all text e)))
@@ -57,11 +62,7 @@ AllWhite bytes = AllByRecursion (λ b. is_white b ≡ true) bytes
 
 prefix_white : (bytes : List ℕ) → AllWhite (take (prefix_len is_white bytes) bytes)
 prefix_white [] = tt
-prefix_white (b ∷ bytes) =
-    elim (cases_Bool (is_white b)) [
-      | inl white ↦ rw white (let one : 1 + prefix_len is_white bytes ≡ suc (prefix_len is_white bytes) = omega arith in rw one (white, prefix_white bytes))
-      | inr solid ↦ rw solid tt
-    ]
+prefix_white (b ∷ bytes) = elim (cases_Bool (is_white b)) [ inl white ↦ rw white (rw (one_more (prefix_len is_white bytes)) (white, prefix_white bytes)) | inr solid ↦ rw solid tt ]
 
 white_ends : (bytes : List ℕ) → AllWhite bytes → ends_white bytes ≡ true
 white_ends [] h = refl
@@ -72,20 +73,9 @@ white_pass : (bytes : List ℕ) → AllWhite bytes → AllPass is_white bytes
 white_pass [] h = All-nil (λ b. is_white b ≡ true)
 white_pass (b ∷ bytes) h = All-cons (λ b. is_white b ≡ true) b bytes h.0 (white_pass bytes h.1)
 
-end_passes : (text : List ℕ) → AllPass is_white (line_end text)
-end_passes text =
-    elim (cases_Bool (ends_white text)) [
-      | inl white ↦ rw white (All-nil (λ b. is_white b ≡ true))
-      | inr no_white ↦ rw no_white (All-cons (λ b. is_white b ≡ true) 10 [] feed_white (All-nil (λ b. is_white b ≡ true)))
-    ]
-
 pub solid_behind : (bytes : List ℕ) → BeginsSolid (drop (prefix_len is_white bytes) bytes)
 solid_behind [] = tt
-solid_behind (b ∷ bytes) =
-    elim (cases_Bool (is_white b)) [
-      | inl white ↦ rw white (let one : 1 + prefix_len is_white bytes ≡ suc (prefix_len is_white bytes) = omega arith in rw one (solid_behind bytes))
-      | inr solid ↦ rw solid solid
-    ]
+solid_behind (b ∷ bytes) = elim (cases_Bool (is_white b)) [ inl white ↦ rw white (rw (one_more (prefix_len is_white bytes)) (solid_behind bytes)) | inr solid ↦ rw solid solid ]
 
 pub solid_ended : (bytes : List ℕ) → BeginsSolid bytes → BeginsSolid (ended bytes)
 solid_ended [] h = tt
@@ -106,10 +96,7 @@ seam_at before (w ∷ white) rest h ends = ap (λ (b : Bool). b || ends_run rest
 -- behind the white space is the end, if there is none
 no_white_end : (bytes : List ℕ) → ends_run bytes ≡ true → take (prefix_len is_white bytes) bytes ≡ [] → ends_run (drop (prefix_len is_white bytes) bytes) ≡ true
 no_white_end [] ends none = refl
-no_white_end (b ∷ bytes) ends none =
-    let one : 1 + prefix_len is_white bytes ≡ suc (prefix_len is_white bytes) = omega arith in
-    let first : b ∷ take (prefix_len is_white bytes) bytes ≡ [] = rw one at (rw ends at none) in
-    absurd cc
+no_white_end (b ∷ bytes) ends none = let first : b ∷ take (prefix_len is_white bytes) bytes ≡ [] = rw (one_more (prefix_len is_white bytes)) at (rw ends at none) in absurd cc
 
 -- ---- words of a part
 
@@ -287,7 +274,8 @@ module _ (text : List ℕ) (from to : ℕ) (since : List Run) (part : List Word)
       ∙ append_assoc (slice_range text from to) (take white (drop to text)) (line_end piece_bytes) in
       let behind : drop (end_of_words piece_words.0) (ended piece_bytes) ≡ take white (drop to text) ++ line_end piece_bytes = ap (λ (n : ℕ). drop n (ended piece_bytes)) end
       ∙ ap (drop (length (slice_range text from to))) bytes ∙ drop-append_seam (slice_range text from to) (take white (drop to text) ++ line_end piece_bytes) in
-      subst (λ (bs : List ℕ). AllPass is_white bs) (sym behind) (All-append (λ b. is_white b ≡ true) (take white (drop to text)) (line_end piece_bytes) (white_pass (take white (drop to text)) (prefix_white (drop to text))) (end_passes piece_bytes))
+      subst (λ (bs : List ℕ). AllPass is_white bs) (sym behind)
+      (All-append (λ b. is_white b ≡ true) (take white (drop to text)) (line_end piece_bytes) (white_pass (take white (drop to text)) (prefix_white (drop to text))) (feed_passes is_white piece_bytes feed_white))
 
   pub piece_is : WholeRun (tokens_of text (part ++ word ∷ [])) → HasOne (tokens_of text (part ++ word ∷ [])) → IsPiece (ended piece_bytes)
   piece_is whole one = record {
