@@ -1,7 +1,8 @@
 //! Edits, and why they are refused.
 
-ghost use Rattle.std.specs.Prelude.{◌≡◌};
+ghost use Rattle.std.specs.Prelude.{◌≡◌, ◌↔◌, IsTrue};
 ghost use Rattle.mm_store.specs.declared.edit.EditError.TheVariants.{Memory};
+ghost use Rattle.mm_store.specs.Language.Edits.{asked, edited_name, IsAmong};
 
 use mm_text::{TextError, TextFault};
 use std::alloc::{AllocError, Global};
@@ -44,6 +45,31 @@ pub enum Edit<'a> {
         /// Less than the count of the pieces.
         to: usize,
     },
+}
+
+impl Edit<'_> {
+    /// The name of its file.
+    pub(crate) fn name(&self) -> &[u8]
+        ensures { result.now ≡ edited_name (asked self.now) }
+    {
+        match *self {
+            Edit::Insert { file, .. }
+            | Edit::Replace { file, .. }
+            | Edit::Delete { file, .. }
+            | Edit::Move { file, .. } => file,
+        }
+    }
+
+    /// Whether its places are there in a file of so many pieces.
+    pub(crate) fn is_among(&self, count: usize) -> bool
+        ensures { IsTrue result ↔ IsAmong (asked self.now) count }
+    {
+        match *self {
+            Edit::Insert { at, .. } => at <= count,
+            Edit::Replace { at, .. } | Edit::Delete { at, .. } => at < count,
+            Edit::Move { at, to, .. } => at < count && to < count,
+        }
+    }
 }
 
 /// Why an edit is refused.

@@ -8,13 +8,13 @@ ghost use Rattle.mm_store.specs.declared.edit.EditError.TheVariants.{NoFile, NoP
 ghost use Rattle.mm_store.specs.Language.Pieces.{Replaced, Deleted};
 ghost use Rattle.mm_store.specs.Language.FilesView.{bytes_of, file_number, number_of, plain};
 ghost use Rattle.mm_store.specs.Language.FileFacts.{parked_in};
-ghost use Rattle.mm_store.specs.Language.Edits.{asked, edited_name, Insert, Replace, Delete, Move, IsEditOf, NamesNoMember};
+ghost use Rattle.mm_store.specs.Language.Edits.{asked, edited_name, IsEditOf, NamesNoMember};
 ghost use Rattle.mm_store.specs.Language.EditedKeys.{IsEditByKeys, parks};
 ghost use Rattle.mm_store.specs.Language.Undoing as action;
 ghost use Rattle.mm_store.specs.Language.Undoing.{keys_in, spent};
 ghost use Rattle.mm_store.specs.Language.Undoing.{IsUndoable, KeepsKeys};
 ghost use Rattle.mm_store.specs.Language.Answers.{IsEditError};
-ghost use Rattle.mm_store.specs.Code.Edited.{pieces_in, with_pieces, IsReplaced, IsInserted, IsDeleted, IsMoved};
+ghost use Rattle.mm_store.specs.Code.Edited.{pieces_in, with_pieces, IsReplaced, IsInserted, IsDeleted, IsMoved, NamesPlace};
 ghost use Rattle.mm_store.specs.Code.Inside.{IsPieceKept};
 
 use crate::edit::{Edit, EditError};
@@ -127,82 +127,19 @@ impl Files {
         self.bytes - self.pieces.text(file.keys[at]).len() as u64
     }
 
-    /// Does an insertion.
-    fn insert_text(&mut self, name: &[u8], at: usize, text: &[u8]) -> Result<Undo, EditError>
-        ensures ok { OnOk result (IsEditOf (Insert name.now at text.now) (plain self.old) (plain self.new)) }
-        ensures by_keys { IfOk result (IsEditByKeys (Insert name.now at text.now) self.old self.new) }
-        ensures keys { OnOk result (KeepsKeys self.old self.new) }
-        ensures undoes { IfOk result (IsUndoable self.old self.new) }
-        ensures err { IfErr result (IsEditError (Insert name.now at text.now) (plain self.old)) }
-        ensures unchanged { OnErr result (self.new ≡ self.old) }
+    /// The number of the file of an edit, which has the edit's places.
+    fn placed(&self, edit: &Edit<'_>) -> Result<usize, EditError>
+        ensures ok { IfOk result (NamesPlace (asked edit.now) self.now) }
+        ensures err { IfErr result (IsEditError (asked edit.now) (plain self.now)) }
     {
-        let Some(number) = self.number_of(name) else {
+        let Some(number) = self.number_of(edit.name()) else {
             return Err(EditError::NoFile);
         };
         let count = self.count_in(number);
-        if at > count {
+        if !edit.is_among(count) {
             return Err(EditError::NoPiece(count));
         }
-        let kept = new_piece(self.allocator(), self.bytes_held(), text)?;
-        Ok(self.insert_piece(number, at, kept)?)
-    }
-
-    /// Does a replacement.
-    fn replace_text(&mut self, name: &[u8], at: usize, text: &[u8]) -> Result<Undo, EditError>
-        ensures ok { OnOk result (IsEditOf (Replace name.now at text.now) (plain self.old) (plain self.new)) }
-        ensures by_keys { IfOk result (IsEditByKeys (Replace name.now at text.now) self.old self.new) }
-        ensures keys { OnOk result (KeepsKeys self.old self.new) }
-        ensures undoes { IfOk result (IsUndoable self.old self.new) }
-        ensures err { IfErr result (IsEditError (Replace name.now at text.now) (plain self.old)) }
-        ensures unchanged { OnErr result (self.new ≡ self.old) }
-    {
-        let Some(number) = self.number_of(name) else {
-            return Err(EditError::NoFile);
-        };
-        let count = self.count_in(number);
-        if at >= count {
-            return Err(EditError::NoPiece(count));
-        }
-        let kept = new_piece(self.allocator(), self.bytes_without(number, at), text)?;
-        Ok(self.replace_piece(number, at, kept)?)
-    }
-
-    /// Does a deletion.
-    fn delete_at(&mut self, name: &[u8], at: usize) -> Result<Undo, EditError>
-        ensures ok { OnOk result (IsEditOf (Delete name.now at) (plain self.old) (plain self.new)) }
-        ensures by_keys { IfOk result (IsEditByKeys (Delete name.now at) self.old self.new) }
-        ensures keys { OnOk result (KeepsKeys self.old self.new) }
-        ensures undoes { IfOk result (IsUndoable self.old self.new) }
-        ensures err { IfErr result (IsEditError (Delete name.now at) (plain self.old)) }
-        ensures unchanged { OnErr result (self.new ≡ self.old) }
-    {
-        let Some(number) = self.number_of(name) else {
-            return Err(EditError::NoFile);
-        };
-        let count = self.count_in(number);
-        if at >= count {
-            return Err(EditError::NoPiece(count));
-        }
-        Ok(self.delete_piece(number, at))
-    }
-
-    /// Does a move.
-    fn move_from(&mut self, name: &[u8], at: usize, to: usize) -> Result<Undo, EditError>
-        ensures ok { OnOk result (IsEditOf (Move name.now at to) (plain self.old) (plain self.new)) }
-        ensures by_keys { IfOk result (IsEditByKeys (Move name.now at to) self.old self.new) }
-        ensures keys { OnOk result (KeepsKeys self.old self.new) }
-        ensures undoes { IfOk result (IsUndoable self.old self.new) }
-        ensures err { IfErr result (IsEditError (Move name.now at to) (plain self.old)) }
-        ensures unchanged { OnErr result (self.new ≡ self.old) }
-    {
-        let Some(number) = self.number_of(name) else {
-            return Err(EditError::NoFile);
-        };
-        let count = self.count_in(number);
-        if at >= count || to >= count {
-            return Err(EditError::NoPiece(count));
-        }
-        Ok(self.move_piece(number, at, to))
+        Ok(number)
     }
 
     /// Does an edit, and leaves open where the pieces behind its own begin.
@@ -214,11 +151,18 @@ impl Files {
         ensures err { IfErr result (IsEditError (asked edit.now) (plain self.old)) }
         ensures unchanged { OnErr result (self.new ≡ self.old) }
     {
+        let number = self.placed(edit)?;
         match *edit {
-            Edit::Insert { file, at, text } => self.insert_text(file, at, text),
-            Edit::Replace { file, at, text } => self.replace_text(file, at, text),
-            Edit::Delete { file, at } => self.delete_at(file, at),
-            Edit::Move { file, at, to } => self.move_from(file, at, to),
+            Edit::Insert { at, text, .. } => {
+                let kept = new_piece(self.allocator(), self.bytes_held(), text)?;
+                Ok(self.insert_piece(number, at, kept)?)
+            }
+            Edit::Replace { at, text, .. } => {
+                let kept = new_piece(self.allocator(), self.bytes_without(number, at), text)?;
+                Ok(self.replace_piece(number, at, kept)?)
+            }
+            Edit::Delete { at, .. } => Ok(self.delete_piece(number, at)),
+            Edit::Move { at, to, .. } => Ok(self.move_piece(number, at, to)),
         }
     }
 

@@ -1,10 +1,11 @@
 -- What each edit makes of the files, by keys.
-use Rattle.std.specs.Prelude.{◌≡◌, ℕ, ◌≤◌, zero, suc, List, [], ◌∷◌, ◌++◌, None, IsSome, slice_set, slice_index_or}
+use Rattle.std.specs.Prelude.{◌≡◌, ℕ, ◌<◌, ◌≤◌, length, Some, zero, suc, List, [], ◌∷◌, ◌++◌, None, IsSome, slice_set, slice_index_or}
 use Rattle.std.specs.List.{insert, remove}
 use Rattle.std.specs.FinMap as finite
 use Rattle.mm_store.specs.Language.Undoing as action
-use Rattle.mm_store.specs.Language.FilesView.{File, FilesView, plain, bytes_of}
-use Rattle.mm_store.specs.Language.Undoing.{UndoView, key_at, moved, undone, CanUndo, CanSettle, KeepsText}
+use Rattle.mm_store.specs.Language.FilesView.{File, FilesView, plain, bytes_of, file_number}
+use Rattle.mm_store.specs.Language.Edits.{Asked, edited_name, IsAmong}
+use Rattle.mm_store.specs.Language.Undoing.{UndoView, keys_in, key_at, moved, undone, CanUndo, CanSettle, KeepsText}
 use Rattle.mm_store.specs.Language.EditedKeys.{inserted, replaced, deleted}
 
 -- the members of the file of this number
@@ -63,3 +64,9 @@ pub record IsMoved (old new : FilesView) (number at to : ℕ) (undo : UndoView) 
 -- the files with one more, of this name, with these members and this tail
 abbrev pub with_file : List File → List ℕ → List (List ℕ) → List ℕ → List File
 with_file files name pieces tail = files ++ record { name = name; pieces = pieces; tail = tail } ∷ []
+
+-- an edit names this file, and places that it has
+pub record NamesPlace (edit : Asked) (view : FilesView) (number : ℕ) : Type 0 where
+  pub named : file_number (plain view) (edited_name edit) ≡ Some number
+  pub there : number < length view.keyed
+  pub among : IsAmong edit (length (keys_in view.keyed number))

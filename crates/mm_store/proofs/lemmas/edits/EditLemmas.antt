@@ -10,52 +10,49 @@ use Rattle.mm_store.specs.Language.FilesView.{File, FilesView, plain, file_numbe
 use Rattle.mm_store.specs.Language.Undoing.{keys_in}
 use Rattle.mm_store.specs.Language.Edits.{Asked, edited_name, edited_text, IsAmong, edited, after_edit, IsPlaced, NamesNoMember, BringsOneUnit, BringsFault, BringsNotOne, IsEditOf}
 use Rattle.mm_store.specs.Language.Answers.{IsEditError}
-use Rattle.mm_store.specs.Code.Edited.{pieces_in, with_pieces}
+use Rattle.mm_store.specs.Code.Edited.{pieces_in, with_pieces, NamesPlace}
 use Rattle.mm_store.specs.Code.Units.{IsNewError}
 use Rattle.mm_store.proofs.lemmas.files.NumberLemmas.{IsThere, file_there, with_pieces_is}
 
-module _ (view : FilesView) (edit : Asked) (number count : ℕ)
-    (named : Some number ≡ file_number (plain view) (edited_name edit)) (there : number < length view.keyed) (counted : count ≡ length (keys_in view.keyed number)) where
+-- the edit names a file, and a place that it does not have
+pub no_member : (view : FilesView) (edit : Asked) (number count : ℕ) → file_number (plain view) (edited_name edit) ≡ Some number → number < length view.keyed → count ≡ length (keys_in view.keyed number)
+    → ¬ IsAmong edit count → NamesNoMember edit (plain view) count
+no_member view edit number count named there counted beyond =
+    let found = file_there view.keyed view.pieces number there in
+    (number, found.file, record { named = named; there = found.there }, counted ∙ sym found.count, beyond)
+
+module _ {view : FilesView} {edit : Asked} {number : ℕ} (had : NamesPlace edit view number) where
   abbrev pub found : IsThere view number
-  found = file_there view.keyed view.pieces number there
+  found = file_there view.keyed view.pieces number had.there
 
-  same_count : length found.file.pieces ≡ count
-  same_count = found.count ∙ sym counted
-
-  pub placed : IsAmong edit count → IsPlaced (plain view) edit number found.file
-  placed among = record { file_there = record { named = sym named; there = found.there }; among = subst (IsAmong edit) (sym same_count) among }
-
-  pub no_member : ¬ IsAmong edit count → NamesNoMember edit (plain view) count
-  no_member beyond = (number, found.file, record { named = sym named; there = found.there }, sym same_count, beyond)
+  pub placed : IsPlaced (plain view) edit number found.file
+  placed = record { file_there = record { named = had.named; there = found.there }; among = subst (IsAmong edit) (sym found.count) had.among }
 
   pub after_is : with_pieces (plain view) number (edited edit (pieces_in (plain view) number)) ≡ after_edit (plain view) edit number found.file
   after_is = ap (λ ms. with_pieces (plain view) number (edited edit ms)) found.members ∙ with_pieces_is (plain view) number found.file (edited edit found.file.pieces) found.there
 
-  pub is_edit : (new : FilesView) → IsAmong edit count → BringsOneUnit (edited_text edit) → plain new ≡ with_pieces (plain view) number (edited edit (pieces_in (plain view) number)) → bytes_of (plain new) ≤ 4294967295
+  pub is_edit : (new : FilesView) → BringsOneUnit (edited_text edit) → plain new ≡ with_pieces (plain view) number (edited edit (pieces_in (plain view) number)) → bytes_of (plain new) ≤ 4294967295
       → IsEditOf edit (plain view) (plain new)
-  is_edit new among one means within = record {
+  is_edit new one means within = record {
     number = number;
     file = found.file;
-    placed = placed among;
+    placed = placed;
     one_unit = one;
     is_after = means ∙ after_is;
     within = within;
   }
 
-  pub too_many : IsAmong edit count → BringsOneUnit (edited_text edit) → 4294967295 < bytes_of (with_pieces (plain view) number (edited edit (pieces_in (plain view) number))) → IsEditError edit (plain view) TooMany
-  too_many among one more = (number, found.file, placed among, one, subst (λ files. 4294967295 < bytes_of files) after_is more)
-
-  module _ (text : List ℕ) (brings : edited_text edit ≡ Some text) (among : IsAmong edit count) where
+  module _ (text : List ℕ) (brings : edited_text edit ≡ Some text) where
     pub no_memory : IsEditError edit (plain view) Memory
-    no_memory = (number, found.file, placed among, λ none. none-some text (sym none ∙ brings))
+    no_memory = (number, found.file, placed, λ none. none-some text (sym none ∙ brings))
 
     -- what is told of a text is told of the edit that brings it
     pub not_new : (held : ℕ)
         → (4294967295 < held + length (ended text) → 4294967295 < bytes_of (with_pieces (plain view) number (edited edit (pieces_in (plain view) number))))
         → (error : EditError) → IsNewError held text error → IsEditError edit (plain view) error
-    not_new held more (Text fault) fails = (number, found.file, placed among, subst (λ o. BringsFault o fault) (sym brings) fails)
-    not_new held more (NotOne units) fails = (number, found.file, placed among, subst (λ o. BringsNotOne o units) (sym brings) fails)
-    not_new held more TooMany fails = too_many among (subst BringsOneUnit (sym brings) fails.0) (more fails.1)
+    not_new held more (Text fault) fails = (number, found.file, placed, subst (λ o. BringsFault o fault) (sym brings) fails)
+    not_new held more (NotOne units) fails = (number, found.file, placed, subst (λ o. BringsNotOne o units) (sym brings) fails)
+    not_new held more TooMany fails = (number, found.file, placed, subst BringsOneUnit (sym brings) fails.0, subst (λ files. 4294967295 < bytes_of files) after_is (more fails.1))
     not_new held more Memory fails = no_memory
     not_new held more _ fails = absurd fails
 
