@@ -25,6 +25,9 @@ use Rattle.mm_frame.specs.declared.FrameNumber.TheVariants.{F10, F11}
 use Rattle.mm_frame.specs.Code.FaultInOrder.{front_fault, end_fault, first_fault, symbol_fault_of, symbol_fault, symbols_fault, typecode_fault, expression_fault, later_fault}
 use Rattle.mm_frame.specs.Code.SeenNames.{HasSeen}
 use Rattle.mm_frame.proofs.lemmas.faults.FaultReading.{first_fault_at, fault_is}
+use Rattle.mm_frame.proofs.lemmas.frames.Frames.{from_typed, float_of}
+use Rattle.mm_frame.proofs.lemmas.lists.Members.{has_in}
+use Rattle.mm_frame.proofs.lemmas.scope.SoundItems.{sound_kept}
 use Rattle.mm_frame.proofs.lemmas.scope.KnownLemmas.{has_one, constant_no_variable}
 use Rattle.mm_frame.proofs.lemmas.scope.TableLemmas.{active_variable_last, typed_last}
 
@@ -32,7 +35,14 @@ use Rattle.mm_frame.proofs.lemmas.scope.TableLemmas.{active_variable_last, typed
 abbrev pub may_follow_as : List Item → Option Declared → Bool
 may_follow_as before None = false
 may_follow_as before (Some Constant) = true
-may_follow_as before (Some (Variable declared float)) = is_active_last before (Some declared) && is_active_last before float
+may_follow_as before (Some (Variable declared float)) = is_active_last before float
+
+-- a variable that is typed is active
+typed_active : (before : List Item) → AreSound before → (name : List ℕ) → has (typed before) name ≡ true → has (active_variables before) name ≡ true
+typed_active before h name t =
+    let f = from_typed before name (has_in (typed before) name t) in
+    let float = float_of before f.0 (sound_kept before h) f.1 f.2 in
+    subst (λ w. has (active_variables before) w ≡ true) (sym (ap (λ symbols. get_or symbols 1 []) float.both) ∙ f.3) float.variable
 
 -- what is wrong behind a typecode with a name that is a constant, an active variable, or typed
 abbrev later_as : Bool → Bool → Bool → Option FrameNumber
@@ -41,18 +51,19 @@ later_as constant active typed = cond (not (constant || active)) (Some F10) (con
 pub follows_later : (before : List Item) → AreSound before → (name : List ℕ) → may_follow_as before (declared_in before name) ≡ is_none (later_fault before name)
 follows_later before h name =
     by_test (has (constants before) name) (last_where (declares_variable name) before) (last_where (types name) before) (has (active_variables before) name) (has (typed before) name)
-    (active_variable_last before h name) (typed_last before h name) (constant_no_variable before h name)
+    (active_variable_last before h name) (typed_last before h name) (constant_no_variable before h name) (typed_active before h name)
   where
-    both : (active typed : Bool) → (active && typed) ≡ is_none (later_as false active typed)
-    both true true = refl
-    both true false = refl
-    both false typed = refl
+    both : (active typed : Bool) → (typed ≡ true → active ≡ true) → typed ≡ is_none (later_as false active typed)
+    both true true e = refl
+    both true false e = refl
+    both false false e = refl
+    both false true e = absurd (false≢true (e refl))
 
-    by_test : (c : Bool) (v t : Option ℕ) (active typed : Bool) → active ≡ is_active_last before v → typed ≡ is_active_last before t → (c ≡ true → v ≡ None)
+    by_test : (c : Bool) (v t : Option ℕ) (active typed : Bool) → active ≡ is_active_last before v → typed ≡ is_active_last before t → (c ≡ true → v ≡ None) → (typed ≡ true → active ≡ true)
         → may_follow_as before (cond c (Some Constant) (variable_at v t)) ≡ is_none (later_as c active typed)
-    by_test true v t active typed a b n = let inactive : active ≡ false = a ∙ ap (is_active_last before) (n refl) in rw inactive refl
-    by_test false None t active typed a b n = rw a refl
-    by_test false (Some d) t active typed a b n = rw (← a, ← b) (both active typed)
+    by_test true v t active typed a b n e = let inactive : active ≡ false = a ∙ ap (is_active_last before) (n refl) in rw inactive refl
+    by_test false None t active typed a b n e = rw a refl
+    by_test false (Some d) t active typed a b n e = rw (← b) (both active typed e)
 
 -- one more name is seen
 pub sees_more : {S : Type 0} (names : List (List ℕ)) (name : Bor (List ℕ)) (old new : HashSet (Bor (List ℕ)) S) → HasSeen names old → Updates (λ x y. bytes_eq x.now y.now) old new name true → HasSeen (names ++ name.now ∷ []) new
