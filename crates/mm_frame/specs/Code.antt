@@ -15,10 +15,13 @@ pub mod KeptScope
 pub mod SeenNames
 pub mod KeptSymbols
 pub mod KeptExpressions
+pub mod KeptSparse
 pub mod KeptRows
 pub mod KeptEarlier
 pub mod KeptActive
 pub mod KeptPairLists
+pub mod KeptActiveItems
+pub mod KeptAssertions
 pub mod KeptBase
 pub mod PairOrder
 pub mod KeptPairTable

@@ -15,7 +15,8 @@ ghost use Rattle.mm_frame.specs.Language.Names.{Begins};
 ghost use Rattle.mm_frame.specs.Language.NumberedSymbols.{symbols_of, kept_pairs, AreInOrder, IsNumbered, IsPairNumbered, ArePairsRead};
 ghost use Rattle.mm_frame.specs.Code.KeptSymbols.{expression_kept};
 ghost use Rattle.mm_frame.specs.Language.Answering.{IsBase, IsBaseBy, StandsLater, pairs_in_order};
-ghost use Rattle.mm_frame.specs.Code.KeptBase.{is_float_item, hypotheses_at, frame_told, number_kept};
+ghost use Rattle.mm_frame.specs.Code.KeptBase.{is_float_item, hypotheses_at};
+ghost use Rattle.mm_frame.specs.Code.KeptSparse.{value_kept};
 ghost use Rattle.mm_frame.specs.Language.Item as meant;
 ghost use Rattle.mm_frame.specs.Language.Statement.{kind_of};
 ghost use Rattle.mm_frame.specs.Language.Resolving.{IsCarrier, IsMeaning, IsUpTo, Resolves};
@@ -24,6 +25,7 @@ ghost use Rattle.mm_frame.specs.declared.base.Resolved.TheVariants as answers;
 use crate::draft::{Draft, Frame, Parts};
 use crate::judge::FrameFault;
 use crate::names::Names;
+use crate::sparse::{Sparse, element_at};
 use crate::symbol::NumberedSymbol;
 use mm_store::{Files, Item, ItemKind, StoreError};
 use std::alloc::{AllocError, Global};
@@ -66,31 +68,11 @@ pub enum Resolved {
     Unknown,
 }
 
-/// What is kept at a place of a list, if there is such a place.
-fn at<T>(list: &[T], i: usize) -> Option<&T>
-    ensures { option_map (λ kept. kept.now) result ≡ slice_get list.now i }
+/// The number that is kept of an item, if one is.
+fn number_at(numbers: &Sparse<usize>, i: usize) -> Option<usize>
+    ensures { result ≡ value_kept numbers.now i }
 {
-    list.get(i)
-}
-
-/// The number that is kept at a place, if there is such a place and a number there.
-fn number_at(numbers: &[Option<usize>], i: usize) -> Option<usize>
-    ensures { result ≡ number_kept (slice_get numbers.now i) }
-{
-    match at(numbers, i) {
-        Some(number) => *number,
-        None => None,
-    }
-}
-
-/// The frame, if one is kept.
-fn frame_in(frame: &Option<Frame>) -> Option<&Frame>
-    ensures { option_map (λ frame. frame.now) result ≡ frame.now }
-{
-    match frame {
-        Some(frame) => Some(frame),
-        None => None,
-    }
+    numbers.at(i).copied()
 }
 
 fn is_floating(kind: ItemKind) -> bool
@@ -140,13 +122,6 @@ impl Base {
         })
     }
 
-    /// What is kept of the frame of the item with this number.
-    fn frame_row(&self, i: usize) -> Option<&Option<Frame>>
-        ensures { option_map (λ frame. frame_told frame.now) result ≡ slice_get self.now.frames i }
-    {
-        at(&self.parts.frames, i)
-    }
-
     /// Whether the item with this number is a sound `$f`, `$e`, `$a` or `$p`.
     fn is_shown(&self, i: usize) -> bool
         ensures { (base : BaseView) → IsBase base self.now → result ≡ (is_sound_at base i && is_labelled (said_at base i).kind) }
@@ -165,7 +140,7 @@ impl Base {
     pub fn is_floating(&self, i: usize) -> bool
         ensures { (base : BaseView) → IsBase base self.now → result ≡ meant.is_floating (said_at base i).kind }
     {
-        match at(&self.floats, i) {
+        match element_at(&self.floats, i) {
             Some(floating) => *floating,
             None => false,
         }
@@ -232,10 +207,7 @@ impl Base {
         ensures order { (names : List (List ℕ)) (base : BaseView) → IsBaseBy names base self.now →
             IfSome result (λ frame. ArePairsRead names (pairs_in_order (frame_at base i)) frame.now.pairs.items) }
     {
-        match self.frame_row(i) {
-            Some(frame) => frame_in(frame),
-            None => None,
-        }
+        self.parts.frames.at(i)
     }
 
     /// The frame of the item with this number, where it is a sound `$a` or `$p`: its mandatory hypotheses and pairs.

@@ -160,6 +160,41 @@ fn expression_fault(scope: &Scope, n: usize, number: usize) -> Option<FrameNumbe
     }
 }
 
+/// Whether such a statement has an expression.
+fn has_expression(kind: ItemKind) -> bool
+    ensures { result ≡ meant.is_expression (kind_of kind) }
+{
+    matches!(
+        kind,
+        ItemKind::Essential | ItemKind::Axiom | ItemKind::Theorem
+    )
+}
+
+/// The first fault among the symbols of a `$e`, `$a` or `$p`, which have these numbers.
+fn expression_symbols_fault(
+    scope: &Scope,
+    statement: &Statement,
+    numbers: &[usize],
+) -> Option<FrameFault>
+    requires count { length numbers.now ≡ length statement.now.symbols }
+    requires expression { meant.is_expression statement.now.kind ≡ true }
+    ensures { (all : List (List ℕ)) (before : List Item) → AreSound before → ScopeHolds all before scope.now
+        → AreNameNumbers all numbers.now statement.now.symbols
+        → option_map (λ f. (f.word, f.number)) result ≡ judging.symbols_fault before statement.now }
+{
+    for n in 0..numbers.len() {
+        // Nearly all symbols are right.
+        if n > 0 && scope.may_follow(numbers[n]) {
+            continue;
+        }
+        if let Some(number) = expression_fault(scope, n, numbers[n]) {
+            let word = statement.symbol_place(n);
+            return Some(FrameFault { number, word });
+        }
+    }
+    None
+}
+
 /// Whether the symbols of such a statement have to differ.
 fn must_differ(kind: ItemKind) -> bool
     ensures { result ≡ judging.must_differ (kind_of kind) }
@@ -249,6 +284,9 @@ fn symbols_fault(
         → AreNameNumbers all numbers.now statement.now.symbols
         → IfOk result (λ found. option_map (λ f. (f.word, f.number)) found ≡ judging.symbols_fault before statement.now) }
 {
+    if has_expression(statement.kind()) {
+        return Ok(expression_symbols_fault(scope, statement, numbers));
+    }
     let differ = must_differ(statement.kind());
     let kept = differ && statement.symbol_count() > FEW_SYMBOLS;
     let mut seen = HashSet::new(alloc);

@@ -2,7 +2,9 @@
 #![tactic(auto)]
 
 mod active;
+mod active_items;
 mod asked;
+mod assertions;
 mod base;
 mod blocks;
 mod draft;
@@ -22,6 +24,7 @@ mod places;
 mod proof_words;
 mod same;
 mod scope;
+mod sparse;
 mod statement;
 mod symbol;
 mod tables;

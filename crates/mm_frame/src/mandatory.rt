@@ -22,8 +22,7 @@ use crate::blocks::Blocks;
 use crate::essential::EssentialVariable;
 use crate::expressions::Expressions;
 use crate::paired::PairTable;
-use crate::partners::{add_partners, are_short, places_if_many};
-use crate::places::Places;
+use crate::partners::{PlacedVariables, add_partners, are_short, places_if_many};
 use crate::symbol::NumberedSymbol;
 use crate::tables::Tables;
 use std::alloc::{AllocError, Global};
@@ -238,38 +237,28 @@ fn add_pairs_with_later(
     alloc: Global,
     earlier: &Earlier,
     asked: &mut AskedPairs,
-    places: &Option<Places>,
-    variables: &[NumberedSymbol],
+    placed: &PlacedVariables,
     n: usize,
     pairs: &mut Vec<(NumberedSymbol, NumberedSymbol)>,
 ) -> Result<(), AllocError>
-    requires { n < length variables.now }
+    requires { n < length placed.now.variables.now }
     ensures pairs { OnOk result ((all : List (List ℕ)) (before : List meant.Item) (said : List (Meaning × Meaning)) (first : NumberedSymbol)
-        → KnowsEarlier all before earlier.now → KnowsAsked all before asked.old → IfSome places.now (ArePlaces variables.now)
-        → All (IsNumbered all) variables.now → ArePairsRead all said pairs.old.items → slice_get variables.now n ≡ Some first
+        → KnowsEarlier all before earlier.now → KnowsAsked all before asked.old → IfSome placed.now.places (ArePlaces placed.now.variables.now)
+        → All (IsNumbered all) placed.now.variables.now → ArePairsRead all said pairs.old.items → slice_get placed.now.variables.now n ≡ Some first
         → ArePairsRead all (said ++ filter (are_paired (active_pairs before))
-        (map (λ y. (symbol_of all first, y)) (symbols_of all (drop (n + 1) variables.now)))) pairs.new.items) }
+        (map (λ y. (symbol_of all first, y)) (symbols_of all (drop (n + 1) placed.now.variables.now)))) pairs.new.items) }
     ensures asked { OnOk result ((all : List (List ℕ)) (before : List meant.Item) → KnowsEarlier all before earlier.now → KnowsAsked all before asked.old
         → KnowsAsked all before asked.new) }
 {
-    let (table, blocks, expressions) = (earlier.pairs, earlier.blocks, earlier.expressions);
+    let (table, variables) = (earlier.pairs, placed.variables);
     let first = variables[n];
     let later = &variables[n + 1..];
-    if let Some(places) = places {
-        if are_short(expressions, table.row(first.name), later.len()) {
-            return add_partners(
-                alloc,
-                table,
-                blocks,
-                expressions,
-                places,
-                variables,
-                n,
-                pairs,
-            );
+    if let Some(places) = &placed.places {
+        if are_short(earlier.expressions, table.row(first.name), later.len()) {
+            return add_partners(alloc, earlier, places, variables, n, pairs);
         }
     }
-    add_active_with(table, asked, blocks, first, later, pairs)
+    add_active_with(table, asked, earlier.blocks, first, later, pairs)
 }
 
 /// The pairs of each variable with each later one that an active `$d` has.
@@ -286,9 +275,10 @@ fn active_among(
         → KnowsAsked all before asked.new) }
 {
     let places = places_if_many(alloc, earlier.pairs, variables)?;
+    let placed = PlacedVariables { variables, places };
     let mut pairs = Vec::new(alloc);
     for n in 0..variables.len() {
-        add_pairs_with_later(alloc, earlier, asked, &places, variables, n, &mut pairs)?;
+        add_pairs_with_later(alloc, earlier, asked, &placed, n, &mut pairs)?;
     }
     pairs.shrink_to_fit();
     Ok(pairs)

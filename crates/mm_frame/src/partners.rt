@@ -6,13 +6,13 @@ ghost use Rattle.mm_frame.specs.Language.Item as meant;
 ghost use Rattle.mm_frame.specs.Language.Answering.{are_paired};
 ghost use Rattle.mm_frame.specs.Language.Framing.{active_pairs};
 ghost use Rattle.mm_frame.specs.Language.NumberedSymbols.{symbol_of, symbols_of, IsNumbered, ArePairsRead};
-ghost use Rattle.mm_frame.specs.Code.KeptPairTable.{ReadsPairs, row_at};
 ghost use Rattle.mm_frame.specs.Code.KeptPlaces.{ArePlaces, later_place, later_places_at, pair_at};
-ghost use Rattle.mm_frame.specs.Code.KeptSymbols.{AreSymbols};
+ghost use Rattle.mm_frame.specs.Code.KeptEarlier.{KnowsEarlier};
 ghost use Rattle.mm_frame.specs.Code.LastItems.{IsRising};
 
 use crate::blocks::Blocks;
 use crate::expressions::Expressions;
+use crate::mandatory::Earlier;
 use crate::paired::PairTable;
 use crate::places::Places;
 use crate::symbol::NumberedSymbol;
@@ -20,6 +20,15 @@ use std::alloc::{AllocError, Global};
 
 /// Each two of so many variables are asked at most.
 const FEW: usize = 16;
+
+/// The variables of a frame, and where each stands among them if that is kept.
+#[derive(Drop)]
+pub struct PlacedVariables<'a> {
+    /// The variables, in order.
+    pub variables: &'a [NumberedSymbol],
+    /// Where each stands.
+    pub places: Option<Places>,
+}
 
 /// The places of the variables of a frame, where they are worth it: more than a few of them stand in some `$d`.
 pub fn places_if_many(
@@ -159,9 +168,7 @@ fn add_partners_at(
 /// Adds the pairs of the variable at a place with the later ones that an active `$d` has, from its `$d`.
 pub fn add_partners(
     alloc: Global,
-    table: &PairTable,
-    blocks: &Blocks,
-    expressions: &Expressions,
+    earlier: &Earlier,
     places: &Places,
     variables: &[NumberedSymbol],
     n: usize,
@@ -169,12 +176,12 @@ pub fn add_partners(
 ) -> Result<(), AllocError>
     requires { n < length variables.now }
     ensures { OnOk result ((all : List (List ℕ)) (before : List meant.Item) (said : List (Meaning × Meaning)) (first : NumberedSymbol)
-        → ReadsPairs all before table.now blocks.now → AreSymbols all before expressions.now → ArePlaces variables.now places.now
-        → All (IsNumbered all) variables.now → ArePairsRead all said pairs.old.items → slice_get variables.now n ≡ Some first
+        → KnowsEarlier all before earlier.now → ArePlaces variables.now places.now → All (IsNumbered all) variables.now → ArePairsRead all said pairs.old.items → slice_get variables.now n ≡ Some first
         → ArePairsRead all (said ++ filter (are_paired (active_pairs before))
         (map (λ y. (symbol_of all first, y)) (symbols_of all (drop (n + 1) variables.now)))) pairs.new.items) }
 {
     let first = variables[n];
-    let found = later_places(alloc, places, blocks, expressions, n, table.row(first.name))?;
+    let row = earlier.pairs.row(first.name);
+    let found = later_places(alloc, places, earlier.blocks, earlier.expressions, n, row)?;
     add_partners_at(first, variables, &found, pairs)
 }

@@ -135,11 +135,10 @@ impl<'a> Scope<'a> {
         ensures { (all : List (List ℕ)) (before : List meant.Item) (name : List ℕ) → AreSound before → ScopeHolds all before self.now
             → IsNameNumber all number name → result ≡ is_none (judging.later_fault before name) }
     {
+        // A variable with an active `$f` is active, so its `$v` is not looked at.
         match self.tables.name(number) {
             Some(Declared::Constant) => true,
-            Some(Declared::Variable { declared, float }) => {
-                self.is_active_number(Some(declared)) && self.is_active_number(float)
-            }
+            Some(Declared::Variable { float, .. }) => self.is_active_number(float),
             None => false,
         }
     }

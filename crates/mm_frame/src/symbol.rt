@@ -1,6 +1,6 @@
 //! Symbols of expressions, as they are kept.
 
-ghost use Rattle.std.specs.Prelude.{◌≡◌, ◌↔◌, IsTrue, IfOk, map};
+ghost use Rattle.std.specs.Prelude.{◌≡◌, ◌↔◌, IsTrue, IfOk, OnOk, map};
 ghost use Rattle.mm_frame.specs.Language.NumberedSymbols.{by_number, named_symbol};
 ghost use Rattle.mm_frame.specs.Language.Frame.{Symbol as Meaning};
 ghost use Rattle.mm_frame.specs.Code.KeptSymbols.{symbol_by, variable_by};
@@ -115,34 +115,34 @@ fn symbol_numbered(tables: &Tables, number: usize) -> NumberedSymbol
     }
 }
 
-/// The symbols whose names have these numbers: what is no declared constant is a variable.
-pub fn symbols_numbered(
-    alloc: Global,
+/// Puts the symbols whose names have these numbers: what is no declared constant is a variable.
+pub fn put_symbols(
     tables: &Tables,
     numbers: &[usize],
-) -> Result<Vec<NumberedSymbol>, AllocError>
-    ensures { IfOk result (λ symbols. symbols.items ≡ map (symbol_by tables.now) numbers.now) }
+    symbols: &mut Vec<NumberedSymbol>,
+) -> Result<(), AllocError>
+    ensures { OnOk result (symbols.new.items ≡ map (symbol_by tables.now) numbers.now) }
 {
-    let mut symbols = Vec::with_capacity(alloc, numbers.len())?;
+    symbols.clear();
     for number in numbers {
         symbols.push(symbol_numbered(tables, *number))?;
     }
-    Ok(symbols)
+    Ok(())
 }
 
-/// The variables whose names have these numbers.
-pub fn variables_numbered(
-    alloc: Global,
+/// Puts the variables whose names have these numbers.
+pub fn put_variables(
     numbers: &[usize],
-) -> Result<Vec<NumberedSymbol>, AllocError>
-    ensures { IfOk result (λ symbols. symbols.items ≡ map variable_by numbers.now) }
+    variables: &mut Vec<NumberedSymbol>,
+) -> Result<(), AllocError>
+    ensures { OnOk result (variables.new.items ≡ map variable_by numbers.now) }
 {
-    let mut variables = Vec::with_capacity(alloc, numbers.len())?;
+    variables.clear();
     for number in numbers {
         variables.push(NumberedSymbol {
             name: *number,
             variable: true,
         })?;
     }
-    Ok(variables)
+    Ok(())
 }

@@ -11,8 +11,8 @@ answers_of inside = record {
   items = inside.items.items;
   rows = rows_of inside.parts.rows;
   expressions = inside.parts.expressions;
-  frames = map frame_told inside.parts.frames.items;
-  actives = map (list_told inside.parts.pair_lists) inside.parts.pair_numbers.items;
+  frames = map frame_told inside.parts.frames;
+  actives = map (list_told inside.parts.pair_lists) inside.parts.pair_numbers;
   marks = inside.parts.blocks;
 }
 

@@ -8,13 +8,13 @@ use Rattle.mm_frame.proofs.draft.follow_pairs.Goals.{else-sound-via-then-sound+e
 use Rattle.mm_frame.proofs.draft.follow_pairs.Goals as goal
 
 pub returns-else-sound : goal.returns-else-sound
-returns-else-sound c all before item distinct sounds kind number marks numbers sound known = pairs_passed all before item c.args.sound c.args.pairs.now (elim c.else-sound.branch [
+returns-else-sound c all before said distinct sounds kind number marks numbers sound known = pairs_passed all before said c.args.item.sound c.args.pairs.now (elim c.else-sound.branch [
   | else-sound-via-then-sound+else-is_disjoint w ↦ λ t. sym (ap is_disjoint kind) ∙ sym w.is_disjoint.ensures ∙ w.if-is_disjoint.false
   | else-sound-via-else-sound w ↦ λ t. absurd (false≢true (sym w.if-sound.false ∙ t))
 ]) known
 
 pub returns-in_ok-take : goal.returns-in_ok-take
-returns-in_ok-take c all before item distinct sounds kind number marks numbers sound known =
+returns-in_ok-take c all before said distinct sounds kind number marks numbers sound known =
     let disjoint = sym (ap is_disjoint kind) ∙ sym c.is_disjoint.ensures ∙ c.if-is_disjoint.true in
-    subst (λ b. KnowsPairs all (before ++ taken b item ∷ []) c.take.new.self) (sym c.if-sound.true)
-    (pairs_taken all before item c.args.numbers.now c.args.pairs.now c.take.new.self c.args.blocks.now c.args.number distinct (sound c.if-sound.true) disjoint numbers (sym number) marks known c.in_ok-take.ensures)
+    subst (λ b. KnowsPairs all (before ++ taken b said ∷ []) c.take.new.self) (sym c.if-sound.true)
+    (pairs_taken all before said c.args.numbers.now c.args.pairs.now c.take.new.self c.args.blocks.now c.args.item.number distinct (sound c.if-sound.true) disjoint numbers (sym number) marks known c.in_ok-take.ensures)

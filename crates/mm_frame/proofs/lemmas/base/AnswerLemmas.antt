@@ -18,20 +18,22 @@ use Rattle.mm_frame.specs.declared.base.Base.TheInside.{Inside}
 use Rattle.mm_frame.specs.declared.pair_lists.PairLists.{PairLists}
 use Rattle.mm_frame.specs.Language.Names.{AreDistinct}
 use Rattle.mm_frame.specs.Language.Frame.{Symbol, AreSamePairs}
-use Rattle.mm_frame.specs.Language.Item.{Item, passed, is_floating, is_labelled, is_assertion, item_at}
+use Rattle.mm_frame.specs.Language.Item.{Item, passed, is_floating, is_labelled, item_at}
 use Rattle.mm_frame.specs.Language.Sound.{sound_items}
 use Rattle.mm_frame.specs.Language.Framing.{active_pairs, expression, frame}
 use Rattle.mm_frame.specs.Language.Base.{BaseView, before, said_at, told_fault, fault_at, is_shown_at, is_sound_at, is_proof_at}
 use Rattle.mm_frame.specs.Language.NumberedSymbols.{symbols_of, kept_pairs, IsNumbered, ArePairsRead}
 use Rattle.mm_frame.specs.Language.Resolving.{IsCarrier}
-use Rattle.mm_frame.specs.Language.Answering.{AreRows, IsLabelTold, IsExpressionTold, IsFrameTold, AreActiveTold, BaseAnswers, IsBaseBy, is_told_proof, pairs_in_order}
+use Rattle.mm_frame.specs.Language.Answering.{AreRows, IsLabelTold, IsExpressionTold, IsFrameTold, AreActiveTold, BaseAnswers, IsBaseBy, is_told_proof}
 use Rattle.mm_frame.specs.Code.KeptSymbols.{AreSymbols, expression_kept, kept_or_none}
 use Rattle.mm_frame.specs.Code.KeptTables.{table_label}
 use Rattle.mm_frame.specs.Code.KeptPairLists.{list_kept}
 use Rattle.mm_frame.specs.Code.BaseInside.{answers_of}
 use Rattle.mm_frame.specs.Code.KeptRows.{rows_of, label_in, fault_in, is_shown_in}
-use Rattle.mm_frame.specs.Code.KeptBase.{TellsFrame, TellsPairs, HoldsFrame, AreParts, is_float_item, frame_told, number_kept, list_told}
-use Rattle.mm_frame.proofs.lemmas.base.BaseLemmas.{row_none, item_beyond, fault_beyond, shown_is, not_shown, kept_count, expression_some, labelled_there, framed_from}
+use Rattle.mm_frame.specs.Code.KeptAssertions.{TellsFrame, TellsPairs}
+use Rattle.mm_frame.specs.Code.KeptBase.{AreParts, is_float_item, frame_told, list_told}
+use Rattle.mm_frame.specs.Code.KeptSparse.{value_or_none, value_kept}
+use Rattle.mm_frame.proofs.lemmas.base.BaseLemmas.{row_none, item_beyond, fault_beyond, frame_beyond, shown_is, not_shown, kept_count, expression_some, labelled_there}
 use Rattle.mm_frame.proofs.lemmas.frames.FrameNumbers.{HasKind}
 use Rattle.mm_frame.proofs.lemmas.base.ResolvingLemmas.{carrier_found, found_carrier}
 use Rattle.mm_frame.proofs.lemmas.pairs.PairListLemmas.{list_read, list_in_order}
@@ -66,15 +68,9 @@ pub hypotheses_told : (kept : Option Frame) → option_map (λ it. it.0) (frame_
 hypotheses_told None = refl
 hypotheses_told (Some kept) = refl
 
-pairs_told : (all : List (List ℕ)) (framed : Bool) (front : List Item) (item : Item) (kept : Option Frame) → HoldsFrame all framed front item kept → IfSome (frame_told kept) (λ it. ArePairsRead all (pairs_in_order (frame front item)) it.1)
-pairs_told all framed front item None t = tt
-pairs_told all framed front item (Some kept) t = t.pairs (framed_from framed front item kept.hypotheses.items t.hypotheses) kept refl
-
 frames_told : (all : List (List ℕ)) (front : List Item) (item : Item) (kept : Option Frame) → TellsFrame all front item kept → IsFrameTold all front item (frame_told kept)
-frames_told all front item kept t = record {
-  hypotheses = hypotheses_told kept ∙ t.hypotheses;
-  pairs = pairs_told all (is_none (told_fault front item) && is_assertion item.kind) front item kept t;
-}
+frames_told all front item None t = record { hypotheses = t.hypotheses; pairs = tt }
+frames_told all front item (Some kept) t = record { hypotheses = t.hypotheses; pairs = t.pairs }
 
 -- all active pairs
 actives_told : (all : List (List ℕ)) (lists : PairLists) (front : List Item) (item : Item) (number : Option ℕ) → TellsPairs all lists front item number → AreActiveTold all front item (list_told lists number)
@@ -131,24 +127,27 @@ proof_beyond front said n l = ap (is_told_proof front) (item_beyond said n l) �
     and_false true = refl
     and_false false = refl
 
-active_at : (all : List (List ℕ)) (base : BaseView) (lists : PairLists) (numbers : List (Option ℕ)) → AreRows (AreActiveTold all) base.said (map (list_told lists) numbers) → (i : ℕ) (number : Option ℕ) → number ≡ number_kept (slice_get numbers i)
-    → AreActiveTold all (before base i) (said_at base i) (list_told lists number)
-active_at all base lists numbers are i number e = by (slice_get numbers i) refl
+-- what is kept of an item tells what is said of it, where nothing tells what is said behind the last one
+told_at : {X Y : Type 0} (f : Option X → Y) (told : List Item → Item → Y → Type 0) (said : List Item) (kept : List (Option X)) → AreRows told said (map f kept) → (i : ℕ) → (length said ≤ i → told (sound_items (take i said)) (item_at said i) (f None))
+    → told (sound_items (take i said)) (item_at said i) (f (value_kept kept i))
+told_at f told said kept are i beyond = by (slice_get kept i) refl
   where
-    by : (kept : Option (Option ℕ)) → slice_get numbers i ≡ kept → AreActiveTold all (before base i) (said_at base i) (list_told lists number)
-    by (Some n) g =
-        subst (λ w. AreActiveTold all (before base i) (said_at base i) (list_told lists w)) (sym (e ∙ ap number_kept g))
-        (are.each i (list_told lists n) (slice_get-map (list_told lists) numbers i ∙ ap (option_map (list_told lists)) g))
-    by None g =
-        let past = row_none (AreActiveTold all) base.said (map (list_told lists) numbers) i are (slice_get-map (list_told lists) numbers i ∙ ap (option_map (list_told lists)) g) in
-        subst (λ w. AreActiveTold all (before base i) (said_at base i) (list_told lists w)) (sym (e ∙ ap number_kept g)) (record { some = sym (proof_beyond (before base i) base.said i past); pairs = tt; order = tt })
+    by : (o : Option _) → slice_get kept i ≡ o → told (sound_items (take i said)) (item_at said i) (f (value_or_none o))
+    by (Some row) e = are.each i (f row) (slice_get-map f kept i ∙ ap (option_map f) e)
+    by None e = beyond (row_none told said (map f kept) i are (slice_get-map f kept i ∙ ap (option_map f) e))
 
--- so it is where a base has them
+-- the frame that is kept of an item
+pub frame_in : (all : List (List ℕ)) (base : BaseView) (answers : BaseAnswers) (frames : List (Option Frame)) → map frame_told frames ≡ answers.frames → IsBaseBy all base answers → (i : ℕ)
+    → IsFrameTold all (before base i) (said_at base i) (frame_told (value_kept frames i))
+frame_in all base answers frames same is i =
+    told_at frame_told (IsFrameTold all) base.said frames (subst (AreRows (IsFrameTold all) base.said) (sym same) is.frames) i (λ past. record { hypotheses = sym (frame_beyond (before base i) base.said i past); pairs = tt })
+
+-- the list of active pairs that is kept of an item
 pub active_in : (all : List (List ℕ)) (base : BaseView) (answers : BaseAnswers) (lists : PairLists) (numbers : List (Option ℕ)) → map (list_told lists) numbers ≡ answers.actives → IsBaseBy all base answers → (i : ℕ) (number other : Option ℕ)
-    → number ≡ number_kept (slice_get numbers i) → number ≡ other → AreActiveTold all (before base i) (said_at base i) (list_told lists other)
+    → number ≡ value_kept numbers i → number ≡ other → AreActiveTold all (before base i) (said_at base i) (list_told lists other)
 active_in all base answers lists numbers same is i number other e o =
-    subst (λ w. AreActiveTold all (before base i) (said_at base i) (list_told lists w)) o
-    (active_at all base lists numbers (subst (AreRows (AreActiveTold all) base.said) (sym same) is.actives) i number e)
+    subst (λ w. AreActiveTold all (before base i) (said_at base i) (list_told lists w)) (sym e ∙ o)
+    (told_at (list_told lists) (AreActiveTold all) base.said numbers (subst (AreRows (AreActiveTold all) base.said) (sym same) is.actives) i (λ past. record { some = sym (proof_beyond (before base i) base.said i past); pairs = tt; order = tt }))
 
 -- a list that two `$p` share
 pub shared_told : (all : List (List ℕ)) (lists : PairLists) (base : BaseView) (i j : ℕ) (mine yours : Option ℕ) → AreActiveTold all (before base i) (said_at base i) (list_told lists mine)
@@ -231,7 +230,7 @@ base_told all base inside distinct found count few kinds parts =
       kinds = kinds;
       rows = parts.rows;
       expressions = expressions_told all base inside.parts.expressions parts.symbols;
-      frames = rows_told frame_told (TellsFrame all) (IsFrameTold all) (frames_told all) base.said inside.parts.frames.items parts.frames;
-      actives = rows_told (list_told lists) (TellsPairs all lists) (AreActiveTold all) (actives_told all lists) base.said inside.parts.pair_numbers.items parts.pair_numbers;
+      frames = rows_told frame_told (TellsFrame all) (IsFrameTold all) (frames_told all) base.said inside.parts.frames parts.frames;
+      actives = rows_told (list_told lists) (TellsPairs all lists) (AreActiveTold all) (actives_told all lists) base.said inside.parts.pair_numbers parts.pair_numbers;
       marks = parts.marks;
     }

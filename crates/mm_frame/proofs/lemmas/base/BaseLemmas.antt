@@ -8,14 +8,13 @@ use Rattle.std.proofs.Math.ListN.{get_or-append}
 use Rattle.std.proofs.Math.Seq.{take-suc}
 use Rattle.std.proofs.lemmas.List.{length_push, get_or_push, take-append-le, length-take-le}
 use Rattle.std.proofs.lemmas.Option.{slice_get_within, slice_get_cases, none-some}
-use Rattle.std.specs.Borrow.{Bor}
 use Rattle.std.specs.Prelude.{IfSome, All}
 use Rattle.std.proofs.lemmas.List.Elements.{All-nil}
 use Rattle.mm_frame.specs.declared.FrameNumber.{FrameNumber}
 use Rattle.mm_frame.specs.declared.symbol.NumberedSymbol.{NumberedSymbol}
-use Rattle.mm_frame.specs.Language.Item.{Kind, Axiom, Theorem, Missing, Item, passed, is_labelled, is_disjoint, is_assertion, is_essential, is_theorem, item_at}
+use Rattle.mm_frame.specs.Language.Item.{Kind, Disjoint, Essential, Axiom, Theorem, BlockEnd, Missing, Item, passed, is_labelled, is_disjoint, is_assertion, is_essential, item_at}
 use Rattle.mm_frame.specs.Language.Sound.{IsSound, AreSound, fault, judged, sound_items, sound_items_after}
-use Rattle.mm_frame.specs.Language.Framing.{expression, frame}
+use Rattle.mm_frame.specs.Language.Framing.{expression}
 use Rattle.mm_frame.specs.Language.Scope.{Mark, Closes, mark_of, closes, active_numbers}
 use Rattle.mm_frame.specs.Code.Numbers.{IsNameNumber, AreNameNumbers}
 use Rattle.mm_frame.specs.Language.NumberedSymbols.{symbols_of, kept_pairs, IsNumbered, IsPairNumbered, ArePairsRead}
@@ -24,10 +23,10 @@ use Rattle.mm_frame.specs.Code.LastItems.{IsSort}
 use Rattle.mm_frame.specs.Code.KeptScope.{taken}
 use Rattle.mm_frame.specs.Language.Base.{BaseView, before, said_at, fault_by, told_fault, is_sound_at, expression_at, is_framed_at, frame_at}
 use Rattle.mm_frame.specs.Language.Answering.{told_numbers, numbers_if}
-use Rattle.mm_frame.specs.Language.Answering.{AreRows, is_told_proof}
+use Rattle.mm_frame.specs.Code.KeptActiveItems.{changes_active}
+use Rattle.mm_frame.specs.Language.Answering.{AreRows}
 use Rattle.mm_frame.specs.Language.Frame.{AreSamePairs}
 use Rattle.mm_frame.specs.Language.Answering.{pairs_in_order}
-use Rattle.mm_frame.specs.declared.draft.Frame.{Frame}
 use Rattle.mm_frame.proofs.lemmas.pairs.FramePairs.{same_pairs}
 use Rattle.mm_frame.proofs.lemmas.faults.FoundFaults.{no_fault_sound, sound_found, passed_sound, kept_is_sound, kept_next, kept_after_append}
 use Rattle.mm_frame.proofs.lemmas.scope.SoundItems.{kept_sound, split_at}
@@ -231,15 +230,15 @@ not_closes m e c = false≢true (sym e ∙ ap closes c)
 numbers_same : (test : Item → Bool) (before : List Item) (item : Item) → closes (mark_of item.kind) ≡ false → test item ≡ false → active_numbers test before ≡ active_numbers test (before ++ item ∷ [])
 numbers_same test before item c e = sym (active_numbers_more test before item (not_closes (mark_of item.kind) c) ∙ ap (λ b. active_numbers test before ++ cond b (length before ∷ []) []) e ∙ append-nil (active_numbers test before))
 
--- a sound item has a frame exactly where it is an assertion
-told_same : (kind : Kind) (f : Option (ℕ × FrameNumber)) → (is_none f && is_assertion kind) ≡ (is_none (fault_by kind f) && is_assertion kind)
-told_same Missing None = refl
-told_same Missing (Some x) = refl
-told_same _ f = refl
+-- a test of kinds that a missing inclusion does not pass tells of a sound item what it tells of one with no fault
+told_kind : (test : Kind → Bool) → test Missing ≡ false → (kind : Kind) (f : Option (ℕ × FrameNumber)) → (is_none f && test kind) ≡ (is_none (fault_by kind f) && test kind)
+told_kind test e Missing None = e
+told_kind test e Missing (Some x) = refl
+told_kind test e _ f = refl
 
-pub framed_told : (before : List Item) (item : Item) (flag framed : Bool) (kind : Kind) → kind ≡ item.kind → framed ≡ (flag && is_assertion kind)
-    → is_none (fault before item) ≡ flag → framed ≡ (is_none (told_fault before item) && is_assertion item.kind)
-framed_told before item flag framed kind k e n = e ∙ (λ i. sym n i && is_assertion (k i)) ∙ told_same item.kind (fault before item)
+pub told_as : (test : Kind → Bool) → test Missing ≡ false → (before : List Item) (item : Item) (flag kept : Bool) (kind : Kind) → kind ≡ item.kind → kept ≡ (flag && test kind)
+    → is_none (fault before item) ≡ flag → kept ≡ (is_none (told_fault before item) && test item.kind)
+told_as test missing before item flag kept kind k e n = e ∙ (λ i. sym n i && test (k i)) ∙ told_kind test missing item.kind (fault before item)
 
 pub frame_beyond : (before said : List Item) (n : ℕ) → length said ≤ n → told_numbers before (item_at said n) ≡ None
 frame_beyond before said n l = ap (told_numbers before) (item_beyond said n l) ∙ none (is_none (told_fault before passed))
@@ -248,12 +247,18 @@ frame_beyond before said n l = ap (told_numbers before) (item_beyond said n l) �
     none true = refl
     none false = refl
 
-pub numbers_passed : (test : Kind → Bool) → IsSort test → (before : List Item) (item : Item) (sound : Bool) → sound ≡ false → active_numbers (λ i. test i.kind) before ≡ active_numbers (λ i. test i.kind) (before ++ taken sound item ∷ [])
-numbers_passed test sort before item sound e = numbers_same (λ i. test i.kind) before passed refl sort.sound ∙ ap (λ b. active_numbers (λ i. test i.kind) (before ++ taken b item ∷ [])) (sym e)
+pub numbers_still : (test : Kind → Bool) → IsSort test → (before : List Item) (item : Item) (sound : Bool) → (sound ≡ true → (test item.kind ≡ false) × (closes (mark_of item.kind) ≡ false))
+    → active_numbers (λ i. test i.kind) before ≡ active_numbers (λ i. test i.kind) (before ++ taken sound item ∷ [])
+numbers_still test sort before item false h = numbers_same (λ i. test i.kind) before passed refl sort.sound
+numbers_still test sort before item true h = let p = h refl in numbers_same (λ i. test i.kind) before item p.1 p.0
 
-pub numbers_other : (test : Kind → Bool) (before : List Item) (item : Item) (sound : Bool) → sound ≡ true → closes (mark_of item.kind) ≡ false
-    → test item.kind ≡ false → active_numbers (λ i. test i.kind) before ≡ active_numbers (λ i. test i.kind) (before ++ taken sound item ∷ [])
-numbers_other test before item sound e c t = numbers_same (λ i. test i.kind) before item c t ∙ ap (λ b. active_numbers (λ i. test i.kind) (before ++ taken b item ∷ [])) (sym e)
+-- an item that changes nothing that is active is of no sort that is followed, and no `$}`
+pub not_changed : (kind : Kind) (sound : Bool) → sound ≡ true → (sound && changes_active kind) ≡ false → (is_essential kind ≡ false) × (is_disjoint kind ≡ false) × (closes (mark_of kind) ≡ false)
+not_changed Essential true s e = absurd (false≢true (sym e))
+not_changed Disjoint true s e = absurd (false≢true (sym e))
+not_changed BlockEnd true s e = absurd (false≢true (sym e))
+not_changed _ false s e = absurd (false≢true s)
+not_changed _ true s e = (refl, refl, refl)
 
 -- the sorts that are followed
 pub essential_sort : IsSort is_essential
@@ -261,15 +266,6 @@ essential_sort = record { statement = essential_neither; sound = refl }
 
 pub disjoint_sort : IsSort is_disjoint
 disjoint_sort = record { statement = disjoint_neither; sound = refl }
-
--- a sound item has a proof exactly where it is a `$p`
-told_theorem : (kind : Kind) (f : Option (ℕ × FrameNumber)) → (is_none f && is_theorem kind) ≡ (is_none (fault_by kind f) && is_theorem kind)
-told_theorem Missing None = refl
-told_theorem Missing (Some x) = refl
-told_theorem _ f = refl
-
-pub proof_told : (before : List Item) (item : Item) (flag proof : Bool) (kind : Kind) → kind ≡ item.kind → proof ≡ (flag && is_theorem kind) → is_none (fault before item) ≡ flag → proof ≡ is_told_proof before item
-proof_told before item flag proof kind k e n = e ∙ (λ i. sym n i && is_theorem (k i)) ∙ told_theorem item.kind (fault before item)
 
 pub none_fault : {X : Type 0} (told : X → ℕ × FrameNumber) (before : List Item) (item : Item) (found : Option X) → option_map told found ≡ fault before item → is_none (fault before item) ≡ is_none found
 none_fault told before item found e = ap is_none (sym e) ∙ is_none_map told found
@@ -282,15 +278,6 @@ assertion_read _ e = absurd (false≢true e)
 
 pub framed_parts : (flag : Bool) (kind item_kind : Kind) → kind ≡ item_kind → (flag && is_assertion kind) ≡ true → (flag ≡ true) × (is_assertion item_kind ≡ true) × (is_read item_kind ≡ true)
 framed_parts flag kind item_kind k e = let p = and_parts flag (is_assertion kind) e in let a = sym (ap is_assertion k) ∙ p.1 in (p.0, a, assertion_read item_kind a)
-
--- what a frame that is kept tells, read behind a reference
-pub frame_numbers : (lent : Option (Bor Frame)) (kept_frame : Option Frame) → option_map (λ frame. frame.now) lent ≡ kept_frame → option_map (λ frame. frame.now.hypotheses.items) lent ≡ option_map (λ frame. frame.hypotheses.items) kept_frame
-frame_numbers None kept_frame e = ap (option_map (λ (frame : Frame). frame.hypotheses.items)) e
-frame_numbers (Some frame) kept_frame e = ap (option_map (λ (frame : Frame). frame.hypotheses.items)) e
-
-pub framed_from : (framed : Bool) (before : List Item) (item : Item) (numbers : List ℕ) → Some numbers ≡ numbers_if framed before item → framed ≡ true
-framed_from true before item numbers e = refl
-framed_from false before item numbers e = cc
 
 -- the pairs of the frame of an assertion in one order are its pairs
 pub framed_in_order : (base : BaseView) (i : ℕ) → is_framed_at base i ≡ true → AreSamePairs (pairs_in_order (frame_at base i)) (frame_at base i).pairs
@@ -310,9 +297,6 @@ pub ordered_numbered : {X : Type 0} (all : List (List ℕ)) (kept : X → List (
     → IfSome found (λ x. ArePairsRead all (pairs_in_order (frame_at base i)) (kept x)) → IfSome found (λ x. All (IsPairNumbered all) (kept x))
 ordered_numbered all kept base i None e = tt
 ordered_numbered all kept base i (Some x) e = e.numbered
-
-pub same_frame_kept : (frame kept : Frame) → Some frame ≡ Some kept → frame ≡ kept
-same_frame_kept frame kept e = cc
 
 -- one more name with its number
 numbers_push : (all : List (List ℕ)) (numbers : List ℕ) (names : List (List ℕ)) (number : ℕ) (name : List ℕ) → AreNameNumbers all numbers names → IsNameNumber all number name → AreNameNumbers all (numbers ++ number ∷ []) (names ++ name ∷ [])

@@ -1,5 +1,5 @@
 -- The labels and faults of items: how many there are, each of them, and one more.
-use Rattle.std.proofs.Common.{◌≡◌, ℕ, zero, suc, ◌+◌, ◌<◌, ◌≤◌, Bool, true, false, cond, ◌&&◌, Option, Some, None, List, [], ◌∷◌, ◌++◌, length, slice_get, get_or, refl, sym, ◌∙◌, ap, subst, arith, length-append}
+use Rattle.std.proofs.Common.{◌≡◌, ℕ, zero, suc, ◌+◌, ◌<◌, ◌≤◌, Bool, true, false, cond, ◌&&◌, Option, Some, None, List, [], ◌∷◌, ◌++◌, length, slice_get, get_or, refl, sym, ◌∙◌, ap, arith, length-append}
 use Rattle.std.specs.Prelude.{is_some, is_none}
 use Rattle.std.specs.List.{slice_range}
 use Rattle.std.specs.Option.{option_map}
@@ -10,9 +10,9 @@ use Rattle.std.proofs.lemmas.List.{get_or_append_left}
 use Rattle.std.proofs.lemmas.Option.{slice_get_past}
 use Rattle.mm_frame.specs.declared.judge.FrameFault.{FrameFault}
 use Rattle.mm_frame.specs.declared.item_rows.Rows.{Rows}
-use Rattle.mm_frame.specs.Code.KeptExpressions.{cut_from, EndsFrom, start_at}
+use Rattle.mm_frame.specs.Code.KeptExpressions.{cut_from, start_at}
 use Rattle.mm_frame.specs.Code.KeptRows.{bytes_or_none, fault_or_none, fault_at, fault_told, row_told, rows_from, rows_of, label_in, fault_in, is_shown_in, AreRowsKept}
-use Rattle.mm_frame.proofs.lemmas.names.ExpressionLemmas.{cut_length, cut_there, cut_more, ends_more}
+use Rattle.mm_frame.proofs.lemmas.names.ExpressionLemmas.{cut_length, cut_there, cut_added}
 
 rows_length : (n : ℕ) (labels : List (List ℕ)) (flags : List Bool) (faults : List (Option FrameFault)) → length (rows_from n labels flags faults) ≡ length labels
 rows_length n [] flags faults = refl
@@ -173,12 +173,10 @@ kept_more old new label fault k a =
     let ends = ap length a.ends in
     let flags = ap length a.flags in
     let marks = length-append old.labelled.items (is_some label ∷ []) in
-    let bytes = ap length a.bytes in
-    let all = length-append old.bytes.items (bytes_or_none label) in
     let same = k.flags in
     let within = a.within in
     record {
-      cut = subst (λ w. EndsFrom 0 w (length new.bytes.items)) (sym a.ends) (ends_more 0 old.ends.items (length old.bytes.items) (length new.bytes.items) k.cut (omega arith));
+      cut = (cut_added old.bytes.items (bytes_or_none label) new.bytes.items old.ends.items new.ends.items (length new.bytes.items) k.cut a.bytes refl a.ends).0;
       flags = omega arith;
       faults = omega arith;
     }
@@ -187,8 +185,7 @@ pub rows_more : (old new : Rows) (label : Option (List ℕ)) (fault : Option Fra
 rows_more old new label fault k a =
     let labels = cut_from old.bytes.items 0 old.ends.items in
     let bytes = bytes_or_none label in
-    let total = ap length a.bytes ∙ length-append old.bytes.items bytes in
-    let cut : cut_from new.bytes.items 0 new.ends.items ≡ labels ++ bytes ∷ [] = (λ i. cut_from (a.bytes i) 0 (a.ends i)) ∙ cut_more old.bytes.items bytes 0 old.ends.items (length new.bytes.items) k.cut total in
+    let cut = (cut_added old.bytes.items bytes new.bytes.items old.ends.items new.ends.items (length new.bytes.items) k.cut a.bytes refl a.ends).1 in
     let count = cut_length old.bytes.items 0 old.ends.items in
     let same = k.flags in
     let flags = λ (n : ℕ) (l : n < 0 + length labels). ap (λ w. get_or w n false) a.flags ∙ get_or_append_left old.labelled.items (is_some label ∷ []) false n (omega arith) in

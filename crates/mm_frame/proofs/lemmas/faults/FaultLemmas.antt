@@ -1,14 +1,16 @@
 -- What the code that looks for a fault rests on.
-use Rattle.std.proofs.Common.{◌≡◌, ℕ, suc, ◌+◌, ◌<◌, ◌≤◌, Bool, true, false, not, cond, ◌&&◌, ◌||◌, Option, Some, None, List, [], ◌∷◌, ◌++◌, length, take, drop, get_or, bytes_eq, refl, sym, ◌∙◌, ap, subst, arith}
+use Rattle.std.proofs.Common.{◌≡◌, ℕ, suc, ◌+◌, ◌<◌, ◌≤◌, Bool, true, false, not, cond, ◌==◌, ◌&&◌, ◌||◌, Option, Some, None, List, [], ◌∷◌, ◌++◌, length, take, drop, get_or, bytes_eq, refl, sym, ◌∙◌, ap, subst, arith}
 use Rattle.std.specs.Borrow.{Bor}
 use Rattle.std.specs.Prelude.{is_none}
 use Rattle.std.specs.Option.{option_or}
 use Rattle.std.specs.HashSet.{HashSet, Updates}
 use Rattle.std.proofs.Math.Seq.{take-suc}
+use Rattle.std.proofs.lemmas.Bool.{false≢true}
+use Rattle.std.proofs.lemmas.Bool.Decides.{Decides-eqb}
 use Rattle.std.proofs.lemmas.Option.{slice_get-get_or}
 use Rattle.std.proofs.lemmas.List.{drop_all}
 use Rattle.std.proofs.lemmas.List.Folds.{list_any-append}
-use Rattle.mm_frame.specs.Language.Item.{Item, has}
+use Rattle.mm_frame.specs.Language.Item.{Kind, Essential, Axiom, Theorem, Item, has, is_expression}
 use Rattle.mm_frame.specs.Language.Scope.{constants, active_variables, typed}
 use Rattle.mm_frame.specs.Language.Sound.{first_symbol, closing_word, fault_or, fault, AreSound}
 use Rattle.mm_frame.specs.Code.Numbers.{AreNameNumbers}
@@ -20,9 +22,12 @@ use Rattle.mm_frame.specs.Code.KeptTables.{declared_in, variable_at}
 use Rattle.mm_frame.specs.Code.LastItems.{last_where, declares_variable, types, is_active_last}
 use Rattle.mm_frame.specs.declared.FrameNumber.{FrameNumber}
 use Rattle.mm_frame.specs.declared.FrameNumber.TheVariants.{F10, F11}
-use Rattle.mm_frame.specs.Code.FaultInOrder.{front_fault, end_fault, first_fault, symbol_fault, symbols_fault, later_fault}
+use Rattle.mm_frame.specs.Code.FaultInOrder.{front_fault, end_fault, first_fault, symbol_fault_of, symbol_fault, symbols_fault, typecode_fault, expression_fault, later_fault}
 use Rattle.mm_frame.specs.Code.SeenNames.{HasSeen}
 use Rattle.mm_frame.proofs.lemmas.faults.FaultReading.{first_fault_at, fault_is}
+use Rattle.mm_frame.proofs.lemmas.frames.Frames.{from_typed, float_of}
+use Rattle.mm_frame.proofs.lemmas.lists.Members.{has_in}
+use Rattle.mm_frame.proofs.lemmas.scope.SoundItems.{sound_kept}
 use Rattle.mm_frame.proofs.lemmas.scope.KnownLemmas.{has_one, constant_no_variable}
 use Rattle.mm_frame.proofs.lemmas.scope.TableLemmas.{active_variable_last, typed_last}
 
@@ -30,7 +35,14 @@ use Rattle.mm_frame.proofs.lemmas.scope.TableLemmas.{active_variable_last, typed
 abbrev pub may_follow_as : List Item → Option Declared → Bool
 may_follow_as before None = false
 may_follow_as before (Some Constant) = true
-may_follow_as before (Some (Variable declared float)) = is_active_last before (Some declared) && is_active_last before float
+may_follow_as before (Some (Variable declared float)) = is_active_last before float
+
+-- a variable that is typed is active
+typed_active : (before : List Item) → AreSound before → (name : List ℕ) → has (typed before) name ≡ true → has (active_variables before) name ≡ true
+typed_active before h name t =
+    let f = from_typed before name (has_in (typed before) name t) in
+    let float = float_of before f.0 (sound_kept before h) f.1 f.2 in
+    subst (λ w. has (active_variables before) w ≡ true) (sym (ap (λ symbols. get_or symbols 1 []) float.both) ∙ f.3) float.variable
 
 -- what is wrong behind a typecode with a name that is a constant, an active variable, or typed
 abbrev later_as : Bool → Bool → Bool → Option FrameNumber
@@ -39,18 +51,19 @@ later_as constant active typed = cond (not (constant || active)) (Some F10) (con
 pub follows_later : (before : List Item) → AreSound before → (name : List ℕ) → may_follow_as before (declared_in before name) ≡ is_none (later_fault before name)
 follows_later before h name =
     by_test (has (constants before) name) (last_where (declares_variable name) before) (last_where (types name) before) (has (active_variables before) name) (has (typed before) name)
-    (active_variable_last before h name) (typed_last before h name) (constant_no_variable before h name)
+    (active_variable_last before h name) (typed_last before h name) (constant_no_variable before h name) (typed_active before h name)
   where
-    both : (active typed : Bool) → (active && typed) ≡ is_none (later_as false active typed)
-    both true true = refl
-    both true false = refl
-    both false typed = refl
+    both : (active typed : Bool) → (typed ≡ true → active ≡ true) → typed ≡ is_none (later_as false active typed)
+    both true true e = refl
+    both true false e = refl
+    both false false e = refl
+    both false true e = absurd (false≢true (e refl))
 
-    by_test : (c : Bool) (v t : Option ℕ) (active typed : Bool) → active ≡ is_active_last before v → typed ≡ is_active_last before t → (c ≡ true → v ≡ None)
+    by_test : (c : Bool) (v t : Option ℕ) (active typed : Bool) → active ≡ is_active_last before v → typed ≡ is_active_last before t → (c ≡ true → v ≡ None) → (typed ≡ true → active ≡ true)
         → may_follow_as before (cond c (Some Constant) (variable_at v t)) ≡ is_none (later_as c active typed)
-    by_test true v t active typed a b n = let inactive : active ≡ false = a ∙ ap (is_active_last before) (n refl) in rw inactive refl
-    by_test false None t active typed a b n = rw a refl
-    by_test false (Some d) t active typed a b n = rw (← a, ← b) (both active typed)
+    by_test true v t active typed a b n e = let inactive : active ≡ false = a ∙ ap (is_active_last before) (n refl) in rw inactive refl
+    by_test false None t active typed a b n e = rw a refl
+    by_test false (Some d) t active typed a b n e = rw (← b) (both active typed e)
 
 -- one more name is seen
 pub sees_more : {S : Type 0} (names : List (List ℕ)) (name : Bor (List ℕ)) (old new : HashSet (Bor (List ℕ)) S) → HasSeen names old → Updates (λ x y. bytes_eq x.now y.now) old new name true → HasSeen (names ++ name.now ∷ []) new
@@ -71,52 +84,63 @@ pub twice_not : (b : Bool) → not (not b) ≡ b
 twice_not true = refl
 twice_not false = refl
 
--- the symbols up to a number have no fault, and are those that were seen where they are kept
-pub record Passes {S : Type 0} (kept : Bool) (scope : Scope) (item : Item) (numbers : List ℕ) (n : ℕ) (seen : HashSet (Bor (List ℕ)) S) : Type 0 where
-  pub sees : kept ≡ true → HasSeen (take n item.symbols) seen
-  pub rest : (all : List (List ℕ)) (before : List Item) → AreSound before → ScopeHolds all before scope → AreNameNumbers all numbers item.symbols
-      → symbols_fault before item ≡ first_fault (symbol_fault before item) (first_symbol item + n) n (drop n item.symbols)
+-- one more name of a statement is seen
+pub sees_next : {S : Type 0} {kept : Bool} (names : List (List ℕ)) (name : List ℕ) (n more : ℕ) (seen : HashSet (Bor (List ℕ)) S) → more ≡ suc n → n < length names → name ≡ get_or names n []
+    → (kept ≡ true → HasSeen (take n names ++ name ∷ []) seen) → kept ≡ true → HasSeen (take more names) seen
+sees_next names name n more seen m l e h d = subst (λ w. HasSeen w seen) (ap (λ x. take n names ++ x ∷ []) e ∙ sym (take-suc names n [] l) ∙ ap (λ w. take w names) (sym m)) (h d)
+
+-- so it is behind all sound items of a scope, where the symbols have these numbers
+abbrev pub Judged : Scope → Item → List ℕ → (List Item → Type 0) → Type 0
+Judged scope item numbers holds = (all : List (List ℕ)) (before : List Item) → AreSound before → ScopeHolds all before scope → AreNameNumbers all numbers item.symbols → holds before
+
+-- the symbols up to a number have no fault
+pub record Passes (scope : Scope) (item : Item) (numbers : List ℕ) (n : ℕ) : Type 0 where
+  pub rest : Judged scope item numbers (λ before. symbols_fault before item ≡ first_fault (symbol_fault before item) (first_symbol item + n) n (drop n item.symbols))
 
 -- the first of the symbols that are left
-next_fault : {S : Type 0} {kept : Bool} {scope : Scope} (item : Item) (numbers : List ℕ) (n : ℕ) (seen : HashSet (Bor (List ℕ)) S) → n < length item.symbols → Passes kept scope item numbers n seen
-    → (all : List (List ℕ)) (before : List Item) → AreSound before → ScopeHolds all before scope → AreNameNumbers all numbers item.symbols
-    → symbols_fault before item ≡ fault_or (first_symbol item + n) (symbol_fault before item n (get_or item.symbols n [])) (first_fault (symbol_fault before item) (suc (first_symbol item + n)) (suc n) (drop (suc n) item.symbols))
-next_fault item numbers n seen l p all before h k a = p.rest all before h k a ∙ first_fault_at (symbol_fault before item) (first_symbol item + n) n n (get_or item.symbols n []) item.symbols (slice_get-get_or item.symbols n [] l)
+next_fault : {scope : Scope} (item : Item) (numbers : List ℕ) (n : ℕ) → n < length item.symbols → Passes scope item numbers n → Judged scope item numbers (λ before.
+    symbols_fault before item ≡ fault_or (first_symbol item + n) (symbol_fault before item n (get_or item.symbols n [])) (first_fault (symbol_fault before item) (suc (first_symbol item + n)) (suc n) (drop (suc n) item.symbols)))
+next_fault item numbers n l p all before h k a = p.rest all before h k a ∙ first_fault_at (symbol_fault before item) (first_symbol item + n) n n (get_or item.symbols n []) item.symbols (slice_get-get_or item.symbols n [] l)
 
 -- a symbol with a fault
-pub fault_there : {S : Type 0} {kept : Bool} {scope : Scope} (item : Item) (numbers : List ℕ) (n word : ℕ) (seen : HashSet (Bor (List ℕ)) S)
-    (number : FrameNumber) → n < length item.symbols → word ≡ first_symbol item + n → Passes kept scope item numbers n seen
-    → (all : List (List ℕ)) (before : List Item) → AreSound before → ScopeHolds all before scope → AreNameNumbers all numbers item.symbols → Some number ≡ symbol_fault before item n (get_or item.symbols n [])
-    → ◌≡◌ {A = Option (ℕ × FrameNumber)} (Some (word, number)) (symbols_fault before item)
-fault_there item numbers n word seen number l w p all before h k a f =
-    (λ i. fault_or (w i) (f i) (first_fault (symbol_fault before item) (suc (first_symbol item + n)) (suc n) (drop (suc n) item.symbols))) ∙ sym (next_fault item numbers n seen l p all before h k a)
+pub fault_there : {scope : Scope} (item : Item) (numbers : List ℕ) (n word : ℕ) (number : FrameNumber) → n < length item.symbols → word ≡ first_symbol item + n → Passes scope item numbers n
+    → Judged scope item numbers (λ before. Some number ≡ symbol_fault before item n (get_or item.symbols n []))
+    → Judged scope item numbers (λ before. ◌≡◌ {A = Option (ℕ × FrameNumber)} (Some (word, number)) (symbols_fault before item))
+fault_there item numbers n word number l w p f all before h k a =
+    (λ i. fault_or (w i) (f all before h k a i) (first_fault (symbol_fault before item) (suc (first_symbol item + n)) (suc n) (drop (suc n) item.symbols))) ∙ sym (next_fault item numbers n l p all before h k a)
 
 -- no symbol is left
-pub none_left : {S : Type 0} {kept : Bool} {scope : Scope} (item : Item) (numbers : List ℕ) (n : ℕ) (seen : HashSet (Bor (List ℕ)) S) → length item.symbols ≤ n → Passes kept scope item numbers n seen
-    → (all : List (List ℕ)) (before : List Item) → AreSound before → ScopeHolds all before scope → AreNameNumbers all numbers item.symbols → None ≡ symbols_fault before item
-none_left item numbers n seen l p all before h k a = sym (p.rest all before h k a ∙ ap (first_fault (symbol_fault before item) (first_symbol item + n) n) (drop_all n item.symbols l))
+pub none_left : {scope : Scope} (item : Item) (numbers : List ℕ) (n : ℕ) → length item.symbols ≤ n → Passes scope item numbers n → Judged scope item numbers (λ before. None ≡ symbols_fault before item)
+none_left item numbers n l p all before h k a = sym (p.rest all before h k a ∙ ap (first_fault (symbol_fault before item) (first_symbol item + n) n) (drop_all n item.symbols l))
 
 -- a symbol with no fault
-pub passes_more : {S : Type 0} {kept : Bool} {scope : Scope} (item : Item) (numbers : List ℕ) (n more : ℕ) (name : List ℕ)
-    (old new : HashSet (Bor (List ℕ)) S) → more ≡ suc n → n < length item.symbols → name ≡ get_or item.symbols n [] → Passes kept scope item numbers n old
-    → (kept ≡ true → HasSeen (take n item.symbols ++ name ∷ []) new)
-    → ((all : List (List ℕ)) (before : List Item) → AreSound before → ScopeHolds all before scope → AreNameNumbers all numbers item.symbols → None ≡ symbol_fault before item n (get_or item.symbols n []))
-    → Passes kept scope item numbers more new
-passes_more {kept = kept} {scope = scope} item numbers n more name old new m l e p seen none = record {
-  sees = λ d. subst (λ names. HasSeen names new) (sym longer) (seen d);
-  rest = λ all before h k a. next_fault item numbers n old l p all before h k a ∙ passed_by all before h k a;
+pub passes_more : {scope : Scope} (item : Item) (numbers : List ℕ) (n more : ℕ) → more ≡ suc n → n < length item.symbols → Passes scope item numbers n
+    → Judged scope item numbers (λ before. None ≡ symbol_fault before item n (get_or item.symbols n [])) → Passes scope item numbers more
+passes_more item numbers n more m l p none = record {
+  rest = λ all before h k a.
+      let word : suc (first_symbol item + n) ≡ first_symbol item + more = omega (arith, m) in
+      next_fault item numbers n l p all before h k a
+      ∙ (λ i. fault_or (first_symbol item + n) (sym (none all before h k a) i) (first_fault (symbol_fault before item) (word i) (sym m i) (drop (sym m i) item.symbols)));
 }
-  where
-    longer : take more item.symbols ≡ take n item.symbols ++ name ∷ []
-    longer = ap (λ w. take w item.symbols) m ∙ take-suc item.symbols n [] l ∙ ap (λ x. take n item.symbols ++ x ∷ []) (sym e)
 
-    passed_by : (all : List (List ℕ)) (before : List Item) → AreSound before → ScopeHolds all before scope → AreNameNumbers all numbers item.symbols
-        → fault_or (first_symbol item + n) (symbol_fault before item n (get_or item.symbols n [])) (first_fault (symbol_fault before item)
-        (suc (first_symbol item + n)) (suc n) (drop (suc n) item.symbols)) ≡ first_fault (symbol_fault before item) (first_symbol item + more) more
-        (drop more item.symbols)
-    passed_by all before h k a =
-        let word : suc (first_symbol item + n) ≡ first_symbol item + more = omega (arith, m) in
-        (λ i. fault_or (first_symbol item + n) (sym (none all before h k a) i) (first_fault (symbol_fault before item) (word i) (sym m i) (drop (sym m i) item.symbols)))
+-- a symbol that may stand behind a typecode has no fault there
+pub passed_later : (before : List Item) (n : ℕ) (name : List ℕ) → 0 < n → is_none (later_fault before name) ≡ true → None ≡ expression_fault before n name
+passed_later before n name l e = by_test (n == 0) refl
+  where
+    no_fault : (o : Option FrameNumber) → is_none o ≡ true → None ≡ o
+    no_fault None e = refl
+    no_fault (Some f) e = absurd (false≢true e)
+
+    by_test : (b : Bool) → (n == 0) ≡ b → None ≡ cond b (typecode_fault before name) (later_fault before name)
+    by_test true t = let z : n ≡ 0 = (Decides-eqb n 0).0 t in absurd (omega arith)
+    by_test false t = no_fault (later_fault before name) e
+
+-- what is wrong with a symbol of a `$e`, `$a` or `$p`
+pub expression_is : (kind : Kind) → is_expression kind ≡ true → (before : List Item) (item : Item) (n : ℕ) (name : List ℕ) → expression_fault before n name ≡ symbol_fault_of kind before item n name
+expression_is Essential e before item n name = refl
+expression_is Axiom e before item n name = refl
+expression_is Theorem e before item n name = refl
+expression_is _ e before item n name = absurd (false≢true e)
 
 -- the fault of a statement, where it is found at the first word, among the symbols, or neither
 pub at_front : (before : List Item) (item : Item) (number : FrameNumber) → Some number ≡ front_fault before item → ◌≡◌ {A = Option (ℕ × FrameNumber)} (Some (0, number)) (fault before item)

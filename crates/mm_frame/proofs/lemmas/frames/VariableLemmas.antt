@@ -176,6 +176,15 @@ variables_left before item old symbols found count long are gone out =
       ]) e c t;
     }
 
+-- an item behind which the same `$e` are active adds none
+pub variables_stay : (before : List Item) (essentials : List ℕ) (old : List (List NumberedSymbol)) (symbols : List NumberedSymbol) (found : List EssentialVariable) → length old ≡ length before → essentials ≡ active_numbers is_essential_item before
+    → AreVariablesOf essentials old found → AreVariablesOf essentials (old ++ symbols ∷ []) found
+variables_stay before essentials old symbols found long e are = record {
+  within = λ v c. (let w = are.within v c in let l = length-append old (symbols ∷ []) in omega arith);
+  from = λ v c. subst (λ w. Contains w v.symbol) (sym (same_kept old symbols v.number (are.within v c))) (are.from v c);
+  to = λ n s a c t. are.to n s a (subst (λ w. Contains w s) (same_kept old symbols n (let w = earlier_within before n (subst (In n) e (contains_in n essentials a)) in omega arith)) c) t;
+}
+
 pub variables_added : (before : List Item) (item : Item) (old : List (List NumberedSymbol)) (symbols : List NumberedSymbol)
     (found new : List EssentialVariable) (count : ℕ) → length old ≡ length before → AreVariablesOf (active_numbers is_essential_item before) old found
     → ((v : EssentialVariable) → Contains (drop count found) v → (n : ℕ) → Contains (active_numbers is_essential_item (before ++ item ∷ [])) n → n < v.number)

@@ -1,8 +1,11 @@
 -- The parts of one list by their ends: how many there are, each of them, and one more.
-use Rattle.std.proofs.Common.{◌≡◌, ℕ, zero, suc, ◌+◌, ◌-◌, ◌<◌, ◌≤◌, Some, List, [], ◌∷◌, ◌++◌, length, take, drop, get_or, slice_get, refl, ◌∙◌, ap, arith}
+use Rattle.std.proofs.Common.{◌≡◌, ℕ, zero, suc, ◌+◌, ◌-◌, ◌<◌, ◌≤◌, Some, None, List, [], ◌∷◌, ◌++◌, length, map, take, drop, get_or, slice_get, refl, sym, ◌∙◌, ap, subst, arith, length-append}
 use Rattle.std.specs.List.{slice_range}
+use Rattle.std.specs.Option.{option_map}
+use Rattle.std.proofs.lemmas.Option.{slice_get-map}
 use Rattle.std.proofs.lemmas.List.{take-append-le, drop-append-le, take_all, length-drop}
 use Rattle.mm_frame.specs.Code.KeptExpressions.{cut_from, EndsFrom, start_at}
+use Rattle.mm_frame.specs.Code.KeptSparse.{first_of, value_or_none, value_kept}
 
 pub cut_length : {X : Type 0} (symbols : List X) (from : ℕ) (ends : List ℕ) → length (cut_from symbols from ends) ≡ length ends
 cut_length symbols from [] = refl
@@ -41,13 +44,49 @@ range_back symbols more from end e m =
     drop_behind (x ∷ xs) ys (suc n) e = drop_behind xs ys n (omega arith)
     drop_behind _ ys _ e = absurd (omega arith)
 
-pub cut_more : {X : Type 0} (symbols more : List X) (from : ℕ) (ends : List ℕ) (end : ℕ) → EndsFrom from ends (length symbols) → end ≡ length symbols + length more
+cut_more : {X : Type 0} (symbols more : List X) (from : ℕ) (ends : List ℕ) (end : ℕ) → EndsFrom from ends (length symbols) → end ≡ length symbols + length more
     → cut_from (symbols ++ more) from (ends ++ end ∷ []) ≡ cut_from symbols from ends ++ more ∷ []
 cut_more symbols more from [] end e m = ap (λ w. w ∷ []) (range_back symbols more from end e m)
 cut_more symbols more from (x ∷ ends) end e m =
     let l = ends_within x ends (length symbols) e.1 in
     (λ i. range_front symbols more from x e.0 l i ∷ cut_more symbols more x ends end e.1 m i)
 
-pub ends_more : (from : ℕ) (ends : List ℕ) (last end : ℕ) → EndsFrom from ends last → last ≤ end → EndsFrom from (ends ++ end ∷ []) end
+ends_more : (from : ℕ) (ends : List ℕ) (last end : ℕ) → EndsFrom from ends last → last ≤ end → EndsFrom from (ends ++ end ∷ []) end
 ends_more from [] last end e l = (omega arith, refl)
 ends_more from (x ∷ ends) last end e l = (e.0, ends_more x ends last end e.1 l)
+
+-- one more part, with its end
+pub cut_added : {X : Type 0} (symbols own all : List X) (ends new : List ℕ) (end : ℕ) → EndsFrom 0 ends (length symbols) → all ≡ symbols ++ own → end ≡ length all → new ≡ ends ++ end ∷ []
+    → EndsFrom 0 new (length all) × (cut_from all 0 new ≡ cut_from symbols 0 ends ++ own ∷ [])
+cut_added symbols own all ends new end e a l n =
+    let count = ap length a ∙ length-append symbols own in (
+      subst (λ w. EndsFrom 0 w (length all)) (sym n) (subst (EndsFrom 0 (ends ++ end ∷ [])) l (ends_more 0 ends (length symbols) end e (omega arith))),
+      (λ k. cut_from (a k) 0 (n k)) ∙ cut_more symbols own 0 ends end e (omega arith),
+    )
+
+-- the first of a part
+first_there : {X : Type 0} (xs : List X) (start end : ℕ) → start < end → first_of (slice_range xs start end) ≡ slice_get xs start
+first_there xs start end l = taken (end - start) (drop start xs) (omega arith) ∙ dropped start xs
+  where
+    taken : {X : Type 0} (n : ℕ) (xs : List X) → 0 < n → first_of (take n xs) ≡ slice_get xs 0
+    taken zero xs l = absurd (omega arith)
+    taken (suc n) [] l = refl
+    taken (suc n) (x ∷ xs) l = refl
+
+    dropped : {X : Type 0} (n : ℕ) (xs : List X) → slice_get (drop n xs) 0 ≡ slice_get xs n
+    dropped zero xs = refl
+    dropped (suc n) [] = refl
+    dropped (suc n) (x ∷ xs) = dropped n xs
+
+first_past : {X : Type 0} (xs : List X) (start end : ℕ) → end ≤ start → first_of (slice_range xs start end) ≡ None
+first_past xs start end l = let none : end - start ≡ 0 = omega arith in ap (λ n. first_of (take n (drop start xs))) none
+
+-- the value of an item, and that it has none
+kept : {X : Type 0} (values : List X) (ends : List ℕ) (n : ℕ) → n < length ends → value_kept (map first_of (cut_from values 0 ends)) n ≡ first_of (slice_range values (start_at 0 ends n) (get_or ends n 0))
+kept values ends n l = ap value_or_none (slice_get-map first_of (cut_from values 0 ends) n ∙ ap (option_map first_of) (cut_there values 0 ends n l))
+
+pub value_there : {X : Type 0} (values : List X) (ends : List ℕ) (n start end : ℕ) → n < length ends → start ≡ start_at 0 ends n → end ≡ get_or ends n 0 → start < end → slice_get values start ≡ value_kept (map first_of (cut_from values 0 ends)) n
+value_there values ends n start end w s e l = sym (kept values ends n w ∙ (λ i. first_of (slice_range values (sym s i) (sym e i))) ∙ first_there values start end l)
+
+pub value_missing : {X : Type 0} (values : List X) (ends : List ℕ) (n start end : ℕ) → n < length ends → start ≡ start_at 0 ends n → end ≡ get_or ends n 0 → end ≤ start → None ≡ value_kept (map first_of (cut_from values 0 ends)) n
+value_missing values ends n start end w s e l = sym (kept values ends n w ∙ (λ i. first_of (slice_range values (sym s i) (sym e i))) ∙ first_past values start end l)

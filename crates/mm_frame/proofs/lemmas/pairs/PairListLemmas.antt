@@ -33,7 +33,7 @@ use Rattle.mm_frame.specs.Code.LastItems.{is_active_at, is_disjoint_item, IsRisi
 use Rattle.mm_frame.specs.Language.NumberedSymbols.{symbol_of, symbols_of, pair_of, kept_pairs, IsNumbered, IsPairNumbered, ArePairsRead, AreSamePairsRead, AreInOrder}
 use Rattle.mm_frame.specs.Code.KeptSymbols.{expression_kept, AreSymbols, AreNumbered}
 use Rattle.mm_frame.specs.Code.KeptPairLists.{pairs_among, with_low_first, pairs_or_none, list_kept, IsThere, IsList, list_made, IsMadeFor, AreMade, KeepsLists, AreFrontNumbers, HasEach, HasSame}
-use Rattle.mm_frame.specs.Code.KeptBase.{TellsPairs}
+use Rattle.mm_frame.specs.Code.KeptAssertions.{TellsPairs}
 use Rattle.mm_frame.specs.Language.Answering.{AreRows, is_told_proof}
 use Rattle.mm_frame.proofs.lemmas.lists.Members.{In, in_left, in_right, in_cases, in_get, get_in, in_contains, contains_in, in_map, from_map}
 use Rattle.mm_frame.proofs.lemmas.scope.ActiveBySplit.{stays_join, stays_front}

@@ -12,7 +12,7 @@ use Rattle.mm_frame.proofs.mandatory.active_among.Given as goal
 
 abbrev pub invariant-loop-n : goal.invariant-loop-n
 invariant-loop-n l = record {
-  placed : IfSome l.places (ArePlaces l.variables);
+  placed : IfSome l.placed.places (ArePlaces l.variables);
   asked : (all : List (List ℕ)) (before : List Item) → KnowsEarlier all before l.earlier → KnowsAsked all before l.initial.asked → KnowsAsked all before l.asked;
   pairs : (all : List (List ℕ)) (before : List Item) → KnowsEarlier all before l.earlier → KnowsAsked all before l.initial.asked → All (IsNumbered all) l.variables
       → (said : List (Symbol × Symbol)) × (said ++ filter (are_paired (active_pairs before)) (pairs_of (symbols_of all (drop l.n l.variables))) ≡ filter

@@ -16,12 +16,12 @@ use Rattle.mm_frame.proofs.mandatory.add_pairs_with_later.Goals as goal
 
 pub returns-then-are_short-clause-pairs : goal.returns-then-are_short-clause-pairs
 returns-then-are_short-clause-pairs c = on_ok_weaker c.add_partners.result (λ added all before said first known m placed numbered r there.
-    let places = subst (λ o. IfSome o (ArePlaces c.args.variables.now)) c.in-Some.is placed in
-    added all before said first (reads_earlier all before c.args.earlier.now known) known.symbols places numbered r there) c.add_partners.ensures
+    let places = subst (λ o. IfSome o (ArePlaces c.args.placed.now.variables.now)) c.in-Some.is placed in
+    added all before said first known places numbered r there) c.add_partners.ensures
 
 pub returns-clause-pairs : goal.returns-clause-pairs
 returns-clause-pairs c = on_ok_weaker c.add_active_with.result (λ added all before said first known m placed numbered r there.
-    let variables = c.args.variables.now in
+    let variables = c.args.placed.now.variables.now in
     let none : NumberedSymbol = record { name = 0; variable = false } in
     let test = are_paired (active_pairs before) in
     let here = get_or_from_slice_get variables c.args.n first none there in

@@ -1,44 +1,38 @@
-use Rattle.std.proofs.Common.{Some, None, slice_get, ◌∙◌, ap, sym, subst}
+use Rattle.std.proofs.Common.{Some, None, ap, sym, subst}
 use Rattle.std.specs.Prelude.{All}
 use Rattle.mm_frame.specs.Language.Base.{before}
 use Rattle.mm_frame.specs.Language.Frame.{AreSamePairs}
 use Rattle.mm_frame.specs.Language.Framing.{active_pairs}
 use Rattle.mm_frame.specs.Language.NumberedSymbols.{kept_pairs, AreInOrder, IsPairNumbered}
-use Rattle.mm_frame.specs.Code.KeptBase.{number_kept}
 use Rattle.mm_frame.proofs.lemmas.base.AnswerLemmas.{active_in}
 use Rattle.mm_frame.proofs.base.Base.pairs.Goals as goal
 
 pub returns-in-Some-clause-some : goal.returns-in-Some-clause-some
 returns-in-Some-clause-some c base is =
-    let numbers = c.self.inside.parts.pair_numbers.items in
-    let number = c.number_at.ensures ∙ ap (λ w. number_kept (slice_get w c.args.i)) c.deref.ensures.value in
-    let told = active_in is.0 base c.args.self.now c.self.inside.parts.pair_lists numbers (ap (λ a. a.actives) c.self.view_is) is.1 c.args.i c.number_at.result (Some c.in-Some.k) number c.in-Some.is in
+    let parts = c.self.inside.parts in
+    let told = active_in is.0 base c.args.self.now parts.pair_lists parts.pair_numbers (ap (λ a. a.actives) c.self.view_is) is.1 c.args.i c.number_at.result (Some c.in-Some.k) c.number_at.ensures c.in-Some.is in
     told.some
 
 pub returns-in-Some-clause-pairs : goal.returns-in-Some-clause-pairs
 returns-in-Some-clause-pairs c names base is =
-    let numbers = c.self.inside.parts.pair_numbers.items in
-    let number = c.number_at.ensures ∙ ap (λ w. number_kept (slice_get w c.args.i)) c.deref.ensures.value in
-    let told = active_in names base c.args.self.now c.self.inside.parts.pair_lists numbers (ap (λ a. a.actives) c.self.view_is) is c.args.i c.number_at.result (Some c.in-Some.k) number c.in-Some.is in
+    let parts = c.self.inside.parts in
+    let told = active_in names base c.args.self.now parts.pair_lists parts.pair_numbers (ap (λ a. a.actives) c.self.view_is) is c.args.i c.number_at.result (Some c.in-Some.k) c.number_at.ensures c.in-Some.is in
     subst (λ w. AreSamePairs (kept_pairs names w) (active_pairs (before base c.args.i))) (sym c.list.ensures) told.pairs.pairs
 
 pub returns-in-Some-clause-numbered : goal.returns-in-Some-clause-numbered
 returns-in-Some-clause-numbered c names base is =
-    let numbers = c.self.inside.parts.pair_numbers.items in
-    let number = c.number_at.ensures ∙ ap (λ w. number_kept (slice_get w c.args.i)) c.deref.ensures.value in
-    let told = active_in names base c.args.self.now c.self.inside.parts.pair_lists numbers (ap (λ a. a.actives) c.self.view_is) is c.args.i c.number_at.result (Some c.in-Some.k) number c.in-Some.is in
+    let parts = c.self.inside.parts in
+    let told = active_in names base c.args.self.now parts.pair_lists parts.pair_numbers (ap (λ a. a.actives) c.self.view_is) is c.args.i c.number_at.result (Some c.in-Some.k) c.number_at.ensures c.in-Some.is in
     subst (All (IsPairNumbered names)) (sym c.list.ensures) told.pairs.numbered
 
 pub returns-in-Some-clause-order : goal.returns-in-Some-clause-order
 returns-in-Some-clause-order c base is =
-    let numbers = c.self.inside.parts.pair_numbers.items in
-    let number = c.number_at.ensures ∙ ap (λ w. number_kept (slice_get w c.args.i)) c.deref.ensures.value in
-    let told = active_in is.0 base c.args.self.now c.self.inside.parts.pair_lists numbers (ap (λ a. a.actives) c.self.view_is) is.1 c.args.i c.number_at.result (Some c.in-Some.k) number c.in-Some.is in
+    let parts = c.self.inside.parts in
+    let told = active_in is.0 base c.args.self.now parts.pair_lists parts.pair_numbers (ap (λ a. a.actives) c.self.view_is) is.1 c.args.i c.number_at.result (Some c.in-Some.k) c.number_at.ensures c.in-Some.is in
     subst AreInOrder (sym c.list.ensures) told.order
 
 pub returns-in-None-clause-some : goal.returns-in-None-clause-some
 returns-in-None-clause-some c base is =
-    let numbers = c.self.inside.parts.pair_numbers.items in
-    let number = c.number_at.ensures ∙ ap (λ w. number_kept (slice_get w c.args.i)) c.deref.ensures.value in
-    let told = active_in is.0 base c.args.self.now c.self.inside.parts.pair_lists numbers (ap (λ a. a.actives) c.self.view_is) is.1 c.args.i c.number_at.result None number c.in-None.is in
+    let parts = c.self.inside.parts in
+    let told = active_in is.0 base c.args.self.now parts.pair_lists parts.pair_numbers (ap (λ a. a.actives) c.self.view_is) is.1 c.args.i c.number_at.result None c.number_at.ensures c.in-None.is in
     told.some

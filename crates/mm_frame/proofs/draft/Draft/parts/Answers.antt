@@ -8,8 +8,8 @@ returns c = λ all said d.
       kept = d.kept;
       rows = d.rows;
       symbols = d.symbols;
-      frames = d.frames;
+      frames = d.assertions.frames;
       labels = kept.0.labels;
       marks = kept.1;
-      pair_numbers = d.pair_numbers;
+      pair_numbers = d.assertions.pair_numbers;
     }

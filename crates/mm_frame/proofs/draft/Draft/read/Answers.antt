@@ -8,20 +8,7 @@ use Rattle.mm_frame.proofs.draft.Draft.read.Goals as goal
 
 -- the numbers of the last statement's symbols are nothing that is said
 numbers_aside : (all : List (List ℕ)) (said : List Item) (old : Draft) (numbers : _) → IsDraft all said old → IsDraft all said (record old { numbers = numbers })
-numbers_aside all said old numbers d = record {
-  scope = d.scope;
-  kept = d.kept;
-  rows = d.rows;
-  symbols = d.symbols;
-  frames = d.frames;
-  essentials = d.essentials;
-  disjoints = d.disjoints;
-  made = d.made;
-  pair_numbers = d.pair_numbers;
-  pair_table = d.pair_table;
-  asked = d.asked;
-  variables = d.variables;
-}
+numbers_aside all said old numbers d = record { scope = d.scope; kept = d.kept; rows = d.rows; symbols = d.symbols; assertions = d.assertions; active = d.active; pair_table = d.pair_table }
 
 pub returns-clause-read : goal.returns-clause-read
 returns-clause-read c =

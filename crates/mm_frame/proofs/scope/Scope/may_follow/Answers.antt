@@ -1,4 +1,4 @@
-use Rattle.std.proofs.Common.{◌≡◌, ℕ, ◌∙◌, ◌&&◌, ap, sym, Some, List, Option}
+use Rattle.std.proofs.Common.{◌≡◌, ℕ, ◌∙◌, ap, sym, Some, List, Option}
 use Rattle.std.specs.Prelude.{is_none}
 use Rattle.mm_frame.specs.Language.Item.{Item}
 use Rattle.mm_frame.specs.Language.Sound.{AreSound}
@@ -8,7 +8,6 @@ use Rattle.mm_frame.specs.Code.FaultInOrder.{later_fault}
 use Rattle.mm_frame.specs.Code.Numbers.{IsNameNumber}
 use Rattle.mm_frame.specs.Code.KeptScope.{ScopeHolds}
 use Rattle.mm_frame.specs.Code.KeptTables.{declared_at}
-use Rattle.mm_frame.specs.Code.LastItems.{is_active_last}
 use Rattle.mm_frame.proofs.lemmas.scope.KnownLemmas.{known_at}
 use Rattle.mm_frame.proofs.lemmas.faults.FaultLemmas.{may_follow_as, follows_later}
 use Rattle.mm_frame.proofs.scope.Scope.may_follow.Goals as goal
@@ -20,15 +19,9 @@ told scope n found given all before name h k t is e = ap (may_follow_as before) 
 pub returns-in-Some-Constant : goal.returns-in-Some-Constant
 returns-in-Some-Constant c all before name h k t = told c.args.self.now c.args.number c.name.result _ all before name h k t c.name.ensures (c.in-Some-Constant.is ∙ ap Some c.in-Some-Constant.field-0-is)
 
-pub returns-then-is_active_number : goal.returns-then-is_active_number
-returns-then-is_active_number c all before name h k t =
-    c.is_active_number-then-is_active_number.ensures all before k ∙ ap (λ b. b && is_active_last before c.in-Some-Variable.float) (sym c.if-is_active_number.true ∙ c.is_active_number.ensures all before k)
-    ∙ told c.args.self.now c.args.number c.name.result _ all before name h k t c.name.ensures (c.in-Some-Variable.is ∙ ap Some c.in-Some-Variable.field-0-is)
-
-pub returns-else-is_active_number : goal.returns-else-is_active_number
-returns-else-is_active_number c all before name h k t =
-    c.if-is_active_number.false ∙ ap (λ b. b && is_active_last before c.in-Some-Variable.float) (sym c.if-is_active_number.false ∙ c.is_active_number.ensures all before k)
-    ∙ told c.args.self.now c.args.number c.name.result _ all before name h k t c.name.ensures (c.in-Some-Variable.is ∙ ap Some c.in-Some-Variable.field-0-is)
+pub returns-in-Some-Variable : goal.returns-in-Some-Variable
+returns-in-Some-Variable c all before name h k t =
+    c.is_active_number.ensures all before k ∙ told c.args.self.now c.args.number c.name.result _ all before name h k t c.name.ensures (c.in-Some-Variable.is ∙ ap Some c.in-Some-Variable.field-0-is)
 
 pub returns-in-None : goal.returns-in-None
 returns-in-None c all before name h k t = told c.args.self.now c.args.number c.name.result _ all before name h k t c.name.ensures c.in-None.is

@@ -1,7 +1,7 @@
 use Rattle.std.proofs.Common.{◌∷◌, [], ◌++◌, map, take_all, ap, ◌∙◌}
 use Rattle.mm_frame.specs.Code.KeptSymbols.{symbol_by}
 use Rattle.mm_frame.proofs.lemmas.lists.Growing.{map_grows}
-use Rattle.mm_frame.proofs.symbol.symbols_numbered.Goals as goal
+use Rattle.mm_frame.proofs.symbol.put_symbols.Goals as goal
 
 pub loop-number-preserved : goal.loop-number-preserved
 loop-number-preserved c =

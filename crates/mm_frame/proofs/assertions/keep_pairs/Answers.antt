@@ -1,16 +1,16 @@
 use Rattle.std.proofs.Common.{Some, None, ◌++◌, ◌∷◌, [], ◌∙◌, sym, subst}
 use Rattle.mm_frame.specs.Language.Sound.{sound_items}
-use Rattle.mm_frame.specs.Code.KeptBase.{TellsPairs}
+use Rattle.mm_frame.specs.Code.KeptAssertions.{TellsPairs}
 use Rattle.mm_frame.specs.Language.Answering.{AreRows}
 use Rattle.mm_frame.proofs.lemmas.base.BaseLemmas.{kept_are_sound}
 use Rattle.mm_frame.proofs.lemmas.pairs.PairListLemmas.{pairs_more, keeps_all, no_number, some_number}
-use Rattle.mm_frame.proofs.draft.keep_pairs.Goals as goal
+use Rattle.mm_frame.proofs.assertions.keep_pairs.Goals as goal
 
 pub returns-then-not-proof-clause-pairs : goal.returns-then-not-proof-clause-pairs
 returns-then-not-proof-clause-pairs c all said item a d m e rows =
     let lists = c.args.pair_lists.now in
-    subst (λ w. AreRows (TellsPairs all lists) (said ++ item ∷ []) w) (sym c.in_ok-push.ensures.items)
-    (pairs_more all said item lists lists c.args.pairs.now.items None (keeps_all lists) rows (no_number all lists (sound_items said) item
+    subst (λ w. AreRows (TellsPairs all lists) (said ++ item ∷ []) w) (sym c.in_ok-pass.ensures)
+    (pairs_more all said item lists lists c.args.pairs.now None (keeps_all lists) rows (no_number all lists (sound_items said) item
     (sym c.if-not-proof.true ∙ e)))
 
 pub returns-clause-pairs : goal.returns-clause-pairs
@@ -18,6 +18,6 @@ returns-clause-pairs c all said item a d m e rows =
     let old = c.args.pair_lists.now in
     let new = c.list_of.new.self in
     let is = c.in_ok-k.ensures.pairs all (sound_items said) (kept_are_sound said) a d m in
-    subst (λ w. AreRows (TellsPairs all new) (said ++ item ∷ []) w) (sym c.in_ok-push-2.ensures.items)
-    (pairs_more all said item old new c.args.pairs.now.items (Some c.in_ok-k.k) c.in_ok-k.ensures.kept rows
+    subst (λ w. AreRows (TellsPairs all new) (said ++ item ∷ []) w) (sym c.in_ok-add.ensures)
+    (pairs_more all said item old new c.args.pairs.now (Some c.in_ok-k.k) c.in_ok-k.ensures.kept rows
     (some_number all new (sound_items said) item c.in_ok-k.k (sym c.if-not-proof.false ∙ e) is))

@@ -1,0 +1,13 @@
+use Rattle.std.proofs.Common.{[], sym, subst}
+use Rattle.mm_frame.specs.Language.Answering.{AreRows}
+use Rattle.mm_frame.specs.Code.KeptAssertions.{TellsFrame, TellsPairs}
+use Rattle.mm_frame.proofs.lemmas.base.BaseLemmas.{rows_none}
+use Rattle.mm_frame.proofs.assertions.Assertions.with_room.Goals as goal
+
+pub returns : goal.returns
+returns c = λ all. record {
+  frames = subst (AreRows (TellsFrame all) []) (sym c.in_ok-frames.ensures) (rows_none (TellsFrame all));
+  made = c.new.ensures all;
+  pair_numbers = subst (AreRows (TellsPairs all c.new.result) []) (sym c.in_ok-pair_numbers.ensures) (rows_none (TellsPairs all c.new.result));
+  asked = c.new-2.ensures all;
+}

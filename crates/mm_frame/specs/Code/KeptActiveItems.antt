@@ -1,0 +1,18 @@
+-- What the code keeps of the active `$e` and `$d`.
+use Rattle.std.specs.Prelude.{◌≡◌, ◌||◌, Bool, List}
+use Rattle.mm_frame.specs.declared.active_items.ActiveItems.{ActiveItems}
+use Rattle.mm_frame.specs.declared.symbol.NumberedSymbol.{NumberedSymbol}
+use Rattle.mm_frame.specs.Language.Item.{Kind, Item, is_essential, is_disjoint}
+use Rattle.mm_frame.specs.Language.Scope.{closes, mark_of, active_numbers}
+use Rattle.mm_frame.specs.Code.LastItems.{is_essential_item, is_disjoint_item}
+use Rattle.mm_frame.specs.Code.KeptVariables.{AreVariablesOf}
+
+-- a sound item of this kind may change which `$e` and `$d` are active
+abbrev pub changes_active : Kind → Bool
+changes_active kind = is_essential kind || is_disjoint kind || closes (mark_of kind)
+
+-- these are active behind these items, whose symbols are kept so
+pub record AreActive (before : List Item) (expressions : List (List NumberedSymbol)) (active : ActiveItems) : Type 0 where
+  pub essentials : active.essentials ≡ active_numbers is_essential_item before
+  pub disjoints : active.disjoints ≡ active_numbers is_disjoint_item before
+  pub variables : AreVariablesOf active.essentials expressions active.variables.found.items

@@ -1,0 +1,154 @@
+//! What is active behind the items so far.
+
+ghost use Rattle.std.specs.Prelude.{◌≡◌, ◌∷◌, ◌++◌, ◌&&◌, ℕ, Bool, List, [], OnOk, length};
+ghost use Rattle.mm_frame.specs.declared.symbol.NumberedSymbol.{NumberedSymbol as Kept};
+ghost use Rattle.mm_frame.specs.Language.Item as meant;
+ghost use Rattle.mm_frame.specs.Language.Scope.{closes, mark_of, active_numbers};
+ghost use Rattle.mm_frame.specs.Language.Statement.{kind_of};
+ghost use Rattle.mm_frame.specs.Code.BlockMarks.{block_marks};
+ghost use Rattle.mm_frame.specs.Code.KeptActiveItems.{changes_active};
+ghost use Rattle.mm_frame.specs.Code.KeptScope.{taken};
+ghost use Rattle.mm_frame.specs.Code.LastItems.{IsSort};
+
+use crate::active::ActiveNumbers;
+use crate::blocks::Blocks;
+use crate::essential::{EssentialVariable, EssentialVariables};
+use crate::expressions::Expressions;
+use mm_store::ItemKind;
+use std::alloc::{AllocError, Global};
+
+/// One more item, as it is taken.
+#[derive(Clone, Copy)]
+pub struct TakenItem {
+    /// What it is.
+    pub kind: ItemKind,
+    /// Its number: the count of the items before it.
+    pub number: usize,
+    /// It is sound.
+    pub sound: bool,
+}
+
+/// The numbers of the active `$e` and `$d`, and the variables of these `$e`.
+#[derive(Drop)]
+pub struct ActiveItems {
+    essentials: ActiveNumbers,
+    disjoints: ActiveNumbers,
+    variables: EssentialVariables,
+}
+
+fn is_essential(kind: ItemKind) -> bool
+    ensures { result ≡ meant.is_essential (kind_of kind) }
+{
+    matches!(kind, ItemKind::Essential)
+}
+
+pub fn is_disjoint(kind: ItemKind) -> bool
+    ensures { result ≡ meant.is_disjoint (kind_of kind) }
+{
+    matches!(kind, ItemKind::Disjoint)
+}
+
+fn ends_block(kind: ItemKind) -> bool
+    ensures { result ≡ closes (mark_of (kind_of kind)) }
+{
+    matches!(kind, ItemKind::BlockEnd)
+}
+
+/// Whether what is active may change behind this item: no other one makes a difference.
+fn changes_active(item: TakenItem) -> bool
+    ensures { result ≡ (item.sound && changes_active (kind_of item.kind)) }
+{
+    item.sound
+        && matches!(
+            item.kind,
+            ItemKind::Essential | ItemKind::Disjoint | ItemKind::BlockEnd
+        )
+}
+
+/// Goes on with the active items of one sort behind one more item; `of_sort` tells whether its kind is of the sort.
+fn follow(
+    numbers: &mut ActiveNumbers,
+    blocks: &Blocks,
+    of_sort: bool,
+    item: TakenItem,
+) -> Result<(), AllocError>
+    ensures { OnOk result ((test : meant.Kind → Bool) (before : List meant.Item) (said : meant.Item) → IsSort test → kind_of item.kind ≡ said.kind
+        → of_sort ≡ test said.kind → item.number ≡ length before → blocks.now ≡ block_marks (before ++ taken item.sound said ∷ [])
+        → numbers.old ≡ active_numbers (λ i. test i.kind) before → numbers.new ≡ active_numbers (λ i. test i.kind) (before ++ taken item.sound said ∷ [])) }
+{
+    let TakenItem {
+        kind,
+        number,
+        sound,
+    } = item;
+    if !sound {
+        return Ok(());
+    }
+    if of_sort {
+        numbers.push(number)?;
+        return Ok(());
+    }
+    if ends_block(kind) {
+        numbers.prune(blocks);
+    }
+    Ok(())
+}
+
+impl ActiveItems {
+    ghost use Rattle.mm_frame.specs.Code.KeptActiveItems.{AreActive};
+
+    /// No items. It takes no memory.
+    pub fn new(alloc: Global) -> Self
+        ensures { AreActive [] [] result }
+    {
+        ActiveItems {
+            essentials: ActiveNumbers::new(alloc),
+            disjoints: ActiveNumbers::new(alloc),
+            variables: EssentialVariables::new(alloc),
+        }
+    }
+
+    /// The numbers of the active `$e`, rising.
+    pub fn essentials(&self) -> &[usize]
+        ensures { result.now ≡ self.now.essentials }
+    {
+        self.essentials.as_slice()
+    }
+
+    /// The numbers of the active `$d`, rising.
+    pub fn disjoints(&self) -> &[usize]
+        ensures { result.now ≡ self.now.disjoints }
+    {
+        self.disjoints.as_slice()
+    }
+
+    /// The variables of the active `$e`.
+    pub fn variables(&self) -> &[EssentialVariable]
+        ensures { result.now ≡ self.now.variables.found.items }
+    {
+        self.variables.as_slice()
+    }
+
+    /// Goes on behind one more item: these are the blocks with it, and the symbols of all items with its own. After an
+    /// allocation failure what is active must not be used.
+    pub fn follow(
+        &mut self,
+        blocks: &Blocks,
+        expressions: &Expressions,
+        item: TakenItem,
+    ) -> Result<(), AllocError>
+        ensures { OnOk result ((before : List meant.Item) (said : meant.Item) (old : List (List Kept)) (symbols : List Kept) → kind_of item.kind ≡ said.kind
+            → item.number ≡ length before → blocks.now ≡ block_marks (before ++ taken item.sound said ∷ [])
+            → length old ≡ length before → expressions.now ≡ old ++ symbols ∷ [] → AreActive before old self.old
+            → AreActive (before ++ taken item.sound said ∷ []) expressions.now self.new) }
+    {
+        if !changes_active(item) {
+            return Ok(());
+        }
+        follow(&mut self.essentials, blocks, is_essential(item.kind), item)?;
+        self.variables
+            .follow(self.essentials.as_slice(), expressions, item.number)?;
+        follow(&mut self.disjoints, blocks, is_disjoint(item.kind), item)?;
+        Ok(())
+    }
+}

@@ -1,0 +1,157 @@
+//! What is kept of the assertions.
+
+ghost use Rattle.std.specs.Prelude.{◌≡◌, ◌∷◌, ◌++◌, ◌&&◌, ℕ, List, [], true, IfOk, OnOk, is_none};
+ghost use Rattle.mm_frame.specs.Language.Item as meant;
+ghost use Rattle.mm_frame.specs.Language.Names.{AreDistinct};
+ghost use Rattle.mm_frame.specs.Language.Statement.{kind_of};
+ghost use Rattle.mm_frame.specs.Language.Scope.{active_numbers};
+ghost use Rattle.mm_frame.specs.Language.Sound.{AreSound, fault, sound_items};
+ghost use Rattle.mm_frame.specs.Language.Answering.{AreRows, is_told_proof};
+ghost use Rattle.mm_frame.specs.Code.KeptAsked.{KnowsAsked};
+ghost use Rattle.mm_frame.specs.Code.KeptEarlier.{IsFramed, KnowsEarlier};
+ghost use Rattle.mm_frame.specs.Code.KeptPairLists.{AreMade};
+ghost use Rattle.mm_frame.specs.Code.KeptSymbols.{AreSymbols};
+ghost use Rattle.mm_frame.specs.Code.KeptAssertions.{TellsFrame, TellsPairs, is_told_framed};
+ghost use Rattle.mm_frame.specs.Code.LastItems.{is_disjoint_item};
+
+use crate::active_items::TakenItem;
+use crate::asked::AskedPairs;
+use crate::draft::Frame;
+use crate::expressions::Expressions;
+use crate::mandatory::{Earlier, hypotheses, mandatory_pairs};
+use crate::pair_lists::PairLists;
+use crate::sparse::Sparse;
+use crate::symbol::NumberedSymbol;
+use mm_store::ItemKind;
+use std::alloc::{AllocError, Global};
+
+/// What is kept of the assertions so far.
+#[derive(Drop)]
+pub struct Assertions {
+    /// The frame of each sound `$a` and `$p`, by its number; none for any other item.
+    pub frames: Sparse<Frame>,
+    /// The lists of active pairs.
+    pub pair_lists: PairLists,
+    /// The number of the list of all active pairs, for each sound `$p`, by its number; none for any other item.
+    pub pair_numbers: Sparse<usize>,
+    /// Which pairs were asked, so that none is searched for twice.
+    pub asked: AskedPairs,
+}
+
+/// Whether such an item has a frame.
+fn is_framed(item: TakenItem) -> bool
+    ensures { result ≡ (item.sound && meant.is_assertion (kind_of item.kind)) }
+{
+    item.sound && matches!(item.kind, ItemKind::Axiom | ItemKind::Theorem)
+}
+
+/// Whether such an item has a proof.
+fn has_proof(item: TakenItem) -> bool
+    ensures { result ≡ (item.sound && meant.is_theorem (kind_of item.kind)) }
+{
+    item.sound && matches!(item.kind, ItemKind::Theorem)
+}
+
+/// Keeps the frame of one more item, which has these symbols, where it is a sound assertion.
+fn keep_frame(
+    alloc: Global,
+    frames: &mut Sparse<Frame>,
+    earlier: &Earlier,
+    asked: &mut AskedPairs,
+    own: &[NumberedSymbol],
+    framed: bool,
+) -> Result<(), AllocError>
+    ensures asked { OnOk result ((all : List (List ℕ)) (before : List meant.Item) → KnowsEarlier all before earlier.now → KnowsAsked all before asked.old
+        → KnowsAsked all before asked.new) }
+    ensures frames { OnOk result ((all : List (List ℕ)) (said : List meant.Item) (item : meant.Item) → KnowsEarlier all (sound_items said) earlier.now
+        → KnowsAsked all (sound_items said) asked.old → framed ≡ is_told_framed (sound_items said) item
+        → (framed ≡ true → IsFramed all (sound_items said) item own.now)
+        → AreRows (TellsFrame all) said frames.old → AreRows (TellsFrame all) (said ++ item ∷ []) frames.new) }
+{
+    if !framed {
+        frames.pass()?;
+        return Ok(());
+    }
+    let hypotheses = hypotheses(alloc, earlier, own)?;
+    let pairs = mandatory_pairs(alloc, earlier, asked, &hypotheses)?;
+    frames.add(Frame { hypotheses, pairs })?;
+    Ok(())
+}
+
+/// Keeps the number of the list of active pairs of one more item, where it is a sound `$p`.
+fn keep_pairs(
+    alloc: Global,
+    pair_lists: &mut PairLists,
+    pairs: &mut Sparse<usize>,
+    disjoints: &[usize],
+    expressions: &Expressions,
+    proof: bool,
+) -> Result<(), AllocError>
+    ensures made { OnOk result ((all : List (List ℕ)) (before : List meant.Item) → AreSound before → AreSymbols all before expressions.now
+        → disjoints.now ≡ active_numbers is_disjoint_item before → AreMade all before pair_lists.old → AreMade all before pair_lists.new) }
+    ensures pairs { OnOk result ((all : List (List ℕ)) (said : List meant.Item) (item : meant.Item) → AreSymbols all (sound_items said) expressions.now
+        → disjoints.now ≡ active_numbers is_disjoint_item (sound_items said)
+        → AreMade all (sound_items said) pair_lists.old → proof ≡ is_told_proof (sound_items said) item
+        → AreRows (TellsPairs all pair_lists.old) said pairs.old → AreRows (TellsPairs all pair_lists.new) (said ++ item ∷ []) pairs.new) }
+{
+    if !proof {
+        pairs.pass()?;
+        return Ok(());
+    }
+    let k = pair_lists.list_of(alloc, disjoints, expressions)?;
+    pairs.add(k)?;
+    Ok(())
+}
+
+impl Assertions {
+    ghost use Rattle.mm_frame.specs.Code.KeptAssertions.{AreAssertions};
+
+    /// No items, with room for this many.
+    pub fn with_room(alloc: Global, count: usize) -> Result<Assertions, AllocError>
+        ensures { IfOk result (λ assertions. (all : List (List ℕ)) → AreAssertions all [] assertions) }
+    {
+        let frames = Sparse::with_room(alloc, count)?;
+        let pair_numbers = Sparse::with_room(alloc, count)?;
+        Ok(Assertions {
+            frames,
+            pair_lists: PairLists::new(alloc),
+            pair_numbers,
+            asked: AskedPairs::new(alloc),
+        })
+    }
+
+    /// Keeps what citing one more item needs, and the list of the pairs that are active there. Its symbols are `own`, and
+    /// `disjoints` are the numbers of the active `$d`. Want of memory leaves the assertions as good for nothing.
+    pub fn keep(
+        &mut self,
+        alloc: Global,
+        earlier: &Earlier,
+        disjoints: &[usize],
+        own: &[NumberedSymbol],
+        item: TakenItem,
+    ) -> Result<(), AllocError>
+        ensures { OnOk result ((all : List (List ℕ)) (said : List meant.Item) (one : meant.Item) → KnowsEarlier all (sound_items said) earlier.now
+            → disjoints.now ≡ active_numbers is_disjoint_item (sound_items said) → kind_of item.kind ≡ one.kind
+            → is_none (fault (sound_items said) one) ≡ item.sound
+            → ((item.sound && meant.is_assertion (kind_of item.kind)) ≡ true → IsFramed all (sound_items said) one own.now)
+            → AreAssertions all said self.old → AreAssertions all (said ++ one ∷ []) self.new) }
+    {
+        keep_frame(
+            alloc,
+            &mut self.frames,
+            earlier,
+            &mut self.asked,
+            own,
+            is_framed(item),
+        )?;
+        keep_pairs(
+            alloc,
+            &mut self.pair_lists,
+            &mut self.pair_numbers,
+            disjoints,
+            earlier.expressions,
+            has_proof(item),
+        )?;
+        Ok(())
+    }
+}

@@ -1,0 +1,85 @@
+//! What some items have, and others do not.
+
+ghost use Rattle.std.specs.Prelude.{◌≡◌, ◌∷◌, ◌++◌, [], Some, None, IfOk, OnOk, slice_get};
+ghost use Rattle.std.specs.Option.{option_map};
+ghost use Rattle.mm_frame.specs.Code.KeptSparse.{value_kept};
+
+use crate::expressions::{end_at, start_at};
+use std::alloc::{AllocError, Global};
+use std::marker::Model;
+
+/// A value of each of some items, by the numbers of all items from 0. The values lie in one list; for an item that has
+/// none, only a number is kept.
+///
+/// To add one more item takes constant time on the average, and so does a look at an item.
+#[derive(Drop)]
+pub struct Sparse<T> {
+    values: Vec<T>,
+    /// For each item, how many values there are up to its own.
+    ends: Vec<usize>,
+}
+
+impl<T> Model for Sparse<T> {
+    ghost use Rattle.std.specs.Prelude.{List, Option};
+
+    ghost Value = { List (Option T) };
+
+    ghost use Rattle.mm_frame.specs.Code.KeptSparse.{values_inside, AreCut};
+
+    ghost view = { values_inside };
+
+    ghost invariant = { AreCut };
+}
+
+/// The element at a place of a list, if there is such a place.
+pub fn element_at<T>(list: &[T], i: usize) -> Option<&T>
+    ensures { option_map (λ element. element.now) result ≡ slice_get list.now i }
+{
+    list.get(i)
+}
+
+impl<T: Drop> Sparse<T> {
+    /// No items, with room for this many that have no value.
+    pub fn with_room(alloc: Global, count: usize) -> Result<Sparse<T>, AllocError>
+        ensures { IfOk result (λ sparse. sparse ≡ []) }
+    {
+        let ends = Vec::with_capacity(alloc, count)?;
+        Ok(Sparse {
+            values: Vec::new(alloc),
+            ends,
+        })
+    }
+
+    /// The value of the item with this number, if it has one.
+    pub fn at(&self, number: usize) -> Option<&T>
+        ensures { option_map (λ value. value.now) result ≡ value_kept self.now number }
+    {
+        if number >= self.ends.len() {
+            return None;
+        }
+        let start = start_at(&self.ends, number);
+        if start < end_at(&self.ends, number) {
+            element_at(&self.values, start)
+        } else {
+            None
+        }
+    }
+
+    /// Adds one more item, which has this value. Want of memory changes nothing.
+    pub fn add(&mut self, value: T) -> Result<(), AllocError>
+        ensures { OnOk result (self.new ≡ self.old ++ Some value ∷ []) }
+    {
+        self.ends.reserve(1)?;
+        self.values.push(value)?;
+        self.ends.push(self.values.len()).unwrap();
+        Ok(())
+    }
+
+    /// Adds one more item, which has no value. Want of memory changes nothing.
+    pub fn pass(&mut self) -> Result<(), AllocError>
+        ensures { OnOk result (self.new ≡ self.old ++ None ∷ []) }
+    {
+        self.ends.push(self.values.len())?;
+        Ok(())
+    }
+}
