@@ -53,10 +53,6 @@ holds view once = λ n file lt at d within.
     subst (λ keys. is_some (finite.get view.pieces (get_or keys at d)) ≡ true) (sym (keys_read view.keyed n file lt))
     (key_some view.keyed view.pieces once n at d (subst (λ (keys : List ℕ). at < length keys) (keys_read view.keyed n file lt) within))
 
-pub concat_more : (p : Pieces) (keys : List ℕ) (n d : ℕ) → n < length keys → concat (map (text_under p) (take (n + 1) keys)) ≡ concat (map (text_under p) (take n keys)) ++ text_under p (get_or keys n d)
-concat_more p keys n d h =
-    ap concat (map_more (text_under p) keys n d h) ∙ concat-append (map (text_under p) (take n keys)) (text_under p (get_or keys n d) ∷ []) ∙ ap (λ l. concat (map (text_under p) (take n keys)) ++ l) (append-nil (text_under p (get_or keys n d)))
-
 -- the pieces of a file are no longer than all files
 pub file_small : (p : Pieces) (files : List KeyedFile) (n : ℕ) (keys : List ℕ) → keys_in files n ≡ keys → length (concat (map (text_under p) keys)) ≤ bytes_of (map (plain_file p) files)
 file_small p files n keys is = omega (arith, members_within (map (plain_file p) files) n, ap (λ ts. length (concat ts)) (plain_pieces p files n ∙ ap (map (text_under p)) is))

@@ -1,5 +1,5 @@
 use Rattle.std.proofs.Common.{◌≡◌, ℕ, Some, is_some, true, length, map, get_or, sym, ap, ◌∙◌, subst, arith}
-use Rattle.std.specs.Prelude.{Vec, slice_get}
+use Rattle.std.specs.Prelude.{Vec}
 use Rattle.std.specs.Global.{Global}
 use Rattle.std.specs.Option.{option_map}
 use Rattle.std.specs.FinMap as finite
@@ -7,17 +7,16 @@ use Rattle.std.proofs.lemmas.Option.{slice_get-map}
 use Rattle.mm_store.specs.declared.file_text.FileText.{FileText}
 use Rattle.mm_store.specs.Language.FilesView.{FilesView, plain, find_file, text_of}
 use Rattle.mm_store.specs.Code.Kept.{file_of}
-use Rattle.mm_store.proofs.lemmas.files.EntryLemmas.{texts_of, keys_at}
+use Rattle.mm_store.proofs.lemmas.files.EntryLemmas.{keys_at}
 use Rattle.mm_store.proofs.lemmas.files.FilesLemmas.{found_is, none_is, key_some}
 use Rattle.mm_store.proofs.files.Files.text.Goals as goal
 
 pub joined_text-requires : goal.joined_text-requires
 joined_text-requires c =
     let es = c.self.inside.files.entries in
-    let v = c.in-Some.file.now in
     let n = c.in-Some.field-0-0 in
-    let here : slice_get (texts_of es) n ≡ Some v = slice_get-map (λ (e : Vec ℕ Global × FileText). e.1) es n ∙ ap (option_map (λ (e : Vec ℕ Global × FileText). e.1)) c.in-Some.ensures.entry in
-    let keys = keys_at es n v here in
+    let second = λ (e : Vec ℕ Global × FileText). e.1 in
+    let keys = keys_at es n c.in-Some.file.now (slice_get-map second es n ∙ ap (option_map second) c.in-Some.ensures.entry) in
     λ at d lt. subst (λ ks. is_some (finite.get c.self.inside.pieces (get_or ks at d)) ≡ true) keys (key_some (map file_of es) c.self.inside.pieces c.self.invariant.once n at d (omega (arith, lt, ap length keys)))
 
 pub returns-in-None : goal.returns-in-None
