@@ -59,10 +59,6 @@ rows_told f tells told step said rows are = record {
   each = λ n y e. (let r = told_from f rows n y e in subst (told (sound_items (take n said)) (item_at said n)) r.2 (step (sound_items (take n said)) (item_at said n) r.0 (are.each n r.0 r.1)));
 }
 
-pub is_some_map : {X Y : Type 0} (f : X → Y) (o : Option X) → is_some (option_map f o) ≡ is_some o
-is_some_map f None = refl
-is_some_map f (Some x) = refl
-
 -- the frame
 pub hypotheses_told : (kept : Option Frame) → option_map (λ it. it.0) (frame_told kept) ≡ option_map (λ (frame : Frame). frame.hypotheses.items) kept
 hypotheses_told None = refl
@@ -102,8 +98,7 @@ row_there tells said rows i are t =
 pub expression_read : (all : List (List ℕ)) (base : BaseView) (expressions : List (List NumberedSymbol)) (i : ℕ) → AreRows (IsExpressionTold all) base.said expressions → is_shown_at base i ≡ true
     → symbols_of all (expression_kept expressions i) ≡ expression (before base i) (said_at base i)
 expression_read all base expressions i are t =
-    let p = and_parts (is_sound_at base i) (is_labelled (said_at base i).kind) t in
-    let row = row_there (IsExpressionTold all) base.said expressions i are p.1 in
+    let row = row_there (IsExpressionTold all) base.said expressions i are (and_parts (is_sound_at base i) (is_labelled (said_at base i).kind) t).1 in
     ap (λ o. symbols_of all (kept_or_none o)) row.1 ∙ (are.each i row.0 row.1).expression t
 
 pub expression_numbered : (all : List (List ℕ)) (said : List Item) (expressions : List (List NumberedSymbol)) (i : ℕ) → AreRows (IsExpressionTold all) said expressions → All (IsNumbered all) (expression_kept expressions i)
@@ -185,9 +180,7 @@ carrier_told base rows are label j = (to, from)
         let p = and_parts (is_sound_at base j) (is_labelled (said_at base j).kind) c.shown in
         let row = row_there IsLabelTold base.said rows j are p.1 in
         let told = are.each j row.0 row.1 in
-        let mine = told.label ∙ c.label_is in
-        let none = told.fault ∙ none_is (fault_at base j) p.0 in
-        row.1 ∙ (λ k. Some (mine k, none k))
+        row.1 ∙ (λ k. Some ((told.label ∙ c.label_is) k, (told.fault ∙ none_is (fault_at base j) p.0) k))
 
 -- the tables know it
 pub labels_told : (all : List (List ℕ)) (base : BaseView) (parts : Parts) → AreParts all base.said parts → (label : List ℕ) (j : ℕ) → (table_label parts.tables label ≡ Some j) ↔ (slice_get (rows_of parts.rows) j ≡ Some (Some label, None))

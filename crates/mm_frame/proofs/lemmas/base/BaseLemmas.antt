@@ -284,8 +284,7 @@ pub framed_in_order : (base : BaseView) (i : ℕ) → is_framed_at base i ≡ tr
 framed_in_order base i t =
     let item = said_at base i in
     let parts = and_parts (is_sound_at base i) (is_assertion item.kind) t in
-    let sound = no_fault_sound (before base i) item (none_told item.kind (fault (before base i) item) parts.0) in
-    same_pairs (before base i) item (kept_are_sound (take i base.said)) sound parts.1
+    same_pairs (before base i) item (kept_are_sound (take i base.said)) (no_fault_sound (before base i) item (none_told item.kind (fault (before base i) item) parts.0)) parts.1
 
 -- pairs in this order are those of the frame of an assertion
 pub ordered_pairs : {X : Type 0} (all : List (List ℕ)) (kept : X → List (NumberedSymbol × NumberedSymbol)) (base : BaseView) (i : ℕ) (found : Option X) → is_some found ≡ is_framed_at base i
@@ -312,8 +311,7 @@ pub numbers_more : (all : List (List ℕ)) (numbers : List ℕ) (names : List (L
     → name ≡ get_or names n [] → AreNameNumbers all numbers (take n names) → IsNameNumber all number name
     → AreNameNumbers all (numbers ++ number ∷ []) (take more names)
 numbers_more all numbers names n more number name m l e a there =
-    let longer = ap (λ k. take k names) m ∙ take-suc names n [] l ∙ ap (λ x. take n names ++ x ∷ []) (sym e) in
-    subst (AreNameNumbers all (numbers ++ number ∷ [])) (sym longer) (numbers_push all numbers (take n names) number name a there)
+    subst (AreNameNumbers all (numbers ++ number ∷ [])) (sym (ap (λ k. take k names) m ∙ take-suc names n [] l ∙ ap (λ x. take n names ++ x ∷ []) (sym e))) (numbers_push all numbers (take n names) number name a there)
 
 pub numbers_none : (all : List (List ℕ)) → AreNameNumbers all [] []
 numbers_none all = record { count = refl; each = λ i n e. cc }

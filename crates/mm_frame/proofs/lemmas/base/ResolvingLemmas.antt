@@ -52,8 +52,7 @@ carried_by labelled own label s e = rw (s, e) (let same = (bytes_eq-Decides labe
 
 carried : (base : BaseView) (label : List ℕ) (j : ℕ) → IsCarrier base label j → has (labels_of (said_at base j)) label ≡ true
 carried base label j c =
-    let p = and_parts (is_sound_at base j) (is_labelled (said_at base j).kind) c.shown in
-    carried_by (is_labelled (said_at base j).kind) (said_at base j).label label p.1 c.label_is
+    carried_by (is_labelled (said_at base j).kind) (said_at base j).label label (and_parts (is_sound_at base j) (is_labelled (said_at base j).kind) c.shown).1 c.label_is
 
 -- it is the item that is found by its label
 pub carrier_found : (base : BaseView) (label : List ℕ) (j : ℕ) → IsCarrier base label j → find_in base label ≡ Some j
@@ -112,16 +111,13 @@ active_means base i label j marks m e l t a =
     let f = is_found base i label j e l in
     let item = said_at base j in
     let s = sym (active_by base marks i j m) ∙ a in
-    let p = and_parts (is_sound_at base j) (is_labelled item.kind) f.labels.carrier.shown in
-    let read = expression_at_number (before base i) (kept_are_sound (take i base.said)) j item f.there s p.1 ∙ ap (λ w. expression w item) f.front in
+    let read = expression_at_number (before base i) (kept_are_sound (take i base.said)) j item f.there s (and_parts (is_sound_at base j) (is_labelled item.kind) f.labels.carrier.shown).1 ∙ ap (λ w. expression w item) f.front in
     (f.labels, hypothesis_means base i label j f t ∙ ap (λ b. cond b (Hypothesis (expression (before base i) item)) Inactive) s ∙ ap Hypothesis read)
 
 pub inactive_means : (base : BaseView) (i : ℕ) (label : List ℕ) (j : ℕ) (marks : List Mark) → marks ≡ block_marks (sound_items base.said)
     → IsCarrier base label j → j < i → is_framed_at base j ≡ false → stays_by (drop (suc j) (take i marks)) ≡ false → Resolves base i label answers.Inactive
 inactive_means base i label j marks m e l t a =
-    let f = is_found base i label j e l in
-    let s = sym (active_by base marks i j m) ∙ a in
-    hypothesis_means base i label j f t ∙ ap (λ b. cond b (Hypothesis (expression (before base i) (said_at base j))) Inactive) s
+    hypothesis_means base i label j (is_found base i label j e l) t ∙ ap (λ b. cond b (Hypothesis (expression (before base i) (said_at base j))) Inactive) (sym (active_by base marks i j m) ∙ a)
 
 -- no item before this one has the label
 none_before : (base : BaseView) (i : ℕ) (label : List ℕ) → ((n : ℕ) (x : Item) → n < i → slice_get (sound_items base.said) n ≡ Some x → carries label x ≡ true → ⊥) → resolve (before base i) label ≡ Unknown

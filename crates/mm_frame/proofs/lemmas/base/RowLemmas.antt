@@ -84,9 +84,8 @@ pub shown_some : (rows : Rows) → AreRowsKept rows → (k : ℕ) → get_or row
 shown_some rows kept k t =
     let l = flag_within rows.labelled.items k t in
     let same = kept.flags in
-    let there = row_at rows k (omega arith) in
     let row = row_told rows.labelled.items rows.faults.items k (slice_range rows.bytes.items (start_at 0 rows.ends.items k) (get_or rows.ends.items k 0)) in
-    ap is_shown_in there ∙ ap (λ b. is_none row.1 && is_some (cond b (Some (slice_range rows.bytes.items (start_at 0 rows.ends.items k) (get_or rows.ends.items k 0))) None)) t ∙ always (fault_at rows.faults.items k)
+    ap is_shown_in (row_at rows k (omega arith)) ∙ ap (λ b. is_none row.1 && is_some (cond b (Some (slice_range rows.bytes.items (start_at 0 rows.ends.items k) (get_or rows.ends.items k 0))) None)) t ∙ always (fault_at rows.faults.items k)
   where
     always : (o : Option FrameFault) → (is_none (fault_told o) && true) ≡ is_none o
     always None = refl
@@ -122,8 +121,7 @@ rows_same n [] flags other faults more f g = refl
 rows_same n (x ∷ labels) flags other faults more f g =
     let a = f n (omega arith) in
     let b = g n (omega arith) in
-    let rest = rows_same (suc n) labels flags other faults more (λ k l. f k (omega arith)) (λ k l. g k (omega arith)) in
-    λ i. (cond (a i) (Some x) None, fault_told (b i)) ∷ rest i
+    λ i. (cond (a i) (Some x) None, fault_told (b i)) ∷ (rows_same (suc n) labels flags other faults more (λ k l. f k (omega arith)) (λ k l. g k (omega arith))) i
 
 rows_last : (n : ℕ) (labels : List (List ℕ)) (bytes : List ℕ) (flags : List Bool) (faults : List (Option FrameFault))
     → rows_from n (labels ++ bytes ∷ []) flags faults ≡ rows_from n labels flags faults ++ row_told flags faults (n + length labels) bytes ∷ []
@@ -194,7 +192,6 @@ rows_more old new label fault k a =
     let y : 0 + length labels ≡ length old.ends.items = omega arith in
     let flag = ap (λ n. get_or new.labelled.items n false) z ∙ ap (λ w. get_or w (length old.labelled.items) false) a.flags ∙ get_or-append_seam old.labelled.items (is_some label) [] false in
     let told : cond (get_or new.labelled.items (0 + length labels) false) (Some bytes) None ≡ label = ap (λ b. cond b (Some bytes) None) flag ∙ labelled_told label in
-    let fault_is = ap (λ n. fault_told (fault_at new.faults.items n)) y ∙ ap fault_told a.here in
     ap (λ w. rows_from 0 w new.labelled.items new.faults.items) cut
     ∙ rows_last 0 labels bytes new.labelled.items new.faults.items
-    ∙ (λ i. rows_same 0 labels new.labelled.items old.labelled.items new.faults.items old.faults.items flags faults i ++ (told i, fault_is i) ∷ [])
+    ∙ (λ i. rows_same 0 labels new.labelled.items old.labelled.items new.faults.items old.faults.items flags faults i ++ (told i, (ap (λ n. fault_told (fault_at new.faults.items n)) y ∙ ap fault_told a.here) i) ∷ [])

@@ -26,8 +26,7 @@ has_symbols : (before : List Item) (item : Item) → IsSound before item → is_
 has_symbols before item s t e =
     let word = closing_word item in
     let few = (or_parts (is_short item.kind (length item.symbols) && word == word) (is_floating item.kind && at_symbol is_third item word) (s word F01)).0 in
-    let short = ap (λ xs. is_short item.kind (length xs)) e ∙ short_kind item.kind t in
-    false≢true (sym few ∙ and_from (is_short item.kind (length item.symbols)) (word == word) short (eq-eqb word word refl))
+    false≢true (sym few ∙ and_from (is_short item.kind (length item.symbols)) (word == word) (ap (λ xs. is_short item.kind (length xs)) e ∙ short_kind item.kind t) (eq-eqb word word refl))
 
 no_words : (kind : Kind) → is_labelled kind ≡ true → token_names (symbols_in kind []) ≡ []
 no_words Floating t = refl
@@ -55,8 +54,7 @@ pub item_label : (base : BaseView) → AreSaid base → (j : ℕ) → is_shown_a
 item_label base all j s =
     let item = said_at base j in
     let p = and_parts (is_sound_at base j) (is_labelled item.kind) s in
-    let sound = no_fault_sound (before base j) item (none_told item.kind (fault (before base j) item) p.0) in
     let w = said_words all.0 base.found base.said j all.1 p.1 in
     let t = sym (ap (λ (i : Item). is_labelled i.kind) w.2) ∙ p.1 in
-    let l = label_there w.0 w.1 t (λ n. has_symbols (before base j) item sound p.1 (ap (λ (i : Item). i.symbols) w.2 ∙ n)) in
+    let l = label_there w.0 w.1 t (λ n. has_symbols (before base j) item (no_fault_sound (before base j) item (none_told item.kind (fault (before base j) item) p.0)) p.1 (ap (λ (i : Item). i.symbols) w.2 ∙ n)) in
     (l.0, ap (λ (i : Item). i.label) w.2 ∙ l.1)

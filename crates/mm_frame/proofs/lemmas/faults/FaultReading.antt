@@ -227,8 +227,7 @@ fault_is before item =
     let symbols = from_symbol before item (symbol_number item.kind before item) (first_symbol item) 0 item.symbols (λ k name g. symbol_is before item k name g ∙ ap (λ w. symbol_number item.kind before item w name) (omega arith)) in
     let ended : option_or (first_fault (symbol_number item.kind before item) (first_symbol item) 0 item.symbols) (fault_or (closing_word item) (number_at before item (closing_word item)) None) ≡ option_or (symbols_fault before item)
     (fault_or (closing_word item) (end_fault item) None) = λ i. option_or (number_first item.kind before item (first_symbol item) item.symbols i) (fault_or (closing_word item) (end_is before item i) None) in
-    let behind = words ∙ symbols ∙ ended in
-    ap (fault_from before item 0) count ∙ (λ i. fault_or 0 (front_is before item i) (behind i))
+    ap (fault_from before item 0) count ∙ (λ i. fault_or 0 (front_is before item i) ((words ∙ symbols ∙ ended) i))
 
 -- what code over the symbols by their numbers takes
 pub first_fault_at : (test : ℕ → List ℕ → Option FrameNumber) (word n k : ℕ) (name : List ℕ) (symbols : List (List ℕ)) → slice_get symbols k ≡ Some name

@@ -91,10 +91,9 @@ essential_typed before e name k h t n v =
     let kept_all = subst (λ w. AreKept [] w) s.whole k in
     let sound = sound_at [] s.front e s.back kept_all in
     let x = essential_expression e.kind t in
-    let m = essential_neither e.kind t in
     elim (name_known s.front e name sound x n) [
       | inl c ↦ absurd (not_constant before k name (subst (λ w. In name (constants w)) (sym s.whole) (constants_later s.front e s.back name c)) v)
-      | inr a ↦ subst (λ w. In name (typed w)) (sym s.whole) (typed_later s.front e s.back name m s.stayed (variable_typed s.front e name (kept_front [] s.front (e ∷ s.back) kept_all) sound x n a))
+      | inr a ↦ subst (λ w. In name (typed w)) (sym s.whole) (typed_later s.front e s.back name (essential_neither e.kind t) s.stayed (variable_typed s.front e name (kept_front [] s.front (e ∷ s.back) kept_all) sound x n a))
     ]
 
 -- each mandatory variable is typed
@@ -121,10 +120,8 @@ pub record Float (before : List Item) (f : Item) : Type 0 where
 pub float_of : (before : List Item) (f : Item) → AreKept [] before → In f (active before) → is_floating f.kind ≡ true → Float before f
 float_of before f k h t =
     let s = active_split before f h in
-    let kept_all = subst (λ w. AreKept [] w) s.whole k in
-    let sound = sound_at [] s.front f s.back kept_all in
+    let sound = sound_at [] s.front f s.back (subst (λ w. AreKept [] w) s.whole k) in
     let two = float_two s.front f sound t in
-    let m = float_neither f.kind t in
     let c = first_constant s.front f two.0 sound (float_labelled f.kind t) (ap (λ w. slice_get w 0) two.2) in
     let v = float_variable s.front f two.1 sound t (ap (λ w. slice_get w 1) two.2) in
     record {
@@ -132,7 +129,7 @@ float_of before f k h t =
       name = two.1;
       both = two.2;
       constant = false_from_ne_true (has (active_variables before) two.0) (λ a. not_constant before k two.0 (subst (λ w. In two.0 (constants w)) (sym s.whole) (constants_later s.front f s.back two.0 c)) (has_in (active_variables before) two.0 a));
-      variable = in_has (active_variables before) two.1 (subst (λ w. In two.1 (active_variables w)) (sym s.whole) (variables_later s.front f s.back two.1 m s.stayed v));
+      variable = in_has (active_variables before) two.1 (subst (λ w. In two.1 (active_variables w)) (sym s.whole) (variables_later s.front f s.back two.1 (float_neither f.kind t) s.stayed v));
     }
 
 pub float_name : (before : List Item) (f : Item) (x : Float before f) → variable_of f ≡ x.name
@@ -141,8 +138,7 @@ float_name before f x = ap (λ w. slice_index_or w 1 []) x.both
 -- a mandatory variable has a mandatory `$f`
 named_typed : (before : List Item) (item : Item) (name : List ℕ) → AreKept [] before → IsSound before item → is_expression item.kind ≡ true → In name (mandatory_variables before item) → IsTyped (mandatory_hypotheses before item) (symbol before name)
 named_typed before item name k s t h =
-    let b = mandatory_typed before item name k s t h in
-    let r = from_typed before name b.1 in
+    let r = from_typed before name (mandatory_typed before item name k s t h).1 in
     let x = float_of before r.0 k r.1 r.2 in
     let same : x.name ≡ name = sym (float_name before r.0 x) ∙ r.3 in
     let mandatory = or_right (is_essential (r.0).kind) (is_floating (r.0).kind && has (mandatory_variables before item) (variable_of r.0))
@@ -172,8 +168,7 @@ others front x back k s y h fx fy e =
     let t = active_split back y h in
     let whole : front ++ x ∷ back ≡ (front ++ x ∷ t.front) ++ y ∷ t.back = ap (λ w. front ++ x ∷ w) t.whole ∙ sym (append_assoc front (x ∷ t.front) (y ∷ t.back)) in
     let sound = sound_at [] (front ++ x ∷ t.front) y t.back (subst (λ w. AreKept [] w) whole k) in
-    let open_there = stays_front t.front (y ∷ t.back) (subst (λ w. stays w ≡ true) t.whole s) in
-    let there = to_typed (front ++ x ∷ t.front) x (split_active front x t.front open_there) fx in
+    let there = to_typed (front ++ x ∷ t.front) x (split_active front x t.front (stays_front t.front (y ∷ t.back) (subst (λ w. stays w ≡ true) t.whole s))) fx in
     let two = float_two (front ++ x ∷ t.front) y sound fy in
     let name : variable_of y ≡ two.1 = ap (λ w. slice_index_or w 1 []) two.2 in
     float_new (front ++ x ∷ t.front) y two.1 sound fy (ap (λ w. slice_get w 1) two.2) (subst (λ w. In w (typed (front ++ x ∷ t.front))) (e ∙ name) there)
@@ -275,8 +270,7 @@ side_typed : (before : List Item) (item d : Item) → AreKept [] before → IsSo
 side_typed before item d k t x s h m =
     let r = from_map (symbol before) s d.symbols h in
     let n = subst (λ (w : Symbol). In w.name (mandatory_variables before item)) (sym r.2) (has_in (mandatory_variables before item) s.name m) in
-    let v = in_has (active_variables before) r.0 (mandatory_typed before item r.0 k t x n).0 in
-    (ap (λ (w : Symbol). w.variable) (sym r.2) ∙ v, subst (IsTyped (mandatory_hypotheses before item)) r.2 (named_typed before item r.0 k t x n))
+    (ap (λ (w : Symbol). w.variable) (sym r.2) ∙ (in_has (active_variables before) r.0 (mandatory_typed before item r.0 k t x n).0), subst (IsTyped (mandatory_hypotheses before item)) r.2 (named_typed before item r.0 k t x n))
 
 pub pairs_typed_at : (before : List Item) (item : Item) → AreKept [] before → IsSound before item → is_expression item.kind ≡ true
     → (pair : Symbol × Symbol) → In pair (filter (is_mandatory_pair (mandatory_variables before item)) (active_pairs before))

@@ -183,11 +183,10 @@ pub hypotheses_sorted : (tables : Tables) (expressions : List (List NumberedSymb
     → essentials ≡ active_numbers is_essential_item before → kept ≡ mandatory_numbers before item
 hypotheses_sorted tables expressions essentials found own numbers once sorted kept whole fewer moved rising filtered all before item b are e =
     let first = dedup_is eqb numbers once fewer in
-    let same = dedup_is eqb sorted kept filtered in
     let here = λ (n : ℕ). subst (λ (ns : List ℕ). In n (collected tables expressions ns own)) e in
     let there = λ (n : ℕ). subst (λ (ns : List ℕ). In n (collected tables expressions ns own)) (sym e) in
     let typed = sound_typed before b.sound item b.item_sound (assertion_expression item.kind b.assertion) in
-    same ∙ mandatory_numbers_built before b.sound item typed (dedup eqb sorted) (AllPairs-from_increasing (dedup eqb sorted) (IsStrictlyIncreasing-dedup sorted rising)) (λ n. (
+    (dedup_is eqb sorted kept filtered) ∙ mandatory_numbers_built before b.sound item typed (dedup eqb sorted) (AllPairs-from_increasing (dedup eqb sorted) (IsStrictlyIncreasing-dedup sorted rising)) (λ n. (
       λ m. collected_from all before item tables expressions own b n (here n (known_collected tables expressions essentials found own are n (subst (In n) whole (contains_in n numbers
           (Contains-from_dedup eqb numbers n (subst (λ w. Contains w n) first (Contains-permutation sorted once n (IsPermutation-sym once sorted moved) (Contains-from_dedup eqb sorted n m)))))))),
       λ f. Contains-dedup_nat sorted n (Contains-permutation once sorted n moved

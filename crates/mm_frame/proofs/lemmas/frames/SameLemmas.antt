@@ -35,8 +35,7 @@ pub same_whole : {X Y Z : Type 0} (f : X → Z) (g : Y → Z) (xs : List X) (ys 
 same_whole f g [] [] h l = refl
 same_whole f g (x ∷ xs) (y ∷ ys) h l =
     let a = h 0 x y (omega arith) refl refl in
-    let b = same_whole f g xs ys (λ m v w n c d. h (suc m) v w (omega arith) c d) (omega arith) in
-    λ i. a i ∷ b i
+    λ i. a i ∷ (same_whole f g xs ys (λ m v w n c d. h (suc m) v w (omega arith) c d) (omega arith)) i
 same_whole f g _ _ h l = absurd (omega arith)
 
 -- and where all are, each is
@@ -60,15 +59,12 @@ numbers_from_readings all distinct (x ∷ xs) (y ∷ ys) p q e =
     let head : symbol_of all x ≡ symbol_of all y = cc in
     let rest : symbols_of all xs ≡ symbols_of all ys = cc in
     let a = number_from_reading all distinct x y (p 0 x (omega arith)) (q 0 y (omega arith)) head in
-    let b = numbers_from_readings all distinct xs ys (λ k d h. p (suc k) d (omega (arith, h))) (λ k d h. q (suc k) d (omega (arith, h))) rest in
-    λ i. a i ∷ b i
+    λ i. a i ∷ (numbers_from_readings all distinct xs ys (λ k d h. p (suc k) d (omega (arith, h))) (λ k d h. q (suc k) d (omega (arith, h))) rest) i
 numbers_from_readings all distinct _ _ p q e = cc
 
 pub pair_from_reading : (all : List (List ℕ)) → AreDistinct all → (x y : NumberedSymbol × NumberedSymbol) → IsPairNumbered all x → IsPairNumbered all y → pair_of all x ≡ pair_of all y → x ≡ y
 pair_from_reading all distinct x y m n e =
-    let first = number_from_reading all distinct x.0 y.0 m.0 n.0 (ap (λ (w : Symbol × Symbol). w.0) e) in
-    let second = number_from_reading all distinct x.1 y.1 m.1 n.1 (ap (λ (w : Symbol × Symbol). w.1) e) in
-    λ i. (first i, second i)
+    λ i. ((number_from_reading all distinct x.0 y.0 m.0 n.0 (ap (λ (w : Symbol × Symbol). w.0) e)) i, (number_from_reading all distinct x.1 y.1 m.1 n.1 (ap (λ (w : Symbol × Symbol). w.1) e)) i)
 
 pub pairs_from_readings : (all : List (List ℕ)) → AreDistinct all → (xs ys : List (NumberedSymbol × NumberedSymbol)) → All (IsPairNumbered all) xs → All (IsPairNumbered all) ys → kept_pairs all xs ≡ kept_pairs all ys → xs ≡ ys
 pairs_from_readings all distinct [] [] p q e = refl
@@ -76,8 +72,7 @@ pairs_from_readings all distinct (x ∷ xs) (y ∷ ys) p q e =
     let head : pair_of all x ≡ pair_of all y = cc in
     let rest : kept_pairs all xs ≡ kept_pairs all ys = cc in
     let a = pair_from_reading all distinct x y (p 0 x (omega arith)) (q 0 y (omega arith)) head in
-    let b = pairs_from_readings all distinct xs ys (λ k d h. p (suc k) d (omega (arith, h))) (λ k d h. q (suc k) d (omega (arith, h))) rest in
-    λ i. a i ∷ b i
+    λ i. a i ∷ (pairs_from_readings all distinct xs ys (λ k d h. p (suc k) d (omega (arith, h))) (λ k d h. q (suc k) d (omega (arith, h))) rest) i
 pairs_from_readings all distinct _ _ p q e = cc
 
 -- two tests together

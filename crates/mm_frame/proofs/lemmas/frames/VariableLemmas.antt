@@ -84,13 +84,11 @@ still_active : (before : List Item) (item : Item) (m n : ℕ) → m ≤ n → In
 still_active before item m n l h k = elim (dec_lt n (length before)) [
   | yes w ↦ (
       let first = from_active_number is_essential_item before m h in
-      let later = from_active_number is_essential_item (before ++ item ∷ []) n k in
-      to_active_number is_essential_item (before ++ item ∷ []) m first.0 (get_front before item first.0 m first.1) (active_below before item m n l w first.2 later.2) first.3
+      to_active_number is_essential_item (before ++ item ∷ []) m first.0 (get_front before item first.0 m first.1) (active_below before item m n l w first.2 (from_active_number is_essential_item (before ++ item ∷ []) n k).2) first.3
       )
   | no w ↦ (
       let later = from_active_number is_essential_item (before ++ item ∷ []) n k in
-      let own = last_is n later.0 w (get_cases before item later.0 n later.1) later.3 in
-      subst (In m) (sym (active_numbers_more is_essential_item before item (not_closed own))) (in_left m (active_numbers is_essential_item before) _ h)
+      subst (In m) (sym (active_numbers_more is_essential_item before item (not_closed (last_is n later.0 w (get_cases before item later.0 n later.1) later.3)))) (in_left m (active_numbers is_essential_item before) _ h)
       )
 ]
   where
@@ -247,9 +245,8 @@ pub known_from : (tables : Tables) (essentials : List ℕ) (expressions : List (
 known_from tables essentials expressions found are n h =
     let r = from_flat (known_float tables essentials) n found h in
     let v = r.0 in
-    let active = float_variable (is_among essentials v.number) n (float_number tables v.symbol) r.2 in
     let kept = contains_in v.symbol (expression_kept expressions v.number) (are.from v (in_contains v found r.1)) in
-    in_flat (λ m. float_numbers tables (expression_kept expressions m)) v.number n essentials (among_in essentials v.number active)
+    in_flat (λ m. float_numbers tables (expression_kept expressions m)) v.number n essentials (among_in essentials v.number (float_variable (is_among essentials v.number) n (float_number tables v.symbol) r.2))
     (in_flat (float_number tables) v.symbol n (expression_kept expressions v.number) kept (from_under (is_among essentials v.number) n (float_number tables v.symbol) r.2))
 
 pub known_to : (tables : Tables) (essentials : List ℕ) (expressions : List (List NumberedSymbol)) (found : List EssentialVariable) → AreVariablesOf essentials expressions found → (n : ℕ)
@@ -257,7 +254,6 @@ pub known_to : (tables : Tables) (essentials : List ℕ) (expressions : List (Li
 known_to tables essentials expressions found are n h =
     let r = from_flat (λ m. float_numbers tables (expression_kept expressions m)) n essentials h in
     let s = from_flat (float_number tables) n (expression_kept expressions r.0) r.2 in
-    let variable = float_variable (s.0).variable n _ s.2 in
-    let kept = are.to r.0 s.0 (in_contains r.0 essentials r.1) (in_contains s.0 (expression_kept expressions r.0) s.1) variable in
+    let kept = are.to r.0 s.0 (in_contains r.0 essentials r.1) (in_contains s.0 (expression_kept expressions r.0) s.1) (float_variable (s.0).variable n _ s.2) in
     in_flat (known_float tables essentials) (by_essential kept.first s.0) n found (contains_in (by_essential kept.first s.0) found kept.there)
     (under_true (is_among essentials kept.first) n (float_number tables s.0) (in_among essentials kept.first (contains_in kept.first essentials kept.active)) s.2)

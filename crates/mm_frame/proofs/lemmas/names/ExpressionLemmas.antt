@@ -48,8 +48,7 @@ cut_more : {X : Type 0} (symbols more : List X) (from : ℕ) (ends : List ℕ) (
     → cut_from (symbols ++ more) from (ends ++ end ∷ []) ≡ cut_from symbols from ends ++ more ∷ []
 cut_more symbols more from [] end e m = ap (λ w. w ∷ []) (range_back symbols more from end e m)
 cut_more symbols more from (x ∷ ends) end e m =
-    let l = ends_within x ends (length symbols) e.1 in
-    (λ i. range_front symbols more from x e.0 l i ∷ cut_more symbols more x ends end e.1 m i)
+    (λ i. range_front symbols more from x e.0 (ends_within x ends (length symbols) e.1) i ∷ cut_more symbols more x ends end e.1 m i)
 
 ends_more : (from : ℕ) (ends : List ℕ) (last end : ℕ) → EndsFrom from ends last → last ≤ end → EndsFrom from (ends ++ end ∷ []) end
 ends_more from [] last end e l = (omega arith, refl)

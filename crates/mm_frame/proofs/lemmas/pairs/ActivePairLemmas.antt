@@ -39,9 +39,7 @@ disjoint_variable items front item back name h e t s n = subst (λ w. In name (a
 disjoint_symbol : (items front : List Item) (item : Item) (back : List Item) (name : List ℕ) → AreSound items → items ≡ front ++ item ∷ back
     → is_disjoint item.kind ≡ true → stays back ≡ true → In name item.symbols → symbol items name ≡ symbol front name
 disjoint_symbol items front item back name h e t s n =
-    let here = in_has (active_variables items) name (disjoint_variable items front item back name h e t s n) in
-    let there = in_has (active_variables front) name (disjoint_named front item name (h front item back e) t n) in
-    let same = here ∙ sym there in
+    let same = (in_has (active_variables items) name (disjoint_variable items front item back name h e t s n)) ∙ sym (in_has (active_variables front) name (disjoint_named front item name (h front item back e) t n)) in
     λ i. record { name = name; variable = same i }
 
 pub disjoint_stays : (items front : List Item) (item : Item) (back : List Item) → AreSound items → items ≡ front ++ item ∷ back → is_disjoint item.kind ≡ true → stays back ≡ true → expression items item ≡ expression front item

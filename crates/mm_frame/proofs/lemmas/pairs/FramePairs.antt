@@ -47,9 +47,8 @@ variables_at : (all : List (List ℕ)) (before : List Item) (item : Item) (expre
     → symbols_of all (float_variable (active_numbers is_essential_item before) expressions n) ≡ variables_if (is_floating (item_at before n).kind) (expression before (item_at before n))
 variables_at all before item expressions n h a m =
     let r = from_active_number (is_mandatory (mandatory_variables before item)) before n m in
-    let there = get_or_from_slice_get before n r.0 passed r.1 in
     let whole = λ (x : Item). variables_if (is_floating x.kind) (expression before x) in
-    by_kind r.0 r.1 r.2 (or_cases (is_essential (r.0).kind) (is_floating (r.0).kind && has (mandatory_variables before item) (variable_of r.0)) r.3) ∙ ap whole (sym there)
+    by_kind r.0 r.1 r.2 (or_cases (is_essential (r.0).kind) (is_floating (r.0).kind && has (mandatory_variables before item) (variable_of r.0)) r.3) ∙ ap whole (sym (get_or_from_slice_get before n r.0 passed r.1))
   where
     essentials : List ℕ
     essentials = active_numbers is_essential_item before
@@ -60,8 +59,7 @@ variables_at all before item expressions n h a m =
     no_essential : (x : Item) → slice_get before n ≡ Some x → is_floating x.kind ≡ true → is_among essentials n ≡ false
     no_essential x there f = false_from_ne_true (is_among essentials n) (λ t.
         let r = from_active_number is_essential_item before n (among_in essentials n t) in
-        let same = same_Some x r.0 (sym there ∙ r.1) in
-        not_both x.kind f (ap (λ (y : Item). is_essential y.kind) same ∙ r.3))
+        not_both x.kind f (ap (λ (y : Item). is_essential y.kind) (same_Some x r.0 (sym there ∙ r.1)) ∙ r.3))
 
     by_kind : (x : Item) → slice_get before n ≡ Some x → is_active_at before n ≡ true → (is_essential x.kind ≡ true) ⊎ ((is_floating x.kind && has (mandatory_variables before item) (variable_of x)) ≡ true)
         → symbols_of all (float_variable essentials expressions n) ≡ variables_if (is_floating x.kind) (expression before x)
@@ -71,12 +69,11 @@ variables_at all before item expressions n h a m =
     by_kind x there stayed (inr b) =
         let f = (and_both (is_floating x.kind) (has (mandatory_variables before item) (variable_of x)) b).0 in
         let labelled = float_labelled x.kind f in
-        let kept_is = a n x there labelled ∙ sym (expression_at_number before h n x there stayed labelled) in
         let two = float_two (take n before) x (h (take n before) x (drop (suc n) before) (split_at before n x there)) f in
         let symbols : expression before x ≡ symbol before two.0 ∷ symbol before two.1 ∷ [] = ap (map (symbol before)) two.2 in
         ap (λ b. symbols_of all (cond b [] (option_to_list (slice_get (expression_kept expressions n) 1)))) (no_essential x there f)
         ∙ second_read all (expression_kept expressions n)
-        ∙ ap (λ w. option_to_list (slice_get w 1)) (kept_is ∙ symbols)
+        ∙ ap (λ w. option_to_list (slice_get w 1)) ((a n x there labelled ∙ sym (expression_at_number before h n x there stayed labelled)) ∙ symbols)
         ∙ sym (ap (λ b. variables_if b (expression before x)) f ∙ ap (drop 1) symbols)
 
 read_each : {X : Type 0} (all : List (List ℕ)) (f : X → List NumberedSymbol) (xs : List X) → symbols_of all (flat_map f xs) ≡ flat_map (λ x. symbols_of all (f x)) xs
@@ -126,11 +123,10 @@ typed_variable before item v h m =
     of_float : (f : Item) → In f (active before) → is_mandatory (mandatory_variables before item) f ≡ true → is_floating f.kind ≡ true → In v (drop 1 (expression before f)) → TypedVariable before item v
     of_float f a t e k =
         let x = float_of before f (sound_kept before h) a e in
-        let name = has_name f t e in
         elim (subst (λ w. In v (drop 1 (map (symbol before) w))) x.both k) [
           | inl q ↦ record {
             variable = ap (λ (s : Symbol). s.variable) (sym q) ∙ x.variable;
-            mandatory = ap (λ (s : Symbol). has (mandatory_variables before item) s.name) (sym q) ∙ ap (has (mandatory_variables before item)) (sym (float_name before f x)) ∙ name;
+            mandatory = ap (λ (s : Symbol). has (mandatory_variables before item) s.name) (sym q) ∙ ap (has (mandatory_variables before item)) (sym (float_name before f x)) ∙ (has_name f t e);
           }
           | inr z ↦ absurd z
         ]
@@ -279,8 +275,7 @@ same_pairs before item h s a = λ x y. (both_from x y, both_to x y)
     to : (x y : Symbol) → In (x, y) of_frame → ArePair in_frame_order x y
     to x y m =
         let t = known (x, y) m in
-        let n = apart_pair before item h (x, y) m in
-        elim (in_order x y typed (λ e. n (ap (λ (w : Symbol). w.name) e)) (in_typed x t.2) (in_typed y t.3)) [
+        elim (in_order x y typed (λ e. (apart_pair before item h (x, y) m) (ap (λ (w : Symbol). w.name) e)) (in_typed x t.2) (in_typed y t.3)) [
           | inl b ↦ inl (in_contains (x, y) in_frame_order (in_filter (are_paired of_frame) (x, y) (pairs_of typed) b (to_paired (x, y) (x, y) of_frame m (pair_here x y))))
           | inr b ↦ inr (in_contains (y, x) in_frame_order (in_filter (are_paired of_frame) (y, x) (pairs_of typed) b (to_paired (y, x) (x, y) of_frame m (pair_turned x y))))
         ]

@@ -142,18 +142,16 @@ pairs_of_front a d m h =
     let w = slice_get_within a m r.0 r.1 in
     let here = get_or_from_slice_get a m r.0 passed r.1 in
     let there = get_or_from_slice_get (a ++ d) m r.0 passed (get_join a d m r.0 r.1) in
-    let front = take-append-le m a d (omega arith) in
     let same = here ∙ sym there in
-    λ i. pairs_of (expression (sym front i) (same i))
+    λ i. pairs_of (expression (sym (take-append-le m a d (omega arith)) i) (same i))
 
 -- the active pairs behind so many of the items are those of their active `$d`
 pub front_pairs : (before : List Item) (numbers : List ℕ) (count : ℕ) → AreSound before → AreFrontNumbers before numbers count → active_pairs (take count before) ≡ flat_map (pairs_at before) numbers
 front_pairs before numbers count h front =
     let a = take count before in
     let d = drop count before in
-    let same = flat_same (pairs_at a) (pairs_at (a ++ d)) (active_numbers is_disjoint_item a) (λ m k. pairs_of_front a d m k) in
     let whole = take-append-drop count before in
-    active_pairs_by_numbers a (sound_take before count h) ∙ same ∙ (λ i. flat_map (pairs_at (whole i)) (sym front.active i))
+    active_pairs_by_numbers a (sound_take before count h) ∙ (flat_same (pairs_at a) (pairs_at (a ++ d)) (active_numbers is_disjoint_item a) (λ m k. pairs_of_front a d m k)) ∙ (λ i. flat_map (pairs_at (whole i)) (sym front.active i))
 
 -- so the items up to the last active `$d` have the active pairs
 pub whole_front : (before : List Item) (numbers : List ℕ) (count : ℕ) → AreSound before → numbers ≡ active_numbers is_disjoint_item before → AreFrontNumbers before numbers count → active_pairs (take count before) ≡ active_pairs before
@@ -241,9 +239,7 @@ pairs_kept all before expressions numbers a are = record {
     same : (n : ℕ) → In n numbers → read_at n ≡ pairs_at before n
     same n k =
         let r = are n k in
-        let there = get_or_from_slice_get before n r.0 passed r.1 in
-        let read = read_disjoint (is_labelled (r.0).kind) (is_disjoint (r.0).kind) r.2 in
-        ap pairs_of (a.each n r.0 r.1 read ∙ ap (expression (take n before)) (sym there))
+        ap pairs_of (a.each n r.0 r.1 (read_disjoint (is_labelled (r.0).kind) (is_disjoint (r.0).kind) r.2) ∙ ap (expression (take n before)) (sym (get_or_from_slice_get before n r.0 passed r.1)))
 
 -- the pairs of a list with the lower number first, in whatever order and whatever often, are the same
 turned_or_not : (b : Bool) (p q : NumberedSymbol × NumberedSymbol) → cond b p (p.1, p.0) ≡ q → (p ≡ q) ⊎ (p ≡ (q.1, q.0))
@@ -352,8 +348,7 @@ active_read all before expressions numbers a active = low_read all before expres
 pub front_read : (all : List (List ℕ)) (before : List Item) (expressions : List (List NumberedSymbol)) (numbers : List ℕ) (count : ℕ) → AreSound before → AreSymbols all before expressions → AreFrontNumbers before numbers count
     → AreSamePairsRead all (active_pairs (take count before)) (flat_map (λ n. pairs_among (expression_kept expressions n)) numbers)
 front_read all before expressions numbers count h a front =
-    let listed = flat_map (λ n. pairs_among (expression_kept expressions n)) numbers in
-    subst (λ w. AreSamePairsRead all w listed) (sym (front_pairs before numbers count h front)) (low_read all before expressions numbers a there)
+    subst (λ w. AreSamePairsRead all w (flat_map (λ n. pairs_among (expression_kept expressions n)) numbers)) (sym (front_pairs before numbers count h front)) (low_read all before expressions numbers a there)
   where
     there : AreDisjoint before numbers
     there n k =

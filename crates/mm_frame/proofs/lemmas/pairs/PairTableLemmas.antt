@@ -171,8 +171,7 @@ number_at_place all numbers names i n name distinct a e there =
     let w = slice_get_within names i name e in
     let count = a.count in
     let at = slice_get-get_or numbers i 0 (omega arith) in
-    let same = distinct (get_or numbers i 0) n name (a.each i (get_or numbers i 0) at ∙ ap Some (get_or_from_slice_get names i name [] e)) there in
-    at ∙ ap Some same
+    at ∙ ap Some (distinct (get_or numbers i 0) n name (a.each i (get_or numbers i 0) at ∙ ap Some (get_or_from_slice_get names i name [] e)) there)
 
 place_in : (names : List (List ℕ)) (i k : ℕ) (name : List ℕ) → slice_get names i ≡ Some name → i < k → In name (take k names)
 place_in [] i k name e l = cc
@@ -195,8 +194,7 @@ numbers_once all numbers names a u i j n p q = elim (dec_lt i j) [
         let count = a.count in
         let name = get_or names j [] in
         let first = name_at_place all numbers names i n name a p (a.each j n q) in
-        let second = slice_get-get_or names j [] (omega arith) in
-        false≢true (sym (u j name second) ∙ in_has (take j names) name (place_in names i j name first l))
+        false≢true (sym (u j name (slice_get-get_or names j [] (omega arith))) ∙ in_has (take j names) name (place_in names i j name first l))
 
 -- a sound `$d` goes into the rows of its variables
 pub pairs_taken : (all : List (List ℕ)) (before : List Item) (item : Item) (numbers : List ℕ) (old new : PairTable) (marks : List Mark) (number : ℕ)

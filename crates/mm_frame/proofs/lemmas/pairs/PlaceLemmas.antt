@@ -157,8 +157,7 @@ picked_numbered all first whole places a others k d l =
     let r = from_flat (pair_at first whole) (get_or pairs k d) places (in_at pairs k d l) in
     let s = from_map (λ (y : NumberedSymbol). (first, y)) (get_or pairs k d) (option_to_list (slice_get whole r.0)) r.2 in
     let y = s.0 in
-    let b = All-contains (IsNumbered all) whole y others (in_contains y whole (get_in y whole r.0 (from_option y (slice_get whole r.0) s.1))) in
-    subst (IsPairNumbered all) s.2 (a, b)
+    subst (IsPairNumbered all) s.2 (a, (All-contains (IsNumbered all) whole y others (in_contains y whole (get_in y whole r.0 (from_option y (slice_get whole r.0) s.1)))))
 
 -- ---- those that an active `$d` has together with a variable
 
@@ -240,18 +239,14 @@ found_to all before table marks expressions places variables n first s k m =
     let d = pair.1 in
     let have = pair.2 in
     let kept = expression_kept expressions d in
-    let read = read_at all before expressions yname d s.symbols have.second in
     let item = (have.second).item in
     let said = in_map (symbol (take d before)) yname item.symbols (has_in item.symbols yname (have.second).named) in
-    let one = from_map (symbol_of all) (symbol (take d before) yname) kept (subst (In (symbol (take d before) yname)) (sym read) said) in
+    let one = from_map (symbol_of all) (symbol (take d before) yname) kept (subst (In (symbol (take d before) yname)) (sym (read_at all before expressions yname d s.symbols have.second)) said) in
     let name : name_at all (one.0).name ≡ yname = ap (λ (w : Symbol). w.name) one.2 in
-    let numbered = name_there all (one.0).name (All-contains (IsNumbered all) kept one.0 ((s.symbols).numbered d) (in_contains one.0 kept one.1)) in
-    let same : (one.0).name ≡ y.name = (s.reads).distinct (one.0).name y.name yname (numbered ∙ ap Some name) b in
-    let place = ap (place_of places) same ∙ (s.placed).each k y there in
-    let later = in_filter (nat_lt n) k (option_to_list (place_of places (one.0).name)) (to_option k (place_of places (one.0).name) place) (lt-ltb n k less) in
-    let stayed = sym (active_at_marks before marks d (s.reads).marks) ∙ have.stayed in
+    let same : (one.0).name ≡ y.name = (s.reads).distinct (one.0).name y.name yname ((name_there all (one.0).name (All-contains (IsNumbered all) kept one.0 ((s.symbols).numbered d) (in_contains one.0 kept one.1))) ∙ ap Some name) b in
+    let later = in_filter (nat_lt n) k (option_to_list (place_of places (one.0).name)) (to_option k (place_of places (one.0).name) (ap (place_of places) same ∙ (s.placed).each k y there)) (lt-ltb n k less) in
     in_flat (later_places_at places marks expressions n) d k (row_at table first.name) (contains_in d (row_at table first.name) (((s.reads).knows first.name x a).cover d have.first have.stayed))
-    (to_if_active (stays_by (drop (suc d) marks)) k (flat_map (later_place places n) kept) stayed (in_flat (later_place places n) one.0 k kept one.1 later))
+    (to_if_active (stays_by (drop (suc d) marks)) k (flat_map (later_place places n) kept) (sym (active_at_marks before marks d (s.reads).marks) ∙ have.stayed) (in_flat (later_place places n) one.0 k kept one.1 later))
 
 pub partners_added : (all : List (List ℕ)) (before : List Item) (table : PairTable) (marks : List Mark) (expressions : List (List NumberedSymbol)) (places : Places) (variables : List NumberedSymbol) (n : ℕ) (first : NumberedSymbol)
     → Searches all before table marks expressions places variables n first → (found : List ℕ) → IsRising found → ((k : ℕ) → Contains found k ↔ Contains (flat_map (later_places_at places marks expressions n) (row_at table first.name)) k)

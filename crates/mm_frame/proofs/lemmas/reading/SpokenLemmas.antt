@@ -68,14 +68,12 @@ rest_is words left new symbols all behind e = record {
 
 pub symbols_closed : (words left new symbols : List Word) (word : Word) → Symbols words left symbols → left ≡ word ∷ new → is_plain_kind word.kind ≡ false → AllSymbols words new symbols
 symbols_closed words left new symbols word h e keyword =
-    let all = h.joined ∙ ap (λ l. symbols ++ plain_words l) e ∙ ap (λ l. symbols ++ l) (plain_end word new keyword) ∙ append-nil symbols in
-    rest_is words left new symbols all h.behind (ap (drop 1) (sym e))
+    rest_is words left new symbols (h.joined ∙ ap (λ l. symbols ++ plain_words l) e ∙ ap (λ l. symbols ++ l) (plain_end word new keyword) ∙ append-nil symbols) h.behind (ap (drop 1) (sym e))
 
 -- no word is left
 pub symbols_ended : (words left new symbols : List Word) → Symbols words left symbols → left ≡ [] → new ≡ [] → AllSymbols words new symbols
 symbols_ended words left new symbols h none e =
-    let all = h.joined ∙ ap (λ l. symbols ++ plain_words l) none ∙ append-nil symbols in
-    rest_is words left new symbols all h.behind (e ∙ ap (drop 1) (sym none))
+    rest_is words left new symbols (h.joined ∙ ap (λ l. symbols ++ plain_words l) none ∙ append-nil symbols) h.behind (e ∙ ap (drop 1) (sym none))
 
 -- plain words are symbols
 passed_more : (passed words left new symbols : List Word) → left ≡ passed ++ new → AllByRecursion (λ (word : Word). word.kind ≡ Plain) passed → Symbols words left symbols → Symbols words new (symbols ++ passed)
@@ -97,8 +95,7 @@ behind_one old new (Some word) h = ap (drop 1) (sym h)
 -- how plain words are spelled
 plain_names : (text : List ℕ) (words : List Word) → token_names (plain_from 0 (tokens_of text words)) ≡ plain_bytes text words
 plain_names text words =
-    let count = prefix_len-map (token_of text) is_plain words in
-    ap (λ n. token_names (take n (tokens_of text words))) count
+    ap (λ n. token_names (take n (tokens_of text words))) (prefix_len-map (token_of text) is_plain words)
     ∙ ap token_names (take-map (token_of text) (prefix_len (λ (w : Word). is_plain_kind w.kind) words) words)
     ∙ map-map (λ (token : Token). token.bytes) (token_of text) (plain_words words)
 

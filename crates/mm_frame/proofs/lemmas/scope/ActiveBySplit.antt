@@ -76,5 +76,4 @@ pub active_later : (front : List Item) (e : Item) (back : List Item) (x : Item) 
 active_later front e back x m h k =
     let s = active_split front x k in
     let t : stays (e ∷ back) ≡ true = subst (λ w. is_zero (closed_at w (closed back)) ≡ true) (sym m) h in
-    let j = stays_join s.back (e ∷ back) s.stayed t in
-    subst (λ w. In x (active w)) (sym (ap (λ w. w ++ e ∷ back) s.whole ∙ append_assoc s.front (x ∷ s.back) (e ∷ back))) (split_active s.front x (s.back ++ e ∷ back) j)
+    subst (λ w. In x (active w)) (sym (ap (λ w. w ++ e ∷ back) s.whole ∙ append_assoc s.front (x ∷ s.back) (e ∷ back))) (split_active s.front x (s.back ++ e ∷ back) (stays_join s.back (e ∷ back) s.stayed t))

@@ -28,9 +28,7 @@ pub until_open :
     from < at → from < length blocks → block ≡ get_or blocks from block → end_of_block ends block ≡ None →
     (stays_by (drop (suc from) (take at (marks_from ends 0 0 blocks))) ≡ true) ↔ IsUpTo at None
 until_open blocks ends outer current begun ended from at block k l w there e =
-    let marks = marks_from ends 0 0 blocks in
-    let stays = is_active_open blocks ends outer current begun ended from at block k w there e in
-    (λ t. tt, λ u. ap stays_by (sym (behind_range marks from at l)) ∙ stays)
+    (λ t. tt, λ u. ap stays_by (sym (behind_range (marks_from ends 0 0 blocks) from at l)) ∙ (is_active_open blocks ends outer current begun ended from at block k w there e))
 
 up_to : (b : Bool) (at end : ℕ) → b ≡ leb at end → (b ≡ true) ↔ (at < end + 1)
 up_to b at end e = by_order (dec_lt end at)
@@ -45,8 +43,7 @@ pub until_ended :
     (stays_by (drop (suc from) (take at (marks_from ends 0 0 blocks))) ≡ true) ↔ IsUpTo at (Some (end + 1))
 until_ended blocks ends outer current begun ended from at block end k l w there e =
     let marks = marks_from ends 0 0 blocks in
-    let told = ap stays_by (sym (behind_range marks from at l)) ∙ is_active_ended blocks ends outer current begun ended from at block end k l w there e in
-    up_to (stays_by (drop (suc from) (take at marks))) at end told
+    up_to (stays_by (drop (suc from) (take at marks))) at end (ap stays_by (sym (behind_range marks from at l)) ∙ is_active_ended blocks ends outer current begun ended from at block end k l w there e)
 
 -- the item that ended a block is one of the items
 pub end_there :

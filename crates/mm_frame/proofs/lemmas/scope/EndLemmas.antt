@@ -80,8 +80,7 @@ pub pruned_numbers : (test : Item → Bool) (before : List Item) (item : Item) (
     → ((front : List ℕ) (n : ℕ) → kept ≡ front ++ n ∷ [] → is_active_at (before ++ item ∷ []) n ≡ true) → kept ≡ active_numbers test (before ++ item ∷ [])
 pruned_numbers test before item kept gone t e ended last =
     let whole = before ++ item ∷ [] in
-    let rising = subst IsRising e (active_numbers_rise test before) in
-    same_rising kept (active_numbers test whole) (rising_front kept gone rising) (active_numbers_rise test whole)
+    same_rising kept (active_numbers test whole) (rising_front kept gone (subst IsRising e (active_numbers_rise test before))) (active_numbers_rise test whole)
     (λ n h. number_behind test before item n (there n h) (all_active n h (last_of kept)))
     (λ n h. let p = number_before test before item t n h in elim (in_cases n kept gone (subst (In n) e p.0)) [
       | inl a ↦ a
@@ -104,9 +103,8 @@ pruned_numbers test before item kept gone t e ended last =
 
     earlier : (front : List ℕ) (m n : ℕ) → kept ≡ front ++ n ∷ [] → In m front → is_active_at (before ++ item ∷ []) m ≡ true
     earlier front m n q h =
-        let r = from_active_number test before m (there m (subst (In m) (sym q) (in_left m front (n ∷ []) h))) in
         let s = from_active_number test before n (there n (subst (In n) (sym q) (in_right n front (n ∷ []) (inl refl)))) in
-        active_at_earlier before item m n s.0 (below front m n q h) s.1 r.2 (last front n q)
+        active_at_earlier before item m n s.0 (below front m n q h) s.1 (from_active_number test before m (there m (subst (In m) (sym q) (in_left m front (n ∷ []) h)))).2 (last front n q)
 
     all_active : (m : ℕ) → In m kept → IsEmptyOrEnds kept → is_active_at (before ++ item ∷ []) m ≡ true
     all_active m h (inl q) = absurd (subst (In m) q h)

@@ -25,9 +25,7 @@ not_not false h = absurd (false≢true (sym h))
 test_fails : (first word k : ℕ) (test : ℕ → List ℕ → Bool) (symbols : List (List ℕ)) (name : List ℕ) → first ≤ word → word - first ≡ k
     → slice_get symbols k ≡ Some name → (leb first word && passes (test (word - first)) (slice_get symbols (word - first))) ≡ false → test k name ≡ false
 test_fails first word k test symbols name l d s h =
-    let a = and_rest (leb first word) (passes (test (word - first)) (slice_get symbols (word - first))) h (le-leb first word l) in
-    let b = subst (λ n. passes (test n) (slice_get symbols n) ≡ false) d a in
-    subst (λ o. passes (test k) o ≡ false) s b
+    subst (λ o. passes (test k) o ≡ false) s (subst (λ n. passes (test n) (slice_get symbols n) ≡ false) d (and_rest (leb first word) (passes (test (word - first)) (slice_get symbols (word - first))) h (le-leb first word l)))
 
 pub no_symbol : (test : ℕ → List ℕ → Bool) (item : Item) → ((word : ℕ) → at_symbol test item word ≡ false) → (k : ℕ) (name : List ℕ) → slice_get item.symbols k ≡ Some name → test k name ≡ false
 no_symbol test item h k name s = test_fails (first_symbol item) (first_symbol item + k) k test item.symbols name (omega arith) (omega arith) s (h (first_symbol item + k))
@@ -71,8 +69,7 @@ not_both_kinds _ a b = false≢true a
 new_constant : (before : List Item) (x : Item) (n : List ℕ) → IsSound before x → is_constants x.kind ≡ true → In n x.symbols → In n (variables before) → ⊥
 new_constant before x n s t h v =
     let g = in_get n x.symbols h in
-    let f = no_symbol_of (is_constants x.kind) (each (is_declared before)) x (λ word. (or_parts _ _ (s word F04)).0) t g.0 n g.1 in
-    false≢true (sym (or_parts (has (constants before) n) (has (variables before) n) f).1 ∙ in_has (variables before) n v)
+    false≢true (sym (or_parts (has (constants before) n) (has (variables before) n) (no_symbol_of (is_constants x.kind) (each (is_declared before)) x (λ word. (or_parts _ _ (s word F04)).0) t g.0 n g.1)).1 ∙ in_has (variables before) n v)
 
 new_variable : (before : List Item) (x : Item) (n : List ℕ) → IsSound before x → is_variables x.kind ≡ true → In n x.symbols → In n (constants before) → ⊥
 new_variable before x n s t h v =
@@ -119,8 +116,7 @@ known before item k name s t g =
 pub typed_there : (before : List Item) (item : Item) (k : ℕ) (name : List ℕ) → IsSound before item → is_expression item.kind ≡ true → slice_get item.symbols (suc k) ≡ Some name → In name (active_variables before) → In name (typed before)
 typed_there before item k name s t g v =
     let f = no_symbol_of (is_expression item.kind) (later (is_untyped before)) item (λ word. s word F11) t (suc k) name g in
-    let b = and_rest (ltb 0 (suc k)) (is_untyped before name) f (lt-ltb 0 (suc k) (omega arith)) in
-    let c = and_rest (has (active_variables before) name) (not (has (typed before) name)) b (in_has (active_variables before) name v) in
+    let c = and_rest (has (active_variables before) name) (not (has (typed before) name)) (and_rest (ltb 0 (suc k)) (is_untyped before name) f (lt-ltb 0 (suc k) (omega arith))) (in_has (active_variables before) name v) in
     has_in (typed before) name (not_not (has (typed before) name) c)
 
 -- what the lines of `$f` say

@@ -146,8 +146,7 @@ typed_variable : (before : List Item) → AreSound before → (name : List ℕ) 
 typed_variable before h name l =
     let p = types_it name l.item l.good in
     let s = h l.front l.item l.back l.whole in
-    let v = float_variable l.front l.item name s p.0 (float_second l.front l.item s p.0 ∙ ap Some p.1) in
-    let r = from_symbols is_variables name (active l.front) v in
+    let r = from_symbols is_variables name (active l.front) (float_variable l.front l.item name s p.0 (float_second l.front l.item s p.0 ∙ ap Some p.1)) in
     in_has (variables before) name (to_symbols is_variables name before r.0 (subst (λ w. In r.0 w) (sym l.whole) (in_left r.0 l.front (l.item ∷ l.back) (active_in l.front r.0 r.1))) r.2 r.3)
 
 -- what is no variable is not typed
@@ -265,8 +264,7 @@ declared_next before item name h =
     there t =
         let p = types_it name item t in
         let s = h before item [] refl in
-        let v = float_variable before item name s p.0 (float_second before item s p.0 ∙ ap Some p.1) in
-        let r = from_symbols is_variables name (active before) v in
+        let r = from_symbols is_variables name (active before) (float_variable before item name s p.0 (float_second before item s p.0 ∙ ap Some p.1)) in
         sym (variable_last before name) ∙ in_has (variables before) name (to_symbols is_variables name before r.0 (active_in before r.0 r.1) r.2 r.3)
 
 -- the tables that take an item as its kind says

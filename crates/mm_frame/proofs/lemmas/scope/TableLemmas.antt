@@ -222,8 +222,7 @@ typed_otherwise_last before h name item = elim (last_cases (types name) before) 
     by_test l true e =
         false_from_ne_true (is_typed_otherwise before item name) (λ t.
         let r = otherwise_from before item name t in
-        let q = same l r.0 r.1 r.2 in
-        false≢true (sym (ap (λ w. not (bytes_eq w (typecode_of item))) q ∙ ap not e) ∙ r.3))
+        false≢true (sym (ap (λ w. not (bytes_eq w (typecode_of item))) (same l r.0 r.1 r.2) ∙ ap not e) ∙ r.3))
         ∙ sym (ap not e)
 
 -- a constant is no variable

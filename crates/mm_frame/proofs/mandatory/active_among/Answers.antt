@@ -20,9 +20,7 @@ loop-n-preserved c = record {
       let x = get_or variables n d in
       let test = are_paired (active_pairs before) in
       let so_far = c.loop-n.invariant.pairs all before known m numbered in
-      let asked = c.loop-n.invariant.asked all before known m in
-      let there = slice_get-get_or variables n d c.loop-n-test.true in
-      let more = c.in_ok-add_pairs_with_later.ensures.pairs all before so_far.0 x known asked c.loop-n.invariant.placed numbered so_far.2 there in (
+      let more = c.in_ok-add_pairs_with_later.ensures.pairs all before so_far.0 x known (c.loop-n.invariant.asked all before known m) c.loop-n.invariant.placed numbered so_far.2 (slice_get-get_or variables n d c.loop-n-test.true) in (
         so_far.0 ++ filter test (pairs_with (symbol_of all x) (symbols_of all (drop (n + 1) variables))),
         among_more all test variables n d so_far.0 (filter test (pairs_of (symbols_of all variables))) c.loop-n-test.true so_far.1,
         more,
@@ -32,8 +30,6 @@ loop-n-preserved c = record {
 
 pub returns-clause-pairs : goal.returns-clause-pairs
 returns-clause-pairs c all before reads m numbered =
-    let variables = c.args.variables.now in
-    let test = are_paired (active_pairs before) in
     let so_far = c.loop-n.invariant.pairs all before reads m numbered in
-    let whole = sym (append-nil so_far.0) ∙ ap (λ w. so_far.0 ++ filter test (pairs_of (symbols_of all w))) (sym (drop_all c.loop-n.n variables c.loop-n-test.false)) ∙ so_far.1 in
+    let whole = sym (append-nil so_far.0) ∙ ap (λ w. so_far.0 ++ filter (are_paired (active_pairs before)) (pairs_of (symbols_of all w))) (sym (drop_all c.loop-n.n c.args.variables.now c.loop-n-test.false)) ∙ so_far.1 in
     subst (λ w. ArePairsRead all w c.shrink_to_fit.new.self.items) whole (subst (ArePairsRead all so_far.0) (sym c.shrink_to_fit.ensures.items) so_far.2)

@@ -20,15 +20,13 @@ loop-second-preserved c = record {
       let d : NumberedSymbol = record { name = 0; variable = false } in
       let test = are_paired (active_pairs before) in
       let so_far = said ++ filter test (pairs_with (symbol_of all c.args.first) (symbols_of all (take n later))) in
-      let asked = c.loop-second.invariant.asked all before reads m in
       with_more all test (symbol_of all c.args.first) later n d said c.add_if_active.new.pairs.items c.loop-second-test.true
-      (c.in_ok-add_if_active.ensures.pairs all before so_far reads asked a (others n d c.loop-second-test.true) (c.loop-second.invariant.pairs all before said reads m a others r))
+      (c.in_ok-add_if_active.ensures.pairs all before so_far reads (c.loop-second.invariant.asked all before reads m) a (others n d c.loop-second-test.true) (c.loop-second.invariant.pairs all before said reads m a others r))
       );
 }
 
 pub returns-clause-pairs : goal.returns-clause-pairs
 returns-clause-pairs c all before said reads m a others r =
-    let later = c.args.later.now in
     subst (λ w. ArePairsRead all (said ++ filter (are_paired (active_pairs before)) (pairs_with (symbol_of all c.args.first) (symbols_of all w)))
-    c.loop-second.pairs.items) (take_all c.loop-second.second-index later c.loop-second-test.false)
+    c.loop-second.pairs.items) (take_all c.loop-second.second-index c.args.later.now c.loop-second-test.false)
     (c.loop-second.invariant.pairs all before said reads m a others r)

@@ -16,17 +16,14 @@ use Rattle.mm_frame.proofs.mandatory.add_pairs_with_later.Goals as goal
 
 pub returns-then-are_short-clause-pairs : goal.returns-then-are_short-clause-pairs
 returns-then-are_short-clause-pairs c = on_ok_weaker c.add_partners.result (λ added all before said first known m placed numbered r there.
-    let places = subst (λ o. IfSome o (ArePlaces c.args.placed.now.variables.now)) c.in-Some.is placed in
-    added all before said first known places numbered r there) c.add_partners.ensures
+    added all before said first known (subst (λ o. IfSome o (ArePlaces c.args.placed.now.variables.now)) c.in-Some.is placed) numbered r there) c.add_partners.ensures
 
 pub returns-clause-pairs : goal.returns-clause-pairs
 returns-clause-pairs c = on_ok_weaker c.add_active_with.result (λ added all before said first known m placed numbered r there.
     let variables = c.args.placed.now.variables.now in
     let none : NumberedSymbol = record { name = 0; variable = false } in
-    let test = are_paired (active_pairs before) in
     let here = get_or_from_slice_get variables c.args.n first none there in
     let later = take_rest variables (c.args.n + 1) in
     let a = subst (IsNumbered all) (sym here) (All-contains (IsNumbered all) variables first numbered (in_contains first variables (get_in first variables c.args.n there))) in
-    let others = subst (All (IsNumbered all)) (sym later) (All-drop (IsNumbered all) (c.args.n + 1) variables numbered) in
-    let full = added all before said (reads_earlier all before c.args.earlier.now known) m a others r in
-    subst (λ w. ArePairsRead all w c.add_active_with.new.pairs.items) (λ i. said ++ filter test (pairs_with (symbol_of all (here i)) (symbols_of all (later i)))) full) c.add_active_with.ensures.pairs
+    let full = added all before said (reads_earlier all before c.args.earlier.now known) m a (subst (All (IsNumbered all)) (sym later) (All-drop (IsNumbered all) (c.args.n + 1) variables numbered)) r in
+    subst (λ w. ArePairsRead all w c.add_active_with.new.pairs.items) (λ i. said ++ filter (are_paired (active_pairs before)) (pairs_with (symbol_of all (here i)) (symbols_of all (later i)))) full) c.add_active_with.ensures.pairs

@@ -12,9 +12,8 @@ returns c all before item known framed =
     let tables = earlier.tables.now in
     let essentials = earlier.essentials.now in
     let own = c.args.own.now in
-    let rising = subst IsRising (sym known.essentials) (active_numbers_rise is_essential_item before) in
     let found = flat_map (known_float tables essentials) earlier.variables.now in
-    let numbers = c.in_ok-add_known_floats.ensures rising ∙ ap (λ w. w ++ found) (c.in_ok-add_floats.ensures ∙ ap (λ w. w ++ float_numbers tables own)
+    let numbers = c.in_ok-add_known_floats.ensures (subst IsRising (sym known.essentials) (active_numbers_rise is_essential_item before)) ∙ ap (λ w. w ++ found) (c.in_ok-add_floats.ensures ∙ ap (λ w. w ++ float_numbers tables own)
     (c.in_ok-extend_from_slice.ensures.items ∙ ap (λ w. w ++ essentials) c.in_ok-numbers.ensures.items)) in
     c.shrink_to_fit.ensures.items ∙ hypotheses_sorted tables earlier.expressions.now essentials earlier.variables.now own
     c.add_known_floats.new.numbers.items c.dedup.new.self.items c.sort.new.self.items c.dedup-2.new.self.items numbers c.dedup.ensures.filtered

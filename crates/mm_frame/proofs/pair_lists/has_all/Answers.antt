@@ -7,10 +7,8 @@ use Rattle.mm_frame.proofs.pair_lists.has_all.Goals as goal
 
 pub loop-pair-preserved : goal.loop-pair-preserved
 loop-pair-preserved c p there =
-    let pairs = c.args.pairs.now in
-    let n = c.loop-pair.pair-index in
     let d : NumberedSymbol = record { name = 0; variable = false } in
-    elim (Contains-push_cases _ _ p (subst (λ w. Contains w p) (take_more pairs n (d, d) c.loop-pair-test.true) there)) [
+    elim (Contains-push_cases _ _ p (subst (λ w. Contains w p) (take_more c.args.pairs.now c.loop-pair.pair-index (d, d) c.loop-pair-test.true) there)) [
       | inl earlier ↦ c.loop-pair.invariant p earlier
       | inr e ↦ subst (Contains c.args.list.now) e (c.has_pair.ensures c.if-not-has_pair.false)
     ]

@@ -9,9 +9,8 @@ returns-then-row-other-clause-least c rising others =
 
 pub returns-then-row-other-clause-none : goal.returns-then-row-other-clause-none
 returns-then-row-other-clause-none c rising others =
-    let row = c.rest_from-row.ensures in
     let other = c.rest_from-other.ensures in
-    none_weaker c.first_in_both.result (λ none m l common. none m (row.whole rising m l common.0, other.whole others m l common.1, common.2)) (c.first_in_both.ensures.none (other.rising others))
+    none_weaker c.first_in_both.result (λ none m l common. none m (c.rest_from-row.ensures.whole rising m l common.0, other.whole others m l common.1, common.2)) (c.first_in_both.ensures.none (other.rising others))
 
 pub returns-else-row-other-clause-least : goal.returns-else-row-other-clause-least
 returns-else-row-other-clause-least c rising others =

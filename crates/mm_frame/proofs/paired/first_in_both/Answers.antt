@@ -17,8 +17,7 @@ pub returns-then-is_active_now-clause-least : goal.returns-then-is_active_now-cl
 returns-then-is_active_now-clause-least c rising others n common =
     let row = c.args.row.now in
     let at = in_get n row (contains_in n row common.0) in
-    let there = get_or_from_slice_get row at.0 n 0 at.1 in
-    rising_least row c.loop-k.k at.0 n rising c.loop-k-test.true at.1 (λ l. c.loop-k.invariant others at.0 l (subst (IsCommon c.args.blocks.now row c.args.other.now) (sym there) common))
+    rising_least row c.loop-k.k at.0 n rising c.loop-k-test.true at.1 (λ l. c.loop-k.invariant others at.0 l (subst (IsCommon c.args.blocks.now row c.args.other.now) (sym (get_or_from_slice_get row at.0 n 0 at.1)) common))
 
 pub returns-clause-none : goal.returns-clause-none
 returns-clause-none c rising n common =

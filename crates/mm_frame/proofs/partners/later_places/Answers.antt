@@ -15,6 +15,5 @@ returns-clause-rising c = rising_once c.loop-number.found.items c.sort.new.self.
 
 pub returns-clause-same : goal.returns-clause-same
 returns-clause-same c =
-    let one = later_places_at c.args.places.now c.args.blocks.now c.args.expressions.now c.args.from in
-    let whole = c.loop-number.invariant ∙ ap (flat_map one) (take_all c.loop-number.number-index c.args.row.now c.loop-number-test.false) in
+    let whole = c.loop-number.invariant ∙ ap (flat_map (later_places_at c.args.places.now c.args.blocks.now c.args.expressions.now c.args.from)) (take_all c.loop-number.number-index c.args.row.now c.loop-number-test.false) in
     subst (λ w. (k : ℕ) → Contains c.dedup.new.self.items k ↔ Contains w k) whole (same_once c.loop-number.found.items c.sort.new.self.items c.dedup.new.self.items c.in_ok-sort.ensures.permutation c.dedup.ensures.filtered)

@@ -11,17 +11,15 @@ returns-then-same_pairs c names base copy is are s t =
     let yours = c.in-Some-Some.yours.now in
     let told = same_told names is.distinct mine yours (active_pairs (before base c.args.i)) (active_pairs (before copy c.args.j)) (c.in-Some-Some.ensures.numbered names base is) (c.in-Some-Some.ensures'.numbered names copy are)
     (c.in-Some-Some.ensures.pairs names base is) (c.in-Some-Some.ensures'.pairs names copy are) in
-    let same = c.same_pairs.ensures.0 c.if-same_pairs.true in
-    (λ q. told.0 (all_either_way mine yours same), λ e. c.if-same_pairs.true)
+    (λ q. told.0 (all_either_way mine yours (c.same_pairs.ensures.0 c.if-same_pairs.true)), λ e. c.if-same_pairs.true)
 
 pub returns-then-has_each : goal.returns-then-has_each
 returns-then-has_each c names base copy is are s t =
     let told = same_told names is.distinct c.in-Some-Some.mine.now c.in-Some-Some.yours.now (active_pairs (before base c.args.i))
     (active_pairs (before copy c.args.j)) (c.in-Some-Some.ensures.numbered names base is) (c.in-Some-Some.ensures'.numbered names copy are)
     (c.in-Some-Some.ensures.pairs names base is) (c.in-Some-Some.ensures'.pairs names copy are) in
-    let first = c.has_each.ensures.0 c.if-has_each.true in
     let second = c.has_each-then-has_each.ensures in
-    (λ q. told.0 (first, second.0 q), λ e. second.1 (told.1 e).1)
+    (λ q. told.0 ((c.has_each.ensures.0 c.if-has_each.true), second.0 q), λ e. second.1 (told.1 e).1)
 
 pub returns-else-has_each : goal.returns-else-has_each
 returns-else-has_each c names base copy is are s t =

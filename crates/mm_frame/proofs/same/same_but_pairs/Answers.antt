@@ -10,12 +10,10 @@ returns-then-same_expression c names base copy is are s t =
     let j = c.args.j in
     let mine = subst (AreHypotheses base i) (sym c.deref.ensures.value) (c.in-Some-Some.ensures.means base (names, is)) in
     let yours = subst (AreHypotheses copy j) (sym c.deref-then-same_expression.ensures.value) (c.in-Some-Some.ensures'.means copy (names, are)) in
-    let expressions = (c.same_expression.ensures names base copy is are (framed_shown base i s) (framed_shown copy j t)).0 c.if-same_expression.true in
     let hypotheses = same_by_numbers base copy i j c.deref.result.now c.deref-then-same_expression.result.now (IsTrue c.same_hypotheses.result) mine yours
     (c.same_hypotheses.ensures names base copy is are (all_shown base i c.deref.result.now mine) (all_shown copy j c.deref-then-same_expression.result.now yours)) in
-    (λ b. (expressions, hypotheses.0 b), λ p. hypotheses.1 p.1)
+    (λ b. (((c.same_expression.ensures names base copy is are (framed_shown base i s) (framed_shown copy j t)).0 c.if-same_expression.true), hypotheses.0 b), λ p. hypotheses.1 p.1)
 
 pub returns-else-same_expression : goal.returns-else-same_expression
 returns-else-same_expression c names base copy is are s t =
-    let e = (c.same_expression.ensures names base copy is are (framed_shown base c.args.i s) (framed_shown copy c.args.j t)).1 in
-    (λ b. absurd (false≢true (sym c.if-same_expression.false ∙ b)), λ p. e p.0)
+    (λ b. absurd (false≢true (sym c.if-same_expression.false ∙ b)), λ p. ((c.same_expression.ensures names base copy is are (framed_shown base c.args.i s) (framed_shown copy c.args.j t)).1) p.0)

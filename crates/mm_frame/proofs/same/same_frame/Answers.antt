@@ -25,5 +25,4 @@ returns-then-same_but_pairs c base copy is are s t =
 
 pub returns-else-same_but_pairs : goal.returns-else-same_but_pairs
 returns-else-same_but_pairs c base copy is are s t =
-    let parts = c.same_but_pairs.ensures c.args.names.now base copy is are s t in
-    (λ q. absurd (false≢true (sym c.if-same_but_pairs.false ∙ q)), λ f. parts.1 (f.expression, f.hypotheses))
+    (λ q. absurd (false≢true (sym c.if-same_but_pairs.false ∙ q)), λ f. (c.same_but_pairs.ensures c.args.names.now base copy is are s t).1 (f.expression, f.hypotheses))

@@ -8,9 +8,7 @@ use Rattle.mm_frame.proofs.statement.read_symbols.Goals as goal
 
 pub returns-then-not-is_plain-clause-rest : goal.returns-then-not-is_plain-clause-rest
 returns-then-not-is_plain-clause-rest c =
-    let words = c.args.words.now.words in
-    let all = symbols_closed words c.loop-word.words.words c.next_word.new.self.words c.loop-word.symbols.items c.in-Some.word c.loop-word.invariant.symbols c.in-Some.ensures.word (sym c.if-not-is_plain.ensures) in
-    all.rest
+    (symbols_closed c.args.words.now.words c.loop-word.words.words c.next_word.new.self.words c.loop-word.symbols.items c.in-Some.word c.loop-word.invariant.symbols c.in-Some.ensures.word (sym c.if-not-is_plain.ensures)).rest
 
 pub loop-word-preserved : goal.loop-word-preserved
 loop-word-preserved c =

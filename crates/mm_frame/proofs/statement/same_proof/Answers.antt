@@ -7,8 +7,7 @@ pub returns-then-is_same_range : goal.returns-then-is_same_range
 returns-then-is_same_range c said told f g =
     let p = c.is_same_range.ensures c.if-is_same_range.true in
     let one : AreOneRange c.args.one.now c.args.other.now = record { kind = p.0; key = p.1; start = p.2; end = p.3 } in
-    let same = same_said c.args.files.now c.args.one.now c.args.other.now one c.one_meaning.ensures.words said told f g in
-    (λ t. ap (λ (x : Item). x.proof) same, λ e. refl)
+    (λ t. ap (λ (x : Item). x.proof) (same_said c.args.files.now c.args.one.now c.args.other.now one c.one_meaning.ensures.words said told f g), λ e. refl)
 
 pub returns : goal.returns
 returns c said told f g =

@@ -27,9 +27,8 @@ returns c =
     let keyword = behind_one c.read_label.new.words.words first c.next_word.result c.next_word.ensures.word in
     let reads = passed (kind_of c.args.item.now.kind) words c.read_label.result c.read_label.new.words.words first rest c.read_label.ensures.label keyword c.pass_symbols.ensures.rest in
     let item = c.args.item.now in
-    let read = item_read (kind_of item.kind) text words c.read_label.result (plain_words first) rest reads in
     let is = said_is c.args.files.now item c.piece.result.now c.piece.ensures.text words c.new-words.ensures.only in
-    record { words = λ said says. c.new.ensures ∙ ap (λ (x : Item). x.proof) (read ∙ is said says) }
+    record { words = λ said says. c.new.ensures ∙ ap (λ (x : Item). x.proof) ((item_read (kind_of item.kind) text words c.read_label.result (plain_words first) rest reads) ∙ is said says) }
 
 pub new-requires-clause-few : goal.new-requires-clause-few
 new-requires-clause-few c =

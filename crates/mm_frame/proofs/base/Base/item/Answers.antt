@@ -10,6 +10,5 @@ returns-clause-kind c base is =
     let long = ap length found in
     let count = c.requires.1.1.count in
     let within = c.requires.2 in
-    let there = slice_get_read items (length items) c.args.i c.index.result.now refl (omega arith) c.index.ensures in
     let same = ap (λ a. a.items) c.self.view_is ∙ is.1.found in
-    kind_at base.found base.said c.args.i c.index.result.now is.1.kinds (ap (λ w. slice_get w c.args.i) (sym same) ∙ there)
+    kind_at base.found base.said c.args.i c.index.result.now is.1.kinds (ap (λ w. slice_get w c.args.i) (sym same) ∙ (slice_get_read items (length items) c.args.i c.index.result.now refl (omega arith) c.index.ensures))

@@ -14,5 +14,4 @@ returns-clause-numbers c base is =
 pub returns-clause-order : goal.returns-clause-order
 returns-clause-order c names base is =
     let frames = c.self.inside.parts.frames in
-    let told = frame_in names base c.args.self.now frames (ap (λ a. a.frames) c.self.view_is) is c.args.i in
-    order_told names (pairs_in_order (frame_at base c.args.i)) c.at.result (value_kept frames c.args.i) c.at.ensures told.pairs
+    order_told names (pairs_in_order (frame_at base c.args.i)) c.at.result (value_kept frames c.args.i) c.at.ensures (frame_in names base c.args.self.now frames (ap (λ a. a.frames) c.self.view_is) is c.args.i).pairs

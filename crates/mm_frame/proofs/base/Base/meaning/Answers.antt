@@ -10,14 +10,10 @@ returns-then-is_some c base label is e = assertion_means base c.args.i label c.a
 
 pub returns-then-is_active_at : goal.returns-then-is_active_at
 returns-then-is_active_at c base label is e =
-    let blocks = c.self.inside.parts.blocks in
-    let marks = ap (λ a. a.marks) c.self.view_is ∙ is.1.marks in
     let framed = sym (c.frame.ensures.some base is) ∙ sym c.is_some.ensures ∙ c.if-is_some.false in
-    active_means base c.args.i label c.args.j blocks marks e c.if-j-i.false framed (sym c.is_active_at.ensures ∙ c.if-is_active_at.true)
+    active_means base c.args.i label c.args.j c.self.inside.parts.blocks (ap (λ a. a.marks) c.self.view_is ∙ is.1.marks) e c.if-j-i.false framed (sym c.is_active_at.ensures ∙ c.if-is_active_at.true)
 
 pub returns-else-is_active_at : goal.returns-else-is_active_at
 returns-else-is_active_at c base label is e =
-    let blocks = c.self.inside.parts.blocks in
-    let marks = ap (λ a. a.marks) c.self.view_is ∙ is.1.marks in
     let framed = sym (c.frame.ensures.some base is) ∙ sym c.is_some.ensures ∙ c.if-is_some.false in
-    inactive_means base c.args.i label c.args.j blocks marks e c.if-j-i.false framed (sym c.is_active_at.ensures ∙ c.if-is_active_at.false)
+    inactive_means base c.args.i label c.args.j c.self.inside.parts.blocks (ap (λ a. a.marks) c.self.view_is ∙ is.1.marks) e c.if-j-i.false framed (sym c.is_active_at.ensures ∙ c.if-is_active_at.false)

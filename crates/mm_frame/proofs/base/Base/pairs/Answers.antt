@@ -10,8 +10,7 @@ use Rattle.mm_frame.proofs.base.Base.pairs.Goals as goal
 pub returns-in-Some-clause-some : goal.returns-in-Some-clause-some
 returns-in-Some-clause-some c base is =
     let parts = c.self.inside.parts in
-    let told = active_in is.0 base c.args.self.now parts.pair_lists parts.pair_numbers (ap (λ a. a.actives) c.self.view_is) is.1 c.args.i c.number_at.result (Some c.in-Some.k) c.number_at.ensures c.in-Some.is in
-    told.some
+    (active_in is.0 base c.args.self.now parts.pair_lists parts.pair_numbers (ap (λ a. a.actives) c.self.view_is) is.1 c.args.i c.number_at.result (Some c.in-Some.k) c.number_at.ensures c.in-Some.is).some
 
 pub returns-in-Some-clause-pairs : goal.returns-in-Some-clause-pairs
 returns-in-Some-clause-pairs c names base is =
@@ -34,5 +33,4 @@ returns-in-Some-clause-order c base is =
 pub returns-in-None-clause-some : goal.returns-in-None-clause-some
 returns-in-None-clause-some c base is =
     let parts = c.self.inside.parts in
-    let told = active_in is.0 base c.args.self.now parts.pair_lists parts.pair_numbers (ap (λ a. a.actives) c.self.view_is) is.1 c.args.i c.number_at.result None c.number_at.ensures c.in-None.is in
-    told.some
+    (active_in is.0 base c.args.self.now parts.pair_lists parts.pair_numbers (ap (λ a. a.actives) c.self.view_is) is.1 c.args.i c.number_at.result None c.number_at.ensures c.in-None.is).some

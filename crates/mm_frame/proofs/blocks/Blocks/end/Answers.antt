@@ -26,10 +26,9 @@ invariant_of-self-2 c =
     let popped = popped_is outer.items c.pop.new.self.items c.unwrap_or-self-inside.result (length ends.items) c.pop.result c.pop.ensures.items (λ l. c.pop.ensures.variant.1 (omega (arith, outer.ok.0, l))) next in
     let kept = kept_entered i.block_of.items i.ends.items ends.items outer.items i.current i.begun i.ended c.enter.ensures.same c.enter.ensures.longer c.self.invariant in
     let item : c.len.result ≡ length i.block_of.items = omega (arith, c.len.ensures, c.reserve.ensures.len, i.block_of.ok.0) in
-    let closed = ap (closing ends.items i.current) item in
     let block_of = pushed c.push.result c.unwrap.result c.push.new.self.items (c.reserve.new.self.items ++ c.unwrap_or-self-inside.result ∷ [])
     c.reserve.new.self.items c.unwrap.ensures c.push.ensures.items ∙ ap (λ w. w ++ c.unwrap_or-self-inside.result ∷ []) c.reserve.ensures.items in
-    kept_moved _ c.push.new.self.items _ _ c.pop.new.self.items c.pop.new.self.items c.unwrap_or-self-inside.result i.begun _ block_of closed refl
+    kept_moved _ c.push.new.self.items _ _ c.pop.new.self.items c.pop.new.self.items c.unwrap_or-self-inside.result i.begun _ block_of (ap (closing ends.items i.current) item) refl
     (kept_ended i.block_of.items ends.items outer.items c.pop.new.self.items i.current c.unwrap_or-self-inside.result i.begun i.ended c.in_ok-enter.ensures.ok popped kept)
 
 pub returns-clause-ok : goal.returns-clause-ok
@@ -42,9 +41,8 @@ returns-clause-ok c =
     let popped = popped_is outer.items c.pop.new.self.items c.unwrap_or-self-inside.result (length ends.items) c.pop.result c.pop.ensures.items (λ l. c.pop.ensures.variant.1 (omega (arith, outer.ok.0, l))) next in
     let kept = kept_entered i.block_of.items i.ends.items ends.items outer.items i.current i.begun i.ended c.enter.ensures.same c.enter.ensures.longer c.self.invariant in
     let item : c.len.result ≡ length i.block_of.items = omega (arith, c.len.ensures, c.reserve.ensures.len, i.block_of.ok.0) in
-    let closed = ap (closing ends.items i.current) item in
     let block_of = pushed c.push.result c.unwrap.result c.push.new.self.items (c.reserve.new.self.items ++ c.unwrap_or-self-inside.result ∷ [])
     c.reserve.new.self.items c.unwrap.ensures c.push.ensures.items ∙ ap (λ w. w ++ c.unwrap_or-self-inside.result ∷ []) c.reserve.ensures.items in
-    ap (λ w. marks_from w 0 0 c.push.new.self.items) closed ∙ ap (marks_from (closing ends.items i.current (length i.block_of.items)) 0 0) block_of
+    ap (λ w. marks_from w 0 0 c.push.new.self.items) (ap (closing ends.items i.current) item) ∙ ap (marks_from (closing ends.items i.current (length i.block_of.items)) 0 0) block_of
     ∙ ended_marks i.block_of.items ends.items outer.items c.pop.new.self.items i.current c.unwrap_or-self-inside.result (marks_from ends.items 0 0 i.block_of.items) c.in_ok-enter.ensures.ok popped kept.are_blocks
     ∙ ap (λ marks. marks ++ Closes ∷ []) (entered_marks i.ends.items ends.items i.block_of.items c.enter.ensures.same ∙ c.self.view_is)

@@ -14,10 +14,9 @@ returns-in-None c =
     let inside = c.self.inside in
     let block = c.index.result.now in
     let in_range : c.args.from < length inside.block_of.items = omega (arith, items_within inside.ends.items inside.block_of.items c.args.self.now c.args.at c.self.view_is c.requires.within) in
-    let open_block = ap (λ ends. end_of_block ends block) (sym c.deref.ensures.value) ∙ sym c.end_of_block.ensures ∙ c.in-None.is in
     sym (ap (λ marks. stays_by (slice_range marks (c.args.from + 1) c.args.at)) (sym c.self.view_is) ∙ is_active_open inside.block_of.items
     inside.ends.items inside.outer.items inside.current inside.begun inside.ended c.args.from c.args.at block c.self.invariant in_range c.index.ensures
-    open_block)
+    (ap (λ ends. end_of_block ends block) (sym c.deref.ensures.value) ∙ sym c.end_of_block.ensures ∙ c.in-None.is))
 
 pub returns-in-Some : goal.returns-in-Some
 returns-in-Some c =

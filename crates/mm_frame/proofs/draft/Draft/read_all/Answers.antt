@@ -25,10 +25,8 @@ loop-item-preserved c =
 
 pub returns-clause-read : goal.returns-clause-read
 returns-clause-read c =
-    let files = c.args.files.now in
-    let items = c.args.items.now in
     let so_far = c.loop-item.invariant in
-    (so_far.1, subst (λ w. AllZip (Says files) w so_far.1) (take_all c.loop-item.item-index items c.loop-item-test.false) so_far.2, so_far.3)
+    (so_far.1, subst (λ w. AllZip (Says c.args.files.now) w so_far.1) (take_all c.loop-item.item-index c.args.items.now c.loop-item-test.false) so_far.2, so_far.3)
 
 pub returns-in_err-read-clause-grows : goal.returns-in_err-read-clause-grows
 returns-in_err-read-clause-grows c = begins_on _ _ _ c.loop-item.invariant.0 c.read.ensures.grows

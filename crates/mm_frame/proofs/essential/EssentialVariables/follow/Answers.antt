@@ -15,16 +15,14 @@ use Rattle.mm_frame.proofs.essential.EssentialVariables.follow.Goals as goal
 
 pub returns-else-is_among : goal.returns-else-is_among
 returns-else-is_among c before item old symbols number essentials long expressions are =
-    let active = active_numbers is_essential_item (before ++ item ∷ []) in
     let rising = subst IsRising (sym essentials) (active_numbers_rise is_essential_item (before ++ item ∷ [])) in
     let found = c.args.self.now.found.items in
     let gone = subst (λ (w : List ℕ). (v : EssentialVariable) → Contains (drop c.left_count-count.result found) v → (n : ℕ) → Contains w n → n < v.number) essentials
     (subst (λ (w : List EssentialVariable). (v : EssentialVariable) → Contains (drop c.left_count-count.result w) v → (n : ℕ) → Contains c.args.essentials.now n → n < v.number) c.deref.ensures.value (c.left_count-count.ensures.gone rising)) in
-    let out = (λ i. is_among (sym essentials i) (sym number i)) ∙ sym (c.is_among.ensures rising) ∙ c.if-is_among.false in
-    let left = variables_left before item old symbols found c.left_count-count.result long are gone out in
+    let left = variables_left before item old symbols found c.left_count-count.result long are gone ((λ i. is_among (sym essentials i) (sym number i)) ∙ sym (c.is_among.ensures rising) ∙ c.if-is_among.false) in
     subst (λ (w : List EssentialVariable). AreVariablesOf c.args.essentials.now c.args.expressions.now w) (sym c.truncate.ensures.items)
     (subst (λ (w : List ℕ). AreVariablesOf w c.args.expressions.now (take c.left_count-count.result found)) (sym essentials)
-    (subst (λ (w : List (List NumberedSymbol)). AreVariablesOf active w (take c.left_count-count.result found)) (sym expressions) left))
+    (subst (λ (w : List (List NumberedSymbol)). AreVariablesOf (active_numbers is_essential_item (before ++ item ∷ [])) w (take c.left_count-count.result found)) (sym expressions) left))
 
 pub returns-in_ok-add_all : goal.returns-in_ok-add_all
 returns-in_ok-add_all c before item old symbols number essentials long expressions are =
@@ -36,12 +34,10 @@ returns-in_ok-add_all c before item old symbols number essentials long expressio
     (subst (λ (w : List EssentialVariable). (v : EssentialVariable) → Contains (drop c.left_count-count.result w) v → (n : ℕ) → Contains c.args.essentials.now n → n < v.number) c.deref.ensures.value (c.left_count-count.ensures.gone rising)) in
     let among = sym (c.is_among.ensures rising) ∙ c.if-is_among.true in
     let there = (λ i. is_among (sym essentials i) (sym number i)) ∙ among in
-    let this = in_contains c.args.number c.args.essentials.now (among_in c.args.essentials.now c.args.number among) in
-    let adds = c.in_ok-add_all.ensures rising this in
+    let adds = c.in_ok-add_all.ensures rising (in_contains c.args.number c.args.essentials.now (among_in c.args.essentials.now c.args.number among)) in
     let cut = subst (λ (w : List EssentialVariable). AddsAll c.args.essentials.now c.args.number c.at.result.now w new) c.truncate.ensures.items adds in
     let kept = subst (λ (w : List NumberedSymbol). AddsAll c.args.essentials.now c.args.number w (take c.left_count-count.result found) new) (c.at.ensures ∙ (λ i. expression_kept (expressions i) (number i))) cut in
     let same = subst (λ (w : List ℕ). AddsAll w c.args.number (expression_kept (old ++ symbols ∷ []) (length before)) (take c.left_count-count.result found) new) essentials kept in
     let here = subst (λ (w : ℕ). AddsAll active w (expression_kept (old ++ symbols ∷ []) (length before)) (take c.left_count-count.result found) new) number same in
-    let added = variables_added before item old symbols found new c.left_count-count.result long are gone there here in
     subst (λ (w : List ℕ). AreVariablesOf w c.args.expressions.now new) (sym essentials)
-    (subst (λ (w : List (List NumberedSymbol)). AreVariablesOf active w new) (sym expressions) added)
+    (subst (λ (w : List (List NumberedSymbol)). AreVariablesOf active w new) (sym expressions) (variables_added before item old symbols found new c.left_count-count.result long are gone there here))

@@ -7,8 +7,7 @@ use Rattle.mm_frame.proofs.item_rows.Rows.is_shown.Goals as goal
 
 pub returns-then-not-is_labelled : goal.returns-then-not-is_labelled
 returns-then-not-is_labelled c =
-    let flag = sym (c.is_labelled.ensures ∙ ap (λ w. get_or w c.args.n false) c.deref.ensures.value) ∙ c.if-not-is_labelled.true in
-    sym (shown_none c.args.self.now c.args.n flag)
+    sym (shown_none c.args.self.now c.args.n (sym (c.is_labelled.ensures ∙ ap (λ w. get_or w c.args.n false) c.deref.ensures.value) ∙ c.if-not-is_labelled.true))
 
 pub returns : goal.returns
 returns c =

@@ -7,6 +7,5 @@ use Rattle.mm_frame.proofs.names.Names.is_name.Goals as goal
 
 pub returns-in-Some : goal.returns-in-Some
 returns-in-Some c e =
-    let same = (bytes_eq-Decides c.deref.result.now c.args.name.now).0 (sym c.eq.ensures ∙ e) in
     let key = slice_get-map (λ key. key.items) c.self.inside.names.keys c.args.number ∙ ap (option_map (λ key. key.items)) (sym c.in-Some.ensures.key) in
-    subst (λ names. slice_get names c.args.number ≡ Some c.args.name.now) c.self.view_is (key ∙ ap Some (sym c.deref.ensures.value ∙ same))
+    subst (λ names. slice_get names c.args.number ≡ Some c.args.name.now) c.self.view_is (key ∙ ap Some (sym c.deref.ensures.value ∙ ((bytes_eq-Decides c.deref.result.now c.args.name.now).0 (sym c.eq.ensures ∙ e))))

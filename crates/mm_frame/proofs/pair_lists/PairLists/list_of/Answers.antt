@@ -19,11 +19,10 @@ returns-clause-pairs c all before h a e m =
     let own = drop n disjoints in
     let both = take-append-drop n disjoints ∙ e in
     let front = c.count_to_last-front.ensures all before own a both in
-    let base = c.in_ok-base.ensures.pairs all before own h a both front m in
     let added = flat_map (pairs_at before) own in
     let listed = λ (w : List ℕ). AreSamePairsRead all added (flat_map (λ k. pairs_among (expression_kept c.args.expressions.now k)) w) in
     let read = subst listed (sym (take_rest disjoints n)) (active_read all before c.args.expressions.now own a (λ k q. subst (λ w. In k w) both (in_right k outer own q))) in
-    let made = c.in_ok-k.ensures.pairs all (active_pairs (take c.count_to_last-front.result before)) added base read in
+    let made = c.in_ok-k.ensures.pairs all (active_pairs (take c.count_to_last-front.result before)) added (c.in_ok-base.ensures.pairs all before own h a both front m) read in
     record { list = made.list; there = made.there; read = subst (λ w. AreSamePairsRead all w made.list.items) (front_and_own before outer own c.count_to_last-front.result h both front) made.read; order = made.order }
 
 pub returns-clause-made : goal.returns-clause-made
@@ -44,9 +43,8 @@ returns-clause-made c all before h a e m =
 pub returns-in-Some-clause-pairs : goal.returns-in-Some-clause-pairs
 returns-in-Some-clause-pairs c all before h a e m =
     let disjoints = c.args.disjoints.now in
-    let made = m c.count_to_last-count.result c.in-Some.k (sym c.made_for.ensures ∙ c.in-Some.is) in
     let front = c.count_to_last-count.ensures all before [] a (append-nil disjoints ∙ e) in
-    subst (IsList all c.args.self.now c.in-Some.k) (whole_front before disjoints c.count_to_last-count.result h e front) made.list
+    subst (IsList all c.args.self.now c.in-Some.k) (whole_front before disjoints c.count_to_last-count.result h e front) (m c.count_to_last-count.result c.in-Some.k (sym c.made_for.ensures ∙ c.in-Some.is)).list
 
 pub returns-in-Some-clause-made : goal.returns-in-Some-clause-made
 returns-in-Some-clause-made c all before h a e m = m

@@ -20,12 +20,10 @@ returns-clause-pairs c all before rest h a e f m =
     let both = take-append-drop n outer in
     let whole = sym (append_assoc done own rest) ∙ ap (λ w. w ++ rest) both ∙ e in
     let front = c.count_to_last-front.ensures all before (own ++ rest) a whole in
-    let base = c.in_ok-base.ensures.pairs all before h a front m in
     let added = flat_map (pairs_at before) own in
     let listed = λ (w : List ℕ). AreSamePairsRead all added (flat_map (λ k. pairs_among (expression_kept c.args.expressions.now k)) w) in
-    let active = active_read all before c.args.expressions.now own a (λ k q. subst (λ w. In k w) whole (in_right k done (own ++ rest) (in_left k own rest q))) in
-    let read = subst listed (sym (take_rest outer n)) active in
-    let made = c.in_ok-k.ensures.pairs all (active_pairs (take c.count_to_last-front.result before)) added base read in
+    let read = subst listed (sym (take_rest outer n)) (active_read all before c.args.expressions.now own a (λ k q. subst (λ w. In k w) whole (in_right k done (own ++ rest) (in_left k own rest q)))) in
+    let made = c.in_ok-k.ensures.pairs all (active_pairs (take c.count_to_last-front.result before)) added (c.in_ok-base.ensures.pairs all before h a front m) read in
     record { list = made.list; there = made.there; read = subst (λ w. AreSamePairsRead all w made.list.items) (front_and_more before outer done own c.args.count c.count_to_last-front.result h both f front) made.read; order = made.order }
 
 pub returns-clause-made : goal.returns-clause-made

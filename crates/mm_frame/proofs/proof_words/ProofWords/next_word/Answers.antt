@@ -13,10 +13,8 @@ returns c =
 pub invariant_of-self : goal.invariant_of-self
 invariant_of-self c =
     let text = c.self.inside.text.now in
-    let old = c.self.inside.cursor in
     let new = c.next_word.new.self in
-    let words = ap (λ (left : WordsLeft). left.words) (sym c.again-ahead.ensures) ∙ c.in_ok-word.ensures.word in
-    let more = proof_more text old.words new.words c.in_ok-word.word words (sym c.if-not-is_plain.ensures) in
+    let more = proof_more text c.self.inside.cursor.words new.words c.in_ok-word.word (ap (λ (left : WordsLeft). left.words) (sym c.again-ahead.ensures) ∙ c.in_ok-word.ensures.word) (sym c.if-not-is_plain.ensures) in
     record {
       text = c.next_word.ensures.text ∙ ap (λ (left : WordsLeft). left.text) c.again-ahead.ensures ∙ c.self.invariant.text;
       few = few_more (word_bytes text c.in_ok-word.word) (plain_bytes text new.words) (subst AreFew more c.self.invariant.few);

@@ -29,5 +29,4 @@ returns-else-start-end_at g c =
     let n = c.args.number in
     let within : n < length i.ends.items = omega (arith, c.len.ensures, i.ends.ok.0, c.if-number-len.false) in
     let start = c.start_at-start.ensures ∙ ap (λ w. start_at 0 w n) c.deref.ensures.value in
-    let end = c.end_at.ensures ∙ ap (λ w. get_or w n 0) c.deref-2.ensures.value in
-    value_missing i.values.items i.ends.items n c.start_at-start.result c.end_at.result within start end c.if-start-end_at.false ∙ ap (λ w. value_kept w n) c.self.view_is
+    value_missing i.values.items i.ends.items n c.start_at-start.result c.end_at.result within start (c.end_at.ensures ∙ ap (λ w. get_or w n 0) c.deref-2.ensures.value) c.if-start-end_at.false ∙ ap (λ w. value_kept w n) c.self.view_is
