@@ -17,9 +17,11 @@ pub mod NamedItems
 pub mod Tasks
 pub mod UsedLabels
 pub mod Judged
+pub mod DecodedProof
 pub mod Numbering
 pub mod NumberedBase
 pub mod KeptMarks
+pub mod TwoTheorems
 pub mod InStep
 pub mod Spelled
 pub mod ShortSteps

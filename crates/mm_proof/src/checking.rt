@@ -10,7 +10,8 @@ ghost use Rattle.mm_proof.specs.Language.Verdict.{IsVerdictOnSteps};
 ghost use Rattle.mm_proof.specs.Language.VerdictAt.{IsVerdictAt, AreDoneAt, cites_at, statement_at};
 ghost use Rattle.mm_frame.specs.Language.Frame.{Symbol, Setting};
 ghost use Rattle.mm_proof.specs.Language.DecodedSteps.{decoded_steps};
-ghost use Rattle.mm_proof.specs.Code.Judged.{HasDecoding, HasProof, IsOutcomeWithin, OfDecoding, OfProof, done_by};
+ghost use Rattle.mm_proof.specs.Code.DecodedProof.{IsDecoded, IsJudged, OfDecoded, steps_of};
+ghost use Rattle.mm_proof.specs.Code.Judged.{HasProof, IsOutcomeWithin, OfProof, done_by};
 ghost use Rattle.mm_proof.specs.Language.ReadIn.{HasTheorem, OfTheorem};
 ghost use Rattle.mm_proof.specs.Code.Tasks.{RunSays, StopsAt};
 ghost use Rattle.mm_proof.specs.declared.step.Undecoded.TheVariants as errors;
@@ -22,13 +23,13 @@ use crate::decoding_laws::{decodes_short, decodes_surely, labels_are_own, mandat
 use crate::named::{NamingRoom, name_all};
 use crate::reading::{Decoding, decode};
 use crate::short::{steps_before, take_more, takes_more};
-use crate::step::{ProofFault, Undecoded};
+use crate::step::{ProofFault, ProofStep, Undecoded};
 use crate::stepping::{Outcome, run, run_through};
 use crate::used::labels_used;
 use crate::work::{Checked, Scratch, Work};
 use crate::{ProofNumber, Spot, Verdict};
 use mm_frame::{
-    Base, Files, Names, NumberedSymbol, ProofWords, places_have_frames, words_of_proof,
+    Base, Files, Names, NumberedSymbol, ProofWords, Resolved, places_have_frames, words_of_proof,
 };
 use std::alloc::{AllocError, Global};
 use std::mem;
@@ -95,43 +96,45 @@ fn steps_done(outcome: Outcome, steps: usize) -> usize
     }
 }
 
+/// The proof of the item `i` of a base, and what it decodes to.
+#[derive(Clone, Copy)]
+pub struct DecodedProof<'a> {
+    pub base: &'a Base,
+    pub i: usize,
+    pub words: &'a ProofWords<'a>,
+    pub decoding: &'a Decoding,
+}
+
 /// Runs the steps of a proof before the first that lacks an entry, by the count of entries alone, and looks at that one. It
 /// loads no assertion for a step that lacks an entry. Where that does not tell what the steps come to, it tells nothing.
 fn run_front(
     alloc: Global,
     scratch: &mut Scratch,
     keys: usize,
-    base: &Base,
-    i: usize,
-    proof: &ProofWords,
-    decoding: &Decoding,
+    proof: DecodedProof,
 ) -> Result<Option<Outcome>, AllocError>
-    requires { HasDecoding base.now i proof.now decoding.now }
-    ensures within { IfOk result (λ found. IfSome found (IsOutcomeWithin (length decoding.now.steps.items))) }
-    ensures says { IfOk result (λ found. IfSome found (λ outcome. OfDecoding base.now i proof.now decoding.now (λ view.
-        StopsAt (setting_at view i) (decoded_steps view decoding.now proof.now).steps outcome))) }
+    requires { IsDecoded proof }
+    ensures within { IfOk result (λ found. IfSome found (IsOutcomeWithin (length proof.entry.decoding.now.steps.items))) }
+    ensures says { IfOk result (λ found. IfSome found (λ outcome. OfDecoded proof.entry (λ view.
+        StopsAt (setting_at view proof.entry.i) (steps_of proof.entry view) outcome))) }
 {
     places_have_frames();
     decodes_surely();
     mandatory_are_active();
-    let count = steps_before(base, &decoding.labels, &decoding.steps);
+    let labels: &[Resolved] = &proof.decoding.labels;
+    let steps: &[ProofStep] = &proof.decoding.steps;
+    let count = steps_before(proof.base, labels, steps);
+    let front = &steps[..count];
     let room = mem::replace(&mut scratch.naming, NamingRoom::new(alloc));
-    let labels = labels_used(alloc, &decoding.labels, &decoding.steps[..count])?;
-    let (named, room) = name_all(alloc, base, &labels, room)?;
+    let used = labels_used(alloc, labels, front)?;
+    let (named, room) = name_all(alloc, proof.base, &used, room)?;
     scratch.naming = room;
-    let active = Active::new(active(base, i));
-    if let Some(outcome) = run_through(
-        alloc,
-        &mut scratch.machine,
-        keys,
-        &named,
-        &active,
-        &decoding.steps[..count],
-    )? {
+    let active = Active::new(active(proof.base, proof.i));
+    if let Some(outcome) = run_through(alloc, &mut scratch.machine, keys, &named, &active, front)? {
         return Ok(Some(outcome));
     }
     let entries = scratch.machine.stack.len();
-    if takes_more(base, &decoding.labels, &decoding.steps, count, entries) {
+    if takes_more(proof.base, labels, steps, count, entries) {
         return Ok(Some(Outcome::Fault(ProofNumber::P07, count)));
     }
     Ok(None)
@@ -142,32 +145,31 @@ fn run_all(
     alloc: Global,
     scratch: &mut Scratch,
     keys: usize,
-    base: &Base,
-    i: usize,
-    proof: &ProofWords,
-    decoding: &Decoding,
+    proof: DecodedProof,
 ) -> Result<Outcome, AllocError>
-    requires { HasDecoding base.now i proof.now decoding.now }
-    ensures within { IfOk result (IsOutcomeWithin (length decoding.now.steps.items)) }
-    ensures says { IfOk result (λ outcome. OfDecoding base.now i proof.now decoding.now (λ view.
-        RunSays (setting_at view i) (decoded_steps view decoding.now proof.now).steps (statement_at view i) outcome)) }
+    requires { IsDecoded proof }
+    ensures within { IfOk result (IsOutcomeWithin (length proof.entry.decoding.now.steps.items)) }
+    ensures says { IfOk result (λ outcome. OfDecoded proof.entry (λ view.
+        RunSays (setting_at view proof.entry.i) (steps_of proof.entry view) (statement_at view proof.entry.i) outcome)) }
 {
     places_have_frames();
     decodes_surely();
     mandatory_are_active();
+    let labels: &[Resolved] = &proof.decoding.labels;
+    let steps: &[ProofStep] = &proof.decoding.steps;
     let room = mem::replace(&mut scratch.naming, NamingRoom::new(alloc));
-    let labels = labels_used(alloc, &decoding.labels, &decoding.steps)?;
-    let (named, room) = name_all(alloc, base, &labels, room)?;
+    let used = labels_used(alloc, labels, steps)?;
+    let (named, room) = name_all(alloc, proof.base, &used, room)?;
     scratch.naming = room;
-    let active = Active::new(active(base, i));
+    let active = Active::new(active(proof.base, proof.i));
     run(
         alloc,
         &mut scratch.machine,
         keys,
         &named,
         &active,
-        &decoding.steps,
-        expression(base, i),
+        steps,
+        expression(proof.base, proof.i),
     )
 }
 
@@ -176,22 +178,20 @@ fn run_steps(
     alloc: Global,
     scratch: &mut Scratch,
     keys: usize,
-    base: &Base,
-    i: usize,
-    proof: &ProofWords,
-    decoding: &Decoding,
+    proof: DecodedProof,
 ) -> Result<Outcome, AllocError>
-    requires { HasDecoding base.now i proof.now decoding.now }
-    ensures within { IfOk result (IsOutcomeWithin (length decoding.now.steps.items)) }
-    ensures says { IfOk result (λ outcome. OfDecoding base.now i proof.now decoding.now (λ view.
-        RunSays (setting_at view i) (decoded_steps view decoding.now proof.now).steps (statement_at view i) outcome)) }
+    requires { IsDecoded proof }
+    ensures within { IfOk result (IsOutcomeWithin (length proof.entry.decoding.now.steps.items)) }
+    ensures says { IfOk result (λ outcome. OfDecoded proof.entry (λ view.
+        RunSays (setting_at view proof.entry.i) (steps_of proof.entry view) (statement_at view proof.entry.i) outcome)) }
 {
-    if take_more(base, &decoding.labels, decoding.steps.len()) {
-        if let Some(outcome) = run_front(alloc, &mut *scratch, keys, base, i, proof, decoding)? {
+    let decoding = proof.decoding;
+    if take_more(proof.base, &decoding.labels, decoding.steps.len()) {
+        if let Some(outcome) = run_front(alloc, &mut *scratch, keys, proof)? {
             return Ok(outcome);
         }
     }
-    run_all(alloc, &mut *scratch, keys, base, i, proof, decoding)
+    run_all(alloc, &mut *scratch, keys, proof)
 }
 
 /// What a check says of a proof that decodes, and how many steps are done.
@@ -199,41 +199,40 @@ fn judge_steps(
     alloc: Global,
     scratch: &mut Scratch,
     keys: usize,
-    base: &Base,
-    i: usize,
-    proof: &ProofWords,
-    decoding: &Decoding,
+    proof: DecodedProof,
 ) -> Result<(Checked, u64), AllocError>
-    requires { HasDecoding base.now i proof.now decoding.now }
-    ensures verdict { IfOk result (λ judged. OfDecoding base.now i proof.now decoding.now (λ view. IsVerdictAt view i judged.0.verdict)) }
-    ensures cites { IfOk result (λ judged. OfDecoding base.now i proof.now decoding.now (λ view. judged.0.cites ≡ cites_at view i)) }
-    ensures done { IfOk result (λ judged. OfDecoding base.now i proof.now decoding.now (λ view. AreDoneAt view i judged.1)) }
+    requires { IsDecoded proof }
+    ensures says { IfOk result (λ judged. OfDecoded proof.entry (λ view. IsJudged view proof.entry.i judged)) }
     ensures few { IfOk result (λ judged. judged.1 ≤ 4294967295) }
 {
     decodes_short();
     labels_are_own();
-    scratch.widen(base.count())?;
-    let hypotheses = mandatory(base, i).len();
-    let cites = cites(alloc, &mut scratch.marks, decoding, hypotheses, proof)?;
-    let outcome = run_steps(alloc, &mut *scratch, keys, base, i, proof, decoding)?;
-    let done = steps_done(outcome, decoding.steps.len());
-    let verdict = verdict(outcome, decoding, proof.again());
+    scratch.widen(proof.base.count())?;
+    let hypotheses = mandatory(proof.base, proof.i).len();
+    let cites = cites(
+        alloc,
+        &mut scratch.marks,
+        proof.decoding,
+        hypotheses,
+        proof.words,
+    )?;
+    let outcome = run_steps(alloc, &mut *scratch, keys, proof)?;
+    let done = steps_done(outcome, proof.decoding.steps.len());
+    let verdict = verdict(outcome, proof.decoding, proof.words.again());
     Ok((Checked::new(verdict, cites), done as u64))
 }
 
 /// What a check says of a proof, and how many steps are done.
-fn judge(
+fn judge<'a>(
     alloc: Global,
     scratch: &mut Scratch,
     keys: usize,
-    base: &Base,
+    base: &'a Base,
     i: usize,
-    proof: &ProofWords,
+    proof: &'a ProofWords<'a>,
 ) -> Result<(Checked, u64), AllocError>
     requires { HasProof base.now i proof.now }
-    ensures verdict { IfOk result (λ judged. OfProof base.now i proof.now (λ view. IsVerdictAt view i judged.0.verdict)) }
-    ensures cites { IfOk result (λ judged. OfProof base.now i proof.now (λ view. judged.0.cites ≡ cites_at view i)) }
-    ensures done { IfOk result (λ judged. OfProof base.now i proof.now (λ view. AreDoneAt view i judged.1)) }
+    ensures says { IfOk result (λ judged. OfProof base.now i proof.now (λ view. IsJudged view i judged)) }
     ensures few { IfOk result (λ judged. judged.1 ≤ 4294967295) }
 {
     mandatory_are_active();
@@ -241,7 +240,13 @@ fn judge(
     let room = mem::replace(&mut scratch.decoding, Decoding::new(alloc));
     match decode(base, i, mandatory, proof, room) {
         Ok(decoding) => {
-            let judged = judge_steps(alloc, &mut *scratch, keys, base, i, proof, &decoding)?;
+            let decoded = DecodedProof {
+                base,
+                i,
+                words: proof,
+                decoding: &decoding,
+            };
+            let judged = judge_steps(alloc, &mut *scratch, keys, decoded)?;
             scratch.decoding = decoding;
             Ok(judged)
         }

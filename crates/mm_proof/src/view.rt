@@ -1,17 +1,16 @@
 //! Whether two theorems have the same view: all that the verdicts on their proofs depend on.
 
-ghost use Rattle.std.specs.Prelude.{◌≡◌, ◌↔◌, true, ℕ, List, Some, IsTrue, IfSome, filter};
-ghost use Rattle.std.specs.List.{AllByRecursion, before_first};
+ghost use Rattle.std.specs.Prelude.{◌≡◌, ◌↔◌, true, ℕ, List, Some, IsTrue, filter};
+ghost use Rattle.std.specs.List.{before_first};
 ghost use Rattle.mm_frame.specs.Language.Base.{BaseView, is_framed_at, is_proof_at};
 ghost use Rattle.mm_frame.specs.Language.Resolving.{IsCarrier, Resolves};
 ghost use Rattle.mm_frame.specs.Language.Answering.{IsBase, IsBaseBy};
-ghost use Rattle.mm_proof.specs.Code.KeptMarks.{OfBasesBy, AreMarksOf, AreTheorems, SharePairs, ShareHypotheses, ShareStatement, ShareProof};
-ghost use Rattle.mm_proof.specs.Code.KeptMarks.{IsOneCarrier, IsShownItem, TellsSame, is_label_word};
+ghost use Rattle.mm_proof.specs.Code.KeptMarks.{AreTheorems, IsOneCarrier, IsShownItem, SharePairs, ShareHypotheses, ShareProof, is_label_word, stands_for};
+ghost use Rattle.mm_proof.specs.Code.TwoTheorems.{AreMarked, CanBeCompared, OfTwo, OfTwoIn, MeansSame, TellsLabels, TellsShared};
 ghost use Rattle.mm_proof.specs.Language.ReadIn.{IsReadIn, HasTheorem};
-ghost use Rattle.mm_proof.specs.Language.BaseLabels.{setting_at};
 ghost use Rattle.mm_proof.specs.Language.BaseMarks.{AreMarks, mark_at};
 ghost use Rattle.mm_proof.specs.Language.Decoding.{is_close as is_closing};
-ghost use Rattle.mm_proof.specs.Language.SameProof.{IsSameLabel, labels_named};
+ghost use Rattle.mm_proof.specs.Language.SameProof.{AreSameMeaning, labels_named};
 ghost use Rattle.mm_proof.specs.Language.View.{view_at, AreSameViews};
 
 use crate::labels::is_close;
@@ -22,13 +21,30 @@ use mm_frame::{
     same_but_pairs, same_expression, same_frame, same_proof, words_of_proof,
 };
 
-/// Whether what a label means in one base is what one means in another.
-fn same_meaning(names: &Names, old: &Base, mine: Resolved, new: &Base, yours: Resolved) -> bool
-    ensures { OfBasesBy names.now old.now new.now (λ base copy. IsShownItem base mine → IsShownItem copy yours → TellsSame base copy mine yours result) }
+/// The item `i` of an old base and the item `j` of a new one. The symbols of both bases are read by these names. The marks,
+/// where there are any, tell what stays of the old base in the new one.
+#[derive(Clone, Copy)]
+pub struct TwoTheorems<'names, 'old, 'new, 'marks> {
+    pub names: &'names Names,
+    pub old: &'old Base,
+    pub i: usize,
+    pub new: &'new Base,
+    pub j: usize,
+    pub marks: Option<&'marks Marks>,
+}
+
+/// Whether what a label means in the old base is what one means in the new one.
+fn same_meaning(two: TwoTheorems, mine: Resolved, yours: Resolved) -> bool
+    ensures { OfTwo two.entry (λ base copy. IsShownItem base mine → IsShownItem copy yours
+        → IsTrue result ↔ AreSameMeaning (stands_for base mine) (stands_for copy yours)) }
 {
     match (mine, yours) {
-        (Resolved::Hypothesis(a), Resolved::Hypothesis(b)) => same_expression(old, a, new, b),
-        (Resolved::Assertion(a), Resolved::Assertion(b)) => same_frame(names, old, a, new, b),
+        (Resolved::Hypothesis(a), Resolved::Hypothesis(b)) => {
+            same_expression(two.old, a, two.new, b)
+        }
+        (Resolved::Assertion(a), Resolved::Assertion(b)) => {
+            same_frame(two.names, two.old, a, two.new, b)
+        }
         (Resolved::Inactive, Resolved::Inactive) | (Resolved::Unknown, Resolved::Unknown) => true,
         _ => false,
     }
@@ -49,96 +65,60 @@ fn meaning_of(base: &Base, carrier: Option<usize>, framed: bool, i: usize) -> Re
 }
 
 /// Whether the label of the item `m` of the new base means the same at both, where it means these. No frame is compared.
-fn same_marked(
-    names: &Names,
-    old: &Base,
-    mine: Resolved,
-    new: &Base,
-    yours: Resolved,
-    marks: &Marks,
-    m: usize,
-) -> bool
-    ensures { OfBasesBy names.now old.now new.now (λ base copy. AreMarks base copy marks.now → (i j : ℕ) (label : List ℕ) → IsCarrier copy label m
-        → Resolves base i label mine → Resolves copy j label yours → IsTrue result ↔ IsSameLabel (setting_at base i) (setting_at copy j) label) }
+fn same_marked(two: TwoTheorems, mine: Resolved, yours: Resolved, marks: &Marks, m: usize) -> bool
+    ensures { OfTwo two.entry (λ base copy. AreMarks base copy marks.now → (label : List ℕ) → IsCarrier copy label m
+        → Resolves base two.entry.i label mine → Resolves copy two.entry.j label yours → IsTrue result ↔ MeansSame two.entry base copy label) }
 {
     has_own_labels();
     match (mine, yours) {
         (Resolved::Assertion(_), Resolved::Assertion(_)) => marks.same(m),
-        _ => same_meaning(names, old, mine, new, yours),
+        _ => same_meaning(two, mine, yours),
     }
 }
 
 /// Whether a label means the same at both, by what stays of the old base: it is looked up in the new base alone, and
 /// no frame is compared.
-fn same_by(
-    names: &Names,
-    old: &Base,
-    i: usize,
-    new: &Base,
-    j: usize,
-    marks: &Marks,
-    label: &[u8],
-) -> bool
-    ensures { OfBasesBy names.now old.now new.now (λ base copy. AreMarks base copy marks.now
-        → IsTrue result ↔ IsSameLabel (setting_at base i) (setting_at copy j) label.now) }
+fn same_by(two: TwoTheorems, marks: &Marks, label: &[u8]) -> bool
+    ensures { OfTwo two.entry (λ base copy. AreMarks base copy marks.now → IsTrue result ↔ MeansSame two.entry base copy label.now) }
 {
     kept_next();
-    match new.find(label) {
+    match two.new.find(label) {
         Some(m) => {
             let framed = marks.same(m);
-            let mine = meaning_of(old, marks.old(m), framed, i);
-            let yours = meaning_of(new, Some(m), framed, j);
-            same_marked(names, old, mine, new, yours, marks, m)
+            let mine = meaning_of(two.old, marks.old(m), framed, two.i);
+            let yours = meaning_of(two.new, Some(m), framed, two.j);
+            same_marked(two, mine, yours, marks, m)
         }
-        None => same_meaning(names, old, old.resolve(label, i), new, Resolved::Unknown),
+        None => same_meaning(two, two.old.resolve(label, two.i), Resolved::Unknown),
     }
 }
 
 /// Whether a label means the same at both.
-fn same_label(
-    names: &Names,
-    old: &Base,
-    i: usize,
-    new: &Base,
-    j: usize,
-    marks: Option<&Marks>,
-    label: &[u8],
-) -> bool
-    requires { IfSome marks (λ m. AreMarksOf names.now old.now new.now m.now) }
-    ensures { OfBasesBy names.now old.now new.now (λ base copy. IsTrue result ↔ IsSameLabel (setting_at base i) (setting_at copy j) label.now) }
+fn same_label(two: TwoTheorems, label: &[u8]) -> bool
+    requires { AreMarked two }
+    ensures { OfTwo two.entry (λ base copy. IsTrue result ↔ MeansSame two.entry base copy label.now) }
 {
-    match marks {
-        Some(marks) => same_by(names, old, i, new, j, marks, label),
+    match two.marks {
+        Some(marks) => same_by(two, marks, label),
         None => same_meaning(
-            names,
-            old,
-            old.resolve(label, i),
-            new,
-            new.resolve(label, j),
+            two,
+            two.old.resolve(label, two.i),
+            two.new.resolve(label, two.j),
         ),
     }
 }
 
 /// Whether the labels of a list mean the same at both, up to the word that closes it.
-fn same_listed(
-    names: &Names,
-    old: &Base,
-    i: usize,
-    new: &Base,
-    j: usize,
-    marks: Option<&Marks>,
-    words: ProofWords,
-) -> bool
-    requires { IfSome marks (λ m. AreMarksOf names.now old.now new.now m.now) }
-    ensures { OfBasesBy names.now old.now new.now (λ base copy. IsTrue result
-        ↔ AllByRecursion (IsSameLabel (setting_at base i) (setting_at copy j)) (before_first is_closing words.entry)) }
+fn same_listed(two: TwoTheorems, words: ProofWords) -> bool
+    requires { AreMarked two }
+    ensures { TellsLabels two.entry (before_first is_closing words.entry) result }
 {
     let mut words = words;
     while let Some(word) = words.next_word() {
         if is_close(word) {
             return true;
         }
-        if !same_label(names, old, i, new, j, marks, word) {
+        if !same_label(two, word) {
             return false;
         }
     }
@@ -146,22 +126,13 @@ fn same_listed(
 }
 
 /// Whether the words of a normal proof mean the same at both; a `?` always does.
-fn same_words(
-    names: &Names,
-    old: &Base,
-    i: usize,
-    new: &Base,
-    j: usize,
-    marks: Option<&Marks>,
-    words: ProofWords,
-) -> bool
-    requires { IfSome marks (λ m. AreMarksOf names.now old.now new.now m.now) }
-    ensures { OfBasesBy names.now old.now new.now (λ base copy. IsTrue result
-        ↔ AllByRecursion (IsSameLabel (setting_at base i) (setting_at copy j)) (filter is_label_word words.entry)) }
+fn same_words(two: TwoTheorems, words: ProofWords) -> bool
+    requires { AreMarked two }
+    ensures { TellsLabels two.entry (filter is_label_word words.entry) result }
 {
     let mut words = words;
     while let Some(word) = words.next_word() {
-        if !is_unknown(word) && !same_label(names, old, i, new, j, marks, word) {
+        if !is_unknown(word) && !same_label(two, word) {
             return false;
         }
     }
@@ -169,27 +140,18 @@ fn same_words(
 }
 
 /// Whether the labels that these words of a proof name mean the same at both.
-fn same_named(
-    names: &Names,
-    old: &Base,
-    i: usize,
-    new: &Base,
-    j: usize,
-    marks: Option<&Marks>,
-    words: ProofWords,
-) -> bool
-    requires { IfSome marks (λ m. AreMarksOf names.now old.now new.now m.now) }
-    ensures { OfBasesBy names.now old.now new.now (λ base copy. IsTrue result
-        ↔ AllByRecursion (IsSameLabel (setting_at base i) (setting_at copy j)) (labels_named words.entry)) }
+fn same_named(two: TwoTheorems, words: ProofWords) -> bool
+    requires { AreMarked two }
+    ensures { TellsLabels two.entry (labels_named words.entry) result }
 {
     let mut words = words;
     let Some(word) = words.next_word() else {
         return true;
     };
     if is_open(word) {
-        same_listed(names, old, i, new, j, marks, words)
-    } else if is_unknown(word) || same_label(names, old, i, new, j, marks, word) {
-        same_words(names, old, i, new, j, marks, words)
+        same_listed(two, words)
+    } else if is_unknown(word) || same_label(two, word) {
+        same_words(two, words)
     } else {
         false
     }
@@ -206,20 +168,13 @@ fn is_marked(marks: &Marks, i: usize, j: usize) -> bool
 }
 
 /// Whether two sound `$p` have the same active pairs.
-fn same_pairs(
-    names: &Names,
-    old: &Base,
-    i: usize,
-    new: &Base,
-    j: usize,
-    marks: Option<&Marks>,
-) -> bool
-    requires { IfSome marks (λ m. AreMarksOf names.now old.now new.now m.now) }
-    ensures { OfBasesBy names.now old.now new.now (λ base copy. AreTheorems base copy i j → IsTrue result ↔ SharePairs base copy i j) }
+fn same_pairs(two: TwoTheorems) -> bool
+    requires { AreMarked two }
+    ensures { TellsShared two.entry SharePairs result }
 {
-    match marks {
-        Some(marks) if is_marked(marks, i, j) => marks.same_pairs(j),
-        _ => same_active_pairs(old, i, new, j),
+    match two.marks {
+        Some(marks) if is_marked(marks, two.i, two.j) => marks.same_pairs(two.j),
+        _ => same_active_pairs(two.old, two.i, two.new, two.j),
     }
 }
 
@@ -232,36 +187,14 @@ fn is_frame_marked(marks: &Marks, i: usize, j: usize) -> bool
 
 /// Whether two sound `$p` have the same expression and the same mandatory hypotheses. Nothing is compared where the marks
 /// tell that their frames are the same.
-fn same_but_active(
-    names: &Names,
-    old: &Base,
-    i: usize,
-    new: &Base,
-    j: usize,
-    marks: Option<&Marks>,
-) -> bool
-    requires { IfSome marks (λ m. AreMarksOf names.now old.now new.now m.now) }
-    ensures { OfBasesBy names.now old.now new.now (λ base copy. AreTheorems base copy i j → IsTrue result ↔ ShareHypotheses base copy i j) }
+fn same_but_active(two: TwoTheorems) -> bool
+    requires { AreMarked two }
+    ensures { TellsShared two.entry ShareHypotheses result }
 {
-    match marks {
-        Some(marks) if is_frame_marked(marks, i, j) => true,
-        _ => same_but_pairs(old, i, new, j),
+    match two.marks {
+        Some(marks) if is_frame_marked(marks, two.i, two.j) => true,
+        _ => same_but_pairs(two.old, two.i, two.new, two.j),
     }
-}
-
-/// Whether two sound `$p` have the same expression, the same mandatory hypotheses and the same active pairs.
-fn same_statement(
-    names: &Names,
-    old: &Base,
-    i: usize,
-    new: &Base,
-    j: usize,
-    marks: Option<&Marks>,
-) -> bool
-    requires { IfSome marks (λ m. AreMarksOf names.now old.now new.now m.now) }
-    ensures { OfBasesBy names.now old.now new.now (λ base copy. AreTheorems base copy i j → IsTrue result ↔ ShareStatement base copy i j) }
-{
-    same_but_active(names, old, i, new, j, marks) && same_pairs(names, old, i, new, j, marks)
 }
 
 /// Whether the marks tell that the items have one label, and that every label means the same at both.
@@ -273,45 +206,33 @@ fn is_in_step(marks: &Marks, i: usize, j: usize) -> bool
 
 /// Whether the labels that these words of a proof name mean the same at both. Nothing is read where the marks tell that
 /// every label does.
-fn same_labels(
-    names: &Names,
-    old: &Base,
-    i: usize,
-    new: &Base,
-    j: usize,
-    marks: Option<&Marks>,
-    words: ProofWords,
-) -> bool
-    requires { IfSome marks (λ m. AreMarksOf names.now old.now new.now m.now) }
-    ensures { OfBasesBy names.now old.now new.now (λ base copy. IsTrue result
-        ↔ AllByRecursion (IsSameLabel (setting_at base i) (setting_at copy j)) (labels_named words.entry)) }
+fn same_labels(two: TwoTheorems, words: ProofWords) -> bool
+    requires { AreMarked two }
+    ensures { TellsLabels two.entry (labels_named words.entry) result }
 {
-    match marks {
-        Some(marks) if is_in_step(marks, i, j) => true,
-        _ => same_named(names, old, i, new, j, marks, words),
+    match two.marks {
+        Some(marks) if is_in_step(marks, two.i, two.j) => true,
+        _ => same_named(two, words),
     }
 }
 
 /// Whether the proofs of two sound `$p` have the same words, and the labels that these name mean the same.
-fn same_written(
-    names: &Names,
-    files: &Files,
-    old: &Base,
-    i: usize,
-    new: &Base,
-    j: usize,
-    marks: Option<&Marks>,
-) -> bool
-    requires one { HasTheorem names.now files.now old.now i }
-    requires other { HasTheorem names.now files.now new.now j }
-    requires marks { IfSome marks (λ m. AreMarksOf names.now old.now new.now m.now) }
-    ensures { (base copy : BaseView) → IsReadIn names.now files.now old.now base → IsReadIn names.now files.now new.now copy
-        → IsTrue result ↔ ShareProof base copy i j }
+fn same_written(two: TwoTheorems, files: &Files) -> bool
+    requires { CanBeCompared two files.now }
+    ensures { OfTwoIn two.entry files.now (λ base copy. IsTrue result ↔ ShareProof base copy two.entry.i two.entry.j) }
 {
-    let mine = old.item(i);
-    let yours = new.item(j);
-    same_proof(files, mine, yours)
-        && same_labels(names, old, i, new, j, marks, words_of_proof(files, yours))
+    let mine = two.old.item(two.i);
+    let yours = two.new.item(two.j);
+    same_proof(files, mine, yours) && same_labels(two, words_of_proof(files, yours))
+}
+
+/// Whether two sound `$p` have equal views.
+fn have_same_view(two: TwoTheorems, files: &Files) -> bool
+    requires { CanBeCompared two files.now }
+    ensures { OfTwoIn two.entry files.now (λ base copy. AreTheorems base copy two.entry.i two.entry.j
+        → IsTrue result ↔ AreSameViews (view_at base two.entry.i) (view_at copy two.entry.j)) }
+{
+    same_but_active(two) && same_pairs(two) && same_written(two, files)
 }
 
 /// Whether the sound `$p` `i` of a base and the sound `$p` `j` of another have equal views. Both bases are over these names,
@@ -322,8 +243,15 @@ pub fn same_view(names: &Names, files: &Files, one: &Base, i: usize, other: &Bas
     ensures { (base copy : BaseView) → IsReadIn names.now files.now one.now base → IsReadIn names.now files.now other.now copy
         → is_proof_at base i ≡ true → is_proof_at copy j ≡ true → IsTrue result ↔ AreSameViews (view_at base i) (view_at copy j) }
 {
-    same_statement(names, one, i, other, j, None)
-        && same_written(names, files, one, i, other, j, None)
+    let two = TwoTheorems {
+        names,
+        old: one,
+        i,
+        new: other,
+        j,
+        marks: None,
+    };
+    have_same_view(two, files)
 }
 
 /// Answers what [`same_view`] does, by the marks of the two bases: no frame is compared, and each label that the proof
@@ -343,6 +271,13 @@ pub fn same_view_by(
     ensures { (base copy : BaseView) → IsReadIn names.now files.now old.now base → IsReadIn names.now files.now new.now copy
         → is_proof_at base i ≡ true → is_proof_at copy j ≡ true → IsTrue result ↔ AreSameViews (view_at base i) (view_at copy j) }
 {
-    same_statement(names, old, i, new, j, Some(marks))
-        && same_written(names, files, old, i, new, j, Some(marks))
+    let marked = TwoTheorems {
+        names,
+        old,
+        i,
+        new,
+        j,
+        marks: Some(marks),
+    };
+    have_same_view(marked, files)
 }

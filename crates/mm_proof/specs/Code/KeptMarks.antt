@@ -2,7 +2,7 @@
 use Rattle.std.specs.Prelude.{◌≡◌, ◌↔◌, ◌<◌, ℕ, Bool, true, false, not, Option, Some, None, List, length, map, bytes_eq, codes}
 use Rattle.std.specs.List.{AllByRecursion}
 use Rattle.mm_frame.specs.Language.Base.{BaseView, before, said_at, is_shown_at, is_framed_at, is_proof_at, frame_at}
-use Rattle.mm_frame.specs.Language.Frame.{AreSameFrame, AreSamePairs}
+use Rattle.mm_frame.specs.Language.Frame.{Resolved, Hypothesis, Assertion, Inactive, Unknown, AreSameFrame, AreSamePairs}
 use Rattle.mm_frame.specs.Language.Framing.{active_pairs, expression}
 use Rattle.mm_frame.specs.Language.Resolving.{IsCarrier}
 use Rattle.mm_frame.specs.Language.Answering.{IsBaseBy}
@@ -79,14 +79,12 @@ IsShownItem base (answers.Assertion n) = is_framed_at base n ≡ true
 IsShownItem base answers.Inactive = Unit {0}
 IsShownItem base answers.Unknown = Unit {0}
 
--- it is told whether two answers mean the same
-abbrev pub TellsSame : BaseView → BaseView → answer.Resolved → answer.Resolved → Bool → Type 0
-TellsSame base copy (answers.Hypothesis a) (answers.Hypothesis b) same =
-    (same ≡ true) ↔ (expression (before base a) (said_at base a) ≡ expression (before copy b) (said_at copy b))
-TellsSame base copy (answers.Assertion a) (answers.Assertion b) same = (same ≡ true) ↔ AreSameFrame (frame_at base a) (frame_at copy b)
-TellsSame base copy answers.Inactive answers.Inactive same = same ≡ true
-TellsSame base copy answers.Unknown answers.Unknown same = same ≡ true
-TellsSame base copy _ _ same = same ≡ false
+-- what an answer stands for
+abbrev pub stands_for : BaseView → answer.Resolved → Resolved
+stands_for base (answers.Hypothesis n) = Hypothesis (expression (before base n) (said_at base n))
+stands_for base (answers.Assertion n) = Assertion (frame_at base n)
+stands_for base answers.Inactive = Inactive
+stands_for base answers.Unknown = Unknown
 
 -- the word of a normal proof is a label
 abbrev pub is_label_word : List ℕ → Bool
@@ -96,11 +94,6 @@ is_label_word word = not (bytes_eq word (codes "?"))
 pub record ShareHypotheses (base copy : BaseView) (i j : ℕ) : Type 0 where
   pub expression : (frame_at base i).expression ≡ (frame_at copy j).expression
   pub hypotheses : (frame_at base i).hypotheses ≡ (frame_at copy j).hypotheses
-
--- they have the same active pairs, too
-pub record ShareStatement (base copy : BaseView) (i j : ℕ) : Type 0 where
-  pub but_pairs : ShareHypotheses base copy i j
-  pub pairs : SharePairs base copy i j
 
 -- the same words stand in their proofs, and the labels that these name mean the same
 pub record ShareProof (base copy : BaseView) (i j : ℕ) : Type 0 where

@@ -3,32 +3,25 @@ use Rattle.mm_proof.proofs.lemmas.base.SaysLemmas.{read_at, theorem_at}
 use Rattle.mm_proof.proofs.checking.check.Goals as goal
 
 pub words_of_proof-proof-requires : goal.words_of_proof-proof-requires
-words_of_proof-proof-requires c = read_at c.args.names.now c.args.files.now c.args.base.now c.args.i c.item.result.now c.requires.theorem c.item.ensures.found
+words_of_proof-proof-requires c = read_at _ _ _ _ c.item.result.now c.requires.theorem c.item.ensures.found
 
 pub judge-requires : goal.judge-requires
 judge-requires c =
-    let has = c.requires.theorem in (
-      has.0,
-      theorem_at c.args.names.now c.args.files.now c.args.base.now c.args.i c.item.result.now c.words_of_proof-proof.result has.0 has.1 has.3
-          (c.item.ensures.found has.0 (c.args.names.now, has.1.base)) c.words_of_proof-proof.ensures.words,
-      has.2,
-    )
+    let has = c.requires.theorem in
+    (has.0, theorem_at _ _ _ _ c.item.result.now _ has.0 has.1 has.3 (c.item.ensures.found has.0 (c.args.names.now, has.1.base)) c.words_of_proof-proof.ensures.words, has.2)
 
 pub returns-clause-verdict : goal.returns-clause-verdict
 returns-clause-verdict c view is proof =
-    c.in_ok-checked.ensures.verdict view (theorem_at c.args.names.now c.args.files.now c.args.base.now c.args.i c.item.result.now
-    c.words_of_proof-proof.result view is proof (c.item.ensures.found view (c.args.names.now, is.base)) c.words_of_proof-proof.ensures.words)
+    (c.in_ok-checked.ensures.says view (theorem_at _ _ _ _ c.item.result.now _ view is proof (c.item.ensures.found view (c.args.names.now, is.base)) c.words_of_proof-proof.ensures.words)).verdict
 
 pub returns-clause-cites : goal.returns-clause-cites
 returns-clause-cites c view is proof =
-    c.in_ok-checked.ensures.cites view (theorem_at c.args.names.now c.args.files.now c.args.base.now c.args.i c.item.result.now
-    c.words_of_proof-proof.result view is proof (c.item.ensures.found view (c.args.names.now, is.base)) c.words_of_proof-proof.ensures.words)
+    (c.in_ok-checked.ensures.says view (theorem_at _ _ _ _ c.item.result.now _ view is proof (c.item.ensures.found view (c.args.names.now, is.base)) c.words_of_proof-proof.ensures.words)).cites
 
 pub returns-clause-done : goal.returns-clause-done
 returns-clause-done c view is proof = (
   c.in_ok-checked.done,
-  c.in_ok-checked.ensures.done view (theorem_at c.args.names.now c.args.files.now c.args.base.now c.args.i c.item.result.now c.words_of_proof-proof.result view is proof
-      (c.item.ensures.found view (c.args.names.now, is.base)) c.words_of_proof-proof.ensures.words),
+  (c.in_ok-checked.ensures.says view (theorem_at _ _ _ _ c.item.result.now _ view is proof (c.item.ensures.found view (c.args.names.now, is.base)) c.words_of_proof-proof.ensures.words)).done,
   c.in_ok-checked.ensures.few,
   c.in_ok-record.ensures.steps ∙ ap (λ w. w.steps + c.in_ok-checked.done) (c.keep.ensures ∙ c.lend-scratch.ensures),
 )

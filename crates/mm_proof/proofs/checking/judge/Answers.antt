@@ -11,19 +11,9 @@ judge_steps-requires c =
       has.2,
     )
 
-pub returns-in_ok-judged-in-Ok-clause-verdict : goal.returns-in_ok-judged-in-Ok-clause-verdict
-returns-in_ok-judged-in-Ok-clause-verdict c view theorem =
-    c.in_ok-judged-in-Ok.ensures.verdict view (decoded c.args.base.now c.args.i c.args.proof.now c.in-Ok.decoding c.mandatory-mandatory.result.now view theorem c.mandatory-mandatory.ensures (c.mandatory_are_active.ensures view c.args.i theorem.said)
-    c.in-Ok.ensures.ok c.in-Ok.ensures.entries c.in-Ok.ensures.table)
-
-pub returns-in_ok-judged-in-Ok-clause-cites : goal.returns-in_ok-judged-in-Ok-clause-cites
-returns-in_ok-judged-in-Ok-clause-cites c view theorem =
-    c.in_ok-judged-in-Ok.ensures.cites view (decoded c.args.base.now c.args.i c.args.proof.now c.in-Ok.decoding c.mandatory-mandatory.result.now view theorem c.mandatory-mandatory.ensures (c.mandatory_are_active.ensures view c.args.i theorem.said)
-    c.in-Ok.ensures.ok c.in-Ok.ensures.entries c.in-Ok.ensures.table)
-
-pub returns-in_ok-judged-in-Ok-clause-done : goal.returns-in_ok-judged-in-Ok-clause-done
-returns-in_ok-judged-in-Ok-clause-done c view theorem =
-    c.in_ok-judged-in-Ok.ensures.done view (decoded c.args.base.now c.args.i c.args.proof.now c.in-Ok.decoding c.mandatory-mandatory.result.now view theorem c.mandatory-mandatory.ensures (c.mandatory_are_active.ensures view c.args.i theorem.said)
+pub returns-in_ok-judged-in-Ok-clause-says : goal.returns-in_ok-judged-in-Ok-clause-says
+returns-in_ok-judged-in-Ok-clause-says c view theorem =
+    c.in_ok-judged-in-Ok.ensures.says view (decoded c.args.base.now c.args.i c.args.proof.now c.in-Ok.decoding c.mandatory-mandatory.result.now view theorem c.mandatory-mandatory.ensures (c.mandatory_are_active.ensures view c.args.i theorem.said)
     c.in-Ok.ensures.ok c.in-Ok.ensures.entries c.in-Ok.ensures.table)
 
 pub mandatory-mandatory-requires : goal.mandatory-mandatory-requires

@@ -15,6 +15,8 @@ use Rattle.mm_frame.specs.Language.Framing.{mandatory_numbers}
 use Rattle.mm_frame.specs.Language.Answering.{IsBase}
 use Rattle.mm_proof.specs.Language.BaseLabels.{AreActive, setting_at}
 use Rattle.mm_proof.specs.Language.Decoding.{decoding}
+use Rattle.mm_proof.specs.Language.DecodingLaws.{DecodesSurely, MandatoryAreActive}
+use Rattle.mm_proof.specs.Language.VerdictAt.{mandatory_labels}
 use Rattle.mm_proof.specs.Language.Expansion.{Step, Saved, NotKnown}
 use Rattle.mm_proof.specs.Language.Machine.{AreDecoded, is_save}
 use Rattle.mm_proof.specs.Language.Run.{AreDone}
@@ -23,6 +25,7 @@ use Rattle.mm_proof.specs.Code.Decoded.{WhereActive}
 use Rattle.mm_proof.specs.Code.Judged.{IsDecoding, IsTheorem, done_by}
 use Rattle.mm_proof.specs.Code.NamedItems.{IsNamedBy}
 use Rattle.mm_proof.specs.Code.Tasks.{AreSavedBefore, IsSavedWithin, RunSays, actions_mean, saves_by, saves_in}
+use Rattle.mm_proof.specs.Code.UsedLabels.{IsPart}
 use Rattle.mm_proof.specs.declared.reading.Decoding.{Decoding}
 use Rattle.mm_proof.specs.declared.step.Action.{Action}
 use Rattle.mm_proof.specs.declared.step.Action.TheVariants as actions
@@ -30,14 +33,20 @@ use Rattle.mm_proof.specs.declared.step.ProofStep.{ProofStep}
 use Rattle.mm_proof.specs.declared.stepping.Outcome.{Outcome}
 use Rattle.mm_proof.specs.declared.stepping.Outcome.TheVariants.{Proved, Fault, Unknown, NotOne, Other}
 use Rattle.mm_proof.proofs.lemmas.base.FrameLemmas.{framed_proof}
+use Rattle.mm_proof.proofs.lemmas.verdicts.ItemLemmas.{active_usable}
 use Rattle.mm_proof.proofs.lemmas.verdicts.Part.{known_part}
 use Rattle.mm_proof.proofs.lemmas.machine.StepLemmas.{part_ends}
+use Rattle.mm_proof.proofs.lemmas.machine.UsedLemmas.{part_entries}
 
 -- ---- entries
 
 pub named_by : (code : Base) (view : BaseView) (i : ℕ) → IsBase view code → i < length view.said → (labels : List Resolved) → AreEntries view i labels → All (IsNamedBy code) labels
 named_by code view i base within [] entries = All-nil (IsNamedBy code)
 named_by code view i base within (l ∷ labels) entries = All-cons (IsNamedBy code) l labels (record { view = view; i = i; base = base; within = within; entry = entries.0 }) (named_by code view i base within labels entries.1)
+
+-- so are those of them that are kept
+pub used_named : (code : Base) (view : BaseView) (i : ℕ) → IsBase view code → i < length view.said → (labels used : List Resolved) → IsPart labels used → AreEntries view i labels → All (IsNamedBy code) used
+used_named code view i base within labels used part entries = named_by code view i base within used (part_entries view i labels used part entries)
 
 -- no entry is a save
 entry_saves : (view : BaseView) (labels : List Resolved) (k : ℕ) → is_save (get_or (entry_steps view labels) k NotKnown) ≡ false
@@ -83,6 +92,11 @@ saved_before place view labels steps decoded n step at = by_action step.action r
     by_action (actions.Label k) e = tt
     by_action actions.Save e = tt
     by_action actions.Unknown e = tt
+
+pub decoded_saved : MandatoryAreActive → DecodesSurely → (code : Base) (i : ℕ) (proof : List (List ℕ)) (d : Decoding) (view : BaseView) → IsDecoding code i proof d view → AreSavedBefore d.steps.items
+decoded_saved active sure code i proof d view is =
+    let usable = active_usable view i (mandatory_numbers (before view i) (said_at view i)) (active view i is.theorem.said) in
+    saved_before (setting_at view i) view d.labels.items d.steps.items (sure (setting_at view i) (mandatory_labels view i) (said_at view i).proof (decoded_steps view d proof) usable is.decodes).0
 
 -- ---- what decodes
 

@@ -7,17 +7,17 @@ use Rattle.std.proofs.Math.Decide.{dec_lt}
 use Rattle.std.proofs.lemmas.Bool.{cases_Bool}
 use Rattle.std.proofs.lemmas.Option.{same_Some, none-some}
 use Rattle.std.proofs.lemmas.List.{length-append}
+use Rattle.mm_frame.specs.declared.base.Resolved as answer
 use Rattle.mm_frame.specs.declared.base.Resolved.TheVariants as answers
-use Rattle.mm_frame.specs.Language.Base.{BaseView, before, said_at, is_shown_at}
-use Rattle.mm_frame.specs.Language.Framing.{resolve}
+use Rattle.mm_frame.specs.Language.Base.{BaseView, said_at, is_shown_at}
 use Rattle.mm_frame.specs.Language.Laws as frame
 use Rattle.mm_frame.specs.Language.Resolving.{IsLabelOf, IsUpTo, Resolves}
 use Rattle.mm_proof.specs.Language.BaseLabels.{setting_at}
 use Rattle.mm_proof.specs.Language.BaseMarks.{ItemMark, IsMark, HaveOneLabel, AreMarks, mark_at}
-use Rattle.mm_proof.specs.Language.SameProof.{IsSameLabel}
+use Rattle.mm_proof.specs.Language.SameProof.{AreSameMeaning, IsSameLabel}
 use Rattle.mm_proof.specs.Code.InStep.{ordinal, AreOrdinals, AreEndsAlike, AreInStep, EndsAt, HasAlike, KeepsHypothesis}
-use Rattle.mm_proof.specs.Code.KeptMarks.{ShareFrame}
-use Rattle.mm_proof.proofs.lemmas.views.MeaningLemmas.{tells_same}
+use Rattle.mm_proof.specs.Code.KeptMarks.{ShareFrame, stands_for}
+use Rattle.mm_proof.proofs.lemmas.views.MeaningLemmas.{means_same}
 
 -- ---- ordinals
 
@@ -92,6 +92,9 @@ module _ (base copy : BaseView) (i j : ℕ) (was : is_shown_at base i ≡ true) 
   abbrev IsSame : List ℕ → Type 0
   IsSame label = IsSameLabel (setting_at base i) (setting_at copy j) label
 
+  both_mean : (label : List ℕ) (mine yours : answer.Resolved) → Resolves base i label mine → Resolves copy j label yours → AreSameMeaning (stands_for base mine) (stands_for copy yours) → IsSame label
+  both_mean label mine yours h k s = (means_same base copy i j label mine yours true h k (λ m y. (λ e. s, λ p. refl))).0 refl
+
   -- that of a hypothesis, which is active at both or at neither
   ends_mean :
       (label : List ℕ) (k m : ℕ) (mine yours : Option ℕ) → IsLabelOf base i k label → IsLabelOf copy j m label → KeepsHypothesis base copy k m →
@@ -100,13 +103,11 @@ module _ (base copy : BaseView) (i j : ℕ) (was : is_shown_at base i ≡ true) 
     where
       both_active : (a b : Option ℕ) → EndsAt base k a → EndsAt copy m b → IsUpTo i a → IsUpTo j b → IsSame label
       both_active a b ends stops up down =
-          (tells_same base copy i j label label (answers.Hypothesis k) (answers.Hypothesis m) (resolve (before base i) label) (resolve (before copy j) label) true
-          (ends.active label i h.carrier kept.was h.earlier up) (stops.active label j g.carrier kept.is g.earlier down) (λ e. kept.same, λ p. refl)).0 refl
+          both_mean label (answers.Hypothesis k) (answers.Hypothesis m) (ends.active label i h.carrier kept.was h.earlier up) (stops.active label j g.carrier kept.is g.earlier down) kept.same
 
       neither : (a b : ℕ) → EndsAt base k (Some a) → EndsAt copy m (Some b) → (i < a → ⊥) → (j < b → ⊥) → IsSame label
       neither a b ends stops up down =
-          (tells_same base copy i j label label answers.Inactive answers.Inactive (resolve (before base i) label) (resolve (before copy j) label) true
-          (ends.ended label i h.carrier kept.was h.earlier up) (stops.ended label j g.carrier kept.is g.earlier down) refl).0 refl
+          both_mean label answers.Inactive answers.Inactive (ends.ended label i h.carrier kept.was h.earlier up) (stops.ended label j g.carrier kept.is g.earlier down) tt
 
       by_order : (a b : ℕ) → EndsAt base k (Some a) → EndsAt copy m (Some b) → ordinal base a ≡ ordinal copy b → Dec (i < a) → IsSame label
       by_order a b ends stops e (yes l) = (
@@ -123,9 +124,7 @@ module _ (base copy : BaseView) (i j : ℕ) (was : is_shown_at base i ≡ true) 
       by_end (Some a) None ends stops e = absurd e
 
   kept_means : frame.AssertionsMean → (label : List ℕ) (k m : ℕ) → IsLabelOf base i k label → IsLabelOf copy j m label → ShareFrame base copy k m ⊎ KeepsHypothesis base copy k m → IsSame label
-  kept_means assertions label k m h g (inl s) =
-      (tells_same base copy i j label label (answers.Assertion k) (answers.Assertion m) (resolve (before base i) label) (resolve (before copy j) label) true
-      (assertions base i k label h s.was) (assertions copy j m label g s.is) (λ e. s.same, λ p. refl)).0 refl
+  kept_means assertions label k m h g (inl s) = both_mean label (answers.Assertion k) (answers.Assertion m) (assertions base i k label h s.was) (assertions copy j m label g s.is) s.same
   kept_means assertions label k m h g (inr s) = ends_mean label k m s.end.mine s.end.yours h g s s.end.was s.end.is s.end.alike
 
   -- every label
@@ -142,8 +141,7 @@ module _ (base copy : BaseView) (i j : ℕ) (was : is_shown_at base i ≡ true) 
           let label_is = sym alike.1.one_label.label ∙ ap (λ n. (said_at base n).label) same ∙ c.label_is in
           kept_means assertions label k there.m h (record { earlier = there.earlier; carrier = record { shown = there.shown; label_is = label_is } })
           (subst (λ n. ShareFrame base copy n there.m ⊎ KeepsHypothesis base copy n there.m) same alike.1.kept)
-      by_item (inr (none, unknown)) (inr (other, unknown_too)) =
-          (tells_same base copy i j label label answers.Unknown answers.Unknown (resolve (before base i) label) (resolve (before copy j) label) true unknown unknown_too refl).0 refl
+      by_item (inr (none, unknown)) (inr (other, unknown_too)) = both_mean label answers.Unknown answers.Unknown unknown unknown_too tt
       by_item (inr (none, unknown)) (inl (m, g)) =
           let c = g.carrier in
           let alike = step m g.earlier c.shown in

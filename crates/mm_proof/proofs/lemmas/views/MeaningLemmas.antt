@@ -16,9 +16,9 @@ use Rattle.mm_frame.specs.Language.Item.{Kind, Floating, Essential, Axiom, Theor
 use Rattle.mm_frame.specs.Language.Laws as frame
 use Rattle.mm_frame.specs.Language.Resolving.{IsCarrier, IsMeaning, Resolves}
 use Rattle.mm_frame.specs.Language.Sound.{fault, judged, sound_items}
-use Rattle.mm_proof.specs.Code.KeptMarks.{AreTheorems, IsShownItem, ShareHypotheses, SharePairs, TellsSame}
+use Rattle.mm_proof.specs.Code.KeptMarks.{AreTheorems, IsOneCarrier, IsShownItem, ShareHypotheses, SharePairs, stands_for}
 use Rattle.mm_proof.proofs.lemmas.base.FrameLemmas.{shown_proof}
-use Rattle.std.proofs.lemmas.Option.{same_Some}
+use Rattle.std.proofs.lemmas.Option.{none-some, same_Some}
 use Rattle.mm_proof.specs.Language.BaseLabels.{setting_at}
 use Rattle.mm_proof.specs.Language.BaseMarks.{ItemMark, AreMarks, mark_at}
 use Rattle.mm_proof.specs.Language.SameProof.{AreSameMeaning, IsSameLabel}
@@ -51,7 +51,7 @@ take_end [] (suc n) h = refl
 take_end (x ∷ xs) zero h = absurd (h (omega arith))
 take_end (x ∷ xs) (suc n) h = ap (λ w. x ∷ w) (take_end xs n (λ l. h (omega (arith, l))))
 
-module _ (view : BaseView) (label : List ℕ) (none : (n : ℕ) → IsCarrier view label n → ⊥) where
+module _ (view : BaseView) (label : List ℕ) (none : IsOneCarrier view label None) where
   -- the item does not carry the label
   abbrev Lacks : Item → Type 0
   Lacks item = has (labels_of item) label ≡ false
@@ -63,7 +63,7 @@ module _ (view : BaseView) (label : List ℕ) (none : (n : ℕ) → IsCarrier vi
         let item = said_at view n in
         let l = labelled (is_labelled item.kind) item.label label t in
         let sound = ap (λ o. is_none (fault_by item.kind o)) e ∙ sound_label item.kind l.0 in
-        absurd (none n (record { shown = and_from (is_sound_at view n) (is_labelled item.kind) sound l.0; label_is = l.1 }))
+        absurd (none-some n ((none n).1 (record { shown = and_from (is_sound_at view n) (is_labelled item.kind) sound l.0; label_is = l.1 })))
     | inr f ↦ f
   ]
 
@@ -89,40 +89,25 @@ module _ (view : BaseView) (label : List ℕ) (none : (n : ℕ) → IsCarrier vi
 
 -- ---- what two answers mean
 
-pub usable : (base : BaseView) (i : ℕ) (label : List ℕ) (told : answer.Resolved) (meaning : Resolved) → IsMeaning base i label told meaning → IsShownItem base told
-usable base i label (answers.Hypothesis n) m h = h.0.carrier.shown
-usable base i label (answers.Assertion n) m h = h.1
-usable base i label _ m h = tt
+means : (base : BaseView) (i : ℕ) (label : List ℕ) (told : answer.Resolved) (m : Resolved) → IsMeaning base i label told m → (m ≡ stands_for base told) × IsShownItem base told
+means base i label (answers.Hypothesis n) m h = (h.1, h.0.carrier.shown)
+means base i label (answers.Assertion n) m h = (h.2, h.1)
+means base i label answers.Inactive m h = (h, tt)
+means base i label answers.Unknown m h = (h, tt)
 
--- whether the meanings are the same is told
-abbrev Says : Bool → Resolved → Resolved → Type 0
-Says same m y = IsTrue same ↔ AreSameMeaning m y
+moved : (same : Bool) (m n y z : Resolved) → m ≡ n → y ≡ z → IsTrue same ↔ AreSameMeaning n z → IsTrue same ↔ AreSameMeaning m y
+moved same m n y z e f s = subst (λ w. IsTrue same ↔ AreSameMeaning w y) (sym e) (subst (λ w. IsTrue same ↔ AreSameMeaning n w) (sym f) s)
 
-moved : (same : Bool) (m n y z : Resolved) → m ≡ n → y ≡ z → Says same n z → Says same m y
-moved same m n y z e f s = subst (λ w. Says same w y) (sym e) (subst (λ w. Says same n w) (sym f) s)
-
-never : (same : Bool) (P : Type 0) → same ≡ false → (P → ⊥) → IsTrue same ↔ P
-never same P e none = (λ t. absurd (false≢true (sym e ∙ t)), λ p. absurd (none p))
-
-pub tells_same :
-    (base copy : BaseView) (i j : ℕ) (label other : List ℕ) (mine yours : answer.Resolved) (m y : Resolved) (same : Bool) →
-    IsMeaning base i label mine m → IsMeaning copy j other yours y → TellsSame base copy mine yours same → IsTrue same ↔ AreSameMeaning m y
-tells_same base copy i j label other (answers.Hypothesis a) (answers.Hypothesis b) m y same h k t = moved same m _ y _ h.1 k.1 t
-tells_same base copy i j label other (answers.Assertion a) (answers.Assertion b) m y same h k t = moved same m _ y _ h.2 k.2 t
-tells_same base copy i j label other answers.Inactive answers.Inactive m y same h k t = moved same m Inactive y Inactive h k (λ e. tt, λ p. t)
-tells_same base copy i j label other answers.Unknown answers.Unknown m y same h k t = moved same m Unknown y Unknown h k (λ e. tt, λ p. t)
-tells_same base copy i j label other (answers.Hypothesis a) (answers.Assertion b) m y same h k t = moved same m _ y _ h.1 k.2 (never same _ t (λ p. absurd p))
-tells_same base copy i j label other (answers.Hypothesis a) answers.Inactive m y same h k t = moved same m _ y Inactive h.1 k (never same _ t (λ p. absurd p))
-tells_same base copy i j label other (answers.Hypothesis a) answers.Unknown m y same h k t = moved same m _ y Unknown h.1 k (never same _ t (λ p. absurd p))
-tells_same base copy i j label other (answers.Assertion a) (answers.Hypothesis b) m y same h k t = moved same m _ y _ h.2 k.1 (never same _ t (λ p. absurd p))
-tells_same base copy i j label other (answers.Assertion a) answers.Inactive m y same h k t = moved same m _ y Inactive h.2 k (never same _ t (λ p. absurd p))
-tells_same base copy i j label other (answers.Assertion a) answers.Unknown m y same h k t = moved same m _ y Unknown h.2 k (never same _ t (λ p. absurd p))
-tells_same base copy i j label other answers.Inactive (answers.Hypothesis b) m y same h k t = moved same m Inactive y _ h k.1 (never same _ t (λ p. absurd p))
-tells_same base copy i j label other answers.Inactive (answers.Assertion b) m y same h k t = moved same m Inactive y _ h k.2 (never same _ t (λ p. absurd p))
-tells_same base copy i j label other answers.Inactive answers.Unknown m y same h k t = moved same m Inactive y Unknown h k (never same _ t (λ p. absurd p))
-tells_same base copy i j label other answers.Unknown (answers.Hypothesis b) m y same h k t = moved same m Unknown y _ h k.1 (never same _ t (λ p. absurd p))
-tells_same base copy i j label other answers.Unknown (answers.Assertion b) m y same h k t = moved same m Unknown y _ h k.2 (never same _ t (λ p. absurd p))
-tells_same base copy i j label other answers.Unknown answers.Inactive m y same h k t = moved same m Unknown y Inactive h k (never same _ t (λ p. absurd p))
+-- the label means the same where two answers stand for the same
+pub means_same :
+    (base copy : BaseView) (i j : ℕ) (label : List ℕ) (mine yours : answer.Resolved) (same : Bool) → Resolves base i label mine → Resolves copy j label yours →
+    (IsShownItem base mine → IsShownItem copy yours → IsTrue same ↔ AreSameMeaning (stands_for base mine) (stands_for copy yours)) → IsTrue same ↔ IsSameLabel (setting_at base i) (setting_at copy j) label
+means_same base copy i j label mine yours same h k t =
+    let m = resolve (before base i) label in
+    let y = resolve (before copy j) label in
+    let here = means base i label mine m h in
+    let there = means copy j label yours y k in
+    moved same m (stands_for base mine) y (stands_for copy yours) here.0 there.0 (t here.1 there.1)
 
 -- ---- by marks
 
@@ -167,8 +152,8 @@ old_framed base copy marks are m shown told n old =
     subst (λ (k : ℕ). is_framed_at base k ≡ true) (same_Some kept.i n (sym ((is.old_is kept.i).1 kept.one_label) ∙ old)) kept.was
 
 pub new_framed :
-    (base copy : BaseView) (marks : List ItemMark) → AreMarks base copy marks → (m : ℕ) → is_shown_at copy m ≡ true → (mark_at marks m).frame ≡ true → is_framed_at copy m ≡ true
-new_framed base copy marks are m shown told = ((are.each m (shown_within copy m shown)).frame_is.0 told).is
+    (base copy : BaseView) (marks : List ItemMark) → AreMarks base copy marks → (m : ℕ) → is_shown_at copy m ≡ true → (mark_at marks m).frame ≡ true → (n : ℕ) → Some m ≡ Some n → is_framed_at copy n ≡ true
+new_framed base copy marks are m shown told n e = subst (λ (k : ℕ). is_framed_at copy k ≡ true) (same_Some m n e) ((are.each m (shown_within copy m shown)).frame_is.0 told).is
 
 -- the active pairs are the same where the mark of this item of the old base tells so
 pub pairs_marked :

@@ -4,7 +4,7 @@ use Rattle.std.specs.List.{AllZip, AllByRecursion}
 use Rattle.mm_frame.specs.Language.Base.{BaseView, AreSaid, before, said_at, frame_at}
 use Rattle.mm_frame.specs.Language.Frame.{Symbol, Mandatory, Setting, Resolved}
 use Rattle.mm_frame.specs.Language.Framing.{resolve}
-use Rattle.mm_proof.specs.Code.KeptMarks.{ShareStatement, ShareProof}
+use Rattle.mm_proof.specs.Code.KeptMarks.{ShareHypotheses, SharePairs, ShareProof}
 use Rattle.mm_proof.specs.Language.BaseLabels.{setting_at}
 use Rattle.mm_proof.specs.Language.Citing.{cites}
 use Rattle.mm_proof.specs.Language.Decoding.{decoding}
@@ -82,21 +82,18 @@ zip_labels : (f g : List ℕ → Resolved) (labels : List (List ℕ)) → AllByR
 zip_labels f g [] a = tt
 zip_labels f g (label ∷ labels) a = (a.0, zip_labels f g labels a.1)
 
-pub shared_view : (base copy : BaseView) (i j : ℕ) → ShareStatement base copy i j → ShareProof base copy i j → AreSameViews (view_at base i) (view_at copy j)
-shared_view base copy i j s p =
+pub shared_view : (base copy : BaseView) (i j : ℕ) → ShareHypotheses base copy i j → SharePairs base copy i j → ShareProof base copy i j → AreSameViews (view_at base i) (view_at copy j)
+shared_view base copy i j h s p =
     let mine = resolve (before base i) in
     let yours = resolve (before copy j) in
     record {
       proof = p.words;
-      expression = s.but_pairs.expression;
-      hypotheses = s.but_pairs.hypotheses;
-      active = s.pairs;
+      expression = h.expression;
+      hypotheses = h.hypotheses;
+      active = s;
       meanings = subst (λ (words : List (List ℕ)). AllZip AreSameMeaning (map mine (labels_named words)) (map yours (labels_named (said_at copy j).proof))) (sym p.words)
           (zip_labels mine yours (labels_named (said_at copy j).proof) p.labels);
     }
-
-pub view_statement : (base copy : BaseView) (i j : ℕ) → AreSameViews (view_at base i) (view_at copy j) → ShareStatement base copy i j
-view_statement base copy i j v = record { but_pairs = record { expression = v.expression; hypotheses = v.hypotheses }; pairs = v.active }
 
 pub view_proof : (base copy : BaseView) (i j : ℕ) → AreSameViews (view_at base i) (view_at copy j) → ShareProof base copy i j
 view_proof base copy i j v =

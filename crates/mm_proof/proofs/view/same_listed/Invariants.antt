@@ -1,14 +1,11 @@
 use Rattle.std.proofs.Common.{length}
-use Rattle.std.specs.Prelude.{◌↔◌}
-use Rattle.mm_proof.specs.Code.KeptMarks.{OfBasesBy}
-use Rattle.mm_proof.specs.Language.BaseLabels.{setting_at}
-use Rattle.mm_proof.specs.Language.SameProof.{IsSameLabel}
-use Rattle.mm_proof.proofs.lemmas.decoding.LabelLoops.{OfListed}
+use Rattle.std.specs.List.{before_first}
+use Rattle.mm_proof.specs.Language.Decoding.{is_close}
+use Rattle.mm_proof.specs.Code.TwoTheorems.{LeavesLabels}
 use Rattle.mm_proof.proofs.view.same_listed.Given as goal
 
 abbrev pub invariant-loop-word : goal.invariant-loop-word
-invariant-loop-word l = OfBasesBy l.names l.old l.new (λ base copy.
-    OfListed (IsSameLabel (setting_at base l.i) (setting_at copy l.j)) l.initial.words ↔ OfListed (IsSameLabel (setting_at base l.i) (setting_at copy l.j)) l.words)
+invariant-loop-word l = LeavesLabels l.two (before_first is_close l.initial.words) (before_first is_close l.words)
 
 abbrev pub decreases-loop-word : goal.decreases-loop-word
 decreases-loop-word l = length l.words
