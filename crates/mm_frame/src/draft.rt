@@ -60,7 +60,7 @@ pub struct Frame {
 pub struct Draft<'a> {
     scope: Scope<'a>,
     /// The numbers of the symbols of the last statement.
-    numbers: Vec<usize>,
+    pub numbers: Vec<usize>,
     /// The labels and the faults.
     rows: Rows,
     /// The symbols of each sound `$f`, `$e`, `$a`, `$p` and `$d`, by its number; none for any other item.
@@ -335,7 +335,7 @@ impl<'a> Draft<'a> {
 
     /// Takes one more statement, whose symbols have the numbers that are kept. Want of memory leaves the draft as good
     /// for nothing.
-    fn take(
+    pub fn take(
         &mut self,
         alloc: Global,
         names: &Names,

@@ -2,6 +2,7 @@
 #![tactic(auto)]
 
 mod active;
+mod again;
 mod asked;
 mod base;
 mod blocks;

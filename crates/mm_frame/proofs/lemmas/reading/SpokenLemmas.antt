@@ -103,14 +103,14 @@ plain_names text words =
     ∙ map-map (λ (token : Token). token.bytes) (token_of text) (plain_words words)
 
 -- from a place on
-names_from : (text : List ℕ) (words : List Word) (from : ℕ) → token_names (plain_from from (tokens_of text words)) ≡ plain_bytes text (drop from words)
+pub names_from : (text : List ℕ) (words : List Word) (from : ℕ) → token_names (plain_from from (tokens_of text words)) ≡ plain_bytes text (drop from words)
 names_from text words from = ap (λ tokens. token_names (plain_from 0 tokens)) (drop-map (token_of text) from words) ∙ plain_names text (drop from words)
 
 count_names : (tokens : List Token) → length (token_names tokens) ≡ length tokens
 count_names [] = refl
 count_names (token ∷ tokens) = ap suc (count_names tokens)
 
-count_bytes : (text : List ℕ) (words : List Word) → length (map (word_bytes text) words) ≡ length words
+pub count_bytes : (text : List ℕ) (words : List Word) → length (map (word_bytes text) words) ≡ length words
 count_bytes text [] = refl
 count_bytes text (word ∷ words) = ap suc (count_bytes text words)
 
