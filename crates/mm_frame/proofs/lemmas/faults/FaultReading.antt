@@ -6,7 +6,7 @@ use Rattle.std.specs.List.{list_any}
 use Rattle.std.proofs.Math.Bool.{or-false}
 use Rattle.std.proofs.lemmas.Bool.{false≢true, and_left, and_right, le-leb, lt-ltb, eq-eqb, ne_eqb}
 use Rattle.std.proofs.lemmas.Option.{slice_get_past, slice_get_within}
-use Rattle.mm_frame.specs.Language.Item.{Kind, Constants, Variables, Disjoint, Floating, Essential, Axiom, Theorem, BlockStart, BlockEnd, Missing, Passed}
+use Rattle.mm_frame.specs.Language.Item.{Kind, Constants, Disjoint, Floating, Essential, Axiom, Theorem}
 use Rattle.mm_frame.specs.Language.Item.{Item, is_constants, is_variables, is_disjoint, is_floating, is_declaring, is_expression, is_labelled, labels_of}
 use Rattle.mm_frame.specs.Language.Scope.{is_inside}
 use Rattle.mm_frame.specs.declared.FrameNumber.{FrameNumber}

@@ -1,6 +1,6 @@
 -- The words of a statement between its keywords, read one by one.
 use Rattle.std.proofs.Common.{◌≡◌, ℕ, zero, suc, ◌+◌, ◌<◌, ◌≤◌, Bool, true, false, cond, if◌then◌else◌, List, [], ◌∷◌, ◌++◌, Option, Some, None, length, map, take, drop, refl, sym, ◌∙◌, ap, subst, arith, append_assoc, length-append}
-use Rattle.std.specs.Prelude.{slice_get, is_some, MatchOption}
+use Rattle.std.specs.Prelude.{slice_get, MatchOption}
 use Rattle.std.specs.Option.{option_map}
 use Rattle.std.specs.List.{AllByRecursion, flat_map, prefix_len}
 use Rattle.std.proofs.lemmas.List.{drop-map, drop-drop, take-map, append-nil, length-drop, length-map, length-take}
@@ -127,13 +127,6 @@ label_is true text words new (Some word) h = sym (ap (λ (ws : List Word). optio
 label_is false text words new None h = refl
 label_is true text words new None h = absurd h
 label_is false text words new (Some word) h = absurd h
-
--- there is a label where the kind has one
-pub label_there : (labelled : Bool) (words new : List Word) (label : Option Word) → TakesLabel labelled words label new → is_some label ≡ labelled
-label_there true words new (Some word) h = refl
-label_there false words new None h = refl
-label_there true words new None h = absurd h
-label_there false words new (Some word) h = absurd h
 
 -- what is read of a statement with these words
 pub record Reads (kind : Kind) (words : List Word) (label : Option Word) (symbols rest : List Word) : Type 0 where

@@ -1,30 +1,16 @@
--- The words of a statement by their numbers among all words: the label, and each symbol.
-use Rattle.std.proofs.Common.{◌≡◌, ℕ, zero, suc, ◌+◌, ◌<◌, Bool, true, false, if◌then◌else◌, List, [], ◌∷◌, Option, Some, None, length, take, drop, get_or, map, refl, sym, ◌∙◌, ap, arith}
-use Rattle.std.specs.Prelude.{slice_get, is_some}
+-- The symbols of a statement by their numbers among all words.
+use Rattle.std.proofs.Common.{◌≡◌, ℕ, zero, suc, ◌+◌, ◌<◌, List, [], ◌∷◌, Some, length, take, drop, get_or, map, refl, sym, ◌∙◌, ap, arith}
+use Rattle.std.specs.Prelude.{slice_get}
 use Rattle.std.specs.Option.{option_map}
 use Rattle.std.specs.List.{prefix_len}
 use Rattle.std.proofs.lemmas.List.{length-drop, length-map, length-take}
 use Rattle.std.proofs.lemmas.Option.{get_or_from_slice_get, slice_get-map}
 use Rattle.mm_store.specs.mm_text.declared.word.Word.{Word}
-use Rattle.mm_store.specs.mm_text.Language.Unit.{Token, tokens_of}
-use Rattle.mm_frame.specs.Language.Item.{Kind, is_labelled}
-use Rattle.mm_frame.specs.Language.Statement.{is_plain_kind, token_names, plain_from, label_in}
-use Rattle.mm_frame.specs.Code.PlainWords.{word_bytes, plain_words, plain_bytes}
+use Rattle.mm_store.specs.mm_text.Language.Unit.{tokens_of}
+use Rattle.mm_frame.specs.Language.Statement.{is_plain_kind, token_names, plain_from}
+use Rattle.mm_frame.specs.Code.PlainWords.{word_bytes}
 use Rattle.mm_frame.proofs.lemmas.frames.FrameNumbers.{front_get}
 use Rattle.mm_frame.proofs.lemmas.reading.SpokenLemmas.{get_drop, names_from}
-
--- there is a label where the kind has one, and else none
-pub label_some : (kind : Kind) (text : List ℕ) (words : List Word) → 0 < length words → is_some (label_in kind (tokens_of text words)) ≡ is_labelled kind
-label_some kind text words one = some_if (is_labelled kind) text words one
-  where
-    some_if : (labelled : Bool) (text : List ℕ) (words : List Word) → 0 < length words
-        → is_some (if labelled then option_map (λ (token : Token). token.bytes) (slice_get (tokens_of text words) 0) else None) ≡ labelled
-    some_if true text (word ∷ words) one = refl
-    some_if true text [] one = absurd (omega arith)
-    some_if false text words one = refl
-
-pub label_none : (kind : Kind) (text : List ℕ) (words : List Word) → is_labelled kind ≡ false → label_in kind (tokens_of text words) ≡ None
-label_none kind text words e = ap (λ (b : Bool). if b then option_map (λ (token : Token). token.bytes) (slice_get (tokens_of text words) 0) else None) e
 
 -- each of the plain words is spelled so
 pub spelled_at : (text : List ℕ) (words : List Word) (n : ℕ) (word : Word) → slice_get words n ≡ Some word → word_bytes text word ≡ get_or (map (word_bytes text) words) n []

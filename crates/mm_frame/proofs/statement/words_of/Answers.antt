@@ -1,4 +1,4 @@
-use Rattle.std.proofs.Common.{◌-◌, drop, refl, arith}
+use Rattle.std.proofs.Common.{◌-◌, drop, arith}
 use Rattle.std.proofs.lemmas.List.{length-take, length-drop}
 use Rattle.mm_frame.proofs.lemmas.reading.PieceLemmas.{has_words, ends_within, has_one, same_item, said_is}
 use Rattle.mm_frame.proofs.statement.words_of.Goals as goal
