@@ -29,3 +29,4 @@ pub mod KeptPlaces
 pub mod KeptAsked
 pub mod KeptVariables
 pub mod BaseInside
+pub mod KnownItem

@@ -13,6 +13,7 @@ ghost use Rattle.mm_frame.specs.Language.Base.{BaseView, AreHypotheses, IsOfFile
 ghost use Rattle.mm_frame.specs.Language.Base.{is_proof_at, is_framed_at, is_shown_at, is_sound_at};
 ghost use Rattle.mm_frame.specs.Language.Names.{Begins};
 ghost use Rattle.mm_frame.specs.Language.NumberedSymbols.{symbols_of, kept_pairs, AreInOrder, IsNumbered, IsPairNumbered, ArePairsRead};
+ghost use Rattle.mm_frame.specs.Language.Older.{HasOlder};
 ghost use Rattle.mm_frame.specs.Code.KeptSymbols.{expression_kept};
 ghost use Rattle.mm_frame.specs.Language.Answering.{IsBase, IsBaseBy, StandsLater, pairs_in_order};
 ghost use Rattle.mm_frame.specs.Code.KeptBase.{is_float_item, hypotheses_at};
@@ -22,6 +23,7 @@ ghost use Rattle.mm_frame.specs.Language.Statement.{kind_of};
 ghost use Rattle.mm_frame.specs.Language.Resolving.{IsCarrier, IsMeaning, IsUpTo, Resolves};
 ghost use Rattle.mm_frame.specs.declared.base.Resolved.TheVariants as answers;
 
+use crate::again::read_all_again;
 use crate::draft::{Draft, Frame, Parts};
 use crate::judge::FrameFault;
 use crate::names::Names;
@@ -117,6 +119,34 @@ impl Base {
         names.distinct();
         Ok(Base {
             items,
+            floats,
+            parts: draft.parts(),
+        })
+    }
+
+    /// Builds the base of the files from a top file on as `build` does, beside an older base whose items can still be read: of
+    /// a `$e`, `$a` or `$p` that is the same bytes as an item of the older one, in the same order, the numbers of the symbols
+    /// are taken from there, and no symbol is read.
+    pub fn rebuild(
+        alloc: Global,
+        names: &mut Names,
+        files: &Files,
+        top: &[u8],
+        old: &Base,
+    ) -> Result<Base, StoreError>
+        requires older { HasOlder names.old files.now old.now }
+        ensures base { IfOk result (λ built. (base : BaseView) × IsOfFiles files.now top.now base × IsBaseBy names.new base built
+            × StandsLater names.new base built) }
+        ensures grows { Begins names.old names.new }
+        ensures no_top { IsErrOf result NoTop ↔ (number_of (files_in files.now) top.now ≡ None) }
+        ensures err { IfErr result IsExpansionError }
+    {
+        let found = files.statements(top)?;
+        let floats = floats_among(alloc, &found)?;
+        let draft = read_all_again(alloc, names, files, &found, old)?;
+        names.distinct();
+        Ok(Base {
+            items: found,
             floats,
             parts: draft.parts(),
         })

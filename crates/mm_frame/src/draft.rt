@@ -53,7 +53,7 @@ pub struct Frame {
 pub struct Draft<'a> {
     scope: Scope<'a>,
     /// The numbers of the symbols of the last statement.
-    numbers: Vec<usize>,
+    pub numbers: Vec<usize>,
     /// The symbols that are kept of it.
     symbols: Vec<NumberedSymbol>,
     /// The labels and the faults.
@@ -212,7 +212,7 @@ impl<'a> Draft<'a> {
 
     /// Takes one more statement, whose symbols have the numbers that are kept. Want of memory leaves the draft as good
     /// for nothing.
-    fn take(
+    pub fn take(
         &mut self,
         alloc: Global,
         names: &Names,

@@ -3,6 +3,7 @@
 
 mod active;
 mod active_items;
+mod again;
 mod asked;
 mod assertions;
 mod base;

@@ -1,33 +1,38 @@
 //! What an item of the files says.
 
-ghost use Rattle.std.specs.Prelude.{◌≡◌, ◌↔◌, ◌+◌, ◌<◌, ◌≤◌, [], false, None, All, IsTrue, IfOk, IfSome, OnOk, length, drop, is_some, slice_index_or};
+ghost use Rattle.std.specs.Prelude.{◌≡◌, ◌↔◌, ◌+◌, ◌<◌, ◌≤◌, [], List, Some, false, None, All, IsTrue, IfOk, IfSome, OnOk, length, drop, is_some, slice_get, slice_index_or};
 ghost use Rattle.std.specs.List.{AllByRecursion, flat_map};
 ghost use Rattle.std.specs.Option.{option_map};
 ghost use Rattle.mm_store.specs.Language.FileFacts.{CanBeRead};
 ghost use Rattle.mm_frame.specs.Language.Item as meant;
 ghost use Rattle.mm_frame.specs.Language.Sound.{first_symbol};
-ghost use Rattle.mm_frame.specs.Code.PlainWords.{LiesInText, TakesLabel, word_bytes, plain_words};
+ghost use Rattle.mm_frame.specs.Code.PlainWords.{AreWordsOf, LiesInText, TakesLabel, word_bytes, plain_words};
 ghost use Rattle.mm_frame.specs.Language.Statement as spoken;
 ghost use Rattle.mm_frame.specs.Language.Statement.{Says};
-ghost use Rattle.mm_store.specs.mm_text.Language.Unit.{spellings, tokens_of};
+ghost use Rattle.mm_store.specs.mm_text.declared.word.Word.{Word};
+ghost use Rattle.mm_store.specs.mm_text.Language.Reading.{HasWords};
+ghost use Rattle.mm_store.specs.mm_text.Language.Unit.{tokens_of};
 
 use crate::proof_words::ProofWords;
-use mm_store::{Files, Item, ItemKind, Word, WordCursor, WordKind};
+use mm_store::{Files, Item, ItemKind, Word, WordCursor, WordKind, nth_word};
 use std::alloc::{AllocError, Global};
 use std::marker::Model;
 
 /// A statement or another item of the files: its kind, its label, its symbols, and the words of its proof.
 ///
-/// The words are slices of the text of the item's piece; nothing is copied. Those up to the `$=` or `$.` are read once
-/// and kept; those of the proof are read where they are asked for.
+/// The words are slices of the text of the item's piece; nothing is copied. The symbols are read once and kept, or else
+/// where they are asked for; so are the words of the proof.
 #[derive(Drop)]
 pub struct Statement<'a> {
     kind: ItemKind,
     text: &'a [u8],
-    label: Option<Word>,
+    label: Option<&'a [u8]>,
+    /// All words, from the first one on.
+    words: WordCursor<'a>,
+    /// How many symbols there are.
+    count: usize,
+    /// The symbols; none where they are not kept.
     symbols: Vec<Word>,
-    /// The words behind the one that closes the symbols.
-    rest: WordCursor<'a>,
 }
 
 impl<'a> Model for Statement<'a> {
@@ -74,6 +79,18 @@ pub(crate) fn bytes_of(text: &[u8], word: Word) -> &[u8]
     &text[word.start..word.end]
 }
 
+/// The bytes of an item of the files, and all their words.
+fn words_of<'a>(files: &'a Files, item: &Item) -> (&'a [u8], WordCursor<'a>)
+    requires { CanBeRead files.now item.now }
+    ensures words { AreWordsOf result.0.now result.1 }
+    ensures says { Says files.now item.now (spoken.item_of (spoken.kind_of item.now.kind) (tokens_of result.0.now result.1.words)) }
+    ensures only { (said : meant.Item) → Says files.now item.now said
+        → spoken.item_of (spoken.kind_of item.now.kind) (tokens_of result.0.now result.1.words) ≡ said }
+{
+    let text = &files.piece(item.key)[item.start..item.end];
+    (text, WordCursor::new(text))
+}
+
 /// The first word of an item of this kind, where that is a label.
 fn read_label(kind: ItemKind, words: &mut WordCursor) -> Option<Word>
     requires { 0 < length words.old.words }
@@ -85,6 +102,17 @@ fn read_label(kind: ItemKind, words: &mut WordCursor) -> Option<Word>
         words.next_word()
     } else {
         None
+    }
+}
+
+/// The bytes of the label, if there is one.
+fn label_bytes(text: &[u8], label: Option<Word>) -> Option<&[u8]>
+    requires { IfSome label (LiesInText text.now) }
+    ensures { option_map (λ bytes. bytes.now) result ≡ option_map (word_bytes text.now) label }
+{
+    match label {
+        Some(word) => Some(bytes_of(text, word)),
+        None => None,
     }
 }
 
@@ -115,8 +143,8 @@ impl<'a> Statement<'a> {
         ensures says { IfOk result (Says files.now item.now) }
         ensures only { IfOk result (λ read. (said : meant.Item) → Says files.now item.now said → read ≡ said) }
     {
-        let text = &files.piece(item.key)[item.start..item.end];
-        Ok(Statement::new(alloc, item.kind, text, WordCursor::new(text))?)
+        let (text, words) = words_of(files, item);
+        Ok(Statement::new(alloc, item.kind, text, words)?)
     }
 
     /// The statement of this kind that has these words.
@@ -126,24 +154,46 @@ impl<'a> Statement<'a> {
         text: &'a [u8],
         words: WordCursor<'a>,
     ) -> Result<Self, AllocError>
-        requires text { words.text ≡ text.now }
-        requires some { 0 < length words.words }
-        requires few { length words.words ≤ 4294967295 }
-        requires each { AllByRecursion (λ word. 0 < length word) (spellings text.now words.words) }
-        requires bytes { length (flat_map (λ word. word) (spellings text.now words.words)) ≤ 4294967295 }
+        requires { AreWordsOf text.now words }
         ensures { IfOk result (λ new. new ≡ spoken.item_of (spoken.kind_of kind) (tokens_of text.now words.entry.words)) }
     {
-        let mut rest = words;
-        let label = read_label(kind, &mut rest);
-        let _keyword = rest.next_word();
-        let symbols = read_symbols(alloc, &mut rest)?;
+        let mut first = words.again();
+        let label = read_label(kind, &mut first);
+        let _keyword = first.next_word();
+        let symbols = read_symbols(alloc, &mut first)?;
         Ok(Statement {
             kind,
             text,
-            label,
+            label: label_bytes(text, label),
+            words,
+            count: symbols.len(),
             symbols,
-            rest,
         })
+    }
+
+    /// What an item of the files says that is known to have this label and so many symbols. Nothing is read, and no memory
+    /// is taken.
+    pub(crate) fn known(
+        alloc: Global,
+        files: &'a Files,
+        item: &Item,
+        label: Option<&'a [u8]>,
+        count: usize,
+    ) -> Self
+        requires read { CanBeRead files.now item.now }
+        requires label { (said : meant.Item) → Says files.now item.now said → option_map (λ label. label.now) label ≡ said.label }
+        requires count { (said : meant.Item) → Says files.now item.now said → count ≡ length said.symbols }
+        ensures says { Says files.now item.now result }
+    {
+        let (text, words) = words_of(files, item);
+        Statement {
+            kind: item.kind,
+            text,
+            label,
+            words,
+            count,
+            symbols: Vec::new(alloc),
+        }
     }
 
     /// What the item is. Only a `$f`, `$e`, `$a` or `$p` has a label.
@@ -159,17 +209,14 @@ impl<'a> Statement<'a> {
         ensures label { option_map (λ label. label.now) result ≡ self.now.label }
         ensures some { is_some result ≡ meant.is_labelled self.now.kind }
     {
-        match self.label {
-            Some(word) => Some(bytes_of(self.text, word)),
-            None => None,
-        }
+        self.label
     }
 
     /// How many symbols there are.
     pub fn symbol_count(&self) -> usize
         ensures { result ≡ length self.now.symbols }
     {
-        self.symbols.len()
+        self.count
     }
 
     /// The n-th symbol, counted from 0.
@@ -177,7 +224,10 @@ impl<'a> Statement<'a> {
         requires { n < length self.now.symbols }
         ensures { result.now ≡ slice_index_or self.now.symbols n [] }
     {
-        bytes_of(self.text, self.symbols[n])
+        match self.symbols.get(n) {
+            Some(word) => bytes_of(self.text, *word),
+            None => nth_bytes(self.text, symbols_from(self.kind) + n),
+        }
     }
 
     /// The place of the n-th symbol, counted from 0, among all words of the statement, which are counted from 0 as
@@ -198,7 +248,7 @@ impl<'a> Statement<'a> {
         ensures some { AllByRecursion (λ word. 0 < length word) result }
         ensures bytes { length (flat_map (λ word. word) result) ≤ 4294967295 }
     {
-        ProofWords::new(self.text, self.rest.again())
+        proof_among(self.kind, self.text, self.words.again())
     }
 
     /// The place of the n-th word of the proof, counted from 0, among all words of the statement, which are counted
@@ -208,7 +258,7 @@ impl<'a> Statement<'a> {
         requires { n ≤ length self.now.proof }
         ensures { result ≡ spoken.symbols_from self.now.kind + length self.now.symbols + 1 + n }
     {
-        symbols_from(self.kind) + self.symbols.len() + 1 + n
+        symbols_from(self.kind) + self.count + 1 + n
     }
 }
 
@@ -218,12 +268,31 @@ pub fn words_of_proof<'a>(files: &'a Files, item: &Item) -> ProofWords<'a>
     requires { CanBeRead files.now item.now }
     ensures words { (said : meant.Item) → Says files.now item.now said → result ≡ said.proof }
 {
-    let text = &files.piece(item.key)[item.start..item.end];
-    let mut words = WordCursor::new(text);
-    read_label(item.kind, &mut words);
+    let (text, words) = words_of(files, item);
+    proof_among(item.kind, text, words)
+}
+
+/// The words of the proof of a statement of this kind that has these words.
+fn proof_among<'a>(kind: ItemKind, text: &'a [u8], words: WordCursor<'a>) -> ProofWords<'a>
+    requires { AreWordsOf text.now words }
+    ensures { result ≡ (spoken.item_of (spoken.kind_of kind) (tokens_of text.now words.entry.words)).proof }
+{
+    let mut words = words;
+    read_label(kind, &mut words);
     words.next_word();
     pass_symbols(&mut words);
     ProofWords::new(text, words)
+}
+
+/// The bytes of the n-th word of a text, which has more words.
+fn nth_bytes(text: &[u8], n: usize) -> &[u8]
+    requires { (words : List Word) × HasWords text.now words × (n < length words) }
+    ensures { (words : List Word) (word : Word) → HasWords text.now words → slice_get words n ≡ Some word → result.now ≡ word_bytes text.now word }
+{
+    match nth_word(text, n) {
+        Some(word) => bytes_of(text, word),
+        None => b"",
+    }
 }
 
 /// Goes behind the next keyword. Most often its `$` is the next one, and the words before it are not looked at.
@@ -257,7 +326,7 @@ pub fn same_proof(files: &Files, one: &Item, other: &Item) -> bool
 }
 
 /// Whether two items are the same bytes of one piece, read as the same kind.
-fn is_same_range(one: &Item, other: &Item) -> bool
+pub(crate) fn is_same_range(one: &Item, other: &Item) -> bool
     ensures { IsTrue result → (one.now.kind ≡ other.now.kind) × (one.now.key ≡ other.now.key)
         × (one.now.start ≡ other.now.start) × (one.now.end ≡ other.now.end) }
 {

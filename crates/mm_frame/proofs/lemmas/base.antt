@@ -7,3 +7,4 @@ pub mod OwnLabels
 pub mod ResolvingLemmas
 pub mod RowLemmas
 pub mod SaidLabels
+pub mod NumbersAside

@@ -2,3 +2,5 @@
 
 pub mod PieceLemmas
 pub mod SpokenLemmas
+pub mod WordNumbers
+pub mod KnownItems

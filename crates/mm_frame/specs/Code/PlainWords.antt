@@ -2,6 +2,9 @@
 use Rattle.std.specs.Prelude.{◌≡◌, ℕ, ◌<◌, ◌≤◌, Bool, true, false, Option, Some, None, List, ◌∷◌, length, map, take, slice_range}
 use Rattle.std.specs.List.{AllByRecursion, flat_map, prefix_len}
 use Rattle.mm_store.specs.mm_text.declared.word.Word.{Word}
+use Rattle.mm_store.specs.mm_text.Language.Reading.{HasWords}
+use Rattle.mm_store.specs.mm_text.Language.Unit.{spellings}
+use Rattle.mm_store.specs.mm_text.Language.WordsLeft.{WordsLeft}
 use Rattle.mm_frame.specs.Language.Statement.{is_plain_kind}
 
 -- how a word is spelled
@@ -32,3 +35,12 @@ TakesLabel false old None new = new ≡ old
 -- the word's bytes are bytes of the text
 abbrev pub LiesInText : List ℕ → Word → Type 0
 LiesInText text word = (word.start ≤ word.end) × (word.end ≤ length text)
+
+-- all words of a text are left: there is one, there are not too many, none is empty, and they do not have too many bytes
+pub record AreWordsOf (text : List ℕ) (left : WordsLeft) : Type 0 where
+  pub same_text : left.text ≡ text
+  pub has_words : HasWords text left.words
+  pub one : 0 < length left.words
+  pub few : length left.words ≤ 4294967295
+  pub some : AllByRecursion (λ word. 0 < length word) (spellings text left.words)
+  pub bytes : length (flat_map (λ word. word) (spellings text left.words)) ≤ 4294967295

@@ -34,7 +34,7 @@ last_at [] name = refl
 last_at (x ∷ names) name = last_at names name
 
 -- the element that a list of values has at a place
-there_from_map : {X Y : Type 0} (f : X → Y) (xs : List X) (n : ℕ) (y : Y) → slice_get (map f xs) n ≡ Some y → (x : X) × (slice_get xs n ≡ Some x) × (y ≡ f x)
+pub there_from_map : {X Y : Type 0} (f : X → Y) (xs : List X) (n : ℕ) (y : Y) → slice_get (map f xs) n ≡ Some y → (x : X) × (slice_get xs n ≡ Some x) × (y ≡ f x)
 there_from_map f [] n y h = cc
 there_from_map f (x ∷ xs) zero y h = (x, refl, sym (same_Some (f x) y h))
 there_from_map f (x ∷ xs) (suc n) y h = there_from_map f xs n y h

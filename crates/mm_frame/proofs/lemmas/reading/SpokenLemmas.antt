@@ -1,6 +1,6 @@
 -- The words of a statement between its keywords, read one by one.
 use Rattle.std.proofs.Common.{◌≡◌, ℕ, zero, suc, ◌+◌, ◌<◌, ◌≤◌, Bool, true, false, cond, if◌then◌else◌, List, [], ◌∷◌, ◌++◌, Option, Some, None, length, map, take, drop, refl, sym, ◌∙◌, ap, subst, arith, append_assoc, length-append}
-use Rattle.std.specs.Prelude.{slice_get, is_some, MatchOption}
+use Rattle.std.specs.Prelude.{slice_get, MatchOption}
 use Rattle.std.specs.Option.{option_map}
 use Rattle.std.specs.List.{AllByRecursion, flat_map, prefix_len}
 use Rattle.std.proofs.lemmas.List.{drop-map, drop-drop, take-map, append-nil, length-drop, length-map, length-take}
@@ -100,14 +100,14 @@ plain_names text words =
     ∙ map-map (λ (token : Token). token.bytes) (token_of text) (plain_words words)
 
 -- from a place on
-names_from : (text : List ℕ) (words : List Word) (from : ℕ) → token_names (plain_from from (tokens_of text words)) ≡ plain_bytes text (drop from words)
+pub names_from : (text : List ℕ) (words : List Word) (from : ℕ) → token_names (plain_from from (tokens_of text words)) ≡ plain_bytes text (drop from words)
 names_from text words from = ap (λ tokens. token_names (plain_from 0 tokens)) (drop-map (token_of text) from words) ∙ plain_names text (drop from words)
 
 count_names : (tokens : List Token) → length (token_names tokens) ≡ length tokens
 count_names [] = refl
 count_names (token ∷ tokens) = ap suc (count_names tokens)
 
-count_bytes : (text : List ℕ) (words : List Word) → length (map (word_bytes text) words) ≡ length words
+pub count_bytes : (text : List ℕ) (words : List Word) → length (map (word_bytes text) words) ≡ length words
 count_bytes text [] = refl
 count_bytes text (word ∷ words) = ap suc (count_bytes text words)
 
@@ -124,13 +124,6 @@ label_is true text words new (Some word) h = sym (ap (λ (ws : List Word). optio
 label_is false text words new None h = refl
 label_is true text words new None h = absurd h
 label_is false text words new (Some word) h = absurd h
-
--- there is a label where the kind has one
-pub label_there : (labelled : Bool) (words new : List Word) (label : Option Word) → TakesLabel labelled words label new → is_some label ≡ labelled
-label_there true words new (Some word) h = refl
-label_there false words new None h = refl
-label_there true words new None h = absurd h
-label_there false words new (Some word) h = absurd h
 
 -- what is read of a statement with these words
 pub record Reads (kind : Kind) (words : List Word) (label : Option Word) (symbols rest : List Word) : Type 0 where

@@ -1,14 +1,10 @@
 use Rattle.std.proofs.Common.{ℕ, List}
 use Rattle.std.proofs.lemmas.Result.{on_ok_weaker}
-use Rattle.mm_frame.specs.declared.draft.Draft.{Draft}
 use Rattle.mm_frame.specs.Language.Item.{Item}
 use Rattle.mm_frame.specs.Code.KeptBase.{IsDraft}
+use Rattle.mm_frame.proofs.lemmas.base.NumbersAside.{numbers_aside}
 use Rattle.mm_frame.proofs.lemmas.names.NumberLemmas.{begins_on}
 use Rattle.mm_frame.proofs.draft.Draft.read.Goals as goal
-
--- the numbers of the last statement's symbols are nothing that is said
-numbers_aside : (all : List (List ℕ)) (said : List Item) (old : Draft) (numbers : _) → IsDraft all said old → IsDraft all said (record old { numbers = numbers })
-numbers_aside all said old numbers d = record { scope = d.scope; kept = d.kept; rows = d.rows; symbols = d.symbols; assertions = d.assertions; active = d.active; pair_table = d.pair_table }
 
 pub returns-clause-read : goal.returns-clause-read
 returns-clause-read c =

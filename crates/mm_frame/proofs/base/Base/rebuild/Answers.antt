@@ -1,0 +1,39 @@
+use Rattle.std.proofs.Common.{ℕ, List, map, refl, sym, ◌∙◌, ap, subst, arith}
+use Rattle.std.specs.List.{AllZip}
+use Rattle.std.proofs.lemmas.Slice.Zip.{AllZip-long}
+use Rattle.mm_frame.specs.declared.base.Base.TheInside.{Inside}
+use Rattle.mm_frame.specs.Language.Names.{AreDistinct, Begins}
+use Rattle.mm_frame.specs.Language.Base.{BaseView}
+use Rattle.mm_frame.specs.Language.Statement.{Says}
+use Rattle.mm_frame.specs.Language.Answering.{IsBaseBy}
+use Rattle.mm_frame.specs.Code.BaseInside.{answers_of}
+use Rattle.mm_frame.specs.Code.KeptBase.{is_float_item}
+use Rattle.mm_frame.proofs.lemmas.base.AnswerLemmas.{base_told, labels_told}
+use Rattle.mm_frame.proofs.lemmas.frames.FrameNumbers.{kinds_said}
+use Rattle.mm_frame.proofs.base.Base.rebuild.Goals as goal
+
+pub invariant_of-result : goal.invariant_of-result
+invariant_of-result c =
+    let read = c.in_ok-draft.ensures.read in
+    let names = c.read_all_again.new.names in
+    let base : BaseView = record { found = c.in_ok-found.found.items; said = read.0 } in
+    let parts = c.parts.ensures names read.0 (read.2 names c.distinct.ensures (λ n name there. there)) in
+    record {
+      rows = parts.kept;
+      floats = c.in_ok-floats.ensures ∙ ap (map is_float_item) c.deref.ensures.value;
+      labels = labels_told names base c.parts.result parts;
+    }
+
+pub returns-clause-base : goal.returns-clause-base
+returns-clause-base c =
+    let files = c.args.files.now in
+    let found = c.in_ok-found.found.items in
+    let read = c.in_ok-draft.ensures.read in
+    let each = subst (λ w. AllZip (Says files) w read.0) c.deref-2.ensures.value read.1 in
+    let base : BaseView = record { found = found; said = read.0 } in
+    let built : Inside = record { items = c.in_ok-found.found; floats = c.in_ok-floats.floats; parts = c.parts.result } in
+    let by : (all : List (List ℕ)) → AreDistinct all → Begins c.read_all_again.new.names all → IsBaseBy all base (answers_of built) = λ all distinct more.
+    base_told all base built distinct refl (sym (AllZip-long (Says files) found read.0 each)) (omega
+    (arith, AllZip-long (Says files) found read.0 each, c.in_ok-found.ensures.small)) (kinds_said files found read.0 each)
+    (c.parts.ensures all read.0 (read.2 all distinct more)) in
+    (base, record { expansion = c.in_ok-found.ensures.items; each = each }, by c.read_all_again.new.names c.distinct.ensures (λ n name there. there), by)

@@ -1,0 +1,28 @@
+-- What an older base knows of an item of the files.
+use Rattle.std.specs.Prelude.{◌≡◌, ℕ, Some, List, map, slice_get}
+use Rattle.std.specs.Option.{option_map}
+use Rattle.mm_store.specs.declared.item.Item as store
+use Rattle.mm_store.specs.Language.FilesView.{FilesView}
+use Rattle.mm_frame.specs.declared.again.Known.{Known}
+use Rattle.mm_frame.specs.declared.symbol.NumberedSymbol.{NumberedSymbol}
+use Rattle.mm_frame.specs.Language.Item.{Item}
+use Rattle.mm_frame.specs.Language.Statement.{Says}
+use Rattle.mm_frame.specs.Code.Numbers.{AreNameNumbers}
+
+-- the numbers of the names of symbols
+abbrev pub numbers_of : List NumberedSymbol → List ℕ
+numbers_of symbols = map (λ kept. kept.name) symbols
+
+-- an item of a list is the same bytes of one piece, of the same kind
+pub record IsAgain (found : List store.Item) (i : ℕ) (item : store.Item) : Type 0 where
+  pub was : store.Item
+  pub there : slice_get found i ≡ Some was
+  pub kind : was.kind ≡ item.kind
+  pub key : was.key ≡ item.key
+  pub start : was.start ≡ item.start
+  pub end : was.end ≡ item.end
+
+-- what is known of an item is its label and the numbers of its symbols
+pub record IsKnown (names : List (List ℕ)) (files : FilesView) (item : store.Item) (known : Known) : Type 0 where
+  pub label : (said : Item) → Says files item said → option_map (λ label. label.now) known.label ≡ said.label
+  pub symbols : (said : Item) → Says files item said → AreNameNumbers names (numbers_of known.symbols.now) said.symbols

@@ -1,0 +1,165 @@
+//! Reads the items of files beside an older base, of which most of them are known.
+
+ghost use Rattle.std.specs.Prelude.{◌≡◌, ◌<◌, ◌∷◌, ◌++◌, ℕ, List, [], All, IfOk, IfSome, IsTrue, OnOk, length};
+ghost use Rattle.std.specs.List.{AllZip};
+ghost use Rattle.mm_store.specs.Language.FilesView.{FilesView};
+ghost use Rattle.mm_store.specs.Language.FileFacts.{CanBeRead};
+ghost use Rattle.mm_frame.specs.Language.Item as meant;
+ghost use Rattle.mm_frame.specs.Language.Base.{BaseView};
+ghost use Rattle.mm_frame.specs.Language.Statement.{Says};
+ghost use Rattle.mm_frame.specs.Language.Names.{Begins};
+ghost use Rattle.mm_frame.specs.Language.Answering.{IsBase, IsBaseBy};
+ghost use Rattle.mm_frame.specs.Language.Older.{HasOlder};
+ghost use Rattle.mm_frame.specs.Code.Numbers.{AreNameNumbers};
+ghost use Rattle.mm_frame.specs.Code.KeptBase.{IsDraftLater};
+ghost use Rattle.mm_frame.specs.Code.KnownItem.{IsAgain, IsKnown, numbers_of};
+
+use crate::base::Base;
+use crate::draft::{Draft, number_all};
+use crate::names::Names;
+use crate::statement::{Statement, is_same_range};
+use crate::symbol::NumberedSymbol;
+use mm_store::{Files, Item, ItemKind};
+use std::alloc::{AllocError, Global};
+
+/// What an older base knows of an item.
+#[derive(Clone, Copy)]
+pub struct Known<'a> {
+    /// Its label.
+    pub label: Option<&'a [u8]>,
+    /// Its symbols.
+    pub symbols: &'a [NumberedSymbol],
+}
+
+/// Whether the item with this number in an older base is the same bytes of one piece, of the same kind.
+fn is_again(old: &Base, i: usize, item: &Item) -> bool
+    requires { (base : BaseView) × IsBase base old.now }
+    ensures { IsTrue result → (base : BaseView) → IsBase base old.now → IsAgain base.found i item.now }
+{
+    i < old.count() && is_same_range(old.item(i), item)
+}
+
+/// Whether names of symbols are seldom asked for in an item of this kind.
+fn needs_no_names(kind: ItemKind) -> bool {
+    matches!(
+        kind,
+        ItemKind::Essential | ItemKind::Axiom | ItemKind::Theorem
+    )
+}
+
+/// What the item with this number in an older base knows of an item, if it is the same one.
+fn known_of<'a>(old: &'a Base, i: usize, item: &Item) -> Option<Known<'a>>
+    requires { (base : BaseView) × IsBase base old.now }
+    ensures { (names : List (List ℕ)) (files : FilesView) (base : BaseView) → IsBaseBy names base old.now → AllZip (Says files) base.found base.said
+        → IfSome result (IsKnown names files item.now) }
+{
+    if !needs_no_names(item.kind) || !is_again(old, i, item) {
+        return None;
+    }
+    // A law: the same bytes have one reading.
+    mm_store::one_meaning();
+    match old.expression(i) {
+        Some(symbols) => Some(Known {
+            label: old.label(i),
+            symbols,
+        }),
+        None => None,
+    }
+}
+
+/// Puts the numbers of the names of some symbols.
+fn put_numbers(symbols: &[NumberedSymbol], numbers: &mut Vec<usize>) -> Result<(), AllocError>
+    ensures { OnOk result (numbers.new.items ≡ numbers_of symbols.now) }
+{
+    numbers.clear();
+    for symbol in symbols {
+        numbers.push(symbol.name)?;
+    }
+    Ok(())
+}
+
+/// What an item says, and the numbers of its symbols, by what is known of it, or else by its words.
+fn statement_of<'a>(
+    alloc: Global,
+    names: &mut Names,
+    files: &'a Files,
+    item: &Item,
+    known: Option<Known<'a>>,
+    numbers: &mut Vec<usize>,
+) -> Result<Statement<'a>, AllocError>
+    requires read { CanBeRead files.now item.now }
+    requires known { IfSome known (IsKnown names.old files.now item.now) }
+    ensures grows { Begins names.old names.new }
+    ensures says { IfOk result (Says files.now item.now) }
+    ensures count { IfOk result (λ statement. length numbers.new.items ≡ length statement.symbols) }
+    ensures numbers { IfOk result (λ statement. (all : List (List ℕ)) → Begins names.new all → AreNameNumbers all numbers.new.items statement.symbols) }
+{
+    if let Some(known) = known {
+        put_numbers(known.symbols, numbers)?;
+        let count = known.symbols.len();
+        return Ok(Statement::known(alloc, files, item, known.label, count));
+    }
+    let statement = Statement::read(alloc, files, item)?;
+    number_all(alloc, names, &statement, numbers)?;
+    Ok(statement)
+}
+
+/// The number of the item of an older base that may be the one behind this item. Any number will do: it is compared.
+fn place_behind(old: &Base, i: usize, item: &Item, label: Option<&[u8]>) -> usize
+    requires { (base : BaseView) × IsBase base old.now }
+{
+    if is_again(old, i, item) {
+        return i.saturating_add(1);
+    }
+    let Some(label) = label else { return i };
+    match old.find(label) {
+        Some(k) => k.saturating_add(1),
+        None => i,
+    }
+}
+
+/// Reads one more item of the files, which may be the one with this number in an older base, and tells which the next one
+/// may be. Want of memory leaves the draft as good for nothing, and may leave more names.
+fn read_again<'a>(
+    draft: &mut Draft<'a>,
+    alloc: Global,
+    names: &mut Names,
+    files: &'a Files,
+    item: &Item,
+    old: &'a Base,
+    i: usize,
+) -> Result<usize, AllocError>
+    requires read { CanBeRead files.now item.now }
+    requires older { HasOlder names.old files.now old.now }
+    ensures grows { Begins names.old names.new }
+    ensures read { OnOk result ((one : meant.Item) × Says files.now item.now one
+        × ((said : List meant.Item) → IsDraftLater names.old said draft.old → IsDraftLater names.new (said ++ one ∷ []) draft.new)) }
+{
+    names.distinct();
+    let known = known_of(old, i, item);
+    let statement = statement_of(alloc, names, files, item, known, &mut draft.numbers)?;
+    names.distinct();
+    draft.take(alloc, names, &statement)?;
+    Ok(place_behind(old, i, item, statement.label()))
+}
+
+/// Reads items of the files, from the first one on, beside an older base.
+pub fn read_all_again<'a>(
+    alloc: Global,
+    names: &mut Names,
+    files: &'a Files,
+    items: &[Item],
+    old: &'a Base,
+) -> Result<Draft<'a>, AllocError>
+    requires read { All (CanBeRead files.now) items.now }
+    requires older { HasOlder names.old files.now old.now }
+    ensures grows { Begins names.old names.new }
+    ensures read { IfOk result (λ draft. (said : List meant.Item) × AllZip (Says files.now) items.now said × IsDraftLater names.new said draft) }
+{
+    let mut draft = Draft::with_room(alloc, items.len())?;
+    let mut i = 0;
+    for item in items {
+        i = read_again(&mut draft, alloc, names, files, item, old, i)?;
+    }
+    Ok(draft)
+}
