@@ -1,14 +1,16 @@
 //! What an item of the files says.
 
-ghost use Rattle.std.specs.Prelude.{◌≡◌, ◌↔◌, ◌+◌, ◌<◌, ◌≤◌, [], false, None, All, IsTrue, IfOk, IfSome, OnOk, length, drop, is_some, slice_index_or};
+ghost use Rattle.std.specs.Prelude.{◌≡◌, ◌↔◌, ◌+◌, ◌<◌, ◌≤◌, [], false, None, All, List, IsTrue, IfOk, IfSome, OnOk, length, drop, is_some, slice_get, slice_index_or};
 ghost use Rattle.std.specs.List.{AllByRecursion, flat_map};
 ghost use Rattle.std.specs.Option.{option_map};
 ghost use Rattle.mm_store.specs.Language.FileFacts.{CanBeRead};
 ghost use Rattle.mm_frame.specs.Language.Item as meant;
 ghost use Rattle.mm_frame.specs.Language.Sound.{first_symbol};
-ghost use Rattle.mm_frame.specs.Code.PlainWords.{LiesInText, TakesLabel, word_bytes, plain_words};
+ghost use Rattle.mm_frame.specs.Code.PlainWords.{AreFew, LiesInText, TakesLabel, plain_bytes, plain_words, word_bytes};
 ghost use Rattle.mm_frame.specs.Language.Statement as spoken;
 ghost use Rattle.mm_frame.specs.Language.Statement.{Says};
+ghost use Rattle.mm_store.specs.mm_text.declared.word.Word.{Word};
+ghost use Rattle.mm_store.specs.mm_text.Language.Reading.{HasWords};
 ghost use Rattle.mm_store.specs.mm_text.Language.Unit.{spellings, tokens_of};
 
 use crate::proof_words::ProofWords;
@@ -219,11 +221,37 @@ pub fn words_of_proof<'a>(files: &'a Files, item: &Item) -> ProofWords<'a>
     ensures words { (said : meant.Item) → Says files.now item.now said → result ≡ said.proof }
 {
     let text = &files.piece(item.key)[item.start..item.end];
+    ProofWords::new(text, behind_symbols(item.kind, text))
+}
+
+/// The n-th word of the proof of an item, counted from 0, by its bytes among those of the item; where n is the count of
+/// these words, the `$.` behind them. The words before the `$=` are passed over. It takes no memory.
+pub fn nth_of_proof(files: &Files, item: &Item, n: usize) -> Option<Word>
+    requires { CanBeRead files.now item.now }
+    ensures { (said : meant.Item) → (says : Says files.now item.now said)
+        → result ≡ slice_get says.read.words (spoken.symbols_from said.kind + length said.symbols + 1 + n) }
+{
+    let text = &files.piece(item.key)[item.start..item.end];
+    let mut words = behind_symbols(item.kind, text);
+    for _number in 0..n {
+        words.next_word()?;
+    }
+    words.next_word()
+}
+
+/// The words of an item of this kind behind the one that closes its symbols.
+fn behind_symbols<'a>(kind: ItemKind, text: &'a [u8]) -> WordCursor<'a>
+    requires { (words : List Word) × HasWords text.now words × (0 < length words) }
+    ensures text { result.text ≡ text.now }
+    ensures rest { (words : List Word) → HasWords text.now words
+        → result.words ≡ drop (spoken.symbols_from (spoken.kind_of kind) + length (spoken.symbols_in (spoken.kind_of kind) (tokens_of text.now words)) + 1) words }
+    ensures few { length text.now ≤ 4294967295 → AreFew (plain_bytes text.now result.words) }
+{
     let mut words = WordCursor::new(text);
-    read_label(item.kind, &mut words);
+    read_label(kind, &mut words);
     words.next_word();
     pass_symbols(&mut words);
-    ProofWords::new(text, words)
+    words
 }
 
 /// Goes behind the next keyword. Most often its `$` is the next one, and the words before it are not looked at.

@@ -1,4 +1,5 @@
 -- What an item says, read from the words of its piece.
 
+pub mod NthOfProof
 pub mod PieceLemmas
 pub mod SpokenLemmas
