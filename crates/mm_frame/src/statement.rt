@@ -6,7 +6,7 @@ ghost use Rattle.std.specs.Option.{option_map};
 ghost use Rattle.mm_store.specs.Language.FileFacts.{CanBeRead};
 ghost use Rattle.mm_frame.specs.Language.Item as meant;
 ghost use Rattle.mm_frame.specs.Language.Sound.{first_symbol};
-ghost use Rattle.mm_frame.specs.Code.PlainWords.{AreWordsOf, LiesInText, TakesLabel, word_bytes, plain_words};
+ghost use Rattle.mm_frame.specs.Code.PlainWords.{AreFew, AreWordsOf, LiesInText, TakesLabel, plain_bytes, plain_words, word_bytes};
 ghost use Rattle.mm_frame.specs.Language.Statement as spoken;
 ghost use Rattle.mm_frame.specs.Language.Statement.{Says};
 ghost use Rattle.mm_store.specs.mm_text.declared.word.Word.{Word};
@@ -282,6 +282,36 @@ fn proof_among<'a>(kind: ItemKind, text: &'a [u8], words: WordCursor<'a>) -> Pro
     words.next_word();
     pass_symbols(&mut words);
     ProofWords::new(text, words)
+}
+
+/// The n-th word of the proof of an item, counted from 0, by its bytes among those of the item; where n is the count of
+/// these words, the `$.` behind them. The words before the `$=` are passed over. It takes no memory.
+pub fn nth_of_proof(files: &Files, item: &Item, n: usize) -> Option<Word>
+    requires { CanBeRead files.now item.now }
+    ensures { (said : meant.Item) → (says : Says files.now item.now said)
+        → result ≡ slice_get says.read.words (spoken.symbols_from said.kind + length said.symbols + 1 + n) }
+{
+    let text = &files.piece(item.key)[item.start..item.end];
+    let mut words = behind_symbols(item.kind, text);
+    for _number in 0..n {
+        words.next_word()?;
+    }
+    words.next_word()
+}
+
+/// The words of an item of this kind behind the one that closes its symbols.
+fn behind_symbols<'a>(kind: ItemKind, text: &'a [u8]) -> WordCursor<'a>
+    requires { (words : List Word) × HasWords text.now words × (0 < length words) }
+    ensures text { result.text ≡ text.now }
+    ensures rest { (words : List Word) → HasWords text.now words
+        → result.words ≡ drop (spoken.symbols_from (spoken.kind_of kind) + length (spoken.symbols_in (spoken.kind_of kind) (tokens_of text.now words)) + 1) words }
+    ensures few { length text.now ≤ 4294967295 → AreFew (plain_bytes text.now result.words) }
+{
+    let mut words = WordCursor::new(text);
+    read_label(kind, &mut words);
+    words.next_word();
+    pass_symbols(&mut words);
+    words
 }
 
 /// The bytes of the n-th word of a text, which has more words.

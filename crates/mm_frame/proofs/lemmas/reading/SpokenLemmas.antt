@@ -138,19 +138,24 @@ pub passed : (kind : Kind) (words : List Word) (label : Option Word) (behind fir
     → rest ≡ drop (length (plain_words first) + 1) first → Reads kind words label (plain_words first) rest
 passed kind words label behind first rest takes keyword after = record { behind = behind; takes = takes; first = first; keyword = keyword; all = record { are = refl; rest = after } }
 
-pub item_read : (kind : Kind) (text : List ℕ) (words : List Word) (label : Option Word) (symbols rest : List Word) → Reads kind words label symbols rest
-    → ◌≡◌ {A = Item} (record { kind = kind; label = option_map (word_bytes text) label; symbols = map (word_bytes text) symbols; proof = plain_bytes text rest }) (item_of kind (tokens_of text words))
-item_read kind text words label symbols rest h =
+-- the words of the proof, and what stands behind them
+pub rest_at : (kind : Kind) (text : List ℕ) (words : List Word) (label : Option Word) (symbols rest : List Word) → Reads kind words label symbols rest
+    → (map (word_bytes text) symbols ≡ token_names (symbols_in kind (tokens_of text words))) × (rest ≡ drop (symbols_from kind + length (symbols_in kind (tokens_of text words)) + 1) words)
+rest_at kind text words label symbols rest h =
     let from = symbols_from kind in
     let first : h.first ≡ drop from words = h.keyword ∙ behind_label (is_labelled kind) words h.behind label h.takes in
     let spelled : map (word_bytes text) symbols ≡ token_names (symbols_in kind (tokens_of text words)) = ap (map (word_bytes text)) h.all.are ∙ ap (plain_bytes text) first ∙ sym (names_from text words from) in
     let count : length (plain_words h.first) ≡ length (symbols_in kind (tokens_of text words)) = ap length (sym h.all.are) ∙ sym (count_bytes text symbols) ∙ ap length spelled ∙ count_names (symbols_in kind (tokens_of text words)) in
     let places : from + (length (plain_words h.first) + 1) ≡ from + length (symbols_in kind (tokens_of text words)) + 1 = omega (arith, count) in
-    let behind : rest ≡ drop (from + length (symbols_in kind (tokens_of text words)) + 1) words = h.all.rest ∙ ap (drop (length (plain_words h.first) + 1))
-    first ∙ drop-drop (length (plain_words h.first) + 1) from words ∙ ap (λ k. drop k words) places in
-    let proof : plain_bytes text rest ≡ token_names (proof_in kind (tokens_of text words)) = ap (plain_bytes text) behind ∙ sym (names_from text words (from + length (symbols_in kind (tokens_of text words)) + 1)) in
+    (spelled, h.all.rest ∙ ap (drop (length (plain_words h.first) + 1)) first ∙ drop-drop (length (plain_words h.first) + 1) from words ∙ ap (λ k. drop k words) places)
+
+pub item_read : (kind : Kind) (text : List ℕ) (words : List Word) (label : Option Word) (symbols rest : List Word) → Reads kind words label symbols rest
+    → ◌≡◌ {A = Item} (record { kind = kind; label = option_map (word_bytes text) label; symbols = map (word_bytes text) symbols; proof = plain_bytes text rest }) (item_of kind (tokens_of text words))
+item_read kind text words label symbols rest h =
+    let at = rest_at kind text words label symbols rest h in
+    let proof : plain_bytes text rest ≡ token_names (proof_in kind (tokens_of text words)) = ap (plain_bytes text) at.1 ∙ sym (names_from text words (symbols_from kind + length (symbols_in kind (tokens_of text words)) + 1)) in
     let labelled : option_map (word_bytes text) label ≡ label_in kind (tokens_of text words) = label_is (is_labelled kind) text words h.behind label h.takes in
-    λ i. record { kind = kind; label = labelled i; symbols = spelled i; proof = proof i }
+    λ i. record { kind = kind; label = labelled i; symbols = at.0 i; proof = proof i }
 
 -- ---- how many words are left, and their bytes
 
