@@ -6,7 +6,7 @@ ghost use Rattle.std.specs.Option.{option_map};
 ghost use Rattle.mm_store.specs.Language.FileFacts.{CanBeRead};
 ghost use Rattle.mm_frame.specs.Language.Item as meant;
 ghost use Rattle.mm_frame.specs.Language.Sound.{first_symbol};
-ghost use Rattle.mm_frame.specs.Code.PlainWords.{AreFew, AreWordsOf, LiesInText, TakesLabel, plain_bytes, plain_words, word_bytes};
+ghost use Rattle.mm_frame.specs.Code.PlainWords.{AreWordsOf, LiesInText, TakesLabel, plain_words, word_bytes};
 ghost use Rattle.mm_frame.specs.Language.Statement as spoken;
 ghost use Rattle.mm_frame.specs.Language.Statement.{Says};
 ghost use Rattle.mm_store.specs.mm_text.declared.word.Word.{Word};
@@ -291,7 +291,8 @@ pub fn nth_of_proof(files: &Files, item: &Item, n: usize) -> Option<Word>
     ensures { (said : meant.Item) → (says : Says files.now item.now said)
         → result ≡ slice_get says.read.words (spoken.symbols_from said.kind + length said.symbols + 1 + n) }
 {
-    let text = &files.piece(item.key)[item.start..item.end];
+    let bytes = files.piece(item.key);
+    let text = &bytes[item.start..item.end];
     let mut words = behind_symbols(item.kind, text);
     for _number in 0..n {
         words.next_word()?;
@@ -305,7 +306,6 @@ fn behind_symbols<'a>(kind: ItemKind, text: &'a [u8]) -> WordCursor<'a>
     ensures text { result.text ≡ text.now }
     ensures rest { (words : List Word) → HasWords text.now words
         → result.words ≡ drop (spoken.symbols_from (spoken.kind_of kind) + length (spoken.symbols_in (spoken.kind_of kind) (tokens_of text.now words)) + 1) words }
-    ensures few { length text.now ≤ 4294967295 → AreFew (plain_bytes text.now result.words) }
 {
     let mut words = WordCursor::new(text);
     read_label(kind, &mut words);

@@ -2,7 +2,7 @@ use Rattle.std.proofs.Common.{◌≡◌, ◌+◌, length, drop, ap, subst, arith
 use Rattle.mm_store.specs.mm_text.Language.Unit.{tokens_of}
 use Rattle.mm_frame.specs.Language.Statement.{kind_of, symbols_from, symbols_in}
 use Rattle.mm_frame.specs.Code.PlainWords.{plain_words}
-use Rattle.mm_frame.proofs.lemmas.reading.SpokenLemmas.{behind_one, passed, rest_at, proof_few, proof_some, proof_bytes, rest_few, rest_some, rest_bytes}
+use Rattle.mm_frame.proofs.lemmas.reading.SpokenLemmas.{behind_one, passed, rest_at}
 use Rattle.mm_frame.proofs.statement.behind_symbols.Goals as goal
 
 pub new-words-requires : goal.new-words-requires
@@ -21,18 +21,3 @@ returns-clause-rest c all has =
     let reads = passed kind words c.read_label.result c.read_label.new.words.words first rest c.read_label.ensures.label keyword c.pass_symbols.ensures.rest in
     let at = rest_at kind c.args.text.now words c.read_label.result (plain_words first) rest reads in
     subst (λ ws. rest ≡ drop (symbols_from kind + length (symbols_in kind (tokens_of c.args.text.now ws)) + 1) ws) (c.new-words.ensures.only all has) at.1
-
-pub returns-clause-few : goal.returns-clause-few
-returns-clause-few c small =
-    let kind = kind_of c.args.kind in
-    let text = c.args.text.now in
-    let words = c.new-words.result.words in
-    let first = c.next_word.new.self.words in
-    let rest = c.pass_symbols.new.words.words in
-    let keyword = behind_one c.read_label.new.words.words first c.next_word.result c.next_word.ensures.word in
-    let reads = passed kind words c.read_label.result c.read_label.new.words.words first rest c.read_label.ensures.label keyword c.pass_symbols.ensures.rest in
-    record {
-      few = omega (arith, proof_few text rest, rest_few text kind words c.read_label.result (plain_words first) rest reads, c.new-words.ensures.few, small);
-      some = proof_some text rest (rest_some text kind words c.read_label.result (plain_words first) rest reads c.new-words.ensures.some);
-      bytes = omega (arith, proof_bytes text rest, rest_bytes text kind words c.read_label.result (plain_words first) rest reads, c.new-words.ensures.bytes, small);
-    }

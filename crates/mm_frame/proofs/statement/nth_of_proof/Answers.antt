@@ -5,11 +5,11 @@ use Rattle.mm_frame.proofs.statement.nth_of_proof.Goals as goal
 
 pub slice_bounds-text-end : goal.slice_bounds-text-end
 slice_bounds-text-end c =
-    let ends = ends_within c.args.files.now c.args.item.now c.piece.result.now c.requires c.piece.ensures.text in
+    let ends = ends_within c.args.files.now c.args.item.now c.piece-bytes.result.now c.requires c.piece-bytes.ensures.text in
     omega (arith, ends, c.requires.some)
 
 pub behind_symbols-words-requires : goal.behind_symbols-words-requires
-behind_symbols-words-requires c = (c.requires.words, has_words c.args.files.now c.args.item.now c.piece.result.now c.requires c.piece.ensures.text, c.requires.some_word)
+behind_symbols-words-requires c = (c.requires.words, has_words c.args.files.now c.args.item.now c.piece-bytes.result.now c.requires c.piece-bytes.ensures.text, c.requires.some_word)
 
 pub loop-number-init : goal.loop-number-init
 loop-number-init c = refl
@@ -20,14 +20,14 @@ loop-number-preserved c = left_more c.behind_symbols-words.result.words c.loop-n
 pub returns-in_err-next_word : goal.returns-in_err-next_word
 returns-in_err-next_word c said says =
     let item = c.args.item.now in
-    let rest = c.behind_symbols-words.ensures.rest says.read.words (has_words c.args.files.now item c.piece.result.now says.read c.piece.ensures.text) in
+    let rest = c.behind_symbols-words.ensures.rest says.read.words (has_words c.args.files.now item c.piece-bytes.result.now says.read c.piece-bytes.ensures.text) in
     c.from_residual.ensures ∙ left_none c.behind_symbols-words.result.words c.loop-number.words.words c.loop-number._number c.args.n c.loop-number.invariant c.in_err-next_word.ensures.word.0 (omega arith)
-    ∙ nth_said c.args.files.now item c.piece.result.now c.piece.ensures.text said says c.behind_symbols-words.result.words c.args.n rest
+    ∙ nth_said c.args.files.now item c.piece-bytes.result.now c.piece-bytes.ensures.text said says c.behind_symbols-words.result.words c.args.n rest
 
 pub returns : goal.returns
 returns c said says =
     let item = c.args.item.now in
     let all : c.loop-number._number ≡ c.args.n = omega arith in
-    let rest = c.behind_symbols-words.ensures.rest says.read.words (has_words c.args.files.now item c.piece.result.now says.read c.piece.ensures.text) in
+    let rest = c.behind_symbols-words.ensures.rest says.read.words (has_words c.args.files.now item c.piece-bytes.result.now says.read c.piece-bytes.ensures.text) in
     left_next c.behind_symbols-words.result.words c.loop-number.words.words c.next_word-2.new.self.words c.args.n c.next_word-2.result (c.loop-number.invariant ∙ ap (λ k. drop k c.behind_symbols-words.result.words) all) c.next_word-2.ensures.word
-    ∙ nth_said c.args.files.now item c.piece.result.now c.piece.ensures.text said says c.behind_symbols-words.result.words c.args.n rest
+    ∙ nth_said c.args.files.now item c.piece-bytes.result.now c.piece-bytes.ensures.text said says c.behind_symbols-words.result.words c.args.n rest
