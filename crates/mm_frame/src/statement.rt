@@ -307,11 +307,11 @@ fn behind_symbols<'a>(kind: ItemKind, text: &'a [u8]) -> WordCursor<'a>
     ensures rest { (words : List Word) → HasWords text.now words
         → result.words ≡ drop (spoken.symbols_from (spoken.kind_of kind) + length (spoken.symbols_in (spoken.kind_of kind) (tokens_of text.now words)) + 1) words }
 {
-    let mut words = WordCursor::new(text);
-    read_label(kind, &mut words);
-    words.next_word();
-    pass_symbols(&mut words);
-    words
+    let mut cursor = WordCursor::new(text);
+    read_label(kind, &mut cursor);
+    cursor.next_word();
+    pass_symbols(&mut cursor);
+    cursor
 }
 
 /// The bytes of the n-th word of a text, which has more words.
