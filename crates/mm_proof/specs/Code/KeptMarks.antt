@@ -1,5 +1,5 @@
 -- What is kept of what stays of an old base in a new one.
-use Rattle.std.specs.Prelude.{◌≡◌, ◌↔◌, ◌<◌, ℕ, Bool, true, false, not, Option, Some, None, List, length, map, bytes_eq, codes}
+use Rattle.std.specs.Prelude.{◌≡◌, ◌↔◌, ◌<◌, ℕ, Bool, true, not, Option, Some, None, List, length, map, bytes_eq, codes}
 use Rattle.std.specs.List.{AllByRecursion}
 use Rattle.mm_frame.specs.Language.Base.{BaseView, before, said_at, is_shown_at, is_framed_at, is_proof_at, frame_at}
 use Rattle.mm_frame.specs.Language.Frame.{Resolved, Hypothesis, Assertion, Inactive, Unknown, AreSameFrame, AreSamePairs}

@@ -5,12 +5,10 @@ use Rattle.mm_frame.specs.Language.Base.{before, said_at}
 use Rattle.mm_frame.specs.Language.Framing.{mandatory_numbers}
 use Rattle.mm_proof.specs.Language.BaseLabels.{setting_at}
 use Rattle.mm_proof.specs.Language.Citing.{cites, cited_words}
-use Rattle.mm_proof.specs.Language.Verdict.{Decoded, IsVerdict, IsVerdictOnSteps}
-use Rattle.mm_proof.specs.Language.VerdictAt.{AreDoneIn, mandatory_labels, statement_at}
-use Rattle.mm_proof.specs.Language.Run.{AreDone}
+use Rattle.mm_proof.specs.Language.Verdict.{Decoded}
+use Rattle.mm_proof.specs.Language.VerdictAt.{mandatory_labels, statement_at}
 use Rattle.mm_proof.specs.declared.step.ProofFault.{ProofFault}
 use Rattle.mm_proof.specs.declared.step.ProofStep.{ProofStep}
-use Rattle.mm_proof.specs.declared.Verdict.{Verdict}
 use Rattle.mm_proof.specs.Language.DecodedSteps.{meant, decoded_steps, entry_steps}
 use Rattle.mm_proof.specs.Code.Judged.{done_by, IsOutcomeWithin}
 use Rattle.mm_proof.specs.Code.Tasks.{actions_mean}

@@ -1,13 +1,11 @@
-use Rattle.std.proofs.Common.{List, sym, subst, length, ap}
+use Rattle.std.proofs.Common.{subst, length, ap}
 use Rattle.std.specs.Prelude.{IfOk}
-use Rattle.mm_frame.specs.Language.Frame.{Symbol}
 use Rattle.mm_proof.specs.Language.BaseLabels.{setting_at}
 use Rattle.mm_proof.specs.Language.VerdictAt.{statement_at}
 use Rattle.mm_proof.specs.Language.DecodedSteps.{entry_steps}
 use Rattle.mm_proof.specs.Code.DecodedProof.{steps_of}
 use Rattle.mm_proof.specs.Code.Judged.{IsOutcomeWithin}
 use Rattle.mm_proof.specs.Code.NumberedBase.{numbered_setting}
-use Rattle.mm_proof.specs.Code.Tasks.{RunSays}
 use Rattle.mm_proof.proofs.lemmas.base.FrameLemmas.{shown_proof}
 use Rattle.mm_proof.proofs.lemmas.decoding.DecodedProofs.{decoded_saved, used_named}
 use Rattle.mm_proof.proofs.lemmas.decoding.ReaderLemmas.{if_ok}
