@@ -1,15 +1,17 @@
 //! What citing an assertion needs.
 
-ghost use Rattle.std.specs.Prelude.{◌≡◌, ◌<◌, true, All, IfOk, length, map};
+ghost use Rattle.std.specs.Prelude.{◌≡◌, ◌++◌, ◌<◌, ◌≤◌, true, List, All, IfOk, OnOk, length, map};
 ghost use Rattle.mm_frame.specs.Language.Base.{BaseView, is_shown_at, is_framed_at, is_proof_at};
 ghost use Rattle.mm_frame.specs.Language.Answering.{IsBase};
-ghost use Rattle.mm_frame.specs.Language.Frame.{AreSameFrame, AreSamePairs};
-ghost use Rattle.mm_proof.specs.Code.Citation.{mandatory_of, frame_of, meant_pairs};
+ghost use Rattle.mm_frame.specs.Language.Frame.{Mandatory, AreSameFrame, AreSamePairs};
+ghost use Rattle.mm_proof.specs.Code.Citation.{mandatory_of, hypotheses_of, frame_of, meant_pairs};
 ghost use Rattle.mm_proof.specs.Code.Keys.{AreInKeyOrder, key_by_number};
 ghost use Rattle.mm_frame.specs.Language.NumberedSymbols.{by_number};
+ghost use Rattle.mm_frame.specs.declared.base.Resolved.TheVariants as answers;
+ghost use Rattle.mm_proof.specs.Code.NamedItems.{AreCited, IsNamedBy};
 ghost use Rattle.mm_proof.specs.Code.NumberedBase.{ByNames, all_by_number, numbered_hypothesis, numbered_frame, numbered_setting};
 
-use mm_frame::{Base, NumberedSymbol};
+use mm_frame::{Base, NumberedSymbol, places_have_frames};
 use std::alloc::{AllocError, Global};
 
 /// A mandatory hypothesis of an assertion.
@@ -24,8 +26,10 @@ pub struct Hypothesis<'a, S> {
 #[derive(Drop)]
 pub struct Cited<'a, S> {
     pub expression: &'a [S],
-    /// Its mandatory hypotheses, in order.
-    pub hypotheses: Vec<Hypothesis<'a, S>>,
+    /// Where its mandatory hypotheses begin in a list of those of all assertions, in order.
+    pub first: usize,
+    /// Where they end, this place not counted.
+    pub last: usize,
     /// Its mandatory pairs.
     pub pairs: &'a [(S, S)],
 }
@@ -58,43 +62,64 @@ fn hypothesis_of(base: &Base, number: usize) -> Hypothesis<'_, NumberedSymbol>
     }
 }
 
-/// The hypotheses with these numbers.
-fn hypotheses<'a>(
+/// Puts the hypotheses with these numbers behind others.
+fn add_hypotheses<'a>(
+    base: &'a Base,
+    numbers: &[usize],
+    to: &mut Vec<Hypothesis<'a, NumberedSymbol>>,
+) -> Result<(), AllocError>
+    ensures { OnOk result (ByNames base.now (λ names view. All (λ n. is_shown_at view n ≡ true) numbers.now →
+        hypotheses_of by_number to.new.items ≡ hypotheses_of by_number to.old.items ++ map (numbered_hypothesis names view) numbers.now)) }
+{
+    for number in numbers {
+        to.push(hypothesis_of(base, *number))?;
+    }
+    Ok(())
+}
+
+/// The assertion with this number. Its mandatory hypotheses are put behind others.
+fn assertion_of<'a>(
+    base: &'a Base,
+    number: usize,
+    mandatory: &mut Vec<Hypothesis<'a, NumberedSymbol>>,
+) -> Result<Cited<'a, NumberedSymbol>, AllocError>
+    requires { (view : BaseView) × IsBase view base.now × (is_framed_at view number ≡ true) × (number < length view.said) }
+    ensures grows { OnOk result ((more : List Mandatory) × (hypotheses_of by_number mandatory.new.items ≡ hypotheses_of by_number mandatory.old.items ++ more)) }
+    ensures within { IfOk result (λ cited. (cited.first ≤ cited.last) × (cited.last ≡ length mandatory.new.items)) }
+    ensures frame { IfOk result (λ cited. ByNames base.now (λ names view. is_framed_at view number ≡ true →
+        AreSameFrame (frame_of by_number (hypotheses_of by_number mandatory.new.items) cited) (numbered_frame names view number))) }
+{
+    let frame = base.frame(number).unwrap();
+    let first = mandatory.len();
+    add_hypotheses(base, &frame.hypotheses, &mut *mandatory)?;
+    Ok(Cited {
+        expression: expression(base, number),
+        first,
+        last: mandatory.len(),
+        pairs: &frame.pairs,
+    })
+}
+
+/// The assertions with these numbers, behind a list of their mandatory hypotheses.
+pub fn assertions_of<'a>(
     alloc: Global,
     base: &'a Base,
     numbers: &[usize],
-) -> Result<Vec<Hypothesis<'a, NumberedSymbol>>, AllocError>
-    ensures { IfOk result (λ found. ByNames base.now (λ names view. All (λ n. is_shown_at view n ≡ true) numbers.now →
-        map (mandatory_of by_number) found.items ≡ map (numbered_hypothesis names view) numbers.now)) }
+) -> Result<
+    (
+        Vec<Hypothesis<'a, NumberedSymbol>>,
+        Vec<Cited<'a, NumberedSymbol>>,
+    ),
+    AllocError,
+>
+    requires { All (λ j. IsNamedBy base.now (answers.Assertion j)) numbers.now }
+    ensures { IfOk result (λ r. AreCited base.now numbers.now r.0.items r.1.items) }
 {
-    let mut found = Vec::with_capacity(alloc, numbers.len())?;
+    places_have_frames();
+    let mut mandatory = Vec::with_capacity(alloc, numbers.len())?;
+    let mut assertions = Vec::with_capacity(alloc, numbers.len())?;
     for number in numbers {
-        found.push(hypothesis_of(base, *number))?;
+        assertions.push(assertion_of(base, *number, &mut mandatory)?)?;
     }
-    Ok(found)
-}
-
-/// The assertion with this number.
-pub fn assertion_of(
-    alloc: Global,
-    base: &Base,
-    number: usize,
-) -> Result<Cited<'_, NumberedSymbol>, AllocError>
-    requires { (view : BaseView) × IsBase view base.now × (is_framed_at view number ≡ true) × (number < length view.said) }
-    ensures { IfOk result (λ cited. ByNames base.now (λ names view. is_framed_at view number ≡ true →
-        AreSameFrame (frame_of by_number cited) (numbered_frame names view number))) }
-{
-    let expression = expression(base, number);
-    match base.frame(number) {
-        Some(frame) => Ok(Cited {
-            expression,
-            hypotheses: hypotheses(alloc, base, &frame.hypotheses)?,
-            pairs: &frame.pairs,
-        }),
-        None => Ok(Cited {
-            expression,
-            hypotheses: Vec::new(alloc),
-            pairs: &[],
-        }),
-    }
+    Ok((mandatory, assertions))
 }

@@ -2,7 +2,7 @@
 
 ghost use Rattle.std.specs.Prelude.{◌≡◌, ◌++◌, ◌∷◌, [], ◌<◌, ◌≤◌, ◌-◌, ℕ, IfOk, OnOk, MatchBool, MatchOption, Some, length, map, take, slice_get};
 ghost use Rattle.mm_proof.specs.Code.Ranges.{AreOrderedRanges, Saves};
-ghost use Rattle.mm_proof.specs.Code.Citation.{IsLowestCiting, frame_from, frame_of, meant_pairs};
+ghost use Rattle.mm_proof.specs.Code.Citation.{IsCitable, IsLowestCiting, frame_from, frame_of, hypotheses_of, meant_pairs};
 ghost use Rattle.mm_frame.specs.Language.Typing.{IsFrame};
 ghost use Rattle.mm_proof.specs.Language.Steps.{Cites};
 ghost use Rattle.mm_proof.specs.Language.Machine.{nothing_yet};
@@ -229,25 +229,28 @@ impl<S: Kept> Machine<S> {
         Ok(None)
     }
 
-    /// Cites an assertion. Answers the lowest number of what is wrong, if anything is.
+    /// Cites an assertion, with its range of mandatory hypotheses. Answers the lowest number of what is wrong, if anything is.
     pub fn cite<'a>(
         &mut self,
         alloc: Global,
+        mandatory: &[Hypothesis<'a, S>],
         cited: &Cited<'a, S>,
         active: &Active<'a, S>,
     ) -> Result<Option<ProofNumber>, AllocError>
         requires whole { AreRanges self.old }
-        requires frame { IsFrame (frame_of S.means cited.now) }
+        requires frame { IsCitable S.means (hypotheses_of S.means mandatory.now) cited.now }
         ensures whole { OnOk result (AreRanges self.new) }
         ensures cites { IfOk result (λ found. MatchOption found
-            (Cites (meant_pairs S.means active.now.pairs.now) (frame_of S.means cited.now) (state_of S.means self.old).stack (state_of S.means self.new).stack)
-            (IsLowestCiting (meant_pairs S.means active.now.pairs.now) (frame_of S.means cited.now) (state_of S.means self.old).stack)) }
+            (Cites (meant_pairs S.means active.now.pairs.now) (frame_of S.means (hypotheses_of S.means mandatory.now) cited.now)
+            (state_of S.means self.old).stack (state_of S.means self.new).stack)
+            (IsLowestCiting (meant_pairs S.means active.now.pairs.now) (frame_of S.means (hypotheses_of S.means mandatory.now) cited.now)
+            (state_of S.means self.old).stack)) }
         ensures saved { OnOk result ((state_of S.means self.new).saved ≡ (state_of S.means self.old).saved) }
     {
         self.take(
             alloc,
             cited.expression,
-            &cited.hypotheses,
+            &mandatory[cited.first..cited.last],
             cited.pairs,
             &*active,
         )

@@ -2,17 +2,15 @@
 
 ghost use Rattle.std.specs.Prelude.{◌≡◌, ◌++◌, ◌∷◌, ◌<◌, [], ℕ, Some, All, IfOk, IfSome, OnOk, length, slice_get};
 ghost use Rattle.mm_frame.specs.declared.base.Resolved.TheVariants as answers;
-ghost use Rattle.mm_frame.specs.Language.Typing.{IsFrame};
-ghost use Rattle.mm_proof.specs.Code.Citation.{frame_of};
 ghost use Rattle.mm_proof.specs.Language.DecodedSteps.{AreEntries, entry_steps};
 ghost use Rattle.mm_proof.specs.Code.NamedItems.{AreNamed, NamingGrows, IsNamedBy, IsUseOf};
 ghost use Rattle.mm_frame.specs.Language.NumberedSymbols.{by_number};
 ghost use Rattle.mm_proof.specs.Code.NumberedBase.{ByNames, numbered_setting};
-ghost use Rattle.mm_proof.specs.Code.Tasks.{AreUses, AreUsesWithin};
+ghost use Rattle.mm_proof.specs.Code.Tasks.{AreCitable, AreUses, AreUsesWithin};
 
-use crate::assertion::{Cited, assertion_of, expression};
+use crate::assertion::{Cited, Hypothesis, assertions_of, expression};
 use crate::machine::widen;
-use mm_frame::{Base, NumberedSymbol, Resolved, places_have_frames};
+use mm_frame::{Base, NumberedSymbol, Resolved};
 use std::alloc::{AllocError, Global};
 
 /// At first there is room for so many labels at most.
@@ -36,6 +34,8 @@ pub struct Named<'a, S> {
     pub uses: Vec<Use>,
     /// The expressions of the hypotheses that are named, each once.
     pub hypotheses: Vec<&'a [S]>,
+    /// The mandatory hypotheses of the assertions that are named.
+    pub mandatory: Vec<Hypothesis<'a, S>>,
     /// The assertions that are named, each once.
     pub assertions: Vec<Cited<'a, S>>,
 }
@@ -123,7 +123,6 @@ impl NamingRoom {
 pub struct Naming<'a> {
     pub hypotheses: Vec<&'a [NumberedSymbol]>,
     pub hypothesis_numbers: Numbers,
-    pub assertions: Vec<Cited<'a, NumberedSymbol>>,
     pub assertion_numbers: Numbers,
 }
 
@@ -143,7 +142,6 @@ impl<'a> Naming<'a> {
         Ok(Naming {
             hypotheses: Vec::with_capacity(alloc, some)?,
             hypothesis_numbers,
-            assertions: Vec::with_capacity(alloc, some)?,
             assertion_numbers,
         })
     }
@@ -163,23 +161,21 @@ impl<'a> Naming<'a> {
     }
 
     /// The assertion with this number is named.
-    fn assertion(&mut self, alloc: Global, base: &'a Base, number: usize) -> Result<Use, AllocError>
+    fn assertion(&mut self, base: &Base, number: usize) -> Result<Use, AllocError>
         requires named { AreNamed base.now self.old }
         requires entry { IsNamedBy base.now (answers.Assertion number) }
         ensures named { OnOk result (AreNamed base.now self.new) }
         ensures grows { OnOk result (NamingGrows self.old self.new) }
         ensures stands { IfOk result (λ used. IsUseOf self.new used (answers.Assertion number)) }
     {
-        places_have_frames();
         if let Some(place) = self.assertion_numbers.find(number) {
             return Ok(Use::Assertion(place));
         }
-        self.assertions.push(assertion_of(alloc, base, number)?)?;
         Ok(Use::Assertion(self.assertion_numbers.add(number)?))
     }
 
     /// What an entry of a table names.
-    fn name(&mut self, alloc: Global, base: &'a Base, label: Resolved) -> Result<Use, AllocError>
+    fn name(&mut self, base: &'a Base, label: Resolved) -> Result<Use, AllocError>
         requires named { AreNamed base.now self.old }
         requires entry { IsNamedBy base.now label }
         ensures named { OnOk result (AreNamed base.now self.new) }
@@ -188,7 +184,7 @@ impl<'a> Naming<'a> {
     {
         match label {
             Resolved::Hypothesis(number) => self.hypothesis(base, number),
-            Resolved::Assertion(number) => self.assertion(alloc, base, number),
+            Resolved::Assertion(number) => self.assertion(base, number),
             Resolved::Inactive | Resolved::Unknown => Ok(Use::Nothing),
         }
     }
@@ -203,19 +199,21 @@ pub fn name_all<'a>(
 ) -> Result<(Named<'a, NumberedSymbol>, NamingRoom), AllocError>
     requires { All (IsNamedBy base.now) labels.now }
     ensures within { IfOk result (λ r. AreUsesWithin r.0) }
-    ensures frames { IfOk result (λ r. All (λ a. IsFrame (frame_of by_number a)) r.0.assertions.items) }
+    ensures frames { IfOk result (λ r. AreCitable by_number r.0) }
     ensures means { IfOk result (λ r. ByNames base.now (λ names view. (i : ℕ) → AreEntries view i labels.now
         → AreUses by_number r.0 (numbered_setting names view i) (entry_steps view labels.now))) }
 {
     let mut naming = Naming::new(alloc, base, labels.len(), room)?;
     let mut uses = Vec::with_capacity(alloc, labels.len())?;
     for label in labels {
-        uses.push(naming.name(alloc, base, *label)?)?;
+        uses.push(naming.name(base, *label)?)?;
     }
+    let (mandatory, assertions) = assertions_of(alloc, base, &naming.assertion_numbers.items)?;
     let named = Named {
         uses,
         hypotheses: naming.hypotheses,
-        assertions: naming.assertions,
+        mandatory,
+        assertions,
     };
     let room = NamingRoom {
         hypotheses: naming.hypothesis_numbers,

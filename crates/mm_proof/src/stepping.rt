@@ -4,15 +4,15 @@ ghost use Rattle.std.specs.Prelude.{◌≡◌, ◌+◌, ◌-◌, ◌≤◌, ◌�
 ghost use Rattle.std.specs.Prelude.{map, slice_index_or};
 ghost use Rattle.std.specs.List.{AllZip};
 ghost use Rattle.mm_frame.specs.Language.Frame.{Symbol as Meaning, Frame, Setting, AreSamePairs};
-ghost use Rattle.mm_frame.specs.Language.Typing.{HasFrames, IsFrame};
+ghost use Rattle.mm_frame.specs.Language.Typing.{HasFrames};
 ghost use Rattle.mm_proof.specs.Language.Expansion.{Step, NotKnown};
 ghost use Rattle.mm_proof.specs.Language.Faults.{IsLowest};
 ghost use Rattle.mm_proof.specs.Language.Machine.{State, Turns, nothing_yet};
-ghost use Rattle.mm_proof.specs.Code.Citation.{frame_of, meant_pairs};
+ghost use Rattle.mm_proof.specs.Code.Citation.{meant_pairs};
 ghost use Rattle.mm_proof.specs.Language.DecodedSteps.{meant};
 ghost use Rattle.mm_proof.specs.Code.Judged.{IsOutcomeWithin};
 ghost use Rattle.mm_proof.specs.Code.MachineState.{state_of, AreRanges};
-ghost use Rattle.mm_proof.specs.Code.Tasks.{AreDoneTo, AreSavedBefore, AreUses, AreUsesWithin, HasState, IsSavedWithin, IsTaskWithin, MeansTask, RunSays, StopsAt};
+ghost use Rattle.mm_proof.specs.Code.Tasks.{AreCitable, AreDoneTo, AreSavedBefore, AreUses, AreUsesWithin, HasState, IsSavedWithin, IsTaskWithin, MeansTask, RunSays, StopsAt};
 ghost use Rattle.mm_proof.specs.Code.Tasks.{IsUseWithin, MeansUse, actions_mean, named_expressions, named_frames, saves_by, saves_of};
 
 use crate::ProofNumber;
@@ -97,7 +97,7 @@ fn do_task<'a, S: Kept>(
     task: Task,
 ) -> Result<Option<ProofNumber>, AllocError>
     requires whole { AreRanges machine.old }
-    requires frames { All (λ a. IsFrame (frame_of S.means a)) named.now.assertions.items }
+    requires frames { AreCitable S.means named.now }
     requires loaded { length named.now.hypotheses.items ≤ length machine.old.saved.items }
     requires within { IsTaskWithin (length named.now.hypotheses.items) (length named.now.assertions.items)
         (length machine.old.saved.items - length named.now.hypotheses.items) task }
@@ -116,7 +116,7 @@ fn do_task<'a, S: Kept>(
             Ok(None)
         }
         Task::Cite(n) => {
-            let found = machine.cite(alloc, &named.assertions[n], &*active)?;
+            let found = machine.cite(alloc, &named.mandatory, &named.assertions[n], &*active)?;
             Ok(found)
         }
         Task::Again(n) => {
@@ -172,7 +172,7 @@ pub fn run_through<'a, S: Kept>(
     active: &Active<'a, S>,
     steps: &[ProofStep],
 ) -> Result<Option<Outcome>, AllocError>
-    requires frames { All (λ a. IsFrame (frame_of S.means a)) named.now.assertions.items }
+    requires frames { AreCitable S.means named.now }
     requires within { AreUsesWithin named.now }
     requires saved { AreSavedBefore steps.now }
     ensures whole { OnOk result (AreRanges machine.new) }
@@ -206,7 +206,7 @@ pub fn run<'a, S: Kept>(
     steps: &[ProofStep],
     statement: &[S],
 ) -> Result<Outcome, AllocError>
-    requires frames { All (λ a. IsFrame (frame_of S.means a)) named.now.assertions.items }
+    requires frames { AreCitable S.means named.now }
     requires within { AreUsesWithin named.now }
     requires saved { AreSavedBefore steps.now }
     ensures within { IfOk result (IsOutcomeWithin (length steps.now)) }

@@ -1,15 +1,15 @@
 //! The machine over names and over numbers: it says the same of a proof.
 
 ghost use Rattle.std.specs.Prelude.{◌≡◌, ℕ, List, All, IfOk, length, map};
+ghost use Rattle.mm_frame.specs.Language.Frame.{Mandatory};
 ghost use Rattle.mm_frame.specs.Language.NumberedSymbols.{by_number, named_symbol};
-ghost use Rattle.mm_frame.specs.Language.Typing.{IsFrame};
-ghost use Rattle.mm_proof.specs.Code.Citation.{frame_of, hypotheses_of, meant_pairs};
+ghost use Rattle.mm_proof.specs.Code.Citation.{frame_of, hypotheses_of, meant_pairs, range_of};
 ghost use Rattle.mm_proof.specs.Code.Judged.{HasDecoding, HasProof, IsOutcomeWithin};
 ghost use Rattle.mm_proof.specs.Code.Keys.{AreInKeyOrder, key_by_number};
 ghost use Rattle.mm_proof.specs.Code.NumberedBase.{all_by_number};
-ghost use Rattle.mm_proof.specs.Code.Spelled.{HasOneKey, key_by_name};
+ghost use Rattle.mm_proof.specs.Code.Spelled.{HasOneKey, IsRanged, key_by_name, ranged};
 ghost use Rattle.mm_proof.specs.Language.ReadIn.{HasTheorem};
-ghost use Rattle.mm_proof.specs.Code.Tasks.{AreSavedBefore, AreUsesWithin, IsUseWithin};
+ghost use Rattle.mm_proof.specs.Code.Tasks.{AreCitable, AreSavedBefore, AreUsesWithin, IsUseWithin};
 
 use crate::Verdict;
 use crate::active::Active;
@@ -36,11 +36,12 @@ struct SpelledHypothesis {
     expression: Vec<NamedSymbol>,
 }
 
-/// An assertion with its frame, by names.
+/// An assertion with its range of hypotheses, by names.
 #[derive(Drop)]
 struct SpelledFrame {
     expression: Vec<NamedSymbol>,
-    hypotheses: Vec<SpelledHypothesis>,
+    first: usize,
+    last: usize,
     pairs: Vec<(NamedSymbol, NamedSymbol)>,
 }
 
@@ -125,15 +126,18 @@ fn spelled_frame(
     alloc: Global,
     cited: &Cited<'_, NumberedSymbol>,
 ) -> Result<SpelledFrame, AllocError>
-    ensures { IfOk result (λ named. frame_of by_number cited.now ≡ record {
+    ensures first { IfOk result (λ named. named.first ≡ cited.now.first) }
+    ensures last { IfOk result (λ named. named.last ≡ cited.now.last) }
+    ensures means { IfOk result (λ named. (hypotheses : List Mandatory) → frame_of by_number hypotheses cited.now ≡ record {
       expression = map named_symbol named.expression.items;
-      hypotheses = map (λ h. record { floating = h.floating; expression = map named_symbol h.expression.items }) named.hypotheses.items;
+      hypotheses = range_of named.first named.last hypotheses;
       pairs = meant_pairs named_symbol named.pairs.items;
     }) }
 {
     Ok(SpelledFrame {
         expression: spelled(alloc, cited.expression)?,
-        hypotheses: spelled_hypotheses(alloc, &cited.hypotheses)?,
+        first: cited.first,
+        last: cited.last,
         pairs: spelled_pairs(alloc, cited.pairs)?,
     })
 }
@@ -143,11 +147,12 @@ fn spelled_frames(
     alloc: Global,
     cited: &[Cited<'_, NumberedSymbol>],
 ) -> Result<Vec<SpelledFrame>, AllocError>
-    ensures { IfOk result (λ named. map (frame_of by_number) cited.now ≡ map (λ f. record {
-      expression = map named_symbol f.expression.items;
-      hypotheses = map (λ h. record { floating = h.floating; expression = map named_symbol h.expression.items }) f.hypotheses.items;
-      pairs = meant_pairs named_symbol f.pairs.items;
-    }) named.items) }
+    ensures { IfOk result (λ named. (hypotheses : List Mandatory)
+        → map (λ a. ranged a.first a.last (frame_of by_number hypotheses a)) cited.now ≡ map (λ f. ranged f.first f.last (record {
+          expression = map named_symbol f.expression.items;
+          hypotheses = range_of f.first f.last hypotheses;
+          pairs = meant_pairs named_symbol f.pairs.items;
+        })) named.items) }
 {
     let mut named = Vec::new(alloc);
     for one in cited {
@@ -193,17 +198,19 @@ fn lent_frames<'a>(
     alloc: Global,
     frames: &'a [SpelledFrame],
 ) -> Result<Vec<Cited<'a, NamedSymbol>>, AllocError>
-    ensures { IfOk result (λ lent. map (frame_of named_symbol) lent.items ≡ map (λ f. record {
-      expression = map named_symbol f.expression.items;
-      hypotheses = map (λ h. record { floating = h.floating; expression = map named_symbol h.expression.items }) f.hypotheses.items;
-      pairs = meant_pairs named_symbol f.pairs.items;
-    }) frames.now) }
+    ensures { IfOk result (λ lent. (hypotheses : List Mandatory)
+        → map (λ a. ranged a.first a.last (frame_of named_symbol hypotheses a)) lent.items ≡ map (λ f. ranged f.first f.last (record {
+          expression = map named_symbol f.expression.items;
+          hypotheses = range_of f.first f.last hypotheses;
+          pairs = meant_pairs named_symbol f.pairs.items;
+        })) frames.now) }
 {
     let mut lent = Vec::new(alloc);
     for frame in frames {
         lent.push(Cited {
             expression: &frame.expression,
-            hypotheses: lent_hypotheses(alloc, &frame.hypotheses)?,
+            first: frame.first,
+            last: frame.last,
             pairs: &frame.pairs,
         })?;
     }
@@ -215,16 +222,17 @@ fn run_lent<'a>(
     alloc: Global,
     uses: &[Use],
     expressions: &'a [Vec<NamedSymbol>],
+    mandatory: &'a [SpelledHypothesis],
     frames: &'a [SpelledFrame],
     pairs: &'a [(NamedSymbol, NamedSymbol)],
     steps: &[ProofStep],
     statement: &[NamedSymbol],
 ) -> Result<Outcome, AllocError>
-    requires frames { All (λ f. IsFrame (record {
+    requires frames { All (λ f. IsRanged (length mandatory.now) (ranged f.first f.last (record {
       expression = map named_symbol f.expression.items;
-      hypotheses = map (λ h. record { floating = h.floating; expression = map named_symbol h.expression.items }) f.hypotheses.items;
+      hypotheses = range_of f.first f.last (map (λ h. record { floating = h.floating; expression = map named_symbol h.expression.items }) mandatory.now);
       pairs = meant_pairs named_symbol f.pairs.items;
-    })) frames.now }
+    }))) frames.now }
     requires within { All (IsUseWithin (length expressions.now) (length frames.now)) uses.now }
     requires saved { AreSavedBefore steps.now }
     requires order { AreInKeyOrder key_by_name (meant_pairs named_symbol pairs.now) }
@@ -232,10 +240,12 @@ fn run_lent<'a>(
 {
     let uses = Vec::from_slice(alloc, uses)?;
     let hypotheses = lent_expressions(alloc, expressions)?;
+    let mandatory = lent_hypotheses(alloc, mandatory)?;
     let assertions = lent_frames(alloc, frames)?;
     let named = Named {
         uses,
         hypotheses,
+        mandatory,
         assertions,
     };
     let active = Active::new(pairs);
@@ -259,13 +269,14 @@ fn run_by_names(
     steps: &[ProofStep],
     statement: &[NumberedSymbol],
 ) -> Result<Outcome, AllocError>
-    requires frames { All (λ a. IsFrame (frame_of by_number a)) named.now.assertions.items }
+    requires frames { AreCitable by_number named.now }
     requires within { AreUsesWithin named.now }
     requires saved { AreSavedBefore steps.now }
     requires order { AreInKeyOrder key_by_number (meant_pairs by_number pairs.now) }
     ensures { IfOk result (IsOutcomeWithin (length steps.now)) }
 {
     let expressions = spelled_expressions(alloc, &named.hypotheses)?;
+    let mandatory = spelled_hypotheses(alloc, &named.mandatory)?;
     let frames = spelled_frames(alloc, &named.assertions)?;
     let pairs = spelled_pairs(alloc, pairs)?;
     let statement = spelled(alloc, statement)?;
@@ -273,6 +284,7 @@ fn run_by_names(
         alloc,
         &named.uses,
         &expressions,
+        &mandatory,
         &frames,
         &pairs,
         steps,

@@ -12,6 +12,7 @@ pub mod LackLemmas
 pub mod MarkLemmas
 pub mod NamedLemmas
 pub mod PairClauseLemmas
+pub mod RangeLemmas
 pub mod Reaching
 pub mod Running
 pub mod SlotLemmas

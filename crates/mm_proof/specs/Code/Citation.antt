@@ -1,8 +1,8 @@
 -- An assertion that is cited, as the code has it.
-use Rattle.std.specs.Prelude.{if◌then◌else◌, ◌≡◌, ◌≢◌, ℕ, ◌≤◌, true, false, Option, Some, None, List, [], ◌∷◌, length, map, drop, slice_get, All, Contains}
+use Rattle.std.specs.Prelude.{if◌then◌else◌, ◌≡◌, ◌≢◌, ℕ, ◌-◌, ◌≤◌, true, false, Option, Some, None, List, [], ◌∷◌, length, map, take, drop, slice_get, All, Contains}
 use Rattle.std.specs.List.{AllZip}
 use Rattle.mm_frame.specs.Language.Frame.{Symbol, Mandatory, Frame, HasVariable}
-use Rattle.mm_frame.specs.Language.Typing.{IsTyped, IsTyping}
+use Rattle.mm_frame.specs.Language.Typing.{IsFrame, IsTyped, IsTyping}
 use Rattle.mm_proof.specs.Language.Substitution.{substituted}
 use Rattle.mm_proof.specs.Language.Derivation.{AreApart}
 use Rattle.mm_proof.specs.Language.Faults.{AnyZip, CitingFails, entries_for, row_of}
@@ -31,8 +31,23 @@ meant_pairs means ps = map (meant_pair means) ps
 abbrev pub frame_from : {S : Type 0} → (S → Symbol) → List (Hypothesis S) → List S → List (S × S) → Frame
 frame_from means hs expression pairs = record { expression = map means expression; hypotheses = hypotheses_of means hs; pairs = meant_pairs means pairs }
 
-abbrev pub frame_of : {S : Type 0} → (S → Symbol) → Cited S → Frame
-frame_of means cited = frame_from means cited.hypotheses.items cited.expression.now cited.pairs.now
+-- a list from one place up to another
+abbrev pub range_of : {X : Type 0} → ℕ → ℕ → List X → List X
+range_of first last xs = take (last - first) (drop first xs)
+
+-- the frame of an assertion, with its range of these hypotheses
+abbrev pub frame_of : {S : Type 0} → (S → Symbol) → List Mandatory → Cited S → Frame
+frame_of means mandatory cited = record {
+  expression = map means cited.expression.now;
+  hypotheses = range_of cited.first cited.last mandatory;
+  pairs = meant_pairs means cited.pairs.now;
+}
+
+-- its range is one of these hypotheses, and what it has is a frame
+pub record IsCitable {S : Type 0} (means : S → Symbol) (mandatory : List Mandatory) (cited : Cited S) : Type 0 where
+  pub in_order : cited.first ≤ cited.last
+  pub within : cited.last ≤ length mandatory
+  pub frame : IsFrame (frame_of means mandatory cited)
 
 -- this slot is of the `$f` of this variable
 abbrev pub IsSlot : List Mandatory → ℕ → Symbol → Type 0

@@ -3,14 +3,16 @@ use Rattle.std.specs.Prelude.{◌≡◌, ℕ, ◌<◌, true, Some, List, All, le
 use Rattle.mm_frame.specs.declared.base.Base.{Base}
 use Rattle.mm_frame.specs.declared.base.Resolved.{Resolved}
 use Rattle.mm_frame.specs.declared.base.Resolved.TheVariants as answers
+use Rattle.mm_frame.specs.declared.symbol.NumberedSymbol.{NumberedSymbol}
 use Rattle.mm_frame.specs.Language.Base.{BaseView, is_shown_at, is_framed_at}
 use Rattle.mm_frame.specs.Language.Frame.{Symbol, Frame, AreSameFrame}
-use Rattle.mm_frame.specs.Language.Typing.{IsFrame}
 use Rattle.mm_frame.specs.Language.Answering.{IsBase}
-use Rattle.mm_proof.specs.Code.Citation.{frame_of}
+use Rattle.mm_proof.specs.Code.Citation.{IsCitable, frame_of, hypotheses_of}
 use Rattle.mm_proof.specs.Language.DecodedSteps.{IsEntry}
 use Rattle.mm_frame.specs.Language.NumberedSymbols.{by_number}
 use Rattle.mm_proof.specs.Code.NumberedBase.{ByNames, all_by_number, numbered_hypothesis, numbered_frame}
+use Rattle.mm_proof.specs.declared.assertion.Cited.{Cited}
+use Rattle.mm_proof.specs.declared.assertion.Hypothesis.{Hypothesis}
 use Rattle.mm_proof.specs.declared.named.Naming.{Naming}
 use Rattle.mm_proof.specs.declared.named.Use.{Use}
 use Rattle.mm_proof.specs.declared.named.Use.TheVariants as uses
@@ -19,29 +21,40 @@ use Rattle.mm_proof.specs.declared.named.Use.TheVariants as uses
 abbrev pub expressions_named : Naming → List (List Symbol)
 expressions_named naming = map (λ e. all_by_number e.now) naming.hypotheses.items
 
--- the frames that were named
-abbrev pub frames_named : Naming → List Frame
-frames_named naming = map (frame_of by_number) naming.assertions.items
-
 -- this place has the expression of the hypothesis with a number
 abbrev pub HasHypothesis : List (List ℕ) → BaseView → Naming → ℕ → ℕ → Type 0
 HasHypothesis names view naming n j =
     (e : List Symbol) × (slice_get (expressions_named naming) n ≡ Some e) × (e ≡ (numbered_hypothesis names view j).expression)
 
--- this place has the frame of the assertion with a number
-abbrev pub HasNamedFrame : List (List ℕ) → BaseView → Naming → ℕ → ℕ → Type 0
-HasNamedFrame names view naming n j =
-    (kept : Frame) × (slice_get (frames_named naming) n ≡ Some kept) × AreSameFrame kept (numbered_frame names view j)
+-- the label is an entry of the table of a proof in this base
+pub record IsNamedBy (code : Base) (label : Resolved) : Type 0 where
+  pub view : BaseView
+  pub i : ℕ
+  pub base : IsBase view code
+  pub within : i < length view.said
+  pub entry : IsEntry view i label
 
--- what was named is what the base has under the numbers
+-- the hypotheses that were named are those that the base has under their numbers, and the assertions are entries of a table
 pub record AreNamed (code : Base) (naming : Naming) : Type 0 where
-  pub hypothesis_count : length naming.hypotheses.items ≡ length naming.hypothesis_numbers.items.items
-  pub assertion_count : length naming.assertions.items ≡ length naming.assertion_numbers.items.items
+  pub count : length naming.hypotheses.items ≡ length naming.hypothesis_numbers.items.items
   pub hypotheses : ByNames code (λ names view. (n j : ℕ) → slice_get naming.hypothesis_numbers.items.items n ≡ Some j → is_shown_at view j ≡ true
       → HasHypothesis names view naming n j)
-  pub assertions : ByNames code (λ names view. (n j : ℕ) → slice_get naming.assertion_numbers.items.items n ≡ Some j → is_framed_at view j ≡ true
-      → HasNamedFrame names view naming n j)
-  pub frames : All (λ a. IsFrame (frame_of by_number a)) naming.assertions.items
+  pub assertions : All (λ j. IsNamedBy code (answers.Assertion j)) naming.assertion_numbers.items.items
+
+-- the frames of assertions, whose hypotheses are ranges of these
+abbrev pub frames_cited : List (Hypothesis NumberedSymbol) → List (Cited NumberedSymbol) → List Frame
+frames_cited mandatory assertions = map (frame_of by_number (hypotheses_of by_number mandatory)) assertions
+
+-- this place has the frame of the assertion with a number
+abbrev pub HasFrame : List (List ℕ) → BaseView → List Frame → ℕ → ℕ → Type 0
+HasFrame names view frames n j = (kept : Frame) × (slice_get frames n ≡ Some kept) × AreSameFrame kept (numbered_frame names view j)
+
+-- the assertions are those that the base has under these numbers
+pub record AreCited (code : Base) (numbers : List ℕ) (mandatory : List (Hypothesis NumberedSymbol)) (assertions : List (Cited NumberedSymbol)) : Type 0 where
+  pub count : length assertions ≡ length numbers
+  pub frames : ByNames code (λ names view. (n j : ℕ) → slice_get numbers n ≡ Some j → is_framed_at view j ≡ true
+      → HasFrame names view (frames_cited mandatory assertions) n j)
+  pub citable : All (IsCitable by_number (hypotheses_of by_number mandatory)) assertions
 
 -- what stood in the list stands there still
 abbrev pub Stays : List ℕ → List ℕ → Type 0
@@ -59,11 +72,3 @@ IsUseOf naming (uses.Assertion n) (answers.Assertion j) = slice_get naming.asser
 IsUseOf naming uses.Nothing answers.Inactive = Unit {0}
 IsUseOf naming uses.Nothing answers.Unknown = Unit {0}
 IsUseOf naming _ _ = ⊥
-
--- the label is an entry of the table of a proof in this base
-pub record IsNamedBy (code : Base) (label : Resolved) : Type 0 where
-  pub view : BaseView
-  pub i : ℕ
-  pub base : IsBase view code
-  pub within : i < length view.said
-  pub entry : IsEntry view i label

@@ -1,6 +1,7 @@
 -- The numbers by which symbols by name are looked for, beside those of symbols by number.
-use Rattle.std.specs.Prelude.{◌≡◌, ℕ}
-use Rattle.mm_frame.specs.Language.Frame.{Symbol}
+use Rattle.std.specs.Prelude.{◌≡◌, ◌≤◌, ℕ}
+use Rattle.mm_frame.specs.Language.Frame.{Symbol, Frame}
+use Rattle.mm_frame.specs.Language.Typing.{IsFrame}
 use Rattle.mm_proof.specs.Code.Keys.{key_by_number, key_from}
 
 -- the number of a symbol by the bytes of its name
@@ -10,3 +11,13 @@ key_by_name symbol = key_from 0 symbol.name
 -- it is the number that its name is
 abbrev pub HasOneKey : Symbol → Type 0
 HasOneKey symbol = key_by_name symbol ≡ key_by_number symbol
+
+-- what is said of an assertion: its range of hypotheses, and its frame
+abbrev pub ranged : ℕ → ℕ → Frame → ℕ × ℕ × Frame
+ranged first last frame = (first, last, frame)
+
+-- the range is one of so many hypotheses
+pub record IsRanged (count : ℕ) (assertion : ℕ × ℕ × Frame) : Type 0 where
+  pub in_order : assertion.0 ≤ assertion.1
+  pub within : assertion.1 ≤ count
+  pub frame : IsFrame assertion.2

@@ -18,7 +18,7 @@ use Rattle.mm_proof.specs.declared.named.Use.{Use}
 use Rattle.mm_proof.specs.declared.named.Use.TheVariants as uses
 use Rattle.mm_proof.specs.declared.named.Named.{Named as Listed}
 use Rattle.mm_proof.specs.declared.machine.Machine.{Machine}
-use Rattle.mm_proof.specs.Code.Citation.{frame_of}
+use Rattle.mm_proof.specs.Code.Citation.{IsCitable, frame_of, hypotheses_of}
 use Rattle.mm_proof.specs.Language.DecodedSteps.{meant}
 use Rattle.mm_proof.specs.Code.MachineState.{state_of}
 
@@ -28,7 +28,11 @@ named_expressions means named = map (λ e. map means e.now) named.hypotheses.ite
 
 -- the frames of the assertions that are named
 abbrev pub named_frames : {S : Type 0} → (S → Symbol) → Listed S → List Frame
-named_frames means named = map (frame_of means) named.assertions.items
+named_frames means named = map (frame_of means (hypotheses_of means named.mandatory.items)) named.assertions.items
+
+-- each can be cited
+abbrev pub AreCitable : {S : Type 0} → (S → Symbol) → Listed S → Type 0
+AreCitable means named = All (IsCitable means (hypotheses_of means named.mandatory.items)) named.assertions.items
 
 -- what a label that is used so means at a place
 abbrev pub MeansUse : List (List Symbol) → List Frame → Setting → Use → Step → Type 0

@@ -9,13 +9,16 @@ use Rattle.mm_frame.specs.declared.base.Resolved.{Resolved}
 use Rattle.mm_frame.specs.declared.base.Resolved.TheVariants as answers
 use Rattle.mm_frame.specs.Language.Base.{BaseView}
 use Rattle.mm_frame.specs.Language.Frame.{Hypothesis}
+use Rattle.mm_frame.specs.declared.symbol.NumberedSymbol.{NumberedSymbol}
 use Rattle.mm_frame.specs.Language.Answering.{IsBaseBy}
 use Rattle.mm_proof.specs.Language.DecodedSteps.{AreEntries, IsEntry, entry_step, entry_steps}
-use Rattle.mm_proof.specs.Code.NamedItems.{AreNamed, NamingGrows, IsUseOf, Stays, expressions_named, frames_named}
+use Rattle.mm_proof.specs.Code.NamedItems.{AreCited, AreNamed, NamingGrows, IsUseOf, Stays, expressions_named, frames_cited}
 use Rattle.mm_proof.specs.Language.Renaming.{renamed_meaning}
 use Rattle.mm_proof.specs.Code.Numbering.{unnaming}
 use Rattle.mm_proof.specs.Code.NumberedBase.{numbered_frame, numbered_setting}
 use Rattle.mm_proof.specs.Code.Tasks.{IsUseWithin, MeansUse}
+use Rattle.mm_proof.specs.declared.assertion.Cited.{Cited}
+use Rattle.mm_proof.specs.declared.assertion.Hypothesis as assertion
 use Rattle.mm_proof.specs.declared.named.Naming.{Naming}
 use Rattle.mm_proof.specs.declared.named.Use.{Use}
 use Rattle.mm_proof.specs.declared.named.Use.TheVariants as uses
@@ -86,38 +89,41 @@ uses_more naming (v ∷ all) (m ∷ labels) u l z s = (z.0, uses_more naming all
 uses_more naming _ _ u l z s = absurd z
 
 -- they are in range
-one_within : (code : Base) (naming : Naming) → AreNamed code naming → (u : Use) (l : Resolved) → IsUseOf naming u l → IsUseWithin (length naming.hypotheses.items) (length naming.assertions.items) u
-one_within code naming is (uses.Hypothesis n) (answers.Hypothesis j) s = let w = slice_get_within naming.hypothesis_numbers.items.items n j s in omega (arith, is.hypothesis_count)
-one_within code naming is (uses.Assertion n) (answers.Assertion j) s = let w = slice_get_within naming.assertion_numbers.items.items n j s in omega (arith, is.assertion_count)
+one_within : (code : Base) (naming : Naming) → AreNamed code naming → (u : Use) (l : Resolved) → IsUseOf naming u l → IsUseWithin (length naming.hypotheses.items) (length naming.assertion_numbers.items.items) u
+one_within code naming is (uses.Hypothesis n) (answers.Hypothesis j) s = let w = slice_get_within naming.hypothesis_numbers.items.items n j s in omega (arith, is.count)
+one_within code naming is (uses.Assertion n) (answers.Assertion j) s = slice_get_within naming.assertion_numbers.items.items n j s
 one_within code naming is uses.Nothing l s = tt
 one_within code naming is _ _ s = absurd s
 
-pub uses_within : (code : Base) (naming : Naming) → AreNamed code naming → (all : List Use) (labels : List Resolved) → AllZip (IsUseOf naming) all labels → All (IsUseWithin (length naming.hypotheses.items) (length naming.assertions.items)) all
-uses_within code naming is [] labels z = All-nil (IsUseWithin (length naming.hypotheses.items) (length naming.assertions.items))
+pub uses_within : (code : Base) (naming : Naming) → AreNamed code naming → (all : List Use) (labels : List Resolved) → AllZip (IsUseOf naming) all labels →
+    All (IsUseWithin (length naming.hypotheses.items) (length naming.assertion_numbers.items.items)) all
+uses_within code naming is [] labels z = All-nil (IsUseWithin (length naming.hypotheses.items) (length naming.assertion_numbers.items.items))
 uses_within code naming is (u ∷ all) [] z = absurd z
-uses_within code naming is (u ∷ all) (l ∷ labels) z = All-cons (IsUseWithin (length naming.hypotheses.items) (length naming.assertions.items)) u all (one_within code naming is u l z.0) (uses_within code naming is all labels z.1)
+uses_within code naming is (u ∷ all) (l ∷ labels) z = All-cons (IsUseWithin (length naming.hypotheses.items) (length naming.assertion_numbers.items.items)) u all (one_within code naming is u l z.0) (uses_within code naming is all labels z.1)
 
 -- and mean what the entries mean
 one_means :
-    (code : Base) (naming : Naming) → AreNamed code naming → (names : List (List ℕ)) (view : BaseView) (i : ℕ) → IsBaseBy names view code →
-    (u : Use) (l : Resolved) → IsUseOf naming u l → IsEntry view i l → MeansUse (expressions_named naming) (frames_named naming) (numbered_setting names view i) u (entry_step view l)
-one_means code naming is names view i base (uses.Hypothesis n) (answers.Hypothesis j) s e = let h = is.hypotheses names view base n j s e.0.carrier.shown in (h.0, h.1, ap (renamed_meaning (unnaming names)) e.1 ∙ ap Hypothesis (sym h.2))
-one_means code naming is names view i base (uses.Assertion n) (answers.Assertion j) s e = let h = is.assertions names view base n j s e.1 in (h.0, numbered_frame names view j, h.1, ap (renamed_meaning (unnaming names)) e.2, h.2)
-one_means code naming is names view i base uses.Nothing answers.Inactive s e = tt
-one_means code naming is names view i base uses.Nothing answers.Unknown s e = tt
-one_means code naming is names view i base (uses.Hypothesis n) (answers.Assertion j) s e = absurd s
-one_means code naming is names view i base (uses.Hypothesis n) answers.Inactive s e = absurd s
-one_means code naming is names view i base (uses.Hypothesis n) answers.Unknown s e = absurd s
-one_means code naming is names view i base (uses.Assertion n) (answers.Hypothesis j) s e = absurd s
-one_means code naming is names view i base (uses.Assertion n) answers.Inactive s e = absurd s
-one_means code naming is names view i base (uses.Assertion n) answers.Unknown s e = absurd s
-one_means code naming is names view i base uses.Nothing (answers.Hypothesis j) s e = absurd s
-one_means code naming is names view i base uses.Nothing (answers.Assertion j) s e = absurd s
+    (code : Base) (naming : Naming) → AreNamed code naming → (mandatory : List (assertion.Hypothesis NumberedSymbol)) (cited : List (Cited NumberedSymbol)) →
+    AreCited code naming.assertion_numbers.items.items mandatory cited → (names : List (List ℕ)) (view : BaseView) (i : ℕ) → IsBaseBy names view code →
+    (u : Use) (l : Resolved) → IsUseOf naming u l → IsEntry view i l → MeansUse (expressions_named naming) (frames_cited mandatory cited) (numbered_setting names view i) u (entry_step view l)
+one_means code naming is hs cited are names view i base (uses.Hypothesis n) (answers.Hypothesis j) s e = let h = is.hypotheses names view base n j s e.0.carrier.shown in (h.0, h.1, ap (renamed_meaning (unnaming names)) e.1 ∙ ap Hypothesis (sym h.2))
+one_means code naming is hs cited are names view i base (uses.Assertion n) (answers.Assertion j) s e = let h = are.frames names view base n j s e.1 in (h.0, numbered_frame names view j, h.1, ap (renamed_meaning (unnaming names)) e.2, h.2)
+one_means code naming is hs cited are names view i base uses.Nothing answers.Inactive s e = tt
+one_means code naming is hs cited are names view i base uses.Nothing answers.Unknown s e = tt
+one_means code naming is hs cited are names view i base (uses.Hypothesis n) (answers.Assertion j) s e = absurd s
+one_means code naming is hs cited are names view i base (uses.Hypothesis n) answers.Inactive s e = absurd s
+one_means code naming is hs cited are names view i base (uses.Hypothesis n) answers.Unknown s e = absurd s
+one_means code naming is hs cited are names view i base (uses.Assertion n) (answers.Hypothesis j) s e = absurd s
+one_means code naming is hs cited are names view i base (uses.Assertion n) answers.Inactive s e = absurd s
+one_means code naming is hs cited are names view i base (uses.Assertion n) answers.Unknown s e = absurd s
+one_means code naming is hs cited are names view i base uses.Nothing (answers.Hypothesis j) s e = absurd s
+one_means code naming is hs cited are names view i base uses.Nothing (answers.Assertion j) s e = absurd s
 
 pub uses_mean :
-    (code : Base) (naming : Naming) → AreNamed code naming → (names : List (List ℕ)) (view : BaseView) (i : ℕ) → IsBaseBy names view code → (all : List Use) (labels : List Resolved) →
-    AllZip (IsUseOf naming) all labels → AreEntries view i labels → AllZip (MeansUse (expressions_named naming) (frames_named naming) (numbered_setting names view i)) all (entry_steps view labels)
-uses_mean code naming is names view i base [] [] z e = tt
-uses_mean code naming is names view i base [] (l ∷ labels) z e = absurd z
-uses_mean code naming is names view i base (u ∷ all) [] z e = absurd z
-uses_mean code naming is names view i base (u ∷ all) (l ∷ labels) z e = (one_means code naming is names view i base u l z.0 e.0, uses_mean code naming is names view i base all labels z.1 e.1)
+    (code : Base) (naming : Naming) → AreNamed code naming → (mandatory : List (assertion.Hypothesis NumberedSymbol)) (cited : List (Cited NumberedSymbol)) →
+    AreCited code naming.assertion_numbers.items.items mandatory cited → (names : List (List ℕ)) (view : BaseView) (i : ℕ) → IsBaseBy names view code → (all : List Use) (labels : List Resolved) →
+    AllZip (IsUseOf naming) all labels → AreEntries view i labels → AllZip (MeansUse (expressions_named naming) (frames_cited mandatory cited) (numbered_setting names view i)) all (entry_steps view labels)
+uses_mean code naming is hs cited are names view i base [] [] z e = tt
+uses_mean code naming is hs cited are names view i base [] (l ∷ labels) z e = absurd z
+uses_mean code naming is hs cited are names view i base (u ∷ all) [] z e = absurd z
+uses_mean code naming is hs cited are names view i base (u ∷ all) (l ∷ labels) z e = (one_means code naming is hs cited are names view i base u l z.0 e.0, uses_mean code naming is hs cited are names view i base all labels z.1 e.1)

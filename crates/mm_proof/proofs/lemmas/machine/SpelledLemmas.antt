@@ -1,29 +1,45 @@
 -- What is kept in another way: frames and orders that are the same, for the tests of the machine and of views.
-use Rattle.std.proofs.Common.{◌≡◌, ℕ, Result, Ok, List, length, map, sym, ◌∙◌, ap, subst, arith}
+use Rattle.std.proofs.Common.{◌≡◌, ℕ, Result, Ok, List, get_or, length, map, sym, ◌∙◌, ap, subst, arith}
 use Rattle.std.specs.Prelude.{All, IfOk}
 use Rattle.std.proofs.lemmas.List.{length-map, get_or-map}
 use Rattle.std.proofs.lemmas.List.Elements.{All-map}
 use Rattle.std.proofs.lemmas.Option.{get_or_from_slice_get, slice_get_within}
-use Rattle.mm_frame.specs.Language.Frame.{Frame, Symbol}
+use Rattle.mm_frame.specs.Language.Frame.{Frame, Mandatory, Symbol}
 use Rattle.mm_frame.specs.Language.NumberedSymbols.{named_symbol}
 use Rattle.mm_frame.specs.declared.symbol.NamedSymbol.{NamedSymbol}
-use Rattle.mm_frame.specs.Language.Typing.{IsFrame}
-use Rattle.mm_proof.specs.Code.Citation.{meant_pair, meant_pairs}
+use Rattle.mm_proof.specs.Code.Citation.{IsCitable, frame_of, meant_pair, meant_pairs}
 use Rattle.mm_proof.specs.Code.Keys.{AreInKeyOrder, key_by_number}
-use Rattle.mm_proof.specs.Code.Spelled.{HasOneKey, key_by_name}
+use Rattle.mm_proof.specs.Code.Spelled.{HasOneKey, IsRanged, key_by_name, ranged}
 use Rattle.mm_proof.specs.Code.Tasks.{IsUseWithin}
+use Rattle.mm_proof.specs.declared.assertion.Cited.{Cited}
 use Rattle.mm_proof.specs.declared.named.Use.{Use}
 
-pub framed_alike : {X Y : Type 0} (f : X → Frame) (g : Y → Frame) (xs : List X) (ys : List Y) → map f xs ≡ map g ys → All (λ y. IsFrame (g y)) ys → All (λ x. IsFrame (f x)) xs
-framed_alike f g xs ys same are k d l =
-    let all = subst (All IsFrame) (sym same) (All-map IsFrame g ys are) in
+alike : {X Y Z : Type 0} (P : Z → Type 0) (f : X → Z) (g : Y → Z) (xs : List X) (ys : List Y) → map f xs ≡ map g ys → All (λ y. P (g y)) ys → All (λ x. P (f x)) xs
+alike P f g xs ys same are k d l =
+    let all = subst (All P) (sym same) (All-map P g ys are) in
     let long = length-map xs f in
-    subst IsFrame (get_or-map f xs k d (f d) l) (all k (f d) (omega arith))
+    subst P (get_or-map f xs k d (f d) l) (all k (f d) (omega arith))
 
-pub framed_there :
-    {X Y : Type 0} (f : X → Frame) (g : Y → Frame) (xs kept : List X) (ys seen : List Y) → xs ≡ kept → map g seen ≡ map f kept → seen ≡ ys →
-    All (λ y. IsFrame (g y)) ys → All (λ x. IsFrame (f x)) xs
-framed_there f g xs kept ys seen is same was are = framed_alike f g xs ys (ap (map f) is ∙ sym same ∙ ap (map g) was) are
+-- where two lists say the same of ranges of hypotheses and of frames with these, the assertions of one can be cited if the others are such
+pub citable_alike :
+    {S Y : Type 0} (means : S → Symbol) (g : Y → ℕ × ℕ × Frame) (hs kept : List Mandatory) (n : ℕ) (xs : List (Cited S)) (ys : List Y) → hs ≡ kept → length kept ≡ n →
+    map (λ (a : Cited S). ranged a.first a.last (frame_of means kept a)) xs ≡ map g ys → All (λ y. IsRanged n (g y)) ys → All (IsCitable means hs) xs
+citable_alike {S} {Y} means g hs kept n xs ys e count same are k d l =
+    let is = alike (IsRanged n) (λ (a : Cited S). ranged a.first a.last (frame_of means kept a)) g xs ys same are k d l in
+    let here : IsCitable means kept (get_or xs k d) = record { in_order = is.in_order; within = omega (arith, is.within, count); frame = is.frame } in
+    subst (λ w. IsCitable means w (get_or xs k d)) (sym e) here
+
+-- and the other way
+pub ranged_alike :
+    {S Y : Type 0} (means : S → Symbol) (g : Y → ℕ × ℕ × Frame) (hs kept : List Mandatory) (n : ℕ) (xs : List (Cited S)) (ys : List Y) → hs ≡ kept → length kept ≡ n →
+    map (λ (a : Cited S). ranged a.first a.last (frame_of means kept a)) xs ≡ map g ys → All (IsCitable means hs) xs → All (λ y. IsRanged n (g y)) ys
+ranged_alike {S} {Y} means g hs kept n xs ys e count same are = alike (IsRanged n) g said ys xs (sym same) each
+  where
+    said : Cited S → ℕ × ℕ × Frame
+    said a = ranged a.first a.last (frame_of means kept a)
+
+    each : All (λ a. IsRanged n (said a)) xs
+    each k d l = let is = subst (λ w. IsCitable means w (get_or xs k d)) e (are k d l) in record { in_order = is.in_order; within = omega (arith, is.within, count); frame = is.frame }
 
 pub alike_count : {X Y Z : Type 0} (f : X → Z) (g : Y → Z) (xs : List X) (ys : List Y) → map f xs ≡ map g ys → length xs ≡ length ys
 alike_count f g xs ys same = sym (length-map xs f) ∙ ap length same ∙ length-map ys g

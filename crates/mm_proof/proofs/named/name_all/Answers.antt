@@ -1,10 +1,12 @@
-use Rattle.std.proofs.Common.{◌+◌, ◌++◌, ◌∷◌, [], List, get_or, take, sym, subst, arith}
+use Rattle.std.proofs.Common.{◌+◌, ◌++◌, ◌∷◌, [], ℕ, List, get_or, length, take, sym, ◌∙◌, ap, subst, arith}
 use Rattle.std.specs.List.{AllZip}
+use Rattle.std.specs.Prelude.{All}
 use Rattle.std.proofs.lemmas.List.{take_all}
 use Rattle.std.proofs.lemmas.Option.{slice_get-get_or}
 use Rattle.mm_frame.specs.declared.base.Resolved.{Resolved}
 use Rattle.mm_frame.specs.declared.base.Resolved.TheVariants as answers
-use Rattle.mm_proof.specs.Code.NamedItems.{IsUseOf}
+use Rattle.mm_proof.specs.Code.NamedItems.{AreCited, IsNamedBy, IsUseOf}
+use Rattle.mm_proof.specs.Code.Tasks.{IsUseWithin}
 use Rattle.mm_proof.specs.declared.named.Use.{Use}
 use Rattle.mm_proof.proofs.lemmas.machine.StepLemmas.{take_next}
 use Rattle.mm_proof.proofs.lemmas.machine.NamedLemmas.{uses_grow, uses_more, uses_within, uses_mean}
@@ -26,16 +28,26 @@ loop-label-preserved c =
     }
 
 pub returns-clause-within : goal.returns-clause-within
-returns-clause-within c = uses_within c.args.base.now c.loop-label.naming c.loop-label.invariant.named c.loop-label.uses.items (take c.loop-label.label-index c.args.labels.now) c.loop-label.invariant.stand
+returns-clause-within c =
+    let naming = c.loop-label.naming in
+    let count = c.in_ok-mandatory.ensures.count ∙ ap length c.deref.ensures.value in
+    let within = uses_within c.args.base.now naming c.loop-label.invariant.named c.loop-label.uses.items (take c.loop-label.label-index c.args.labels.now) c.loop-label.invariant.stand in
+    subst (λ n. All (IsUseWithin (length naming.hypotheses.items) n) c.loop-label.uses.items) (sym count) within
 
 pub returns-clause-means : goal.returns-clause-means
 returns-clause-means c names view base i entries =
     let labels = c.args.labels.now in
     let all = subst (λ (ls : List Resolved). AllZip (IsUseOf c.loop-label.naming) c.loop-label.uses.items ls) (take_all c.loop-label.label-index labels (omega (arith, c.loop-label-test.false))) c.loop-label.invariant.stand in
-    uses_mean c.args.base.now c.loop-label.naming c.loop-label.invariant.named names view i base c.loop-label.uses.items labels all entries
+    let mandatory = c.in_ok-mandatory.mandatory.items in
+    let assertions = c.in_ok-mandatory.assertions.items in
+    let are = subst (λ (ns : List ℕ). AreCited c.args.base.now ns mandatory assertions) c.deref.ensures.value c.in_ok-mandatory.ensures in
+    uses_mean c.args.base.now c.loop-label.naming c.loop-label.invariant.named mandatory assertions are names view i base c.loop-label.uses.items labels all entries
 
 pub name-requires-clause-named : goal.name-requires-clause-named
 name-requires-clause-named c = c.loop-label.invariant.named
+
+pub assertions_of-requires : goal.assertions_of-requires
+assertions_of-requires c = subst (λ (ns : List ℕ). All (λ j. IsNamedBy c.args.base.now (answers.Assertion j)) ns) (sym c.deref.ensures.value) c.loop-label.invariant.named.assertions
 
 pub loop-label-init : goal.loop-label-init
 loop-label-init c = record { named = c.in_ok-naming.ensures; stand = subst (λ w. AllZip (IsUseOf c.in_ok-naming.naming) w []) (sym c.in_ok-uses.ensures.items) tt }

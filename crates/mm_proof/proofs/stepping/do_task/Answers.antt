@@ -2,13 +2,12 @@ use Rattle.std.proofs.Common.{◌≡◌, ◌+◌, ◌-◌, ◌++◌, map, length
 use Rattle.std.specs.Prelude.{MatchOption, slice_get}
 use Rattle.std.proofs.lemmas.List.{length-map}
 use Rattle.mm_frame.specs.Language.Frame.{Frame, AreSameFrame}
-use Rattle.mm_frame.specs.Language.Typing.{IsFrame}
 use Rattle.mm_proof.specs.Language.Expansion.{Step}
 use Rattle.mm_proof.specs.Language.Faults.{IsLowest}
 use Rattle.mm_proof.specs.Language.Machine.{State}
 use Rattle.mm_proof.specs.declared.pattern.Entry.{Entry}
 use Rattle.mm_proof.specs.declared.stepping.Task.{Task}
-use Rattle.mm_proof.specs.Code.Citation.{frame_of, meant_pairs}
+use Rattle.mm_proof.specs.Code.Citation.{IsCitable, frame_of, hypotheses_of, meant_pairs}
 use Rattle.mm_proof.specs.Code.Flat.{read}
 use Rattle.mm_proof.specs.Code.MachineState.{state_of}
 use Rattle.mm_proof.specs.Code.Tasks.{HasState, IsTaskWithin, named_expressions, named_frames, saves_of}
@@ -20,7 +19,9 @@ pub cite-requires-clause-frame : goal.cite-requires-clause-frame
 cite-requires-clause-frame g c =
     let named = c.args.named.now in
     let within = subst (λ (w : Task). IsTaskWithin (length named.hypotheses.items) (length named.assertions.items) (length c.args.machine.now.saved.items - length named.hypotheses.items) w) c.in-Cite.is c.requires.within in
-    subst (λ a. IsFrame (frame_of g.S.Symbol.means a)) (sym c.index.ensures) (c.requires.frames c.in-Cite.n c.index.result.now within)
+    let m = g.S.Symbol.means in
+    subst (λ hs. IsCitable m (hypotheses_of m hs) c.index.result.now) (sym c.deref.ensures.value)
+    (subst (λ a. IsCitable m (hypotheses_of m named.mandatory.items) a) (sym c.index.ensures) (c.requires.frames c.in-Cite.n c.index.result.now within))
 
 pub returns-in_ok-push_saved-in-Push-clause-turns : goal.returns-in_ok-push_saved-in-Push-clause-turns
 returns-in_ok-push_saved-in-Push-clause-turns g c place step before pairs state means =
@@ -41,12 +42,14 @@ returns-in_ok-found-in-Cite-clause-turns g c place step before pairs state means
     let after : State = record { stack = (state_of m c.cite.new.self).stack; saved = before.saved } in
     let within = subst (λ (w : Task). IsTaskWithin (length named.hypotheses.items) (length named.assertions.items) (length c.args.machine.now.saved.items - length named.hypotheses.items) w) c.in-Cite.is c.requires.within in
     let k = means_cite expressions (named_frames m named) place n c.args.task step c.in-Cite.is means in
-    let kept = mapped_or (frame_of m) named.assertions.items n x k.1 within k.4 in
-    let same = subst (λ (f : Frame). AreSameFrame f k.2) (kept ∙ ap (frame_of m) (sym c.index.ensures)) k.6 in
+    let hs = hypotheses_of m c.deref.result.now in
+    let kept = mapped_or (frame_of m (hypotheses_of m named.mandatory.items)) named.assertions.items n x k.1 within k.4 in
+    let same = subst (λ (f : Frame). AreSameFrame f k.2) (kept ∙ ap (frame_of m (hypotheses_of m named.mandatory.items)) (sym c.index.ensures)
+    ∙ ap (λ ms. frame_of m (hypotheses_of m ms) x) (sym c.deref.ensures.value)) k.6 in
     let has : HasState m expressions c.cite.new.self after = record { stack = refl; saved = c.in_ok-found-in-Cite.ensures.saved ∙ state.saved } in
     subst (λ (s : Step). MatchOption found (TurnsTo m expressions c.cite.new.self place s before) (IsLowest place s before.stack)) (sym k.3)
     (cited_turns m expressions place k.0 before after c.cite.new.self found has
-    (cite_turns (meant_pairs m c.args.active.now.pairs.now) place k.0 (frame_of m x) k.2 (state_of m c.args.machine.now).stack before after found pairs k.5 same state.stack refl c.in_ok-found-in-Cite.ensures.cites))
+    (cite_turns (meant_pairs m c.args.active.now.pairs.now) place k.0 (frame_of m hs x) k.2 (state_of m c.args.machine.now).stack before after found pairs k.5 same state.stack refl c.in_ok-found-in-Cite.ensures.cites))
 
 pub returns-in_ok-push_saved-in-Again-clause-turns : goal.returns-in_ok-push_saved-in-Again-clause-turns
 returns-in_ok-push_saved-in-Again-clause-turns g c place step before pairs state means =

@@ -1,13 +1,15 @@
-use Rattle.std.proofs.Common.{◌≡◌, map, take}
+use Rattle.std.proofs.Common.{◌≡◌, List, map, take}
+use Rattle.mm_frame.specs.Language.Frame.{Mandatory}
 use Rattle.mm_frame.specs.Language.NumberedSymbols.{named_symbol}
-use Rattle.mm_proof.specs.Code.Citation.{frame_of, meant_pairs}
+use Rattle.mm_proof.specs.Code.Citation.{frame_of, meant_pairs, range_of}
+use Rattle.mm_proof.specs.Code.Spelled.{ranged}
 use Rattle.mm_proof.proofs.symbol_tests.lent_frames.Given as goal
 
 abbrev pub invariant-loop-frame : goal.invariant-loop-frame
-invariant-loop-frame l =
-    map (frame_of named_symbol) l.lent.items ≡
-    map (λ f. record {
+invariant-loop-frame l = (hypotheses : List Mandatory) →
+    map (λ a. ranged a.first a.last (frame_of named_symbol hypotheses a)) l.lent.items ≡
+    map (λ f. ranged f.first f.last (record {
       expression = map named_symbol f.expression.items;
-      hypotheses = map (λ h. record { floating = h.floating; expression = map named_symbol h.expression.items }) f.hypotheses.items;
+      hypotheses = range_of f.first f.last hypotheses;
       pairs = meant_pairs named_symbol f.pairs.items;
-    }) (take l.frame-index l.frames)
+    })) (take l.frame-index l.frames)

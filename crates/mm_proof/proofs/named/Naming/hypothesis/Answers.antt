@@ -17,16 +17,14 @@ returns-clause-named c =
     let a = ap length c.in_ok-add.ensures.items in
     let b = ap length c.in_ok-push.ensures.items in
     record {
-      hypothesis_count = omega (arith, is.hypothesis_count, length-append numbers (c.args.number ∷ []), length-append old.hypotheses.items (c.expression.result ∷ []));
-      assertion_count = is.assertion_count;
+      count = omega (arith, is.count, length-append numbers (c.args.number ∷ []), length-append old.hypotheses.items (c.expression.result ∷ []));
       hypotheses = λ names view base n j at shown.
           placed_more (λ k. is_shown_at view k ≡ true) (λ e k. e ≡ (numbered_hypothesis names view k).expression) numbers c.add.new.self.items.items
           (expressions old.hypotheses.items) (expressions c.push.new.self.items) c.args.number (all_by_number c.expression.result.now)
-          (length-map old.hypotheses.items (λ e. all_by_number e.now) ∙ is.hypothesis_count) c.in_ok-add.ensures.items
+          (length-map old.hypotheses.items (λ e. all_by_number e.now) ∙ is.count) c.in_ok-add.ensures.items
           (ap expressions c.in_ok-push.ensures.items ∙ map-append (λ e. all_by_number e.now) old.hypotheses.items (c.expression.result ∷ []))
           (λ s. c.expression.ensures names view base s) (λ m k there s. is.hypotheses names view base m k there s) n j at shown;
       assertions = is.assertions;
-      frames = is.frames;
     }
 
 pub returns-clause-grows : goal.returns-clause-grows

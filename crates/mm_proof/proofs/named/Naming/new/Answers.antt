@@ -6,11 +6,8 @@ pub returns : goal.returns
 returns c =
     let hypotheses = ap length c.in_ok-hypothesis_numbers.ensures in
     let assertions = ap length c.in_ok-assertion_numbers.ensures in
-    let frames = ap length c.in_ok-with_capacity-2.ensures.items in
     record {
-      hypothesis_count = ap length c.in_ok-with_capacity.ensures.items ∙ sym hypotheses;
-      assertion_count = frames ∙ sym assertions;
+      count = ap length c.in_ok-with_capacity.ensures.items ∙ sym hypotheses;
       hypotheses = λ names view base n j at shown. let within = slice_get_within c.in_ok-hypothesis_numbers.hypothesis_numbers.items.items n j at in absurd (omega arith);
-      assertions = λ names view base n j at framed. let within = slice_get_within c.in_ok-assertion_numbers.assertion_numbers.items.items n j at in absurd (omega arith);
-      frames = λ k d l. absurd (omega arith);
+      assertions = λ k d l. absurd (omega arith);
     }
