@@ -39,13 +39,20 @@ fn alloc_error(error: StoreError) -> AllocError
     }
 }
 
-/// The base of files that have the top file.
-fn base_of(alloc: Global, names: &mut Names, files: &Files, top: &[u8]) -> Result<Base, AllocError>
-    requires { HasTop files.now top.now }
+/// The base of files that have the top file, beside an older base.
+fn base_of(
+    alloc: Global,
+    names: &mut Names,
+    files: &Files,
+    top: &[u8],
+    old: &Base,
+) -> Result<Base, AllocError>
+    requires top { HasTop files.now top.now }
+    requires old { HasOld names.old files.now old.now }
     ensures base { IfOk result (λ built. (base : BaseView) × IsBuilt names.new files.now top.now built base) }
     ensures grows { Begins names.old names.new }
 {
-    match Base::build(alloc, names, files, top) {
+    match Base::rebuild(alloc, names, files, top, old) {
         Ok(base) => Ok(base),
         Err(error) => Err(alloc_error(error)),
     }
@@ -95,7 +102,7 @@ pub fn next_of(
     ensures distinct { AreDistinct names.new }
     ensures next { IfOk result (λ next. (view : BaseView) → IsOldIn names.old files.now old.now view → IsNextBase names.new files.now top.now view next) }
 {
-    let built = base_of(alloc, &mut *names, files, top);
+    let built = base_of(alloc, &mut *names, files, top, old);
     // No name stands twice.
     let _count = names.count();
     let base = built?;
