@@ -11,20 +11,7 @@ use Rattle.mm_keep.specs.Language.Runs.{AreThose}
 use Rattle.mm_keep.specs.Language.Told.{IsAxiom}
 use Rattle.mm_keep.specs.Code.Cited.{IsMarked, MarksMore, MarksBehind}
 use Rattle.mm_keep.proofs.CitedItems.{cites_earlier}
-
--- ---- numbers of which something holds
-
-pub those_moved :
-    (P Q : ℕ → Type 0) (n m : ℕ) (numbers : List ℕ) → AreThose P n numbers → ((k : ℕ) → k < n → P k → (k < m) × Q k) → ((k : ℕ) → k < m → Q k → (k < n) × P k) →
-    AreThose Q m numbers
-those_moved P Q n m numbers those to from = record {
-  rising = those.rising;
-  each = λ k. (λ c. let p = (those.each k).0 c in to k p.0 p.1, λ q. (those.each k).1 (from k q.0 q.1));
-}
-
--- none below this one
-pub those_behind : (P : ℕ → Type 0) (n : ℕ) → ((k : ℕ) → k < n → P k → ⊥) → AreThose P n []
-those_behind P n no_one = record { rising = λ i j d l m. absurd (omega arith); each = λ k. (λ c. absurd (let l = c.1 in omega (arith, l)), λ p. absurd (no_one k p.0 p.1)) }
+use Rattle.mm_keep.proofs.RunLemmas.{those_moved}
 
 -- ---- chains
 

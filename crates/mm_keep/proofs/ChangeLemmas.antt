@@ -1,10 +1,11 @@
 -- How a session goes on with edited files.
-use Rattle.std.proofs.Common.{◌≡◌, ℕ, Option, List, refl, sym, ◌∙◌, subst}
+use Rattle.std.proofs.Common.{◌≡◌, ℕ, Option, List, length, refl, sym, ap, ◌∙◌, subst, subst₂}
 use Rattle.mm_proof.specs.mm_store.Language.Undoing.{UndoView}
 use Rattle.mm_proof.specs.mm_store.Language.Batches.{IsBatchOf, IsSpendable, KeepsReading, KeepsStanding}
 use Rattle.mm_proof.specs.mm_store.Language.Edits.{Asked}
 use Rattle.mm_proof.specs.mm_store.Language.FileFacts.{parked_in}
 use Rattle.mm_proof.specs.mm_store.Language.FilesView.{FilesView, files_in, plain}
+use Rattle.mm_proof.specs.mm_frame.Language.Base.{BaseView}
 use Rattle.mm_proof.specs.mm_frame.Language.Names.{AreDistinct, Begins}
 use Rattle.mm_proof.specs.mm_frame.declared.base.Base.{Base}
 use Rattle.mm_proof.specs.Language.Work.{Judgement, Recorded}
@@ -12,20 +13,21 @@ use Rattle.mm_keep.specs.declared.keeping.Next.{Next}
 use Rattle.mm_keep.specs.Code.Changing.{CanTake, HasKept, WereKept, session_of}
 use Rattle.mm_keep.specs.Code.KeptSession.{AreChecked}
 use Rattle.mm_keep.specs.Code.Next.{IsBuilt, IsNextBase, IsOldIn}
-use Rattle.mm_keep.specs.Code.Planned.{CanCarry}
+use Rattle.mm_keep.specs.Code.Planned.{ArePlanned, AreRunBy, CanCarry}
 use Rattle.mm_keep.specs.Language.Sessions.{IsChanged}
 use Rattle.mm_keep.proofs.KeepLemmas.{ItemsStand, KeepsNumbers, batch_top, expansion_top, base_settled, says_edited}
 use Rattle.mm_keep.proofs.NextLemmas.{begins_trans}
 
-pub can_carry : (before after : FilesView) (undos : List UndoView) (top : List ℕ) (names : List (List ℕ)) (checked : List (Option Judgement)) (next : Next) → (can : CanTake before after undos top names checked next)
-    → CanCarry can.old can.base checked next.ran.plan.items next.ran.checked.items
-can_carry before after undos top names checked next can = record {
+-- what is checked can be carried, as the lists that are the same tell it
+pub can_carry_by : (before after : FilesView) (undos : List UndoView) (top : List ℕ) (names : List (List ℕ)) (checked : List (Option Judgement)) (next : Next) → (can : CanTake before after undos top names checked next)
+    → (was : List (Option Judgement)) (plan : List (Option ℕ)) (ran : List (Option Judgement)) → was ≡ checked → plan ≡ next.ran.plan.items → ran ≡ next.ran.checked.items → CanCarry can.old can.base was plan ran
+can_carry_by before after undos top names checked next can was plan ran a b d = record {
   old_said = (before, can.old_is.each);
   new_said = (after, can.built.of_files.each);
-  planned = can.goes_on.planned;
-  was = can.old_checked;
-  ran_is = can.goes_on.ran;
-  count = can.goes_on.count;
+  planned = subst (ArePlanned can.old can.base) (sym b) can.goes_on.planned;
+  was = subst (AreChecked can.old) (sym a) can.old_checked;
+  ran_is = subst₂ (λ (p : List (Option ℕ)) (r : List (Option Judgement)). AreRunBy can.base p r) (sym b) (sym d) can.goes_on.ran;
+  count = ap length d ∙ can.goes_on.count ∙ sym (ap length b);
 }
 
 -- what is kept once the edits are settled
@@ -56,18 +58,19 @@ old_in before after undos top names code checked were = record { later = were.ke
 
 pub can_take : (before after : FilesView) (undos : List UndoView) (top : List ℕ) (names all : List (List ℕ)) (code : Base)
     (checked : List (Option Judgement)) (next : Next) → (were : WereKept before after undos top names code checked)
-    → IsNextBase all after top were.base next
-    → CanTake before after undos top all checked next
-can_take before after undos top names all code checked next were is = record {
-  spendable = were.spendable;
-  parked = were.kept.parked;
-  old = were.base;
-  old_is = were.kept.built.of_files;
-  old_checked = were.kept.checked_is;
-  base = is.base;
-  built = is.built;
-  goes_on = is.goes_on;
-}
+    → ((view : BaseView) → IsOldIn names after code view → IsNextBase all after top view next) → CanTake before after undos top all checked next
+can_take before after undos top names all code checked next were goes =
+    let is = goes were.base (old_in before after undos top names code checked were) in
+    record {
+      spendable = were.spendable;
+      parked = were.kept.parked;
+      old = were.base;
+      old_is = were.kept.built.of_files;
+      old_checked = were.kept.checked_is;
+      base = is.base;
+      built = is.built;
+      goes_on = is.goes_on;
+    }
 
 -- what is kept once the edits are undone
 pub kept_undone : (before after files : FilesView) (undos : List UndoView) (top : List ℕ) (names all : List (List ℕ)) (code : Base)
@@ -93,10 +96,3 @@ were_kept keeps before after undos top names code checked has edits done reading
   spendable = spendable;
   has_top = batch_top keeps edits before after top done (expansion_top before top has.0.found has.1.built.of_files.expansion);
 }
-
--- so it is of lists that are the same
-pub can_carry_by : (before after : FilesView) (undos : List UndoView) (top : List ℕ) (names : List (List ℕ)) (checked : List (Option Judgement)) (next : Next) → (can : CanTake before after undos top names checked next)
-    → (was : List (Option Judgement)) (plan : List (Option ℕ)) (ran : List (Option Judgement)) → was ≡ checked → plan ≡ next.ran.plan.items → ran ≡ next.ran.checked.items → CanCarry can.old can.base was plan ran
-can_carry_by before after undos top names checked next can was plan ran a b d =
-    subst (λ (xs : List (Option Judgement)). CanCarry can.old can.base xs plan ran) (sym a) (subst (λ (xs : List (Option ℕ)). CanCarry can.old can.base checked xs ran) (sym b)
-    (subst (λ (xs : List (Option Judgement)). CanCarry can.old can.base checked next.ran.plan.items xs) (sym d) (can_carry before after undos top names checked next can)))

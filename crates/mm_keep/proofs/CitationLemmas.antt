@@ -2,11 +2,9 @@
 use Rattle.std.proofs.Common.{◌≡◌, ◌<◌, ℕ, true, List, length, refl, sym, ap, ◌∙◌, subst}
 use Rattle.std.specs.Prelude.{Contains}
 use Rattle.std.proofs.lemmas.Bool.{and_parts, false≢true}
-use Rattle.mm_proof.specs.mm_frame.declared.base.Resolved.TheVariants.{Assertion}
 use Rattle.mm_proof.specs.mm_frame.Language.Base.{BaseView, IsOfFiles, said_at, is_proof_at, is_sound_at}
 use Rattle.mm_proof.specs.mm_frame.Language.Item.{Item, is_theorem}
 use Rattle.mm_proof.specs.mm_frame.Language.Laws.{AlikeFilesSayTheSame, HasOwnLabels}
-use Rattle.mm_proof.specs.mm_frame.Language.Resolving.{Resolves}
 use Rattle.mm_keep.specs.Language.Citations.{CitesItem, LeadsTo, none, step, IsAxiomOf}
 use Rattle.mm_keep.specs.Language.Laws.{OneListEach, IsOneList, AxiomsHaveThemselves}
 use Rattle.mm_keep.specs.Language.Runs.{AreThose}
@@ -16,40 +14,22 @@ use Rattle.mm_keep.proofs.CitedItems.{assertion_carries}
 use Rattle.mm_keep.proofs.NumberLemmas.{one_rising}
 use Rattle.mm_keep.proofs.RunLaws.{saying}
 
--- ---- with what the items say alone, and back
-
-means_to : (base : BaseView) (i k : ℕ) (label : List ℕ) → Resolves base i label (Assertion k) → Resolves (saying base.said) i label (Assertion k)
-means_to base i k label m = (record { earlier = m.0.earlier; carrier = record { shown = m.0.carrier.shown; label_is = m.0.carrier.label_is } }, m.1, m.2)
-
-means_from : (base : BaseView) (i k : ℕ) (label : List ℕ) → Resolves (saying base.said) i label (Assertion k) → Resolves base i label (Assertion k)
-means_from base i k label m = (record { earlier = m.0.earlier; carrier = record { shown = m.0.carrier.shown; label_is = m.0.carrier.label_is } }, m.1, m.2)
-
-cites_to : (base : BaseView) (i k : ℕ) → CitesItem base i k → CitesItem (saying base.said) i k
-cites_to base i k c =
-    let n = c.names in
-    record { theorem = c.theorem; names = record { decoded = n.decoded; decodes = n.decodes; label = n.label; named = n.named; means = means_to base i k n.label n.means } }
-
-cites_from : (base : BaseView) (i k : ℕ) → CitesItem (saying base.said) i k → CitesItem base i k
-cites_from base i k c =
-    let n = c.names in
-    record { theorem = c.theorem; names = record { decoded = n.decoded; decodes = n.decodes; label = n.label; named = n.named; means = means_from base i k n.label n.means } }
-
-assertion_to : (base : BaseView) (label : List ℕ) (i : ℕ) → IsAssertion base label i → IsAssertion (saying base.said) label i
-assertion_to base label i a = record { within = a.within; framed = a.framed; label_is = a.label_is }
-
-assertion_from : (base : BaseView) (label : List ℕ) (i : ℕ) → IsAssertion (saying base.said) label i → IsAssertion base label i
-assertion_from base label i a = record { within = a.within; framed = a.framed; label_is = a.label_is }
-
-axiom_to : (base : BaseView) (k : ℕ) → IsAxiom base k → IsAxiom (saying base.said) k
-axiom_to base k a = record { sound = a.sound; kind = a.kind }
-
-axiom_from : (base : BaseView) (k : ℕ) → IsAxiom (saying base.said) k → IsAxiom base k
-axiom_from base k a = record { sound = a.sound; kind = a.kind }
-
 -- ---- two bases whose items say the same
 
 cites_alike : (base other : BaseView) → base.said ≡ other.said → (i k : ℕ) → CitesItem base i k → CitesItem other i k
-cites_alike base other e i k c = cites_from other i k (subst (λ (said : List Item). CitesItem (saying said) i k) e (cites_to base i k c))
+cites_alike base other e i k c =
+    let n = c.names in
+    let m = n.means in
+    subst (λ (said : List Item). CitesItem (saying other.found said) i k) e (record {
+      theorem = c.theorem;
+      names = record {
+        decoded = n.decoded;
+        decodes = n.decodes;
+        label = n.label;
+        named = n.named;
+        means = (record { earlier = m.0.earlier; carrier = record { shown = m.0.carrier.shown; label_is = m.0.carrier.label_is } }, m.1, m.2);
+      };
+    })
 
 leads_alike : (base other : BaseView) → base.said ≡ other.said → (k i : ℕ) → LeadsTo base k i → LeadsTo other k i
 leads_alike base other e k i none = none
@@ -57,7 +37,7 @@ leads_alike base other e k i (step {j = j} c rest) = step (cites_alike base othe
 
 axioms_alike : (base other : BaseView) → base.said ≡ other.said → (i k : ℕ) → IsAxiomOf base i k → IsAxiomOf other i k
 axioms_alike base other e i k a = record {
-  is_axiom = axiom_from other k (subst (λ (said : List Item). IsAxiom (saying said) k) e (axiom_to base k a.is_axiom));
+  is_axiom = subst (λ (said : List Item). IsAxiom (saying other.found said) k) e (record { sound = a.is_axiom.sound; kind = a.is_axiom.kind });
   leads = leads_alike base other e k i a.leads;
 }
 
@@ -83,7 +63,7 @@ one_list_of say own stands alike session other label numbers copies files top a 
     let e : base.said ≡ copy.said = (say session.files other.files session.top base copy (record { files = files; is_base = a.1; is_other = is_other })).1 in
     let mine = a.2.1 in
     let yours = b.2.1 in
-    let moved = assertion_from copy label a.2.0 (subst (λ (said : List Item). IsAssertion (saying said) label a.2.0) e (assertion_to base label a.2.0 mine)) in
+    let moved = subst (λ (said : List Item). IsAssertion (saying copy.found said) label a.2.0) e (record { within = mine.within; framed = mine.framed; label_is = mine.label_is }) in
     let same : b.2.0 ≡ a.2.0 = own copy b.2.0 a.2.0 label (assertion_carries copy label b.2.0 yours) (assertion_carries copy label a.2.0 moved) in
     let those = subst (λ i. AreThose (stands copy i) (length copy.said) copies) same b.2.2 in
     one_rising numbers copies a.2.2.rising those.rising

@@ -4,8 +4,7 @@ use Rattle.std.specs.Prelude.{◌↔◌, MatchOption, slice_index}
 use Rattle.std.specs.Option.{option_map}
 use Rattle.std.specs.List.{AllByRecursion}
 use Rattle.std.proofs.Math.Decide.{dec_lt, ℕ_discrete}
-use Rattle.std.proofs.Math.Seq.{drop-nil}
-use Rattle.std.proofs.lemmas.List.{get_or-set_same, get_or-set_other, length-set}
+use Rattle.std.proofs.lemmas.List.{drop-drop, get_or-set_same, get_or-set_other, length-set}
 use Rattle.std.proofs.lemmas.Option.{same_Some, none-some}
 use Rattle.mm_proof.specs.mm_frame.Language.Base.{BaseView}
 use Rattle.mm_proof.specs.mm_frame.Language.Resolving.{IsCarrier}
@@ -15,10 +14,7 @@ use Rattle.mm_keep.specs.Code.Cited.{AreRising, HasLabelAmong, IsAmongCited, IsM
 -- ---- words
 
 pub drop_more : {X : Type 0} (xs : List X) (n m k : ℕ) → k ≡ n + m → drop m (drop n xs) ≡ drop k xs
-drop_more xs zero m k e = ap (λ i. drop i xs) (omega (arith, e))
-drop_more [] (suc n) m k e = drop-nil m ∙ sym (drop-nil k)
-drop_more (x ∷ xs) (suc n) m zero e = absurd (omega (arith, e))
-drop_more (x ∷ xs) (suc n) m (suc k) e = drop_more xs n m k (omega (arith, e))
+drop_more xs n m k e = drop-drop m n xs ∙ ap (λ i. drop i xs) (sym e)
 
 pub get_behind : {X : Type 0} (xs : List X) (n m k : ℕ) → k ≡ n + m → slice_get (drop n xs) m ≡ slice_get xs k
 get_behind xs zero m k e = ap (slice_get xs) (omega (arith, e))
@@ -35,7 +31,7 @@ pub passed_next : (cites : List ℕ) (x : ℕ) → passed_words cites (x + 1) �
 passed_next cites x = let e : x + 1 ≡ suc x = omega arith in ap (passed_words cites) e
 
 -- numbers that rise by recursion, by their places
-above_at : (n d : ℕ) (xs : List ℕ) (j : ℕ) → AllByRecursion (λ m. n < m) xs → j < length xs → n < get_or xs j d
+pub above_at : (n d : ℕ) (xs : List ℕ) (j : ℕ) → AllByRecursion (λ m. n < m) xs → j < length xs → n < get_or xs j d
 above_at n d [] j a l = absurd (omega (arith, l))
 above_at n d (x ∷ xs) zero a l = a.0
 above_at n d (x ∷ xs) (suc j) a l = above_at n d xs j a.1 (omega (arith, l))
@@ -84,48 +80,37 @@ last_or_before words cites x label a =
       | no n ↦ (let e : a.at ≡ x = omega (arith, l) in inr (subst (λ i. slice_get words (slice_index cites i) ≡ Some label) e a.there))
     ]
 
-pub words_more :
-    (view : BaseView) (words : List (List ℕ)) (cites : List ℕ) (x : ℕ) (label : List ℕ) (before now after : List Bool) → slice_get words (slice_index cites x) ≡ Some label →
-    MarksMore (HasLabelAmong view words cites x) before now → MarksMore (IsCarrier view label) now after → MarksMore (HasLabelAmong view words cites (x + 1)) before after
-words_more view words cites x label before now after there first second = record { count = second.count ∙ first.count; each = λ k. (to k, from k) }
+-- one word that cites more, which is the label of those of which this holds
+words_next : (view : BaseView) (words : List (List ℕ)) (cites : List ℕ) (x : ℕ) (Q : ℕ → Type 0) (before now after : List Bool)
+    → ((k : ℕ) → Q k → HasLabelAmong view words cites (x + 1) k) → ((k : ℕ) (h : HasLabelAmong view words cites (x + 1) k) → slice_get words (slice_index cites x) ≡ Some h.label → Q k)
+    → MarksMore (HasLabelAmong view words cites x) before now → MarksMore Q now after → MarksMore (HasLabelAmong view words cites (x + 1)) before after
+words_next view words cites x Q before now after one last first second = record { count = second.count ∙ first.count; each = λ k. (to k, from k) }
   where
-    behind : (k : ℕ) → IsMarked before k ⊎ HasLabelAmong view words cites x k → IsMarked before k ⊎ HasLabelAmong view words cites (x + 1) k
-    behind k (inl m) = inl m
-    behind k (inr h) = inr (record { label = h.label; among = longer words cites x h.label h.among; carrier = h.carrier })
-
     to : (k : ℕ) → IsMarked after k → IsMarked before k ⊎ HasLabelAmong view words cites (x + 1) k
     to k m = elim ((second.each k).0 m) [
-      | inl n ↦ behind k ((first.each k).0 n)
-      | inr c ↦ (let one : IsAmongCited words cites (x + 1) label = record { at = x; before = omega arith; there = there } in inr (record { label = label; among = one; carrier = c }))
+      | inl n ↦ elim ((first.each k).0 n) [ inl b ↦ inl b | inr h ↦ inr (record { label = h.label; among = longer words cites x h.label h.among; carrier = h.carrier }) ]
+      | inr q ↦ inr (one k q)
     ]
-
-    by_word : (k : ℕ) (h : HasLabelAmong view words cites (x + 1) k) → IsAmongCited words cites x h.label ⊎ (slice_get words (slice_index cites x) ≡ Some h.label) → IsMarked after k
-    by_word k h (inl a) = (second.each k).1 (inl ((first.each k).1 (inr (record { label = h.label; among = a; carrier = h.carrier }))))
-    by_word k h (inr e) = (second.each k).1 (inr (subst (λ l. IsCarrier view l k) (same_Some h.label label (sym e ∙ there)) h.carrier))
 
     from : (k : ℕ) → IsMarked before k ⊎ HasLabelAmong view words cites (x + 1) k → IsMarked after k
     from k (inl m) = (second.each k).1 (inl ((first.each k).1 (inl m)))
-    from k (inr h) = by_word k h (last_or_before words cites x h.label h.among)
+    from k (inr h) = elim (last_or_before words cites x h.label h.among) [
+      | inl a ↦ (second.each k).1 (inl ((first.each k).1 (inr (record { label = h.label; among = a; carrier = h.carrier }))))
+      | inr e ↦ (second.each k).1 (inr (last k h e))
+    ]
+
+pub words_more :
+    (view : BaseView) (words : List (List ℕ)) (cites : List ℕ) (x : ℕ) (label : List ℕ) (before now after : List Bool) → slice_get words (slice_index cites x) ≡ Some label →
+    MarksMore (HasLabelAmong view words cites x) before now → MarksMore (IsCarrier view label) now after → MarksMore (HasLabelAmong view words cites (x + 1)) before after
+words_more view words cites x label before now after there first second = words_next view words cites x (IsCarrier view label) before now after
+    (λ k c. let one : IsAmongCited words cites (x + 1) label = record { at = x; before = omega arith; there = there } in record { label = label; among = one; carrier = c })
+    (λ k h e. subst (λ l. IsCarrier view l k) (same_Some h.label label (sym e ∙ there)) h.carrier) first second
 
 pub words_skip :
     (view : BaseView) (words : List (List ℕ)) (cites : List ℕ) (x : ℕ) (before now : List Bool) → slice_get words (slice_index cites x) ≡ None →
     MarksMore (HasLabelAmong view words cites x) before now → MarksMore (HasLabelAmong view words cites (x + 1)) before now
-words_skip view words cites x before now none first = record { count = first.count; each = λ k. (to k, from k) }
-  where
-    behind : (k : ℕ) → IsMarked before k ⊎ HasLabelAmong view words cites x k → IsMarked before k ⊎ HasLabelAmong view words cites (x + 1) k
-    behind k (inl m) = inl m
-    behind k (inr h) = inr (record { label = h.label; among = longer words cites x h.label h.among; carrier = h.carrier })
-
-    to : (k : ℕ) → IsMarked now k → IsMarked before k ⊎ HasLabelAmong view words cites (x + 1) k
-    to k m = behind k ((first.each k).0 m)
-
-    by_word : (k : ℕ) (h : HasLabelAmong view words cites (x + 1) k) → IsAmongCited words cites x h.label ⊎ (slice_get words (slice_index cites x) ≡ Some h.label) → IsMarked now k
-    by_word k h (inl a) = (first.each k).1 (inr (record { label = h.label; among = a; carrier = h.carrier }))
-    by_word k h (inr e) = absurd (none-some h.label (sym none ∙ e))
-
-    from : (k : ℕ) → IsMarked before k ⊎ HasLabelAmong view words cites (x + 1) k → IsMarked now k
-    from k (inl m) = (first.each k).1 (inl m)
-    from k (inr h) = by_word k h (last_or_before words cites x h.label h.among)
+words_skip view words cites x before now none first =
+    words_next view words cites x (λ k. ⊥) before now now (λ k q. absurd q) (λ k h e. none-some h.label (sym none ∙ e)) first (marks_same (λ k. ⊥) now (λ k q. q))
 
 pub words_none : (view : BaseView) (words : List (List ℕ)) (cites : List ℕ) (marks : List Bool) → MarksMore (HasLabelAmong view words cites 0) marks marks
 words_none view words cites marks = marks_same (HasLabelAmong view words cites 0) marks (λ k h. among_none words cites h.label h.among)

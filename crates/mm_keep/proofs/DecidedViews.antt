@@ -33,7 +33,7 @@ dec_are_among pairs others = dec_each (λ (pair : Symbol × Symbol). ArePair oth
 
 member_among : (pairs others : List (Symbol × Symbol)) (pair : Symbol × Symbol) → AreAmong pairs others → Contains pairs pair → ArePair others pair.0 pair.1
 member_among [] others pair h c = absurd (omega (arith, c.1))
-member_among (first ∷ pairs) others pair h c = elim (member_cases dec_pair first pair pairs c) [
+member_among (first ∷ pairs) others pair h c = elim (member_cases first pair pairs c) [
   | inl e ↦ subst (λ (p : Symbol × Symbol). ArePair others p.0 p.1) e h.0
   | inr k ↦ member_among pairs others pair h.1 k
 ]
@@ -48,7 +48,7 @@ pair_among pairs others x y h (inr c) = turned others y x (member_among pairs ot
 
 among_by : (pairs others : List (Symbol × Symbol)) → ((pair : Symbol × Symbol) → Contains pairs pair → ArePair others pair.0 pair.1) → AreAmong pairs others
 among_by [] others f = tt
-among_by (first ∷ pairs) others f = (f first (first_of_list dec_pair first pairs), among_by pairs others (λ pair c. f pair (later_of_list dec_pair first pair pairs c)))
+among_by (first ∷ pairs) others f = (f first (first_of_list first pairs), among_by pairs others (λ pair c. f pair (later_of_list first pair pairs c)))
 
 dec_same_pairs : (pairs others : List (Symbol × Symbol)) → Dec (AreSamePairs pairs others)
 dec_same_pairs pairs others = dec_like to from (dec_and (dec_are_among pairs others) (dec_are_among others pairs))

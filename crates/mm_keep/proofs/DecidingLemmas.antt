@@ -48,6 +48,24 @@ dec_label None (Some b) = no (λ e. none-some b e)
 dec_label (Some a) None = no (λ e. none-some a (sym e))
 dec_label (Some a) (Some b) = dec_like (λ e. ap Some e) (λ e. same_Some a b e) (dec_bytes a b)
 
+-- ---- members
+
+pub first_of_list : {X : Type 0} (x : X) (xs : List X) → Contains (x ∷ xs) x
+first_of_list x xs = (0, omega arith, refl)
+
+pub later_of_list : {X : Type 0} (x k : X) (xs : List X) → Contains xs k → Contains (x ∷ xs) k
+later_of_list x k xs h = (suc h.0, by h.1, h.2)
+  where
+    by : h.0 < length xs → suc h.0 < length (x ∷ xs)
+    by l = omega arith
+
+pub member_cases : {X : Type 0} (x k : X) (xs : List X) → Contains (x ∷ xs) k → (x ≡ k) ⊎ Contains xs k
+member_cases x k xs h = by h.0 h.1 h.2
+  where
+    by : (i : ℕ) → i < length (x ∷ xs) → get_or (x ∷ xs) i k ≡ k → (x ≡ k) ⊎ Contains xs k
+    by zero l e = inl e
+    by (suc i) l e = inr (i, omega arith, e)
+
 module _ {X : Type 0} (same : (a b : X) → Dec (a ≡ b)) where
   both_same : (x y : X) (xs ys : List X) → Dec (x ≡ y) → Dec (xs ≡ ys) → Dec (x ∷ xs ≡ y ∷ ys)
   both_same x y xs ys (yes e) (yes f) = yes (λ i. e i ∷ f i)
@@ -58,24 +76,6 @@ module _ {X : Type 0} (same : (a b : X) → Dec (a ≡ b)) where
   dec_list [] [] = yes refl
   dec_list (x ∷ xs) (y ∷ ys) = both_same x y xs ys (same x y) (dec_list xs ys)
   dec_list _ _ = no (λ e. absurd (cc))
-
-  -- ---- members
-
-  pub first_of_list : (x : X) (xs : List X) → Contains (x ∷ xs) x
-  first_of_list x xs = (0, omega arith, refl)
-
-  pub later_of_list : (x k : X) (xs : List X) → Contains xs k → Contains (x ∷ xs) k
-  later_of_list x k xs h = (suc h.0, by h.1, h.2)
-    where
-      by : h.0 < length xs → suc h.0 < length (x ∷ xs)
-      by l = omega arith
-
-  pub member_cases : (x k : X) (xs : List X) → Contains (x ∷ xs) k → (x ≡ k) ⊎ Contains xs k
-  member_cases x k xs h = by h.0 h.1 h.2
-    where
-      by : (i : ℕ) → i < length (x ∷ xs) → get_or (x ∷ xs) i k ≡ k → (x ≡ k) ⊎ Contains xs k
-      by zero l e = inl e
-      by (suc i) l e = inr (i, omega arith, e)
 
   member_from : (x k : X) (xs : List X) → (x ≡ k) ⊎ Contains xs k → Contains (x ∷ xs) k
   member_from x k xs (inl e) = subst (λ z. Contains (x ∷ xs) z) e (first_of_list x xs)

@@ -10,10 +10,11 @@ use Rattle.mm_proof.specs.mm_store.Language.Expansion.{IsExpansion}
 use Rattle.mm_proof.specs.mm_frame.declared.FrameNumber.{FrameNumber}
 use Rattle.mm_proof.specs.mm_frame.declared.judge.FrameFault.{FrameFault}
 use Rattle.mm_proof.specs.mm_frame.Language.Laws.{FilesHaveOneBase}
-use Rattle.mm_proof.specs.mm_frame.Language.Base.{BaseView}
-use Rattle.mm_keep.specs.Code.KeptSession.{IsKept, view_of}
+use Rattle.mm_proof.specs.mm_frame.Language.Base.{BaseView, IsOfFiles}
+use Rattle.mm_proof.specs.Language.Work.{Judgement}
+use Rattle.mm_keep.specs.Code.KeptSession.{AreChecked, IsKept, view_of}
 use Rattle.mm_keep.specs.Code.OfFiles.{IsOf}
-use Rattle.mm_keep.specs.Language.Sessions.{HasItem, HasAssertion, IsAssertion, OfItems}
+use Rattle.mm_keep.specs.Language.Sessions.{OfItems, SessionView}
 use Rattle.mm_keep.specs.declared.session.Session.TheInside.{Inside}
 
 -- the element at an index
@@ -45,13 +46,24 @@ kept_of stand inside k = record {
   stand = stand inside.files inside.top.items k.base.found k.of_files.expansion;
 }
 
--- and its items are those of the files
-pub kept_within : FilesHaveOneBase → (inside : Inside) → (k : IsKept inside) → (i : ℕ) → HasItem (view_of inside) i → i < length k.base.said
-kept_within one inside k i has = subst (λ (base : BaseView). i < length base.said) (one inside.files inside.top.items has.0 k.base has.1 k.of_files) has.2
-
-pub kept_assertion : FilesHaveOneBase → (inside : Inside) → (k : IsKept inside) → (label : List ℕ) → HasAssertion (view_of inside) label → (i : ℕ) × IsAssertion k.base label i
-kept_assertion one inside k label has = subst (λ (base : BaseView). (i : ℕ) × IsAssertion base label i) (one inside.files inside.top.items has.0 k.base has.1 k.of_files) has.2
-
 -- what holds of the items of the files holds of what is kept
 pub kept_items : FilesHaveOneBase → (inside : Inside) → (k : IsKept inside) → (P : BaseView → Type 0) → OfItems (view_of inside) P → P k.base
 kept_items one inside k P has = subst P (one inside.files inside.top.items has.0 k.base has.1 k.of_files) has.2
+
+-- the parts of what is kept, with what holds of its items
+pub record Parts (inside : Inside) (checked : List (Option Judgement)) (P : BaseView → Type 0) : Type 0 where
+  pub base : BaseView
+  pub of_files : IsOfFiles inside.files inside.top.items base
+  pub is : IsOf inside.names inside.files inside.base base
+  pub are : AreChecked base checked
+  pub holds : P base
+
+pub parts : FilesHaveOneBase → ItemsStand → (inside : Inside) → IsKept inside → (checked : List (Option Judgement)) → checked ≡ inside.checked.items
+    → (session : SessionView) → view_of inside ≡ session → (P : BaseView → Type 0) → OfItems session P → Parts inside checked P
+parts one stand inside k checked same session is P has = record {
+  base = k.base;
+  of_files = k.of_files;
+  is = kept_of stand inside k;
+  are = subst (AreChecked k.base) (sym same) k.checked;
+  holds = kept_items one inside k P (subst (λ (s : SessionView). OfItems s P) (sym is) has);
+}

@@ -7,7 +7,6 @@ pub mod ChangeLemmas
 pub mod ZipLemmas
 pub mod SpotLemmas
 pub mod ToldLemmas
-pub mod WordCounts
 pub mod NumberLemmas
 pub mod RunLaws
 pub mod FoundLemmas

@@ -1,6 +1,5 @@
 -- What a session goes on with.
-use Rattle.std.specs.Prelude.{IfOk}
-use Rattle.std.proofs.Common.{ℕ, List, Result, Ok, Err}
+use Rattle.std.proofs.Common.{ℕ, List}
 use Rattle.mm_proof.specs.mm_store.Language.FilesView.{FilesView}
 use Rattle.mm_proof.specs.mm_frame.Language.Base.{BaseView}
 use Rattle.mm_proof.specs.mm_frame.Language.Names.{AreDistinct, Begins}
@@ -22,8 +21,3 @@ both_read names all files top old new view copy distinct grows is built = record
 
 pub begins_trans : (a b c : List (List ℕ)) → Begins a b → Begins b c → Begins a c
 begins_trans a b c f g n name e = g n name (f n name e)
-
--- what follows from a clause on the value in an `Ok`
-pub if_ok : {T E : Type 0} (P Q : T → Type 0) (r : Result T E) → ((x : T) → P x → Q x) → IfOk r P → IfOk r Q
-if_ok P Q (Ok x) f p = f x p
-if_ok P Q (Err e) f p = tt

@@ -36,9 +36,21 @@ zip_push R [] [] x y a r = (r, a)
 zip_push R (w ∷ xs) (z ∷ ys) x y a r = (a.0, zip_push R xs ys x y a.1 r)
 zip_push R _ _ x y a r = absurd a
 
--- numbers below none
+-- numbers of which the one holds within the one bound, and the other within the other
+pub those_moved :
+    (P Q : ℕ → Type 0) (n m : ℕ) (numbers : List ℕ) → AreThose P n numbers → ((k : ℕ) → k < n → P k → (k < m) × Q k) → ((k : ℕ) → k < m → Q k → (k < n) × P k) →
+    AreThose Q m numbers
+those_moved P Q n m numbers those to from = record {
+  rising = those.rising;
+  each = λ k. (λ c. let p = (those.each k).0 c in to k p.0 p.1, λ q. (those.each k).1 (from k q.0 q.1));
+}
+
+-- none below this one
+pub those_behind : (P : ℕ → Type 0) (n : ℕ) → ((k : ℕ) → k < n → P k → ⊥) → AreThose P n []
+those_behind P n no_one = record { rising = λ i j d l m. absurd (omega arith); each = λ k. (λ c. absurd (let l = c.1 in omega (arith, l)), λ p. absurd (no_one k p.0 p.1)) }
+
 pub those_none : (P : ℕ → Type 0) → AreThose P 0 []
-those_none P = record { rising = λ i j d l m. absurd (omega arith); each = λ k. (λ c. absurd (omega (arith, c.1)), λ p. absurd (omega (arith, p.0))) }
+those_none P = those_behind P 0 (λ k l p. omega (arith, l))
 
 -- one number more, of which it does not hold
 pub those_skip : (P : ℕ → Type 0) (n : ℕ) (numbers : List ℕ) → AreThose P n numbers → ¬ P n → AreThose P (n + 1) numbers
@@ -121,14 +133,8 @@ takes new None j before after (inl p) = let run = p.1 in (omega (arith, run.step
 takes new None j before after (inr p) = let s = ap (λ (w : Recorded). w.steps) p.1 in let r = ap (λ (w : Recorded). w.room) p.1 in (omega arith, omega arith)
 
 -- what holds of the same numbers below the count
-pub those_same : (P Q : ℕ → Type 0) (n : ℕ) (numbers : List ℕ) → AreThose P n numbers → ((k : ℕ) → k < n → P k ↔ Q k) → AreThose Q n numbers
-those_same P Q n numbers those same = record {
-  rising = those.rising;
-  each = λ k. (
-    λ c. let p = (those.each k).0 c in (p.0, (same k p.0).0 p.1),
-    λ q. (those.each k).1 (q.0, (same k q.0).1 q.1),
-  );
-}
+those_same : (P Q : ℕ → Type 0) (n : ℕ) (numbers : List ℕ) → AreThose P n numbers → ((k : ℕ) → k < n → P k ↔ Q k) → AreThose Q n numbers
+those_same P Q n numbers those same = those_moved P Q n n numbers those (λ k l p. (l, (same k l).0 p)) (λ k l q. (l, (same k l).1 q))
 
 -- what runs by a plan that keeps nothing is each theorem
 pub begun_runs : (base : BaseView) (plan : List (Option ℕ)) (runs : List ℕ) → length plan ≡ length base.said → ((k : ℕ) (from : Option ℕ) → slice_get plan k ≡ Some from → from ≡ None) → AreThose (RunsBy base plan) (length plan) runs

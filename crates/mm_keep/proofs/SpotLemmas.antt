@@ -1,14 +1,17 @@
 -- Where the words of items stand, and the spots of their proofs.
-use Rattle.std.proofs.Common.{◌≤◌, ◌≡◌, ℕ, zero, suc, ◌+◌, ◌-◌, Some, None, Option, List, [], ◌∷◌, length, take, drop, slice_get, refl, sym, ap, ◌∙◌, subst, arith}
-use Rattle.std.specs.Prelude.{slice_range, slice_index_or, IfSome}
-use Rattle.std.specs.List.{prefix_len}
+use Rattle.std.proofs.Common.{◌≤◌, ◌≡◌, ℕ, zero, suc, ◌+◌, ◌-◌, Some, None, Option, List, [], ◌∷◌, ◌++◌, length, take, drop, slice_get, refl, sym, ap, ◌∙◌, subst, inl, inr, arith}
+use Rattle.std.specs.Prelude.{slice_range, slice_index_or}
+use Rattle.std.specs.List.{AllByRecursion, flat_map, prefix_len}
 use Rattle.std.specs.Option.{option_map}
-use Rattle.std.proofs.lemmas.Option.{slice_get-map}
-use Rattle.std.proofs.lemmas.List.{length-take-le, length-drop, length-map}
+use Rattle.std.proofs.lemmas.Bool.{cases_Bool}
+use Rattle.std.proofs.lemmas.Option.{same_Some, slice_get-map}
+use Rattle.std.proofs.lemmas.List.{length-take, length-take-le, length-drop, length-map}
 use Rattle.mm_proof.specs.mm_text.declared.word.Word.{Word}
-use Rattle.mm_proof.specs.mm_text.Language.Reading.{HasWords, LiesIn}
+use Rattle.mm_proof.specs.mm_text.Language.Place.{line_at, column_at}
+use Rattle.mm_proof.specs.mm_text.Language.Run.{Run, is_white, ends_run, with_front, runs_from}
+use Rattle.mm_proof.specs.mm_text.Language.Reading.{HasWords, Segment, Single, Comment, IsSegment, segment_runs, segment_words}
 use Rattle.mm_proof.specs.mm_store.declared.item.Item as store
-use Rattle.mm_proof.specs.mm_store.Language.Pieces.{text_in, text_under}
+use Rattle.mm_proof.specs.mm_store.Language.Pieces.{HeldPiece, text_in, text_under}
 use Rattle.mm_proof.specs.mm_store.Language.FilesView.{FilesView, plain, plain_file, text_of}
 use Rattle.mm_proof.specs.mm_store.Language.FileFacts.{CanBeRead, StandsIn, IsByte, IsLive, piece_offset}
 use Rattle.mm_proof.specs.mm_text.Language.Unit.{Token, tokens_of}
@@ -16,8 +19,62 @@ use Rattle.mm_proof.specs.mm_frame.Language.Item.{Kind, Item}
 use Rattle.mm_proof.specs.mm_frame.Language.Statement.{Says, kind_of, is_plain, token_names, symbols_from, symbols_in, proof_in, item_of}
 use Rattle.mm_proof.specs.Language.ItemLaws.{IsSpotIn}
 use Rattle.mm_proof.specs.declared.Spot.{Spot}
+use Rattle.mm_keep.specs.declared.finding.At.{At}
 use Rattle.mm_keep.specs.Language.WordPlaces.{start_of, spelled, proof_word}
-use Rattle.mm_keep.specs.Code.OfFiles.{HasLetter}
+use Rattle.mm_keep.specs.Code.OfFiles.{IsPlaceIn}
+
+-- ---- where words begin
+
+-- the runs begin up to this byte
+abbrev RunsBegin : ℕ → List Run → Type 0
+RunsBegin bound rs = AllByRecursion (λ (run : Run). run.start ≤ bound) rs
+
+abbrev WordsBegin : ℕ → List Word → Type 0
+WordsBegin bound words = AllByRecursion (λ (word : Word). word.start ≤ bound) words
+
+front_begins : (bound at b : ℕ) (rs : List Run) → at ≤ bound → RunsBegin bound rs → RunsBegin bound (with_front at b rs)
+front_begins bound at b [] h k = k
+front_begins bound at b (run ∷ rs) h k = (h, k.1)
+
+-- the runs of bytes begin in them
+runs_begin : (bound at : ℕ) (text : List ℕ) → at + length text ≤ bound → RunsBegin bound (runs_from at text)
+runs_begin bound at [] h = tt
+runs_begin bound at (b ∷ bytes) h =
+    let here : at ≤ bound = omega (arith, h) in
+    let rest = runs_begin bound (at + 1) bytes (omega (arith, h)) in
+    elim (cases_Bool (is_white b)) [
+      | inl white ↦ rw white rest
+      | inr solid ↦ rw solid (elim (cases_Bool (ends_run bytes)) [
+        | inl last ↦ rw last (here, rest)
+        | inr more ↦ rw more (front_begins bound at b (runs_from (at + 1) bytes) here rest)
+      ])
+    ]
+
+behind_begin : (bound : ℕ) (front later : List Run) → RunsBegin bound (front ++ later) → RunsBegin bound later
+behind_begin bound [] later h = h
+behind_begin bound (run ∷ front) later h = behind_begin bound front later h.1
+
+-- each word begins as its run does
+parts_begin : (bound : ℕ) (parts : List Segment) → AllByRecursion IsSegment parts → RunsBegin bound (flat_map segment_runs parts) → WordsBegin bound (flat_map segment_words parts)
+parts_begin bound [] each h = tt
+parts_begin bound (Single run word ∷ parts) each h = (omega (arith, each.0.start, h.0), parts_begin bound parts each.1 h.1)
+parts_begin bound (Comment first inside last ∷ parts) each h = parts_begin bound parts each.1 (behind_begin bound (first ∷ (inside ++ last ∷ [])) (flat_map segment_runs parts) h)
+
+nth_begins : (bound : ℕ) (words : List Word) (n : ℕ) → WordsBegin bound words → start_of (slice_get words n) ≤ bound
+nth_begins bound [] n h = omega arith
+nth_begins bound (word ∷ words) zero h = h.0
+nth_begins bound (word ∷ words) (suc n) h = nth_begins bound words n h.1
+
+word_begins : (text : List ℕ) (words : List Word) (n : ℕ) → HasWords text words → start_of (slice_get words n) ≤ length text
+word_begins text words n has =
+    let are = has.words_are in
+    let runs = subst (RunsBegin (length text)) (sym are.reading.joined) (runs_begin (length text) 0 text (omega arith)) in
+    nth_begins (length text) words n (subst (WordsBegin (length text)) are.singles (parts_begin (length text) are.parts are.reading.each runs))
+
+-- a byte of a word, or its end, is in the text, or its end
+byte_within : (text : List ℕ) (word : Option Word) (letter : ℕ) → start_of word ≤ length text → letter ≤ length (spelled text word) → start_of word + letter ≤ length text
+byte_within text None letter begins less = omega (arith, less)
+byte_within text (Some word) letter begins less = omega (arith, begins, less, length-take (word.end - word.start) (drop word.start text), length-drop word.start text)
 
 -- ---- the byte of a word
 
@@ -34,25 +91,6 @@ module _ (files : FilesView) (item : store.Item) (read : CanBeRead files item) (
 
   pub item_words : HasWords (slice_range piece item.start item.end) read.words
   item_words = subst (λ text. HasWords (slice_range text item.start item.end) read.words) (sym item_text) read.has_words
-
-  -- a byte of a word that an item has is in the item, or its end
-  byte_within : (word : Option Word) (letter : ℕ) → IfSome word (LiesIn (slice_range piece item.start item.end)) → letter ≤ length (spelled (slice_range piece item.start item.end) word)
-      → item.start + (start_of word + letter) ≤ item.end
-  byte_within None letter h less = omega (arith, less, read.some)
-  byte_within (Some word) letter h less =
-      let bytes = slice_range piece item.start item.end in
-      let long : length bytes ≡ item.end - item.start = length-take-le (item.end - item.start) (drop item.start piece) (omega (arith, length-drop item.start piece, item_within)) in
-      let short : length (slice_range bytes word.start word.end) ≡ word.end - word.start = length-take-le (word.end - word.start) (drop word.start bytes) (omega (arith, length-drop word.start bytes, h.within)) in
-      omega (arith, h.some, h.within, read.some, less, long, short)
-
-  -- so it is with a word that is found, where it has so many bytes
-  pub found_within : (n letter start : ℕ) (found : Option Word) → found ≡ slice_get read.words n → IfSome found (LiesIn (slice_range piece item.start item.end)) → start ≡ start_of found
-      → letter ≤ length (spelled (slice_range read.text item.start item.end) (slice_get read.words n)) → item.start + (start + letter) ≤ item.end
-  found_within n letter start found is lies begins less =
-      let bytes : length (spelled (slice_range piece item.start item.end) found) ≡ length (spelled (slice_range read.text item.start item.end) (slice_get read.words n)) =
-      (λ i. length (spelled (slice_range (item_text i) item.start item.end) (is i))) in
-      let within = byte_within found letter lies (omega (arith, less, bytes)) in
-      omega (arith, within, begins)
 
   -- the file of an item, without keys
   pub file_there : (stands : StandsIn files item) → slice_get (plain files) item.file ≡ Some (plain_file files.pieces stands.file)
@@ -76,6 +114,39 @@ module _ (files : FilesView) (item : store.Item) (read : CanBeRead files item) (
     within = omega (arith, less, read.within);
     is_offset = refl;
   }
+
+-- there is one text under the key of an item
+pub own_text : (files : FilesView) (item : store.Item) → (read : CanBeRead files item) → IsTextOf files item read.text
+own_text files item read text live =
+    let same : read.live.piece ≡ live.piece = same_Some read.live.piece live.piece (sym read.live.held ∙ live.held) in
+    read.live.is_text ∙ ap (λ (piece : HeldPiece). piece.text) same ∙ sym live.is_text
+
+-- a byte of a word of an item is in the item, or its end
+pub letter_within : (files : FilesView) (item : store.Item) (read : CanBeRead files item) (word letter : ℕ) → letter ≤ length (spelled (slice_range read.text item.start item.end) (slice_get read.words word))
+    → item.start + (start_of (slice_get read.words word) + letter) ≤ item.end
+letter_within files item read word letter less =
+    let bytes = slice_range read.text item.start item.end in
+    let long : length bytes ≡ item.end - item.start = length-take-le (item.end - item.start) (drop item.start read.text) (omega (arith, length-drop item.start read.text, read.within)) in
+    omega (arith, byte_within bytes (slice_get read.words word) letter (word_begins bytes read.words word read.has_words) less, long, read.some)
+
+-- so a byte of an item has a place
+pub placed_in : (files : FilesView) (item : store.Item) (stands : StandsIn files item) (byte : ℕ) (at : At) → at.file ≡ item.file
+    → at.line ≡ line_at (text_of (plain_file files.pieces stands.file)) (piece_offset (plain_file files.pieces stands.file) item.piece + (item.start + byte))
+    → at.column ≡ column_at (text_of (plain_file files.pieces stands.file)) (piece_offset (plain_file files.pieces stands.file) item.piece + (item.start + byte))
+    → item.start + byte ≤ item.end → IsPlaceIn files item byte at
+placed_in files item stands byte at file line column less word letter read same = record {
+  offset = piece_offset (plain_file files.pieces stands.file) item.piece + (item.start + byte);
+  is_byte = record {
+    stands = stands;
+    read = read;
+    text = text_of (plain_file files.pieces stands.file);
+    byte = subst (λ b. IsByte files item.file item.piece (item.start + b) (text_of (plain_file files.pieces stands.file)) (piece_offset (plain_file files.pieces stands.file) item.piece + (item.start + byte))) (sym same)
+        (word_is_byte files item read read.text (own_text files item read) stands (item.start + byte) less);
+  };
+  in_file = file;
+  line = line;
+  column = column;
+}
 
 -- ---- the words of a proof among those of its item
 
@@ -106,9 +177,10 @@ proof_from kind tokens = symbols_from kind + length (symbols_in kind tokens) + 1
 proof_word_is : (kind : Kind) (tokens : List Token) (n : ℕ) → proof_word (item_of kind tokens) n ≡ proof_from kind tokens + n
 proof_word_is kind tokens n = ap (λ (k : ℕ). symbols_from kind + k + 1 + n) (length-map (symbols_in kind tokens) (λ (token : Token). token.bytes))
 
--- a spot of the proof of an item that stands in the files is at a byte of one of its words
-pub letter_in : (files : FilesView) (item : store.Item) (said : Item) (spot : Spot) → Says files item said → StandsIn files item → IsSpotIn said.proof spot → HasLetter files item (proof_word said spot.word) spot.letter
-letter_in files item said spot says stands is =
+-- a spot of the proof of an item is at a byte of one of its words
+pub letter_in : (files : FilesView) (item : store.Item) (said : Item) (spot : Spot) (says : Says files item said) → IsSpotIn said.proof spot
+    → spot.letter ≤ length (spelled (slice_range says.read.text item.start item.end) (slice_get says.read.words (proof_word said spot.word)))
+letter_in files item said spot says is =
     let kind = kind_of item.kind in
     let bytes = slice_range says.read.text item.start item.end in
     let words = says.read.words in
@@ -121,4 +193,4 @@ letter_in files item said spot says stands is =
     let behind = ap length (dropped_at from spot.word tokens) in
     let whole = ap length (spelled_at bytes words (proof_word said spot.word)) in
     let same = ap (λ k. length (slice_index_or (token_names tokens) k [])) word in
-    record { read = says.read; stands = stands; within = omega (arith, is.letter, first, less, behind, whole, same) }
+    omega (arith, is.letter, first, less, behind, whole, same)

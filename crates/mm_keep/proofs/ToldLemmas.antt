@@ -1,5 +1,6 @@
 -- What a base and its files say of one item.
-use Rattle.std.proofs.Common.{◌≡◌, ◌⊎◌, ℕ, zero, suc, ◌+◌, Some, List, [], ◌∷◌, ◌++◌, inl, inr, length-append, length, slice_get, refl, sym, ◌∙◌, ap, subst}
+use Rattle.std.proofs.Common.{◌≡◌, ◌⊎◌, ℕ, zero, suc, ◌+◌, Bool, cond, count_by, Some, List, [], ◌∷◌, ◌++◌, inl, inr, length-append, length, slice_get, refl, sym, ◌∙◌, ap, subst, arith}
+use Rattle.std.proofs.lemmas.List.Sums.{sum_by_push}
 use Rattle.std.proofs.lemmas.Option.{get_or_from_slice_get, same_Some, slice_get_within}
 use Rattle.mm_proof.specs.mm_store.declared.item.Item as store
 use Rattle.mm_proof.specs.mm_store.Language.FilesView.{FilesView}
@@ -10,7 +11,8 @@ use Rattle.mm_proof.specs.mm_frame.Language.Answering.{IsBase}
 use Rattle.mm_proof.specs.mm_frame.Language.Statement.{Says}
 use Rattle.mm_proof.specs.mm_frame.declared.base.Base.{Base}
 use Rattle.mm_keep.specs.Code.OfFiles.{IsOf, HasItemOf}
-use Rattle.mm_keep.specs.Language.Told.{Told, IsRightlyTold}
+use Rattle.mm_keep.specs.Code.FoundKinds.{kind_told, one_more}
+use Rattle.mm_keep.specs.Language.Told.{Told, Quiet, Counts, counts, is_axiom, is_proved, is_incomplete, is_wrong, is_fault, IsRightlyTold}
 use Rattle.mm_keep.proofs.ZipLemmas.{zip_found}
 
 -- what it says
@@ -51,3 +53,23 @@ told_more files view n all one t f = record {
     | inr h ↦ subst (λ m. IsRightlyTold files view m other) (sym (h.0 ∙ f.count)) (subst (IsRightlyTold files view n) h.1 t)
   ];
 }
+
+-- ---- how one more is counted
+
+same_counts : (c d : Counts) → c.axioms ≡ d.axioms → c.theorems ≡ d.theorems → c.proved ≡ d.proved → c.incomplete ≡ d.incomplete → c.wrong ≡ d.wrong → c.faults ≡ d.faults → c ≡ d
+same_counts c d a t p n w f = λ i. record { axioms = a i; theorems = t i; proved = p i; incomplete = n i; wrong = w i; faults = f i }
+
+-- one of these is one more
+abbrev CountsOne : (Told → Bool) → List Told → Told → Type 0
+CountsOne test all one = count_by test (all ++ one ∷ []) ≡ count_by test all + cond (test one) 1 0
+
+one_by_kind : (all : List Told) (one : Told) → CountsOne is_axiom all one → CountsOne is_proved all one → CountsOne is_incomplete all one → CountsOne is_wrong all one → CountsOne is_fault all one
+    → counts (all ++ one ∷ []) ≡ one_more (kind_told one) (counts all)
+one_by_kind all Quiet a p n w f = same_counts _ _ (omega arith) (omega arith) (omega arith) (omega arith) (omega arith) (omega arith)
+one_by_kind all _ a p n w f = same_counts _ _ (omega arith) (omega arith) (omega arith) (omega arith) (omega arith) (omega arith)
+
+counted_one : (test : Told → Bool) (all : List Told) (one : Told) → CountsOne test all one
+counted_one test all one = sum_by_push (λ told. cond (test told) 1 0) all one
+
+pub counts_more : (all : List Told) (one : Told) → counts (all ++ one ∷ []) ≡ one_more (kind_told one) (counts all)
+counts_more all one = one_by_kind all one (counted_one is_axiom all one) (counted_one is_proved all one) (counted_one is_incomplete all one) (counted_one is_wrong all one) (counted_one is_fault all one)

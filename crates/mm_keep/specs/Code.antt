@@ -1,5 +1,7 @@
 -- What the code keeps: private contracts and loop invariants cite it.
+pub mod KeptCheck
 pub mod OfFiles
+pub mod FoundKinds
 pub mod KeptSession
 pub mod Cited
 pub mod Planned

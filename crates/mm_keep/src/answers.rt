@@ -1,26 +1,28 @@
 //! What a session answers of its items.
 
-ghost use Rattle.std.specs.Prelude.{◌≡◌, ◌↔◌, ℕ, List, true, false, Some, None, IfOk, IfErr, IfSome, IsErrOf};
+ghost use Rattle.std.specs.Prelude.{◌≡◌, ◌↔◌, ◌<◌, ℕ, List, true, false, Some, None, IfOk, IfErr, IfSome, IsErrOf, length};
 ghost use Rattle.mm_proof.specs.mm_store.Language.FileFacts.{CanBeRead, StandsIn};
 ghost use Rattle.mm_proof.specs.mm_store.Language.FilesView.{FilesView};
 ghost use Rattle.mm_proof.specs.mm_frame.Language.Answering.{IsBase};
 ghost use Rattle.mm_proof.specs.mm_frame.Language.Base.{BaseView, said_at, is_sound_at, is_proof_at};
 ghost use Rattle.mm_proof.specs.mm_frame.Language.Item.{is_theorem};
-ghost use Rattle.mm_proof.specs.mm_frame.Language.Statement.{kind_of};
+ghost use Rattle.mm_proof.specs.mm_frame.Language.Statement as spoken;
 ghost use Rattle.mm_proof.specs.Language.VerdictAt.{IsVerdictAt};
 ghost use Rattle.mm_keep.specs.Language.Findings.{told, counted};
+ghost use Rattle.mm_keep.specs.Code.FoundKinds.{IsFoundAs};
 ghost use Rattle.mm_keep.specs.Code.KeptSession.{AreChecked};
 ghost use Rattle.mm_keep.specs.Code.OfFiles.{IsOf, HasChecked, HasCheckedItem, HasVerdictOf};
 ghost use Rattle.mm_keep.specs.declared.answers.KeepError.TheVariants.{NoAssertion};
 ghost use Rattle.mm_keep.specs.Language.Sessions.{HasAssertion, HasItem, IsAssertion, IsFinding, IsTally, IsVerdictOf, OfItems};
 ghost use Rattle.mm_keep.specs.Language.Told.{Told, IsRightlyTold, AreRightlyTold, TellsFaultAt, counts};
 
-use crate::finding::Finding;
+use crate::finding::{Finding, FindingKind};
+use crate::kept::Kept;
 use crate::seen::{place_of_spot, seen_at};
 use crate::session::Session;
 use crate::tally::Tally;
 use mm_proof::{
-    Base, Checked, Files, FrameFault, Item, ItemKind, Verdict, files_have_one_base, spots_are_in,
+    Base, Files, FrameFault, Item, ItemKind, Verdict, files_have_one_base, spots_are_in,
 };
 use std::alloc::AllocError;
 use thiserror::Error;
@@ -52,7 +54,7 @@ fn at_fault<'a>(files: &'a Files, item: &Item, fault: FrameFault) -> Finding<'a>
     requires stands { StandsIn files.now item.now }
     ensures { TellsFaultAt files.now item.now fault.word fault.number (told result) }
 {
-    let seen = seen_at(files, item, fault.word, 0);
+    let seen = seen_at(files, item, fault.word);
     Finding::Fault(fault.number, seen.at, seen.word)
 }
 
@@ -74,8 +76,8 @@ fn judged<'a>(files: &'a Files, base: &Base, number: usize, verdict: Verdict) ->
 
 /// What is found of a sound item that is no theorem.
 fn unproved<'a>(kind: ItemKind) -> Finding<'a>
-    ensures { (files : FilesView) (view : BaseView) (n : ℕ) → is_sound_at view n ≡ true → is_theorem (kind_of kind) ≡ false
-        → kind_of kind ≡ (said_at view n).kind → IsRightlyTold files view n (told result) }
+    ensures { (files : FilesView) (view : BaseView) (n : ℕ) → is_sound_at view n ≡ true → is_theorem (spoken.kind_of kind) ≡ false
+        → spoken.kind_of kind ≡ (said_at view n).kind → IsRightlyTold files view n (told result) }
 {
     match kind {
         ItemKind::Axiom => Finding::Axiom,
@@ -84,12 +86,7 @@ fn unproved<'a>(kind: ItemKind) -> Finding<'a>
 }
 
 /// What is found of the item with this number.
-fn finding_of<'a>(
-    files: &'a Files,
-    base: &Base,
-    checked: &[Option<Checked>],
-    i: usize,
-) -> Finding<'a>
+fn finding_of<'a>(files: &'a Files, base: &Base, checked: &[Kept], i: usize) -> Finding<'a>
     requires { HasCheckedItem files.now base.now checked.now i }
     ensures { (names : List (List ℕ)) (view : BaseView) → IsOf names files.now base.now view → AreChecked view checked.now
         → IsRightlyTold files.now view i (told result) }
@@ -98,21 +95,37 @@ fn finding_of<'a>(
     if let Some(fault) = base.fault(i) {
         return at_fault(files, item, fault);
     }
-    match &checked[i] {
+    match checked[i].get() {
         Some(checked) => judged(files, base, i, checked.verdict()),
         None => unproved(item.kind),
     }
 }
 
+/// What is found of the item with this number, without its place and word, which are not looked for.
+fn kind_of(base: &Base, checked: &[Kept], i: usize) -> FindingKind
+    requires { (files : FilesView) × HasCheckedItem files base.now checked.now i }
+    ensures { (names : List (List ℕ)) (files : FilesView) (view : BaseView) → IsOf names files base.now view → AreChecked view checked.now
+        → i < length view.said → IsFoundAs files view i result }
+{
+    spots_are_in();
+    if let Some(_fault) = base.fault(i) {
+        return FindingKind::Fault;
+    }
+    match checked[i].get() {
+        Some(checked) => FindingKind::of_verdict(checked.verdict()),
+        None => unproved(base.item(i).kind).kind(),
+    }
+}
+
 /// How many items there are of each kind that a summary counts.
-fn tally_of(files: &Files, base: &Base, checked: &[Option<Checked>]) -> Tally
-    requires { HasChecked files.now base.now checked.now }
-    ensures { (names : List (List ℕ)) (view : BaseView) → IsOf names files.now base.now view → AreChecked view checked.now
-        → (all : List Told) × AreRightlyTold files.now view all × (counted result ≡ counts all) }
+fn tally_of(base: &Base, checked: &[Kept]) -> Tally
+    requires { (files : FilesView) × HasChecked files base.now checked.now }
+    ensures { (names : List (List ℕ)) (files : FilesView) (view : BaseView) → IsOf names files base.now view → AreChecked view checked.now
+        → (all : List Told) × AreRightlyTold files view all × (counted result ≡ counts all) }
 {
     let mut tally = Tally::none();
     for i in 0..base.count() {
-        tally = tally.with(&finding_of(files, base, checked, i));
+        tally = tally.with_kind(kind_of(base, checked, i));
     }
     tally
 }
@@ -165,6 +178,6 @@ impl Session {
         ensures { IsTally self.now (counted result) }
     {
         mm_proof::items_stand();
-        tally_of(&self.files, &self.base, &self.checked)
+        tally_of(&self.base, &self.checked)
     }
 }

@@ -10,15 +10,16 @@ ghost use Rattle.mm_proof.specs.Language.ReadIn.{IsReadIn};
 ghost use Rattle.mm_keep.specs.Code.Next.{KeepsOrRuns, HasOld, HasTop, IsBuilt, IsFirst, IsNextBase, IsOldIn, KeepsNothing, RunsAll};
 ghost use Rattle.mm_keep.specs.Code.Planned.{AreBothRead};
 
+use crate::kept::Kept;
 use crate::planning::{planned, run_rest};
-use mm_proof::{Base, Checked, Files, Names, StoreError, Work};
+use mm_proof::{Base, Files, Names, StoreError, Work};
 use std::alloc::{AllocError, Global};
 
 /// What each item of a base keeps of what was checked before, what is checked of the others, and the record of these runs.
 #[derive(Drop)]
 pub struct Ran {
     pub plan: Vec<Option<usize>>,
-    pub checked: Vec<Option<Checked>>,
+    pub checked: Vec<Kept>,
     pub work: Work,
 }
 

@@ -7,6 +7,7 @@ mod cited;
 mod citing;
 mod finding;
 mod keeping;
+mod kept;
 mod laws;
 mod planning;
 mod seen;

@@ -7,9 +7,10 @@ ghost use Rattle.mm_keep.specs.Code.KeptSession.{AreChecked, IsCheckedAt};
 ghost use Rattle.mm_keep.specs.Code.Planned.{AreBothRead, AreMarksBy, ArePlanned, AreRecorded, AreRunBy, CanBeCarried, CanCarry};
 ghost use Rattle.mm_keep.specs.Code.Planned.{HasItemBothRead, HasItemRead, IsPlanned, IsRunBy, RecordsIf};
 
+use crate::kept::Kept;
 use mm_proof::{
-    Base, Checked, Files, Marks, Names, Work, check, labels_are_own, same_view_by,
-    same_view_same_cites, same_view_same_verdict,
+    Base, Files, Marks, Names, Work, check, labels_are_own, same_view_by, same_view_same_cites,
+    same_view_same_verdict,
 };
 use std::alloc::{AllocError, Global};
 use std::mem;
@@ -58,46 +59,50 @@ pub fn planned(
     Ok(plan)
 }
 
+/// What checks read: a base, the files that its items stand in, and the names of its symbols.
+#[derive(Clone, Copy)]
+struct Source<'a> {
+    names: &'a Names,
+    files: &'a Files,
+    base: &'a Base,
+}
+
 /// What a check of the item with this number says, if it is a sound `$p`.
-fn run_one(
-    alloc: Global,
-    names: &Names,
-    files: &Files,
-    base: &Base,
-    j: usize,
-    work: &mut Work,
-) -> Result<Option<Checked>, AllocError>
-    requires item { HasItemRead names.now files.now base.now j }
+fn run_one(alloc: Global, source: Source<'_>, j: usize, work: &mut Work) -> Result<Kept, AllocError>
+    requires item { HasItemRead source.names.now source.files.now source.base.now j }
     requires room { 0 < work.old.room }
     requires steps { work.old.steps + 4294967295 < 2 ^ 64 }
-    ensures one { IfOk result (λ one. (view : BaseView) → IsReadIn names.now files.now base.now view → IsCheckedAt view j one) }
-    ensures work { OnOk result ((view : BaseView) → IsReadIn names.now files.now base.now view → RecordsIf view None j work.old work.new) }
+    ensures one { IfOk result (λ one. (view : BaseView) → IsReadIn source.entry.names.now source.entry.files.now source.entry.base.now view → IsCheckedAt view j one) }
+    ensures work { OnOk result ((view : BaseView) → IsReadIn source.entry.names.now source.entry.files.now source.entry.base.now view
+        → RecordsIf view None j work.old work.new) }
 {
-    match base.pairs(j) {
-        None => Ok(None),
-        Some(_) => Ok(Some(check(alloc, names, files, base, j, work)?)),
+    match source.base.pairs(j) {
+        None => Ok(Kept::nothing()),
+        Some(_) => {
+            let checked = check(alloc, source.names, source.files, source.base, j, work)?;
+            Ok(Kept::of(alloc, checked)?)
+        }
     }
 }
 
 /// What a check of the item with this number says, if it is a sound `$p` that keeps nothing.
 fn run_of(
     alloc: Global,
-    names: &Names,
-    files: &Files,
-    base: &Base,
+    source: Source<'_>,
     j: usize,
     from: Option<usize>,
     work: &mut Work,
-) -> Result<Option<Checked>, AllocError>
-    requires item { HasItemRead names.now files.now base.now j }
+) -> Result<Kept, AllocError>
+    requires item { HasItemRead source.names.now source.files.now source.base.now j }
     requires room { 0 < work.old.room }
     requires steps { work.old.steps + 4294967295 < 2 ^ 64 }
-    ensures one { IfOk result (λ one. (view : BaseView) → IsReadIn names.now files.now base.now view → IsRunBy view from j one) }
-    ensures work { OnOk result ((view : BaseView) → IsReadIn names.now files.now base.now view → RecordsIf view from j work.old work.new) }
+    ensures one { IfOk result (λ one. (view : BaseView) → IsReadIn source.entry.names.now source.entry.files.now source.entry.base.now view → IsRunBy view from j one) }
+    ensures work { OnOk result ((view : BaseView) → IsReadIn source.entry.names.now source.entry.files.now source.entry.base.now view
+        → RecordsIf view from j work.old work.new) }
 {
     match from {
-        Some(_) => Ok(None),
-        None => run_one(alloc, names, files, base, j, work),
+        Some(_) => Ok(Kept::nothing()),
+        None => run_one(alloc, source, j, work),
     }
 }
 
@@ -108,27 +113,23 @@ pub fn run_rest(
     files: &Files,
     base: &Base,
     plan: &[Option<usize>],
-) -> Result<(Vec<Option<Checked>>, Work), AllocError>
+) -> Result<(Vec<Kept>, Work), AllocError>
     requires read { (view : BaseView) × IsReadIn names.now files.now base.now view × (length plan.now ≡ length view.said) }
     ensures checked { IfOk result (λ run. (view : BaseView) → IsReadIn names.now files.now base.now view
         → AreRunBy view plan.now run.0.items × (length run.0.items ≡ length plan.now)) }
     ensures work { IfOk result (λ run. (view : BaseView) → IsReadIn names.now files.now base.now view → AreRecorded view plan.now (length plan.now) run.1) }
 {
+    let source = Source { names, files, base };
     let mut work = Work::new(alloc, plan.len())?;
     let mut checked = Vec::with_capacity(alloc, plan.len())?;
     for j in 0..plan.len() {
-        checked.push(run_of(alloc, names, files, base, j, plan[j], &mut work)?)?;
+        checked.push(run_of(alloc, source, j, plan[j], &mut work)?)?;
     }
     Ok((checked, work))
 }
 
 /// Moves what was checked before to the item that keeps it.
-fn carry_one(
-    old: &mut [Option<Checked>],
-    from: Option<usize>,
-    new: &mut [Option<Checked>],
-    j: usize,
-)
+fn carry_one(old: &mut [Kept], from: Option<usize>, new: &mut [Kept], j: usize)
     requires from { (i : ℕ) → from ≡ Some i → i < length old.old }
     requires item { j < length new.old }
     ensures nothing { from ≡ None → (old.new ≡ old.old) × (new.new ≡ new.old) }
@@ -141,7 +142,7 @@ fn carry_one(
 }
 
 /// Moves what was checked before to the items that keep it, by the plan. Nothing can fail.
-pub fn carry(old: &mut [Option<Checked>], plan: &[Option<usize>], new: &mut [Option<Checked>])
+pub fn carry(old: &mut [Kept], plan: &[Option<usize>], new: &mut [Kept])
     requires { CanBeCarried old.old plan.now new.old }
     ensures { (base copy : BaseView) → CanCarry base copy old.old plan.now new.old → AreChecked copy new.new }
 {

@@ -17,9 +17,10 @@ ghost use Rattle.mm_keep.specs.Language.Refusals.{IsRefusal, IsBatchRefusal};
 ghost use Rattle.mm_keep.specs.Language.Sessions.{IsBegun, IsChanged, IsCount, IsLabelOfItem};
 
 use crate::keeping::{Next, Ran, first_of, next_of};
+use crate::kept::Kept;
 use crate::planning::carry;
 use crate::unbegun::Unbegun;
-use mm_proof::{Base, BatchError, Checked, Edit, EditError, Files, Names, StoreError, Undos, Work};
+use mm_proof::{Base, BatchError, Edit, EditError, Files, Names, StoreError, Undos, Work};
 use std::alloc::{AllocError, Global};
 use std::marker::Model;
 use std::slice;
@@ -37,7 +38,7 @@ pub struct Session {
     pub(crate) names: Names,
     pub(crate) base: Base,
     /// For the number of each item what the check of its proof said; nothing where it is no sound `$p`.
-    pub(crate) checked: Vec<Option<Checked>>,
+    pub(crate) checked: Vec<Kept>,
 }
 
 impl Model for Session {
@@ -88,7 +89,7 @@ fn first_with_top(
 fn take_next(
     files: &mut Files,
     base: &mut Base,
-    checked: &mut Vec<Option<Checked>>,
+    checked: &mut Vec<Kept>,
     next: Next,
     undos: Undos,
 ) -> Work
@@ -115,12 +116,11 @@ fn take_next(
 
 /// Goes on with files that were edited, or undoes the edits.
 fn go_on(
-    alloc: Global,
     files: &mut Files,
     names: &mut Names,
     top: &[u8],
     base: &mut Base,
-    checked: &mut Vec<Option<Checked>>,
+    checked: &mut Vec<Kept>,
     undos: Undos,
 ) -> Result<Work, AllocError>
     requires { (before : FilesView) × WereKept before files.old undos top.now names.old base.old checked.old.items }
@@ -131,6 +131,7 @@ fn go_on(
     ensures plain { OnOk result (plain files.new ≡ plain files.old) }
     ensures undone { OnErr result ((before : FilesView) → WereKept before files.old undos top.now names.old base.old checked.old.items → files.new ≡ before) }
 {
+    let alloc = *checked.allocator();
     match next_of(alloc, names, files, top, base) {
         Ok(next) => Ok(take_next(files, base, checked, next, undos)),
         Err(error) => {
@@ -142,12 +143,11 @@ fn go_on(
 
 /// Does edits, and goes on with the edited files; or does nothing.
 fn change(
-    alloc: Global,
     files: &mut Files,
     names: &mut Names,
     top: &[u8],
     base: &mut Base,
-    checked: &mut Vec<Option<Checked>>,
+    checked: &mut Vec<Kept>,
     edits: &[Edit<'_>],
 ) -> Result<Work, BatchError>
     requires { HasKept files.old top.now names.old base.old checked.old.items }
@@ -159,7 +159,7 @@ fn change(
 {
     mm_proof::edits_keep_files();
     match files.edit_all(edits) {
-        Ok(undos) => match go_on(alloc, files, names, top, base, checked, undos) {
+        Ok(undos) => match go_on(files, names, top, base, checked, undos) {
             Ok(work) => Ok(work),
             Err(error) => Err(BatchError::from(error)),
         },
@@ -249,7 +249,6 @@ impl Session {
         ensures unchanged { OnErr result (self.new ≡ self.old) }
     {
         change(
-            self.allocator(),
             &mut self.files,
             &mut self.names,
             &self.top,

@@ -1,5 +1,5 @@
 -- A base as that of the files that it was built from, and what its items are there.
-use Rattle.std.specs.Prelude.{◌≡◌, ℕ, ◌<◌, ◌≤◌, true, All, Option, List, length, slice_get, slice_range}
+use Rattle.std.specs.Prelude.{◌≡◌, ℕ, ◌+◌, ◌<◌, true, All, Option, List, length, slice_get}
 use Rattle.mm_proof.specs.mm_store.declared.item.Item as store
 use Rattle.mm_proof.specs.mm_store.Language.FilesView.{FilesView}
 use Rattle.mm_proof.specs.mm_store.Language.FileFacts.{CanBeRead, StandsIn}
@@ -13,7 +13,7 @@ use Rattle.mm_proof.specs.declared.Spot.{Spot}
 use Rattle.mm_proof.specs.declared.Verdict.{Verdict}
 use Rattle.mm_keep.specs.declared.finding.At.{At}
 use Rattle.mm_keep.specs.Code.KeptSession.{AreChecked}
-use Rattle.mm_keep.specs.Language.WordPlaces.{spelled, HasPlace}
+use Rattle.mm_keep.specs.Language.WordPlaces.{start_of, HasPlace}
 
 -- the code's base answers this by these names, what it answers is what its items say in these files, and the items stand in the files
 pub record IsOf (names : List (List ℕ)) (files : FilesView) (code : Base) (view : BaseView) : Type 0 where
@@ -45,13 +45,7 @@ abbrev pub HasCheckedItem : FilesView → Base → List (Option Judgement) → �
 HasCheckedItem files code checked n =
     (names : List (List ℕ)) × (view : BaseView) × IsOf names files code view × AreChecked view checked × (n < length view.said)
 
--- an item can be read where it stands, and one of its words has so many bytes at least
-pub record HasLetter (files : FilesView) (item : store.Item) (word letter : ℕ) : Type 0 where
-  pub read : CanBeRead files item
-  pub stands : StandsIn files item
-  pub within : letter ≤ length (spelled (slice_range read.text item.start item.end) (slice_get read.words word))
-
--- the place of a byte of a word of an item, and how the word is spelled
-pub record IsSeen (files : FilesView) (item : store.Item) (word letter : ℕ) (at : At) (bytes : List ℕ) : Type 0 where
-  pub has_place : HasPlace files item word letter at
-  pub is_word : bytes ≡ spelled (slice_range has_place.is_byte.read.text item.start item.end) (slice_get has_place.is_byte.read.words word)
+-- the byte with this number of the text of an item has this place, of which word it may be
+abbrev pub IsPlaceIn : FilesView → store.Item → ℕ → At → Type 0
+IsPlaceIn files item byte at =
+    (word letter : ℕ) (read : CanBeRead files item) → start_of (slice_get read.words word) + letter ≡ byte → HasPlace files item word letter at

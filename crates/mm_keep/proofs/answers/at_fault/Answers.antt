@@ -2,4 +2,4 @@ use Rattle.std.proofs.Common.{refl}
 use Rattle.mm_keep.proofs.answers.at_fault.Goals as goal
 
 pub returns : goal.returns
-returns c = (record { at = c.seen_at-seen.result.at; word = c.seen_at-seen.result.word.now }, refl, record { has_place = c.seen_at-seen.ensures.has_place; is_word = c.seen_at-seen.ensures.is_word })
+returns c = (record { at = c.seen_at-seen.result.at; word = c.seen_at-seen.result.word.now }, refl, c.seen_at-seen.ensures)

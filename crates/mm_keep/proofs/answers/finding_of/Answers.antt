@@ -1,9 +1,11 @@
-use Rattle.std.proofs.Common.{◌≡◌, ◌<◌, Some, None, length, slice_get, sym, ap, ◌∙◌, subst, arith}
+use Rattle.std.proofs.Common.{◌<◌, Some, None, length, sym, ap, ◌∙◌, subst, arith}
+use Rattle.std.specs.Option.{option_map}
 use Rattle.mm_proof.specs.mm_frame.Language.Base.{said_at, fault_at, is_sound_at}
 use Rattle.mm_proof.specs.mm_frame.Language.Item.{is_theorem}
 use Rattle.mm_proof.specs.Language.VerdictAt.{IsVerdictAt}
+use Rattle.mm_keep.proofs.CitedItems.{checked_at}
 use Rattle.mm_keep.proofs.ToldLemmas.{read_at, stands_at}
-use Rattle.mm_keep.proofs.FoundLemmas.{at_index, sound_none, no_theorem}
+use Rattle.mm_keep.proofs.FoundLemmas.{sound_none, no_theorem}
 use Rattle.mm_keep.proofs.answers.finding_of.Goals as goal
 
 pub at_fault-requires-clause-read : goal.at_fault-requires-clause-read
@@ -15,28 +17,19 @@ at_fault-requires-clause-stands c = let r = c.requires in stands_at r.0 c.args.f
 pub judged-requires : goal.judged-requires
 judged-requires c =
     let r = c.requires in
-    let within : c.args.i < length c.args.checked.now = omega (arith, r.4, r.3.count) in
-    let at = at_index c.args.checked.now c.args.i c.index-checked-i.result within c.index-checked-i.is in
-    let one : slice_get c.args.checked.now c.args.i ≡ Some (Some c.in-Some-checked.checked) = cc in
-    let k = r.3.each c.args.i (Some c.in-Some-checked.checked) one in
+    let k = checked_at r.1 c.args.checked.now c.args.i c.index-checked-i.result (Some c.in-Some-checked.checked.now) r.3 r.4 c.index-checked-i.is (sym c.get.ensures ∙ ap (option_map (λ one. one.now)) c.in-Some-checked.is) in
     (r.0, r.1, r.2, r.4, k.0, subst (IsVerdictAt r.1 c.args.i) (sym c.verdict.ensures) k.1)
 
 pub returns-in-Some-checked : goal.returns-in-Some-checked
 returns-in-Some-checked c names view is checked =
-    let r = c.requires in
-    let within : c.args.i < length c.args.checked.now = omega (arith, r.4, r.3.count) in
-    let at = at_index c.args.checked.now c.args.i c.index-checked-i.result within c.index-checked-i.is in
-    let one : slice_get c.args.checked.now c.args.i ≡ Some (Some c.in-Some-checked.checked) = let is = c.in-Some-checked.is in cc in
-    let k = checked.each c.args.i (Some c.in-Some-checked.checked) one in
+    let within : c.args.i < length view.said = omega (arith, c.requires.4, c.requires.3.count, checked.count) in
+    let k = checked_at view c.args.checked.now c.args.i c.index-checked-i.result (Some c.in-Some-checked.checked.now) checked within c.index-checked-i.is (sym c.get.ensures ∙ ap (option_map (λ one. one.now)) c.in-Some-checked.is) in
     c.judged.ensures names view is k.0 (subst (IsVerdictAt view c.args.i) (sym c.verdict.ensures) k.1)
 
 pub returns-in-None : goal.returns-in-None
 returns-in-None c names view is checked =
-    let r = c.requires in
-    let within : c.args.i < length c.args.checked.now = omega (arith, r.4, r.3.count) in
-    let at = at_index c.args.checked.now c.args.i c.index-checked-i.result within c.index-checked-i.is in
-    let one : slice_get c.args.checked.now c.args.i ≡ Some None = let is = c.in-None.is in cc in
-    let none = checked.each c.args.i None one in
+    let within : c.args.i < length view.said = omega (arith, c.requires.4, c.requires.3.count, checked.count) in
+    let none = checked_at view c.args.checked.now c.args.i c.index-checked-i.result None checked within c.index-checked-i.is (sym c.get.ensures ∙ ap (option_map (λ one. one.now)) c.in-None.is) in
     let sound = sound_none c.fault.result (fault_at view c.args.i) (c.fault.ensures view (names, is.read_in.base)) (cc) in
     let kind = c.item-item.ensures.kind view (names, is.read_in.base) in
     let other = no_theorem (is_sound_at view c.args.i) (is_theorem (said_at view c.args.i).kind) sound none in

@@ -1,21 +1,28 @@
-use Rattle.std.proofs.Common.{[], ◌∷◌, ◌++◌, arith}
-use Rattle.mm_keep.specs.Language.Findings.{told}
-use Rattle.mm_keep.proofs.ToldLemmas.{told_more}
+use Rattle.std.proofs.Common.{[], ◌∷◌, ◌++◌, sym, ◌∙◌, arith}
+use Rattle.mm_keep.specs.Code.FoundKinds.{one_more}
+use Rattle.mm_keep.proofs.ToldLemmas.{counts_more, told_more}
 use Rattle.mm_keep.proofs.answers.tally_of.Goals as goal
 
-pub with-tally-requires : goal.with-tally-requires
-with-tally-requires c =
+pub kind_of-requires : goal.kind_of-requires
+kind_of-requires c =
     let r = c.requires in
-    let t = c.loop-i.invariant r.0 r.1 r.2 r.3 in
-    (t.0, t.2, omega (arith, t.1.count, c.loop-i-test.true, c.count-i-end.ensures.few r.1 (r.0, r.2.read_in.base)))
+    let h = r.1 in
+    (r.0, (h.0, h.1, h.2, h.3, omega (arith, c.loop-i-test.true, c.count-i-end.ensures.count h.1 (h.0, h.2.read_in.base))))
+
+pub with_kind-tally-requires : goal.with_kind-tally-requires
+with_kind-tally-requires c =
+    let r = c.requires in
+    let h = r.1 in
+    let t = c.loop-i.invariant h.0 r.0 h.1 h.2 h.3 in
+    (t.0, t.2, omega (arith, t.1.count, c.loop-i-test.true, c.count-i-end.ensures.few h.1 (h.0, h.2.read_in.base)))
 
 pub loop-i-preserved : goal.loop-i-preserved
-loop-i-preserved c names view is checked =
-    let t = c.loop-i.invariant names view is checked in
-    let one = told c.finding_of.result in
-    (t.0 ++ one ∷ [], told_more c.args.files.now view c.loop-i.i t.0 one (c.finding_of.ensures names view is checked) t.1, c.with-tally.ensures t.0 t.2)
+loop-i-preserved c names files view is checked =
+    let t = c.loop-i.invariant names files view is checked in
+    let one = c.kind_of.ensures names files view is checked (omega (arith, c.loop-i-test.true, c.loop-i.auto.i-end, c.count-i-end.ensures.count view (names, is.read_in.base))) in
+    (t.0 ++ one.0 ∷ [], told_more files view c.loop-i.i t.0 one.0 one.1 t.1, c.with_kind-tally.ensures ∙ (λ i. one_more (sym one.2 i) (t.2 i)) ∙ sym (counts_more t.0 one.0))
 
 pub returns : goal.returns
-returns c names view is checked =
-    let t = c.loop-i.invariant names view is checked in
+returns c names files view is checked =
+    let t = c.loop-i.invariant names files view is checked in
     (t.0, record { count = omega (arith, t.1.count, c.loop-i-test.false, c.loop-i.auto.i-end, c.count-i-end.ensures.count view (names, is.read_in.base)); each = t.1.each }, t.2)

@@ -1,7 +1,8 @@
 use Rattle.std.proofs.Common.{◌≡◌, Ok, sym, subst}
 use Rattle.mm_proof.specs.mm_frame.declared.base.Base.{Base}
 use Rattle.mm_keep.specs.Code.Next.{IsBuilt}
-use Rattle.mm_keep.proofs.NextLemmas.{both_read, if_ok}
+use Rattle.mm_keep.proofs.ChainLemmas.{map_ok}
+use Rattle.mm_keep.proofs.NextLemmas.{both_read}
 use Rattle.mm_keep.proofs.keeping.next_of.Goals as goal
 
 pub keep_and_run-ran-requires : goal.keep_and_run-ran-requires
@@ -13,7 +14,7 @@ keep_and_run-ran-requires c =
 pub returns-clause-next : goal.returns-clause-next
 returns-clause-next c =
     let built = c.in_ok-base.ensures.base in
-    if_ok (λ next. (next.base ≡ c.in_ok-base.base) × (c.keep_and_run-ran.result ≡ Ok next.ran)) _ c.with_runs.result
+    map_ok c.with_runs.result (λ next. (next.base ≡ c.in_ok-base.base) × (c.keep_and_run-ran.result ≡ Ok next.ran)) _
     (λ next same view is.
     let goes = rw same.1 at c.keep_and_run-ran.ensures in
     record {

@@ -1,8 +1,8 @@
-use Rattle.std.proofs.Common.{sym, subst}
+use Rattle.std.proofs.Common.{ℕ, sym, subst}
 use Rattle.std.specs.Prelude.{IfSome}
 use Rattle.mm_keep.specs.Code.KeptSession.{view_of}
 use Rattle.mm_keep.specs.Language.Sessions.{HasAssertion, IsAssertion, OfItems}
-use Rattle.mm_keep.proofs.FoundLemmas.{map_some, kept_assertion}
+use Rattle.mm_keep.proofs.FoundLemmas.{map_some, kept_items}
 use Rattle.mm_keep.proofs.session.Session.assertion.Goals as goal
 
 pub returns-clause-some : goal.returns-clause-some
@@ -18,6 +18,6 @@ returns-clause-none c none has =
     let inside = c.self.inside in
     let k = c.self.invariant in
     let label = c.args.label.now in
-    let a = kept_assertion c.files_have_one_base.ensures.base inside k label (subst (λ s. HasAssertion s label) (sym c.self.view_is) has) in
+    let a = kept_items c.files_have_one_base.ensures.base inside k (λ base. (i : ℕ) × IsAssertion base label i) (subst (λ s. HasAssertion s label) (sym c.self.view_is) has) in
     let found = c.assertion_in.ensures.found k.base a.0 (inside.names, k.by_names) a.1 in
     cc

@@ -1,24 +1,15 @@
-use Rattle.std.proofs.Common.{sym, subst}
-use Rattle.mm_proof.specs.mm_frame.Language.Base.{BaseView}
-use Rattle.mm_keep.specs.Code.KeptSession.{AreChecked}
-use Rattle.mm_keep.specs.Language.Sessions.{AreCitesOf, IsAssertion, OfItems, SessionView}
-use Rattle.mm_keep.proofs.FoundLemmas.{kept_items, kept_of}
+use Rattle.std.proofs.Common.{subst}
+use Rattle.mm_keep.specs.Language.Sessions.{AreCitesOf, IsAssertion, SessionView}
+use Rattle.mm_keep.proofs.FoundLemmas.{parts}
 use Rattle.mm_keep.proofs.session.Session.cites.Goals as goal
 
 pub cites_of-requires : goal.cites_of-requires
 cites_of-requires c =
-    let inside = c.self.inside in
-    let k = c.self.invariant in
-    let P : BaseView → Type 0 = λ base. IsAssertion base c.args.label.now c.in-Some.citing in
-    let a = kept_items c.files_have_one_base.ensures.base inside k P (subst (λ (s : SessionView). OfItems s P) (sym c.self.view_is) c.in-Some.ensures.some) in
-    (inside.names, k.base, kept_of c.items_stand.ensures.stand inside k, subst (AreChecked k.base) (sym c.deref.ensures.value) k.checked, a.within)
+    let h = parts c.files_have_one_base.ensures.base c.items_stand.ensures.stand _ c.self.invariant _ c.deref.ensures.value _ c.self.view_is (λ base. IsAssertion base c.args.label.now c.in-Some.citing) c.in-Some.ensures.some in
+    (c.self.inside.names, h.base, h.is, h.are, h.holds.within)
 
 pub returns-in_ok-cites_of-in-Some-clause-ok : goal.returns-in_ok-cites_of-in-Some-clause-ok
 returns-in_ok-cites_of-in-Some-clause-ok c =
-    let inside = c.self.inside in
-    let k = c.self.invariant in
-    let P : BaseView → Type 0 = λ base. IsAssertion base c.args.label.now c.in-Some.citing in
-    let a = kept_items c.files_have_one_base.ensures.base inside k P (subst (λ (s : SessionView). OfItems s P) (sym c.self.view_is) c.in-Some.ensures.some) in
-    let checked = subst (AreChecked k.base) (sym c.deref.ensures.value) k.checked in
-    let those = c.in_ok-cites_of-in-Some.ensures inside.names k.base (kept_of c.items_stand.ensures.stand inside k) checked in
-    subst (λ (s : SessionView). AreCitesOf s c.args.label.now c.in_ok-cites_of-in-Some.field-0.items) c.self.view_is (k.base, k.of_files, (c.in-Some.citing, a, those))
+    let h = parts c.files_have_one_base.ensures.base c.items_stand.ensures.stand _ c.self.invariant _ c.deref.ensures.value _ c.self.view_is (λ base. IsAssertion base c.args.label.now c.in-Some.citing) c.in-Some.ensures.some in
+    let those = c.in_ok-cites_of-in-Some.ensures c.self.inside.names h.base h.is h.are in
+    subst (λ (s : SessionView). AreCitesOf s c.args.label.now c.in_ok-cites_of-in-Some.field-0.items) c.self.view_is (h.base, h.of_files, (c.in-Some.citing, h.holds, those))

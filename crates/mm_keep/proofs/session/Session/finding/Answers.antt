@@ -1,24 +1,15 @@
-use Rattle.std.proofs.Common.{sym, subst}
+use Rattle.std.proofs.Common.{◌<◌, length, subst}
 use Rattle.mm_keep.specs.Language.Findings.{told}
-use Rattle.mm_keep.specs.Code.KeptSession.{AreChecked}
-use Rattle.mm_keep.specs.Language.Sessions.{HasItem, IsFinding}
-use Rattle.mm_keep.proofs.FoundLemmas.{kept_of, kept_within}
+use Rattle.mm_keep.specs.Language.Sessions.{IsFinding}
+use Rattle.mm_keep.proofs.FoundLemmas.{parts}
 use Rattle.mm_keep.proofs.session.Session.finding.Goals as goal
 
 pub finding_of-requires : goal.finding_of-requires
 finding_of-requires c =
-    let inside = c.self.inside in
-    let k = c.self.invariant in (
-      inside.names,
-      k.base,
-      kept_of c.items_stand.ensures.stand inside k,
-      subst (AreChecked k.base) (sym c.deref.ensures.value) k.checked,
-      kept_within c.files_have_one_base.ensures.base inside k c.args.i (subst (λ s. HasItem s c.args.i) (sym c.self.view_is) c.requires),
-    )
+    let h = parts c.files_have_one_base.ensures.base c.items_stand.ensures.stand _ c.self.invariant _ c.deref.ensures.value _ c.self.view_is (λ base. c.args.i < length base.said) c.requires in
+    (c.self.inside.names, h.base, h.is, h.are, h.holds)
 
 pub returns : goal.returns
 returns c =
-    let inside = c.self.inside in
-    let k = c.self.invariant in
-    let checked = subst (AreChecked k.base) (sym c.deref.ensures.value) k.checked in
-    subst (λ s. IsFinding s c.args.i (told c.finding_of.result)) c.self.view_is (k.base, k.of_files, c.finding_of.ensures inside.names k.base (kept_of c.items_stand.ensures.stand inside k) checked)
+    let h = parts c.files_have_one_base.ensures.base c.items_stand.ensures.stand _ c.self.invariant _ c.deref.ensures.value _ c.self.view_is (λ base. c.args.i < length base.said) c.requires in
+    subst (λ s. IsFinding s c.args.i (told c.finding_of.result)) c.self.view_is (h.base, h.of_files, c.finding_of.ensures c.self.inside.names h.base h.is h.are)

@@ -1,24 +1,15 @@
-use Rattle.std.proofs.Common.{sym, subst}
-use Rattle.mm_proof.specs.mm_frame.Language.Base.{BaseView}
-use Rattle.mm_keep.specs.Code.KeptSession.{AreChecked}
-use Rattle.mm_keep.specs.Language.Sessions.{AreUsersOf, IsAssertion, OfItems, SessionView}
-use Rattle.mm_keep.proofs.FoundLemmas.{kept_items, kept_of}
+use Rattle.std.proofs.Common.{subst}
+use Rattle.mm_keep.specs.Language.Sessions.{AreUsersOf, IsAssertion, SessionView}
+use Rattle.mm_keep.proofs.FoundLemmas.{parts}
 use Rattle.mm_keep.proofs.session.Session.users.Goals as goal
 
 pub users_of-requires : goal.users_of-requires
 users_of-requires c =
-    let inside = c.self.inside in
-    let k = c.self.invariant in
-    let P : BaseView → Type 0 = λ base. IsAssertion base c.args.label.now c.in-Some.cited in
-    let a = kept_items c.files_have_one_base.ensures.base inside k P (subst (λ (s : SessionView). OfItems s P) (sym c.self.view_is) c.in-Some.ensures.some) in
-    (inside.names, k.base, kept_of c.items_stand.ensures.stand inside k, subst (AreChecked k.base) (sym c.deref.ensures.value) k.checked, a)
+    let h = parts c.files_have_one_base.ensures.base c.items_stand.ensures.stand _ c.self.invariant _ c.deref.ensures.value _ c.self.view_is (λ base. IsAssertion base c.args.label.now c.in-Some.cited) c.in-Some.ensures.some in
+    (c.self.inside.names, h.base, h.is, h.are, h.holds)
 
 pub returns-in_ok-users_of-in-Some-clause-ok : goal.returns-in_ok-users_of-in-Some-clause-ok
 returns-in_ok-users_of-in-Some-clause-ok c =
-    let inside = c.self.inside in
-    let k = c.self.invariant in
-    let P : BaseView → Type 0 = λ base. IsAssertion base c.args.label.now c.in-Some.cited in
-    let a = kept_items c.files_have_one_base.ensures.base inside k P (subst (λ (s : SessionView). OfItems s P) (sym c.self.view_is) c.in-Some.ensures.some) in
-    let checked = subst (AreChecked k.base) (sym c.deref.ensures.value) k.checked in
-    let those = c.in_ok-users_of-in-Some.ensures inside.names k.base (kept_of c.items_stand.ensures.stand inside k) checked a in
-    subst (λ (s : SessionView). AreUsersOf s c.args.label.now c.in_ok-users_of-in-Some.field-0.items) c.self.view_is (k.base, k.of_files, (c.in-Some.cited, a, those))
+    let h = parts c.files_have_one_base.ensures.base c.items_stand.ensures.stand _ c.self.invariant _ c.deref.ensures.value _ c.self.view_is (λ base. IsAssertion base c.args.label.now c.in-Some.cited) c.in-Some.ensures.some in
+    let those = c.in_ok-users_of-in-Some.ensures c.self.inside.names h.base h.is h.are h.holds in
+    subst (λ (s : SessionView). AreUsersOf s c.args.label.now c.in_ok-users_of-in-Some.field-0.items) c.self.view_is (h.base, h.of_files, (c.in-Some.cited, h.holds, those))
