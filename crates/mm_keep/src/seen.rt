@@ -40,14 +40,15 @@ fn spelled(text: &[u8], word: Option<Word>) -> &[u8]
     }
 }
 
-/// The place of the byte with this number of the text of an item, which may be the end of that text.
-fn place_in(files: &Files, item: &Item, byte: usize) -> At
+/// The place of a letter behind the beginning of a word, which begins at this byte of the text of an item. It may be the end of
+/// that text.
+fn place_in(files: &Files, item: &Item, word: usize, letter: usize) -> At
     requires read { CanBeRead files.now item.now }
     requires stands { StandsIn files.now item.now }
-    requires within { item.now.start + byte ≤ item.now.end }
-    ensures { IsPlaceIn files.now item.now byte result }
+    requires within { item.now.start + (word + letter) ≤ item.now.end }
+    ensures { IsPlaceIn files.now item.now (word + letter) result }
 {
-    let Place { line, column } = files.place(item.file, item.piece, item.start + byte);
+    let Place { line, column } = files.place(item.file, item.piece, item.start + (word + letter));
     At {
         file: item.file,
         line,
@@ -64,7 +65,7 @@ pub fn seen_at<'a>(files: &'a Files, item: &Item, word: usize) -> Seen<'a>
     let text = &files.piece(item.key)[item.start..item.end];
     let found = nth_word(text, word);
     Seen {
-        at: place_in(files, item, start_of(found)),
+        at: place_in(files, item, start_of(found), 0),
         word: spelled(text, found),
     }
 }
@@ -78,5 +79,5 @@ pub fn place_of_spot(files: &Files, base: &Base, number: usize, spot: Spot) -> A
 {
     let item = base.item(number);
     let word = nth_of_proof(files, item, spot.word);
-    place_in(files, item, start_of(word) + spot.letter)
+    place_in(files, item, start_of(word), spot.letter)
 }

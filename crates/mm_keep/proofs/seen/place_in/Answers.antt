@@ -10,7 +10,7 @@ place-line-requires c =
     let item = c.args.item.now in
     let stands = c.requires.stands in
     let file = plain_file files.pieces stands.file in
-    (text_of file, piece_offset file item.piece + (item.start + c.args.byte), word_is_byte files item c.requires.read c.requires.read.text (own_text files item c.requires.read) stands (item.start + c.args.byte) c.requires.within)
+    (text_of file, piece_offset file item.piece + (item.start + (c.args.word + c.args.letter)), word_is_byte files item c.requires.read c.requires.read.text (own_text files item c.requires.read) stands (item.start + (c.args.word + c.args.letter)) c.requires.within)
 
 pub returns : goal.returns
 returns c =
@@ -18,6 +18,6 @@ returns c =
     let item = c.args.item.now in
     let stands = c.requires.stands in
     let file = plain_file files.pieces stands.file in
-    let offset = piece_offset file item.piece + (item.start + c.args.byte) in
-    let byte = word_is_byte files item c.requires.read c.requires.read.text (own_text files item c.requires.read) stands (item.start + c.args.byte) c.requires.within in
-    placed_in files item stands c.args.byte _ refl (c.place-line.ensures.line (text_of file) offset byte) (c.place-line.ensures.column (text_of file) offset byte) c.requires.within
+    let offset = piece_offset file item.piece + (item.start + (c.args.word + c.args.letter)) in
+    let byte = word_is_byte files item c.requires.read c.requires.read.text (own_text files item c.requires.read) stands (item.start + (c.args.word + c.args.letter)) c.requires.within in
+    placed_in files item stands (c.args.word + c.args.letter) _ refl (c.place-line.ensures.line (text_of file) offset byte) (c.place-line.ensures.column (text_of file) offset byte) c.requires.within

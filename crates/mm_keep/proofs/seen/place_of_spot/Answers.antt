@@ -10,18 +10,6 @@ nth_of_proof-word-requires c =
     let r = c.requires in
     read_at r.0 c.args.files.now c.args.base.now c.args.number c.item-item.result.now (r.1, r.2, r.3) c.item-item.ensures.found
 
-pub overflow_add-start_of : goal.overflow_add-start_of
-overflow_add-start_of c =
-    let r = c.requires in
-    let files = c.args.files.now in
-    let item = c.item-item.result.now in
-    let spot = c.args.spot in
-    let said = said_at r.1 c.args.number in
-    let says = says_at r.0 files c.args.base.now r.1 c.args.number item r.2 (c.item-item.ensures.found r.1 (r.0, r.2.read_in.base)) in
-    let start = c.start_of.ensures ∙ ap start_of (c.nth_of_proof-word.ensures said says) in
-    let less = letter_within files item says.read (proof_word said spot.word) spot.letter (letter_in files item said spot says r.5) in
-    omega (arith, less, start)
-
 pub place_in-requires : goal.place_in-requires
 place_in-requires c =
     let r = c.requires in
