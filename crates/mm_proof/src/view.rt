@@ -232,7 +232,10 @@ fn have_same_view(two: TwoTheorems, files: &Files) -> bool
     ensures { OfTwoIn two.entry files.now (λ base copy. AreTheorems base copy two.entry.i two.entry.j
         → IsTrue result ↔ AreSameViews (view_at base two.entry.i) (view_at copy two.entry.j)) }
 {
-    same_but_active(two) && same_pairs(two) && same_written(two, files)
+    if !same_but_active(two) {
+        return false;
+    }
+    same_pairs(two) && same_written(two, files)
 }
 
 /// Whether the sound `$p` `i` of a base and the sound `$p` `j` of another have equal views. Both bases are over these names,
