@@ -110,7 +110,6 @@ pub struct DecodedProof<'a> {
 fn run_front(
     alloc: Global,
     scratch: &mut Scratch,
-    keys: usize,
     proof: DecodedProof,
 ) -> Result<Option<Outcome>, AllocError>
     requires { IsDecoded proof }
@@ -130,7 +129,7 @@ fn run_front(
     let (named, room) = name_all(alloc, proof.base, &used, room)?;
     scratch.naming = room;
     let active = Active::new(active(proof.base, proof.i));
-    if let Some(outcome) = run_through(alloc, &mut scratch.machine, keys, &named, &active, front)? {
+    if let Some(outcome) = run_through(alloc, &mut scratch.machine, &named, &active, front)? {
         return Ok(Some(outcome));
     }
     let entries = scratch.machine.stack.len();
@@ -140,11 +139,10 @@ fn run_front(
     Ok(None)
 }
 
-/// Runs all steps of a proof. The machine's tables get so many places for the keys of variables, if they have fewer.
+/// Runs all steps of a proof.
 fn run_all(
     alloc: Global,
     scratch: &mut Scratch,
-    keys: usize,
     proof: DecodedProof,
 ) -> Result<Outcome, AllocError>
     requires { IsDecoded proof }
@@ -165,7 +163,6 @@ fn run_all(
     run(
         alloc,
         &mut scratch.machine,
-        keys,
         &named,
         &active,
         steps,
@@ -173,11 +170,10 @@ fn run_all(
     )
 }
 
-/// Runs the steps of a proof. The machine's tables get so many places for the keys of variables, if they have fewer.
+/// Runs the steps of a proof.
 fn run_steps(
     alloc: Global,
     scratch: &mut Scratch,
-    keys: usize,
     proof: DecodedProof,
 ) -> Result<Outcome, AllocError>
     requires { IsDecoded proof }
@@ -187,18 +183,17 @@ fn run_steps(
 {
     let decoding = proof.decoding;
     if take_more(proof.base, &decoding.labels, decoding.steps.len()) {
-        if let Some(outcome) = run_front(alloc, &mut *scratch, keys, proof)? {
+        if let Some(outcome) = run_front(alloc, &mut *scratch, proof)? {
             return Ok(outcome);
         }
     }
-    run_all(alloc, &mut *scratch, keys, proof)
+    run_all(alloc, &mut *scratch, proof)
 }
 
 /// What a check says of a proof that decodes, and how many steps are done.
 fn judge_steps(
     alloc: Global,
     scratch: &mut Scratch,
-    keys: usize,
     proof: DecodedProof,
 ) -> Result<(Checked, u64), AllocError>
     requires { IsDecoded proof }
@@ -207,7 +202,6 @@ fn judge_steps(
 {
     decodes_short();
     labels_are_own();
-    scratch.widen(proof.base.count())?;
     let hypotheses = mandatory(proof.base, proof.i).len();
     let cites = cites(
         alloc,
@@ -216,7 +210,7 @@ fn judge_steps(
         hypotheses,
         proof.words,
     )?;
-    let outcome = run_steps(alloc, &mut *scratch, keys, proof)?;
+    let outcome = run_steps(alloc, &mut *scratch, proof)?;
     let done = steps_done(outcome, proof.decoding.steps.len());
     let verdict = verdict(outcome, proof.decoding, proof.words.again());
     Ok((Checked::new(verdict, cites), done as u64))
@@ -226,7 +220,6 @@ fn judge_steps(
 fn judge<'a>(
     alloc: Global,
     scratch: &mut Scratch,
-    keys: usize,
     base: &'a Base,
     i: usize,
     proof: &'a ProofWords<'a>,
@@ -246,7 +239,7 @@ fn judge<'a>(
                 words: proof,
                 decoding: &decoding,
             };
-            let judged = judge_steps(alloc, &mut *scratch, keys, decoded)?;
+            let judged = judge_steps(alloc, &mut *scratch, decoded)?;
             scratch.decoding = decoding;
             Ok(judged)
         }
@@ -291,7 +284,8 @@ pub fn check(
 {
     let proof = words_of_proof(files, base.item(i));
     let mut scratch = work.lend(alloc);
-    let (checked, done) = judge(alloc, &mut scratch, names.count(), base, i, &proof)?;
+    scratch.widen(base.count(), names.count())?;
+    let (checked, done) = judge(alloc, &mut scratch, base, i, &proof)?;
     work.keep(scratch)?;
     work.record(i, done)?;
     Ok(checked)

@@ -11,8 +11,7 @@ ghost use Rattle.mm_proof.specs.Code.Citation.{OtherTypecode, OtherEssential, Ci
 use crate::ProofNumber;
 use crate::active::Active;
 use crate::assertion::Hypothesis;
-use crate::gather::Gathered;
-use crate::pairs::pairs_fault;
+use crate::pairs::{PairRoom, pairs_fault};
 use crate::pattern::{Taken, fits, is_short};
 use crate::symbol::Kept;
 use mm_frame::Symbol;
@@ -100,8 +99,7 @@ pub fn citing_fault<'s, 'a, S: Kept>(
     expression: &'a [S],
     pairs: &[(S, S)],
     active: &Active<'a, S>,
-    gathered: &mut Gathered<S>,
-    marks: &mut [usize],
+    room: &mut PairRoom<S>,
 ) -> Result<Option<ProofNumber>, AllocError>
     requires within { All (IsEntryWithin (length taken.now.symbols.now)) taken.now.entries.now }
     requires count { length taken.now.entries.now ≡ length taken.now.hypotheses.now }
@@ -115,14 +113,7 @@ pub fn citing_fault<'s, 'a, S: Kept>(
     if !essentials_fit(&*taken) {
         return Ok(Some(ProofNumber::P09));
     }
-    if let Some(number) = pairs_fault(
-        alloc,
-        &*taken,
-        &*pairs,
-        &*active,
-        &mut *gathered,
-        &mut *marks,
-    )? {
+    if let Some(number) = pairs_fault(alloc, &*taken, &*pairs, &*active, &mut *room)? {
         return Ok(Some(number));
     }
     if !is_short(&*taken, expression) {

@@ -12,6 +12,7 @@ use crate::active::Active;
 use crate::assertion::{Cited, Hypothesis};
 use crate::citation::citing_fault;
 use crate::gather::Gathered;
+use crate::pairs::PairRoom;
 use crate::pattern::{Entry, Taken, substitute};
 use crate::slots::note_places;
 use crate::symbol::Kept;
@@ -33,10 +34,8 @@ pub struct Machine<S> {
     result: Vec<S>,
     /// For the key of a variable where its `$f` may stand among the hypotheses of the assertion that is cited.
     places: Vec<usize>,
-    /// For the key of a variable where it may stand in one of two lists.
-    marks: Vec<usize>,
-    /// The variables of entries, for the pair clause.
-    gathered: Gathered<S>,
+    /// What the pair clause uses over again.
+    pairs: PairRoom<S>,
 }
 
 /// Gives a table so many places, if it has fewer.
@@ -77,28 +76,33 @@ impl<S: Kept> Machine<S> {
             kept: 0,
             result: Vec::new(alloc),
             places: Vec::new(alloc),
-            marks: Vec::new(alloc),
-            gathered: Gathered {
-                variables: Vec::new(alloc),
-                spans: Vec::new(alloc),
-                places: Vec::new(alloc),
+            pairs: PairRoom {
+                gathered: Gathered {
+                    variables: Vec::new(alloc),
+                    spans: Vec::new(alloc),
+                    places: Vec::new(alloc),
+                },
+                marks: Vec::new(alloc),
             },
         }
     }
 
-    /// Leaves nothing on the stack and nothing saved; the room that was taken stays. The tables get so many places for
-    /// the keys of variables, if they have fewer.
-    pub fn clear(&mut self, keys: usize) -> Result<(), AllocError>
-        ensures whole { OnOk result (AreRanges self.new) }
-        ensures state { OnOk result (state_of S.means self.new ≡ nothing_yet) }
+    /// Gives the tables a place for each of so many keys of variables, if they have fewer.
+    pub fn widen(&mut self, keys: usize) -> Result<(), AllocError> {
+        widen(&mut self.places, keys)?;
+        widen(&mut self.pairs.marks, keys)?;
+        widen(&mut self.pairs.gathered.places, keys)
+    }
+
+    /// Leaves nothing on the stack and nothing saved; the room that was taken stays.
+    pub fn clear(&mut self)
+        ensures whole { AreRanges self.new }
+        ensures state { state_of S.means self.new ≡ nothing_yet }
     {
         self.symbols.clear();
         self.stack.clear();
         self.saved.clear();
         self.kept = 0;
-        widen(&mut self.places, keys)?;
-        widen(&mut self.marks, keys)?;
-        widen(&mut self.gathered.places, keys)
     }
 
     /// Saves an expression that was never on the stack: a hypothesis, so that each of its uses is a range.
@@ -218,8 +222,7 @@ impl<S: Kept> Machine<S> {
             expression,
             pairs,
             &*active,
-            &mut self.gathered,
-            &mut self.marks,
+            &mut self.pairs,
         )? {
             return Ok(Some(number));
         }

@@ -16,6 +16,15 @@ use crate::symbol::Kept;
 use mm_frame::Symbol;
 use std::alloc::{AllocError, Global};
 
+/// What the pair clause uses over again.
+#[derive(Drop)]
+pub struct PairRoom<S> {
+    /// The variables of entries.
+    pub gathered: Gathered<S>,
+    /// For the key of a variable where it may stand in one of two lists.
+    pub marks: Vec<usize>,
+}
+
 /// The variables of the entry of a variable's `$f`.
 fn variables_of<'s, 'g, 'a, S: Kept>(
     taken: &Taken<'s, 'a, S>,
@@ -89,8 +98,7 @@ pub fn pairs_fault<'s, 'a, S: Kept>(
     taken: &Taken<'s, 'a, S>,
     pairs: &[(S, S)],
     active: &Active<'a, S>,
-    gathered: &mut Gathered<S>,
-    marks: &mut [usize],
+    room: &mut PairRoom<S>,
 ) -> Result<Option<ProofNumber>, AllocError>
     requires within { All (IsEntryWithin (length taken.now.symbols.now)) taken.now.entries.now }
     requires count { length taken.now.entries.now ≡ length taken.now.hypotheses.now }
@@ -103,11 +111,11 @@ pub fn pairs_fault<'s, 'a, S: Kept>(
     if pairs.is_empty() {
         return Ok(None);
     }
-    gathered.gather_all(alloc, &*taken)?;
-    if all_apart(&*taken, &*gathered, &*active, &*pairs) {
+    room.gathered.gather_all(alloc, &*taken)?;
+    if all_apart(&*taken, &room.gathered, &*active, &*pairs) {
         return Ok(None);
     }
-    if any_share(&*taken, &*gathered, &*pairs, &mut *marks) {
+    if any_share(&*taken, &room.gathered, &*pairs, &mut room.marks) {
         return Ok(Some(ProofNumber::P10));
     }
     Ok(Some(ProofNumber::P11))

@@ -162,12 +162,10 @@ fn load<'a, S: Kept>(
 }
 
 /// Runs steps up to the first that is at fault or not known, and tells what they come to. Where there is none, all are done,
-/// and it tells nothing. What the machine has from other runs does not count; its tables get so many places for the keys of
-/// variables, if they have fewer.
+/// and it tells nothing. What the machine has from other runs does not count.
 pub fn run_through<'a, S: Kept>(
     alloc: Global,
     machine: &mut Machine<S>,
-    keys: usize,
     named: &Named<'a, S>,
     active: &Active<'a, S>,
     steps: &[ProofStep],
@@ -182,7 +180,7 @@ pub fn run_through<'a, S: Kept>(
         → MatchOption found (AreDoneTo place (actions_mean names steps.now) (state_of S.means machine.new).stack)
         (StopsAt place (actions_mean names steps.now))) }
 {
-    machine.clear(keys)?;
+    machine.clear();
     load(alloc, &mut *machine, &*named)?;
     for place in 0..steps.len() {
         let Some(task) = task_of(&*named, steps[place].action) else {
@@ -196,11 +194,10 @@ pub fn run_through<'a, S: Kept>(
 }
 
 /// Runs the steps of a proof of a statement, up to the first that is at fault or not known. What the machine has from
-/// other runs does not count; its tables get so many places for the keys of variables, if they have fewer.
+/// other runs does not count.
 pub fn run<'a, S: Kept>(
     alloc: Global,
     machine: &mut Machine<S>,
-    keys: usize,
     named: &Named<'a, S>,
     active: &Active<'a, S>,
     steps: &[ProofStep],
@@ -214,7 +211,7 @@ pub fn run<'a, S: Kept>(
         → AreSamePairs (meant_pairs S.means active.now.pairs.now) place.active
         → AreUses S.means named.now place names → RunSays place (actions_mean names steps.now) (map S.means statement.now) outcome) }
 {
-    if let Some(outcome) = run_through(alloc, &mut *machine, keys, &*named, &*active, steps)? {
+    if let Some(outcome) = run_through(alloc, &mut *machine, &*named, &*active, steps)? {
         return Ok(outcome);
     }
     if machine.stack.len() != 1 {

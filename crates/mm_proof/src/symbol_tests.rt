@@ -250,15 +250,8 @@ fn run_lent<'a>(
     };
     let active = Active::new(pairs);
     let mut machine = Machine::new(alloc);
-    run(
-        alloc,
-        &mut machine,
-        PLACES,
-        &named,
-        &active,
-        steps,
-        statement,
-    )
+    machine.widen(PLACES)?;
+    run(alloc, &mut machine, &named, &active, steps, statement)
 }
 
 /// What a run over names comes to.

@@ -31,12 +31,13 @@ impl Scratch {
         }
     }
 
-    /// Gives the marks a place for each of so many items, if they have fewer.
-    pub fn widen(&mut self, items: usize) -> Result<(), AllocError> {
+    /// Gives the marks a place for each of so many items, and the machine's tables for each of so many keys of variables,
+    /// where they have fewer.
+    pub fn widen(&mut self, items: usize, keys: usize) -> Result<(), AllocError> {
         if self.marks.len() < items {
             self.marks.resize(items, false)?;
         }
-        Ok(())
+        self.machine.widen(keys)
     }
 }
 

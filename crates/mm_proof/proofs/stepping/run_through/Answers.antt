@@ -82,10 +82,10 @@ loop-place-preserved g c =
     }
 
 pub load-requires-clause-whole : goal.load-requires-clause-whole
-load-requires-clause-whole g c = c.in_ok-clear.ensures.whole
+load-requires-clause-whole g c = c.clear.ensures.whole
 
 pub load-requires-clause-nothing : goal.load-requires-clause-nothing
-load-requires-clause-nothing g c = c.in_ok-clear.ensures.state
+load-requires-clause-nothing g c = c.clear.ensures.state
 
 pub returns-in_default-clause-within : goal.returns-in_default-clause-within
 returns-in_default-clause-within g c = c.loop-place-test.true
