@@ -140,11 +140,7 @@ fn run_front(
 }
 
 /// Runs all steps of a proof.
-fn run_all(
-    alloc: Global,
-    scratch: &mut Scratch,
-    proof: DecodedProof,
-) -> Result<Outcome, AllocError>
+fn run_all(alloc: Global, scratch: &mut Scratch, proof: DecodedProof) -> Result<Outcome, AllocError>
     requires { IsDecoded proof }
     ensures within { IfOk result (IsOutcomeWithin (length proof.entry.decoding.now.steps.items)) }
     ensures says { IfOk result (λ outcome. OfDecoded proof.entry (λ view.
