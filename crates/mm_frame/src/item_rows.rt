@@ -2,7 +2,7 @@
 
 ghost use Rattle.std.specs.Prelude.{◌≡◌, ◌<◌, ◌≤◌, ◌+◌, ◌++◌, ◌∷◌, ℕ, List, [], Some, None, IfOk, OnOk, false, length, slice_get, slice_index_or, slice_range};
 ghost use Rattle.std.specs.Option.{option_map};
-ghost use Rattle.mm_frame.specs.Code.KeptRows.{bytes_or_none, fault_at, fault_told, label_in, fault_in, is_shown_in};
+ghost use Rattle.mm_frame.specs.Code.KeptRows.{bytes_or_none, fault_kept, fault_told, row_label, row_fault, is_shown_in};
 ghost use Rattle.mm_frame.specs.Code.KeptRows.{AreRowsKept, rows_of};
 
 use crate::expressions::{end_at, start_at};
@@ -38,7 +38,7 @@ fn add_label(bytes: &mut Vec<u8>, label: Option<&[u8]>) -> Result<(), AllocError
 
 /// Has places for the faults of so many items.
 fn fill(faults: &mut Vec<Option<FrameFault>>, count: usize) -> Result<(), AllocError>
-    ensures same { OnOk result ((n : ℕ) → fault_at faults.new.items n ≡ fault_at faults.old.items n) }
+    ensures same { OnOk result ((n : ℕ) → fault_kept faults.new.items n ≡ fault_kept faults.old.items n) }
     ensures count { OnOk result (length faults.old.items ≤ count → length faults.new.items ≡ count) }
 {
     while faults.len() < count {
@@ -53,8 +53,8 @@ fn add_fault(
     count: usize,
     fault: Option<FrameFault>,
 ) -> Result<(), AllocError>
-    ensures same { OnOk result (length faults.old.items ≤ count → (n : ℕ) → n < count → fault_at faults.new.items n ≡ fault_at faults.old.items n) }
-    ensures here { OnOk result (length faults.old.items ≤ count → fault_at faults.new.items count ≡ fault) }
+    ensures same { OnOk result (length faults.old.items ≤ count → (n : ℕ) → n < count → fault_kept faults.new.items n ≡ fault_kept faults.old.items n) }
+    ensures here { OnOk result (length faults.old.items ≤ count → fault_kept faults.new.items count ≡ fault) }
     ensures within { OnOk result (length faults.old.items ≤ count → length faults.new.items ≤ count + 1) }
 {
     if fault.is_some() {
@@ -66,7 +66,7 @@ fn add_fault(
 
 /// The fault that is kept at a place, if there is one.
 fn kept_fault(faults: &[Option<FrameFault>], n: usize) -> Option<FrameFault>
-    ensures { result ≡ fault_at faults.now n }
+    ensures { result ≡ fault_kept faults.now n }
 {
     match faults.get(n) {
         Some(fault) => *fault,
@@ -119,7 +119,7 @@ impl Rows {
     /// The label of the item with this number, if there is such an item and it has one.
     pub fn label(&self, n: usize) -> Option<&[u8]>
         requires { AreRowsKept self.now }
-        ensures { option_map (λ label. label.now) result ≡ label_in (slice_get (rows_of self.now) n) }
+        ensures { option_map (λ label. label.now) result ≡ row_label (slice_get (rows_of self.now) n) }
     {
         if !is_labelled(&self.labelled, n) {
             return None;
@@ -131,7 +131,7 @@ impl Rows {
     /// The fault of the item with this number, if there is such an item and it has one.
     pub fn fault(&self, n: usize) -> Option<FrameFault>
         requires { AreRowsKept self.now }
-        ensures { fault_told result ≡ fault_in (slice_get (rows_of self.now) n) }
+        ensures { fault_told result ≡ row_fault (slice_get (rows_of self.now) n) }
     {
         kept_fault(&self.faults, n)
     }

@@ -2,7 +2,7 @@
 
 ghost use Rattle.std.specs.Prelude.{◌≡◌, ◌<◌, ◌≤◌, ◌∷◌, [], MatchOption, length};
 ghost use Rattle.std.specs.List.{AllByRecursion, flat_map};
-ghost use Rattle.mm_frame.specs.Code.PlainWords.{AreFew, plain_bytes};
+ghost use Rattle.mm_frame.specs.Code.PlainWords.{AreFewWords, plain_bytes};
 
 use crate::statement::{bytes_of, is_plain};
 use mm_store::WordCursor;
@@ -31,7 +31,7 @@ impl<'a> ProofWords<'a> {
     /// The words up to the next keyword.
     pub(crate) fn new(text: &'a [u8], cursor: WordCursor<'a>) -> Self
         requires text { cursor.text ≡ text.now }
-        requires few { AreFew (plain_bytes text.now cursor.words) }
+        requires few { AreFewWords (plain_bytes text.now cursor.words) }
         ensures { result ≡ plain_bytes text.now cursor.entry.words }
     {
         ProofWords { text, cursor }

@@ -12,7 +12,7 @@ use Rattle.mm_proof.specs.mm_frame.declared.judge.FrameFault.{FrameFault}
 use Rattle.mm_proof.specs.mm_frame.Language.Laws.{FilesHaveOneBase}
 use Rattle.mm_proof.specs.mm_frame.Language.Base.{BaseView, IsOfFiles}
 use Rattle.mm_proof.specs.Language.Work.{Judgement}
-use Rattle.mm_keep.specs.Code.KeptSession.{AreChecked, IsKept, view_of}
+use Rattle.mm_keep.specs.Code.KeptSession.{AreChecked, IsSessionKept, session_view}
 use Rattle.mm_keep.specs.Code.OfFiles.{IsOf}
 use Rattle.mm_keep.specs.Language.Sessions.{OfItems, SessionView}
 use Rattle.mm_keep.specs.declared.session.Session.TheInside.{Inside}
@@ -40,14 +40,14 @@ abbrev pub ItemsStand : Type 0
 ItemsStand = (files : FilesView) (top : List ℕ) (items : List store.Item) → IsExpansion (files_in files) top items → All (StandsIn files) items
 
 -- what a session's base answers is what the items of its files say
-pub kept_of : ItemsStand → (inside : Inside) → (k : IsKept inside) → IsOf inside.names inside.files inside.base k.base
+pub kept_of : ItemsStand → (inside : Inside) → (k : IsSessionKept inside) → IsOf inside.names inside.files inside.base k.base
 kept_of stand inside k = record {
   read_in = record { base = k.by_names; each = k.of_files.each };
   stand = stand inside.files inside.top.items k.base.found k.of_files.expansion;
 }
 
 -- what holds of the items of the files holds of what is kept
-pub kept_items : FilesHaveOneBase → (inside : Inside) → (k : IsKept inside) → (P : BaseView → Type 0) → OfItems (view_of inside) P → P k.base
+pub kept_items : FilesHaveOneBase → (inside : Inside) → (k : IsSessionKept inside) → (P : BaseView → Type 0) → OfItems (session_view inside) P → P k.base
 kept_items one inside k P has = subst P (one inside.files inside.top.items has.0 k.base has.1 k.of_files) has.2
 
 -- the parts of what is kept, with what holds of its items
@@ -58,8 +58,8 @@ pub record Parts (inside : Inside) (checked : List (Option Judgement)) (P : Base
   pub are : AreChecked base checked
   pub holds : P base
 
-pub parts : FilesHaveOneBase → ItemsStand → (inside : Inside) → IsKept inside → (checked : List (Option Judgement)) → checked ≡ inside.checked.items
-    → (session : SessionView) → view_of inside ≡ session → (P : BaseView → Type 0) → OfItems session P → Parts inside checked P
+pub parts : FilesHaveOneBase → ItemsStand → (inside : Inside) → IsSessionKept inside → (checked : List (Option Judgement)) → checked ≡ inside.checked.items
+    → (session : SessionView) → session_view inside ≡ session → (P : BaseView → Type 0) → OfItems session P → Parts inside checked P
 parts one stand inside k checked same session is P has = record {
   base = k.base;
   of_files = k.of_files;

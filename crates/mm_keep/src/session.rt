@@ -50,11 +50,11 @@ impl Model for Session {
 
     ghost coded = { Prim.hlevel (codes, store.the_row.coded) };
 
-    ghost use Rattle.mm_keep.specs.Code.KeptSession.{view_of, IsKept};
+    ghost use Rattle.mm_keep.specs.Code.KeptSession.{session_view, IsSessionKept};
 
-    ghost view = { view_of };
+    ghost view = { session_view };
 
-    ghost invariant = { IsKept };
+    ghost invariant = { IsSessionKept };
 }
 
 /// The reason of a refused batch of one edit.

@@ -17,7 +17,7 @@ use Rattle.mm_report.specs.Language.Answers.{AreAnswers, IsAnswer, IsFound, IsRa
 use Rattle.mm_report.specs.Language.Answers.{batch_refusal_line, numbers_listed, refusal_line, told_line, unknown_line}
 use Rattle.mm_report.specs.Language.Report.{names_of, report, IsReport}
 use Rattle.mm_report.specs.Language.Script.{Command, Change, Batch, Report, Verdict, Axioms, Cites, Users, Listed, commands_of}
-use Rattle.mm_report.specs.Language.ScriptLaws.{HasReading, HasScriptAnswer, IsWhole}
+use Rattle.mm_report.specs.Language.ScriptLaws.{HasReading, HasScriptAnswer, IsWholeSession}
 
 -- what is known of all files and sessions
 pub record HavingLaws : Type 0 where
@@ -61,14 +61,14 @@ pub record Answered (session : SessionView) (command : Command) : Type 0 where
   answer : List ℕ
   new : SessionView
   is : IsAnswer session command answer new
-  whole : IsWhole new
+  whole : IsWholeSession new
 
-module _ (laws : HavingLaws) (session : SessionView) (whole : IsWhole session) where
+module _ (laws : HavingLaws) (session : SessionView) (whole : IsWholeSession session) where
   -- edits are done, and what is run is told
   record Ran (after : List File) : Type 0 where
     new : SessionView
     files : plain new.files ≡ after
-    new_whole : IsWhole new
+    new_whole : IsWholeSession new
     answer : List ℕ
     ran : IsRan session new answer
 
@@ -182,9 +182,9 @@ record AllAnswered (session : SessionView) (commands : List Command) : Type 0 wh
   answers : List ℕ
   new : SessionView
   are : AreAnswers session commands answers new
-  whole : IsWhole new
+  whole : IsWholeSession new
 
-all_answered : HavingLaws → (session : SessionView) (commands : List Command) → IsWhole session → AllAnswered session commands
+all_answered : HavingLaws → (session : SessionView) (commands : List Command) → IsWholeSession session → AllAnswered session commands
 all_answered laws session [] whole = record { answers = []; new = session; are = (refl, refl); whole = whole }
 all_answered laws session (command ∷ commands) whole =
     let a = answered laws session whole command in

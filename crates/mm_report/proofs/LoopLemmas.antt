@@ -13,7 +13,7 @@ use Rattle.mm_report.specs.declared.input.Input.{Input}
 use Rattle.mm_report.specs.declared.entry.Next.{Next}
 use Rattle.mm_report.specs.declared.stream.Writing.{Writing}
 use Rattle.mm_report.specs.declared.reading.Reading.{Reading}
-use Rattle.mm_report.specs.Code.Answered.{IsAnswered, BeginsAnswer, FailsSo, AnswersSoFar, HasAnswered, StopsScript}
+use Rattle.mm_report.specs.Code.Answered.{IsAnswered, BeginsAnswer, FailsSo, AnswersSoFar, HasAnswered, StopsAnswering}
 use Rattle.mm_report.specs.Code.Pending.{pending, ReadsOn, IsNextCommand, IsWholeCommand, IsLast, IsWholeOrLast}
 use Rattle.mm_report.specs.Code.Stops.{HasNoEntry, StopsSo}
 use Rattle.mm_report.specs.Language.Answers.{AreAnswers}
@@ -271,7 +271,7 @@ module _ {R W : Type 0} (remaining : R → Option (List ℕ)) (contents : W → 
       → (IsErrOf r errors.BadLine → IfSome (unread remaining left) (λ more. StopsSo (pending now ++ more) BadLine))
       → (IsErrOf r errors.Cut → IfSome (unread remaining left) (λ more. StopsSo (pending now ++ more) CutShort))
       → (IsErrOf r errors.Read → HasNoEntry (pending now)) → (IsErrOf r errors.Read → cannot_read left ≡ true) → (r ≢ Err errors.Write)
-      → (e : ScriptError) → r ≡ Err e → StopsScript remaining contents begun session all left before a e
+      → (e : ScriptError) → r ≡ Err e → StopsAnswering remaining contents begun session all left before a e
   next_stops r so bad cut read failed told errors.BadLine is = stop_answered begun session all (unread remaining left) before (written contents a) (pending now) BadLine (bad is) so
   next_stops r so bad cut read failed told errors.Cut is = stop_answered begun session all (unread remaining left) before (written contents a) (pending now) CutShort (cut is) so
   next_stops r so bad cut read failed told errors.Read is = (read_answered begun session all (unread remaining left) before (written contents a) (pending now) (read is) so, failed is)
@@ -281,7 +281,7 @@ module _ {R W : Type 0} (remaining : R → Option (List ℕ)) (contents : W → 
   -- the command that is read is not answered, or not in full
   pub answer_stops : (next : Next) (is : IsNextCommand (pending now) (unread remaining left) next) (new : SessionView) (b : Writing W)
       → HasAnswered begun session all (unread remaining left) before (written contents a) (pending now)
-      → (e : ScriptError) → FailsSo contents is.command session new a b e → StopsScript remaining contents begun new all left before b e
+      → (e : ScriptError) → FailsSo contents is.command session new a b e → StopsAnswering remaining contents begun new all left before b e
   answer_stops next is new b so errors.Write fails = (
     elim is.whole [
       | inl h ↦ whole_begun begun session all (unread remaining left) before (written contents a) new (written contents b) (pending now) is.command next.end is.good h.1 fails.1 so

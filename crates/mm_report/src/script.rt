@@ -2,7 +2,7 @@
 
 ghost use Rattle.std.specs.Prelude.{◌≡◌, ◌≤◌, ◌+◌, ℕ, List, Option, true, OnOk, IfErr, IfOk, IfSome, IsErrOf};
 ghost use Rattle.mm_keep.specs.Language.Sessions.{SessionView};
-ghost use Rattle.mm_report.specs.Code.Answered.{HasAnswered, AnswersSoFar, StopsScript};
+ghost use Rattle.mm_report.specs.Code.Answered.{HasAnswered, AnswersSoFar, StopsAnswering};
 ghost use Rattle.mm_report.specs.Code.Growing.{to_come};
 ghost use Rattle.mm_report.specs.Code.Pending.{pending};
 ghost use Rattle.mm_report.specs.declared.script.ScriptError.TheVariants as errors;
@@ -86,7 +86,7 @@ fn answer_next<R: Read, W: Write>(
         → IfOk result (AnswersSoFar begun session.new all (unread R.remaining reading.new) before (written W.contents writing.new) (pending input.new)) }
     ensures err { (begun : SessionView) (all before : Option (List ℕ))
         → HasAnswered begun session.old all (unread R.remaining reading.old) before (written W.contents writing.old) (pending input.old)
-        → IfErr result (StopsScript R.remaining W.contents begun session.new all reading.new before writing.new) }
+        → IfErr result (StopsAnswering R.remaining W.contents begun session.new all reading.new before writing.new) }
     ensures fewer { IfOk result (λ more. more ≡ true → to_come input.new reading.new + 1 ≤ to_come input.old reading.old) }
 {
     let Some(next) = next_command(alloc, input, reading)? else {

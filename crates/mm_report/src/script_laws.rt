@@ -3,7 +3,7 @@
 ghost use Rattle.mm_report.specs.Language.ScriptExamples.{CutsBatch, CutsFeed, CutsLine, CutsText};
 ghost use Rattle.mm_report.specs.Language.ScriptExamples.{EndsAtLine, EndsAtText, EndsInEdit, ReadsBatch, ReadsLastEdit, ReadsText};
 ghost use Rattle.mm_report.specs.Language.ScriptLaws.{AnswersBegin, CommandsLeaveNothing, HasReading, OneScriptAnswer};
-ghost use Rattle.mm_report.specs.Language.ScriptLaws.{HasScriptAnswer, IsWhole, OneEnd, OneReading, OneReadSoFar, ReadingGoesOn};
+ghost use Rattle.mm_report.specs.Language.ScriptLaws.{HasScriptAnswer, IsWholeSession, OneEnd, OneReading, OneReadSoFar, ReadingGoesOn};
 
 use mm_keep::Session;
 
@@ -64,7 +64,7 @@ pub fn has_script_answer()
 
 /// Each session is one of which scripts have answers.
 pub fn sessions_are_whole(session: &Session)
-    ensures { IsWhole session.now }
+    ensures { IsWholeSession session.now }
 {
     session.files().holds_pieces();
     session.files().hold_one_each();

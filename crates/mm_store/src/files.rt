@@ -67,11 +67,11 @@ impl Model for Files {
 
     ghost coded = { Prim.hlevel (codes, store.the_row.coded) };
 
-    ghost use Rattle.mm_store.specs.Code.Kept.{view_of, IsKept};
+    ghost use Rattle.mm_store.specs.Code.Kept.{files_view, AreFilesKept};
 
-    ghost view = { view_of };
+    ghost view = { files_view };
 
-    ghost invariant = { IsKept };
+    ghost invariant = { AreFilesKept };
 }
 
 /// The lines of a file up to a byte of a piece.

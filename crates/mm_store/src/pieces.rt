@@ -43,11 +43,11 @@ impl Model for PieceStore {
 
     ghost coded = { finite.code coded_ℕ (Prim.hlevel (codes, state_code)) };
 
-    ghost use Rattle.mm_store.specs.Code.Slots.{view_of, IsKept};
+    ghost use Rattle.mm_store.specs.Code.Slots.{pieces_view, ArePiecesKept};
 
-    ghost view = { view_of };
+    ghost view = { pieces_view };
 
-    ghost invariant = { IsKept };
+    ghost invariant = { ArePiecesKept };
 }
 
 /// One for a parked piece.

@@ -25,7 +25,7 @@ impl Model for Undo {
 
     ghost Value = { UndoView };
 
-    ghost use Rattle.mm_store.specs.Code.Undone.{view_of};
+    ghost use Rattle.mm_store.specs.Code.Undone.{undo_view};
 
-    ghost view = { view_of };
+    ghost view = { undo_view };
 }

@@ -2,7 +2,7 @@
 
 ghost use Rattle.std.specs.Prelude.{◌+◌, ◌≤◌, length, IfOk, IfErr};
 ghost use Rattle.mm_store.specs.Code.Inside.{IsPieceKept};
-ghost use Rattle.mm_store.specs.Code.Units.{IsUnit, IsUnitError, IsNewError};
+ghost use Rattle.mm_store.specs.Code.Units.{IsUnit, IsUnitError, IsTextRefused};
 
 use crate::edit::EditError;
 use crate::piece_text::{PieceText, kept_piece};
@@ -30,7 +30,7 @@ pub(crate) fn new_piece(alloc: Global, held: u64, text: &[u8]) -> Result<PieceTe
     ensures unit { IfOk result (λ piece. IsUnit text.now piece.text.items) }
     ensures kept { IfOk result IsPieceKept }
     ensures fits { IfOk result (λ piece. held + length piece.text.items ≤ 4294967295) }
-    ensures err { IfErr result (IsNewError held text.now) }
+    ensures err { IfErr result (IsTextRefused held text.now) }
 {
     let unit = read_unit(alloc, text)?;
     if !fits(held, unit.len() as u64) {

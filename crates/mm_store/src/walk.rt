@@ -68,9 +68,9 @@ impl Model for Walk {
 
     ghost Value = { WalkView };
 
-    ghost use Rattle.mm_store.specs.Code.Walked.{view_of};
+    ghost use Rattle.mm_store.specs.Code.Walked.{walk_view};
 
-    ghost view = { view_of };
+    ghost view = { walk_view };
 }
 
 /// Goes behind the next piece of the innermost file.

@@ -17,14 +17,14 @@ pub record IsFoundBefore (before : List Item) (common : Option ℕ) (n : ℕ) : 
   pub active : is_active_at before first ≡ true
 
 -- of the first items, those that were looked at; and what was found is a `$d` that has both names
-pub record IsAnswer (before : List Item) (x y : List ℕ) (upto : ℕ) (common : Option ℕ) : Type 0 where
+pub record IsPairAnswer (before : List Item) (x y : List ℕ) (upto : ℕ) (common : Option ℕ) : Type 0 where
   pub within : upto ≤ length before
   pub cover : (n : ℕ) → n < upto → IsDisjointAt before x n → IsDisjointAt before y n → is_active_at before n ≡ true → IsFoundBefore before common n
   pub there : (f : ℕ) → common ≡ Some f → IsDisjointAt before x f × IsDisjointAt before y f
 
 -- so it is with an answer on the names that have these numbers
 abbrev pub IsKnown : List (List ℕ) → List Item → Answer → Type 0
-IsKnown all before answer = (x y : List ℕ) → IsNameNumber all answer.first x → IsNameNumber all answer.second y → IsAnswer before x y answer.upto answer.common
+IsKnown all before answer = (x y : List ℕ) → IsNameNumber all answer.first x → IsNameNumber all answer.second y → IsPairAnswer before x y answer.upto answer.common
 
 -- so it is with each answer
 abbrev pub KnowsAsked : List (List ℕ) → List Item → AskedPairs → Type 0

@@ -20,12 +20,12 @@ abbrev pub fault_or_none : Option (Option FrameFault) → Option FrameFault
 fault_or_none None = None
 fault_or_none (Some fault) = fault
 
-abbrev pub fault_at : List (Option FrameFault) → ℕ → Option FrameFault
-fault_at faults n = fault_or_none (slice_get faults n)
+abbrev pub fault_kept : List (Option FrameFault) → ℕ → Option FrameFault
+fault_kept faults n = fault_or_none (slice_get faults n)
 
 -- what is told of an item with these bytes, of which it is kept at a place whether it has a label, and its fault
 abbrev pub row_told : List Bool → List (Option FrameFault) → ℕ → List ℕ → Option (List ℕ) × Option (ℕ × FrameNumber)
-row_told flags faults n bytes = (if slice_index_or flags n false then Some bytes else None, fault_told (fault_at faults n))
+row_told flags faults n bytes = (if slice_index_or flags n false then Some bytes else None, fault_told (fault_kept faults n))
 
 -- of items one behind another, from this place on
 abbrev pub rows_from : ℕ → List (List ℕ) → List Bool → List (Option FrameFault) → List (Option (List ℕ) × Option (ℕ × FrameNumber))
@@ -43,13 +43,13 @@ pub record AreRowsKept (rows : Rows) : Type 0 where
   pub faults : length rows.faults.items ≤ length rows.ends.items
 
 -- the label of an item, its fault, and whether it has a label and no fault, if there is such an item
-abbrev pub label_in : Option (Option (List ℕ) × Option (ℕ × FrameNumber)) → Option (List ℕ)
-label_in None = None
-label_in (Some row) = row.0
+abbrev pub row_label : Option (Option (List ℕ) × Option (ℕ × FrameNumber)) → Option (List ℕ)
+row_label None = None
+row_label (Some row) = row.0
 
-abbrev pub fault_in : Option (Option (List ℕ) × Option (ℕ × FrameNumber)) → Option (ℕ × FrameNumber)
-fault_in None = None
-fault_in (Some row) = row.1
+abbrev pub row_fault : Option (Option (List ℕ) × Option (ℕ × FrameNumber)) → Option (ℕ × FrameNumber)
+row_fault None = None
+row_fault (Some row) = row.1
 
 abbrev pub is_shown_in : Option (Option (List ℕ) × Option (ℕ × FrameNumber)) → Bool
 is_shown_in None = false

@@ -20,7 +20,7 @@ abbrev pub plain_bytes : List ℕ → List Word → List (List ℕ)
 plain_bytes text words = map (word_bytes text) (plain_words words)
 
 -- there are not too many, none is empty, and they do not have too many bytes
-pub record AreFew (words : List (List ℕ)) : Type 0 where
+pub record AreFewWords (words : List (List ℕ)) : Type 0 where
   pub few : length words ≤ 4294967295
   pub some : AllByRecursion (λ word. 0 < length word) words
   pub bytes : length (flat_map (λ word. word) words) ≤ 4294967295

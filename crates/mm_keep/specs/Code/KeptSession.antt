@@ -18,10 +18,10 @@ pub record AreChecked (base : BaseView) (checked : List (Option Judgement)) : Ty
   pub count : length checked ≡ length base.said
   pub each : (i : ℕ) (one : Option Judgement) → slice_get checked i ≡ Some one → IsCheckedAt base i one
 
-abbrev pub view_of : Inside → SessionView
-view_of inside = record { files = inside.files; top = inside.top.items }
+abbrev pub session_view : Inside → SessionView
+session_view inside = record { files = inside.files; top = inside.top.items }
 
-pub record IsKept (inside : Inside) : Type 0 where
+pub record IsSessionKept (inside : Inside) : Type 0 where
   pub base : BaseView
   pub of_files : IsOfFiles inside.files inside.top.items base
   pub by_names : IsBaseBy inside.names base inside.base

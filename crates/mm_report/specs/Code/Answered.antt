@@ -92,15 +92,15 @@ AnswersSoFar old new all left before after pending true = HasAnswered old new al
 AnswersSoFar old new all left before after pending false = IfSome all (λ script. AnswersScript old new script Done before after)
 
 -- why a script is not answered to its end, and how far it is
-abbrev pub StopsScript : {R W : Type 0} → (R → Option (List ℕ)) → (W → Option (List ℕ)) → SessionView → SessionView → Option (List ℕ) → Reading R
+abbrev pub StopsAnswering : {R W : Type 0} → (R → Option (List ℕ)) → (W → Option (List ℕ)) → SessionView → SessionView → Option (List ℕ) → Reading R
     → Option (List ℕ) → Writing W → ScriptError → Type 0
-StopsScript remaining contents old new all reading before writing errors.BadLine =
+StopsAnswering remaining contents old new all reading before writing errors.BadLine =
     IfSome all (λ script. AnswersScript old new script BadLine before (written contents writing))
-StopsScript remaining contents old new all reading before writing errors.Cut =
+StopsAnswering remaining contents old new all reading before writing errors.Cut =
     IfSome all (λ script. AnswersScript old new script CutShort before (written contents writing))
-StopsScript remaining contents old new all reading before writing errors.Read =
+StopsAnswering remaining contents old new all reading before writing errors.Read =
     AnswersRead old new all (unread remaining reading) before (written contents writing) × (cannot_read reading ≡ true)
-StopsScript remaining contents old new all reading before writing errors.Write =
+StopsAnswering remaining contents old new all reading before writing errors.Write =
     BeginsAnswers old new all (unread remaining reading) before (written contents writing) × (has_failed writing ≡ true)
-StopsScript remaining contents old new all reading before writing errors.Memory =
+StopsAnswering remaining contents old new all reading before writing errors.Memory =
     AnswersFirst old new all (unread remaining reading) before (written contents writing)

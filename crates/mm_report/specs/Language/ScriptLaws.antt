@@ -71,7 +71,7 @@ abbrev pub HasReading : Type 0
 HasReading = (script : List ℕ) → (entries : List Entry) × (rest : List ℕ) × (end : End) × IsReadSo script entries rest end
 
 -- a session as it is: each key in its files has a piece, each piece holds one unit, and the files give items from the top file on
-pub record IsWhole (session : SessionView) : Type 0 where
+pub record IsWholeSession (session : SessionView) : Type 0 where
   pub pieces : HoldsPieces session.files
   pub units : HoldOneEach (plain session.files)
   pub items : HasItems session
@@ -82,9 +82,9 @@ pub record HasAnswers (session : SessionView) (script : List ℕ) : Type 0 where
   pub new : SessionView
   pub end : End
   pub is : IsScriptAnswer session script answers new end
-  pub whole : IsWhole new
+  pub whole : IsWholeSession new
 
 -- Each script has answers, asked of each session: each edit is accepted or refused for a reason, each label is known or not, and each list,
 -- each verdict and each report exists.
 abbrev pub HasScriptAnswer : Type 0
-HasScriptAnswer = (session : SessionView) (script : List ℕ) → IsWhole session → HasAnswers session script
+HasScriptAnswer = (session : SessionView) (script : List ℕ) → IsWholeSession session → HasAnswers session script

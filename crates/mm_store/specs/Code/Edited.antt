@@ -21,7 +21,7 @@ with_pieces (file ∷ files) zero pieces = record { name = file.name; pieces = p
 with_pieces (file ∷ files) (suc n) pieces = file ∷ with_pieces files n pieces
 
 -- an edit of the file of this number: its members become these, and the undo gives the files of before
-pub record IsDone (old new : FilesView) (number : ℕ) (members : List (List ℕ)) (undo : UndoView) : Type 0 where
+pub record IsEditDone (old new : FilesView) (number : ℕ) (members : List (List ℕ)) (undo : UndoView) : Type 0 where
   pub means : plain new ≡ with_pieces (plain old) number members
   pub keeps : (key : ℕ) → IsSome (finite.get old.pieces key) → KeepsText old new key
   pub can_undo : CanUndo undo new
@@ -37,7 +37,7 @@ pub record IsReplaced (old new : FilesView) (number at : ℕ) (text : List ℕ) 
   pub fresh : finite.get old.pieces key ≡ None
   pub is : new ≡ replaced old number at key text
   pub undo_is : undo ≡ record { file = number; action = action.Replaced at (key_at old number at) }
-  pub done : IsDone old new number (slice_set (members_of old number) at text) undo
+  pub done : IsEditDone old new number (slice_set (members_of old number) at text) undo
 
 -- a new piece stands before the member, under a key that no piece had
 pub record IsInserted (old new : FilesView) (number at : ℕ) (text : List ℕ) (undo : UndoView) : Type 0 where
@@ -45,21 +45,21 @@ pub record IsInserted (old new : FilesView) (number at : ℕ) (text : List ℕ) 
   pub fresh : finite.get old.pieces key ≡ None
   pub is : new ≡ inserted old number at key text
   pub undo_is : undo ≡ record { file = number; action = action.Inserted at }
-  pub done : IsDone old new number (insert (members_of old number) at text) undo
+  pub done : IsEditDone old new number (insert (members_of old number) at text) undo
 
 -- the member is taken out, and its piece is parked
 pub record IsDeleted (old new : FilesView) (number at : ℕ) (undo : UndoView) : Type 0 where
   pub is : new ≡ deleted old number at
   pub undo_is : undo ≡ record { file = number; action = action.Deleted at (key_at old number at) }
   pub within : bytes_of (plain new) ≤ 4294967295
-  pub done : IsDone old new number (remove (members_of old number) at) undo
+  pub done : IsEditDone old new number (remove (members_of old number) at) undo
 
 -- the member is taken out and put where it is member `to`
 pub record IsMoved (old new : FilesView) (number at to : ℕ) (undo : UndoView) : Type 0 where
   pub is : new ≡ moved old number at to
   pub undo_is : undo ≡ record { file = number; action = action.Moved at to }
   pub within : bytes_of (plain new) ≤ 4294967295
-  pub done : IsDone old new number (insert (remove (members_of old number) at) to (slice_index_or (members_of old number) at [])) undo
+  pub done : IsEditDone old new number (insert (remove (members_of old number) at) to (slice_index_or (members_of old number) at [])) undo
 
 -- the files with one more, of this name, with these members and this tail
 abbrev pub with_file : List File → List ℕ → List (List ℕ) → List ℕ → List File

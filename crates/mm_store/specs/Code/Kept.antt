@@ -13,8 +13,8 @@ use Rattle.mm_store.specs.Code.Starts.{HasStarts}
 abbrev pub file_of : {Y : Type 0} → Vec ℕ Y × FileText → KeyedFile
 file_of entry = record { name = entry.0.items; keys = entry.1.keys.items; tail = entry.1.tail.items }
 
-abbrev pub view_of : Inside → FilesView
-view_of inside = record { keyed = map file_of inside.files.entries; pieces = inside.pieces }
+abbrev pub files_view : Inside → FilesView
+files_view inside = record { keyed = map file_of inside.files.entries; pieces = inside.pieces }
 
 -- one for the same key
 abbrev pub one : ℕ → ℕ → ℕ
@@ -70,13 +70,13 @@ HaveStarts files [] = files ≡ []
 HaveStarts [] (entry ∷ entries) = ⊥
 HaveStarts (file ∷ files) (entry ∷ entries) = HasStarts file.pieces entry.1 × HasWords entry.1.tail.items [] × HaveStarts files entries
 
-pub record IsKept (inside : Inside) : Type 0 where
+pub record AreFilesKept (inside : Inside) : Type 0 where
   -- a piece stands in the files at one place, and a parked one at none: so a piece that stands nowhere is parked, and no key of the files
   -- is without a piece
   pub once : (k : ℕ) → places k (map file_of inside.files.entries) ≡ standing_count (finite.get inside.pieces k)
   pub room : HaveRoom inside.pieces 0 inside.files.entries
   -- no piece is parked as deleted from a file that is not there
   pub known : (m : ℕ) → length inside.files.entries ≤ m → deletions m inside.pieces ≡ 0
-  pub starts : HaveStarts (plain (view_of inside)) inside.files.entries
-  pub counted : inside.bytes ≡ bytes_of (plain (view_of inside))
+  pub starts : HaveStarts (plain (files_view inside)) inside.files.entries
+  pub counted : inside.bytes ≡ bytes_of (plain (files_view inside))
   pub within : inside.bytes ≤ 4294967295

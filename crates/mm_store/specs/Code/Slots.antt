@@ -19,16 +19,16 @@ entry_view entry = (entry.0, held entry.1)
 abbrev pub pieces_of : Slab Piece → Pieces
 pieces_of slab = finite.from_entries (map entry_view (entries slab))
 
-abbrev pub view_of : Inside → Pieces
-view_of inside = pieces_of inside.slab
+abbrev pub pieces_view : Inside → Pieces
+pieces_view inside = pieces_of inside.slab
 
 abbrev pub AreKeptIn : Slab Piece → Type 0
 AreKeptIn slab = (key : ℕ) (piece : Piece) → get slab key ≡ Some piece → IsPieceKept piece.kept
 
 -- each text is kept with what is found of it, and the parked pieces are counted
-pub record IsKept (inside : Inside) : Type 0 where
+pub record ArePiecesKept (inside : Inside) : Type 0 where
   pub kept : AreKeptIn inside.slab
-  pub counted : inside.parked ≡ parked_pieces (view_of inside)
+  pub counted : inside.parked ≡ parked_pieces (pieces_view inside)
 
 -- standing pieces were put into the slab, one after another, each under a key that had none
 abbrev pub ArePutIn : Slab Piece → List PieceText → List ℕ → Slab Piece → Type 0

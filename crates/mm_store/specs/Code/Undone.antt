@@ -14,5 +14,5 @@ action_of (code.Moved at to) = Moved at to
 abbrev pub undo_by : ℕ → Action → UndoView
 undo_by file action = record { file = file; action = action_of action }
 
-abbrev pub view_of : Inside → UndoView
-view_of inside = undo_by inside.file inside.action
+abbrev pub undo_view : Inside → UndoView
+undo_view inside = undo_by inside.file inside.action

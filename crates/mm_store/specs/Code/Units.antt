@@ -21,10 +21,10 @@ IsUnitError text (NoPiece count) = ⊥
 IsUnitError text TooMany = ⊥
 
 -- why a text does not become a piece of files that have so many bytes beside it
-abbrev pub IsNewError : ℕ → List ℕ → EditError → Type 0
-IsNewError held text (Text fault) = BringsFault (Some text) fault
-IsNewError held text (NotOne count) = BringsNotOne (Some text) count
-IsNewError held text TooMany = HasUnitCount text 1 × (4294967295 < held + length (ended text))
-IsNewError held text Memory = Unit {0}
-IsNewError held text NoFile = ⊥
-IsNewError held text (NoPiece count) = ⊥
+abbrev pub IsTextRefused : ℕ → List ℕ → EditError → Type 0
+IsTextRefused held text (Text fault) = BringsFault (Some text) fault
+IsTextRefused held text (NotOne count) = BringsNotOne (Some text) count
+IsTextRefused held text TooMany = HasUnitCount text 1 × (4294967295 < held + length (ended text))
+IsTextRefused held text Memory = Unit {0}
+IsTextRefused held text NoFile = ⊥
+IsTextRefused held text (NoPiece count) = ⊥

@@ -29,7 +29,7 @@ use Rattle.mm_frame.specs.Code.KeptSymbols.{AreSymbols, expression_kept, kept_or
 use Rattle.mm_frame.specs.Code.KeptTables.{table_label}
 use Rattle.mm_frame.specs.Code.KeptPairLists.{list_kept}
 use Rattle.mm_frame.specs.Code.BaseInside.{answers_of}
-use Rattle.mm_frame.specs.Code.KeptRows.{rows_of, label_in, fault_in, is_shown_in}
+use Rattle.mm_frame.specs.Code.KeptRows.{rows_of, row_label, row_fault, is_shown_in}
 use Rattle.mm_frame.specs.Code.KeptAssertions.{TellsFrame, TellsPairs}
 use Rattle.mm_frame.specs.Code.KeptBase.{AreParts, is_float_item, frame_told, list_told}
 use Rattle.mm_frame.specs.Code.KeptSparse.{value_or_none, value_kept}
@@ -189,17 +189,17 @@ labels_told all base parts are label j =
     (λ e. told.1 (found_carrier base label j (sym (are.labels label) ∙ e)), λ t. are.labels label ∙ carrier_found base label j (told.0 t))
 
 -- the label and the fault of an item, and whether it is a sound one that has a label
-pub label_told : (base : BaseView) (rows : List (Option (List ℕ) × Option (ℕ × FrameNumber))) → AreRows IsLabelTold base.said rows → (i : ℕ) → label_in (slice_get rows i) ≡ (said_at base i).label
+pub label_told : (base : BaseView) (rows : List (Option (List ℕ) × Option (ℕ × FrameNumber))) → AreRows IsLabelTold base.said rows → (i : ℕ) → row_label (slice_get rows i) ≡ (said_at base i).label
 label_told base rows are i = by (slice_get rows i) refl
   where
-    by : (o : Option (Option (List ℕ) × Option (ℕ × FrameNumber))) → slice_get rows i ≡ o → label_in o ≡ (said_at base i).label
+    by : (o : Option (Option (List ℕ) × Option (ℕ × FrameNumber))) → slice_get rows i ≡ o → row_label o ≡ (said_at base i).label
     by (Some row) e = (are.each i row e).label
     by None e = sym (ap (λ (item : Item). item.label) (item_beyond base.said i (row_none IsLabelTold base.said rows i are e)))
 
-pub fault_told_at : (base : BaseView) (rows : List (Option (List ℕ) × Option (ℕ × FrameNumber))) → AreRows IsLabelTold base.said rows → (i : ℕ) → fault_in (slice_get rows i) ≡ fault_at base i
+pub fault_told_at : (base : BaseView) (rows : List (Option (List ℕ) × Option (ℕ × FrameNumber))) → AreRows IsLabelTold base.said rows → (i : ℕ) → row_fault (slice_get rows i) ≡ fault_at base i
 fault_told_at base rows are i = by (slice_get rows i) refl
   where
-    by : (o : Option (Option (List ℕ) × Option (ℕ × FrameNumber))) → slice_get rows i ≡ o → fault_in o ≡ fault_at base i
+    by : (o : Option (Option (List ℕ) × Option (ℕ × FrameNumber))) → slice_get rows i ≡ o → row_fault o ≡ fault_at base i
     by (Some row) e = (are.each i row e).fault
     by None e = sym (fault_beyond (before base i) base.said i (row_none IsLabelTold base.said rows i are e))
 

@@ -11,7 +11,7 @@ use Rattle.std.proofs.lemmas.Option.{slice_get_past}
 use Rattle.mm_frame.specs.declared.judge.FrameFault.{FrameFault}
 use Rattle.mm_frame.specs.declared.item_rows.Rows.{Rows}
 use Rattle.mm_frame.specs.Code.KeptExpressions.{cut_from, start_at}
-use Rattle.mm_frame.specs.Code.KeptRows.{bytes_or_none, fault_or_none, fault_at, fault_told, row_told, rows_from, rows_of, label_in, fault_in, is_shown_in, AreRowsKept}
+use Rattle.mm_frame.specs.Code.KeptRows.{bytes_or_none, fault_or_none, fault_kept, fault_told, row_told, rows_from, rows_of, row_label, row_fault, is_shown_in, AreRowsKept}
 use Rattle.mm_frame.proofs.lemmas.names.ExpressionLemmas.{cut_length, cut_there, cut_added}
 
 rows_length : (n : ℕ) (labels : List (List ℕ)) (flags : List Bool) (faults : List (Option FrameFault)) → length (rows_from n labels flags faults) ≡ length labels
@@ -49,21 +49,21 @@ flag_within [] n e = absurd (false≢true e)
 flag_within (x ∷ flags) zero e = omega arith
 flag_within (x ∷ flags) (suc n) e = let l = flag_within flags n e in omega arith
 
-pub label_some : (rows : Rows) (k : ℕ) → k < length rows.ends.items → get_or rows.labelled.items k false ≡ true → label_in (slice_get (rows_of rows) k) ≡ Some (slice_range rows.bytes.items (start_at 0 rows.ends.items k) (get_or rows.ends.items k 0))
-label_some rows k l t = ap label_in (row_at rows k l) ∙ ap (λ b. cond b (Some (slice_range rows.bytes.items (start_at 0 rows.ends.items k) (get_or rows.ends.items k 0))) None) t
+pub label_some : (rows : Rows) (k : ℕ) → k < length rows.ends.items → get_or rows.labelled.items k false ≡ true → row_label (slice_get (rows_of rows) k) ≡ Some (slice_range rows.bytes.items (start_at 0 rows.ends.items k) (get_or rows.ends.items k 0))
+label_some rows k l t = ap row_label (row_at rows k l) ∙ ap (λ b. cond b (Some (slice_range rows.bytes.items (start_at 0 rows.ends.items k) (get_or rows.ends.items k 0))) None) t
 
-pub label_none : (rows : Rows) (k : ℕ) → get_or rows.labelled.items k false ≡ false → label_in (slice_get (rows_of rows) k) ≡ None
+pub label_none : (rows : Rows) (k : ℕ) → get_or rows.labelled.items k false ≡ false → row_label (slice_get (rows_of rows) k) ≡ None
 label_none rows k f = elim (dec_lt k (length rows.ends.items)) [
-  | yes l ↦ ap label_in (row_at rows k l) ∙ ap (λ b. cond b (Some (slice_range rows.bytes.items (start_at 0 rows.ends.items k) (get_or rows.ends.items k 0))) None) f
-  | no m ↦ ap label_in (no_row rows k (omega arith))
+  | yes l ↦ ap row_label (row_at rows k l) ∙ ap (λ b. cond b (Some (slice_range rows.bytes.items (start_at 0 rows.ends.items k) (get_or rows.ends.items k 0))) None) f
+  | no m ↦ ap row_label (no_row rows k (omega arith))
 ]
 
-pub fault_there : (rows : Rows) → AreRowsKept rows → (k : ℕ) → fault_in (slice_get (rows_of rows) k) ≡ fault_told (fault_at rows.faults.items k)
+pub fault_there : (rows : Rows) → AreRowsKept rows → (k : ℕ) → row_fault (slice_get (rows_of rows) k) ≡ fault_told (fault_kept rows.faults.items k)
 fault_there rows kept k = elim (dec_lt k (length rows.ends.items)) [
-  | yes l ↦ ap fault_in (row_at rows k l)
+  | yes l ↦ ap row_fault (row_at rows k l)
   | no m ↦ (
       let few = kept.faults in
-      ap fault_in (no_row rows k (omega arith)) ∙ sym (ap (λ o. fault_told (fault_or_none o)) (slice_get_past rows.faults.items k (omega arith)))
+      ap row_fault (no_row rows k (omega arith)) ∙ sym (ap (λ o. fault_told (fault_or_none o)) (slice_get_past rows.faults.items k (omega arith)))
       )
 ]
 
@@ -80,42 +80,42 @@ shown_none rows k f = elim (dec_lt k (length rows.ends.items)) [
     never true = refl
     never false = refl
 
-pub shown_some : (rows : Rows) → AreRowsKept rows → (k : ℕ) → get_or rows.labelled.items k false ≡ true → is_shown_in (slice_get (rows_of rows) k) ≡ is_none (fault_at rows.faults.items k)
+pub shown_some : (rows : Rows) → AreRowsKept rows → (k : ℕ) → get_or rows.labelled.items k false ≡ true → is_shown_in (slice_get (rows_of rows) k) ≡ is_none (fault_kept rows.faults.items k)
 shown_some rows kept k t =
     let l = flag_within rows.labelled.items k t in
     let same = kept.flags in
     let row = row_told rows.labelled.items rows.faults.items k (slice_range rows.bytes.items (start_at 0 rows.ends.items k) (get_or rows.ends.items k 0)) in
-    ap is_shown_in (row_at rows k (omega arith)) ∙ ap (λ b. is_none row.1 && is_some (cond b (Some (slice_range rows.bytes.items (start_at 0 rows.ends.items k) (get_or rows.ends.items k 0))) None)) t ∙ always (fault_at rows.faults.items k)
+    ap is_shown_in (row_at rows k (omega arith)) ∙ ap (λ b. is_none row.1 && is_some (cond b (Some (slice_range rows.bytes.items (start_at 0 rows.ends.items k) (get_or rows.ends.items k 0))) None)) t ∙ always (fault_kept rows.faults.items k)
   where
     always : (o : Option FrameFault) → (is_none (fault_told o) && true) ≡ is_none o
     always None = refl
     always (Some f) = refl
 
 -- one more fault, or a place for one
-pub place_more : (faults : List (Option FrameFault)) (n : ℕ) → fault_at (faults ++ None ∷ []) n ≡ fault_at faults n
+pub place_more : (faults : List (Option FrameFault)) (n : ℕ) → fault_kept (faults ++ None ∷ []) n ≡ fault_kept faults n
 place_more [] zero = refl
 place_more [] (suc n) = refl
 place_more (x ∷ faults) zero = refl
 place_more (x ∷ faults) (suc n) = place_more faults n
 
-pub fault_front : (faults : List (Option FrameFault)) (fault : Option FrameFault) (n : ℕ) → n < length faults → fault_at (faults ++ fault ∷ []) n ≡ fault_at faults n
+pub fault_front : (faults : List (Option FrameFault)) (fault : Option FrameFault) (n : ℕ) → n < length faults → fault_kept (faults ++ fault ∷ []) n ≡ fault_kept faults n
 fault_front [] fault n l = absurd (omega arith)
 fault_front (x ∷ faults) fault zero l = refl
 fault_front (x ∷ faults) fault (suc n) l = fault_front faults fault n (omega arith)
 
-pub fault_last : (faults : List (Option FrameFault)) (fault : Option FrameFault) (n : ℕ) → n ≡ length faults → fault_at (faults ++ fault ∷ []) n ≡ fault
+pub fault_last : (faults : List (Option FrameFault)) (fault : Option FrameFault) (n : ℕ) → n ≡ length faults → fault_kept (faults ++ fault ∷ []) n ≡ fault
 fault_last [] fault zero e = refl
 fault_last [] fault (suc n) e = absurd (omega arith)
 fault_last (x ∷ faults) fault zero e = absurd (omega arith)
 fault_last (x ∷ faults) fault (suc n) e = fault_last faults fault n (omega arith)
 
-pub no_fault : (faults : List (Option FrameFault)) (n : ℕ) → length faults ≤ n → fault_at faults n ≡ None
+pub no_fault : (faults : List (Option FrameFault)) (n : ℕ) → length faults ≤ n → fault_kept faults n ≡ None
 no_fault faults n l = ap fault_or_none (slice_get_past faults n l)
 
 -- one more
 rows_same : (n : ℕ) (labels : List (List ℕ)) (flags other : List Bool) (faults more : List (Option FrameFault))
     → ((k : ℕ) → k < n + length labels → get_or flags k false ≡ get_or other k false) → ((k : ℕ) → k < n + length labels
-    → fault_at faults k ≡ fault_at more k)
+    → fault_kept faults k ≡ fault_kept more k)
     → rows_from n labels flags faults ≡ rows_from n labels other more
 rows_same n [] flags other faults more f g = refl
 rows_same n (x ∷ labels) flags other faults more f g =
@@ -139,8 +139,8 @@ pub record AddsRow (old : Rows) (label : Option (List ℕ)) (fault : Option Fram
   pub bytes : new.bytes.items ≡ old.bytes.items ++ bytes_or_none label
   pub ends : new.ends.items ≡ old.ends.items ++ length new.bytes.items ∷ []
   pub flags : new.labelled.items ≡ old.labelled.items ++ is_some label ∷ []
-  pub same : (n : ℕ) → n < length old.ends.items → fault_at new.faults.items n ≡ fault_at old.faults.items n
-  pub here : fault_at new.faults.items (length old.ends.items) ≡ fault
+  pub same : (n : ℕ) → n < length old.ends.items → fault_kept new.faults.items n ≡ fault_kept old.faults.items n
+  pub here : fault_kept new.faults.items (length old.ends.items) ≡ fault
   pub within : length new.faults.items ≤ length old.ends.items + 1
 
 pub some_lent : {L X : Type 0} (now : L → X) (lent : Option L) → is_some (option_map now lent) ≡ is_some lent
@@ -150,7 +150,7 @@ some_lent now (Some x) = refl
 -- by the count of the items before it
 pub adds_row : (old new : Rows) (label : Option (List ℕ)) (fault : Option FrameFault) (count : ℕ) → count ≡ length old.ends.items → AreRowsKept old → new.bytes.items ≡ old.bytes.items ++ bytes_or_none label
     → new.ends.items ≡ old.ends.items ++ length new.bytes.items ∷ [] → new.labelled.items ≡ old.labelled.items ++ is_some label ∷ []
-    → (length old.faults.items ≤ count → (n : ℕ) → n < count → fault_at new.faults.items n ≡ fault_at old.faults.items n) → (length old.faults.items ≤ count → fault_at new.faults.items count ≡ fault)
+    → (length old.faults.items ≤ count → (n : ℕ) → n < count → fault_kept new.faults.items n ≡ fault_kept old.faults.items n) → (length old.faults.items ≤ count → fault_kept new.faults.items count ≡ fault)
     → (length old.faults.items ≤ count → length new.faults.items ≤ count + 1) → AddsRow old label fault new
 adds_row old new label fault count e kept bytes ends flags same here within =
     let few = kept.faults in
@@ -161,7 +161,7 @@ adds_row old new label fault count e kept bytes ends flags same here within =
       ends = ends;
       flags = flags;
       same = λ n m. same l n (omega arith);
-      here = ap (fault_at new.faults.items) (sym e) ∙ here l;
+      here = ap (fault_kept new.faults.items) (sym e) ∙ here l;
       within = omega arith;
     }
 
@@ -194,4 +194,4 @@ rows_more old new label fault k a =
     let told : cond (get_or new.labelled.items (0 + length labels) false) (Some bytes) None ≡ label = ap (λ b. cond b (Some bytes) None) flag ∙ labelled_told label in
     ap (λ w. rows_from 0 w new.labelled.items new.faults.items) cut
     ∙ rows_last 0 labels bytes new.labelled.items new.faults.items
-    ∙ (λ i. rows_same 0 labels new.labelled.items old.labelled.items new.faults.items old.faults.items flags faults i ++ (told i, (ap (λ n. fault_told (fault_at new.faults.items n)) y ∙ ap fault_told a.here) i) ∷ [])
+    ∙ (λ i. rows_same 0 labels new.labelled.items old.labelled.items new.faults.items old.faults.items flags faults i ++ (told i, (ap (λ n. fault_told (fault_kept new.faults.items n)) y ∙ ap fault_told a.here) i) ∷ [])

@@ -16,7 +16,7 @@ use Rattle.mm_frame.specs.Code.BlockMarks.{stays_by}
 use Rattle.mm_frame.specs.Code.LastItems.{is_active_at}
 use Rattle.mm_frame.specs.Code.Numbers.{IsNameNumber}
 use Rattle.mm_frame.specs.Code.KeptPairTable.{row_at, IsDisjointAt, IsCommon, ReadsPairs}
-use Rattle.mm_frame.specs.Code.KeptAsked.{IsFoundBefore, IsAnswer, KnowsAsked}
+use Rattle.mm_frame.specs.Code.KeptAsked.{IsFoundBefore, IsPairAnswer, KnowsAsked}
 use Rattle.mm_frame.proofs.lemmas.scope.ActiveBySplit.{stays_join, stays_front}
 use Rattle.mm_frame.proofs.lemmas.pairs.PairTableLemmas.{disjoint_front, disjoint_cases, active_before, HavePair, paired_from, paired_to, active_at_marks}
 
@@ -57,7 +57,7 @@ disjoint_back before item name n l d = elim (disjoint_cases before item name n d
   | inr new ↦ (let e = new.0 in absurd (omega arith))
 ]
 
-answer_more : (before : List Item) (item : Item) (x y : List ℕ) (upto : ℕ) (common : Option ℕ) → IsAnswer before x y upto common → IsAnswer (before ++ item ∷ []) x y upto common
+answer_more : (before : List Item) (item : Item) (x y : List ℕ) (upto : ℕ) (common : Option ℕ) → IsPairAnswer before x y upto common → IsPairAnswer (before ++ item ∷ []) x y upto common
 answer_more before item x y upto common a =
     let w = a.within in
     let long = length-append before (item ∷ []) in
@@ -105,7 +105,7 @@ IsEnded blocks common = (n : ℕ) → common ≡ Some n → stays_by (drop (suc 
 
 pub active_told : (all : List (List ℕ)) (before : List Item) (table : PairTable) (blocks : List Mark) (first second : ℕ) (x y : List ℕ) (upto : ℕ)
     (common : Option ℕ) → ReadsPairs all before table blocks → IsNameNumber all first x → IsNameNumber all second y
-    → (first ≡ second → ⊥) → IsAnswer before x y upto common → IsActiveYet blocks common → true ≡ are_paired (active_pairs before) (as_variable x, as_variable y)
+    → (first ≡ second → ⊥) → IsPairAnswer before x y upto common → IsActiveYet blocks common → true ≡ are_paired (active_pairs before) (as_variable x, as_variable y)
 active_told all before table blocks first second x y upto common k a b apart answer yet =
     let there = answer.there yet.0 yet.1 in
     sym (paired_to before x y yet.0 (names_apart all first second x y before table blocks k a b apart) (record { first = there.0; second = there.1; stayed = active_at_marks before blocks yet.0 k.marks ∙ yet.2 }))
@@ -113,7 +113,7 @@ active_told all before table blocks first second x y upto common k a b apart ans
 -- where none is active of those that were looked at, an active one is no earlier
 later_common : (all : List (List ℕ)) (before : List Item) (table : PairTable) (blocks : List Mark) (first second : ℕ) (x y : List ℕ) (upto : ℕ)
     (common : Option ℕ) → ReadsPairs all before table blocks → IsNameNumber all first x → IsNameNumber all second y
-    → IsAnswer before x y upto common → IsEnded blocks common → (n : ℕ) → HavePair before x y n → upto ≤ n
+    → IsPairAnswer before x y upto common → IsEnded blocks common → (n : ℕ) → HavePair before x y n → upto ≤ n
 later_common all before table blocks first second x y upto common k a b answer ended n have = elim (dec_lt n upto) [
   | yes l ↦ (
       let found = answer.cover n l have.first have.second have.stayed in
@@ -141,15 +141,15 @@ first_told all before table blocks first second x y from None k a b apart later 
 
 pub ended_told : (all : List (List ℕ)) (before : List Item) (table : PairTable) (blocks : List Mark) (first second : ℕ) (x y : List ℕ) (upto : ℕ)
     (known common : Option ℕ) → ReadsPairs all before table blocks → IsNameNumber all first x → IsNameNumber all second y
-    → (first ≡ second → ⊥) → IsAnswer before x y upto known → IsEnded blocks known → IsFirstFrom blocks (row_at table first) (row_at table second) upto common → is_some common ≡ are_paired (active_pairs before) (as_variable x, as_variable y)
+    → (first ≡ second → ⊥) → IsPairAnswer before x y upto known → IsEnded blocks known → IsFirstFrom blocks (row_at table first) (row_at table second) upto common → is_some common ≡ are_paired (active_pairs before) (as_variable x, as_variable y)
 ended_told all before table blocks first second x y upto known common k a b apart answer ended f =
     first_told all before table blocks first second x y upto common k a b apart (later_common all before table blocks first second x y upto known k a b answer ended) f
 
 -- so there is one more answer
 pub next_answer : (all : List (List ℕ)) (before : List Item) (table : PairTable) (blocks : List Mark) (first second : ℕ) (x y : List ℕ) (upto end : ℕ)
     (known common : Option ℕ) → ReadsPairs all before table blocks → IsNameNumber all first x → IsNameNumber all second y
-    → IsAnswer before x y upto known → IsEnded blocks known → IsFirstFrom blocks (row_at table first) (row_at table second) upto common
-    → ((count : ℕ) → ((n : ℕ) → Contains (row_at table first) n → n < count) → end ≤ count) → IsAnswer before x y end common
+    → IsPairAnswer before x y upto known → IsEnded blocks known → IsFirstFrom blocks (row_at table first) (row_at table second) upto common
+    → ((count : ℕ) → ((n : ℕ) → Contains (row_at table first) n → n < count) → end ≤ count) → IsPairAnswer before x y end common
 next_answer all before table blocks first second x y upto end known common k a b answer ended f short = record {
   within = short (length before) (λ n c. (let d = (k.knows first x a).there n c in slice_get_within before n d.item d.there));
   cover = λ n l p q active. (

@@ -10,7 +10,7 @@ use Rattle.mm_store.specs.mm_text.declared.word.WordKind.TheVariants.{Plain}
 use Rattle.mm_store.specs.mm_text.Language.WordsLeft.{SkipsPlainWords}
 use Rattle.mm_store.specs.mm_text.Language.Unit.{Token, token_of, tokens_of, spellings}
 use Rattle.mm_frame.specs.Language.Item.{Kind, Item, is_labelled}
-use Rattle.mm_frame.specs.Code.PlainWords.{AreFew, TakesLabel, word_bytes, plain_words, plain_bytes}
+use Rattle.mm_frame.specs.Code.PlainWords.{AreFewWords, TakesLabel, word_bytes, plain_words, plain_bytes}
 use Rattle.mm_frame.specs.Language.Statement.{is_plain_kind, is_plain, token_names, plain_from, symbols_from, symbols_in, proof_in, label_in, item_of}
 
 prefix_len-map : {X Y : Type 0} (f : X → Y) (p : Y → Bool) (xs : List X) → prefix_len p (map f xs) ≡ prefix_len (λ x. p (f x)) xs
@@ -231,5 +231,5 @@ module _ (text : List ℕ) (kind : Kind) (words : List Word) (label : Option Wor
       omega (arith, first, plain, ap length h.all.are, ap length h.all.rest, length-drop (n + 1) h.first)
 
 -- behind the first word there are few
-pub few_more : (word : List ℕ) (words : List (List ℕ)) → AreFew (word ∷ words) → AreFew words
+pub few_more : (word : List ℕ) (words : List (List ℕ)) → AreFewWords (word ∷ words) → AreFewWords words
 few_more word words few = record { few = omega (arith, few.few); some = few.some.1; bytes = omega (arith, few.bytes, length-append word (flat_map (λ (w : List ℕ). w) words)) }

@@ -1,7 +1,7 @@
 use Rattle.std.proofs.Common.{List, ℕ, sym, subst, rules}
 use Rattle.mm_report.specs.declared.script.ScriptError.{ScriptError}
 use Rattle.mm_report.specs.declared.script.ScriptError.TheVariants as errors
-use Rattle.mm_report.specs.Code.Answered.{HasAnswered, StopsScript}
+use Rattle.mm_report.specs.Code.Answered.{HasAnswered, StopsAnswering}
 use Rattle.mm_report.specs.Language.Stream.{unread, written}
 use Rattle.mm_report.proofs.LoopLemmas.{if_err_is, none_answered, when_err}
 use Rattle.mm_report.proofs.script.run_script.Goals as goal
@@ -18,7 +18,7 @@ returns-in_err-answer_next g c =
     let all = unread g.R.Read.remaining c.args.reading.now in
     let before = written g.W.Write.contents c.args.writing.now in
     let next = c.answer_next.new in
-    let P = StopsScript g.R.Read.remaining g.W.Write.contents c.args.session.now next.session all next.reading before next.writing in
+    let P = StopsAnswering g.R.Read.remaining g.W.Write.contents c.args.session.now next.session all next.reading before next.writing in
     let fails = if_err_is c.from_residual.result P c.in_err-answer_next.field-0.0 c.from_residual.ensures.1
     (c.in_err-answer_next.ensures.err c.args.session.now all before c.loop-input.invariant) in
     let stops = λ (error : ScriptError). when_err c.from_residual.result P error fails in

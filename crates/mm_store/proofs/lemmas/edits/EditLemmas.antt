@@ -11,7 +11,7 @@ use Rattle.mm_store.specs.Language.Undoing.{keys_in}
 use Rattle.mm_store.specs.Language.Edits.{Asked, edited_name, edited_text, IsAmong, edited, after_edit, IsPlaced, NamesNoMember, BringsOneUnit, BringsFault, BringsNotOne, IsEditOf}
 use Rattle.mm_store.specs.Language.Answers.{IsEditError}
 use Rattle.mm_store.specs.Code.Edited.{pieces_in, with_pieces, NamesPlace}
-use Rattle.mm_store.specs.Code.Units.{IsNewError}
+use Rattle.mm_store.specs.Code.Units.{IsTextRefused}
 use Rattle.mm_store.proofs.lemmas.files.NumberLemmas.{IsThere, file_there, with_pieces_is}
 
 -- the edit names a file, and a place that it does not have
@@ -49,7 +49,7 @@ module _ {view : FilesView} {edit : Asked} {number : ℕ} (had : NamesPlace edit
     -- what is told of a text is told of the edit that brings it
     pub not_new : (held : ℕ)
         → (4294967295 < held + length (ended text) → 4294967295 < bytes_of (with_pieces (plain view) number (edited edit (pieces_in (plain view) number))))
-        → (error : EditError) → IsNewError held text error → IsEditError edit (plain view) error
+        → (error : EditError) → IsTextRefused held text error → IsEditError edit (plain view) error
     not_new held more (Text fault) fails = (number, found.file, placed, subst (λ o. BringsFault o fault) (sym brings) fails)
     not_new held more (NotOne units) fails = (number, found.file, placed, subst (λ o. BringsNotOne o units) (sym brings) fails)
     not_new held more TooMany fails = (number, found.file, placed, subst BringsOneUnit (sym brings) fails.0, subst (λ files. 4294967295 < bytes_of files) after_is (more fails.1))

@@ -7,7 +7,7 @@ use Rattle.std.proofs.lemmas.List.Edits.{length-insert, length-remove, get_or-in
 use Rattle.std.specs.FinMap as finite
 use Rattle.mm_store.specs.declared.undo.Action.{Action}
 use Rattle.mm_store.specs.declared.undo.Undo.TheInside.{Inside}
-use Rattle.mm_store.specs.Code.Undone.{undo_by, view_of}
+use Rattle.mm_store.specs.Code.Undone.{undo_by, undo_view}
 use Rattle.mm_store.proofs.lemmas.files.PieceLemmas.{text_drop_other}
 use Rattle.mm_store.specs.Language.Undoing as action
 use Rattle.mm_store.proofs.lemmas.files.MapLemmas.{get_put_other, get_drop_same, get_drop_other, same_but}
@@ -24,7 +24,7 @@ use Rattle.mm_store.specs.Language.Pieces.{PieceState, Standing, Parked, Removal
 use Rattle.mm_store.specs.Language.Undoing.{UndoView, EditAction, KeepsOthers, reversed, spent, undone_key, settled_key, keys_in, key_at, moved_list, moved, undone}
 
 -- what an undo says, by what was done
-pub undo_is : (inside : Inside) (did : Action) (undo : UndoView) → view_of inside ≡ undo → inside.action ≡ did → undo_by inside.file did ≡ undo
+pub undo_is : (inside : Inside) (did : Action) (undo : UndoView) → undo_view inside ≡ undo → inside.action ≡ did → undo_by inside.file did ≡ undo
 undo_is inside did undo is same = ap (undo_by inside.file) (sym same) ∙ is
 
 pub insert_removed : (xs : List ℕ) (i : ℕ) → i < length xs → insert (remove xs i) i (get_or xs i 0) ≡ xs

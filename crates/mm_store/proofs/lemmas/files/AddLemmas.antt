@@ -23,7 +23,7 @@ use Rattle.mm_store.specs.Language.FilesView.{File, KeyedFile, plain, plain_file
 use Rattle.mm_store.specs.Code.Starts.{HasStarts}
 use Rattle.mm_store.specs.Code.Inside.{ArePut}
 use Rattle.mm_store.specs.Code.Room.{HasRoom}
-use Rattle.mm_store.specs.Code.Kept.{view_of, file_of, one, times, places, standing_count, deleted_state, deletions, IsRoomy, HaveRoom, HaveStarts, IsKept}
+use Rattle.mm_store.specs.Code.Kept.{files_view, file_of, one, times, places, standing_count, deleted_state, deletions, IsRoomy, HaveRoom, HaveStarts, AreFilesKept}
 use Rattle.mm_store.proofs.lemmas.files.MapLemmas.{get_put_same, get_put_other}
 use Rattle.mm_store.proofs.lemmas.files.PieceLemmas.{stands_put}
 use Rattle.mm_store.proofs.lemmas.expansion.WeightLemmas.{weight_fresh}
@@ -99,7 +99,7 @@ pub bytes_more : (files : List File) (file : File) → bytes_of (files ++ file �
 bytes_more [] file = omega arith
 bytes_more (x ∷ files) file = omega (arith, bytes_more files file)
 
-module _ (inside : Inside) (kept : IsKept inside) (e : Vec ℕ Global × FileText) (texts : List (List ℕ)) (now : Pieces) (put : ArePut inside.pieces texts e.1.keys.items now) where
+module _ (inside : Inside) (kept : AreFilesKept inside) (e : Vec ℕ Global × FileText) (texts : List (List ℕ)) (now : Pieces) (put : ArePut inside.pieces texts e.1.keys.items now) where
   abbrev es : List (Vec ℕ Global × FileText)
   es = inside.files.entries
 
@@ -116,10 +116,10 @@ module _ (inside : Inside) (kept : IsKept inside) (e : Vec ℕ Global × FileTex
       ∙ ap (λ (ts : List (List ℕ)). map (plain_file inside.pieces) (map file_of es) ++ record { name = e.0.items; pieces = ts; tail = e.1.tail.items } ∷ []) (put_texts inside.pieces now texts e.1.keys.items put)
 
   pub kept_added : (after : Inside) → after.files.entries ≡ es ++ e ∷ [] → after.pieces ≡ now → e.1.deleted ≡ 0 → HasRoom e.1 → HasStarts texts e.1 → HasWords e.1.tail.items []
-      → after.bytes ≡ inside.bytes + length (concat texts ++ e.1.tail.items) → after.bytes ≤ 4294967295 → IsKept after
+      → after.bytes ≡ inside.bytes + length (concat texts ++ e.1.tail.items) → after.bytes ≤ 4294967295 → AreFilesKept after
   kept_added after is pieces deleted room starts tail counted within =
       let p = inside.pieces in
-      let plain_is : plain (view_of after) ≡ map (plain_file p) (map file_of es) ++ new_file ∷ [] = ap (λ m. map (plain_file m) (map file_of after.files.entries)) pieces ∙ ap (λ es. map (plain_file now) (map file_of es)) is ∙ plain_added in
+      let plain_is : plain (files_view after) ≡ map (plain_file p) (map file_of es) ++ new_file ∷ [] = ap (λ m. map (plain_file m) (map file_of after.files.entries)) pieces ∙ ap (λ es. map (plain_file now) (map file_of es)) is ∙ plain_added in
       let same : (m : ℕ) → deletions m now ≡ deletions m p = put_deletions p now texts e.1.keys.items put in
       let none = kept.known (length es) (omega arith) in
       record {

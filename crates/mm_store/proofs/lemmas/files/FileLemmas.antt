@@ -14,7 +14,7 @@ use Rattle.mm_store.specs.declared.files.Files.TheInside.{Inside}
 use Rattle.mm_store.specs.Language.Pieces.{text_under}
 use Rattle.mm_store.specs.Language.FilesView.{FilesView, KeyedFile, plain, bytes_of}
 use Rattle.mm_store.specs.Language.Undoing.{keys_in}
-use Rattle.mm_store.specs.Code.Kept.{view_of, file_of, places, standing_count, IsRoomy, IsKept}
+use Rattle.mm_store.specs.Code.Kept.{files_view, file_of, places, standing_count, IsRoomy, AreFilesKept}
 use Rattle.mm_store.specs.Code.Starts.{KnowsStarts}
 use Rattle.mm_store.proofs.lemmas.files.EntryLemmas.{texts_of, keys_at, room_at}
 use Rattle.mm_store.proofs.lemmas.files.FilesLemmas.{file_small}
@@ -29,7 +29,7 @@ pub record IsFile (inside : Inside) (n : ℕ) (v : FileText) : Type 0 where
   pub starts : KnowsStarts inside.pieces v
   pub small : length (concat (map (text_under inside.pieces) v.keys.items)) ≤ 4294967295
 
-pub file_is : (inside : Inside) (n : ℕ) (v : FileText) → IsKept inside → slice_get (texts_of inside.files.entries) n ≡ Some v → IsFile inside n v
+pub file_is : (inside : Inside) (n : ℕ) (v : FileText) → AreFilesKept inside → slice_get (texts_of inside.files.entries) n ≡ Some v → IsFile inside n v
 file_is inside n v kept here = record {
   here = here;
   keys = keys_at inside.files.entries n v here;
@@ -39,7 +39,7 @@ file_is inside n v kept here = record {
 }
 
 -- as it is lent to be changed
-pub lent : {o : Option (MutBor FileText)} {file : MutBor FileText} (inside : Inside) (n : ℕ) → IsKept inside → option_copied_mut o ≡ slice_get (texts_of inside.files.entries) n → o ≡ Some file → IsFile inside n file.now
+pub lent : {o : Option (MutBor FileText)} {file : MutBor FileText} (inside : Inside) (n : ℕ) → AreFilesKept inside → option_copied_mut o ≡ slice_get (texts_of inside.files.entries) n → o ≡ Some file → IsFile inside n file.now
 lent {o} {file} inside n kept is some = file_is inside n file.now kept (sym is ∙ ap option_copied_mut some)
 
 -- and to be read
@@ -48,7 +48,7 @@ pub record IsShown (inside : Inside) (n : ℕ) (entry : Vec ℕ Global × FileTe
   pub file : IsFile inside n entry.1
 
 pub shown : {entries : List (Vec ℕ Global × FileText)} {o : Option (Bor (Vec ℕ Global) × Bor FileText)} {pair : Bor (Vec ℕ Global) × Bor FileText} (inside : Inside) (n : ℕ)
-    → IsKept inside → entries ≡ inside.files.entries → option_map deref_pair o ≡ slice_get entries n → o ≡ Some pair → IsShown inside n (deref_pair pair)
+    → AreFilesKept inside → entries ≡ inside.files.entries → option_map deref_pair o ≡ slice_get entries n → o ≡ Some pair → IsShown inside n (deref_pair pair)
 shown {entries} {o} {pair} inside n kept same is some =
     let there : slice_get inside.files.entries n ≡ Some (deref_pair pair) = ap (λ es. slice_get es n) (sym same) ∙ sym is ∙ ap (option_map deref_pair) some in
     let second = λ (e : Vec ℕ Global × FileText). e.1 in
@@ -61,7 +61,7 @@ pub record IsPiece (inside : Inside) (n at : ℕ) : Type 0 where
   pub entry : n < length inside.files.entries
   pub within : length (text_under inside.pieces (get_or (keys_in (map file_of inside.files.entries) n) at 0)) ≤ inside.bytes
 
-pub piece_is : {view : FilesView} (inside : Inside) (n at : ℕ) → IsKept inside → view_of inside ≡ view → at < length (keys_in view.keyed n) → IsPiece inside n at
+pub piece_is : {view : FilesView} (inside : Inside) (n at : ℕ) → AreFilesKept inside → files_view inside ≡ view → at < length (keys_in view.keyed n) → IsPiece inside n at
 piece_is {view} inside n at kept is fits =
     let fs : List KeyedFile = map file_of inside.files.entries in
     let there : at < length (keys_in fs n) = subst (λ (view : FilesView). at < length (keys_in view.keyed n)) (sym is) fits in
@@ -76,8 +76,8 @@ pub old_key : {inside : Inside} {n key : ℕ} {v : FileText} → IsFile inside n
 old_key file at value = value ∙ ap (λ ks. get_or ks at 0) (sym file.keys)
 
 -- what is kept, said of the view
-pub once_in : {inside : Inside} {view : FilesView} → IsKept inside → view_of inside ≡ view → (q : ℕ) → places q view.keyed ≡ standing_count (finite.get view.pieces q)
+pub once_in : {inside : Inside} {view : FilesView} → AreFilesKept inside → files_view inside ≡ view → (q : ℕ) → places q view.keyed ≡ standing_count (finite.get view.pieces q)
 once_in kept is = subst (λ (view : FilesView). (q : ℕ) → places q view.keyed ≡ standing_count (finite.get view.pieces q)) is kept.once
 
-pub small_in : {inside : Inside} {view : FilesView} → IsKept inside → view_of inside ≡ view → bytes_of (plain view) ≤ 4294967295
+pub small_in : {inside : Inside} {view : FilesView} → AreFilesKept inside → files_view inside ≡ view → bytes_of (plain view) ≤ 4294967295
 small_in kept is = subst (λ (view : FilesView). bytes_of (plain view) ≤ 4294967295) is (omega (arith, kept.counted, kept.within))

@@ -7,7 +7,7 @@ use Rattle.mm_store.specs.declared.files.Files.TheInside.{Inside}
 use Rattle.mm_store.specs.Language.Pieces.{HeldPiece}
 use Rattle.mm_store.specs.Language.FilesView.{KeyedFile}
 use Rattle.mm_store.specs.Language.FileFacts.{HoldsPieces}
-use Rattle.mm_store.specs.Code.Kept.{file_of, view_of, one, times, places, standing_count, IsKept}
+use Rattle.mm_store.specs.Code.Kept.{file_of, files_view, one, times, places, standing_count, AreFilesKept}
 use Rattle.mm_store.proofs.lemmas.files.ListLemmas.{one_same}
 
 key_times : (keys : List ℕ) (n d : ℕ) → n < length keys → 1 ≤ times (get_or keys n d) keys
@@ -24,7 +24,7 @@ some_standing : (o : Option HeldPiece) → 1 ≤ standing_count o → IsSome o
 some_standing None h = absurd (omega arith)
 some_standing (Some piece) h = refl
 
-pub pieces_held : (inside : Inside) → IsKept inside → HoldsPieces (view_of inside)
+pub pieces_held : (inside : Inside) → AreFilesKept inside → HoldsPieces (files_view inside)
 pieces_held inside kept m file h n d k =
     let key = get_or (get_or (map file_of inside.files.entries) m file).keys n d in
     some_standing (finite.get inside.pieces key) (omega (arith, kept.once key, key_places (map file_of inside.files.entries) m n file d h k))

@@ -22,7 +22,7 @@ use Rattle.mm_store.proofs.lemmas.places.ChangeLemmas.{starts_after}
 use Rattle.mm_store.proofs.lemmas.places.StartLemmas.{starts_stay}
 use Rattle.mm_store.specs.Code.Edited.{pieces_in, with_pieces}
 use Rattle.mm_store.proofs.lemmas.files.EntryLemmas.{texts_of, keys_at, view_set, room_at, room_same, room_set, starts_at, starts_set, tail_at, same_view}
-use Rattle.mm_store.specs.Code.Kept.{view_of, file_of, places, standing_count, deleted_state, deletions, HaveStarts, IsKept}
+use Rattle.mm_store.specs.Code.Kept.{files_view, file_of, places, standing_count, deleted_state, deletions, HaveStarts, AreFilesKept}
 use Rattle.mm_store.specs.Language.FilesView.{FilesView, plain, KeyedFile, plain_file, bytes_of}
 use Rattle.mm_store.specs.Language.Pieces.{Replaced, Deleted, text_under, HeldPiece, Pieces, IsParked}
 use Rattle.mm_store.specs.Language.Undoing.{keys_in, with_keys}
@@ -46,10 +46,10 @@ module _ (inside : Inside) (n : ℕ) (v w : FileText) (here : slice_get (texts_o
   files_is : map file_of (set_value_at inside.files.entries n w) ≡ with_keys (map file_of inside.files.entries) n keys
   files_is = view_set inside.files.entries n v w here tail ∙ ap (with_keys (map file_of inside.files.entries) n) items
 
-  pub view_after : view_of after ≡ record { keyed = with_keys (map file_of inside.files.entries) n keys; pieces = now }
+  pub view_after : files_view after ≡ record { keyed = with_keys (map file_of inside.files.entries) n keys; pieces = now }
   view_after = same_view _ _ files_is pieces
 
-  pub kept_after : IsKept inside
+  pub kept_after : AreFilesKept inside
       → ((q : ℕ) → places q (with_keys (map file_of inside.files.entries) n keys) ≡ standing_count (finite.get now q))
       → ((m : ℕ) → m ≢ n → deletions m now ≡ deletions m inside.pieces)
       → w.deleted ≡ deletions n now
@@ -59,7 +59,7 @@ module _ (inside : Inside) (n : ℕ) (v w : FileText) (here : slice_get (texts_o
       → (members : List (List ℕ))
       → map (plain_file now) (with_keys (map file_of inside.files.entries) n keys) ≡ with_pieces (map (plain_file inside.pieces) (map file_of inside.files.entries)) n members
       → HasStarts members w
-      → IsKept after
+      → AreFilesKept after
   kept_after kept once others parked room counted within members means starts = record {
     once = λ q. ap (places q) files_is ∙ once q ∙ ap (λ p. standing_count (finite.get p q)) (sym pieces);
     room = room_set inside.pieces actual 0 inside.files.entries n n w (omega arith) (λ m d. ap (deletions m) pieces ∙ others m d) (record { parked = parked ∙ ap (deletions n) (sym pieces); room = room }) kept.room;
@@ -67,10 +67,10 @@ module _ (inside : Inside) (n : ℕ) (v w : FileText) (here : slice_get (texts_o
     counted = counted ∙ ap (λ p. bytes_of (map (plain_file p) (with_keys (map file_of inside.files.entries) n keys))) (sym pieces) ∙ ap (λ gs. bytes_of (map (plain_file actual) gs)) (sym files_is);
     within = within;
     starts = subst (λ files. HaveStarts files (set_value_at inside.files.entries n w)) (sym (ap (λ v. plain v) view_after ∙ means))
-        (starts_set (plain (view_of inside)) inside.files.entries n w members kept.starts starts (subst (λ (t : Vec ℕ Global). HasWords t.items []) (sym tail) (tail_at (plain (view_of inside)) inside.files.entries n v kept.starts here)));
+        (starts_set (plain (files_view inside)) inside.files.entries n w members kept.starts starts (subst (λ (t : Vec ℕ Global). HasWords t.items []) (sym tail) (tail_at (plain (files_view inside)) inside.files.entries n v kept.starts here)));
   }
 
-  pub kept_edited : IsKept inside
+  pub kept_edited : AreFilesKept inside
       → ((q : ℕ) → places q (with_keys (map file_of inside.files.entries) n keys) ≡ standing_count (finite.get now q))
       → ((m : ℕ) → m ≢ n → deletions m now ≡ deletions m inside.pieces)
       → w.deleted ≡ deletions n now
@@ -79,7 +79,7 @@ module _ (inside : Inside) (n : ℕ) (v w : FileText) (here : slice_get (texts_o
       → bytes ≤ 4294967295
       → (members : List (List ℕ))
       → map (plain_file now) (with_keys (map file_of inside.files.entries) n keys) ≡ with_pieces (map (plain_file inside.pieces) (map file_of inside.files.entries)) n members
-      → (p : Pieces) → map (text_under p) keys ≡ map (text_under now) keys → n < length (map (file_of {Y = Global}) inside.files.entries) → KnowsStarts p w → IsKept after
+      → (p : Pieces) → map (text_under p) keys ≡ map (text_under now) keys → n < length (map (file_of {Y = Global}) inside.files.entries) → KnowsStarts p w → AreFilesKept after
   kept_edited kept once others parked room counted within members means p same there knows =
       kept_after kept once others parked room counted within members means (starts_after (map file_of inside.files.entries) inside.pieces p now n keys members there means same w items knows)
 
@@ -89,31 +89,31 @@ module _ (inside : Inside) (n : ℕ) (v w : FileText) (here : slice_get (texts_o
   same_keys : w.keys.items ≡ keys_in (map file_of inside.files.entries) n
   same_keys = items ∙ sym (keys_at inside.files.entries n v here)
 
-  pub reserved_view : view_of (record { files = with_value_at inside.files n w; pieces = actual; bytes = inside.bytes }) ≡ view_of inside
+  pub reserved_view : files_view (record { files = with_value_at inside.files n w; pieces = actual; bytes = inside.bytes }) ≡ files_view inside
   reserved_view =
       view_after inside n v w here tail (keys_in (map file_of inside.files.entries) n) same_keys actual inside.pieces pieces inside.bytes
       ∙ ap (λ (files : List KeyedFile). record { keyed = files; pieces = inside.pieces }) (with_same (map file_of inside.files.entries) n)
 
   pub reserved_kept : w.deleted ≡ v.deleted → HasRoom w → (KnowsStarts inside.pieces v → KnowsStarts inside.pieces w)
-      → IsKept inside → IsKept (record { files = with_value_at inside.files n w; pieces = actual; bytes = inside.bytes })
+      → AreFilesKept inside → AreFilesKept (record { files = with_value_at inside.files n w; pieces = actual; bytes = inside.bytes })
   reserved_kept deleted room knows kept =
       let had = room_at inside.pieces 0 inside.files.entries n n v (omega arith) kept.room here in
       let fs : List KeyedFile = map file_of inside.files.entries in
       let same = with_same fs n in
-      let members = pieces_in (plain (view_of inside)) n in
+      let members = pieces_in (plain (files_view inside)) n in
       let f = text_under inside.pieces in
       let texts : members ≡ map f v.keys.items = plain_pieces inside.pieces fs n ∙ ap (map f) (keys_at inside.files.entries n v here) in
-      let were : HasStarts members v = starts_at (plain (view_of inside)) inside.files.entries n v kept.starts here in
+      let were : HasStarts members v = starts_at (plain (files_view inside)) inside.files.entries n v kept.starts here in
       kept_after inside n v w here tail (keys_in fs n) same_keys actual inside.pieces pieces inside.bytes kept
       (λ q. ap (places q) same ∙ kept.once q) (λ m d. refl) (deleted ∙ had.parked) room
       (kept.counted ∙ ap (λ fs. bytes_of (map (plain_file inside.pieces) fs)) (sym same)) kept.within
-      members (ap (map (plain_file inside.pieces)) same ∙ sym (with_pieces_same (plain (view_of inside)) n))
+      members (ap (map (plain_file inside.pieces)) same ∙ sym (with_pieces_same (plain (files_view inside)) n))
       (subst (λ ts. HasStarts ts w) (ap (map f) items ∙ sym texts) (knows (subst (λ ts. HasStarts ts v) texts were)))
 
   -- in the words of the call that makes room
-  pub reserved : {view : FilesView} → IsKept inside → view_of inside ≡ view → w.deleted ≡ v.deleted → HasRoom w → w.known ≡ v.known
+  pub reserved : {view : FilesView} → AreFilesKept inside → files_view inside ≡ view → w.deleted ≡ v.deleted → HasRoom w → w.known ≡ v.known
       → ((number : ℕ) (default : Start) → number ≤ deque_len v.keys → get_or w.starts.items number default ≡ get_or v.starts.items number default)
-      → IsKept (record { files = with_value_at inside.files n w; pieces = actual; bytes = inside.bytes }) × (view_of (record { files = with_value_at inside.files n w; pieces = actual; bytes = inside.bytes }) ≡ view)
+      → AreFilesKept (record { files = with_value_at inside.files n w; pieces = actual; bytes = inside.bytes }) × (files_view (record { files = with_value_at inside.files n w; pieces = actual; bytes = inside.bytes }) ≡ view)
   reserved kept is deleted room known starts = (reserved_kept deleted room (starts_stay inside.pieces v w items known starts) kept, reserved_view ∙ is)
 
 pub texts_set : {Y : Type 0} (es : List (Vec ℕ Y × FileText)) (n : ℕ) (v w : FileText) → slice_get (texts_of es) n ≡ Some v → slice_get (texts_of (set_value_at es n w)) n ≡ Some w
@@ -122,7 +122,7 @@ texts_set (e ∷ es) zero v w there = refl
 texts_set (e ∷ es) (suc n) v w there = texts_set es n v w there
 
 -- the files after a piece that was replaced is dropped
-pub settled_kept : (inside : Inside) (n old : ℕ) → IsParked inside.pieces old n Replaced → (actual : Pieces) → actual ≡ finite.remove inside.pieces old → IsKept inside → IsKept (record { files = inside.files; pieces = actual; bytes = inside.bytes })
+pub settled_kept : (inside : Inside) (n old : ℕ) → IsParked inside.pieces old n Replaced → (actual : Pieces) → actual ≡ finite.remove inside.pieces old → AreFilesKept inside → AreFilesKept (record { files = inside.files; pieces = actual; bytes = inside.bytes })
 settled_kept inside n old is_parked actual is kept =
     let p = inside.pieces in
     let p' = finite.remove p old in
@@ -147,9 +147,9 @@ below_bound n bound d beyond some = elim (cases_eq (bound - n) 0) [
 ]
 
 -- a file has the pieces that were deleted from it
-pub deleted_from : {view : FilesView} (inside : Inside) (n old : ℕ) → IsKept inside → view_of inside ≡ view → IsParked view.pieces old n Deleted → 0 < deletions n inside.pieces
+pub deleted_from : {view : FilesView} (inside : Inside) (n old : ℕ) → AreFilesKept inside → files_view inside ≡ view → IsParked view.pieces old n Deleted → 0 < deletions n inside.pieces
 deleted_from inside n old kept is is_parked =
     omega (arith, settled_here (map file_of inside.files.entries) inside.pieces n 0 kept.once old (subst (λ (view : FilesView). IsParked view.pieces old n Deleted) (sym is) is_parked))
 
-pub deleted_file : {view : FilesView} (inside : Inside) (n old : ℕ) → IsKept inside → view_of inside ≡ view → IsParked view.pieces old n Deleted → n < length inside.files.entries
+pub deleted_file : {view : FilesView} (inside : Inside) (n old : ℕ) → AreFilesKept inside → files_view inside ≡ view → IsParked view.pieces old n Deleted → n < length inside.files.entries
 deleted_file inside n old kept is is_parked = below_bound n (length inside.files.entries) (deletions n inside.pieces) (kept.known n) (deleted_from inside n old kept is is_parked)

@@ -12,7 +12,7 @@ use Rattle.mm_store.specs.Language.Pieces.{Pieces, text_under}
 use Rattle.mm_store.specs.Language.FilesView.{File, FilesView, plain, plain_file, text_of}
 use Rattle.mm_store.specs.Language.FileFacts.{IsByte, piece_offset}
 use Rattle.mm_store.specs.Code.Lines.{bytes_before}
-use Rattle.mm_store.specs.Code.Kept.{view_of, file_of}
+use Rattle.mm_store.specs.Code.Kept.{files_view, file_of}
 use Rattle.mm_store.proofs.lemmas.places.PlaceLemmas.{before_byte}
 
 -- a byte of one of these texts, and the bytes of all before it
@@ -29,7 +29,7 @@ in_file file piece at bytes there within = record {
 }
 
 module _ {inside : Inside} {number : ℕ} {entry : Vec ℕ Global × FileText} {view : FilesView} {piece at : ℕ} {text : List ℕ} {offset : ℕ} (had : IsShown inside number entry)
-    (is : view_of inside ≡ view) (byte : IsByte view number piece at text offset) where
+    (is : files_view inside ≡ view) (byte : IsByte view number piece at text offset) where
   abbrev p : Pieces
   p = inside.pieces
 

@@ -1,11 +1,11 @@
 use Rattle.std.proofs.Common.{ℕ, List, sym, ap, subst, length, arith}
 use Rattle.mm_store.specs.declared.edit.EditError.{EditError}
 use Rattle.mm_store.specs.declared.edit.EditError.TheVariants.{Text, NotOne, Memory}
-use Rattle.mm_store.specs.Code.Units.{IsUnit, IsUnitError, IsNewError}
+use Rattle.mm_store.specs.Code.Units.{IsUnit, IsUnitError, IsTextRefused}
 use Rattle.mm_store.proofs.lemmas.edits.EditLemmas.{if_err}
 use Rattle.mm_store.proofs.unit.new_piece.Goals as goal
 
-new_error : (held : ℕ) (text : List ℕ) (error : EditError) → IsUnitError text error → IsNewError held text error
+new_error : (held : ℕ) (text : List ℕ) (error : EditError) → IsUnitError text error → IsTextRefused held text error
 new_error held text (Text fault) fails = fails
 new_error held text (NotOne count) fails = fails
 new_error held text Memory fails = tt
@@ -15,7 +15,7 @@ pub returns-in_err-unit-clause-err : goal.returns-in_err-unit-clause-err
 returns-in_err-unit-clause-err c =
     let held = c.args.held in
     let text = c.args.text.now in
-    if_err c.from_residual.result _ _ c.from_residual.ensures.1 (λ e is. subst (IsNewError held text) (sym is) (new_error held text c.in_err-unit.field-0.0 c.in_err-unit.ensures.err))
+    if_err c.from_residual.result _ _ c.from_residual.ensures.1 (λ e is. subst (IsTextRefused held text) (sym is) (new_error held text c.in_err-unit.field-0.0 c.in_err-unit.ensures.err))
 
 pub returns-then-not-fits-clause-err : goal.returns-then-not-fits-clause-err
 returns-then-not-fits-clause-err c = (
@@ -28,7 +28,7 @@ kept_piece-requires c = record { unit = c.in_ok-unit.ensures.ok.holds; small = g
 
 pub returns-in_err-kept_piece-clause-err : goal.returns-in_err-kept_piece-clause-err
 returns-in_err-kept_piece-clause-err c =
-    if_err c.from_residual-in_err-kept_piece.result _ _ c.from_residual-in_err-kept_piece.ensures.1 (λ e is. subst (IsNewError c.args.held c.args.text.now) (sym is) tt)
+    if_err c.from_residual-in_err-kept_piece.result _ _ c.from_residual-in_err-kept_piece.ensures.1 (λ e is. subst (IsTextRefused c.args.held c.args.text.now) (sym is) tt)
 
 pub returns-clause-unit : goal.returns-clause-unit
 returns-clause-unit c = subst (IsUnit c.args.text.now) (sym c.in_ok-kept_piece.ensures.text) c.in_ok-unit.ensures.ok

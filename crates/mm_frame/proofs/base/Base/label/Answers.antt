@@ -1,7 +1,7 @@
 use Rattle.std.proofs.Common.{slice_get, ap, ◌∙◌}
-use Rattle.mm_frame.specs.Code.KeptRows.{label_in}
+use Rattle.mm_frame.specs.Code.KeptRows.{row_label}
 use Rattle.mm_frame.proofs.lemmas.base.AnswerLemmas.{label_told}
 use Rattle.mm_frame.proofs.base.Base.label.Goals as goal
 
 pub returns : goal.returns
-returns c base is = c.label.ensures ∙ ap (λ a. label_in (slice_get a.rows c.args.i)) c.self.view_is ∙ label_told base c.args.self.now.rows is.1.rows c.args.i
+returns c base is = c.label.ensures ∙ ap (λ a. row_label (slice_get a.rows c.args.i)) c.self.view_is ∙ label_told base c.args.self.now.rows is.1.rows c.args.i

@@ -1,6 +1,6 @@
 use Rattle.std.proofs.Common.{◌∷◌, sym, ◌∙◌, ap, subst}
 use Rattle.mm_store.specs.mm_text.Language.WordsLeft.{WordsLeft}
-use Rattle.mm_frame.specs.Code.PlainWords.{AreFew, word_bytes, plain_bytes}
+use Rattle.mm_frame.specs.Code.PlainWords.{AreFewWords, word_bytes, plain_bytes}
 use Rattle.mm_frame.proofs.lemmas.reading.SpokenLemmas.{few_more, proof_more}
 use Rattle.mm_frame.proofs.proof_words.ProofWords.next_word.Goals as goal
 
@@ -17,5 +17,5 @@ invariant_of-self c =
     let more = proof_more text c.self.inside.cursor.words new.words c.in_ok-word.word (ap (λ (left : WordsLeft). left.words) (sym c.again-ahead.ensures) ∙ c.in_ok-word.ensures.word) (sym c.if-not-is_plain.ensures) in
     record {
       text = c.next_word.ensures.text ∙ ap (λ (left : WordsLeft). left.text) c.again-ahead.ensures ∙ c.self.invariant.text;
-      few = few_more (word_bytes text c.in_ok-word.word) (plain_bytes text new.words) (subst AreFew more c.self.invariant.few);
+      few = few_more (word_bytes text c.in_ok-word.word) (plain_bytes text new.words) (subst AreFewWords more c.self.invariant.few);
     }

@@ -1,6 +1,6 @@
 use Rattle.std.proofs.Common.{ℕ, sym, subst}
 use Rattle.std.specs.Prelude.{IfSome}
-use Rattle.mm_keep.specs.Code.KeptSession.{view_of}
+use Rattle.mm_keep.specs.Code.KeptSession.{session_view}
 use Rattle.mm_keep.specs.Language.Sessions.{HasAssertion, IsAssertion, OfItems}
 use Rattle.mm_keep.proofs.FoundLemmas.{map_some, kept_items}
 use Rattle.mm_keep.proofs.session.Session.assertion.Goals as goal
@@ -11,7 +11,7 @@ returns-clause-some c =
     let k = c.self.invariant in
     let label = c.args.label.now in
     subst (λ s. IfSome c.assertion_in.result (λ i. OfItems s (λ base. IsAssertion base label i))) c.self.view_is
-    (map_some (IsAssertion k.base label) (λ i. OfItems (view_of inside) (λ base. IsAssertion base label i)) c.assertion_in.result (λ i is. (k.base, k.of_files, is)) (c.assertion_in.ensures.some k.base (inside.names, k.by_names)))
+    (map_some (IsAssertion k.base label) (λ i. OfItems (session_view inside) (λ base. IsAssertion base label i)) c.assertion_in.result (λ i is. (k.base, k.of_files, is)) (c.assertion_in.ensures.some k.base (inside.names, k.by_names)))
 
 pub returns-clause-none : goal.returns-clause-none
 returns-clause-none c none has =
