@@ -30,7 +30,8 @@ says_at files (x ∷ found) (y ∷ said) (suc i) item h e = says_at files found 
 says_at files (x ∷ found) [] i item h e = absurd h
 
 -- and so does the same item once more
-pub same_again : (files : FilesView) (found : List store.Item) (said : List Item) (i : ℕ) (item : store.Item) → OneReading → AllZip (Says files) found said → IsAgain found i item → (told : Item) → Says files item told → item_at said i ≡ told
+pub same_again : (files : FilesView) (found : List store.Item) (said : List Item) (i : ℕ) (item : store.Item) → OneReading → AllZip (Says files) found said → IsAgain found i item → (told : Item)
+    → Says files item told → item_at said i ≡ told
 same_again files found said i item law h again told says =
     same_said files again.was item (record { kind = again.kind; key = again.key; start = again.start; end = again.end }) law (item_at said i) told (says_at files found said i again.was h again.there) says
 
