@@ -118,23 +118,29 @@ fn place_behind(old: &Base, i: usize, item: &Item, label: Option<&[u8]>) -> usiz
     }
 }
 
-/// Reads one more item of the files, which may be the one with this number in an older base, and tells which the next one
-/// may be. Want of memory leaves the draft as good for nothing, and may leave more names.
+/// An older base, and the number of the item of it that may be the next one.
+#[derive(Clone, Copy)]
+pub struct Beside<'a> {
+    pub base: &'a Base,
+    pub next: usize,
+}
+
+/// Reads one more item of the files, which may be the next one of an older base, and tells which may be the next one then. Want of memory leaves the draft as good for nothing, and may leave more names.
 fn read_again<'a>(
     draft: &mut Draft<'a>,
     alloc: Global,
     names: &mut Names,
     files: &'a Files,
     item: &Item,
-    old: &'a Base,
-    i: usize,
+    beside: Beside<'a>,
 ) -> Result<usize, AllocError>
     requires read { CanBeRead files.now item.now }
-    requires older { HasOlder names.old files.now old.now }
+    requires older { HasOlder names.old files.now beside.base.now }
     ensures grows { Begins names.old names.new }
     ensures read { OnOk result ((one : meant.Item) × Says files.now item.now one
         × ((said : List meant.Item) → IsDraftLater names.old said draft.old → IsDraftLater names.new (said ++ one ∷ []) draft.new)) }
 {
+    let Beside { base: old, next: i } = beside;
     names.distinct();
     let known = known_of(old, i, item);
     let statement = statement_of(alloc, names, files, item, known, &mut draft.numbers)?;
@@ -157,9 +163,10 @@ pub fn read_all_again<'a>(
     ensures read { IfOk result (λ draft. (said : List meant.Item) × AllZip (Says files.now) items.now said × IsDraftLater names.new said draft) }
 {
     let mut draft = Draft::with_room(alloc, items.len())?;
-    let mut i = 0;
+    let mut next = 0;
     for item in items {
-        i = read_again(&mut draft, alloc, names, files, item, old, i)?;
+        let beside = Beside { base: old, next };
+        next = read_again(&mut draft, alloc, names, files, item, beside)?;
     }
     Ok(draft)
 }

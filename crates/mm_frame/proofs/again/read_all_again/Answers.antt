@@ -15,7 +15,7 @@ loop-item-preserved c =
     let items = c.args.items.now in
     let n = c.loop-item.item-index in
     let so_far = c.loop-item.invariant in
-    let read = c.in_ok-i.ensures.read in
+    let read = c.in_ok-next.ensures.read in
     let said = so_far.1 ++ read.0 ∷ [] in
     let next : suc n ≡ n + 1 = omega arith in (
       begins_on _ _ _ so_far.0 c.read_again.ensures.grows,
@@ -31,8 +31,8 @@ returns-clause-read c =
     let so_far = c.loop-item.invariant in
     (so_far.1, subst (λ w. AllZip (Says files) w so_far.1) (take_all c.loop-item.item-index items c.loop-item-test.false) so_far.2, so_far.3)
 
-pub returns-in_err-i-clause-grows : goal.returns-in_err-i-clause-grows
-returns-in_err-i-clause-grows c = begins_on _ _ _ c.loop-item.invariant.0 c.read_again.ensures.grows
+pub returns-in_err-next-clause-grows : goal.returns-in_err-next-clause-grows
+returns-in_err-next-clause-grows c = begins_on _ _ _ c.loop-item.invariant.0 c.read_again.ensures.grows
 
 pub read_again-requires-clause-older : goal.read_again-requires-clause-older
 read_again-requires-clause-older c = older_on _ _ c.args.files.now c.args.old.now c.loop-item.invariant.0 c.requires.older

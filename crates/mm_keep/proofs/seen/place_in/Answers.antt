@@ -10,7 +10,8 @@ place-line-requires c =
     let item = c.args.item.now in
     let stands = c.requires.stands in
     let file = plain_file files.pieces stands.file in
-    (text_of file, piece_offset file item.piece + (item.start + (c.args.word + c.args.letter)), word_is_byte files item c.requires.read c.requires.read.text (own_text files item c.requires.read) stands (item.start + (c.args.word + c.args.letter)) c.requires.within)
+    let at = item.start + (c.args.word + c.args.letter) in
+    (text_of file, piece_offset file item.piece + at, word_is_byte files item c.requires.read c.requires.read.text (own_text files item c.requires.read) stands at c.requires.within)
 
 pub returns : goal.returns
 returns c =

@@ -122,7 +122,9 @@ texts_set (e ∷ es) zero v w there = refl
 texts_set (e ∷ es) (suc n) v w there = texts_set es n v w there
 
 -- the files after a piece that was replaced is dropped
-pub settled_kept : (inside : Inside) (n old : ℕ) → IsParked inside.pieces old n Replaced → (actual : Pieces) → actual ≡ finite.remove inside.pieces old → AreFilesKept inside → AreFilesKept (record { files = inside.files; pieces = actual; bytes = inside.bytes })
+pub settled_kept :
+    (inside : Inside) (n old : ℕ) → IsParked inside.pieces old n Replaced → (actual : Pieces) → actual ≡ finite.remove inside.pieces old → AreFilesKept inside
+    → AreFilesKept (record { files = inside.files; pieces = actual; bytes = inside.bytes })
 settled_kept inside n old is_parked actual is kept =
     let p = inside.pieces in
     let p' = finite.remove p old in
