@@ -1,4 +1,4 @@
-use Rattle.std.proofs.Common.{◌≡◌, refl, sym, ◌∙◌, ap, drop, arith}
+use Rattle.std.proofs.Common.{◌≡◌, refl, ◌∙◌, ap, drop, arith}
 use Rattle.mm_frame.proofs.lemmas.reading.PieceLemmas.{has_words, ends_within}
 use Rattle.mm_frame.proofs.lemmas.reading.NthOfProof.{left_more, left_next, left_none, nth_said}
 use Rattle.mm_frame.proofs.statement.nth_of_proof.Goals as goal
