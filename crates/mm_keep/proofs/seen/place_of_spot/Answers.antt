@@ -1,4 +1,4 @@
-use Rattle.std.proofs.Common.{◌≡◌, ◌+◌, ◌∙◌, sym, ap, slice_get, arith}
+use Rattle.std.proofs.Common.{◌+◌, ◌∙◌, sym, ap, arith}
 use Rattle.mm_proof.specs.mm_frame.Language.Base.{said_at}
 use Rattle.mm_keep.specs.Language.WordPlaces.{proof_word, start_of}
 use Rattle.mm_keep.proofs.ToldLemmas.{read_at, stands_at, says_at}

@@ -1,4 +1,4 @@
-use Rattle.std.proofs.Common.{◌≡◌, ◌+◌, ◌∙◌, sym, ap, slice_get, slice_range, arith}
+use Rattle.std.proofs.Common.{◌≡◌, ◌+◌, ◌∙◌, ap, slice_get, slice_range, arith}
 use Rattle.mm_keep.specs.Language.WordPlaces.{start_of, spelled}
 use Rattle.mm_keep.proofs.SpotLemmas.{item_text, item_within, item_words, letter_within}
 use Rattle.mm_keep.proofs.seen.seen_at.Goals as goal
