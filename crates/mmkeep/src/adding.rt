@@ -6,7 +6,7 @@ ghost use Rattle.mm_report.specs.mm_store.Language.FileFacts.{IsAdded, parked_in
 ghost use Rattle.mm_report.specs.mm_store.Language.FilesView.{File, plain};
 ghost use Rattle.mm_report.specs.Language.Stream.{cannot_read, unread};
 ghost use Rattle.mmkeep.specs.declared.adding.FileError.TheVariants as errors;
-ghost use Rattle.mmkeep.specs.Code.Loaded.{IsAddError};
+ghost use Rattle.mmkeep.specs.Code.Loaded.{IsNewNameError};
 ghost use Rattle.mmkeep.specs.Language.Loading.{AddsFile, IsFileError, IsNew, IsTextError};
 
 use mm_report::{Files, Place, ReadFailed, Reading, StoreError, TextNumber, place};
@@ -103,7 +103,7 @@ fn add_text(files: &mut Files, name: &[u8], text: &[u8]) -> Result<(), FileError
 /// Why a text was not added under a name that no file had, with the place of a fault in it.
 fn reason(text: &[u8], error: StoreError) -> FileError
     requires within { IsAddErrorIn text.now error }
-    requires new { IsAddError error }
+    requires new { IsNewNameError error }
     ensures { (before : List File) (name : List ℕ) → IsAddError before name text.now error → IsTextError before text.now result }
 {
     match error {

@@ -31,5 +31,5 @@ abbrev pub HasWalked : FilesView → WalkView → Type 0
 HasWalked files walk = (top : List ℕ) × (items : List Item) × IsWalk (bare (plain files)) top items walk
 
 -- why a text is not added under a name that is new: neither since it is known, nor since there is no top file
-abbrev pub IsAddError : StoreError → Type 0
-IsAddError error = (error ≢ errors.Known) × (error ≢ errors.NoTop)
+abbrev pub IsNewNameError : StoreError → Type 0
+IsNewNameError error = (error ≢ errors.Known) × (error ≢ errors.NoTop)
