@@ -217,31 +217,41 @@ fn lent_frames<'a>(
     Ok(lent)
 }
 
+/// What the labels of a proof name, by names.
+#[derive(Drop)]
+struct SpelledTable {
+    /// The expressions of the hypotheses that are named.
+    expressions: Vec<Vec<NamedSymbol>>,
+    /// The mandatory hypotheses of the assertions, one after another.
+    mandatory: Vec<SpelledHypothesis>,
+    /// The assertions that are named.
+    frames: Vec<SpelledFrame>,
+}
+
 /// What a run over these names comes to.
 fn run_lent<'a>(
     alloc: Global,
     uses: &[Use],
-    expressions: &'a [Vec<NamedSymbol>],
-    mandatory: &'a [SpelledHypothesis],
-    frames: &'a [SpelledFrame],
+    table: &'a SpelledTable,
     pairs: &'a [(NamedSymbol, NamedSymbol)],
     steps: &[ProofStep],
     statement: &[NamedSymbol],
 ) -> Result<Outcome, AllocError>
-    requires frames { All (λ f. IsRanged (length mandatory.now) (ranged f.first f.last (record {
+    requires frames { All (λ f. IsRanged (length table.now.mandatory.items) (ranged f.first f.last (record {
       expression = map named_symbol f.expression.items;
-      hypotheses = range_of f.first f.last (map (λ h. record { floating = h.floating; expression = map named_symbol h.expression.items }) mandatory.now);
+      hypotheses = range_of f.first f.last (map (λ h. record { floating = h.floating; expression = map named_symbol h.expression.items })
+      table.now.mandatory.items);
       pairs = meant_pairs named_symbol f.pairs.items;
-    }))) frames.now }
-    requires within { All (IsUseWithin (length expressions.now) (length frames.now)) uses.now }
+    }))) table.now.frames.items }
+    requires within { All (IsUseWithin (length table.now.expressions.items) (length table.now.frames.items)) uses.now }
     requires saved { AreSavedBefore steps.now }
     requires order { AreInKeyOrder key_by_name (meant_pairs named_symbol pairs.now) }
     ensures { IfOk result (IsOutcomeWithin (length steps.now)) }
 {
     let uses = Vec::from_slice(alloc, uses)?;
-    let hypotheses = lent_expressions(alloc, expressions)?;
-    let mandatory = lent_hypotheses(alloc, mandatory)?;
-    let assertions = lent_frames(alloc, frames)?;
+    let hypotheses = lent_expressions(alloc, &table.expressions)?;
+    let mandatory = lent_hypotheses(alloc, &table.mandatory)?;
+    let assertions = lent_frames(alloc, &table.frames)?;
     let named = Named {
         uses,
         hypotheses,
@@ -271,18 +281,14 @@ fn run_by_names(
     let expressions = spelled_expressions(alloc, &named.hypotheses)?;
     let mandatory = spelled_hypotheses(alloc, &named.mandatory)?;
     let frames = spelled_frames(alloc, &named.assertions)?;
+    let table = SpelledTable {
+        expressions,
+        mandatory,
+        frames,
+    };
     let pairs = spelled_pairs(alloc, pairs)?;
     let statement = spelled(alloc, statement)?;
-    run_lent(
-        alloc,
-        &named.uses,
-        &expressions,
-        &mandatory,
-        &frames,
-        &pairs,
-        steps,
-        &statement,
-    )
+    run_lent(alloc, &named.uses, &table, &pairs, steps, &statement)
 }
 
 /// The verdict on a proof that decodes, by a run over names.
