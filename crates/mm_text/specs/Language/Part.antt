@@ -60,6 +60,10 @@ parts_of Nothing = []
 parts_of (Simple shape later) = shape_part shape ∷ parts_of later
 parts_of (Block begin inner end later) = part parts.BlockStart begin begin ∷ (parts_of inner ++ part parts.BlockEnd end end ∷ parts_of later)
 
+-- these are the parts of a text: those of the units that its words are
+abbrev pub HasParts : List ℕ → List Part → Type 0
+HasParts text parts = (units : Units) → HasUnits text units → parts ≡ parts_of units
+
 -- the bytes of a part of a text
 abbrev pub part_bytes : List ℕ → Part → List ℕ
 part_bytes text part = slice_range text part.start part.end
