@@ -5,7 +5,7 @@ ghost use Rattle.std.specs.Prelude.{◌++◌, None, IfErr, OnOk, OnErr};
 ghost use Rattle.std.specs.Prelude.{IsErrOf, All, length, map};
 ghost use Rattle.std.specs.List.{concat, insert};
 ghost use Rattle.mm_text.specs.Language.Cut.{ArePieces};
-ghost use Rattle.mm_text.specs.Language.Part.{HasParts};
+ghost use Rattle.mm_text.specs.Language.Part.{HasOwnParts};
 ghost use Rattle.mm_store.specs.declared.error.StoreError.TheVariants.{Known};
 ghost use Rattle.mm_store.specs.Language.FilesView.{bytes_of, file_number, number_of, plain};
 ghost use Rattle.mm_store.specs.Language.FileFacts.{IsAdded, KeepsPieces, parked_in};
@@ -57,7 +57,7 @@ impl Files {
         requires counted { bytes ≡ length (concat (map (λ piece. piece.text.items) cut.pieces.items) ++ cut.tail.items) }
         requires fits { bytes_of (plain self.old) + bytes ≤ 4294967295 }
         requires pieces { ArePieces (map (λ piece. piece.text.items) cut.pieces.items) cut.tail.items }
-        requires parts { All (λ piece. HasParts piece.text.items piece.parts.items) cut.pieces.items }
+        requires parts { All HasOwnParts cut.pieces.items }
         ensures ok { OnOk result
             (plain self.new ≡ with_file (plain self.old) name.now (map (λ piece. piece.text.items) cut.pieces.items) cut.tail.items) }
         ensures keeps { OnOk result (KeepsPieces self.old self.new) }

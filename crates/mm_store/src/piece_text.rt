@@ -1,7 +1,7 @@
 //! The texts of pieces, as they are kept.
 
 ghost use Rattle.std.specs.Prelude.{◌≡◌, All, IfOk, map};
-ghost use Rattle.mm_text.specs.Language.Part.{HasParts};
+ghost use Rattle.mm_text.specs.Language.Part.{HasOwnParts};
 ghost use Rattle.mm_store.specs.Code.Inside.{CanBeKept, IsPieceKept};
 
 use crate::kept_part::{KeptPart, kept_parts};
@@ -25,7 +25,7 @@ pub struct PieceText {
 /// A piece as it is kept.
 pub(crate) fn kept_piece(alloc: Global, piece: DividedPiece) -> Result<PieceText, AllocError>
     requires text { CanBeKept piece.text.items }
-    requires parts { HasParts piece.text.items piece.parts.items }
+    requires parts { HasOwnParts piece }
     ensures text { IfOk result (λ kept. kept.text.items ≡ piece.text.items) }
     ensures kept { IfOk result IsPieceKept }
 {
@@ -48,7 +48,7 @@ pub(crate) fn kept_pieces(
     pieces: Vec<DividedPiece>,
 ) -> Result<Vec<PieceText>, AllocError>
     requires texts { All (λ piece. CanBeKept piece.text.items) pieces.items }
-    requires parts { All (λ piece. HasParts piece.text.items piece.parts.items) pieces.items }
+    requires parts { All HasOwnParts pieces.items }
     ensures texts { IfOk result (λ kept. map (λ piece. piece.text.items) kept.items ≡ map (λ piece. piece.text.items) pieces.items) }
     ensures kept { IfOk result (λ kept. All IsPieceKept kept.items) }
 {

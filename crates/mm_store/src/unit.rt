@@ -1,7 +1,7 @@
 //! The text that an edit brings.
 
 ghost use Rattle.std.specs.Prelude.{◌+◌, ◌≤◌, length, IfOk, IfErr};
-ghost use Rattle.mm_text.specs.Language.Part.{HasParts};
+ghost use Rattle.mm_text.specs.Language.Part.{HasOwnParts};
 ghost use Rattle.mm_store.specs.Code.Inside.{IsPieceKept};
 ghost use Rattle.mm_store.specs.Code.Units.{IsUnit, IsUnitError, IsTextRefused};
 
@@ -15,7 +15,7 @@ use std::alloc::Global;
 /// unit.
 fn read_unit(alloc: Global, text: &[u8]) -> Result<DividedPiece, EditError>
     ensures ok { IfOk result (λ unit. IsUnit text.now unit.text.items) }
-    ensures parts { IfOk result (λ unit. HasParts unit.text.items unit.parts.items) }
+    ensures parts { IfOk result HasOwnParts }
     ensures err { IfErr result (IsUnitError text.now) }
 {
     one_unit_of_cut();

@@ -3,7 +3,7 @@
 ghost use Rattle.std.specs.Prelude.{◌≡◌, ◌≤◌, [], ◌∷◌, ◌++◌, None, IfOk, IfErr, OnOk, All, map, length, drop};
 ghost use Rattle.mm_text.specs.Language.Reading.{first_bad, IsTextErrorIn};
 ghost use Rattle.mm_text.specs.Language.Unit.{Units};
-ghost use Rattle.mm_text.specs.Language.Part.{HasUnits, HasParts, IsReadable};
+ghost use Rattle.mm_text.specs.Language.Part.{HasUnits, HasParts, HasOwnParts, IsReadable};
 ghost use Rattle.mm_text.specs.Language.Cut as pieces;
 ghost use Rattle.mm_text.specs.Language.Cut.{ended, IsCut, IsCutError};
 
@@ -47,8 +47,8 @@ fn push_piece(
 ) -> Result<(), AllocError>
     ensures texts { OnOk result
         (map (λ piece. piece.text.items) pieces.new.items ≡ map (λ piece. piece.text.items) pieces.old.items ++ ended bytes.now ∷ []) }
-    ensures parts { OnOk result (All (λ piece. HasParts piece.text.items piece.parts.items) pieces.old.items
-        → HasParts (ended bytes.now) parts.old.parts.items → All (λ piece. HasParts piece.text.items piece.parts.items) pieces.new.items) }
+    ensures parts { OnOk result
+        (All HasOwnParts pieces.old.items → HasParts (ended bytes.now) parts.old.parts.items → All HasOwnParts pieces.new.items) }
     ensures nothing { parts.new.parts.items ≡ [] }
     ensures first { parts.new.first ≡ None }
 {
@@ -66,7 +66,7 @@ fn cut_units(alloc: Global, text: &[u8], pieces: &mut Vec<DividedPiece>) -> Resu
     ensures within { IfOk result (λ from. from ≤ length text.now) }
     ensures cut { IfOk result (λ from. IsCut text.now (map (λ piece. piece.text.items) pieces.new.items) (ended (drop from text.now))) }
     ensures fault { IfErr result (IsCutError text.now) }
-    ensures parts { OnOk result (All (λ piece. HasParts piece.text.items piece.parts.items) pieces.new.items) }
+    ensures parts { OnOk result (All HasOwnParts pieces.new.items) }
 {
     let mut grammar = Grammar::new(alloc);
     let mut parts = PartReading::new(alloc);
@@ -96,7 +96,7 @@ fn cut_units(alloc: Global, text: &[u8], pieces: &mut Vec<DividedPiece>) -> Resu
 pub fn divided_cut(alloc: Global, text: &[u8]) -> Result<DividedCut, TextError>
     ensures cut { IfOk result (λ found. IsCut text.now (map (λ piece. piece.text.items) found.pieces.items) found.tail.items) }
     ensures fault { IfErr result (IsCutError text.now) }
-    ensures parts { IfOk result (λ found. All (λ piece. HasParts piece.text.items piece.parts.items) found.pieces.items) }
+    ensures parts { IfOk result (λ found. All HasOwnParts found.pieces.items) }
 
     // These follow: the fault lies in the text, the words of each piece are whole units, and each part is a text with words.
     ensures fault_within { IfErr result (IsTextErrorIn text.now) }

@@ -4,13 +4,10 @@ use Rattle.std.proofs.Math.Seq.{drop-append_seam}
 use Rattle.std.proofs.lemmas.List.{map-append}
 use Rattle.std.proofs.lemmas.List.Elements.{All-nil, All-cons, All-append, All-drop}
 use Rattle.mm_text.specs.declared.pieces.DividedPiece.{DividedPiece}
-use Rattle.mm_text.specs.Language.Part.{HasParts}
+use Rattle.mm_text.specs.Language.Part.{HasOwnParts}
 use Rattle.mm_store.specs.declared.piece_text.PieceText.{PieceText}
 use Rattle.mm_store.specs.Code.Inside.{IsPieceKept}
 use Rattle.mm_store.proofs.piece_text.kept_pieces.Goals as goal
-
-abbrev IsDivided : DividedPiece → Type 0
-IsDivided piece = HasParts piece.text.items piece.parts.items
 
 pub kept_piece-requires-clause-parts : goal.kept_piece-requires-clause-parts
 kept_piece-requires-clause-parts c =
@@ -18,8 +15,8 @@ kept_piece-requires-clause-parts c =
     let piece : DividedPiece = c.in-Some.piece in
     let rest = into_iter_items c.next.new.self in
     let joined : at.yielded ++ piece ∷ rest ≡ c.args.pieces.items = rw c.in-Some.ensures.steps.0 at at.invariant.rest in
-    let left : All IsDivided (piece ∷ rest) =
-    subst (All IsDivided) (ap (drop (length at.yielded)) (sym joined) ∙ drop-append_seam at.yielded (piece ∷ rest)) (All-drop IsDivided (length at.yielded) c.args.pieces.items c.requires.parts) in
+    let left : All HasOwnParts (piece ∷ rest) =
+    subst (All HasOwnParts) (ap (drop (length at.yielded)) (sym joined) ∙ drop-append_seam at.yielded (piece ∷ rest)) (All-drop HasOwnParts (length at.yielded) c.args.pieces.items c.requires.parts) in
     left 0 piece (omega arith)
 
 pub loop-piece-preserved : goal.loop-piece-preserved

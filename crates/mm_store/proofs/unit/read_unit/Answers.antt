@@ -5,7 +5,7 @@ use Rattle.mm_text.specs.declared.pieces.DividedPiece.{DividedPiece}
 use Rattle.mm_text.specs.declared.fault.TextError.{TextError}
 use Rattle.mm_text.specs.declared.fault.TextError.TheVariants.{Fault, Memory}
 use Rattle.mm_text.specs.Language.Cut.{IsCut, IsCutError, ended}
-use Rattle.mm_text.specs.Language.Part.{HasParts}
+use Rattle.mm_text.specs.Language.Part.{HasOwnParts}
 use Rattle.mm_store.specs.Language.Answers.{edit_error_of}
 use Rattle.mm_store.specs.Code.Units.{IsUnitError}
 use Rattle.mm_store.proofs.lemmas.edits.EditLemmas.{if_err}
@@ -32,7 +32,7 @@ returns-clause-parts c = λ units has.
     let found = c.in_ok-pieces.field-0 in
     let one : found.pieces.items ≡ unit ∷ [] = one_only found.pieces.items c.pop.new.self.items c.pop.result unit (omega (arith, found.pieces.ok.0, c.len.ensures, c.if-len-ne1.false)) c.pop.ensures.items c.unwrap-unit.ensures in
     let cut : IsCut text (unit.text.items ∷ []) found.tail.items = subst (λ (ps : List DividedPiece). IsCut text (map (λ piece. piece.text.items) ps) found.tail.items) one c.in_ok-pieces.ensures.cut in
-    let parts : All (λ piece. HasParts piece.text.items piece.parts.items) (unit ∷ []) = subst (All (λ piece. HasParts piece.text.items piece.parts.items)) one c.in_ok-pieces.ensures.parts in
+    let parts : All HasOwnParts (unit ∷ []) = subst (All HasOwnParts) one c.in_ok-pieces.ensures.parts in
     let whole : c.extend_from_slice.new.self.items ≡ ended text = c.in_ok-extend_from_slice.ensures.items ∙ ap (λ (bs : List ℕ). unit.text.items ++ bs) c.deref.ensures.value
     ∙ ap (λ (bs : List ℕ). bs ++ found.tail.items) (sym (append-nil unit.text.items)) ∙ cut.joined in
     parts 0 unit (omega arith) units (c.one_unit_of_cut.ensures.same text unit.text.items found.tail.items units cut (rw whole at has)))

@@ -3,22 +3,18 @@ use Rattle.std.proofs.lemmas.Bool.{false≢true}
 use Rattle.std.proofs.lemmas.Result.{err_from_is_err_and}
 use Rattle.mm_text.specs.Code.Reader.{SkipsPlain}
 use Rattle.std.proofs.lemmas.List.Elements.{All-nil}
-use Rattle.mm_text.specs.declared.pieces.DividedPiece.{DividedPiece}
-use Rattle.mm_text.specs.Language.Part.{HasParts}
+use Rattle.mm_text.specs.Language.Part.{HasOwnParts}
 use Rattle.mm_text.proofs.CutPartLemmas.{no_end, divided_none, parts_more, parts_skip, parts_end, parts_next}
 use Rattle.mm_text.proofs.CutLemmas.{progress_start, progress_skip, words_fault}
 use Rattle.mm_text.proofs.CutStepLemmas.{lies, ends_fault, ends_cut, from_before, refused, keeps_more, keeps_piece}
 use Rattle.mm_text.proofs.cutting.cut_units.Goals as goal
-
-abbrev IsDivided : DividedPiece → Type 0
-IsDivided piece = HasParts piece.text.items piece.parts.items
 
 pub loop-parts-init : goal.loop-parts-init
 loop-parts-init c = record {
   text = c.new-reader.ensures.text;
   progress = rw (c.requires.empty, c.new-reader.ensures.from, c.new-grammar.ensures.phase, c.new-grammar.ensures.closed) (progress_start c.args.text.now _);
   read = rw (c.new-reader.ensures.from, c.new-parts.ensures.parts, c.new-parts.ensures.first) (divided_none c.args.text.now 0 0 _ refl);
-  divided = rw c.requires.empty (All-nil IsDivided);
+  divided = rw c.requires.empty (All-nil HasOwnParts);
 }
 
 pub take-requires-in-Some-clause-behind : goal.take-requires-in-Some-clause-behind

@@ -1,5 +1,5 @@
 use Rattle.std.proofs.Common.{◌≡◌, ◌-◌, All, map, length}
-use Rattle.mm_text.specs.Language.Part.{HasParts}
+use Rattle.mm_text.specs.Language.Part.{HasOwnParts}
 use Rattle.mm_text.proofs.CutLemmas.{Progress}
 use Rattle.mm_text.proofs.CutPartLemmas.{Keeps}
 use Rattle.mm_text.proofs.cutting.cut_units.Given as goal
@@ -9,7 +9,7 @@ invariant-loop-parts l = record {
   text : l.reader.text.now ≡ l.text;
   progress : Progress l.text (map (λ piece. piece.text.items) l.pieces.items) l.from l.reader.from l.grammar.phase l.grammar.first l.grammar.blocks.items;
   read : Keeps l.text l.from l.reader.from l.parts;
-  divided : All (λ piece. HasParts piece.text.items piece.parts.items) l.pieces.items;
+  divided : All HasOwnParts l.pieces.items;
 }
 
 abbrev pub decreases-loop-parts : goal.decreases-loop-parts
