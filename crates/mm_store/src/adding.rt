@@ -5,6 +5,7 @@ ghost use Rattle.std.specs.Prelude.{◌++◌, None, IfErr, OnOk, OnErr};
 ghost use Rattle.std.specs.Prelude.{IsErrOf, All, length, map};
 ghost use Rattle.std.specs.List.{concat, insert};
 ghost use Rattle.mm_text.specs.Language.Cut.{ArePieces};
+ghost use Rattle.mm_text.specs.Language.Part.{HasOwnParts};
 ghost use Rattle.mm_store.specs.declared.error.StoreError.TheVariants.{Known};
 ghost use Rattle.mm_store.specs.Language.FilesView.{bytes_of, file_number, number_of, plain};
 ghost use Rattle.mm_store.specs.Language.FileFacts.{IsAdded, KeepsPieces, parked_in};
@@ -16,7 +17,7 @@ use crate::file_text::{FileText, starts};
 use crate::files::Files;
 use crate::piece_text::kept_pieces;
 use crate::room::{ended_len, fits};
-use mm_text::{Cut, cut};
+use mm_text::{DividedCut, divided_cut};
 use std::alloc::AllocError;
 use std::collections::VecDeque;
 
@@ -41,7 +42,7 @@ impl Files {
         if self.number_of(name).is_some() {
             return Err(StoreError::Known);
         }
-        let cut = cut(self.allocator(), text)?;
+        let cut = divided_cut(self.allocator(), text)?;
         let more = ended_len(text) as u64;
         if !fits(self.bytes, more) {
             return Err(StoreError::TooMany);
@@ -51,19 +52,20 @@ impl Files {
     }
 
     /// Puts a file behind the others. After want of memory the files are as before.
-    fn put_last(&mut self, name: &[u8], bytes: u64, cut: Cut) -> Result<(), AllocError>
+    fn put_last(&mut self, name: &[u8], bytes: u64, cut: DividedCut) -> Result<(), AllocError>
         requires missing { file_number (plain self.old) name.now ≡ None }
-        requires counted { bytes ≡ length (concat (map (λ piece. piece.items) cut.pieces.items) ++ cut.tail.items) }
+        requires counted { bytes ≡ length (concat (map (λ piece. piece.text.items) cut.pieces.items) ++ cut.tail.items) }
         requires fits { bytes_of (plain self.old) + bytes ≤ 4294967295 }
-        requires pieces { ArePieces (map (λ piece. piece.items) cut.pieces.items) cut.tail.items }
+        requires pieces { ArePieces (map (λ piece. piece.text.items) cut.pieces.items) cut.tail.items }
+        requires parts { All HasOwnParts cut.pieces.items }
         ensures ok { OnOk result
-            (plain self.new ≡ with_file (plain self.old) name.now (map (λ piece. piece.items) cut.pieces.items) cut.tail.items) }
+            (plain self.new ≡ with_file (plain self.old) name.now (map (λ piece. piece.text.items) cut.pieces.items) cut.tail.items) }
         ensures keeps { OnOk result (KeepsPieces self.old self.new) }
         ensures parked { OnOk result (parked_in self.new ≡ parked_in self.old) }
         ensures err { OnErr result (self.new ≡ self.old) }
     {
         let alloc = self.allocator();
-        let Cut { pieces, tail } = cut;
+        let DividedCut { pieces, tail } = cut;
         let kept = kept_pieces(alloc, pieces)?;
         let starts = starts(alloc, &kept)?;
         let known = kept.len();

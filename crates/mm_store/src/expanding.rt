@@ -5,14 +5,13 @@ ghost use Rattle.mm_text.specs.declared.word.Word.{Word};
 ghost use Rattle.mm_text.specs.declared.part.PartKind.TheVariants.{Inclusion};
 ghost use Rattle.mm_text.specs.Language.Reading.{HasWords};
 ghost use Rattle.mm_text.specs.Language.Cut.{HoldsOne};
-ghost use Rattle.mm_text.specs.Language.Part.{IsReadable, part_bytes};
+ghost use Rattle.mm_text.specs.Language.Part.{HasParts, IsReadable, part_bytes};
 ghost use Rattle.mm_store.specs.declared.files.PieceKey.{PieceKey};
 ghost use Rattle.mm_store.specs.Language.FilesView.{files_in};
 ghost use Rattle.mm_store.specs.Language.FileFacts.{second_word};
 ghost use Rattle.mm_store.specs.Language.Expansion.{item_kind, IsExpansion};
 ghost use Rattle.mm_store.specs.Language.Walking.{IsWalk};
 ghost use Rattle.mm_store.specs.Code.Gains.{item_of_part};
-ghost use Rattle.mm_store.specs.Code.Inside.{HasParts};
 ghost use Rattle.mm_store.specs.Code.Steps.{Includes, IncludesNothing};
 
 use crate::files::Files;

@@ -21,7 +21,7 @@ ghost use Rattle.mm_store.specs.Language.Walking.{IsWalk};
 ghost use Rattle.mm_store.specs.Code.Gains.{HoldUnits};
 ghost use Rattle.mm_store.specs.Language.Keyless.{bare};
 ghost use Rattle.mm_store.specs.Code.Steps.{first_walk, Includes, IncludesNothing, piece_at};
-ghost use Rattle.mm_store.specs.Code.Inside.{HasParts};
+ghost use Rattle.mm_text.specs.Language.Part.{HasParts};
 ghost use Rattle.mm_store.specs.Code.Lines.{AreLines, bytes_before};
 ghost use Rattle.mm_store.specs.Code.Starts.{KnowsStarts};
 ghost use Rattle.mm_store.specs.Code.Batched.{StandOnce};

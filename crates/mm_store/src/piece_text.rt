@@ -1,11 +1,12 @@
 //! The texts of pieces, as they are kept.
 
 ghost use Rattle.std.specs.Prelude.{◌≡◌, All, IfOk, map};
+ghost use Rattle.mm_text.specs.Language.Part.{HasOwnParts};
 ghost use Rattle.mm_store.specs.Code.Inside.{CanBeKept, IsPieceKept};
 
 use crate::kept_part::{KeptPart, kept_parts};
 use crate::lines::{Lines, lines_before, marks};
-use mm_text::parts;
+use mm_text::DividedPiece;
 use std::alloc::{AllocError, Global};
 
 /// The text of a piece, and what is found of it once, when it is cut.
@@ -21,13 +22,16 @@ pub struct PieceText {
     pub(crate) lines: Lines,
 }
 
-/// A text as it is kept.
-pub(crate) fn kept_piece(alloc: Global, text: Vec<u8>) -> Result<PieceText, AllocError>
-    requires { CanBeKept text.items }
-    ensures text { IfOk result (λ piece. piece.text.items ≡ text.items) }
+/// A piece as it is kept.
+pub(crate) fn kept_piece(alloc: Global, piece: DividedPiece) -> Result<PieceText, AllocError>
+    requires text { CanBeKept piece.text.items }
+    requires parts { HasOwnParts piece }
+    ensures text { IfOk result (λ kept. kept.text.items ≡ piece.text.items) }
     ensures kept { IfOk result IsPieceKept }
 {
-    let parts = kept_parts(alloc, &parts(alloc, &text)?)?;
+    mm_text::parts_are_texts();
+    let DividedPiece { text, parts } = piece;
+    let parts = kept_parts(alloc, &parts)?;
     let marks = marks(alloc, &text)?;
     let lines = lines_before(&text, &marks, text.len());
     Ok(PieceText {
@@ -38,15 +42,19 @@ pub(crate) fn kept_piece(alloc: Global, text: Vec<u8>) -> Result<PieceText, Allo
     })
 }
 
-/// Texts as they are kept, in order.
-pub(crate) fn kept_pieces(alloc: Global, texts: Vec<Vec<u8>>) -> Result<Vec<PieceText>, AllocError>
-    requires { All (λ text. CanBeKept text.items) texts.items }
-    ensures texts { IfOk result (λ pieces. map (λ piece. piece.text.items) pieces.items ≡ map (λ text. text.items) texts.items) }
-    ensures kept { IfOk result (λ pieces. All IsPieceKept pieces.items) }
+/// Pieces as they are kept, in order.
+pub(crate) fn kept_pieces(
+    alloc: Global,
+    pieces: Vec<DividedPiece>,
+) -> Result<Vec<PieceText>, AllocError>
+    requires texts { All (λ piece. CanBeKept piece.text.items) pieces.items }
+    requires parts { All HasOwnParts pieces.items }
+    ensures texts { IfOk result (λ kept. map (λ piece. piece.text.items) kept.items ≡ map (λ piece. piece.text.items) pieces.items) }
+    ensures kept { IfOk result (λ kept. All IsPieceKept kept.items) }
 {
-    let mut pieces = Vec::with_capacity(alloc, texts.len())?;
-    for text in texts {
-        pieces.push(kept_piece(alloc, text)?)?;
+    let mut kept = Vec::with_capacity(alloc, pieces.len())?;
+    for piece in pieces {
+        kept.push(kept_piece(alloc, piece)?)?;
     }
-    Ok(pieces)
+    Ok(kept)
 }

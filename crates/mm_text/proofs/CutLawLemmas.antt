@@ -17,6 +17,7 @@ use Rattle.mm_text.specs.Language.Unit.{Token, token_of, tokens_of, Shape, shape
 use Rattle.mm_text.specs.Code.UnitReading as m
 use Rattle.mm_text.specs.Code.LeftToRight.{Read, read_runs, with_words, words_fault_at, read_text}
 use Rattle.mm_text.specs.Language.Cut.{ends_white, ended, IsOne, end_of_words, HoldsOne, IsPiece, BeginsSolid, ArePieces, IsCut, HoldWords, StopsWords, StopsUnits, IsFirstFaultAt, IsFirstFault}
+use Rattle.mm_text.specs.Language.Part.{HasUnits}
 use Rattle.mm_text.proofs.ReadingLemmas.{closer, closer_closes, close_step, read_whole, read_words, same_words, text_words, text_fault}
 use Rattle.mm_text.proofs.ReaderLemmas.{in_comment, words-append}
 use Rattle.mm_text.proofs.PositionLemmas.{Lying, words_lie}
@@ -24,7 +25,7 @@ use Rattle.mm_text.proofs.UnitReadingLemmas.{run-append, run-IsViable, IsWhole-r
 use Rattle.mm_text.proofs.UnitFaultLemmas.{cut_twice, viable_front, not_viable_all, block_viable, one_stop, one_unit_fault, whole_has_no_fault}
 use Rattle.mm_text.proofs.UnitDivisionLemmas.{one_division}
 use Rattle.mm_text.proofs.PieceLemmas.{Seam, runs-append, shift_run, shift_word, runs-shift, words-shift, line_end, ended_is, runs-ended, ended_white}
-use Rattle.mm_text.proofs.PieceUnitLemmas.{allowed_all, all_allowed, bare, tokens-shift, tokens-front, run_bare, WholeRun}
+use Rattle.mm_text.proofs.PieceUnitLemmas.{one_words, allowed_all, all_allowed, bare, tokens-shift, tokens-front, run_bare, WholeRun}
 
 -- ---- two texts, one behind the other
 
@@ -58,29 +59,29 @@ join_whole a b ws vs f g x y = run_bare (tokens_of (a ++ b) (ws ++ map (shift_wo
 -- ---- the words of a text that has a cut
 
 -- the text has words, and they are whole units
-record HasUnits (text : List ℕ) : Type 0 where
+record HoldsWhole (text : List ℕ) : Type 0 where
   found : List Word
   has_words : HasWords text found
   whole : WholeRun (tokens_of text found)
 
-pieces_words : (pieces : List (List ℕ)) (tail : List ℕ) → ArePieces pieces tail → HasUnits (concat pieces ++ tail)
+pieces_words : (pieces : List (List ℕ)) (tail : List ℕ) → ArePieces pieces tail → HoldsWhole (concat pieces ++ tail)
 pieces_words [] tail h = record { found = []; has_words = h; whole = refl }
 pieces_words (piece ∷ pieces) tail h =
     let rest = pieces_words pieces tail h.2 in
-    subst (λ (bs : List ℕ). HasUnits bs) (sym (append_assoc piece (concat pieces) tail)) (record {
+    subst (λ (bs : List ℕ). HoldsWhole bs) (sym (append_assoc piece (concat pieces) tail)) (record {
       found = h.0.words ++ map (shift_word (length piece)) rest.found;
       has_words = join_words piece (concat pieces ++ tail) h.0.words rest.found h.0.ends h.0.has_words rest.has_words;
       whole = join_whole piece (concat pieces ++ tail) h.0.words rest.found h.0.has_words rest.has_words (IsWhole-run (tokens_of piece h.0.words) (h.0.units, h.0.are_units, h.0.spells)) rest.whole;
     })
 
-cut_units : (text : List ℕ) (pieces : List (List ℕ)) (tail : List ℕ) → IsCut text pieces tail → HasUnits text
+cut_units : (text : List ℕ) (pieces : List (List ℕ)) (tail : List ℕ) → IsCut text pieces tail → HoldsWhole text
 cut_units text pieces tail h = record {
   found = all.found;
   has_words = has;
   whole = ap (m.run m.Begin 0) (sym (ap (λ (bs : List ℕ). tokens_of bs all.found) (ended_is text) ∙ tokens-front text (line_end text) all.found 0 (words_lie text all.found has))) ∙ all.whole;
 } where
-  all : HasUnits (ended text)
-  all = subst (λ (bs : List ℕ). HasUnits bs) h.joined (pieces_words pieces tail h.are_pieces)
+  all : HoldsWhole (ended text)
+  all = subst (λ (bs : List ℕ). HoldsWhole bs) h.joined (pieces_words pieces tail h.are_pieces)
 
   has : HasWords text all.found
   has = record {
@@ -277,7 +278,7 @@ one_first_fault text a b f g =
 
 pub cut_has_no_fault : (text : List ℕ) (pieces : List (List ℕ)) (tail : List ℕ) (fault : TextFault) → IsCut text pieces tail → IsFirstFault text fault → ⊥
 cut_has_no_fault text pieces tail fault f g = none (sorted text fault.number fault.at g) where
-  all : HasUnits text
+  all : HoldsWhole text
   all = cut_units text pieces tail f
 
   none : Sorted text fault.number fault.at → ⊥
@@ -395,19 +396,38 @@ one_cut text ps qs s t f g = same_pieces ps qs s t (f.joined ∙ sym g.joined) f
 
 -- ---- a cut with one piece
 
--- a piece, and behind it bytes without a word
+-- a piece, and behind it bytes without a word: the same words
+words_front : (piece tail : List ℕ) (h : IsPiece piece) → HasWords tail [] → HasWords (piece ++ tail) h.words
+words_front piece tail h none = subst (λ (ws : List Word). HasWords (piece ++ tail) ws) (append-nil h.words) (join_words piece tail h.words [] h.ends h.has_words none)
+
+tokens_front : (piece tail : List ℕ) (h : IsPiece piece) → tokens_of (piece ++ tail) h.words ≡ tokens_of piece h.words
+tokens_front piece tail h = tokens-front piece tail h.words 0 (words_lie piece h.words h.has_words)
+
 holds_front : (piece tail : List ℕ) → IsPiece piece → HasWords tail [] → ends_white (piece ++ tail) ≡ true → HoldsOne (piece ++ tail)
 holds_front piece tail h none ends = record {
   words = h.words;
   units = h.units;
-  has_words = subst (λ (ws : List Word). HasWords (piece ++ tail) ws) (append-nil h.words) (join_words piece tail h.words [] h.ends h.has_words none);
+  has_words = words_front piece tail h none;
   are_units = h.are_units;
-  spells = h.spells ∙ sym (tokens-front piece tail h.words 0 (words_lie piece h.words h.has_words));
+  spells = h.spells ∙ sym (tokens_front piece tail h);
   one = h.one;
   ends = ends;
 }
 
-pub one_unit_of_cut : (text piece tail : List ℕ) → IsCut text (piece ∷ []) tail → HoldsOne (ended text)
-one_unit_of_cut text piece tail h = subst HoldsOne joined (holds_front piece tail h.are_pieces.0 h.are_pieces.2 (subst (λ (bs : List ℕ). ends_white bs ≡ true) (sym joined) (ended_white text))) where
+module _ (text piece tail : List ℕ) (h : IsCut text (piece ∷ []) tail) where
   joined : piece ++ tail ≡ ended text
   joined = ap (λ (bs : List ℕ). bs ++ tail) (sym (append-nil piece)) ∙ h.joined
+
+  pub one_unit_of_cut : HoldsOne (ended text)
+  one_unit_of_cut = subst HoldsOne joined (holds_front piece tail h.are_pieces.0 h.are_pieces.2 (subst (λ (bs : List ℕ). ends_white bs ≡ true) (sym joined) (ended_white text)))
+
+  pub units_of_cut : (units : Units) → HasUnits (ended text) units → HasUnits piece units
+  units_of_cut units has = record { words = own.words; has_words = own.has_words; are_units = whole.are_units; spells = whole.spells ∙ ap (tokens_of (piece ++ tail)) same ∙ tokens_front piece tail own } where
+    own : IsPiece piece
+    own = h.are_pieces.0
+
+    whole : HasUnits (piece ++ tail) units
+    whole = subst (λ (bs : List ℕ). HasUnits bs units) (sym joined) has
+
+    same : whole.words ≡ own.words
+    same = one_words (piece ++ tail) whole.words own.words whole.has_words (words_front piece tail own h.are_pieces.2)

@@ -10,7 +10,7 @@ use Rattle.mm_text.specs.declared.fault.TextError.TheVariants as errors
 use Rattle.mm_text.specs.declared.fault.TextNumber.{TextNumber}
 use Rattle.mm_text.specs.declared.fault.TextNumber.TheVariants.{T07, T08}
 use Rattle.mm_text.specs.Language.Run.{is_white}
-use Rattle.mm_text.specs.Language.Reading.{AreWords, first_bad}
+use Rattle.mm_text.specs.Language.Reading.{AreWords, LiesIn, first_bad}
 use Rattle.mm_text.specs.Language.Unit.{token_of}
 use Rattle.mm_text.specs.Code.UnitReading as m
 use Rattle.mm_text.specs.Code.Grammar.{phase_of, first_behind, blocks_behind, TakesUnit, GrammarTakes, EndsWith}
@@ -41,8 +41,11 @@ module _ (text : List ℕ) (pieces : List (List ℕ)) (from at : ℕ) (g : Gramm
   ends_cut allowed none whole = cut_end text pieces from at g.phase g.first g.blocks.items h allowed none whole.0 whole.1
 
   module _ (word : Word) (to : ℕ) (taken : TakesWord text at word to) where
+    pub lies : (from ≤ word.start) × LiesIn text word
+    lies = word_lies text pieces from at g.phase g.first g.blocks.items h word to taken
+
     pub from_before : (white : ℕ) → from ≤ word.end + white
-    from_before white = let lies = word_lies text pieces from at g.phase g.first g.blocks.items h word to taken in omega (arith, lies.0, taken.some)
+    from_before white = let place = lies in omega (arith, place.0, taken.some)
 
     module _ (could : Bool) (new : Grammar) (label : could ≡ m.could_label (token_of text word)) where
       told : phase_of (m.next g.phase (length g.blocks.items) word.kind could) ≡ phase_of (m.next g.phase (length g.blocks.items) word.kind (m.could_label (token_of text word)))

@@ -24,5 +24,6 @@ pub mod CutWalkLemmas
 pub mod SkipLemmas
 pub mod PartLemmas
 pub mod PartWalkLemmas
+pub mod CutPartLemmas
 pub mod OwnWordLemmas
 pub mod ExampleLemmas

@@ -2,7 +2,7 @@
 use Rattle.std.proofs.Common.{◌≡◌, ◌⊎◌, ℕ, ◌-◌, ◌+◌, ◌<◌, ◌≤◌, Bool, true, false, List, [], ◌∷◌, ◌++◌, append_assoc, length, map, drop, Option, Some, None, Ok, Err, All, refl, sym, ap, ◌∙◌, subst, inl, inr, arith}
 use Rattle.std.specs.Prelude.{slice_range, unwrap_or, if◌then◌else◌}
 use Rattle.std.specs.List.{AllByRecursion}
-use Rattle.std.proofs.lemmas.List.{append-nil, take-append-drop, append_cancel_right, drop-drop, length-append, length-map, map-append}
+use Rattle.std.proofs.lemmas.List.{append-nil, take-append-drop, append_cancel_right, drop-drop, length-append, length-map}
 use Rattle.std.proofs.lemmas.List.Elements.{All-nil, All-cons, All-append}
 use Rattle.mm_text.specs.declared.part.Part.{Part}
 use Rattle.mm_text.specs.declared.part.PartKind.{PartKind}
@@ -16,26 +16,25 @@ use Rattle.mm_text.specs.Language.Run.{Run, runs, runs_from, ends_run}
 use Rattle.mm_text.specs.Language.Reading.{first_bad, AreWords, HasWords}
 use Rattle.mm_text.specs.Language.Unit.{Token, token_of, tokens_of, IsKeyword, IsPlain, Shape, Declaration, Labelled, Provable, Inclusion, shape_tokens, IsShape, Units, Nothing, Simple, Block, unit_tokens, AreUnits}
 use Rattle.mm_text.specs.Code.LeftToRight.{Read, read_runs, words_fault_at}
-use Rattle.mm_text.specs.Code.Reader.{runs_at, run_between, TakesWord, FailsBehind, SkipsPlain}
+use Rattle.mm_text.specs.Code.Reader.{runs_at, run_between, TakesWord, FailsBehind}
 use Rattle.mm_text.specs.Language.Cut.{ends_white, IsPiece, ArePieces}
 use Rattle.mm_text.specs.Language.Part.{HasUnits, token_end, part, word_part, shape_part, parts_of, IsReadable}
 use Rattle.mm_text.specs.Code.PartReading.{ends_part, emit_word, emit}
-use Rattle.mm_text.proofs.ReadingLemmas.{none_read, word_step, read_words, read_whole}
+use Rattle.mm_text.proofs.ReadingLemmas.{none_read, word_step, read_words}
 use Rattle.mm_text.proofs.ReaderLemmas.{words-append, slice_length, word_read, fails_read}
 use Rattle.mm_text.proofs.PieceLemmas.{Seam, runs-append, shift_run, shift_word, runs-shift, words_unshift}
 use Rattle.mm_text.proofs.PieceUnitLemmas.{allowed_part, or_true}
-use Rattle.mm_text.proofs.SkipLemmas.{plain_words, are_plain_words, plain_tokens, read_on}
 use Rattle.mm_text.proofs.NthLemmas.{first_word}
 
 -- ---- units
 
-abbrev made_part : PartKind → ℕ → ℕ → Part
+abbrev pub made_part : PartKind → ℕ → ℕ → Part
 made_part kind start end = record { kind = kind; start = start; end = end }
 
 emit_by : (first : Option ℕ) (kind : PartKind) (word : WordKind) (token : Token) (tokens : List Token) → token.kind ≡ word → emit first kind (token ∷ tokens) ≡ emit_word first kind word token (λ f k. emit f k tokens)
 emit_by first kind word token tokens is = ap (λ (w : WordKind). emit_word first kind w token (λ f k. emit f k tokens)) is
 
-emit_symbols : (start : ℕ) (kind : PartKind) (symbols tail : List Token) → AllByRecursion IsPlain symbols → emit (Some start) kind (symbols ++ tail) ≡ emit (Some start) kind tail
+pub emit_symbols : (start : ℕ) (kind : PartKind) (symbols tail : List Token) → AllByRecursion IsPlain symbols → emit (Some start) kind (symbols ++ tail) ≡ emit (Some start) kind tail
 emit_symbols start kind [] tail h = refl
 emit_symbols start kind (token ∷ symbols) tail h = emit_by (Some start) kind kinds.Plain token (symbols ++ tail) h.0 ∙ emit_symbols start kind symbols tail h.1
 
@@ -123,7 +122,7 @@ emit_units outside (Block begin inner end later) kind tail h =
           ∙ ap (λ (ps : List Part). part parts.BlockEnd end end ∷ ps) rest.1) ∙ sym (append_assoc (parts_of inner) (part parts.BlockEnd end end ∷ parts_of later) (emit None rest.0 tail))),
     )
 
-whole_parts : (units : Units) (kind : PartKind) → AreUnits true units → emit None kind (unit_tokens units) ≡ parts_of units
+pub whole_parts : (units : Units) (kind : PartKind) → AreUnits true units → emit None kind (unit_tokens units) ≡ parts_of units
 whole_parts units kind h = let all = emit_units true units kind [] h in ap (emit None kind) (sym (append-nil (unit_tokens units))) ∙ all.1 ∙ append-nil (parts_of units)
 
 -- ---- the parts so far
@@ -263,31 +262,6 @@ module _ (text : List ℕ) (found : List Part) (first : Option ℕ) (kind : Part
       readable = h.readable;
       begun = λ s e. (let same : start ≡ s = cc in subst (λ n. Begun text n to) same (begins first refl));
     }
-
--- ---- plain words inside a part
-
-module _ (text : List ℕ) (found : List Part) (start : ℕ) (kind : PartKind) (at to : ℕ) (h : Divides text found (Some start) kind at) (s : SkipsPlain text at to) where
-  begun_skip : at ≤ to → Begun text start at → Begun text start to
-  begun_skip le b = record {
-    before = omega (arith, b.before);
-    since = b.since ++ s.inside;
-    words = b.words ++ plain_words s.inside;
-    joined = b.joined ∙ ap (λ (rs : List Run). b.since ++ rs) s.joined ∙ sym (append_assoc b.since s.inside (runs_at text to));
-    reads = words-append b.since s.inside b.words (plain_words s.inside) b.reads (are_plain_words s.inside s.plain);
-    some = omega (arith, b.some, length-append b.words (plain_words s.inside));
-  }
-
-  rest_behind : Left text found (Some start) kind (read_runs None (runs_at text to))
-  rest_behind units has =
-      let left = h.rest units has in
-      let more = read_on (plain_words s.inside) (read_runs None (runs_at text to)) left.0 (sym (ap (read_runs None) s.joined ∙ read_whole s.inside (plain_words s.inside) (are_plain_words s.inside s.plain) (runs_at text to)) ∙ left.1) in
-      let emitted : emit (Some start) kind (tokens_of text left.0) ≡ emit (Some start) kind (tokens_of text more.0) =
-      ap (λ (ws : List Word). emit (Some start) kind (tokens_of text ws)) more.2 ∙ ap (emit (Some start) kind) (map-append (token_of text) (plain_words s.inside) more.0)
-      ∙ emit_symbols start kind (tokens_of text (plain_words s.inside)) (tokens_of text more.0) (plain_tokens text s.inside) in
-      (more.0, more.1, ap (λ (ps : List Part). found ++ ps) (sym emitted) ∙ left.2)
-
-  pub divides_skip : at ≤ to → Divides text found (Some start) kind to
-  divides_skip le = record { allowed = h.allowed; rest = rest_behind; readable = h.readable; begun = λ n e. (let same : start ≡ n = cc in subst (λ k. Begun text k to) same (begun_skip le (h.begun start refl))) }
 
 -- ---- pieces
 

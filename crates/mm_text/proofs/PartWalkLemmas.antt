@@ -1,4 +1,4 @@
--- The parts of units are texts with words: what `parts` does, without its code.
+-- The parts of units are texts with words: a walk over all words of a text, from part to part.
 use Rattle.std.proofs.Common.{ℕ, zero, suc, ◌+◌, ◌<◌, ◌≤◌, List, [], Option, None, All, length, subst, inl, inr, arith}
 use Rattle.std.proofs.lemmas.Bool.{cases_Bool}
 use Rattle.mm_text.specs.declared.part.Part.{Part}

@@ -13,10 +13,13 @@ use Rattle.mm_text.specs.declared.word.WordKind.{WordKind}
 use Rattle.mm_text.specs.Language.Run.{Run, runs, runs_from, is_white, ends_run}
 use Rattle.mm_text.specs.Language.Reading.{is_allowed, first_bad, AreWords, HasWords}
 use Rattle.mm_text.specs.Language.Unit.{Token, token_of, tokens_of, Shape, Declaration, shape_tokens, Units, Nothing, Simple, Block, unit_tokens, AreUnits}
+use Rattle.mm_text.specs.Code.LeftToRight.{read_text}
 use Rattle.mm_text.specs.Code.UnitReading as m
 use Rattle.mm_text.specs.Language.Cut.{ends_white, ended, IsOne, end_of_words, IsPiece, BeginsSolid}
+use Rattle.mm_text.specs.Language.Part.{HasUnits}
 use Rattle.mm_text.specs.Code.Reader.{runs_at}
 use Rattle.mm_text.proofs.RunLemmas.{one_more, skip_white}
+use Rattle.mm_text.proofs.ReadingLemmas.{text_words}
 use Rattle.mm_text.proofs.PositionLemmas.{Lying, words_lie, none_found, passes}
 use Rattle.mm_text.proofs.UnitReadingLemmas.{IsWhole-run, run-IsWhole}
 use Rattle.mm_text.proofs.PieceLemmas.{feed_white, Seam, runs-append, shift_word, runs-shift, words_unshift, line_end, ended_is, runs-ended, ended_white, ended-append, ends_behind}
@@ -114,17 +117,27 @@ slice_part text part rest from a b joined le within =
 abbrev pub bare : Token → Token
 bare token = record { kind = token.kind; bytes = token.bytes; start = 0 }
 
-abbrev bare_token : WordKind → List ℕ → Token
-bare_token kind bytes = record { kind = kind; bytes = bytes; start = 0 }
+-- a word with its place counted from a byte
+abbrev pub unshift : ℕ → Token → Token
+unshift from token = record { kind = token.kind; bytes = token.bytes; start = token.start - from }
 
-pub tokens-shift : (text part rest : List ℕ) (from : ℕ) → drop from text ≡ part ++ rest → (ws : List Word) (at : ℕ) → Lying part at ws → map bare (tokens_of text (map (shift_word from) ws)) ≡ map bare (tokens_of part ws)
-tokens-shift text part rest from joined [] at h = refl
-tokens-shift text part rest from joined (w ∷ ws) at h =
-    ap (λ (bs : List ℕ). bare_token w.kind bs ∷ map bare (tokens_of text (map (shift_word from) ws))) (slice_part text part rest from w.start w.end joined (omega arith) h.1.within)
-    ∙ ap (λ (ts : List Token). bare (token_of part w) ∷ ts) (tokens-shift text part rest from joined ws (w.end + 1) h.2)
+bare_unshift : (from : ℕ) (tokens : List Token) → map bare (map (unshift from) tokens) ≡ map bare tokens
+bare_unshift from [] = refl
+bare_unshift from (token ∷ tokens) = ap (λ (ts : List Token). bare token ∷ ts) (bare_unshift from tokens)
 
 abbrev made_token : WordKind → List ℕ → ℕ → Token
 made_token kind bytes start = record { kind = kind; bytes = bytes; start = start }
+
+pub tokens_unshift : (text part rest : List ℕ) (from : ℕ) → drop from text ≡ part ++ rest → (ws : List Word) (at : ℕ) → Lying part at ws → map (unshift from) (tokens_of text (map (shift_word from) ws)) ≡ tokens_of part ws
+tokens_unshift text part rest from joined [] at h = refl
+tokens_unshift text part rest from joined (w ∷ ws) at h =
+    let place : from + w.start - from ≡ w.start = omega arith in
+    ap (λ (bs : List ℕ). made_token w.kind bs (from + w.start - from) ∷ map (unshift from) (tokens_of text (map (shift_word from) ws))) (slice_part text part rest from w.start w.end joined (omega arith) h.1.within)
+    ∙ ap (λ (n : ℕ). made_token w.kind (slice_range part w.start w.end) n ∷ map (unshift from) (tokens_of text (map (shift_word from) ws))) place
+    ∙ ap (λ (ts : List Token). token_of part w ∷ ts) (tokens_unshift text part rest from joined ws (w.end + 1) h.2)
+
+pub tokens-shift : (text part rest : List ℕ) (from : ℕ) → drop from text ≡ part ++ rest → (ws : List Word) (at : ℕ) → Lying part at ws → map bare (tokens_of text (map (shift_word from) ws)) ≡ map bare (tokens_of part ws)
+tokens-shift text part rest from joined ws at h = sym (bare_unshift from (tokens_of text (map (shift_word from) ws))) ∙ ap (map bare) (tokens_unshift text part rest from joined ws at h)
 
 pub tokens-front : (part rest : List ℕ) (ws : List Word) (at : ℕ) → Lying part at ws → tokens_of (part ++ rest) ws ≡ tokens_of part ws
 tokens-front part rest [] at h = refl
@@ -199,6 +212,9 @@ last_end k (w ∷ ws) part word e = sym (end_shift k w ws) ∙ ap end_of_words (
 
 -- ---- a piece
 
+pub one_words : (text : List ℕ) (a b : List Word) → HasWords text a → HasWords text b → a ≡ b
+one_words text a b f g = let x : read_text text ≡ Ok a = text_words text a f in let y : read_text text ≡ Ok b = text_words text b g in cc
+
 module _ (text : List ℕ) (from to : ℕ) (since : List Run) (part : List Word) (word : Word) (allowed : first_bad text ≡ None) (le : from ≤ to) (within : to ≤ length text) (joined : runs_at text from ≡ since ++ runs_at text to)
     (reads : AreWords since (part ++ word ∷ [])) (end_is : word.end ≡ to) (ends : ends_run (drop to text) ≡ true) where
   abbrev pub white : ℕ
@@ -258,12 +274,20 @@ module _ (text : List ℕ) (from to : ℕ) (since : List Run) (part : List Word)
   has_ended : HasWords (ended piece_bytes) piece_words.0
   has_ended = record { allowed = allowed-ended piece_bytes (allowed_part text from (to + white) allowed); words_are = subst (λ (rs : List Run). AreWords rs piece_words.0) (sym (runs-ended 0 piece_bytes)) piece_words.1 }
 
-  -- the words of the part, without their places
-  same_tokens : map bare (tokens_of (ended piece_bytes) piece_words.0) ≡ map bare (tokens_of text (part ++ word ∷ []))
-  same_tokens =
+  -- the words of the part, with their places in the piece
+  same_places : map (unshift from) (tokens_of text (part ++ word ∷ [])) ≡ tokens_of (ended piece_bytes) piece_words.0
+  same_places =
       let lie : Lying piece_bytes 0 piece_words.0 = words_lie piece_bytes piece_words.0 has in
-      ap (map bare) (ap (λ (bs : List ℕ). tokens_of bs piece_words.0) (ended_is piece_bytes) ∙ tokens-front piece_bytes (line_end piece_bytes) piece_words.0 0 lie)
-      ∙ sym (tokens-shift text piece_bytes (drop (to + white) text) from piece_joined piece_words.0 0 lie) ∙ ap (λ (ws : List Word). map bare (tokens_of text ws)) (sym piece_words.2)
+      ap (λ (ws : List Word). map (unshift from) (tokens_of text ws)) piece_words.2 ∙ tokens_unshift text piece_bytes (drop (to + white) text) from piece_joined piece_words.0 0 lie
+      ∙ sym (ap (λ (bs : List ℕ). tokens_of bs piece_words.0) (ended_is piece_bytes) ∙ tokens-front piece_bytes (line_end piece_bytes) piece_words.0 0 lie)
+
+  -- and without them
+  same_tokens : map bare (tokens_of (ended piece_bytes) piece_words.0) ≡ map bare (tokens_of text (part ++ word ∷ []))
+  same_tokens = ap (map bare) (sym same_places) ∙ bare_unshift from (tokens_of text (part ++ word ∷ []))
+
+  -- units that the piece has are spelled by these words
+  pub piece_spells : (units : Units) → HasUnits (ended piece_bytes) units → unit_tokens units ≡ map (unshift from) (tokens_of text (part ++ word ∷ []))
+  piece_spells units has = has.spells ∙ ap (tokens_of (ended piece_bytes)) (one_words (ended piece_bytes) has.words piece_words.0 has.has_words has_ended) ∙ sym same_places
 
   white_behind : AllPass is_white (drop (end_of_words piece_words.0) (ended piece_bytes))
   white_behind =

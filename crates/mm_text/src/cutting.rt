@@ -3,13 +3,14 @@
 ghost use Rattle.std.specs.Prelude.{◌≡◌, ◌≤◌, [], ◌∷◌, ◌++◌, None, IfOk, IfErr, OnOk, All, map, length, drop};
 ghost use Rattle.mm_text.specs.Language.Reading.{first_bad, IsTextErrorIn};
 ghost use Rattle.mm_text.specs.Language.Unit.{Units};
-ghost use Rattle.mm_text.specs.Language.Part.{HasUnits};
+ghost use Rattle.mm_text.specs.Language.Part.{HasUnits, HasParts, HasOwnParts, IsReadable};
 ghost use Rattle.mm_text.specs.Language.Cut as pieces;
 ghost use Rattle.mm_text.specs.Language.Cut.{ended, IsCut, IsCutError};
 
+use crate::division::PartReading;
 use crate::fault::{TextError, TextFault, TextNumber};
 use crate::grammar::Grammar;
-use crate::pieces::Cut;
+use crate::pieces::{Cut, DividedCut, DividedPiece};
 use crate::reader::Reader;
 use crate::reading::first_bad_byte;
 use crate::spelling::{is_white_space, white_len};
@@ -37,31 +38,46 @@ fn ended_copy(alloc: Global, bytes: &[u8]) -> Result<Vec<u8>, AllocError>
     Ok(copy)
 }
 
-/// Puts such a copy behind others.
-fn push_copy(alloc: Global, bytes: &[u8], copies: &mut Vec<Vec<u8>>) -> Result<(), AllocError>
-    ensures { OnOk result (map (λ copy. copy.items) copies.new.items ≡ map (λ copy. copy.items) copies.old.items ++ ended bytes.now ∷ []) }
+/// Puts a piece with the parts that were read of it behind others; of the next piece nothing is read.
+fn push_piece(
+    alloc: Global,
+    bytes: &[u8],
+    parts: &mut PartReading,
+    pieces: &mut Vec<DividedPiece>,
+) -> Result<(), AllocError>
+    ensures texts { OnOk result
+        (map (λ piece. piece.text.items) pieces.new.items ≡ map (λ piece. piece.text.items) pieces.old.items ++ ended bytes.now ∷ []) }
+    ensures parts { OnOk result
+        (All HasOwnParts pieces.old.items → HasParts (ended bytes.now) parts.old.parts.items → All HasOwnParts pieces.new.items) }
+    ensures nothing { parts.new.parts.items ≡ [] }
+    ensures first { parts.new.first ≡ None }
 {
-    copies.push(ended_copy(alloc, bytes)?)?;
+    let parts = parts.end_piece(alloc)?;
+    let text = ended_copy(alloc, bytes)?;
+    pieces.push(DividedPiece { text, parts })?;
     Ok(())
 }
 
-/// Cuts the units off a text, whose bytes are all allowed: it puts the pieces into an empty list, and answers where the
-/// tail begins.
-fn cut_units(alloc: Global, text: &[u8], pieces: &mut Vec<Vec<u8>>) -> Result<usize, TextError>
+/// Cuts the units off a text, whose bytes are all allowed, and reads the parts of each: it puts the pieces into an empty
+/// list, and answers where the tail begins.
+fn cut_units(alloc: Global, text: &[u8], pieces: &mut Vec<DividedPiece>) -> Result<usize, TextError>
     requires allowed { first_bad text.now ≡ None }
     requires empty { pieces.old.items ≡ [] }
     ensures within { IfOk result (λ from. from ≤ length text.now) }
-    ensures cut { IfOk result (λ from. IsCut text.now (map (λ piece. piece.items) pieces.new.items) (ended (drop from text.now))) }
+    ensures cut { IfOk result (λ from. IsCut text.now (map (λ piece. piece.text.items) pieces.new.items) (ended (drop from text.now))) }
     ensures fault { IfErr result (IsCutError text.now) }
+    ensures parts { OnOk result (All HasOwnParts pieces.new.items) }
 {
     let mut grammar = Grammar::new(alloc);
+    let mut parts = PartReading::new(alloc);
     let mut reader = Reader::new(text);
     let mut from = 0;
     while let Some(word) = reader.next_word()? {
         grammar.take(&word, &text[word.start..word.end])?;
+        parts.take(from, &word)?;
         if grammar.is_whole() {
             let end = word.end + white_len(&text[word.end..]);
-            push_copy(alloc, &text[from..end], pieces)?;
+            push_piece(alloc, &text[from..end], &mut parts, pieces)?;
             from = end;
         } else if grammar.is_within() {
             reader.skip_plain();
@@ -71,6 +87,43 @@ fn cut_units(alloc: Global, text: &[u8], pieces: &mut Vec<Vec<u8>>) -> Result<us
         Some(fault) => Err(TextError::Fault(fault)),
         None => Ok(from),
     }
+}
+
+/// The pieces of a text, each with one unit and with its parts, and its tail: `cut`, and the division of each piece,
+/// in one reading.
+///
+/// The parts of a piece are its statements and inclusions, each `${` and each `$}`, in order. An error is that of `cut`.
+pub fn divided_cut(alloc: Global, text: &[u8]) -> Result<DividedCut, TextError>
+    ensures cut { IfOk result (λ found. IsCut text.now (map (λ piece. piece.text.items) found.pieces.items) found.tail.items) }
+    ensures fault { IfErr result (IsCutError text.now) }
+    ensures parts { IfOk result (λ found. All HasOwnParts found.pieces.items) }
+
+    // These follow: the fault lies in the text, the words of each piece are whole units, and each part is a text with words.
+    ensures fault_within { IfErr result (IsTextErrorIn text.now) }
+    ensures units { IfOk result (λ found. All (λ piece. (units : Units) × HasUnits piece.text.items units) found.pieces.items) }
+    ensures readable { IfOk result (λ found. All (λ piece. All (IsReadable piece.text.items) piece.parts.items) found.pieces.items) }
+{
+    if let Some(at) = first_bad_byte(text) {
+        return Err(TextError::Fault(TextFault {
+            number: TextNumber::T01,
+            at,
+        }));
+    }
+    let mut pieces = Vec::new(alloc);
+    let from = cut_units(alloc, text, &mut pieces)?;
+    let tail = ended_copy(alloc, &text[from..])?;
+    Ok(DividedCut { pieces, tail })
+}
+
+/// The texts of pieces, in order.
+fn texts_of(alloc: Global, pieces: Vec<DividedPiece>) -> Result<Vec<Vec<u8>>, AllocError>
+    ensures { IfOk result (λ texts. map (λ text. text.items) texts.items ≡ map (λ piece. piece.text.items) pieces.items) }
+{
+    let mut texts = Vec::with_capacity(alloc, pieces.len())?;
+    for piece in pieces {
+        texts.push(piece.text)?;
+    }
+    Ok(texts)
 }
 
 /// The pieces of a text, each with one unit, and its tail.
@@ -90,14 +143,7 @@ pub fn cut(alloc: Global, text: &[u8]) -> Result<Cut, TextError>
     ensures fault_within { IfErr result (IsTextErrorIn text.now) }
     ensures units { IfOk result (λ found. All (λ piece. (units : Units) × HasUnits piece.items units) found.pieces.items) }
 {
-    if let Some(at) = first_bad_byte(text) {
-        return Err(TextError::Fault(TextFault {
-            number: TextNumber::T01,
-            at,
-        }));
-    }
-    let mut pieces = Vec::new(alloc);
-    let from = cut_units(alloc, text, &mut pieces)?;
-    let tail = ended_copy(alloc, &text[from..])?;
+    let DividedCut { pieces, tail } = divided_cut(alloc, text)?;
+    let pieces = texts_of(alloc, pieces)?;
     Ok(Cut { pieces, tail })
 }

@@ -1,13 +1,12 @@
-//! The division of units into parts.
+//! The division of pieces into parts.
 
-ghost use Rattle.std.specs.Prelude.{◌≡◌, IfOk, All};
-ghost use Rattle.mm_text.specs.Language.Unit.{Units};
-ghost use Rattle.mm_text.specs.Language.Part.{HasUnits, parts_of, word_part, IsReadable};
+ghost use Rattle.std.specs.Prelude.{◌≡◌, ◌≤◌, None, [], IfOk, OnOk};
+ghost use Rattle.mm_text.specs.Language.Part.{word_part};
 ghost use Rattle.mm_text.specs.Code.PartReading as reading;
+ghost use Rattle.mm_text.specs.Code.PartReading.{TakesPartWord};
 
 use crate::part::{Part, PartKind};
-use crate::reader::Reader;
-use crate::word::{Keyword, WordKind};
+use crate::word::{Keyword, Word, WordKind};
 use std::alloc::{AllocError, Global};
 
 /// What a word makes of the part that it stands in.
@@ -44,40 +43,60 @@ fn ends_part(word: WordKind) -> bool
     )
 }
 
-/// The parts of a text whose words are whole units, as those of a piece are: each statement and inclusion, each
-/// `${` and each `$}`, in order.
-pub fn parts(alloc: Global, text: &[u8]) -> Result<Vec<Part>, AllocError>
-    requires { (units : Units) × HasUnits text.now units }
-    ensures parts { (units : Units) → HasUnits text.now units → IfOk result (λ found. found.items ≡ parts_of units) }
-    ensures readable { IfOk result (λ found. All (IsReadable text.now) found.items) }
-{
-    let mut parts = Vec::new(alloc);
-    let mut reader = Reader::new(text);
-    let mut first = None;
-    let mut kind = PartKind::Constants;
-    loop {
-        match reader.next_word() {
-            Ok(Some(word)) => {
-                let start = first.unwrap_or(word.start);
-                kind = part_kind(kind, word.kind);
-                if ends_part(word.kind) {
-                    parts.push(Part {
-                        kind,
-                        start,
-                        end: word.end,
-                    })?;
-                    first = None;
-                } else {
-                    first = Some(start);
-                    reader.skip_plain();
-                }
-            }
-            Ok(None) => {
-                parts.shrink_to_fit();
-                return Ok(parts);
-            }
-            // a text whose words are units has no fault
-            Err(_) => unreachable!(),
+/// How far the parts of a piece are read.
+#[derive(Drop)]
+pub struct PartReading {
+    /// The parts that have ended.
+    parts: Vec<Part>,
+    /// The first byte of the part that is being read, if one is.
+    first: Option<usize>,
+    /// What that part is by its keywords so far.
+    kind: PartKind,
+}
+
+impl PartReading {
+    /// Nothing is read.
+    pub fn new(alloc: Global) -> Self
+        ensures parts { result.parts.items ≡ [] }
+        ensures first { result.first ≡ None }
+    {
+        PartReading {
+            parts: Vec::new(alloc),
+            first: None,
+            kind: PartKind::Constants,
         }
+    }
+
+    /// Reads one more word of the piece that begins at the byte `from` of the text of the word.
+    pub fn take(&mut self, from: usize, word: &Word) -> Result<(), AllocError>
+        requires behind { from ≤ word.now.start }
+        requires some { word.now.start ≤ word.now.end }
+        ensures { OnOk result (TakesPartWord self.old from word.now self.new) }
+    {
+        let start = self.first.unwrap_or(word.start - from);
+        self.kind = part_kind(self.kind, word.kind);
+        if ends_part(word.kind) {
+            self.parts.push(Part {
+                kind: self.kind,
+                start,
+                end: word.end - from,
+            })?;
+            self.first = None;
+        } else {
+            self.first = Some(start);
+        }
+        Ok(())
+    }
+
+    /// The parts of the piece, which ends here; after that nothing is read.
+    pub fn end_piece(&mut self, alloc: Global) -> Result<Vec<Part>, AllocError>
+        ensures parts { IfOk result (λ parts. parts.items ≡ self.old.parts.items) }
+        ensures nothing { self.new.parts.items ≡ [] }
+        ensures first { self.new.first ≡ None }
+    {
+        let parts = Vec::from_slice(alloc, &self.parts);
+        self.parts.clear();
+        self.first = None;
+        parts
     }
 }

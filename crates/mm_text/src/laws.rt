@@ -84,7 +84,9 @@ pub fn first_faults_are_within()
 
 /// A text whose cut has one piece holds one unit, and no more.
 ///
-/// This is said of the text as it is cut: with one line feed added, if it does not end in white space.
+/// This is said of the text as it is cut: with one line feed added, if it does not end in white space. Its unit is that of
+/// the piece, with each word at the same byte, so it has the parts of the piece.
 pub fn one_unit_of_cut()
-    ensures { (text piece tail : List ℕ) → IsCut text (piece ∷ []) tail → HoldsOne (ended text) }
+    ensures unit { (text piece tail : List ℕ) → IsCut text (piece ∷ []) tail → HoldsOne (ended text) }
+    ensures same { (text piece tail : List ℕ) (units : Units) → IsCut text (piece ∷ []) tail → HasUnits (ended text) units → HasUnits piece units }
 {}

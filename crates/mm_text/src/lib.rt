@@ -8,8 +8,8 @@
 //! it tells.
 //!
 //! The words of a database make units: statements, inclusions, and blocks with units inside. `cut` cuts a text
-//! into pieces with one unit each, or tells the first fault of its words or units, and `parts` divides a piece
-//! into its statements.
+//! into pieces with one unit each, or tells the first fault of its words or units, and `divided_cut` also divides
+//! each piece into its statements.
 #![tactic(auto)]
 
 mod cursor;
@@ -30,8 +30,7 @@ mod spelling;
 mod word;
 
 pub use cursor::WordCursor;
-pub use cutting::{cut, ends_white};
-pub use division::parts;
+pub use cutting::{cut, divided_cut, ends_white};
 pub use examples::texts_are_read_so;
 pub use fault::{TextError, TextFault, TextNumber};
 pub use laws::{
@@ -41,7 +40,7 @@ pub use laws::{
 pub use lines::place;
 pub use location::Place;
 pub use part::{Part, PartKind};
-pub use pieces::Cut;
+pub use pieces::{Cut, DividedCut, DividedPiece};
 pub use reading::{nth_word, words};
 pub use spelling::could_label;
 pub use word::{Keyword, Word, WordKind};

@@ -1,11 +1,14 @@
-//! What the program does not call of texts: a list of words, and a cursor that begins again; and how an error is printed.
+//! What the program does not call of texts: a list of words, a cursor that begins again, and a cut without parts; and how an
+//! error is printed.
 
 ghost use Rattle.std.specs.Prelude.{List};
 ghost use Rattle.mm_text.specs.Language.Reading.{HasWords};
 ghost use Rattle.mm_text.specs.declared.word.Word.{Word as Found};
 
 use crate::cursor::WordCursor;
+use crate::cutting::{cut, divided_cut};
 use crate::fault::{TextError, TextFault, TextNumber};
+use crate::part::{Part, PartKind};
 use crate::reading::{nth_word, words};
 use crate::word::{Keyword, Word, WordKind};
 use std::test::Fail;
@@ -24,6 +27,10 @@ fn keyword(keyword: Keyword, start: usize, end: usize) -> Word {
         start,
         end,
     }
+}
+
+fn part(kind: PartKind, start: usize, end: usize) -> Part {
+    Part { kind, start, end }
 }
 
 /// The words that a cursor tells, one behind the last among them, and the first that one tells that began again behind the
@@ -68,6 +75,33 @@ fn finds_the_words_outside_comments(rt: HostRuntime) -> Result<(), Fail> {
     let (found, again) = told(text);
     assert!(rt; numbered(text).as_slice() == each.as_slice());
     assert!(rt; found.as_slice() == each.as_slice() && again == each[1]);
+    Ok(())
+}
+
+#[test]
+fn cuts_into_pieces_and_parts(rt: HostRuntime) -> Result<(), Fail> {
+    let text = b"$c a $. $( x $) ${ l $a a $. $} $( y $)";
+    let texts: [&[u8]; 2] = [b"$c a $. ", b"$( x $) ${ l $a a $. $} "];
+    let first = [part(PartKind::Constants, 0, 7)];
+    let second = [
+        part(PartKind::BlockStart, 8, 10),
+        part(PartKind::Axiom, 11, 20),
+        part(PartKind::BlockEnd, 21, 23),
+    ];
+    let parts: [&[Part]; 2] = [&first, &second];
+    let plain = cut(rt.alloc(), text)?;
+    let divided = divided_cut(rt.alloc(), text)?;
+    assert!(rt; plain.pieces.len() == 2 && plain.tail.as_slice() == b"$( y $)\n".as_slice());
+    assert!(rt; divided.pieces.len() == 2 && divided.tail.as_slice() == b"$( y $)\n".as_slice());
+    for (piece, wanted) in plain.pieces.iter().zip(texts) {
+        assert!(rt; piece.as_slice() == wanted);
+    }
+    for (piece, wanted) in divided.pieces.iter().zip(texts) {
+        assert!(rt; piece.text.as_slice() == wanted);
+    }
+    for (piece, wanted) in divided.pieces.iter().zip(parts) {
+        assert!(rt; piece.parts.as_slice() == wanted);
+    }
     Ok(())
 }
 

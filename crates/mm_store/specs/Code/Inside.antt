@@ -1,17 +1,11 @@
 -- What is kept of the text of a piece, and how pieces are put.
 use Rattle.std.specs.Prelude.{◌≡◌, ℕ, ◌≤◌, List, [], ◌∷◌, None, length}
 use Rattle.std.specs.FinMap as finite
-use Rattle.mm_text.specs.Language.Unit.{Units}
 use Rattle.mm_text.specs.Language.Cut.{HoldsOne}
-use Rattle.mm_text.specs.declared.part.Part.{Part}
-use Rattle.mm_text.specs.Language.Part.{HasUnits, parts_of}
+use Rattle.mm_text.specs.Language.Part.{HasParts}
 use Rattle.mm_store.specs.declared.piece_text.PieceText.{PieceText}
 use Rattle.mm_store.specs.Language.Pieces.{Pieces, standing_piece}
 use Rattle.mm_store.specs.Code.Lines.{AreLines, AreLineMarks}
-
--- these are the parts of a text
-abbrev pub HasParts : List ℕ → List Part → Type 0
-HasParts text parts = (units : Units) → HasUnits text units → parts ≡ parts_of units
 
 -- a text holds one unit, and has no more bytes than files may have
 pub record CanBeKept (text : List ℕ) : Type 0 where

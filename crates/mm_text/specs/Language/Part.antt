@@ -1,6 +1,7 @@
 -- The parts of a text whose words are whole units, in order: statements, inclusions, and the ends of blocks.
 use Rattle.std.specs.Prelude.{◌≡◌, ℕ, ◌+◌, ◌<◌, ◌≤◌, true, List, [], ◌∷◌, ◌++◌, length, slice_range}
 use Rattle.mm_text.specs.declared.part.Part.{Part}
+use Rattle.mm_text.specs.declared.pieces.DividedPiece.{DividedPiece}
 use Rattle.mm_text.specs.declared.part.PartKind.{PartKind}
 use Rattle.mm_text.specs.declared.part.PartKind.TheVariants as parts
 use Rattle.mm_text.specs.declared.word.Word.{Word}
@@ -59,6 +60,14 @@ abbrev pub parts_of : Units → List Part
 parts_of Nothing = []
 parts_of (Simple shape later) = shape_part shape ∷ parts_of later
 parts_of (Block begin inner end later) = part parts.BlockStart begin begin ∷ (parts_of inner ++ part parts.BlockEnd end end ∷ parts_of later)
+
+-- these are the parts of a text: those of the units that its words are
+abbrev pub HasParts : List ℕ → List Part → Type 0
+HasParts text parts = (units : Units) → HasUnits text units → parts ≡ parts_of units
+
+-- the parts of the piece are those of its text
+abbrev pub HasOwnParts : DividedPiece → Type 0
+HasOwnParts piece = HasParts piece.text.items piece.parts.items
 
 -- the bytes of a part of a text
 abbrev pub part_bytes : List ℕ → Part → List ℕ

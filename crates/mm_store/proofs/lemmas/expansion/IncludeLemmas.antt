@@ -9,13 +9,12 @@ use Rattle.mm_text.specs.declared.part.Part.{Part}
 use Rattle.mm_text.specs.declared.part.PartKind.TheVariants as kinds
 use Rattle.mm_text.specs.Language.Reading.{HasWords}
 use Rattle.mm_text.specs.Language.Unit.{Declaration, Labelled, Provable, Inclusion, Units, Nothing, Simple, Block, AreUnits}
-use Rattle.mm_text.specs.Language.Part.{HasUnits, part, part_bytes, shape_part}
+use Rattle.mm_text.specs.Language.Part.{HasUnits, HasParts, part, part_bytes, shape_part}
 use Rattle.mm_text.specs.Language.Cut.{IsOne, HoldsOne}
 use Rattle.mm_store.specs.declared.files.PieceKey.{PieceKey}
 use Rattle.mm_store.specs.Language.FileFacts.{second_word}
 use Rattle.mm_store.specs.Language.Expansion.{Named, Placed, IsInclusion, included_name, nameless, named_parts, placed_part, ArePartsOf}
 use Rattle.mm_store.specs.Code.Steps.{IncludesNothing, Includes}
-use Rattle.mm_store.specs.Code.Inside.{HasParts}
 use Rattle.mm_store.proofs.lemmas.expansion.NameLemmas.{StandsAlone, all_and, all_named, named_are, inner_kind, declared_kind, labelled_kind}
 
 abbrev IsOwn : Named → Type 0

@@ -4,7 +4,7 @@ use Rattle.std.specs.Prelude.{IsSome}
 use Rattle.std.specs.FinMap as finite
 use Rattle.std.proofs.lemmas.Simd.{map-map}
 use Rattle.mm_text.specs.declared.part.Part.{Part}
-use Rattle.mm_text.specs.Language.Part.{HasUnits}
+use Rattle.mm_text.specs.Language.Part.{HasUnits, HasParts}
 use Rattle.mm_store.specs.declared.item.Item.{Item}
 use Rattle.mm_store.specs.declared.walk.Spot.{Spot}
 use Rattle.mm_store.specs.declared.walk.Step.TheVariants as steps
@@ -14,7 +14,6 @@ use Rattle.mm_store.specs.Language.FileFacts.{HoldsPieces}
 use Rattle.mm_store.specs.Language.Expansion.{Placed, placed_item, named_parts, placed_part, ArePartsOf}
 use Rattle.mm_store.specs.Language.Walking.{LevelView, WalkView, IsWalk}
 use Rattle.mm_store.specs.Code.Gains.{HoldUnits, item_of_part}
-use Rattle.mm_store.specs.Code.Inside.{HasParts}
 use Rattle.mm_store.specs.Code.Steps.{spot_at, Tells, IsStep}
 use Rattle.mm_store.proofs.lemmas.expansion.ExpansionLemmas.{OneReading, OneDivision}
 use Rattle.mm_store.proofs.lemmas.expansion.NameLemmas.{named_are}

@@ -156,11 +156,11 @@ no_file {T} test es none = absent_from test es (omega (arith, none_or (position_
 unit_of : {text : List ℕ} → IsPiece text → HoldsOne text
 unit_of p = record { words = p.words; units = p.units; has_words = p.has_words; are_units = p.are_units; spells = p.spells; one = p.one; ends = p.ends }
 
-pub can_be_kept : {Y : Type 0} (texts : List (Vec ℕ Y)) (tail : List ℕ) → ArePieces (map (λ text. text.items) texts) tail → length (concat (map (λ text. text.items) texts)) ≤ 4294967295 → All (λ text. CanBeKept text.items) texts
-can_be_kept [] tail are small = All-nil (λ text. CanBeKept text.items)
-can_be_kept (text ∷ texts) tail are small =
-    let long = length-append text.items (concat (map (λ text. text.items) texts)) in
-    All-cons (λ text. CanBeKept text.items) text texts (record { unit = unit_of are.0; small = omega (arith, long) }) (can_be_kept texts tail are.2 (omega (arith, long)))
+pub can_be_kept : {X : Type 0} (bytes : X → List ℕ) (pieces : List X) (tail : List ℕ) → ArePieces (map bytes pieces) tail → length (concat (map bytes pieces)) ≤ 4294967295 → All (λ piece. CanBeKept (bytes piece)) pieces
+can_be_kept bytes [] tail are small = All-nil (λ piece. CanBeKept (bytes piece))
+can_be_kept bytes (piece ∷ pieces) tail are small =
+    let long = length-append (bytes piece) (concat (map bytes pieces)) in
+    All-cons (λ piece. CanBeKept (bytes piece)) piece pieces (record { unit = unit_of are.0; small = omega (arith, long) }) (can_be_kept bytes pieces tail are.2 (omega (arith, long)))
 
 pub tail_of : (texts : List (List ℕ)) (tail : List ℕ) → ArePieces texts tail → HasWords tail []
 tail_of [] tail are = are

@@ -1,23 +1,36 @@
-use Rattle.std.proofs.Common.{◌≡◌, [], ◌∷◌, ◌++◌, All, map, sym, ap, ◌∙◌, subst, append_assoc, arith}
+use Rattle.std.proofs.Common.{◌≡◌, [], ◌∷◌, ◌++◌, All, map, length, drop, sym, ap, ◌∙◌, subst, append_assoc, arith}
 use Rattle.std.specs.Vec.Iter.{into_iter_items}
+use Rattle.std.proofs.Math.Seq.{drop-append_seam}
 use Rattle.std.proofs.lemmas.List.{map-append}
-use Rattle.std.proofs.lemmas.List.Elements.{All-nil, All-cons, All-append}
+use Rattle.std.proofs.lemmas.List.Elements.{All-nil, All-cons, All-append, All-drop}
+use Rattle.mm_text.specs.declared.pieces.DividedPiece.{DividedPiece}
+use Rattle.mm_text.specs.Language.Part.{HasOwnParts}
 use Rattle.mm_store.specs.declared.piece_text.PieceText.{PieceText}
 use Rattle.mm_store.specs.Code.Inside.{IsPieceKept}
 use Rattle.mm_store.proofs.piece_text.kept_pieces.Goals as goal
 
-pub loop-text-preserved : goal.loop-text-preserved
-loop-text-preserved c =
-    let at = c.loop-text in
-    let text = c.in-Some.text in
-    let piece : PieceText = c.in_ok-kept_piece.field-0 in
-    let steps : into_iter_items at.text-iterator ≡ text ∷ into_iter_items c.next.new.self = c.in-Some.ensures.steps.0 in
+pub kept_piece-requires-clause-parts : goal.kept_piece-requires-clause-parts
+kept_piece-requires-clause-parts c =
+    let at = c.loop-piece in
+    let piece : DividedPiece = c.in-Some.piece in
+    let rest = into_iter_items c.next.new.self in
+    let joined : at.yielded ++ piece ∷ rest ≡ c.args.pieces.items = rw c.in-Some.ensures.steps.0 at at.invariant.rest in
+    let left : All HasOwnParts (piece ∷ rest) =
+    subst (All HasOwnParts) (ap (drop (length at.yielded)) (sym joined) ∙ drop-append_seam at.yielded (piece ∷ rest)) (All-drop HasOwnParts (length at.yielded) c.args.pieces.items c.requires.parts) in
+    left 0 piece (omega arith)
+
+pub loop-piece-preserved : goal.loop-piece-preserved
+loop-piece-preserved c =
+    let at = c.loop-piece in
+    let piece : DividedPiece = c.in-Some.piece in
+    let kept : PieceText = c.in_ok-kept_piece.field-0 in
+    let steps : into_iter_items at.piece-iterator ≡ piece ∷ into_iter_items c.next.new.self = c.in-Some.ensures.steps.0 in
     let pushed = c.in_ok-push.ensures.items in
     record {
-      rest = append_assoc at.yielded (text ∷ []) _ ∙ rw (← steps) at.invariant.rest;
+      rest = append_assoc at.yielded (piece ∷ []) _ ∙ rw (← steps) at.invariant.rest;
       many = (let was = at.invariant.many in
           omega arith);
-      texts = ap (map (λ piece. piece.text.items)) pushed ∙ map-append (λ piece. piece.text.items) at.pieces.items (piece ∷ []) ∙ ap (λ ts. ts ++ piece.text.items ∷ []) at.invariant.texts
-          ∙ ap (λ t. map (λ text. text.items) at.yielded ++ t ∷ []) c.in_ok-kept_piece.ensures.text ∙ sym (map-append (λ text. text.items) at.yielded (text ∷ []));
-      kept = subst (All IsPieceKept) (sym pushed) (All-append IsPieceKept at.pieces.items (piece ∷ []) at.invariant.kept (All-cons IsPieceKept piece [] c.in_ok-kept_piece.ensures.kept (All-nil IsPieceKept)));
+      texts = ap (map (λ piece. piece.text.items)) pushed ∙ map-append (λ piece. piece.text.items) at.kept.items (kept ∷ []) ∙ ap (λ ts. ts ++ kept.text.items ∷ []) at.invariant.texts
+          ∙ ap (λ t. map (λ piece. piece.text.items) at.yielded ++ t ∷ []) c.in_ok-kept_piece.ensures.text ∙ sym (map-append (λ piece. piece.text.items) at.yielded (piece ∷ []));
+      each = subst (All IsPieceKept) (sym pushed) (All-append IsPieceKept at.kept.items (kept ∷ []) at.invariant.each (All-cons IsPieceKept kept [] c.in_ok-kept_piece.ensures.kept (All-nil IsPieceKept)));
     }

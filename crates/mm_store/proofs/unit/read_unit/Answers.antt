@@ -1,7 +1,11 @@
-use Rattle.std.proofs.Common.{ℕ, List, sym, subst}
+use Rattle.std.proofs.Common.{◌≡◌, ℕ, All, map, List, [], ◌∷◌, ◌++◌, Option, Some, length, length-append, sym, ap, ◌∙◌, subst, arith}
+use Rattle.std.specs.Option.{option_to_list}
+use Rattle.std.proofs.lemmas.List.{append-nil}
+use Rattle.mm_text.specs.declared.pieces.DividedPiece.{DividedPiece}
 use Rattle.mm_text.specs.declared.fault.TextError.{TextError}
 use Rattle.mm_text.specs.declared.fault.TextError.TheVariants.{Fault, Memory}
-use Rattle.mm_text.specs.Language.Cut.{IsCutError}
+use Rattle.mm_text.specs.Language.Cut.{IsCut, IsCutError, ended}
+use Rattle.mm_text.specs.Language.Part.{HasOwnParts}
 use Rattle.mm_store.specs.Language.Answers.{edit_error_of}
 use Rattle.mm_store.specs.Code.Units.{IsUnitError}
 use Rattle.mm_store.proofs.lemmas.edits.EditLemmas.{if_err}
@@ -15,3 +19,20 @@ not_cut text Memory is = tt
 pub returns-in_err-pieces-clause-err : goal.returns-in_err-pieces-clause-err
 returns-in_err-pieces-clause-err c =
     if_err c.from_residual.result _ _ c.from_residual.ensures.1 (λ e is. subst (IsUnitError c.args.text.now) (sym is) (not_cut c.args.text.now c.in_err-pieces.field-0.0 c.in_err-pieces.ensures.fault))
+
+one_only : {X : Type 0} (all rest : List X) (last : Option X) (x : X) → length all ≡ 1 → all ≡ rest ++ option_to_list last → last ≡ Some x → all ≡ x ∷ []
+one_only all [] last x one e is = e ∙ ap option_to_list is
+one_only all (y ∷ rest) last x one e is =
+    let long = ap length (e ∙ ap (λ (o : Option _). (y ∷ rest) ++ option_to_list o) is) in let tail = length-append rest (x ∷ []) in absurd (omega (arith, one, long, tail))
+
+pub returns-clause-parts : goal.returns-clause-parts
+returns-clause-parts c = λ units has.
+    (let text = c.args.text.now in
+    let unit : DividedPiece = c.unwrap-unit.result in
+    let found = c.in_ok-pieces.field-0 in
+    let one : found.pieces.items ≡ unit ∷ [] = one_only found.pieces.items c.pop.new.self.items c.pop.result unit (omega (arith, found.pieces.ok.0, c.len.ensures, c.if-len-ne1.false)) c.pop.ensures.items c.unwrap-unit.ensures in
+    let cut : IsCut text (unit.text.items ∷ []) found.tail.items = subst (λ (ps : List DividedPiece). IsCut text (map (λ piece. piece.text.items) ps) found.tail.items) one c.in_ok-pieces.ensures.cut in
+    let parts : All HasOwnParts (unit ∷ []) = subst (All HasOwnParts) one c.in_ok-pieces.ensures.parts in
+    let whole : c.extend_from_slice.new.self.items ≡ ended text = c.in_ok-extend_from_slice.ensures.items ∙ ap (λ (bs : List ℕ). unit.text.items ++ bs) c.deref.ensures.value
+    ∙ ap (λ (bs : List ℕ). bs ++ found.tail.items) (sym (append-nil unit.text.items)) ∙ cut.joined in
+    parts 0 unit (omega arith) units (c.one_unit_of_cut.ensures.same text unit.text.items found.tail.items units cut (rw whole at has)))

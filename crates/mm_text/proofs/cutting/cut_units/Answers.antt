@@ -1,84 +1,105 @@
-use Rattle.std.proofs.Common.{refl, ◌≤◌, ◌+◌, ℕ, List, Vec, length, rules, sym, ap, ◌∙◌, arith}
-use Rattle.std.specs.Global.{Global}
+use Rattle.std.proofs.Common.{refl, ◌≤◌, ◌+◌, length, rules, sym, ap, ◌∙◌, arith}
 use Rattle.std.proofs.lemmas.Bool.{false≢true}
 use Rattle.std.proofs.lemmas.Result.{err_from_is_err_and}
 use Rattle.mm_text.specs.Code.Reader.{SkipsPlain}
+use Rattle.std.proofs.lemmas.List.Elements.{All-nil}
+use Rattle.mm_text.specs.Language.Part.{HasOwnParts}
+use Rattle.mm_text.proofs.CutPartLemmas.{no_end, divided_none, parts_more, parts_skip, parts_end, parts_next}
 use Rattle.mm_text.proofs.CutLemmas.{progress_start, progress_skip, words_fault}
-use Rattle.mm_text.proofs.CutStepLemmas.{ends_fault, ends_cut, from_before, refused, keeps_more, keeps_piece}
+use Rattle.mm_text.proofs.CutStepLemmas.{lies, ends_fault, ends_cut, from_before, refused, keeps_more, keeps_piece}
 use Rattle.mm_text.proofs.cutting.cut_units.Goals as goal
 
--- the bytes of a piece
-abbrev bytes_of : Vec ℕ Global → List ℕ
-bytes_of piece = piece.items
+pub loop-parts-init : goal.loop-parts-init
+loop-parts-init c = record {
+  text = c.new-reader.ensures.text;
+  progress = rw (c.requires.empty, c.new-reader.ensures.from, c.new-grammar.ensures.phase, c.new-grammar.ensures.closed) (progress_start c.args.text.now _);
+  read = rw (c.new-reader.ensures.from, c.new-parts.ensures.parts, c.new-parts.ensures.first) (divided_none c.args.text.now 0 0 _ refl);
+  divided = rw c.requires.empty (All-nil HasOwnParts);
+}
 
-pub loop-grammar-init : goal.loop-grammar-init
-loop-grammar-init c = record { text = c.new-reader.ensures.text; progress = rw (c.requires.empty, c.new-reader.ensures.from, c.new-grammar.ensures.phase, c.new-grammar.ensures.closed) (progress_start c.args.text.now _) }
+pub take-requires-in-Some-clause-behind : goal.take-requires-in-Some-clause-behind
+take-requires-in-Some-clause-behind c = (lies _ _ _ _ c.loop-parts.grammar c.loop-parts.invariant.progress _ _ (rw (c.in-Some.is, c.loop-parts.invariant.text) at c.in_ok-word.ensures.word)).0
 
 pub returns-in_err-word-clause-fault : goal.returns-in_err-word-clause-fault
 returns-in_err-word-clause-fault c =
     let p = err_from_is_err_and c.from_residual.result c.from_residual.ensures.1 in
-    rw (p.1, p.2) (words_fault _ _ _ _ _ _ _ c.loop-grammar.invariant.progress _ _ c.requires.allowed (rw c.loop-grammar.invariant.text at c.in_err-word.ensures.word))
+    rw (p.1, p.2) (words_fault _ _ _ _ _ _ _ c.loop-parts.invariant.progress _ _ c.requires.allowed (rw c.loop-parts.invariant.text at c.in_err-word.ensures.word))
 
 pub returns-in_err-take-clause-fault : goal.returns-in_err-take-clause-fault
 returns-in_err-take-clause-fault c =
     let p = err_from_is_err_and c.from_residual-in_err-take.result c.from_residual-in_err-take.ensures.1 in
-    rw (p.1, p.2) (refused _ _ _ _ c.loop-grammar.grammar c.loop-grammar.invariant.progress _ _ (rw (c.in-Some.is, c.loop-grammar.invariant.text) at c.in_ok-word.ensures.word) _ c.take.new.self refl _ c.requires.allowed c.in_err-take.ensures)
+    rw (p.1, p.2) (refused _ _ _ _ c.loop-parts.grammar c.loop-parts.invariant.progress _ _ (rw (c.in-Some.is, c.loop-parts.invariant.text) at c.in_ok-word.ensures.word) _ c.take.new.self refl _ c.requires.allowed c.in_err-take.ensures)
 
-pub slice_bounds-push_copy-count : goal.slice_bounds-push_copy-count
-slice_bounds-push_copy-count c = from_before _ _ _ _ c.loop-grammar.grammar c.loop-grammar.invariant.progress _ _ (rw (c.in-Some.is, c.loop-grammar.invariant.text) at c.in_ok-word.ensures.word) c.white_len.result
+pub slice_bounds-push_piece-count : goal.slice_bounds-push_piece-count
+slice_bounds-push_piece-count c = from_before _ _ _ _ c.loop-parts.grammar c.loop-parts.invariant.progress _ _ (rw (c.in-Some.is, c.loop-parts.invariant.text) at c.in_ok-word.ensures.word) c.white_len.result
 
-pub slice_bounds-push_copy-start : goal.slice_bounds-push_copy-start
-slice_bounds-push_copy-start c = let le : c.loop-grammar.from ≤ c.in-Some.word.end + c.white_len.result = slice_bounds-push_copy-count c in search rules
+pub slice_bounds-push_piece-start : goal.slice_bounds-push_piece-start
+slice_bounds-push_piece-start c = let le : c.loop-parts.from ≤ c.in-Some.word.end + c.white_len.result = slice_bounds-push_piece-count c in search rules
 
-pub loop-grammar-preserved-then-is_whole : goal.loop-grammar-preserved-then-is_whole
-loop-grammar-preserved-then-is_whole c =
-    let taken = rw (c.in-Some.is, c.loop-grammar.invariant.text) at c.in_ok-word.ensures.word in
-    let same = c.in_ok-word.ensures.text ∙ c.loop-grammar.invariant.text in
+pub loop-parts-preserved-then-is_whole : goal.loop-parts-preserved-then-is_whole
+loop-parts-preserved-then-is_whole c =
+    let taken = rw (c.in-Some.is, c.loop-parts.invariant.text) at c.in_ok-word.ensures.word in
+    let place = lies _ _ _ _ c.loop-parts.grammar c.loop-parts.invariant.progress _ _ taken in
+    let same = c.in_ok-word.ensures.text ∙ c.loop-parts.invariant.text in
     let most : c.next_word.new.self.from ≤ length c.next_word.new.self.text.now = c.next_word.new.self.in_text in
     record {
-      text = c.in_ok-word.ensures.text ∙ c.loop-grammar.invariant.text;
-      progress = keeps_piece _ _ _ _ c.loop-grammar.grammar c.loop-grammar.invariant.progress _ _ taken _ c.take.new.self refl c.in_ok-take.ensures c.requires.allowed (rw same at most) (c.is_whole.ensures.0 c.if-is_whole.true)
-          c.white_len.result c.white_len.ensures.value _ c.in_ok-push_copy.ensures;
+      text = c.in_ok-word.ensures.text ∙ c.loop-parts.invariant.text;
+      read = parts_next _ _ _ c.loop-parts.parts c.loop-parts.invariant.read c.in-Some.word _ taken place c.take-in-Some.new.self c.in_ok-take-2.ensures c.requires.allowed
+          (rw same at most) c.white_len.result c.white_len.ensures.value c.push_piece.new.parts c.push_piece.ensures.nothing c.push_piece.ensures.first;
+      divided = c.in_ok-push_piece.ensures.parts c.loop-parts.invariant.divided (parts_end _ _ _ c.loop-parts.parts c.loop-parts.invariant.read c.in-Some.word _ taken place c.take-in-Some.new.self c.in_ok-take-2.ensures c.requires.allowed
+          (rw same at most) c.white_len.result c.white_len.ensures.value);
+      progress = keeps_piece _ _ _ _ c.loop-parts.grammar c.loop-parts.invariant.progress _ _ taken _ c.take.new.self refl c.in_ok-take.ensures c.requires.allowed (rw same at most) (c.is_whole.ensures.0 c.if-is_whole.true)
+          c.white_len.result c.white_len.ensures.value _ c.in_ok-push_piece.ensures.texts;
     }
 
-pub loop-grammar-preserved : goal.loop-grammar-preserved
-loop-grammar-preserved c =
-    let taken = rw (c.in-Some.is, c.loop-grammar.invariant.text) at c.in_ok-word.ensures.word in
+pub loop-parts-preserved : goal.loop-parts-preserved
+loop-parts-preserved c =
+    let taken = rw (c.in-Some.is, c.loop-parts.invariant.text) at c.in_ok-word.ensures.word in
+    let place = lies _ _ _ _ c.loop-parts.grammar c.loop-parts.invariant.progress _ _ taken in
     record {
-      text = c.in_ok-word.ensures.text ∙ c.loop-grammar.invariant.text;
-      progress = keeps_more _ _ _ _ c.loop-grammar.grammar c.loop-grammar.invariant.progress _ _ taken _ c.take.new.self refl c.in_ok-take.ensures (λ whole. false≢true (sym c.if-is_whole.false ∙ c.is_whole.ensures.1 whole));
+      text = c.in_ok-word.ensures.text ∙ c.loop-parts.invariant.text;
+      read = parts_more _ _ _ c.loop-parts.parts c.loop-parts.invariant.read c.in-Some.word _ taken place c.take-in-Some.new.self c.in_ok-take-2.ensures;
+      divided = c.loop-parts.invariant.divided;
+      progress = keeps_more _ _ _ _ c.loop-parts.grammar c.loop-parts.invariant.progress _ _ taken _ c.take.new.self refl c.in_ok-take.ensures (λ whole. false≢true (sym c.if-is_whole.false ∙ c.is_whole.ensures.1 whole));
     }
 
-pub loop-grammar-preserved-then-is_within : goal.loop-grammar-preserved-then-is_within
-loop-grammar-preserved-then-is_within c =
-    let taken = rw (c.in-Some.is, c.loop-grammar.invariant.text) at c.in_ok-word.ensures.word in
-    let same = c.in_ok-word.ensures.text ∙ c.loop-grammar.invariant.text in
-    let more = keeps_more _ _ _ _ c.loop-grammar.grammar c.loop-grammar.invariant.progress _ _ taken _ c.take.new.self refl c.in_ok-take.ensures (λ whole. false≢true (sym c.if-is_whole.false ∙ c.is_whole.ensures.1 whole)) in
+pub loop-parts-preserved-then-is_within : goal.loop-parts-preserved-then-is_within
+loop-parts-preserved-then-is_within c =
+    let taken = rw (c.in-Some.is, c.loop-parts.invariant.text) at c.in_ok-word.ensures.word in
+    let place = lies _ _ _ _ c.loop-parts.grammar c.loop-parts.invariant.progress _ _ taken in
+    let same = c.in_ok-word.ensures.text ∙ c.loop-parts.invariant.text in
+    let more = keeps_more _ _ _ _ c.loop-parts.grammar c.loop-parts.invariant.progress _ _ taken _ c.take.new.self refl c.in_ok-take.ensures (λ whole. false≢true (sym c.if-is_whole.false ∙ c.is_whole.ensures.1 whole)) in
     let skips : SkipsPlain c.next_word.new.self.text.now c.next_word.new.self.from c.skip_plain.new.self.from = c.skip_plain.ensures.skips in
-    record { text = c.skip_plain.ensures.text ∙ same; progress = progress_skip _ _ _ _ _ _ _ more _ (rw same at skips) (sym c.is_within.ensures ∙ c.if-is_within.true) }
+    record {
+      text = c.skip_plain.ensures.text ∙ same;
+      read = parts_skip _ _ _ c.loop-parts.parts c.loop-parts.invariant.read c.in-Some.word _ taken place c.take-in-Some.new.self c.in_ok-take-2.ensures _
+          (no_end _ _ _ _ _ c.in_ok-take.ensures.phase (sym c.is_within.ensures ∙ c.if-is_within.true)) (rw same at skips);
+      divided = c.loop-parts.invariant.divided;
+      progress = progress_skip _ _ _ _ _ _ _ more _ (rw same at skips) (sym c.is_within.ensures ∙ c.if-is_within.true);
+    }
 
-pub returns-in_err-push_copy-clause-fault : goal.returns-in_err-push_copy-clause-fault
-returns-in_err-push_copy-clause-fault c = let p = err_from_is_err_and c.from_residual-in_err-push_copy.result c.from_residual-in_err-push_copy.ensures.1 in rw (p.1, p.2) tt
+pub returns-in_err-push_piece-clause-fault : goal.returns-in_err-push_piece-clause-fault
+returns-in_err-push_piece-clause-fault c = let p = err_from_is_err_and c.from_residual-in_err-push_piece.result c.from_residual-in_err-push_piece.ensures.1 in rw (p.1, p.2) tt
 
 pub returns-in-Some-end-clause-fault : goal.returns-in-Some-end-clause-fault
-returns-in-Some-end-clause-fault c = ends_fault _ _ _ _ c.loop-grammar.grammar c.loop-grammar.invariant.progress _ _ c.requires.allowed (rw (c.in_default.is, c.loop-grammar.invariant.text) at c.in_ok-word.ensures.word) c.in-Some-end.ensures
+returns-in-Some-end-clause-fault c = ends_fault _ _ _ _ c.loop-parts.grammar c.loop-parts.invariant.progress _ _ c.requires.allowed (rw (c.in_default.is, c.loop-parts.invariant.text) at c.in_ok-word.ensures.word) c.in-Some-end.ensures
 
 pub returns-clause-within : goal.returns-clause-within
-returns-clause-within c = c.loop-grammar.invariant.progress.within
+returns-clause-within c = c.loop-parts.invariant.progress.within
 
 pub returns-clause-cut : goal.returns-clause-cut
-returns-clause-cut c = ends_cut _ _ _ _ c.loop-grammar.grammar c.loop-grammar.invariant.progress c.requires.allowed (rw (c.in_default.is, c.loop-grammar.invariant.text) at c.in_ok-word.ensures.word) c.in-None.ensures
+returns-clause-cut c = ends_cut _ _ _ _ c.loop-parts.grammar c.loop-parts.invariant.progress c.requires.allowed (rw (c.in_default.is, c.loop-parts.invariant.text) at c.in_ok-word.ensures.word) c.in-None.ensures
 
 -- the reader goes on with each word, and further where it skips plain words
-pub loop-grammar-smaller-then-is_whole : goal.loop-grammar-smaller-then-is_whole
-loop-grammar-smaller-then-is_whole c =
+pub loop-parts-smaller-then-is_whole : goal.loop-parts-smaller-then-is_whole
+loop-parts-smaller-then-is_whole c =
     let taken = rw c.in-Some.is at c.in_ok-word.ensures.word in omega (arith, ap length c.in_ok-word.ensures.text, taken.begins, taken.some, taken.next, c.next_word.new.self.in_text)
 
-pub loop-grammar-smaller : goal.loop-grammar-smaller
-loop-grammar-smaller c =
+pub loop-parts-smaller : goal.loop-parts-smaller
+loop-parts-smaller c =
     let taken = rw c.in-Some.is at c.in_ok-word.ensures.word in omega (arith, ap length c.in_ok-word.ensures.text, taken.begins, taken.some, taken.next, c.next_word.new.self.in_text)
 
-pub loop-grammar-smaller-then-is_within : goal.loop-grammar-smaller-then-is_within
-loop-grammar-smaller-then-is_within c =
+pub loop-parts-smaller-then-is_within : goal.loop-parts-smaller-then-is_within
+loop-parts-smaller-then-is_within c =
     let taken = rw c.in-Some.is at c.in_ok-word.ensures.word in
     omega (arith, ap length (c.skip_plain.ensures.text ∙ c.in_ok-word.ensures.text), c.skip_plain.ensures.forward, taken.begins, taken.some, taken.next, c.skip_plain.new.self.in_text)

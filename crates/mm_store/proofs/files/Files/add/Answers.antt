@@ -1,7 +1,6 @@
 use Rattle.std.proofs.Common.{◌≡◌, ℕ, List, None, length, map, sym, ap, ◌∙◌, subst, refl, arith, Option, Some, is_some, false}
-use Rattle.std.specs.Prelude.{Vec}
 use Rattle.std.proofs.lemmas.Bool.{false≢true}
-use Rattle.std.specs.Global.{Global}
+use Rattle.mm_text.specs.declared.pieces.DividedPiece.{DividedPiece}
 use Rattle.mm_text.specs.declared.fault.TextError.{TextError}
 use Rattle.mm_text.specs.declared.fault.TextError.TheVariants.{Fault, Memory}
 use Rattle.mm_text.specs.Language.Reading.{IsTextErrorIn}
@@ -39,7 +38,7 @@ returns-then-not-fits-clause-err c =
     let missing : file_number (plain c.args.self.now) c.args.name.now ≡ None = sym c.number_of.ensures.number ∙ no_number c.number_of.result (sym c.is_some.ensures ∙ c.if-is_some.false) in (
       missing,
       record {
-        pieces = map (λ (piece : Vec ℕ Global). piece.items) c.in_ok-cut.cut.pieces.items;
+        pieces = map (λ (piece : DividedPiece). piece.text.items) c.in_ok-cut.cut.pieces.items;
         tail = c.in_ok-cut.cut.tail.items;
         is_cut = c.in_ok-cut.ensures.cut;
         too_many = grind (arith, held, c.ended_len-more.ensures, c.fits.ensures.0, c.fits.ensures.1);
@@ -62,7 +61,7 @@ returns-in_err-cut-clause-fault_within c =
 pub returns-clause-within : goal.returns-clause-within
 returns-clause-within c =
     let held : bytes_of (plain c.args.self.now) ≡ c.self.inside.bytes = ap (λ (v : FilesView). bytes_of (plain v)) (sym c.self.view_is) ∙ sym c.self.invariant.counted in
-    let file : File = record { name = c.args.name.now; pieces = map (λ (piece : Vec ℕ Global). piece.items) c.in_ok-cut.cut.pieces.items; tail = c.in_ok-cut.cut.tail.items } in
+    let file : File = record { name = c.args.name.now; pieces = map (λ (piece : DividedPiece). piece.text.items) c.in_ok-cut.cut.pieces.items; tail = c.in_ok-cut.cut.tail.items } in
     let joined = ap length c.in_ok-cut.ensures.cut.joined in
     let more = bytes_more (plain c.args.self.now) file in
     grind (arith, ap bytes_of c.in_ok-put_last.ensures.ok, more, joined, held, c.ended_len-more.ensures, c.fits.ensures.0, c.fits.ensures.1)

@@ -6,6 +6,7 @@ use Rattle.std.specs.Str.{bytes_eq}
 use Rattle.std.specs.Map.{keys_of, lookup}
 use Rattle.std.proofs.lemmas.List.{length-map}
 use Rattle.indexmap.proofs.CallerLemmas.{insert_entry-new}
+use Rattle.mm_text.specs.declared.pieces.DividedPiece.{DividedPiece}
 use Rattle.mm_store.specs.declared.file_text.FileText.{FileText}
 use Rattle.mm_store.specs.declared.piece_text.PieceText.{PieceText}
 use Rattle.mm_store.specs.declared.files.Files.TheInside.{Inside}
@@ -21,18 +22,22 @@ use Rattle.mm_store.proofs.lemmas.files.StoreLemmas.{parked_all}
 use Rattle.mm_store.proofs.lemmas.files.AddLemmas.{can_be_kept, tail_of, done_ok, no_file, kept_added, plain_added, put_keeps, put_many}
 use Rattle.mm_store.proofs.files.Files.put_last.Goals as goal
 
-pub kept_pieces-requires : goal.kept_pieces-requires
-kept_pieces-requires c =
-    let texts = c.args.cut.pieces.items in
+-- the bytes of a piece
+abbrev bytes_of_piece : DividedPiece → List ℕ
+bytes_of_piece piece = piece.text.items
+
+pub kept_pieces-requires-clause-texts : goal.kept_pieces-requires-clause-texts
+kept_pieces-requires-clause-texts c =
+    let pieces = c.args.cut.pieces.items in
     let tail = c.args.cut.tail.items in
-    let small : length (concat (map (λ text. text.items) texts)) ≤ 4294967295 = omega (arith, c.requires.counted, c.requires.fits, length-append (concat (map (λ text. text.items) texts)) tail) in
-    can_be_kept texts tail c.requires.pieces small
+    let small : length (concat (map bytes_of_piece pieces)) ≤ 4294967295 = omega (arith, c.requires.counted, c.requires.fits, length-append (concat (map bytes_of_piece pieces)) tail) in
+    can_be_kept bytes_of_piece pieces tail c.requires.pieces small
 
 pub invariant_of-self-2 : goal.invariant_of-self-2
 invariant_of-self-2 c =
     let inside = c.self.inside in
     let texts = map (λ (piece : PieceText). piece.text.items) c.in_ok-kept.kept.items in
-    let cut = map (λ (piece : Vec ℕ Global). piece.items) c.args.cut.pieces.items in
+    let cut = map (λ (piece : DividedPiece). piece.text.items) c.args.cut.pieces.items in
     let keys = c.from_vec.result in
     let put : ArePut inside.pieces texts keys.items c.put_all.new.self = subst (λ ks. ArePut inside.pieces texts ks c.put_all.new.self) (sym c.from_vec.ensures.items) c.in_ok-keys.ensures.ok in
     let missing : position (λ key. bytes_eq c.args.name.now key.items) (keys_of inside.files.entries) ≡ None =

@@ -1,0 +1,32 @@
+use Rattle.std.proofs.Common.{ℕ, List, All, map, sym, subst}
+use Rattle.std.proofs.lemmas.List.{take_rest}
+use Rattle.std.proofs.lemmas.Result.{err_from_is_err_and}
+use Rattle.mm_text.specs.declared.pieces.DividedPiece.{DividedPiece}
+use Rattle.mm_text.specs.Language.Cut.{ended, IsCut}
+use Rattle.mm_text.specs.Language.Part.{IsReadable}
+use Rattle.mm_text.proofs.PartLemmas.{each_units}
+use Rattle.mm_text.proofs.PartWalkLemmas.{parts_read}
+use Rattle.mm_text.proofs.PositionLemmas.{cut_error_lies}
+use Rattle.mm_text.proofs.cutting.divided_cut.Goals as goal
+
+-- the bytes of a piece
+abbrev bytes_of : DividedPiece → List ℕ
+bytes_of piece = piece.text.items
+
+pub returns-in_err-from-clause-fault : goal.returns-in_err-from-clause-fault
+returns-in_err-from-clause-fault c = let p = err_from_is_err_and c.from_residual.result c.from_residual.ensures.1 in rw (p.1, p.2) c.in_err-from.ensures.fault
+
+pub returns-in_err-from-clause-fault_within : goal.returns-in_err-from-clause-fault_within
+returns-in_err-from-clause-fault_within c = cut_error_lies c.args.text.now c.from_residual.result (returns-in_err-from-clause-fault c)
+
+pub returns-clause-cut : goal.returns-clause-cut
+returns-clause-cut c =
+    let text = c.args.text.now in
+    rw c.in_ok-tail.ensures (subst (λ (bytes : List ℕ). IsCut text (map bytes_of c.cut_units.new.pieces.items) (ended bytes)) (sym (take_rest text c.in_ok-from.from)) c.in_ok-from.ensures.cut)
+
+pub returns-clause-units : goal.returns-clause-units
+returns-clause-units c = each_units bytes_of c.cut_units.new.pieces.items c.in_ok-tail.tail.items (returns-clause-cut c).are_pieces
+
+pub returns-clause-readable : goal.returns-clause-readable
+returns-clause-readable c = λ k d lt.
+    (let units = returns-clause-units c k d lt in subst (All (IsReadable _)) (sym (c.in_ok-from.ensures.parts k d lt units.0 units.1)) (parts_read _ units.0 units.1))
