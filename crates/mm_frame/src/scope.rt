@@ -11,6 +11,7 @@ ghost use Rattle.mm_frame.specs.Code.FaultInOrder as judging;
 ghost use Rattle.mm_frame.specs.Code.LastItems as numbered;
 ghost use Rattle.mm_frame.specs.Code.BlockMarks.{block_marks};
 ghost use Rattle.mm_frame.specs.Code.KeptTables.{Knows};
+ghost use Rattle.mm_frame.specs.Code.KeptScope.{float_typecode};
 ghost use Rattle.mm_frame.specs.Language.Names.{AreDistinct};
 ghost use Rattle.mm_frame.specs.Code.Numbers.{IsNameNumber};
 
@@ -29,15 +30,15 @@ use std::alloc::{AllocError, Global};
 pub struct Scope<'a> {
     tables: Tables,
     blocks: Blocks,
-    /// The first symbol of each item: empty where it has none, or was passed over.
+    /// The typecode of each `$f`, by the number of the item: empty for any other item.
     typecodes: Vec<&'a [u8]>,
 }
 
-/// The first symbol, or no bytes where there is none.
-fn typecode_of<'a>(statement: &Statement<'a>) -> &'a [u8]
-    ensures { result.now ≡ meant.typecode_of statement.now }
+/// The typecode of a `$f`; no bytes for any other statement, of which no symbol is looked at.
+fn float_typecode<'a>(statement: &Statement<'a>) -> &'a [u8]
+    ensures { result.now ≡ float_typecode statement.now }
 {
-    if statement.symbol_count() > 0 {
+    if matches!(statement.kind(), ItemKind::Floating) && statement.symbol_count() > 0 {
         statement.symbol(0)
     } else {
         b""
@@ -162,7 +163,7 @@ impl<'a> Scope<'a> {
         }
     }
 
-    /// The first symbol of the item with this number; no bytes where there is no such item.
+    /// The typecode of the `$f` with this number; no bytes where there is no such item.
     fn typecode(&self, number: usize) -> &'a [u8]
         ensures { result.now ≡ slice_index_or (typecodes_of self.now) number [] }
     {
@@ -199,7 +200,7 @@ impl<'a> Scope<'a> {
         self.tables
             .take(alloc, statement, numbers, self.typecodes.len())?;
         mark(&mut self.blocks, statement.kind())?;
-        self.typecodes.push(typecode_of(statement))?;
+        self.typecodes.push(float_typecode(statement))?;
         Ok(())
     }
 
