@@ -195,11 +195,12 @@ impl<'a> Draft<'a> {
     pub fn with_room(alloc: Global, count: usize) -> Result<Self, AllocError>
         ensures { IfOk result (λ draft. (all : List (List ℕ)) → AreDistinct all → IsDraft all [] draft) }
     {
+        let scope = Scope::with_room(alloc, count)?;
         let rows = Rows::with_room(alloc, count)?;
         let expressions = Expressions::with_room(alloc, count)?;
         let assertions = Assertions::with_room(alloc, count)?;
         Ok(Draft {
-            scope: Scope::new(alloc),
+            scope,
             numbers: Vec::new(alloc),
             symbols: Vec::new(alloc),
             rows,

@@ -1,6 +1,6 @@
 //! What the sound items so far declare, and which of it is active.
 
-ghost use Rattle.std.specs.Prelude.{◌≡◌, ℕ, is_none, true, List, [], ◌∷◌, ◌++◌, OnOk, slice_index_or};
+ghost use Rattle.std.specs.Prelude.{◌≡◌, ℕ, is_none, true, List, [], ◌∷◌, ◌++◌, OnOk, IfOk, slice_index_or};
 ghost use Rattle.mm_frame.specs.Language.Item as meant;
 ghost use Rattle.mm_frame.specs.Language.Scope as scopes;
 ghost use Rattle.mm_frame.specs.Language.Scope.{mark_of};
@@ -59,15 +59,17 @@ fn mark(blocks: &mut Blocks, kind: ItemKind) -> Result<(), AllocError>
 impl<'a> Scope<'a> {
     ghost use Rattle.mm_frame.specs.Code.KeptScope.{ScopeHolds, ScopeTakes, typecodes_of};
 
-    /// No items. It takes no memory.
-    pub fn new(alloc: Global) -> Self
-        ensures { (all : List (List ℕ)) → AreDistinct all → ScopeHolds all [] result }
+    /// No items, with room for this many.
+    pub fn with_room(alloc: Global, count: usize) -> Result<Self, AllocError>
+        ensures { IfOk result (λ scope. (all : List (List ℕ)) → AreDistinct all → ScopeHolds all [] scope) }
     {
-        Scope {
+        let blocks = Blocks::with_room(alloc, count)?;
+        let typecodes = Vec::with_capacity(alloc, count)?;
+        Ok(Scope {
             tables: Tables::new(alloc),
-            blocks: Blocks::new(alloc),
-            typecodes: Vec::new(alloc),
-        }
+            blocks,
+            typecodes,
+        })
     }
 
     /// Whether a block is open.
