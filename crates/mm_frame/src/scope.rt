@@ -63,10 +63,11 @@ impl<'a> Scope<'a> {
     pub fn with_room(alloc: Global, count: usize) -> Result<Self, AllocError>
         ensures { IfOk result (λ scope. (all : List (List ℕ)) → AreDistinct all → ScopeHolds all [] scope) }
     {
+        let tables = Tables::with_room(alloc, count)?;
         let blocks = Blocks::with_room(alloc, count)?;
         let typecodes = Vec::with_capacity(alloc, count)?;
         Ok(Scope {
-            tables: Tables::new(alloc),
+            tables,
             blocks,
             typecodes,
         })
