@@ -12,7 +12,7 @@ pub mod PlainWords
 pub mod KeptStatement
 pub mod SpokenProof
 pub mod KeptScope
-pub mod SeenNames
+pub mod SeenNumbers
 pub mod KeptSymbols
 pub mod KeptExpressions
 pub mod KeptSparse

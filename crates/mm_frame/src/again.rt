@@ -1,12 +1,13 @@
 //! Reads the items of files beside an older base, of which most of them are known.
 
-ghost use Rattle.std.specs.Prelude.{◌≡◌, ◌<◌, ◌∷◌, ◌++◌, ℕ, List, [], All, IfOk, IfSome, IsTrue, OnOk, length};
+ghost use Rattle.std.specs.Prelude.{◌≡◌, ◌<◌, ◌∷◌, ◌++◌, ℕ, List, [], All, IfOk, IfSome, IsTrue, OnOk, true, length};
 ghost use Rattle.std.specs.List.{AllZip};
 ghost use Rattle.mm_store.specs.Language.FilesView.{FilesView};
 ghost use Rattle.mm_store.specs.Language.FileFacts.{CanBeRead};
 ghost use Rattle.mm_frame.specs.Language.Item as meant;
+ghost use Rattle.mm_frame.specs.Language.Item.{is_read};
 ghost use Rattle.mm_frame.specs.Language.Base.{BaseView};
-ghost use Rattle.mm_frame.specs.Language.Statement.{Says};
+ghost use Rattle.mm_frame.specs.Language.Statement.{Says, kind_of};
 ghost use Rattle.mm_frame.specs.Language.Names.{Begins};
 ghost use Rattle.mm_frame.specs.Language.Answering.{IsBase, IsBaseBy};
 ghost use Rattle.mm_frame.specs.Language.Older.{HasOlder};
@@ -39,11 +40,13 @@ fn is_again(old: &Base, i: usize, item: &Item) -> bool
     i < old.count() && is_same_range(old.item(i), item)
 }
 
-/// Whether names of symbols are seldom asked for in an item of this kind.
-fn needs_no_names(kind: ItemKind) -> bool {
+/// Whether names of symbols are seldom asked for in an item of this kind, which are kept where it is sound.
+fn needs_no_names(kind: ItemKind) -> bool
+    ensures { IsTrue result → is_read (kind_of kind) ≡ true }
+{
     matches!(
         kind,
-        ItemKind::Essential | ItemKind::Axiom | ItemKind::Theorem
+        ItemKind::Disjoint | ItemKind::Essential | ItemKind::Axiom | ItemKind::Theorem
     )
 }
 
@@ -58,7 +61,7 @@ fn known_of<'a>(old: &'a Base, i: usize, item: &Item) -> Option<Known<'a>>
     }
     // A law: the same bytes have one reading.
     mm_store::one_meaning();
-    match old.expression(i) {
+    match old.sound_symbols(i) {
         Some(symbols) => Some(Known {
             label: old.label(i),
             symbols,

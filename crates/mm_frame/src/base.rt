@@ -125,7 +125,7 @@ impl Base {
     }
 
     /// Builds the base of the files from a top file on as `build` does, beside an older base whose items can still be read: of
-    /// a `$e`, `$a` or `$p` that is the same bytes as an item of the older one, in the same order, the numbers of the symbols
+    /// a `$d`, `$e`, `$a` or `$p` that is the same bytes as an item of the older one, in the same order, the numbers of the symbols
     /// are taken from there, and no symbol is read.
     pub fn rebuild(
         alloc: Global,
@@ -219,6 +219,20 @@ impl Base {
         } else {
             None
         }
+    }
+
+    /// The symbols that are kept of the item with this number, where it has no fault: those of a `$f`, `$e`, `$a`, `$p` or `$d`.
+    pub(crate) fn sound_symbols(&self, i: usize) -> Option<&[NumberedSymbol]>
+        ensures symbols { (names : List (List ℕ)) (base : BaseView) → IsBaseBy names base self.now → meant.is_read (said_at base i).kind ≡ true
+            → IfSome result (λ e. symbols_of names e.now ≡ expression (before base i) (said_at base i)) }
+        ensures numbered { (names : List (List ℕ)) (base : BaseView) → IsBaseBy names base self.now
+            → IfSome result (λ e. All (IsNumbered names) e.now) }
+    {
+        if self.fault(i).is_some() {
+            return None;
+        }
+        let symbols = self.symbols(i);
+        Some(symbols)
     }
 
     /// The expression of the item with this number, which is known to be a sound `$f`, `$e`, `$a` or `$p`: no look is taken

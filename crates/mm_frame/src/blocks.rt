@@ -1,6 +1,6 @@
 //! Blocks: whether an item is active at a later one.
 
-ghost use Rattle.std.specs.Prelude.{◌≡◌, ◌↔◌, ℕ, true, suc, ◌+◌, ◌<◌, ◌≤◌, List, [], ◌∷◌, ◌++◌, length, take, drop, slice_range, OnOk, OnErr};
+ghost use Rattle.std.specs.Prelude.{◌≡◌, ◌↔◌, ℕ, true, suc, ◌+◌, ◌<◌, ◌≤◌, List, [], ◌∷◌, ◌++◌, length, take, drop, slice_range, IfOk, OnOk, OnErr};
 ghost use Rattle.mm_frame.specs.Language.Scope.{Opens, Closes, Neither};
 ghost use Rattle.mm_frame.specs.Language.Resolving.{IsUpTo};
 ghost use Rattle.mm_frame.specs.Code.BlockMarks.{is_inside_by, stays_by};
@@ -66,18 +66,19 @@ fn end_of_block(ends: &[Option<usize>], block: usize) -> Option<usize>
 }
 
 impl Blocks {
-    /// No items. It takes no memory.
-    pub fn new(alloc: Global) -> Blocks
-        ensures { result ≡ [] }
+    /// No items, with room for this many.
+    pub fn with_room(alloc: Global, count: usize) -> Result<Blocks, AllocError>
+        ensures { IfOk result (λ blocks. blocks ≡ []) }
     {
-        Blocks {
-            block_of: Vec::new(alloc),
+        let block_of = Vec::with_capacity(alloc, count)?;
+        Ok(Blocks {
+            block_of,
             ends: Vec::new(alloc),
             outer: Vec::new(alloc),
             current: 0,
             begun: 0,
             ended: 0,
-        }
+        })
     }
 
     /// Adds an item that begins a block. After want of memory all is as before.

@@ -5,6 +5,7 @@ ghost use Rattle.std.specs.Option.{option_map};
 ghost use Rattle.std.specs.List.{AllZip};
 ghost use Rattle.mm_store.specs.Language.FileFacts.{CanBeRead};
 ghost use Rattle.mm_frame.specs.Language.Item as meant;
+ghost use Rattle.mm_frame.specs.Language.Item.{is_read};
 ghost use Rattle.mm_frame.specs.Language.Statement.{Says, kind_of};
 ghost use Rattle.mm_frame.specs.Language.Sound.{AreSound, IsSound};
 ghost use Rattle.mm_frame.specs.Language.Framing.{expression};
@@ -16,7 +17,7 @@ ghost use Rattle.mm_frame.specs.Code.KeptActiveItems.{AreActive};
 ghost use Rattle.mm_frame.specs.Code.KeptEarlier.{KnowsEarlier};
 ghost use Rattle.mm_frame.specs.Code.KeptPairTable.{KnowsPairs};
 ghost use Rattle.mm_frame.specs.Code.KeptScope.{ScopeHolds, taken};
-ghost use Rattle.mm_frame.specs.Code.KeptSymbols.{is_read, AreSymbols};
+ghost use Rattle.mm_frame.specs.Code.KeptSymbols.{AreSymbols};
 ghost use Rattle.mm_frame.specs.Code.KeptTables.{Knows};
 ghost use Rattle.mm_frame.specs.Code.Numbers.{AreNameNumbers};
 
@@ -195,11 +196,12 @@ impl<'a> Draft<'a> {
     pub fn with_room(alloc: Global, count: usize) -> Result<Self, AllocError>
         ensures { IfOk result (λ draft. (all : List (List ℕ)) → AreDistinct all → IsDraft all [] draft) }
     {
+        let scope = Scope::with_room(alloc, count)?;
         let rows = Rows::with_room(alloc, count)?;
         let expressions = Expressions::with_room(alloc, count)?;
         let assertions = Assertions::with_room(alloc, count)?;
         Ok(Draft {
-            scope: Scope::new(alloc),
+            scope,
             numbers: Vec::new(alloc),
             symbols: Vec::new(alloc),
             rows,

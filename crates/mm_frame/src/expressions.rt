@@ -8,6 +8,9 @@ use crate::symbol::NumberedSymbol;
 use std::alloc::{AllocError, Global};
 use std::marker::Model;
 
+/// For how many symbols of each item there is room at the beginning: about as many as databases have.
+const FEW_SYMBOLS: usize = 8;
+
 /// The symbols of items, by the numbers of the items from 0. Those of all items lie in one list.
 ///
 /// To add those of one more item takes time linear in them on the average; to find those of an item takes constant time.
@@ -57,15 +60,13 @@ fn part(symbols: &[NumberedSymbol], start: usize, end: usize) -> &[NumberedSymbo
 }
 
 impl Expressions {
-    /// No items, with room for the ends of this many.
+    /// No items, with room for this many, each with a few symbols.
     pub fn with_room(alloc: Global, count: usize) -> Result<Expressions, AllocError>
         ensures { IfOk result (λ expressions. expressions ≡ []) }
     {
         let ends = Vec::with_capacity(alloc, count)?;
-        Ok(Expressions {
-            symbols: Vec::new(alloc),
-            ends,
-        })
+        let symbols = Vec::with_capacity(alloc, count.saturating_mul(FEW_SYMBOLS))?;
+        Ok(Expressions { symbols, ends })
     }
 
     /// How many items there are.

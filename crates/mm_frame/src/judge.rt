@@ -8,7 +8,7 @@ ghost use Rattle.mm_frame.specs.Code.FaultInOrder as judging;
 ghost use Rattle.mm_frame.specs.Language.Sound as sound;
 ghost use Rattle.mm_frame.specs.Language.Sound.{AreSound};
 ghost use Rattle.mm_frame.specs.Code.KeptScope.{ScopeHolds};
-ghost use Rattle.mm_frame.specs.Code.SeenNames.{HasSeen};
+ghost use Rattle.mm_frame.specs.Code.SeenNumbers.{HasSeen, has_number};
 ghost use Rattle.mm_frame.specs.Language.Statement.{kind_of};
 ghost use Rattle.mm_frame.specs.Code.Numbers.{IsNameNumber, AreNameNumbers};
 
@@ -220,11 +220,14 @@ fn symbol_fault(
         → (judging.must_differ statement.now.kind ≡ true → repeated ≡ sound.is_repeated statement.now n (slice_index_or statement.now.symbols n []))
         → result ≡ judging.symbol_fault before statement.now n (slice_index_or statement.now.symbols n []) }
 {
-    let name = statement.symbol(n);
     match statement.kind() {
-        ItemKind::Constants => declared_fault(scope, name, repeated, scope.is_declared(number)),
+        ItemKind::Constants => {
+            let declared = scope.is_declared(number);
+            declared_fault(scope, statement.symbol(n), repeated, declared)
+        }
         ItemKind::Variables => {
-            declared_fault(scope, name, repeated, scope.is_active_symbol(number))
+            let active = scope.is_active_symbol(number);
+            declared_fault(scope, statement.symbol(n), repeated, active)
         }
         ItemKind::Disjoint => disjoint_fault(scope, number, repeated),
         ItemKind::Floating => floating_fault(scope, statement, n, number),
@@ -235,14 +238,14 @@ fn symbol_fault(
     }
 }
 
-/// Whether the n-th symbol, counted from 0, is one of those before it.
-fn stands_before(statement: &Statement, n: usize) -> bool
-    requires { n < length statement.now.symbols }
-    ensures { result ≡ sound.is_repeated statement.now n (slice_index_or statement.now.symbols n []) }
+/// Whether the n-th number, counted from 0, is one of those before it.
+fn stands_before(numbers: &[usize], n: usize) -> bool
+    requires { n < length numbers.now }
+    ensures { result ≡ has_number (take n numbers.now) (slice_index_or numbers.now n 0) }
 {
-    let name = statement.symbol(n);
+    let number = numbers[n];
     for k in 0..n {
-        if name == statement.symbol(k) {
+        if number == numbers[k] {
             return true;
         }
     }
@@ -252,24 +255,25 @@ fn stands_before(statement: &Statement, n: usize) -> bool
 /// How many symbols are compared with one another; where there are more, they are found by hash.
 const FEW_SYMBOLS: usize = 16;
 
-/// Whether the n-th symbol, counted from 0, is one of those before it, where they have to differ. Where the names are
-/// kept, those before it are those seen so far, which it joins; else no memory is taken.
-fn is_repeated<'a>(
-    seen: &mut HashSet<&'a [u8]>,
-    statement: &Statement<'a>,
+/// Whether the n-th symbol, counted from 0, is one of those before it, where they have to differ: symbols are told by the
+/// numbers of their names. Where these are kept, those before it are those seen so far, which it joins; else no memory is
+/// taken.
+fn is_repeated(
+    seen: &mut HashSet<usize>,
+    numbers: &[usize],
     n: usize,
     differ: bool,
     kept: bool,
 ) -> Result<bool, AllocError>
-    requires { n < length statement.now.symbols }
-    ensures { (kept ≡ true → HasSeen (take n statement.now.symbols) seen.old) → IfOk result (λ repeated.
-        (differ ≡ true → repeated ≡ sound.is_repeated statement.now n (slice_index_or statement.now.symbols n []))
-        × (kept ≡ true → HasSeen (take n statement.now.symbols ++ slice_index_or statement.now.symbols n [] ∷ []) seen.new)) }
+    requires { n < length numbers.now }
+    ensures { (kept ≡ true → HasSeen (take n numbers.now) seen.old) → IfOk result (λ repeated.
+        (differ ≡ true → repeated ≡ has_number (take n numbers.now) (slice_index_or numbers.now n 0))
+        × (kept ≡ true → HasSeen (take n numbers.now ++ slice_index_or numbers.now n 0 ∷ []) seen.new)) }
 {
     if kept {
-        return Ok(!seen.insert(statement.symbol(n))?);
+        return Ok(!seen.insert(numbers[n])?);
     }
-    Ok(differ && stands_before(statement, n))
+    Ok(differ && stands_before(numbers, n))
 }
 
 /// The first fault among the symbols, which have these numbers. Memory is taken where many have to differ.
@@ -291,7 +295,7 @@ fn symbols_fault(
     let kept = differ && statement.symbol_count() > FEW_SYMBOLS;
     let mut seen = HashSet::new(alloc);
     for n in 0..statement.symbol_count() {
-        let repeated = is_repeated(&mut seen, statement, n, differ, kept)?;
+        let repeated = is_repeated(&mut seen, numbers, n, differ, kept)?;
         if let Some(number) = symbol_fault(scope, statement, n, numbers[n], repeated) {
             let word = statement.symbol_place(n);
             return Ok(Some(FrameFault { number, word }));

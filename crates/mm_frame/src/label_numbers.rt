@@ -1,6 +1,6 @@
 //! Labels with the numbers of their items, found by hash.
 
-ghost use Rattle.std.specs.Prelude.{◌≡◌, ℕ, List, true, false, None, Some, MatchOption, OnOk, bytes_eq, if◌then◌else◌};
+ghost use Rattle.std.specs.Prelude.{◌≡◌, ℕ, List, true, false, None, Some, MatchOption, IfOk, OnOk, bytes_eq, if◌then◌else◌};
 ghost use Rattle.mm_frame.specs.Code.KeptLabels.{is_coded, label_code, label_number};
 
 use std::alloc::{AllocError, Global};
@@ -41,15 +41,16 @@ fn code_of(label: &[u8]) -> Option<u64>
 }
 
 impl LabelNumbers {
-    /// No labels. It takes no memory.
+    /// No labels, with room for this many that are short.
     #[tactic(auto, unfolding(crate::specs::Code::KeptLabels::label_number))]
-    pub fn new(alloc: Global) -> LabelNumbers
-        ensures { (label : List ℕ) → label_number result label ≡ None }
+    pub fn with_room(alloc: Global, count: usize) -> Result<LabelNumbers, AllocError>
+        ensures { IfOk result (λ labels. (label : List ℕ) → label_number labels label ≡ None) }
     {
-        LabelNumbers {
-            short: HashMap::new(alloc),
+        let short = HashMap::with_capacity(alloc, count)?;
+        Ok(LabelNumbers {
+            short,
             long: HashMap::new(alloc),
-        }
+        })
     }
 
     /// The number that a label has, if it has one.

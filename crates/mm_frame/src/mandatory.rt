@@ -27,6 +27,33 @@ use crate::symbol::NumberedSymbol;
 use crate::tables::Tables;
 use std::alloc::{AllocError, Global};
 
+/// What frames are made with, one after another: the lists are used again, and take memory only where they grow.
+#[derive(Drop)]
+pub struct Making {
+    /// Which pairs were asked, so that none is searched for twice.
+    pub asked: AskedPairs,
+    /// The numbers of the hypotheses of the last frame.
+    pub numbers: Vec<usize>,
+    /// The variables of its `$f`.
+    pub variables: Vec<NumberedSymbol>,
+    /// Its pairs.
+    pub pairs: Vec<(NumberedSymbol, NumberedSymbol)>,
+}
+
+impl Making {
+    /// No frame is made yet. Takes no memory.
+    pub fn new(alloc: Global) -> Making
+        ensures { (all : List (List ℕ)) → KnowsAsked all [] result.asked }
+    {
+        Making {
+            asked: AskedPairs::new(alloc),
+            numbers: Vec::new(alloc),
+            variables: Vec::new(alloc),
+            pairs: Vec::new(alloc),
+        }
+    }
+}
+
 /// What is known of the sound items before an assertion.
 #[derive(Clone, Copy)]
 pub struct Earlier<'a> {
@@ -106,26 +133,27 @@ fn add_known_floats(
 }
 
 /// The numbers of the mandatory hypotheses of a sound assertion with these symbols, rising: of the active `$e`, and of
-/// the `$f` of the variables of these and of the assertion.
+/// the `$f` of the variables of these and of the assertion. They are collected in `numbers`.
 pub fn hypotheses(
     alloc: Global,
     earlier: &Earlier,
     own: &[NumberedSymbol],
+    numbers: &mut Vec<usize>,
 ) -> Result<Vec<usize>, AllocError>
     ensures { IfOk result (λ numbers. (all : List (List ℕ)) (before : List meant.Item) (item : meant.Item) → KnowsEarlier all before earlier.now
         → IsFramed all before item own.now → numbers.items ≡ mandatory_numbers before item) }
 {
     let (tables, essentials) = (earlier.tables, earlier.essentials);
-    let mut numbers = Vec::with_capacity(alloc, own.len())?;
+    numbers.clear();
     numbers.extend_from_slice(essentials)?;
-    add_floats(tables, own, &mut numbers)?;
-    add_known_floats(tables, essentials, earlier.variables, &mut numbers)?;
+    add_floats(tables, own, numbers)?;
+    add_known_floats(tables, essentials, earlier.variables, numbers)?;
     // The active `$e` rise, and the same `$f` is often that of many symbols: what is in order is not sorted again.
     numbers.dedup();
     numbers.sort()?;
     numbers.dedup();
-    numbers.shrink_to_fit();
-    Ok(numbers)
+    let kept = Vec::from_slice(alloc, numbers)?;
+    Ok(kept)
 }
 
 /// Whether a number is one of some that rise.
@@ -168,22 +196,21 @@ fn add_variable(
     Ok(())
 }
 
-/// The variables of the mandatory `$f`, in order.
-fn variables_typed(
-    alloc: Global,
+/// Puts the variables of the mandatory `$f`, in order.
+fn put_typed(
     essentials: &[usize],
     expressions: &Expressions,
     hypotheses: &[usize],
-) -> Result<Vec<NumberedSymbol>, AllocError>
-    ensures { IfOk result (λ variables. IsRising essentials.now → variables.items ≡ float_variables essentials.now expressions.now hypotheses.now) }
+    variables: &mut Vec<NumberedSymbol>,
+) -> Result<(), AllocError>
+    ensures { OnOk result (IsRising essentials.now → variables.new.items ≡ float_variables essentials.now expressions.now hypotheses.now) }
 {
-    let floats = hypotheses.len().saturating_sub(essentials.len());
-    let mut variables = Vec::with_capacity(alloc, floats)?;
+    variables.clear();
     let mut next = 0;
     for number in hypotheses {
-        add_variable(essentials, expressions, *number, &mut next, &mut variables)?;
+        add_variable(essentials, expressions, *number, &mut next, variables)?;
     }
-    Ok(variables)
+    Ok(())
 }
 
 /// Adds a pair if an active `$d` has it.
@@ -261,12 +288,13 @@ fn add_pairs_with_later(
     add_active_with(table, asked, earlier.blocks, first, later, pairs)
 }
 
-/// The pairs of each variable with each later one that an active `$d` has.
+/// The pairs of each variable with each later one that an active `$d` has. They are collected in `pairs`.
 fn active_among(
     alloc: Global,
     earlier: &Earlier,
     asked: &mut AskedPairs,
     variables: &[NumberedSymbol],
+    pairs: &mut Vec<(NumberedSymbol, NumberedSymbol)>,
 ) -> Result<Vec<(NumberedSymbol, NumberedSymbol)>, AllocError>
     ensures pairs { IfOk result (λ pairs. (all : List (List ℕ)) (before : List meant.Item) → KnowsEarlier all before earlier.now
         → KnowsAsked all before asked.old → All (IsNumbered all) variables.now
@@ -276,12 +304,12 @@ fn active_among(
 {
     let places = places_if_many(alloc, earlier.pairs, variables)?;
     let placed = PlacedVariables { variables, places };
-    let mut pairs = Vec::new(alloc);
+    pairs.clear();
     for n in 0..variables.len() {
-        add_pairs_with_later(alloc, earlier, asked, &placed, n, &mut pairs)?;
+        add_pairs_with_later(alloc, earlier, asked, &placed, n, pairs)?;
     }
-    pairs.shrink_to_fit();
-    Ok(pairs)
+    let kept = Vec::from_slice(alloc, pairs)?;
+    Ok(kept)
 }
 
 /// The pairs of a sound assertion with these mandatory hypotheses: of the variables of its mandatory `$f`, in their
@@ -289,15 +317,26 @@ fn active_among(
 pub fn mandatory_pairs(
     alloc: Global,
     earlier: &Earlier,
-    asked: &mut AskedPairs,
+    making: &mut Making,
     hypotheses: &[usize],
 ) -> Result<Vec<(NumberedSymbol, NumberedSymbol)>, AllocError>
-    ensures asked { OnOk result ((all : List (List ℕ)) (before : List meant.Item) → KnowsEarlier all before earlier.now → KnowsAsked all before asked.old
-        → KnowsAsked all before asked.new) }
+    ensures asked { OnOk result ((all : List (List ℕ)) (before : List meant.Item) → KnowsEarlier all before earlier.now → KnowsAsked all before making.old.asked
+        → KnowsAsked all before making.new.asked) }
     ensures pairs { IfOk result (λ pairs. (all : List (List ℕ)) (before : List meant.Item) (item : meant.Item) → KnowsEarlier all before earlier.now
-        → KnowsAsked all before asked.old → hypotheses.now ≡ mandatory_numbers before item
+        → KnowsAsked all before making.old.asked → hypotheses.now ≡ mandatory_numbers before item
         → ArePairsRead all (pairs_in_order (frame before item)) pairs.items) }
 {
-    let variables = variables_typed(alloc, earlier.essentials, earlier.expressions, hypotheses)?;
-    active_among(alloc, earlier, asked, &variables)
+    let Making {
+        asked,
+        variables,
+        pairs,
+        ..
+    } = making;
+    put_typed(
+        earlier.essentials,
+        earlier.expressions,
+        hypotheses,
+        variables,
+    )?;
+    active_among(alloc, earlier, asked, variables, pairs)
 }

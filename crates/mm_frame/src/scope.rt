@@ -1,6 +1,6 @@
 //! What the sound items so far declare, and which of it is active.
 
-ghost use Rattle.std.specs.Prelude.{◌≡◌, ℕ, is_none, true, List, [], ◌∷◌, ◌++◌, OnOk, slice_index_or};
+ghost use Rattle.std.specs.Prelude.{◌≡◌, ℕ, is_none, true, List, [], ◌∷◌, ◌++◌, OnOk, IfOk, slice_index_or};
 ghost use Rattle.mm_frame.specs.Language.Item as meant;
 ghost use Rattle.mm_frame.specs.Language.Scope as scopes;
 ghost use Rattle.mm_frame.specs.Language.Scope.{mark_of};
@@ -11,6 +11,7 @@ ghost use Rattle.mm_frame.specs.Code.FaultInOrder as judging;
 ghost use Rattle.mm_frame.specs.Code.LastItems as numbered;
 ghost use Rattle.mm_frame.specs.Code.BlockMarks.{block_marks};
 ghost use Rattle.mm_frame.specs.Code.KeptTables.{Knows};
+ghost use Rattle.mm_frame.specs.Code.KeptScope.{float_typecode};
 ghost use Rattle.mm_frame.specs.Language.Names.{AreDistinct};
 ghost use Rattle.mm_frame.specs.Code.Numbers.{IsNameNumber};
 
@@ -29,15 +30,15 @@ use std::alloc::{AllocError, Global};
 pub struct Scope<'a> {
     tables: Tables,
     blocks: Blocks,
-    /// The first symbol of each item: empty where it has none, or was passed over.
+    /// The typecode of each `$f`, by the number of the item: empty for any other item.
     typecodes: Vec<&'a [u8]>,
 }
 
-/// The first symbol, or no bytes where there is none.
-fn typecode_of<'a>(statement: &Statement<'a>) -> &'a [u8]
-    ensures { result.now ≡ meant.typecode_of statement.now }
+/// The typecode of a `$f`; no bytes for any other statement, of which no symbol is looked at.
+fn float_typecode<'a>(statement: &Statement<'a>) -> &'a [u8]
+    ensures { result.now ≡ float_typecode statement.now }
 {
-    if statement.symbol_count() > 0 {
+    if matches!(statement.kind(), ItemKind::Floating) && statement.symbol_count() > 0 {
         statement.symbol(0)
     } else {
         b""
@@ -58,15 +59,18 @@ fn mark(blocks: &mut Blocks, kind: ItemKind) -> Result<(), AllocError>
 impl<'a> Scope<'a> {
     ghost use Rattle.mm_frame.specs.Code.KeptScope.{ScopeHolds, ScopeTakes, typecodes_of};
 
-    /// No items. It takes no memory.
-    pub fn new(alloc: Global) -> Self
-        ensures { (all : List (List ℕ)) → AreDistinct all → ScopeHolds all [] result }
+    /// No items, with room for this many.
+    pub fn with_room(alloc: Global, count: usize) -> Result<Self, AllocError>
+        ensures { IfOk result (λ scope. (all : List (List ℕ)) → AreDistinct all → ScopeHolds all [] scope) }
     {
-        Scope {
-            tables: Tables::new(alloc),
-            blocks: Blocks::new(alloc),
-            typecodes: Vec::new(alloc),
-        }
+        let tables = Tables::with_room(alloc, count)?;
+        let blocks = Blocks::with_room(alloc, count)?;
+        let typecodes = Vec::with_capacity(alloc, count)?;
+        Ok(Scope {
+            tables,
+            blocks,
+            typecodes,
+        })
     }
 
     /// Whether a block is open.
@@ -162,7 +166,7 @@ impl<'a> Scope<'a> {
         }
     }
 
-    /// The first symbol of the item with this number; no bytes where there is no such item.
+    /// The typecode of the `$f` with this number; no bytes where there is no such item.
     fn typecode(&self, number: usize) -> &'a [u8]
         ensures { result.now ≡ slice_index_or (typecodes_of self.now) number [] }
     {
@@ -199,7 +203,7 @@ impl<'a> Scope<'a> {
         self.tables
             .take(alloc, statement, numbers, self.typecodes.len())?;
         mark(&mut self.blocks, statement.kind())?;
-        self.typecodes.push(typecode_of(statement))?;
+        self.typecodes.push(float_typecode(statement))?;
         Ok(())
     }
 

@@ -8,6 +8,9 @@ use crate::expressions::{end_at, start_at};
 use std::alloc::{AllocError, Global};
 use std::marker::Model;
 
+/// At the beginning there is room for the values of one of so many items.
+const VALUE_SHARE: usize = 3;
+
 /// A value of each of some items, by the numbers of all items from 0. The values lie in one list; for an item that has
 /// none, only a number is kept.
 ///
@@ -39,15 +42,13 @@ pub fn element_at<T>(list: &[T], i: usize) -> Option<&T>
 }
 
 impl<T: Drop> Sparse<T> {
-    /// No items, with room for this many that have no value.
+    /// No items, with room for this many, of which some have a value.
     pub fn with_room(alloc: Global, count: usize) -> Result<Sparse<T>, AllocError>
         ensures { IfOk result (λ sparse. sparse ≡ []) }
     {
         let ends = Vec::with_capacity(alloc, count)?;
-        Ok(Sparse {
-            values: Vec::new(alloc),
-            ends,
-        })
+        let values = Vec::with_capacity(alloc, count / VALUE_SHARE)?;
+        Ok(Sparse { values, ends })
     }
 
     /// The value of the item with this number, if it has one.

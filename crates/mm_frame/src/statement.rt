@@ -116,17 +116,25 @@ fn label_bytes(text: &[u8], label: Option<Word>) -> Option<&[u8]>
     }
 }
 
-/// How many symbols there is room for from the first on: more than most statements have.
+/// More symbols than most statements have.
 const USUAL_COUNT: usize = 32;
 
-/// The words before the next keyword; it is read, too.
-fn read_symbols(alloc: Global, words: &mut WordCursor) -> Result<Vec<Word>, AllocError>
+/// For how many symbols of an item of this kind there is room from the first on.
+fn usual_count(kind: ItemKind) -> usize {
+    match kind {
+        ItemKind::BlockStart | ItemKind::BlockEnd => 0,
+        _ => USUAL_COUNT,
+    }
+}
+
+/// The words before the next keyword; it is read, too. There is room for so many from the first on.
+fn read_symbols(alloc: Global, words: &mut WordCursor, room: usize) -> Result<Vec<Word>, AllocError>
     ensures text { words.new.text ≡ words.old.text }
     ensures symbols { IfOk result (λ symbols. symbols.items ≡ plain_words words.old.words) }
     ensures rest { OnOk result (words.new.words ≡ drop (length (plain_words words.old.words) + 1) words.old.words) }
     ensures within { IfOk result (λ symbols. All (LiesInText words.old.text) symbols.items) }
 {
-    let mut symbols = Vec::with_capacity(alloc, USUAL_COUNT)?;
+    let mut symbols = Vec::with_capacity(alloc, room)?;
     while let Some(word) = words.next_word() {
         if !is_plain(word.kind) {
             return Ok(symbols);
@@ -160,7 +168,7 @@ impl<'a> Statement<'a> {
         let mut first = words.again();
         let label = read_label(kind, &mut first);
         let _keyword = first.next_word();
-        let symbols = read_symbols(alloc, &mut first)?;
+        let symbols = read_symbols(alloc, &mut first, usual_count(kind))?;
         Ok(Statement {
             kind,
             text,

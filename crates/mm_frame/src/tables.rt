@@ -1,6 +1,6 @@
 //! What the items so far declare, found by hash.
 
-ghost use Rattle.std.specs.Prelude.{◌≡◌, ◌<◌, ◌++◌, ◌∷◌, ℕ, OnOk, List, [], None, Some, length, nat_eq, option_to_list};
+ghost use Rattle.std.specs.Prelude.{◌≡◌, ◌<◌, ◌++◌, ◌∷◌, ℕ, IfOk, OnOk, List, [], None, Some, length, nat_eq, option_to_list};
 ghost use Rattle.std.specs.Prelude.{if◌then◌else◌, slice_index_or};
 ghost use Rattle.mm_frame.specs.Language.Item as meant;
 ghost use Rattle.mm_frame.specs.Language.Scope.{constants};
@@ -14,6 +14,9 @@ use crate::names::Names;
 use crate::statement::Statement;
 use mm_store::ItemKind;
 use std::alloc::{AllocError, Global};
+
+/// About one of so many items has a short label.
+const LABEL_SHARE: usize = 3;
 
 /// What a name is declared as.
 #[derive(Clone, Copy)]
@@ -41,14 +44,15 @@ impl Tables {
     ghost use Rattle.mm_frame.specs.Code.KeptTables.{declared_at, is_constant_as, table_label, float_of};
     ghost use Rattle.mm_frame.specs.Code.KeptTables.{Knows, Declares, TypesName, Carries};
 
-    /// No item is taken yet. Takes no memory.
-    pub fn new(alloc: Global) -> Self
-        ensures { (all : List (List ℕ)) → AreDistinct all → Knows all [] result }
+    /// No item is taken yet. There is room for the labels of this many items, as often as databases have labels.
+    pub fn with_room(alloc: Global, count: usize) -> Result<Self, AllocError>
+        ensures { IfOk result (λ tables. (all : List (List ℕ)) → AreDistinct all → Knows all [] tables) }
     {
-        Tables {
+        let labels = LabelNumbers::with_room(alloc, count / LABEL_SHARE)?;
+        Ok(Tables {
             declared: Vec::new(alloc),
-            labels: LabelNumbers::new(alloc),
-        }
+            labels,
+        })
     }
 
     /// What the name with this number is declared as, if it is declared.

@@ -1,7 +1,7 @@
--- What a reader keeps of the items so far to judge the next one: what they declare, what they do to the blocks, and the typecode of each.
+-- What a reader keeps of the items so far to judge the next one: what they declare, what they do to the blocks, and the typecode of each `$f`.
 use Rattle.std.specs.Prelude.{◌≡◌, ℕ, Bool, true, if◌then◌else◌, List, [], ◌∷◌, ◌++◌, map}
 use Rattle.mm_frame.specs.declared.scope.Scope.{Scope}
-use Rattle.mm_frame.specs.Language.Item.{Item, passed, typecode_of}
+use Rattle.mm_frame.specs.Language.Item.{Item, passed, is_floating, typecode_of}
 use Rattle.mm_frame.specs.Code.BlockMarks.{block_marks}
 use Rattle.mm_frame.specs.Language.Sound.{IsSound, AreSound}
 use Rattle.mm_frame.specs.Code.Numbers.{AreNameNumbers}
@@ -11,11 +11,15 @@ use Rattle.mm_frame.specs.Code.KeptTables.{Knows}
 abbrev pub typecodes_of : Scope → List (List ℕ)
 typecodes_of scope = map (λ typecode. typecode.now) scope.typecodes.items
 
+-- the typecode of a `$f`, and no bytes for any other item
+abbrev pub float_typecode : Item → List ℕ
+float_typecode item = if is_floating item.kind then typecode_of item else []
+
 -- the scope is that behind these items, by the numbers of names in the list of all
 pub record ScopeHolds (all : List (List ℕ)) (before : List Item) (scope : Scope) : Type 0 where
   pub knows : Knows all before scope.tables
   pub marks : scope.blocks ≡ block_marks before
-  pub types : typecodes_of scope ≡ map typecode_of before
+  pub types : typecodes_of scope ≡ map float_typecode before
 
 -- what is kept of an item: the item where it is sound, and else what stands in its place
 abbrev pub taken : Bool → Item → Item

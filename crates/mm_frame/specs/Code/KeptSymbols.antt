@@ -1,10 +1,10 @@
 -- Symbols and expressions as the code keeps them.
-use Rattle.std.specs.Prelude.{◌≡◌, ℕ, ◌||◌, Bool, true, not, length, if◌then◌else◌, Option, Some, None, List, [], All, take, slice_get, option_to_list}
+use Rattle.std.specs.Prelude.{◌≡◌, ℕ, Bool, true, not, length, if◌then◌else◌, Option, Some, None, List, [], All, take, slice_get, option_to_list}
 use Rattle.std.specs.List.{flat_map}
 use Rattle.mm_frame.specs.declared.symbol.NumberedSymbol.{NumberedSymbol}
 use Rattle.mm_frame.specs.declared.tables.Tables.{Tables}
 use Rattle.mm_frame.specs.Language.Frame.{Symbol}
-use Rattle.mm_frame.specs.Language.Item.{Kind, Item, has, is_labelled, is_disjoint}
+use Rattle.mm_frame.specs.Language.Item.{Item, has, is_labelled, is_read}
 use Rattle.mm_frame.specs.Language.Scope.{constants}
 use Rattle.mm_frame.specs.Language.Framing.{expression}
 use Rattle.mm_frame.specs.Code.KeptTables.{declared_at, is_constant_as, float_of}
@@ -35,10 +35,6 @@ expression_kept expressions n = kept_or_none (slice_get expressions n)
 abbrev pub AreExpressions : List (List ℕ) → List Item → List (List NumberedSymbol) → Type 0
 AreExpressions all before expressions = (n : ℕ) (item : Item) → slice_get before n ≡ Some item → is_labelled item.kind ≡ true
     → symbols_of all (expression_kept expressions n) ≡ expression (take n before) item
-
--- a `$f`, `$e`, `$a`, `$p` or `$d`
-abbrev pub is_read : Kind → Bool
-is_read kind = is_labelled kind || is_disjoint kind
 
 -- each symbol that is kept has the number of a name
 abbrev pub AreNumbered : List (List ℕ) → List (List NumberedSymbol) → Type 0

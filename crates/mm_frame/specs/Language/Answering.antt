@@ -8,7 +8,7 @@ use Rattle.mm_frame.specs.declared.FrameNumber.{FrameNumber}
 use Rattle.mm_frame.specs.declared.symbol.NumberedSymbol.{NumberedSymbol}
 use Rattle.mm_frame.specs.Language.Names.{AreDistinct, Begins}
 use Rattle.mm_frame.specs.Language.Frame.{Symbol, Mandatory, Frame}
-use Rattle.mm_frame.specs.Language.Item.{Item, is_labelled, is_assertion, is_theorem, item_at}
+use Rattle.mm_frame.specs.Language.Item.{Item, is_labelled, is_read, is_assertion, is_theorem, item_at}
 use Rattle.mm_frame.specs.Language.Statement.{kind_of}
 use Rattle.mm_frame.specs.Language.Scope.{Mark, mark_of}
 use Rattle.mm_frame.specs.Language.Sound.{sound_items}
@@ -37,9 +37,9 @@ pub record IsLabelTold (before : List Item) (item : Item) (row : Option (List �
   pub labelled : is_some row.0 ≡ is_labelled item.kind
   pub fault : row.1 ≡ told_fault before item
 
--- the expression of a sound `$f`, `$e`, `$a` or `$p`; of any other item, whatever symbols
+-- the expression of a sound `$f`, `$e`, `$a` or `$p`, and the variables of a sound `$d`; of any other item, whatever symbols
 pub record IsExpressionTold (names : List (List ℕ)) (before : List Item) (item : Item) (symbols : List NumberedSymbol) : Type 0 where
-  pub expression : (is_none (told_fault before item) && is_labelled item.kind) ≡ true → symbols_of names symbols ≡ expression before item
+  pub expression : (is_none (told_fault before item) && is_read item.kind) ≡ true → symbols_of names symbols ≡ expression before item
   pub numbered : All (IsNumbered names) symbols
 
 -- the numbers of the mandatory hypotheses of an assertion

@@ -1,5 +1,5 @@
 -- The items of a database: its statements, the beginnings and ends of its blocks, and inclusions of files that are missing (Metamath book, section 4.2).
-use Rattle.std.specs.Prelude.{ℕ, Bool, true, false, if◌then◌else◌, Option, None, List, [], bytes_eq, slice_index_or, option_to_list}
+use Rattle.std.specs.Prelude.{ℕ, ◌||◌, Bool, true, false, if◌then◌else◌, Option, None, List, [], bytes_eq, slice_index_or, option_to_list}
 use Rattle.std.specs.List.{list_any}
 
 -- What an item is: `$c`, `$v`, `$d`, `$f`, `$e`, `$a`, `$p`, `${`, `$}`, or a missing file; `Passed` stands in the place of a statement at fault.
@@ -83,6 +83,10 @@ is_labelled Essential = true
 is_labelled Axiom = true
 is_labelled Theorem = true
 is_labelled _ = false
+
+-- a kind whose symbols are read as an expression or as variables: `$f`, `$e`, `$a`, `$p` or `$d`
+abbrev pub is_read : Kind → Bool
+is_read kind = is_labelled kind || is_disjoint kind
 
 -- the name is one of these names
 abbrev pub has : List (List ℕ) → List ℕ → Bool

@@ -8,8 +8,8 @@ returns-in-Constants c all before h k t r =
     let item = c.args.statement.now in
     let n = c.args.n in
     let kind = c.in-Constants.ensures.kind in
-    let name = c.symbol-name.ensures in
-    c.declared_fault.ensures.constant all before item n h k (r (ap must_differ (sym kind)) ∙ ap (is_repeated item n) (sym name)) (c.is_declared.ensures all before _ h k t ∙ ap (is_declared before) (sym name))
+    let name = c.symbol.ensures in
+    c.declared_fault.ensures.constant all before item n h k (r (ap must_differ (sym kind)) ∙ ap (is_repeated item n) (sym name)) (c.is_declared-declared.ensures all before _ h k t ∙ ap (is_declared before) (sym name))
     ∙ (λ i. symbol_fault_of (kind i) before item n (name i))
 
 pub returns-in-Variables : goal.returns-in-Variables
@@ -17,6 +17,6 @@ returns-in-Variables c all before h k t r =
     let item = c.args.statement.now in
     let n = c.args.n in
     let kind = c.in-Variables.ensures.kind in
-    let name = c.symbol-name.ensures in
-    c.declared_fault-in-Variables.ensures.variable all before item n h k (r (ap must_differ (sym kind)) ∙ ap (is_repeated item n) (sym name)) (c.is_active_symbol.ensures all before _ h k t ∙ ap (is_active_symbol before) (sym name))
+    let name = c.symbol-in-Variables.ensures in
+    c.declared_fault-in-Variables.ensures.variable all before item n h k (r (ap must_differ (sym kind)) ∙ ap (is_repeated item n) (sym name)) (c.is_active_symbol-active.ensures all before _ h k t ∙ ap (is_active_symbol before) (sym name))
     ∙ (λ i. symbol_fault_of (kind i) before item n (name i))

@@ -2,7 +2,7 @@ use Rattle.std.proofs.Common.{◌≡◌, ◌<◌, ◌+◌, suc, length, get_or, 
 use Rattle.mm_frame.specs.Language.Item.{is_expression}
 use Rattle.mm_frame.specs.Code.FaultInOrder.{must_differ}
 use Rattle.mm_frame.proofs.lemmas.names.NumberLemmas.{number_at}
-use Rattle.mm_frame.proofs.lemmas.faults.FaultLemmas.{none_left, fault_there, passes_more, sees_next}
+use Rattle.mm_frame.proofs.lemmas.faults.FaultLemmas.{none_left, fault_there, passes_more, repeated_by_number, sees_next}
 use Rattle.mm_frame.proofs.judge.symbols_fault.Goals as goal
 
 pub expression_symbols_fault-requires-clause-expression : goal.expression_symbols_fault-requires-clause-expression
@@ -17,7 +17,9 @@ returns-in-Some c =
     let seen = c.in_ok-repeated.ensures c.loop-n.invariant.0 in
     let within : n < length item.symbols = omega (arith, c.loop-n-test.true, c.symbol_count-n-end.ensures) in
     fault_there item numbers n c.symbol_place-word.result c.in-Some.number within c.symbol_place-word.ensures c.loop-n.invariant.1
-    (λ all before h k a. sym c.in-Some.is ∙ c.symbol_fault.ensures all before h k (number_at all numbers item.symbols n 0 a (omega (arith, within, c.requires))) (λ d. seen.0 (differs ∙ d)))
+    (λ all before h k a.
+    let number = number_at all numbers item.symbols n 0 a (omega (arith, within, c.requires)) in
+    sym c.in-Some.is ∙ c.symbol_fault.ensures all before h k number (λ d. seen.0 (differs ∙ d) ∙ repeated_by_number all numbers item.symbols n k.knows.distinct a number))
 
 pub loop-n-preserved : goal.loop-n-preserved
 loop-n-preserved c =
@@ -28,9 +30,11 @@ loop-n-preserved c =
     let seen = c.in_ok-repeated.ensures c.loop-n.invariant.0 in
     let within : n < length item.symbols = omega (arith, c.loop-n-test.true, c.symbol_count-n-end.ensures) in
     let next : n + 1 ≡ suc n = omega arith in (
-      sees_next item.symbols (get_or item.symbols n []) n (n + 1) c.is_repeated.new.seen next within refl seen.1,
+      sees_next numbers (get_or numbers n 0) n (n + 1) c.is_repeated.new.seen next (omega (arith, within, c.requires)) refl seen.1,
       passes_more item numbers n (n + 1) next within c.loop-n.invariant.1
-          (λ all before h k a. sym c.in_default.is ∙ c.symbol_fault.ensures all before h k (number_at all numbers item.symbols n 0 a (omega (arith, within, c.requires))) (λ d. seen.0 (differs ∙ d))),
+          (λ all before h k a.
+          let number = number_at all numbers item.symbols n 0 a (omega (arith, within, c.requires)) in
+          sym c.in_default.is ∙ c.symbol_fault.ensures all before h k number (λ d. seen.0 (differs ∙ d) ∙ repeated_by_number all numbers item.symbols n k.knows.distinct a number)),
     )
 
 pub returns : goal.returns

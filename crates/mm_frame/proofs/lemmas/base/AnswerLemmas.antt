@@ -18,7 +18,7 @@ use Rattle.mm_frame.specs.declared.base.Base.TheInside.{Inside}
 use Rattle.mm_frame.specs.declared.pair_lists.PairLists.{PairLists}
 use Rattle.mm_frame.specs.Language.Names.{AreDistinct}
 use Rattle.mm_frame.specs.Language.Frame.{Symbol, AreSamePairs}
-use Rattle.mm_frame.specs.Language.Item.{Item, passed, is_floating, is_labelled, item_at}
+use Rattle.mm_frame.specs.Language.Item.{Item, passed, is_floating, is_labelled, is_read, item_at}
 use Rattle.mm_frame.specs.Language.Sound.{sound_items}
 use Rattle.mm_frame.specs.Language.Framing.{active_pairs, expression, frame}
 use Rattle.mm_frame.specs.Language.Base.{BaseView, before, said_at, told_fault, fault_at, is_shown_at, is_sound_at, is_proof_at}
@@ -33,7 +33,7 @@ use Rattle.mm_frame.specs.Code.KeptRows.{rows_of, row_label, row_fault, is_shown
 use Rattle.mm_frame.specs.Code.KeptAssertions.{TellsFrame, TellsPairs}
 use Rattle.mm_frame.specs.Code.KeptBase.{AreParts, is_float_item, frame_told, list_told}
 use Rattle.mm_frame.specs.Code.KeptSparse.{value_or_none, value_kept}
-use Rattle.mm_frame.proofs.lemmas.base.BaseLemmas.{row_none, item_beyond, fault_beyond, frame_beyond, shown_is, not_shown, kept_count, expression_some, labelled_there}
+use Rattle.mm_frame.proofs.lemmas.base.BaseLemmas.{row_none, item_beyond, fault_beyond, frame_beyond, shown_is, not_shown, kept_count, symbols_there, read_there, labelled_there}
 use Rattle.mm_frame.proofs.lemmas.frames.FrameNumbers.{HasKind}
 use Rattle.mm_frame.proofs.lemmas.base.ResolvingLemmas.{carrier_found, found_carrier}
 use Rattle.mm_frame.proofs.lemmas.pairs.PairListLemmas.{list_read, list_in_order}
@@ -80,25 +80,25 @@ expressions_told all base expressions are = record {
   each = λ n symbols e. record { expression = read n symbols e; numbered = subst (All (IsNumbered all)) (ap kept_or_none e) (are.numbered n) };
 }
   where
-    read : (n : ℕ) (symbols : List NumberedSymbol) → slice_get expressions n ≡ Some symbols → is_shown_at base n ≡ true → symbols_of all symbols ≡ expression (before base n) (said_at base n)
-    read n symbols e t = ap (λ o. symbols_of all (kept_or_none o)) (sym e)
-        ∙ same_Some _ _ (sym (expression_some all base n expressions are t) ∙ ap (λ b. cond b (Some (expression (before base n) (said_at base n))) None) t)
+    read : (n : ℕ) (symbols : List NumberedSymbol) → slice_get expressions n ≡ Some symbols → (is_sound_at base n && is_read (said_at base n).kind) ≡ true
+        → symbols_of all symbols ≡ expression (before base n) (said_at base n)
+    read n symbols e t = ap (λ o. symbols_of all (kept_or_none o)) (sym e) ∙ symbols_there all base n expressions are t
 
 -- ---- what is told at a number
 
-row_there : {X : Type 0} (tells : List Item → Item → X → Type 0) (said : List Item) (rows : List X) (i : ℕ) → AreRows tells said rows → is_labelled (item_at said i).kind ≡ true → (row : X) × (slice_get rows i ≡ Some row)
+row_there : {X : Type 0} (tells : List Item → Item → X → Type 0) (said : List Item) (rows : List X) (i : ℕ) → AreRows tells said rows → slice_get said i ≡ Some (item_at said i) → (row : X) × (slice_get rows i ≡ Some row)
 row_there tells said rows i are t =
-    let within = slice_get_within said i (item_at said i) (labelled_there said i t) in
+    let within = slice_get_within said i (item_at said i) t in
     elim (slice_get_cases rows i).1 [
       | inl there ↦ (there.0, there.2)
       | inr past ↦ (absurd (omega arith))
     ]
 
--- the expression of an item that is shown
-pub expression_read : (all : List (List ℕ)) (base : BaseView) (expressions : List (List NumberedSymbol)) (i : ℕ) → AreRows (IsExpressionTold all) base.said expressions → is_shown_at base i ≡ true
+-- the symbols that are kept of a sound item
+pub expression_read : (all : List (List ℕ)) (base : BaseView) (expressions : List (List NumberedSymbol)) (i : ℕ) → AreRows (IsExpressionTold all) base.said expressions → (is_sound_at base i && is_read (said_at base i).kind) ≡ true
     → symbols_of all (expression_kept expressions i) ≡ expression (before base i) (said_at base i)
 expression_read all base expressions i are t =
-    let row = row_there (IsExpressionTold all) base.said expressions i are (and_parts (is_sound_at base i) (is_labelled (said_at base i).kind) t).1 in
+    let row = row_there (IsExpressionTold all) base.said expressions i are (read_there base.said i (and_parts (is_sound_at base i) (is_read (said_at base i).kind) t).1) in
     ap (λ o. symbols_of all (kept_or_none o)) row.1 ∙ (are.each i row.0 row.1).expression t
 
 pub expression_numbered : (all : List (List ℕ)) (said : List Item) (expressions : List (List NumberedSymbol)) (i : ℕ) → AreRows (IsExpressionTold all) said expressions → All (IsNumbered all) (expression_kept expressions i)
@@ -178,7 +178,7 @@ carrier_told base rows are label j = (to, from)
     from : IsCarrier base label j → slice_get rows j ≡ Some (Some label, None)
     from c =
         let p = and_parts (is_sound_at base j) (is_labelled (said_at base j).kind) c.shown in
-        let row = row_there IsLabelTold base.said rows j are p.1 in
+        let row = row_there IsLabelTold base.said rows j are (labelled_there base.said j p.1) in
         let told = are.each j row.0 row.1 in
         row.1 ∙ (λ k. Some ((told.label ∙ c.label_is) k, (told.fault ∙ none_is (fault_at base j) p.0) k))
 

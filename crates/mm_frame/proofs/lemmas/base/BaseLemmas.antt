@@ -3,7 +3,7 @@ use Rattle.std.proofs.Common.{◌≡◌, ℕ, zero, suc, ◌<◌, ◌≤◌, Boo
 use Rattle.std.proofs.Common.{append-nil, ◌&&◌, ◌||◌, cond, get_or, is_none, is_some, not, false, refl, sym, ◌∙◌, ap, subst, arith, inl, inr}
 use Rattle.std.specs.Option.{option_map}
 use Rattle.std.specs.List.{AllZip}
-use Rattle.std.proofs.lemmas.Bool.{false≢true, and_parts}
+use Rattle.std.proofs.lemmas.Bool.{false≢true, and_from, and_parts}
 use Rattle.std.proofs.Math.ListN.{get_or-append}
 use Rattle.std.proofs.Math.Seq.{take-suc}
 use Rattle.std.proofs.lemmas.List.{length_push, get_or_push, take-append-le, length-take-le}
@@ -12,13 +12,13 @@ use Rattle.std.specs.Prelude.{IfSome, All}
 use Rattle.std.proofs.lemmas.List.Elements.{All-nil}
 use Rattle.mm_frame.specs.declared.FrameNumber.{FrameNumber}
 use Rattle.mm_frame.specs.declared.symbol.NumberedSymbol.{NumberedSymbol}
-use Rattle.mm_frame.specs.Language.Item.{Kind, Disjoint, Essential, Axiom, Theorem, BlockEnd, Missing, Item, passed, is_labelled, is_disjoint, is_assertion, is_essential, item_at}
+use Rattle.mm_frame.specs.Language.Item.{Kind, Disjoint, Essential, Axiom, Theorem, BlockEnd, Missing, Item, passed, is_labelled, is_disjoint, is_read, is_assertion, is_essential, item_at}
 use Rattle.mm_frame.specs.Language.Sound.{IsSound, AreSound, fault, judged, sound_items, sound_items_after}
 use Rattle.mm_frame.specs.Language.Framing.{expression}
 use Rattle.mm_frame.specs.Language.Scope.{Mark, Closes, mark_of, closes, active_numbers}
 use Rattle.mm_frame.specs.Code.Numbers.{IsNameNumber, AreNameNumbers}
 use Rattle.mm_frame.specs.Language.NumberedSymbols.{symbols_of, kept_pairs, IsNumbered, IsPairNumbered, ArePairsRead}
-use Rattle.mm_frame.specs.Code.KeptSymbols.{expression_kept, kept_or_none, is_read, AreSymbols, AreExpressions}
+use Rattle.mm_frame.specs.Code.KeptSymbols.{expression_kept, kept_or_none, AreSymbols, AreExpressions}
 use Rattle.mm_frame.specs.Code.LastItems.{IsSort}
 use Rattle.mm_frame.specs.Code.KeptScope.{taken}
 use Rattle.mm_frame.specs.Language.Base.{BaseView, before, said_at, fault_by, told_fault, is_sound_at, expression_at, is_framed_at, frame_at}
@@ -109,6 +109,11 @@ row_none tells said rows n a e = let w = none_beyond rows n e in omega arith
 pub none_found : {X : Type 0} (found : Option X) (none : Bool) → is_some found ≡ not none → is_none found ≡ none
 none_found found true e = ap not e
 none_found found false e = ap not e
+
+-- where none is found, none is told
+pub none_is_told : {X Y : Type 0} (told : X → Y) (found : Option X) (other : Option Y) → option_map told found ≡ other → is_some found ≡ false → is_none other ≡ true
+none_is_told told None other e n = ap is_none (sym e)
+none_is_told told (Some x) other e n = absurd (false≢true (sym n))
 
 -- one more item, with the symbols that are kept for it
 pub symbols_more : (all : List (List ℕ)) (before : List Item) (item : Item) (expressions : List (List NumberedSymbol)) (symbols : List NumberedSymbol) → AreSymbols all before expressions → All (IsNumbered all) symbols
@@ -209,15 +214,24 @@ labelled_there (x ∷ said) (suc i) e = labelled_there said i e
 pub expression_none : (base : BaseView) (i : ℕ) → (is_sound_at base i && is_labelled (said_at base i).kind) ≡ false → expression_at base i ≡ None
 expression_none base i e = ap (λ b. cond b (Some (expression (before base i) (said_at base i))) None) e
 
-pub expression_some : (all : List (List ℕ)) (base : BaseView) (i : ℕ) (expressions : List (List NumberedSymbol)) → AreSymbols all (sound_items base.said) expressions → (is_sound_at base i && is_labelled (said_at base i).kind) ≡ true
-    → expression_at base i ≡ Some (symbols_of all (expression_kept expressions i))
-expression_some all base i expressions a e =
+pub read_there : (said : List Item) (i : ℕ) → is_read (item_at said i).kind ≡ true → slice_get said i ≡ Some (item_at said i)
+read_there [] i e = absurd (false≢true e)
+read_there (x ∷ said) zero e = refl
+read_there (x ∷ said) (suc i) e = read_there said i e
+
+-- the symbols that are kept of a sound item are its expression
+pub symbols_there : (all : List (List ℕ)) (base : BaseView) (i : ℕ) (expressions : List (List NumberedSymbol)) → AreSymbols all (sound_items base.said) expressions
+    → (is_sound_at base i && is_read (said_at base i).kind) ≡ true → symbols_of all (expression_kept expressions i) ≡ expression (before base i) (said_at base i)
+symbols_there all base i expressions a e =
     let item = said_at base i in
-    let parts = and_parts (is_sound_at base i) (is_labelled item.kind) e in
+    let parts = and_parts (is_sound_at base i) (is_read item.kind) e in
     let sound = none_told item.kind (fault (before base i) item) parts.0 in
-    let there = labelled_there base.said i parts.1 in
-    let read : is_read item.kind ≡ true = ap (λ b. b || is_disjoint item.kind) parts.1 in
-    ap (λ b. cond b (Some (expression (before base i) item)) None) e ∙ ap Some (ap (λ w. expression w item) (sym (kept_front_at base.said i item there)) ∙ sym (a.each i item (kept_item_at base.said i item there sound) read))
+    let there = read_there base.said i parts.1 in
+    a.each i item (kept_item_at base.said i item there sound) parts.1 ∙ ap (λ w. expression w item) (kept_front_at base.said i item there)
+
+-- what is shown is read
+pub shown_read : (sound : Bool) (kind : Kind) → (sound && is_labelled kind) ≡ true → (sound && is_read kind) ≡ true
+shown_read sound kind t = let parts = and_parts sound (is_labelled kind) t in and_from sound (is_read kind) parts.0 (ap (λ b. b || is_disjoint kind) parts.1)
 
 -- what is read of a `$f`, `$e`, `$a` or `$p` is its expression
 pub are_expressions : (all : List (List ℕ)) (before : List Item) (expressions : List (List NumberedSymbol)) → AreSymbols all before expressions → AreExpressions all before expressions

@@ -1,19 +1,20 @@
 -- What the code that looks for a fault rests on.
-use Rattle.std.proofs.Common.{◌≡◌, ℕ, suc, ◌+◌, ◌<◌, ◌≤◌, Bool, true, false, not, cond, ◌==◌, ◌&&◌, ◌||◌, Option, Some, None, List, [], ◌∷◌, ◌++◌, length, take, drop, get_or, bytes_eq, refl, sym, ◌∙◌, ap, subst, arith}
-use Rattle.std.specs.Borrow.{Bor}
+use Rattle.std.proofs.Common.{◌≡◌, ℕ, zero, nat_eq, slice_get, suc, ◌+◌, ◌<◌, ◌≤◌, Bool, true, false, not, cond, ◌==◌, ◌&&◌, ◌||◌, Option, Some, None, List, [], ◌∷◌, ◌++◌, length, take, drop, get_or, bytes_eq, refl, sym, ◌∙◌, ap, subst, arith}
 use Rattle.std.specs.Prelude.{is_none}
 use Rattle.std.specs.Option.{option_or}
 use Rattle.std.specs.HashSet.{HashSet, Updates}
 use Rattle.std.proofs.Math.Seq.{take-suc}
 use Rattle.std.proofs.lemmas.Bool.{false≢true}
 use Rattle.std.proofs.lemmas.Bool.Decides.{Decides-eqb}
-use Rattle.std.proofs.lemmas.Option.{slice_get-get_or}
+use Rattle.std.proofs.lemmas.Slice.Eq.{bytes_eq-Decides}
+use Rattle.std.proofs.lemmas.Option.{same_Some, slice_get-get_or}
 use Rattle.std.proofs.lemmas.List.{drop_all}
 use Rattle.std.proofs.lemmas.List.Folds.{list_any-append}
 use Rattle.mm_frame.specs.Language.Item.{Kind, Essential, Axiom, Theorem, Item, has, is_expression}
 use Rattle.mm_frame.specs.Language.Scope.{constants, active_variables, typed}
 use Rattle.mm_frame.specs.Language.Sound.{first_symbol, closing_word, fault_or, fault, AreSound}
-use Rattle.mm_frame.specs.Code.Numbers.{AreNameNumbers}
+use Rattle.mm_frame.specs.Code.Numbers.{IsNameNumber, AreNameNumbers}
+use Rattle.mm_frame.specs.Language.Names.{AreDistinct}
 use Rattle.mm_frame.specs.Code.KeptScope.{ScopeHolds}
 use Rattle.mm_frame.specs.declared.scope.Scope.{Scope}
 use Rattle.mm_frame.specs.declared.tables.Declared.{Declared}
@@ -23,7 +24,7 @@ use Rattle.mm_frame.specs.Code.LastItems.{last_where, declares_variable, types, 
 use Rattle.mm_frame.specs.declared.FrameNumber.{FrameNumber}
 use Rattle.mm_frame.specs.declared.FrameNumber.TheVariants.{F10, F11}
 use Rattle.mm_frame.specs.Code.FaultInOrder.{front_fault, end_fault, first_fault, symbol_fault_of, symbol_fault, symbols_fault, typecode_fault, expression_fault, later_fault}
-use Rattle.mm_frame.specs.Code.SeenNames.{HasSeen}
+use Rattle.mm_frame.specs.Code.SeenNumbers.{HasSeen, has_number}
 use Rattle.mm_frame.proofs.lemmas.faults.FaultReading.{first_fault_at, fault_is}
 use Rattle.mm_frame.proofs.lemmas.frames.Frames.{from_typed, float_of}
 use Rattle.mm_frame.proofs.lemmas.lists.Members.{has_in}
@@ -65,29 +66,61 @@ follows_later before h name =
     by_test false None t active typed a b n e = rw a refl
     by_test false (Some d) t active typed a b n e = rw (← b) (both active typed e)
 
--- one more name is seen
-pub sees_more : {S : Type 0} (names : List (List ℕ)) (name : Bor (List ℕ)) (old new : HashSet (Bor (List ℕ)) S) → HasSeen names old → Updates (λ x y. bytes_eq x.now y.now) old new name true → HasSeen (names ++ name.now ∷ []) new
-sees_more names name old new h u other =
-    let key : Bor (List ℕ) = record { ref_ptr = name.ref_ptr; now = other } in
-    u.0 key
-    ∙ (λ i. cond (has_one name.now other i) true (h other i))
-    ∙ either (has (name.now ∷ []) other) (has names other)
-    ∙ sym (list_any-append (bytes_eq other) names (name.now ∷ []))
+-- two tests are the same where each tells the other
+same_test : (b c : Bool) → (b ≡ true → c ≡ true) → (c ≡ true → b ≡ true) → b ≡ c
+same_test true true f g = refl
+same_test true false f g = absurd (false≢true (f refl))
+same_test false true f g = absurd (false≢true (g refl))
+same_test false false f g = refl
+
+-- one more number is seen
+nat_turned : (a b : ℕ) → nat_eq a b ≡ nat_eq b a
+nat_turned a b = same_test (nat_eq a b) (nat_eq b a) (λ t. (Decides-eqb b a).1 (sym ((Decides-eqb a b).0 t))) (λ t. (Decides-eqb a b).1 (sym ((Decides-eqb b a).0 t)))
+
+pub sees_more : {S : Type 0} (numbers : List ℕ) (number : ℕ) (old new : HashSet ℕ S) → HasSeen numbers old → Updates nat_eq old new number true → HasSeen (numbers ++ number ∷ []) new
+sees_more numbers number old new h u other =
+    u.0 other
+    ∙ (λ i. cond (nat_turned number other i) true (h other i))
+    ∙ either (nat_eq other number) (has_number numbers other)
+    ∙ sym (list_any-append (nat_eq other) numbers (number ∷ []))
   where
-    either : (a b : Bool) → cond a true b ≡ (b || a)
+    either : (a b : Bool) → cond a true b ≡ (b || (a || false))
     either true true = refl
     either true false = refl
     either false true = refl
     either false false = refl
 
+-- two numbers are the same where their names are
+same_number : (all : List (List ℕ)) (m n : ℕ) (x y : List ℕ) → AreDistinct all → IsNameNumber all m x → IsNameNumber all n y → nat_eq m n ≡ bytes_eq x y
+same_number all m n x y distinct a b = same_test (nat_eq m n) (bytes_eq x y)
+    (λ t. (bytes_eq-Decides x y).1 (same_Some x y (sym a ∙ ap (slice_get all) ((Decides-eqb m n).0 t) ∙ b)))
+    (λ t. (Decides-eqb m n).1 (distinct m n x a (b ∙ ap Some (sym ((bytes_eq-Decides x y).0 t)))))
+
+among_names : (all : List (List ℕ)) (n : ℕ) (numbers : List ℕ) (names : List (List ℕ)) (number : ℕ) (name : List ℕ) → AreDistinct all → IsNameNumber all number name
+    → ((i m : ℕ) → slice_get numbers i ≡ Some m → IsNameNumber all m (get_or names i [])) → length numbers ≡ length names
+    → has_number (take n numbers) number ≡ has (take n names) name
+among_names all zero numbers names number name distinct is each count = refl
+among_names all (suc n) [] [] number name distinct is each count = refl
+among_names all (suc n) (m ∷ numbers) (x ∷ names) number name distinct is each count =
+    let rest = among_names all n numbers names number name distinct is (λ i k p. each (suc i) k p) (omega (arith, count)) in
+    λ i. same_number all number m name x distinct is (each 0 m refl) i || rest i
+among_names all (suc n) [] (x ∷ names) number name distinct is each count = absurd (omega (arith, count))
+among_names all (suc n) (m ∷ numbers) [] number name distinct is each count = absurd (omega (arith, count))
+
+-- a symbol stands before where its number does
+pub repeated_by_number : (all : List (List ℕ)) (numbers : List ℕ) (names : List (List ℕ)) (n : ℕ) → AreDistinct all → AreNameNumbers all numbers names
+    → IsNameNumber all (get_or numbers n 0) (get_or names n [])
+    → has_number (take n numbers) (get_or numbers n 0) ≡ has (take n names) (get_or names n [])
+repeated_by_number all numbers names n distinct are is = among_names all n numbers names (get_or numbers n 0) (get_or names n []) distinct is are.each are.count
+
 pub twice_not : (b : Bool) → not (not b) ≡ b
 twice_not true = refl
 twice_not false = refl
 
--- one more name of a statement is seen
-pub sees_next : {S : Type 0} {kept : Bool} (names : List (List ℕ)) (name : List ℕ) (n more : ℕ) (seen : HashSet (Bor (List ℕ)) S) → more ≡ suc n → n < length names → name ≡ get_or names n []
-    → (kept ≡ true → HasSeen (take n names ++ name ∷ []) seen) → kept ≡ true → HasSeen (take more names) seen
-sees_next names name n more seen m l e h d = subst (λ w. HasSeen w seen) (ap (λ x. take n names ++ x ∷ []) e ∙ sym (take-suc names n [] l) ∙ ap (λ w. take w names) (sym m)) (h d)
+-- one more number of a statement is seen
+pub sees_next : {S : Type 0} {kept : Bool} (numbers : List ℕ) (number n more : ℕ) (seen : HashSet ℕ S) → more ≡ suc n → n < length numbers → number ≡ get_or numbers n 0
+    → (kept ≡ true → HasSeen (take n numbers ++ number ∷ []) seen) → kept ≡ true → HasSeen (take more numbers) seen
+sees_next numbers number n more seen m l e h d = subst (λ w. HasSeen w seen) (ap (λ x. take n numbers ++ x ∷ []) e ∙ sym (take-suc numbers n 0 l) ∙ ap (λ w. take w numbers) (sym m)) (h d)
 
 -- so it is behind all sound items of a scope, where the symbols have these numbers
 abbrev pub Judged : Scope → Item → List ℕ → (List Item → Type 0) → Type 0

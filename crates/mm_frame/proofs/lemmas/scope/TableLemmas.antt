@@ -199,6 +199,15 @@ same_typecode before item name y s t h u = by_test (bytes_eq (typecode_of y) (ty
         let f = no_symbol_of (is_floating item.kind) (second (is_typed_otherwise before item)) item (λ word. s word F13) p.0 1 (variable_of item) (float_second before item s p.0) in
         absurd (false≢true (sym f ∙ to_otherwise before item (variable_of item) y h (subst (λ w. types w y ≡ true) (sym p.1) u) (ap not e)))
 
+-- the last `$f` of a variable is a `$f`
+pub float_at_last : (before : List Item) (name : List ℕ) (n : ℕ) → last_where (types name) before ≡ Some n → is_floating (item_at before n).kind ≡ true
+float_at_last before name n e = elim (last_cases (types name) before) [
+  | inl none ↦ (let q : None ≡ Some n = sym (last_none (types name) before none) ∙ e in cc)
+  | inr l ↦ (let q : Some (length l.front) ≡ Some n = sym (last_number (types name) before l) ∙ e in let z : length l.front ≡ n = cc in
+      subst (λ w. is_floating (item_at before w).kind ≡ true) z (ap (λ w. is_floating (item_at w (length l.front)).kind) l.whole
+      ∙ ap (λ (w : Item). is_floating w.kind) (item_between l.front l.item l.back) ∙ (typed_by name l.item l.good).0))
+]
+
 -- another `$f` gives the variable another typecode where the last `$f` of it does
 pub typed_otherwise_last : (before : List Item) → AreSound before → (name : List ℕ) (item : Item) → is_typed_otherwise before item name ≡ is_otherwise_at before item (last_where (types name) before)
 typed_otherwise_last before h name item = elim (last_cases (types name) before) [

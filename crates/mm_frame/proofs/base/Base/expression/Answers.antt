@@ -1,17 +1,17 @@
 use Rattle.std.proofs.Common.{Some, None, cond, ◌∙◌, ap, sym, subst}
 use Rattle.std.specs.Prelude.{All}
-use Rattle.mm_frame.specs.Language.Base.{before, said_at}
+use Rattle.mm_frame.specs.Language.Base.{before, said_at, is_sound_at}
 use Rattle.mm_frame.specs.Language.Framing.{expression}
 use Rattle.mm_frame.specs.Language.NumberedSymbols.{symbols_of, IsNumbered}
 use Rattle.mm_frame.proofs.lemmas.base.AnswerLemmas.{expression_read, expression_numbered}
-use Rattle.mm_frame.proofs.lemmas.base.BaseLemmas.{expression_none}
+use Rattle.mm_frame.proofs.lemmas.base.BaseLemmas.{expression_none, shown_read}
 use Rattle.mm_frame.proofs.base.Base.expression.Goals as goal
 
 pub returns-then-is_shown-clause-symbols : goal.returns-then-is_shown-clause-symbols
 returns-then-is_shown-clause-symbols c names base is =
     let shown = sym (c.is_shown.ensures base (names, is)) ∙ c.if-is_shown.true in
     ap (λ w. Some (symbols_of names w)) c.symbols.ensures
-    ∙ ap Some (expression_read names base c.args.self.now.expressions c.args.i is.expressions shown)
+    ∙ ap Some (expression_read names base c.args.self.now.expressions c.args.i is.expressions (shown_read (is_sound_at base c.args.i) (said_at base c.args.i).kind shown))
     ∙ sym (ap (λ b. cond b (Some (expression (before base c.args.i) (said_at base c.args.i))) None) shown)
 
 pub returns-then-is_shown-clause-numbered : goal.returns-then-is_shown-clause-numbered

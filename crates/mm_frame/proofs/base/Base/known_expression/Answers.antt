@@ -2,11 +2,13 @@ use Rattle.std.proofs.Common.{◌∙◌, ap, sym, subst}
 use Rattle.std.specs.Prelude.{All}
 use Rattle.mm_frame.specs.Language.NumberedSymbols.{symbols_of, IsNumbered}
 use Rattle.mm_frame.proofs.lemmas.base.AnswerLemmas.{expression_read, expression_numbered}
+use Rattle.mm_frame.specs.Language.Base.{said_at, is_sound_at}
+use Rattle.mm_frame.proofs.lemmas.base.BaseLemmas.{shown_read}
 use Rattle.mm_frame.proofs.base.Base.known_expression.Goals as goal
 
 pub returns-clause-symbols : goal.returns-clause-symbols
 returns-clause-symbols c names base is shown =
-    ap (symbols_of names) c.symbols.ensures ∙ expression_read names base c.args.self.now.expressions c.args.i is.expressions shown
+    ap (symbols_of names) c.symbols.ensures ∙ expression_read names base c.args.self.now.expressions c.args.i is.expressions (shown_read (is_sound_at base c.args.i) (said_at base c.args.i).kind shown)
 
 pub returns-clause-numbered : goal.returns-clause-numbered
 returns-clause-numbered c names base is =

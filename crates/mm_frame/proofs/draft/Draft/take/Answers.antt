@@ -10,7 +10,8 @@ use Rattle.mm_frame.specs.Code.KeptActiveItems.{AreActive}
 use Rattle.mm_frame.specs.Code.KeptPairTable.{KnowsPairs}
 use Rattle.mm_frame.specs.Code.KeptRows.{rows_of, fault_told}
 use Rattle.mm_frame.specs.Code.KeptScope.{ScopeHolds, taken}
-use Rattle.mm_frame.specs.Code.KeptSymbols.{AreSymbols, is_read}
+use Rattle.mm_frame.specs.Code.KeptSymbols.{AreSymbols}
+use Rattle.mm_frame.specs.Language.Item.{is_read}
 use Rattle.mm_frame.specs.Code.KeptTables.{Knows}
 use Rattle.mm_frame.specs.Code.Numbers.{AreNameNumbers}
 use Rattle.mm_frame.proofs.lemmas.base.BaseLemmas.{rows_more, kept_are_sound, kept_taken, kept_count, sound_found_none, none_found, none_fault, symbols_more, symbols_taken, framed_parts}

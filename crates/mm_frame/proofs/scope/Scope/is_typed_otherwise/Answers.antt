@@ -7,7 +7,8 @@ use Rattle.mm_frame.proofs.scope.Scope.is_typed_otherwise.Goals as goal
 
 pub returns-in-Some : goal.returns-in-Some
 returns-in-Some c all before item name h k t there =
-    let kept = c.typecode.ensures ∙ typecode_kept before (typecodes_of c.args.self.now) c.in-Some.float k.types in
+    let last = sym (c.float.ensures all before name h k there) ∙ c.in-Some.is in
+    let kept = c.typecode.ensures ∙ typecode_kept before (typecodes_of c.args.self.now) name c.in-Some.float k.types last in
     c.ne.ensures ∙ (λ i. not (bytes_eq (kept i) (sym t i))) ∙ ap (is_otherwise_at before item) (sym c.in-Some.is ∙ c.float.ensures all before name h k there) ∙ sym (typed_otherwise_last before h name item)
 
 pub returns-in-None : goal.returns-in-None

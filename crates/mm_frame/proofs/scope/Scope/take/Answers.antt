@@ -12,5 +12,5 @@ returns c all before h k s a =
     record {
       knows = c.in_ok-take.ensures all before (sound_more before item h (s refl)) (omega (arith, c.len.ensures, count, typecodes.ok.0)) a k.knows;
       marks = marks_more before item (kind_of c.kind.result) _ _ c.kind.ensures.kind k.marks c.in_ok-mark.ensures;
-      types = types_more (λ typecode. typecode.now) before item typecodes.items c.push.new.self.items c.typecode_of.result k.types c.typecode_of.ensures c.in_ok-push.ensures.items;
+      types = types_more (λ typecode. typecode.now) before item typecodes.items c.push.new.self.items c.float_typecode.result k.types c.float_typecode.ensures c.in_ok-push.ensures.items;
     }

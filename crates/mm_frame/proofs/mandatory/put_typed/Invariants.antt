@@ -1,7 +1,7 @@
 use Rattle.std.proofs.Common.{◌≡◌, take}
 use Rattle.mm_frame.specs.Code.LastItems.{IsRising}
 use Rattle.mm_frame.specs.Code.PairOrder.{float_variables}
-use Rattle.mm_frame.proofs.mandatory.variables_typed.Given as goal
+use Rattle.mm_frame.proofs.mandatory.put_typed.Given as goal
 
 abbrev pub invariant-loop-number : goal.invariant-loop-number
 invariant-loop-number l = IsRising l.essentials → l.variables.items ≡ float_variables l.essentials l.expressions (take l.number-index l.hypotheses)
