@@ -3,10 +3,10 @@
 ghost use Rattle.std.specs.Prelude.{◌≡◌, ◌<◌, ℕ, true, suc, IfOk, IsTrue, length, slice_index};
 ghost use Rattle.mm_frame.specs.Language.Base.{BaseView, is_shown_at};
 ghost use Rattle.mm_frame.specs.Language.Answering.{IsBase};
-ghost use Rattle.mm_proof.specs.Code.InStep.{AreOrdinals, AreOrdinalsOf, KeepsHypothesis, SharesEnd};
+ghost use Rattle.mm_proof.specs.Code.InStep.{AreOrdinals, AreOrdinalsOf, SharesEnd};
 ghost use Rattle.mm_proof.specs.Code.KeptMarks.{OfBases};
 
-use mm_frame::{Base, same_expression};
+use mm_frame::Base;
 use std::alloc::{AllocError, Global};
 
 /// The labelled items of a base are its sound `$f`, `$e`, `$a` and `$p`, in order; the ordinal of an item is how many of
@@ -62,7 +62,7 @@ impl Ordinals {
 }
 
 /// Whether two sound hypotheses are active up to the same ordinal.
-fn end_alike(old: &Base, i: usize, new: &Base, j: usize, ordinals: &Ordinals) -> bool
+pub fn end_alike(old: &Base, i: usize, new: &Base, j: usize, ordinals: &Ordinals) -> bool
     requires { AreOrdinalsOf old.now new.now ordinals.now }
     ensures { IsTrue result → OfBases old.now new.now (λ base copy. SharesEnd base copy i j) }
 {
@@ -71,16 +71,4 @@ fn end_alike(old: &Base, i: usize, new: &Base, j: usize, ordinals: &Ordinals) ->
         (Some(mine), Some(yours)) => ordinals.are_same(mine, yours),
         _ => false,
     }
-}
-
-/// Whether two sound items are hypotheses with the same expression that are active up to the same ordinal.
-pub fn same_hypothesis(old: &Base, i: usize, new: &Base, j: usize, ordinals: &Ordinals) -> bool
-    requires { AreOrdinalsOf old.now new.now ordinals.now }
-    ensures { IsTrue result → OfBases old.now new.now (λ base copy. is_shown_at base i ≡ true → is_shown_at copy j ≡ true
-        → KeepsHypothesis base copy i j) }
-{
-    old.frame(i).is_none()
-        && new.frame(j).is_none()
-        && same_expression(old, i, new, j)
-        && end_alike(old, i, new, j, ordinals)
 }
