@@ -8,7 +8,7 @@ ghost use Rattle.mm_proof.specs.Code.InStep.{AreOrdinalsOf, HasAlike, IsStepAt, 
 ghost use Rattle.mm_proof.specs.Code.KeptMarks.{OfBases, AreTheorems, SharePairs, ShareFrame, IsCompared, IsComparedOf, IsKept, IsOneHypothesis, AreKept, kept_mark};
 ghost use Rattle.mm_proof.specs.Language.BaseMarks.{AreMarks, HaveOneLabel, IsMark, mark_at};
 
-use crate::ordinals::{Ordinals, end_alike, is_labelled};
+use crate::ordinals::{Ordinals, end_alike, is_labelled, small, wide};
 use mm_frame::{
     Base, Names, has_own_labels, labels_mean, same_active_pairs, same_but_hypotheses,
     same_but_pairs, same_expression,
@@ -21,7 +21,7 @@ use std::marker::Model;
 /// same at both.
 #[derive(Clone, Copy)]
 struct Mark {
-    old: Option<usize>,
+    old: Option<u32>,
     frame: bool,
     hypothesis: bool,
     pairs: bool,
@@ -103,7 +103,7 @@ fn is_marked(marks: &[Mark], n: usize, m: usize) -> bool
 {
     match marks.get(m) {
         Some(mark) if mark.hypothesis => match mark.old {
-            Some(i) => i == n,
+            Some(i) => i as usize == n,
             None => false,
         },
         _ => false,
@@ -201,7 +201,7 @@ fn mark_of(
         return (NO_MARK, last);
     };
     let mark = Mark {
-        old: Some(i),
+        old: Some(small(old, i)),
         frame: same_frames(old, i, new, j, marks),
         hypothesis: same_hypothesis(old, i, new, j),
         ..NO_MARK
@@ -221,7 +221,7 @@ fn is_alike(old: &Base, new: &Base, j: usize, ordinals: &Ordinals, mark: Mark) -
     ensures { IsTrue result → IsKept old.now new.now j mark
         → OfBases old.now new.now (λ base copy. IsMark base copy j (kept_mark mark) → HasAlike base copy j) }
 {
-    match mark.old {
+    match wide(mark.old) {
         Some(i) => {
             ordinals.are_same(i, j)
                 && (mark.frame || mark.hypothesis && end_alike(old, i, new, j, ordinals))
@@ -235,7 +235,7 @@ fn is_level(ordinals: &Ordinals, mark: Mark, j: usize) -> bool
     ensures { IsTrue result → (old new : BaseAnswers) → AreOrdinalsOf old new ordinals.now
         → OfBases old new (λ base copy. (i : ℕ) → mark.old ≡ Some i → ordinal base i ≡ ordinal copy j) }
 {
-    match mark.old {
+    match wide(mark.old) {
         Some(i) => ordinals.are_same(i, j),
         None => false,
     }
@@ -294,7 +294,7 @@ fn marked(
     let next = Step {
         last,
         in_step: step.in_step && is_alike(old, new, j, ordinals, mark),
-        expected: next_expected(old, mark.old, step.expected),
+        expected: next_expected(old, wide(mark.old), step.expected),
     };
     (Mark { in_step, ..mark }, next)
 }
@@ -323,7 +323,7 @@ impl Marks {
         ensures { result ≡ (mark_at self.now j).old }
     {
         match self.marks.get(j) {
-            Some(mark) => mark.old,
+            Some(mark) => wide(mark.old),
             None => None,
         }
     }

@@ -1,6 +1,6 @@
 //! How long two bases are in step: their labelled items mean the same, one by one, from the first on.
 
-ghost use Rattle.std.specs.Prelude.{◌≡◌, ◌<◌, ℕ, true, suc, IfOk, IsTrue, length, slice_index};
+ghost use Rattle.std.specs.Prelude.{◌≡◌, ◌<◌, ◌≤◌, ℕ, true, suc, IfOk, IsTrue, length, slice_index};
 ghost use Rattle.mm_frame.specs.Language.Base.{BaseView, is_shown_at};
 ghost use Rattle.mm_frame.specs.Language.Answering.{IsBase};
 ghost use Rattle.mm_proof.specs.Code.InStep.{AreOrdinals, AreOrdinalsOf, SharesEnd};
@@ -13,8 +13,26 @@ use std::alloc::{AllocError, Global};
 /// them stand before it. Here are those of the items of two bases, and of the end of each.
 #[derive(Drop)]
 pub struct Ordinals {
-    old: Vec<usize>,
-    new: Vec<usize>,
+    old: Vec<u32>,
+    new: Vec<u32>,
+}
+
+/// The same number in half the room. No base has more items than there are such numbers.
+pub fn small(base: &Base, n: usize) -> u32
+    ensures { (view : BaseView) → IsBase view base.now → n ≤ length view.said → result ≡ n }
+{
+    let _count = base.count();
+    if n <= 4294967295 { n as u32 } else { 0 }
+}
+
+/// The same number in its full width, if there is one.
+pub fn wide(number: Option<u32>) -> Option<usize>
+    ensures { result ≡ number }
+{
+    match number {
+        Some(n) => Some(n as usize),
+        None => None,
+    }
 }
 
 /// Whether an item is labelled.
@@ -25,19 +43,19 @@ pub fn is_labelled(base: &Base, n: usize) -> bool
 }
 
 /// The ordinal of each item, and of the end.
-fn ordinals_of(alloc: Global, base: &Base) -> Result<Vec<usize>, AllocError>
+fn ordinals_of(alloc: Global, base: &Base) -> Result<Vec<u32>, AllocError>
     ensures { IfOk result (λ numbers. (view : BaseView) → IsBase view base.now → AreOrdinals view (suc (length view.said)) numbers.items) }
 {
     let count = base.count();
     let mut numbers = Vec::with_capacity(alloc, count.saturating_add(1))?;
     let mut ordinal = 0;
     for n in 0..count {
-        numbers.push(ordinal)?;
+        numbers.push(small(base, ordinal))?;
         if is_labelled(base, n) {
             ordinal += 1;
         }
     }
-    numbers.push(ordinal)?;
+    numbers.push(small(base, ordinal))?;
     Ok(numbers)
 }
 

@@ -1,4 +1,4 @@
-use Rattle.std.proofs.Common.{inl, inr, ap}
+use Rattle.std.proofs.Common.{inl, inr, sym, ◌∙◌, ap}
 use Rattle.mm_frame.specs.Language.Frame.{Mandatory}
 use Rattle.mm_proof.specs.Code.KeptMarks.{kept_mark}
 use Rattle.mm_proof.proofs.lemmas.views.InStepLemmas.{frame_kept, same_level}
@@ -11,7 +11,7 @@ returns-then-mark c t kept names base copy f g is s =
     let ordinals = c.args.ordinals.now in
     let both = c.requires names base copy f g in
     let level = same_level base copy ordinals.old.items ordinals.new.items i j both.0 both.1 (c.are_same.ensures c.if-are_same.true) in
-    (i, record { one_label = (is.old_is i).0 c.in-Some.is; ordinal_is = level; kept = inl (frame_kept base copy i j (kept_mark c.args.mark) is c.in-Some.is c.if-mark.true) })
+    (i, record { one_label = (is.old_is i).0 (sym c.wide.ensures ∙ c.in-Some.is); ordinal_is = level; kept = inl (frame_kept base copy i j (kept_mark c.args.mark) is (sym c.wide.ensures ∙ c.in-Some.is) c.if-mark.true) })
 
 pub returns-then-mark-2 : goal.returns-then-mark-2
 returns-then-mark-2 c t kept names base copy f g is s =
@@ -20,10 +20,10 @@ returns-then-mark-2 c t kept names base copy f g is s =
     let ordinals = c.args.ordinals.now in
     let both = c.requires names base copy f g in
     let level = same_level base copy ordinals.old.items ordinals.new.items i j both.0 both.1 (c.are_same.ensures c.if-are_same.true) in
-    let one = kept c.if-mark-2.true i c.in-Some.is names base copy f g in (
+    let one = kept c.if-mark-2.true i (sym c.wide.ensures ∙ c.in-Some.is) names base copy f g in (
       i,
       record {
-        one_label = (is.old_is i).0 c.in-Some.is;
+        one_label = (is.old_is i).0 (sym c.wide.ensures ∙ c.in-Some.is);
         ordinal_is = level;
         kept = inr (record { was = one.was; is = one.is; same = ap (λ (h : Mandatory). h.expression) one.same; end = c.end_alike.ensures t names base copy f g });
       },
