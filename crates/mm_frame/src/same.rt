@@ -27,16 +27,14 @@ pub fn same_pairs(
     one == other
 }
 
-/// Whether two sound `$f`, `$e`, `$a` or `$p` of bases over the same names have the same expression. It takes no memory.
+/// Whether two sound `$f`, `$e`, `$a` or `$p` of bases over the same names have the same expression. No look is taken whether
+/// they are. It takes no memory.
 pub fn same_expression(one: &Base, i: usize, other: &Base, j: usize) -> bool
     ensures { (names : List (List ℕ)) (base copy : BaseView) → IsBaseBy names base one.now → IsBaseBy names copy other.now
         → is_shown_at base i ≡ true → is_shown_at copy j ≡ true
         → IsTrue result ↔ (expression (before base i) (said_at base i) ≡ expression (before copy j) (said_at copy j)) }
 {
-    match (one.expression(i), other.expression(j)) {
-        (Some(mine), Some(yours)) => same_symbols(mine, yours),
-        _ => false,
-    }
+    same_symbols(one.known_expression(i), other.known_expression(j))
 }
 
 /// Whether two hypotheses are the same.
@@ -91,6 +89,21 @@ pub fn same_frame(names: &Names, one: &Base, i: usize, other: &Base, j: usize) -
     match (one.kept_frame(i), other.kept_frame(j)) {
         (Some(mine), Some(yours)) => {
             same_but_pairs(one, i, other, j) && same_pairs(&mine.pairs, &yours.pairs)
+        }
+        _ => false,
+    }
+}
+
+/// Whether two sound `$a` or `$p` of bases over the same names, which are known to have the same mandatory hypotheses, have the
+/// same frame. No hypothesis is looked at. It takes no memory, and time linear in the two expressions and the pairs.
+pub fn same_but_hypotheses(one: &Base, i: usize, other: &Base, j: usize) -> bool
+    ensures { (names : List (List ℕ)) (base copy : BaseView) → IsBaseBy names base one.now → IsBaseBy names copy other.now
+        → is_framed_at base i ≡ true → is_framed_at copy j ≡ true → (frame_at base i).hypotheses ≡ (frame_at copy j).hypotheses
+        → IsTrue result ↔ AreSameFrame (frame_at base i) (frame_at copy j) }
+{
+    match (one.kept_frame(i), other.kept_frame(j)) {
+        (Some(mine), Some(yours)) => {
+            same_expression(one, i, other, j) && same_pairs(&mine.pairs, &yours.pairs)
         }
         _ => false,
     }

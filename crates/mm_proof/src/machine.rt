@@ -39,7 +39,7 @@ pub struct Machine<S> {
 }
 
 /// Gives a table so many places, if it has fewer.
-pub fn widen(places: &mut Vec<usize>, keys: usize) -> Result<(), AllocError> {
+fn widen(places: &mut Vec<usize>, keys: usize) -> Result<(), AllocError> {
     if places.len() < keys {
         places.resize(keys, 0)?;
     }

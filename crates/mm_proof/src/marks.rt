@@ -1,24 +1,29 @@
 //! What stays of an old base in a new one.
 
-ghost use Rattle.std.specs.Prelude.{◌≡◌, ◌↔◌, ◌+◌, ℕ, List, Some, IfOk, IsTrue};
-ghost use Rattle.mm_frame.specs.Language.Base.{BaseView};
+ghost use Rattle.std.specs.Prelude.{◌≡◌, ◌↔◌, ◌+◌, ℕ, true, List, Some, IfOk, IsTrue, map};
+ghost use Rattle.mm_frame.specs.Language.Base.{BaseView, hypothesis_at, is_shown_at};
 ghost use Rattle.mm_frame.specs.Language.Answering.{BaseAnswers, IsBase, IsBaseBy};
 ghost use Rattle.mm_frame.specs.Language.Resolving.{IsCarrier};
 ghost use Rattle.mm_proof.specs.Code.InStep.{AreOrdinalsOf, HasAlike, IsStepAt, ordinal};
-ghost use Rattle.mm_proof.specs.Code.KeptMarks.{OfBases, OfBasesBy, AreTheorems, SharePairs, ShareFrame, IsCompared, IsComparedOf, kept_mark};
+ghost use Rattle.mm_proof.specs.Code.KeptMarks.{OfBases, AreTheorems, SharePairs, ShareFrame, IsCompared, IsComparedOf, IsKept, IsOneHypothesis, AreKept, kept_mark};
 ghost use Rattle.mm_proof.specs.Language.BaseMarks.{AreMarks, HaveOneLabel, IsMark, mark_at};
 
-use crate::ordinals::{Ordinals, is_labelled, same_hypothesis};
-use mm_frame::{Base, Names, has_own_labels, labels_mean, same_active_pairs, same_frame};
+use crate::ordinals::{Ordinals, end_alike, is_labelled, small, wide};
+use mm_frame::{
+    Base, Names, has_own_labels, labels_mean, same_active_pairs, same_but_hypotheses,
+    same_but_pairs, same_expression,
+};
 use std::alloc::{AllocError, Global};
 use std::marker::Model;
 
 /// What stays of an item: the number of the sound item of the old base that has its label, whether both have the same
-/// frame, whether both have the same active pairs, and whether every label means the same at both.
+/// frame, whether they are the same hypothesis, whether both have the same active pairs, and whether every label means the
+/// same at both.
 #[derive(Clone, Copy)]
 struct Mark {
-    old: Option<usize>,
+    old: Option<u32>,
     frame: bool,
+    hypothesis: bool,
     pairs: bool,
     in_step: bool,
 }
@@ -27,6 +32,7 @@ struct Mark {
 const NO_MARK: Mark = Mark {
     old: None,
     frame: false,
+    hypothesis: false,
     pairs: false,
     in_step: false,
 };
@@ -90,11 +96,59 @@ fn compare(old: &Base, i: usize, new: &Base, j: usize, last: Option<Compared>) -
     Some(Compared { i, j, same })
 }
 
-/// Whether two items are sound assertions with the same frame.
-fn same_frames(names: &Names, old: &Base, i: usize, new: &Base, j: usize) -> bool
-    ensures { OfBasesBy names.now old.now new.now (λ base copy. IsTrue result ↔ ShareFrame base copy i j) }
+/// Whether the marks so far tell that the hypothesis `m` of the new base is the hypothesis `n` of the old one.
+fn is_marked(marks: &[Mark], n: usize, m: usize) -> bool
+    ensures { IsTrue result → (old new : BaseAnswers) → AreKept old new marks.now
+        → OfBases old new (λ base copy. hypothesis_at base n ≡ hypothesis_at copy m) }
 {
-    old.frame(i).is_some() && new.frame(j).is_some() && same_frame(names, old, i, new, j)
+    match marks.get(m) {
+        Some(mark) if mark.hypothesis => match mark.old {
+            Some(i) => i as usize == n,
+            None => false,
+        },
+        _ => false,
+    }
+}
+
+/// Whether the marks so far tell that hypotheses of the old base are those of the new one, one by one.
+fn are_marked(marks: &[Mark], mine: &[usize], yours: &[usize]) -> bool
+    ensures { IsTrue result → (old new : BaseAnswers) → AreKept old new marks.now
+        → OfBases old new (λ base copy. map (hypothesis_at base) mine.now ≡ map (hypothesis_at copy) yours.now) }
+{
+    if mine.len() != yours.len() {
+        return false;
+    }
+    for k in 0..mine.len() {
+        if !is_marked(marks, mine[k], yours[k]) {
+            return false;
+        }
+    }
+    true
+}
+
+/// Whether two items are sound assertions with the same frame. Hypotheses that the marks so far tell to be the same are not
+/// looked at.
+fn same_frames(old: &Base, i: usize, new: &Base, j: usize, marks: &[Mark]) -> bool
+    requires { AreKept old.now new.now marks.now }
+    ensures { OfBases old.now new.now (λ base copy. IsTrue result ↔ ShareFrame base copy i j) }
+{
+    match (old.frame(i), new.frame(j)) {
+        (Some(mine), Some(yours)) => {
+            let told = are_marked(marks, &mine.hypotheses, &yours.hypotheses);
+            (told || same_but_pairs(old, i, new, j)) && same_but_hypotheses(old, i, new, j)
+        }
+        _ => false,
+    }
+}
+
+/// Whether two sound items are the same hypothesis.
+fn same_hypothesis(old: &Base, i: usize, new: &Base, j: usize) -> bool
+    ensures { IsTrue result → OfBases old.now new.now (λ base copy. is_shown_at base i ≡ true → is_shown_at copy j ≡ true → IsOneHypothesis base copy i j) }
+{
+    old.frame(i).is_none()
+        && new.frame(j).is_none()
+        && old.is_floating(i) == new.is_floating(j)
+        && same_expression(old, i, new, j)
 }
 
 /// Whether an item of a base is sound and has this label.
@@ -127,54 +181,50 @@ fn old_of(old: &Base, expected: usize, new: &Base, j: usize) -> Option<usize>
     find_expected(old, new.label(j)?, expected)
 }
 
-/// What stays of the item with this number, and the two theorems that were compared last.
+/// What stays of the item with this number, beside the marks of those before it; and the two theorems that were compared
+/// last.
 fn mark_of(
-    names: &Names,
     old: &Base,
     new: &Base,
     j: usize,
     last: Option<Compared>,
     expected: usize,
+    marks: &[Mark],
 ) -> (Mark, Option<Compared>)
-    requires { IsCompared old.now new.now last }
-    ensures mark { OfBasesBy names.now old.now new.now (λ base copy. IsMark base copy j (kept_mark result.0)) }
+    requires last { IsCompared old.now new.now last }
+    requires marks { AreKept old.now new.now marks.now }
+    ensures mark { OfBases old.now new.now (λ base copy. IsMark base copy j (kept_mark result.0)) }
+    ensures kept { IsKept old.now new.now j result.0 }
     ensures last { IsCompared old.now new.now result.1 }
 {
     let Some(i) = old_of(old, expected, new, j) else {
         return (NO_MARK, last);
     };
-    let frame = same_frames(names, old, i, new, j);
-    let old_is = Some(i);
+    let mark = Mark {
+        old: Some(small(old, i)),
+        frame: same_frames(old, i, new, j, marks),
+        hypothesis: same_hypothesis(old, i, new, j),
+        ..NO_MARK
+    };
     match compare(old, i, new, j, last) {
         Some(compared) => {
-            let mark = Mark {
-                old: old_is,
-                frame,
-                pairs: compared.same,
-                in_step: false,
-            };
-            (mark, Some(compared))
+            let pairs = compared.same;
+            (Mark { pairs, ..mark }, Some(compared))
         }
-        None => {
-            let mark = Mark {
-                old: old_is,
-                frame,
-                pairs: false,
-                in_step: false,
-            };
-            (mark, last)
-        }
+        None => (mark, last),
     }
 }
 
 /// Whether the item `j` of the new base has no label, or the old base has one with its label, its ordinal and its meaning.
 fn is_alike(old: &Base, new: &Base, j: usize, ordinals: &Ordinals, mark: Mark) -> bool
     requires { AreOrdinalsOf old.now new.now ordinals.now }
-    ensures { IsTrue result → OfBases old.now new.now (λ base copy. IsMark base copy j (kept_mark mark) → HasAlike base copy j) }
+    ensures { IsTrue result → IsKept old.now new.now j mark
+        → OfBases old.now new.now (λ base copy. IsMark base copy j (kept_mark mark) → HasAlike base copy j) }
 {
-    match mark.old {
+    match wide(mark.old) {
         Some(i) => {
-            ordinals.are_same(i, j) && (mark.frame || same_hypothesis(old, i, new, j, ordinals))
+            ordinals.are_same(i, j)
+                && (mark.frame || mark.hypothesis && end_alike(old, i, new, j, ordinals))
         }
         None => !is_labelled(new, j),
     }
@@ -185,7 +235,7 @@ fn is_level(ordinals: &Ordinals, mark: Mark, j: usize) -> bool
     ensures { IsTrue result → (old new : BaseAnswers) → AreOrdinalsOf old new ordinals.now
         → OfBases old new (λ base copy. (i : ℕ) → mark.old ≡ Some i → ordinal base i ≡ ordinal copy j) }
 {
-    match mark.old {
+    match wide(mark.old) {
         Some(i) => ordinals.are_same(i, j),
         None => false,
     }
@@ -222,27 +272,29 @@ const FIRST_STEP: Step = Step {
     expected: 0,
 };
 
-/// The mark of an item, and what is known before the next one is marked.
+/// The mark of an item, beside those of the items before it; and what is known before the next one is marked.
 fn marked(
-    names: &Names,
     old: &Base,
     new: &Base,
     ordinals: &Ordinals,
     j: usize,
     step: Step,
+    marks: &[Mark],
 ) -> (Mark, Step)
     requires ordinals { AreOrdinalsOf old.now new.now ordinals.now }
-    requires step { IsStepAt names.now old.now new.now j step }
-    ensures mark { OfBasesBy names.now old.now new.now (λ base copy. IsMark base copy j (kept_mark result.0)) }
-    ensures step { IsStepAt names.now old.now new.now (j + 1) result.1 }
+    requires step { IsStepAt old.now new.now j step }
+    requires marks { AreKept old.now new.now marks.now }
+    ensures mark { OfBases old.now new.now (λ base copy. IsMark base copy j (kept_mark result.0)) }
+    ensures kept { IsKept old.now new.now j result.0 }
+    ensures step { IsStepAt old.now new.now (j + 1) result.1 }
 {
     labels_mean();
-    let (mark, last) = mark_of(names, old, new, j, step.last, step.expected);
+    let (mark, last) = mark_of(old, new, j, step.last, step.expected, marks);
     let in_step = step.in_step && is_level(ordinals, mark, j);
     let next = Step {
         last,
         in_step: step.in_step && is_alike(old, new, j, ordinals, mark),
-        expected: next_expected(old, mark.old, step.expected),
+        expected: next_expected(old, wide(mark.old), step.expected),
     };
     (Mark { in_step, ..mark }, next)
 }
@@ -258,7 +310,7 @@ impl Marks {
         let mut marks = Vec::with_capacity(alloc, new.count())?;
         let mut step = FIRST_STEP;
         for j in 0..new.count() {
-            let (mark, next) = marked(names, old, new, &ordinals, j, step);
+            let (mark, next) = marked(old, new, &ordinals, j, step, &marks);
             marks.push(mark)?;
             step = next;
         }
@@ -271,7 +323,7 @@ impl Marks {
         ensures { result ≡ (mark_at self.now j).old }
     {
         match self.marks.get(j) {
-            Some(mark) => mark.old,
+            Some(mark) => wide(mark.old),
             None => None,
         }
     }

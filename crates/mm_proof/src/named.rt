@@ -9,7 +9,6 @@ ghost use Rattle.mm_proof.specs.Code.NumberedBase.{ByNames, numbered_setting};
 ghost use Rattle.mm_proof.specs.Code.Tasks.{AreCitable, AreUses, AreUsesWithin};
 
 use crate::assertion::{Cited, Hypothesis, assertions_of, expression};
-use crate::machine::widen;
 use mm_frame::{Base, NumberedSymbol, Resolved};
 use std::alloc::{AllocError, Global};
 
@@ -45,7 +44,7 @@ pub struct Named<'a, S> {
 pub struct Numbers {
     pub items: Vec<usize>,
     /// For the number of an item where it may stand. What is found by it is compared, so that no answer depends on it.
-    places: Vec<usize>,
+    places: Vec<u32>,
 }
 
 impl Numbers {
@@ -66,7 +65,9 @@ impl Numbers {
         let mut items = self.items;
         items.clear();
         let mut places = self.places;
-        widen(&mut places, count)?;
+        if places.len() < count {
+            places.resize(count, 0)?;
+        }
         Ok(Numbers { items, places })
     }
 
@@ -77,7 +78,7 @@ impl Numbers {
         if number >= self.places.len() {
             return None;
         }
-        let place = self.places[number];
+        let place = self.places[number] as usize;
         if place >= self.items.len() {
             return None;
         }
@@ -94,8 +95,8 @@ impl Numbers {
     {
         let place = self.items.len();
         self.items.push(number)?;
-        if number < self.places.len() {
-            self.places[number] = place;
+        if number < self.places.len() && place <= 4294967295 {
+            self.places[number] = place as u32;
         }
         Ok(place)
     }

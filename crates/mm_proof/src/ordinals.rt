@@ -1,20 +1,38 @@
 //! How long two bases are in step: their labelled items mean the same, one by one, from the first on.
 
-ghost use Rattle.std.specs.Prelude.{◌≡◌, ◌<◌, ℕ, true, suc, IfOk, IsTrue, length, slice_index};
+ghost use Rattle.std.specs.Prelude.{◌≡◌, ◌<◌, ◌≤◌, ℕ, true, suc, IfOk, IsTrue, length, slice_index};
 ghost use Rattle.mm_frame.specs.Language.Base.{BaseView, is_shown_at};
 ghost use Rattle.mm_frame.specs.Language.Answering.{IsBase};
-ghost use Rattle.mm_proof.specs.Code.InStep.{AreOrdinals, AreOrdinalsOf, KeepsHypothesis, SharesEnd};
+ghost use Rattle.mm_proof.specs.Code.InStep.{AreOrdinals, AreOrdinalsOf, SharesEnd};
 ghost use Rattle.mm_proof.specs.Code.KeptMarks.{OfBases};
 
-use mm_frame::{Base, same_expression};
+use mm_frame::Base;
 use std::alloc::{AllocError, Global};
 
 /// The labelled items of a base are its sound `$f`, `$e`, `$a` and `$p`, in order; the ordinal of an item is how many of
 /// them stand before it. Here are those of the items of two bases, and of the end of each.
 #[derive(Drop)]
 pub struct Ordinals {
-    old: Vec<usize>,
-    new: Vec<usize>,
+    old: Vec<u32>,
+    new: Vec<u32>,
+}
+
+/// The same number in half the room. No base has more items than there are such numbers.
+pub fn small(base: &Base, n: usize) -> u32
+    ensures { (view : BaseView) → IsBase view base.now → n ≤ length view.said → result ≡ n }
+{
+    let _count = base.count();
+    if n <= 4294967295 { n as u32 } else { 0 }
+}
+
+/// The same number in its full width, if there is one.
+pub fn wide(number: Option<u32>) -> Option<usize>
+    ensures { result ≡ number }
+{
+    match number {
+        Some(n) => Some(n as usize),
+        None => None,
+    }
 }
 
 /// Whether an item is labelled.
@@ -25,19 +43,19 @@ pub fn is_labelled(base: &Base, n: usize) -> bool
 }
 
 /// The ordinal of each item, and of the end.
-fn ordinals_of(alloc: Global, base: &Base) -> Result<Vec<usize>, AllocError>
+fn ordinals_of(alloc: Global, base: &Base) -> Result<Vec<u32>, AllocError>
     ensures { IfOk result (λ numbers. (view : BaseView) → IsBase view base.now → AreOrdinals view (suc (length view.said)) numbers.items) }
 {
     let count = base.count();
     let mut numbers = Vec::with_capacity(alloc, count.saturating_add(1))?;
     let mut ordinal = 0;
     for n in 0..count {
-        numbers.push(ordinal)?;
+        numbers.push(small(base, ordinal))?;
         if is_labelled(base, n) {
             ordinal += 1;
         }
     }
-    numbers.push(ordinal)?;
+    numbers.push(small(base, ordinal))?;
     Ok(numbers)
 }
 
@@ -62,7 +80,7 @@ impl Ordinals {
 }
 
 /// Whether two sound hypotheses are active up to the same ordinal.
-fn end_alike(old: &Base, i: usize, new: &Base, j: usize, ordinals: &Ordinals) -> bool
+pub fn end_alike(old: &Base, i: usize, new: &Base, j: usize, ordinals: &Ordinals) -> bool
     requires { AreOrdinalsOf old.now new.now ordinals.now }
     ensures { IsTrue result → OfBases old.now new.now (λ base copy. SharesEnd base copy i j) }
 {
@@ -71,16 +89,4 @@ fn end_alike(old: &Base, i: usize, new: &Base, j: usize, ordinals: &Ordinals) ->
         (Some(mine), Some(yours)) => ordinals.are_same(mine, yours),
         _ => false,
     }
-}
-
-/// Whether two sound items are hypotheses with the same expression that are active up to the same ordinal.
-pub fn same_hypothesis(old: &Base, i: usize, new: &Base, j: usize, ordinals: &Ordinals) -> bool
-    requires { AreOrdinalsOf old.now new.now ordinals.now }
-    ensures { IsTrue result → OfBases old.now new.now (λ base copy. is_shown_at base i ≡ true → is_shown_at copy j ≡ true
-        → KeepsHypothesis base copy i j) }
-{
-    old.frame(i).is_none()
-        && new.frame(j).is_none()
-        && same_expression(old, i, new, j)
-        && end_alike(old, i, new, j, ordinals)
 }

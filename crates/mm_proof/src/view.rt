@@ -2,7 +2,10 @@
 
 ghost use Rattle.std.specs.Prelude.{◌≡◌, ◌↔◌, true, ℕ, List, Some, IsTrue, filter};
 ghost use Rattle.std.specs.List.{before_first};
+ghost use Rattle.mm_frame.specs.mm_store.Language.FileFacts.{CanBeRead};
 ghost use Rattle.mm_frame.specs.Language.Base.{BaseView, is_framed_at, is_proof_at};
+ghost use Rattle.mm_frame.specs.Language.Item as meant;
+ghost use Rattle.mm_frame.specs.Language.Statement.{Says};
 ghost use Rattle.mm_frame.specs.Language.Resolving.{IsCarrier, Resolves};
 ghost use Rattle.mm_frame.specs.Language.Answering.{IsBase, IsBaseBy};
 ghost use Rattle.mm_proof.specs.Code.KeptMarks.{AreTheorems, IsOneCarrier, IsShownItem, SharePairs, ShareHypotheses, ShareProof, is_label_word, stands_for};
@@ -17,7 +20,7 @@ use crate::labels::is_close;
 use crate::marks::Marks;
 use crate::reading::{is_open, is_unknown};
 use mm_frame::{
-    Base, Files, Names, ProofWords, Resolved, has_own_labels, kept_next, same_active_pairs,
+    Base, Files, Item, Names, ProofWords, Resolved, has_own_labels, kept_next, same_active_pairs,
     same_but_pairs, same_expression, same_frame, same_proof, words_of_proof,
 };
 
@@ -204,15 +207,16 @@ fn is_in_step(marks: &Marks, i: usize, j: usize) -> bool
     is_marked(marks, i, j) && marks.in_step(j)
 }
 
-/// Whether the labels that these words of a proof name mean the same at both. Nothing is read where the marks tell that
+/// Whether the labels that the proof of this item names mean the same at both. Nothing is read where the marks tell that
 /// every label does.
-fn same_labels(two: TwoTheorems, words: ProofWords) -> bool
-    requires { AreMarked two }
-    ensures { TellsLabels two.entry (labels_named words.entry) result }
+fn same_labels(two: TwoTheorems, files: &Files, item: &Item) -> bool
+    requires read { CanBeRead files.now item.now }
+    requires marked { AreMarked two }
+    ensures { (said : meant.Item) → Says files.now item.now said → TellsLabels two.entry (labels_named said.proof) result }
 {
     match two.marks {
         Some(marks) if is_in_step(marks, two.i, two.j) => true,
-        _ => same_named(two, words),
+        _ => same_named(two, words_of_proof(files, item)),
     }
 }
 
@@ -223,7 +227,7 @@ fn same_written(two: TwoTheorems, files: &Files) -> bool
 {
     let mine = two.old.item(two.i);
     let yours = two.new.item(two.j);
-    same_proof(files, mine, yours) && same_labels(two, words_of_proof(files, yours))
+    same_proof(files, mine, yours) && same_labels(two, files, yours)
 }
 
 /// Whether two sound `$p` have equal views.

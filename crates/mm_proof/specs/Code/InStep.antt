@@ -6,7 +6,7 @@ use Rattle.mm_frame.specs.Language.Resolving.{IsCarrier, IsUpTo, Resolves}
 use Rattle.mm_frame.specs.declared.base.Base.{Base}
 use Rattle.mm_frame.specs.declared.base.Resolved.TheVariants as answers
 use Rattle.mm_proof.specs.Language.BaseMarks.{HaveOneLabel}
-use Rattle.mm_proof.specs.Code.KeptMarks.{OfBases, OfBasesBy, IsCompared, ShareFrame}
+use Rattle.mm_proof.specs.Code.KeptMarks.{OfBases, IsCompared, ShareFrame}
 use Rattle.mm_proof.specs.declared.marks.Step.{Step}
 use Rattle.mm_proof.specs.declared.ordinals.Ordinals.{Ordinals}
 
@@ -68,6 +68,6 @@ abbrev pub AreInStep : BaseView → BaseView → ℕ → Type 0
 AreInStep base copy j = (m : ℕ) → m < j → HasAlike base copy m
 
 -- what is known of the items before item j
-pub record IsStepAt (names : List (List ℕ)) (old new : Base) (j : ℕ) (step : Step) : Type 0 where
+pub record IsStepAt (old new : Base) (j : ℕ) (step : Step) : Type 0 where
   pub last : IsCompared old new step.last
-  pub in_step : step.in_step ≡ true → OfBasesBy names old new (λ base copy. AreInStep base copy j)
+  pub in_step : step.in_step ≡ true → OfBases old new (λ base copy. AreInStep base copy j)

@@ -1,7 +1,7 @@
 -- What is kept of what stays of an old base in a new one.
-use Rattle.std.specs.Prelude.{◌≡◌, ◌↔◌, ◌<◌, ℕ, Bool, true, not, Option, Some, None, List, length, map, bytes_eq, codes}
+use Rattle.std.specs.Prelude.{◌≡◌, ◌↔◌, ◌<◌, ℕ, Bool, true, false, not, Option, Some, None, List, length, map, slice_get, bytes_eq, codes}
 use Rattle.std.specs.List.{AllByRecursion}
-use Rattle.mm_frame.specs.Language.Base.{BaseView, before, said_at, is_shown_at, is_framed_at, is_proof_at, frame_at}
+use Rattle.mm_frame.specs.Language.Base.{BaseView, before, said_at, is_shown_at, is_framed_at, is_proof_at, frame_at, hypothesis_at}
 use Rattle.mm_frame.specs.Language.Frame.{Resolved, Hypothesis, Assertion, Inactive, Unknown, AreSameFrame, AreSamePairs}
 use Rattle.mm_frame.specs.Language.Framing.{active_pairs, expression}
 use Rattle.mm_frame.specs.Language.Resolving.{IsCarrier}
@@ -66,6 +66,20 @@ IsCompared old new (Some c) = OfBases old new (λ base copy. AreTheorems base co
 abbrev pub IsComparedOf : Base → Base → ℕ → ℕ → Option Compared → Type 0
 IsComparedOf old new i j None = OfBases old new (λ base copy. AreTheorems base copy i j → ⊥)
 IsComparedOf old new i j (Some c) = OfBases old new (λ base copy. AreTheorems base copy i j × ((c.same ≡ true) ↔ SharePairs base copy i j))
+
+-- both items are the same hypothesis
+pub record IsOneHypothesis (base copy : BaseView) (i j : ℕ) : Type 0 where
+  pub was : is_framed_at base i ≡ false
+  pub is : is_framed_at copy j ≡ false
+  pub same : hypothesis_at base i ≡ hypothesis_at copy j
+
+-- where a mark tells that item j is the same hypothesis as the old one that it tells, it is
+abbrev pub IsKept : Base → Base → ℕ → code.Mark → Type 0
+IsKept old new j mark = mark.hypothesis ≡ true → (i : ℕ) → mark.old ≡ Some i → OfBases old new (λ base copy. IsOneHypothesis base copy i j)
+
+-- so it is with each of these marks
+abbrev pub AreKept : Base → Base → List code.Mark → Type 0
+AreKept old new marks = (m : ℕ) (mark : code.Mark) → slice_get marks m ≡ Some mark → IsKept old new m mark
 
 -- the marks of so many items are kept
 pub record AreItemMarks (base copy : BaseView) (count : ℕ) (marks : List ItemMark) : Type 0 where

@@ -1,16 +1,17 @@
 -- What stays of an item of an old base in a new one.
-use Rattle.std.proofs.Common.{◌≡◌, ◌<◌, ℕ, zero, suc, cond, slice_index_or, ◌+◌, Bool, true, false, ◌&&◌, Option, Some, None, List, [], ◌∷◌, ◌++◌, length, slice_get, refl, sym, ◌∙◌, ap, subst, arith}
+use Rattle.std.proofs.Common.{◌≡◌, ◌<◌, ℕ, zero, suc, cond, slice_index_or, ◌+◌, Bool, true, false, ◌&&◌, ◌⊎◌, inl, inr, Option, Some, None, List, [], ◌∷◌, ◌++◌, length, map, slice_get, refl, sym, ◌∙◌, ap, subst, arith}
 use Rattle.std.specs.Prelude.{◌↔◌, is_some}
 use Rattle.std.proofs.lemmas.Bool.{false≢true}
-use Rattle.std.proofs.lemmas.Option.{same_Some}
-use Rattle.mm_frame.specs.Language.Base.{BaseView, said_at, is_shown_at, is_sound_at}
-use Rattle.mm_frame.specs.Language.Frame.{Symbol, AreSamePairs}
+use Rattle.std.proofs.lemmas.Option.{none-some, same_Some}
+use Rattle.mm_frame.specs.Language.Base.{BaseView, said_at, is_shown_at, is_sound_at, is_framed_at, frame_at}
+use Rattle.mm_frame.specs.Language.Frame.{Symbol, AreSameFrame, AreSamePairs}
 use Rattle.mm_frame.specs.Language.Item.{Item, passed, is_labelled}
 use Rattle.mm_frame.specs.Language.Resolving.{IsCarrier}
 use Rattle.mm_frame.specs.declared.base.Base.{Base}
 use Rattle.mm_frame.specs.Language.Answering.{IsBaseBy}
 use Rattle.mm_proof.specs.Language.BaseMarks.{ItemMark, IsMark, HaveOneLabel, AreMarks, no_mark, mark_at}
-use Rattle.mm_proof.specs.Code.KeptMarks.{AreTheorems, ShareFrame, SharePairs, AreItemMarks}
+use Rattle.mm_proof.specs.Code.KeptMarks.{AreTheorems, ShareFrame, SharePairs, AreItemMarks, IsKept, AreKept}
+use Rattle.mm_proof.specs.declared.marks.Mark as code
 use Rattle.std.proofs.Math.Decide.{ℕ_discrete}
 use Rattle.std.proofs.lemmas.List.{length-append}
 
@@ -132,3 +133,51 @@ marked_more base copy n marks mark are is = record {
 -- all are marked
 pub all_marked : (base copy : BaseView) (n : ℕ) (marks : List ItemMark) → AreItemMarks base copy n marks → n ≡ length copy.said → AreMarks base copy marks
 all_marked base copy n marks are e = record { count = are.count_is ∙ e; each = λ j l. are.each j (omega (arith, l, e)) }
+
+-- no marks tell anything, and one more
+got_last : {X : Type 0} (xs : List X) (y z : X) (m : ℕ) → slice_get (xs ++ y ∷ []) m ≡ Some z → (slice_get xs m ≡ Some z) ⊎ ((m ≡ length xs) × (y ≡ z))
+got_last [] y z zero e = inr (refl, same_Some y z e)
+got_last [] y z (suc m) e = absurd (none-some z e)
+got_last (x ∷ xs) y z zero e = inl e
+got_last (x ∷ xs) y z (suc m) e = elim (got_last xs y z m e) [
+  | inl g ↦ inl g
+  | inr p ↦ inr (ap suc p.0, p.1)
+]
+
+pub kept_more : (old new : Base) (marks : List code.Mark) (mark : code.Mark) (n : ℕ) → length marks ≡ n → AreKept old new marks → IsKept old new n mark → AreKept old new (marks ++ mark ∷ [])
+kept_more old new marks mark n count are is m other e = elim (got_last marks mark other m e) [
+  | inl g ↦ are m other g
+  | inr p ↦ subst (λ (w : code.Mark). IsKept old new m w) p.1 (subst (λ k. IsKept old new k mark) (sym (p.0 ∙ count)) is)
+]
+
+-- the frames of two assertions are the same where their hypotheses are, and the rest is
+pub frames_by : (base copy : BaseView) (i j : ℕ) (told rest : Bool) → is_framed_at base i ≡ true → is_framed_at copy j ≡ true →
+    (told ≡ true → (frame_at base i).hypotheses ≡ (frame_at copy j).hypotheses) → (AreSameFrame (frame_at base i) (frame_at copy j) → told ≡ true) →
+    ((frame_at base i).hypotheses ≡ (frame_at copy j).hypotheses → (rest ≡ true) ↔ AreSameFrame (frame_at base i) (frame_at copy j)) →
+    ((told && rest) ≡ true) ↔ ShareFrame base copy i j
+frames_by base copy i j true rest was is h g r = (
+  λ e. record { was = was; is = is; same = (r (h refl)).0 e },
+  λ s. (r (h refl)).1 s.same,
+)
+frames_by base copy i j false rest was is h g r = (λ e. absurd (false≢true e), λ s. absurd (false≢true (g s.same)))
+
+-- two lists have the same things of so many elements
+abbrev pub AreSameTo : {X : Type 0} → (ℕ → X) → (ℕ → X) → List ℕ → List ℕ → ℕ → Type 0
+AreSameTo {X} f g xs ys k = (m x y : ℕ) → m < k → slice_get xs m ≡ Some x → slice_get ys m ≡ Some y → f x ≡ g y
+
+same_at : (xs : List ℕ) (k x y : ℕ) → slice_get xs k ≡ Some x → slice_get xs k ≡ Some y → x ≡ y
+same_at xs k x y a b = same_Some x y (sym a ∙ b)
+
+pub same_more : {X : Type 0} (f g : ℕ → X) (xs ys : List ℕ) (k x y : ℕ) → AreSameTo f g xs ys k → slice_get xs k ≡ Some x → slice_get ys k ≡ Some y → f x ≡ g y → AreSameTo f g xs ys (k + 1)
+same_more {X} f g xs ys k x y h p q e n v w b c d = by_case (ℕ_discrete n k)
+  where
+    by_case : Dec (n ≡ k) → f v ≡ g w
+    by_case (yes z) = ap f (same_at xs k v x (subst (λ (i : ℕ). slice_get xs i ≡ Some v) z c) p) ∙ e ∙ ap g (same_at ys k y w q (subst (λ (i : ℕ). slice_get ys i ≡ Some w) z d))
+    by_case (no other) = h n v w (omega (arith, b, other)) c d
+
+pub same_whole : {X : Type 0} (f g : ℕ → X) (xs ys : List ℕ) → AreSameTo f g xs ys (length xs) → length xs ≡ length ys → map f xs ≡ map g ys
+same_whole f g [] [] h l = refl
+same_whole f g (x ∷ xs) (y ∷ ys) h l =
+    let a = h 0 x y (omega arith) refl refl in
+    λ i. a i ∷ (same_whole f g xs ys (λ m v w n c d. h (suc m) v w (omega (arith, n)) c d) (omega (arith, l))) i
+same_whole f g _ _ h l = absurd (omega (arith, l))

@@ -10,4 +10,4 @@ returns-in-Some c t old new are names base copy f g i e =
     let ordinals = c.args.ordinals.now in
     let j = c.args.j in
     let level = same_level base copy ordinals.old.items ordinals.new.items c.in-Some.i j both.0 both.1 (c.are_same.ensures t) in
-    subst (λ n. ordinal base n ≡ ordinal copy j) (same_Some c.in-Some.i i (sym c.in-Some.is ∙ e)) level
+    subst (λ n. ordinal base n ≡ ordinal copy j) (same_Some c.in-Some.i i (sym c.in-Some.is ∙ c.wide.ensures ∙ e)) level
