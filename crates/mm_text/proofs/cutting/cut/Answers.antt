@@ -1,5 +1,4 @@
-use Rattle.std.proofs.Common.{ℕ, List, Vec, map, sym, ◌∙◌, subst}
-use Rattle.std.specs.Global.{Global}
+use Rattle.std.proofs.Common.{ℕ, List, Vec, map, sym, ◌∙◌, subst, Global}
 use Rattle.std.proofs.lemmas.List.{take_rest}
 use Rattle.std.proofs.lemmas.Result.{err_from_is_err_and}
 use Rattle.mm_text.specs.Language.Cut.{ended, IsCut}

@@ -1,15 +1,10 @@
-use Rattle.std.proofs.Common.{refl, ◌≤◌, ◌+◌, ℕ, List, Vec, length, rules, sym, ap, ◌∙◌, arith}
-use Rattle.std.specs.Global.{Global}
+use Rattle.std.proofs.Common.{refl, ◌≤◌, ◌+◌, ℕ, List, Vec, length, rules, sym, ap, ◌∙◌, arith, Global}
 use Rattle.std.proofs.lemmas.Bool.{false≢true}
 use Rattle.std.proofs.lemmas.Result.{err_from_is_err_and}
 use Rattle.mm_text.specs.Code.Reader.{SkipsPlain}
 use Rattle.mm_text.proofs.CutLemmas.{progress_start, progress_skip, words_fault}
 use Rattle.mm_text.proofs.CutStepLemmas.{ends_fault, ends_cut, from_before, refused, keeps_more, keeps_piece}
 use Rattle.mm_text.proofs.cutting.cut_units.Goals as goal
-
--- the bytes of a piece
-abbrev bytes_of : Vec ℕ Global → List ℕ
-bytes_of piece = piece.items
 
 pub loop-grammar-init : goal.loop-grammar-init
 loop-grammar-init c = record { text = c.new-reader.ensures.text; progress = rw (c.requires.empty, c.new-reader.ensures.from, c.new-grammar.ensures.phase, c.new-grammar.ensures.closed) (progress_start c.args.text.now _) }
