@@ -1,7 +1,5 @@
-use Rattle.std.proofs.Common.{◌≡◌, ℕ, List, None, length, map, sym, ap, ◌∙◌, subst, refl, arith, Option, Some, is_some, false}
-use Rattle.std.specs.Prelude.{Vec}
+use Rattle.std.proofs.Common.{◌≡◌, ℕ, List, None, length, map, sym, ap, ◌∙◌, subst, refl, arith, Option, Some, is_some, false, Vec, Global}
 use Rattle.std.proofs.lemmas.Bool.{false≢true}
-use Rattle.std.specs.Global.{Global}
 use Rattle.mm_text.specs.declared.fault.TextError.{TextError}
 use Rattle.mm_text.specs.declared.fault.TextError.TheVariants.{Fault, Memory}
 use Rattle.mm_text.specs.Language.Reading.{IsTextErrorIn}
