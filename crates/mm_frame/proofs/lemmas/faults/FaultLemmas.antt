@@ -1,7 +1,6 @@
 -- What the code that looks for a fault rests on.
-use Rattle.std.proofs.Common.{◌≡◌, ℕ, suc, ◌+◌, ◌<◌, ◌≤◌, Bool, true, false, not, cond, ◌==◌, ◌&&◌, ◌||◌, Option, Some, None, List, [], ◌∷◌, ◌++◌, length, take, drop, get_or, bytes_eq, refl, sym, ◌∙◌, ap, subst, arith}
+use Rattle.std.proofs.Common.{◌≡◌, ℕ, suc, ◌+◌, ◌<◌, ◌≤◌, Bool, true, false, not, cond, ◌==◌, ◌&&◌, ◌||◌, Option, Some, None, List, [], ◌∷◌, ◌++◌, length, take, drop, get_or, bytes_eq, refl, sym, ◌∙◌, ap, subst, arith, is_none}
 use Rattle.std.specs.Borrow.{Bor}
-use Rattle.std.specs.Prelude.{is_none}
 use Rattle.std.specs.Option.{option_or}
 use Rattle.std.specs.HashSet.{HashSet, Updates}
 use Rattle.std.proofs.Math.Seq.{take-suc}
@@ -79,10 +78,6 @@ sees_more names name old new h u other =
     either true false = refl
     either false true = refl
     either false false = refl
-
-pub twice_not : (b : Bool) → not (not b) ≡ b
-twice_not true = refl
-twice_not false = refl
 
 -- one more name of a statement is seen
 pub sees_next : {S : Type 0} {kept : Bool} (names : List (List ℕ)) (name : List ℕ) (n more : ℕ) (seen : HashSet (Bor (List ℕ)) S) → more ≡ suc n → n < length names → name ≡ get_or names n []

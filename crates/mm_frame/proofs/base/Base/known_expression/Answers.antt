@@ -1,13 +1,10 @@
-use Rattle.std.proofs.Common.{◌∙◌, ap, sym, subst}
-use Rattle.std.specs.Prelude.{All}
+use Rattle.std.proofs.Common.{◌∙◌, ap, sym, subst, All}
 use Rattle.mm_frame.specs.Language.NumberedSymbols.{symbols_of, IsNumbered}
 use Rattle.mm_frame.proofs.lemmas.base.AnswerLemmas.{expression_read, expression_numbered}
 use Rattle.mm_frame.proofs.base.Base.known_expression.Goals as goal
 
-pub returns-clause-symbols : goal.returns-clause-symbols
-returns-clause-symbols c names base is shown =
-    ap (symbols_of names) c.symbols.ensures ∙ expression_read names base c.args.self.now.expressions c.args.i is.expressions shown
-
-pub returns-clause-numbered : goal.returns-clause-numbered
-returns-clause-numbered c names base is =
-    subst (All (IsNumbered names)) (sym c.symbols.ensures) (expression_numbered names base.said c.args.self.now.expressions c.args.i is.expressions)
+pub returns : goal.returns
+returns c = record {
+  symbols = λ names base is shown. ap (symbols_of names) c.symbols.ensures ∙ expression_read names base c.args.self.now.expressions c.args.i is.expressions shown;
+  numbered = λ names base is. subst (All (IsNumbered names)) (sym c.symbols.ensures) (expression_numbered names base.said c.args.self.now.expressions c.args.i is.expressions);
+}
