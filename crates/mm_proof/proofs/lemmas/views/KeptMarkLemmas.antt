@@ -1,6 +1,5 @@
 -- What stays of an item of an old base in a new one.
-use Rattle.std.proofs.Common.{◌≡◌, ◌<◌, ℕ, zero, suc, cond, slice_index_or, ◌+◌, Bool, true, false, ◌&&◌, Option, Some, None, List, [], ◌∷◌, ◌++◌, length, slice_get, refl, sym, ◌∙◌, ap, subst, arith}
-use Rattle.std.specs.Prelude.{◌↔◌, is_some}
+use Rattle.std.proofs.Common.{◌≡◌, ◌<◌, ℕ, zero, suc, cond, slice_index_or, ◌+◌, Bool, true, false, ◌&&◌, Option, Some, None, List, [], ◌∷◌, ◌++◌, length, slice_get, refl, sym, ◌∙◌, ap, subst, arith, length-append, ◌↔◌, is_some}
 use Rattle.std.proofs.lemmas.Bool.{false≢true}
 use Rattle.std.proofs.lemmas.Option.{same_Some}
 use Rattle.mm_frame.specs.Language.Base.{BaseView, said_at, is_shown_at, is_sound_at}
@@ -12,7 +11,6 @@ use Rattle.mm_frame.specs.Language.Answering.{IsBaseBy}
 use Rattle.mm_proof.specs.Language.BaseMarks.{ItemMark, IsMark, HaveOneLabel, AreMarks, no_mark, mark_at}
 use Rattle.mm_proof.specs.Code.KeptMarks.{AreTheorems, ShareFrame, SharePairs, AreItemMarks}
 use Rattle.std.proofs.Math.Decide.{ℕ_discrete}
-use Rattle.std.proofs.lemmas.List.{length-append}
 
 -- the same unordered pairs, the other way round and one after the other
 pub turned : (ps qs : List (Symbol × Symbol)) → AreSamePairs ps qs → AreSamePairs qs ps
