@@ -1,6 +1,5 @@
 -- Chains of citations, and marks of the items to which they lead.
-use Rattle.std.proofs.Common.{◌≡◌, ◌<◌, ◌≤◌, ℕ, zero, suc, ◌+◌, Bool, true, false, Result, Ok, Err, List, [], ◌∷◌, ◌++◌, length, take, get_or, set, refl, sym, ap, ◌∙◌, subst, inl, inr, arith}
-use Rattle.std.specs.Prelude.{IfOk, replicate}
+use Rattle.std.proofs.Common.{◌≡◌, ◌<◌, ◌≤◌, ℕ, zero, suc, ◌+◌, Bool, true, false, Result, Ok, Err, List, [], ◌∷◌, ◌++◌, length, take, get_or, set, refl, sym, ap, ◌∙◌, subst, inl, inr, arith, IfOk, replicate}
 use Rattle.std.proofs.Math.Decide.{dec_lt, ℕ_discrete}
 use Rattle.std.proofs.Math.ListN.{get_or-eq_default}
 use Rattle.std.proofs.lemmas.Bool.{false≢true}
@@ -94,10 +93,6 @@ never_marked marks n e k m = elim (dec_lt k n) [
   | yes l ↦ false≢true (sym (get_or-replicate n k false false l) ∙ sym (ap (λ (w : List Bool). get_or w k false) e) ∙ m)
   | no l ↦ (let w = marked_within marks k m in let count = ap length e ∙ length-replicate n false in absurd (omega (arith, l, w, count)))
 ]
-
-pub map_ok : {X E : Type 0} (r : Result X E) (P Q : X → Type 0) → ((x : X) → P x → Q x) → IfOk r P → IfOk r Q
-map_ok (Ok x) P Q f p = f x p
-map_ok (Err e) P Q f p = p
 
 -- what is cited, by the marks
 pub cites_marked :

@@ -1,35 +1,32 @@
 -- Whether two views are equal is decided.
-use Rattle.std.proofs.Common.{◌≡◌, List, [], ◌∷◌, subst, inl, inr, arith}
-use Rattle.std.specs.Prelude.{Contains}
+use Rattle.std.proofs.Common.{◌≡◌, List, [], ◌∷◌, subst, inl, inr, arith, Contains}
 use Rattle.std.specs.List.{AllByRecursion}
+use Rattle.std.proofs.Math.Decide.{map_dec}
 use Rattle.mm_proof.specs.mm_frame.Language.Frame.{Symbol, Mandatory, Frame, Resolved, Hypothesis, Assertion, Inactive, Unknown, ArePair, AreSamePairs, AreSameFrame}
 use Rattle.mm_proof.specs.Language.SameProof.{AreSameMeaning}
 use Rattle.mm_proof.specs.Language.View.{View, AreSameViews}
-use Rattle.mm_keep.proofs.DecidingLemmas.{dec_like, dec_and, dec_or, dec_bool, dec_bytes, dec_list, dec_contains, dec_each, dec_zip, first_of_list, later_of_list, member_cases}
+use Rattle.mm_keep.proofs.DecidingLemmas.{dec_and, dec_or, dec_bool, dec_bytes, dec_list, dec_contains, dec_each, dec_zip, first_of_list, later_of_list, member_cases}
 
 dec_symbol : (a b : Symbol) → Dec (a ≡ b)
-dec_symbol a b = dec_like (λ e i. record { name = e.0 i; variable = e.1 i }) (λ e. (λ i. (e i).name, λ i. (e i).variable)) (dec_and (dec_bytes a.name b.name) (dec_bool a.variable b.variable))
+dec_symbol a b = map_dec (λ e i. record { name = e.0 i; variable = e.1 i }) (λ e. (λ i. (e i).name, λ i. (e i).variable)) (dec_and (dec_bytes a.name b.name) (dec_bool a.variable b.variable))
 
 dec_symbols : (a b : List Symbol) → Dec (a ≡ b)
 dec_symbols a b = dec_list dec_symbol a b
 
 dec_hypothesis : (a b : Mandatory) → Dec (a ≡ b)
-dec_hypothesis a b = dec_like (λ e i. record { floating = e.0 i; expression = e.1 i }) (λ e. (λ i. (e i).floating, λ i. (e i).expression)) (dec_and (dec_bool a.floating b.floating) (dec_symbols a.expression b.expression))
+dec_hypothesis a b = map_dec (λ e i. record { floating = e.0 i; expression = e.1 i }) (λ e. (λ i. (e i).floating, λ i. (e i).expression)) (dec_and (dec_bool a.floating b.floating) (dec_symbols a.expression b.expression))
 
 dec_pair : (p q : Symbol × Symbol) → Dec (p ≡ q)
-dec_pair p q = dec_like (λ e i. (e.0 i, e.1 i)) (λ e. (λ i. (e i).0, λ i. (e i).1)) (dec_and (dec_symbol p.0 q.0) (dec_symbol p.1 q.1))
+dec_pair p q = map_dec (λ e i. (e.0 i, e.1 i)) (λ e. (λ i. (e i).0, λ i. (e i).1)) (dec_and (dec_symbol p.0 q.0) (dec_symbol p.1 q.1))
 
 -- ---- pairs
-
-dec_are_pair : (pairs : List (Symbol × Symbol)) (x y : Symbol) → Dec (ArePair pairs x y)
-dec_are_pair pairs x y = dec_or (dec_contains dec_pair pairs (x, y)) (dec_contains dec_pair pairs (y, x))
 
 -- each of the pairs is one of the others
 abbrev AreAmong : List (Symbol × Symbol) → List (Symbol × Symbol) → Type 0
 AreAmong pairs others = AllByRecursion (λ pair. ArePair others pair.0 pair.1) pairs
 
 dec_are_among : (pairs others : List (Symbol × Symbol)) → Dec (AreAmong pairs others)
-dec_are_among pairs others = dec_each (λ (pair : Symbol × Symbol). ArePair others pair.0 pair.1) (λ pair. dec_are_pair others pair.0 pair.1) pairs
+dec_are_among pairs others = dec_each (λ (pair : Symbol × Symbol). ArePair others pair.0 pair.1) (λ pair. (dec_or (dec_contains dec_pair others (pair.0, pair.1)) (dec_contains dec_pair others (pair.1, pair.0)))) pairs
 
 member_among : (pairs others : List (Symbol × Symbol)) (pair : Symbol × Symbol) → AreAmong pairs others → Contains pairs pair → ArePair others pair.0 pair.1
 member_among [] others pair h c = absurd (omega (arith, c.1))
@@ -51,7 +48,7 @@ among_by [] others f = tt
 among_by (first ∷ pairs) others f = (f first (first_of_list first pairs), among_by pairs others (λ pair c. f pair (later_of_list first pair pairs c)))
 
 dec_same_pairs : (pairs others : List (Symbol × Symbol)) → Dec (AreSamePairs pairs others)
-dec_same_pairs pairs others = dec_like to from (dec_and (dec_are_among pairs others) (dec_are_among others pairs))
+dec_same_pairs pairs others = map_dec to from (dec_and (dec_are_among pairs others) (dec_are_among others pairs))
   where
     to : AreAmong pairs others × AreAmong others pairs → AreSamePairs pairs others
     to h x y = (pair_among pairs others x y h.0, pair_among others pairs x y h.1)
@@ -63,7 +60,7 @@ dec_same_pairs pairs others = dec_like to from (dec_and (dec_are_among pairs oth
 
 dec_frame : (frame other : Frame) → Dec (AreSameFrame frame other)
 dec_frame frame other =
-    dec_like
+    map_dec
     (λ h. record { expression = h.0; hypotheses = h.1.0; pairs = h.1.1 })
     (λ h. (h.expression, (h.hypotheses, h.pairs)))
     (dec_and (dec_symbols frame.expression other.expression) (dec_and (dec_list dec_hypothesis frame.hypotheses other.hypotheses) (dec_same_pairs frame.pairs other.pairs)))
@@ -79,7 +76,7 @@ dec_meaning _ _ = no (λ e. e)
 
 pub dec_views : (one other : View) → Dec (AreSameViews one other)
 dec_views one other =
-    dec_like
+    map_dec
     (λ h. record { proof = h.0.0; expression = h.0.1; hypotheses = h.1.0; active = h.1.1.0; meanings = h.1.1.1 })
     (λ h. ((h.proof, h.expression), (h.hypotheses, (h.active, h.meanings))))
     (dec_and

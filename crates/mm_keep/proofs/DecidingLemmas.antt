@@ -1,8 +1,7 @@
 -- What can be decided: lists, members, and numbers below a bound.
-use Rattle.std.proofs.Common.{◌≡◌, ◌⊎◌, ◌<◌, ℕ, zero, suc, ◌+◌, Bool, true, false, Option, Some, None, List, [], ◌∷◌, ◌++◌, length, drop, get_or, Decides, refl, sym, ap, subst, inl, inr, arith}
-use Rattle.std.specs.Prelude.{Contains}
+use Rattle.std.proofs.Common.{◌≡◌, ◌⊎◌, ◌<◌, ℕ, zero, suc, ◌+◌, Bool, true, false, Option, Some, None, List, [], ◌∷◌, ◌++◌, length, drop, get_or, Decides, refl, sym, ap, subst, inl, inr, arith, Contains}
 use Rattle.std.specs.List.{AllByRecursion, AllZip}
-use Rattle.std.proofs.Math.Decide.{dec_lt}
+use Rattle.std.proofs.Math.Decide.{dec_lt, map_dec}
 use Rattle.std.proofs.lemmas.Bool.{false≢true}
 use Rattle.std.proofs.lemmas.Option.{none-some, same_Some}
 use Rattle.std.proofs.lemmas.Slice.Eq.{bytes_eq-Decides}
@@ -13,10 +12,6 @@ use Rattle.mm_keep.proofs.RunLemmas.{those_none, those_skip, those_more}
 dec_from : {P : Type 0} (b : Bool) → Decides b P → Dec P
 dec_from true d = yes (d.0 refl)
 dec_from false d = no (λ p. false≢true (d.1 p))
-
-pub dec_like : {P Q : Type 0} → (P → Q) → (Q → P) → Dec P → Dec Q
-dec_like to from (yes p) = yes (to p)
-dec_like to from (no n) = no (λ q. n (from q))
 
 pub dec_and : {P Q : Type 0} → Dec P → Dec Q → Dec (P × Q)
 dec_and (yes p) (yes q) = yes (p, q)
@@ -46,7 +41,7 @@ pub dec_label : (a b : Option (List ℕ)) → Dec (a ≡ b)
 dec_label None None = yes refl
 dec_label None (Some b) = no (λ e. none-some b e)
 dec_label (Some a) None = no (λ e. none-some a (sym e))
-dec_label (Some a) (Some b) = dec_like (λ e. ap Some e) (λ e. same_Some a b e) (dec_bytes a b)
+dec_label (Some a) (Some b) = map_dec (λ e. ap Some e) (λ e. same_Some a b e) (dec_bytes a b)
 
 -- ---- members
 
@@ -83,7 +78,7 @@ module _ {X : Type 0} (same : (a b : X) → Dec (a ≡ b)) where
 
   pub dec_contains : (xs : List X) (k : X) → Dec (Contains xs k)
   dec_contains [] k = no (λ h. (omega (arith, h.1)))
-  dec_contains (x ∷ xs) k = dec_like (member_from x k xs) (member_cases x k xs) (dec_or (same x k) (dec_contains xs k))
+  dec_contains (x ∷ xs) k = map_dec (member_from x k xs) (member_cases x k xs) (dec_or (same x k) (dec_contains xs k))
 
 pub dec_each : {X : Type 0} (P : X → Type 0) → ((x : X) → Dec (P x)) → (xs : List X) → Dec (AllByRecursion P xs)
 dec_each P d [] = yes tt

@@ -1,6 +1,5 @@
 -- Of each item of files something is told rightly: its fault at a word, or the verdict on its proof, each at a place that there is.
-use Rattle.std.proofs.Common.{◌≡◌, ◌<◌, ◌≤◌, ◌⊎◌, ℕ, zero, suc, ◌+◌, Some, None, Option, is_none, true, false, ◌&&◌, List, [], ◌∷◌, length, slice_get, refl, sym, ap, subst, inl, inr, arith}
-use Rattle.std.specs.Prelude.{All, slice_range}
+use Rattle.std.proofs.Common.{◌≡◌, ◌<◌, ◌≤◌, ◌⊎◌, ℕ, zero, suc, ◌+◌, Some, None, Option, is_none, true, false, ◌&&◌, List, [], ◌∷◌, length, slice_get, refl, sym, ap, subst, inl, inr, arith, All, slice_range}
 use Rattle.std.specs.List.{AllZip}
 use Rattle.std.proofs.lemmas.Option.{get_or_from_slice_get, slice_get_within}
 use Rattle.mm_proof.specs.mm_text.Language.Place.{line_at, column_at}

@@ -1,8 +1,7 @@
 -- Sessions have answers: items, lists of runs, and what assertions cite.
-use Rattle.std.proofs.Common.{◌≡◌, ◌≢◌, ◌⊎◌, ◌<◌, ℕ, zero, suc, Bool, true, false, Some, None, List, [], ◌∷◌, length, refl, sym, ◌∙◌, subst, inl, inr, arith}
-use Rattle.std.specs.Prelude.{All, slice_index}
+use Rattle.std.proofs.Common.{◌≡◌, ◌≢◌, ◌⊎◌, ◌<◌, ℕ, zero, suc, Bool, true, false, Some, None, List, [], ◌∷◌, length, refl, sym, ◌∙◌, subst, inl, inr, arith, slice_range, All, slice_index}
 use Rattle.std.specs.List.{AllZip}
-use Rattle.std.proofs.Math.Decide.{dec_lt, ℕ_discrete}
+use Rattle.std.proofs.Math.Decide.{dec_lt, ℕ_discrete, map_dec}
 use Rattle.std.proofs.lemmas.List.{get_or_default}
 use Rattle.std.proofs.lemmas.Option.{none-some, same_Some}
 use Rattle.mm_proof.specs.mm_store.declared.item.Item as store
@@ -11,7 +10,6 @@ use Rattle.mm_proof.specs.mm_store.Language.FileFacts.{CanBeRead, HoldsPieces}
 use Rattle.mm_proof.specs.mm_store.Language.FilesView.{FilesView, file_number, files_in, number_of, plain}
 use Rattle.mm_proof.specs.mm_store.Language.Holding.{HoldOneEach}
 use Rattle.mm_proof.specs.mm_text.Language.Unit.{tokens_of}
-use Rattle.std.specs.Prelude.{slice_range}
 use Rattle.mm_proof.specs.mm_frame.Language.Base.{BaseView, AreSaid, IsOfFiles, said_at, is_framed_at, is_proof_at, is_sound_at}
 use Rattle.mm_proof.specs.mm_frame.Language.Item.{Item, Kind, Axiom}
 use Rattle.mm_proof.specs.mm_frame.Language.Laws.{FilesHaveOneBase, HasOwnLabels}
@@ -27,7 +25,7 @@ use Rattle.mm_keep.specs.Language.Sessions.{IsAssertion, HasAssertion, AreNumber
 use Rattle.mm_keep.proofs.CitedItems.{cites_earlier, none_cited}
 use Rattle.mm_keep.proofs.DecidedViews.{dec_views}
 use Rattle.mm_keep.proofs.KeepLemmas.{number_plain}
-use Rattle.mm_keep.proofs.DecidingLemmas.{dec_like, dec_and, dec_not, dec_bool, dec_label, dec_below, have_those}
+use Rattle.mm_keep.proofs.DecidingLemmas.{dec_and, dec_not, dec_bool, dec_label, dec_below, have_those}
 
 -- ---- items
 
@@ -63,7 +61,7 @@ give_items there reads files top holds units = (from, to)
 
 dec_same_view : (old new : BaseView) (i j : ℕ) → Dec (HasSameView old new i j)
 dec_same_view old new i j =
-    dec_like
+    map_dec
     (λ h. record { within = h.0.0; was = h.0.1; is = h.1.0; label = h.1.1.0; view = h.1.1.1 })
     (λ h. ((h.within, h.was), (h.is, (h.label, h.view))))
     (dec_and
@@ -71,10 +69,10 @@ dec_same_view old new i j =
     (dec_and (dec_bool (is_proof_at new j) true) (dec_and (dec_label (said_at old i).label (said_at new j).label) (dec_views (view_at old i) (view_at new j)))))
 
 dec_had_view : (old new : BaseView) (j : ℕ) → Dec (HadView old new j)
-dec_had_view old new j = dec_like (λ h. (h.0, h.2)) (λ h. (h.0, h.1.within, h.1)) (dec_below (λ i. HasSameView old new i j) (length old.said) (λ i l. dec_same_view old new i j))
+dec_had_view old new j = map_dec (λ h. (h.0, h.2)) (λ h. (h.0, h.1.within, h.1)) (dec_below (λ i. HasSameView old new i j) (length old.said) (λ i l. dec_same_view old new i j))
 
 dec_run : (old new : BaseView) (j : ℕ) → Dec (IsRun old new j)
-dec_run old new j = dec_like (λ h. record { theorem = h.0; changed = h.1 }) (λ h. (h.theorem, h.changed)) (dec_and (dec_bool (is_proof_at new j) true) (dec_not (dec_had_view old new j)))
+dec_run old new j = map_dec (λ h. record { theorem = h.0; changed = h.1 }) (λ h. (h.theorem, h.changed)) (dec_and (dec_bool (is_proof_at new j) true) (dec_not (dec_had_view old new j)))
 
 pub has_runs : HasListOfRuns
 has_runs before after top old new were are =
@@ -85,7 +83,7 @@ has_runs before after top old new were are =
 
 dec_assertion : (base : BaseView) (label : List ℕ) (i : ℕ) → Dec (IsAssertion base label i)
 dec_assertion base label i =
-    dec_like (λ h. record { within = h.0; framed = h.1.0; label_is = h.1.1 }) (λ h. (h.within, (h.framed, h.label_is)))
+    map_dec (λ h. record { within = h.0; framed = h.1.0; label_is = h.1.1 }) (λ h. (h.within, (h.framed, h.label_is)))
     (dec_and (dec_lt i (length base.said)) (dec_and (dec_bool (is_framed_at base i) true) (dec_label (said_at base i).label (Some label))))
 
 pub labels_decided : FilesHaveOneBase → LabelsAreDecided
@@ -131,7 +129,7 @@ module _ (each : CitesNameAssertions) (tell : CitesTellAssertions) (own : HasOwn
 
       by : (proof : Bool) → is_proof_at view i ≡ proof → Dec (CitesItem view i k)
       by false e = no (none_cited view i k e)
-      by true e = dec_like (to e) from (dec_below (CitesAt i k) (length (cites_at view i)) (dec_cites_at i k))
+      by true e = map_dec (to e) from (dec_below (CitesAt i k) (length (cites_at view i)) (dec_cites_at i k))
 
   lead_cases : (k i : ℕ) → LeadsTo view k i → (i ≡ k) ⊎ ((j : ℕ) × (CitesItem view i j × LeadsTo view k j))
   lead_cases k i none = inl refl
@@ -155,7 +153,7 @@ module _ (each : CitesNameAssertions) (tell : CitesTellAssertions) (own : HasOwn
 
   dec_axiom : (i k : ℕ) → Dec (IsAxiomOf view i k)
   dec_axiom i k =
-      dec_like
+      map_dec
       (λ h. record { is_axiom = record { sound = h.0.0; kind = h.0.1 }; leads = h.1 })
       (λ h. ((h.is_axiom.sound, h.is_axiom.kind), h.leads))
       (dec_and (dec_and (dec_bool (is_sound_at view k) true) (axiom_kind (said_at view k).kind)) (dec_leads k (suc i) i (omega arith)))

@@ -1,6 +1,5 @@
 -- What stays of files when they are edited and settled, and how a session goes on.
-use Rattle.std.proofs.Common.{◌≡◌, ℕ, ◌+◌, ◌⊎◌, Bool, not, cond, List, [], ◌∷◌, map, bytes_eq, refl, sym, ◌∙◌, ap, subst, inl, inr}
-use Rattle.std.specs.Prelude.{All, position}
+use Rattle.std.proofs.Common.{◌≡◌, ℕ, ◌+◌, ◌⊎◌, Bool, not, cond, List, [], ◌∷◌, map, bytes_eq, refl, sym, ◌∙◌, ap, subst, inl, inr, All, position}
 use Rattle.std.specs.List.{AllZip, AllByRecursion, position_or_len}
 use Rattle.std.proofs.lemmas.List.{length-map}
 use Rattle.std.proofs.lemmas.List.Elements.{recursion_from_All}

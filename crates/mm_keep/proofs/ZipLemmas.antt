@@ -1,6 +1,5 @@
 -- Lists that are read by functions, place by place.
-use Rattle.std.proofs.Common.{◌≡◌, ℕ, zero, suc, Some, List, [], ◌∷◌, refl, subst}
-use Rattle.std.specs.Prelude.{slice_get}
+use Rattle.std.proofs.Common.{◌≡◌, ℕ, zero, suc, Some, List, [], ◌∷◌, refl, subst, slice_get}
 use Rattle.std.specs.List.{AllZip}
 
 -- the element of the one list with that of the other

@@ -1,6 +1,5 @@
 -- The table of numbers, and worked proofs, by computing.
-use Rattle.std.proofs.Common.{◌≡◌, ℕ, if◌then◌else◌, Ok, Err, List, [], ◌∷◌, ◌++◌, refl}
-use Rattle.std.specs.Prelude.{codes, bytes_eq, replicate, Result}
+use Rattle.std.proofs.Common.{◌≡◌, ℕ, if◌then◌else◌, Ok, Err, List, [], ◌∷◌, ◌++◌, refl, codes, bytes_eq, replicate, Result}
 use Rattle.mm_frame.specs.Language.Frame.{Resolved, Hypothesis, Assertion, Inactive, Unknown, Setting}
 use Rattle.mm_proof.specs.Language.Expansion.{Step, Named, Saved, Save, NotKnown}
 use Rattle.mm_proof.specs.Language.Decoding.{decoding}

@@ -45,20 +45,16 @@ quiet_class true Axiom e f = absurd (cc)
 quiet_class true Theorem e f = absurd (cc)
 quiet_class true _ e f = refl
 
-axiom_class : (sound : Bool) (kind : Kind) → sound ≡ true → kind ≡ Axiom → 2 ≡ class_of sound kind
-axiom_class sound kind e f = sym (λ i. class_of (e i) (f i))
-
 theorem_class : (sound : Bool) (kind : Kind) → (sound && is_theorem kind) ≡ true → 3 ≡ class_of sound kind
-theorem_class false kind e = absurd (cc)
 theorem_class true Theorem e = refl
-theorem_class true _ e = absurd (cc)
+theorem_class _ _ e = absurd (cc)
 
 fault_class : (fault : Option (ℕ × FrameNumber)) (kind : Kind) (one : ℕ × FrameNumber) → fault ≡ Some one → 0 ≡ class_of (is_none fault) kind
 fault_class fault kind one e = sym (ap (λ (f : Option (ℕ × FrameNumber)). class_of (is_none f) kind) e)
 
 told_class : (files : FilesView) (view : BaseView) (n : ℕ) (one : Told) → IsRightlyTold files view n one → class_told one ≡ class_at view n
 told_class files view n Quiet f = quiet_class (is_sound_at view n) (said_at view n).kind f.sound f.kind
-told_class files view n AnAxiom f = axiom_class (is_sound_at view n) (said_at view n).kind f.sound f.kind
+told_class files view n AnAxiom f = sym (λ i. class_of (f.sound i) (f.kind i))
 told_class files view n Proved f = theorem_class (is_sound_at view n) (said_at view n).kind f.proof
 told_class files view n (Fault number shown) f = fault_class (fault_at view n) (said_at view n).kind (f.word, number) f.fault
 told_class files view n _ f = theorem_class (is_sound_at view n) (said_at view n).kind f.has_verdict.proof

@@ -1,19 +1,15 @@
 -- What is answered, from what is written.
-use Rattle.std.proofs.Common.{◌≡◌, ◌⊎◌, ℕ, ◌<◌, Option, List, Result, Ok, Err, inl, inr, length, map, refl, sym, ap, ◌∙◌, subst, arith}
-use Rattle.std.specs.Prelude.{codes, IfErr, IfOk, IsErrOf, IsOk, IsTrue, OnOk, Bool, true, false, ◌↔◌, Some, None}
+use Rattle.std.proofs.Common.{◌≡◌, ◌⊎◌, ℕ, ◌<◌, Option, List, Result, Ok, Err, inl, inr, length, map, refl, sym, ap, ◌∙◌, subst, arith, take_all, Global, codes, IfErr, IfOk, IsErrOf, IsOk, IsTrue, OnOk, Bool, true, false, ◌↔◌, Some, Vec, get_or, slice_get}
 use Rattle.std.specs.Result.{IsErrAnd}
-use Rattle.std.proofs.Common.{Vec}
-use Rattle.std.proofs.lemmas.List.{take_all}
-use Rattle.std.specs.Global.{Global}
 use Rattle.mm_keep.specs.declared.answers.KeepError.{KeepError}
 use Rattle.mm_keep.specs.declared.answers.KeepError.TheVariants as keep
 use Rattle.std.specs.Io.KnownBytes.{Appends, Keeps}
 use Rattle.mm_keep.specs.mm_proof.Language.Work.{Recorded}
 use Rattle.mm_keep.specs.mm_frame.Language.Base.{BaseView, IsOfFiles}
-use Rattle.std.proofs.Common.{get_or, slice_get}
 use Rattle.std.specs.Option.{option_map}
 use Rattle.std.proofs.lemmas.List.{length-map}
 use Rattle.std.proofs.lemmas.Option.{slice_get-map, slice_get_within, slice_get-get_or, same_Some}
+use Rattle.std.proofs.KnownBytes.{Appends-kept}
 use Rattle.mm_keep.specs.mm_store.declared.edit.Edit.{Edit}
 use Rattle.mm_keep.specs.mm_store.Language.Batches.{IsRefusedAt}
 use Rattle.mm_keep.specs.mm_store.declared.edit.EditError.{EditError}
@@ -124,12 +120,6 @@ axioms_there session label found (Ok there) are none (inr h) = (λ t. (cc), λ h
 
 -- ---- what is written is handed on
 
-kept_appends : (a b c : Option (List ℕ)) (bytes : List ℕ) → Appends a b bytes → Keeps b c → Appends a c bytes
-kept_appends None b c bytes p q = tt
-kept_appends (Some x) None c bytes p q = absurd p
-kept_appends (Some x) (Some y) None bytes p q = absurd q
-kept_appends (Some x) (Some y) (Some z) bytes p q = q ∙ p
-
 pub kept_whole : (a b c : Option (List ℕ)) (bytes : List ℕ) → Appends a b bytes → Keeps b c → AppendsPart a c bytes
 kept_whole a b c bytes p q =
-    record { count = length bytes; appends = subst (Appends a c) (sym (take_all (length bytes) bytes (omega arith))) (kept_appends a b c bytes p q) }
+    record { count = length bytes; appends = subst (Appends a c) (sym (take_all (length bytes) bytes (omega arith))) (Appends-kept a b c bytes p q) }

@@ -25,10 +25,6 @@ pub always : (P : List ℕ → Type 0) (bytes : List ℕ) (left : Option (List �
 always P bytes None h = tt
 always P bytes (Some more) h = h more
 
-pub not_fed : (b : Bool) → (b ≡ true → ⊥) → b ≡ false
-not_fed true h = absurd (h refl)
-not_fed false h = refl
-
 -- the bytes are those of a batch, with what stands behind some of its edits and empty lines
 pub front_bytes : (a b : Input) (u v : Option (List ℕ)) (n : ℕ) (front : List Listed) (from start : ℕ) → IsBatchFront (pending a) n front from → InputGrows a b u v → HasBlanks (pending b) from start
     → pending b ≡ batch_bytes n front (start - from) (drop start (pending b))

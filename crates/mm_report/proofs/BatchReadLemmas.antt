@@ -1,6 +1,5 @@
 -- The edits of a batch that are read, one after another.
-use Rattle.std.proofs.Common.{◌≡◌, ℕ, ◌+◌, ◌-◌, ◌<◌, ◌≤◌, Bool, true, false, List, [], ◌∷◌, ◌++◌, append_assoc, map, length, length-append, take, drop, replicate, refl, sym, ap, ◌∙◌, subst, arith, Option, None, inl, inr, IfSome}
-use Rattle.std.specs.Prelude.{Contains}
+use Rattle.std.proofs.Common.{◌≡◌, ℕ, ◌+◌, ◌-◌, ◌<◌, ◌≤◌, Bool, true, false, List, [], ◌∷◌, ◌++◌, append_assoc, map, length, length-append, take, drop, replicate, refl, sym, ap, ◌∙◌, subst, arith, Option, None, inl, inr, IfSome, Contains}
 use Rattle.std.specs.List.{flat_map}
 use Rattle.std.proofs.lemmas.List.{append-nil, length-drop, length-map, map-append, take_at}
 use Rattle.std.proofs.lemmas.List.Concat.{flat_map-append}
@@ -61,11 +60,11 @@ edits_more a b u v found front k blanks grows are w = record {
       ∙ sym (map-append (edit_in (pending b)) found (k ∷ []));
 }
 
-good_more : (front : List Listed) (x : Listed) → AreGoodEdits front → IsGoodEdit x.edit → AreGoodEdits (front ++ x ∷ [])
+pub good_more : (front : List Listed) (x : Listed) → AreGoodEdits front → IsGoodEdit x.edit → AreGoodEdits (front ++ x ∷ [])
 good_more [] x f g = (g, tt)
 good_more (y ∷ front) x f g = (f.0, good_more front x f.1 g)
 
-last_in_line : (front : List Listed) (x : Listed) → edited_text x.edit ≡ None → LastInLine (front ++ x ∷ [])
+pub last_in_line : (front : List Listed) (x : Listed) → edited_text x.edit ≡ None → LastInLine (front ++ x ∷ [])
 last_in_line (y ∷ z ∷ front) x none = last_in_line (z ∷ front) x none
 last_in_line _ x none = none
 

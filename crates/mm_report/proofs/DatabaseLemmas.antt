@@ -1,6 +1,5 @@
 -- Files that mean the same are one database: their items are the same but for keys, and say the same.
-use Rattle.std.proofs.Common.{◌≡◌, ℕ, ◌+◌, List, Some, map, slice_get, slice_range, refl, sym, ap, ◌∙◌, subst}
-use Rattle.std.specs.Prelude.{All}
+use Rattle.std.proofs.Common.{◌≡◌, ℕ, ◌+◌, List, Some, map, slice_get, slice_range, refl, sym, ap, ◌∙◌, subst, All}
 use Rattle.std.specs.Option.{option_map}
 use Rattle.std.proofs.lemmas.Option.{slice_get-map, slice_get_within, get_or_from_slice_get, same_Some}
 use Rattle.mm_keep.specs.mm_text.declared.word.Word.{Word}
@@ -66,15 +65,12 @@ same_piece a b x y alike =
 read_under : (files : FilesView) (item : store.Item) → (r : CanBeRead files item) → r.text ≡ text_under files.pieces item.key.at
 read_under files item r = r.live.is_text ∙ sym (ap text_in r.live.held)
 
-same_text : (a b : FilesView) (x y : store.Item) → AreAlike a b x y → (r : CanBeRead a x) (q : CanBeRead b y) → r.text ≡ q.text
-same_text a b x y alike r q = read_under a x r ∙ same_piece a b x y alike ∙ sym (read_under b y q)
-
 -- the bytes of an item
 abbrev bytes_in : List ℕ → store.Item → List ℕ
 bytes_in text item = slice_range text item.start item.end
 
 same_bytes : (a b : FilesView) (x y : store.Item) → AreAlike a b x y → (s : CanBeRead a x) (t : CanBeRead b y) → bytes_in s.text x ≡ bytes_in t.text y
-same_bytes a b x y alike s t = ap (λ text. bytes_in text x) (same_text a b x y alike s t) ∙ ap (λ (z : store.Item). bytes_in t.text z) alike.item
+same_bytes a b x y alike s t = ap (λ text. bytes_in text x) (read_under a x s ∙ same_piece a b x y alike ∙ sym (read_under b y t)) ∙ ap (λ (z : store.Item). bytes_in t.text z) alike.item
 
 same_words : Laws → (a b : FilesView) (x y : store.Item) → AreAlike a b x y → (s : CanBeRead a x) (t : CanBeRead b y) → s.words ≡ t.words
 same_words laws a b x y alike s t = laws.words (bytes_in t.text y) s.words t.words (subst (λ bytes. HasWords bytes s.words) (same_bytes a b x y alike s t) s.has_words) t.has_words

@@ -1,6 +1,5 @@
 -- Files by number: their names; and what is told of an item names one of them.
-use Rattle.std.proofs.Common.{◌≡◌, ℕ, ◌<◌, List, [], Some, length, map, slice_get, sym, ap, ◌∙◌, subst}
-use Rattle.std.specs.Prelude.{slice_index_or}
+use Rattle.std.proofs.Common.{◌≡◌, ℕ, ◌<◌, List, [], Some, length, slice_get, sym, ap, ◌∙◌, subst, slice_index_or}
 use Rattle.std.specs.Option.{option_map}
 use Rattle.std.proofs.lemmas.Option.{slice_get-map, slice_get_within, get_or_from_slice_get}
 use Rattle.std.proofs.lemmas.Simd.{map-map}
@@ -13,15 +12,11 @@ use Rattle.mm_report.specs.Code.InFiles.{IsInFiles}
 use Rattle.mm_report.specs.Language.Report.{names_of}
 use Rattle.mm_keep.specs.Language.WordPlaces.{HasPlace}
 
--- the names are those of the files by keys
-names_are : (files : FilesView) → names_of (plain files) ≡ map (λ (file : KeyedFile). file.name) files.keyed
-names_are files = map-map (λ (file : File). file.name) (plain_file files.pieces) files.keyed
-
 -- the name of a file, by its number
 pub name_is : (files : FilesView) (n : ℕ) (name : List ℕ) → option_map (λ (file : KeyedFile). file.name) (slice_get files.keyed n) ≡ Some name → slice_index_or (names_of (plain files)) n [] ≡ name
 name_is files n name is =
     let there : slice_get (names_of (plain files)) n ≡ Some name =
-    ap (λ names. slice_get names n) (names_are files) ∙ slice_get-map (λ (file : KeyedFile). file.name) files.keyed n ∙ is in
+    ap (λ names. slice_get names n) (map-map (λ (file : File). file.name) (plain_file files.pieces) files.keyed) ∙ slice_get-map (λ (file : KeyedFile). file.name) files.keyed n ∙ is in
     get_or_from_slice_get (names_of (plain files)) n name [] there
 
 -- a place of a word of an item is in one of the files

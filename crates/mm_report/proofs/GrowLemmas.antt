@@ -1,11 +1,9 @@
 -- Bytes that are read on keep what stood in them.
-use Rattle.std.proofs.Common.{◌≡◌, ◌≢◌, ℕ, zero, suc, ◌+◌, ◌-◌, ◌<◌, ◌≤◌, Bool, not, true, false, List, [], ◌∷◌, ◌++◌, append_assoc, length, length-append, take, drop, replicate, refl, sym, ap, ◌∙◌, subst, arith, Option, ◌⊎◌, inl, inr}
-use Rattle.std.specs.Prelude.{◌==◌, slice_index, slice_range}
-use Rattle.std.proofs.Common.{get_or, Result, Ok, Err}
+use Rattle.std.proofs.Common.{◌≡◌, ◌≢◌, ℕ, zero, suc, ◌+◌, ◌-◌, ◌<◌, ◌≤◌, true, false, List, [], ◌∷◌, ◌++◌, append_assoc, length, length-append, take, drop, replicate, refl, sym, ap, ◌∙◌, subst, arith, Option, ◌⊎◌, inl, inr}
+use Rattle.std.proofs.Common.{get_or, Result, Ok, Err, eq-eqb, eqb-true, ◌==◌, slice_index, slice_range}
 use Rattle.std.specs.Result.{IsErrAnd, IsErrOf}
 use Rattle.mm_report.specs.declared.lines.LineAt.{LineAt}
 use Rattle.std.proofs.KnownBytes.{Consumes-nil, Consumes-trans}
-use Rattle.std.proofs.lemmas.Bool.{eq-eqb, eqb-true}
 use Rattle.std.proofs.lemmas.List.Folds.{drop_split}
 use Rattle.std.specs.Io.KnownBytes.{IsAtEnd}
 use Rattle.std.proofs.lemmas.List.{append-nil, length-drop, take-append-le, drop-append-le, drop-drop, drop_more, length-take-le, take-append-drop, take_all, take_rest}
@@ -68,12 +66,8 @@ none_found (x ∷ xs) (suc n) h = (λ (e : x ≡ 10). h 0 (omega arith) (eq-eqb 
 pub nothing_between : (bytes : List ℕ) (i : ℕ) → IsOneLine (slice_range bytes i i)
 nothing_between bytes i = let none : i - i ≡ 0 = omega arith in subst (λ (n : ℕ). IsOneLine (take n (drop i bytes))) (sym none) tt
 
--- the rest of a slice, as the code takes it
-pub rest_is : (bytes : List ℕ) (i : ℕ) → slice_range bytes i (length bytes) ≡ drop i bytes
-rest_is bytes i = take_rest bytes i
-
 pub rest_of : (seen bytes : List ℕ) (from : ℕ) → seen ≡ bytes → slice_range seen from (length seen) ≡ drop from bytes
-rest_of seen bytes from same = rest_is seen from ∙ ap (drop from) same
+rest_of seen bytes from same = take_rest seen from ∙ ap (drop from) same
 
 -- bytes up to the first line feed
 pub found_line : (bytes hay : List ℕ) (left : Option (List ℕ)) (start end more : ℕ) → hay ≡ drop end bytes → start ≤ end → end ≤ length bytes
@@ -106,7 +100,7 @@ pub last_line : (bytes : List ℕ) (left : Option (List ℕ)) (start count : ℕ
 last_line bytes left start count is within one at_end = record {
   ordered = within;
   within = omega arith;
-  one_line = subst IsOneLine (sym (ap (slice_range bytes start) is ∙ rest_is bytes start)) one;
+  one_line = subst IsOneLine (sym (ap (slice_range bytes start) is ∙ take_rest bytes start)) one;
   fed = λ yes. absurd (cc);
   unfed = λ no. (is, at_end);
 }
@@ -188,14 +182,6 @@ reads_pass a b c u v p is = record {
   blanks = suc p.blanks;
   are = p.are ∙ ap (λ (xs : List ℕ). replicate p.blanks 10 ++ xs) is ∙ feeds p.blanks (pending c);
 }
-
-pub not_not : (b : Bool) → not b ≡ false → b ≡ true
-not_not true e = refl
-not_not false e = cc
-
-pub not_true : (b : Bool) → not b ≡ true → b ≡ false
-not_true true e = cc
-not_true false e = refl
 
 -- an error that is handed on is the same
 pub same_error : {T U E : Type 0} (r : Result U E) (x e : E) → IsErrAnd r (λ (y : E). y ≡ x) → r ≡ Err e → IsErrOf {T = T} (Err x) e

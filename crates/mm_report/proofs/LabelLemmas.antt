@@ -1,6 +1,5 @@
 -- Lines of answers, part by part; and lines of labels, one more at a time.
-use Rattle.std.proofs.Common.{◌≡◌, ℕ, ◌+◌, ◌<◌, List, [], ◌∷◌, ◌++◌, length, map, take, drop, get_or, sym, ◌∙◌, ap, append_assoc}
-use Rattle.std.specs.Prelude.{codes, decimal, unwrap_or}
+use Rattle.std.proofs.Common.{◌≡◌, ℕ, ◌+◌, ◌<◌, List, [], ◌∷◌, ◌++◌, length, map, take, drop, get_or, sym, ◌∙◌, ap, append_assoc, codes, decimal, unwrap_or}
 use Rattle.std.proofs.lemmas.List.{append-nil, length-map, map-append, take_more, take-append-drop}
 use Rattle.std.proofs.lemmas.Grind.{flat_map-append}
 use Rattle.mm_keep.specs.mm_text.declared.fault.TextFault.{TextFault}

@@ -1,15 +1,13 @@
 -- What a line asks for is known from its first space on.
-use Rattle.std.proofs.Common.{◌≡◌, ◌≢◌, ◌⊎◌, ℕ, Bool, true, false, not, ◌&&◌, List, [], ◌∷◌, ◌++◌, length, length-append, take, refl, sym, ap, ◌∙◌, subst, arith, Option, Some, None, Result, Ok, inl, inr}
-use Rattle.std.specs.Prelude.{◌==◌, codes, decimal}
+use Rattle.std.proofs.Common.{◌≡◌, ◌≢◌, ◌⊎◌, ℕ, Bool, true, false, not, List, [], ◌∷◌, ◌++◌, length, length-append, take, refl, sym, ap, ◌∙◌, subst, arith, Option, Some, None, Result, Ok, inl, inr, take_at, eqb-true, ne_eqb, ◌==◌, codes, decimal}
 use Rattle.std.specs.List.{list_all}
 use Rattle.std.specs.Str.{IsUtf8, bytes_eq}
 use Rattle.std.proofs.lemmas.Slice.Eq.{bytes_eq-Decides}
 use Rattle.std.proofs.lemmas.Str.{IsUtf8-from_ascii}
 use Rattle.std.specs.Option.{is_some}
 use Rattle.std.specs.Str.Parse.{ParsesUnsigned}
-use Rattle.std.proofs.lemmas.Bool.{eqb-true, ne_eqb}
-use Rattle.std.proofs.lemmas.List.{take_at}
 use Rattle.std.proofs.lemmas.Fmt.{parse-decimal, IsAscii-decimal}
+use Rattle.std.proofs.lemmas.Bool.{and_from}
 use Rattle.mm_keep.specs.mm_store.Language.Edits.{Asked}
 use Rattle.mm_keep.specs.mm_store.Language.Edits as ask
 use Rattle.mm_report.specs.declared.line.Verb.{Verb}
@@ -18,19 +16,13 @@ use Rattle.mm_report.specs.Code.Lines.{CutsAt, HasNoSpace, IsFileAnd, IsFileAndT
 use Rattle.mm_report.specs.Code.Stops.{IsOneLine}
 use Rattle.mm_report.specs.Language.Script as commands
 use Rattle.mm_report.specs.Language.Script.{Command, Change, Report, IsName, IsNumber, edit_line, line_of, is_word_byte}
-use Rattle.mm_report.proofs.SplitLemmas.{Lacks, split_at, not_inside, solid_space}
-use Rattle.mm_report.proofs.WordLemmas.{solid_decimal, small_number}
-
-both_not : (a b : Bool) → a ≡ false → b ≡ false → (not a && not b) ≡ true
-both_not a b e f = rw (e, f)
-
-both : (a b : Bool) → a ≡ true → b ≡ true → (a && b) ≡ true
-both a b e f = rw (e, f)
+use Rattle.mm_report.proofs.SplitLemmas.{Lacks, split_at, solid_space}
+use Rattle.mm_report.proofs.WordLemmas.{solid_decimal, small_number, both_not}
 
 -- bytes of a line without a space are a name
 pub solid_by : (xs : List ℕ) → HasNoSpace xs → IsOneLine xs → list_all is_word_byte xs ≡ true
 solid_by [] f g = refl
-solid_by (x ∷ xs) f g = both _ _ (both_not _ _ (ne_eqb x 32 f.0) (ne_eqb x 10 g.0)) (solid_by xs f.1 g.1)
+solid_by (x ∷ xs) f g = and_from _ _ (both_not _ _ (ne_eqb x 32 f.0) (ne_eqb x 10 g.0)) (solid_by xs f.1 g.1)
 
 pub is_name_by : (xs : List ℕ) → xs ≢ [] → HasNoSpace xs → IsOneLine xs → IsName xs
 is_name_by xs some f g = record { some = some; bytes = solid_by xs f g }
@@ -45,9 +37,6 @@ number_space n h = solid_space (decimal n) (solid_decimal n (small_number n h))
 -- what is cut at a space is cut there
 pub cut_so : (bytes head tail left right : List ℕ) → CutsAt bytes head tail → HasNoSpace left → bytes ≡ left ++ 32 ∷ right → (head ≡ left) × (tail ≡ right)
 cut_so bytes head tail left right cut none is = split_at 32 head left tail right cut.none none (sym cut.is ∙ is)
-
-pub uncut : (bytes left right : List ℕ) → HasNoSpace bytes → bytes ≡ left ++ 32 ∷ right → ⊥
-uncut bytes left right none is = not_inside 32 bytes left right none is
 
 front_lacks : (c : ℕ) (xs ys : List ℕ) → Lacks c (xs ++ ys) → Lacks c xs
 front_lacks c [] ys f = tt

@@ -1,13 +1,12 @@
 -- A script that is answered command by command.
-use Rattle.std.proofs.Common.{◌≡◌, ℕ, zero, suc, true, Option, Some, None, List, [], ◌∷◌, ◌++◌, inl, inr, drop, take, replicate, refl, sym, ap, ◌∙◌, subst, append_assoc}
-use Rattle.std.specs.Prelude.{◌≢◌, Result, Ok, Err, IfErr, IfSome, IsErrOf}
+use Rattle.std.proofs.Common.{◌≡◌, ℕ, zero, suc, true, Option, Some, None, List, [], ◌∷◌, ◌++◌, inl, inr, drop, take, replicate, refl, sym, ap, ◌∙◌, subst, append_assoc, append-nil, ◌≢◌, Result, Ok, Err, IfErr, IfSome, IsErrOf}
 use Rattle.std.specs.Result.{IsErrAnd}
 use Rattle.mm_report.specs.declared.script.ScriptError.{ScriptError}
 use Rattle.mm_report.specs.declared.script.ScriptError.TheVariants as errors
 use Rattle.std.specs.Io.KnownBytes.{Consumes, IsAtEnd}
 use Rattle.std.proofs.KnownBytes.{Appends-nil, Appends-trans, Consumes-nil, Consumes-trans}
 use Rattle.std.proofs.lemmas.Grind.{flat_map-append}
-use Rattle.std.proofs.lemmas.List.{append-nil}
+use Rattle.mm_report.proofs.ScriptLemmas.{good_more}
 use Rattle.mm_keep.specs.Language.Sessions.{SessionView}
 use Rattle.mm_report.specs.declared.input.Input.{Input}
 use Rattle.mm_report.specs.declared.entry.Next.{Next}
@@ -23,10 +22,6 @@ use Rattle.mm_report.specs.Language.Stream.{cannot_read, unread, written}
 use Rattle.mm_report.proofs.JoinLemmas.{one_more, reading_behind, reading_done, reading_last, so_far_behind}
 
 -- ---- empty lines, and commands, behind entries
-
-good_join : (entries more : List Entry) → AreGood entries → AreGood more → AreGood (entries ++ more)
-good_join [] more f g = g
-good_join (entry ∷ entries) more f g = (f.0, good_join entries more f.1 g)
 
 blanks_good : (n : ℕ) → AreGood (replicate n Blank)
 blanks_good zero = tt
@@ -44,12 +39,6 @@ commands_join : (entries : List Entry) (n : ℕ) → commands_of (entries ++ rep
 commands_join [] n = no_commands n
 commands_join (Blank ∷ entries) n = commands_join entries n
 commands_join (Given command ∷ entries) n = ap (λ commands. command ∷ commands) (commands_join entries n)
-
-bytes_join : (entries more : List Entry) → entries_bytes (entries ++ more) ≡ entries_bytes entries ++ entries_bytes more
-bytes_join entries more = flat_map-append entry_bytes entries more
-
-one_given : (command : Command) → entries_bytes (Given command ∷ []) ≡ command_bytes command
-one_given command = append-nil (command_bytes command)
 
 -- ---- what is answered so far
 
@@ -79,14 +68,14 @@ module _ (old session : SessionView) (all left before after : Option (List ℕ))
       let joined : so.first.bytes ++ part ≡ entries_bytes (entries ++ passed) ++ now =
       ap (λ bytes. bytes ++ part) so.first.are.joined ∙ append_assoc (entries_bytes entries) so.first.rest part
       ∙ ap (λ bytes. entries_bytes entries ++ bytes) (ap (λ bytes. bytes ++ part) so.rest ∙ are ∙ ap (λ bytes. bytes ++ now) (sym (blank_bytes blanks)))
-      ∙ sym (append_assoc (entries_bytes entries) (entries_bytes passed) now) ∙ ap (λ bytes. bytes ++ now) (sym (bytes_join entries passed)) in
+      ∙ sym (append_assoc (entries_bytes entries) (entries_bytes passed) now) ∙ ap (λ bytes. bytes ++ now) (sym (flat_map-append entry_bytes entries passed)) in
       record {
         first = record {
           bytes = so.first.bytes ++ part;
           consumes = Consumes-trans all left more so.first.bytes part so.first.consumes consumes;
           entries = entries ++ passed;
           rest = now;
-          are = record { good = good_join entries passed so.first.are.good (blanks_good blanks); joined = joined };
+          are = record { good = good_more entries passed so.first.are.good (blanks_good blanks); joined = joined };
           answers = so.first.answers;
           answered = subst (λ commands. AreAnswers old commands so.first.answers session) (sym (commands_join entries blanks)) so.first.answered;
           out = so.first.out;
@@ -104,11 +93,11 @@ module _ (old session : SessionView) (all left before after : Option (List ℕ))
   more_read pend command end so good whole =
       let entries = so.first.entries in
       record {
-        good = good_join entries (Given command ∷ []) so.first.are.good (good, tt);
+        good = good_more entries (Given command ∷ []) so.first.are.good (good, tt);
         joined = (read_as pend so).joined ∙ ap (λ rest. entries_bytes entries ++ rest) whole.are
             ∙ sym (append_assoc (entries_bytes entries) (command_bytes command) (drop end pend))
-            ∙ ap (λ first. (entries_bytes entries ++ first) ++ drop end pend) (sym (one_given command))
-            ∙ ap (λ first. first ++ drop end pend) (sym (bytes_join entries (Given command ∷ [])));
+            ∙ ap (λ first. (entries_bytes entries ++ first) ++ drop end pend) (sym (append-nil (command_bytes command)))
+            ∙ ap (λ first. first ++ drop end pend) (sym (flat_map-append entry_bytes entries (Given command ∷ [])));
       }
 
   -- one command more is answered

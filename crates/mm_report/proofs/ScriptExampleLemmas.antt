@@ -1,10 +1,9 @@
 -- Some scripts are read by the definitions.
-use Rattle.std.proofs.Common.{◌≡◌, ◌≢◌, ℕ, ◌<◌, List, [], ◌∷◌, length, refl, ap, arith}
-use Rattle.std.specs.Prelude.{codes, slice_index}
+use Rattle.std.proofs.Common.{◌≡◌, ◌≢◌, ℕ, ◌<◌, List, [], ◌∷◌, length, refl, ap, arith, codes, slice_index}
 use Rattle.std.specs.Fmt.{digits}
-use Rattle.mm_keep.specs.mm_store.Language.Edits.{Asked, Insert, Replace, Delete, Move}
+use Rattle.mm_keep.specs.mm_store.Language.Edits.{Asked, Insert, Replace, Delete}
 use Rattle.mm_report.specs.Code.Stops.{AreListed, HasTextOf, StopsSo}
-use Rattle.mm_report.specs.Language.Script.{Command, Change, Batch, Report, Verdict, Axioms, Cites, Users, Blank, Given, End, CutShort, BadLine, IsGood, IsGoodEdit, IsName, edit_line, line_of}
+use Rattle.mm_report.specs.Language.Script.{Command, Change, Batch, Report, Verdict, Axioms, Users, Blank, Given, End, CutShort, BadLine, IsGood, IsGoodEdit, IsName, edit_line, line_of}
 use Rattle.mm_report.specs.Language.ScriptExamples.{ReadsText, ReadsBatch, ReadsLastEdit, CutsText, CutsFeed, CutsLine, CutsBatch, EndsInEdit, EndsAtLine, EndsAtText}
 use Rattle.mm_report.specs.Language.ScriptLaws.{IsReadSo}
 use Rattle.mm_report.proofs.JoinLemmas.{reading_behind, reading_done, reading_last}

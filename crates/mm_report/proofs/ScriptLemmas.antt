@@ -175,9 +175,6 @@ good_tail : (xs ys : List Entry) → AreGood (xs ++ ys) → AreGood ys
 good_tail [] ys h = h
 good_tail (x ∷ xs) ys h = good_tail xs ys h.1
 
-good_by : (xs ys : List Entry) → xs ≡ ys → AreGood ys → AreGood xs
-good_by xs ys e g = subst AreGood (sym e) g
-
 -- no entry begins these bytes
 abbrev pub NoEntry : List ℕ → Type 0
 NoEntry rest = (x : Entry) (left : List ℕ) → IsGoodEntry x → rest ≡ entry_bytes x ++ left → ⊥
@@ -225,7 +222,7 @@ longest_by script a s d refused b left f = by (cases_lt (length a) (length b))
   where
     on : (more : List Entry) → a ++ more ≡ b → length a < length b → ⊥
     on [] e h = let l : length a + 0 ≡ length b = sym (length-append a []) ∙ ap length e in omega arith
-    on (x ∷ xs) e h = refused b left x xs (good_tail a (x ∷ xs) (good_by (a ++ x ∷ xs) b e f.good)).0 e f
+    on (x ∷ xs) e h = refused b left x xs (good_tail a (x ∷ xs) (subst AreGood (sym e) f.good)).0 e f
 
     by : (length a < length b) ⊎ (length b ≤ length a) → length b ≤ length a
     by (inr h) = h

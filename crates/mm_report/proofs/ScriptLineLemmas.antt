@@ -1,9 +1,9 @@
 -- A script that begins with a line, and with no whole command.
-use Rattle.std.proofs.Common.{◌≡◌, ◌≢◌, ℕ, ◌+◌, ◌-◌, ◌≤◌, Some, None, List, [], ◌∷◌, ◌++◌, length, length-append, replicate, refl, sym, ap, ◌∙◌, subst, arith, append_assoc}
-use Rattle.std.specs.Prelude.{codes, decimal}
+use Rattle.std.proofs.Common.{◌≡◌, ◌≢◌, ℕ, ◌+◌, ◌-◌, ◌≤◌, Some, List, [], ◌∷◌, ◌++◌, length, length-append, replicate, refl, sym, ap, ◌∙◌, subst, arith, append_assoc, codes, decimal}
 use Rattle.std.specs.List.{join_with_byte}
 use Rattle.std.proofs.lemmas.Fmt.{decimal_injective}
 use Rattle.std.proofs.lemmas.List.{append-nil, length-replicate}
+use Rattle.std.proofs.lemmas.Option.{same_Some, none-some}
 use Rattle.mm_keep.specs.mm_store.Language.Edits.{Asked, Insert, Replace, Delete, Move, edited_text}
 use Rattle.mm_report.specs.Code.Stops.{StopsSo, HasTextOf}
 use Rattle.mm_report.specs.Language.Script.{Command, Change, Blank, Given, CutShort, BadLine, EndsInLine, MayBreak, IsCutShort, IsGood, IsGoodEdit, IsNumber}
@@ -92,35 +92,29 @@ pub record HasTextBehind (c : Command) (count : ℕ) : Type 0 where
   pub count_is : length text ≡ count
   pub not_in_line : EndsInLine c → ⊥
 
-some_none : {X : Type 0} → (x : X) → Some x ≡ None → ⊥
-some_none x e = cc
-
-same_some : {X : Type 0} → (x y : X) → Some x ≡ Some y → x ≡ y
-same_some x y e = cc
-
 counted_text : (keyword f f' t t' : List ℕ) (a a' : ℕ) → IsNumber (length t) → IsNumber (length t') → keyword ∷ f ∷ decimal a ∷ decimal (length t) ∷ [] ≡ keyword ∷ f' ∷ decimal a' ∷ decimal (length t') ∷ [] → length t' ≡ length t
 counted_text keyword f f' t t' a a' g h e =
     let word : decimal (length t) ≡ decimal (length t') = cc in
     sym (decimal_injective (length t) (length t') (small_number (length t) g) (small_number (length t') h) word)
 
 its_count : (text : List ℕ) (t : List ℕ) (count : ℕ) → Some t ≡ Some text → length text ≡ count → length t ≡ count
-its_count text t count e l = ap length (same_some t text e) ∙ l
+its_count text t count e l = ap length (same_Some t text e) ∙ l
 
 text_behind : (e : Asked) (count : ℕ) → HasTextOf e count → (c : Command) → IsGood c → edit_words e ≡ command_words c → HasTextBehind c count
 text_behind (Insert f a t) count h (Change (Insert f' a' t')) g e = record {
   text = t';
   is_behind = refl;
-  not_in_line = some_none t';
+  not_in_line = λ e. none-some t' (sym e);
   count_is = counted_text (codes "insert") f f' t t' a a' h.good.2 g.2 e ∙ its_count h.text t count h.is_text h.count_is;
 }
 text_behind (Replace f a t) count h (Change (Replace f' a' t')) g e = record {
   text = t';
   is_behind = refl;
-  not_in_line = some_none t';
+  not_in_line = λ e. none-some t' (sym e);
   count_is = counted_text (codes "replace") f f' t t' a a' h.good.2 g.2 e ∙ its_count h.text t count h.is_text h.count_is;
 }
-text_behind (Delete f a) count h c g e = absurd (some_none h.text (sym h.is_text))
-text_behind (Move f a b) count h c g e = absurd (some_none h.text (sym h.is_text))
+text_behind (Delete f a) count h c g e = absurd (none-some h.text h.is_text)
+text_behind (Move f a b) count h c g e = absurd (none-some h.text h.is_text)
 text_behind _ count h _ g e = absurd (omega (arith, ap tag e))
 
 pub text_of_line : (e : Asked) (count : ℕ) → HasTextOf e count → (c : Command) → IsGood c → edit_line e ≡ line_of c → HasTextBehind c count
@@ -140,7 +134,7 @@ with_text (Insert f a t) count text h l =
 with_text (Replace f a t) count text h l =
     let long : length t ≡ length text = its_count h.text t count h.is_text h.count_is ∙ sym l in
     record { other = Replace f a text; good = (h.good.0, h.good.1, subst IsNumber long h.good.2); is_text = refl; same_line = ap (λ (n : ℕ). join_with_byte 32 (codes "replace" ∷ f ∷ decimal a ∷ decimal n ∷ [])) long }
-with_text _ count text h l = absurd (some_none h.text (sym h.is_text))
+with_text _ count text h l = absurd (none-some h.text h.is_text)
 
 -- a text that is not all there, and other bytes behind a text
 

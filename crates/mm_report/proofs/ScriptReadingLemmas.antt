@@ -1,16 +1,17 @@
 -- Each script has a reading, and what is left of it ends it.
-use Rattle.std.proofs.Common.{◌≡◌, ◌≢◌, ◌⊎◌, ℕ, zero, suc, ◌+◌, ◌≤◌, Option, Some, None, List, [], ◌∷◌, ◌++◌, length, length-append, replicate, refl, sym, ap, ◌∙◌, subst, inl, inr, arith, append_assoc}
+use Rattle.std.proofs.Common.{◌≡◌, ◌≢◌, ◌⊎◌, ℕ, zero, suc, ◌+◌, ◌≤◌, Option, Some, None, List, [], ◌∷◌, ◌++◌, length, length-append, replicate, refl, sym, ap, ◌∙◌, subst, inl, inr, arith, append_assoc, append-nil}
 use Rattle.std.specs.List.{flat_map}
-use Rattle.std.proofs.lemmas.List.{append-nil}
 use Rattle.std.proofs.lemmas.List.Concat.{flat_map-append}
+use Rattle.std.proofs.Math.Decide.{ℕ_discrete}
+use Rattle.mm_report.proofs.BatchReadLemmas.{good_more, last_in_line}
 use Rattle.mm_keep.specs.mm_store.Language.Edits.{Asked, edited_text}
 use Rattle.mm_report.specs.Code.Stops.{StopsSo, HasTextOf, AreListed, batch_line, batch_bytes}
 use Rattle.mm_report.specs.Language.Script.{Listed, Command, Change, Batch, Entry, Blank, Given, End, Done, CutShort, BadLine}
-use Rattle.mm_report.specs.Language.Script.{AreGoodEdits, AreRead, EndsInLine, IsGood, IsGoodEdit, IsGoodEntry, IsNumber, LastInLine}
+use Rattle.mm_report.specs.Language.Script.{AreGoodEdits, AreRead, EndsInLine, IsGood, IsGoodEdit, IsGoodEntry, IsNumber}
 use Rattle.mm_report.specs.Language.Script.{command_bytes, edit_bytes, edit_line, ended_text, entry_bytes, line_of, listed_bytes}
 use Rattle.mm_report.specs.Language.ScriptLaws.{HasReading, IsReadSo}
 use Rattle.mm_report.proofs.SplitLemmas.{Lacks}
-use Rattle.mm_report.proofs.WordDecidingLemmas.{IsOrNot, IsCommandLine, IsEditLine, command_line_or_not, edit_line_or_not, same_number}
+use Rattle.mm_report.proofs.WordDecidingLemmas.{IsCommandLine, IsEditLine, command_line_or_not, edit_line_or_not}
 use Rattle.mm_report.proofs.ScriptLemmas.{entry_some}
 use Rattle.mm_report.proofs.ScriptLineLemmas.{WithText, with_text}
 use Rattle.mm_report.proofs.JoinLemmas.{reading_behind, reading_done, reading_last}
@@ -27,12 +28,12 @@ record HasLine (bytes : List ℕ) : Type 0 where
 
 find_feed : (bytes : List ℕ) → HasLine bytes ⊎ Lacks 10 bytes
 find_feed [] = inr tt
-find_feed (b ∷ bytes) = by (same_number b 10) (find_feed bytes)
+find_feed (b ∷ bytes) = by (ℕ_discrete b 10) (find_feed bytes)
   where
-    by : (b ≡ 10) ⊎ (b ≢ 10) → HasLine bytes ⊎ Lacks 10 bytes → HasLine (b ∷ bytes) ⊎ Lacks 10 (b ∷ bytes)
-    by (inl e) r = inl (record { line = []; tail = bytes; is = ap (λ (x : ℕ). x ∷ bytes) e; lacks = tt })
-    by (inr e) (inl h) = inl (record { line = b ∷ h.line; tail = h.tail; is = ap (λ (x : List ℕ). b ∷ x) h.is; lacks = (e, h.lacks) })
-    by (inr e) (inr l) = inr (e, l)
+    by : Dec (b ≡ 10) → HasLine bytes ⊎ Lacks 10 bytes → HasLine (b ∷ bytes) ⊎ Lacks 10 (b ∷ bytes)
+    by (yes e) r = inl (record { line = []; tail = bytes; is = ap (λ (x : ℕ). x ∷ bytes) e; lacks = tt })
+    by (no e) (inl h) = inl (record { line = b ∷ h.line; tail = h.tail; is = ap (λ (x : List ℕ). b ∷ x) h.is; lacks = (e, h.lacks) })
+    by (no e) (inr l) = inr (e, l)
 
 -- what there is of a text of so many bytes and the line feed behind it
 data TextIs (count : ℕ) (bytes : List ℕ) : Type 0 where
@@ -42,11 +43,11 @@ data TextIs (count : ℕ) (bytes : List ℕ) : Type 0 where
 
 text_is : (count : ℕ) (bytes : List ℕ) → TextIs count bytes
 text_is count [] = short (omega arith)
-text_is zero (b ∷ bytes) = by (same_number b 10)
+text_is zero (b ∷ bytes) = by (ℕ_discrete b 10)
   where
-    by : (b ≡ 10) ⊎ (b ≢ 10) → TextIs zero (b ∷ bytes)
-    by (inl e) = whole [] bytes refl (ap (λ (x : ℕ). x ∷ bytes) e)
-    by (inr n) = other [] bytes b refl n refl
+    by : Dec (b ≡ 10) → TextIs zero (b ∷ bytes)
+    by (yes e) = whole [] bytes refl (ap (λ (x : ℕ). x ∷ bytes) e)
+    by (no n) = other [] bytes b refl n refl
 text_is (suc count) (b ∷ bytes) = by (text_is count bytes)
   where
     by : TextIs count bytes → TextIs (suc count) (b ∷ bytes)
@@ -89,11 +90,11 @@ record HasBlanks (bytes : List ℕ) : Type 0 where
 
 pass_blanks : (bytes : List ℕ) → HasBlanks bytes
 pass_blanks [] = record { blanks = 0; inner = []; is = refl; starts = inl refl }
-pass_blanks (b ∷ bytes) = by (same_number b 10) (pass_blanks bytes)
+pass_blanks (b ∷ bytes) = by (ℕ_discrete b 10) (pass_blanks bytes)
   where
-    by : (b ≡ 10) ⊎ (b ≢ 10) → HasBlanks bytes → HasBlanks (b ∷ bytes)
-    by (inl e) h = record { blanks = suc h.blanks; inner = h.inner; is = λ i. e i ∷ h.is i; starts = h.starts }
-    by (inr n) h = record { blanks = 0; inner = b ∷ bytes; is = refl; starts = inr (b, bytes, refl, n) }
+    by : Dec (b ≡ 10) → HasBlanks bytes → HasBlanks (b ∷ bytes)
+    by (yes e) h = record { blanks = suc h.blanks; inner = h.inner; is = λ i. e i ∷ h.is i; starts = h.starts }
+    by (no n) h = record { blanks = 0; inner = b ∷ bytes; is = refl; starts = inr (b, bytes, refl, n) }
 
 -- ---- how bytes begin
 
@@ -109,17 +110,9 @@ stop_by bytes others end e s = a_stop end (subst (λ (w : List ℕ). StopsSo w e
 
 -- ---- a batch
 
-none_ends : (front : List Listed) (x : Listed) → edited_text x.edit ≡ None → LastInLine (front ++ x ∷ [])
-none_ends (y ∷ z ∷ front) x e = none_ends (z ∷ front) x e
-none_ends _ x e = e
-
-good_more : (front : List Listed) (x : Listed) → AreGoodEdits front → IsGoodEdit x.edit → AreGoodEdits (front ++ x ∷ [])
-good_more [] x h g = (g, tt)
-good_more (y ∷ front) x h g = (h.0, good_more front x h.1 g)
-
 -- the last edit of a batch, without a text and without a line feed
 batch_last : (n : ℕ) (front : List Listed) (blanks : ℕ) (e : Asked) (bytes : List ℕ) → IsNumber n → AreGoodEdits front → IsGoodEdit e → edited_text e ≡ None → n ≡ length front + 1 → bytes ≡ batch_bytes n front blanks (edit_line e) → Begins bytes
-batch_last n front blanks e bytes number goods good none count is = a_last (Batch all) (subst IsNumber long number, good_more front one goods good) (none_ends front one none) (fed ∙ ap (λ (k : ℕ). batch_line k ++ 10 ∷ flat_map listed_bytes all) long)
+batch_last n front blanks e bytes number goods good none count is = a_last (Batch all) (subst IsNumber long number, good_more front one goods good) (last_in_line front one none) (fed ∙ ap (λ (k : ℕ). batch_line k ++ 10 ∷ flat_map listed_bytes all) long)
   where
     one : Listed
     one = record { blanks = blanks; edit = e }
@@ -140,10 +133,10 @@ batch_last n front blanks e bytes number goods good none count is = a_last (Batc
     fed = ap (λ (w : List ℕ). w ++ 10 ∷ []) is ∙ append_assoc (batch_line n) (10 ∷ (flat_map listed_bytes front ++ (replicate blanks 10 ++ edit_line e))) (10 ∷ []) ∙ ap (λ (w : List ℕ). batch_line n ++ 10 ∷ w) inside
 
 -- the next edit, whose line is not ended
-batch_unfed : (n k : ℕ) (front : List Listed) (blanks : ℕ) (inner bytes : List ℕ) → AreListed n front → length front + suc k ≡ n → inner ≢ [] → Lacks 10 inner → bytes ≡ batch_bytes n front blanks inner → IsOrNot (IsEditLine inner) → Begins bytes
-batch_unfed n k front blanks inner bytes are count some l is (inr none) =
+batch_unfed : (n k : ℕ) (front : List Listed) (blanks : ℕ) (inner bytes : List ℕ) → AreListed n front → length front + suc k ≡ n → inner ≢ [] → Lacks 10 inner → bytes ≡ batch_bytes n front blanks inner → Dec (IsEditLine inner) → Begins bytes
+batch_unfed n k front blanks inner bytes are count some l is (no none) =
     stop_by bytes (batch_bytes n front blanks inner) BadLine is (batch_bad_last n front blanks inner are (record { some = some; one_line = l; no_edit = λ e g q. none (record { edit = e; good = g; is = q }) }))
-batch_unfed n k front blanks inner bytes are count some l is (inl e) = by (edited_text e.edit) k refl count
+batch_unfed n k front blanks inner bytes are count some l is (yes e) = by (edited_text e.edit) k refl count
   where
     so : bytes ≡ batch_bytes n front blanks (edit_line e.edit)
     so = is ∙ ap (λ (w : List ℕ). batch_bytes n front blanks w) e.is
@@ -185,9 +178,9 @@ batch_next n k front s bytes number goods count is again h = starts h.starts
     edit (other_text e m text rest byte has l b q) =
         stop_by bytes (batch_bytes n front h.blanks (edit_line e ++ 10 ∷ (text ++ byte ∷ rest))) BadLine (so ∙ ap (λ (w : List ℕ). batch_bytes n front h.blanks w) q) (batch_text_bad n front h.blanks e m text rest byte are has l b)
 
-    fed : (f : HasLine h.inner) → f.line ≢ [] → IsOrNot (IsEditLine f.line) → Begins bytes
-    fed f some (inl e) = edit (edit_is h.inner f.line f.tail f.is e.edit e.good e.is)
-    fed f some (inr none) = stop_by bytes (batch_bytes n front h.blanks (f.line ++ 10 ∷ f.tail)) BadLine (so ∙ ap (λ (w : List ℕ). batch_bytes n front h.blanks w) f.is)
+    fed : (f : HasLine h.inner) → f.line ≢ [] → Dec (IsEditLine f.line) → Begins bytes
+    fed f some (yes e) = edit (edit_is h.inner f.line f.tail f.is e.edit e.good e.is)
+    fed f some (no none) = stop_by bytes (batch_bytes n front h.blanks (f.line ++ 10 ∷ f.tail)) BadLine (so ∙ ap (λ (w : List ℕ). batch_bytes n front h.blanks w) f.is)
         (batch_bad_line n front h.blanks f.line f.tail are (record { some = some; one_line = f.lacks; no_edit = λ e g q. none (record { edit = e; good = g; is = q }) }))
 
     line : (b : ℕ) (rest : List ℕ) → h.inner ≡ b ∷ rest → b ≢ 10 → HasLine h.inner ⊎ Lacks 10 h.inner → Begins bytes
@@ -214,14 +207,10 @@ change_is bytes (whole_edit e left g q) = an_entry (Given (Change e)) left g q
 change_is bytes (short_text e count part has less q) = stop_by bytes (edit_line e ++ 10 ∷ part) CutShort q (text_cut e count part has less)
 change_is bytes (other_text e count text more byte has l n q) = stop_by bytes (edit_line e ++ 10 ∷ (text ++ byte ∷ more)) BadLine q (text_bad e count text more byte has l n)
 
--- a command without anything behind its line
-lone : (bytes tail line : List ℕ) → bytes ≡ line ++ 10 ∷ tail → (others : List ℕ) → line ≡ others → bytes ≡ (others ++ 10 ∷ []) ++ tail
-lone bytes tail line k others e = k ∙ ap (λ (w : List ℕ). w ++ 10 ∷ tail) e ∙ sym (append_assoc others (10 ∷ []) tail)
-
 fed_is : (bytes line tail : List ℕ) → bytes ≡ line ++ 10 ∷ tail → (c : Command) → IsGood c → line ≡ line_of c → Begins bytes
 fed_is bytes line tail k (Change e) g is = change_is bytes (edit_is bytes line tail k e g is)
 fed_is bytes line tail k (Batch edits) g is = batch_is (length edits) (length edits) [] tail bytes g.0 tt (omega arith) (k ∙ ap (λ (w : List ℕ). w ++ 10 ∷ tail) is)
-fed_is bytes line tail k c g is = an_entry (Given c) tail g (lone bytes tail line k (line_of c) is)
+fed_is bytes line tail k c g is = an_entry (Given c) tail g (k ∙ ap (λ (w : List ℕ). w ++ 10 ∷ tail) is ∙ sym (append_assoc (line_of c) (10 ∷ []) tail))
 
 fed_line : (bytes others : List ℕ) → bytes ≡ others → bytes ++ 10 ∷ [] ≡ others ++ 10 ∷ []
 fed_line bytes others e = ap (λ (w : List ℕ). w ++ 10 ∷ []) e
@@ -236,13 +225,13 @@ unfed_is bytes (Batch []) g is = a_last (Batch []) g tt (fed_line bytes (line_of
 unfed_is bytes (Batch (x ∷ xs)) g is = stop_by bytes (batch_line (length (x ∷ xs))) CutShort is (batch_line_cut (length (x ∷ xs)) g.0 (omega arith))
 unfed_is bytes c g is = a_last c g tt (fed_line bytes (line_of c) is)
 
-unfed_line : (bytes : List ℕ) → Lacks 10 bytes → bytes ≢ [] → IsOrNot (IsCommandLine bytes) → Begins bytes
-unfed_line bytes l some (inl c) = unfed_is bytes c.command c.good c.is
-unfed_line bytes l some (inr none) = a_stop BadLine (bad_last bytes (record { some = some; one_line = l; no_command = λ c g q. none (record { command = c; good = g; is = q }) }))
+unfed_line : (bytes : List ℕ) → Lacks 10 bytes → bytes ≢ [] → Dec (IsCommandLine bytes) → Begins bytes
+unfed_line bytes l some (yes c) = unfed_is bytes c.command c.good c.is
+unfed_line bytes l some (no none) = a_stop BadLine (bad_last bytes (record { some = some; one_line = l; no_command = λ c g q. none (record { command = c; good = g; is = q }) }))
 
-fed_line_is : (bytes line tail : List ℕ) → bytes ≡ line ++ 10 ∷ tail → Lacks 10 line → line ≢ [] → IsOrNot (IsCommandLine line) → Begins bytes
-fed_line_is bytes line tail k l some (inl c) = fed_is bytes line tail k c.command c.good c.is
-fed_line_is bytes line tail k l some (inr none) = stop_by bytes (line ++ 10 ∷ tail) BadLine k (bad_line line tail (record { some = some; one_line = l; no_command = λ c g q. none (record { command = c; good = g; is = q }) }))
+fed_line_is : (bytes line tail : List ℕ) → bytes ≡ line ++ 10 ∷ tail → Lacks 10 line → line ≢ [] → Dec (IsCommandLine line) → Begins bytes
+fed_line_is bytes line tail k l some (yes c) = fed_is bytes line tail k c.command c.good c.is
+fed_line_is bytes line tail k l some (no none) = stop_by bytes (line ++ 10 ∷ tail) BadLine k (bad_line line tail (record { some = some; one_line = l; no_command = λ c g q. none (record { command = c; good = g; is = q }) }))
 
 -- all bytes begin in one of these ways
 begins_is : (bytes : List ℕ) → Begins bytes

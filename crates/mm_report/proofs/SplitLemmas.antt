@@ -1,6 +1,5 @@
 -- Lists that are joined by a byte which none of them has.
-use Rattle.std.proofs.Common.{◌≡◌, ◌≢◌, ℕ, Bool, true, false, not, ◌&&◌, List, [], ◌∷◌, ◌++◌, refl, sym, ap}
-use Rattle.std.specs.Prelude.{◌==◌, IsTrue}
+use Rattle.std.proofs.Common.{◌≡◌, ◌≢◌, ℕ, Bool, true, false, not, ◌&&◌, List, [], ◌∷◌, ◌++◌, refl, sym, ap, ◌==◌, IsTrue}
 use Rattle.std.specs.List.{AllByRecursion, list_all, join_with_byte}
 use Rattle.mm_report.specs.Language.Script.{is_word_byte}
 

@@ -1,11 +1,12 @@
 -- Whether bytes are the line of an edit or of a command.
-use Rattle.std.proofs.Common.{◌≡◌, ◌≢◌, ◌⊎◌, ℕ, ◌<◌, ◌≤◌, Bool, true, false, List, [], ◌∷◌, length, replicate, refl, sym, ap, ◌∙◌, subst, inl, inr, arith}
-use Rattle.std.specs.Prelude.{All, codes, decimal}
+use Rattle.std.proofs.Common.{◌≡◌, ◌≢◌, ◌⊎◌, ℕ, ◌<◌, ◌≤◌, true, false, List, [], ◌∷◌, length, replicate, refl, sym, ap, ◌∙◌, subst, inl, inr, arith, All, codes, decimal}
 use Rattle.std.specs.List.{AllByRecursion, list_all, join_with_byte, slice_split}
 use Rattle.std.specs.Str.Parse.{digits_value}
 use Rattle.std.proofs.Math.Dec.{eqb}
+use Rattle.std.proofs.Math.Decide.{map_dec, ℕ_discrete}
+use mathlib.Core.List.{List-discrete}
 use Rattle.std.proofs.lemmas.Bool.{cases_lt, ne_eqb}
-use Rattle.std.proofs.lemmas.Bool.Decides.{eqb_tells}
+use Rattle.std.proofs.Math.Bool.{Bool-discrete}
 use Rattle.std.proofs.lemmas.Fmt.{decimal_is_IsNumeral}
 use Rattle.std.proofs.lemmas.List.{length-replicate}
 use Rattle.std.proofs.lemmas.List.Elements.{All-from_recursion}
@@ -16,45 +17,17 @@ use Rattle.mm_report.proofs.SplitLemmas.{Lacks}
 use Rattle.mm_report.proofs.WordLemmas.{words_solid, has_first, small_number, HasFirst, lack_spaces}
 use Rattle.mm_report.proofs.ScriptBatchLemmas.{any_are_good, any_listed}
 
--- a fact, or that there is none
-abbrev pub IsOrNot : Type 0 → Type 0
-IsOrNot A = A ⊎ (¬ A)
+dec_and : {P Q : Type 0} → Dec P → Dec Q → Dec (P × Q)
+dec_and (yes p) (yes q) = yes (p, q)
+dec_and (no n) _ = no (λ h. n h.0)
+dec_and (yes p) (no n) = no (λ h. n h.1)
 
-pub same_number : (a b : ℕ) → IsOrNot (a ≡ b)
-same_number a b = by (eqb_tells a b)
-  where
-    by : ((eqb a b ≡ true) × (a ≡ b)) ⊎ ((eqb a b ≡ false) × (a ≢ b)) → IsOrNot (a ≡ b)
-    by (inl w) = inl w.1
-    by (inr w) = inr w.1
+same_bytes : (xs ys : List ℕ) → Dec (xs ≡ ys)
+same_bytes = List-discrete ℕ_discrete
 
--- lists are compared by their elements
-same_list : {X : Type 0} → ((x y : X) → IsOrNot (x ≡ y)) → (xs ys : List X) → IsOrNot (xs ≡ ys)
-same_list same [] [] = inl refl
-same_list same (x ∷ xs) (y ∷ ys) = by (same x y) (same_list same xs ys)
-  where
-    by : IsOrNot (x ≡ y) → IsOrNot (xs ≡ ys) → IsOrNot (x ∷ xs ≡ y ∷ ys)
-    by (inl e) (inl f) = inl (λ i. e i ∷ f i)
-    by (inr e) f = inr (λ (k : x ∷ xs ≡ y ∷ ys). let s : x ≡ y = cc in e s)
-    by (inl e) (inr f) = inr (λ (k : x ∷ xs ≡ y ∷ ys). let s : xs ≡ ys = cc in f s)
-same_list same _ _ = inr (λ e. cc)
-
-pub same_bytes : (xs ys : List ℕ) → IsOrNot (xs ≡ ys)
-same_bytes xs ys = same_list same_number xs ys
-
-true_or_not : (b : Bool) → IsOrNot (b ≡ true)
-true_or_not true = inl refl
-true_or_not false = inr (λ (e : false ≡ true). cc)
-
-same_words : (xs ys : List (List ℕ)) → IsOrNot (xs ≡ ys)
-same_words xs ys = same_list same_bytes xs ys
-
-name_or_not : (x : List ℕ) → IsOrNot (IsName x)
-name_or_not [] = inr (λ (h : IsName []). h.some refl)
-name_or_not (b ∷ x) = by (true_or_not (list_all is_word_byte (b ∷ x)))
-  where
-    by : IsOrNot (list_all is_word_byte (b ∷ x) ≡ true) → IsOrNot (IsName (b ∷ x))
-    by (inl e) = inl (record { some = λ (k : b ∷ x ≡ []). cc; bytes = e })
-    by (inr e) = inr (λ (h : IsName (b ∷ x)). e h.bytes)
+name_or_not : (x : List ℕ) → Dec (IsName x)
+name_or_not [] = no (λ (h : IsName []). h.some refl)
+name_or_not (b ∷ x) = map_dec (λ e. record { some = λ (k : b ∷ x ≡ []). cc; bytes = e }) (λ h. h.bytes) (Bool-discrete (list_all is_word_byte (b ∷ x)) true)
 
 -- the word is a number that a line can have
 record Spells (word : List ℕ) : Type 0 where
@@ -62,19 +35,15 @@ record Spells (word : List ℕ) : Type 0 where
   small : IsNumber number
   is : word ≡ decimal number
 
-value_of : (n : ℕ) → IsNumber n → digits_value 10 (decimal n) ≡ n
-value_of n h = (decimal_is_IsNumeral n (small_number n h)).1
-
-number_or_not : (word : List ℕ) → IsOrNot (Spells word)
+number_or_not : (word : List ℕ) → Dec (Spells word)
 number_or_not word = by (cases_lt 4294967295 (digits_value 10 word)) (same_bytes word (decimal (digits_value 10 word)))
   where
     value : (s : Spells word) → digits_value 10 word ≡ s.number
-    value s = ap (λ (w : List ℕ). digits_value 10 w) s.is ∙ value_of s.number s.small
+    value s = ap (λ (w : List ℕ). digits_value 10 w) s.is ∙ (decimal_is_IsNumeral s.number (small_number s.number s.small)).1
 
-    by : (4294967295 < digits_value 10 word) ⊎ (digits_value 10 word ≤ 4294967295) → IsOrNot (word ≡ decimal (digits_value 10 word)) → IsOrNot (Spells word)
-    by (inl h) e = inr (λ (s : Spells word). omega (arith, value s, s.small))
-    by (inr h) (inl e) = inl (record { number = digits_value 10 word; small = h; is = e })
-    by (inr h) (inr e) = inr (λ (s : Spells word). e (s.is ∙ ap decimal (sym (value s))))
+    by : (4294967295 < digits_value 10 word) ⊎ (digits_value 10 word ≤ 4294967295) → Dec (word ≡ decimal (digits_value 10 word)) → Dec (Spells word)
+    by (inl h) e = no (λ (s : Spells word). omega (arith, value s, s.small))
+    by (inr h) d = map_dec (λ e. record { number = digits_value 10 word; small = h; is = e }) (λ s. s.is ∙ ap decimal (sym (value s))) d
 
 -- ---- the words of lines
 
@@ -99,49 +68,41 @@ record Counts (keyword : List ℕ) (words : List (List ℕ)) : Type 0 where
   small_count : IsNumber count
   is : words ≡ keyword ∷ file ∷ decimal at ∷ decimal count ∷ []
 
-asks_or_not : (keyword : List ℕ) (words : List (List ℕ)) → IsOrNot (Asks keyword words)
-asks_or_not keyword (w ∷ l ∷ []) = by (same_bytes w keyword) (name_or_not l)
+asks_or_not : (keyword : List ℕ) (words : List (List ℕ)) → Dec (Asks keyword words)
+asks_or_not keyword (w ∷ l ∷ []) = map_dec (λ b. record { label = l; name = b.1; is = ap (λ (x : List ℕ). x ∷ l ∷ []) b.0 }) back (dec_and (same_bytes w keyword) (name_or_not l))
   where
-    by : IsOrNot (w ≡ keyword) → IsOrNot (IsName l) → IsOrNot (Asks keyword (w ∷ l ∷ []))
-    by (inl e) (inl n) = inl (record { label = l; name = n; is = ap (λ (x : List ℕ). x ∷ l ∷ []) e })
-    by (inr e) n = inr (λ a. let s : w ≡ keyword = cc in e s)
-    by (inl e) (inr n) = inr (λ a. let s : a.label ≡ l = cc in n (subst (λ (x : List ℕ). IsName x) s a.name))
-asks_or_not keyword _ = inr (λ a. cc)
+    back : Asks keyword (w ∷ l ∷ []) → (w ≡ keyword) × IsName l
+    back a = let s : a.label ≡ l = cc in (cc, subst IsName s a.name)
+asks_or_not keyword _ = no (λ a. cc)
 
-deletes_or_not : (words : List (List ℕ)) → IsOrNot (Deletes words)
-deletes_or_not (w ∷ f ∷ n ∷ []) = by (same_bytes w (codes "delete")) (name_or_not f) (number_or_not n)
+deletes_or_not : (words : List (List ℕ)) → Dec (Deletes words)
+deletes_or_not (w ∷ f ∷ n ∷ []) =
+    map_dec (λ b. record { file = f; name = b.1.0; at = b.1.1.number; small = b.1.1.small; is = λ i. b.0 i ∷ f ∷ b.1.1.is i ∷ [] }) back (dec_and (same_bytes w (codes "delete")) (dec_and (name_or_not f) (number_or_not n)))
   where
-    by : IsOrNot (w ≡ codes "delete") → IsOrNot (IsName f) → IsOrNot (Spells n) → IsOrNot (Deletes (w ∷ f ∷ n ∷ []))
-    by (inl e) (inl k) (inl s) = inl (record { file = f; name = k; at = s.number; small = s.small; is = λ i. e i ∷ f ∷ s.is i ∷ [] })
-    by (inr e) k s = inr (λ a. let h : w ≡ codes "delete" = cc in e h)
-    by (inl e) (inr k) s = inr (λ a. let h : a.file ≡ f = cc in k (subst (λ (x : List ℕ). IsName x) h a.name))
-    by (inl e) (inl k) (inr s) = inr (λ a. let h : n ≡ decimal a.at = cc in s (record { number = a.at; small = a.small; is = h }))
-deletes_or_not _ = inr (λ a. cc)
+    back : Deletes (w ∷ f ∷ n ∷ []) → (w ≡ codes "delete") × (IsName f × Spells n)
+    back a = let h : a.file ≡ f = cc in (cc, (subst IsName h a.name, record { number = a.at; small = a.small; is = cc }))
+deletes_or_not _ = no (λ a. cc)
 
-counts_or_not : (keyword : List ℕ) (words : List (List ℕ)) → IsOrNot (Counts keyword words)
-counts_or_not keyword (w ∷ f ∷ n ∷ c ∷ []) = by (same_bytes w keyword) (name_or_not f) (number_or_not n) (number_or_not c)
+counts_or_not : (keyword : List ℕ) (words : List (List ℕ)) → Dec (Counts keyword words)
+counts_or_not keyword (w ∷ f ∷ n ∷ c ∷ []) =
+    map_dec (λ b. record { file = f; name = b.1.0; at = b.1.1.0.number; small = b.1.1.0.small; count = b.1.1.1.number; small_count = b.1.1.1.small; is = λ i. b.0 i ∷ f ∷ b.1.1.0.is i ∷ b.1.1.1.is i ∷ [] }) back
+    (dec_and (same_bytes w keyword) (dec_and (name_or_not f) (dec_and (number_or_not n) (number_or_not c))))
   where
-    by : IsOrNot (w ≡ keyword) → IsOrNot (IsName f) → IsOrNot (Spells n) → IsOrNot (Spells c) → IsOrNot (Counts keyword (w ∷ f ∷ n ∷ c ∷ []))
-    by (inl e) (inl k) (inl s) (inl t) = inl (record { file = f; name = k; at = s.number; small = s.small; count = t.number; small_count = t.small; is = λ i. e i ∷ f ∷ s.is i ∷ t.is i ∷ [] })
-    by (inr e) k s t = inr (λ a. let h : w ≡ keyword = cc in e h)
-    by (inl e) (inr k) s t = inr (λ a. let h : a.file ≡ f = cc in k (subst (λ (x : List ℕ). IsName x) h a.name))
-    by (inl e) (inl k) (inr s) t = inr (λ a. let h : n ≡ decimal a.at = cc in s (record { number = a.at; small = a.small; is = h }))
-    by (inl e) (inl k) (inl s) (inr t) = inr (λ a. let h : c ≡ decimal a.count = cc in t (record { number = a.count; small = a.small_count; is = h }))
-counts_or_not keyword _ = inr (λ a. cc)
+    back : Counts keyword (w ∷ f ∷ n ∷ c ∷ []) → (w ≡ keyword) × (IsName f × (Spells n × Spells c))
+    back a = let h : a.file ≡ f = cc in (cc, (subst IsName h a.name, (record { number = a.at; small = a.small; is = cc }, record { number = a.count; small = a.small_count; is = cc })))
+counts_or_not keyword _ = no (λ a. cc)
 
 record Batches (words : List (List ℕ)) : Type 0 where
   count : ℕ
   small : IsNumber count
   is : words ≡ codes "batch" ∷ decimal count ∷ []
 
-batches_or_not : (words : List (List ℕ)) → IsOrNot (Batches words)
-batches_or_not (w ∷ n ∷ []) = by (same_bytes w (codes "batch")) (number_or_not n)
+batches_or_not : (words : List (List ℕ)) → Dec (Batches words)
+batches_or_not (w ∷ n ∷ []) = map_dec (λ b. record { count = b.1.number; small = b.1.small; is = λ i. b.0 i ∷ b.1.is i ∷ [] }) back (dec_and (same_bytes w (codes "batch")) (number_or_not n))
   where
-    by : IsOrNot (w ≡ codes "batch") → IsOrNot (Spells n) → IsOrNot (Batches (w ∷ n ∷ []))
-    by (inl e) (inl s) = inl (record { count = s.number; small = s.small; is = λ i. e i ∷ s.is i ∷ [] })
-    by (inr e) s = inr (λ b. let h : w ≡ codes "batch" = cc in e h)
-    by (inl e) (inr s) = inr (λ b. let h : n ≡ decimal b.count = cc in s (record { number = b.count; small = b.small; is = h }))
-batches_or_not _ = inr (λ b. cc)
+    back : Batches (w ∷ n ∷ []) → (w ≡ codes "batch") × Spells n
+    back b = (cc, record { number = b.count; small = b.small; is = cc })
+batches_or_not _ = no (λ b. cc)
 
 -- ---- a line
 
@@ -224,19 +185,19 @@ edit_words_are line = by (counts_or_not (codes "insert") ws) (counts_or_not (cod
     ws : List (List ℕ)
     ws = words_in line
 
-    by : IsOrNot (Counts (codes "insert") ws) → IsOrNot (Counts (codes "replace") ws) → IsOrNot (Counts (codes "move") ws) → IsOrNot (Deletes ws) → EditWords line
-    by (inl c) _ _ _ = an_edit (edit_by_words line (Insert c.file c.at (some_text c.count)) (c.name, c.small, subst IsNumber (sym (some_long c.count)) c.small_count) (with_count (codes "insert") ws c))
-    by (inr i) (inl c) _ _ = an_edit (edit_by_words line (Replace c.file c.at (some_text c.count)) (c.name, c.small, subst IsNumber (sym (some_long c.count)) c.small_count) (with_count (codes "replace") ws c))
-    by (inr i) (inr r) (inl c) _ = an_edit (edit_by_words line (Move c.file c.at c.count) (c.name, c.small, c.small_count) c.is)
-    by (inr i) (inr r) (inr m) (inl d) = an_edit (edit_by_words line (Delete d.file d.at) (d.name, d.small) d.is)
-    by (inr i) (inr r) (inr m) (inr d) = no_edit (record { insert = i; replace = r; move = m; delete = d })
+    by : Dec (Counts (codes "insert") ws) → Dec (Counts (codes "replace") ws) → Dec (Counts (codes "move") ws) → Dec (Deletes ws) → EditWords line
+    by (yes c) _ _ _ = an_edit (edit_by_words line (Insert c.file c.at (some_text c.count)) (c.name, c.small, subst IsNumber (sym (some_long c.count)) c.small_count) (with_count (codes "insert") ws c))
+    by (no i) (yes c) _ _ = an_edit (edit_by_words line (Replace c.file c.at (some_text c.count)) (c.name, c.small, subst IsNumber (sym (some_long c.count)) c.small_count) (with_count (codes "replace") ws c))
+    by (no i) (no r) (yes c) _ = an_edit (edit_by_words line (Move c.file c.at c.count) (c.name, c.small, c.small_count) c.is)
+    by (no i) (no r) (no m) (yes d) = an_edit (edit_by_words line (Delete d.file d.at) (d.name, d.small) d.is)
+    by (no i) (no r) (no m) (no d) = no_edit (record { insert = i; replace = r; move = m; delete = d })
 
-pub edit_line_or_not : (line : List ℕ) → IsOrNot (IsEditLine line)
+pub edit_line_or_not : (line : List ℕ) → Dec (IsEditLine line)
 edit_line_or_not line = by (edit_words_are line)
   where
-    by : EditWords line → IsOrNot (IsEditLine line)
-    by (an_edit e) = inl e
-    by (no_edit n) = inr (λ (e : IsEditLine line). no_edit_is (words_in line) n e.edit e.good (words_are (Change e.edit) e.good line e.is))
+    by : EditWords line → Dec (IsEditLine line)
+    by (an_edit e) = yes e
+    by (no_edit n) = no (λ (e : IsEditLine line). no_edit_is (words_in line) n e.edit e.good (words_are (Change e.edit) e.good line e.is))
 
 -- ---- the line of a command
 
@@ -261,24 +222,24 @@ no_command_is words n o (Users l) g e = o.users (record { label = l; name = g; i
 command_by_words : (line : List ℕ) (c : Command) → IsGood c → words_in line ≡ command_words c → IsCommandLine line
 command_by_words line c g k = record { command = c; good = g; is = sym (joined line) ∙ ap (λ (x : List (List ℕ)). join_with_byte 32 x) k }
 
-pub command_line_or_not : (line : List ℕ) → IsOrNot (IsCommandLine line)
+pub command_line_or_not : (line : List ℕ) → Dec (IsCommandLine line)
 command_line_or_not line = first (edit_words_are line)
   where
     ws : List (List ℕ)
     ws = words_in line
 
-    by : IsNoEdit ws → IsOrNot (Batches ws) → IsOrNot (ws ≡ codes "report" ∷ []) → IsOrNot (Asks (codes "verdict") ws) → IsOrNot (Asks (codes "axioms") ws) → IsOrNot (Asks (codes "cites") ws)
-        → IsOrNot (Asks (codes "users") ws) → IsOrNot (IsCommandLine line)
-    by n (inl b) _ _ _ _ _ = inl (command_by_words line (Batch (replicate b.count any_listed)) (subst IsNumber (sym (length-replicate b.count any_listed)) b.small, any_are_good b.count)
+    by : IsNoEdit ws → Dec (Batches ws) → Dec (ws ≡ codes "report" ∷ []) → Dec (Asks (codes "verdict") ws) → Dec (Asks (codes "axioms") ws) → Dec (Asks (codes "cites") ws)
+        → Dec (Asks (codes "users") ws) → Dec (IsCommandLine line)
+    by n (yes b) _ _ _ _ _ = yes (command_by_words line (Batch (replicate b.count any_listed)) (subst IsNumber (sym (length-replicate b.count any_listed)) b.small, any_are_good b.count)
         (b.is ∙ ap (λ (k : ℕ). codes "batch" ∷ decimal k ∷ []) (sym (length-replicate b.count any_listed))))
-    by n (inr b) (inl e) _ _ _ _ = inl (command_by_words line Report tt e)
-    by n (inr b) (inr r) (inl a) _ _ _ = inl (command_by_words line (Verdict a.label) a.name a.is)
-    by n (inr b) (inr r) (inr v) (inl a) _ _ = inl (command_by_words line (Axioms a.label) a.name a.is)
-    by n (inr b) (inr r) (inr v) (inr x) (inl a) _ = inl (command_by_words line (Cites a.label) a.name a.is)
-    by n (inr b) (inr r) (inr v) (inr x) (inr c) (inl a) = inl (command_by_words line (Users a.label) a.name a.is)
-    by n (inr b) (inr r) (inr v) (inr x) (inr c) (inr u) =
-        inr (λ (k : IsCommandLine line). no_command_is ws n (record { batch = b; report = r; verdict = v; axioms = x; cites = c; users = u }) k.command k.good (words_are k.command k.good line k.is))
+    by n (no b) (yes e) _ _ _ _ = yes (command_by_words line Report tt e)
+    by n (no b) (no r) (yes a) _ _ _ = yes (command_by_words line (Verdict a.label) a.name a.is)
+    by n (no b) (no r) (no v) (yes a) _ _ = yes (command_by_words line (Axioms a.label) a.name a.is)
+    by n (no b) (no r) (no v) (no x) (yes a) _ = yes (command_by_words line (Cites a.label) a.name a.is)
+    by n (no b) (no r) (no v) (no x) (no c) (yes a) = yes (command_by_words line (Users a.label) a.name a.is)
+    by n (no b) (no r) (no v) (no x) (no c) (no u) =
+        no (λ (k : IsCommandLine line). no_command_is ws n (record { batch = b; report = r; verdict = v; axioms = x; cites = c; users = u }) k.command k.good (words_are k.command k.good line k.is))
 
-    first : EditWords line → IsOrNot (IsCommandLine line)
-    first (an_edit e) = inl (record { command = Change e.edit; good = e.good; is = e.is })
-    first (no_edit n) = by n (batches_or_not ws) (same_words ws (codes "report" ∷ [])) (asks_or_not (codes "verdict") ws) (asks_or_not (codes "axioms") ws) (asks_or_not (codes "cites") ws) (asks_or_not (codes "users") ws)
+    first : EditWords line → Dec (IsCommandLine line)
+    first (an_edit e) = yes (record { command = Change e.edit; good = e.good; is = e.is })
+    first (no_edit n) = by n (batches_or_not ws) (List-discrete same_bytes ws (codes "report" ∷ [])) (asks_or_not (codes "verdict") ws) (asks_or_not (codes "axioms") ws) (asks_or_not (codes "cites") ws) (asks_or_not (codes "users") ws)

@@ -1,10 +1,10 @@
 -- The words of commands, and what follows from equal bytes.
-use Rattle.std.proofs.Common.{◌≡◌, ◌≢◌, ◌⊎◌, ℕ, zero, suc, ◌+◌, ◌*◌, ◌^◌, ◌%◌, ◌<◌, ◌≤◌, Bool, true, false, not, ◌&&◌, List, [], ◌∷◌, ◌++◌, length, length-append, replicate, refl, sym, ap, ◌∙◌, subst, arith, append_assoc, inl, inr}
+use Rattle.std.proofs.Common.{◌≡◌, ◌≢◌, ◌⊎◌, ℕ, zero, suc, ◌+◌, ◌*◌, ◌^◌, ◌%◌, ◌<◌, ◌≤◌, Bool, true, false, not, ◌&&◌, List, [], ◌∷◌, ◌++◌, length, length-append, replicate, refl, sym, ap, ◌∙◌, subst, arith, append_assoc, inl, inr, ne_eqb}
 use Rattle.std.specs.Prelude.{codes, decimal, slice_index, slice_index_or}
 use Rattle.std.specs.List.{AllByRecursion, flat_map, list_all, join_with_byte}
-use Rattle.std.proofs.lemmas.Bool.{ne_eqb}
 use Rattle.std.proofs.lemmas.List.{append-nil}
 use Rattle.std.proofs.lemmas.Fmt.{decimal_by_steps, decimal_injective}
+use Rattle.std.proofs.lemmas.Bool.{and_from}
 use Rattle.mm_keep.specs.mm_store.Language.Edits.{Asked, Insert, Replace, Delete, Move, edited_text}
 use Rattle.mm_report.specs.Language.Script.{Listed, Command, Change, Report, Verdict, Axioms, Cites, Users, Batch, edit_line, listed_bytes, edit_words, command_words, line_of, ended_text, behind_line, command_bytes}
 use Rattle.mm_report.specs.Language.Script.{is_word_byte, IsName, IsNumber, IsGoodEdit, AreGoodEdits, IsGood}
@@ -14,14 +14,11 @@ use Rattle.mm_report.proofs.SplitLemmas.{Lacks, split_at, same_words, join_lacks
 abbrev pub IsSolid : List ℕ → Type 0
 IsSolid w = list_all is_word_byte w ≡ true
 
-both_not : (a b : Bool) → a ≡ false → b ≡ false → (not a && not b) ≡ true
+pub both_not : (a b : Bool) → a ≡ false → b ≡ false → (not a && not b) ≡ true
 both_not a b e f = rw (e, f)
 
 digit_byte : (d : ℕ) → d < 10 → is_word_byte (48 + d) ≡ true
 digit_byte d small = both_not _ _ (ne_eqb (48 + d) 32 (λ (e : 48 + d ≡ 32). omega arith)) (ne_eqb (48 + d) 10 (λ (e : 48 + d ≡ 10). omega arith))
-
-and_true : (a b : Bool) → a ≡ true → b ≡ true → (a && b) ≡ true
-and_true a b e f = rw (e, f)
 
 first_true : (a b : Bool) → (a && b) ≡ true → a ≡ true
 first_true true b h = refl
@@ -33,10 +30,10 @@ second_true false b h = cc
 
 solid_more : (xs ys : List ℕ) → IsSolid xs → IsSolid ys → IsSolid (xs ++ ys)
 solid_more [] ys f g = g
-solid_more (x ∷ xs) ys f g = and_true _ _ (first_true _ _ f) (solid_more xs ys (second_true _ _ f) g)
+solid_more (x ∷ xs) ys f g = and_from _ _ (first_true _ _ f) (solid_more xs ys (second_true _ _ f) g)
 
 one_solid : (b : ℕ) → is_word_byte b ≡ true → IsSolid (b ∷ [])
-one_solid b h = and_true _ _ h refl
+one_solid b h = and_from _ _ h refl
 
 pub solid_decimal : (n : ℕ) → n < 2 ^ 64 → IsSolid (decimal n)
 solid_decimal n small = decimal_by_steps (λ (n : ℕ) (ds : List ℕ). IsSolid ds) (λ (n : ℕ) (h : n < 10). one_solid (48 + n) (digit_byte n h))

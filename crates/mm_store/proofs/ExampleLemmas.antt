@@ -1,6 +1,5 @@
 -- The worked examples of files, by computing.
-use Rattle.std.proofs.Common.{◌≡◌, ℕ, ◌+◌, ◌==◌, true, not, List, [], ◌∷◌, length, get_or, None, refl, ◌∙◌, codes, Contains, inl, inr, arith}
-use Rattle.std.proofs.lemmas.List.{append-nil}
+use Rattle.std.proofs.Common.{◌≡◌, ℕ, ◌+◌, ◌==◌, true, not, List, [], ◌∷◌, length, get_or, None, refl, ◌∙◌, codes, Contains, inl, inr, arith, append-nil}
 use Rattle.std.specs.List.{flat_map, list_all}
 use Rattle.std.specs.Str.{bytes_eq}
 use Rattle.std.proofs.lemmas.List.Sums.{AllPass-from_list_all}

@@ -29,13 +29,10 @@ use Rattle.mm_text.proofs.PieceUnitLemmas.{one_words, allowed_all, all_allowed, 
 
 -- ---- two texts, one behind the other
 
-seam : (a b : List ℕ) → ends_white a ≡ true → Seam a b
-seam a b white = ap (λ (x : Bool). x || ends_run b) white
-
 runs_joined : (a b : List ℕ) → ends_white a ≡ true → runs (a ++ b) ≡ runs a ++ map (shift_run (length a)) (runs b)
 runs_joined a b white =
     let place : 0 + length a ≡ length a + 0 = omega arith in
-    runs-append a b 0 (seam a b white) ∙ ap (λ (n : ℕ). runs a ++ runs_from n b) place ∙ ap (λ (rs : List Run). runs a ++ rs) (runs-shift (length a) 0 b)
+    runs-append a b 0 (ap (λ (x : Bool). x || ends_run b) white) ∙ ap (λ (n : ℕ). runs a ++ runs_from n b) place ∙ ap (λ (rs : List Run). runs a ++ rs) (runs-shift (length a) 0 b)
 
 allowed_front : (a b : List ℕ) → first_bad (a ++ b) ≡ None → first_bad a ≡ None
 allowed_front a b h = all_allowed a (subst (λ (bs : List ℕ). AllPass is_allowed bs) (take-append_seam a b) (All-take (λ x. is_allowed x ≡ true) (length a) (a ++ b) (allowed_all (a ++ b) h)))

@@ -1,10 +1,9 @@
 -- What the loop of `cut` keeps.
-use Rattle.std.proofs.Common.{◌≡◌, ◌≢◌, ◌⊎◌, ℕ, ◌+◌, ◌-◌, ◌<◌, ◌≤◌, true, inl, inr, List, [], ◌∷◌, ◌++◌, append_assoc, map, length, take, drop, None, Ok, Err, refl, sym, ap, ◌∙◌, subst, ⊎_elim, arith}
-use Rattle.std.specs.Prelude.{slice_range}
+use Rattle.std.proofs.Common.{◌≡◌, ◌≢◌, ◌⊎◌, ℕ, ◌+◌, ◌-◌, ◌<◌, ◌≤◌, true, inl, inr, List, [], ◌∷◌, ◌++◌, append_assoc, map, length, take, drop, None, Ok, Err, refl, sym, ap, ◌∙◌, subst, ⊎_elim, arith, slice_range}
 use Rattle.std.specs.List.{concat, prefix_len}
 use Rattle.std.proofs.lemmas.Bool.{cases_lt}
 use Rattle.std.proofs.Math.Seq.{take-append-add}
-use Rattle.std.proofs.lemmas.List.{append-nil, map-append, take-append-drop, take-append-le, length-append, length-map, length-take-le, take_all}
+use Rattle.std.proofs.lemmas.List.{append-nil, map-append, take-append-drop, take-append-le, length-append, length-map, length-take-le, take_all, nil_from_length}
 use Rattle.std.proofs.lemmas.List.Folds.{concat-append}
 use Rattle.mm_text.specs.declared.word.Word.{Word}
 use Rattle.mm_text.specs.declared.fault.TextNumber.{TextNumber}
@@ -89,10 +88,6 @@ progress_start text first = record {
 
 abbrev ok_step : m.Phase → ℕ → m.UnitStep
 ok_step phase depth = Ok (phase, depth)
-
-no_blocks : (blocks : List ℕ) → length blocks ≡ 0 → blocks ≡ []
-no_blocks [] e = refl
-no_blocks (start ∷ blocks) e = absurd (omega arith)
 
 module _ (text : List ℕ) (pieces : List (List ℕ)) (from at : ℕ) (phase : m.Phase) (first : ℕ) (blocks : List ℕ) (h : Progress text pieces from at phase first blocks) where
   runs_so_far : runs text ≡ (h.front ++ h.since) ++ runs_at text at
@@ -286,7 +281,7 @@ module _ (text : List ℕ) (pieces : List (List ℕ)) (from at : ℕ) (phase : m
             let same : m.phase_state next (length next_blocks) ≡ m.phase_state m.Begin 0 =
             let a : m.run m.Begin 0 (tokens_of text more_words) ≡ Ok (m.phase_state m.Begin 0) = ap (m.run m.Begin 0) (sym (take_all n (tokens_of text more_words) le))
             ∙ whole in let b : m.run m.Begin 0 (tokens_of text more_words) ≡ Ok (m.phase_state next (length next_blocks)) = part_next in cc in
-            on (ap (λ (s : m.Phase × ℕ). s.0) same, no_blocks next_blocks (ap (λ (s : m.Phase × ℕ). s.1) same))
+            on (ap (λ (s : m.Phase × ℕ). s.0) same, nil_from_length next_blocks (ap (λ (s : m.Phase × ℕ). s.1) same))
 
       pub progress_piece : first_bad text ≡ None → to ≤ length text → next ≡ m.Begin → next_blocks ≡ []
           → Progress text (pieces ++ ended (slice_range text from (to + prefix_len is_white (drop to text))) ∷ []) (to + prefix_len is_white (drop to text)) to next next_first next_blocks

@@ -2,7 +2,7 @@
 use Rattle.std.proofs.Common.{◌≡◌, ℕ, suc, zero, ◌<◌, ◌≤◌, Bool, true, false, not, cond, eqb, ◌||◌, List, [], ◌∷◌, length, get_or, drop, Option, IfSome, Some, None, Contains, refl, sym, ap, ◌∙◌, subst, arith, inl, inr, ◌⊎◌, eq-eqb}
 use Rattle.std.specs.List.{list_any, prefix_len}
 use Rattle.std.specs.Prelude.{option_map, ◌==◌}
-use Rattle.std.proofs.lemmas.Bool.{cases_Bool, cond-false, eqb-true, ne_eqb, false≢true, or_left, or_right, or_cases, and_parts, false_from_ne_true}
+use Rattle.std.proofs.lemmas.Bool.{cases_Bool, cond-false, eqb-true, ne_eqb, false≢true, or_left, or_right, or_cases, and_parts, false_from_ne_true, not-true}
 use Rattle.mm_text.specs.declared.word.Keyword.{Keyword}
 use Rattle.mm_text.specs.declared.word.Keyword.TheVariants.{BlockStart, BlockEnd, Constants, Variables, Floating, Essential, Disjoint, Axiom, Theorem, StatementEnd, ProofStart, InclusionStart, InclusionEnd}
 use Rattle.mm_text.specs.declared.word.WordKind.{WordKind}
@@ -139,12 +139,8 @@ stands_mark bytes h = stands_at bytes h.0 h.1
 
 -- ---- runs without a `$`
 
-none_there : (b : Bool) → not b ≡ true → b ≡ false
-none_there true e = absurd cc
-none_there false e = refl
-
 pub plain_word : (bytes : List ℕ) → not (has_dollar bytes) ≡ true → word_kind bytes ≡ Some kinds.Plain
-plain_word bytes none = spelled_kind kinds.Plain bytes (λ h. false≢true (sym (none_there (has_dollar bytes) none) ∙ contains_any bytes h))
+plain_word bytes none = spelled_kind kinds.Plain bytes (λ h. false≢true (sym (not-true (has_dollar bytes) none) ∙ contains_any bytes h))
 
 mark_dollar : (bytes : List ℕ) → holds_mark bytes ≡ true → has_dollar bytes ≡ true
 mark_dollar (a ∷ b ∷ bytes) e =
@@ -155,4 +151,4 @@ mark_dollar (a ∷ b ∷ bytes) e =
 mark_dollar _ e = absurd cc
 
 pub no_mark : (bytes : List ℕ) → not (has_dollar bytes) ≡ true → ¬ HoldsMark bytes
-no_mark bytes none h = false≢true (sym (none_there (has_dollar bytes) none) ∙ mark_dollar bytes (stands_mark bytes h))
+no_mark bytes none h = false≢true (sym (not-true (has_dollar bytes) none) ∙ mark_dollar bytes (stands_mark bytes h))

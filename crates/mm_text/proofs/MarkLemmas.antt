@@ -1,6 +1,5 @@
 -- The marks of comments in a run, from left to right.
-use Rattle.std.proofs.Common.{◌≡◌, ℕ, suc, ◌-◌, ◌<◌, ◌≤◌, Bool, false, ◌||◌, List, ◌∷◌, length, drop, get_or, refl, ap, ◌∙◌, arith, drop-cons}
-use Rattle.std.proofs.lemmas.List.{length-drop}
+use Rattle.std.proofs.Common.{◌≡◌, ℕ, suc, ◌-◌, ◌<◌, ◌≤◌, Bool, false, ◌||◌, List, ◌∷◌, length, drop, get_or, refl, ap, ◌∙◌, arith, drop-cons, length-drop}
 use Rattle.mm_text.specs.Code.LeftToRight.{is_mark, holds_mark}
 
 mark_at : (run : List ℕ) (k : ℕ) → suc k < length run → holds_mark (drop k run) ≡ (is_mark (get_or run k 0) (get_or run (suc k) 0) || holds_mark (drop (suc k) run))

@@ -1,9 +1,9 @@
 -- The parts that are found word by word are those of the units.
-use Rattle.std.proofs.Common.{◌≡◌, ◌⊎◌, ℕ, ◌-◌, ◌+◌, ◌<◌, ◌≤◌, Bool, true, false, List, [], ◌∷◌, ◌++◌, append_assoc, length, map, drop, Option, Some, None, Ok, Err, All, refl, sym, ap, ◌∙◌, subst, inl, inr, arith}
-use Rattle.std.specs.Prelude.{slice_range, unwrap_or, if◌then◌else◌}
+use Rattle.std.proofs.Common.{◌≡◌, ◌⊎◌, ℕ, ◌-◌, ◌+◌, ◌<◌, ◌≤◌, Bool, true, false, List, [], ◌∷◌, ◌++◌, append_assoc, length, map, drop, Option, Some, None, Ok, Err, All, refl, sym, ap, ◌∙◌, subst, inl, inr, arith, slice_range, unwrap_or, if◌then◌else◌}
 use Rattle.std.specs.List.{AllByRecursion}
 use Rattle.std.proofs.lemmas.List.{append-nil, take-append-drop, append_cancel_right, drop-drop, length-append, length-map}
 use Rattle.std.proofs.lemmas.List.Elements.{All-nil, All-cons, All-append}
+use Rattle.std.proofs.Math.Bool.{or-true}
 use Rattle.mm_text.specs.declared.part.Part.{Part}
 use Rattle.mm_text.specs.declared.part.PartKind.{PartKind}
 use Rattle.mm_text.specs.declared.part.PartKind.TheVariants as parts
@@ -168,7 +168,7 @@ begun_words text start to allowed most h ends = (words.0, record { allowed = all
       omega (arith, h.before) in sym (take-append-drop (to - start) (drop start text)) ∙ ap (λ (bs : List ℕ). slice_range text start to ++ bs) (drop-drop (to - start) start text ∙ ap (λ (n : ℕ). drop n text) place)
 
   seam : Seam (slice_range text start to) (drop to text)
-  seam = rw ends (or_true (ends_white (slice_range text start to)))
+  seam = rw ends (or-true (ends_white (slice_range text start to)))
 
   own_runs : runs_from start (slice_range text start to) ≡ h.since
   own_runs =

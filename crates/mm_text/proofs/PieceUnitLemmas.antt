@@ -1,13 +1,14 @@
 -- A part of a text with one unit is a piece.
-use Rattle.std.proofs.Common.{◌≡◌, ◌⊎◌, ℕ, ◌+◌, ◌-◌, ◌<◌, ◌≤◌, Bool, true, false, not, ◌||◌, List, [], ◌∷◌, ◌++◌, append_assoc, map, length, take, drop, get_or, Option, Some, None, Ok, Err, refl, sym, ap, ◌∙◌, subst, inl, inr, arith}
+use Rattle.std.proofs.Common.{◌≡◌, ◌⊎◌, ℕ, ◌+◌, ◌-◌, ◌<◌, ◌≤◌, Bool, true, false, not, ◌||◌, List, [], ◌∷◌, ◌++◌, append_assoc, map, length, take, drop, get_or, Option, Some, None, Ok, Err, refl, sym, ap, ◌∙◌, subst, inl, inr, arith, one-add}
 use Rattle.std.specs.Prelude.{slice_range}
 use Rattle.std.specs.List.{AllByRecursion, AllPass, prefix_len}
 use Rattle.std.proofs.Math.Seq.{take-add, take-append_seam, drop-append_seam}
-use Rattle.std.proofs.lemmas.Bool.{cases_Bool, false≢true}
+use Rattle.std.proofs.lemmas.Bool.{cases_Bool, false≢true, not-false}
 use Rattle.std.proofs.lemmas.List.{append-nil, take-append-drop, append_cancel_right, take-append-le, drop-append-le, drop-drop, length-append, length-map, length-take-le, length-drop, take-map}
 use Rattle.std.proofs.lemmas.List.Elements.{All-append, All-take, All-drop, All-nil, All-cons}
 use Rattle.std.proofs.lemmas.List.Quantifiers.{position-Some}
 use Rattle.std.proofs.lemmas.List.Sums.{prefix_len-le-length}
+use Rattle.std.proofs.Math.Bool.{or-true}
 use Rattle.mm_text.specs.declared.word.Word.{Word}
 use Rattle.mm_text.specs.declared.word.WordKind.{WordKind}
 use Rattle.mm_text.specs.Language.Run.{Run, runs, runs_from, is_white, ends_run}
@@ -27,7 +28,7 @@ use Rattle.mm_text.proofs.PieceLemmas.{feed_white, Seam, runs-append, shift_word
 -- ---- bytes that a text may hold
 
 pub allowed_all : (text : List ℕ) → first_bad text ≡ None → AllPass is_allowed text
-allowed_all text e k d lt = passes (is_allowed (get_or text k d)) (none_found (λ b. not (is_allowed b)) text e k d lt)
+allowed_all text e k d lt = not-false (is_allowed (get_or text k d)) (none_found (λ b. not (is_allowed b)) text e k d lt)
 
 pub all_allowed : (text : List ℕ) → AllPass is_allowed text → first_bad text ≡ None
 all_allowed text h = by_place (first_bad text) refl where
@@ -65,7 +66,7 @@ AllWhite bytes = AllByRecursion (λ b. is_white b ≡ true) bytes
 
 prefix_white : (bytes : List ℕ) → AllWhite (take (prefix_len is_white bytes) bytes)
 prefix_white [] = tt
-prefix_white (b ∷ bytes) = elim (cases_Bool (is_white b)) [ inl white ↦ rw white (rw (one_more (prefix_len is_white bytes)) (white, prefix_white bytes)) | inr solid ↦ rw solid tt ]
+prefix_white (b ∷ bytes) = elim (cases_Bool (is_white b)) [ inl white ↦ rw white (rw (one-add (prefix_len is_white bytes)) (white, prefix_white bytes)) | inr solid ↦ rw solid tt ]
 
 white_ends : (bytes : List ℕ) → AllWhite bytes → ends_white bytes ≡ true
 white_ends [] h = refl
@@ -78,7 +79,7 @@ white_pass (b ∷ bytes) h = All-cons (λ b. is_white b ≡ true) b bytes h.0 (w
 
 pub solid_behind : (bytes : List ℕ) → BeginsSolid (drop (prefix_len is_white bytes) bytes)
 solid_behind [] = tt
-solid_behind (b ∷ bytes) = elim (cases_Bool (is_white b)) [ inl white ↦ rw white (rw (one_more (prefix_len is_white bytes)) (solid_behind bytes)) | inr solid ↦ rw solid solid ]
+solid_behind (b ∷ bytes) = elim (cases_Bool (is_white b)) [ inl white ↦ rw white (rw (one-add (prefix_len is_white bytes)) (solid_behind bytes)) | inr solid ↦ rw solid solid ]
 
 pub solid_ended : (bytes : List ℕ) → BeginsSolid bytes → BeginsSolid (ended bytes)
 solid_ended [] h = tt
@@ -88,18 +89,14 @@ solid_end : (bytes : List ℕ) → BeginsSolid bytes → ends_run bytes ≡ true
 solid_end [] h e = refl
 solid_end (b ∷ bytes) h e = absurd (false≢true (sym h ∙ e))
 
-pub or_true : (b : Bool) → (b || true) ≡ true
-or_true true = refl
-or_true false = refl
-
 seam_at : (before white rest : List ℕ) → AllWhite white → (white ≡ [] → ends_run rest ≡ true) → Seam (before ++ white) rest
-seam_at before [] rest h ends = ap (λ (b : Bool). ends_white (before ++ []) || b) (ends refl) ∙ or_true (ends_white (before ++ []))
+seam_at before [] rest h ends = ap (λ (b : Bool). ends_white (before ++ []) || b) (ends refl) ∙ or-true (ends_white (before ++ []))
 seam_at before (w ∷ white) rest h ends = ap (λ (b : Bool). b || ends_run rest) (ends_behind before white w ∙ white_ends (w ∷ white) h)
 
 -- behind the white space is the end, if there is none
 no_white_end : (bytes : List ℕ) → ends_run bytes ≡ true → take (prefix_len is_white bytes) bytes ≡ [] → ends_run (drop (prefix_len is_white bytes) bytes) ≡ true
 no_white_end [] ends none = refl
-no_white_end (b ∷ bytes) ends none = let first : b ∷ take (prefix_len is_white bytes) bytes ≡ [] = rw (one_more (prefix_len is_white bytes)) at (rw ends at none) in absurd cc
+no_white_end (b ∷ bytes) ends none = let first : b ∷ take (prefix_len is_white bytes) bytes ≡ [] = rw (one-add (prefix_len is_white bytes)) at (rw ends at none) in absurd cc
 
 -- ---- words of a part
 

@@ -1,10 +1,8 @@
 -- Where the words of a text lie, and which bytes a text has.
-use Rattle.std.proofs.Common.{◌≡◌, ℕ, ◌+◌, ◌-◌, ◌<◌, ◌≤◌, Bool, true, false, not, ◌||◌, ◌&&◌, eqb, List, [], ◌∷◌, ◌++◌, append_assoc, length, take, drop, get_or, Option, Some, None, IfSome, Result}
+use Rattle.std.proofs.Common.{◌≡◌, ℕ, ◌+◌, ◌-◌, ◌<◌, ◌≤◌, Bool, true, false, not, ◌||◌, ◌&&◌, eqb, List, [], ◌∷◌, ◌++◌, append_assoc, length, take, drop, get_or, Option, Some, None, IfSome, Result, length-append, nat_le, nat_lt, slice_range, slice_get}
 use Rattle.std.proofs.Common.{Err, IfErr, All, AllPairs, refl, sym, ap, ◌∙◌, subst, arith, inl, inr}
-use Rattle.std.specs.Prelude.{nat_le, nat_lt, slice_range, slice_get}
 use Rattle.std.specs.List.{flat_map, AllByRecursion, position, position_or_len}
-use Rattle.std.proofs.lemmas.Bool.{cases_Bool, false≢true, or_cases, and_parts, eqb-true, leb-true, ltb-false}
-use Rattle.std.proofs.lemmas.List.{length-append}
+use Rattle.std.proofs.lemmas.Bool.{cases_Bool, false≢true, or_cases, and_parts, eqb-true, leb-true, ltb-false, not-false}
 use Rattle.std.proofs.lemmas.Option.{slice_get_within, get_or_from_slice_get}
 use Rattle.std.proofs.lemmas.List.Elements.{All-nil, All-cons}
 use Rattle.std.proofs.lemmas.List.Kept.{AllPairs-cons}
@@ -166,13 +164,9 @@ none_found test bytes e k d lt =
       | inr none ↦ let most = ltb-false (position_or_len test bytes) (length bytes) none in fails_before_first test bytes k d (omega (arith, lt, most))
     ]
 
-pub passes : (b : Bool) → not b ≡ false → b ≡ true
-passes true e = refl
-passes false e = absurd cc
-
 -- a text without a bad byte has only bytes below 127
 pub all_below : (text : List ℕ) → first_bad text ≡ None → All (λ b. b < 127) text
-all_below text e k d lt = allowed_below (get_or text k d) (passes (is_allowed (get_or text k d)) (none_found (λ b. not (is_allowed b)) text e k d lt))
+all_below text e k d lt = allowed_below (get_or text k d) (not-false (is_allowed (get_or text k d)) (none_found (λ b. not (is_allowed b)) text e k d lt))
 
 -- the n-th word of a text lies in it
 pub nth_lies : (text : List ℕ) (words : List Word) (n : ℕ) (found : Option Word) → HasWords text words → found ≡ slice_get words n → IfSome found (LiesIn text)

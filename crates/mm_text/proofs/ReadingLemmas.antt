@@ -1,9 +1,8 @@
 -- What is read from left to right is the meaning of the runs.
-use Rattle.std.proofs.Common.{◌≡◌, ◌≢◌, ℕ, ◌+◌, true, false, List, [], ◌∷◌, ◌++◌, length, append_assoc, Option, Some, None, Ok, Err, refl, sym, ap, ◌∙◌, subst, inl, inr}
+use Rattle.std.proofs.Common.{◌≡◌, ◌≢◌, ℕ, ◌+◌, true, false, List, [], ◌∷◌, ◌++◌, length, append_assoc, Option, Some, None, Ok, Err, refl, sym, ap, ◌∙◌, subst, inl, inr, append-nil}
 use Rattle.std.specs.List.{flat_map, AllByRecursion}
 use Rattle.std.specs.Str.{bytes_eq}
 use Rattle.std.proofs.lemmas.Bool.{cases_Bool, false≢true}
-use Rattle.std.proofs.lemmas.List.{append-nil}
 use Rattle.std.proofs.lemmas.Grind.{flat_map-append}
 use Rattle.std.proofs.lemmas.Slice.Eq.{bytes_eq-Decides}
 use Rattle.mm_text.specs.declared.word.Word.{Word}
@@ -79,9 +78,6 @@ close_step start seen words run h closes =
 abbrev pub made_word : WordKind → ℕ → ℕ → Word
 made_word kind start end = record { kind = kind; start = start; end = end }
 
-word_is : (run : Run) (word : Word) → IsWord run word → word_at run word.kind ≡ word
-word_is run word is = ap (λ (s : ℕ). made_word word.kind s (run.start + length run.bytes)) (sym is.start) ∙ ap (λ (e : ℕ). made_word word.kind word.start e) (sym is.end)
-
 not_opening : (kind : WordKind) (bytes : List ℕ) → IsSpelled kind bytes → bytes ≢ opening
 not_opening kind bytes is e = let found : word_kind opening ≡ Some kind = ap word_kind (sym e) ∙ spelled_kind kind bytes is in cc
 
@@ -92,7 +88,7 @@ read_word : (run : Run) (word : Word) (tail : List Run) → IsWord run word → 
 read_word run word tail is =
     outside_word run tail (not_opening word.kind run.bytes is.kind) (not_closing word.kind run.bytes is.kind)
     ∙ ap (λ (k : Option WordKind). word_alone run k (read_runs None tail)) (spelled_kind word.kind run.bytes is.kind)
-    ∙ ap (λ (w : Word). cons_word w (read_runs None tail)) (word_is run word is)
+    ∙ ap (λ (w : Word). cons_word w (read_runs None tail)) (ap (λ (s : ℕ). made_word word.kind s (run.start + length run.bytes)) (sym is.start) ∙ ap (λ (e : ℕ). made_word word.kind word.start e) (sym is.end))
 
 no_mark_is : (bytes : List ℕ) → ¬ HoldsMark bytes → holds_mark bytes ≡ false
 no_mark_is bytes no_mark = elim (cases_Bool (holds_mark bytes)) [ inl e ↦ absurd (no_mark (mark_stands bytes e)) | inr e ↦ e ]

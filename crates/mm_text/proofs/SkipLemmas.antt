@@ -1,7 +1,6 @@
 -- Runs without a `$`, passed over at once.
-use Rattle.std.proofs.Common.{◌≡◌, ℕ, zero, suc, get_or, ◌+◌, ◌≤◌, ◌<◌, Bool, true, false, not, ◌||◌, eqb, Ok, Err, List, [], ◌∷◌, ◌++◌, append_assoc, length, take, drop, map, refl, sym, ap, ◌∙◌, inl, inr, arith}
-use Rattle.std.proofs.lemmas.Bool.{cases_Bool, false_from_ne_true}
-use Rattle.std.proofs.lemmas.List.{drop-drop, length-take-le, take-append-drop}
+use Rattle.std.proofs.Common.{◌≡◌, ℕ, zero, suc, get_or, ◌+◌, ◌≤◌, ◌<◌, Bool, true, false, not, ◌||◌, eqb, Ok, Err, List, [], ◌∷◌, ◌++◌, append_assoc, length, take, drop, map, refl, sym, ap, ◌∙◌, inl, inr, arith, drop-drop, length-take-le, take-append-drop}
+use Rattle.std.proofs.lemmas.Bool.{cases_Bool, false_from_ne_true, or_parts}
 use Rattle.std.specs.List.{AllByRecursion}
 use Rattle.mm_text.specs.declared.word.Word.{Word}
 use Rattle.mm_text.specs.declared.word.WordKind.TheVariants as kinds
@@ -24,10 +23,6 @@ none_before (suc r) (b ∷ bytes) le h = rw (false_from_ne_true (eqb b 36) (h 0 
 
 -- ---- runs of bytes without a `$`
 
-neither : (a b : Bool) → (a || b) ≡ false → (a ≡ false) × (b ≡ false)
-neither true b e = absurd cc
-neither false b e = (refl, e)
-
 front_plain : (at b : ℕ) (runs : List Run) → eqb b 36 ≡ false → ArePlain runs → ArePlain (with_front at b runs)
 front_plain at b [] other h = tt
 front_plain at b (run ∷ runs) other h = (rw other h.0, h.1)
@@ -35,7 +30,7 @@ front_plain at b (run ∷ runs) other h = (rw other h.0, h.1)
 runs_plain : (at : ℕ) (bytes : List ℕ) → has_dollar bytes ≡ false → ArePlain (runs_from at bytes)
 runs_plain at [] none = tt
 runs_plain at (b ∷ bytes) none =
-    let parts = neither (eqb b 36) (has_dollar bytes) none in
+    let parts = or_parts (eqb b 36) (has_dollar bytes) none in
     let more = runs_plain (at + 1) bytes parts.1 in
     elim (cases_Bool (is_white b)) [
       | inl white ↦ rw white more

@@ -1,4 +1,3 @@
 -- Lists, whatever they are of.
 
 pub mod Members
-pub mod PlaceLemmas

@@ -1,5 +1,4 @@
-use Rattle.std.proofs.Common.{◌≡◌, ℕ, suc, ◌+◌, ◌∙◌, ap, arith}
-use Rattle.std.specs.Prelude.{drop}
+use Rattle.std.proofs.Common.{◌≡◌, ℕ, suc, ◌+◌, ◌∙◌, ap, arith, drop}
 use Rattle.mm_frame.specs.Code.BlockMarks.{stays_by}
 use Rattle.mm_frame.proofs.active.is_active_behind.Goals as goal
 

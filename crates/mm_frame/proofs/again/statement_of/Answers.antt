@@ -1,5 +1,4 @@
-use Rattle.std.proofs.Common.{List, ℕ, sym, subst}
-use Rattle.std.specs.Prelude.{IfSome}
+use Rattle.std.proofs.Common.{List, ℕ, sym, subst, IfSome}
 use Rattle.mm_frame.specs.Code.KnownItem.{IsKnown, numbers_of}
 use Rattle.mm_frame.specs.Code.Numbers.{AreNameNumbers}
 use Rattle.mm_frame.proofs.lemmas.reading.KnownItems.{numbers_on}

@@ -22,14 +22,12 @@ loop-n-preserved c =
           (inv.2 all (begins_on _ _ _ c.take.ensures.grows more)) (more c.in_ok-number.number c.symbol.result.now c.in_ok-number.ensures.named),
     )
 
-pub returns-clause-count : goal.returns-clause-count
-returns-clause-count c = let count = c.loop-n.invariant.1 in omega (arith, c.symbol_count-n-end.ensures, c.loop-n-test.false, c.loop-n.auto.n-end)
-
-pub returns-clause-numbers : goal.returns-clause-numbers
-returns-clause-numbers c = λ all more. subst (AreNameNumbers all c.loop-n.numbers.items) (take_all c.loop-n.n c.args.statement.now.symbols (omega (arith, c.symbol_count-n-end.ensures, c.loop-n-test.false))) (c.loop-n.invariant.2 all more)
-
-pub returns-clause-grows : goal.returns-clause-grows
-returns-clause-grows c = c.loop-n.invariant.0
+pub returns : goal.returns
+returns c = record {
+  count = let count = c.loop-n.invariant.1 in omega (arith, c.symbol_count-n-end.ensures, c.loop-n-test.false, c.loop-n.auto.n-end);
+  numbers = λ all more. subst (AreNameNumbers all c.loop-n.numbers.items) (take_all c.loop-n.n c.args.statement.now.symbols (omega (arith, c.symbol_count-n-end.ensures, c.loop-n-test.false))) (c.loop-n.invariant.2 all more);
+  grows = c.loop-n.invariant.0;
+}
 
 pub returns-in_err-number-clause-grows : goal.returns-in_err-number-clause-grows
 returns-in_err-number-clause-grows c = begins_on _ _ _ c.loop-n.invariant.0 c.take.ensures.grows

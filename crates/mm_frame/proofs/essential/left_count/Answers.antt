@@ -1,5 +1,4 @@
-use Rattle.std.proofs.Common.{◌≡◌, suc, ◌-◌, ◌<◌, false, drop, arith, refl, sym, subst, inl, inr}
-use Rattle.std.specs.Prelude.{Contains}
+use Rattle.std.proofs.Common.{◌≡◌, suc, ◌-◌, ◌<◌, false, drop, arith, refl, sym, subst, inl, inr, Contains}
 use Rattle.mm_frame.specs.declared.essential.EssentialVariable.{EssentialVariable}
 use Rattle.mm_frame.proofs.lemmas.frames.VariableLemmas.{one_gone}
 use Rattle.mm_frame.proofs.essential.left_count.Goals as goal

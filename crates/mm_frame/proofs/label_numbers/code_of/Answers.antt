@@ -1,5 +1,4 @@
-use Rattle.std.proofs.Common.{◌≤◌, ◌<◌, ◌^◌, length, drop, slice_index_or, ◌-◌, suc, sym, ◌∙◌, arith}
-use Rattle.std.proofs.lemmas.Bool.{leb-true}
+use Rattle.std.proofs.Common.{◌≤◌, ◌<◌, ◌^◌, length, drop, slice_index_or, ◌-◌, suc, sym, ◌∙◌, arith, leb-true}
 use Rattle.mm_frame.specs.Code.KeptLabels.{label_code}
 use Rattle.mm_frame.proofs.lemmas.names.LabelCodes.{code_fits}
 use Rattle.mm_frame.proofs.label_numbers.code_of.Goals as goal

@@ -1,5 +1,5 @@
 -- Rows kept of the items, one more item, and what a base answers.
-use Rattle.std.proofs.Common.{◌≡◌, ℕ, zero, suc, ◌<◌, ◌≤◌, Bool, true, Option, Some, None, List, [], ◌∷◌, ◌++◌, length, take, drop, slice_get, append_assoc}
+use Rattle.std.proofs.Common.{◌≡◌, ℕ, zero, suc, ◌<◌, ◌≤◌, Bool, true, Option, Some, None, List, [], ◌∷◌, ◌++◌, length, take, drop, slice_get, append_assoc, IfSome, All}
 use Rattle.std.proofs.Common.{append-nil, ◌&&◌, ◌||◌, cond, get_or, is_none, is_some, not, false, refl, sym, ◌∙◌, ap, subst, arith, inl, inr}
 use Rattle.std.specs.Option.{option_map}
 use Rattle.std.specs.List.{AllZip}
@@ -8,8 +8,8 @@ use Rattle.std.proofs.Math.ListN.{get_or-append}
 use Rattle.std.proofs.Math.Seq.{take-suc}
 use Rattle.std.proofs.lemmas.List.{length_push, get_or_push, take-append-le, length-take-le}
 use Rattle.std.proofs.lemmas.Option.{slice_get_within, slice_get_cases, none-some}
-use Rattle.std.specs.Prelude.{IfSome, All}
 use Rattle.std.proofs.lemmas.List.Elements.{All-nil}
+use Rattle.mm_frame.proofs.lemmas.frames.Frames.{essential_neither}
 use Rattle.mm_frame.specs.declared.FrameNumber.{FrameNumber}
 use Rattle.mm_frame.specs.declared.symbol.NumberedSymbol.{NumberedSymbol}
 use Rattle.mm_frame.specs.Language.Item.{Kind, Disjoint, Essential, Axiom, Theorem, BlockEnd, Missing, Item, passed, is_labelled, is_disjoint, is_read, is_assertion, is_essential, item_at}
@@ -30,11 +30,10 @@ use Rattle.mm_frame.specs.Language.Answering.{pairs_in_order}
 use Rattle.mm_frame.proofs.lemmas.pairs.FramePairs.{same_pairs}
 use Rattle.mm_frame.proofs.lemmas.faults.FoundFaults.{no_fault_sound, sound_found, passed_sound, kept_is_sound, kept_next, kept_after_append}
 use Rattle.mm_frame.proofs.lemmas.scope.SoundItems.{kept_sound, split_at}
-use Rattle.mm_frame.proofs.lemmas.pairs.ActivePairLemmas.{disjoint_neither}
+use Rattle.mm_frame.proofs.lemmas.pairs.ActivePairLemmas.{disjoint_neither, get_between}
 use Rattle.mm_frame.proofs.lemmas.scope.TableLemmas.{item_between, take_between}
 use Rattle.mm_frame.proofs.lemmas.scope.BlockLemmas.{get_cases, get_last}
 use Rattle.mm_frame.proofs.lemmas.names.NamedLemmas.{get_before}
-use Rattle.mm_frame.proofs.lemmas.frames.VariableLemmas.{essential_neither}
 use Rattle.mm_frame.proofs.lemmas.frames.HypothesisNumbers.{active_numbers_more}
 
 pub item_before : (said : List Item) (item : Item) (n : ℕ) → n < length said → item_at (said ++ item ∷ []) n ≡ item_at said n
@@ -177,10 +176,6 @@ kept_front_at said i item e =
     ap (take i) k.whole ∙ ap (λ n. take n (sound_items (take i said) ++ judged item (fault (sound_items (take i said)) item) ∷ k.rest)) (sym k.number) ∙
     take_between (sound_items (take i said)) (judged item (fault (sound_items (take i said)) item)) k.rest
 
-pub get_between : (front : List Item) (item : Item) (back : List Item) → slice_get (front ++ item ∷ back) (length front) ≡ Some item
-get_between [] item back = refl
-get_between (x ∷ front) item back = get_between front item back
-
 pub kept_item_at : (said : List Item) (i : ℕ) (item : Item) → slice_get said i ≡ Some item → fault (sound_items (take i said)) item ≡ None → slice_get (sound_items said) i ≡ Some item
 kept_item_at said i item e f =
     let k = kept_at said i item e in
@@ -247,8 +242,7 @@ numbers_same test before item c e = sym (active_numbers_more test before item (n
 -- a test of kinds that a missing inclusion does not pass tells of a sound item what it tells of one with no fault
 told_kind : (test : Kind → Bool) → test Missing ≡ false → (kind : Kind) (f : Option (ℕ × FrameNumber)) → (is_none f && test kind) ≡ (is_none (fault_by kind f) && test kind)
 told_kind test e Missing None = e
-told_kind test e Missing (Some x) = refl
-told_kind test e _ f = refl
+told_kind test e _ _ = refl
 
 pub told_as : (test : Kind → Bool) → test Missing ≡ false → (before : List Item) (item : Item) (flag kept : Bool) (kind : Kind) → kind ≡ item.kind → kept ≡ (flag && test kind)
     → is_none (fault before item) ≡ flag → kept ≡ (is_none (told_fault before item) && test item.kind)

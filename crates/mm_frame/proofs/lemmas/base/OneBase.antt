@@ -1,6 +1,5 @@
 -- Files have one base: what the items say is a function of their words.
-use Rattle.std.proofs.Common.{◌≡◌, ℕ, List, [], ◌∷◌, Some, map, slice_get, slice_range, refl, sym, ap, ◌∙◌, subst}
-use Rattle.std.specs.Prelude.{All}
+use Rattle.std.proofs.Common.{◌≡◌, ℕ, List, [], ◌∷◌, Some, map, slice_get, slice_range, refl, sym, ap, ◌∙◌, subst, All}
 use Rattle.std.specs.List.{AllByRecursion, AllZip}
 use Rattle.std.specs.Option.{option_map}
 use Rattle.std.proofs.lemmas.List.Elements.{recursion_from_All}
@@ -26,10 +25,6 @@ pub record ReadingLaws : Type 0 where
   pub expansion : (files : List FileView) (top : List ℕ) (a b : List store.Item) → IsExpansion files top a → IsExpansion files top b → a ≡ b
   pub items : (a b : List FileView) (top : List ℕ) (xs ys : List store.Item) → map without_keys a ≡ map without_keys b → IsExpansion a top xs → IsExpansion b top ys → map keyless_item xs ≡ map keyless_item ys
   pub stand : (files : FilesView) (top : List ℕ) (items : List store.Item) → IsExpansion (files_in files) top items → All (StandsIn files) items
-
--- what holds of all elements holds of the one at a place
-kept_at : {X : Type 0} (P : X → Type 0) (xs : List X) (n : ℕ) (x : X) → All P xs → slice_get xs n ≡ Some x → P x
-kept_at P xs n x all there = subst P (get_or_from_slice_get xs n x x there) (all n x (slice_get_within xs n x there))
 
 -- lists that functions make the same have, at one place, what they make the same
 same_at : {X Y Z : Type 0} (f : X → Z) (g : Y → Z) (xs : List X) (ys : List Y) (m n : ℕ) (x : X) (y : Y) → map f xs ≡ map g ys → m ≡ n → slice_get xs m ≡ Some x → slice_get ys n ≡ Some y → f x ≡ g y
@@ -69,15 +64,12 @@ same_piece a b x y alike =
 pub read_under : (files : FilesView) (item : store.Item) → (r : CanBeRead files item) → r.text ≡ text_under files.pieces item.key.at
 read_under files item r = r.live.is_text ∙ sym (ap text_in r.live.held)
 
-same_text : (a b : FilesView) (x y : store.Item) → AreAlike a b x y → (r : CanBeRead a x) (q : CanBeRead b y) → r.text ≡ q.text
-same_text a b x y alike r q = read_under a x r ∙ same_piece a b x y alike ∙ sym (read_under b y q)
-
 -- the bytes of an item
 abbrev bytes_in : List ℕ → store.Item → List ℕ
 bytes_in text item = slice_range text item.start item.end
 
 same_bytes : (a b : FilesView) (x y : store.Item) → AreAlike a b x y → (s : CanBeRead a x) (t : CanBeRead b y) → bytes_in s.text x ≡ bytes_in t.text y
-same_bytes a b x y alike s t = ap (λ text. bytes_in text x) (same_text a b x y alike s t) ∙ ap (λ (z : store.Item). bytes_in t.text z) alike.item
+same_bytes a b x y alike s t = ap (λ text. bytes_in text x) (read_under a x s ∙ same_piece a b x y alike ∙ sym (read_under b y t)) ∙ ap (λ (z : store.Item). bytes_in t.text z) alike.item
 
 same_words : ReadingLaws → (a b : FilesView) (x y : store.Item) → AreAlike a b x y → (s : CanBeRead a x) (t : CanBeRead b y) → s.words ≡ t.words
 same_words laws a b x y alike s t = laws.words (bytes_in t.text y) s.words t.words (subst (λ bytes. HasWords bytes s.words) (same_bytes a b x y alike s t) s.has_words) t.has_words

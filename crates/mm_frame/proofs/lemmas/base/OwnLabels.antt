@@ -2,7 +2,7 @@
 use Rattle.std.proofs.Common.{◌≡◌, ◌<◌, ◌⊎◌, ℕ, Bool, true, false, ◌&&◌, ◌||◌, Option, Some, None, List, refl, sym, ◌∙◌, inl, inr, arith}
 use Rattle.std.proofs.lemmas.Option.{none-some}
 use native.Mathlib.Decide.{dec_lt}
-use Rattle.std.proofs.lemmas.Bool.{false≢true}
+use Rattle.std.proofs.lemmas.Bool.{false≢true, and_right}
 use Rattle.mm_frame.specs.declared.base.Resolved.TheVariants as answers
 use Rattle.mm_frame.specs.Language.Item.{Kind, Axiom, Theorem, is_assertion, is_essential, is_floating, has, variable_of}
 use Rattle.mm_frame.specs.Code.BlockMarks.{block_marks}
@@ -24,16 +24,12 @@ hypothesis_kind Axiom b e = absurd (false≢true e)
 hypothesis_kind Theorem b e = absurd (false≢true e)
 hypothesis_kind _ b e = refl
 
-no_frame : (a b : Bool) → b ≡ false → (a && b) ≡ false
-no_frame true b e = e
-no_frame false b e = refl
-
 -- a mandatory hypothesis is what its label means
 pub mandatory_means : (base : BaseView) (i n : ℕ) (label : List ℕ) → IsCarrier base label n → IsMandatoryAt base i n → Resolves base i label (answers.Hypothesis n)
 mandatory_means base i n label c m =
     let item = said_at base n in
     let kind = hypothesis_kind item.kind (has (mandatory_variables (before base i) (said_at base i)) (variable_of item)) m.mandatory in
-    active_means base i label n (block_marks (sound_items base.said)) refl c m.earlier (no_frame (is_sound_at base n) (is_assertion item.kind) kind) (active_by base (block_marks (sound_items base.said)) i n refl ∙ m.active)
+    active_means base i label n (block_marks (sound_items base.said)) refl c m.earlier (and_right (is_sound_at base n) (is_assertion item.kind) kind) (active_by base (block_marks (sound_items base.said)) i n refl ∙ m.active)
 
 -- a label is that of a sound item before another, or means nothing there
 abbrev StandsOrNot : BaseView → ℕ → List ℕ → Type 0

@@ -1,6 +1,5 @@
 -- What a label means at an item, by the number of the item that has the label.
-use Rattle.std.proofs.Common.{◌≡◌, ℕ, suc, ◌<◌, ◌≤◌, Bool, true, false, cond, ◌&&◌, Option, Some, List, [], length, take, drop, slice_get, bytes_eq, refl, sym, ◌∙◌, ap, subst, arith, inl, inr}
-use Rattle.std.specs.Prelude.{option_to_list}
+use Rattle.std.proofs.Common.{◌≡◌, ℕ, suc, ◌<◌, ◌≤◌, Bool, true, false, cond, ◌&&◌, Option, Some, List, [], length, take, drop, slice_get, bytes_eq, refl, sym, ◌∙◌, ap, subst, arith, inl, inr, option_to_list}
 use Rattle.std.proofs.lemmas.Bool.{false≢true, false_from_ne_true, or_cases, and_parts}
 use Rattle.std.proofs.lemmas.List.{take-take, drop-map, take-map, length-take-le}
 use Rattle.std.proofs.lemmas.Option.{slice_get_within}

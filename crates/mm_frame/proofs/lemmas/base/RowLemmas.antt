@@ -1,6 +1,5 @@
 -- The labels and faults of items: how many there are, each of them, and one more.
-use Rattle.std.proofs.Common.{◌≡◌, ℕ, zero, suc, ◌+◌, ◌<◌, ◌≤◌, Bool, true, false, cond, ◌&&◌, Option, Some, None, List, [], ◌∷◌, ◌++◌, length, slice_get, get_or, refl, sym, ◌∙◌, ap, arith, length-append}
-use Rattle.std.specs.Prelude.{is_some, is_none}
+use Rattle.std.proofs.Common.{◌≡◌, ℕ, zero, suc, ◌+◌, ◌<◌, ◌≤◌, Bool, true, false, cond, ◌&&◌, Option, Some, None, List, [], ◌∷◌, ◌++◌, length, slice_get, get_or, refl, sym, ◌∙◌, ap, arith, length-append, is_some, is_none}
 use Rattle.std.specs.List.{slice_range}
 use Rattle.std.specs.Option.{option_map}
 use native.Mathlib.Decide.{dec_lt}
@@ -90,27 +89,6 @@ shown_some rows kept k t =
     always : (o : Option FrameFault) → (is_none (fault_told o) && true) ≡ is_none o
     always None = refl
     always (Some f) = refl
-
--- one more fault, or a place for one
-pub place_more : (faults : List (Option FrameFault)) (n : ℕ) → fault_kept (faults ++ None ∷ []) n ≡ fault_kept faults n
-place_more [] zero = refl
-place_more [] (suc n) = refl
-place_more (x ∷ faults) zero = refl
-place_more (x ∷ faults) (suc n) = place_more faults n
-
-pub fault_front : (faults : List (Option FrameFault)) (fault : Option FrameFault) (n : ℕ) → n < length faults → fault_kept (faults ++ fault ∷ []) n ≡ fault_kept faults n
-fault_front [] fault n l = absurd (omega arith)
-fault_front (x ∷ faults) fault zero l = refl
-fault_front (x ∷ faults) fault (suc n) l = fault_front faults fault n (omega arith)
-
-pub fault_last : (faults : List (Option FrameFault)) (fault : Option FrameFault) (n : ℕ) → n ≡ length faults → fault_kept (faults ++ fault ∷ []) n ≡ fault
-fault_last [] fault zero e = refl
-fault_last [] fault (suc n) e = absurd (omega arith)
-fault_last (x ∷ faults) fault zero e = absurd (omega arith)
-fault_last (x ∷ faults) fault (suc n) e = fault_last faults fault n (omega arith)
-
-pub no_fault : (faults : List (Option FrameFault)) (n : ℕ) → length faults ≤ n → fault_kept faults n ≡ None
-no_fault faults n l = ap fault_or_none (slice_get_past faults n l)
 
 -- one more
 rows_same : (n : ℕ) (labels : List (List ℕ)) (flags other : List Bool) (faults more : List (Option FrameFault))

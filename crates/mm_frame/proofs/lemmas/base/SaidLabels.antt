@@ -40,13 +40,9 @@ label_there : (kind : Kind) (tokens : List Token) → is_labelled kind ≡ true 
 label_there kind [] t n = absurd (n (no_words kind t))
 label_there kind (token ∷ tokens) t n = (token.bytes, ap (λ b. cond b (Some token.bytes) None) t)
 
--- the words that an item is
-said_by : (files : FilesView) (item : store.Item) (said : Item) → Says files item said → (kind : Kind) × (tokens : List Token) × (said ≡ item_of kind tokens)
-said_by files item said s = (kind_of item.kind, tokens_of (slice_range s.read.text item.start item.end) s.read.words, s.is)
-
 said_words : (files : FilesView) (found : List store.Item) (said : List Item) (j : ℕ) → AllZip (Says files) found said → is_labelled (item_at said j).kind ≡ true → (kind : Kind) × (tokens : List Token) × (item_at said j ≡ item_of kind tokens)
 said_words files [] [] j z t = absurd (false≢true t)
-said_words files (x ∷ found) (y ∷ said) zero z t = said_by files x y z.0
+said_words files (x ∷ found) (y ∷ said) zero z t = (kind_of x.kind, tokens_of (slice_range z.0.read.text x.start x.end) z.0.read.words, z.0.is)
 said_words files (x ∷ found) (y ∷ said) (suc j) z t = said_words files found said j z.1 t
 said_words files _ _ j z t = absurd z
 

@@ -20,13 +20,10 @@ past_symbols : (test : ℕ → List ℕ → Bool) (item : Item) (word : ℕ) →
 past_symbols test item word l = and_right (leb (first_symbol item) word) (passes (test (word - first_symbol item)) (slice_get item.symbols (word - first_symbol item)))
     (subst (λ o. passes (test (word - first_symbol item)) o ≡ false) (sym (slice_get_past item.symbols (word - first_symbol item) (omega arith))) refl)
 
-not_word : (x y : ℕ) → (x ≡ y → ⊥) → (x == y) ≡ false
-not_word x y n = ne_eqb x y n
-
 past_line : (before : List Item) (item : Item) (word : ℕ) (number : FrameNumber) → closing_word item < word → line_holds before item word number ≡ false
 past_line before item word F01 l = or_from _ _ (and_right (is_short item.kind (length item.symbols)) (word == closing_word item)
-    (not_word word (closing_word item) (λ e. omega arith))) (and_right (is_floating item.kind) _ (past_symbols is_third item word l))
-past_line before item word F02 l = and_right (is_constants item.kind) _ (and_left (word == 0) (is_inside before) (not_word word 0 (λ e. omega arith)))
+    (ne_eqb word (closing_word item) (λ e. omega arith))) (and_right (is_floating item.kind) _ (past_symbols is_third item word l))
+past_line before item word F02 l = and_right (is_constants item.kind) _ (and_left (word == 0) (is_inside before) (ne_eqb word 0 (λ e. omega arith)))
 past_line before item word F03 l = and_right (is_declaring item.kind || is_disjoint item.kind) _ (past_symbols (is_repeated item) item word l)
 past_line before item word F04 l = or_from _ _ (and_right (is_constants item.kind) _ (past_symbols (each (is_declared before)) item word l)) (and_right (is_variables item.kind) _ (past_symbols (each (is_active_symbol before)) item word l))
 past_line before item word F05 l = and_right (is_declaring item.kind) _ (past_symbols (each (is_label before)) item word l)
@@ -37,7 +34,7 @@ past_line before item word F11 l = and_right (is_expression item.kind) _ (past_s
 past_line before item word F12 l = and_right (is_floating item.kind) _ (past_symbols (second (is_typed before)) item word l)
 past_line before item word F13 l = and_right (is_floating item.kind) _ (past_symbols (second (is_typed_otherwise before item)) item word l)
 past_line before item word F14 l = refl
-past_line before item word _ l = and_left (word == 0) _ (not_word word 0 (λ e. omega arith))
+past_line before item word _ l = and_left (word == 0) _ (ne_eqb word 0 (λ e. omega arith))
 
 -- the numbers, by their places
 number_there : (n : FrameNumber) → slice_get numbers (pred (row n)) ≡ Some n

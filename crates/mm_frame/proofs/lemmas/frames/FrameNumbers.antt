@@ -20,9 +20,9 @@ use Rattle.mm_frame.specs.Language.Answering.{numbers_if}
 use Rattle.mm_frame.proofs.lemmas.lists.Members.{In, in_contains, contains_in}
 use Rattle.mm_frame.proofs.lemmas.frames.Frames.{in_at}
 use Rattle.mm_frame.proofs.lemmas.scope.SoundItems.{map_same}
-use Rattle.mm_frame.proofs.lemmas.pairs.ActivePairLemmas.{expression_at_number}
+use Rattle.mm_frame.proofs.lemmas.pairs.ActivePairLemmas.{expression_at_number, get_between}
 use Rattle.mm_frame.proofs.lemmas.frames.HypothesisNumbers.{to_active_number, from_active_number, active_numbers_rise, hypotheses_by_numbers}
-use Rattle.mm_frame.proofs.lemmas.base.BaseLemmas.{kept_item_at, none_told, labelled_there, kept_count, kept_at, kept_front_at, kept_are_sound, get_between}
+use Rattle.mm_frame.proofs.lemmas.base.BaseLemmas.{kept_item_at, none_told, labelled_there, kept_count, kept_at, kept_front_at, kept_are_sound}
 
 -- an element of the front of a list
 pub get_front : {X : Type 0} (xs : List X) (i n : ℕ) (x : X) → slice_get (take i xs) n ≡ Some x → (n < i) × (slice_get xs n ≡ Some x)

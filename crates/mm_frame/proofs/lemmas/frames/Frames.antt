@@ -9,7 +9,7 @@ use Rattle.mm_frame.specs.Language.Item.{Kind, Floating, Essential, Axiom, Theor
 use Rattle.mm_frame.specs.Language.Scope.{Neither, mark_of, stays, active, symbols_by, constants, active_variables, typed, floats}
 use Rattle.mm_frame.specs.Language.Sound.{IsSound, sound_items}
 use Rattle.mm_frame.specs.Language.Framing.{symbol, expression, mandatory_variables, is_mandatory, hypothesis, mandatory_hypotheses, pairs_of, active_pairs, is_mandatory_pair, frame, meaning, resolve_from, setting_of}
-use Rattle.mm_frame.proofs.lemmas.lists.Members.{In, in_contains, contains_in, in_left, in_right, in_cases, in_map, from_map, in_filter, from_filter, from_flat, in_get, has_in, in_has, from_symbols, to_symbols}
+use Rattle.mm_frame.proofs.lemmas.lists.Members.{In, in_contains, contains_in, in_left, in_right, in_cases, in_map, from_map, in_filter, from_filter, from_flat, in_get, has_in, in_has, from_symbols, to_symbols, in_cond}
 use Rattle.mm_frame.proofs.lemmas.scope.ActiveBySplit.{active_split, split_active, active_later, stays_front}
 use Rattle.mm_frame.proofs.lemmas.scope.Facts.{and_both, AreKept, sound_at, kept_front, not_constant, first_constant, known, typed_there, float_variable, float_new, float_two}
 use Rattle.mm_frame.proofs.lemmas.faults.FoundFaults.{kept_is_sound}
@@ -27,7 +27,7 @@ pub essential_expression : (k : Kind) → is_essential k ≡ true → is_express
 essential_expression Essential e = refl
 essential_expression _ e = absurd (false≢true e)
 
-essential_neither : (k : Kind) → is_essential k ≡ true → mark_of k ≡ Neither
+pub essential_neither : (k : Kind) → is_essential k ≡ true → mark_of k ≡ Neither
 essential_neither Essential e = refl
 essential_neither _ e = absurd (false≢true e)
 
@@ -261,10 +261,6 @@ from_pairs pair (x ∷ xs) h = elim (in_cases pair (map (λ y. (x, y)) xs) (pair
   | inr b ↦ (let r = from_pairs pair xs b in (inr r.0, inr r.1))
 ]
 
-pair_in : (b : Bool) (pair : Symbol × Symbol) (xs : List (Symbol × Symbol)) → In pair (cond b xs []) → In pair xs
-pair_in true pair xs h = h
-pair_in false pair xs h = absurd h
-
 side_typed : (before : List Item) (item d : Item) → AreKept [] before → IsSound before item → is_expression item.kind ≡ true → (s : Symbol)
     → In s (expression before d) → has (mandatory_variables before item) s.name ≡ true → (s.variable ≡ true) × IsTyped (mandatory_hypotheses before item) s
 side_typed before item d k t x s h m =
@@ -278,7 +274,7 @@ pub pairs_typed_at : (before : List Item) (item : Item) → AreKept [] before �
 pairs_typed_at before item k s t pair h =
     let f = from_filter (is_mandatory_pair (mandatory_variables before item)) pair (active_pairs before) h in
     let r = from_flat (λ (d : Item). cond (is_disjoint d.kind) (pairs_of (expression before d)) []) pair (active before) f.0 in
-    let p = from_pairs pair (expression before r.0) (pair_in (is_disjoint (r.0).kind) pair (pairs_of (expression before r.0)) r.2) in
+    let p = from_pairs pair (expression before r.0) (in_cond (is_disjoint (r.0).kind) pair (pairs_of (expression before r.0)) r.2).1 in
     let m = and_both (has (mandatory_variables before item) pair.0.name) (has (mandatory_variables before item) pair.1.name) f.1 in
     let x = side_typed before item r.0 k s t pair.0 p.0 m.0 in
     let y = side_typed before item r.0 k s t pair.1 p.1 m.1 in

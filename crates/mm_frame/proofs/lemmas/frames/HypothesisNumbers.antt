@@ -57,7 +57,7 @@ from_active_number test items n h =
     (r.item, subst (λ w. slice_get items w ≡ Some r.item) z r.there, subst (λ w. is_active_at items w ≡ true) z r.stayed, r.good)
 
 -- the items of the numbers are the active ones that pass
-drop_step : (whole : List Item) (n : ℕ) (x : Item) (xs : List Item) → drop n whole ≡ x ∷ xs → (drop (suc n) whole ≡ xs) × (slice_get whole n ≡ Some x)
+pub drop_step : {X : Type 0} (whole : List X) (n : ℕ) (x : X) (xs : List X) → drop n whole ≡ x ∷ xs → (drop (suc n) whole ≡ xs) × (slice_get whole n ≡ Some x)
 drop_step [] n x xs e = let q : [] ≡ x ∷ xs = sym (drop-nil n) ∙ e in cc
 drop_step (y ∷ ys) zero x xs e = (cc, cc)
 drop_step (y ∷ ys) (suc n) x xs e = drop_step ys n x xs e

@@ -1,6 +1,5 @@
 -- The numbers of the mandatory hypotheses, as the code collects them.
-use Rattle.std.proofs.Common.{Contains, ◌≡◌, ℕ, Bool, true, cond, Option, Some, List, [], ◌++◌, flat_map, slice_get, refl, sym, ◌∙◌, ap, subst, eqb, inl, inr}
-use Rattle.std.specs.Prelude.{All, option_to_list}
+use Rattle.std.proofs.Common.{Contains, ◌≡◌, ℕ, Bool, true, cond, Option, Some, List, [], ◌++◌, flat_map, slice_get, refl, sym, ◌∙◌, ap, subst, eqb, inl, inr, All, option_to_list}
 use Rattle.std.specs.List.{dedup}
 use Rattle.std.specs.List.Sorted.{IsPermutation, IsSorted}
 use Rattle.std.specs.List.Retain.{IsFiltered, DiffersFromLast}

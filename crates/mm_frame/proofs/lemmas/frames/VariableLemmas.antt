@@ -1,12 +1,12 @@
 -- The variables of the active `$e`: behind one more item, and what numbers they give.
-use Rattle.std.proofs.Common.{◌≡◌, ℕ, zero, suc, ◌+◌, ◌<◌, ◌≤◌, Bool, true, false, cond, Some, List, [], ◌∷◌, ◌++◌, length, flat_map, take, drop, slice_get}
+use Rattle.std.proofs.Common.{◌≡◌, ℕ, zero, suc, ◌+◌, ◌<◌, ◌≤◌, Bool, true, false, cond, Some, List, [], ◌∷◌, ◌++◌, length, flat_map, take, drop, slice_get, Contains}
 use Rattle.std.proofs.Common.{get_or, refl, sym, ◌∙◌, ap, subst, take-append-drop, append_assoc, append-nil, length-append, arith, inl, inr, ◌⊎◌}
-use Rattle.std.specs.Prelude.{Contains}
 use native.Mathlib.Decide.{dec_lt}
 use Rattle.std.proofs.lemmas.Bool.{false≢true}
 use Rattle.std.proofs.lemmas.List.{take_more}
 use Rattle.std.proofs.lemmas.List.Elements.{Contains-append_left, Contains-append_right, Contains-append_cases}
 use Rattle.std.proofs.lemmas.Option.{slice_get_within}
+use Rattle.mm_frame.proofs.lemmas.frames.Frames.{essential_neither}
 use Rattle.mm_frame.specs.declared.essential.EssentialVariable.{EssentialVariable}
 use Rattle.mm_frame.specs.declared.symbol.NumberedSymbol.{NumberedSymbol}
 use Rattle.mm_frame.specs.declared.tables.Tables.{Tables}
@@ -16,7 +16,7 @@ use Rattle.mm_frame.specs.Code.LastItems.{is_active_at, is_essential_item}
 use Rattle.mm_frame.specs.Code.KeptSymbols.{expression_kept, kept_or_none, float_number, float_numbers}
 use Rattle.mm_frame.specs.Code.KeptVariables.{by_essential, AddsOne, AddsAll, IsKeptVariable, AreVariablesOf, IsKeptBy, known_float}
 use Rattle.mm_frame.specs.Code.PairOrder.{is_among}
-use Rattle.mm_frame.proofs.lemmas.lists.Members.{In, in_contains, contains_in, in_left, in_flat, from_flat}
+use Rattle.mm_frame.proofs.lemmas.lists.Members.{In, in_contains, contains_in, in_left, in_flat, from_flat, in_cond}
 use Rattle.mm_frame.proofs.lemmas.lists.Rising.{among_in, in_among}
 use Rattle.mm_frame.proofs.lemmas.scope.BlockLemmas.{get_front, get_cases}
 use Rattle.mm_frame.proofs.lemmas.names.NamedLemmas.{get_before}
@@ -73,11 +73,6 @@ adds_more essentials number symbols k d old mid new l so_far one = record {
     last s t (inr z) = absurd z
 
 -- ---- one more item
-
--- a `$e` opens and closes no block
-pub essential_neither : (kind : Kind) → is_essential kind ≡ true → mark_of kind ≡ Neither
-essential_neither Essential e = refl
-essential_neither _ e = absurd (false≢true e)
 
 -- an earlier `$e` is active as long as a later one
 still_active : (before : List Item) (item : Item) (m n : ℕ) → m ≤ n → In m (active_numbers is_essential_item before) → In n (active_numbers is_essential_item (before ++ item ∷ [])) → In m (active_numbers is_essential_item (before ++ item ∷ []))
@@ -233,12 +228,8 @@ float_variable : (b : Bool) (n : ℕ) (ns : List ℕ) → In n (cond b ns []) �
 float_variable true n ns h = refl
 float_variable false n ns h = absurd h
 
-under_true : (b : Bool) (n : ℕ) (ns : List ℕ) → b ≡ true → In n ns → In n (cond b ns [])
+pub under_true : (b : Bool) (n : ℕ) (ns : List ℕ) → b ≡ true → In n ns → In n (cond b ns [])
 under_true b n ns t h = subst (λ c. In n (cond c ns [])) (sym t) h
-
-from_under : (b : Bool) (n : ℕ) (ns : List ℕ) → In n (cond b ns []) → In n ns
-from_under true n ns h = h
-from_under false n ns h = absurd h
 
 pub known_from : (tables : Tables) (essentials : List ℕ) (expressions : List (List NumberedSymbol)) (found : List EssentialVariable) → AreVariablesOf essentials expressions found → (n : ℕ)
     → In n (flat_map (known_float tables essentials) found) → In n (flat_map (λ m. float_numbers tables (expression_kept expressions m)) essentials)
@@ -247,7 +238,7 @@ known_from tables essentials expressions found are n h =
     let v = r.0 in
     let kept = contains_in v.symbol (expression_kept expressions v.number) (are.from v (in_contains v found r.1)) in
     in_flat (λ m. float_numbers tables (expression_kept expressions m)) v.number n essentials (among_in essentials v.number (float_variable (is_among essentials v.number) n (float_number tables v.symbol) r.2))
-    (in_flat (float_number tables) v.symbol n (expression_kept expressions v.number) kept (from_under (is_among essentials v.number) n (float_number tables v.symbol) r.2))
+    (in_flat (float_number tables) v.symbol n (expression_kept expressions v.number) kept (in_cond (is_among essentials v.number) n (float_number tables v.symbol) r.2).1)
 
 pub known_to : (tables : Tables) (essentials : List ℕ) (expressions : List (List NumberedSymbol)) (found : List EssentialVariable) → AreVariablesOf essentials expressions found → (n : ℕ)
     → In n (flat_map (λ m. float_numbers tables (expression_kept expressions m)) essentials) → In n (flat_map (known_float tables essentials) found)

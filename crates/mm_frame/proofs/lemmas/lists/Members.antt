@@ -1,6 +1,5 @@
 -- What stands in a list, by recursion, and what tests find.
-use Rattle.std.proofs.Common.{◌≡◌, ℕ, zero, suc, ◌<◌, Bool, true, false, cond, Some, List, [], ◌∷◌, ◌++◌, length, map, filter, flat_map, get_or, bytes_eq, slice_get, refl, sym, ◌∙◌, ap, subst, arith, inl, inr, ◌⊎◌}
-use Rattle.std.specs.Prelude.{Contains}
+use Rattle.std.proofs.Common.{◌≡◌, ℕ, zero, suc, ◌<◌, Bool, true, false, cond, Some, List, [], ◌∷◌, ◌++◌, length, map, filter, flat_map, get_or, bytes_eq, slice_get, refl, sym, ◌∙◌, ap, subst, arith, inl, inr, ◌⊎◌, Contains}
 use Rattle.std.proofs.lemmas.Bool.{or_cases, false≢true, or_left, or_right}
 use Rattle.std.proofs.lemmas.Slice.Eq.{bytes_eq-Decides}
 use Rattle.mm_frame.specs.Language.Item.{Kind, Item, has}
@@ -106,7 +105,7 @@ in_has (m ∷ names) n (inl e) = or_left (bytes_eq n m) (has names n) ((bytes_eq
 in_has (m ∷ names) n (inr h) = or_right (bytes_eq n m) (has names n) (in_has names n h)
 
 -- the symbols of items whose kind passes a test
-in_cond : (b : Bool) (n : List ℕ) (names : List (List ℕ)) → In n (cond b names []) → (b ≡ true) × In n names
+pub in_cond : {X : Type 0} (b : Bool) (n : X) (names : List X) → In n (cond b names []) → (b ≡ true) × In n names
 in_cond true n names h = (refl, h)
 in_cond false n names h = absurd h
 

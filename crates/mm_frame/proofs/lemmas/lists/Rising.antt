@@ -1,6 +1,5 @@
 -- Numbers that rise: the beginning of them, one more behind them, and what a search among them finds.
-use Rattle.std.proofs.Common.{◌≡◌, ℕ, zero, suc, ◌+◌, ◌-◌, ◌<◌, ◌≤◌, true, false, Some, Result, Ok, Err, List, [], ◌∷◌, ◌++◌, length, drop, slice_get, get_or, refl, sym, ◌∙◌, ap, subst, arith, inl, inr, ◌⊎◌, length-append}
-use Rattle.std.specs.Prelude.{Contains, is_ok, nat_eq}
+use Rattle.std.proofs.Common.{◌≡◌, ℕ, zero, suc, ◌+◌, ◌-◌, ◌<◌, ◌≤◌, true, false, Some, Result, Ok, Err, List, [], ◌∷◌, ◌++◌, length, drop, slice_get, get_or, refl, sym, ◌∙◌, ap, subst, arith, inl, inr, ◌⊎◌, length-append, Contains, is_ok, nat_eq}
 use Rattle.std.specs.List.Sorted.{IsBinarySearchResult}
 use Rattle.std.specs.Ordering.{nat_cmp}
 use Rattle.std.specs.Cmp.{nat_eq_equiv}
@@ -11,6 +10,7 @@ use Rattle.std.proofs.lemmas.List.{get_or_append_left, length_push}
 use Rattle.std.proofs.lemmas.List.Sorted.{searched}
 use Rattle.std.proofs.lemmas.Map.Views.{list_any-from_Contains, Contains-from_any}
 use Rattle.std.proofs.lemmas.Option.{get_or_from_slice_get, slice_get_within, slice_get-get_or}
+use Rattle.std.proofs.Common.{eqb-true}
 use Rattle.mm_frame.specs.Code.LastItems.{IsRising}
 use Rattle.mm_frame.specs.Code.PairOrder.{is_among}
 use Rattle.mm_frame.proofs.lemmas.lists.Members.{In, in_contains, contains_in, in_get, get_in}
@@ -65,14 +65,11 @@ found_or_not xs x (Err place) s h =
           ],
     )
 
-nat_same : (x y : ℕ) → nat_eq x y ≡ true → x ≡ y
-nat_same x y e = eqb-true x y e
-
 pub in_among : (numbers : List ℕ) (n : ℕ) → In n numbers → is_among numbers n ≡ true
 in_among numbers n h = list_any-from_Contains nat_eq_equiv n numbers (in_contains n numbers h)
 
 pub among_in : (numbers : List ℕ) (n : ℕ) → is_among numbers n ≡ true → In n numbers
-among_in numbers n t = contains_in n numbers (Contains-from_any nat_same n numbers t)
+among_in numbers n t = contains_in n numbers (Contains-from_any eqb-true n numbers t)
 
 pub among_found : (numbers : List ℕ) (n : ℕ) (r : Result ℕ ℕ) → IsBinarySearchResult (λ y. nat_cmp y n) numbers r → IsRising numbers → is_ok r ≡ is_among numbers n
 among_found numbers n r s h = elim (found_or_not numbers n r s h) [

@@ -73,9 +73,8 @@ first_there xs start end l = taken (end - start) (drop start xs) (omega arith) �
     taken (suc n) (x ∷ xs) l = refl
 
     dropped : {X : Type 0} (n : ℕ) (xs : List X) → slice_get (drop n xs) 0 ≡ slice_get xs n
-    dropped zero xs = refl
-    dropped (suc n) [] = refl
     dropped (suc n) (x ∷ xs) = dropped n xs
+    dropped _ _ = refl
 
 first_past : {X : Type 0} (xs : List X) (start end : ℕ) → end ≤ start → first_of (slice_range xs start end) ≡ None
 first_past xs start end l = let none : end - start ≡ 0 = omega arith in ap (λ n. first_of (take n (drop start xs))) none

@@ -1,7 +1,5 @@
 -- Short labels have codes of their own, which fit into 64 bits; what is kept of labels behind one more.
-use Rattle.std.proofs.Common.{◌≡◌, ℕ, zero, suc, ◌*◌, ◌-◌, ◌^◌, ◌<◌, ◌≤◌, Bool, true, false, cond, not, Some, List, [], ◌∷◌, length, drop, length-drop, nat_eq, bytes_eq, Vec, inl, inr, refl, sym, ◌∙◌, ap, subst, arith}
-use Rattle.std.specs.Prelude.{nat_le, nat_lt}
-use Rattle.std.specs.Global.{Global}
+use Rattle.std.proofs.Common.{◌≡◌, ℕ, zero, suc, ◌*◌, ◌-◌, ◌^◌, ◌<◌, ◌≤◌, Bool, true, false, cond, not, Some, List, [], ◌∷◌, length, drop, length-drop, nat_eq, bytes_eq, Vec, inl, inr, refl, sym, ◌∙◌, ap, subst, arith, Global, nat_le, nat_lt}
 use Rattle.std.specs.HashMap.{HashMap, UpdatesBy, get_by}
 use Rattle.std.specs.Map.{KeepsOthers, IsKeyTest, AreApart, lookup}
 use Rattle.std.specs.Cmp.Lexicographic.{nat_list_eq_equiv}

@@ -1,8 +1,8 @@
 -- The symbols of a sound statement, as the code keeps them by the numbers of their names.
-use Rattle.std.proofs.Common.{◌≡◌, ℕ, zero, suc, ◌<◌, true, not, List, [], ◌∷◌, ◌++◌, length, map, slice_get, get_or, refl, sym, ◌∙◌, ap, subst, arith, inl, inr, ◌⊎◌}
-use Rattle.std.specs.Prelude.{All}
+use Rattle.std.proofs.Common.{◌≡◌, ℕ, zero, suc, ◌<◌, true, not, List, [], ◌∷◌, ◌++◌, length, map, slice_get, get_or, refl, sym, ◌∙◌, ap, subst, arith, inl, inr, ◌⊎◌, All}
 use Rattle.std.proofs.lemmas.Bool.{false_from_ne_true}
 use Rattle.std.proofs.lemmas.List.Elements.{All-map}
+use Rattle.std.proofs.lemmas.Option.{slice_get_within}
 use Rattle.mm_frame.specs.Language.Item.{Item, is_labelled, is_disjoint, has}
 use Rattle.mm_frame.specs.Language.Scope.{constants, active_variables}
 use Rattle.mm_frame.specs.Language.Frame.{Symbol}
@@ -18,7 +18,7 @@ use Rattle.mm_frame.proofs.lemmas.lists.Members.{In, has_in, in_has}
 use Rattle.mm_frame.proofs.lemmas.scope.Facts.{not_constant}
 use Rattle.mm_frame.proofs.lemmas.scope.SoundItems.{map_same, named, sound_kept}
 use Rattle.mm_frame.proofs.lemmas.pairs.ActivePairLemmas.{disjoint_named}
-use Rattle.mm_frame.proofs.lemmas.names.NumberLemmas.{name_within, name_read, number_at}
+use Rattle.mm_frame.proofs.lemmas.names.NumberLemmas.{name_read, number_at}
 use Rattle.mm_frame.proofs.lemmas.scope.KnownLemmas.{known_at, constant_in}
 
 -- a symbol of a sound `$f`, `$e`, `$a` or `$p` is a variable where it is no declared constant
@@ -42,7 +42,7 @@ each_read all kept said h _ _ a = let count = a.count in absurd (omega (arith, c
 
 each_numbered : (all : List (List ℕ)) (kept : ℕ → NumberedSymbol) → ((n : ℕ) → (kept n).name ≡ n) → (numbers : List ℕ) (names : List (List ℕ)) → AreNameNumbers all numbers names → All (IsNumbered all) (map kept numbers)
 each_numbered all kept h numbers names a = All-map (IsNumbered all) kept numbers (λ i d l. subst (λ (m : ℕ). m < length all) (sym (h (get_or numbers i d)))
-    (name_within all (get_or numbers i d) (get_or names i []) (number_at all numbers names i d a l)))
+    (slice_get_within all (get_or numbers i d) (get_or names i []) (number_at all numbers names i d a l)))
 
 -- the symbols of a sound `$f`, `$e`, `$a` or `$p` are its expression
 pub read_all : (all : List (List ℕ)) (tables : Tables) (before : List Item) (item : Item) (numbers : List ℕ) → AreSound before → Knows all before tables → AreNameNumbers all numbers item.symbols → IsSound before item → is_labelled item.kind ≡ true

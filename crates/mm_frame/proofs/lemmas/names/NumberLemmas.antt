@@ -1,6 +1,5 @@
 -- Names by their numbers, and lists of names that grow.
-use Rattle.std.proofs.Common.{◌≡◌, ℕ, zero, suc, ◌+◌, ◌<◌, nat_eq, Option, inl, inr, Bool, true, false, not, ◌||◌, cond, Some, None, List, [], ◌∷◌, ◌++◌, length, map, get_or, refl, sym, ap, ◌∙◌, subst, arith}
-use Rattle.std.specs.Prelude.{slice_get, position, Vec, if◌then◌else◌, nat_lt, Result, Ok, Err, IfOk, OnErr}
+use Rattle.std.proofs.Common.{◌≡◌, ℕ, zero, suc, ◌+◌, ◌<◌, nat_eq, Option, inl, inr, Bool, true, false, not, ◌||◌, cond, Some, None, List, [], ◌∷◌, ◌++◌, length, map, get_or, refl, sym, ap, ◌∙◌, subst, arith, slice_get, position, Vec, if◌then◌else◌, nat_lt, Result, Ok, Err, IfOk, OnErr}
 use Rattle.std.specs.List.{IsDistinct, list_any, position_or_len}
 use Rattle.std.specs.Str.{bytes_eq}
 use Rattle.std.proofs.lemmas.Bool.{false≢true, ltb-true, ltb-false}
@@ -148,10 +147,6 @@ other_number m n h = elim (eqb_tells m n) [ inl p ↦ absurd (h p.1) | inr p ↦
 -- what the tables tell of a name is what they tell by its number
 pub declared_named : (all : List (List ℕ)) (tables : Tables) (n : ℕ) (name : List ℕ) → AreDistinct all → IsNameNumber all n name → declared_at tables n ≡ table_name all tables name
 declared_named all tables n name distinct there = ap (declared_for tables) (sym (number_of_named all name n distinct there))
-
--- the number of a name is below the count of all, and names what stands there
-pub name_within : (all : List (List ℕ)) (n : ℕ) (name : List ℕ) → IsNameNumber all n name → n < length all
-name_within all n name there = slice_get_within all n name there
 
 pub name_there : (all : List (List ℕ)) (n : ℕ) → n < length all → IsNameNumber all n (name_at all n)
 name_there all n l = slice_get-get_or all n [] l

@@ -1,6 +1,6 @@
 -- Active pairs: they grow by those of each `$d`, an active statement reads at its own place as behind all items, and which `$d` has a pair.
 use Rattle.std.proofs.Common.{◌≡◌, ◌≢◌, ℕ, zero, suc, ◌+◌, ◌<◌, Bool, true, false, cond, ◌&&◌, ◌||◌, Some, List, [], ◌∷◌, ◌++◌, length, map, filter, flat_map, take, drop, slice_get, get_or, bytes_eq, refl, sym, ◌∙◌, ap, subst, arith, inl, inr, ◌⊎◌}
-use Rattle.std.proofs.lemmas.Bool.{false≢true, or_cases, or_left, or_right, or_parts, and_from, false_from_ne_true}
+use Rattle.std.proofs.lemmas.Bool.{false≢true, or_cases, or_left, or_right, or_parts, and_from, false_from_ne_true, not-false}
 use Rattle.std.proofs.lemmas.Option.{get_or_from_slice_get}
 use Rattle.std.proofs.lemmas.Slice.Eq.{bytes_eq-Decides}
 use Rattle.mm_frame.specs.Language.Frame.{Symbol}
@@ -11,9 +11,9 @@ use Rattle.mm_frame.specs.Language.Sound.{each, is_no_variable, is_repeated, IsS
 use Rattle.mm_frame.specs.Language.Framing.{symbol, expression, pairs_of, active_pairs}
 use Rattle.mm_frame.specs.Code.LastItems.{is_active_at, is_disjoint_item}
 use Rattle.mm_frame.specs.Language.Answering.{are_paired}
-use Rattle.mm_frame.proofs.lemmas.lists.Members.{In, in_left, in_right, in_cases, in_map, from_map, in_flat, from_flat, in_get, has_in, in_has}
+use Rattle.mm_frame.proofs.lemmas.lists.Members.{In, in_left, in_right, in_cases, in_map, from_map, in_flat, from_flat, in_get, has_in, in_has, in_cond}
 use Rattle.mm_frame.proofs.lemmas.scope.ActiveBySplit.{active_split, split_active}
-use Rattle.mm_frame.proofs.lemmas.scope.Facts.{and_both, not_not, no_symbol_of}
+use Rattle.mm_frame.proofs.lemmas.scope.Facts.{and_both, no_symbol_of}
 use Rattle.mm_frame.proofs.lemmas.frames.Frames.{variables_later}
 use Rattle.mm_frame.proofs.lemmas.scope.SoundItems.{split_at, map_same, expression_stays}
 use Rattle.mm_frame.proofs.lemmas.scope.TableLemmas.{active_between}
@@ -28,7 +28,7 @@ disjoint_neither _ e = absurd (false≢true e)
 pub disjoint_named : (before : List Item) (item : Item) (name : List ℕ) → IsSound before item → is_disjoint item.kind ≡ true → In name item.symbols → In name (active_variables before)
 disjoint_named before item name s t h =
     let g = in_get name item.symbols h in
-    has_in (active_variables before) name (not_not (has (active_variables before) name) (no_symbol_of (is_disjoint item.kind) (each (is_no_variable before)) item (λ word. (or_parts _ _ (s word F09)).0) t g.0 name g.1))
+    has_in (active_variables before) name (not-false (has (active_variables before) name) (no_symbol_of (is_disjoint item.kind) (each (is_no_variable before)) item (λ word. (or_parts _ _ (s word F09)).0) t g.0 name g.1))
 
 -- and stays one as long as the `$d` is active
 pub disjoint_variable : (items front : List Item) (item : Item) (back : List Item) (name : List ℕ) → AreSound items → items ≡ front ++ item ∷ back
@@ -99,7 +99,7 @@ pub record ActiveNumber (before : List Item) (item : Item) : Type 0 where
   pub there : slice_get before number ≡ Some item
   pub stayed : is_active_at before number ≡ true
 
-get_between : (front : List Item) (item : Item) (back : List Item) → slice_get (front ++ item ∷ back) (length front) ≡ Some item
+pub get_between : (front : List Item) (item : Item) (back : List Item) → slice_get (front ++ item ∷ back) (length front) ≡ Some item
 get_between [] item back = refl
 get_between (x ∷ front) item back = get_between front item back
 
@@ -212,15 +212,10 @@ apart_names before (x ∷ names) u pair h = elim (in_cases pair (pairs_with (sym
         let same : x ≡ s.0 = ap (λ (p : Symbol × Symbol). p.0.name) r.2 ∙ q ∙ ap (λ (p : Symbol × Symbol). p.1.name) (sym r.2) ∙ ap (λ (w : Symbol). w.name) (sym s.2) in
         false≢true (sym (u (suc g.0) s.0 g.1) ∙ in_has (x ∷ take g.0 names) s.0 (inl same))
 
--- the active `$d` that has a pair
-in_item : (b : Bool) (pair : Symbol × Symbol) (pairs : List (Symbol × Symbol)) → In pair (cond b pairs []) → (b ≡ true) × In pair pairs
-in_item true pair pairs m = (refl, m)
-in_item false pair pairs m = absurd m
-
 pub from_active_pairs : (before : List Item) (pair : Symbol × Symbol) → In pair (active_pairs before) → (item : Item) × In item (active before) × (is_disjoint item.kind ≡ true) × In pair (pairs_of (expression before item))
 from_active_pairs before pair m =
     let r = from_flat (item_pairs before) pair (active before) m in
-    let d = in_item (is_disjoint (r.0).kind) pair (pairs_of (expression before r.0)) r.2 in
+    let d = in_cond (is_disjoint (r.0).kind) pair (pairs_of (expression before r.0)) r.2 in
     (r.0, r.1, d.0, d.1)
 
 pub to_active_pairs : (before : List Item) (pair : Symbol × Symbol) (item : Item) → In item (active before) → is_disjoint item.kind ≡ true → In pair (pairs_of (expression before item)) → In pair (active_pairs before)

@@ -1,7 +1,6 @@
 -- The pairs of a frame: those of its variables, in order, that an active `$d` has.
-use Rattle.std.proofs.Common.{◌≡◌, ◌≢◌, ℕ, suc, ◌+◌, ◌<◌, ◌≤◌, Bool, true, false, cond, ◌&&◌, Some, None, List, [], ◌∷◌, ◌++◌, length, map, filter, flat_map}
+use Rattle.std.proofs.Common.{◌≡◌, ◌≢◌, ℕ, suc, ◌+◌, ◌<◌, ◌≤◌, Bool, true, false, cond, ◌&&◌, Some, None, List, [], ◌∷◌, ◌++◌, length, map, filter, flat_map, All, option_to_list}
 use Rattle.std.proofs.Common.{take, drop, slice_get, get_or, refl, sym, ◌∙◌, ap, subst, append_assoc, append-nil, take-suc, arith, inl, inr, ◌⊎◌}
-use Rattle.std.specs.Prelude.{All, option_to_list}
 use Rattle.std.proofs.lemmas.Bool.{or_cases, and_from, false_from_ne_true}
 use Rattle.std.proofs.lemmas.Grind.{flat_map-append}
 use Rattle.std.proofs.lemmas.List.{map-append, map_push}
@@ -224,10 +223,6 @@ among_more all test variables n d said whole l so_far =
     let rest = pairs_of (symbols_of all (drop (n + 1) variables)) in
     append_assoc said (filter test row) (filter test rest) ∙ ap (λ w. said ++ w) (sym (filter-append test row rest) ∙ ap (filter test) (sym (all_more (symbol_of all) variables n d l))) ∙ so_far
 
--- the names of a pair of a frame differ
-apart_pair : (before : List Item) (item : Item) → AreSound before → (pair : Symbol × Symbol) → In pair (frame before item).pairs → pair.0.name ≢ pair.1.name
-apart_pair before item h pair m = apart_active before h pair (from_filter (is_mandatory_pair (mandatory_variables before item)) pair (active_pairs before) m).0
-
 -- the pairs in order are those of the frame
 pair_same : (a b c d : Symbol) → a ≡ b → c ≡ d → ◌≡◌ {A = Symbol × Symbol} (a, c) (b, d)
 pair_same a b c d e f = λ i. (e i, f i)
@@ -235,7 +230,7 @@ pair_same a b c d e f = λ i. (e i, f i)
 symbol_same : (a b : Symbol) → a.name ≡ b.name → a.variable ≡ true → b.variable ≡ true → a ≡ b
 symbol_same a b e s t = let f = s ∙ sym t in λ i. record { name = e i; variable = f i }
 
-swapped : (pairs : List (Symbol × Symbol)) (x y : Symbol) → ArePair pairs x y → ArePair pairs y x
+pub swapped : (pairs : List (Symbol × Symbol)) (x y : Symbol) → ArePair pairs x y → ArePair pairs y x
 swapped pairs x y (inl a) = inr a
 swapped pairs x y (inr b) = inl b
 
@@ -275,7 +270,7 @@ same_pairs before item h s a = λ x y. (both_from x y, both_to x y)
     to : (x y : Symbol) → In (x, y) of_frame → ArePair in_frame_order x y
     to x y m =
         let t = known (x, y) m in
-        elim (in_order x y typed (λ e. (apart_pair before item h (x, y) m) (ap (λ (w : Symbol). w.name) e)) (in_typed x t.2) (in_typed y t.3)) [
+        elim (in_order x y typed (λ e. (apart_active before h (x, y) (from_filter (is_mandatory_pair (mandatory_variables before item)) (x, y) (active_pairs before) m).0) (ap (λ (w : Symbol). w.name) e)) (in_typed x t.2) (in_typed y t.3)) [
           | inl b ↦ inl (in_contains (x, y) in_frame_order (in_filter (are_paired of_frame) (x, y) (pairs_of typed) b (to_paired (x, y) (x, y) of_frame m (pair_here x y))))
           | inr b ↦ inr (in_contains (y, x) in_frame_order (in_filter (are_paired of_frame) (y, x) (pairs_of typed) b (to_paired (y, x) (x, y) of_frame m (pair_turned x y))))
         ]

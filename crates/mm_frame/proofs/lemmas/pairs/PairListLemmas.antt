@@ -1,9 +1,8 @@
 -- The active pairs are those behind the items up to the last active `$d`, and the lists that are made of them.
-use Rattle.std.proofs.Common.{◌≡◌, ℕ, zero, suc, ◌+◌, ◌-◌, ◌<◌, ◌≤◌, Bool, true, false, cond, ◌&&◌, ◌||◌, Option, Some, None, List, [], ◌∷◌, ◌++◌, length}
+use Rattle.std.proofs.Common.{◌≡◌, ℕ, zero, suc, ◌+◌, ◌-◌, ◌<◌, ◌≤◌, Bool, true, false, cond, ◌&&◌, ◌||◌, Option, Some, None, List, [], ◌∷◌, ◌++◌, length, Global, All, Contains, Decides, ◌⊎◌, ◌↔◌, leb, map}
 use Rattle.std.proofs.Common.{flat_map, take, drop, slice_get, get_or, nat_eq, Vec, refl, sym, ◌∙◌, ap, subst, append-nil, arith, length-append}
 use Rattle.std.proofs.Common.{length-take-le, inl, inr}
 use native.Mathlib.Decide.{dec_lt}
-use Rattle.std.specs.Prelude.{All, Contains, Decides, ◌⊎◌, ◌↔◌, leb, map}
 use Rattle.std.proofs.lemmas.Simd.{map-map}
 use Rattle.std.proofs.lemmas.List.{map-append}
 use Rattle.std.proofs.lemmas.Grind.{flat_map-append}
@@ -17,11 +16,12 @@ use Rattle.std.proofs.lemmas.List.Elements.{Contains-append_left, Contains-appen
 use Rattle.std.proofs.lemmas.List.Sorted.{IsPermutation-sym, Contains-permutation}
 use Rattle.std.proofs.lemmas.List.Filters.{dedup_is}
 use Rattle.std.proofs.lemmas.List.Kept.{Contains-dedup, Contains-from_dedup}
-use Rattle.std.specs.Global.{Global}
 use Rattle.std.proofs.lemmas.Bool.{false≢true}
 use Rattle.std.proofs.lemmas.Bool.Decides.{eqb_tells, Decides-and}
 use Rattle.std.proofs.lemmas.Option.{get_or_from_slice_get, slice_get_within, slice_get-get_or, none-some}
 use Rattle.std.proofs.lemmas.List.{take-append-le, drop-append-le, take-append-drop}
+use Rattle.mm_frame.proofs.lemmas.frames.FrameNumbers.{front_get}
+use Rattle.mm_frame.proofs.lemmas.pairs.FramePairs.{swapped}
 use Rattle.mm_frame.specs.declared.symbol.NumberedSymbol.{NumberedSymbol}
 use Rattle.mm_frame.specs.declared.pair_lists.PairLists.{PairLists}
 use Rattle.mm_frame.specs.Language.Frame.{Symbol, ArePair, AreSamePairs}
@@ -66,12 +66,6 @@ get_join : {X : Type 0} (xs ys : List X) (n : ℕ) (x : X) → slice_get xs n �
 get_join [] ys n x e = cc
 get_join (z ∷ xs) ys zero x e = e
 get_join (z ∷ xs) ys (suc n) x e = get_join xs ys n x e
-
-get_take : {X : Type 0} (xs : List X) (m n : ℕ) (x : X) → m < n → slice_get xs m ≡ Some x → slice_get (take n xs) m ≡ Some x
-get_take [] m n x l e = cc
-get_take (z ∷ xs) m zero x l e = absurd (omega arith)
-get_take (z ∷ xs) zero (suc n) x l e = e
-get_take (z ∷ xs) (suc m) (suc n) x l e = get_take xs m n x (omega arith) e
 
 -- a number of an active item of a beginning, behind which the items close no block, is one of all items
 number_of_front : (test : Item → Bool) (a d : List Item) → stays d ≡ true → (m : ℕ) → In m (active_numbers test a) → In m (active_numbers test (a ++ d))
@@ -130,7 +124,7 @@ front_numbers test before numbers rest n w e = same_rising (active_numbers test 
     from m h =
         let r = from_active_number test before m (active_one m h) in
         let l = at_most_last numbers n rising e m h in
-        let there = get_take before m (suc n) r.0 (omega arith) r.1 in
+        let there = front_get before (suc n) m r.0 (omega arith) r.1 in
         let within = slice_get_within a m r.0 there in
         let stayed : stays (drop (suc m) a ++ d) ≡ true = ap stays (sym (drop-append-le (suc m) a d (omega arith)) ∙ ap (drop (suc m)) whole) ∙ r.2 in
         to_active_number test a m r.0 there (stays_front (drop (suc m) a) d stayed) r.3
@@ -252,10 +246,6 @@ read_pair all kept p x y e h = inl (in_contains (x, y) (kept_pairs all kept) (su
 read_turned : (all : List (List ℕ)) (kept : List (NumberedSymbol × NumberedSymbol)) (p : NumberedSymbol × NumberedSymbol) (x y : Symbol) → pair_of all p ≡ (x, y) → In (p.1, p.0) kept → ArePair (kept_pairs all kept) x y
 read_turned all kept p x y e h = inr (in_contains (y, x) (kept_pairs all kept) (subst (λ w. In w (kept_pairs all kept)) (ap (λ (w : Symbol × Symbol). (w.1, w.0)) e) (in_map (pair_of all) (p.1, p.0) kept h)))
 
-turned_pair : (pairs : List (Symbol × Symbol)) (x y : Symbol) → ArePair pairs x y → ArePair pairs y x
-turned_pair pairs x y (inl a) = inr a
-turned_pair pairs x y (inr b) = inl b
-
 same_read : (all : List (List ℕ)) (said : List (Symbol × Symbol)) (raw kept : List (NumberedSymbol × NumberedSymbol)) → ArePairsRead all said raw
     → ((p : NumberedSymbol × NumberedSymbol) → In p kept ↔ In p (map with_low_first raw)) → AreSamePairsRead all said kept
 same_read all said raw kept read same = record {
@@ -283,11 +273,11 @@ same_read all said raw kept read same = record {
 
     both_from : (x y : Symbol) → ArePair (kept_pairs all kept) x y → ArePair (kept_pairs all raw) x y
     both_from x y (inl c) = from x y c
-    both_from x y (inr c) = turned_pair (kept_pairs all raw) y x (from y x c)
+    both_from x y (inr c) = swapped (kept_pairs all raw) y x (from y x c)
 
     both_to : (x y : Symbol) → ArePair (kept_pairs all raw) x y → ArePair (kept_pairs all kept) x y
     both_to x y (inl c) = to x y c
-    both_to x y (inr c) = turned_pair (kept_pairs all kept) y x (to y x c)
+    both_to x y (inr c) = swapped (kept_pairs all kept) y x (to y x c)
 
     numbered_by : (b : Bool) (p : NumberedSymbol × NumberedSymbol) → IsPairNumbered all p → IsPairNumbered all (cond b p (p.1, p.0))
     numbered_by true p n = n
@@ -378,7 +368,7 @@ pair_more all xs ys x y each are = by are
 
     by : ArePair (kept_pairs all xs) x y → ArePair (kept_pairs all ys) x y
     by (inl c) = one x y c
-    by (inr c) = turned_pair (kept_pairs all ys) y x (one y x c)
+    by (inr c) = swapped (kept_pairs all ys) y x (one y x c)
 
 pair_left : (ps qs : List (Symbol × Symbol)) (x y : Symbol) → ArePair ps x y → ArePair (ps ++ qs) x y
 pair_left ps qs x y (inl c) = inl (Contains-append_left ps qs (x, y) c)

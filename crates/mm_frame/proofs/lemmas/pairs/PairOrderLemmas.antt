@@ -1,13 +1,12 @@
 -- Lists of pairs in the order of the numbers of their names: behind a sort, and with each kept once.
-use Rattle.std.proofs.Common.{◌≡◌, ℕ, zero, suc, ◌+◌, ◌≤◌, Bool, true, false, cond, leb, Some, List, [], ◌∷◌, flat_map, map, get_or, slice_get, refl, sym, ◌∙◌, ap, subst, arith}
+use Rattle.std.proofs.Common.{◌≡◌, ℕ, zero, suc, ◌+◌, ◌≤◌, Bool, true, false, cond, leb, Some, List, [], ◌∷◌, flat_map, map, get_or, slice_get, refl, sym, ◌∙◌, ap, subst, arith, leb-true}
 use Rattle.std.specs.Prelude.{All, ⊤}
 use Rattle.std.specs.Ordering.{is_lt, nat_cmp, ordering_then}
 use Rattle.std.specs.List.{dedup, dedup_from}
 use Rattle.std.specs.List.Sorted.{IsPermutation, IsSortedBy}
 use Rattle.std.specs.List.Retain.{IsFiltered, DiffersFromLast}
-use Rattle.std.proofs.lemmas.Bool.{leb-true}
 use Rattle.std.proofs.lemmas.Bool.Decides.{nat_tests}
-use Rattle.std.proofs.lemmas.Option.{none-some}
+use Rattle.std.proofs.lemmas.Option.{none-some, same_Some}
 use Rattle.std.proofs.lemmas.List.Elements.{All-nil, All-cons, All-tail, All-append, All-contains}
 use Rattle.std.proofs.lemmas.List.Filters.{dedup_is, All-dedup}
 use Rattle.std.proofs.lemmas.List.Sorted.{All-permutation}
@@ -72,14 +71,10 @@ module _ (same : Pair → Pair → Bool) where
   once [] h = tt
   once (p ∷ ps) h = once_from p ps h.0 h.1
 
--- of two places of pairs that rise
-some_is : (p q : Pair) → Some p ≡ Some q → p ≡ q
-some_is p q e = cc
-
 rise_at : (ps : List Pair) → Rise ps → (i j : ℕ) (p q : Pair) → i ≤ j → slice_get ps i ≡ Some p → slice_get ps j ≡ Some q → IsBefore p q
 rise_at [] h i j p q l e f = absurd (none-some p e)
-rise_at (x ∷ xs) h zero zero p q l e f = subst (IsBefore p) (some_is p q (sym e ∙ f)) (not_before_itself (name_numbers p))
-rise_at (x ∷ xs) h zero (suc j) p q l e f = subst (λ w. IsBefore w q) (some_is x p e) (All-contains (IsBefore x) xs q h.0 (in_contains q xs (get_in q xs j f)))
+rise_at (x ∷ xs) h zero zero p q l e f = subst (IsBefore p) (same_Some p q (sym e ∙ f)) (not_before_itself (name_numbers p))
+rise_at (x ∷ xs) h zero (suc j) p q l e f = subst (λ w. IsBefore w q) (same_Some x p e) (All-contains (IsBefore x) xs q h.0 (in_contains q xs (get_in q xs j f)))
 rise_at (x ∷ xs) h (suc i) zero p q l e f = absurd (omega arith)
 rise_at (x ∷ xs) h (suc i) (suc j) p q l e f = rise_at xs h.1 i j p q (omega arith) e f
 

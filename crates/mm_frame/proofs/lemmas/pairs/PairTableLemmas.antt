@@ -1,7 +1,5 @@
 -- The table of pairs: its rows behind a write and behind one more item, and what they tell of active pairs.
-use Rattle.std.proofs.Common.{◌≡◌, ◌≢◌, ℕ, zero, suc, ◌+◌, ◌<◌, Bool, true, false, Some, List, [], ◌∷◌, ◌++◌, length, take, drop, slice_get, get_or, refl, sym, ◌∙◌, ap, subst, take-suc, arith, inl, inr, ◌⊎◌}
-use Rattle.std.specs.Prelude.{Contains, MatchBool, Vec}
-use Rattle.std.specs.Global.{Global}
+use Rattle.std.proofs.Common.{◌≡◌, ◌≢◌, ℕ, zero, suc, ◌+◌, ◌<◌, Bool, true, false, Some, List, [], ◌∷◌, ◌++◌, length, take, drop, slice_get, get_or, refl, sym, ◌∙◌, ap, subst, take-suc, arith, inl, inr, ◌⊎◌, Global, Contains, MatchBool, Vec}
 use Rattle.std.specs.Vec.{with_item}
 use Rattle.std.proofs.Math.ListN.{set}
 use native.Mathlib.Decide.{dec_lt}
@@ -52,11 +50,9 @@ get_set_here (x ∷ xs) zero y l = refl
 get_set_here (x ∷ xs) (suc n) y l = get_set_here xs n y (omega arith)
 
 get_set_other : {X : Type 0} (xs : List X) (n m : ℕ) (y : X) → (m ≡ n → ⊥) → slice_get (set xs n y) m ≡ slice_get xs m
-get_set_other [] n m y apart = refl
 get_set_other (x ∷ xs) zero zero y apart = absurd (apart refl)
-get_set_other (x ∷ xs) zero (suc m) y apart = refl
-get_set_other (x ∷ xs) (suc n) zero y apart = refl
 get_set_other (x ∷ xs) (suc n) (suc m) y apart = get_set_other xs n m y (λ e. apart (ap suc e))
+get_set_other _ _ _ y apart = refl
 
 pub puts_row : (old grown : PairTable) (marks : List Mark) (name number : ℕ) (left : List ℕ) (row pushed : Vec ℕ Global) → name < length grown.rows.items → ((n : ℕ) → row_at grown n ≡ row_at old n)
     → row ≡ get_or grown.rows.items name row → IsPruned marks row.items left → pushed.items ≡ left ++ number ∷ [] → Puts old marks name number (record { rows = with_item grown.rows name pushed })

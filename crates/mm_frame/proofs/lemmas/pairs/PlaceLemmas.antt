@@ -1,7 +1,6 @@
 -- The places of the variables of a frame: with one more of them, and those of the ones that an active `$d` has together with one.
-use Rattle.std.proofs.Common.{◌≡◌, ℕ, zero, suc, ◌+◌, ◌-◌, ◌<◌, ◌≤◌, Bool, true, false, cond, nat_eq, Option, Some, None, List, [], ◌∷◌, ◌++◌, length, map}
+use Rattle.std.proofs.Common.{◌≡◌, ℕ, zero, suc, ◌+◌, ◌-◌, ◌<◌, ◌≤◌, Bool, true, false, cond, nat_eq, Option, Some, None, List, [], ◌∷◌, ◌++◌, length, map, All, option_to_list, nat_lt, is_some, ◌↔◌}
 use Rattle.std.proofs.Common.{filter, flat_map, take, drop, slice_get, get_or, refl, sym, ◌∙◌, ap, subst, arith, inl, inr, Contains, eqb}
-use Rattle.std.specs.Prelude.{All, option_to_list, nat_lt, is_some, ◌↔◌}
 use Rattle.std.specs.List.{dedup}
 use Rattle.std.specs.List.Sorted.{IsPermutation, IsSorted}
 use Rattle.std.specs.List.Retain.{IsFiltered, DiffersFromLast}
@@ -15,6 +14,7 @@ use Rattle.std.proofs.lemmas.List.Kept.{Contains-dedup_nat, Contains-from_dedup,
 use Rattle.std.proofs.lemmas.List.Sorted.{IsPermutation-sym, Contains-permutation}
 use Rattle.std.proofs.lemmas.Map.Keys.{IsStrictlyIncreasing-dedup}
 use Rattle.std.proofs.lemmas.Option.{same_Some, slice_get_within}
+use Rattle.mm_frame.proofs.lemmas.frames.VariableLemmas.{under_true}
 use Rattle.mm_frame.specs.declared.symbol.NumberedSymbol.{NumberedSymbol}
 use Rattle.mm_frame.specs.declared.paired.PairTable.{PairTable}
 use Rattle.mm_frame.specs.declared.places.Places.{Places}
@@ -33,12 +33,12 @@ use Rattle.mm_frame.specs.Code.KeptPlaces.{place_of, ArePlaces, later_place, lat
 use Rattle.mm_frame.specs.Code.KeptSymbols.{expression_kept, AreSymbols}
 use Rattle.mm_frame.specs.Code.LastItems.{IsRising}
 use Rattle.mm_frame.specs.Code.Numbers.{IsNameNumber}
-use Rattle.mm_frame.proofs.lemmas.lists.Members.{In, in_contains, contains_in, in_map, from_map, in_filter, from_filter, in_flat, from_flat, get_in, has_in}
+use Rattle.mm_frame.proofs.lemmas.lists.Members.{In, in_contains, contains_in, in_map, from_map, in_filter, from_filter, in_flat, from_flat, get_in, has_in, in_cond}
 use Rattle.mm_frame.proofs.lemmas.scope.ActiveBySplit.{in_first, in_later}
 use Rattle.mm_frame.proofs.lemmas.frames.Frames.{in_at}
 use Rattle.mm_frame.proofs.lemmas.scope.TableLemmas.{first_cases}
 use Rattle.mm_frame.proofs.lemmas.names.NumberLemmas.{name_there}
-use Rattle.mm_frame.proofs.lemmas.frames.HypothesisNumbers.{rise_step, same_rising}
+use Rattle.mm_frame.proofs.lemmas.frames.HypothesisNumbers.{rise_step, same_rising, drop_step}
 use Rattle.mm_frame.proofs.lemmas.lists.Rising.{get_drop}
 use Rattle.mm_frame.proofs.lemmas.pairs.ActivePairLemmas.{pairs_with}
 use Rattle.mm_frame.proofs.lemmas.pairs.PairTableLemmas.{named_in, paired_from, paired_to, active_at_marks}
@@ -78,15 +78,6 @@ placed_more n symbols old new one there p fresh put = record {
 pub placed_all : (n : ℕ) (symbols : List NumberedSymbol) (places : Places) → length symbols ≤ n → PlacedTo n symbols places → ArePlaces symbols places
 placed_all n symbols places end p = record { each = λ k symbol e. (let w = slice_get_within symbols k symbol e in p.each k symbol (omega arith) e); only = p.only }
 
-pub no_item : {X : Type 0} (xs : List X) (n : ℕ) → length xs ≤ n → slice_get xs n ≡ None
-no_item [] n l = refl
-no_item (x ∷ xs) zero l = absurd (omega arith)
-no_item (x ∷ xs) (suc n) l = no_item xs n (omega arith)
-
-pub none_there : (o : Option ℕ) → is_some o ≡ false → o ≡ None
-none_there None e = refl
-none_there (Some k) e = absurd (false≢true (sym e))
-
 -- ---- the places of those that pass a test
 
 abbrev pub passing : {X : Type 0} → (X → Bool) → ℕ → List X → List ℕ
@@ -121,13 +112,6 @@ passing_rise : {X : Type 0} (test : X → Bool) (n : ℕ) (xs : List X) → IsRi
 passing_rise test n [] = λ i j d l m. absurd (omega arith)
 passing_rise test n (x ∷ xs) = rise_step (test x) n (passing test (suc n) xs) (λ m h. let r = from_passing test (suc n) xs m h in let q = r.number in omega arith) (passing_rise test (suc n) xs)
 
--- the pairs of a variable with those at these places
-drop_first : {X : Type 0} (whole : List X) (n : ℕ) (x : X) (xs : List X) → drop n whole ≡ x ∷ xs → (drop (suc n) whole ≡ xs) × (slice_get whole n ≡ Some x)
-drop_first [] zero x xs e = cc
-drop_first [] (suc n) x xs e = cc
-drop_first (y ∷ ys) zero x xs e = (cc, cc)
-drop_first (y ∷ ys) (suc n) x xs e = drop_first ys n x xs e
-
 picked_first : (all : List (List ℕ)) (first : NumberedSymbol) (whole : List NumberedSymbol) (n : ℕ) (x : NumberedSymbol) (ns : List ℕ) (ps : List (Symbol × Symbol)) (b : Bool) → slice_get whole n ≡ Some x
     → kept_pairs all (flat_map (pair_at first whole) ns) ≡ ps → kept_pairs all (flat_map (pair_at first whole) (cond b (n ∷ ns) ns)) ≡ cond b ((symbol_of all first, symbol_of all x) ∷ ps) ps
 picked_first all first whole n x ns ps true there e =
@@ -138,7 +122,7 @@ picked : (all : List (List ℕ)) (test : Symbol × Symbol → Bool) (first : Num
     → kept_pairs all (flat_map (pair_at first whole) (passing (λ y. test (symbol_of all first, symbol_of all y)) n xs)) ≡ filter test (pairs_with (symbol_of all first) (symbols_of all xs))
 picked all test first whole n [] e = refl
 picked all test first whole n (x ∷ xs) e =
-    let d = drop_first whole n x xs e in
+    let d = drop_step whole n x xs e in
     picked_first all first whole n x (passing (λ y. test (symbol_of all first, symbol_of all y)) (suc n) xs)
     (filter test (pairs_with (symbol_of all first) (symbols_of all xs))) (test (symbol_of all first, symbol_of all x)) d.1
     (picked all test first whole (suc n) xs d.0)
@@ -147,9 +131,6 @@ from_option : {X : Type 0} (x : X) (o : Option X) → In x (option_to_list o) �
 from_option x None h = absurd h
 from_option x (Some y) (inl e) = ap Some e
 from_option x (Some y) (inr z) = absurd z
-
-to_option : {X : Type 0} (x : X) (o : Option X) → o ≡ Some x → In x (option_to_list o)
-to_option x o e = subst (λ w. In x (option_to_list w)) (sym e) (inl refl)
 
 picked_numbered : (all : List (List ℕ)) (first : NumberedSymbol) (whole : List NumberedSymbol) (places : List ℕ) → IsNumbered all first → All (IsNumbered all) whole → All (IsPairNumbered all) (flat_map (pair_at first whole) places)
 picked_numbered all first whole places a others k d l =
@@ -176,13 +157,6 @@ is_partner all before first y = are_paired (active_pairs before) (symbol_of all 
 named_there : (all : List (List ℕ)) (variables : List NumberedSymbol) (k : ℕ) (y : NumberedSymbol) → All (IsNumbered all) variables → slice_get variables k ≡ Some y → IsNameNumber all y.name (name_at all y.name)
 named_there all variables k y a e = name_there all y.name (All-contains (IsNumbered all) variables y a (in_contains y variables (get_in y variables k e)))
 
-if_active : (b : Bool) (k : ℕ) (xs : List ℕ) → In k (cond b xs []) → (b ≡ true) × In k xs
-if_active true k xs h = (refl, h)
-if_active false k xs h = absurd h
-
-to_if_active : (b : Bool) (k : ℕ) (xs : List ℕ) → b ≡ true → In k xs → In k (cond b xs [])
-to_if_active b k xs t h = subst (λ c. In k (cond c xs [])) (sym t) h
-
 read_at : (all : List (List ℕ)) (before : List Item) (expressions : List (List NumberedSymbol)) (name : List ℕ) (d : ℕ) → AreSymbols all before expressions
     → (at : IsDisjointAt before name d) → symbols_of all (expression_kept expressions d) ≡ expression (take d before) at.item
 read_at all before expressions name d a at = a.each d at.item at.there (or_right (is_labelled (at.item).kind) (is_disjoint (at.item).kind) at.disjoint)
@@ -195,7 +169,7 @@ found_from all before table marks expressions places variables n first s k m =
     let row = from_flat (later_places_at places marks expressions n) k (row_at table first.name) m in
     let d = row.0 in
     let kept = expression_kept expressions d in
-    let stayed = if_active (stays_by (drop (suc d) marks)) k (flat_map (later_place places n) kept) row.2 in
+    let stayed = in_cond (stays_by (drop (suc d) marks)) k (flat_map (later_place places n) kept) row.2 in
     let one = from_flat (later_place places n) k kept stayed.1 in
     let later = from_filter (nat_lt n) k (option_to_list (place_of places (one.0).name)) one.2 in
     let less : n < k = ltb-true n k later.1 in
@@ -244,9 +218,9 @@ found_to all before table marks expressions places variables n first s k m =
     let one = from_map (symbol_of all) (symbol (take d before) yname) kept (subst (In (symbol (take d before) yname)) (sym (read_at all before expressions yname d s.symbols have.second)) said) in
     let name : name_at all (one.0).name ≡ yname = ap (λ (w : Symbol). w.name) one.2 in
     let same : (one.0).name ≡ y.name = (s.reads).distinct (one.0).name y.name yname ((name_there all (one.0).name (All-contains (IsNumbered all) kept one.0 ((s.symbols).numbered d) (in_contains one.0 kept one.1))) ∙ ap Some name) b in
-    let later = in_filter (nat_lt n) k (option_to_list (place_of places (one.0).name)) (to_option k (place_of places (one.0).name) (ap (place_of places) same ∙ (s.placed).each k y there)) (lt-ltb n k less) in
+    let later = in_filter (nat_lt n) k (option_to_list (place_of places (one.0).name)) (subst (λ w. In k (option_to_list w)) (sym (ap (place_of places) same ∙ (s.placed).each k y there)) (inl refl)) (lt-ltb n k less) in
     in_flat (later_places_at places marks expressions n) d k (row_at table first.name) (contains_in d (row_at table first.name) (((s.reads).knows first.name x a).cover d have.first have.stayed))
-    (to_if_active (stays_by (drop (suc d) marks)) k (flat_map (later_place places n) kept) (sym (active_at_marks before marks d (s.reads).marks) ∙ have.stayed) (in_flat (later_place places n) one.0 k kept one.1 later))
+    (under_true (stays_by (drop (suc d) marks)) k (flat_map (later_place places n) kept) (sym (active_at_marks before marks d (s.reads).marks) ∙ have.stayed) (in_flat (later_place places n) one.0 k kept one.1 later))
 
 pub partners_added : (all : List (List ℕ)) (before : List Item) (table : PairTable) (marks : List Mark) (expressions : List (List NumberedSymbol)) (places : Places) (variables : List NumberedSymbol) (n : ℕ) (first : NumberedSymbol)
     → Searches all before table marks expressions places variables n first → (found : List ℕ) → IsRising found → ((k : ℕ) → Contains found k ↔ Contains (flat_map (later_places_at places marks expressions n) (row_at table first.name)) k)

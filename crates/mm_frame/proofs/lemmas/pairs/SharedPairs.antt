@@ -1,8 +1,8 @@
 -- Lists of pairs that are compared as sets of unordered pairs.
-use Rattle.std.proofs.Common.{◌≡◌, ◌<◌, ◌+◌, ℕ, suc, List, [], ◌∷◌, ◌++◌, length, take, get_or, sym, ◌∙◌, ap, subst, take-suc, arith, inl, inr}
-use Rattle.std.specs.Prelude.{Contains, All, ◌↔◌, ◌⊎◌}
+use Rattle.std.proofs.Common.{◌≡◌, ◌<◌, ◌+◌, ℕ, suc, List, [], ◌∷◌, ◌++◌, length, take, get_or, sym, ◌∙◌, ap, subst, take-suc, arith, inl, inr, Contains, All, ◌↔◌, ◌⊎◌}
 use Rattle.std.proofs.lemmas.Option.{slice_get-get_or}
 use Rattle.std.proofs.lemmas.List.Elements.{All-contains, Contains-append_cases}
+use Rattle.mm_frame.proofs.lemmas.pairs.FramePairs.{swapped}
 use Rattle.mm_frame.specs.declared.symbol.NumberedSymbol.{NumberedSymbol}
 use Rattle.mm_frame.specs.Language.Frame.{Symbol, ArePair, AreSamePairs}
 use Rattle.mm_frame.specs.Language.Names.{AreDistinct}
@@ -32,10 +32,6 @@ all_either_way mine yours e = (λ p c. inl (subst (λ w. Contains w p) (sym e) c
 abbrev HasPairs : List (Symbol × Symbol) → List (Symbol × Symbol) → Type 0
 HasPairs list pairs = (x y : Symbol) → ArePair pairs x y → ArePair list x y
 
-turned : (pairs : List (Symbol × Symbol)) (x y : Symbol) → ArePair pairs x y → ArePair pairs y x
-turned pairs x y (inl a) = inr a
-turned pairs x y (inr b) = inl b
-
 -- a pair that is kept is read
 read_here : (all : List (List ℕ)) (list : List (NumberedSymbol × NumberedSymbol)) (p : NumberedSymbol × NumberedSymbol) → Contains list p → Contains (kept_pairs all list) (pair_of all p)
 read_here all list p c = in_contains (pair_of all p) (kept_pairs all list) (in_map (pair_of all) p list (contains_in p list c))
@@ -52,7 +48,7 @@ read_one all list pairs h x y c =
 
 pub read_each : (all : List (List ℕ)) (list pairs : List (NumberedSymbol × NumberedSymbol)) → HasEitherWay list pairs → HasPairs (kept_pairs all list) (kept_pairs all pairs)
 read_each all list pairs h x y (inl c) = read_one all list pairs h x y c
-read_each all list pairs h x y (inr c) = turned (kept_pairs all list) y x (read_one all list pairs h y x c)
+read_each all list pairs h x y (inr c) = swapped (kept_pairs all list) y x (read_one all list pairs h y x c)
 
 -- and what the readings have, the lists of numbers have
 module _ (all : List (List ℕ)) (distinct : AreDistinct all) (list pairs : List (NumberedSymbol × NumberedSymbol)) (m : All (IsPairNumbered all) list) (n : All (IsPairNumbered all) pairs) where

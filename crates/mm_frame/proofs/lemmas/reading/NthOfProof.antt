@@ -1,6 +1,5 @@
 -- The words of a proof by their numbers among all words of the item.
-use Rattle.std.proofs.Common.{◌≡◌, ℕ, ◌+◌, ◌-◌, ◌≤◌, List, [], ◌∷◌, Option, Some, None, length, drop, slice_range, refl, sym, ◌∙◌, ap, arith}
-use Rattle.std.specs.Prelude.{slice_get, MatchOption}
+use Rattle.std.proofs.Common.{◌≡◌, ℕ, ◌+◌, ◌-◌, ◌≤◌, List, [], ◌∷◌, Option, Some, None, length, drop, slice_range, refl, sym, ◌∙◌, ap, arith, slice_get, MatchOption}
 use Rattle.std.proofs.lemmas.List.{drop-drop, length-map}
 use Rattle.mm_store.specs.mm_text.declared.word.Word.{Word}
 use Rattle.mm_store.specs.mm_text.Language.Unit.{Token, tokens_of}

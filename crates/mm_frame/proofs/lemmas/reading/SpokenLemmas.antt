@@ -115,15 +115,13 @@ count_bytes text (word ∷ words) = ap suc (count_bytes text words)
 behind_label : (labelled : Bool) (words new : List Word) (label : Option Word) → TakesLabel labelled words label new → drop 1 new ≡ drop (if labelled then 2 else 1) words
 behind_label true words new (Some word) h = sym (ap (drop 2) h)
 behind_label false words new None h = ap (drop 1) h
-behind_label true words new None h = absurd h
-behind_label false words new (Some word) h = absurd h
+behind_label _ words new _ h = absurd h
 
 label_is : (labelled : Bool) (text : List ℕ) (words new : List Word) (label : Option Word) → TakesLabel labelled words label new
     → option_map (word_bytes text) label ≡ (if labelled then option_map (λ (token : Token). token.bytes) (slice_get (tokens_of text words) 0) else None)
 label_is true text words new (Some word) h = sym (ap (λ (ws : List Word). option_map (λ (token : Token). token.bytes) (slice_get (tokens_of text ws) 0)) h)
 label_is false text words new None h = refl
-label_is true text words new None h = absurd h
-label_is false text words new (Some word) h = absurd h
+label_is _ text words new _ h = absurd h
 
 -- what is read of a statement with these words
 pub record Reads (kind : Kind) (words : List Word) (label : Option Word) (symbols rest : List Word) : Type 0 where
@@ -174,20 +172,17 @@ some_behind (suc n) [] h = tt
 some_behind (suc n) (name ∷ names) h = some_behind n names h.1
 
 some_before : (n : ℕ) (names : List (List ℕ)) → AreSome names → AreSome (take n names)
-some_before zero names h = tt
-some_before (suc n) [] h = tt
 some_before (suc n) (name ∷ names) h = (h.0, some_before n names h.1)
+some_before _ _ h = tt
 
 bytes_behind : (n : ℕ) (names : List (List ℕ)) → bytes_of (drop n names) ≤ bytes_of names
-bytes_behind zero names = omega arith
-bytes_behind (suc n) [] = omega arith
 bytes_behind (suc n) (name ∷ names) = omega (arith, bytes_behind n names, length-append name (flat_map (λ bytes. bytes) names))
+bytes_behind _ _ = omega arith
 
 bytes_before : (n : ℕ) (names : List (List ℕ)) → bytes_of (take n names) ≤ bytes_of names
-bytes_before zero names = omega arith
-bytes_before (suc n) [] = omega arith
 bytes_before (suc n) (name ∷ names) =
     omega (arith, bytes_before n names, length-append name (flat_map (λ bytes. bytes) names), length-append name (flat_map (λ bytes. bytes) (take n names)))
+bytes_before _ _ = omega arith
 
 -- the words of a proof are the first of those that are left
 module _ (text : List ℕ) (words : List Word) where

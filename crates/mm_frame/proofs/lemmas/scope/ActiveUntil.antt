@@ -1,6 +1,5 @@
 -- Up to where an item is active.
-use Rattle.std.proofs.Common.{◌≡◌, ℕ, suc, ◌+◌, ◌-◌, ◌<◌, ◌≤◌, leb, ◌++◌, ◌∷◌, Bool, true, Option, Some, None, List, [], length, min, take, drop, get_or, refl, sym, ◌∙◌, ap, subst, arith}
-use Rattle.std.specs.Prelude.{◌↔◌, slice_range}
+use Rattle.std.proofs.Common.{◌≡◌, ℕ, suc, ◌+◌, ◌-◌, ◌<◌, ◌≤◌, leb, ◌++◌, ◌∷◌, Bool, true, Option, Some, None, List, [], length, min, take, drop, get_or, refl, sym, ◌∙◌, ap, subst, arith, ◌↔◌, slice_range}
 use Rattle.std.proofs.lemmas.Bool.{le-leb, lt-leb, false≢true}
 use Rattle.std.proofs.lemmas.List.{drop-take, length-drop, length-append}
 use Rattle.std.proofs.lemmas.Option.{slice_get-get_or}

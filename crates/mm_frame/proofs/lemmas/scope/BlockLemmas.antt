@@ -1,8 +1,7 @@
 -- Blocks by marks: what ties marks to items, and what one more mark makes of the block numbers.
-use Rattle.std.proofs.Common.{◌≡◌, ◌≢◌, ℕ, zero, suc, pred, ◌+◌, ◌-◌, ◌≤◌, ◌<◌, ◌==◌, leb, Bool, true, false, cond, Option, Some, None, List, [], ◌∷◌, ◌++◌}
+use Rattle.std.proofs.Common.{◌≡◌, ◌≢◌, ℕ, zero, suc, pred, ◌+◌, ◌-◌, ◌≤◌, ◌<◌, ◌==◌, leb, Bool, true, false, cond, Option, Some, None, List, [], ◌∷◌, ◌++◌, Result, Ok, is_ok, IsSome, slice_range, unwrap_or, option_to_list}
 use Rattle.std.proofs.Common.{length, min, take, drop, get_or, set, count_by, slice_get, refl, sym, ◌∙◌, ap, subst, append_assoc, append-nil, arith, ◌⊎◌, inl}
 use Rattle.std.proofs.Common.{inr}
-use Rattle.std.specs.Prelude.{Result, Ok, is_ok, IsSome, slice_range, unwrap_or, option_to_list}
 use Rattle.std.proofs.lemmas.Bool.{eq-eqb, ne_eqb, le-leb, lt-leb, false≢true}
 use Rattle.std.proofs.Math.Seq.{take-append-add}
 use Rattle.std.proofs.lemmas.List.{length_push, take-append-drop, drop-append-le, length-drop, length-take, take_min, drop-take, drop_all, take_rest, take-append-le, length-set, get_or-set_same, get_or-set_other}
@@ -412,10 +411,6 @@ module _ (blocks : List ℕ) (ends : List (Option ℕ)) (outer rest : List ℕ) 
       mark_closes before e = ap (λ end. cond (is_at end (length blocks)) Closes (cond (before == next) Neither Opens)) (ap (λ b. end_of_block (closing ends current (length blocks)) b) e ∙ end_of_closed ends current (length blocks) l)
           ∙ ap (λ w. cond w Closes (cond (before == next) Neither Opens)) (eq-eqb (length blocks) (length blocks) refl)
 
--- counts of one more mark
-count_push : (test : Mark → Bool) (marks : List Mark) (mark : Mark) → count_by test (marks ++ mark ∷ []) ≡ count_by test marks + cond (test mark) 1 0
-count_push test marks mark = sum_by_push (λ m. cond (test m) 1 0) marks mark
-
 pub kept_moved : (blocks others : List ℕ) (ends more : List (Option ℕ)) (outer around : List ℕ) (current begun ended : ℕ) → others ≡ blocks → more ≡ ends
     → around ≡ outer → AreBlockEndsKept blocks ends outer current begun ended → AreBlockEndsKept others more around current begun ended
 kept_moved blocks others ends more outer around current begun ended a b d k =
@@ -433,7 +428,7 @@ kept_entered blocks ends more outer current begun ended h l k =
     }
 
 same_count : (test : Mark → Bool) (marks more : List Mark) (mark : Mark) (n m : ℕ) → more ≡ marks ++ mark ∷ [] → n ≡ count_by test marks → m ≡ n + cond (test mark) 1 0 → m ≡ count_by test more
-same_count test marks more mark n m e q r = r ∙ ap (λ w. w + cond (test mark) 1 0) q ∙ sym (count_push test marks mark) ∙ ap (count_by test) (sym e)
+same_count test marks more mark n m e q r = r ∙ ap (λ w. w + cond (test mark) 1 0) q ∙ sym (sum_by_push (λ m. cond (test m) 1 0) marks mark) ∙ ap (count_by test) (sym e)
 
 pub kept_passed : (blocks : List ℕ) (ends : List (Option ℕ)) (outer : List ℕ) (current begun ended : ℕ) → AreBlockEndsKept blocks ends outer current begun ended → AreBlockEndsKept (blocks ++ current ∷ []) ends outer current begun ended
 kept_passed blocks ends outer current begun ended k =

@@ -1,6 +1,6 @@
 -- What soundness gives.
 use Rattle.std.proofs.Common.{◌≡◌, ℕ, suc, ◌+◌, ◌-◌, ◌≤◌, Bool, true, false, not, ◌&&◌, ltb, leb, ◌==◌, Some, List, [], ◌∷◌, ◌++◌, length, slice_get, refl, sym, ◌∙◌, subst, append_assoc, append-nil, arith, inl, inr, ◌⊎◌}
-use Rattle.std.proofs.lemmas.Bool.{false≢true, or_parts, or_cases, le-leb, lt-ltb}
+use Rattle.std.proofs.lemmas.Bool.{false≢true, or_parts, or_cases, le-leb, lt-ltb, not-false}
 use Rattle.mm_frame.specs.Language.Item.{Kind, Constants, Floating, Item, is_constants, is_variables, is_floating, is_expression, is_labelled, has}
 use Rattle.mm_frame.specs.Language.Scope.{active, symbols_by, constants, variables, active_variables, typed}
 use Rattle.mm_frame.specs.declared.FrameNumber.TheVariants.{F01, F04, F08, F09, F10, F11, F12}
@@ -16,10 +16,6 @@ and_rest false y h e = absurd (false≢true e)
 pub and_both : (x y : Bool) → (x && y) ≡ true → (x ≡ true) × (y ≡ true)
 and_both true y h = (refl, h)
 and_both false y h = absurd (false≢true h)
-
-pub not_not : (x : Bool) → not x ≡ false → x ≡ true
-not_not true h = refl
-not_not false h = absurd (false≢true (sym h))
 
 -- a test that fails at all words fails at each symbol
 test_fails : (first word k : ℕ) (test : ℕ → List ℕ → Bool) (symbols : List (List ℕ)) (name : List ℕ) → first ≤ word → word - first ≡ k
@@ -105,24 +101,24 @@ not_constant xs k n c v =
 -- what the lines of expressions say
 pub first_constant : (before : List Item) (item : Item) (name : List ℕ) → IsSound before item → is_labelled item.kind ≡ true → slice_get item.symbols 0 ≡ Some name → In name (constants before)
 first_constant before item name s t g =
-    has_in (constants before) name (not_not (has (constants before) name) (no_symbol_of (is_labelled item.kind) (first (is_no_constant before)) item (λ word. s word F08) t 0 name g))
+    has_in (constants before) name (not-false (has (constants before) name) (no_symbol_of (is_labelled item.kind) (first (is_no_constant before)) item (λ word. s word F08) t 0 name g))
 
 pub known : (before : List Item) (item : Item) (k : ℕ) (name : List ℕ) → IsSound before item → is_expression item.kind ≡ true → slice_get item.symbols (suc k) ≡ Some name → In name (constants before) ⊎ In name (active_variables before)
 known before item k name s t g =
     let f = no_symbol_of (is_expression item.kind) (later (is_no_active_symbol before)) item (λ word. s word F10) t (suc k) name g in
-    let b = not_not (is_active_symbol before name) (and_rest (ltb 0 (suc k)) (is_no_active_symbol before name) f (lt-ltb 0 (suc k) (omega arith))) in
+    let b = not-false (is_active_symbol before name) (and_rest (ltb 0 (suc k)) (is_no_active_symbol before name) f (lt-ltb 0 (suc k) (omega arith))) in
     elim (or_cases (has (constants before) name) (has (active_variables before) name) b) [ inl c ↦ inl (has_in (constants before) name c) | inr v ↦ inr (has_in (active_variables before) name v) ]
 
 pub typed_there : (before : List Item) (item : Item) (k : ℕ) (name : List ℕ) → IsSound before item → is_expression item.kind ≡ true → slice_get item.symbols (suc k) ≡ Some name → In name (active_variables before) → In name (typed before)
 typed_there before item k name s t g v =
     let f = no_symbol_of (is_expression item.kind) (later (is_untyped before)) item (λ word. s word F11) t (suc k) name g in
     let c = and_rest (has (active_variables before) name) (not (has (typed before) name)) (and_rest (ltb 0 (suc k)) (is_untyped before name) f (lt-ltb 0 (suc k) (omega arith))) (in_has (active_variables before) name v) in
-    has_in (typed before) name (not_not (has (typed before) name) c)
+    has_in (typed before) name (not-false (has (typed before) name) c)
 
 -- what the lines of `$f` say
 pub float_variable : (before : List Item) (item : Item) (name : List ℕ) → IsSound before item → is_floating item.kind ≡ true → slice_get item.symbols 1 ≡ Some name → In name (active_variables before)
 float_variable before item name s t g =
-    has_in (active_variables before) name (not_not (has (active_variables before) name) (no_symbol_of (is_floating item.kind) (second (is_no_variable before)) item (λ word. (or_parts _ _ (s word F09)).1) t 1 name g))
+    has_in (active_variables before) name (not-false (has (active_variables before) name) (no_symbol_of (is_floating item.kind) (second (is_no_variable before)) item (λ word. (or_parts _ _ (s word F09)).1) t 1 name g))
 
 pub float_new : (before : List Item) (item : Item) (name : List ℕ) → IsSound before item → is_floating item.kind ≡ true → slice_get item.symbols 1 ≡ Some name → In name (typed before) → ⊥
 float_new before item name s t g h =

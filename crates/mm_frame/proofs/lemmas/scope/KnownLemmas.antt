@@ -1,16 +1,15 @@
 -- What the tables of names and labels keep, and what one more item makes of what is declared.
-use Rattle.std.proofs.Common.{◌≡◌, ℕ, zero, suc, ◌<◌, ◌≤◌, Bool, true, false, cond, ◌&&◌, ◌||◌, Option, Some, None, List, [], ◌∷◌, ◌++◌, length, take}
+use Rattle.std.proofs.Common.{◌≡◌, ℕ, zero, suc, ◌<◌, ◌≤◌, Bool, true, false, cond, ◌&&◌, ◌||◌, Option, Some, None, List, [], ◌∷◌, ◌++◌, length, take, get_or-set_other, is_some, option_to_list}
 use Rattle.std.proofs.Common.{take_all, get_or, set, slice_get, nat_eq, bytes_eq, refl, sym, ◌∙◌, ap, subst, inl, inr, ◌⊎◌, arith}
-use Rattle.std.specs.Prelude.{is_some, option_to_list}
 use Rattle.std.specs.Cmp.Lexicographic.{nat_list_eq_equiv}
 use Rattle.std.proofs.Math.Seq.{take-suc}
 use Rattle.std.proofs.lemmas.Bool.{false≢true, false_from_ne_true}
 use Rattle.std.proofs.lemmas.Bool.Decides.{Decides-eqb}
 use Rattle.std.proofs.lemmas.Option.{same_Some}
 use Rattle.std.proofs.lemmas.Grind.{get_or-set_at}
-use Rattle.std.proofs.lemmas.List.{get_or-set_other}
 use Rattle.std.proofs.lemmas.List.Folds.{list_any-append}
 use Rattle.std.proofs.lemmas.Slice.Eq.{bytes_eq-Decides}
+use Rattle.std.proofs.Math.Bool.{or-false}
 use Rattle.mm_store.specs.declared.item.ItemKind.{ItemKind}
 use Rattle.mm_store.specs.declared.item.ItemKind.TheVariants as items
 use Rattle.mm_frame.specs.Language.Statement.{kind_of}
@@ -33,13 +32,9 @@ use Rattle.mm_frame.proofs.lemmas.scope.Facts.{and_both, float_variable, float_t
 use Rattle.mm_frame.proofs.lemmas.scope.SoundItems.{sound_front}
 use Rattle.mm_frame.proofs.lemmas.scope.TableLemmas.{last_where_next, last_cases, last_none, Last, constants_next, variable_last, constant_or_variable, float_second, typed_by as types_it}
 
-or_none : (b : Bool) → (b || false) ≡ b
-or_none true = refl
-or_none false = refl
-
 -- a name is one of the names of a list of one
 pub has_one : (bs cs : List ℕ) → bytes_eq bs cs ≡ has (bs ∷ []) cs
-has_one bs cs = nat_list_eq_equiv.symm bs cs ∙ sym (or_none (bytes_eq cs bs))
+has_one bs cs = nat_list_eq_equiv.symm bs cs ∙ sym (or-false (bytes_eq cs bs))
 
 -- what is told of names, where what is told by one number changes
 told_of : (all : List (List ℕ)) (old new : Tables) (n : ℕ) (name other : List ℕ) (f : Option Declared → Option Declared) → AreDistinct all
@@ -156,7 +151,7 @@ untyped before h name e = elim (last_cases (types name) before) [
   | inr l ↦ absurd (false≢true (sym e ∙ typed_variable before h name l))
 ]
 
-without_number : (o : Option ℕ) → is_some o ≡ false → o ≡ None
+pub without_number : (o : Option ℕ) → is_some o ≡ false → o ≡ None
 without_number None e = refl
 without_number (Some n) e = absurd (false≢true (sym e))
 
@@ -293,7 +288,7 @@ knows_passed all before tables k = record {
     same name = (λ i. cond (constant i) (Some Constant) (variable_at (last_where_next (declares_variable name) before passed i) (last_where_next (types name) before passed i)))
       where
         constant : has (constants (before ++ passed ∷ [])) name ≡ has (constants before) name
-        constant = ap (λ w. has w name) (constants_next before passed) ∙ list_any-append (bytes_eq name) (constants before) [] ∙ or_none (has (constants before) name)
+        constant = ap (λ w. has w name) (constants_next before passed) ∙ list_any-append (bytes_eq name) (constants before) [] ∙ or-false (has (constants before) name)
 
 -- the kinds
 pub takes_constants : (all : List (List ℕ)) (item : Item) (number : ℕ) (old new : Tables) → Declares all old item.symbols (λ _. Constant) new → Takes all Constants item number old new

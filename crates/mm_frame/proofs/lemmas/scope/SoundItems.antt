@@ -1,8 +1,7 @@
 -- Sound lists keep their items, and labels keep their meaning.
-use Rattle.std.proofs.Common.{◌≡◌, ℕ, zero, suc, Bool, true, false, cond, Some, List, [], ◌∷◌, ◌++◌, map, filter, take, drop, slice_get, refl, sym, ◌∙◌, ap, subst, append_assoc, append-nil, inl, inr, ◌⊎◌}
+use Rattle.std.proofs.Common.{◌≡◌, ℕ, zero, suc, Bool, true, false, cond, Some, List, [], ◌∷◌, ◌++◌, map, filter, take, drop, slice_get, refl, sym, ◌∙◌, ap, subst, append_assoc, append-nil, inl, inr, ◌⊎◌, take-append-drop}
 use Rattle.std.specs.List.{list_any}
 use Rattle.std.proofs.lemmas.Bool.{false≢true, or_left, or_right, false_from_ne_true}
-use Rattle.std.proofs.lemmas.List.{take-append-drop}
 use Rattle.mm_frame.specs.Language.Frame.{Unknown}
 use Rattle.mm_frame.specs.Language.Item.{Kind, Floating, Essential, Axiom, Theorem, Item, is_floating, is_expression, is_labelled, has, labels_of}
 use Rattle.mm_frame.specs.Language.Scope.{Neither, mark_of, stays, constants, labels, active_variables}
@@ -107,14 +106,14 @@ pub expression_stays : (items front : List Item) (item : Item) (back : List Item
 expression_stays items front item back h e t s = map_same (symbol items) (symbol front) item.symbols (λ name n. symbol_stays items front item back name h e t s n)
 
 -- labels
-any_of : (p : List ℕ → Bool) (x : List ℕ) (xs : List (List ℕ)) → In x xs → p x ≡ true → list_any p xs ≡ true
-any_of p x [] h t = absurd h
-any_of p x (y ∷ xs) (inl e) t = or_left (p y) (list_any p xs) (ap p e ∙ t)
-any_of p x (y ∷ xs) (inr h) t = or_right (p y) (list_any p xs) (any_of p x xs h t)
+pub in_any : {X : Type 0} (p : X → Bool) (x : X) (xs : List X) → In x xs → p x ≡ true → list_any p xs ≡ true
+in_any p x [] h t = absurd h
+in_any p x (y ∷ xs) (inl e) t = or_left (p y) (list_any p xs) (ap p e ∙ t)
+in_any p x (y ∷ xs) (inr h) t = or_right (p y) (list_any p xs) (in_any p x xs h t)
 
 -- a label is no label before its statement
 pub label_new : (before : List Item) (item : Item) (label : List ℕ) → IsSound before item → has (labels_of item) label ≡ true → has (labels before) label ≡ false
-label_new before item label s h = false_from_ne_true (has (labels before) label) (λ t. false≢true (sym (s 0 F06) ∙ any_of (is_label before) label (labels_of item) (has_in (labels_of item) label h) t))
+label_new before item label s h = false_from_ne_true (has (labels before) label) (λ t. false≢true (sym (s 0 F06) ∙ in_any (is_label before) label (labels_of item) (has_in (labels_of item) label h) t))
 
 no_label : (items : List Item) (label : List ℕ) → has (labels items) label ≡ false → (x : Item) → In x items → has (labels_of x) label ≡ false
 no_label items label h x i = has_not (labels_of x) label (λ k. false≢true (sym h ∙ in_has (labels items) label (in_flat labels_of x label items i k)))

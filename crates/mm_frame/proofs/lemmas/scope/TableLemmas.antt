@@ -14,7 +14,7 @@ use Rattle.mm_frame.proofs.lemmas.lists.Members.{In, in_right, in_cases, in_filt
 use Rattle.mm_frame.proofs.lemmas.scope.ActiveBySplit.{active_in, split_active, in_first, in_later, closed_join, stays_front}
 use Rattle.mm_frame.proofs.lemmas.scope.Facts.{and_both, no_symbol_of, apart, float_two, float_new}
 use Rattle.mm_frame.proofs.lemmas.frames.Frames.{from_typed, to_typed}
-use Rattle.mm_frame.proofs.lemmas.scope.SoundItems.{sound_kept, label_new}
+use Rattle.mm_frame.proofs.lemmas.scope.SoundItems.{sound_kept, label_new, in_any}
 
 -- one more item: it is the last that passes, or else the same one is
 next_at : (b c : Bool) (o : Option ℕ) (n : ℕ) → number_or_first (cond b (Some n) o) c ≡ cond b (Some (suc n)) (number_or_first o c)
@@ -166,11 +166,6 @@ typed_last before h name = last_active (types name) before
 pub any_in : {X : Type 0} (p : X → Bool) (xs : List X) → list_any p xs ≡ true → (x : X) × In x xs × (p x ≡ true)
 any_in p [] h = absurd (false≢true h)
 any_in p (x ∷ xs) h = elim (or_cases (p x) (list_any p xs) h) [ inl e ↦ (x, inl refl, e) | inr t ↦ (let r = any_in p xs t in (r.0, inr r.1, r.2)) ]
-
-pub in_any : {X : Type 0} (p : X → Bool) (x : X) (xs : List X) → In x xs → p x ≡ true → list_any p xs ≡ true
-in_any p x [] h t = absurd h
-in_any p x (y ∷ xs) (inl e) t = or_left (p y) (list_any p xs) (ap p e ∙ t)
-in_any p x (y ∷ xs) (inr h) t = or_right (p y) (list_any p xs) (in_any p x xs h t)
 
 -- the test of another `$f` of the variable with another typecode
 abbrev differs : List ℕ → Item → Item → Bool

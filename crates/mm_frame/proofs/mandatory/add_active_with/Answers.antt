@@ -1,5 +1,4 @@
-use Rattle.std.proofs.Common.{◌++◌, false, subst, filter, take}
-use Rattle.std.proofs.lemmas.List.{take_all}
+use Rattle.std.proofs.Common.{◌++◌, false, subst, filter, take, take_all}
 use Rattle.mm_frame.specs.declared.symbol.NumberedSymbol.{NumberedSymbol}
 use Rattle.mm_frame.specs.Language.Framing.{active_pairs}
 use Rattle.mm_frame.specs.Language.NumberedSymbols.{symbol_of, symbols_of, ArePairsRead}

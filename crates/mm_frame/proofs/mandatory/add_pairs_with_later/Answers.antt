@@ -1,5 +1,4 @@
-use Rattle.std.proofs.Common.{◌+◌, ◌++◌, false, sym, subst, filter}
-use Rattle.std.specs.Prelude.{All, IfSome}
+use Rattle.std.proofs.Common.{◌+◌, ◌++◌, false, sym, subst, filter, All, IfSome}
 use Rattle.std.proofs.lemmas.List.{take_rest}
 use Rattle.std.proofs.lemmas.List.Elements.{All-contains, All-drop}
 use Rattle.std.proofs.lemmas.Option.{get_or_from_slice_get}

@@ -1,5 +1,4 @@
-use Rattle.std.proofs.Common.{ℕ, List, ◌<◌, ◌≤◌, sym, subst, ◌∙◌}
-use Rattle.std.specs.Prelude.{Contains}
+use Rattle.std.proofs.Common.{ℕ, List, ◌<◌, ◌≤◌, sym, subst, ◌∙◌, Contains}
 use Rattle.mm_frame.specs.Code.LastItems.{IsRising}
 use Rattle.mm_frame.specs.Code.Numbers.{IsNameNumber}
 use Rattle.mm_frame.specs.Code.KeptPairTable.{row_at}
@@ -12,29 +11,28 @@ returns-then-is_active_number-clause-value c all before x y table reads e f m a 
     let answer = c.known-known.ensures.known all before m x y (subst (λ n. IsNameNumber all n x) (sym c.known-known.ensures.first) a) (subst (λ n. IsNameNumber all n y) (sym c.known-known.ensures.second) b) in
     active_told all before table c.args.blocks.now c.args.first c.args.second x y known.upto known.common reads a b apart answer c.if-is_active_number.ensures
 
-pub returns-clause-value : goal.returns-clause-value
-returns-clause-value c all before x y table reads e f m a b apart =
-    let blocks = c.args.blocks.now in
-    let known = c.known-known.result in
-    let answer = c.known-known.ensures.known all before m x y (subst (λ n. IsNameNumber all n x) (sym c.known-known.ensures.first) a) (subst (λ n. IsNameNumber all n y) (sym c.known-known.ensures.second) b) in
-    let rising = subst IsRising (sym e) (reads.knows c.args.first x a).rising in
-    let others = subst IsRising (sym f) (reads.knows c.args.second y b).rising in
-    let common = c.first_common-common.ensures in
-    let here : IsFirstFrom blocks c.args.row.now c.args.other.now known.upto c.first_common-common.result = record { some = common.some rising others; least = common.least rising others; none = common.none rising others } in
-    let first = subst (λ (w : List ℕ). IsFirstFrom blocks w c.args.other.now known.upto c.first_common-common.result) e here in
-    let both = subst (λ (w : List ℕ). IsFirstFrom blocks (row_at table c.args.first) w known.upto c.first_common-common.result) f first in
-    c.is_some.ensures ∙ ended_told all before table blocks c.args.first c.args.second x y known.upto known.common c.first_common-common.result reads a b apart answer c.if-is_active_number.ensures both
-
-pub returns-clause-asked : goal.returns-clause-asked
-returns-clause-asked c table e f all before reads m = c.in_ok-keep.ensures all before m (λ x y a b. (
-    let blocks = c.args.blocks.now in
-    let known = c.known-known.result in
-    let answer = c.known-known.ensures.known all before m x y (subst (λ n. IsNameNumber all n x) (sym c.known-known.ensures.first) a) (subst (λ n. IsNameNumber all n y) (sym c.known-known.ensures.second) b) in
-    let rising = subst IsRising (sym e) (reads.knows c.args.first x a).rising in
-    let others = subst IsRising (sym f) (reads.knows c.args.second y b).rising in
-    let common = c.first_common-common.ensures in
-    let here : IsFirstFrom blocks c.args.row.now c.args.other.now known.upto c.first_common-common.result = record { some = common.some rising others; least = common.least rising others; none = common.none rising others } in
-    let first = subst (λ (w : List ℕ). IsFirstFrom blocks w c.args.other.now known.upto c.first_common-common.result) e here in
-    let both = subst (λ (w : List ℕ). IsFirstFrom blocks (row_at table c.args.first) w known.upto c.first_common-common.result) f first in
-    let short = subst (λ (w : List ℕ). (count : ℕ) → ((n : ℕ) → Contains w n → n < count) → c.end_of.result ≤ count) e c.end_of.ensures in
-    next_answer all before table blocks c.args.first c.args.second x y known.upto c.end_of.result known.common c.first_common-common.result reads a b answer c.if-is_active_number.ensures both short))
+pub returns : goal.returns
+returns c = record {
+  value = λ all before x y table reads e f m a b apart. let blocks = c.args.blocks.now in
+      let known = c.known-known.result in
+      let answer = c.known-known.ensures.known all before m x y (subst (λ n. IsNameNumber all n x) (sym c.known-known.ensures.first) a) (subst (λ n. IsNameNumber all n y) (sym c.known-known.ensures.second) b) in
+      let rising = subst IsRising (sym e) (reads.knows c.args.first x a).rising in
+      let others = subst IsRising (sym f) (reads.knows c.args.second y b).rising in
+      let common = c.first_common-common.ensures in
+      let here : IsFirstFrom blocks c.args.row.now c.args.other.now known.upto c.first_common-common.result = record { some = common.some rising others; least = common.least rising others; none = common.none rising others } in
+      let first = subst (λ (w : List ℕ). IsFirstFrom blocks w c.args.other.now known.upto c.first_common-common.result) e here in
+      let both = subst (λ (w : List ℕ). IsFirstFrom blocks (row_at table c.args.first) w known.upto c.first_common-common.result) f first in
+      c.is_some.ensures ∙ ended_told all before table blocks c.args.first c.args.second x y known.upto known.common c.first_common-common.result reads a b apart answer c.if-is_active_number.ensures both;
+  asked = λ table e f all before reads m. c.in_ok-keep.ensures all before m (λ x y a b. (
+      let blocks = c.args.blocks.now in
+      let known = c.known-known.result in
+      let answer = c.known-known.ensures.known all before m x y (subst (λ n. IsNameNumber all n x) (sym c.known-known.ensures.first) a) (subst (λ n. IsNameNumber all n y) (sym c.known-known.ensures.second) b) in
+      let rising = subst IsRising (sym e) (reads.knows c.args.first x a).rising in
+      let others = subst IsRising (sym f) (reads.knows c.args.second y b).rising in
+      let common = c.first_common-common.ensures in
+      let here : IsFirstFrom blocks c.args.row.now c.args.other.now known.upto c.first_common-common.result = record { some = common.some rising others; least = common.least rising others; none = common.none rising others } in
+      let first = subst (λ (w : List ℕ). IsFirstFrom blocks w c.args.other.now known.upto c.first_common-common.result) e here in
+      let both = subst (λ (w : List ℕ). IsFirstFrom blocks (row_at table c.args.first) w known.upto c.first_common-common.result) f first in
+      let short = subst (λ (w : List ℕ). (count : ℕ) → ((n : ℕ) → Contains w n → n < count) → c.end_of.result ≤ count) e c.end_of.ensures in
+      next_answer all before table blocks c.args.first c.args.second x y known.upto c.end_of.result known.common c.first_common-common.result reads a b answer c.if-is_active_number.ensures both short));
+}

@@ -1,10 +1,9 @@
-use Rattle.std.proofs.Common.{◌++◌, map, append-nil, ap, sym, ◌∙◌}
-use Rattle.std.specs.Prelude.{option_to_list}
+use Rattle.std.proofs.Common.{◌++◌, map, append-nil, ap, sym, ◌∙◌, option_to_list}
+use Rattle.std.proofs.lemmas.Option.{slice_get_past}
 use Rattle.mm_frame.specs.declared.symbol.NumberedSymbol.{NumberedSymbol}
-use Rattle.mm_frame.proofs.lemmas.pairs.PlaceLemmas.{no_item}
 use Rattle.mm_frame.proofs.partners.add_partner_at.Goals as goal
 
 pub returns-in_default : goal.returns-in_default
 returns-in_default c =
     let pairs = c.args.pairs.now.items in
-    sym (append-nil pairs) ∙ ap (λ o. pairs ++ map (λ (y : NumberedSymbol). (c.args.first, y)) (option_to_list o)) (sym (no_item c.args.variables.now c.args.place c.in_default.ensures.lookup.3))
+    sym (append-nil pairs) ∙ ap (λ o. pairs ++ map (λ (y : NumberedSymbol). (c.args.first, y)) (option_to_list o)) (sym (slice_get_past c.args.variables.now c.args.place c.in_default.ensures.lookup.3))

@@ -1,5 +1,4 @@
-use Rattle.std.proofs.Common.{ap, sym, subst, ◌++◌, flat_map, filter, drop, ◌∙◌, ◌+◌, ℕ, List, false}
-use Rattle.std.specs.Prelude.{Contains, ◌↔◌}
+use Rattle.std.proofs.Common.{ap, sym, subst, ◌++◌, flat_map, filter, drop, ◌∙◌, ◌+◌, ℕ, List, false, Contains, ◌↔◌}
 use Rattle.std.proofs.lemmas.Option.{get_or_from_slice_get}
 use Rattle.std.proofs.lemmas.Result.{on_ok_weaker}
 use Rattle.mm_frame.specs.declared.symbol.NumberedSymbol.{NumberedSymbol}

@@ -1,5 +1,4 @@
-use Rattle.std.specs.Prelude.{◌↔◌, Contains}
-use Rattle.std.proofs.Common.{[], ℕ, flat_map, take_all, ap, subst, ◌∙◌}
+use Rattle.std.proofs.Common.{[], ℕ, flat_map, take_all, ap, subst, ◌∙◌, ◌↔◌, Contains}
 use Rattle.mm_frame.specs.Code.KeptPlaces.{later_places_at}
 use Rattle.mm_frame.proofs.lemmas.lists.Growing.{flat_map_grows}
 use Rattle.mm_frame.proofs.lemmas.pairs.PlaceLemmas.{rising_once, same_once}

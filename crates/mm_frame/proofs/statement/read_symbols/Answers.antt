@@ -1,5 +1,4 @@
-use Rattle.std.proofs.Common.{sym, ◌∙◌, subst, arith}
-use Rattle.std.specs.Prelude.{All}
+use Rattle.std.proofs.Common.{sym, ◌∙◌, subst, arith, All}
 use Rattle.std.proofs.lemmas.List.Elements.{All-push}
 use Rattle.mm_store.specs.mm_text.Language.Reading.{LiesIn}
 use Rattle.mm_frame.specs.Code.PlainWords.{LiesInText}

@@ -1,5 +1,4 @@
-use Rattle.std.proofs.Common.{◌≡◌, length}
-use Rattle.std.specs.Prelude.{All}
+use Rattle.std.proofs.Common.{◌≡◌, length, All}
 use Rattle.mm_frame.specs.Code.PlainWords.{LiesInText}
 use Rattle.mm_frame.proofs.lemmas.reading.SpokenLemmas.{Symbols}
 use Rattle.mm_frame.proofs.statement.read_symbols.Given as goal

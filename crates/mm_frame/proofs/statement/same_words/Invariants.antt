@@ -1,5 +1,4 @@
-use Rattle.std.proofs.Common.{◌≡◌, length}
-use Rattle.std.specs.Prelude.{◌↔◌}
+use Rattle.std.proofs.Common.{◌≡◌, length, ◌↔◌}
 use Rattle.mm_frame.proofs.statement.same_words.Given as goal
 
 -- what is left of both is the same exactly where the words of both are

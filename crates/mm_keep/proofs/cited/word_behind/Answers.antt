@@ -7,12 +7,10 @@ loop-i-preserved c =
     let n = next_left (λ word. word.now) c.next_word.result c.loop-i.words c.next_word.new.self c.next_word.ensures in
     n.0 ∙ ap (drop 1) c.loop-i.invariant ∙ drop_more c.args.words.now c.loop-i._i 1 (c.loop-i._i + 1) (omega arith)
 
-pub returns-clause-word : goal.returns-clause-word
-returns-clause-word c =
+pub returns : goal.returns
+returns c =
     let n = next_left (λ word. word.now) c.next_word-2.result c.loop-i.words c.next_word-2.new.self c.next_word-2.ensures in
-    n.1 ∙ ap (λ ws. slice_get ws 0) c.loop-i.invariant ∙ get_behind c.args.words.now c.loop-i._i 0 c.args.count (omega (arith, c.loop-i-test.false, c.loop-i.auto._i-end))
-
-pub returns-clause-left : goal.returns-clause-left
-returns-clause-left c =
-    let n = next_left (λ word. word.now) c.next_word-2.result c.loop-i.words c.next_word-2.new.self c.next_word-2.ensures in
-    n.0 ∙ ap (drop 1) c.loop-i.invariant ∙ drop_more c.args.words.now c.loop-i._i 1 (c.args.count + 1) (omega (arith, c.loop-i-test.false, c.loop-i.auto._i-end))
+    record {
+      word = n.1 ∙ ap (λ ws. slice_get ws 0) c.loop-i.invariant ∙ get_behind c.args.words.now c.loop-i._i 0 c.args.count (omega (arith, c.loop-i-test.false, c.loop-i.auto._i-end));
+      left = n.0 ∙ ap (drop 1) c.loop-i.invariant ∙ drop_more c.args.words.now c.loop-i._i 1 (c.args.count + 1) (omega (arith, c.loop-i-test.false, c.loop-i.auto._i-end));
+    }

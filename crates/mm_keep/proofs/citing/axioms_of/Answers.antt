@@ -1,11 +1,11 @@
-use Rattle.std.proofs.Common.{◌<◌, Bool, true, List, drop, length, set, sym, ◌∙◌, subst₂, arith}
-use Rattle.std.proofs.lemmas.List.{length-set}
+use Rattle.std.proofs.Common.{◌<◌, Bool, true, List, drop, length, set, sym, ◌∙◌, subst₂, arith, length-set}
+use Rattle.std.proofs.lemmas.Result.{IfOk-weaker}
 use Rattle.mm_keep.specs.Code.Cited.{MarksBehind}
-use Rattle.mm_keep.proofs.ChainLemmas.{map_ok, axioms_marked, one_marked, take_front}
+use Rattle.mm_keep.proofs.ChainLemmas.{axioms_marked, one_marked, take_front}
 use Rattle.mm_keep.proofs.citing.axioms_of.Goals as goal
 
 pub returns : goal.returns
-returns c = map_ok c.marked_axioms.result _ _ (λ numbers those names view is are.
+returns c = IfOk-weaker c.marked_axioms.result _ _ (λ numbers those names view is are.
     let i = c.args.i in
     let empty = c.in_ok-marks.marks.items in
     let first = set empty i true in

@@ -1,14 +1,15 @@
 use Rattle.std.proofs.Common.{◌<◌, Bool, List, drop, length, sym, ap, ◌∙◌, subst₂, arith}
+use Rattle.std.proofs.lemmas.Result.{IfOk-weaker}
 use Rattle.mm_keep.specs.Language.Citations.{CitesItem}
 use Rattle.mm_keep.specs.Code.Cited.{MarksMore}
-use Rattle.mm_keep.proofs.ChainLemmas.{map_ok, cites_marked, take_front}
+use Rattle.mm_keep.proofs.ChainLemmas.{cites_marked, take_front}
 use Rattle.mm_keep.proofs.citing.cites_of.Goals as goal
 
 pub mark_cites-requires-clause-places : goal.mark_cites-requires-clause-places
 mark_cites-requires-clause-places c = let count = ap length c.deref_mut.ensures.value ∙ c.in_ok-marks.ensures.count in omega (arith, count)
 
 pub returns : goal.returns
-returns c = map_ok c.marked.result _ _ (λ numbers those names view is are.
+returns c = IfOk-weaker c.marked.result _ _ (λ numbers those names view is are.
     let fresh = c.in_ok-marks.marks.items in
     let after = c.mark_cites.new.marks in
     let within : c.args.i < length view.said = omega (arith, c.requires.4, c.requires.3.count, are.count) in

@@ -1,7 +1,7 @@
 use Rattle.std.proofs.Common.{◌≡◌, Ok, sym, subst}
+use Rattle.std.proofs.lemmas.Result.{IfOk-weaker}
 use Rattle.mm_proof.specs.mm_frame.declared.base.Base.{Base}
 use Rattle.mm_keep.specs.Code.Next.{IsBuilt}
-use Rattle.mm_keep.proofs.ChainLemmas.{map_ok}
 use Rattle.mm_keep.proofs.NextLemmas.{both_read}
 use Rattle.mm_keep.proofs.keeping.next_of.Goals as goal
 
@@ -14,7 +14,7 @@ keep_and_run-ran-requires c =
 pub returns-clause-next : goal.returns-clause-next
 returns-clause-next c =
     let built = c.in_ok-base.ensures.base in
-    map_ok c.with_runs.result (λ next. (next.base ≡ c.in_ok-base.base) × (c.keep_and_run-ran.result ≡ Ok next.ran)) _
+    IfOk-weaker c.with_runs.result (λ next. (next.base ≡ c.in_ok-base.base) × (c.keep_and_run-ran.result ≡ Ok next.ran)) _
     (λ next same view is.
     let goes = rw same.1 at c.keep_and_run-ran.ensures in
     record {

@@ -1,5 +1,4 @@
-use Rattle.std.proofs.Common.{◌≡◌, ℕ, Option, Some, length}
-use Rattle.std.specs.Prelude.{slice_get}
+use Rattle.std.proofs.Common.{◌≡◌, ℕ, Option, Some, length, slice_get}
 use Rattle.mm_proof.specs.mm_frame.Language.Base.{BaseView}
 use Rattle.mm_keep.specs.Code.Planned.{AreBothRead, IsPlanned}
 use Rattle.mm_keep.proofs.planning.planned.Given as goal

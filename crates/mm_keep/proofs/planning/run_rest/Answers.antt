@@ -1,7 +1,6 @@
-use Rattle.std.proofs.Common.{◌≡◌, ◌+◌, Option, None, List, length, get_or, sym, ◌∙◌, ap, subst, arith}
+use Rattle.std.proofs.Common.{◌≡◌, ◌+◌, Option, None, List, length, get_or, sym, ◌∙◌, ap, subst, arith, slice_get}
 use Rattle.std.proofs.lemmas.List.{length_push}
 use Rattle.std.proofs.lemmas.Option.{slice_get-get_or}
-use Rattle.std.specs.Prelude.{slice_get}
 use Rattle.mm_proof.specs.Language.Work.{Judgement}
 use Rattle.mm_keep.specs.Code.Planned.{AreRunBy, AreRecorded, IsRunBy}
 use Rattle.mm_keep.proofs.RunLemmas.{run_more, recorded_more, takes}

@@ -1,6 +1,4 @@
-use Rattle.std.proofs.Common.{map, length, ◌∙◌, ap, arith, refl, subst, ◌≡◌}
-use Rattle.std.specs.Prelude.{slice_set}
-use Rattle.std.proofs.lemmas.List.{length-set}
+use Rattle.std.proofs.Common.{map, length, ◌∙◌, ap, arith, refl, subst, ◌≡◌, slice_set, length-set}
 use Rattle.mm_proof.specs.Code.Keys.{home, home_at}
 use Rattle.mm_proof.proofs.lemmas.machine.FlatLemmas.{mapped_get}
 use Rattle.mm_proof.proofs.lemmas.machine.MarkLemmas.{marked_more}

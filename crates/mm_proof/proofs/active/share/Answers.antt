@@ -1,5 +1,4 @@
-use Rattle.std.proofs.Common.{map, sym, ◌∙◌, arith, length, subst}
-use Rattle.std.specs.Prelude.{Contains}
+use Rattle.std.proofs.Common.{map, sym, ◌∙◌, arith, length, subst, Contains}
 use Rattle.std.proofs.lemmas.Bool.{false≢true}
 use Rattle.std.proofs.lemmas.List.{length-map}
 use Rattle.mm_proof.proofs.lemmas.machine.FlatLemmas.{mapped_get}

@@ -1,5 +1,4 @@
-use Rattle.std.proofs.Common.{◌≡◌, Option, Some, ℕ, List, ◌∙◌, subst}
-use Rattle.std.specs.Prelude.{IfSome, All}
+use Rattle.std.proofs.Common.{◌≡◌, Option, Some, ℕ, List, ◌∙◌, subst, IfSome, All}
 use Rattle.std.specs.Borrow.{Bor}
 use Rattle.mm_frame.specs.Language.Base.{before}
 use Rattle.mm_frame.specs.Language.Frame.{Symbol, AreSamePairs}

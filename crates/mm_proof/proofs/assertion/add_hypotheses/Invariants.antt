@@ -1,5 +1,4 @@
-use Rattle.std.proofs.Common.{◌≡◌, ◌++◌, true, map, take}
-use Rattle.std.specs.Prelude.{All}
+use Rattle.std.proofs.Common.{◌≡◌, ◌++◌, true, map, take, All}
 use Rattle.mm_frame.specs.Language.Base.{is_shown_at}
 use Rattle.mm_proof.specs.Code.Citation.{hypotheses_of}
 use Rattle.mm_frame.specs.Language.NumberedSymbols.{by_number}

@@ -16,28 +16,8 @@ use Rattle.mm_proof.proofs.lemmas.base.FrameLemmas.{framed_proof}
 use Rattle.mm_proof.proofs.lemmas.decoding.DecodedProofs.{done_says}
 use Rattle.mm_proof.proofs.checking.judge_steps.Goals as goal
 
-pub returns-clause-says : goal.returns-clause-says
-returns-clause-says c view is =
-    let proof = c.args.proof in
-    let i = proof.i in
-    let d = proof.decoding.now in
-    let place = setting_at view i in
-    let names = entry_steps view d.labels.items in
-    let steps = actions_mean names d.steps.items in
-    let says = c.in_ok-outcome.ensures.says view is in
-    let on = rw c.again.ensures.words at (c.verdict-verdict.ensures view place (statement_at view i) says) in
-    let count = ap length (c.mandatory-hypotheses.ensures view is.theorem.base (framed_proof view i is.theorem.is_sound)) in
-    let told = c.in_ok-cites.ensures view i (mandatory_numbers (before view i) (said_at view i)) (c.labels_are_own.ensures view is.theorem.said) (sym count) is.entries is.table in
-    let many : length steps ≡ c.len.result = omega (arith, c.len.ensures, d.steps.ok, length-map d.steps.items (λ (step : ProofStep). meant names step.action)) in
-    let done = ap (λ n. done_by n c.in_ok-outcome.outcome) many ∙ sym c.steps_done-done.ensures.value in
-    record {
-      verdict = rw (ap (λ j. j.verdict) c.new.ensures, is.decodes) on;
-      cites = ap (λ j. j.cites) c.new.ensures ∙ told ∙ sym (ap (λ (o : Result Decoded ProofFault). cites place (said_at view i).proof o) is.decodes ∙ ap (λ (words : List (List ℕ)). cited_words place words steps) is.theorem.says);
-      done = rw is.decodes (rw done at (done_says place (statement_at view i) steps c.in_ok-outcome.outcome says));
-    }
-
-pub returns-clause-few : goal.returns-clause-few
-returns-clause-few c =
+pub returns : goal.returns
+returns c =
     let has = c.requires in
     let view = has.0 in
     let i = c.args.proof.i in
@@ -47,7 +27,26 @@ returns-clause-few c =
     let some = subst (λ (ws : List (List ℕ)). AllByRecursion (λ word. 0 < length word) ws) same c.again.ensures.some in
     let bytes = subst (λ (ws : List (List ℕ)). length (flat_map (λ word. word) ws) ≤ 4294967295) same c.again.ensures.bytes in
     let short = c.decodes_short.ensures (setting_at view i) (mandatory_labels view i) (said_at view i).proof (decoded_steps view d c.args.proof.words.now) some has.1.decodes in
-    omega (arith, c.steps_done-done.ensures.within, c.len.ensures, d.steps.ok, length-map d.steps.items (λ (step : ProofStep). meant names step.action))
+    record {
+      says = λ view is. let proof = c.args.proof in
+          let i = proof.i in
+          let d = proof.decoding.now in
+          let place = setting_at view i in
+          let names = entry_steps view d.labels.items in
+          let steps = actions_mean names d.steps.items in
+          let says = c.in_ok-outcome.ensures.says view is in
+          let on = rw c.again.ensures.words at (c.verdict-verdict.ensures view place (statement_at view i) says) in
+          let count = ap length (c.mandatory-hypotheses.ensures view is.theorem.base (framed_proof view i is.theorem.is_sound)) in
+          let told = c.in_ok-cites.ensures view i (mandatory_numbers (before view i) (said_at view i)) (c.labels_are_own.ensures view is.theorem.said) (sym count) is.entries is.table in
+          let many : length steps ≡ c.len.result = omega (arith, c.len.ensures, d.steps.ok, length-map d.steps.items (λ (step : ProofStep). meant names step.action)) in
+          let done = ap (λ n. done_by n c.in_ok-outcome.outcome) many ∙ sym c.steps_done-done.ensures.value in
+          record {
+            verdict = rw (ap (λ j. j.verdict) c.new.ensures, is.decodes) on;
+            cites = ap (λ j. j.cites) c.new.ensures ∙ told ∙ sym (ap (λ (o : Result Decoded ProofFault). cites place (said_at view i).proof o) is.decodes ∙ ap (λ (words : List (List ℕ)). cited_words place words steps) is.theorem.says);
+            done = rw is.decodes (rw done at (done_says place (statement_at view i) steps c.in_ok-outcome.outcome says));
+          };
+      few = omega (arith, c.steps_done-done.ensures.within, c.len.ensures, d.steps.ok, length-map d.steps.items (λ (step : ProofStep). meant names step.action));
+    }
 
 pub mandatory-hypotheses-requires : goal.mandatory-hypotheses-requires
 mandatory-hypotheses-requires c = let has = c.requires in (has.0, has.1.theorem.base, framed_proof has.0 c.args.proof.i has.1.theorem.is_sound)

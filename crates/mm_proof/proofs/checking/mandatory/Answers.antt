@@ -1,5 +1,4 @@
-use Rattle.std.proofs.Common.{◌≡◌, Option, ◌∙◌, subst}
-use Rattle.std.specs.Prelude.{IfSome}
+use Rattle.std.proofs.Common.{◌≡◌, Option, ◌∙◌, subst, IfSome}
 use Rattle.std.specs.Borrow.{Bor}
 use Rattle.mm_frame.specs.Language.Base.{before, said_at}
 use Rattle.mm_frame.specs.Language.Framing.{mandatory_numbers}

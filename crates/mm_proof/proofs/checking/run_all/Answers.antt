@@ -1,5 +1,5 @@
-use Rattle.std.proofs.Common.{subst, length, ap}
-use Rattle.std.specs.Prelude.{IfOk}
+use Rattle.std.proofs.Common.{subst, length, ap, IfOk}
+use Rattle.std.proofs.lemmas.Result.{IfOk-weaker}
 use Rattle.mm_proof.specs.Language.BaseLabels.{setting_at}
 use Rattle.mm_proof.specs.Language.VerdictAt.{statement_at}
 use Rattle.mm_proof.specs.Language.DecodedSteps.{entry_steps}
@@ -8,7 +8,6 @@ use Rattle.mm_proof.specs.Code.Judged.{IsOutcomeWithin}
 use Rattle.mm_proof.specs.Code.NumberedBase.{numbered_setting}
 use Rattle.mm_proof.proofs.lemmas.base.FrameLemmas.{shown_proof}
 use Rattle.mm_proof.proofs.lemmas.decoding.DecodedProofs.{decoded_saved, used_named}
-use Rattle.mm_proof.proofs.lemmas.decoding.ReaderLemmas.{if_ok}
 use Rattle.mm_proof.proofs.lemmas.machine.UsedLemmas.{part_entries, part_means}
 use Rattle.mm_proof.proofs.lemmas.renaming.RenamedFrames.{frames_by_number, run_named}
 use Rattle.mm_proof.proofs.checking.run_all.Goals as goal
@@ -19,11 +18,15 @@ name_all-requires c =
     let labels = c.args.proof.decoding.now.labels.items in
     rw c.deref.ensures.value (used_named c.args.proof.base.now has.0 c.args.proof.i has.1.theorem.base has.2 labels c.in_ok-used.used.items (rw c.deref-labels.ensures.value at c.in_ok-used.ensures.part) has.1.entries)
 
-pub run-requires-clause-saved : goal.run-requires-clause-saved
-run-requires-clause-saved c = rw c.deref-steps.ensures.value (decoded_saved c.mandatory_are_active.ensures c.decodes_surely.ensures _ _ _ _ _ c.requires.1)
+pub run-requires : goal.run-requires
+run-requires c = record {
+  saved = rw c.deref-steps.ensures.value (decoded_saved c.mandatory_are_active.ensures c.decodes_surely.ensures _ _ _ _ _ c.requires.1);
+  frames = c.in_ok-named.ensures.frames;
+  within = c.in_ok-named.ensures.within;
+}
 
 pub returns-clause-says : goal.returns-clause-says
-returns-clause-says c = if_ok _ _ c.run.result (λ outcome says view is. (
+returns-clause-says c = IfOk-weaker c.run.result _ _ (λ outcome says view is. (
     let proof = c.args.proof in
     let i = proof.i in
     let d = proof.decoding.now in
@@ -40,12 +43,6 @@ returns-clause-says c = if_ok _ _ c.run.result (λ outcome says view is. (
 
 pub active-requires : goal.active-requires
 active-requires c = let has = c.requires in (has.0, has.1.theorem.base, has.1.theorem.is_sound)
-
-pub run-requires-clause-frames : goal.run-requires-clause-frames
-run-requires-clause-frames c = c.in_ok-named.ensures.frames
-
-pub run-requires-clause-within : goal.run-requires-clause-within
-run-requires-clause-within c = c.in_ok-named.ensures.within
 
 pub returns-clause-within : goal.returns-clause-within
 returns-clause-within c = subst (λ n. IfOk c.run.result (IsOutcomeWithin n)) (ap length c.deref-steps.ensures.value) c.run.ensures.within

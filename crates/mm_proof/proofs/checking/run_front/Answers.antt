@@ -39,32 +39,31 @@ returns-in-Some-clause-says c view is =
     let stops = (rw c.in-Some.is at c.in_ok-outcome.ensures.says) (numbered_setting names view i) (entry_steps view used) frames (rw c.new-active.ensures pairs) mean in
     front_stops names view i d.labels.items used d.steps.items c.steps_before-count.result keeps c.in-Some.outcome (rw c.deref-steps.ensures.value at stops)
 
-pub returns-then-takes_more-clause-within : goal.returns-then-takes_more-clause-within
-returns-then-takes_more-clause-within c =
+pub returns-then-takes_more : goal.returns-then-takes_more
+returns-then-takes_more c =
     let has = c.requires in
     let t = c.if-takes_more.ensures refl has.0 has.1.theorem.base in
     let within = slice_get_within c.deref-steps.result.now c.steps_before-count.result t.step t.at in
-    omega (arith, within, ap length c.deref-steps.ensures.value)
-
-pub returns-then-takes_more-clause-says : goal.returns-then-takes_more-clause-says
-returns-then-takes_more-clause-says c view is =
-    let proof = c.args.proof in
-    let i = proof.i in
-    let d = proof.decoding.now in
-    let names = is.theorem.base.0 in
-    let base = is.theorem.base.1 in
-    let used = c.in_ok-used.used.items in
-    let entries = part_entries view i d.labels.items used (rw c.deref-labels.ensures.value at c.in_ok-used.ensures.part) is.entries in
-    let keeps = rw (c.deref-labels.ensures.value, c.deref-steps.ensures.value) at c.in_ok-used.ensures.used in
-    let mean = (rw c.deref.ensures.value at c.in_ok-named.ensures.means) names view base i entries in
-    let frames = frames_by_number names (setting_at view i) (c.places_have_frames.ensures view.said i) in
-    let pairs = c.active.ensures.same names view base is.theorem.is_sound in
-    let done = (rw c.in_default.is at c.in_ok-outcome.ensures.says) (numbered_setting names view i) (entry_steps view used) frames (rw c.new-active.ensures pairs) mean in
-    let m = c.run_through.new.machine in
-    let stack = (state_of by_number m).stack in
-    let count : c.len-entries.result ≡ length stack = omega (arith, c.len-entries.ensures, m.stack.ok, length-map m.stack.items (read (map by_number m.symbols.items))) in
-    let more = rw (count, c.deref-labels.ensures.value, c.deref-steps.ensures.value) at (c.if-takes_more.ensures refl view is.theorem.base) in
-    front_lacks names view i d.labels.items used d.steps.items c.steps_before-count.result keeps stack frames is.entries more (rw c.deref-steps.ensures.value at done)
+    record {
+      within = omega (arith, within, ap length c.deref-steps.ensures.value);
+      says = λ view is. let proof = c.args.proof in
+          let i = proof.i in
+          let d = proof.decoding.now in
+          let names = is.theorem.base.0 in
+          let base = is.theorem.base.1 in
+          let used = c.in_ok-used.used.items in
+          let entries = part_entries view i d.labels.items used (rw c.deref-labels.ensures.value at c.in_ok-used.ensures.part) is.entries in
+          let keeps = rw (c.deref-labels.ensures.value, c.deref-steps.ensures.value) at c.in_ok-used.ensures.used in
+          let mean = (rw c.deref.ensures.value at c.in_ok-named.ensures.means) names view base i entries in
+          let frames = frames_by_number names (setting_at view i) (c.places_have_frames.ensures view.said i) in
+          let pairs = c.active.ensures.same names view base is.theorem.is_sound in
+          let done = (rw c.in_default.is at c.in_ok-outcome.ensures.says) (numbered_setting names view i) (entry_steps view used) frames (rw c.new-active.ensures pairs) mean in
+          let m = c.run_through.new.machine in
+          let stack = (state_of by_number m).stack in
+          let count : c.len-entries.result ≡ length stack = omega (arith, c.len-entries.ensures, m.stack.ok, length-map m.stack.items (read (map by_number m.symbols.items))) in
+          let more = rw (count, c.deref-labels.ensures.value, c.deref-steps.ensures.value) at (c.if-takes_more.ensures refl view is.theorem.base) in
+          front_lacks names view i d.labels.items used d.steps.items c.steps_before-count.result keeps stack frames is.entries more (rw c.deref-steps.ensures.value at done);
+    }
 
 pub active-requires : goal.active-requires
 active-requires c = let has = c.requires in (has.0, has.1.theorem.base, has.1.theorem.is_sound)

@@ -6,14 +6,20 @@ use Rattle.mm_proof.proofs.lemmas.machine.EntryFaults.{gives_all, hypotheses_kno
 use Rattle.mm_proof.proofs.lemmas.machine.CitingFaults.{says08, says09, says_pairs, says12}
 use Rattle.mm_proof.proofs.citation.citing_fault.Goals as goal
 
-pub essentials_fit-requires-clause-typed : goal.essentials_fit-requires-clause-typed
-essentials_fit-requires-clause-typed g c = hypotheses_known (frame_from g.S.Symbol.means c.args.taken.now.hypotheses.now c.args.expression.now c.args.pairs.now) c.requires.frame
+pub essentials_fit-requires : goal.essentials_fit-requires
+essentials_fit-requires g c = record {
+  typed = hypotheses_known (frame_from g.S.Symbol.means c.args.taken.now.hypotheses.now c.args.expression.now c.args.pairs.now) c.requires.frame;
+  within = c.requires.within;
+  count = c.requires.count;
+}
 
-pub pairs_fault-requires-clause-hypotheses : goal.pairs_fault-requires-clause-hypotheses
-pairs_fault-requires-clause-hypotheses g c = hypotheses_known (frame_from g.S.Symbol.means c.args.taken.now.hypotheses.now c.args.expression.now c.args.pairs.now) c.requires.frame
-
-pub pairs_fault-requires-clause-typed : goal.pairs_fault-requires-clause-typed
-pairs_fault-requires-clause-typed g c k d l = let p = c.requires.frame.pairs_typed k d l in (p.2, p.3)
+pub pairs_fault-requires : goal.pairs_fault-requires
+pairs_fault-requires g c = record {
+  hypotheses = hypotheses_known (frame_from g.S.Symbol.means c.args.taken.now.hypotheses.now c.args.expression.now c.args.pairs.now) c.requires.frame;
+  typed = λ k d l. let p = c.requires.frame.pairs_typed k d l in (p.2, p.3);
+  within = c.requires.within;
+  count = c.requires.count;
+}
 
 pub returns-then-not-typecodes_match : goal.returns-then-not-typecodes_match
 returns-then-not-typecodes_match g c =
@@ -68,18 +74,6 @@ typecodes_match-requires-clause-within g c = c.requires.within
 
 pub typecodes_match-requires-clause-count : goal.typecodes_match-requires-clause-count
 typecodes_match-requires-clause-count g c = c.requires.count
-
-pub essentials_fit-requires-clause-within : goal.essentials_fit-requires-clause-within
-essentials_fit-requires-clause-within g c = c.requires.within
-
-pub essentials_fit-requires-clause-count : goal.essentials_fit-requires-clause-count
-essentials_fit-requires-clause-count g c = c.requires.count
-
-pub pairs_fault-requires-clause-within : goal.pairs_fault-requires-clause-within
-pairs_fault-requires-clause-within g c = c.requires.within
-
-pub pairs_fault-requires-clause-count : goal.pairs_fault-requires-clause-count
-pairs_fault-requires-clause-count g c = c.requires.count
 
 pub is_short-requires : goal.is_short-requires
 is_short-requires g c = record { within = c.requires.within }

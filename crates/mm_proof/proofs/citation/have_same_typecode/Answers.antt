@@ -1,8 +1,7 @@
-use Rattle.std.proofs.Common.{Some, length, sym, ◌∙◌, ap, arith, ◌≡◌, None, List, [], ◌∷◌, refl, map}
+use Rattle.std.proofs.Common.{Some, length, sym, ◌∙◌, ap, arith, ◌≡◌, None, List, [], ◌∷◌, refl, map, slice_get}
 use Rattle.std.proofs.lemmas.Bool.{eqb-false, eqb-true, eq-eqb, false≢true}
 use Rattle.std.proofs.lemmas.Option.{same_Some}
 use Rattle.mm_proof.proofs.lemmas.machine.FlatLemmas.{mapped_get}
-use Rattle.std.specs.Prelude.{slice_get}
 use Rattle.std.proofs.lemmas.List.{length-map}
 use Rattle.mm_proof.proofs.citation.have_same_typecode.Goals.{then-is_empty-via-then-is_empty, then-is_empty-via-else-is_empty+then-is_empty-2}
 use Rattle.mm_frame.specs.Language.Frame.{Symbol}

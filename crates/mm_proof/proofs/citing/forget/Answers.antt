@@ -1,8 +1,6 @@
 use Rattle.std.proofs.lemmas.Bool.{false≢true}
-use Rattle.std.proofs.Common.{◌∙◌, ap, arith, sym, get_or, inl, inr}
-use Rattle.std.proofs.lemmas.List.{take_all}
+use Rattle.std.proofs.Common.{◌∙◌, ap, arith, sym, get_or, inl, inr, take_all, Some}
 use Rattle.mm_proof.specs.Code.Cited.{is_listed, is_item, cited_item, marked_at}
-use Rattle.std.specs.Prelude.{Some}
 use Rattle.mm_frame.specs.declared.base.Resolved.{Resolved}
 use Rattle.mm_proof.proofs.lemmas.citing.MarkedLemmas.{listed_next, taken_off, still_off, not_named}
 use Rattle.mm_proof.proofs.citing.forget.Goals.{in-Assertion, in_default}

@@ -1,5 +1,4 @@
-use Rattle.std.proofs.Common.{◌∙◌, ap, arith}
-use Rattle.std.proofs.lemmas.List.{take_all}
+use Rattle.std.proofs.Common.{◌∙◌, ap, arith, take_all}
 use Rattle.std.specs.List.{list_any}
 use Rattle.mm_proof.specs.Code.Cited.{names_item}
 use Rattle.mm_proof.proofs.citing.named.Goals as goal

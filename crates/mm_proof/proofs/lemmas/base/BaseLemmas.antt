@@ -1,6 +1,5 @@
 -- Labels of a base belong to one item each, and mandatory hypotheses are active.
-use Rattle.std.proofs.Common.{◌≡◌, ℕ, true, Option, Some, List, [], ◌∷◌, sym, ◌∙◌, ap}
-use Rattle.std.specs.Prelude.{Contains, unwrap_or}
+use Rattle.std.proofs.Common.{◌≡◌, ℕ, true, Option, Some, List, [], ◌∷◌, sym, ◌∙◌, ap, Contains, unwrap_or}
 use Rattle.mm_frame.specs.Language.Base.{BaseView, AreSaid, before, said_at, is_shown_at}
 use Rattle.mm_frame.specs.Language.Laws as frame
 use Rattle.mm_frame.specs.Language.Resolving.{IsCarrier, Resolves}

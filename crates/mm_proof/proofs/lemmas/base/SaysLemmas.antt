@@ -2,6 +2,7 @@
 use Rattle.std.proofs.Common.{◌≡◌, ℕ, zero, suc, true, Some, List, [], ◌∷◌, slice_get, refl, sym, subst}
 use Rattle.std.specs.List.{AllZip}
 use Rattle.std.proofs.lemmas.Option.{get_or_from_slice_get}
+use Rattle.mm_proof.proofs.lemmas.machine.EntryFaults.{zip_at}
 use Rattle.mm_frame.specs.mm_store.declared.item.Item as store
 use Rattle.mm_frame.specs.mm_store.Language.FilesView.{FilesView}
 use Rattle.mm_frame.specs.mm_store.Language.FileFacts.{CanBeRead}
@@ -13,18 +14,10 @@ use Rattle.mm_frame.specs.declared.base.Base.{Base}
 use Rattle.mm_proof.specs.Language.ReadIn.{HasTheorem, IsReadIn}
 use Rattle.mm_proof.specs.Code.Judged.{IsTheorem}
 
--- the element of the one list with that of the other
-zip_found : {A B : Type 0} (R : A → B → Type 0) (xs : List A) (ys : List B) (i : ℕ) (x : A) → AllZip R xs ys → slice_get xs i ≡ Some x → (y : B) × (slice_get ys i ≡ Some y) × R x y
-zip_found R [] [] i x a e = cc
-zip_found R [] (z ∷ ys) i x a e = absurd a
-zip_found R (w ∷ xs) [] i x a e = absurd a
-zip_found R (w ∷ xs) (z ∷ ys) zero x a e = let f : w ≡ x = cc in (z, refl, subst (λ v. R v z) f a.0)
-zip_found R (w ∷ xs) (z ∷ ys) (suc i) x a e = zip_found R xs ys i x a.1 e
-
 -- what it says
 pub says_at : (names : List (List ℕ)) (files : FilesView) (code : Base) (view : BaseView) (n : ℕ) (item : store.Item) → IsReadIn names files code view → slice_get view.found n ≡ Some item → Says files item (said_at view n)
 says_at names files code view n item is e =
-    let y = zip_found (Says files) view.found view.said n item is.each e in
+    let y = zip_at (Says files) view.found view.said n item is.each e in
     subst (Says files item) (sym (get_or_from_slice_get view.said n y.0 passed y.1)) y.2
 
 -- that it can be read

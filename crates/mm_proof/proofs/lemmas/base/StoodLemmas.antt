@@ -1,8 +1,7 @@
 -- A label that means an assertion at an item is the label of one that stands before the item.
-use Rattle.std.proofs.Common.{◌≡◌, ◌<◌, ◌≤◌, ◌⊎◌, ℕ, zero, suc, true, Option, Some, None, List, [], ◌∷◌, ◌++◌, length, take, slice_get, refl, sym, ◌∙◌, ap, subst, inl, inr, arith}
-use Rattle.std.specs.Prelude.{is_none}
+use Rattle.std.proofs.Common.{◌≡◌, ◌<◌, ◌≤◌, ◌⊎◌, ℕ, zero, suc, true, Option, Some, None, List, [], ◌∷◌, ◌++◌, length, take, slice_get, refl, sym, ◌∙◌, ap, subst, inl, inr, arith, is_none, append-nil}
 use Rattle.std.proofs.Math.Decide.{dec_lt}
-use Rattle.std.proofs.Math.Seq.{take-suc}
+use Rattle.std.proofs.Math.Seq.{take-suc, take-length}
 use Rattle.std.proofs.lemmas.Bool.{cases_Bool, false≢true, and_from}
 use Rattle.mm_frame.specs.declared.FrameNumber.{FrameNumber}
 use Rattle.mm_frame.specs.declared.base.Resolved.TheVariants as answers
@@ -34,19 +33,11 @@ take_less xs ys zero l = refl
 take_less [] ys (suc n) l = absurd (omega (arith, l))
 take_less (x ∷ xs) ys (suc n) l = ap (λ w. x ∷ w) (take_less xs ys n (omega (arith, l)))
 
-take_whole : {X : Type 0} (xs : List X) → take (length xs) xs ≡ xs
-take_whole [] = refl
-take_whole (x ∷ xs) = ap (λ w. x ∷ w) (take_whole xs)
-
-nothing_behind : {X : Type 0} (xs : List X) → xs ++ [] ≡ xs
-nothing_behind [] = refl
-nothing_behind (x ∷ xs) = ap (λ w. x ∷ w) (nothing_behind xs)
-
 one_moved : {X : Type 0} (xs : List X) (x : X) (ys : List X) → (xs ++ x ∷ []) ++ ys ≡ xs ++ x ∷ ys
 one_moved [] x ys = refl
 one_moved (z ∷ xs) x ys = ap (λ w. z ∷ w) (one_moved xs x ys)
 
-longer_by_one : {X : Type 0} (xs : List X) (x : X) → length (xs ++ x ∷ []) ≡ suc (length xs)
+pub longer_by_one : {X : Type 0} (xs : List X) (x : X) → length (xs ++ x ∷ []) ≡ suc (length xs)
 longer_by_one [] x = refl
 longer_by_one (z ∷ xs) x = ap suc (longer_by_one xs x)
 
@@ -88,7 +79,7 @@ module _ (view : BaseView) (next : KeptNext) where
             }
         | inr h ↦
             let last : n ≡ i = h.0 ∙ count in
-            let whole = take_less (before view i) (judged_at i ∷ []) (length (before view i)) (omega arith) ∙ take_whole (before view i) in
+            let whole = take_less (before view i) (judged_at i ∷ []) (length (before view i)) (omega arith) ∙ take-length (before view i) in
             let same = ap (λ m. take m (before view i ++ judged_at i ∷ [])) h.0 ∙ whole ∙ ap (before view) (sym last) in
             record { earlier = omega (arith, last); is = h.1 ∙ ap judged_at (sym last); front = ap (take n) (one_more i l) ∙ same }
       ]
@@ -124,7 +115,7 @@ found whole front [] label h = absurd (false≢true h)
 found whole front (item ∷ back) label h = elim (cases_Bool (has (labels_of item) label)) [
   | inl e ↦
       let m = meaning_framed whole front back item (rw e at h) in
-      record { place = 0; item = item; there = refl; label_is = e; framed = m.0; means = rw e (m.1 ∙ ap (λ items. Assertion (frame items item)) (sym (nothing_behind front))) }
+      record { place = 0; item = item; there = refl; label_is = e; framed = m.0; means = rw e (m.1 ∙ ap (λ items. Assertion (frame items item)) (sym (append-nil front))) }
   | inr e ↦
       let f = found whole (front ++ item ∷ []) back label (rw e at h) in
       record {
@@ -136,9 +127,6 @@ found whole front (item ∷ back) label h = elim (cases_Bool (has (labels_of ite
         means = rw e (f.means ∙ ap (λ items. Assertion (frame items f.item)) (one_moved front item (take f.place back)));
       }
 ]
-
-framed_labelled : (view : BaseView) (n : ℕ) → is_sound_at view n ≡ true → is_assertion (said_at view n).kind ≡ true → is_framed_at view n ≡ true
-framed_labelled view n s a = and_from (is_sound_at view n) (is_assertion (said_at view n).kind) s a
 
 -- a sound item, told by what stands in its place
 judged_sound : (item : Item) (label : List ℕ) (o : Option (ℕ × FrameNumber)) → has (labels_of (judged item o)) label ≡ true → o ≡ None
@@ -156,6 +144,6 @@ assertion_stands next view i label h =
     let same : f.item ≡ said = s.is ∙ ap (judged said) none in
     let l = labelled (is_labelled said.kind) said.label label (subst (λ (item : Item). has (labels_of item) label ≡ true) same f.label_is) in
     let sound : is_sound_at view k ≡ true = ap (λ o. is_none (fault_by said.kind o)) none ∙ sound_label said.kind l.0 in
-    let framed = framed_labelled view k sound (subst (λ (item : Item). is_assertion item.kind ≡ true) same f.framed) in
+    let framed = (and_from (is_sound_at view k) (is_assertion (said_at view k).kind) sound (subst (λ (item : Item). is_assertion item.kind ≡ true) same f.framed)) in
     let shown = and_from (is_sound_at view k) (is_labelled said.kind) sound l.0 in
     (k, (record { earlier = s.earlier; carrier = record { shown = shown; label_is = l.1 } }, framed, f.means ∙ ap (λ items. Assertion (frame items f.item)) s.front ∙ ap (λ item. Assertion (frame (before view k) item)) same))

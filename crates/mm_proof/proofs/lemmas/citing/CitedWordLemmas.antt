@@ -1,6 +1,5 @@
 -- The words that the code tells are those that cite.
-use Rattle.std.proofs.Common.{◌≡◌, ℕ, zero, suc, ◌+◌, Bool, true, false, not, ◌&&◌, List, [], ◌∷◌, ◌++◌, length, map, drop, refl, sym, ap, ◌∙◌, inl, inr, eqb-true, eq-eqb}
-use Rattle.std.specs.Prelude.{filter, bytes_eq, codes, nat_eq, slice_get, slice_index_or}
+use Rattle.std.proofs.Common.{◌≡◌, ℕ, zero, suc, ◌+◌, Bool, true, false, not, ◌&&◌, List, [], ◌∷◌, ◌++◌, length, map, drop, refl, sym, ap, ◌∙◌, inl, inr, eqb-true, eq-eqb, filter, bytes_eq, codes, nat_eq, slice_get, slice_index_or}
 use Rattle.std.specs.List.{list_any, enumerate_from, before_first}
 use Rattle.std.proofs.lemmas.Bool.{cases_Bool, false≢true}
 use Rattle.std.proofs.lemmas.Slice.Eq.{bytes_eq-Decides}
@@ -178,9 +177,7 @@ module _ (view : BaseView) where
       means_assertion ((setting_at view i).resolve (label_at view j)) ≡ true →
       names_assertion (label_at view j) (meant (entry_steps view labels) action) ≡ is_item (item_named labels action) j
   action_named own i j labels (actions.Label k) all s a = label_named own i j labels k all s a
-  action_named own i j labels (actions.Saved n) all s a = refl
-  action_named own i j labels actions.Save all s a = refl
-  action_named own i j labels actions.Unknown all s a = refl
+  action_named own i j labels _ all s a = refl
 
   any_named :
       NoLabelTwice view → (i j : ℕ) (labels : List Resolved) (steps : List ProofStep) → AreEntries view i labels → is_shown_at view j ≡ true →

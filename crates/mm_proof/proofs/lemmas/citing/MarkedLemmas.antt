@@ -1,12 +1,12 @@
 -- What is marked counts for the assertions of entries alone.
-use Rattle.std.proofs.Common.{◌≡◌, ℕ, suc, ◌+◌, Bool, true, List, [], ◌∷◌, drop, refl, ap, inl, inr, eq-eqb, false, ◌<◌, ◌||◌, length, get_or, sym, ◌∙◌, ◌&&◌, take, ◌⊎◌}
-use Rattle.std.specs.Prelude.{nat_eq, Some}
+use Rattle.std.proofs.Common.{◌≡◌, ℕ, suc, ◌+◌, Bool, true, List, [], ◌∷◌, drop, refl, ap, inl, inr, eq-eqb, false, ◌<◌, ◌||◌, length, get_or, sym, ◌∙◌, ◌&&◌, take, ◌⊎◌, nat_eq, Some}
 use Rattle.std.proofs.lemmas.Bool.{cases_Bool}
 use Rattle.mm_frame.specs.declared.base.Resolved.{Resolved}
 use Rattle.mm_frame.specs.declared.base.Resolved.TheVariants as answers
 use Rattle.mm_proof.specs.Code.Cited.{without, item_cites, is_listed, is_item, cited_item}
 use Rattle.std.proofs.lemmas.List.{take_more}
 use Rattle.std.proofs.lemmas.List.Folds.{list_any-append}
+use Rattle.std.proofs.Math.Bool.{and-false}
 
 -- one of the rest is one of all
 listed_on : (label : Resolved) (labels : List Resolved) (j : ℕ) → is_listed labels j ≡ true → is_listed (label ∷ labels) j ≡ true
@@ -53,13 +53,9 @@ listed_next labels n j d l e =
       | inr f ↦ inr (or_false (is_item (cited_item (Some here)) j) ∙ rw f at parts)
     ]
 
-and_false : (b : Bool) → (b && false) ≡ false
-and_false true = refl
-and_false false = refl
-
 -- what is taken from an entry's number is not left
 pub taken_off : (left : ℕ → Bool) (k j : ℕ) → nat_eq k j ≡ true → without left k j ≡ false
-taken_off left k j e = rw e (and_false (left j))
+taken_off left k j e = rw e (and-false (left j))
 
 -- what was not left is not left then either
 pub still_off : (left : ℕ → Bool) (k j : ℕ) → left j ≡ false → without left k j ≡ false

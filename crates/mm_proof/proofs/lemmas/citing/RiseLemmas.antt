@@ -1,6 +1,5 @@
 -- The words that cite rise.
-use Rattle.std.proofs.Common.{ℕ, ◌+◌, ◌<◌, Bool, not, Result, Ok, Err, List, [], ◌∷◌, map, drop, arith, inl, inr}
-use Rattle.std.specs.Prelude.{filter, bytes_eq, codes}
+use Rattle.std.proofs.Common.{ℕ, ◌+◌, ◌<◌, Bool, not, Result, Ok, Err, List, [], ◌∷◌, map, drop, arith, inl, inr, filter, bytes_eq, codes}
 use Rattle.std.specs.List.{AllByRecursion, enumerate_from, before_first}
 use Rattle.std.proofs.lemmas.Bool.{cases_Bool}
 use Rattle.mm_proof.specs.Language.Citing.{label_words, firsts, is_cited, cites}

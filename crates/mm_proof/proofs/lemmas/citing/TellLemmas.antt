@@ -240,9 +240,6 @@ get_take (y ∷ xs) zero k x e = cc
 get_take (y ∷ xs) (suc n) zero x e = e
 get_take (y ∷ xs) (suc n) (suc k) x e = get_take xs n k x e
 
-get_before : (test : List ℕ → Bool) (xs : List (List ℕ)) (k : ℕ) (x : List ℕ) → slice_get (before_first test xs) k ≡ Some x → slice_get xs k ≡ Some x
-get_before test xs k x e = get_take xs (prefix_len (λ y. not (test y)) xs) k x e
-
 get_behind : (xs : List (List ℕ)) (k : ℕ) (x : List ℕ) → slice_get (drop 1 xs) k ≡ Some x → slice_get xs (suc k) ≡ Some x
 get_behind [] k x e = e
 get_behind (y ∷ xs) k x e = e
@@ -269,7 +266,7 @@ label_there words w label i = by (is_compressed words) i
     by : (b : Bool) → In (w, label) (cond b (enumerate_from 1 (before_first is_close (drop 1 words))) (filter is_label_at (enumerate_from 0 words))) → slice_get words w ≡ Some label
     by true j =
         let r = numbered_at 1 (before_first is_close (drop 1 words)) w label j in
-        ap (slice_get words) (r.1 ∙ omega arith) ∙ get_behind words r.0 label (get_before is_close (drop 1 words) r.0 label r.2)
+        ap (slice_get words) (r.1 ∙ omega arith) ∙ get_behind words r.0 label (get_take (drop 1 words) (prefix_len (λ y. not (is_close y)) (drop 1 words)) r.0 label r.2)
     by false j =
         let r = numbered_at 0 words w label (from_filter is_label_at (w, label) (enumerate_from 0 words) j).0 in
         ap (slice_get words) (r.1 ∙ omega arith) ∙ r.2

@@ -1,6 +1,5 @@
 -- A proof that is decoded, and what a run says of it.
-use Rattle.std.proofs.Common.{◌≡◌, ℕ, zero, suc, ◌+◌, ◌<◌, true, false, cond, Some, Ok, List, [], ◌∷◌, length, take, get_or, refl, sym, ◌∙◌, ap, subst, arith, inl, inr}
-use Rattle.std.specs.Prelude.{slice_get, All, count_by}
+use Rattle.std.proofs.Common.{◌≡◌, ℕ, zero, suc, ◌+◌, ◌<◌, true, false, cond, Some, Ok, List, [], ◌∷◌, length, take, get_or, refl, sym, ◌∙◌, ap, subst, arith, inl, inr, slice_get, All, count_by}
 use Rattle.std.specs.Option.{option_map}
 use Rattle.std.proofs.lemmas.List.{take-map, length-take-le}
 use Rattle.std.proofs.lemmas.List.Elements.{All-nil, All-cons}
@@ -64,9 +63,7 @@ entry_saves view (l ∷ labels) (suc k) = entry_saves view labels k
 
 one_saves : (view : BaseView) (labels : List Resolved) (action : Action) → cond (is_save (meant (entry_steps view labels) action)) 1 0 ≡ saves_by action
 one_saves view labels (actions.Label k) = ap (λ b. cond b 1 0) (entry_saves view labels k)
-one_saves view labels (actions.Saved n) = refl
-one_saves view labels actions.Save = refl
-one_saves view labels actions.Unknown = refl
+one_saves view labels _ = refl
 
 saves_count : (view : BaseView) (labels : List Resolved) (steps : List ProofStep) → count_by is_save (actions_mean (entry_steps view labels) steps) ≡ saves_in steps
 saves_count view labels [] = refl
@@ -89,9 +86,7 @@ saved_before place view labels steps decoded n step at = by_action step.action r
         let there : slice_get (actions_mean (entry_steps view labels) steps) n ≡ Some (Saved k) =
         slice_get-map (λ (s : ProofStep). meant (entry_steps view labels) s.action) steps n ∙ ap (λ o. option_map (λ (s : ProofStep). meant (entry_steps view labels) s.action) o) at ∙ ap (λ a. Some (meant (entry_steps view labels) a)) e in
         subst (λ m. k < m) counted (decoded.saved n k there)
-    by_action (actions.Label k) e = tt
-    by_action actions.Save e = tt
-    by_action actions.Unknown e = tt
+    by_action _ e = tt
 
 pub decoded_saved : MandatoryAreActive → DecodesSurely → (code : Base) (i : ℕ) (proof : List (List ℕ)) (d : Decoding) (view : BaseView) → IsDecoding code i proof d view → AreSavedBefore d.steps.items
 decoded_saved active sure code i proof d view is =

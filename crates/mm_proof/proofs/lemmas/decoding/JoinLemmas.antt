@@ -26,9 +26,6 @@ worths_more : (ds : List Letter) (l : Letter) → worths (ds ++ l ∷ []) ≡ wo
 worths_more [] l = refl
 worths_more (d ∷ ds) l = ap (λ (w : List ℕ). digit_worth d.byte ∷ w) (worths_more ds l)
 
-number_more : (ds : List Letter) (l : Letter) → number (ds ++ l ∷ []) ≡ 5 * number ds + digit_worth l.byte
-number_more ds l = ap in_base_five (worths_more ds l) ∙ base_five_more (worths ds) (digit_worth l.byte)
-
 -- no digits are told by the number 0
 some_digits : (d : Letter) (ds : List Letter) → AreDigits (d ∷ ds) → (number (d ∷ ds) == 0) ≡ false
 some_digits d ds all = elim (cases_Bool (number (d ∷ ds) == 0)) [
@@ -50,7 +47,7 @@ end_is labels close saves (d ∷ ds) all = rw (some_digits d ds all) refl
 pub read_on_is : (labels : List Step) (close : Spot) (saves : ℕ) (ds ls : List Letter) → AreDigits ds → read_on labels close saves (number ds) ls ≡ in_order (each_group labels close saves (groups_behind ds ls))
 read_on_is labels close saves ds [] all = end_is labels close saves ds all
 read_on_is labels close saves ds (l ∷ ls) all = elim (cases_Bool (is_digit l.byte)) [
-  | inl e ↦ rw (e) (ap (λ (n : ℕ). read_on labels close saves n ls) (sym (number_more ds l)) ∙ read_on_is labels close saves (ds ++ l ∷ []) ls (digits_more ds l all e))
+  | inl e ↦ rw (e) (ap (λ (n : ℕ). read_on labels close saves n ls) (sym (ap in_base_five (worths_more ds l) ∙ base_five_more (worths ds) (digit_worth l.byte))) ∙ read_on_is labels close saves (ds ++ l ∷ []) ls (digits_more ds l all e))
   | inr e ↦ rw (e) (
       ap (λ (r : Result Step ProofNumber). read_first l.spot r (read_on labels close (cond (l.byte == 90) (saves + 1) saves) 0 ls)) (behind_is (nameable labels saves) ds l.byte all)
       ∙ ap (λ (r : Steps). read_first l.spot (read_letter (nameable labels saves) ds l.byte) r) (read_on_is labels close (cond (l.byte == 90) (saves + 1) saves) [] ls tt))

@@ -1,6 +1,5 @@
 -- What is so of each label that the words of a proof name, word by word.
-use Rattle.std.proofs.Common.{◌≡◌, ℕ, false, List, ◌∷◌, sym, ◌∙◌, ap, subst}
-use Rattle.std.specs.Prelude.{◌↔◌, IsTrue, filter}
+use Rattle.std.proofs.Common.{◌≡◌, ℕ, false, List, ◌∷◌, sym, ◌∙◌, ap, subst, ◌↔◌, IsTrue, filter}
 use Rattle.std.specs.List.{AllByRecursion, before_first}
 use Rattle.std.proofs.lemmas.Bool.{false≢true}
 use Rattle.mm_proof.specs.Code.KeptMarks.{is_label_word}
@@ -10,10 +9,6 @@ use Rattle.mm_proof.proofs.lemmas.decoding.ListLemmas.{before_one}
 -- what holds of the labels that are listed before a `)`
 abbrev pub OfListed : (List ℕ → Type 0) → List (List ℕ) → Type 0
 OfListed P words = AllByRecursion P (before_first is_close words)
-
--- what holds of the words that are no `?`
-abbrev pub OfWords : (List ℕ → Type 0) → List (List ℕ) → Type 0
-OfWords P words = AllByRecursion P (filter is_label_word words)
 
 -- it holds of them all where it held of the first and holds of those behind it
 pub one_more : (P Q R S : Type 0) → P ↔ (Q × R) → Q → S ↔ P → S ↔ R

@@ -1,6 +1,5 @@
 -- The words of a proof, taken one by one.
-use Rattle.std.proofs.Common.{◌≡◌, ℕ, ◌+◌, ◌<◌, List, [], ◌∷◌, Option, Some, None, true, get_or, length, drop, sym, ◌∙◌, ap, arith}
-use Rattle.std.specs.Prelude.{MatchOption}
+use Rattle.std.proofs.Common.{◌≡◌, ℕ, ◌+◌, ◌<◌, List, [], ◌∷◌, Option, Some, None, true, get_or, length, drop, sym, ◌∙◌, ap, arith, MatchOption}
 use Rattle.std.proofs.lemmas.List.{drop_more}
 use Rattle.mm_proof.specs.Language.Decoding.{is_compressed}
 use Rattle.mm_proof.specs.Language.Expansion.{Step}

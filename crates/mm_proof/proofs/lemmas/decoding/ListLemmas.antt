@@ -1,17 +1,15 @@
 -- The list of labels read from left to right is the list.
-use Rattle.std.proofs.Common.{◌≡◌, ℕ, suc, ◌+◌, Bool, true, false, Result, Ok, Err, List, [], ◌∷◌, ◌++◌, length, refl, sym, ap, ◌∙◌, arith, inl, inr, append_assoc}
+use Rattle.std.proofs.Common.{◌≡◌, ℕ, suc, ◌+◌, Bool, true, false, Result, Ok, Err, List, [], ◌∷◌, ◌++◌, length, refl, sym, ap, ◌∙◌, arith, inl, inr, append_assoc, append-nil, codes}
 use Rattle.std.specs.List.{list_any, before_first, after_first}
-use Rattle.std.proofs.lemmas.Bool.{cases_Bool}
-use Rattle.std.proofs.lemmas.List.{append-nil}
+use Rattle.std.proofs.lemmas.Bool.{cases_Bool, or_parts}
 use Rattle.std.proofs.lemmas.Slice.Eq.{bytes_eq-Decides}
-use Rattle.std.specs.Prelude.{codes}
 use Rattle.mm_frame.specs.Language.Frame.{Setting}
 use Rattle.mm_proof.specs.Language.Expansion.{Step}
 use Rattle.mm_proof.specs.Language.Decoding.{Steps, read_first, in_order, each_word, read_label, is_close, if_read, letter_steps, compressed_steps, word_spot}
 use Rattle.mm_proof.specs.Code.LeftToRight.{behind_label, list_on}
 use Rattle.mm_proof.specs.declared.Spot.{Spot}
 use Rattle.mm_proof.specs.declared.ProofNumber.{ProofNumber}
-use Rattle.mm_proof.proofs.lemmas.decoding.ReadOnLemmas.{compressed_is, or_false, parts}
+use Rattle.mm_proof.proofs.lemmas.decoding.ReadOnLemmas.{compressed_is, parts}
 use Rattle.std.proofs.Math.Numerals.{one-add}
 
 -- the labels listed so far can be used, and none is a `)`
@@ -52,7 +50,7 @@ fails_at place n (first ∷ listed) word words number steps e f =
 
 pub none_more : (listed : List (List ℕ)) (word : List ℕ) → list_any is_close listed ≡ false → is_close word ≡ false → list_any is_close (listed ++ word ∷ []) ≡ false
 none_more [] word e f = rw f refl
-none_more (first ∷ listed) word e f = let p = or_false (is_close first) (list_any is_close listed) e in rw (p.0, none_more listed word p.1 f) refl
+none_more (first ∷ listed) word e f = let p = or_parts (is_close first) (list_any is_close listed) e in rw (p.0, none_more listed word p.1 f) refl
 
 pub before_one : (word : List ℕ) (words : List (List ℕ)) → is_close word ≡ false → before_first is_close (word ∷ words) ≡ word ∷ before_first is_close words
 before_one word words e = rw (e, one-add) refl
@@ -60,13 +58,7 @@ before_one word words e = rw (e, one-add) refl
 -- the words before the first `)` begin with those that are none
 before_none : (listed words : List (List ℕ)) → list_any is_close listed ≡ false → before_first is_close (listed ++ words) ≡ listed ++ before_first is_close words
 before_none [] words e = refl
-before_none (first ∷ listed) words e = let p = or_false (is_close first) (list_any is_close listed) e in before_one first (listed ++ words) p.0 ∙ ap (λ (w : List (List ℕ)). first ∷ w) (before_none listed words p.1)
-
-none_end : (listed : List (List ℕ)) → list_any is_close listed ≡ false → list_any is_close (listed ++ []) ≡ false
-none_end listed e = ap (list_any is_close) (append-nil listed) ∙ e
-
-before_end : (listed : List (List ℕ)) → list_any is_close listed ≡ false → before_first is_close (listed ++ []) ≡ listed
-before_end listed e = before_none listed [] e ∙ append-nil listed
+before_none (first ∷ listed) words e = let p = or_parts (is_close first) (list_any is_close listed) e in before_one first (listed ++ words) p.0 ∙ ap (λ (w : List (List ℕ)). first ∷ w) (before_none listed words p.1)
 
 length_one : (listed : List (List ℕ)) (word : List ℕ) → 1 + length (listed ++ word ∷ []) ≡ 1 + length listed + 1
 length_one [] word = omega arith
@@ -77,8 +69,8 @@ Joined place mandatory close listed words = compressed_steps place mandatory (li
 
 at_end : (place : Setting) (mandatory : List (List ℕ)) (close : Spot) (listed : List (List ℕ)) → AreListed place 1 listed → Joined place mandatory close listed []
 at_end place mandatory close listed are =
-    ap (λ (w : List (List ℕ)). parts place mandatory close w (list_any is_close (listed ++ [])) (after_first is_close (listed ++ []))) (before_end listed are.1)
-    ∙ ap (λ (w : Bool). parts place mandatory close listed w (after_first is_close (listed ++ []))) (none_end listed are.1)
+    ap (λ (w : List (List ℕ)). parts place mandatory close w (list_any is_close (listed ++ [])) (after_first is_close (listed ++ []))) (before_none listed [] are.1 ∙ append-nil listed)
+    ∙ ap (λ (w : Bool). parts place mandatory close listed w (after_first is_close (listed ++ []))) (ap (list_any is_close) (append-nil listed) ∙ are.1)
     ∙ rw are.0.1 refl
 
 at_close : (place : Setting) (mandatory : List (List ℕ)) (close : Spot) (listed words : List (List ℕ)) → AreListed place 1 listed

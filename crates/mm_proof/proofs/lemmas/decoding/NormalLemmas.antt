@@ -1,9 +1,8 @@
 -- A normal proof as the code reads it.
-use Rattle.std.proofs.Common.{◌≡◌, ℕ, zero, suc, ◌+◌, ◌<◌, ◌≤◌, Result, Ok, List, [], ◌∷◌, ◌++◌, length, map, drop, get_or, refl, sym, ap, ◌∙◌, append_assoc, arith, take, inl, inr}
+use Rattle.std.proofs.Common.{◌≡◌, ℕ, zero, suc, ◌+◌, ◌<◌, ◌≤◌, Result, Ok, List, [], ◌∷◌, ◌++◌, length, map, drop, get_or, refl, sym, ap, ◌∙◌, append_assoc, arith, take, inl, inr, bytes_eq, codes}
 use Rattle.std.proofs.Math.ListN.{drop_of_length-le}
-use Rattle.std.proofs.lemmas.List.{append-nil, map-append, length-append, length-map, map_more}
+use Rattle.std.proofs.lemmas.List.{append-nil, map-append, length-append, length-map, map_more, take_all}
 use Rattle.std.proofs.lemmas.Bool.{cases_Bool}
-use Rattle.std.specs.Prelude.{bytes_eq, codes}
 use Rattle.mm_proof.proofs.lemmas.decoding.SureLemmas.{usable_is}
 use Rattle.mm_frame.specs.Language.Frame.{Setting}
 use Rattle.mm_proof.specs.Language.Expansion.{Step}
@@ -33,15 +32,6 @@ is_word place word step e = elim (cases_Bool (bytes_eq word (codes "?"))) [
   | inr f ↦ let u = usable_is word (place.resolve word) step (rw f at e) in rw f (sym u.0)
 ]
 
-all_taken : {X : Type 0} (xs : List X) (n : ℕ) → length xs ≤ n → take n xs ≡ xs
-all_taken [] zero past = refl
-all_taken [] (suc n) past = refl
-all_taken (x ∷ xs) zero past = absurd (omega arith)
-all_taken (x ∷ xs) (suc n) past = ap (◌∷◌ x) (all_taken xs n (omega arith))
-
-taken_more : (words : List (List ℕ)) (n : ℕ) → n < length words → map word_step (take (n + 1) words) ≡ map word_step (take n words) ++ word_step (get_or words n []) ∷ []
-taken_more words n less = map_more word_step words n [] less
-
 names_more : (view : BaseView) (labels : List Resolved) (meaning : Resolved) (more : List Step) → entry_steps view (labels ++ meaning ∷ []) ++ more ≡ entry_steps view labels ++ entry_step view meaning ∷ more
 names_more view labels meaning more = ap (λ (w : List Step). w ++ more) (map-append (entry_step view) labels (meaning ∷ [])) ∙ append_assoc (entry_steps view labels) (entry_step view meaning ∷ []) more
 
@@ -64,7 +54,7 @@ module _ (view : BaseView) (i : ℕ) (words : List (List ℕ)) (n : ℕ) (labels
   word_on word meaning action less is read acts entry = record {
     count = count_more labels n meaning normal.count;
     entries = entries_more view i labels meaning normal.entries entry;
-    table = map-append (entry_step view) labels (meaning ∷ []) ∙ rw (normal.table, ← is_word (setting_at view i) word (entry_step view meaning) read, is) (sym (taken_more words n less));
+    table = map-append (entry_step view) labels (meaning ∷ []) ∙ rw (normal.table, ← is_word (setting_at view i) word (entry_step view meaning) read, is) (sym (map_more word_step words n [] less));
     rest = λ more.
         let names = entry_steps view labels ++ entry_step view meaning ∷ more in
         let behind = in_order (each_word (read_word (setting_at view i)) (n + 1) (drop (n + 1) words)) in
@@ -84,7 +74,7 @@ module _ (view : BaseView) (i : ℕ) (words : List (List ℕ)) (n : ℕ) (labels
 
   -- the table at the end
   pub table_is : length words ≤ n → entry_steps view labels ≡ map word_step words
-  table_is past = normal.table ∙ ap (map word_step) (all_taken words n past)
+  table_is past = normal.table ∙ ap (map word_step) (take_all n words past)
 
   -- at the end
   pub finishes : length words ≤ n → in_order (each_word (read_word (setting_at view i)) 0 words) ≡ Ok (meant_steps (entry_steps view labels) steps)

@@ -3,15 +3,12 @@ use Rattle.std.proofs.Common.{◌≡◌, ℕ, zero, suc, ◌+◌, ◌-◌, ◌*�
 use Rattle.std.specs.List.{AllByRecursion}
 use Rattle.std.proofs.Math.Nat.{pow-succ'}
 use Rattle.std.proofs.lemmas.Bool.{and_parts, leb-true, le-leb}
+use Rattle.mm_proof.proofs.lemmas.base.StoodLemmas.{longer_by_one}
 use Rattle.mm_proof.specs.Language.Numbers.{in_base_five, is_digit, is_last, digit_worth, value_of}
 use Rattle.mm_proof.specs.Language.DecodingLaws.{IsWrittenNumber}
 
-length_more : (ds : List ℕ) (d : ℕ) → length (ds ++ d ∷ []) ≡ suc (length ds)
-length_more [] d = refl
-length_more (x ∷ ds) d = ap suc (length_more ds d)
-
 power_more : (ds : List ℕ) (d : ℕ) → 5 ^ length (ds ++ d ∷ []) ≡ 5 * 5 ^ length ds
-power_more ds d = rw (length_more ds d) (pow-succ' 5 (length ds))
+power_more ds d = rw (longer_by_one ds d) (pow-succ' 5 (length ds))
 
 carried : (x p q r s d : ℕ) → q ≡ 5 * p → s ≡ 5 * r + d → x * q + s ≡ 5 * (x * p + r) + d
 carried x p q r s d e f = rw (e, f) (omega arith)
@@ -68,7 +65,7 @@ apart_within (suc n) ds es few a b same = elim (has_last ds) [
         let both : in_base_five (h.0 ++ h.1 ∷ []) ≡ in_base_five (k.0 ++ k.1 ∷ []) = sym (ap in_base_five h.2) ∙ same ∙ ap in_base_five k.2 in
         let high : in_base_five h.0 ≡ in_base_five k.0 = omega arith in
         let low : h.1 ≡ k.1 = omega arith in
-        let shorter : length h.0 ≤ n = omega (arith, ap length h.2, length_more h.0 h.1) in
+        let shorter : length h.0 ≤ n = omega (arith, ap length h.2, longer_by_one h.0 h.1) in
         let front = apart_within n h.0 k.0 shorter w.0 v.0 high in
         h.2 ∙ ap (λ (w : List ℕ). w ++ h.1 ∷ []) front ∙ ap (λ (w : ℕ). k.0 ++ w ∷ []) low ∙ sym k.2
   ]

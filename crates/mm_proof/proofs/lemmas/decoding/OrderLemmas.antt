@@ -1,6 +1,5 @@
 -- Readings in order: all steps, or the first fault.
-use Rattle.std.proofs.Common.{◌≡◌, Result, Ok, Err, List, [], ◌∷◌, ◌++◌, refl, ap}
-use Rattle.std.specs.Prelude.{◌↔◌}
+use Rattle.std.proofs.Common.{◌≡◌, Result, Ok, Err, List, [], ◌∷◌, ◌++◌, refl, ap, ◌↔◌}
 use Rattle.std.specs.List.{AllByRecursion}
 use Rattle.mm_proof.specs.Language.Expansion.{Step}
 use Rattle.mm_proof.specs.Language.Decoding.{Reading, Steps, with_step, read_first, in_order}

@@ -1,9 +1,9 @@
 -- Letters read on over the ends of words.
-use Rattle.std.proofs.Common.{◌≡◌, ℕ, suc, ◌+◌, Bool, true, false, not, ◌||◌, ◌==◌, cond, Some, Result, Ok, Err, List, [], ◌∷◌, ◌++◌, length, map, take, drop, refl, sym, ap, ◌∙◌, arith, inl, inr, add-one}
-use Rattle.std.specs.Prelude.{flat_map, codes}
+use Rattle.std.proofs.Common.{◌≡◌, ℕ, suc, ◌+◌, Bool, true, false, not, ◌||◌, ◌==◌, cond, Some, Result, Ok, Err, List, [], ◌∷◌, ◌++◌, length, map, take, drop, refl, sym, ap, ◌∙◌, arith, inl, inr, add-one, flat_map, codes}
 use Rattle.std.specs.List.{list_any, prefix_len, enumerate_from, before_first, after_first}
-use Rattle.std.proofs.lemmas.Bool.{cases_Bool}
+use Rattle.std.proofs.lemmas.Bool.{cases_Bool, or_parts}
 use Rattle.std.proofs.lemmas.List.{map-append}
+use Rattle.std.proofs.Math.Seq.{take-append_seam}
 use Rattle.mm_frame.specs.Language.Frame.{Setting}
 use Rattle.mm_proof.specs.Language.Expansion.{Step, Named, Save, NotKnown}
 use Rattle.mm_proof.specs.Language.Numbers.{is_digit}
@@ -79,25 +79,17 @@ behind_same labels saves at by ds es (l ∷ ls) (m ∷ ms) d e =
     ]
 behind_same labels saves at by ds es _ _ d e = cc
 
-pub or_false : (a b : Bool) → (a || b) ≡ false → (a ≡ false) × (b ≡ false)
-or_false true b e = cc
-or_false false b e = (refl, e)
-
 -- the words before a `)` and behind it
 pub close_at : (listed words : List (List ℕ)) → list_any is_close listed ≡ false → prefix_len (λ word. not (is_close word)) (listed ++ codes ")" ∷ words) ≡ length listed
 close_at [] words e = refl
-close_at (word ∷ listed) words e = let p = or_false (is_close word) (list_any is_close listed) e in rw (p.0, close_at listed words p.1) (omega arith)
-
-taken : (listed words : List (List ℕ)) → take (length listed) (listed ++ words) ≡ listed
-taken [] words = refl
-taken (word ∷ listed) words = ap (λ (w : List (List ℕ)). word ∷ w) (taken listed words)
+close_at (word ∷ listed) words e = let p = or_parts (is_close word) (list_any is_close listed) e in rw (p.0, close_at listed words p.1) (omega arith)
 
 dropped : (listed : List (List ℕ)) (word : List ℕ) (words : List (List ℕ)) → drop (suc (length listed)) (listed ++ word ∷ words) ≡ words
 dropped [] word words = refl
 dropped (first ∷ listed) word words = dropped listed word words
 
 pub before_close : (listed words : List (List ℕ)) → list_any is_close listed ≡ false → before_first is_close (listed ++ codes ")" ∷ words) ≡ listed
-before_close listed words e = rw (close_at listed words e) (taken listed (codes ")" ∷ words))
+before_close listed words e = rw (close_at listed words e) (take-append_seam listed (codes ")" ∷ words))
 
 pub behind_close : (listed words : List (List ℕ)) → list_any is_close listed ≡ false → after_first is_close (listed ++ codes ")" ∷ words) ≡ words
 behind_close listed words e = rw (close_at listed words e, add-one) (dropped listed (codes ")") words)

@@ -1,6 +1,5 @@
 -- There are at most as many steps as bytes.
-use Rattle.std.proofs.Common.{◌≡◌, ℕ, suc, ◌+◌, ◌<◌, ◌≤◌, cond, Result, Ok, List, [], ◌∷◌, ◌++◌, length, map, drop, refl, sym, ap, ◌∙◌, arith, inl, inr}
-use Rattle.std.specs.Prelude.{flat_map}
+use Rattle.std.proofs.Common.{◌≡◌, ℕ, suc, ◌+◌, ◌<◌, ◌≤◌, cond, Result, Ok, List, [], ◌∷◌, ◌++◌, length, map, drop, refl, sym, ap, ◌∙◌, arith, inl, inr, flat_map}
 use Rattle.std.specs.List.{AllByRecursion, list_any, before_first, after_first}
 use Rattle.std.proofs.lemmas.Bool.{cases_Bool}
 use Rattle.std.proofs.lemmas.List.{length-map, length-append}
@@ -46,9 +45,6 @@ groups_short ds (l ∷ ls) = elim (cases_Bool (is_digit l.byte)) [
   | inr e ↦ rw e (let s = groups_short [] ls in omega arith)
 ]
 
-letters_length : (n : ℕ) (words : List (List ℕ)) → length (letters_from n words) ≡ bytes_of words
-letters_length n words = sym (length-map (letters_from n words) (λ (l : Letter). l.byte)) ∙ ap length (bytes_from n words)
-
 behind_short : (n : ℕ) (words : List (List ℕ)) → bytes_of (drop n words) ≤ bytes_of words
 behind_short (suc n) (word ∷ words) = let s = behind_short n words in omega (arith, length-append word (flat_map (λ word. word) words))
 behind_short _ _ = omega arith
@@ -62,7 +58,7 @@ letters_short mandatory listed n words close steps e =
     let a = order_length (each_group (map Named (mandatory ++ listed)) close 0 (groups (letters_from n words))) steps e in
     let b = groups_length (map Named (mandatory ++ listed)) close 0 (groups (letters_from n words)) in
     let c = groups_short [] (letters_from n words) in
-    let d = letters_length n words in
+    let d = (sym (length-map (letters_from n words) (λ (l : Letter). l.byte)) ∙ ap length (bytes_from n words)) in
     omega arith
 
 compressed_short : (place : Setting) (mandatory words : List (List ℕ)) (close : Spot) (steps : List (Step × Spot)) → compressed_steps place mandatory words close ≡ Ok steps → length steps ≤ bytes_of words

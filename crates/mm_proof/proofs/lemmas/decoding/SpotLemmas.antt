@@ -1,10 +1,9 @@
 -- The spots that decoding gives are in the words of the proof, and so is that of the verdict.
-use Rattle.std.proofs.Common.{◌≡◌, ℕ, true, zero, suc, ◌+◌, ◌<◌, ◌≤◌, cond, Some, Result, Ok, Err, List, [], ◌∷◌, ◌++◌, length, map, drop, sym, ap, ◌∙◌, subst, arith, inl, inr, slice_get}
-use Rattle.std.specs.Prelude.{slice_index_or, not}
+use Rattle.std.proofs.Common.{◌≡◌, ℕ, true, zero, suc, ◌+◌, ◌<◌, ◌≤◌, cond, Some, Result, Ok, Err, List, [], ◌∷◌, ◌++◌, length, map, drop, sym, ap, ◌∙◌, subst, arith, inl, inr, slice_get, slice_index_or, not, length-take, length-drop, drop-drop}
 use Rattle.std.specs.List.{AllByRecursion, list_any, prefix_len, enumerate_from, before_first, after_first}
 use Rattle.std.proofs.lemmas.Bool.{cases_Bool}
-use Rattle.std.proofs.lemmas.List.{length-take, length-drop, drop-drop}
 use Rattle.std.proofs.lemmas.List.Folds.{length-prefix_len}
+use Rattle.mm_proof.proofs.lemmas.views.MeaningLemmas.{joined}
 use Rattle.mm_frame.specs.Language.Base.{BaseView, said_at}
 use Rattle.mm_frame.specs.Language.Frame.{Symbol, Setting}
 use Rattle.mm_proof.specs.Language.BaseLabels.{setting_at}
@@ -21,10 +20,6 @@ use Rattle.mm_proof.specs.declared.Spot.{Spot}
 use Rattle.mm_proof.specs.declared.Verdict.{Verdict}
 use Rattle.mm_proof.specs.declared.Verdict.TheVariants.{Proved, Incomplete, Wrong}
 use Rattle.mm_proof.specs.declared.step.ProofFault.{ProofFault}
-
-all_join : {X : Type 0} (P : X → Type 0) (xs ys : List X) → AllByRecursion P xs → AllByRecursion P ys → AllByRecursion P (xs ++ ys)
-all_join P [] ys a b = b
-all_join P (x ∷ xs) ys a b = (a.0, all_join P xs ys a.1 b)
 
 all_at : {X : Type 0} (P : X → Type 0) (xs : List X) (n : ℕ) (x : X) → AllByRecursion P xs → slice_get xs n ≡ Some x → P x
 all_at P [] n x a e = cc
@@ -76,7 +71,7 @@ module _ (words : List (List ℕ)) where
       let b = begins words n word rest e in
       let next : suc n ≡ n + 1 = omega arith in
       let whole : 0 + length word ≤ length (slice_index_or words n []) = omega (arith, ap length b.0) in
-      all_join (λ (letter : Letter). IsSpotIn words letter.spot) (letters_in (n, word)) (letters_from (n + 1) rest)
+      joined (λ (letter : Letter). IsSpotIn words letter.spot) (letters_in (n, word)) (letters_from (n + 1) rest)
       (word_letters n 0 word b.2 whole)
       (all_letters (n + 1) rest (ap (λ m. drop m words) (sym next) ∙ b.1))
 

@@ -1,6 +1,5 @@
 -- The lowest number that holds where an assertion is cited.
-use Rattle.std.proofs.Common.{◌≡◌, ℕ, ◌-◌, ◌<◌, ◌≤◌, Some, None, List, [], ◌∷◌, ◌++◌, length, take, sym, ◌∙◌, subst, arith}
-use Rattle.std.specs.Prelude.{All, Any}
+use Rattle.std.proofs.Common.{◌≡◌, ℕ, ◌-◌, ◌<◌, ◌≤◌, Some, None, List, [], ◌∷◌, ◌++◌, length, take, sym, ◌∙◌, subst, arith, All, Any}
 use Rattle.mm_frame.specs.Language.Frame.{Symbol, Frame}
 use Rattle.mm_frame.specs.Language.Typing.{IsFrame}
 use Rattle.mm_proof.specs.Language.Substitution.{substituted}

@@ -1,6 +1,5 @@
 -- What is found wrong with entries, place by place.
-use Rattle.std.proofs.Common.{◌≡◌, ℕ, zero, suc, ◌+◌, ◌<◌, ◌≤◌, true, Some, List, [], ◌∷◌, length, drop, refl, sym, ◌∙◌, ap, subst, arith, inl, inr}
-use Rattle.std.specs.Prelude.{slice_get}
+use Rattle.std.proofs.Common.{◌≡◌, ℕ, zero, suc, ◌+◌, ◌<◌, ◌≤◌, true, Some, List, [], ◌∷◌, length, drop, refl, sym, ◌∙◌, ap, subst, arith, inl, inr, slice_get}
 use Rattle.std.specs.List.{AllZip}
 use Rattle.std.proofs.Math.Decide.{ℕ_discrete}
 use Rattle.std.proofs.lemmas.List.Elements.{All-contains}
@@ -58,7 +57,7 @@ none_all R xs ys n l f a =
     f p.0 (omega arith) (record { x = p.1; y = p.2; first = p.3; second = p.4; holds = p.5 })
 
 -- the entry of a hypothesis
-zip_at : {A B : Type 0} (R : A → B → Type 0) (xs : List A) (ys : List B) (n : ℕ) (x : A) → AllZip R xs ys → slice_get xs n ≡ Some x → (y : B) × (slice_get ys n ≡ Some y) × R x y
+pub zip_at : {A B : Type 0} (R : A → B → Type 0) (xs : List A) (ys : List B) (n : ℕ) (x : A) → AllZip R xs ys → slice_get xs n ≡ Some x → (y : B) × (slice_get ys n ≡ Some y) × R x y
 zip_at R [] [] n x a e = cc
 zip_at R (w ∷ xs) (z ∷ ys) zero x a e = let f : w ≡ x = cc in (z, refl, subst (λ v. R v z) f a.0)
 zip_at R (w ∷ xs) (z ∷ ys) (suc n) x a e = zip_at R xs ys n x a.1 e

@@ -1,6 +1,5 @@
 -- Ranges of a flat list, and the expressions under what they give.
-use Rattle.std.proofs.Common.{Bool, true, false, ◌≡◌, ℕ, zero, suc, ◌+◌, ◌-◌, ◌<◌, ◌≤◌, Some, List, [], ◌∷◌, ◌++◌, length, map, take, drop, get_or, refl, sym, ◌∙◌, ap, append_assoc, length-append, ◌↔◌, arith}
-use Rattle.std.specs.Prelude.{slice_get, if◌then◌else◌}
+use Rattle.std.proofs.Common.{Bool, true, false, ◌≡◌, ℕ, zero, suc, ◌+◌, ◌-◌, ◌<◌, ◌≤◌, Some, List, [], ◌∷◌, ◌++◌, length, map, take, drop, get_or, refl, sym, ◌∙◌, ap, append_assoc, length-append, ◌↔◌, arith, slice_get, if◌then◌else◌}
 use Rattle.std.proofs.lemmas.List.{append-nil, take_more, take-append-drop, take-map, drop-map, length-map, drop_all, drop-drop, get_or-map, get_or_default, append_cancel_left, take_at}
 use Rattle.std.proofs.lemmas.Grind.{flat_map-append}
 use Rattle.std.proofs.lemmas.Option.{slice_get_within, get_or_from_slice_get, slice_get-get_or}
@@ -23,10 +22,6 @@ mapped_get f xs n x l is =
 -- the same at any default
 pub mapped_or : {X Y : Type 0} (f : X → Y) (xs : List X) (n : ℕ) (d : X) (y : Y) → n < length xs → slice_get (map f xs) n ≡ Some y → y ≡ f (get_or xs n d)
 mapped_or f xs n d y l e = mapped_at f xs n (get_or xs n d) y l (get_or_default xs n d (get_or xs n d) l) e
-
--- some element of a list that is long enough
-pub element_at : {X : Type 0} (xs : List X) (n : ℕ) (d : X) → n < length xs → slice_get xs n ≡ Some (get_or xs n d)
-element_at xs n d l = slice_get-get_or xs n d l
 
 -- behind the first symbol of a range
 drop_one_take : {X : Type 0} (m : ℕ) (xs : List X) → drop 1 (take m xs) ≡ take (m - 1) (drop 1 xs)

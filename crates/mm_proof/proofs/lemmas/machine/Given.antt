@@ -1,8 +1,8 @@
 -- The substitution that the entries of the mandatory `$f` give.
-use Rattle.std.proofs.Common.{◌≡◌, ◌≢◌, suc, Bool, true, false, Option, Some, None, List, [], ◌∷◌, length, map, drop, refl, sym, ◌∙◌, ap, subst, arith, inl, inr}
-use Rattle.std.specs.Prelude.{slice_get, Contains, All, AllPairs}
+use Rattle.std.proofs.Common.{◌≡◌, ◌≢◌, suc, Bool, true, false, Option, Some, None, List, [], ◌∷◌, length, map, drop, refl, sym, ◌∙◌, ap, subst, arith, inl, inr, slice_get, Contains, All, AllPairs}
 use Rattle.std.proofs.lemmas.List.Elements.{All-head, All-tail}
 use mathlib.Core.Bool.{Bool-discrete}
+use Rattle.std.proofs.Math.Decide.{map_dec}
 use Rattle.mm_frame.specs.Language.Frame.{Symbol, Mandatory}
 use Rattle.mm_proof.specs.Language.Substitution.{substituted}
 use Rattle.mm_frame.specs.Language.Typing.{IsTyping}
@@ -10,7 +10,7 @@ use Rattle.mm_proof.specs.Language.Faults.{AnyZip}
 use Rattle.mm_proof.proofs.lemmas.lists.Members.{Contains-here, contains_there}
 use Rattle.mm_proof.proofs.lemmas.verdicts.Unique.{substituted-typing}
 use Rattle.mm_proof.proofs.lemmas.verdicts.Lines.{FloatsMatch}
-use Rattle.mm_proof.proofs.lemmas.verdicts.Choices.{symbol_discrete, expression_discrete, both_of, by_same}
+use Rattle.mm_proof.proofs.lemmas.verdicts.Choices.{symbol_discrete, expression_discrete, both_of}
 
 -- the hypothesis is a `$f` of this variable
 abbrev pub Types : Mandatory → Symbol → Type 0
@@ -18,7 +18,7 @@ Types h v = (h.floating ≡ true) × (slice_get h.expression 1 ≡ Some v)
 
 dec_second : (o : Option Symbol) (v : Symbol) → Dec (o ≡ Some v)
 dec_second None v = no (λ e. (cc))
-dec_second (Some w) v = by_same (λ e. ap Some e) (λ e. (cc)) (symbol_discrete w v)
+dec_second (Some w) v = map_dec (λ e. ap Some e) (λ e. (cc)) (symbol_discrete w v)
 
 pub dec_types : (h : Mandatory) (v : Symbol) → Dec (Types h v)
 dec_types h v = both_of (Bool-discrete h.floating true) (dec_second (slice_get h.expression 1) v)
@@ -66,7 +66,7 @@ typecode_of n (no m) = absurd (n m)
 
 pub dec_option : (a b : Option Symbol) → Dec (a ≡ b)
 dec_option None None = yes refl
-dec_option (Some x) (Some y) = by_same (λ e. ap Some e) (λ e. (cc)) (symbol_discrete x y)
+dec_option (Some x) (Some y) = map_dec (λ e. ap Some e) (λ e. (cc)) (symbol_discrete x y)
 dec_option _ _ = no (λ e. (cc))
 
 abbrev pub IsOnce : List Mandatory → Type 0
@@ -91,13 +91,12 @@ floats_match_by :
     All (λ h. h.floating ≡ true → IsTyping h.expression) hs → IsOnce hs → (AnyZip OtherTypecode hs es → ⊥) →
     ((v : Symbol) (h : Mandatory) → Contains hs h → Types h v → f v ≡ given_by hs es v) → FloatsMatch f hs es
 floats_match_by f [] [] l t o n a = tt
-floats_match_by f [] (e ∷ es) l t o n a = cc
-floats_match_by f (h ∷ hs) [] l t o n a = cc
 floats_match_by f (h ∷ hs) (e ∷ es) l t o n a = (
   λ is. entry_is f h e (All-head (λ h. h.floating ≡ true → IsTyping h.expression) h hs t is) (typecode_of (λ m. n (inl (is, m)))
       (dec_option (slice_get h.expression 0) (slice_get e 0))) (λ v s. a v h (Contains-here h hs) (is, s) ∙ given_here h hs e es v (is, s)),
   floats_match_by f hs es (cc) (All-tail (λ h. h.floating ≡ true → IsTyping h.expression) h hs t) (once_tail h hs o) (λ z. n (inr z)) (λ v g c u. a v g (contains_there h hs g c) u ∙ given_there h hs e es v (λ w. once_head h hs v o w g c u)),
 )
+floats_match_by f _ _ l t o n a = cc
 
 pub floats_match : (hs : List Mandatory) (es : List (List Symbol)) → length hs ≡ length es → All (λ h. h.floating ≡ true → IsTyping h.expression) hs → IsOnce hs → (AnyZip OtherTypecode hs es → ⊥) → FloatsMatch (given_by hs es) hs es
 floats_match hs es l t o n = floats_match_by (given_by hs es) hs es l t o n (λ v h c u. refl)

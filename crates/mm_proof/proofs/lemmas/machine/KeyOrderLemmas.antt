@@ -1,6 +1,5 @@
 -- Pairs in the order of their keys: which of them may be that of two symbols.
-use Rattle.std.proofs.Common.{◌≡◌, ℕ, ◌<◌, ◌≤◌, Bool, true, false, leb, Option, Some, None, List, length, refl, sym, ◌∙◌, ap, arith, inl, inr, cond}
-use Rattle.std.specs.Prelude.{slice_get}
+use Rattle.std.proofs.Common.{◌≡◌, ℕ, ◌<◌, ◌≤◌, Bool, true, false, leb, Option, Some, None, List, length, refl, sym, ◌∙◌, ap, arith, inl, inr, cond, slice_get}
 use Rattle.std.specs.Option.{option_map}
 use native.Mathlib.Decide.{dec_lt}
 use Rattle.std.proofs.lemmas.Bool.{false≢true, leb-true}

@@ -1,6 +1,5 @@
 -- Steps that stop before one that lacks an entry, or at it.
-use Rattle.std.proofs.Common.{◌≡◌, ◌≢◌, ℕ, zero, suc, ◌+◌, ◌<◌, ◌≤◌, Some, List, [], ◌∷◌, ◌++◌, length, take, drop, refl, sym, ◌∙◌, ap, subst, arith, inl, inr}
-use Rattle.std.specs.Prelude.{slice_get}
+use Rattle.std.proofs.Common.{◌≡◌, ◌≢◌, ℕ, zero, suc, ◌+◌, ◌<◌, ◌≤◌, Some, List, [], ◌∷◌, ◌++◌, length, take, drop, refl, sym, ◌∙◌, ap, subst, arith, inl, inr, slice_get}
 use Rattle.std.proofs.lemmas.Bool.{cases_Bool}
 use Rattle.std.proofs.lemmas.List.{take-append-le, take-append-drop, drop_more, length-map, length-take-le, map-append}
 use Rattle.std.proofs.lemmas.Option.{slice_get_within, slice_get-map, get_or_from_slice_get}
@@ -17,6 +16,7 @@ use Rattle.mm_proof.specs.declared.stepping.Outcome.{Outcome}
 use Rattle.mm_proof.specs.declared.stepping.Outcome.TheVariants.{Proved, Fault, Unknown, NotOne, Other}
 use Rattle.mm_proof.specs.Code.Tasks.{AreDoneTo, AreSavedBefore, IsSavedWithin, RunSays, StopsAt, actions_mean, saves_in}
 use Rattle.std.specs.Option.{option_map}
+use Rattle.mm_proof.proofs.lemmas.machine.ApartLemmas.{front_at}
 use Rattle.mm_frame.specs.declared.base.Resolved as listed
 use Rattle.mm_frame.specs.declared.base.Resolved.TheVariants as answers
 use Rattle.mm_frame.specs.Language.Base.{BaseView, frame_at}
@@ -40,9 +40,7 @@ use Rattle.mm_proof.proofs.lemmas.machine.StepLemmas.{kept_at, part_ends}
 pub stopped_says : (place : Setting) (steps : List Step) (statement : List Symbol) (outcome : Outcome) → StopsAt place steps outcome → RunSays place steps statement outcome
 stopped_says place steps statement (Fault number n) s = s
 stopped_says place steps statement (Unknown n) s = s
-stopped_says place steps statement Proved s = absurd s
-stopped_says place steps statement NotOne s = absurd s
-stopped_says place steps statement Other s = absurd s
+stopped_says place steps statement _ s = absurd s
 
 -- what is run of more steps begins like what is run of the first of them
 part_longer : (front behind : List Step) → (rest : List Step) × (run_part (front ++ behind) ≡ run_part front ++ rest)
@@ -64,11 +62,6 @@ fault_longer place steps rest n number f =
       number_is = f.number_is;
     }
 
-get_front : (front behind : List Step) (k : ℕ) → k < length front → slice_get (front ++ behind) k ≡ slice_get front k
-get_front [] behind k l = absurd (omega (arith, l))
-get_front (x ∷ front) behind zero l = refl
-get_front (x ∷ front) behind (suc k) l = get_front front behind k (omega (arith, l))
-
 -- where the first steps stop, all stop
 pub stops_on : (place : Setting) (front behind : List Step) (outcome : Outcome) → StopsAt place front outcome → StopsAt place (front ++ behind) outcome
 stops_on place front behind (Fault number n) s =
@@ -77,12 +70,10 @@ stops_on place front behind (Fault number n) s =
 stops_on place front behind (Unknown n) s =
     let within = slice_get_within front n NotKnown s.0.0 in
     let at = kept_at front behind n NotKnown s.0.0 in
-    let known : (k : ℕ) → k < n → slice_get (front ++ behind) k ≢ Some NotKnown = λ k l e. s.0.1 k l (sym (get_front front behind k (omega (arith, l, within))) ∙ e) in
+    let known : (k : ℕ) → k < n → slice_get (front ++ behind) k ≢ Some NotKnown = λ k l e. s.0.1 k l (sym (front_at front behind k (omega (arith, l, within))) ∙ e) in
     let same : run_part (front ++ behind) ≡ run_part front = part_ends (front ++ behind) n known at ∙ take-append-le n front behind (omega (arith, within)) ∙ sym (part_ends front n s.0.1 s.0.0) in
     ((at, known), (s.1.0, subst (λ (w : List Step). Reaches place w s.1.0) (sym same) s.1.1))
-stops_on place front behind Proved s = absurd s
-stops_on place front behind NotOne s = absurd s
-stops_on place front behind Other s = absurd s
+stops_on place front behind _ s = absurd s
 
 known_longer : (front : List Step) (step : Step) (behind : List Step) → AreAllKnown front → step ≢ NotKnown → run_part (front ++ step ∷ behind) ≡ front ++ step ∷ run_part behind
 known_longer [] step behind all known = part_one step behind (known_one step known)
@@ -113,9 +104,7 @@ entry_at view i (l ∷ labels) (suc k) label entries e = entry_at view i labels 
 stops_named : (names : List (List ℕ)) (place : Setting) (steps : List Step) (outcome : Outcome) → StopsAt (renamed_setting (unnaming names) place) steps outcome → StopsAt place steps outcome
 stops_named names place steps (Fault number n) s = run_named names place steps [] (Fault number n) s
 stops_named names place steps (Unknown n) s = run_named names place steps [] (Unknown n) s
-stops_named names place steps Proved s = absurd s
-stops_named names place steps NotOne s = absurd s
-stops_named names place steps Other s = absurd s
+stops_named names place steps _ s = absurd s
 
 divided : (names : List Step) (steps : List ProofStep) (n : ℕ) → actions_mean names steps ≡ actions_mean names (take n steps) ++ actions_mean names (drop n steps)
 divided names steps n = ap (actions_mean names) (sym (take-append-drop n steps)) ∙ map-append (λ (step : ProofStep). meant names step.action) (take n steps) (drop n steps)

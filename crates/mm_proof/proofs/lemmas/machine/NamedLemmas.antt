@@ -1,6 +1,5 @@
 -- What was named so far, when more is named.
-use Rattle.std.proofs.Common.{◌≡◌, ℕ, zero, suc, Some, List, [], ◌∷◌, ◌++◌, length, refl, sym, ◌∙◌, ap, subst, arith, ◌⊎◌, inl, inr}
-use Rattle.std.specs.Prelude.{slice_get, All}
+use Rattle.std.proofs.Common.{◌≡◌, ℕ, zero, suc, Some, List, [], ◌∷◌, ◌++◌, length, refl, sym, ◌∙◌, ap, subst, arith, ◌⊎◌, inl, inr, slice_get, All}
 use Rattle.std.specs.List.{AllZip}
 use Rattle.std.proofs.lemmas.List.Elements.{All-nil, All-cons}
 use Rattle.std.proofs.lemmas.Option.{slice_get_within, same_Some}
@@ -110,20 +109,12 @@ one_means code naming is hs cited are names view i base (uses.Hypothesis n) (ans
 one_means code naming is hs cited are names view i base (uses.Assertion n) (answers.Assertion j) s e = let h = are.frames names view base n j s e.1 in (h.0, numbered_frame names view j, h.1, ap (renamed_meaning (unnaming names)) e.2, h.2)
 one_means code naming is hs cited are names view i base uses.Nothing answers.Inactive s e = tt
 one_means code naming is hs cited are names view i base uses.Nothing answers.Unknown s e = tt
-one_means code naming is hs cited are names view i base (uses.Hypothesis n) (answers.Assertion j) s e = absurd s
-one_means code naming is hs cited are names view i base (uses.Hypothesis n) answers.Inactive s e = absurd s
-one_means code naming is hs cited are names view i base (uses.Hypothesis n) answers.Unknown s e = absurd s
-one_means code naming is hs cited are names view i base (uses.Assertion n) (answers.Hypothesis j) s e = absurd s
-one_means code naming is hs cited are names view i base (uses.Assertion n) answers.Inactive s e = absurd s
-one_means code naming is hs cited are names view i base (uses.Assertion n) answers.Unknown s e = absurd s
-one_means code naming is hs cited are names view i base uses.Nothing (answers.Hypothesis j) s e = absurd s
-one_means code naming is hs cited are names view i base uses.Nothing (answers.Assertion j) s e = absurd s
+one_means code naming is hs cited are names view i base _ _ s e = absurd s
 
 pub uses_mean :
     (code : Base) (naming : Naming) → AreNamed code naming → (mandatory : List (assertion.Hypothesis NumberedSymbol)) (cited : List (Cited NumberedSymbol)) →
     AreCited code naming.assertion_numbers.items.items mandatory cited → (names : List (List ℕ)) (view : BaseView) (i : ℕ) → IsBaseBy names view code → (all : List Use) (labels : List Resolved) →
     AllZip (IsUseOf naming) all labels → AreEntries view i labels → AllZip (MeansUse (expressions_named naming) (frames_cited mandatory cited) (numbered_setting names view i)) all (entry_steps view labels)
 uses_mean code naming is hs cited are names view i base [] [] z e = tt
-uses_mean code naming is hs cited are names view i base [] (l ∷ labels) z e = absurd z
-uses_mean code naming is hs cited are names view i base (u ∷ all) [] z e = absurd z
 uses_mean code naming is hs cited are names view i base (u ∷ all) (l ∷ labels) z e = (one_means code naming is hs cited are names view i base u l z.0 e.0, uses_mean code naming is hs cited are names view i base all labels z.1 e.1)
+uses_mean code naming is hs cited are names view i base _ _ z e = absurd z

@@ -1,8 +1,8 @@
 -- What is gathered, and the pair clause.
-use Rattle.std.proofs.Common.{◌≡◌, ℕ, zero, suc, ◌<◌, Some, List, [], ◌∷◌, length, map, get_or, refl, sym, ◌∙◌, ap, subst, arith, inl, inr, ◌↔◌}
-use Rattle.std.specs.Prelude.{slice_get, Contains, All, Any}
+use Rattle.std.proofs.Common.{◌≡◌, ℕ, zero, suc, ◌<◌, Some, List, [], ◌∷◌, length, map, get_or, refl, sym, ◌∙◌, ap, subst, arith, inl, inr, ◌↔◌, slice_get, Contains, All, Any}
 use Rattle.std.proofs.lemmas.List.Elements.{All-contains}
 use Rattle.std.proofs.lemmas.Option.{slice_get_within, get_or_from_slice_get, slice_get-get_or}
+use Rattle.mm_proof.proofs.lemmas.machine.ApartLemmas.{contains_at}
 use Rattle.mm_frame.specs.Language.Frame.{Symbol, Mandatory, HasVariable}
 use Rattle.mm_proof.specs.Language.Derivation.{AreApart, ShareVariable}
 use Rattle.mm_proof.specs.Language.Faults.{LackPair}
@@ -11,7 +11,7 @@ use Rattle.mm_proof.specs.declared.assertion.Hypothesis.{Hypothesis}
 use Rattle.mm_proof.specs.Code.Flat.{read}
 use Rattle.mm_proof.specs.Code.Citation.{hypotheses_of, mandatory_of, IsSlot, AreAllTyped, GivesEntries}
 use Rattle.mm_proof.specs.Code.PairClause.{EachApart, SomeNotApart, SomeShared, AtSlots, span_of, entry_or, Gathers}
-use Rattle.mm_proof.proofs.lemmas.machine.FlatLemmas.{element_at, mapped_get}
+use Rattle.mm_proof.proofs.lemmas.machine.FlatLemmas.{mapped_get}
 use Rattle.mm_proof.proofs.lemmas.machine.EntryFaults.{slot_gives}
 
 -- an element of a list that is mapped
@@ -30,7 +30,7 @@ module _ {S : Type 0} (means : S → Symbol) (hypotheses : List (Hypothesis S)) 
       let floating = ap (λ (w : Mandatory). w.floating) x.2 ∙ slot.2 in
       let d : Entry = record { start = 0; end = 0; floor = 0 } in
       let l = slice_get_within hypotheses j x.0 x.1 in
-      let at = element_at spans j d (omega arith) in
+      let at = slice_get-get_or spans j d (omega arith) in
       let s = get_or spans j d in
       let r = gathers.right j s x.0 e.0 at x.1 floating e.1 z in
       let same : span_of all spans j ≡ read all s = ap (λ o. read all (entry_or o)) at in (
@@ -42,7 +42,7 @@ module _ {S : Type 0} (means : S → Symbol) (hypotheses : List (Hypothesis S)) 
       → AtSlots (EachApart active) (hypotheses_of means hypotheses) all spans p) → All (λ pair. AreApart active (given pair.0) (given pair.1)) pairs
   apart_given active pairs each k d l =
       let p = get_or pairs k d in
-      let x = each k p (element_at pairs k d l) in
+      let x = each k p (slice_get-get_or pairs k d l) in
       record {
         unshared = λ s. (x.4 s.0 s.0 ((span_gives x.0 p.0 x.2 s.0).0 s.1) ((span_gives x.1 p.1 x.3 s.0).0 s.2)).0 refl;
         paired = λ a b h i n. (x.4 a b ((span_gives x.0 p.0 x.2 a).0 h) ((span_gives x.1 p.1 x.3 b).0 i)).1;
@@ -76,9 +76,6 @@ module _ {S : Type 0} (means : S → Symbol) (hypotheses : List (Hypothesis S)) 
         | inr n ↦ any_pair (LackPair active) pairs k p at (s.0, s.1, first, second, n.0, n.1)
       ]
 
-contains_at_any : {X : Type 0} (xs : List X) (n : ℕ) (x : X) → slice_get xs n ≡ Some x → Contains xs x
-contains_at_any xs n x e = (n, slice_get_within xs n x e, get_or_from_slice_get xs n x x e)
-
 -- what is said of all of a list that is mapped
 pub mapped_all : {X Y : Type 0} (f : X → Y) (P : Y → Type 0) (xs : List X) (n : ℕ) (x : X) → n < length xs → x ≡ get_or xs n x → All P (map f xs) → P (f x)
-mapped_all f P xs n x l is all = All-contains P (map f xs) (f x) all (contains_at_any (map f xs) n (f x) (mapped_get f xs n x l is))
+mapped_all f P xs n x l is all = All-contains P (map f xs) (f x) all (contains_at (map f xs) n (f x) (mapped_get f xs n x l is))

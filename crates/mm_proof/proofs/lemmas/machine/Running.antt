@@ -1,8 +1,6 @@
 -- Whole runs of the machine: what it ends with is what is reached, and its first fault is the step at fault.
-use Rattle.std.proofs.Common.{◌≡◌, ◌≢◌, ℕ, ◌+◌, ◌≤◌, ◌<◌, Some, Result, Ok, Err, List, [], ◌∷◌, ◌++◌, length, take, refl, sym, ◌∙◌, ap, subst, append_assoc, arith, length-append}
-use Rattle.std.specs.Prelude.{slice_get, ◌↔◌}
+use Rattle.std.proofs.Common.{◌≡◌, ◌≢◌, ℕ, ◌+◌, ◌≤◌, ◌<◌, Some, Result, Ok, Err, List, [], ◌∷◌, ◌++◌, length, take, refl, sym, ◌∙◌, ap, subst, append_assoc, arith, length-append, slice_get, ◌↔◌, append-nil, take_at, take_all}
 use Rattle.std.proofs.lemmas.Option.{slice_get_within}
-use Rattle.std.proofs.lemmas.List.{append-nil, take_at, take_all}
 use Rattle.mm_frame.specs.Language.Frame.{Symbol, Setting}
 use Rattle.mm_frame.specs.Language.Typing.{HasFrames}
 use Rattle.mm_proof.specs.Language.Expansion.{Step, Named, Saved, Save, NotKnown, Expanded}

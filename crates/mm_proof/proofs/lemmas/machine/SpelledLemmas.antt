@@ -1,6 +1,5 @@
 -- What is kept in another way: frames and orders that are the same, for the tests of the machine and of views.
-use Rattle.std.proofs.Common.{◌≡◌, ℕ, Result, Ok, List, get_or, length, map, sym, ◌∙◌, ap, subst, arith}
-use Rattle.std.specs.Prelude.{All, IfOk}
+use Rattle.std.proofs.Common.{◌≡◌, ℕ, Result, Ok, List, get_or, length, map, sym, ◌∙◌, ap, subst, arith, All, IfOk}
 use Rattle.std.proofs.lemmas.List.{length-map, get_or-map}
 use Rattle.std.proofs.lemmas.List.Elements.{All-map}
 use Rattle.std.proofs.lemmas.Option.{get_or_from_slice_get, slice_get_within}

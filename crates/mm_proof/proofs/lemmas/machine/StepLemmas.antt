@@ -1,6 +1,5 @@
 -- Tasks of the code and steps of a proof.
-use Rattle.std.proofs.Common.{◌≡◌, ◌≢◌, ℕ, zero, suc, ◌+◌, ◌<◌, ◌≤◌, false, Option, Some, None, List, [], ◌∷◌, ◌++◌, length, take, drop, get_or, refl, sym, ◌∙◌, ap, subst, arith, append_assoc, zero-add, add-zero, length-append}
-use Rattle.std.specs.Prelude.{slice_get, MatchOption, IfNone, map}
+use Rattle.std.proofs.Common.{◌≡◌, ◌≢◌, ℕ, zero, suc, ◌+◌, ◌<◌, ◌≤◌, false, Option, Some, None, List, [], ◌∷◌, ◌++◌, length, take, drop, get_or, refl, sym, ◌∙◌, ap, subst, arith, append_assoc, zero-add, add-zero, length-append, slice_get, MatchOption, IfNone, map}
 use Rattle.std.specs.List.{AllZip}
 use Rattle.std.proofs.Math.Decide.{ℕ_discrete}
 use Rattle.std.proofs.lemmas.List.{take_more, take-append-drop, drop_more, length-take-le, take_all, length-map}
@@ -15,7 +14,7 @@ use Rattle.mm_proof.specs.Language.Reaches.{Reaches, IsStepFault}
 use Rattle.mm_proof.specs.Language.Run.{is_unknown, run_part, IsReached}
 use Rattle.mm_proof.specs.Language.Verdict.{IsFirstUnknown}
 use Rattle.mm_proof.specs.declared.ProofNumber.{ProofNumber}
-use Rattle.mm_proof.proofs.lemmas.views.Moving.{takes_moved, frame_back, label_moved, pairs_back}
+use Rattle.mm_proof.proofs.lemmas.views.Moving.{takes_moved, frame_back, label_moved}
 use Rattle.mm_proof.proofs.lemmas.verdicts.Part.{known_one, one_known, part_one, part_none}
 use Rattle.mm_proof.proofs.lemmas.machine.Reaching.{Follows, follows_on, reached}
 use Rattle.mm_proof.proofs.lemmas.machine.Running.{faulty}
@@ -32,6 +31,7 @@ use Rattle.mm_proof.specs.Language.DecodedSteps.{meant}
 use Rattle.mm_proof.specs.Code.Tasks.{HasState, MeansTask, MeansUse, actions_mean, saves_by, saves_in}
 use Rattle.mm_proof.proofs.lemmas.machine.FlatLemmas.{mapped_or_get}
 use Rattle.std.proofs.lemmas.List.Sums.{sum_by-cons, sum_by-append}
+use Rattle.mm_proof.proofs.lemmas.views.KeptMarkLemmas.{turned}
 use Rattle.mm_proof.specs.declared.ProofNumber.TheVariants.{P13}
 use Rattle.mm_proof.specs.Code.Flat.{read, read_all}
 
@@ -100,7 +100,7 @@ cite_turns active place label kept frame stack before after (Some number) pairs 
     let d = subst (λ w. IsLowestCiting active kept w number) is c in record {
       holds = subst (λ (r : Resolved). LabelFails place.active r before.stack number) (sym at) (label_moved active place.active (Assertion kept) (Assertion frame) before.stack number pairs same d.0);
       lowest = λ other p. d.1 other (label_moved place.active active (Assertion frame) (Assertion kept) before.stack other
-          (pairs_back active place.active pairs) (frame_back kept frame same) (subst (λ (r : Resolved). LabelFails place.active r before.stack other) at p));
+          (turned active place.active pairs) (frame_back kept frame same) (subst (λ (r : Resolved). LabelFails place.active r before.stack other) at p));
     }
 
 -- ---- behind what is kept
@@ -260,10 +260,9 @@ pub unused_at :
     (expressions : List (List Symbol)) (frames : List Frame) (place : Setting) (all : List Use) (names : List Step) (k : ℕ) →
     length all ≤ k → AllZip (MeansUse expressions frames place) all names → MeansUse expressions frames place uses.Nothing (get_or names k NotKnown)
 unused_at expressions frames place [] [] k l zip = tt
-unused_at expressions frames place [] (x ∷ names) k l zip = absurd zip
-unused_at expressions frames place (u ∷ all) [] k l zip = absurd zip
 unused_at expressions frames place (u ∷ all) (x ∷ names) zero l zip = absurd (omega arith)
 unused_at expressions frames place (u ∷ all) (x ∷ names) (suc k) l zip = unused_at expressions frames place all names k (omega arith) zip.1
+unused_at expressions frames place _ _ k l zip = absurd zip
 
 pub push_means : (expressions : List (List Symbol)) (frames : List Frame) (place : Setting) (n : ℕ) (step : Step) → MeansUse expressions frames place (uses.Hypothesis n) step → MeansTask expressions frames place (tasks.Push n) step
 push_means expressions frames place n (Named label) m = m

@@ -1,6 +1,5 @@
 -- Of a substitution only what it gives for the mandatory variables counts.
-use Rattle.std.proofs.Common.{◌≡◌, List, [], ◌∷◌, map, get_or, refl, sym, ◌∙◌, subst}
-use Rattle.std.specs.Prelude.{Contains}
+use Rattle.std.proofs.Common.{◌≡◌, List, [], ◌∷◌, map, get_or, refl, sym, ◌∙◌, subst, Contains}
 use Rattle.mm_frame.specs.Language.Frame.{Symbol, Mandatory, Frame}
 use Rattle.mm_frame.specs.Language.Typing.{IsTyped, IsFrame}
 use Rattle.mm_proof.specs.Language.Substitution.{substituted}

@@ -1,6 +1,5 @@
 -- The machine as a function: what it answers is a turn, or the lowest line that holds.
-use Rattle.std.proofs.Common.{◌≡◌, ◌≢◌, ℕ, suc, ◌-◌, ◌≤◌, ◌<◌, true, false, Option, Some, None, Result, Ok, Err, List, [], ◌∷◌, ◌++◌, length, map, take, get_or, refl, sym, ◌∙◌, ap, subst, arith, inl, inr, ◌⊎◌}
-use Rattle.std.specs.Prelude.{slice_get, Contains, All, Any}
+use Rattle.std.proofs.Common.{◌≡◌, ◌≢◌, ℕ, suc, ◌-◌, ◌≤◌, ◌<◌, true, false, Option, Some, None, Result, Ok, Err, List, [], ◌∷◌, ◌++◌, length, map, take, get_or, refl, sym, ◌∙◌, ap, subst, arith, inl, inr, ◌⊎◌, length-append, slice_get, Contains, All, Any}
 use Rattle.std.proofs.lemmas.List.{take-append-drop, length-drop, get_or_default}
 use native.Mathlib.Decide.{dec_lt}
 use mathlib.Core.Bool.{Bool-discrete}
@@ -20,7 +19,6 @@ use Rattle.mm_proof.proofs.lemmas.verdicts.Lines.{FloatsMatch, agree, IsTypedPai
 use Rattle.mm_proof.proofs.lemmas.verdicts.Choices.{both_of, not_of, expression_discrete, dec_any, dec_any_zip, dec_share, dec_lack, are_apart}
 use Rattle.mm_proof.proofs.lemmas.machine.Reaching.{last_entry}
 use Rattle.std.proofs.lemmas.Option.{slice_get-get_or}
-use Rattle.std.proofs.lemmas.List.{length-append}
 use Rattle.mm_proof.proofs.lemmas.machine.Given.{given_by, floats_match, all_match, OtherTypecode, dec_option}
 
 -- the numbers in the order of their rows
@@ -254,6 +252,3 @@ answer_of place s step (Err number) p = inr (number, record { holds = p.0; lowes
 
 pub turns_or_fails : (place : Setting) → HasFrames place → (s : State) (step : Step) → IsReady place s step → ((after : State) × Turns place step s after) ⊎ ((number : ProofNumber) × IsLowest place step s.stack number)
 turns_or_fails place is s step r = answer_of place s step (turn place s step) (turn_says place is s step r)
-
-pub not_both : (place : Setting) → HasFrames place → (s after : State) (step : Step) (number : ProofNumber) → Turns place step s after → StepLineHolds place step s.stack number → ⊥
-not_both place is s after step number t h = no_turn place is s after step number h t

@@ -1,6 +1,5 @@
 -- Frames and settings whose symbols are renamed.
-use Rattle.std.proofs.Common.{◌≡◌, ◌≢◌, ℕ, true, List, map, get_or, refl, sym, ap, ◌∙◌, subst, subst₂, arith}
-use Rattle.std.specs.Prelude.{slice_get, All, AllPairs}
+use Rattle.std.proofs.Common.{◌≡◌, ◌≢◌, ℕ, true, List, map, get_or, refl, sym, ap, ◌∙◌, subst, subst₂, arith, slice_get, All, AllPairs}
 use Rattle.std.specs.Option.{option_map}
 use Rattle.std.proofs.lemmas.List.{length-map, get_or-map}
 use Rattle.std.proofs.lemmas.List.Elements.{All-map}

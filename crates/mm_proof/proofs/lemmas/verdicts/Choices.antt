@@ -1,9 +1,9 @@
 -- What can be decided: equal symbols, some element, some pair.
-use Rattle.std.proofs.Common.{◌≡◌, ◌≢◌, true, List, [], ◌∷◌, refl, sym, ap, subst, arith, inl, inr, ◌⊎◌}
-use Rattle.std.specs.Prelude.{Contains, Any}
+use Rattle.std.proofs.Common.{◌≡◌, ◌≢◌, true, List, [], ◌∷◌, refl, sym, ap, subst, arith, inl, inr, ◌⊎◌, Contains, Any}
 use native.Mathlib.Decide.{ℕ_discrete}
 use mathlib.Core.Bool.{Bool-discrete}
 use mathlib.Core.List.{List-discrete}
+use Rattle.std.proofs.Math.Decide.{map_dec}
 use Rattle.mm_frame.specs.Language.Frame.{Symbol, ArePair, HasVariable}
 use Rattle.mm_proof.specs.Language.Derivation.{AreApart, ShareVariable}
 use Rattle.mm_proof.specs.Language.Faults.{AnyZip, LackPair}
@@ -23,12 +23,8 @@ pub not_of : {P : Type 0} → Dec P → Dec (P → ⊥)
 not_of (yes p) = no (λ n. n p)
 not_of (no p) = yes p
 
-pub by_same : {P Q : Type 0} → (P → Q) → (Q → P) → Dec P → Dec Q
-by_same f g (yes p) = yes (f p)
-by_same f g (no n) = no (λ q. n (g q))
-
 pub symbol_discrete : (x y : Symbol) → Dec (x ≡ y)
-symbol_discrete x y = by_same (λ b. λ i. record { name = b.0 i; variable = b.1 i }) (λ e. (ap (λ (s : Symbol). s.name) e, ap (λ (s : Symbol). s.variable) e)) (both_of (List-discrete ℕ_discrete x.name y.name) (Bool-discrete x.variable y.variable))
+symbol_discrete x y = map_dec (λ b. λ i. record { name = b.0 i; variable = b.1 i }) (λ e. (ap (λ (s : Symbol). s.name) e, ap (λ (s : Symbol). s.variable) e)) (both_of (List-discrete ℕ_discrete x.name y.name) (Bool-discrete x.variable y.variable))
 
 pub expression_discrete : (x y : List Symbol) → Dec (x ≡ y)
 expression_discrete = List-discrete symbol_discrete
@@ -44,14 +40,14 @@ dec_some {P = P} d (x ∷ xs) = dec_some_at P x xs (d x) (dec_some d xs)
     dec_some_at P x xs (no p) (no n) = no (λ s. elim (contains_cases x xs s.0 s.1) [ inl e ↦ p (subst P (sym e) s.2) | inr c ↦ n (s.0, c, s.2) ])
 
 pub dec_any : {X : Type 0} {P : X → Type 0} → ((x : X) → Dec (P x)) → (xs : List X) → Dec (Any P xs)
-dec_any d xs = by_same (λ s. (s.1.0, s.0, s.1.1, s.1.2, s.2)) (λ a. (a.1, (a.0, a.2, a.3), a.4)) (dec_some d xs)
+dec_any d xs = map_dec (λ s. (s.1.0, s.0, s.1.1, s.1.2, s.2)) (λ a. (a.1, (a.0, a.2, a.3), a.4)) (dec_some d xs)
 
 pub dec_any_zip : {A B : Type 0} {R : A → B → Type 0} → ((x : A) (y : B) → Dec (R x y)) → (xs : List A) (ys : List B) → Dec (AnyZip R xs ys)
 dec_any_zip d (x ∷ xs) (y ∷ ys) = either_of (d x y) (dec_any_zip d xs ys)
 dec_any_zip d _ _ = no (λ a. a)
 
 pub dec_contains : (pairs : List (Symbol × Symbol)) (x y : Symbol) → Dec (Contains pairs (x, y))
-dec_contains pairs x y = by_same (λ s. subst (λ p. Contains pairs p) (λ i. (s.2.0 i, s.2.1 i)) s.1) (λ c. ((x, y), c, (refl, refl)))
+dec_contains pairs x y = map_dec (λ s. subst (λ p. Contains pairs p) (λ i. (s.2.0 i, s.2.1 i)) s.1) (λ c. ((x, y), c, (refl, refl)))
     (dec_some {P = λ (p : Symbol × Symbol). (p.0 ≡ x) × (p.1 ≡ y)} (λ p. both_of (symbol_discrete p.0 x) (symbol_discrete p.1 y)) pairs)
 
 pub dec_pair : (pairs : List (Symbol × Symbol)) (x y : Symbol) → Dec (ArePair pairs x y)
@@ -61,14 +57,14 @@ dec_variable : (x : Symbol) → Dec (x.variable ≡ true)
 dec_variable x = Bool-discrete x.variable true
 
 dec_member : (xs : List Symbol) (x : Symbol) → Dec (Contains xs x)
-dec_member xs x = by_same (λ s. subst (λ w. Contains xs w) s.2 s.1) (λ c. (x, c, refl)) (dec_some {P = λ w. w ≡ x} (λ w. symbol_discrete w x) xs)
+dec_member xs x = map_dec (λ s. subst (λ w. Contains xs w) s.2 s.1) (λ c. (x, c, refl)) (dec_some {P = λ w. w ≡ x} (λ w. symbol_discrete w x) xs)
 
 pub dec_share : (xs ys : List Symbol) → Dec (ShareVariable xs ys)
-dec_share xs ys = by_same (λ s. (s.0, (s.1, s.2.0), (s.2.1, s.2.0))) (λ s. (s.0, s.1.0, (s.1.1, s.2.0))) (dec_some {P = λ x. (x.variable ≡ true) × Contains ys x} (λ x. both_of (dec_variable x) (dec_member ys x)) xs)
+dec_share xs ys = map_dec (λ s. (s.0, (s.1, s.2.0), (s.2.1, s.2.0))) (λ s. (s.0, s.1.0, (s.1.1, s.2.0))) (dec_some {P = λ x. (x.variable ≡ true) × Contains ys x} (λ x. both_of (dec_variable x) (dec_member ys x)) xs)
 
 pub dec_lack : (active : List (Symbol × Symbol)) (xs ys : List Symbol) → Dec (LackPair active xs ys)
 dec_lack active xs ys =
-    by_same
+    map_dec
     (λ s. (s.0, s.2.1.0, (s.1, s.2.0), (s.2.1.1, s.2.1.2.0), s.2.1.2.1.0, s.2.1.2.1.1))
     (λ l. (l.0, l.2.0, (l.2.1, (l.1, l.3.0, (l.3.1, (l.4, l.5))))))
     (dec_some {P = λ x. (x.variable ≡ true) × ((y : Symbol) × Contains ys y × ((y.variable ≡ true) × ((x ≢ y) × (ArePair active x y → ⊥))))}

@@ -1,6 +1,5 @@
 -- The verdict on the proof of an item of a base.
-use Rattle.std.proofs.Common.{◌≡◌, ℕ, Result, Ok, Err, List, [], ◌∷◌, map, refl, sym, ◌∙◌, subst}
-use Rattle.std.specs.Prelude.{◌↔◌}
+use Rattle.std.proofs.Common.{◌≡◌, ℕ, Result, Ok, Err, List, [], ◌∷◌, map, refl, sym, ◌∙◌, subst, ◌↔◌}
 use Rattle.std.specs.List.{AllZip, AllByRecursion}
 use Rattle.mm_frame.specs.Language.Base.{BaseView, AreSaid, before, said_at, hypothesis_at, frame_at}
 use Rattle.mm_frame.specs.Language.Frame.{Symbol, Setting}

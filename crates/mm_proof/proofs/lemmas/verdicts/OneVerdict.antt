@@ -1,6 +1,5 @@
 -- There is one verdict on each proof.
-use Rattle.std.proofs.Common.{◌≡◌, ◌≢◌, ℕ, zero, suc, ◌<◌, Some, Result, Ok, Err, List, [], ◌∷◌, length, get_or, refl, sym, ◌∙◌, ap, subst, arith, inl, inr, ◌⊎◌}
-use Rattle.std.specs.Prelude.{slice_get, ◌↔◌}
+use Rattle.std.proofs.Common.{◌≡◌, ◌≢◌, ℕ, zero, suc, ◌<◌, Some, Result, Ok, Err, List, [], ◌∷◌, length, get_or, refl, sym, ◌∙◌, ap, subst, arith, inl, inr, ◌⊎◌, slice_get, ◌↔◌}
 use Rattle.mm_frame.specs.Language.Frame.{Symbol, Resolved, Hypothesis, Assertion, Inactive, Unknown, Setting}
 use Rattle.mm_frame.specs.Language.Typing.{HasFrames}
 use Rattle.mm_proof.specs.Language.Expansion.{Step, Named, Saved, Save, NotKnown}

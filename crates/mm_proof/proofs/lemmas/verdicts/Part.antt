@@ -1,6 +1,5 @@
 -- What verdicts need to know of the steps that are run: those before the first unknown one.
-use Rattle.std.proofs.Common.{◌≡◌, ◌≢◌, ℕ, zero, suc, ◌+◌, true, false, Some, List, [], ◌∷◌, refl, ◌∙◌, ap, inl, inr}
-use Rattle.std.specs.Prelude.{slice_get}
+use Rattle.std.proofs.Common.{◌≡◌, ◌≢◌, ℕ, zero, suc, ◌+◌, true, false, Some, List, [], ◌∷◌, refl, ◌∙◌, ap, inl, inr, slice_get}
 use Rattle.std.specs.List.{AllZip}
 use Rattle.std.proofs.Math.Numerals.{one-add}
 use Rattle.std.proofs.lemmas.Bool.{cases_Bool}

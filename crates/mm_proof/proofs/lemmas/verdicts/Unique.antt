@@ -1,8 +1,8 @@
 -- One label at the end of a join, and that a list derives at most one expression.
-use Rattle.std.proofs.Common.{◌≡◌, ℕ, zero, suc, ◌≤◌, Bool, true, false, List, [], ◌∷◌, ◌++◌, length, map, get_or, refl, sym, ◌∙◌, ap, subst, append_assoc, arith, length-append}
-use Rattle.std.specs.Prelude.{Contains, if◌then◌else◌}
+use Rattle.std.proofs.Common.{◌≡◌, ℕ, zero, suc, ◌≤◌, Bool, true, false, List, [], ◌∷◌, ◌++◌, length, map, get_or, refl, sym, ◌∙◌, ap, subst, append_assoc, arith, length-append, Contains, if◌then◌else◌}
 use Rattle.std.proofs.lemmas.List.{append-nil, same_from_push, length-map, get_or-map}
 use Rattle.std.proofs.lemmas.List.Elements.{Contains-append_right}
+use Rattle.mm_proof.proofs.lemmas.machine.FlatLemmas.{of_constant, of_variable}
 use Rattle.mm_frame.specs.Language.Frame.{Symbol, Mandatory, Frame, Resolved, Hypothesis, Assertion, Inactive, Unknown, Setting, HasVariable}
 use Rattle.mm_proof.specs.Language.Substitution.{substituted, replacement}
 use Rattle.mm_proof.specs.Language.Derivation.{Derives, DeriveInOrder, by_hypothesis, by_assertion, nothing, first_then}
@@ -72,20 +72,12 @@ same_at f g xs x e c =
     let at_g = ap g c.2 in
     cc
 
-replaced_by : (b : Bool) (xs ys : List Symbol) → b ≡ true → (if b then xs else ys) ≡ xs
-replaced_by true xs ys e = refl
-replaced_by false xs ys e = cc
-
-kept_by : (b : Bool) (xs ys : List Symbol) → b ≡ false → (if b then xs else ys) ≡ ys
-kept_by false xs ys e = refl
-kept_by true xs ys e = cc
-
 -- what stands in the place of a variable, and of a constant
 pub replacement-variable : (f : Symbol → List Symbol) (s : Symbol) → s.variable ≡ true → replacement f s ≡ f s
-replacement-variable f s e = replaced_by s.variable (f s) (s ∷ []) e
+replacement-variable f s e = of_variable s.variable (f s) (s ∷ []) e
 
 pub replacement-constant : (f : Symbol → List Symbol) (s : Symbol) → s.variable ≡ false → replacement f s ≡ s ∷ []
-replacement-constant f s e = kept_by s.variable (f s) (s ∷ []) e
+replacement-constant f s e = of_constant s.variable (f s) (s ∷ []) e
 
 -- the expression of a `$f`
 pub substituted-typing : (f : Symbol → List Symbol) (c v : Symbol) → c.variable ≡ false → v.variable ≡ true → substituted f (c ∷ v ∷ []) ≡ c ∷ f v

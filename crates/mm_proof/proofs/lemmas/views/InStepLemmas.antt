@@ -1,12 +1,10 @@
 -- How far two bases are in step, and what labels mean there.
-use Rattle.std.proofs.Common.{◌≡◌, ◌+◌, ◌<◌, ◌≤◌, ◌⊎◌, ◌++◌, ℕ, zero, suc, cond, Bool, true, false, Option, Some, None, List, [], ◌∷◌, length, refl, sym, ◌∙◌, ap, subst, inl, inr, arith}
-use Rattle.std.specs.Prelude.{is_some, slice_index}
+use Rattle.std.proofs.Common.{◌≡◌, ◌+◌, ◌<◌, ◌≤◌, ◌⊎◌, ◌++◌, ℕ, zero, suc, cond, Bool, true, false, Option, Some, None, List, [], ◌∷◌, length, refl, sym, ◌∙◌, ap, subst, inl, inr, arith, length-append, is_some, slice_index}
 use Rattle.std.specs.Option.{option_map}
 use Rattle.std.specs.List.{AllByRecursion}
 use Rattle.std.proofs.Math.Decide.{dec_lt}
 use Rattle.std.proofs.lemmas.Bool.{cases_Bool}
 use Rattle.std.proofs.lemmas.Option.{same_Some, none-some}
-use Rattle.std.proofs.lemmas.List.{length-append}
 use Rattle.mm_frame.specs.declared.base.Resolved as answer
 use Rattle.mm_frame.specs.declared.base.Resolved.TheVariants as answers
 use Rattle.mm_frame.specs.Language.Base.{BaseView, said_at, is_shown_at}
@@ -120,8 +118,7 @@ module _ (base copy : BaseView) (i j : ℕ) (was : is_shown_at base i ≡ true) 
       by_end : (a b : Option ℕ) → EndsAt base k a → EndsAt copy m b → AreEndsAlike base copy a b → IsSame label
       by_end None None ends stops e = both_active None None ends stops tt tt
       by_end (Some a) (Some b) ends stops e = by_order a b ends stops e (dec_lt i a)
-      by_end None (Some b) ends stops e = absurd e
-      by_end (Some a) None ends stops e = absurd e
+      by_end _ _ ends stops e = absurd e
 
   kept_means : frame.AssertionsMean → (label : List ℕ) (k m : ℕ) → IsLabelOf base i k label → IsLabelOf copy j m label → ShareFrame base copy k m ⊎ KeepsHypothesis base copy k m → IsSame label
   kept_means assertions label k m h g (inl s) = both_mean label (answers.Assertion k) (answers.Assertion m) (assertions base i k label h s.was) (assertions copy j m label g s.is) s.same
@@ -197,13 +194,8 @@ in_step_kept base copy marks are i j old told =
 -- an item has a label where it is told to have an expression
 pub told_shown : {X Y : Type 0} (f : X → Y) (o : Option X) (b : Bool) (e : Y) → option_map f o ≡ cond b (Some e) None → is_some o ≡ b
 told_shown f None true e q = absurd (none-some e q)
-told_shown f None false e q = refl
-told_shown f (Some x) true e q = refl
 told_shown f (Some x) false e q = absurd (none-some (f x) (sym q))
-
--- no ordinals, and one more
-pub ordinals_none : (base : BaseView) → AreOrdinals base 0 []
-ordinals_none base = record { count_is = refl; each = λ n l. absurd (omega (arith, l)) }
+told_shown f _ _ e q = refl
 
 at_front : (xs ys : List ℕ) (n : ℕ) → n < length xs → slice_index (xs ++ ys) n ≡ slice_index xs n
 at_front [] ys n l = absurd (omega (arith, l))
@@ -238,10 +230,6 @@ pub same_level :
     (i < length mine) × (j < length yours) × (slice_index mine i ≡ slice_index yours j) → ordinal base i ≡ ordinal copy j
 same_level base copy mine yours i j a b (l, m, e) =
     sym (a.each i (subst (λ n. i < n) a.count_is l)) ∙ e ∙ b.each j (subst (λ n. j < n) b.count_is m)
-
--- an end that is told
-pub ends_at : (base : BaseView) (n : ℕ) (told end : Option ℕ) → told ≡ end → EndsAt base n told → EndsAt base n end
-ends_at base n told end e is = subst (EndsAt base n) e is
 
 -- what holds of all is so of each of some
 pub of_each : {X : Type 0} (P : X → Type 0) → ((x : X) → P x) → (xs : List X) → AllByRecursion P xs

@@ -13,7 +13,6 @@ use Rattle.mm_proof.specs.Language.BaseMarks.{ItemMark, IsMark, HaveOneLabel, Ar
 use Rattle.mm_proof.specs.Code.KeptMarks.{AreTheorems, ShareFrame, SharePairs, AreItemMarks, IsKept, AreKept}
 use Rattle.mm_proof.specs.declared.marks.Mark as code
 use Rattle.std.proofs.Math.Decide.{ℕ_discrete}
-use Rattle.std.proofs.lemmas.List.{length-append}
 
 -- the same unordered pairs, the other way round and one after the other
 pub turned : (ps qs : List (Symbol × Symbol)) → AreSamePairs ps qs → AreSamePairs qs ps

@@ -1,6 +1,5 @@
 -- What labels mean at two theorems of two bases.
-use Rattle.std.proofs.Common.{◌≡◌, ◌<◌, ℕ, zero, suc, cond, Bool, true, false, Option, Some, None, List, [], ◌∷◌, ◌++◌, length, take, refl, sym, ◌∙◌, ap, subst, inl, inr, arith}
-use Rattle.std.specs.Prelude.{◌↔◌, IsTrue, is_none, option_to_list, bytes_eq}
+use Rattle.std.proofs.Common.{◌≡◌, ◌<◌, ℕ, zero, suc, cond, Bool, true, false, Option, Some, None, List, [], ◌∷◌, ◌++◌, length, take, refl, sym, ◌∙◌, ap, subst, inl, inr, arith, ◌↔◌, IsTrue, is_none, option_to_list, bytes_eq}
 use Rattle.std.specs.List.{AllByRecursion}
 use Rattle.std.proofs.Math.Decide.{dec_lt}
 use Rattle.std.proofs.Math.Seq.{take-suc}
@@ -41,7 +40,7 @@ sound_label Axiom e = refl
 sound_label Theorem e = refl
 sound_label _ e = absurd (false≢true e)
 
-joined : {X : Type 0} (P : X → Type 0) (xs ys : List X) → AllByRecursion P xs → AllByRecursion P ys → AllByRecursion P (xs ++ ys)
+pub joined : {X : Type 0} (P : X → Type 0) (xs ys : List X) → AllByRecursion P xs → AllByRecursion P ys → AllByRecursion P (xs ++ ys)
 joined P [] ys a b = b
 joined P (x ∷ xs) ys a b = (a.0, joined P xs ys a.1 b)
 
@@ -92,8 +91,7 @@ module _ (view : BaseView) (label : List ℕ) (none : IsOneCarrier view label No
 means : (base : BaseView) (i : ℕ) (label : List ℕ) (told : answer.Resolved) (m : Resolved) → IsMeaning base i label told m → (m ≡ stands_for base told) × IsShownItem base told
 means base i label (answers.Hypothesis n) m h = (h.1, h.0.carrier.shown)
 means base i label (answers.Assertion n) m h = (h.2, h.1)
-means base i label answers.Inactive m h = (h, tt)
-means base i label answers.Unknown m h = (h, tt)
+means base i label _ m h = (h, tt)
 
 moved : (same : Bool) (m n y z : Resolved) → m ≡ n → y ≡ z → IsTrue same ↔ AreSameMeaning n z → IsTrue same ↔ AreSameMeaning m y
 moved same m n y z e f s = subst (λ w. IsTrue same ↔ AreSameMeaning w y) (sym e) (subst (λ w. IsTrue same ↔ AreSameMeaning n w) (sym f) s)

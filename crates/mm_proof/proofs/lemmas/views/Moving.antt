@@ -1,10 +1,10 @@
 -- A verdict depends on what the labels mean alone.
-use Rattle.std.proofs.Common.{◌≡◌, ◌≢◌, ℕ, zero, suc, ◌+◌, Bool, true, false, Option, Some, None, List, [], ◌∷◌, ◌++◌, length, map, take, get_or, refl, sym, ◌∙◌, ap, subst, inl, inr}
-use Rattle.std.specs.Prelude.{slice_get, All, Any, pos, if◌then◌else◌}
+use Rattle.std.proofs.Common.{◌≡◌, ◌≢◌, ℕ, zero, suc, ◌+◌, Bool, true, false, Option, Some, None, List, [], ◌∷◌, ◌++◌, length, map, take, get_or, refl, sym, ◌∙◌, ap, subst, inl, inr, slice_get, All, Any, pos, if◌then◌else◌}
 use Rattle.std.specs.List.{AllZip}
 use Rattle.std.specs.Ordering.{int_eq}
 use Rattle.std.proofs.lemmas.List.Elements.{All-contains}
 use Rattle.std.proofs.lemmas.List.{get_or_default}
+use Rattle.mm_proof.proofs.lemmas.views.KeptMarkLemmas.{turned}
 use Rattle.mm_frame.specs.Language.Frame.{Symbol, Mandatory, Frame, Resolved, Hypothesis, Assertion, Inactive, Unknown, Setting, ArePair, AreSamePairs, AreSameFrame}
 use Rattle.mm_proof.specs.Language.Substitution.{substituted}
 use Rattle.mm_proof.specs.Language.Derivation.{Derives, DeriveInOrder, by_hypothesis, by_assertion, nothing, first_then, Takes, AreApart, ShareVariable}
@@ -281,16 +281,13 @@ line_moved p q (Named a) _ stack number s m c = absurd m
 line_moved p q Save _ stack number s m c = absurd m
 line_moved p q _ b stack number s m c = absurd c
 
-pub pairs_back : (pairs others : List (Symbol × Symbol)) → AreSamePairs pairs others → AreSamePairs others pairs
-pairs_back pairs others s = λ x y. ((s x y).1, (s x y).0)
-
 steps_back : (p q : Setting) (xs ys : List Step) → AllZip (IsSameStep p q) xs ys → AllZip (IsSameStep q p) ys xs
 steps_back p q xs ys a = flipped (IsSameStep p q) (IsSameStep q p) xs ys (step_back p q) a
 
 fault_moved : (p q : Setting) → AreSamePairs p.active q.active → (xs ys : List Step) (n : ℕ) (number : ProofNumber) → AllZip (IsSameStep p q) xs ys → IsStepFault p xs n number → IsStepFault q ys n number
 fault_moved p q s xs ys n number a f =
     let z = there (IsSameStep p q) f.step (slice_get xs n) (slice_get ys n) f.at_fault (found_beside (IsSameStep p q) xs ys n a) in
-    let back = pairs_back p.active q.active s in
+    let back = turned p.active q.active s in
     record {
       stack = f.stack;
       step = z.0;

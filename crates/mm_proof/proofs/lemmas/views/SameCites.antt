@@ -1,6 +1,5 @@
 -- Proofs that mean the same cite by the same words.
-use Rattle.std.proofs.Common.{◌≡◌, ℕ, ◌+◌, Bool, true, false, not, Ok, Err, List, [], ◌∷◌, length, map, drop, refl, sym, ap, ◌∙◌, inl, inr}
-use Rattle.std.specs.Prelude.{filter, bytes_eq, codes}
+use Rattle.std.proofs.Common.{◌≡◌, ℕ, ◌+◌, Bool, true, false, not, Ok, Err, List, [], ◌∷◌, length, map, drop, refl, sym, ap, ◌∙◌, inl, inr, filter, bytes_eq, codes}
 use Rattle.std.specs.List.{AllZip, AllByRecursion, list_any, enumerate_from, before_first}
 use Rattle.std.proofs.lemmas.Bool.{cases_Bool, false≢true}
 use Rattle.std.proofs.lemmas.Slice.Eq.{bytes_eq-Decides}
@@ -75,9 +74,8 @@ module _ (p q : Setting) where
       AllZip (λ s t. IsBoth p q s.0 t.0 × (s.1 ≡ t.1)) steps others →
       list_any (names_assertion label) (map (λ (s : Step × Spot). s.0) steps) ≡ list_any (names_assertion label) (map (λ (s : Step × Spot). s.0) others)
   any_same label [] [] f g all = refl
-  any_same label [] (t ∷ others) f g all = absurd all
-  any_same label (s ∷ steps) [] f g all = absurd all
   any_same label (s ∷ steps) (t ∷ others) f g all = rw (name_same label s.0 t.0 f g all.0.0, any_same label steps others f g all.1) refl
+  any_same label _ _ f g all = absurd all
 
   cited_same : (label : List ℕ) (steps others : List (Step × Spot)) → AllZip (λ s t. IsBoth p q s.0 t.0 × (s.1 ≡ t.1)) steps others → IsSameLabel p q label
       → is_cited p (map (λ (s : Step × Spot). s.0) steps) label ≡ is_cited q (map (λ (s : Step × Spot). s.0) others) label

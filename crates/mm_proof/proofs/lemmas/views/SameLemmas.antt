@@ -1,6 +1,5 @@
 -- Proofs that mean the same decode to the same.
-use Rattle.std.proofs.Common.{◌≡◌, ℕ, zero, suc, ◌+◌, ◌-◌, false, not, ◌==◌, cond, Option, Some, None, Result, Ok, Err, List, [], ◌∷◌, ◌++◌, length, map, drop, refl, inl, inr, ◌⊎◌}
-use Rattle.std.specs.Prelude.{slice_get, filter, bytes_eq, codes}
+use Rattle.std.proofs.Common.{◌≡◌, ℕ, zero, suc, ◌+◌, ◌-◌, false, not, ◌==◌, cond, Option, Some, None, Result, Ok, Err, List, [], ◌∷◌, ◌++◌, length, map, drop, refl, inl, inr, ◌⊎◌, slice_get, filter, bytes_eq, codes}
 use Rattle.std.specs.List.{AllZip, AllByRecursion, range_with_len, before_first, list_any, after_first}
 use Rattle.std.proofs.lemmas.Bool.{cases_Bool}
 use Rattle.mm_frame.specs.Language.Frame.{Resolved, Hypothesis, Assertion, Inactive, Unknown, Setting, AreSamePairs}

@@ -24,11 +24,10 @@ same_hypotheses :
     (place other : Setting) (mine yours : List (List ℕ)) (hs : List Mandatory) → AllZip (MeansHypothesis place) mine hs → AllZip (MeansHypothesis other) yours hs →
     AllZip (IsSameHypothesis place other) mine yours
 same_hypotheses place other [] [] hs a b = tt
-same_hypotheses place other [] (y ∷ yours) [] a b = absurd b
 same_hypotheses place other [] (y ∷ yours) (h ∷ hs) a b = absurd a
 same_hypotheses place other (x ∷ mine) yours [] a b = absurd a
-same_hypotheses place other (x ∷ mine) [] (h ∷ hs) a b = absurd b
 same_hypotheses place other (x ∷ mine) (y ∷ yours) (h ∷ hs) a b = ((h.expression, a.0, b.0), same_hypotheses place other mine yours hs a.1 b.1)
+same_hypotheses place other _ _ _ a b = absurd b
 
 -- what each of these labels means
 pub same_labels : (f g : List ℕ → Resolved) (labels : List (List ℕ)) → AllZip AreSameMeaning (map f labels) (map g labels) → AllByRecursion (λ label. AreSameMeaning (f label) (g label)) labels
@@ -55,8 +54,7 @@ moved :
     IsVerdict place statement a v → IsVerdict other statement b v
 moved same place other statement (Ok a) (Ok b) v s h = same place other statement a b v s h
 moved same place other statement (Err a) (Err b) v s h = subst (λ (fault : ProofFault). IsVerdict other statement (Err fault) v) s h
-moved same place other statement (Ok a) (Err b) v s h = absurd s
-moved same place other statement (Err a) (Ok b) v s h = absurd s
+moved same place other statement _ _ v s h = absurd s
 
 pub verdict_kept : MandatoryLabelsMean → SameDecodesSame → SameProofSameVerdict → SameViewSameVerdict
 verdict_kept mean decodes same base copy i j f g v verdict h =

@@ -10,17 +10,25 @@ use Rattle.mm_proof.proofs.lemmas.machine.ApartLemmas.{each_more}
 use Rattle.mm_proof.proofs.lemmas.machine.PairClauseLemmas.{mapped_all}
 use Rattle.mm_proof.proofs.pairs.all_apart.Goals as goal
 
-pub variables_of-first-requires-clause-typed : goal.variables_of-first-requires-clause-typed
-variables_of-first-requires-clause-typed g c =
+pub variables_of-first-requires : goal.variables_of-first-requires
+variables_of-first-requires g c =
     let m = g.S.Symbol.means in
     let hs = hypotheses_of m c.args.taken.now.hypotheses.now in
-    (mapped_all (meant_pair m) (λ (p : Symbol × Symbol). IsTyped hs p.0 × IsTyped hs p.1) c.args.pairs.now c.loop-n.n c.index-pairs-n.result c.loop-n-test.true c.index-pairs-n.is c.requires.typed).0
+    record {
+      typed = (mapped_all (meant_pair m) (λ (p : Symbol × Symbol). IsTyped hs p.0 × IsTyped hs p.1) c.args.pairs.now c.loop-n.n c.index-pairs-n.result c.loop-n-test.true c.index-pairs-n.is c.requires.typed).0;
+      spans = c.requires.spans;
+      count = c.requires.count;
+    }
 
-pub variables_of-second-requires-clause-typed : goal.variables_of-second-requires-clause-typed
-variables_of-second-requires-clause-typed g c =
+pub variables_of-second-requires : goal.variables_of-second-requires
+variables_of-second-requires g c =
     let m = g.S.Symbol.means in
     let hs = hypotheses_of m c.args.taken.now.hypotheses.now in
-    (mapped_all (meant_pair m) (λ (p : Symbol × Symbol). IsTyped hs p.0 × IsTyped hs p.1) c.args.pairs.now c.loop-n.n c.index-pairs-n.result c.loop-n-test.true c.index-pairs-n.is c.requires.typed).1
+    record {
+      typed = (mapped_all (meant_pair m) (λ (p : Symbol × Symbol). IsTyped hs p.0 × IsTyped hs p.1) c.args.pairs.now c.loop-n.n c.index-pairs-n.result c.loop-n-test.true c.index-pairs-n.is c.requires.typed).1;
+      spans = c.requires.spans;
+      count = c.requires.count;
+    }
 
 pub loop-n-preserved : goal.loop-n-preserved
 loop-n-preserved g c =
@@ -62,15 +70,3 @@ returns g c k p at =
 
 pub loop-n-init : goal.loop-n-init
 loop-n-init g c k x l at = absurd (omega arith)
-
-pub variables_of-first-requires-clause-spans : goal.variables_of-first-requires-clause-spans
-variables_of-first-requires-clause-spans g c = c.requires.spans
-
-pub variables_of-first-requires-clause-count : goal.variables_of-first-requires-clause-count
-variables_of-first-requires-clause-count g c = c.requires.count
-
-pub variables_of-second-requires-clause-spans : goal.variables_of-second-requires-clause-spans
-variables_of-second-requires-clause-spans g c = c.requires.spans
-
-pub variables_of-second-requires-clause-count : goal.variables_of-second-requires-clause-count
-variables_of-second-requires-clause-count g c = c.requires.count

@@ -5,11 +5,19 @@ use Rattle.mm_proof.specs.Code.Citation.{meant_pairs}
 use Rattle.mm_proof.proofs.lemmas.machine.PairClauseLemmas.{apart_given, shared_given, none_shared, lack_given}
 use Rattle.mm_proof.proofs.pairs.pairs_fault.Goals as goal
 
-pub all_apart-requires-clause-spans : goal.all_apart-requires-clause-spans
-all_apart-requires-clause-spans g c k s at = let w = c.in_ok-gather_all.ensures.within k s at in let l = length-map c.gather_all.new.self.variables.items g.S.Symbol.means in (w.0, omega arith)
+pub all_apart-requires : goal.all_apart-requires
+all_apart-requires g c = record {
+  spans = λ k s at. let w = c.in_ok-gather_all.ensures.within k s at in let l = length-map c.gather_all.new.self.variables.items g.S.Symbol.means in (w.0, omega arith);
+  count = c.in_ok-gather_all.ensures.count;
+  typed = c.requires.typed;
+}
 
-pub any_share-requires-clause-spans : goal.any_share-requires-clause-spans
-any_share-requires-clause-spans g c k s at = let w = c.in_ok-gather_all.ensures.within k s at in let l = length-map c.gather_all.new.self.variables.items g.S.Symbol.means in (w.0, omega arith)
+pub any_share-requires : goal.any_share-requires
+any_share-requires g c = record {
+  spans = λ k s at. let w = c.in_ok-gather_all.ensures.within k s at in let l = length-map c.gather_all.new.self.variables.items g.S.Symbol.means in (w.0, omega arith);
+  count = c.in_ok-gather_all.ensures.count;
+  typed = c.requires.typed;
+}
 
 pub returns-then-all_apart : goal.returns-then-all_apart
 returns-then-all_apart g c given gives =
@@ -45,15 +53,3 @@ gather_all-requires-clause-within g c = c.requires.within
 
 pub gather_all-requires-clause-count : goal.gather_all-requires-clause-count
 gather_all-requires-clause-count g c = c.requires.count
-
-pub all_apart-requires-clause-count : goal.all_apart-requires-clause-count
-all_apart-requires-clause-count g c = c.in_ok-gather_all.ensures.count
-
-pub all_apart-requires-clause-typed : goal.all_apart-requires-clause-typed
-all_apart-requires-clause-typed g c = c.requires.typed
-
-pub any_share-requires-clause-count : goal.any_share-requires-clause-count
-any_share-requires-clause-count g c = c.in_ok-gather_all.ensures.count
-
-pub any_share-requires-clause-typed : goal.any_share-requires-clause-typed
-any_share-requires-clause-typed g c = c.requires.typed

@@ -1,10 +1,10 @@
 use Rattle.std.proofs.Common.{◌-◌, Some, map, take, drop, sym, ◌∙◌, ap, arith}
-use Rattle.std.proofs.lemmas.Option.{slice_get_within}
+use Rattle.std.proofs.lemmas.Option.{slice_get_within, slice_get-get_or}
 use Rattle.std.proofs.lemmas.List.{length-map}
 use Rattle.mm_proof.specs.Code.Flat.{read}
 use Rattle.mm_proof.specs.Code.Citation.{hypotheses_of, mandatory_of}
 use Rattle.mm_proof.specs.Code.PairClause.{entry_or}
-use Rattle.mm_proof.proofs.lemmas.machine.FlatLemmas.{element_at, entry_map}
+use Rattle.mm_proof.proofs.lemmas.machine.FlatLemmas.{entry_map}
 use Rattle.mm_proof.proofs.pairs.variables_of.Goals as goal
 
 pub returns : goal.returns
@@ -20,7 +20,7 @@ returns g c =
       slot,
       ap (λ w. map m (take (e.end - e.start) (drop e.start w))) c.deref.ensures.value
           ∙ entry_map m variables e
-          ∙ ap (λ o. read (map m variables) (entry_or o)) (sym (element_at spans n e (omega (arith, w, c.requires.count, length-map c.args.taken.now.hypotheses.now (mandatory_of m))) ∙ ap Some (sym c.index-entry.ensures))),
+          ∙ ap (λ o. read (map m variables) (entry_or o)) (sym (slice_get-get_or spans n e (omega (arith, w, c.requires.count, length-map c.args.taken.now.hypotheses.now (mandatory_of m))) ∙ ap Some (sym c.index-entry.ensures))),
     )
 
 pub index-entry-requires : goal.index-entry-requires

@@ -1,9 +1,10 @@
 use Rattle.std.proofs.Common.{◌≡◌, ◌≤◌, ◌+◌, ◌++◌, [], false, map, take, drop, length, get_or, sym, ◌∙◌, ap, arith}
 use Rattle.std.proofs.lemmas.Bool.{false≢true, eqb-true, eq-eqb}
 use Rattle.std.proofs.lemmas.List.{length-map, take_all, length-drop}
+use Rattle.std.proofs.lemmas.Option.{slice_get-get_or}
 use Rattle.mm_frame.specs.Language.Frame.{Symbol}
 use Rattle.mm_proof.specs.Language.Substitution.{substituted, replacement}
-use Rattle.mm_proof.proofs.lemmas.machine.FlatLemmas.{element_at, put_more, fits_on, fits_next, fits_short, fits_part, fits_end, range_map}
+use Rattle.mm_proof.proofs.lemmas.machine.FlatLemmas.{put_more, fits_on, fits_next, fits_short, fits_part, fits_end, range_map}
 use Rattle.mm_proof.proofs.pattern.fits.Goals as goal
 
 pub returns-then-count-entry : goal.returns-then-count-entry
@@ -14,7 +15,7 @@ returns-then-count-entry g c given slots =
     let d : Symbol = record { name = []; variable = false } in
     let k = c.loop-place.place in
     let s = get_or expression k d in
-    let here = element_at expression k d (omega (arith, length-map c.args.expression.now m, c.loop-place-test.true)) in
+    let here = slice_get-get_or expression k d (omega (arith, length-map c.args.expression.now m, c.loop-place-test.true)) in
     let part = ap length (c.replacement_of-part.ensures given s slots here) in (
       λ t. absurd (false≢true t),
       λ whole.
@@ -33,7 +34,7 @@ returns-then-not-is g c given slots =
     let s = get_or expression k d in
     let n = c.count-count.result in
     let at = c.loop-place.at in
-    let here = element_at expression k d (omega (arith, length-map c.args.expression.now m, c.loop-place-test.true)) in
+    let here = slice_get-get_or expression k d (omega (arith, length-map c.args.expression.now m, c.loop-place-test.true)) in
     let part = c.replacement_of-part.ensures given s slots here in (
       λ t. absurd (false≢true t),
       λ whole.
@@ -54,7 +55,7 @@ loop-place-preserved g c = record {
       let s = get_or expression k d in
       let n = c.count-count.result in
       let at = c.loop-place.at in
-      let here = element_at expression k d (omega (arith, length-map c.args.expression.now m, c.loop-place-test.true)) in
+      let here = slice_get-get_or expression k d (omega (arith, length-map c.args.expression.now m, c.loop-place-test.true)) in
       let part = c.replacement_of-part.ensures given s slots here in
       let front = substituted given (take k expression) in
       let same = sym part ∙ c.is.ensures.0 c.if-not-is.false ∙ range_map m c.args.entry.now at n in

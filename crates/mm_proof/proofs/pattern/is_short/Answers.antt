@@ -1,10 +1,11 @@
 use Rattle.std.proofs.Common.{◌+◌, ◌++◌, [], false, map, take, drop, length, get_or, ◌∙◌, ap, arith, length-append}
 use Rattle.std.proofs.lemmas.List.{length-map, take_all}
+use Rattle.std.proofs.lemmas.Option.{slice_get-get_or}
 use Rattle.mm_frame.specs.Language.Frame.{Symbol}
 use Rattle.mm_proof.specs.Language.Substitution.{substituted, replacement}
 use Rattle.mm_proof.specs.Code.Citation.{hypotheses_of}
 use Rattle.mm_proof.proofs.lemmas.machine.BoundLemmas.{short_by, given_short}
-use Rattle.mm_proof.proofs.lemmas.machine.FlatLemmas.{element_at, put_more, put_rest}
+use Rattle.mm_proof.proofs.lemmas.machine.FlatLemmas.{put_more, put_rest}
 use Rattle.mm_proof.proofs.pattern.is_short.Goals as goal
 
 pub returns-then-saturating_mul-half : goal.returns-then-saturating_mul-half
@@ -25,7 +26,7 @@ returns-then-more-count g c given slots =
     let d : Symbol = record { name = []; variable = false } in
     let k = c.loop-place.place in
     let s = get_or expression k d in
-    let here = element_at expression k d (omega (arith, length-map c.args.expression.now m, c.loop-place-test.true)) in
+    let here = slice_get-get_or expression k d (omega (arith, length-map c.args.expression.now m, c.loop-place-test.true)) in
     let whole = ap length (put_rest given expression k s here) in
     let so_far = c.loop-place.invariant.so_far given slots in
     let part = ap length (c.replacement_of.ensures given s slots here) in
@@ -42,7 +43,7 @@ loop-place-preserved g c = record {
       let d : Symbol = record { name = []; variable = false } in
       let k = c.loop-place.place in
       let s = get_or expression k d in
-      let here = element_at expression k d (omega (arith, length-map c.args.expression.now m, c.loop-place-test.true)) in
+      let here = slice_get-get_or expression k d (omega (arith, length-map c.args.expression.now m, c.loop-place-test.true)) in
       let more = ap length (put_more given expression k s here) in
       let so_far = c.loop-place.invariant.so_far given slots in
       let part = ap length (c.replacement_of.ensures given s slots here) in

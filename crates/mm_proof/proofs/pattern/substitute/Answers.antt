@@ -1,8 +1,9 @@
 use Rattle.std.proofs.Common.{◌++◌, [], false, map, take, get_or, sym, ◌∙◌, ap, arith, append_assoc}
 use Rattle.std.proofs.lemmas.List.{length-map, take_all}
+use Rattle.std.proofs.lemmas.Option.{slice_get-get_or}
 use Rattle.mm_frame.specs.Language.Frame.{Symbol}
 use Rattle.mm_proof.specs.Language.Substitution.{substituted, replacement}
-use Rattle.mm_proof.proofs.lemmas.machine.FlatLemmas.{element_at, put_more}
+use Rattle.mm_proof.proofs.lemmas.machine.FlatLemmas.{put_more}
 use Rattle.mm_proof.proofs.pattern.substitute.Goals as goal
 
 pub loop-place-preserved : goal.loop-place-preserved
@@ -11,7 +12,7 @@ loop-place-preserved g c given slots =
     let expression = map m c.args.expression.now in
     let d : Symbol = record { name = []; variable = false } in
     let k = c.loop-place.place in
-    let here = element_at expression k d (omega (arith, length-map c.args.expression.now m, c.loop-place-test.true)) in
+    let here = slice_get-get_or expression k d (omega (arith, length-map c.args.expression.now m, c.loop-place-test.true)) in
     let front = substituted given (take k expression) in
     let part = replacement given (get_or expression k d) in
     c.in_ok-put.ensures

@@ -29,15 +29,20 @@ loop-place-init g c =
       follows = λ place names is pairs all. (nothing_known (actions_mean names c.args.steps.now), nothing_yet, state, at_start place);
     }
 
-pub do_task-requires-clause-within : goal.do_task-requires-clause-within
-do_task-requires-clause-within g c =
+pub do_task-requires : goal.do_task-requires
+do_task-requires g c =
     let steps = c.args.steps.now in
     let k = c.loop-place.place in
     let h = length c.args.named.now.hypotheses.items in
     let n = length c.loop-place.machine.saved.items - h in
     let count : saves_in (take k steps) ≡ n = omega (arith, c.loop-place.invariant.count) in
-    c.in-Some.ensures.within n c.requires.within
-    (subst (λ (s : ℕ). IsSavedWithin s (get_or steps k nowhere).action) count (c.requires.saved k (get_or steps k nowhere) (slice_get-get_or steps k nowhere (omega (arith, c.loop-place-test.true)))))
+    record {
+      within = c.in-Some.ensures.within n c.requires.within
+          (subst (λ (s : ℕ). IsSavedWithin s (get_or steps k nowhere).action) count (c.requires.saved k (get_or steps k nowhere) (slice_get-get_or steps k nowhere (omega (arith, c.loop-place-test.true)))));
+      whole = c.loop-place.invariant.whole;
+      frames = c.requires.frames;
+      loaded = omega (arith, c.loop-place.invariant.count);
+    }
 
 pub returns-in_default-clause-says : goal.returns-in_default-clause-says
 returns-in_default-clause-says g c place names is pairs all =
@@ -89,15 +94,6 @@ load-requires-clause-nothing g c = c.clear.ensures.state
 
 pub returns-in_default-clause-within : goal.returns-in_default-clause-within
 returns-in_default-clause-within g c = c.loop-place-test.true
-
-pub do_task-requires-clause-whole : goal.do_task-requires-clause-whole
-do_task-requires-clause-whole g c = c.loop-place.invariant.whole
-
-pub do_task-requires-clause-frames : goal.do_task-requires-clause-frames
-do_task-requires-clause-frames g c = c.requires.frames
-
-pub do_task-requires-clause-loaded : goal.do_task-requires-clause-loaded
-do_task-requires-clause-loaded g c = omega (arith, c.loop-place.invariant.count)
 
 pub returns-in-Some-2-clause-within : goal.returns-in-Some-2-clause-within
 returns-in-Some-2-clause-within g c = c.loop-place-test.true

@@ -1,5 +1,4 @@
-use Rattle.std.proofs.Common.{◌≡◌, take}
-use Rattle.std.specs.Prelude.{All}
+use Rattle.std.proofs.Common.{◌≡◌, take, All}
 use Rattle.mm_frame.specs.Language.NumberedSymbols.{by_number, named_symbol}
 use Rattle.mm_proof.specs.Code.Citation.{meant_pairs}
 use Rattle.mm_proof.specs.Code.Spelled.{HasOneKey}

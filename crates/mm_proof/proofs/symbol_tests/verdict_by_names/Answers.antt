@@ -1,5 +1,4 @@
-use Rattle.std.proofs.Common.{List, sym, subst}
-use Rattle.std.specs.Prelude.{All}
+use Rattle.std.proofs.Common.{List, sym, subst, All}
 use Rattle.mm_frame.specs.Language.Base.{before, said_at}
 use Rattle.mm_frame.specs.Language.Framing.{mandatory_numbers}
 use Rattle.mm_frame.specs.declared.base.Resolved.{Resolved}

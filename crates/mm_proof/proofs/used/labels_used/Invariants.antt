@@ -1,5 +1,4 @@
-use Rattle.std.proofs.Common.{◌≡◌, ℕ, ◌<◌, Some}
-use Rattle.std.specs.Prelude.{slice_get}
+use Rattle.std.proofs.Common.{◌≡◌, ℕ, ◌<◌, Some, slice_get}
 use Rattle.mm_proof.specs.declared.step.ProofStep.{ProofStep}
 use Rattle.mm_proof.specs.Code.UsedLabels.{IsPart, KeepsNamed}
 use Rattle.mm_proof.proofs.used.labels_used.Given as goal

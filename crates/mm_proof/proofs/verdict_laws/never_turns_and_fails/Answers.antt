@@ -1,5 +1,5 @@
-use Rattle.mm_proof.proofs.lemmas.machine.Turning.{not_both}
+use Rattle.mm_proof.proofs.lemmas.machine.Turning.{no_turn}
 use Rattle.mm_proof.proofs.verdict_laws.never_turns_and_fails.Goals as goal
 
 pub returns : goal.returns
-returns c = not_both
+returns c = λ place is s after step number t h. no_turn place is s after step number h t

@@ -1,5 +1,4 @@
-use Rattle.std.proofs.Common.{length}
-use Rattle.std.specs.Prelude.{filter}
+use Rattle.std.specs.Prelude.{filter, length}
 use Rattle.mm_proof.specs.Code.KeptMarks.{is_label_word}
 use Rattle.mm_proof.specs.Code.TwoTheorems.{LeavesLabels}
 use Rattle.mm_proof.proofs.view.same_words.Given as goal

@@ -1,5 +1,4 @@
-use Rattle.std.proofs.Common.{◌≡◌, ◌<◌, [], get_or, length, arith}
-use Rattle.std.specs.Prelude.{unwrap_or}
+use Rattle.std.proofs.Common.{◌≡◌, ◌<◌, [], get_or, length, arith, unwrap_or}
 use Rattle.std.proofs.KnownBytes.{Appends-trans}
 use Rattle.mm_keep.specs.mm_frame.Language.Base.{said_at}
 use Rattle.mm_report.proofs.LabelLemmas.{lines_around, lines_more}

@@ -1,8 +1,9 @@
 use Rattle.std.proofs.Common.{◌≡◌, ◌<◌, ◌+◌, ◌++◌, ◌∷◌, [], ◌∙◌, ap, sym, subst, arith, length, length-append, true, false, rules, List}
+use Rattle.std.proofs.lemmas.Bool.{not-false, not-true}
 use Rattle.mm_report.specs.declared.entry.EditAt.{EditAt}
 use Rattle.mm_report.specs.Code.Batches.{IsBatchRead}
 use Rattle.mm_report.specs.Code.Pending.{pending}
-use Rattle.mm_report.proofs.GrowLemmas.{grows_not, grows_then, not_not, not_true, same_error}
+use Rattle.mm_report.proofs.GrowLemmas.{grows_not, grows_then, same_error}
 use Rattle.mm_report.proofs.EditLemmas.{behind_within}
 use Rattle.mm_report.proofs.BatchReadLemmas.{batch_begun, batch_front, batch_line_last, batch_one_more, edits_counted, fed_by}
 use Rattle.mm_report.proofs.edits.read_batch.Goals as goal
@@ -10,13 +11,13 @@ use Rattle.mm_report.proofs.edits.read_batch.Goals.{else-not-line-via-then-not-l
 
 pub returns-then-count-gt0-clause-cut : goal.returns-then-count-gt0-clause-cut
 returns-then-count-gt0-clause-cut g c = λ cut.
-    batch_line_last (pending c.args.input.now) _ c.args.line c.args.count c.requires.line c.requires.start c.requires.number c.requires.says (not_true _ c.if-not-line.true) (omega arith)
+    batch_line_last (pending c.args.input.now) _ c.args.line c.args.count c.requires.line c.requires.start c.requires.number c.requires.says (not-true _ c.if-not-line.true) (omega arith)
 
 pub loop-input-init : goal.loop-input-init
 loop-input-init g c =
     let none : c.args.line.fed ≡ false → 0 ≡ c.args.count = λ e. elim c.else-not-line.branch [
       | else-not-line-via-then-not-line+else-count-gt0 w ↦ omega arith
-      | else-not-line-via-else-not-line w ↦ let fed : c.args.line.fed ≡ true = not_not _ w.if-not-line.false in absurd (cc)
+      | else-not-line-via-else-not-line w ↦ let fed : c.args.line.fed ≡ true = not-false _ w.if-not-line.false in absurd (cc)
     ] in
     let long = behind_within (pending c.args.input.now) _ c.args.line c.behind-end.result c.requires.line c.behind-end.ensures.fed c.behind-end.ensures.unfed in
     let begun = batch_begun c.args.input.now _ c.args.line c.args.count c.behind-end.result c.requires.line c.requires.start c.requires.number c.requires.says c.behind-end.ensures.fed long.0 none in

@@ -1,6 +1,6 @@
-use Rattle.std.proofs.Common.{◌+◌, ◌∷◌, [], ◌∙◌, ap, arith, sym, subst, inl, inr, refl, rules, ℕ, List}
-use Rattle.std.specs.Prelude.{codes, decimal}
+use Rattle.std.proofs.Common.{◌+◌, ◌∷◌, [], ◌∙◌, ap, sym, subst, inl, inr, refl, rules, ℕ, List, codes, decimal}
 use Rattle.std.specs.List.{join_with_byte}
+use Rattle.std.proofs.lemmas.Bool.{not-false, not-true}
 use Rattle.mm_keep.specs.mm_store.Language.Edits.{Asked}
 use Rattle.mm_keep.specs.mm_store.Language.Edits as ask
 use Rattle.mm_report.specs.declared.entry.EditAt.TheVariants as found
@@ -9,8 +9,8 @@ use Rattle.mm_report.specs.Code.Growing.{line_bytes}
 use Rattle.mm_report.specs.Code.Lines.{SaysEdit}
 use Rattle.mm_report.specs.Code.Pending.{pending, bytes_of_part}
 use Rattle.mm_report.specs.Language.Script.{IsName}
-use Rattle.mm_report.proofs.GrowLemmas.{few_pending, not_not, not_true, same_error}
-use Rattle.mm_report.proofs.EditLemmas.{AsksText, IsShifted, asks_insert, asks_replace, behind_within, bytes_grown, fed_line, plain_read, shifted_few, shifted_is, shifted_within, text_bad, text_line, text_read, text_short, unfed_line, within_grown}
+use Rattle.mm_report.proofs.GrowLemmas.{same_error}
+use Rattle.mm_report.proofs.EditLemmas.{AsksText, IsShifted, asks_insert, asks_replace, behind_within, bytes_grown, fed_line, plain_read, shifted_is, shifted_within, text_bad, text_line, text_read, text_short, unfed_line, within_grown}
 use Rattle.mm_report.proofs.edits.read_edit.Goals as goal
 
 pub returns-then-not-line-clause-cut : goal.returns-then-not-line-clause-cut
@@ -19,7 +19,7 @@ returns-then-not-line-clause-cut g c = λ cut.
     let says : SaysEdit line (lines.Insert c.in-Insert.file c.in-Insert.at c.in-Insert.count) = subst (SaysEdit line) c.in-Insert.is c.requires.says in
     let edit : List ℕ → Asked = λ text. ask.Insert (bytes_of_part line c.in-Insert.file) c.in-Insert.at text in
     let asks : AsksText line c.in-Insert.count edit = asks_insert line c.in-Insert.file c.in-Insert.at c.in-Insert.count says in
-    ((c.requires.line.unfed (not_true _ c.if-not-line.true)).1, inr (text_line line c.in-Insert.count edit _ asks (unfed_line (pending c.args.input.now) _ c.args.line c.requires.line (not_true _ c.if-not-line.true))))
+    ((c.requires.line.unfed (not-true _ c.if-not-line.true)).1, inr (text_line line c.in-Insert.count edit _ asks (unfed_line (pending c.args.input.now) _ c.args.line c.requires.line (not-true _ c.if-not-line.true))))
 
 pub returns-in_err-text-in-Insert : goal.returns-in_err-text-in-Insert
 returns-in_err-text-in-Insert g c =
@@ -28,7 +28,7 @@ returns-in_err-text-in-Insert g c =
     let edit : List ℕ → Asked = λ text. ask.Insert (bytes_of_part line c.in-Insert.file) c.in-Insert.at text in
     let asks : AsksText line c.in-Insert.count edit = asks_insert line c.in-Insert.file c.in-Insert.at c.in-Insert.count says in
     let fails = c.in_err-text-in-Insert.ensures in
-    let stands = fed_line c.args.input.now c.read_text.new.input _ _ c.args.line c.requires.line fails.grows (not_not _ c.if-not-line.false) in
+    let stands = fed_line c.args.input.now c.read_text.new.input _ _ c.args.line c.requires.line fails.grows (not-false _ c.if-not-line.false) in
     let short = text_short line c.in-Insert.count edit _ _ asks stands in
     let last = c.from_residual.result in
     let error = c.in_err-text-in-Insert.field-0.0 in
@@ -57,7 +57,7 @@ returns-in_ok-text-in-Insert-clause-edit g c =
     let grows = c.in_ok-text-in-Insert.ensures.grows in
     let later = bytes_grown c.args.input.now c.read_text.new.input _ _ file grows inside in
     let text = c.in_ok-text-in-Insert.text in
-    text_read c.args.input.now c.read_text.new.input _ _ c.args.line c.in-Insert.count edit text (found.Insert file c.in-Insert.at text) asks c.requires.line grows (not_not _ c.if-not-line.false)
+    text_read c.args.input.now c.read_text.new.input _ _ c.args.line c.in-Insert.count edit text (found.Insert file c.in-Insert.at text) asks c.requires.line grows (not-false _ c.if-not-line.false)
     c.in_ok-text-in-Insert.ensures.within.0 c.in_ok-text-in-Insert.ensures.within.1 c.in_ok-text-in-Insert.ensures.within.2 c.in_ok-text-in-Insert.ensures.feed
     (ap (λ xs. ask.Insert xs c.in-Insert.at (bytes_of_part (pending c.read_text.new.input) text)) (later ∙ name)) (within_grown c.args.input.now c.read_text.new.input _ _ file grows inside, c.in_ok-text-in-Insert.ensures.within.0)
 
@@ -67,7 +67,7 @@ returns-then-not-line-2-clause-cut g c = λ cut.
     let says : SaysEdit line (lines.Replace c.in-Replace.file c.in-Replace.at c.in-Replace.count) = subst (SaysEdit line) c.in-Replace.is c.requires.says in
     let edit : List ℕ → Asked = λ text. ask.Replace (bytes_of_part line c.in-Replace.file) c.in-Replace.at text in
     let asks : AsksText line c.in-Replace.count edit = asks_replace line c.in-Replace.file c.in-Replace.at c.in-Replace.count says in
-    ((c.requires.line.unfed (not_true _ c.if-not-line-2.true)).1, inr (text_line line c.in-Replace.count edit _ asks (unfed_line (pending c.args.input.now) _ c.args.line c.requires.line (not_true _ c.if-not-line-2.true))))
+    ((c.requires.line.unfed (not-true _ c.if-not-line-2.true)).1, inr (text_line line c.in-Replace.count edit _ asks (unfed_line (pending c.args.input.now) _ c.args.line c.requires.line (not-true _ c.if-not-line-2.true))))
 
 pub returns-in_err-text-in-Replace : goal.returns-in_err-text-in-Replace
 returns-in_err-text-in-Replace g c =
@@ -76,7 +76,7 @@ returns-in_err-text-in-Replace g c =
     let edit : List ℕ → Asked = λ text. ask.Replace (bytes_of_part line c.in-Replace.file) c.in-Replace.at text in
     let asks : AsksText line c.in-Replace.count edit = asks_replace line c.in-Replace.file c.in-Replace.at c.in-Replace.count says in
     let fails = c.in_err-text-in-Replace.ensures in
-    let stands = fed_line c.args.input.now c.read_text-in-Replace.new.input _ _ c.args.line c.requires.line fails.grows (not_not _ c.if-not-line-2.false) in
+    let stands = fed_line c.args.input.now c.read_text-in-Replace.new.input _ _ c.args.line c.requires.line fails.grows (not-false _ c.if-not-line-2.false) in
     let short = text_short line c.in-Replace.count edit _ _ asks stands in
     let last = c.from_residual-in_err-text-in-Replace.result in
     let error = c.in_err-text-in-Replace.field-0.0 in
@@ -105,7 +105,7 @@ returns-in_ok-text-in-Replace-clause-edit g c =
     let grows = c.in_ok-text-in-Replace.ensures.grows in
     let later = bytes_grown c.args.input.now c.read_text-in-Replace.new.input _ _ file grows inside in
     let text = c.in_ok-text-in-Replace.text in
-    text_read c.args.input.now c.read_text-in-Replace.new.input _ _ c.args.line c.in-Replace.count edit text (found.Replace file c.in-Replace.at text) asks c.requires.line grows (not_not _ c.if-not-line-2.false)
+    text_read c.args.input.now c.read_text-in-Replace.new.input _ _ c.args.line c.in-Replace.count edit text (found.Replace file c.in-Replace.at text) asks c.requires.line grows (not-false _ c.if-not-line-2.false)
     c.in_ok-text-in-Replace.ensures.within.0 c.in_ok-text-in-Replace.ensures.within.1 c.in_ok-text-in-Replace.ensures.within.2 c.in_ok-text-in-Replace.ensures.feed
     (ap (λ xs. ask.Replace xs c.in-Replace.at (bytes_of_part (pending c.read_text-in-Replace.new.input) text)) (later ∙ name)) (
       within_grown c.args.input.now c.read_text-in-Replace.new.input _ _ file
@@ -140,39 +140,3 @@ returns-in-Move-clause-edit g c =
     plain_read bytes _ c.args.line (found.Move file c.in-Move.at c.in-Move.to) c.behind-in-Move.result c.requires.line
     (says.is ∙ ap (λ xs. join_with_byte 32 (codes "move" ∷ xs ∷ decimal c.in-Move.at ∷ decimal c.in-Move.to ∷ [])) (sym name))
     (subst IsName (sym name) says.good.0.name, says.good.1, says.good.2) refl inside c.behind-in-Move.ensures.fed c.behind-in-Move.ensures.unfed long.0 long.1
-
-pub shifted-file-requires : goal.shifted-file-requires
-shifted-file-requires g c =
-    let line = line_bytes (pending c.args.input.now) c.args.line in
-    let says : SaysEdit line (lines.Insert c.in-Insert.file c.in-Insert.at c.in-Insert.count) = subst (SaysEdit line) c.in-Insert.is c.requires.says in
-    shifted_few (pending c.args.input.now) _ c.args.line c.in-Insert.file c.requires.line says.good.0.within (few_pending c.args.input.now)
-
-pub shifted-file-requires-in-Replace : goal.shifted-file-requires-in-Replace
-shifted-file-requires-in-Replace g c =
-    let line = line_bytes (pending c.args.input.now) c.args.line in
-    let says : SaysEdit line (lines.Replace c.in-Replace.file c.in-Replace.at c.in-Replace.count) = subst (SaysEdit line) c.in-Replace.is c.requires.says in
-    shifted_few (pending c.args.input.now) _ c.args.line c.in-Replace.file c.requires.line says.good.0.within (few_pending c.args.input.now)
-
-pub shifted-requires : goal.shifted-requires
-shifted-requires g c =
-    let line = line_bytes (pending c.args.input.now) c.args.line in
-    let says : SaysEdit line (lines.Delete c.in-Delete.file c.in-Delete.at) = subst (SaysEdit line) c.in-Delete.is c.requires.says in
-    shifted_few (pending c.args.input.now) _ c.args.line c.in-Delete.file c.requires.line says.good.0.within (few_pending c.args.input.now)
-
-pub shifted-requires-in-Move : goal.shifted-requires-in-Move
-shifted-requires-in-Move g c =
-    let line = line_bytes (pending c.args.input.now) c.args.line in
-    let says : SaysEdit line (lines.Move c.in-Move.file c.in-Move.at c.in-Move.to) = subst (SaysEdit line) c.in-Move.is c.requires.says in
-    shifted_few (pending c.args.input.now) _ c.args.line c.in-Move.file c.requires.line says.good.0.within (few_pending c.args.input.now)
-
-pub overflow_add-line : goal.overflow_add-line
-overflow_add-line g c = omega (arith, c.requires.line.within, few_pending c.args.input.now)
-
-pub overflow_add-result : goal.overflow_add-result
-overflow_add-result g c = omega (arith, c.in_ok-text-in-Insert.ensures.within.0.within, few_pending c.read_text.new.input)
-
-pub overflow_add-line-in-Replace : goal.overflow_add-line-in-Replace
-overflow_add-line-in-Replace g c = omega (arith, c.requires.line.within, few_pending c.args.input.now)
-
-pub overflow_add-result-in-Replace : goal.overflow_add-result-in-Replace
-overflow_add-result-in-Replace g c = omega (arith, c.in_ok-text-in-Replace.ensures.within.0.within, few_pending c.read_text-in-Replace.new.input)

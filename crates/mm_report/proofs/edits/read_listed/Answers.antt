@@ -1,12 +1,12 @@
-use Rattle.std.proofs.Common.{◌≡◌, ◌<◌, ◌∙◌, ap, arith, false, refl, inl, inr, rules}
-use Rattle.std.specs.Prelude.{slice_range}
+use Rattle.std.proofs.Common.{◌≡◌, ◌<◌, ◌∙◌, ap, arith, false, refl, inl, inr, rules, slice_range}
+use Rattle.std.proofs.lemmas.Bool.{false_from_ne_true, not-true}
 use Rattle.mm_report.specs.declared.script.ScriptError.{ScriptError}
 use Rattle.mm_report.specs.declared.script.ScriptError.TheVariants as errors
 use Rattle.mm_report.specs.Code.Growing.{line_bytes}
 use Rattle.mm_report.specs.Code.Pending.{pending, edit_in}
 use Rattle.mm_report.specs.Code.Stops.{IsBadEditLine}
-use Rattle.mm_report.proofs.GrowLemmas.{blanks_grown, grows_then, not_true, other_error, same_error}
-use Rattle.mm_report.proofs.BatchLemmas.{bad_listed, bad_text, begun_holds, edit_missing, line_cut, line_some, none_left, not_fed, short_cut, short_holds}
+use Rattle.mm_report.proofs.GrowLemmas.{blanks_grown, grows_then, other_error, same_error}
+use Rattle.mm_report.proofs.BatchLemmas.{bad_listed, bad_text, begun_holds, edit_missing, line_cut, line_some, none_left, short_cut, short_holds}
 use Rattle.mm_report.proofs.edits.read_listed.Goals as goal
 
 pub returns-in_err-line : goal.returns-in_err-line
@@ -32,7 +32,7 @@ returns-in_err-line g c =
 pub returns-then-line-clause-cut : goal.returns-then-line-clause-cut
 returns-then-line-clause-cut g c = λ cut n front f count.
     let line = c.in_ok-line.line in
-    let unfed : line.fed ≡ false = not_fed line.fed (λ fed. absurd (omega (arith, c.in_ok-line.ensures.some fed))) in
+    let unfed : line.fed ≡ false = false_from_ne_true line.fed (λ fed. absurd (omega (arith, c.in_ok-line.ensures.some fed))) in
     let last = c.in_ok-line.ensures.line.unfed unfed in
     none_left c.args.input.now c.read_some_line.new.input _ _ n front c.args.from line.start f c.in_ok-line.ensures.grows c.in_ok-line.ensures.start (omega (arith, last.0)) last.1
 
@@ -83,12 +83,9 @@ returns-then-missing-gt1-clause-cut g c = λ cut n front f count.
     let blanks = blanks_grown c.read_some_line.new.input c.read_edit.new.input _ _ c.args.from line.start c.in_ok-read.ensures.grows c.in_ok-line.ensures.start in
     let grows = grows_then _ _ _ _ _ _ c.in_ok-line.ensures.grows c.in_ok-read.ensures.grows in
     let edit = c.in_ok-read.ensures.edit in
-    let last = edit.unfed (not_true _ c.if-not-read.true) in
+    let last = edit.unfed (not-true _ c.if-not-read.true) in
     edit_missing c.args.input.now c.read_edit.new.input _ _ n front c.args.from line.start f grows blanks (edit_in (pending c.read_edit.new.input) c.in_ok-read.read.edit) last.0 edit.good last.1
     (omega (arith, count)) last.2
 
 pub returns-clause-grows : goal.returns-clause-grows
 returns-clause-grows g c = grows_then _ _ _ _ _ _ c.in_ok-line.ensures.grows c.in_ok-read.ensures.grows
-
-pub returns-clause-fewer : goal.returns-clause-fewer
-returns-clause-fewer g c = omega (arith, c.in_ok-line.ensures.fewer, c.in_ok-read.ensures.fewer)

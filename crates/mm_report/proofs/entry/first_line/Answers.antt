@@ -1,6 +1,7 @@
 use Rattle.std.proofs.Common.{◌≡◌, ◌≤◌, ◌∷◌, ◌∙◌, ap, sym, arith, length, drop}
+use Rattle.std.proofs.lemmas.Bool.{not-false}
 use Rattle.mm_report.specs.Code.Pending.{pending}
-use Rattle.mm_report.proofs.GrowLemmas.{not_not, blank_line, reads_not, reads_pass, reads_then}
+use Rattle.mm_report.proofs.GrowLemmas.{blank_line, reads_not, reads_pass, reads_then}
 use Rattle.mm_report.proofs.entry.first_line.Goals as goal
 
 pub loop-line-init : goal.loop-line-init
@@ -16,7 +17,7 @@ pub loop-line-preserved : goal.loop-line-preserved
 loop-line-preserved g c =
     let start : c.in_ok-line.line.start ≡ 0 = c.in_ok-line.ensures.start in
     let empty : c.in_ok-line.line.end ≤ c.in_ok-line.line.start = omega arith in
-    let here = blank_line (pending c.read_line.new.input) _ c.in_ok-line.line c.in_ok-line.ensures.line (not_not _ c.if-not-line.false) empty in
+    let here = blank_line (pending c.read_line.new.input) _ c.in_ok-line.line c.in_ok-line.ensures.line (not-false _ c.if-not-line.false) empty in
     let first : pending c.read_line.new.input ≡ 10 ∷ drop 1 (pending c.read_line.new.input) = rw start at here in
     let passed : pending c.read_line.new.input ≡ 10 ∷ pending c.pass.new.self = first ∙ ap (λ xs. 10 ∷ xs) (sym c.pass.ensures) in
     record {

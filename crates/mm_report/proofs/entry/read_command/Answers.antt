@@ -1,5 +1,4 @@
-use Rattle.std.proofs.Common.{◌≡◌, ◌<◌, ◌∙◌, ap, sym, subst, arith, refl, List, ℕ}
-use Rattle.std.specs.Prelude.{codes, slice_range}
+use Rattle.std.proofs.Common.{◌≡◌, ◌<◌, ◌∙◌, ap, sym, subst, arith, refl, List, ℕ, codes, slice_range}
 use Rattle.mm_report.specs.declared.line.CommandLine.{CommandLine}
 use Rattle.mm_report.specs.declared.lines.LineAt.{LineAt}
 use Rattle.mm_report.specs.Code.Growing.{line_bytes}

@@ -1,9 +1,10 @@
 use Rattle.std.proofs.Common.{decimal, ◌∙◌, sym}
-use Rattle.mm_report.proofs.LineLemmas.{cut_so, empty_by, file_and, name_space, some_by, uncut}
+use Rattle.mm_report.proofs.SplitLemmas.{not_inside}
+use Rattle.mm_report.proofs.LineLemmas.{cut_so, empty_by, file_and, name_space, some_by}
 use Rattle.mm_report.proofs.line.file_and_number.Goals as goal
 
 pub returns-in_err-name-clause-none : goal.returns-in_err-name-clause-none
-returns-in_err-name-clause-none c = λ none name n good h is. uncut c.args.bytes.now name (decimal n) (c.cut_at_space.ensures.none c.in_err-name.was) is
+returns-in_err-name-clause-none c = λ none name n good h is. not_inside 32 c.args.bytes.now name (decimal n) (c.cut_at_space.ensures.none c.in_err-name.was) is
 
 pub returns-then-is_empty-clause-none : goal.returns-then-is_empty-clause-none
 returns-then-is_empty-clause-none c = λ none name n good h is.

@@ -1,9 +1,10 @@
 use Rattle.std.proofs.Common.{◌++◌, ◌∷◌, decimal, ◌∙◌, sym}
-use Rattle.mm_report.proofs.LineLemmas.{cut_so, empty_by, file_and_two, name_space, number_space, some_by, uncut}
+use Rattle.mm_report.proofs.SplitLemmas.{not_inside}
+use Rattle.mm_report.proofs.LineLemmas.{cut_so, empty_by, file_and_two, name_space, number_space, some_by}
 use Rattle.mm_report.proofs.line.file_and_numbers.Goals as goal
 
 pub returns-in_err-name-clause-none : goal.returns-in_err-name-clause-none
-returns-in_err-name-clause-none c = λ none name n m good h k is. uncut c.args.bytes.now name (decimal n ++ 32 ∷ decimal m) (c.cut_at_space.ensures.none c.in_err-name.was) is
+returns-in_err-name-clause-none c = λ none name n m good h k is. not_inside 32 c.args.bytes.now name (decimal n ++ 32 ∷ decimal m) (c.cut_at_space.ensures.none c.in_err-name.was) is
 
 pub returns-then-is_empty-clause-none : goal.returns-then-is_empty-clause-none
 returns-then-is_empty-clause-none c = λ none name n m good h k is.
@@ -13,7 +14,7 @@ returns-then-is_empty-clause-none c = λ none name n m good h k is.
 pub returns-in_err-first-clause-none : goal.returns-in_err-first-clause-none
 returns-in_err-first-clause-none c = λ none name n m good h k is.
     let same = cut_so c.args.bytes.now c.in_ok-name.name.now c.in_ok-name.rest.now name (decimal n ++ 32 ∷ decimal m) c.in_ok-name.ensures.some (name_space name good) is in
-    uncut c.in_ok-name.rest.now (decimal n) (decimal m) (c.cut_at_space-2.ensures.none c.in_err-first.was) same.1
+    not_inside 32 c.in_ok-name.rest.now (decimal n) (decimal m) (c.cut_at_space-2.ensures.none c.in_err-first.was) same.1
 
 pub returns-in_err-number-clause-none : goal.returns-in_err-number-clause-none
 returns-in_err-number-clause-none c = λ none name n m good h k is.

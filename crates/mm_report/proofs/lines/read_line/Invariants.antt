@@ -1,5 +1,4 @@
-use Rattle.std.proofs.Common.{◌≤◌, length}
-use Rattle.std.specs.Prelude.{slice_range}
+use Rattle.std.proofs.Common.{◌≤◌, length, slice_range}
 use Rattle.mm_report.specs.Code.Growing.{InputGrows, to_come}
 use Rattle.mm_report.specs.Code.Pending.{pending}
 use Rattle.mm_report.specs.Code.Stops.{IsOneLine}

@@ -1,8 +1,5 @@
-use Rattle.mm_report.proofs.ScriptLawLemmas.{ends, readings}
+use Rattle.mm_report.proofs.ScriptLawLemmas.{readings}
 use Rattle.mm_report.proofs.script_laws.one_reading.Goals as goal
 
 pub returns-clause-reading : goal.returns-clause-reading
 returns-clause-reading c = readings
-
-pub returns-clause-end : goal.returns-clause-end
-returns-clause-end c = ends

@@ -1,6 +1,4 @@
-use Rattle.std.proofs.Common.{◌∙◌, sym, ap, subst}
-use Rattle.std.specs.Prelude.{Vec}
-use Rattle.std.specs.Global.{Global}
+use Rattle.std.proofs.Common.{◌∙◌, sym, ap, subst, Vec, Global}
 use Rattle.mm_store.specs.declared.item.Item.{Item}
 use Rattle.mm_store.specs.declared.walk.Step.{Step}
 use Rattle.mm_store.specs.declared.walk.Step.TheVariants as steps

@@ -43,15 +43,14 @@ loop-piece-preserved c =
           (each_more (λ k s. IsStart (concat (take k texts)) s) starts start n c.loop-piece.invariant.many c.loop-piece.invariant.each c.loop-piece.invariant.start);
     }
 
-pub returns-clause-starts : goal.returns-clause-starts
-returns-clause-starts c = λ k d h.
-    let texts = map text_of_piece c.args.pieces.now in
-    let n = c.loop-piece.piece-index in
-    let starts = c.loop-piece.starts.items in
-    subst (λ (ss : List Start). IsStart (concat (take k texts)) (get_or ss k d)) (sym c.in_ok-push-2.ensures.items)
-    (each_more (λ k s. IsStart (concat (take k texts)) s) starts c.loop-piece.start n c.loop-piece.invariant.many c.loop-piece.invariant.each c.loop-piece.invariant.start k d
-    (omega (arith, h, c.loop-piece-test.false, c.loop-piece.auto.piece-index-end, length-map c.args.pieces.now text_of_piece)))
-
-pub returns-clause-many : goal.returns-clause-many
-returns-clause-many c =
-    omega (arith, ap length c.in_ok-push-2.ensures.items, length-append c.loop-piece.starts.items (c.loop-piece.start ∷ []), c.loop-piece.invariant.many, c.loop-piece-test.false, c.loop-piece.auto.piece-index-end)
+pub returns : goal.returns
+returns c = record {
+  starts = λ k d h.
+      let texts = map text_of_piece c.args.pieces.now in
+      let n = c.loop-piece.piece-index in
+      let starts = c.loop-piece.starts.items in
+      subst (λ (ss : List Start). IsStart (concat (take k texts)) (get_or ss k d)) (sym c.in_ok-push-2.ensures.items)
+      (each_more (λ k s. IsStart (concat (take k texts)) s) starts c.loop-piece.start n c.loop-piece.invariant.many c.loop-piece.invariant.each c.loop-piece.invariant.start k d
+      (omega (arith, h, c.loop-piece-test.false, c.loop-piece.auto.piece-index-end, length-map c.args.pieces.now text_of_piece)));
+  many = omega (arith, ap length c.in_ok-push-2.ensures.items, length-append c.loop-piece.starts.items (c.loop-piece.start ∷ []), c.loop-piece.invariant.many, c.loop-piece-test.false, c.loop-piece.auto.piece-index-end);
+}

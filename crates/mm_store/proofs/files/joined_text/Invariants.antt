@@ -1,5 +1,4 @@
-use Rattle.std.proofs.Common.{◌≡◌, ◌++◌, map}
-use Rattle.std.specs.Prelude.{All, IsSome}
+use Rattle.std.proofs.Common.{◌≡◌, ◌++◌, map, All, IsSome}
 use Rattle.std.specs.List.{concat}
 use Rattle.std.specs.FinMap as finite
 use Rattle.std.specs.VecDeque.Iter.{deque_iter_rest}

@@ -1,20 +1,17 @@
-use Rattle.std.proofs.Common.{◌∙◌, sym, ap, subst, [], ◌∷◌, Contains}
+use Rattle.std.proofs.Common.{◌∙◌, sym, ap, subst, [], ◌∷◌, Contains, map}
 use Rattle.std.proofs.lemmas.List.{map-append}
 use Rattle.mm_store.specs.Language.FilesView.{plain}
 use Rattle.mm_store.specs.Language.Keyless.{bare, bare_file, keyless_item}
 use Rattle.mm_store.specs.Language.Walking.{IsWalk}
-use Rattle.std.specs.Prelude.{map}
 use Rattle.mm_store.proofs.lemmas.expansion.ExpansionLemmas.{expansion_one}
 use Rattle.mm_store.proofs.lemmas.files.GrowthLemmas.{walk_kept}
 use Rattle.mm_store.proofs.lemmas.expansion.KeylessLemmas.{expansion_bare}
 use Rattle.mm_store.proofs.laws.walks_go_on.Goals as goal
 
-pub returns-clause-added : goal.returns-clause-added
-returns-clause-added c old new name text top items walk added fresh is =
-    let more = ap bare added.last ∙ map-append bare_file old (added.file ∷ []) in
-    subst (λ files. IsWalk files top items walk) (sym more)
-    (walk_kept (bare old) (bare_file added.file) top items walk is (λ known. fresh (subst (Contains walk.names) added.is_name known)))
-
-pub returns-clause-end : goal.returns-clause-end
-returns-clause-end c files top items others is other =
-    expansion_one c.one_meaning.ensures.words c.one_division.ensures.units (bare (plain files)) top others (map keyless_item items) other (expansion_bare files top items is)
+pub returns : goal.returns
+returns c = record {
+  added = λ old new name text top items walk added fresh is. let more = ap bare added.last ∙ map-append bare_file old (added.file ∷ []) in
+      subst (λ files. IsWalk files top items walk) (sym more)
+      (walk_kept (bare old) (bare_file added.file) top items walk is (λ known. fresh (subst (Contains walk.names) added.is_name known)));
+  end = λ files top items others is other. expansion_one c.one_meaning.ensures.words c.one_division.ensures.units (bare (plain files)) top others (map keyless_item items) other (expansion_bare files top items is);
+}

@@ -1,11 +1,10 @@
 -- Each edit is accepted, or refused for one reason.
 use Rattle.std.proofs.lemmas.Bool.{cases_eq}
 use Rattle.std.proofs.lemmas.Bool.Decides.{nat_tests}
-use Rattle.std.proofs.Common.{◌≡◌, ◌≢◌, ◌⊎◌, inl, inr, ℕ, ◌-◌, ◌<◌, ◌≤◌, nat_lt, List, [], Option, Some, None, length, get_or, refl, arith}
-use Rattle.std.specs.Prelude.{slice_get}
+use Rattle.std.proofs.Common.{◌≡◌, ◌≢◌, ◌⊎◌, inl, inr, ℕ, ◌-◌, ◌<◌, ◌≤◌, nat_lt, List, [], Option, Some, None, length, get_or, refl, arith, slice_get}
 use Rattle.std.specs.List.{position_or_len}
 use Rattle.std.specs.Str.{bytes_eq}
-use Rattle.std.proofs.lemmas.Option.{slice_get-get_or}
+use Rattle.std.proofs.lemmas.Option.{slice_get-get_or, cond_some}
 use Rattle.mm_text.specs.declared.fault.TextFault.{TextFault}
 use Rattle.mm_text.specs.Language.Cut.{IsCut, IsFirstFault}
 use Rattle.mm_store.specs.declared.edit.EditError.{EditError}
@@ -13,7 +12,6 @@ use Rattle.mm_store.specs.declared.edit.EditError.TheVariants as edits
 use Rattle.mm_store.specs.Language.FilesView.{File, file_number, bytes_of}
 use Rattle.mm_store.specs.Language.Edits.{Asked, Insert, Replace, Delete, Move, edited_name, edited_text, IsAmong, IsEditedFile, IsPlaced, BringsOneUnit, BringsFault, BringsNotOne, IsEditOf, after_edit}
 use Rattle.mm_store.specs.Language.Answers.{IsEditError}
-use Rattle.mm_store.proofs.lemmas.files.NamedLemmas.{by_some}
 
 abbrev pub SomeCut : Type 0
 SomeCut = (text : List ℕ) → ((pieces : List (List ℕ)) × (tail : List ℕ) × IsCut text pieces tail) ⊎ ((fault : TextFault) × IsFirstFault text fault)
@@ -61,7 +59,7 @@ no_file = record { name = []; pieces = []; tail = [] }
 number_there : (files : List File) (name : List ℕ) (n : ℕ) → file_number files name ≡ Some n → slice_get files n ≡ Some (get_or files n no_file)
 number_there files name n at =
     let first = position_or_len (λ (file : File). bytes_eq name file.name) files in
-    let s = by_some (nat_lt first (length files)) first n at in
+    let s = cond_some (nat_lt first (length files)) first n at in
     let lt : first < length files = (grind (arith, nat_tests)) in
     slice_get-get_or files n no_file (omega (arith, lt, s.1))
 

@@ -1,6 +1,5 @@
 -- Edits that were done one after another, undone and settled.
-use Rattle.std.proofs.Common.{◌≡◌, ◌≢◌, ℕ, ◌+◌, List, [], ◌∷◌, ◌++◌, Option, Some, None, length, refl, sym, ap, ◌∙◌, subst, arith}
-use Rattle.std.specs.Prelude.{Result, Ok, Err, IfOk, OnOk}
+use Rattle.std.proofs.Common.{◌≡◌, ◌≢◌, ℕ, ◌+◌, List, [], ◌∷◌, ◌++◌, Option, Some, None, length, refl, sym, ap, ◌∙◌, subst, arith, Result, Ok, Err, IfOk, OnOk}
 use Rattle.std.proofs.lemmas.Option.{none-some}
 use Rattle.std.specs.FinMap as finite
 use Rattle.mm_store.specs.declared.edit.EditError.{EditError}
@@ -81,20 +80,18 @@ drop_keeps : (a b : Pieces) (k : ℕ) → ((key file : ℕ) (kind : Removal) →
 drop_keeps a b k keeps key file kind is = other_parked b k key file kind (not_dropped a k key file kind is) (keeps key file kind (dropped_parked a k key file kind is))
 
 spent_keeps : (a b : FilesView) (act : EditAction) → KeepsParked a b → KeepsParked (spent act a) (spent act b)
-spent_keeps a b (action.Inserted at) keeps = keeps
 spent_keeps a b (action.Replaced at k) keeps = drop_keeps a.pieces b.pieces k keeps
 spent_keeps a b (action.Deleted at k) keeps = drop_keeps a.pieces b.pieces k keeps
-spent_keeps a b (action.Moved at to) keeps = keeps
+spent_keeps a b _ keeps = keeps
 
 settled_keeps : (a b : FilesView) (undos : List UndoView) → KeepsParked a b → KeepsParked (settled_all undos a) (settled_all undos b)
 settled_keeps a b [] keeps = keeps
 settled_keeps a b (undo ∷ undos) keeps = spent_keeps (settled_all undos a) (settled_all undos b) undo.action (settled_keeps a b undos keeps)
 
 can_settle_kept : (a b : FilesView) (number : ℕ) (act : EditAction) → KeepsParked a b → CanSettle number act a → CanSettle number act b
-can_settle_kept a b number (action.Inserted at) keeps can = tt
 can_settle_kept a b number (action.Replaced at k) keeps can = keeps k number _ can
 can_settle_kept a b number (action.Deleted at k) keeps can = keeps k number _ can
-can_settle_kept a b number (action.Moved at to) keeps can = tt
+can_settle_kept a b number _ keeps can = tt
 
 -- what can be settled in the one files can be settled in the others
 pub can_settle_all : (a b : FilesView) (undos : List UndoView) → KeepsParked a b → CanSettleAll undos a → CanSettleAll undos b
@@ -109,10 +106,9 @@ dropped_count p k n kind is =
     omega (arith, parked_dropped p k was.piece was.is, ap parked_state was.state)
 
 spent_count : (a b : FilesView) (number : ℕ) (act : EditAction) → CanSettle number act a → CanSettle number act b → parked_in a ≡ parked_in b → parked_in (spent act a) ≡ parked_in (spent act b)
-spent_count a b number (action.Inserted at) can also same = same
 spent_count a b number (action.Replaced at k) can also same = omega (arith, same, dropped_count a.pieces k number _ can, dropped_count b.pieces k number _ also)
 spent_count a b number (action.Deleted at k) can also same = omega (arith, same, dropped_count a.pieces k number _ can, dropped_count b.pieces k number _ also)
-spent_count a b number (action.Moved at to) can also same = same
+spent_count a b number _ can also same = same
 
 -- and as many pieces are then parked
 pub settled_count : (a b : FilesView) (undos : List UndoView) → CanSettleAll undos a → CanSettleAll undos b → parked_in a ≡ parked_in b → parked_in (settled_all undos a) ≡ parked_in (settled_all undos b)
@@ -210,16 +206,14 @@ parked_by (action.Deleted at k) = 1
 parked_by (action.Moved at to) = 0
 
 made_parks : (edit : Asked) (n : ℕ) (old new : FilesView) (undo : UndoView) → IsMadeOf edit n old new undo → parked_by undo.action ≡ parks edit
-made_parks (Insert file at text) n old new undo made = ap (λ (u : UndoView). parked_by u.action) made.3
-made_parks (Replace file at text) n old new undo made = ap (λ (u : UndoView). parked_by u.action) made.3
 made_parks (Delete file at) n old new undo made = ap (λ (u : UndoView). parked_by u.action) made.1
 made_parks (Move file at to) n old new undo made = ap (λ (u : UndoView). parked_by u.action) made.1
+made_parks _ n old new undo made = ap (λ (u : UndoView). parked_by u.action) made.3
 
 spent_less : (view : FilesView) (n : ℕ) (act : EditAction) → CanSettle n act view → parked_in (spent act view) + parked_by act ≡ parked_in view
-spent_less view n (action.Inserted at) can = omega arith
 spent_less view n (action.Replaced at k) can = dropped_count view.pieces k n _ can
 spent_less view n (action.Deleted at k) can = dropped_count view.pieces k n _ can
-spent_less view n (action.Moved at to) can = omega arith
+spent_less view n _ can = omega arith
 
 -- an edit parks as many pieces more as its kind says
 pub parks_more : (edit : Asked) (old new : FilesView) (r : Result UndoView EditError) → StandOnce new → IfOk r (IsUndoable old new) → IfOk r (IsEditByKeys edit old new)

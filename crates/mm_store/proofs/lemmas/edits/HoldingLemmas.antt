@@ -1,6 +1,5 @@
 -- Files each piece of which holds one unit: edits keep them so, and keys can be given to them.
-use Rattle.std.proofs.Common.{◌≡◌, ℕ, zero, suc, ◌+◌, ◌<◌, Some, is_some, List, [], ◌∷◌, ◌++◌, length, map, take, drop, get_or, set, refl, sym, ap, ◌∙◌, subst, arith}
-use Rattle.std.specs.Prelude.{All, IsSome, slice_get}
+use Rattle.std.proofs.Common.{◌≡◌, ℕ, zero, suc, ◌+◌, ◌<◌, Some, is_some, List, [], ◌∷◌, ◌++◌, length, map, take, drop, get_or, set, refl, sym, ap, ◌∙◌, subst, arith, All, IsSome, slice_get}
 use Rattle.std.specs.List.{AllByRecursion, insert, remove}
 use Rattle.std.specs.Option.{option_map}
 use Rattle.std.specs.FinMap as finite

@@ -246,11 +246,10 @@ keeps_undone n (action.Deleted at old) view = λ key other some. record { there 
 keeps_undone n (action.Moved at to) view = λ key other some. record { there = some; text = refl }
 
 pub keeps_settled : (a : EditAction) (view : FilesView) → KeepsOthers (settled_key a) view (spent a view)
-keeps_settled (action.Inserted at) view = λ key other some. record { there = some; text = refl }
 keeps_settled (action.Replaced at old) view = λ key other some.
     let differs : key ≢ old = λ e. other (ap Some (sym e)) in
     record { there = ap is_some (get_drop_other view.pieces old key differs) ∙ some; text = text_drop_other view.pieces old key differs }
 keeps_settled (action.Deleted at old) view = λ key other some.
     let differs : key ≢ old = λ e. other (ap Some (sym e)) in
     record { there = ap is_some (get_drop_other view.pieces old key differs) ∙ some; text = text_drop_other view.pieces old key differs }
-keeps_settled (action.Moved at to) view = λ key other some. record { there = some; text = refl }
+keeps_settled _ view = λ key other some. record { there = some; text = refl }

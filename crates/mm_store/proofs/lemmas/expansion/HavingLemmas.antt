@@ -1,6 +1,5 @@
 -- Files each piece of which holds one unit have an expansion from each top file on.
-use Rattle.std.proofs.Common.{◌≡◌, ◌≢◌, ℕ, zero, suc, ◌<◌, ◌≤◌, Bool, true, false, Option, Some, None, List, [], ◌∷◌, ◌++◌, refl, sym, ◌∙◌, arith}
-use Rattle.std.specs.Prelude.{Contains}
+use Rattle.std.proofs.Common.{◌≡◌, ◌≢◌, ℕ, zero, suc, ◌<◌, ◌≤◌, Bool, true, false, Option, Some, None, List, [], ◌∷◌, ◌++◌, refl, sym, ◌∙◌, arith, Contains}
 use Rattle.std.proofs.lemmas.Bool.{false≢true}
 use Rattle.mm_text.specs.declared.part.PartKind.{PartKind}
 use Rattle.mm_text.specs.declared.part.PartKind.TheVariants as parts

@@ -1,6 +1,5 @@
 -- A set of names, and what it takes.
-use Rattle.std.proofs.Common.{◌≡◌, ℕ, zero, suc, ◌<◌, Bool, true, false, Result, Ok, Err, ◌||◌, List, [], ◌∷◌, ◌++◌, map, get_or, refl, sym, ap, ◌∙◌, arith, Contains, ◌⊎◌, inl, inr}
-use Rattle.std.specs.Prelude.{Vec, IfOk, if◌then◌else◌}
+use Rattle.std.proofs.Common.{◌≡◌, ℕ, zero, suc, ◌<◌, Bool, true, false, Result, Ok, Err, ◌||◌, List, [], ◌∷◌, ◌++◌, map, get_or, refl, sym, ap, ◌∙◌, arith, Contains, ◌⊎◌, inl, inr, Vec, IfOk, if◌then◌else◌}
 use Rattle.std.specs.Result.{IsErrAnd}
 use Rattle.std.specs.List.{list_any}
 use Rattle.std.specs.Str.{bytes_eq}
@@ -49,11 +48,6 @@ inserted names key name is new =
     let fresh : tests name names ≡ false = false_from_ne_true (tests name names) (λ t. new (contains_from_test name names t)) in
     let none : tests key.items names ≡ false = ap (λ n. tests n names) is ∙ fresh in
     ap (λ b. names_of (if b then names else names ++ key ∷ [])) none ∙ map_push (λ key. key.items) names key ∙ ap (λ n. names_of names ++ n ∷ []) is
-
--- a fact of a result gives another
-pub ok_map : {T E : Type 0} {P Q : T → Type 0} (r : Result T E) → ((x : T) → P x → Q x) → IfOk r P → IfOk r Q
-ok_map (Ok x) f h = f x h
-ok_map (Err e) f h = tt
 
 -- want of memory is no want of a top file
 pub not_no_top : {T : Type 0} (r : Result T StoreError) → IsErrAnd r (λ e. e ≡ Memory) → r ≡ Err NoTop → ⊥

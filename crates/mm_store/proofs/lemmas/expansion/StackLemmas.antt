@@ -1,6 +1,5 @@
 -- The last element of a list.
-use Rattle.std.proofs.Common.{◌≡◌, ℕ, zero, suc, List, [], ◌∷◌, ◌++◌, length, refl, ap, arith}
-use Rattle.std.specs.Prelude.{slice_set}
+use Rattle.std.proofs.Common.{◌≡◌, ℕ, zero, suc, List, [], ◌∷◌, ◌++◌, length, refl, ap, arith, slice_set}
 
 pub set_last : {X : Type 0} (front : List X) (x y : X) (n : ℕ) → n ≡ length front → slice_set (front ++ x ∷ []) n y ≡ front ++ y ∷ []
 set_last [] x y zero e = refl

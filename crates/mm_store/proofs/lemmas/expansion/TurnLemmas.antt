@@ -1,6 +1,5 @@
 -- A walk takes a number of turns at most: each step but the last makes what is left smaller.
-use Rattle.std.proofs.Common.{◌≡◌, ℕ, ◌+◌, ◌*◌, ◌-◌, ◌<◌, ◌≤◌, Bool, true, false, List, [], ◌∷◌, ◌++◌, Option, Some, None, length, ap, ◌∙◌, arith, inl, inr}
-use Rattle.std.specs.Prelude.{slice_get}
+use Rattle.std.proofs.Common.{◌≡◌, ℕ, ◌+◌, ◌*◌, ◌-◌, ◌<◌, ◌≤◌, Bool, true, false, List, [], ◌∷◌, ◌++◌, Option, Some, None, length, ap, ◌∙◌, arith, inl, inr, slice_get}
 use Rattle.std.proofs.lemmas.Option.{none-some, slice_get_within}
 use Rattle.mm_store.specs.declared.walk.Spot.{Spot}
 use Rattle.mm_store.specs.declared.walk.Step.TheVariants as steps
@@ -42,10 +41,6 @@ some_turn (Some file) piece = omega arith
 turn_in : (file : Option FileView) (n : ℕ) (piece : PieceView) → piece_in file n ≡ Some piece → turns_in file (n + 1) + 1 ≡ turns_in file n
 turn_in None n piece there = absurd (none-some piece there)
 turn_in (Some file) n piece there = omega (arith, slice_get_within file.pieces n piece there)
-
-most : (told : Bool) → untold told ≤ 1
-most true = omega arith
-most false = omega arith
 
 -- the turns that are left behind a piece
 moved : (files : List FileView) (levels front : List LevelView) (level : LevelView) (piece : PieceView) → IsHere files levels front level piece → level_turns files (front ++ behind level ∷ []) + 1 ≡ level_turns files levels

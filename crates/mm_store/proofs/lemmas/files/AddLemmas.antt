@@ -1,6 +1,5 @@
 -- What a file more makes of the files.
-use Rattle.std.proofs.Common.{◌≡◌, ◌≢◌, is_some, true, ℕ, suc, ◌+◌, ◌≤◌, List, [], ◌∷◌, ◌++◌, Option, Some, None, length, map, refl, sym, ap, ◌∙◌, subst, arith, length-append}
-use Rattle.std.specs.Prelude.{Vec, All, position}
+use Rattle.std.proofs.Common.{◌≡◌, ◌≢◌, is_some, true, ℕ, suc, ◌+◌, ◌≤◌, List, [], ◌∷◌, ◌++◌, Option, Some, None, length, map, refl, sym, ap, ◌∙◌, subst, arith, length-append, Global, Vec, All, position}
 use Rattle.std.proofs.Common.{Bool, false, not, cond, ltb, Result, Ok}
 use Rattle.std.specs.Result.{OnOk}
 use Rattle.std.specs.List.{position_or_len}
@@ -10,7 +9,6 @@ use Rattle.std.proofs.lemmas.List.{length-map}
 use Rattle.std.proofs.lemmas.List.Elements.{All-nil, All-cons}
 use Rattle.mm_text.specs.Language.Cut.{ArePieces, IsPiece, HoldsOne}
 use Rattle.mm_store.specs.Code.Inside.{CanBeKept}
-use Rattle.std.specs.Global.{Global}
 use Rattle.std.specs.List.{concat}
 use Rattle.std.proofs.lemmas.List.{map-append}
 use Rattle.std.proofs.lemmas.List.Sums.{sum_by-cons}
@@ -62,7 +60,7 @@ pub put_many : (p p' : Pieces) (texts : List (List ℕ)) (keys : List ℕ) → A
 put_many p p' [] keys put = ap length put.0
 put_many p p' (text ∷ texts) keys put = omega (arith, ap length put.2, put_many (finite.insert p put.0 (standing_piece text)) p' texts put.1 put.4)
 
-stands_some : (o : Option HeldPiece) → 1 ≤ standing_count o → is_some o ≡ true
+pub stands_some : (o : Option HeldPiece) → 1 ≤ standing_count o → is_some o ≡ true
 stands_some None some = absurd (omega arith)
 stands_some (Some piece) some = refl
 

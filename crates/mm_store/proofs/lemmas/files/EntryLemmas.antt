@@ -1,6 +1,5 @@
 -- From the entries of the map of files to the files.
-use Rattle.std.proofs.Common.{◌≡◌, ◌≢◌, ℕ, zero, suc, ◌+◌, ◌<◌, List, [], ◌∷◌, Some, map, refl, sym, ap, ◌∙◌, subst, arith}
-use Rattle.std.specs.Prelude.{Vec, slice_get}
+use Rattle.std.proofs.Common.{◌≡◌, ◌≢◌, ℕ, zero, suc, ◌+◌, ◌<◌, List, [], ◌∷◌, Some, map, refl, sym, ap, ◌∙◌, subst, arith, Vec, slice_get}
 use Rattle.mm_text.specs.Language.Reading.{HasWords}
 use Rattle.mm_store.specs.Code.Starts.{HasStarts}
 use Rattle.mm_store.specs.Code.Edited.{pieces_in, with_pieces}

@@ -1,14 +1,11 @@
 -- What is known of a file, and of a piece of it, by the fields of `Files`.
-use Rattle.std.proofs.Common.{◌≡◌, ℕ, ◌<◌, ◌≤◌, List, Some, Option, length, map, get_or, deque_len, refl, sym, ap, ◌∙◌, subst, arith}
-use Rattle.std.specs.Prelude.{Vec, slice_get}
-use Rattle.std.specs.Global.{Global}
+use Rattle.std.proofs.Common.{◌≡◌, ℕ, ◌<◌, ◌≤◌, List, Some, Option, length, map, get_or, deque_len, refl, sym, ap, ◌∙◌, subst, arith, Global, Vec, slice_get, Bor, MutBor}
 use Rattle.std.specs.List.{concat}
 use Rattle.std.specs.Option.{option_map, option_copied_mut}
 use Rattle.std.specs.Map.Iter.{deref_pair}
 use Rattle.std.specs.FinMap as finite
 use Rattle.std.proofs.lemmas.List.{length-map}
 use Rattle.std.proofs.lemmas.Option.{slice_get-map}
-use denote.Ref.{Bor, MutBor}
 use Rattle.mm_store.specs.declared.file_text.FileText.{FileText}
 use Rattle.mm_store.specs.declared.files.Files.TheInside.{Inside}
 use Rattle.mm_store.specs.Language.Pieces.{text_under}

@@ -1,12 +1,13 @@
 -- Files by name and by number, their keys and their texts.
-use Rattle.std.proofs.Common.{◌≡◌, ℕ, zero, suc, ◌<◌, ◌≤◌, List, [], ◌∷◌, Option, Some, None, is_some, true, length, map, get_or, refl, sym, ap, ◌∙◌, subst, arith}
-use Rattle.std.specs.Prelude.{slice_get, position, Vec}
+use Rattle.std.proofs.Common.{◌≡◌, ℕ, zero, suc, ◌<◌, ◌≤◌, List, [], ◌∷◌, Option, Some, None, is_some, true, length, map, get_or, refl, sym, ap, ◌∙◌, subst, arith, slice_get, position, Vec}
 use Rattle.std.specs.List.{concat}
 use Rattle.std.specs.Option.{option_map}
 use Rattle.std.specs.Str.{bytes_eq}
 use Rattle.std.specs.Map.{keys_of}
+use Rattle.std.proofs.lemmas.Grind.{get_or_default_zero}
 use Rattle.std.proofs.lemmas.Option.{slice_get-map}
 use Rattle.std.specs.FinMap as finite
+use Rattle.mm_store.proofs.lemmas.files.AddLemmas.{stands_some}
 use Rattle.mm_store.specs.declared.file_text.FileText.{FileText}
 use Rattle.mm_store.specs.Language.Pieces.{HeldPiece, Pieces, text_under}
 use Rattle.mm_store.specs.Language.FilesView.{KeyedFile, FilesView, plain_file, find_file, file_at, bytes_of}
@@ -26,30 +27,11 @@ module _ {Y : Type 0} (p : Pieces) (name : List ℕ) (entries : List (Vec ℕ Y 
   pub none_is : None ≡ position (λ key. bytes_eq name key.items) (keys_of entries) → find_file (map (plain_file p) (map file_of entries)) name ≡ None
   none_is at = ap (file_at (map (plain_file p) (map file_of entries))) (number_is p name entries ∙ sym at)
 
-get_or_any : (xs : List ℕ) (i a b : ℕ) → i < length xs → get_or xs i a ≡ get_or xs i b
-get_or_any [] i a b lt = absurd (omega arith)
-get_or_any (x ∷ xs) zero a b lt = refl
-get_or_any (x ∷ xs) (suc i) a b lt = get_or_any xs i a b (omega arith)
-
-keys_read : (files : List KeyedFile) (n : ℕ) (d : KeyedFile) → n < length files → (get_or files n d).keys ≡ keys_in files n
-keys_read [] n d lt = absurd (omega arith)
-keys_read (file ∷ files) zero d lt = refl
-keys_read (file ∷ files) (suc n) d lt = keys_read files n d (omega arith)
-
-stands_some : (o : Option HeldPiece) → 1 ≤ standing_count o → is_some o ≡ true
-stands_some None some = absurd (omega arith)
-stands_some (Some piece) some = refl
-
 -- the key of a place has a piece
 pub key_some : (files : List KeyedFile) (p : Pieces) → ((q : ℕ) → places q files ≡ standing_count (finite.get p q)) → (n at d : ℕ) → at < length (keys_in files n) → is_some (finite.get p (get_or (keys_in files n) at d)) ≡ true
 key_some files p once n at d lt =
     let key = get_or (keys_in files n) at 0 in
-    ap (λ k. is_some (finite.get p k)) (get_or_any (keys_in files n) at d 0 lt) ∙ stands_some (finite.get p key) (omega (arith, times_at (keys_in files n) at lt, places_in key files n, once key))
-
-pub holds : (view : FilesView) → ((q : ℕ) → places q view.keyed ≡ standing_count (finite.get view.pieces q)) → HoldsPieces view
-holds view once = λ n file lt at d within.
-    subst (λ keys. is_some (finite.get view.pieces (get_or keys at d)) ≡ true) (sym (keys_read view.keyed n file lt))
-    (key_some view.keyed view.pieces once n at d (subst (λ (keys : List ℕ). at < length keys) (keys_read view.keyed n file lt) within))
+    ap (λ k. is_some (finite.get p k)) (get_or_default_zero (keys_in files n) at d lt) ∙ stands_some (finite.get p key) (omega (arith, times_at (keys_in files n) at lt, places_in key files n, once key))
 
 -- the pieces of a file are no longer than all files
 pub file_small : (p : Pieces) (files : List KeyedFile) (n : ℕ) (keys : List ℕ) → keys_in files n ≡ keys → length (concat (map (text_under p) keys)) ≤ bytes_of (map (plain_file p) files)

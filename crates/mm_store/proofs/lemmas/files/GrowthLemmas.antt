@@ -1,6 +1,5 @@
 -- The numbers that names have, and what one more file changes.
-use Rattle.std.proofs.Common.{◌≡◌, ℕ, zero, suc, ◌+◌, ◌<◌, ◌≤◌, Bool, true, false, not, cond, ltb, List, [], ◌∷◌, ◌++◌, Some, None, length, refl, sym, ap, ◌∙◌, subst, arith, length-append, Contains}
-use Rattle.std.specs.Prelude.{position, slice_get}
+use Rattle.std.proofs.Common.{◌≡◌, ℕ, zero, suc, ◌+◌, ◌<◌, ◌≤◌, Bool, true, false, not, cond, ltb, List, [], ◌∷◌, ◌++◌, Some, None, length, refl, sym, ap, ◌∙◌, subst, arith, length-append, Contains, position, slice_get}
 use Rattle.std.specs.List.{position_or_len}
 use Rattle.std.specs.Str.{bytes_eq}
 use Rattle.std.proofs.lemmas.Bool.{ltb-true, ltb-false, lt-ltb, le-ltb, ne_eqb, eq-eqb, false_from_ne_true}
@@ -8,16 +7,12 @@ use Rattle.std.proofs.lemmas.Slice.Eq.{bytes_eq-Decides}
 use Rattle.std.proofs.lemmas.List.Elements.{Contains-append_right}
 use Rattle.std.proofs.lemmas.List.Folds.{position_or_len_push}
 use Rattle.std.proofs.lemmas.List.Quantifiers.{position-Some}
-use Rattle.std.proofs.lemmas.Option.{none-some, same_Some, get_or_from_slice_get}
+use Rattle.std.proofs.lemmas.Option.{none-some, same_Some, get_or_from_slice_get, cond_some}
 use Rattle.mm_store.specs.declared.item.Item.{Item}
 use Rattle.mm_store.specs.Language.FilesView.{FileView, number_of}
 use Rattle.mm_store.specs.Language.Expansion.{Placed}
 use Rattle.mm_store.specs.Language.Walking.{LevelView, WalkView, IsRest, ArePending, Goes, here, own, again, missing, included, IsWalk}
 use Rattle.mm_store.proofs.lemmas.expansion.GoesLemmas.{goes_grows}
-
-some_place : (b : Bool) (m k : ℕ) → cond b (Some m) None ≡ Some k → (b ≡ true) × (m ≡ k)
-some_place true m k e = (refl, same_Some m k e)
-some_place false m k e = absurd (none-some k e)
 
 no_place : (b : Bool) (m : ℕ) → cond b (Some m) None ≡ None → b ≡ false
 no_place true m e = absurd (none-some m (sym e))
@@ -34,7 +29,7 @@ module _ {X : Type 0} (test : X → Bool) where
 
   place_kept : (xs : List X) (y : X) (k : ℕ) → position test xs ≡ Some k → position test (xs ++ y ∷ []) ≡ Some k
   place_kept xs y k e =
-      let h = some_place (ltb (position_or_len test xs) (length xs)) (position_or_len test xs) k e in
+      let h = cond_some (ltb (position_or_len test xs) (length xs)) (position_or_len test xs) k e in
       let within = ltb-true (position_or_len test xs) (length xs) h.0 in
       let other = ne_eqb (position_or_len test xs) (length xs) (λ e. absurd (omega arith)) in
       let same : position_or_len test (xs ++ y ∷ []) ≡ k = position_or_len_push test xs y ∙ ap (λ b. cond b (length xs + cond (test y) 0 1) (position_or_len test xs)) other ∙ h.1 in
@@ -59,7 +54,7 @@ there_kept (z ∷ xs) y (suc n) x e = there_kept xs y n x e
 -- a name that has a number has a file
 pub there_number : (files : List FileView) (name : List ℕ) (n : ℕ) → number_of files name ≡ Some n → (file : FileView) × (slice_get files n ≡ Some file)
 there_number files name n e =
-    let h = some_place (ltb (position_or_len (λ (file : FileView). bytes_eq name file.name) files) (length files)) (position_or_len (λ (file : FileView). bytes_eq name file.name) files) n e in
+    let h = cond_some (ltb (position_or_len (λ (file : FileView). bytes_eq name file.name) files) (length files)) (position_or_len (λ (file : FileView). bytes_eq name file.name) files) n e in
     there_at files n (omega (arith, ltb-true (position_or_len (λ (file : FileView). bytes_eq name file.name) files) (length files) h.0, h.1))
   where
     there_at : (files : List FileView) (n : ℕ) → n < length files → (file : FileView) × (slice_get files n ≡ Some file)

@@ -1,8 +1,6 @@
 -- The files after a change of the keys of one file and of the pieces.
 use Rattle.std.proofs.lemmas.Bool.{cases_eq}
-use Rattle.std.proofs.Common.{◌≡◌, ◌≢◌, inl, inr, ℕ, zero, suc, ◌-◌, ◌<◌, ◌≤◌, List, [], ◌∷◌, Some, length, map, get_or, deque_len, refl, sym, ap, ◌∙◌, subst, arith}
-use Rattle.std.specs.Prelude.{Vec, slice_get}
-use Rattle.std.specs.Global.{Global}
+use Rattle.std.proofs.Common.{◌≡◌, ◌≢◌, inl, inr, ℕ, zero, suc, ◌-◌, ◌<◌, ◌≤◌, List, [], ◌∷◌, Some, length, map, get_or, deque_len, refl, sym, ap, ◌∙◌, subst, arith, Global, Vec, slice_get}
 use Rattle.std.proofs.lemmas.Option.{slice_get_within, none-some}
 use Rattle.std.proofs.lemmas.List.{length-map}
 use Rattle.std.specs.FinMap as finite
@@ -28,9 +26,8 @@ use Rattle.mm_store.specs.Language.Pieces.{Replaced, Deleted, text_under, HeldPi
 use Rattle.mm_store.specs.Language.Undoing.{keys_in, with_keys}
 
 pub length_set : {Y : Type 0} (es : List (Vec ℕ Y × FileText)) (n : ℕ) (w : FileText) → length (set_value_at es n w) ≡ length es
-length_set [] n w = refl
-length_set (e ∷ es) zero w = refl
 length_set (e ∷ es) (suc n) w = omega (arith, length_set es n w)
+length_set _ _ w = refl
 
 pub file_in : {Y : Type 0} (es : List (Vec ℕ Y × FileText)) (n : ℕ) (v : FileText) → slice_get (texts_of es) n ≡ Some v → n < length es
 file_in {Y} es n v here = omega (arith, slice_get_within (texts_of es) n v here, length-map es (λ (e : Vec ℕ Y × FileText). e.1))

@@ -1,13 +1,12 @@
 -- Files by name: each name has one number, and a file that comes last is found where no other has its name.
-use Rattle.std.proofs.Common.{◌≡◌, ◌≢◌, ℕ, ◌<◌, Bool, true, false, cond, nat_lt, List, [], ◌∷◌, ◌++◌, Some, None, length, get_or, refl, sym, ap, ◌∙◌, arith}
-use Rattle.std.specs.Prelude.{slice_get}
+use Rattle.std.proofs.Common.{◌≡◌, ◌≢◌, ℕ, ◌<◌, Bool, true, false, cond, nat_lt, List, [], ◌∷◌, ◌++◌, Some, None, length, get_or, refl, sym, ap, ◌∙◌, arith, slice_get}
 use Rattle.std.specs.List.{find, position_or_len}
 use Rattle.std.specs.Option.{option_map}
 use Rattle.std.specs.Str.{bytes_eq}
 use Rattle.std.proofs.lemmas.Bool.Decides.{nat_tests}
 use Rattle.std.proofs.lemmas.List.Folds.{find_at}
 use Rattle.std.proofs.lemmas.List.Sums.{passes_at_first}
-use Rattle.std.proofs.lemmas.Option.{get_or_from_slice_get, none-some, same_Some, slice_get_past}
+use Rattle.std.proofs.lemmas.Option.{get_or_from_slice_get, none-some, same_Some, slice_get_past, cond_some}
 use Rattle.std.proofs.lemmas.Slice.Eq.{bytes_eq-Decides}
 use Rattle.mm_text.specs.Language.Cut.{IsCut, ended}
 use Rattle.mm_store.specs.Language.FilesView.{File, file_number, file_at, find_file, text_of}
@@ -15,15 +14,11 @@ use Rattle.mm_store.specs.Language.FileFacts.{IsAdded}
 use Rattle.mm_store.specs.Language.Edits.{Asked, edited, edited_name, with_members, IsEditOf}
 use Rattle.mm_store.proofs.lemmas.edits.EditLawLemmas.{changed_there, number_kept, others_kept}
 
-pub by_some : (b : Bool) (m n : ℕ) → cond b (Some m) None ≡ Some n → (b ≡ true) × (m ≡ n)
-by_some true m n e = (refl, same_Some m n e)
-by_some false m n e = absurd (none-some n e)
-
 -- the file of a name has this name
 named_is : (files : List File) (name : List ℕ) (n : ℕ) (file : File) → file_number files name ≡ Some n → slice_get files n ≡ Some file → name ≡ file.name
 named_is files name n file at there =
     let first = position_or_len (λ (file : File). bytes_eq name file.name) files in
-    let s = by_some (nat_lt first (length files)) first n at in
+    let s = cond_some (nat_lt first (length files)) first n at in
     let lt : first < length files = (grind (arith, nat_tests)) in
     let pass = passes_at_first (λ (file : File). bytes_eq name file.name) files file lt in
     let here : get_or files first file ≡ file = ap (λ k. get_or files k file) s.1 ∙ get_or_from_slice_get files n file file there in

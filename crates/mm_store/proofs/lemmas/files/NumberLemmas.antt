@@ -1,6 +1,5 @@
 -- Files by name, and files without keys.
-use Rattle.std.proofs.Common.{◌≡◌, ℕ, zero, suc, ◌+◌, ◌<◌, Bool, not, cond, List, [], ◌∷◌, Some, length, map, set, refl, sym, ap, ◌∙◌, arith}
-use Rattle.std.specs.Prelude.{Vec, position, slice_get}
+use Rattle.std.proofs.Common.{◌≡◌, ℕ, zero, suc, ◌+◌, ◌<◌, Bool, not, cond, List, [], ◌∷◌, Some, length, map, set, refl, sym, ap, ◌∙◌, arith, Vec, position, slice_get}
 use Rattle.std.specs.List.{position_or_len}
 use Rattle.std.specs.Str.{bytes_eq}
 use Rattle.std.specs.Map.{keys_of}

@@ -1,6 +1,5 @@
 -- What is kept of the pieces in a slab, after changes of it.
-use Rattle.std.proofs.Common.{◌≡◌, inl, inr, is_some, true, ℕ, zero, suc, ◌+◌, ◌≤◌, List, [], ◌∷◌, ◌++◌, Option, Some, None, map, cond, get_or, count_by, refl, sym, ap, ◌∙◌, subst, arith}
-use Rattle.std.specs.Prelude.{All}
+use Rattle.std.proofs.Common.{◌≡◌, inl, inr, is_some, true, ℕ, zero, suc, ◌+◌, ◌≤◌, List, [], ◌∷◌, ◌++◌, Option, Some, None, map, cond, get_or, count_by, refl, sym, ap, ◌∙◌, subst, arith, All}
 use Rattle.std.specs.List.{sum_by}
 use Rattle.std.specs.Option.{option_map}
 use Rattle.std.proofs.lemmas.Bool.{cases_eq}

@@ -1,6 +1,5 @@
 -- The starts of a file after its keys and the pieces have changed.
-use Rattle.std.proofs.Common.{◌≡◌, ℕ, ◌<◌, List, Some, length, map, sym, ap, ◌∙◌, subst, arith}
-use Rattle.std.specs.Prelude.{Vec, slice_get}
+use Rattle.std.proofs.Common.{◌≡◌, ℕ, ◌<◌, List, Some, length, map, sym, ap, ◌∙◌, subst, arith, Vec, slice_get}
 use Rattle.std.proofs.lemmas.List.{length-map}
 use Rattle.mm_store.specs.declared.file_text.FileText.{FileText}
 use Rattle.mm_store.specs.Language.Pieces.{Pieces, text_under}

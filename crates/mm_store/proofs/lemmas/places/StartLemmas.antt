@@ -1,11 +1,9 @@
 -- Where pieces begin, after a change of their list.
-use Rattle.std.proofs.Common.{◌≡◌, inl, inr, ℕ, zero, suc, ◌+◌, ◌<◌, ◌≤◌, List, [], ◌∷◌, length, map, deque_len, take, get_or, set, refl, sym, ap, ◌∙◌, subst, arith}
+use Rattle.std.proofs.Common.{◌≡◌, inl, inr, ℕ, zero, suc, ◌+◌, ◌<◌, ◌≤◌, List, [], ◌∷◌, length, map, deque_len, take, get_or, set, refl, sym, ap, ◌∙◌, subst, arith, Vec, Global}
 use Rattle.std.specs.List.{concat, insert, remove}
 use Rattle.std.proofs.lemmas.Bool.{cases_eq}
-use Rattle.std.proofs.lemmas.List.{length-map, get_or-set_same, get_or-set_other}
+use Rattle.std.proofs.lemmas.List.{length-map, get_or-set_same, get_or-set_other, take-map}
 use Rattle.mm_store.specs.declared.start.Start.{Start}
-use Rattle.std.specs.Prelude.{Vec}
-use Rattle.std.specs.Global.{Global}
 use Rattle.mm_store.specs.declared.file_text.FileText.{FileText}
 use Rattle.mm_store.specs.Language.Pieces.{Pieces, text_under}
 use Rattle.mm_store.specs.Code.Starts.{HasStarts, KnowsStarts}
@@ -29,11 +27,6 @@ take_set xs zero key (suc n) le = absurd (omega arith)
 take_set [] (suc at) key (suc n) le = refl
 take_set (x ∷ xs) (suc at) key (suc n) le = ap (λ ys. x ∷ ys) (take_set xs at key n (omega arith))
 
-take_map : {X Y : Type 0} (f : X → Y) (n : ℕ) (xs : List X) → take n (map f xs) ≡ map f (take n xs)
-take_map f zero xs = refl
-take_map f (suc n) [] = refl
-take_map f (suc n) (x ∷ xs) = ap (λ ys. f x ∷ ys) (take_map f n xs)
-
 -- what is known of the keys of a file holds of other keys as far as both are one
 pub known_same : (p : Pieces) (v w : FileText) → w.known ≤ v.known → w.known ≤ length w.keys.items → ((n : ℕ) → n ≤ w.known → take n w.keys.items ≡ take n v.keys.items)
     → w.starts ≡ v.starts → KnowsStarts p v → KnowsStarts p w
@@ -44,7 +37,7 @@ known_same p v w less within same starts knows =
       starts = λ number default le.
           subst (λ (starts : Vec Start Global). IsStart (concat (take number (map f w.keys.items))) (get_or starts.items number default)) (sym starts)
           (subst (λ texts. IsStart (concat texts) (get_or v.starts.items number default))
-          (take_map f number v.keys.items ∙ ap (map f) (sym (same number le)) ∙ sym (take_map f number w.keys.items)) (knows.starts number default (omega (arith, le, less))));
+          (take-map f number v.keys.items ∙ ap (map f) (sym (same number le)) ∙ sym (take-map f number w.keys.items)) (knows.starts number default (omega (arith, le, less))));
     }
 
 -- and where room was made

@@ -1,5 +1,4 @@
-use Rattle.std.proofs.Common.{◌≡◌, ◌+◌, [], ◌∷◌, ◌++◌, length, ap, ◌∙◌, append_assoc, arith, length-append, true}
-use Rattle.std.specs.Prelude.{if◌then◌else◌, vec_len}
+use Rattle.std.proofs.Common.{◌≡◌, ◌+◌, [], ◌∷◌, ◌++◌, length, ap, ◌∙◌, append_assoc, arith, length-append, true, if◌then◌else◌, vec_len}
 use Rattle.std.specs.Result.{is_ok}
 use Rattle.std.specs.Vec.Iter.{into_iter_items}
 use Rattle.mm_store.proofs.lemmas.files.StoreLemmas.{put_more}

@@ -1,5 +1,4 @@
-use Rattle.std.proofs.Common.{List, ℕ, ◌<◌, Result, Ok, Err, IfOk, IfErr, OnOk, All, Vec}
-use Rattle.std.specs.Global.{Global}
+use Rattle.std.proofs.Common.{List, ℕ, ◌<◌, Result, Ok, Err, IfOk, IfErr, OnOk, All, Vec, Global}
 use Rattle.mm_text.specs.declared.word.Word.{Word}
 use Rattle.mm_text.specs.declared.fault.TextError.{TextError}
 use Rattle.mm_text.specs.declared.fault.TextError.TheVariants as errors
@@ -14,9 +13,8 @@ given_words text (Ok v) h = words_of_text text v.items h
 given_words text (Err e) h = tt
 
 given_fault : (text : List ℕ) (r : Result (Vec Word Global) TextError) → GivesWords r (read_text text) → IfErr r (IsWordsError text)
-given_fault text (Ok v) h = tt
-given_fault text (Err errors.Memory) h = tt
 given_fault text (Err (errors.Fault fault)) h = fault_of_text text fault h
+given_fault text _ h = tt
 
 pub returns-clause-words : goal.returns-clause-words
 returns-clause-words c = given_words c.args.text.now c.read_all.result c.read_all.ensures
@@ -39,9 +37,8 @@ pub returns-clause-ascii : goal.returns-clause-ascii
 returns-clause-ascii c = given_ascii c.args.text.now c.read_all.result (returns-clause-words c)
 
 given_place : (text : List ℕ) (r : Result (Vec Word Global) TextError) → IfErr r (IsWordsError text) → IfErr r (IsTextErrorIn text)
-given_place text (Ok v) h = tt
-given_place text (Err errors.Memory) h = tt
 given_place text (Err (errors.Fault fault)) h = fault_lies text fault h
+given_place text _ h = tt
 
 pub returns-clause-fault_within : goal.returns-clause-fault_within
 returns-clause-fault_within c = given_place c.args.text.now c.read_all.result (returns-clause-fault c)

@@ -1,5 +1,4 @@
-use Rattle.std.proofs.Common.{◌≤◌, length, take, arith}
-use Rattle.std.proofs.lemmas.List.{length-take-le}
+use Rattle.std.proofs.Common.{◌≤◌, length, take, arith, length-take-le}
 use Rattle.mm_text.proofs.SkipLemmas.{none_before}
 use Rattle.mm_text.proofs.skipping.dollarless_len.Goals as goal
 

@@ -1,5 +1,4 @@
-use Rattle.std.proofs.Common.{[], ◌∷◌, sym, subst}
-use Rattle.std.specs.Prelude.{All}
+use Rattle.std.proofs.Common.{[], ◌∷◌, sym, subst, All}
 use Rattle.std.proofs.lemmas.List.Elements.{All-append, All-cons, All-nil}
 use Rattle.mm_frame.specs.Code.KeptAsked.{IsKnown}
 use Rattle.mm_frame.proofs.asked.AskedPairs.keep.Goals as goal

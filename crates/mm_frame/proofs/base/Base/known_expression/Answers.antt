@@ -1,5 +1,4 @@
-use Rattle.std.proofs.Common.{◌∙◌, ap, sym, subst}
-use Rattle.std.specs.Prelude.{All}
+use Rattle.std.proofs.Common.{◌∙◌, ap, sym, subst, All}
 use Rattle.mm_frame.specs.Language.NumberedSymbols.{symbols_of, IsNumbered}
 use Rattle.mm_frame.proofs.lemmas.base.AnswerLemmas.{expression_read, expression_numbered}
 use Rattle.mm_frame.specs.Language.Base.{said_at, is_sound_at}

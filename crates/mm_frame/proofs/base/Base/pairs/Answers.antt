@@ -1,5 +1,4 @@
-use Rattle.std.proofs.Common.{Some, None, ap, sym, subst}
-use Rattle.std.specs.Prelude.{All}
+use Rattle.std.proofs.Common.{Some, None, ap, sym, subst, All}
 use Rattle.mm_frame.specs.Language.Base.{before}
 use Rattle.mm_frame.specs.Language.Frame.{AreSamePairs}
 use Rattle.mm_frame.specs.Language.Framing.{active_pairs}
@@ -7,28 +6,20 @@ use Rattle.mm_frame.specs.Language.NumberedSymbols.{kept_pairs, AreInOrder, IsPa
 use Rattle.mm_frame.proofs.lemmas.base.AnswerLemmas.{active_in}
 use Rattle.mm_frame.proofs.base.Base.pairs.Goals as goal
 
-pub returns-in-Some-clause-some : goal.returns-in-Some-clause-some
-returns-in-Some-clause-some c base is =
-    let parts = c.self.inside.parts in
-    (active_in is.0 base c.args.self.now parts.pair_lists parts.pair_numbers (ap (λ a. a.actives) c.self.view_is) is.1 c.args.i c.number_at.result (Some c.in-Some.k) c.number_at.ensures c.in-Some.is).some
-
-pub returns-in-Some-clause-pairs : goal.returns-in-Some-clause-pairs
-returns-in-Some-clause-pairs c names base is =
-    let parts = c.self.inside.parts in
-    let told = active_in names base c.args.self.now parts.pair_lists parts.pair_numbers (ap (λ a. a.actives) c.self.view_is) is c.args.i c.number_at.result (Some c.in-Some.k) c.number_at.ensures c.in-Some.is in
-    subst (λ w. AreSamePairs (kept_pairs names w) (active_pairs (before base c.args.i))) (sym c.list.ensures) told.pairs.pairs
-
-pub returns-in-Some-clause-numbered : goal.returns-in-Some-clause-numbered
-returns-in-Some-clause-numbered c names base is =
-    let parts = c.self.inside.parts in
-    let told = active_in names base c.args.self.now parts.pair_lists parts.pair_numbers (ap (λ a. a.actives) c.self.view_is) is c.args.i c.number_at.result (Some c.in-Some.k) c.number_at.ensures c.in-Some.is in
-    subst (All (IsPairNumbered names)) (sym c.list.ensures) told.pairs.numbered
-
-pub returns-in-Some-clause-order : goal.returns-in-Some-clause-order
-returns-in-Some-clause-order c base is =
-    let parts = c.self.inside.parts in
-    let told = active_in is.0 base c.args.self.now parts.pair_lists parts.pair_numbers (ap (λ a. a.actives) c.self.view_is) is.1 c.args.i c.number_at.result (Some c.in-Some.k) c.number_at.ensures c.in-Some.is in
-    subst AreInOrder (sym c.list.ensures) told.order
+pub returns-in-Some : goal.returns-in-Some
+returns-in-Some c = record {
+  some = λ base is. let parts = c.self.inside.parts in
+      (active_in is.0 base c.args.self.now parts.pair_lists parts.pair_numbers (ap (λ a. a.actives) c.self.view_is) is.1 c.args.i c.number_at.result (Some c.in-Some.k) c.number_at.ensures c.in-Some.is).some;
+  pairs = λ names base is. let parts = c.self.inside.parts in
+      let told = active_in names base c.args.self.now parts.pair_lists parts.pair_numbers (ap (λ a. a.actives) c.self.view_is) is c.args.i c.number_at.result (Some c.in-Some.k) c.number_at.ensures c.in-Some.is in
+      subst (λ w. AreSamePairs (kept_pairs names w) (active_pairs (before base c.args.i))) (sym c.list.ensures) told.pairs.pairs;
+  numbered = λ names base is. let parts = c.self.inside.parts in
+      let told = active_in names base c.args.self.now parts.pair_lists parts.pair_numbers (ap (λ a. a.actives) c.self.view_is) is c.args.i c.number_at.result (Some c.in-Some.k) c.number_at.ensures c.in-Some.is in
+      subst (All (IsPairNumbered names)) (sym c.list.ensures) told.pairs.numbered;
+  order = λ base is. let parts = c.self.inside.parts in
+      let told = active_in is.0 base c.args.self.now parts.pair_lists parts.pair_numbers (ap (λ a. a.actives) c.self.view_is) is.1 c.args.i c.number_at.result (Some c.in-Some.k) c.number_at.ensures c.in-Some.is in
+      subst AreInOrder (sym c.list.ensures) told.order;
+}
 
 pub returns-in-None-clause-some : goal.returns-in-None-clause-some
 returns-in-None-clause-some c base is =

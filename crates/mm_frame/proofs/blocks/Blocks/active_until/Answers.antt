@@ -1,5 +1,4 @@
-use Rattle.std.proofs.Common.{◌≡◌, ◌<◌, ◌+◌, List, suc, true, length, take, drop, arith, sym, ◌∙◌, ap, subst}
-use Rattle.std.specs.Prelude.{◌↔◌, Some, None}
+use Rattle.std.proofs.Common.{◌≡◌, ◌<◌, ◌+◌, List, suc, true, length, take, drop, arith, sym, ◌∙◌, ap, subst, ◌↔◌, Some, None}
 use Rattle.mm_frame.specs.Language.Scope.{Mark}
 use Rattle.mm_frame.specs.Language.Resolving.{IsUpTo}
 use Rattle.mm_frame.specs.Code.BlockMarks.{stays_by}

@@ -1,5 +1,4 @@
-use Rattle.std.proofs.Common.{◌≡◌, ◌++◌, ◌∷◌, [], length, refl, ◌∙◌, ap, arith}
-use Rattle.std.specs.Prelude.{unwrap_or}
+use Rattle.std.proofs.Common.{◌≡◌, ◌++◌, ◌∷◌, [], length, refl, ◌∙◌, ap, arith, unwrap_or}
 use Rattle.mm_frame.specs.Language.Scope.{Closes, closes}
 use Rattle.mm_frame.specs.Code.KeptBlocks.{marks_from}
 use Rattle.mm_frame.proofs.lemmas.scope.BlockLemmas.{popped_is, closing, kept_moved, kept_entered, kept_ended, entered_marks, ended_marks, count_within, pushed}

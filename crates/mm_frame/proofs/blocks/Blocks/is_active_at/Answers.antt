@@ -1,5 +1,4 @@
-use Rattle.std.proofs.Common.{◌≡◌, length, sym, ◌∙◌, ap, arith}
-use Rattle.std.proofs.lemmas.Bool.{le-leb}
+use Rattle.std.proofs.Common.{◌≡◌, length, sym, ◌∙◌, ap, arith, le-leb}
 use Rattle.mm_frame.specs.Code.BlockMarks.{stays_by}
 use Rattle.mm_frame.proofs.lemmas.scope.BlockLemmas.{end_within, behind_before, before_none}
 use Rattle.mm_frame.proofs.blocks.Blocks.is_active_at.Goals as goal

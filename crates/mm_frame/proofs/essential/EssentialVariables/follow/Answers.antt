@@ -1,5 +1,4 @@
-use Rattle.std.proofs.Common.{ℕ, ◌∷◌, ◌++◌, ◌<◌, [], List, drop, take, sym, subst, ◌∙◌, length}
-use Rattle.std.specs.Prelude.{Contains}
+use Rattle.std.proofs.Common.{ℕ, ◌∷◌, ◌++◌, ◌<◌, [], List, drop, take, sym, subst, ◌∙◌, length, Contains}
 use Rattle.mm_frame.specs.declared.essential.EssentialVariable.{EssentialVariable}
 use Rattle.mm_frame.specs.declared.symbol.NumberedSymbol.{NumberedSymbol}
 use Rattle.mm_frame.specs.Language.Scope.{active_numbers}

@@ -1,5 +1,4 @@
-use Rattle.std.proofs.Common.{◌<◌, length, sym, subst, ◌∙◌, arith}
-use Rattle.std.specs.Prelude.{Contains}
+use Rattle.std.proofs.Common.{◌<◌, length, sym, subst, ◌∙◌, arith, Contains}
 use Rattle.mm_frame.specs.declared.symbol.NumberedSymbol.{NumberedSymbol}
 use Rattle.mm_frame.specs.declared.essential.EssentialVariable.{EssentialVariable}
 use Rattle.mm_frame.specs.Code.KeptVariables.{by_essential}

@@ -13,22 +13,17 @@ returns-then-number-len c =
     let items = sym (cut_length inside.symbols.items 0 inside.ends.items) ∙ ap length c.self.view_is in
     ap kept_or_none (sym (slice_get_past c.args.self.now c.args.number (omega (arith, count, items, c.if-number-len.true))))
 
-pub part-requires-clause-start : goal.part-requires-clause-start
-part-requires-clause-start c =
+pub part-requires : goal.part-requires
+part-requires c =
     let inside = c.self.inside in
     let n = c.args.number in
     let within : n < length inside.ends.items = omega (arith, c.len.ensures, inside.ends.ok.0, c.if-number-len.false) in
     let start : c.start_at-start.result ≡ start_at 0 inside.ends.items n = c.start_at-start.ensures ∙ ap (λ w. start_at 0 w n) c.deref.ensures.value in
     let end : c.end_at.result ≡ get_or inside.ends.items n 0 = c.end_at.ensures ∙ ap (λ w. get_or w n 0) c.deref-3.ensures.value in
-    omega (arith, start, end, (part_within 0 inside.ends.items (length inside.symbols.items) n c.self.invariant within).0)
-
-pub part-requires-clause-end : goal.part-requires-clause-end
-part-requires-clause-end c =
-    let inside = c.self.inside in
-    let n = c.args.number in
-    let within : n < length inside.ends.items = omega (arith, c.len.ensures, inside.ends.ok.0, c.if-number-len.false) in
-    let end : c.end_at.result ≡ get_or inside.ends.items n 0 = c.end_at.ensures ∙ ap (λ w. get_or w n 0) c.deref-3.ensures.value in
-    omega (arith, end, (part_within 0 inside.ends.items (length inside.symbols.items) n c.self.invariant within).1, ap length c.deref-2.ensures.value)
+    record {
+      start = omega (arith, start, end, (part_within 0 inside.ends.items (length inside.symbols.items) n c.self.invariant within).0);
+      end = omega (arith, end, (part_within 0 inside.ends.items (length inside.symbols.items) n c.self.invariant within).1, ap length c.deref-2.ensures.value);
+    }
 
 pub returns : goal.returns
 returns c =

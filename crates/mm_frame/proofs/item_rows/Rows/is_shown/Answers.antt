@@ -1,5 +1,4 @@
-use Rattle.std.proofs.Common.{false, get_or, sym, ap, ◌∙◌}
-use Rattle.std.specs.Prelude.{is_none}
+use Rattle.std.proofs.Common.{false, get_or, sym, ap, ◌∙◌, is_none}
 use Rattle.mm_frame.specs.Code.KeptRows.{fault_kept}
 use Rattle.mm_frame.proofs.lemmas.base.BaseLemmas.{none_found}
 use Rattle.mm_frame.proofs.lemmas.base.RowLemmas.{shown_none, shown_some}

@@ -9,24 +9,18 @@ pub returns-then-not-is_labelled : goal.returns-then-not-is_labelled
 returns-then-not-is_labelled c =
     sym (label_none c.args.self.now c.args.n (sym (c.is_labelled.ensures ∙ ap (λ w. get_or w c.args.n false) c.deref.ensures.value) ∙ c.if-not-is_labelled.true))
 
-pub bytes_between-requires-clause-start : goal.bytes_between-requires-clause-start
-bytes_between-requires-clause-start c =
+pub bytes_between-requires : goal.bytes_between-requires
+bytes_between-requires c =
     let rows = c.args.self.now in
     let n = c.args.n in
     let flag = sym (c.is_labelled.ensures ∙ ap (λ w. get_or w n false) c.deref.ensures.value) ∙ c.if-not-is_labelled.false in
     let within : n < length rows.ends.items = omega (arith, flag_within rows.labelled.items n flag, c.requires.flags) in
     let start : c.start_at-start.result ≡ start_at 0 rows.ends.items n = c.start_at-start.ensures ∙ ap (λ w. start_at 0 w n) c.deref-2.ensures.value in
     let end : c.end_at.result ≡ get_or rows.ends.items n 0 = c.end_at.ensures ∙ ap (λ w. get_or w n 0) c.deref-4.ensures.value in
-    omega (arith, start, end, (part_within 0 rows.ends.items (length rows.bytes.items) n c.requires.cut within).0)
-
-pub bytes_between-requires-clause-end : goal.bytes_between-requires-clause-end
-bytes_between-requires-clause-end c =
-    let rows = c.args.self.now in
-    let n = c.args.n in
-    let flag = sym (c.is_labelled.ensures ∙ ap (λ w. get_or w n false) c.deref.ensures.value) ∙ c.if-not-is_labelled.false in
-    let within : n < length rows.ends.items = omega (arith, flag_within rows.labelled.items n flag, c.requires.flags) in
-    let end : c.end_at.result ≡ get_or rows.ends.items n 0 = c.end_at.ensures ∙ ap (λ w. get_or w n 0) c.deref-4.ensures.value in
-    omega (arith, end, (part_within 0 rows.ends.items (length rows.bytes.items) n c.requires.cut within).1, ap length c.deref-3.ensures.value)
+    record {
+      start = omega (arith, start, end, (part_within 0 rows.ends.items (length rows.bytes.items) n c.requires.cut within).0);
+      end = omega (arith, end, (part_within 0 rows.ends.items (length rows.bytes.items) n c.requires.cut within).1, ap length c.deref-3.ensures.value);
+    }
 
 pub returns : goal.returns
 returns c =

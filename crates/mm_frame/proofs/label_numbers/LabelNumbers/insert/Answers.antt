@@ -1,5 +1,4 @@
-use Rattle.std.proofs.Common.{◌≡◌, true, false, refl, ◌∙◌, ap, cond, Some}
-use Rattle.std.specs.Prelude.{nat_eq}
+use Rattle.std.proofs.Common.{◌≡◌, true, false, refl, ◌∙◌, ap, cond, Some, nat_eq}
 use Rattle.std.specs.HashMap.{get_by}
 use Rattle.mm_frame.specs.Code.KeptLabels.{is_coded}
 use Rattle.mm_frame.proofs.lemmas.names.LabelCodes.{inserted, short_put, long_put}

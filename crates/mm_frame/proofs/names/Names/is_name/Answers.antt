@@ -1,5 +1,4 @@
-use Rattle.std.proofs.Common.{◌≡◌, Some, ap, sym, ◌∙◌, subst}
-use Rattle.std.specs.Prelude.{slice_get}
+use Rattle.std.proofs.Common.{◌≡◌, Some, ap, sym, ◌∙◌, subst, slice_get}
 use Rattle.std.specs.Option.{option_map}
 use Rattle.std.proofs.lemmas.Option.{slice_get-map}
 use Rattle.std.proofs.lemmas.Slice.Eq.{bytes_eq-Decides}

@@ -1,6 +1,5 @@
-use Rattle.std.proofs.Common.{◌++◌, flat_map, refl, sym, ap, subst, ◌∙◌}
+use Rattle.std.proofs.Common.{◌++◌, flat_map, refl, sym, ap, subst, ◌∙◌, All}
 use Rattle.mm_frame.specs.Code.KeptSymbols.{expression_kept}
-use Rattle.std.specs.Prelude.{All}
 use Rattle.std.proofs.lemmas.List.Elements.{All-append}
 use Rattle.mm_frame.specs.Code.KeptPairLists.{HasEach, HasSame, pairs_among, pairs_or_none}
 use Rattle.mm_frame.proofs.lemmas.pairs.PairListLemmas.{is_list, joined_read, shared_same}

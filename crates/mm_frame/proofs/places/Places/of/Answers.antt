@@ -1,14 +1,15 @@
 use Rattle.std.proofs.Common.{false, sym, ◌∙◌}
 use Rattle.std.proofs.lemmas.Option.{slice_get-get_or}
+use Rattle.mm_frame.proofs.lemmas.scope.KnownLemmas.{without_number}
 use Rattle.mm_frame.specs.declared.symbol.NumberedSymbol.{NumberedSymbol}
-use Rattle.mm_frame.proofs.lemmas.pairs.PlaceLemmas.{placed_more, placed_all, none_there}
+use Rattle.mm_frame.proofs.lemmas.pairs.PlaceLemmas.{placed_more, placed_all}
 use Rattle.mm_frame.proofs.places.Places.of.Goals as goal
 
 pub loop-n-preserved : goal.loop-n-preserved
 loop-n-preserved c =
     let none : NumberedSymbol = record { name = 0; variable = false } in
     placed_more c.loop-n.n c.args.symbols.now (record { places = c.loop-n.places }) (record { places = c.insert.new.self }) _
-    (slice_get-get_or c.args.symbols.now c.loop-n.n none c.loop-n-test.true) c.loop-n.invariant (sym c.in_ok-twice.ensures.old ∙ none_there
+    (slice_get-get_or c.args.symbols.now c.loop-n.n none c.loop-n-test.true) c.loop-n.invariant (sym c.in_ok-twice.ensures.old ∙ without_number
     c.in_ok-twice.twice (sym c.is_some.ensures ∙ c.if-is_some.false)) (λ name. c.in_ok-twice.ensures.updates.0 name)
 
 pub returns : goal.returns

@@ -1,5 +1,4 @@
-use Rattle.std.proofs.Common.{◌∙◌, sym, ap}
-use Rattle.std.specs.Prelude.{slice_get}
+use Rattle.std.proofs.Common.{◌∙◌, sym, ap, slice_get}
 use Rattle.mm_frame.proofs.statement.Statement.known.Goals as goal
 
 pub invariant_of-result : goal.invariant_of-result

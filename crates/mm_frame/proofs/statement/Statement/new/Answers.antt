@@ -1,5 +1,4 @@
-use Rattle.std.proofs.Common.{[], ◌∙◌, sym, ap, subst, length, get_or, arith}
-use Rattle.std.specs.Prelude.{All}
+use Rattle.std.proofs.Common.{[], ◌∙◌, sym, ap, subst, length, get_or, arith, All}
 use Rattle.std.proofs.lemmas.Option.{slice_get_within, get_or_from_slice_get}
 use Rattle.std.proofs.lemmas.List.Elements.{All-get_or}
 use Rattle.mm_store.specs.mm_text.Language.Unit.{tokens_of}

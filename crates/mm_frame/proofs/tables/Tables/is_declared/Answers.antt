@@ -1,5 +1,4 @@
-use Rattle.std.proofs.Common.{◌∙◌, ap}
-use Rattle.std.specs.Prelude.{is_some}
+use Rattle.std.proofs.Common.{◌∙◌, ap, is_some}
 use Rattle.mm_frame.proofs.lemmas.scope.KnownLemmas.{known_at, is_declared_in}
 use Rattle.mm_frame.proofs.tables.Tables.is_declared.Goals as goal
 

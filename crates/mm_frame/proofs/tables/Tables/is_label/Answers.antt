@@ -1,5 +1,4 @@
-use Rattle.std.proofs.Common.{sym, ◌∙◌, ap}
-use Rattle.std.specs.Prelude.{is_some}
+use Rattle.std.proofs.Common.{sym, ◌∙◌, ap, is_some}
 use Rattle.mm_frame.proofs.lemmas.scope.TableLemmas.{label_last}
 use Rattle.mm_frame.proofs.tables.Tables.is_label.Goals as goal
 

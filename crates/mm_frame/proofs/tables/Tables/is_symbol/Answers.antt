@@ -1,5 +1,4 @@
-use Rattle.std.proofs.Common.{◌∙◌, ap, sym}
-use Rattle.std.specs.Prelude.{is_some}
+use Rattle.std.proofs.Common.{◌∙◌, ap, sym, is_some}
 use Rattle.mm_frame.specs.Code.KeptTables.{declared_for}
 use Rattle.mm_frame.proofs.lemmas.scope.KnownLemmas.{is_declared_in}
 use Rattle.mm_frame.proofs.tables.Tables.is_symbol.Goals as goal

@@ -1,5 +1,4 @@
-use Rattle.std.proofs.Common.{cond, Some, ◌∙◌, ap, refl}
-use Rattle.std.specs.Prelude.{option_to_list}
+use Rattle.std.proofs.Common.{cond, Some, ◌∙◌, ap, refl, option_to_list}
 use Rattle.mm_frame.specs.Language.Item.{has}
 use Rattle.mm_frame.specs.Code.KeptTables.{table_label}
 use Rattle.mm_frame.proofs.lemmas.scope.KnownLemmas.{has_one}

@@ -1,5 +1,4 @@
-use Rattle.std.proofs.Common.{map, subst}
-use Rattle.std.specs.Prelude.{IfErr}
+use Rattle.std.proofs.Common.{map, subst, IfErr}
 use Rattle.mm_proof.specs.mm_store.Language.Edits.{asked}
 use Rattle.mm_proof.specs.mm_store.Language.FilesView.{plain}
 use Rattle.mm_keep.specs.Code.Changing.{IsChangeError}

@@ -1,5 +1,4 @@
-use Rattle.std.proofs.Common.{map}
-use Rattle.std.specs.Prelude.{Contains}
+use Rattle.std.specs.Prelude.{Contains, map}
 use Rattle.mm_frame.specs.Language.Frame.{Symbol}
 use Rattle.mm_proof.specs.Code.PairClause.{Apart}
 use Rattle.mm_proof.specs.Code.Citation.{meant_pairs}

@@ -1,7 +1,8 @@
 use Rattle.std.proofs.Common.{map, get_or, arith}
+use Rattle.std.proofs.lemmas.Option.{slice_get-get_or}
 use Rattle.mm_proof.specs.declared.pattern.Entry.{Entry}
 use Rattle.mm_proof.specs.Code.Flat.{read, read_all}
-use Rattle.mm_proof.proofs.lemmas.machine.FlatLemmas.{mapped_or_get, element_at}
+use Rattle.mm_proof.proofs.lemmas.machine.FlatLemmas.{mapped_or_get}
 use Rattle.mm_proof.proofs.lemmas.machine.ApartLemmas.{gathers_step}
 use Rattle.mm_proof.proofs.gather.Gathered.gather_all.Goals as goal
 
@@ -16,4 +17,4 @@ loop-place-preserved g c =
     let at = mapped_or_get (read symbols) entries n d (omega (arith, c.requires.count, c.loop-place-test.true)) in
     let h = get_or c.args.taken.now.hypotheses.now n c.index-taken-place.result in
     gathers_step c.args.taken.now.hypotheses.now (read_all symbols entries) (map m c.loop-place.self.variables.items) (map m c.gather_entry.new.self.variables.items) c.loop-place.self.spans.items c.gather_entry.new.self.spans.items n h e
-    (element_at c.args.taken.now.hypotheses.now n c.index-taken-place.result c.loop-place-test.true) at (c.in_ok-gather_entry.ensures e at) c.loop-place.invariant
+    (slice_get-get_or c.args.taken.now.hypotheses.now n c.index-taken-place.result c.loop-place-test.true) at (c.in_ok-gather_entry.ensures e at) c.loop-place.invariant

@@ -8,11 +8,9 @@ take-requires-clause-whole g c = c.requires.whole
 pub take-requires-clause-frame : goal.take-requires-clause-frame
 take-requires-clause-frame g c = rw (range_mapped (mandatory_of g.S.Symbol.means) c.args.cited.now.first c.args.cited.now.last c.args.mandatory.now) c.requires.frame.frame
 
-pub returns-clause-cites : goal.returns-clause-cites
-returns-clause-cites g c = rw (range_mapped (mandatory_of g.S.Symbol.means) c.args.cited.now.first c.args.cited.now.last c.args.mandatory.now) at c.take.ensures.cites
-
-pub returns-clause-whole : goal.returns-clause-whole
-returns-clause-whole g c = c.take.ensures.whole
-
-pub returns-clause-saved : goal.returns-clause-saved
-returns-clause-saved g c = c.take.ensures.saved
+pub returns : goal.returns
+returns g c = record {
+  cites = rw (range_mapped (mandatory_of g.S.Symbol.means) c.args.cited.now.first c.args.cited.now.last c.args.mandatory.now) at c.take.ensures.cites;
+  whole = c.take.ensures.whole;
+  saved = c.take.ensures.saved;
+}

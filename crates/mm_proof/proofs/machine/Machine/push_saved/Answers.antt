@@ -7,24 +7,8 @@ use Rattle.mm_proof.proofs.lemmas.machine.FlatLemmas.{mapped_at}
 use Rattle.mm_proof.proofs.lemmas.machine.StackLemmas.{whole_pushed}
 use Rattle.mm_proof.proofs.machine.Machine.push_saved.Goals as goal
 
-pub returns-clause-stack : goal.returns-clause-stack
-returns-clause-stack g c e at =
-    let symbols = map g.S.Symbol.means c.args.self.now.symbols.items in
-    let x = c.index.result.now in
-    let new : Entry = record { start = x.start; end = x.end; floor = c.len-floor.result } in
-    let saved = mapped_at (read symbols) c.args.self.now.saved.items c.args.number x e c.requires.in_range c.index.ensures at in
-    ap (read_all symbols) c.in_ok-push.ensures.items
-    ∙ map-append (read symbols) c.args.self.now.stack.items (new ∷ [])
-    ∙ ap (λ (w : List Symbol). read_all symbols c.args.self.now.stack.items ++ w ∷ []) (sym saved)
-
-pub index-requires : goal.index-requires
-index-requires g c = omega (arith, c.requires.in_range, c.args.self.now.saved.ok)
-
-pub returns-clause-saved : goal.returns-clause-saved
-returns-clause-saved g c = refl
-
-pub returns-clause-whole : goal.returns-clause-whole
-returns-clause-whole g c =
+pub returns : goal.returns
+returns g c =
     let machine = c.args.self.now in
     let x = c.index.result.now in
     let n = length machine.symbols.items in
@@ -33,4 +17,17 @@ returns-clause-whole g c =
     let within = subst (IsEntryWithin machine.kept) (sym c.index.ensures) (c.requires.whole.saved_within c.args.number x c.requires.in_range) in
     let low = c.requires.whole.kept_within in
     let high = within.1 in
-    whole_pushed n machine.kept machine.stack.items machine.saved.items c.push.new.self.items new c.requires.whole (within.0, omega arith) floor c.in_ok-push.ensures.items
+    record {
+      stack = λ e at. let symbols = map g.S.Symbol.means c.args.self.now.symbols.items in
+          let x = c.index.result.now in
+          let new : Entry = record { start = x.start; end = x.end; floor = c.len-floor.result } in
+          let saved = mapped_at (read symbols) c.args.self.now.saved.items c.args.number x e c.requires.in_range c.index.ensures at in
+          ap (read_all symbols) c.in_ok-push.ensures.items
+          ∙ map-append (read symbols) c.args.self.now.stack.items (new ∷ [])
+          ∙ ap (λ (w : List Symbol). read_all symbols c.args.self.now.stack.items ++ w ∷ []) (sym saved);
+      saved = refl;
+      whole = whole_pushed n machine.kept machine.stack.items machine.saved.items c.push.new.self.items new c.requires.whole (within.0, omega arith) floor c.in_ok-push.ensures.items;
+    }
+
+pub index-requires : goal.index-requires
+index-requires g c = omega (arith, c.requires.in_range, c.args.self.now.saved.ok)

@@ -11,8 +11,8 @@ use Rattle.mm_proof.proofs.lemmas.machine.CitingFaults.{cited_by, says07}
 use Rattle.mm_proof.proofs.lemmas.machine.StackLemmas.{entries_taken, slice_taken, all_taken}
 use Rattle.mm_proof.proofs.machine.Machine.take.Goals as goal
 
-pub returns-in-Some-clause-cites : goal.returns-in-Some-clause-cites
-returns-in-Some-clause-cites g c =
+pub returns-in-Some : goal.returns-in-Some
+returns-in-Some g c =
     let m = g.S.Symbol.means in
     let symbols = c.args.self.now.symbols.items in
     let es = c.args.self.now.stack.items in
@@ -22,12 +22,16 @@ returns-in-Some-clause-cites g c =
     let k = c.args.self.now.stack.ok in
     let below = c.len-2.result - n in
     let says = rw c.in-Some.is at c.in_ok-number.ensures in
-    says (read_all (map m symbols) es) (omega (arith, c.len.ensures, k, c.if-len-count.false, length-map es (read (map m symbols)), length-map hs (mandatory_of m)))
-    (entries_taken m hs c.args.expression.now c.args.pairs.now (map m symbols) es below (omega (arith, c.len.ensures, c.len-2.ensures, k, c.if-len-count.false)) ∙ sym (slice_taken c.deref.result.now symbols
-    m c.deref-2.result.now es below c.deref.ensures.value c.deref-2.ensures.value))
+    record {
+      cites = says (read_all (map m symbols) es) (omega (arith, c.len.ensures, k, c.if-len-count.false, length-map es (read (map m symbols)), length-map hs (mandatory_of m)))
+          (entries_taken m hs c.args.expression.now c.args.pairs.now (map m symbols) es below (omega (arith, c.len.ensures, c.len-2.ensures, k, c.if-len-count.false)) ∙ sym (slice_taken c.deref.result.now symbols
+          m c.deref-2.result.now es below c.deref.ensures.value c.deref-2.ensures.value));
+      whole = c.requires.whole;
+      saved = refl;
+    }
 
-pub returns-clause-cites : goal.returns-clause-cites
-returns-clause-cites g c =
+pub returns : goal.returns
+returns g c =
     let m = g.S.Symbol.means in
     let symbols = c.args.self.now.symbols.items in
     let es = c.args.self.now.stack.items in
@@ -43,49 +47,42 @@ returns-clause-cites g c =
     let active = meant_pairs m c.args.active.now.pairs.now in
     let here : length stack - length frame.hypotheses ≡ below = omega (arith, length-map es (read (map m symbols)), length-map hs (mandatory_of m), k, c.len-2.ensures) in
     let result = map m c.substitute.new.to.items in
-    let whole = cited_by active frame stack (read_all (map m c.deref.result.now) entries) c.requires.frame
-    (ap length taken ∙ omega (arith, length-map (drop below es) (read (map m symbols)), length-drop below es, length-map hs (mandatory_of m), c.len.ensures, c.len-2.ensures, k, c.if-len-count.false))
-    (omega (arith, c.len.ensures, k, c.if-len-count.false, length-map es (read (map m symbols)), length-map hs (mandatory_of m)))
-    (entries_taken m hs c.args.expression.now c.args.pairs.now (map m symbols) es below (omega (arith, c.len.ensures, c.len-2.ensures, k, c.if-len-count.false)) ∙ sym taken)
-    says result
-    (λ given gives. c.in_ok-substitute.ensures given (gives_all frame.hypotheses given (read_all (map m c.deref.result.now) entries) frame.expression
-    (hypotheses_known frame c.requires.frame) gives c.requires.frame.expression_typed) ∙ ap (λ w. map m w ++ substituted given
-    (map m c.args.expression.now)) c.clear.ensures.items) in
-    subst (λ w. Cites active frame stack w) (ap (λ k. take k stack ++ result ∷ []) here ∙ sym c.in_ok-replace.ensures.stack) whole
+    record {
+      cites = let whole = cited_by active frame stack (read_all (map m c.deref.result.now) entries) c.requires.frame
+          (ap length taken ∙ omega (arith, length-map (drop below es) (read (map m symbols)), length-drop below es, length-map hs (mandatory_of m), c.len.ensures, c.len-2.ensures, k, c.if-len-count.false))
+          (omega (arith, c.len.ensures, k, c.if-len-count.false, length-map es (read (map m symbols)), length-map hs (mandatory_of m)))
+          (entries_taken m hs c.args.expression.now c.args.pairs.now (map m symbols) es below (omega (arith, c.len.ensures, c.len-2.ensures, k, c.if-len-count.false)) ∙ sym taken)
+          says result
+          (λ given gives. c.in_ok-substitute.ensures given (gives_all frame.hypotheses given (read_all (map m c.deref.result.now) entries) frame.expression
+          (hypotheses_known frame c.requires.frame) gives c.requires.frame.expression_typed) ∙ ap (λ w. map m w ++ substituted given
+          (map m c.args.expression.now)) c.clear.ensures.items) in
+          subst (λ w. Cites active frame stack w) (ap (λ k. take k stack ++ result ∷ []) here ∙ sym c.in_ok-replace.ensures.stack) whole;
+      whole = c.in_ok-replace.ensures.whole;
+      saved = c.in_ok-replace.ensures.saved;
+    }
 
-pub returns-then-len-count-clause-whole : goal.returns-then-len-count-clause-whole
-returns-then-len-count-clause-whole g c = c.requires.whole
-
-pub returns-then-len-count-clause-cites : goal.returns-then-len-count-clause-cites
-returns-then-len-count-clause-cites g c =
+pub returns-then-len-count : goal.returns-then-len-count
+returns-then-len-count g c =
     let m = g.S.Symbol.means in
     let symbols = map m c.args.self.now.symbols.items in
     let es = c.args.self.now.stack.items in
     let hs = c.args.hypotheses.now in
-    says07 (meant_pairs m c.args.active.now.pairs.now) (frame_from m hs c.args.expression.now c.args.pairs.now) (read_all symbols es)
-    (omega (arith, c.len.ensures, c.args.self.now.stack.ok, c.if-len-count.true, length-map es (read symbols), length-map hs (mandatory_of m)))
+    record {
+      whole = c.requires.whole;
+      cites = says07 (meant_pairs m c.args.active.now.pairs.now) (frame_from m hs c.args.expression.now c.args.pairs.now) (read_all symbols es)
+          (omega (arith, c.len.ensures, c.args.self.now.stack.ok, c.if-len-count.true, length-map es (read symbols), length-map hs (mandatory_of m)));
+      saved = refl;
+    }
 
-pub returns-then-len-count-clause-saved : goal.returns-then-len-count-clause-saved
-returns-then-len-count-clause-saved g c = refl
-
-pub citing_fault-requires-clause-within : goal.citing_fault-requires-clause-within
-citing_fault-requires-clause-within g c =
+pub citing_fault-requires : goal.citing_fault-requires
+citing_fault-requires g c =
     let below = c.len-2.result - length c.args.hypotheses.now in
-    all_taken c.args.self.now.symbols.items c.deref.result.now c.args.self.now.stack.items c.deref-2.result.now below c.deref.ensures.value c.deref-2.ensures.value c.requires.whole.within
-
-pub citing_fault-requires-clause-count : goal.citing_fault-requires-clause-count
-citing_fault-requires-clause-count g c =
     let k = c.args.self.now.stack.ok in
-    omega (arith, length-take {A = Entry}, length-drop {A = Entry}, ap length c.deref-2.ensures.value, c.len.ensures, c.len-2.ensures, k, c.if-len-count.false)
-
-pub citing_fault-requires-clause-frame : goal.citing_fault-requires-clause-frame
-citing_fault-requires-clause-frame g c = c.requires.frame
-
-pub returns-in-Some-clause-whole : goal.returns-in-Some-clause-whole
-returns-in-Some-clause-whole g c = c.requires.whole
-
-pub returns-in-Some-clause-saved : goal.returns-in-Some-clause-saved
-returns-in-Some-clause-saved g c = refl
+    record {
+      within = all_taken c.args.self.now.symbols.items c.deref.result.now c.args.self.now.stack.items c.deref-2.result.now below c.deref.ensures.value c.deref-2.ensures.value c.requires.whole.within;
+      count = omega (arith, length-take {A = Entry}, length-drop {A = Entry}, ap length c.deref-2.ensures.value, c.len.ensures, c.len-2.ensures, k, c.if-len-count.false);
+      frame = c.requires.frame;
+    }
 
 pub substitute-requires : goal.substitute-requires
 substitute-requires g c =
@@ -97,9 +94,3 @@ replace-requires-clause-whole g c = c.requires.whole
 
 pub replace-requires-clause-in_range : goal.replace-requires-clause-in_range
 replace-requires-clause-in_range g c = let k = c.args.self.now.stack.ok in omega (arith, c.len-2.ensures, k)
-
-pub returns-clause-whole : goal.returns-clause-whole
-returns-clause-whole g c = c.in_ok-replace.ensures.whole
-
-pub returns-clause-saved : goal.returns-clause-saved
-returns-clause-saved g c = c.in_ok-replace.ensures.saved

@@ -1,21 +1,18 @@
-use Rattle.std.proofs.Common.{◌∷◌, [], ℕ, sym, subst}
-use Rattle.std.specs.Prelude.{All}
+use Rattle.std.proofs.Common.{◌∷◌, [], ℕ, sym, subst, All}
 use Rattle.std.proofs.lemmas.List.Elements.{All-append, All-cons, All-nil}
 use Rattle.mm_frame.specs.declared.base.Resolved.TheVariants as answers
 use Rattle.mm_proof.specs.Code.NamedItems.{IsNamedBy}
 use Rattle.mm_proof.proofs.lemmas.machine.NamedLemmas.{stays_more, stands_last}
 use Rattle.mm_proof.proofs.named.Naming.assertion.Goals as goal
 
-pub returns-clause-named : goal.returns-clause-named
-returns-clause-named c =
+pub returns : goal.returns
+returns c =
     let is = c.requires.named in
     let P : ℕ → Type 0 = λ j. IsNamedBy c.args.base.now (answers.Assertion j) in
     let numbers = c.args.self.now.assertion_numbers.items.items in
     let all = All-append P numbers (c.args.number ∷ []) is.assertions (All-cons P c.args.number [] c.requires.entry (All-nil P)) in
-    record { count = is.count; hypotheses = is.hypotheses; assertions = subst (All P) (sym c.in_ok-add.ensures.items) all }
-
-pub returns-clause-grows : goal.returns-clause-grows
-returns-clause-grows c = record { hypotheses = λ n j at. at; assertions = stays_more c.args.self.now.assertion_numbers.items.items c.add.new.self.items.items c.args.number c.in_ok-add.ensures.items }
-
-pub returns-clause-stands : goal.returns-clause-stands
-returns-clause-stands c = stands_last c.args.self.now.assertion_numbers.items.items c.add.new.self.items.items c.in_ok-add.field-0 c.args.number c.in_ok-add.ensures.items c.in_ok-add.ensures.place
+    record {
+      named = record { count = is.count; hypotheses = is.hypotheses; assertions = subst (All P) (sym c.in_ok-add.ensures.items) all };
+      grows = record { hypotheses = λ n j at. at; assertions = stays_more c.args.self.now.assertion_numbers.items.items c.add.new.self.items.items c.args.number c.in_ok-add.ensures.items };
+      stands = stands_last c.args.self.now.assertion_numbers.items.items c.add.new.self.items.items c.in_ok-add.field-0 c.args.number c.in_ok-add.ensures.items c.in_ok-add.ensures.place;
+    }

@@ -2,7 +2,7 @@ use Rattle.std.proofs.Common.{◌≡◌, ◌≤◌, ◌+◌, ℕ, min, take, ari
 use Rattle.std.specs.Io.KnownBytes.{Appends}
 use Rattle.std.proofs.lemmas.List.{take_rest}
 use Rattle.std.proofs.Math.Seq.{take-add}
-use Rattle.std.proofs.KnownBytes.{Appends-nil, Appends-trans, Appends-kept}
+use Rattle.std.proofs.KnownBytes.{Appends-trans, Appends-kept}
 use Rattle.mm_report.proofs.stream.Writing.write_all.Goals as goal
 use Rattle.mm_report.proofs.stream.Writing.write_all.Goals.{in_default-via-in-Ok+else-n-gt0, in_default-via-in_default}
 
@@ -10,15 +10,6 @@ use Rattle.mm_report.proofs.stream.Writing.write_all.Goals.{in_default-via-in-Ok
 counted_more : (old now new calls : ℕ) → min now 18446744073709551615 ≡ min (min old 18446744073709551615 + calls) 18446744073709551615 → new ≡ min (now + 1) 18446744073709551615
     → min new 18446744073709551615 ≡ min (min old 18446744073709551615 + (calls + 1)) 18446744073709551615
 counted_more old now new calls e f = omega (arith, e, f)
-
-pub loop-at-init : goal.loop-at-init
-loop-at-init g c = record {
-  in_range = omega arith;
-  was_sound = c.if-self.false;
-  sound = c.if-self.false;
-  out = Appends-nil _;
-  counted = (0, omega arith, omega arith, λ l. absurd (omega (arith, l)));
-}
 
 pub loop-at-preserved : goal.loop-at-preserved
 loop-at-preserved g c =

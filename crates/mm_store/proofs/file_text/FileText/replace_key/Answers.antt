@@ -1,5 +1,4 @@
-use Rattle.std.proofs.Common.{◌≡◌, ◌<◌, length, take, set, ap, ◌∙◌, arith}
-use Rattle.std.proofs.lemmas.List.{length-set}
+use Rattle.std.proofs.Common.{◌≡◌, ◌<◌, length, take, set, ap, ◌∙◌, arith, length-set}
 use Rattle.mm_store.proofs.lemmas.places.StartLemmas.{known_same, take_set}
 use Rattle.mm_store.proofs.file_text.FileText.replace_key.Goals as goal
 

@@ -18,13 +18,12 @@ use Rattle.mm_store.specs.Language.Undoing.{keys_in, key_at}
 pub unwrap-file-requires : goal.unwrap-file-requires
 unwrap-file-requires c = c.get_index_mut.ensures.found.1 (piece_is c.self.inside c.args.number c.args.at c.self.invariant c.self.view_is c.requires.there).entry
 
-pub delete_key-old-requires-clause-there : goal.delete_key-old-requires-clause-there
-delete_key-old-requires-clause-there c =
-    in_keys c.self.inside c.args.number c.args.at _ (lent c.self.inside c.args.number c.self.invariant c.get_index_mut.ensures.value c.unwrap-file.ensures)
-    (piece_is c.self.inside c.args.number c.args.at c.self.invariant c.self.view_is c.requires.there)
-
-pub delete_key-old-requires-clause-room : goal.delete_key-old-requires-clause-room
-delete_key-old-requires-clause-room c = (lent c.self.inside c.args.number c.self.invariant c.get_index_mut.ensures.value c.unwrap-file.ensures).has.room
+pub delete_key-old-requires : goal.delete_key-old-requires
+delete_key-old-requires c = record {
+  there = in_keys c.self.inside c.args.number c.args.at _ (lent c.self.inside c.args.number c.self.invariant c.get_index_mut.ensures.value c.unwrap-file.ensures)
+      (piece_is c.self.inside c.args.number c.args.at c.self.invariant c.self.view_is c.requires.there);
+  room = (lent c.self.inside c.args.number c.self.invariant c.get_index_mut.ensures.value c.unwrap-file.ensures).has.room;
+}
 
 pub set_state-less-requires : goal.set_state-less-requires
 set_state-less-requires c =

@@ -1,4 +1,4 @@
-use Rattle.std.proofs.Common.{◌≡◌, List, length, map, sym, ap, ◌∙◌, subst, arith}
+use Rattle.std.proofs.Common.{◌≡◌, List, length, map, sym, ap, ◌∙◌, subst, arith, Vec, Global}
 use Rattle.std.specs.VecDeque.{deque_len, deque_capacity}
 use Rattle.std.specs.FinMap as finite
 use Rattle.mm_store.proofs.lemmas.files.FileLemmas.{lent}
@@ -10,9 +10,7 @@ use Rattle.mm_store.proofs.files.Files.drop_deleted.Goals as goal
 use Rattle.mm_store.specs.Code.Kept.{file_of, places}
 use Rattle.mm_store.specs.Language.FilesView.{FilesView, KeyedFile, plain_file, bytes_of}
 use Rattle.mm_store.specs.Language.Pieces.{Deleted, IsParked}
-use Rattle.std.specs.Prelude.{Vec}
 use Rattle.mm_store.specs.declared.start.Start.{Start}
-use Rattle.std.specs.Global.{Global}
 use Rattle.mm_store.specs.Code.Edited.{pieces_in}
 use Rattle.mm_store.proofs.lemmas.places.StartLemmas.{starts_alike}
 use Rattle.mm_store.proofs.lemmas.files.ListLemmas.{with_pieces_same}

@@ -1,5 +1,4 @@
-use Rattle.std.proofs.Common.{sym, subst}
-use Rattle.std.specs.Prelude.{IsSome}
+use Rattle.std.proofs.Common.{sym, subst, IsSome}
 use Rattle.std.specs.FinMap as finite
 use Rattle.mm_text.specs.Language.Cut.{HoldsOne}
 use Rattle.mm_store.specs.Language.FilesView.{FilesView}

@@ -1,5 +1,4 @@
-use Rattle.std.proofs.Common.{◌+◌, ◌<◌, ◌≤◌, List, Result, Ok, Err, length, map, refl, sym, ap, ◌∙◌, subst, arith}
-use Rattle.std.specs.Global.{Global}
+use Rattle.std.proofs.Common.{◌+◌, ◌<◌, ◌≤◌, List, Result, Ok, Err, length, map, refl, sym, ap, ◌∙◌, subst, arith, Global}
 use Rattle.std.specs.List.{insert}
 use Rattle.std.specs.FinMap as finite
 use Rattle.std.specs.Result.{OnErr}
@@ -64,22 +63,17 @@ unwrap-file_again-requires c =
     let file = lent c.self.inside c.args.number c.self.invariant c.get_index_mut.ensures.value c.unwrap-file.ensures in
     c.get_index_mut-2.ensures.found.1 (omega (arith, file_in c.self.inside.files.entries c.args.number _ file.here, length_set c.self.inside.files.entries c.args.number c.reserve_one.new.self))
 
-pub put_key-requires-clause-there : goal.put_key-requires-clause-there
-put_key-requires-clause-there c =
+pub put_key-requires : goal.put_key-requires
+put_key-requires c =
     let file = lent c.self.inside c.args.number c.self.invariant c.get_index_mut.ensures.value c.unwrap-file.ensures in
     let done = c.reserve_one.ensures in
     let made = reserved c.self.inside c.args.number _ _ file.here done.tail done.items c.self.inside.pieces refl c.self.invariant c.self.view_is done.deleted done.room done.known done.starts in
     let again = lent _ c.args.number made.0 c.get_index_mut-2.ensures.value c.unwrap-file_again.ensures in
     let there = subst (λ (view : FilesView). c.args.at ≤ length (keys_in view.keyed c.args.number)) (sym made.1) c.requires.there in
-    omega (arith, there, ap length again.keys, c.unwrap-file_again.result.now.keys.ok.0)
-
-pub put_key-requires-clause-room : goal.put_key-requires-clause-room
-put_key-requires-clause-room c =
-    let file = lent c.self.inside c.args.number c.self.invariant c.get_index_mut.ensures.value c.unwrap-file.ensures in
-    let done = c.reserve_one.ensures in
-    let made = reserved c.self.inside c.args.number _ _ file.here done.tail done.items c.self.inside.pieces refl c.self.invariant c.self.view_is done.deleted done.room done.known done.starts in
-    let again = lent _ c.args.number made.0 c.get_index_mut-2.ensures.value c.unwrap-file_again.ensures in
-    subst HasRoomForOne (same_Some _ _ (sym (texts_set c.self.inside.files.entries c.args.number _ c.reserve_one.new.self file.here) ∙ again.here)) c.in_ok-reserve_one.ensures.ok
+    record {
+      there = omega (arith, there, ap length again.keys, c.unwrap-file_again.result.now.keys.ok.0);
+      room = subst HasRoomForOne (same_Some _ _ (sym (texts_set c.self.inside.files.entries c.args.number _ c.reserve_one.new.self file.here) ∙ again.here)) c.in_ok-reserve_one.ensures.ok;
+    }
 
 pub invariant_of-self-2 : goal.invariant_of-self-2
 invariant_of-self-2 c =

@@ -1,6 +1,4 @@
-use Rattle.std.proofs.Common.{◌≡◌, List, Some, refl, sym, ap, ◌∙◌, length}
-use Rattle.std.specs.Prelude.{Vec, ℕ, slice_get}
-use Rattle.std.specs.Global.{Global}
+use Rattle.std.proofs.Common.{◌≡◌, List, Some, refl, sym, ap, ◌∙◌, length, Global, Vec, ℕ, slice_get}
 use Rattle.std.specs.Option.{option_map}
 use Rattle.std.proofs.lemmas.Option.{slice_get-map, slice_get_past, slice_get_read}
 use Rattle.mm_store.specs.declared.file_text.FileText.{FileText}

@@ -14,18 +14,14 @@ use Rattle.mm_store.specs.Language.Undoing.{keys_in, moved_list, moved}
 pub unwrap-file-requires : goal.unwrap-file-requires
 unwrap-file-requires c = c.get_index_mut.ensures.found.1 (piece_is c.self.inside c.args.number c.args.at c.self.invariant c.self.view_is c.requires.there).entry
 
-pub move_key-requires-clause-there : goal.move_key-requires-clause-there
-move_key-requires-clause-there c =
-    in_keys c.self.inside c.args.number c.args.at _ (lent c.self.inside c.args.number c.self.invariant c.get_index_mut.ensures.value c.unwrap-file.ensures)
-    (piece_is c.self.inside c.args.number c.args.at c.self.invariant c.self.view_is c.requires.there)
-
-pub move_key-requires-clause-there_too : goal.move_key-requires-clause-there_too
-move_key-requires-clause-there_too c =
-    in_keys c.self.inside c.args.number c.args.to _ (lent c.self.inside c.args.number c.self.invariant c.get_index_mut.ensures.value c.unwrap-file.ensures)
-    (piece_is c.self.inside c.args.number c.args.to c.self.invariant c.self.view_is c.requires.there_too)
-
-pub move_key-requires-clause-room : goal.move_key-requires-clause-room
-move_key-requires-clause-room c = (lent c.self.inside c.args.number c.self.invariant c.get_index_mut.ensures.value c.unwrap-file.ensures).has.room
+pub move_key-requires : goal.move_key-requires
+move_key-requires c = record {
+  there = in_keys c.self.inside c.args.number c.args.at _ (lent c.self.inside c.args.number c.self.invariant c.get_index_mut.ensures.value c.unwrap-file.ensures)
+      (piece_is c.self.inside c.args.number c.args.at c.self.invariant c.self.view_is c.requires.there);
+  there_too = in_keys c.self.inside c.args.number c.args.to _ (lent c.self.inside c.args.number c.self.invariant c.get_index_mut.ensures.value c.unwrap-file.ensures)
+      (piece_is c.self.inside c.args.number c.args.to c.self.invariant c.self.view_is c.requires.there_too);
+  room = (lent c.self.inside c.args.number c.self.invariant c.get_index_mut.ensures.value c.unwrap-file.ensures).has.room;
+}
 
 pub invariant_of-self : goal.invariant_of-self
 invariant_of-self c =

@@ -8,9 +8,6 @@ use Rattle.mm_store.specs.Code.Kept.{file_of, places, standing_count, deletions,
 use Rattle.mm_store.specs.Language.FilesView.{plain_file, bytes_of}
 use Rattle.mm_store.specs.Language.Pieces.{HeldPiece}
 
-nothing_deleted : (m : ℕ) → deletions m finite.empty ≡ 0
-nothing_deleted m = ap (weigh (λ (piece : HeldPiece). deleted_state m piece.state)) (nil_from_length (finite.entries finite.empty) (sym (finite.len-entries finite.empty) ∙ finite.len-empty nat_cmp HeldPiece))
-
 pub invariant_of-result : goal.invariant_of-result
 invariant_of-result c =
     let none = nil_from_length c.new.result.entries c.new.ensures.len in
@@ -19,7 +16,7 @@ invariant_of-result c =
     record {
       once = λ q. ap (λ es. places q (map file_of es)) none ∙ sym (ap standing_count (ap (λ p. finite.get p q) empty ∙ finite.get-empty nat_cmp q));
       room = subst (HaveRoom p 0) (sym none) tt;
-      known = λ m le. ap (deletions m) empty ∙ nothing_deleted m;
+      known = λ m le. ap (deletions m) empty ∙ (ap (weigh (λ (piece : HeldPiece). deleted_state m piece.state)) (nil_from_length (finite.entries finite.empty) (sym (finite.len-entries finite.empty) ∙ finite.len-empty nat_cmp HeldPiece)));
       counted = sym (ap (λ es. bytes_of (map (plain_file p) (map file_of es))) none);
       within = omega arith;
       starts = subst (λ es. HaveStarts (map (plain_file p) (map file_of es)) es) (sym none) refl;

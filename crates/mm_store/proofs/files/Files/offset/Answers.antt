@@ -6,20 +6,16 @@ use Rattle.mm_store.proofs.lemmas.places.ByteLemmas.{byte_in, offset_in}
 use Rattle.mm_store.proofs.lemmas.places.PlaceLemmas.{piece_within}
 use Rattle.mm_store.proofs.files.Files.offset.Goals as goal
 
-pub start-requires-clause-there : goal.start-requires-clause-there
-start-requires-clause-there c =
+pub start-requires : goal.start-requires
+start-requires c =
     let had = shown c.self.inside c.args.file c.self.invariant c.as_slice.ensures.entries c.get_index.ensures.entry c.unwrap.ensures in
     let v = c.unwrap.result.1.now in
-    omega (arith, (byte_in had c.self.view_is c.requires.2).piece_in, length-map v.keys.items (text_under c.self.inside.pieces), v.keys.ok.0)
-
-pub start-requires-clause-room : goal.start-requires-clause-room
-start-requires-clause-room c = omega (arith, (shown c.self.inside c.args.file c.self.invariant c.as_slice.ensures.entries c.get_index.ensures.entry c.unwrap.ensures).file.has.room.starts)
-
-pub start-requires-clause-small : goal.start-requires-clause-small
-start-requires-clause-small c = (shown c.self.inside c.args.file c.self.invariant c.as_slice.ensures.entries c.get_index.ensures.entry c.unwrap.ensures).file.small
-
-pub start-requires-clause-starts : goal.start-requires-clause-starts
-start-requires-clause-starts c = (shown c.self.inside c.args.file c.self.invariant c.as_slice.ensures.entries c.get_index.ensures.entry c.unwrap.ensures).file.starts
+    record {
+      there = omega (arith, (byte_in had c.self.view_is c.requires.2).piece_in, length-map v.keys.items (text_under c.self.inside.pieces), v.keys.ok.0);
+      room = omega (arith, (shown c.self.inside c.args.file c.self.invariant c.as_slice.ensures.entries c.get_index.ensures.entry c.unwrap.ensures).file.has.room.starts);
+      small = (shown c.self.inside c.args.file c.self.invariant c.as_slice.ensures.entries c.get_index.ensures.entry c.unwrap.ensures).file.small;
+      starts = (shown c.self.inside c.args.file c.self.invariant c.as_slice.ensures.entries c.get_index.ensures.entry c.unwrap.ensures).file.starts;
+    }
 
 pub overflow_add-result : goal.overflow_add-result
 overflow_add-result c =

@@ -7,31 +7,21 @@ use Rattle.mm_store.proofs.lemmas.files.FileLemmas.{shown}
 use Rattle.mm_store.proofs.lemmas.places.ByteLemmas.{byte_in}
 use Rattle.mm_store.proofs.files.Files.place.Goals as goal
 
-pub lines_at-requires-clause-starts : goal.lines_at-requires-clause-starts
-lines_at-requires-clause-starts c = (shown c.self.inside c.args.file c.self.invariant c.as_slice.ensures.entries c.get_index.ensures.entry c.unwrap.ensures).file.starts
-
-pub lines_at-requires-clause-room : goal.lines_at-requires-clause-room
-lines_at-requires-clause-room c = omega (arith, (shown c.self.inside c.args.file c.self.invariant c.as_slice.ensures.entries c.get_index.ensures.entry c.unwrap.ensures).file.has.room.starts)
-
-pub lines_at-requires-clause-small : goal.lines_at-requires-clause-small
-lines_at-requires-clause-small c = (shown c.self.inside c.args.file c.self.invariant c.as_slice.ensures.entries c.get_index.ensures.entry c.unwrap.ensures).file.small
-
-pub lines_at-requires-clause-piece_in : goal.lines_at-requires-clause-piece_in
-lines_at-requires-clause-piece_in c =
+pub lines_at-requires : goal.lines_at-requires
+lines_at-requires c =
     let had = shown c.self.inside c.args.file c.self.invariant c.as_slice.ensures.entries c.get_index.ensures.entry c.unwrap.ensures in
-    omega (arith, (byte_in had c.self.view_is c.requires.2).piece_in, length-map c.unwrap.result.1.now.keys.items (text_under c.self.inside.pieces))
+    record {
+      starts = (shown c.self.inside c.args.file c.self.invariant c.as_slice.ensures.entries c.get_index.ensures.entry c.unwrap.ensures).file.starts;
+      room = omega (arith, (shown c.self.inside c.args.file c.self.invariant c.as_slice.ensures.entries c.get_index.ensures.entry c.unwrap.ensures).file.has.room.starts);
+      small = (shown c.self.inside c.args.file c.self.invariant c.as_slice.ensures.entries c.get_index.ensures.entry c.unwrap.ensures).file.small;
+      piece_in = omega (arith, (byte_in had c.self.view_is c.requires.2).piece_in, length-map c.unwrap.result.1.now.keys.items (text_under c.self.inside.pieces));
+      within = (byte_in had c.self.view_is c.requires.2).within;
+    }
 
-pub lines_at-requires-clause-within : goal.lines_at-requires-clause-within
-lines_at-requires-clause-within c =
-    let had = shown c.self.inside c.args.file c.self.invariant c.as_slice.ensures.entries c.get_index.ensures.entry c.unwrap.ensures in
-    (byte_in had c.self.view_is c.requires.2).within
-
-pub returns-clause-line : goal.returns-clause-line
-returns-clause-line c text offset byte =
-    let had = shown c.self.inside c.args.file c.self.invariant c.as_slice.ensures.entries c.get_index.ensures.entry c.unwrap.ensures in
-    c.place.ensures.line ∙ ap (λ n. n + 1) (c.lines_at.ensures.feeds ∙ ap (count_by is_line_feed) (sym (byte_in had c.self.view_is byte).is_before))
-
-pub returns-clause-column : goal.returns-clause-column
-returns-clause-column c text offset byte =
-    let had = shown c.self.inside c.args.file c.self.invariant c.as_slice.ensures.entries c.get_index.ensures.entry c.unwrap.ensures in
-    c.place.ensures.column ∙ ap (λ n. n + 1) (c.lines_at.ensures.behind ∙ ap (λ before. length (after_last is_line_feed before)) (sym (byte_in had c.self.view_is byte).is_before))
+pub returns : goal.returns
+returns c = record {
+  line = λ text offset byte. let had = shown c.self.inside c.args.file c.self.invariant c.as_slice.ensures.entries c.get_index.ensures.entry c.unwrap.ensures in
+      c.place.ensures.line ∙ ap (λ n. n + 1) (c.lines_at.ensures.feeds ∙ ap (count_by is_line_feed) (sym (byte_in had c.self.view_is byte).is_before));
+  column = λ text offset byte. let had = shown c.self.inside c.args.file c.self.invariant c.as_slice.ensures.entries c.get_index.ensures.entry c.unwrap.ensures in
+      c.place.ensures.column ∙ ap (λ n. n + 1) (c.lines_at.ensures.behind ∙ ap (λ before. length (after_last is_line_feed before)) (sym (byte_in had c.self.view_is byte).is_before));
+}

@@ -7,14 +7,12 @@ use Rattle.mm_store.proofs.lemmas.files.KeptLemmas.{reserved_view, reserved_kept
 use Rattle.mm_store.proofs.files.Files.restart_file.Goals as goal
 use Rattle.mm_store.proofs.files.Files.restart_file.Goals.{in-None, in-Some}
 
-pub restart-requires-clause-room : goal.restart-requires-clause-room
-restart-requires-clause-room c = omega (arith, (lent c.self.inside c.args.number c.self.invariant c.get_index_mut.ensures.value c.in-Some.is).has.room.starts)
-
-pub restart-requires-clause-small : goal.restart-requires-clause-small
-restart-requires-clause-small c = (lent c.self.inside c.args.number c.self.invariant c.get_index_mut.ensures.value c.in-Some.is).small
-
-pub restart-requires-clause-starts : goal.restart-requires-clause-starts
-restart-requires-clause-starts c = (lent c.self.inside c.args.number c.self.invariant c.get_index_mut.ensures.value c.in-Some.is).starts
+pub restart-requires : goal.restart-requires
+restart-requires c = record {
+  room = omega (arith, (lent c.self.inside c.args.number c.self.invariant c.get_index_mut.ensures.value c.in-Some.is).has.room.starts);
+  small = (lent c.self.inside c.args.number c.self.invariant c.get_index_mut.ensures.value c.in-Some.is).small;
+  starts = (lent c.self.inside c.args.number c.self.invariant c.get_index_mut.ensures.value c.in-Some.is).starts;
+}
 
 pub invariant_of-self : goal.invariant_of-self
 invariant_of-self c = elim c.match-get_index_mut.branch [

@@ -28,15 +28,10 @@ loop-spent-preserved c =
           (subst (Stays view) (sym c.settle.ensures.settled) (spent_stays view undo.file undo.action c.stand_once.ensures (settle_last others undo view can)));
     }
 
-pub returns-clause-plain : goal.returns-clause-plain
-returns-clause-plain c = c.loop-spent.invariant.stays.plain_is
-
-pub returns-clause-keyed : goal.returns-clause-keyed
-returns-clause-keyed c = c.loop-spent.invariant.stays.keyed_is
-
-pub returns-clause-standing : goal.returns-clause-standing
-returns-clause-standing c = c.loop-spent.invariant.stays.standing
-
-pub returns-clause-parked : goal.returns-clause-parked
-returns-clause-parked c old spendable =
-    ap (λ view. parked_in view) (sym (settled_none c.loop-spent.undos.items c.loop-spent.self (omega (arith, c.loop-spent.undos.ok.0, c.in_default.ensures.cases.0))) ∙ c.loop-spent.invariant.left) ∙ spendable.parked
+pub returns : goal.returns
+returns c = record {
+  plain = c.loop-spent.invariant.stays.plain_is;
+  keyed = c.loop-spent.invariant.stays.keyed_is;
+  standing = c.loop-spent.invariant.stays.standing;
+  parked = λ old spendable. ap (λ view. parked_in view) (sym (settled_none c.loop-spent.undos.items c.loop-spent.self (omega (arith, c.loop-spent.undos.ok.0, c.in_default.ensures.cases.0))) ∙ c.loop-spent.invariant.left) ∙ spendable.parked;
+}

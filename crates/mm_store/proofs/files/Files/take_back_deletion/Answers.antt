@@ -1,5 +1,4 @@
-use Rattle.std.proofs.Common.{◌+◌, ◌<◌, ◌≤◌, List, length, map, sym, ap, ◌∙◌, subst, arith}
-use Rattle.std.specs.Global.{Global}
+use Rattle.std.proofs.Common.{◌+◌, ◌<◌, ◌≤◌, List, length, map, sym, ap, ◌∙◌, subst, arith, Global}
 use Rattle.std.specs.List.{insert}
 use Rattle.std.proofs.lemmas.List.{length-map}
 use Rattle.mm_store.specs.Language.Undoing as action
@@ -17,19 +16,15 @@ use Rattle.mm_store.specs.Language.Undoing.{keys_in, reversed}
 pub unwrap-file-requires : goal.unwrap-file-requires
 unwrap-file-requires c = c.get_index_mut.ensures.found.1 (deleted_file c.self.inside c.args.number c.args.old c.self.invariant c.self.view_is c.requires.fits.1)
 
-pub restore_key-requires-clause-there : goal.restore_key-requires-clause-there
-restore_key-requires-clause-there c =
+pub restore_key-requires : goal.restore_key-requires
+restore_key-requires c =
     let file = lent c.self.inside c.args.number c.self.invariant c.get_index_mut.ensures.value c.unwrap-file.ensures in
     let within_keys = subst (λ (view : FilesView). c.args.at ≤ length (keys_in view.keyed c.args.number)) (sym c.self.view_is) c.requires.fits.0 in
-    omega (arith, ap length file.keys, c.unwrap-file.result.now.keys.ok.0, within_keys)
-
-pub restore_key-requires-clause-parked : goal.restore_key-requires-clause-parked
-restore_key-requires-clause-parked c =
-    let file = lent c.self.inside c.args.number c.self.invariant c.get_index_mut.ensures.value c.unwrap-file.ensures in
-    omega (arith, file.has.parked, deleted_from c.self.inside c.args.number c.args.old c.self.invariant c.self.view_is c.requires.fits.1)
-
-pub restore_key-requires-clause-room : goal.restore_key-requires-clause-room
-restore_key-requires-clause-room c = (lent c.self.inside c.args.number c.self.invariant c.get_index_mut.ensures.value c.unwrap-file.ensures).has.room
+    record {
+      there = omega (arith, ap length file.keys, c.unwrap-file.result.now.keys.ok.0, within_keys);
+      parked = omega (arith, file.has.parked, deleted_from c.self.inside c.args.number c.args.old c.self.invariant c.self.view_is c.requires.fits.1);
+      room = (lent c.self.inside c.args.number c.self.invariant c.get_index_mut.ensures.value c.unwrap-file.ensures).has.room;
+    }
 
 pub set_state-more-requires : goal.set_state-more-requires
 set_state-more-requires c =

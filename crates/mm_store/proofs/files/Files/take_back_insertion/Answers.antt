@@ -15,13 +15,12 @@ use Rattle.mm_store.specs.Language.Undoing.{keys_in, reversed}
 pub unwrap-file-requires : goal.unwrap-file-requires
 unwrap-file-requires c = c.get_index_mut.ensures.found.1 (piece_is c.self.inside c.args.number c.args.at c.self.invariant c.self.view_is c.requires.fits).entry
 
-pub take_key-key-requires-clause-there : goal.take_key-key-requires-clause-there
-take_key-key-requires-clause-there c =
-    in_keys c.self.inside c.args.number c.args.at _ (lent c.self.inside c.args.number c.self.invariant c.get_index_mut.ensures.value c.unwrap-file.ensures)
-    (piece_is c.self.inside c.args.number c.args.at c.self.invariant c.self.view_is c.requires.fits)
-
-pub take_key-key-requires-clause-room : goal.take_key-key-requires-clause-room
-take_key-key-requires-clause-room c = (lent c.self.inside c.args.number c.self.invariant c.get_index_mut.ensures.value c.unwrap-file.ensures).has.room
+pub take_key-key-requires : goal.take_key-key-requires
+take_key-key-requires c = record {
+  there = in_keys c.self.inside c.args.number c.args.at _ (lent c.self.inside c.args.number c.self.invariant c.get_index_mut.ensures.value c.unwrap-file.ensures)
+      (piece_is c.self.inside c.args.number c.args.at c.self.invariant c.self.view_is c.requires.fits);
+  room = (lent c.self.inside c.args.number c.self.invariant c.get_index_mut.ensures.value c.unwrap-file.ensures).has.room;
+}
 
 pub overflow_sub-self : goal.overflow_sub-self
 overflow_sub-self c =

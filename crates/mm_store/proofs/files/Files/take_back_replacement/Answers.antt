@@ -14,13 +14,12 @@ use Rattle.mm_store.specs.Language.Undoing.{keys_in, reversed}
 pub unwrap-file-requires : goal.unwrap-file-requires
 unwrap-file-requires c = c.get_index_mut.ensures.found.1 (piece_is c.self.inside c.args.number c.args.at c.self.invariant c.self.view_is c.requires.fits.0).entry
 
-pub replace_key-key-requires-clause-there : goal.replace_key-key-requires-clause-there
-replace_key-key-requires-clause-there c =
-    in_keys c.self.inside c.args.number c.args.at _ (lent c.self.inside c.args.number c.self.invariant c.get_index_mut.ensures.value c.unwrap-file.ensures)
-    (piece_is c.self.inside c.args.number c.args.at c.self.invariant c.self.view_is c.requires.fits.0)
-
-pub replace_key-key-requires-clause-room : goal.replace_key-key-requires-clause-room
-replace_key-key-requires-clause-room c = (lent c.self.inside c.args.number c.self.invariant c.get_index_mut.ensures.value c.unwrap-file.ensures).has.room
+pub replace_key-key-requires : goal.replace_key-key-requires
+replace_key-key-requires c = record {
+  there = in_keys c.self.inside c.args.number c.args.at _ (lent c.self.inside c.args.number c.self.invariant c.get_index_mut.ensures.value c.unwrap-file.ensures)
+      (piece_is c.self.inside c.args.number c.args.at c.self.invariant c.self.view_is c.requires.fits.0);
+  room = (lent c.self.inside c.args.number c.self.invariant c.get_index_mut.ensures.value c.unwrap-file.ensures).has.room;
+}
 
 pub set_state-more-requires : goal.set_state-more-requires
 set_state-more-requires c =

@@ -1,10 +1,10 @@
 use Rattle.std.proofs.Common.{◌∙◌, sym, ap, subst, []}
+use Rattle.std.proofs.lemmas.Result.{IfOk-weaker}
 use Rattle.mm_store.specs.Language.FilesView.{plain}
 use Rattle.mm_store.specs.Language.Keyless.{bare}
 use Rattle.mm_store.specs.Language.Walking.{WalkView, IsWalk}
 use Rattle.mm_store.proofs.lemmas.expansion.BareLemmas.{hold_bare, number_bare}
 use Rattle.mm_store.proofs.lemmas.files.ViewLemmas.{number_plain}
-use Rattle.mm_store.proofs.lemmas.expansion.SetLemmas.{ok_map}
 use Rattle.mm_store.proofs.lemmas.expansion.WalkStepLemmas.{walk_begins}
 use Rattle.mm_store.proofs.files.Files.walk.Goals as goal
 
@@ -13,8 +13,8 @@ returns-clause-ok c =
     let view = c.args.self.now in
     let top = c.args.top.now in
     let files = bare (plain view) in
-    ok_map c.walk_from_top.result
+    IfOk-weaker c.walk_from_top.result _ _
     (λ walk h. subst (IsWalk files top []) (sym h.2) (walk_begins files (hold_bare view c.hold_units.ensures) top h.0 (number_bare view top ∙ sym (number_plain view top) ∙ h.1))) c.walk_from_top.ensures.ok
 
 pub returns-clause-untold : goal.returns-clause-untold
-returns-clause-untold c = ok_map c.walk_from_top.result (λ walk h. ap (λ (walk : WalkView). walk.told) h.2) c.walk_from_top.ensures.ok
+returns-clause-untold c = IfOk-weaker c.walk_from_top.result _ _ (λ walk h. ap (λ (walk : WalkView). walk.told) h.2) c.walk_from_top.ensures.ok

@@ -5,20 +5,15 @@ use Rattle.mm_store.proofs.lemmas.files.SlabLemmas.{text_is}
 use Rattle.mm_store.proofs.lemmas.files.StoreLemmas.{none_text}
 use Rattle.mm_store.proofs.pieces.PieceStore.lines_before.Goals as goal
 
-pub lines_before-requires-clause-marked : goal.lines_before-requires-clause-marked
-lines_before-requires-clause-marked c =
+pub lines_before-requires : goal.lines_before-requires
+lines_before-requires c =
     let kept = c.self.invariant.kept c.args.key c.in-Some.piece.now (sym c.in-Some.ensures) in
-    rw (c.deref.ensures.value, c.deref-in-Some.ensures.value) kept.marked
-
-pub lines_before-requires-clause-small : goal.lines_before-requires-clause-small
-lines_before-requires-clause-small c =
-    let kept = c.self.invariant.kept c.args.key c.in-Some.piece.now (sym c.in-Some.ensures) in
-    rw c.deref.ensures.value kept.text.small
-
-pub lines_before-requires-clause-within : goal.lines_before-requires-clause-within
-lines_before-requires-clause-within c =
     let text = text_is c.self.inside.slab c.args.key c.args.self.now c.in-Some.piece.now c.self.view_is (sym c.in-Some.ensures) in
-    omega (arith, ap length text, ap length c.deref.ensures.value, c.requires)
+    record {
+      marked = rw (c.deref.ensures.value, c.deref-in-Some.ensures.value) kept.marked;
+      small = rw c.deref.ensures.value kept.text.small;
+      within = omega (arith, ap length text, ap length c.deref.ensures.value, c.requires);
+    }
 
 pub returns-in-None : goal.returns-in-None
 returns-in-None c =

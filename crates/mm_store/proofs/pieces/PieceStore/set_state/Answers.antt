@@ -52,21 +52,18 @@ invariant_of-self-in-Some c =
       counted = omega (arith, c.self.invariant.counted, c.parked_under.ensures, parked_there slab c.args.key c.args.self.now piece c.self.view_is there, under, changed, dropped, now, c.count_parked.ensures);
     }
 
-pub returns-in-None-clause-pieces : goal.returns-in-None-clause-pieces
-returns-in-None-clause-pieces c =
+pub returns-in-None : goal.returns-in-None
+returns-in-None c =
     let has = slot_there c.self.inside.slab c.args.key c.args.self.now c.self.view_is c.requires in
-    absurd (none-some has.0 (c.in-None.ensures.value ∙ has.1))
+    record {
+      pieces = absurd (none-some has.0 (c.in-None.ensures.value ∙ has.1));
+      len = absurd (none-some has.0 (c.in-None.ensures.value ∙ has.1));
+    }
 
-pub returns-in-None-clause-len : goal.returns-in-None-clause-len
-returns-in-None-clause-len c =
-    let has = slot_there c.self.inside.slab c.args.key c.args.self.now c.self.view_is c.requires in
-    absurd (none-some has.0 (c.in-None.ensures.value ∙ has.1))
-
-pub returns-in-Some-clause-pieces : goal.returns-in-Some-clause-pieces
-returns-in-Some-clause-pieces c =
-    state_is c.self.inside.slab c.args.key c.in-Some.piece.now c.args.state (sym c.in-Some.ensures.value) ∙ ap (λ m. with_state m c.args.key (piece_state c.args.state)) c.self.view_is
-
-pub returns-in-Some-clause-len : goal.returns-in-Some-clause-len
-returns-in-Some-clause-len c =
+pub returns-in-Some : goal.returns-in-Some
+returns-in-Some c =
     let text = text_is c.self.inside.slab c.args.key c.args.self.now c.in-Some.piece.now c.self.view_is (sym c.in-Some.ensures.value) in
-    omega (arith, c.len-in-Some.ensures, c.in-Some.piece.now.kept.text.ok.0, ap length text)
+    record {
+      pieces = state_is c.self.inside.slab c.args.key c.in-Some.piece.now c.args.state (sym c.in-Some.ensures.value) ∙ ap (λ m. with_state m c.args.key (piece_state c.args.state)) c.self.view_is;
+      len = omega (arith, c.len-in-Some.ensures, c.in-Some.piece.now.kept.text.ok.0, ap length text);
+    }

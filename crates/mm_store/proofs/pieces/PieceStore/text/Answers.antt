@@ -13,14 +13,12 @@ unwrap-piece-requires c =
     let some = some_slot c.self.inside.slab c.args.key c.args.self.now c.self.view_is c.requires in
     some_copied c.get.result (ap is_some c.get.ensures ∙ some)
 
-pub returns-clause-text : goal.returns-clause-text
-returns-clause-text c =
+pub returns : goal.returns
+returns c =
     let there : get c.self.inside.slab c.args.key ≡ Some c.unwrap-piece.result.now = sym c.get.ensures ∙ ap option_copied c.unwrap-piece.ensures in
     let text = text_is c.self.inside.slab c.args.key c.args.self.now c.unwrap-piece.result.now c.self.view_is there in
-    c.deref.ensures.value ∙ sym text
-
-pub returns-clause-small : goal.returns-clause-small
-returns-clause-small c =
-    let there : get c.self.inside.slab c.args.key ≡ Some c.unwrap-piece.result.now = sym c.get.ensures ∙ ap option_copied c.unwrap-piece.ensures in
     let kept = c.self.invariant.kept c.args.key c.unwrap-piece.result.now there in
-    rw c.deref.ensures.value kept.text.small
+    record {
+      text = c.deref.ensures.value ∙ sym text;
+      small = rw c.deref.ensures.value kept.text.small;
+    }

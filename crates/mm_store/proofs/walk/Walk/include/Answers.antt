@@ -1,13 +1,13 @@
 use Rattle.std.proofs.Common.{◌∙◌, sym, inr}
 use Rattle.std.proofs.lemmas.Bool.{false≢true}
+use Rattle.std.proofs.lemmas.Result.{IfOk-weaker}
 use Rattle.mm_store.specs.Language.FilesView.{files_in}
 use Rattle.mm_store.proofs.lemmas.files.ViewLemmas.{number_plain}
-use Rattle.mm_store.proofs.lemmas.expansion.SetLemmas.{ok_map}
 use Rattle.mm_store.proofs.walk.Walk.include.Goals as goal
 
 pub returns-in-None-clause-ok : goal.returns-in-None-clause-ok
 returns-in-None-clause-ok c =
-    ok_map c.miss.result (λ step h. h (files_in c.args.files.now) c.requires (sym (number_plain c.args.files.now c.args.name.now) ∙ sym c.in-None.ensures.number)) c.miss.ensures.ok
+    IfOk-weaker c.miss.result _ _ (λ step h. h (files_in c.args.files.now) c.requires (sym (number_plain c.args.files.now c.args.name.now) ∙ sym c.in-None.ensures.number)) c.miss.ensures.ok
 
 pub returns-in_ok-enter-in-Some-clause-ok : goal.returns-in_ok-enter-in-Some-clause-ok
 returns-in_ok-enter-in-Some-clause-ok c =

@@ -1,5 +1,4 @@
-use Rattle.std.proofs.Common.{◌≡◌, [], sym, subst}
-use Rattle.std.specs.Prelude.{IfNone}
+use Rattle.std.proofs.Common.{◌≡◌, [], sym, subst, IfNone}
 use Rattle.mm_text.specs.Code.Cursor.{AreLast}
 use Rattle.mm_text.specs.Code.Reader.{runs_at}
 use Rattle.mm_text.proofs.CursorLemmas.{went, no_fault}

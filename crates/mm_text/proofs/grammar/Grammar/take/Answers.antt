@@ -1,5 +1,4 @@
-use Rattle.std.proofs.Common.{◌≡◌, ℕ, zero, suc, Bool, false, sym, ap, refl, ◌∙◌, rules}
-use Rattle.std.specs.Prelude.{◌==◌}
+use Rattle.std.proofs.Common.{◌≡◌, ℕ, zero, suc, Bool, false, sym, ap, refl, ◌∙◌, rules, ◌==◌}
 use Rattle.mm_text.specs.declared.word.WordKind.{WordKind}
 use Rattle.mm_text.specs.Code.UnitReading.{Phase, next}
 use Rattle.mm_text.specs.Code.Grammar.{phase_of, level}
