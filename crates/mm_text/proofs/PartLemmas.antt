@@ -23,7 +23,7 @@ use Rattle.mm_text.specs.Code.PartReading.{ends_part, emit_word, emit}
 use Rattle.mm_text.proofs.ReadingLemmas.{none_read, word_step, read_words}
 use Rattle.mm_text.proofs.ReaderLemmas.{words-append, slice_length, word_read, fails_read}
 use Rattle.mm_text.proofs.PieceLemmas.{Seam, runs-append, shift_run, shift_word, runs-shift, words_unshift}
-use Rattle.mm_text.proofs.PieceUnitLemmas.{allowed_part, or_true}
+use Rattle.mm_text.proofs.PieceUnitLemmas.{allowed_part}
 use Rattle.mm_text.proofs.NthLemmas.{first_word}
 
 -- ---- units

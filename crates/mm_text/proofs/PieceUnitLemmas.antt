@@ -19,9 +19,9 @@ use Rattle.mm_text.specs.Code.UnitReading as m
 use Rattle.mm_text.specs.Language.Cut.{ends_white, ended, IsOne, end_of_words, IsPiece, BeginsSolid}
 use Rattle.mm_text.specs.Language.Part.{HasUnits}
 use Rattle.mm_text.specs.Code.Reader.{runs_at}
-use Rattle.mm_text.proofs.RunLemmas.{one_more, skip_white}
+use Rattle.mm_text.proofs.RunLemmas.{skip_white}
 use Rattle.mm_text.proofs.ReadingLemmas.{text_words}
-use Rattle.mm_text.proofs.PositionLemmas.{Lying, words_lie, none_found, passes}
+use Rattle.mm_text.proofs.PositionLemmas.{Lying, words_lie, none_found}
 use Rattle.mm_text.proofs.UnitReadingLemmas.{IsWhole-run, run-IsWhole}
 use Rattle.mm_text.proofs.PieceLemmas.{feed_white, Seam, runs-append, shift_word, runs-shift, words_unshift, line_end, ended_is, runs-ended, ended_white, ended-append, ends_behind}
 
