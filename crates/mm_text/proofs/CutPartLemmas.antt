@@ -54,7 +54,7 @@ plain_unshift : (from : ℕ) (tokens : List Token) → AllByRecursion IsPlain to
 plain_unshift from [] h = tt
 plain_unshift from (token ∷ tokens) h = (h.0, plain_unshift from tokens h.1)
 
--- the words of the piece up to the byte `at` make these parts, whatever comes behind them
+-- the words of the piece up to the byte `at` make these parts, whatever comes after them
 pub record Divided (text : List ℕ) (from at : ℕ) (found : List Part) (first : Option ℕ) (kind : PartKind) : Type 0 where
   pub since : List Run
   pub words : List Word

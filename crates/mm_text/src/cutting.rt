@@ -38,7 +38,7 @@ fn ended_copy(alloc: Global, bytes: &[u8]) -> Result<Vec<u8>, AllocError>
     Ok(copy)
 }
 
-/// Puts a piece with the parts that were read of it behind others; of the next piece nothing is read.
+/// Puts a piece with the parts that were read of it after others; of the next piece nothing is read.
 fn push_piece(
     alloc: Global,
     bytes: &[u8],

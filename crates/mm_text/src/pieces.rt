@@ -20,7 +20,7 @@ pub struct DividedPiece {
     pub parts: Vec<Part>,
 }
 
-/// The pieces of a text, each with one unit and with its parts, and what stands behind them.
+/// The pieces of a text, each with one unit and with its parts, and what comes after them.
 #[derive(Debug, Drop)]
 pub struct DividedCut {
     /// The pieces, in order.

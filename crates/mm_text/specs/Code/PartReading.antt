@@ -28,12 +28,12 @@ abbrev pub emit : Option ℕ → PartKind → List Token → List Part
 emit first kind [] = []
 emit first kind (token ∷ tokens) = emit_word first kind token.kind token (λ first kind. emit first kind tokens)
 
--- the parts that have ended behind a word with which a part ends, or does not
+-- the parts that have ended after a word with which a part ends, or does not
 abbrev pub parts_behind : Bool → List Part → Part → List Part
 parts_behind true parts part = parts ++ part ∷ []
 parts_behind false parts part = parts
 
--- where the part begins that goes on behind such a word, if one does
+-- where the part begins that goes on after such a word, if one does
 abbrev pub open_behind : Bool → ℕ → Option ℕ
 open_behind true start = None
 open_behind false start = Some start
