@@ -1,4 +1,4 @@
-use Rattle.std.proofs.Common.{ap, ◌∙◌, sym, subst}
+use Rattle.std.proofs.Common.{ap, ◌∙◌, subst}
 use Rattle.mm_frame.specs.Language.Item.{Item, is_read}
 use Rattle.mm_frame.specs.Language.Base.{before, said_at}
 use Rattle.mm_frame.specs.Code.KnownItem.{numbers_of}

@@ -1,4 +1,4 @@
-use Rattle.std.proofs.Common.{◌≡◌, ◌<◌, ◌+◌, suc, length, get_or, [], refl, sym, ◌∙◌, ap, arith}
+use Rattle.std.proofs.Common.{◌≡◌, ◌<◌, ◌+◌, suc, length, get_or, refl, sym, ◌∙◌, ap, arith}
 use Rattle.mm_frame.specs.Language.Item.{is_expression}
 use Rattle.mm_frame.specs.Code.FaultInOrder.{must_differ}
 use Rattle.mm_frame.proofs.lemmas.names.NumberLemmas.{number_at}

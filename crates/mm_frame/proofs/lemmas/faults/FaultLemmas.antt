@@ -29,7 +29,7 @@ use Rattle.mm_frame.proofs.lemmas.faults.FaultReading.{first_fault_at, fault_is}
 use Rattle.mm_frame.proofs.lemmas.frames.Frames.{from_typed, float_of}
 use Rattle.mm_frame.proofs.lemmas.lists.Members.{has_in}
 use Rattle.mm_frame.proofs.lemmas.scope.SoundItems.{sound_kept}
-use Rattle.mm_frame.proofs.lemmas.scope.KnownLemmas.{has_one, constant_no_variable}
+use Rattle.mm_frame.proofs.lemmas.scope.KnownLemmas.{constant_no_variable}
 use Rattle.mm_frame.proofs.lemmas.scope.TableLemmas.{active_variable_last, typed_last}
 
 -- whether a name that is declared so may stand behind a typecode
