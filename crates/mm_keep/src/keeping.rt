@@ -18,7 +18,7 @@ use std::alloc::{AllocError, Global};
 /// What each item of a base keeps of what was checked before, what is checked of the others, and the record of these runs.
 #[derive(Drop)]
 pub struct Ran {
-    pub plan: Vec<Option<usize>>,
+    pub plan: Vec<Option<u32>>,
     pub checked: Vec<Kept>,
     pub work: Work,
 }
@@ -112,7 +112,7 @@ pub fn next_of(
 }
 
 /// A plan for so many items that keeps nothing.
-fn nothing_kept(alloc: Global, count: usize) -> Result<Vec<Option<usize>>, AllocError>
+fn nothing_kept(alloc: Global, count: usize) -> Result<Vec<Option<u32>>, AllocError>
     ensures count { IfOk result (λ plan. length plan.items ≡ count) }
     ensures nothing { IfOk result (λ plan. KeepsNothing plan.items) }
 {

@@ -1,17 +1,123 @@
 //! What is kept of the check of one item.
 
-ghost use Rattle.std.specs.Prelude.{◌≡◌, None, Some, IfOk};
+ghost use Rattle.std.specs.Prelude.{◌≡◌, ◌<◌, None, Some, IfOk, IfSome, length, slice_index};
 ghost use Rattle.std.specs.Option.{option_map};
+ghost use Rattle.mm_keep.specs.Code.KeptCheck.{numbers_in};
 
-use mm_proof::Checked;
+use mm_proof::{Checked, Verdict};
 use std::alloc::{AllocError, Global};
 use std::marker::Model;
+
+/// Numbers of words, in half the room where each fits there, as nearly always.
+#[derive(Drop)]
+enum Numbers {
+    Short(Vec<u32>),
+    Long(Vec<usize>),
+}
+
+/// The same numbers in half the room, if each fits there.
+fn short_numbers(alloc: Global, numbers: &[usize]) -> Result<Option<Vec<u32>>, AllocError>
+    ensures { IfOk result (λ short. IfSome short (λ some. some.items ≡ numbers.now)) }
+{
+    let mut short = Vec::with_capacity(alloc, numbers.len())?;
+    for number in numbers {
+        if *number > 4294967295 {
+            return Ok(None);
+        }
+        short.push(*number as u32)?;
+    }
+    Ok(Some(short))
+}
+
+impl Numbers {
+    /// These numbers.
+    fn of(alloc: Global, numbers: &[usize]) -> Result<Numbers, AllocError>
+        ensures { IfOk result (λ kept. numbers_in kept ≡ numbers.now) }
+    {
+        match short_numbers(alloc, numbers)? {
+            Some(short) => Ok(Numbers::Short(short)),
+            None => Ok(Numbers::Long(Vec::from_slice(alloc, numbers)?)),
+        }
+    }
+
+    /// How many there are.
+    fn count(&self) -> usize
+        ensures { result ≡ length (numbers_in self.now) }
+    {
+        match self {
+            Numbers::Short(short) => short.len(),
+            Numbers::Long(long) => long.len(),
+        }
+    }
+
+    /// The one at this place.
+    fn at(&self, x: usize) -> usize
+        requires { x < length (numbers_in self.now) }
+        ensures { result ≡ slice_index (numbers_in self.now) x }
+    {
+        match self {
+            Numbers::Short(short) => short[x] as usize,
+            Numbers::Long(long) => long[x],
+        }
+    }
+}
+
+/// What a check of a proof said: its verdict, and the numbers of the words that cite, rising.
+#[derive(Drop)]
+pub struct Held {
+    verdict: Verdict,
+    cites: Numbers,
+}
+
+impl Model for Held {
+    ghost use Rattle.mm_proof.specs.Language.Work.{Judgement};
+
+    ghost Value = { Judgement };
+
+    ghost use Rattle.mm_keep.specs.Code.KeptCheck.{judgement_held};
+
+    ghost view = { judgement_held };
+}
+
+impl Held {
+    /// What this check said.
+    fn of(alloc: Global, checked: &Checked) -> Result<Held, AllocError>
+        ensures { IfOk result (λ held. held ≡ checked.now) }
+    {
+        Ok(Held {
+            verdict: checked.verdict(),
+            cites: Numbers::of(alloc, checked.cites())?,
+        })
+    }
+
+    /// The verdict on the proof.
+    pub fn verdict(&self) -> Verdict
+        ensures { result ≡ self.now.verdict }
+    {
+        self.verdict
+    }
+
+    /// How many words cite.
+    pub fn count(&self) -> usize
+        ensures { result ≡ length self.now.cites }
+    {
+        self.cites.count()
+    }
+
+    /// The number of the word that cites at this place.
+    pub fn cite(&self, x: usize) -> usize
+        requires { x < length self.now.cites }
+        ensures { result ≡ slice_index self.now.cites x }
+    {
+        self.cites.at(x)
+    }
+}
 
 /// What the check of the proof of an item said; nothing where the item is no sound `$p`, as most are not. It takes the room
 /// of an address, and that of what was said behind it.
 #[derive(Drop)]
 pub struct Kept {
-    checked: Option<Box<Checked>>,
+    held: Option<Box<Held>>,
 }
 
 impl Model for Kept {
@@ -30,24 +136,25 @@ impl Kept {
     pub fn nothing() -> Kept
         ensures { result ≡ None }
     {
-        Kept { checked: None }
+        Kept { held: None }
     }
 
     /// What this check said.
-    pub fn of(alloc: Global, checked: Checked) -> Result<Kept, AllocError>
-        ensures { IfOk result (λ kept. kept ≡ Some checked) }
+    pub fn of(alloc: Global, checked: &Checked) -> Result<Kept, AllocError>
+        ensures { IfOk result (λ kept. kept ≡ Some checked.now) }
     {
+        let held = Held::of(alloc, checked)?;
         Ok(Kept {
-            checked: Some(Box::new(alloc, checked)?),
+            held: Some(Box::new(alloc, held)?),
         })
     }
 
     /// What the check said, if there was one.
-    pub fn get(&self) -> Option<&Checked>
-        ensures { option_map (λ checked. checked.now) result ≡ self.now }
+    pub fn get(&self) -> Option<&Held>
+        ensures { option_map (λ held. held.now) result ≡ self.now }
     {
-        match &self.checked {
-            Some(checked) => Some(&**checked),
+        match &self.held {
+            Some(held) => Some(&**held),
             None => None,
         }
     }

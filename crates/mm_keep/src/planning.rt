@@ -2,6 +2,7 @@
 
 ghost use Rattle.std.specs.Prelude.{◌≡◌, ◌<◌, ◌+◌, ◌^◌, ℕ, Some, None, IfOk, OnOk, length, slice_index_or, slice_set};
 ghost use Rattle.mm_proof.specs.mm_frame.Language.Base.{BaseView};
+ghost use Rattle.mm_proof.specs.mm_frame.Language.Answering.{IsBase};
 ghost use Rattle.mm_proof.specs.Language.ReadIn.{IsReadIn};
 ghost use Rattle.mm_keep.specs.Code.KeptSession.{AreChecked, IsCheckedAt};
 ghost use Rattle.mm_keep.specs.Code.Planned.{AreBothRead, AreMarksBy, ArePlanned, AreRecorded, AreRunBy, CanBeCarried, CanCarry};
@@ -39,6 +40,17 @@ fn kept_of(
     }
 }
 
+/// The same number of an item in half the room, if there is one. No base has more items than there are such numbers.
+fn narrow(base: &Base, number: Option<usize>) -> Option<u32>
+    ensures { (view : BaseView) → IsBase view base.now → ((i : ℕ) → number ≡ Some i → i < length view.said) → result ≡ number }
+{
+    let _count = base.count();
+    match number {
+        Some(i) if i <= 4294967295 => Some(i as u32),
+        _ => None,
+    }
+}
+
 /// What each item of the new base keeps.
 pub fn planned(
     alloc: Global,
@@ -46,7 +58,7 @@ pub fn planned(
     files: &Files,
     old: &Base,
     new: &Base,
-) -> Result<Vec<Option<usize>>, AllocError>
+) -> Result<Vec<Option<u32>>, AllocError>
     requires { (base : BaseView) × (copy : BaseView) × AreBothRead names.now files.now old.now new.now base copy }
     ensures { IfOk result (λ plan. (base copy : BaseView) → AreBothRead names.now files.now old.now new.now base copy → ArePlanned base copy plan.items) }
 {
@@ -54,7 +66,8 @@ pub fn planned(
     let count = new.count();
     let mut plan = Vec::with_capacity(alloc, count)?;
     for j in 0..count {
-        plan.push(kept_of(names, files, old, new, &marks, j))?;
+        let from = kept_of(names, files, old, new, &marks, j);
+        plan.push(narrow(old, from))?;
     }
     Ok(plan)
 }
@@ -80,7 +93,7 @@ fn run_one(alloc: Global, source: Source<'_>, j: usize, work: &mut Work) -> Resu
         None => Ok(Kept::nothing()),
         Some(_) => {
             let checked = check(alloc, source.names, source.files, source.base, j, work)?;
-            Ok(Kept::of(alloc, checked)?)
+            Ok(Kept::of(alloc, &checked)?)
         }
     }
 }
@@ -90,7 +103,7 @@ fn run_of(
     alloc: Global,
     source: Source<'_>,
     j: usize,
-    from: Option<usize>,
+    from: Option<u32>,
     work: &mut Work,
 ) -> Result<Kept, AllocError>
     requires item { HasItemRead source.names.now source.files.now source.base.now j }
@@ -112,7 +125,7 @@ pub fn run_rest(
     names: &Names,
     files: &Files,
     base: &Base,
-    plan: &[Option<usize>],
+    plan: &[Option<u32>],
 ) -> Result<(Vec<Kept>, Work), AllocError>
     requires read { (view : BaseView) × IsReadIn names.now files.now base.now view × (length plan.now ≡ length view.said) }
     ensures checked { IfOk result (λ run. (view : BaseView) → IsReadIn names.now files.now base.now view
@@ -129,7 +142,7 @@ pub fn run_rest(
 }
 
 /// Moves what was checked before to the item that keeps it.
-fn carry_one(old: &mut [Kept], from: Option<usize>, new: &mut [Kept], j: usize)
+fn carry_one(old: &mut [Kept], from: Option<u32>, new: &mut [Kept], j: usize)
     requires from { (i : ℕ) → from ≡ Some i → i < length old.old }
     requires item { j < length new.old }
     ensures nothing { from ≡ None → (old.new ≡ old.old) × (new.new ≡ new.old) }
@@ -137,12 +150,12 @@ fn carry_one(old: &mut [Kept], from: Option<usize>, new: &mut [Kept], j: usize)
         × (new.new ≡ slice_set new.old j (slice_index_or old.old i None)) }
 {
     if let Some(i) = from {
-        mem::swap(&mut old[i], &mut new[j]);
+        mem::swap(&mut old[i as usize], &mut new[j]);
     }
 }
 
 /// Moves what was checked before to the items that keep it, by the plan. Nothing can fail.
-pub fn carry(old: &mut [Kept], plan: &[Option<usize>], new: &mut [Kept])
+pub fn carry(old: &mut [Kept], plan: &[Option<u32>], new: &mut [Kept])
     requires { CanBeCarried old.old plan.now new.old }
     ensures { (base copy : BaseView) → CanCarry base copy old.old plan.now new.old → AreChecked copy new.new }
 {

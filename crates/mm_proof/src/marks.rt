@@ -1,6 +1,6 @@
 //! What stays of an old base in a new one.
 
-ghost use Rattle.std.specs.Prelude.{◌≡◌, ◌↔◌, ◌+◌, ℕ, true, List, Some, IfOk, IsTrue, map};
+ghost use Rattle.std.specs.Prelude.{◌≡◌, ◌↔◌, ◌+◌, ◌<◌, ℕ, true, List, Some, IfOk, IsTrue, map};
 ghost use Rattle.mm_frame.specs.Language.Base.{BaseView, hypothesis_at, is_shown_at};
 ghost use Rattle.mm_frame.specs.Language.Answering.{BaseAnswers, IsBase, IsBaseBy};
 ghost use Rattle.mm_frame.specs.Language.Resolving.{IsCarrier};
@@ -299,6 +299,16 @@ fn marked(
     (Mark { in_step, ..mark }, next)
 }
 
+/// Whether there is a number, and it is below another one.
+fn is_below(number: Option<u32>, i: usize) -> bool
+    ensures { IsTrue result → (k : ℕ) × (number ≡ Some k) × (k < i) }
+{
+    match number {
+        Some(k) => (k as usize) < i,
+        None => false,
+    }
+}
+
 impl Marks {
     /// Compares an old base with a new one, both over the same names. It takes time near linear in the items, the frames
     /// and the lists of active pairs of the two, and memory for each item of both.
@@ -335,6 +345,17 @@ impl Marks {
     {
         match self.marks.get(j) {
             Some(mark) => mark.frame,
+            None => false,
+        }
+    }
+
+    /// Whether the item `m` of the new base is a sound `$a` or `$p` before the item `j`, and the old base has one with its
+    /// label and the same frame before the item `i`.
+    pub(crate) fn keeps(&self, m: usize, i: usize, j: usize) -> bool
+        ensures { IsTrue result → ((mark_at self.now m).frame ≡ true) × (m < j) × ((k : ℕ) × ((mark_at self.now m).old ≡ Some k) × (k < i)) }
+    {
+        match self.marks.get(m) {
+            Some(mark) => mark.frame && m < j && is_below(mark.old, i),
             None => false,
         }
     }

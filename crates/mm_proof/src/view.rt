@@ -20,8 +20,8 @@ use crate::labels::is_close;
 use crate::marks::Marks;
 use crate::reading::{is_open, is_unknown};
 use mm_frame::{
-    Base, Files, Item, Names, ProofWords, Resolved, has_own_labels, kept_next, same_active_pairs,
-    same_but_pairs, same_expression, same_frame, same_proof, words_of_proof,
+    Base, Files, Item, Names, ProofWords, Resolved, has_own_labels, kept_next, labels_mean,
+    same_active_pairs, same_but_pairs, same_expression, same_frame, same_proof, words_of_proof,
 };
 
 /// The item `i` of an old base and the item `j` of a new one. The symbols of both bases are read by these names. The marks,
@@ -85,7 +85,9 @@ fn same_by(two: TwoTheorems, marks: &Marks, label: &[u8]) -> bool
     ensures { OfTwo two.entry (λ base copy. AreMarks base copy marks.now → IsTrue result ↔ MeansSame two.entry base copy label.now) }
 {
     kept_next();
+    labels_mean();
     match two.new.find(label) {
+        Some(m) if marks.keeps(m, two.i, two.j) => true,
         Some(m) => {
             let framed = marks.same(m);
             let mine = meaning_of(two.old, marks.old(m), framed, two.i);

@@ -109,6 +109,20 @@ means_same base copy i j label mine yours same h k t =
 
 -- ---- by marks
 
+-- the label of an assertion means the same where its mark tells that the frame is kept, and both are earlier
+pub kept_means :
+    frame.AssertionsMean → (base copy : BaseView) (marks : List ItemMark) → AreMarks base copy marks → (i j : ℕ) (label : List ℕ) (m k : ℕ) → IsCarrier copy label m →
+    (mark_at marks m).frame ≡ true → m < j → (mark_at marks m).old ≡ Some k → k < i → IsSameLabel (setting_at base i) (setting_at copy j) label
+kept_means assertions base copy marks are i j label m k carrier told later old earlier =
+    let within = shown_within copy m carrier.shown in
+    let is = are.each m within in
+    let kept = is.frame_is.0 told in
+    let same : k ≡ kept.i = sym (same_Some kept.i k (sym ((is.old_is kept.i).1 kept.one_label) ∙ old)) in
+    let was : IsCarrier base label kept.i = record { shown = kept.one_label.was; label_is = kept.one_label.label ∙ carrier.label_is } in
+    let mine = assertions base i kept.i label (record { earlier = subst (λ n. n < i) same earlier; carrier = was }) kept.was in
+    let yours = assertions copy j m label (record { earlier = later; carrier = carrier }) kept.is in
+    (means_same base copy i j label (answers.Assertion kept.i) (answers.Assertion m) true mine yours (λ a b. (λ t. kept.same, λ s. refl))).0 refl
+
 -- the label of an assertion means the same where its mark tells that the frame is kept
 pub frames_marked :
     frame.HasOwnLabels → (base copy : BaseView) (marks : List ItemMark) → AreMarks base copy marks → (i j : ℕ) (label : List ℕ) (m a b : ℕ) (same : Bool) → IsCarrier copy label m →

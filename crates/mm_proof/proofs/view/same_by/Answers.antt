@@ -1,10 +1,19 @@
 use Rattle.std.proofs.Common.{ℕ, refl}
 use Rattle.mm_frame.specs.declared.base.Resolved.TheVariants as answers
-use Rattle.mm_proof.proofs.lemmas.views.MeaningLemmas.{means_same, none_means, new_framed, old_carries, old_framed}
+use Rattle.mm_proof.proofs.lemmas.views.MeaningLemmas.{kept_means, means_same, none_means, new_framed, old_carries, old_framed}
 use Rattle.mm_proof.proofs.view.same_by.Goals as goal
 
 pub returns-in-Some : goal.returns-in-Some
 returns-in-Some c base copy f g are =
+    let two = c.args.two in
+    let label = c.args.label.now in
+    let m = c.in-Some.m in
+    let carrier = (c.in-Some.ensures copy m (two.names.now, g)).0 refl in
+    let told = c.keeps.ensures c.if-keeps.true in
+    (λ t. kept_means c.labels_mean.ensures.assertions base copy c.args.marks.now are two.i two.j label m told.2.0 carrier told.0 told.1 told.2.1 told.2.2, λ s. refl)
+
+pub returns-in-Some-2 : goal.returns-in-Some-2
+returns-in-Some-2 c base copy f g are =
     let names = c.args.two.names.now in
     let label = c.args.label.now in
     let marks = c.args.marks.now in
