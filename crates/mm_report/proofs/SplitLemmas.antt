@@ -1,6 +1,7 @@
 -- Lists that are joined by a byte which none of them has.
 use Rattle.std.proofs.Common.{◌≡◌, ◌≢◌, ℕ, Bool, true, false, not, ◌&&◌, List, [], ◌∷◌, ◌++◌, refl, sym, ap, ◌==◌, IsTrue}
 use Rattle.std.specs.List.{AllByRecursion, list_all, join_with_byte}
+use Rattle.std.proofs.lemmas.Bool.{and_parts}
 use Rattle.mm_report.specs.Language.Script.{is_word_byte}
 
 -- none of the bytes is this one
@@ -57,14 +58,10 @@ word_byte b h =
     no_feed : b ≡ 10 → (b == 10) ≡ false → ⊥
     no_feed e f = cc
 
-both_true : (a b : Bool) → (a && b) ≡ true → (a ≡ true) × (b ≡ true)
-both_true true b h = (refl, h)
-both_true false b h = cc
-
 pub solid_space : (xs : List ℕ) → list_all is_word_byte xs ≡ true → Lacks 32 xs
 solid_space [] h = tt
-solid_space (x ∷ xs) h = let both = both_true (is_word_byte x) (list_all is_word_byte xs) h in ((word_byte x both.0).0, solid_space xs both.1)
+solid_space (x ∷ xs) h = let both = and_parts (is_word_byte x) (list_all is_word_byte xs) h in ((word_byte x both.0).0, solid_space xs both.1)
 
 pub solid_feed : (xs : List ℕ) → list_all is_word_byte xs ≡ true → Lacks 10 xs
 solid_feed [] h = tt
-solid_feed (x ∷ xs) h = let both = both_true (is_word_byte x) (list_all is_word_byte xs) h in ((word_byte x both.0).1, solid_feed xs both.1)
+solid_feed (x ∷ xs) h = let both = and_parts (is_word_byte x) (list_all is_word_byte xs) h in ((word_byte x both.0).1, solid_feed xs both.1)

@@ -4,7 +4,7 @@ use Rattle.std.specs.Prelude.{codes, decimal, slice_index, slice_index_or}
 use Rattle.std.specs.List.{AllByRecursion, flat_map, list_all, join_with_byte}
 use Rattle.std.proofs.lemmas.List.{append-nil}
 use Rattle.std.proofs.lemmas.Fmt.{decimal_by_steps, decimal_injective}
-use Rattle.std.proofs.lemmas.Bool.{and_from}
+use Rattle.std.proofs.lemmas.Bool.{and_from, and_parts}
 use Rattle.mm_keep.specs.mm_store.Language.Edits.{Asked, Insert, Replace, Delete, Move, edited_text}
 use Rattle.mm_report.specs.Language.Script.{Listed, Command, Change, Report, Verdict, Axioms, Cites, Users, Batch, edit_line, listed_bytes, edit_words, command_words, line_of, ended_text, behind_line, command_bytes}
 use Rattle.mm_report.specs.Language.Script.{is_word_byte, IsName, IsNumber, IsGoodEdit, AreGoodEdits, IsGood}
@@ -20,17 +20,9 @@ both_not a b e f = rw (e, f)
 digit_byte : (d : ℕ) → d < 10 → is_word_byte (48 + d) ≡ true
 digit_byte d small = both_not _ _ (ne_eqb (48 + d) 32 (λ (e : 48 + d ≡ 32). omega arith)) (ne_eqb (48 + d) 10 (λ (e : 48 + d ≡ 10). omega arith))
 
-first_true : (a b : Bool) → (a && b) ≡ true → a ≡ true
-first_true true b h = refl
-first_true false b h = cc
-
-second_true : (a b : Bool) → (a && b) ≡ true → b ≡ true
-second_true true b h = h
-second_true false b h = cc
-
 solid_more : (xs ys : List ℕ) → IsSolid xs → IsSolid ys → IsSolid (xs ++ ys)
 solid_more [] ys f g = g
-solid_more (x ∷ xs) ys f g = and_from _ _ (first_true _ _ f) (solid_more xs ys (second_true _ _ f) g)
+solid_more (x ∷ xs) ys f g = and_from _ _ (and_parts _ _ f).0 (solid_more xs ys (and_parts _ _ f).1 g)
 
 one_solid : (b : ℕ) → is_word_byte b ≡ true → IsSolid (b ∷ [])
 one_solid b h = and_from _ _ h refl

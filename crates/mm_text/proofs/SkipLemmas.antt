@@ -1,5 +1,5 @@
 -- Runs without a `$`, passed over at once.
-use Rattle.std.proofs.Common.{◌≡◌, ℕ, zero, suc, get_or, ◌+◌, ◌≤◌, ◌<◌, Bool, true, false, not, ◌||◌, eqb, Ok, Err, List, [], ◌∷◌, ◌++◌, append_assoc, length, take, drop, map, refl, sym, ap, ◌∙◌, inl, inr, arith, drop-drop, length-take-le, take-append-drop}
+use Rattle.std.proofs.Common.{◌≡◌, ℕ, zero, suc, get_or, ◌+◌, ◌≤◌, ◌<◌, true, false, not, eqb, Ok, Err, List, [], ◌∷◌, ◌++◌, append_assoc, length, take, drop, map, refl, sym, ap, ◌∙◌, inl, inr, arith, drop-drop, length-take-le, take-append-drop}
 use Rattle.std.proofs.lemmas.Bool.{cases_Bool, false_from_ne_true, or_parts}
 use Rattle.std.specs.List.{AllByRecursion}
 use Rattle.mm_text.specs.declared.word.Word.{Word}

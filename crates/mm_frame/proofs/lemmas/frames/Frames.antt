@@ -1,7 +1,7 @@
 -- The four facts of a frame.
 use Rattle.std.proofs.Common.{◌≡◌, ◌≢◌, ℕ, zero, suc, ◌<◌, Bool, true, false, cond, ◌&&◌, Some, List, [], ◌∷◌, ◌++◌, length, map, filter, take, slice_get, slice_index_or, get_or, refl, sym, ◌∙◌, ap, subst, append_assoc, arith, inl, inr, ◌⊎◌}
 use Rattle.std.specs.Prelude.{Contains, All, AllPairs}
-use Rattle.std.proofs.lemmas.Bool.{false≢true, true≢false, or_cases, or_right, and_from, false_from_ne_true}
+use Rattle.std.proofs.lemmas.Bool.{false≢true, true≢false, or_cases, or_right, and_from, false_from_ne_true, and_parts}
 use Rattle.std.proofs.lemmas.List.Kept.{AllPairs-cons, AllPairs-filter}
 use Rattle.mm_frame.specs.Language.Frame.{Symbol, Mandatory, Frame, Hypothesis, Assertion, Inactive, HasVariable}
 use Rattle.mm_frame.specs.Language.Typing.{IsTyped, IsTyping, IsFrame, HasFrames}
@@ -11,7 +11,7 @@ use Rattle.mm_frame.specs.Language.Sound.{IsSound, sound_items}
 use Rattle.mm_frame.specs.Language.Framing.{symbol, expression, mandatory_variables, is_mandatory, hypothesis, mandatory_hypotheses, pairs_of, active_pairs, is_mandatory_pair, frame, meaning, resolve_from, setting_of}
 use Rattle.mm_frame.proofs.lemmas.lists.Members.{In, in_contains, contains_in, in_left, in_right, in_cases, in_map, from_map, in_filter, from_filter, from_flat, in_get, has_in, in_has, from_symbols, to_symbols, in_cond}
 use Rattle.mm_frame.proofs.lemmas.scope.ActiveBySplit.{active_split, split_active, active_later, stays_front}
-use Rattle.mm_frame.proofs.lemmas.scope.Facts.{and_both, AreKept, sound_at, kept_front, not_constant, first_constant, known, typed_there, float_variable, float_new, float_two}
+use Rattle.mm_frame.proofs.lemmas.scope.Facts.{AreKept, sound_at, kept_front, not_constant, first_constant, known, typed_there, float_variable, float_new, float_two}
 use Rattle.mm_frame.proofs.lemmas.faults.FoundFaults.{kept_is_sound}
 
 -- kinds
@@ -208,7 +208,7 @@ hypothesis_mandatory before item f name k h m n v = elim (or_cases (is_essential
   | inl e ↦ in_filter (has (active_variables before)) name (item.symbols ++ symbols_by is_essential (active before))
       (in_right name item.symbols (symbols_by is_essential (active before)) (to_symbols is_essential name (active before) f h e n))
       (in_has (active_variables before) name v)
-  | inr b ↦ (let p = and_both (is_floating f.kind) (has (mandatory_variables before item) (variable_of f)) b in
+  | inr b ↦ (let p = and_parts (is_floating f.kind) (has (mandatory_variables before item) (variable_of f)) b in
       let x = float_of before f k h p.0 in
       elim (subst (λ w. In name w) x.both n) [
         | inl first ↦ absurd (true≢false (sym (in_has (active_variables before) name v) ∙ ap (has (active_variables before)) (sym first) ∙ x.constant))
@@ -275,7 +275,7 @@ pairs_typed_at before item k s t pair h =
     let f = from_filter (is_mandatory_pair (mandatory_variables before item)) pair (active_pairs before) h in
     let r = from_flat (λ (d : Item). cond (is_disjoint d.kind) (pairs_of (expression before d)) []) pair (active before) f.0 in
     let p = from_pairs pair (expression before r.0) (in_cond (is_disjoint (r.0).kind) pair (pairs_of (expression before r.0)) r.2).1 in
-    let m = and_both (has (mandatory_variables before item) pair.0.name) (has (mandatory_variables before item) pair.1.name) f.1 in
+    let m = and_parts (has (mandatory_variables before item) pair.0.name) (has (mandatory_variables before item) pair.1.name) f.1 in
     let x = side_typed before item r.0 k s t pair.0 p.0 m.0 in
     let y = side_typed before item r.0 k s t pair.1 p.1 m.1 in
     (x.0, y.0, x.1, y.1)

@@ -2,7 +2,7 @@
 use Rattle.std.proofs.Common.{◌≡◌, ℕ, zero, suc, ◌+◌, ◌<◌, Bool, true, false, cond, ◌&&◌, Option, Some, None, List, [], ◌∷◌, ◌++◌, length, map, filter, take, drop, slice_get, get_or, refl, sym, ◌∙◌, ap, subst, append_assoc, arith, inl, inr}
 use Rattle.std.specs.Prelude.{Contains, ◌↔◌}
 use Rattle.std.proofs.Math.Seq.{drop-nil}
-use Rattle.std.proofs.lemmas.Bool.{false≢true, or_cases, or_left, or_right, and_from, false_from_ne_true}
+use Rattle.std.proofs.lemmas.Bool.{false≢true, or_cases, or_left, or_right, and_from, false_from_ne_true, and_parts}
 use Rattle.std.proofs.lemmas.Option.{get_or_from_slice_get, slice_get_within}
 use Rattle.std.proofs.lemmas.List.{length-take-le}
 use Rattle.std.proofs.lemmas.Simd.{map-map}
@@ -14,7 +14,7 @@ use Rattle.mm_frame.specs.Language.Framing.{mandatory_variables, is_mandatory, h
 use Rattle.mm_frame.specs.Code.LastItems.{last_where, is_active_at, is_active_last, types, is_essential_item, IsHypothesisNumber, IsRising}
 use Rattle.mm_frame.proofs.lemmas.lists.Members.{In, in_contains, contains_in, in_get, has_in, in_has}
 use Rattle.mm_frame.proofs.lemmas.scope.ActiveBySplit.{split_active, in_first, in_later, stays_front}
-use Rattle.mm_frame.proofs.lemmas.scope.Facts.{and_both, float_new}
+use Rattle.mm_frame.proofs.lemmas.scope.Facts.{float_new}
 use Rattle.mm_frame.proofs.lemmas.frames.Frames.{to_typed, mandatory_typed, in_at}
 use Rattle.mm_frame.proofs.lemmas.scope.SoundItems.{split_at, sound_kept}
 use Rattle.mm_frame.proofs.lemmas.scope.TableLemmas.{last_cases, last_none, last_number, last_is, first_cases, stands_in, typing, typed_by, float_second, typed_last, closed_next}
@@ -42,7 +42,7 @@ record Numbered (test : Item → Bool) (n : ℕ) (items : List Item) (m : ℕ) :
 from_numbered : (test : Item → Bool) (n : ℕ) (items : List Item) (m : ℕ) → In m (active_numbers_from test n items) → Numbered test n items m
 from_numbered test n [] m h = absurd h
 from_numbered test n (y ∷ ys) m h = elim (first_cases (stays ys && test y) n m (active_numbers_from test (suc n) ys) h) [
-  | inl p ↦ (let b = and_both (stays ys) (test y) p.1 in let q = p.0 in record { place = 0; number = omega arith; item = y; there = refl; stayed = b.0; good = b.1 })
+  | inl p ↦ (let b = and_parts (stays ys) (test y) p.1 in let q = p.0 in record { place = 0; number = omega arith; item = y; there = refl; stayed = b.0; good = b.1 })
   | inr k ↦ (let r = from_numbered test (suc n) ys m k in let q = r.number in record { place = suc r.place; number = omega arith; item = r.item; there = r.there; stayed = r.stayed; good = r.good })
 ]
 
@@ -190,7 +190,7 @@ number_from before h item n m =
     let r = from_active_number (is_mandatory (mandatory_variables before item)) before n m in
     elim (or_cases (is_essential (r.0).kind) (is_floating (r.0).kind && has (mandatory_variables before item) (variable_of r.0)) r.3) [
       | inl e ↦ inl (in_contains n (active_numbers is_essential_item before) (to_active_number is_essential_item before n r.0 r.1 r.2 e))
-      | inr b ↦ (let p = and_both (is_floating (r.0).kind) (has (mandatory_variables before item) (variable_of r.0)) b in
+      | inr b ↦ (let p = and_parts (is_floating (r.0).kind) (has (mandatory_variables before item) (variable_of r.0)) b in
           inr (variable_of r.0, in_contains (variable_of r.0) (mandatory_variables before item) (has_in (mandatory_variables before item) (variable_of r.0) p.1), active_float_last before h n r.0 r.1 r.2 p.0))
     ]
 

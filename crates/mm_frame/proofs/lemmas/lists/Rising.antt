@@ -1,5 +1,5 @@
 -- Numbers that rise: the beginning of them, one more behind them, and what a search among them finds.
-use Rattle.std.proofs.Common.{◌≡◌, ℕ, zero, suc, ◌+◌, ◌-◌, ◌<◌, ◌≤◌, true, false, Some, Result, Ok, Err, List, [], ◌∷◌, ◌++◌, length, drop, slice_get, get_or, refl, sym, ◌∙◌, ap, subst, arith, inl, inr, ◌⊎◌, length-append, Contains, is_ok, nat_eq}
+use Rattle.std.proofs.Common.{◌≡◌, ℕ, zero, suc, ◌+◌, ◌-◌, ◌<◌, ◌≤◌, true, false, Some, Result, Ok, Err, List, [], ◌∷◌, ◌++◌, length, drop, slice_get, get_or, refl, sym, ◌∙◌, ap, subst, arith, inl, inr, ◌⊎◌, length-append, Contains, is_ok}
 use Rattle.std.specs.List.Sorted.{IsBinarySearchResult}
 use Rattle.std.specs.Ordering.{nat_cmp}
 use Rattle.std.specs.Cmp.{nat_eq_equiv}

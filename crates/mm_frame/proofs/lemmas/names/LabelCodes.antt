@@ -8,7 +8,6 @@ use Rattle.std.proofs.lemmas.Bool.Decides.{Decides-eqb}
 use Rattle.std.proofs.lemmas.Slice.Eq.{bytes_eq-Decides}
 use Rattle.mm_frame.specs.declared.label_numbers.LabelNumbers.{LabelNumbers}
 use Rattle.mm_frame.specs.Code.KeptLabels.{are_ascii, label_code, is_coded, label_number}
-use Rattle.mm_frame.proofs.lemmas.scope.Facts.{and_both}
 
 code_positive : (bs : List ℕ) → 1 ≤ label_code bs
 code_positive [] = omega arith
@@ -88,7 +87,7 @@ short_put old new label other number s long put = by_length (is_coded other) ref
         → cond b (get_by (nat_eq (label_code other)) new.short) (get_by (λ key. bytes_eq other key.items) new.long)
         ≡ cond (bytes_eq label other) (Some number) (cond b (get_by (nat_eq (label_code other)) old.short) (get_by (λ key. bytes_eq other key.items) old.long))
     by_length true t =
-        let test = same_code label other (and_both (nat_le (length label) 9) (are_ascii label) s).1 (and_both (nat_le (length other) 9) (are_ascii other) t).1 in
+        let test = same_code label other (and_parts (nat_le (length label) 9) (are_ascii label) s).1 (and_parts (nat_le (length other) 9) (are_ascii other) t).1 in
         put (label_code other) ∙ ap (λ b. cond b (Some number) (get_by (nat_eq (label_code other)) old.short)) test
     by_length false t =
         ap (λ m. get_by (λ key. bytes_eq other key.items) m) long

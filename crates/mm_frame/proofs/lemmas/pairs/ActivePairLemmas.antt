@@ -1,6 +1,6 @@
 -- Active pairs: they grow by those of each `$d`, an active statement reads at its own place as behind all items, and which `$d` has a pair.
 use Rattle.std.proofs.Common.{◌≡◌, ◌≢◌, ℕ, zero, suc, ◌+◌, ◌<◌, Bool, true, false, cond, ◌&&◌, ◌||◌, Some, List, [], ◌∷◌, ◌++◌, length, map, filter, flat_map, take, drop, slice_get, get_or, bytes_eq, refl, sym, ◌∙◌, ap, subst, arith, inl, inr, ◌⊎◌}
-use Rattle.std.proofs.lemmas.Bool.{false≢true, or_cases, or_left, or_right, or_parts, and_from, false_from_ne_true, not-false}
+use Rattle.std.proofs.lemmas.Bool.{false≢true, or_cases, or_left, or_right, or_parts, and_from, false_from_ne_true, not-false, and_parts}
 use Rattle.std.proofs.lemmas.Option.{get_or_from_slice_get}
 use Rattle.std.proofs.lemmas.Slice.Eq.{bytes_eq-Decides}
 use Rattle.mm_frame.specs.Language.Frame.{Symbol}
@@ -13,7 +13,7 @@ use Rattle.mm_frame.specs.Code.LastItems.{is_active_at, is_disjoint_item}
 use Rattle.mm_frame.specs.Language.Answering.{are_paired}
 use Rattle.mm_frame.proofs.lemmas.lists.Members.{In, in_left, in_right, in_cases, in_map, from_map, in_flat, from_flat, in_get, has_in, in_has, in_cond}
 use Rattle.mm_frame.proofs.lemmas.scope.ActiveBySplit.{active_split, split_active}
-use Rattle.mm_frame.proofs.lemmas.scope.Facts.{and_both, no_symbol_of}
+use Rattle.mm_frame.proofs.lemmas.scope.Facts.{no_symbol_of}
 use Rattle.mm_frame.proofs.lemmas.frames.Frames.{variables_later}
 use Rattle.mm_frame.proofs.lemmas.scope.SoundItems.{split_at, map_same, expression_stays}
 use Rattle.mm_frame.proofs.lemmas.scope.TableLemmas.{active_between}
@@ -159,7 +159,7 @@ abbrev pub SameNames : Symbol × Symbol → Symbol × Symbol → Type 0
 SameNames named pair = ((pair.0.name ≡ named.0.name) × (pair.1.name ≡ named.1.name)) ⊎ ((pair.0.name ≡ named.1.name) × (pair.1.name ≡ named.0.name))
 
 both_names : (a b c d : List ℕ) → (bytes_eq a b && bytes_eq c d) ≡ true → (a ≡ b) × (c ≡ d)
-both_names a b c d t = let p = and_both (bytes_eq a b) (bytes_eq c d) t in ((bytes_eq-Decides a b).0 p.0, (bytes_eq-Decides c d).0 p.1)
+both_names a b c d t = let p = and_parts (bytes_eq a b) (bytes_eq c d) t in ((bytes_eq-Decides a b).0 p.0, (bytes_eq-Decides c d).0 p.1)
 
 pub same_names : (named pair : Symbol × Symbol) → is_pair named pair ≡ true → SameNames named pair
 same_names named pair t = elim (or_cases (bytes_eq pair.0.name named.0.name && bytes_eq pair.1.name named.1.name) (bytes_eq pair.0.name named.1.name && bytes_eq pair.1.name named.0.name) t) [

@@ -1,7 +1,7 @@
 -- The pairs of a frame: those of its variables, in order, that an active `$d` has.
-use Rattle.std.proofs.Common.{◌≡◌, ◌≢◌, ℕ, suc, ◌+◌, ◌<◌, ◌≤◌, Bool, true, false, cond, ◌&&◌, Some, None, List, [], ◌∷◌, ◌++◌, length, map, filter, flat_map, All, option_to_list}
+use Rattle.std.proofs.Common.{◌≡◌, ℕ, suc, ◌+◌, ◌<◌, ◌≤◌, Bool, true, false, cond, ◌&&◌, Some, None, List, [], ◌∷◌, ◌++◌, length, map, filter, flat_map, All, option_to_list}
 use Rattle.std.proofs.Common.{take, drop, slice_get, get_or, refl, sym, ◌∙◌, ap, subst, append_assoc, append-nil, take-suc, arith, inl, inr, ◌⊎◌}
-use Rattle.std.proofs.lemmas.Bool.{or_cases, and_from, false_from_ne_true}
+use Rattle.std.proofs.lemmas.Bool.{or_cases, and_from, false_from_ne_true, and_parts}
 use Rattle.std.proofs.lemmas.Grind.{flat_map-append}
 use Rattle.std.proofs.lemmas.List.{map-append, map_push}
 use Rattle.std.proofs.lemmas.List.Elements.{All-contains, All-push, filter-append}
@@ -23,7 +23,7 @@ use Rattle.mm_frame.specs.Code.KeptPairTable.{row_at, ReadsPairs}
 use Rattle.mm_frame.specs.Code.PairOrder.{is_among, float_variable, float_variables}
 use Rattle.mm_frame.specs.Language.Answering.{are_paired, typed_variables, pairs_in_order}
 use Rattle.mm_frame.proofs.lemmas.lists.Members.{In, in_contains, contains_in, get_in, from_map, in_filter, from_filter, in_flat, from_flat}
-use Rattle.mm_frame.proofs.lemmas.scope.Facts.{and_both, float_two}
+use Rattle.mm_frame.proofs.lemmas.scope.Facts.{float_two}
 use Rattle.mm_frame.proofs.lemmas.frames.Frames.{in_at, float_of, float_name, float_labelled, from_pairs, pairs_typed_at, assertion_expression}
 use Rattle.mm_frame.proofs.lemmas.scope.SoundItems.{split_at, filter_same, sound_kept}
 use Rattle.mm_frame.proofs.lemmas.names.NumberLemmas.{name_there}
@@ -66,7 +66,7 @@ variables_at all before item expressions n h a m =
         ap (λ b. symbols_of all (cond b [] (option_to_list (slice_get (expression_kept expressions n) 1)))) (in_among essentials n (to_active_number is_essential_item before n x there stayed e))
         ∙ sym (ap (λ b. variables_if b (expression before x)) (no_float x e))
     by_kind x there stayed (inr b) =
-        let f = (and_both (is_floating x.kind) (has (mandatory_variables before item) (variable_of x)) b).0 in
+        let f = (and_parts (is_floating x.kind) (has (mandatory_variables before item) (variable_of x)) b).0 in
         let labelled = float_labelled x.kind f in
         let two = float_two (take n before) x (h (take n before) x (drop (suc n) before) (split_at before n x there)) f in
         let symbols : expression before x ≡ symbol before two.0 ∷ symbol before two.1 ∷ [] = ap (map (symbol before)) two.2 in
@@ -133,7 +133,7 @@ typed_variable before item v h m =
         has_name : (f : Item) → is_mandatory (mandatory_variables before item) f ≡ true → is_floating f.kind ≡ true → has (mandatory_variables before item) (variable_of f) ≡ true
         has_name f t e = elim (or_cases (is_essential f.kind) (is_floating f.kind && has (mandatory_variables before item) (variable_of f)) t) [
           | inl q ↦ absurd (not_both f.kind e q)
-          | inr b ↦ (and_both (is_floating f.kind) (has (mandatory_variables before item) (variable_of f)) b).1
+          | inr b ↦ (and_parts (is_floating f.kind) (has (mandatory_variables before item) (variable_of f)) b).1
         ]
 
 -- mandatory variables are a pair of the frame where they are an active pair

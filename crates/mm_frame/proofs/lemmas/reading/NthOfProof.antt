@@ -1,6 +1,7 @@
 -- The words of a proof by their numbers among all words of the item.
 use Rattle.std.proofs.Common.{◌≡◌, ℕ, ◌+◌, ◌-◌, ◌≤◌, List, [], ◌∷◌, Option, Some, None, length, drop, slice_range, refl, sym, ◌∙◌, ap, arith, slice_get, MatchOption}
 use Rattle.std.proofs.lemmas.List.{drop-drop, length-map}
+use Rattle.mm_frame.proofs.lemmas.lists.Rising.{get_drop}
 use Rattle.mm_store.specs.mm_text.declared.word.Word.{Word}
 use Rattle.mm_store.specs.mm_text.Language.Unit.{Token, tokens_of}
 use Rattle.mm_store.specs.declared.item.Item as store
@@ -8,7 +9,7 @@ use Rattle.mm_store.specs.Language.FilesView.{FilesView}
 use Rattle.mm_frame.specs.Language.Item.{Item}
 use Rattle.mm_frame.specs.Language.Statement.{Says, kind_of, symbols_from, symbols_in}
 use Rattle.mm_frame.proofs.lemmas.reading.PieceLemmas.{IsTextOf}
-use Rattle.mm_frame.proofs.lemmas.reading.SpokenLemmas.{behind_one, get_drop}
+use Rattle.mm_frame.proofs.lemmas.reading.SpokenLemmas.{behind_one}
 
 -- a word further
 pub left_more : (words left new : List Word) (n : ℕ) (word : Option Word) → left ≡ drop n words → MatchOption word ((left ≡ []) × (new ≡ [])) (λ w. left ≡ w ∷ new) → new ≡ drop (n + 1) words

@@ -17,12 +17,6 @@ prefix_len-map : {X Y : Type 0} (f : X → Y) (p : Y → Bool) (xs : List X) →
 prefix_len-map f p [] = refl
 prefix_len-map f p (x ∷ xs) = ap (λ n. cond (p (f x)) (1 + n) 0) (prefix_len-map f p xs)
 
-pub get_drop : {X : Type 0} (xs : List X) (k n m : ℕ) → m ≡ k + n → slice_get (drop k xs) n ≡ slice_get xs m
-get_drop xs zero n m e = let same : n ≡ m = omega arith in ap (slice_get xs) same
-get_drop [] (suc k) n m e = refl
-get_drop (x ∷ xs) (suc k) n zero e = absurd (omega arith)
-get_drop (x ∷ xs) (suc k) n (suc m) e = get_drop xs k n m (omega arith)
-
 -- ---- words one by one
 
 -- a plain word is one of the words before the first keyword

@@ -4,12 +4,13 @@ use Rattle.std.specs.Option.{option_map}
 use Rattle.std.specs.List.{prefix_len}
 use Rattle.std.proofs.lemmas.List.{length-drop, length-map, length-take}
 use Rattle.std.proofs.lemmas.Option.{get_or_from_slice_get, slice_get-map}
+use Rattle.mm_frame.proofs.lemmas.lists.Rising.{get_drop}
 use Rattle.mm_store.specs.mm_text.declared.word.Word.{Word}
 use Rattle.mm_store.specs.mm_text.Language.Unit.{tokens_of}
 use Rattle.mm_frame.specs.Language.Statement.{is_plain_kind, token_names, plain_from}
 use Rattle.mm_frame.specs.Code.PlainWords.{word_bytes}
 use Rattle.mm_frame.proofs.lemmas.frames.FrameNumbers.{front_get}
-use Rattle.mm_frame.proofs.lemmas.reading.SpokenLemmas.{get_drop, names_from}
+use Rattle.mm_frame.proofs.lemmas.reading.SpokenLemmas.{names_from}
 
 -- each of the plain words is spelled so
 pub spelled_at : (text : List ℕ) (words : List Word) (n : ℕ) (word : Word) → slice_get words n ≡ Some word → word_bytes text word ≡ get_or (map (word_bytes text) words) n []

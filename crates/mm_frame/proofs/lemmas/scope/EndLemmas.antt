@@ -13,10 +13,9 @@ use Rattle.mm_frame.specs.Code.KeptActive.{IsPruned}
 use Rattle.mm_frame.proofs.lemmas.lists.Members.{In, in_contains, contains_in, in_left, in_right, in_cases, in_get}
 use Rattle.mm_frame.proofs.lemmas.scope.ActiveBySplit.{closed_none, stays_front}
 use Rattle.mm_frame.proofs.lemmas.scope.SoundItems.{split_at}
-use Rattle.mm_frame.proofs.lemmas.reading.SpokenLemmas.{get_drop}
 use Rattle.mm_frame.proofs.lemmas.scope.TableLemmas.{not_closing}
 use Rattle.mm_frame.proofs.lemmas.scope.BlockLemmas.{get_front, get_cases, get_last, stays_of}
-use Rattle.mm_frame.proofs.lemmas.lists.Rising.{rising_front}
+use Rattle.mm_frame.proofs.lemmas.lists.Rising.{rising_front, get_drop}
 use Rattle.mm_frame.proofs.lemmas.frames.HypothesisNumbers.{to_active_number, from_active_number, active_numbers_rise, active_numbers_more, same_rising}
 
 -- what is active behind one more item was active before it
@@ -42,7 +41,7 @@ active_at_earlier before item m n x l e h k =
     let next : suc m + suc gap ≡ suc n = omega arith in
     let middle = take gap (drop (suc m) before) in
     let back = drop (suc n) before in
-    let parts : drop (suc m) before ≡ middle ++ x ∷ back = split_at (drop (suc m) before) gap x (get_drop before (suc m) gap n at ∙ e) ∙ ap (λ ys. middle ++ x ∷ ys) (drop_drop before (suc m) (suc gap) ∙ ap (λ p. drop p before) next) in
+    let parts : drop (suc m) before ≡ middle ++ x ∷ back = split_at (drop (suc m) before) gap x (get_drop before (suc m) gap n (sym at) ∙ e) ∙ ap (λ ys. middle ++ x ∷ ys) (drop_drop before (suc m) (suc gap) ∙ ap (λ p. drop p before) next) in
     let later : stays (back ++ item ∷ []) ≡ true = subst (λ ys. stays ys ≡ true) (drop-append-le (suc n) before (item ∷ []) (omega arith)) k in
     let none = closed_none (back ++ item ∷ []) later ∙ sym (closed_none back (stays_front back (item ∷ []) later)) in
     let same : closed (middle ++ x ∷ (back ++ item ∷ [])) ≡ closed (middle ++ x ∷ back) = closed_same middle (x ∷ (back ++ item ∷ [])) (x ∷ back) (ap (closed_at (mark_of x.kind)) none) in

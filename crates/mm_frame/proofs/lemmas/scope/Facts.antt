@@ -13,10 +13,6 @@ pub and_rest : (x y : Bool) → (x && y) ≡ false → x ≡ true → y ≡ fals
 and_rest true y h e = h
 and_rest false y h e = absurd (false≢true e)
 
-pub and_both : (x y : Bool) → (x && y) ≡ true → (x ≡ true) × (y ≡ true)
-and_both true y h = (refl, h)
-and_both false y h = absurd (false≢true h)
-
 -- a test that fails at all words fails at each symbol
 test_fails : (first word k : ℕ) (test : ℕ → List ℕ → Bool) (symbols : List (List ℕ)) (name : List ℕ) → first ≤ word → word - first ≡ k
     → slice_get symbols k ≡ Some name → (leb first word && passes (test (word - first)) (slice_get symbols (word - first))) ≡ false → test k name ≡ false

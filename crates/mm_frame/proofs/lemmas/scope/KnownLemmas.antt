@@ -3,7 +3,7 @@ use Rattle.std.proofs.Common.{◌≡◌, ℕ, zero, suc, ◌<◌, ◌≤◌, Boo
 use Rattle.std.proofs.Common.{take_all, get_or, set, slice_get, nat_eq, bytes_eq, refl, sym, ◌∙◌, ap, subst, inl, inr, ◌⊎◌, arith}
 use Rattle.std.specs.Cmp.Lexicographic.{nat_list_eq_equiv}
 use Rattle.std.proofs.Math.Seq.{take-suc}
-use Rattle.std.proofs.lemmas.Bool.{false≢true, false_from_ne_true}
+use Rattle.std.proofs.lemmas.Bool.{false≢true, false_from_ne_true, and_parts}
 use Rattle.std.proofs.lemmas.Bool.Decides.{Decides-eqb}
 use Rattle.std.proofs.lemmas.Option.{same_Some}
 use Rattle.std.proofs.lemmas.Grind.{get_or-set_at}
@@ -28,7 +28,7 @@ use Rattle.mm_frame.specs.Code.KeptTables.{declared_at, declared_for, table_name
 use Rattle.mm_frame.proofs.lemmas.names.NumberLemmas.{number_names, number_of_named, same_number, other_number, number_at, declared_named}
 use Rattle.mm_frame.proofs.lemmas.lists.Members.{In, in_has, from_symbols, to_symbols, in_left}
 use Rattle.mm_frame.proofs.lemmas.scope.ActiveBySplit.{active_in}
-use Rattle.mm_frame.proofs.lemmas.scope.Facts.{and_both, float_variable, float_two}
+use Rattle.mm_frame.proofs.lemmas.scope.Facts.{float_variable, float_two}
 use Rattle.mm_frame.proofs.lemmas.scope.SoundItems.{sound_front}
 use Rattle.mm_frame.proofs.lemmas.scope.TableLemmas.{last_where_next, last_cases, last_none, Last, constants_next, variable_last, constant_or_variable, float_second, typed_by as types_it}
 
@@ -253,7 +253,7 @@ declared_next before item name h =
         ∙ ap is_some (last_where_next (declares_variable name) before item) ∙ ap (λ b. is_some (cond b (Some (length before)) (last_where (declares_variable name) before))) t))
 
     apart_kinds : declares_variable name item ≡ true → types name item ≡ false
-    apart_kinds t = ap (λ b. b && bytes_eq (meant.variable_of item) name) (not_floating item.kind (and_both (is_variables item.kind) (has item.symbols name) t).0)
+    apart_kinds t = ap (λ b. b && bytes_eq (meant.variable_of item) name) (not_floating item.kind (and_parts (is_variables item.kind) (has item.symbols name) t).0)
 
     there : types name item ≡ true → is_some (last_where (declares_variable name) before) ≡ true
     there t =

@@ -2,7 +2,7 @@
 use Rattle.std.proofs.Common.{◌≡◌, ℕ, suc, Bool, true, false, cond, not, ◌&&◌, Option, Some, None, List, [], ◌∷◌, ◌++◌, length, take, drop, slice_get, slice_index_or, bytes_eq, refl, sym, ◌∙◌, ap, subst, append_assoc, append-nil, inl, inr, ◌⊎◌}
 use Rattle.std.specs.Prelude.{is_some}
 use Rattle.std.specs.List.{list_any}
-use Rattle.std.proofs.lemmas.Bool.{false≢true, or_parts, or_cases, or_left, or_right, and_from, false_from_ne_true}
+use Rattle.std.proofs.lemmas.Bool.{false≢true, or_parts, or_cases, and_from, false_from_ne_true, and_parts}
 use Rattle.std.proofs.lemmas.Slice.Eq.{bytes_eq-Decides}
 use Rattle.std.proofs.lemmas.Grind.{flat_map-append}
 use Rattle.mm_frame.specs.Language.Item.{Kind, Item, is_constants, is_variables, is_floating, has, labels_of, typecode_of, variable_of, item_at}
@@ -12,7 +12,7 @@ use Rattle.mm_frame.specs.Language.Sound.{each, second, is_active_symbol, is_typ
 use Rattle.mm_frame.specs.Code.LastItems.{number_or_first, last_where, is_active_at, is_active_last, declares_variable, types, carries, is_otherwise_at}
 use Rattle.mm_frame.proofs.lemmas.lists.Members.{In, in_right, in_cases, in_filter, from_filter, in_flat, from_flat, in_get, has_in, in_has, from_symbols, to_symbols}
 use Rattle.mm_frame.proofs.lemmas.scope.ActiveBySplit.{active_in, split_active, in_first, in_later, closed_join, stays_front}
-use Rattle.mm_frame.proofs.lemmas.scope.Facts.{and_both, no_symbol_of, apart, float_two, float_new}
+use Rattle.mm_frame.proofs.lemmas.scope.Facts.{no_symbol_of, apart, float_two, float_new}
 use Rattle.mm_frame.proofs.lemmas.frames.Frames.{from_typed, to_typed}
 use Rattle.mm_frame.proofs.lemmas.scope.SoundItems.{sound_kept, label_new, in_any}
 
@@ -123,13 +123,13 @@ pub declares : (name : List ℕ) (item : Item) → is_variables item.kind ≡ tr
 declares name item t h = and_from (is_variables item.kind) (has item.symbols name) t (in_has item.symbols name h)
 
 pub declared : (name : List ℕ) (item : Item) → declares_variable name item ≡ true → (is_variables item.kind ≡ true) × In name item.symbols
-declared name item h = let p = and_both (is_variables item.kind) (has item.symbols name) h in (p.0, has_in item.symbols name p.1)
+declared name item h = let p = and_parts (is_variables item.kind) (has item.symbols name) h in (p.0, has_in item.symbols name p.1)
 
 pub typing : (name : List ℕ) (item : Item) → is_floating item.kind ≡ true → variable_of item ≡ name → types name item ≡ true
 typing name item t e = and_from (is_floating item.kind) (bytes_eq (variable_of item) name) t ((bytes_eq-Decides (variable_of item) name).1 e)
 
 pub typed_by : (name : List ℕ) (item : Item) → types name item ≡ true → (is_floating item.kind ≡ true) × (variable_of item ≡ name)
-typed_by name item h = let p = and_both (is_floating item.kind) (bytes_eq (variable_of item) name) h in (p.0, (bytes_eq-Decides (variable_of item) name).0 p.1)
+typed_by name item h = let p = and_parts (is_floating item.kind) (bytes_eq (variable_of item) name) h in (p.0, (bytes_eq-Decides (variable_of item) name).0 p.1)
 
 -- a `$v` of an active variable is at fault
 new_active : (before : List Item) (item : Item) (name : List ℕ) → IsSound before item → is_variables item.kind ≡ true → In name item.symbols → In name (active_variables before) → ⊥
@@ -175,12 +175,12 @@ otherwise_from : (before : List Item) (item : Item) (name : List ℕ) → is_typ
 otherwise_from before item name h =
     let r = any_in (differs name item) (floats before) h in
     let f = from_filter (λ (i : Item). is_floating i.kind) r.0 before r.1 in
-    let d = and_both (bytes_eq (variable_of r.0) name) (not (bytes_eq (typecode_of r.0) (typecode_of item))) r.2 in
+    let d = and_parts (bytes_eq (variable_of r.0) name) (not (bytes_eq (typecode_of r.0) (typecode_of item))) r.2 in
     (r.0, f.0, and_from (is_floating (r.0).kind) (bytes_eq (variable_of r.0) name) f.1 d.0, d.1)
 
 to_otherwise : (before : List Item) (item : Item) (name : List ℕ) (y : Item) → In y before → types name y ≡ true → not (bytes_eq (typecode_of y) (typecode_of item)) ≡ true → is_typed_otherwise before item name ≡ true
 to_otherwise before item name y h t n =
-    let p = and_both (is_floating y.kind) (bytes_eq (variable_of y) name) t in
+    let p = and_parts (is_floating y.kind) (bytes_eq (variable_of y) name) t in
     in_any (differs name item) y (floats before) (in_filter (λ (i : Item). is_floating i.kind) y before h p.0) (and_from (bytes_eq (variable_of y) name) (not (bytes_eq (typecode_of y) (typecode_of item))) p.1 n)
 
 -- a sound `$f` has the typecode of each earlier `$f` of its variable

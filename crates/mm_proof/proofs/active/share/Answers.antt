@@ -19,9 +19,6 @@ returns g c s =
     let m = g.S.Symbol.means in
     each_all (λ x. Contains (map m c.args.xs.now) x → ⊥) (map m c.args.ys.now) c.loop-i.i (omega (arith, length-map c.args.ys.now m, c.loop-i-test.false)) c.loop-i.invariant s.0 s.2 s.1
 
-pub loop-i-init : goal.loop-i-init
-loop-i-init g c k x l at = absurd (omega arith)
-
 pub is_marked-requires : goal.is_marked-requires
 is_marked-requires g c =
     let xs = c.args.xs.now in

@@ -19,9 +19,6 @@ returns g c =
       λ s. absurd (each_all (λ y. y ≢ m c.args.x.now) (map m c.args.ys.now) c.loop-i.i (omega (arith, length-map c.args.ys.now m, c.loop-i-test.false)) c.loop-i.invariant (m c.args.x.now) s refl),
     )
 
-pub loop-i-init : goal.loop-i-init
-loop-i-init g c k x l at = absurd (omega arith)
-
 pub returns-then-same : goal.returns-then-same
 returns-then-same g c =
     let m = g.S.Symbol.means in

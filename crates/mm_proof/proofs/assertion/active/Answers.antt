@@ -1,4 +1,4 @@
-use Rattle.std.proofs.Common.{◌≡◌, Option, Some, ℕ, List, ◌∙◌, subst, IfSome, All}
+use Rattle.std.proofs.Common.{◌≡◌, Option, Some, ℕ, List, subst, IfSome, All}
 use Rattle.std.specs.Borrow.{Bor}
 use Rattle.mm_frame.specs.Language.Base.{before}
 use Rattle.mm_frame.specs.Language.Frame.{Symbol, AreSamePairs}
@@ -23,9 +23,6 @@ answered : (names : List (List ℕ)) (active : List (Symbol × Symbol)) (found :
 answered names active found read distinct e same numbered =
     pairs_by_number names distinct read.now active (subst (λ (o : Option Kept). IfSome o (λ pairs. All (IsPairNumbered names) pairs.now)) e numbered)
     (subst (λ (o : Option Kept). IfSome o (λ pairs. AreSamePairs (kept_pairs names pairs.now) active)) e same)
-
-pub unwrap-requires : goal.unwrap-requires
-unwrap-requires c = c.pairs.ensures.some c.requires.0 c.requires.1 ∙ c.requires.2
 
 pub returns-clause-same : goal.returns-clause-same
 returns-clause-same c names view is proof =

@@ -7,9 +7,6 @@ use Rattle.mm_proof.proofs.citing.forget.Goals.{in-Assertion, in_default}
 use Rattle.mm_frame.specs.declared.base.Resolved.TheVariants as answers
 use Rattle.mm_proof.proofs.citing.forget.Goals as goal
 
-pub loop-label-init : goal.loop-label-init
-loop-label-init c j e = absurd (false≢true e)
-
 pub returns : goal.returns
 returns c j e = c.loop-label.invariant j (ap (λ w. is_listed w j) (take_all c.loop-label.label-index c.args.labels.now (omega arith)) ∙ e)
 

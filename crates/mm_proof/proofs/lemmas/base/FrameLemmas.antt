@@ -1,6 +1,6 @@
 -- Frames that are the same, and what a theorem and an assertion of a base are.
-use Rattle.std.proofs.Common.{◌≡◌, ◌≢◌, ◌&&◌, ℕ, Bool, true, false, List, get_or, refl, sym, subst, inl, inr, slice_get, All, AllPairs, Contains}
-use Rattle.std.proofs.lemmas.Bool.{false≢true, and_from}
+use Rattle.std.proofs.Common.{◌≡◌, ◌≢◌, ℕ, true, List, get_or, refl, sym, subst, inl, inr, slice_get, All, AllPairs, Contains}
+use Rattle.std.proofs.lemmas.Bool.{false≢true, and_from, and_parts}
 use Rattle.std.proofs.lemmas.List.{get_or_default}
 use Rattle.std.proofs.lemmas.List.Elements.{All-contains}
 use Rattle.mm_frame.specs.Language.Base.{BaseView, said_at, is_sound_at, is_shown_at, is_framed_at, is_proof_at}
@@ -31,14 +31,10 @@ frame_moved f g s is = record {
   typed_once = subst (λ hs. AllPairs (λ (h g : Mandatory). h.floating ≡ true → g.floating ≡ true → slice_get h.expression 1 ≢ slice_get g.expression 1) hs) (sym s.hypotheses) is.typed_once;
 }
 
-and_both : (x y : Bool) → (x && y) ≡ true → (x ≡ true) × (y ≡ true)
-and_both true y h = (refl, h)
-and_both false y h = absurd (false≢true h)
-
 -- a sound theorem is a sound statement with a label
 pub shown_proof : (view : BaseView) (n : ℕ) → is_proof_at view n ≡ true → is_shown_at view n ≡ true
 shown_proof view n e =
-    let both = and_both (is_sound_at view n) (is_theorem (said_at view n).kind) e in
+    let both = and_parts (is_sound_at view n) (is_theorem (said_at view n).kind) e in
     and_from (is_sound_at view n) (is_labelled (said_at view n).kind) both.0 (theorem_labelled (said_at view n).kind both.1)
   where
     theorem_labelled : (kind : Kind) → is_theorem kind ≡ true → is_labelled kind ≡ true
@@ -48,7 +44,7 @@ shown_proof view n e =
 -- and a sound assertion
 pub framed_proof : (view : BaseView) (n : ℕ) → is_proof_at view n ≡ true → is_framed_at view n ≡ true
 framed_proof view n e =
-    let both = and_both (is_sound_at view n) (is_theorem (said_at view n).kind) e in
+    let both = and_parts (is_sound_at view n) (is_theorem (said_at view n).kind) e in
     and_from (is_sound_at view n) (is_assertion (said_at view n).kind) both.0 (theorem_asserted (said_at view n).kind both.1)
   where
     theorem_asserted : (kind : Kind) → is_theorem kind ≡ true → is_assertion kind ≡ true
@@ -58,7 +54,7 @@ framed_proof view n e =
 -- which is a statement with a label, too
 pub shown_framed : (view : BaseView) (n : ℕ) → is_framed_at view n ≡ true → is_shown_at view n ≡ true
 shown_framed view n e =
-    let both = and_both (is_sound_at view n) (is_assertion (said_at view n).kind) e in
+    let both = and_parts (is_sound_at view n) (is_assertion (said_at view n).kind) e in
     and_from (is_sound_at view n) (is_labelled (said_at view n).kind) both.0 (assertion_labelled (said_at view n).kind both.1)
   where
     assertion_labelled : (kind : Kind) → is_assertion kind ≡ true → is_labelled kind ≡ true

@@ -1,6 +1,5 @@
 -- What a base and its files say of one item.
-use Rattle.std.proofs.Common.{◌≡◌, ℕ, zero, suc, true, Some, List, [], ◌∷◌, slice_get, refl, sym, subst}
-use Rattle.std.specs.List.{AllZip}
+use Rattle.std.proofs.Common.{◌≡◌, ℕ, true, Some, List, slice_get, sym, subst}
 use Rattle.std.proofs.lemmas.Option.{get_or_from_slice_get}
 use Rattle.mm_proof.proofs.lemmas.machine.EntryFaults.{zip_at}
 use Rattle.mm_frame.specs.mm_store.declared.item.Item as store

@@ -5,7 +5,7 @@ use Rattle.std.proofs.Math.Seq.{take-suc, take-length}
 use Rattle.std.proofs.lemmas.Bool.{cases_Bool, false≢true, and_from}
 use Rattle.mm_frame.specs.declared.FrameNumber.{FrameNumber}
 use Rattle.mm_frame.specs.declared.base.Resolved.TheVariants as answers
-use Rattle.mm_frame.specs.Language.Base.{BaseView, said_at, before, is_sound_at, is_framed_at, fault_by}
+use Rattle.mm_frame.specs.Language.Base.{BaseView, said_at, before, is_sound_at, fault_by}
 use Rattle.mm_frame.specs.Language.Frame.{Assertion}
 use Rattle.mm_frame.specs.Language.Framing.{frame, meaning, resolve, resolve_from}
 use Rattle.mm_frame.specs.Language.Item.{Item, passed, is_assertion, is_labelled, labels_of, has}

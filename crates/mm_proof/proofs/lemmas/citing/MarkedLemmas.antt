@@ -1,12 +1,12 @@
 -- What is marked counts for the assertions of entries alone.
-use Rattle.std.proofs.Common.{◌≡◌, ℕ, suc, ◌+◌, Bool, true, List, [], ◌∷◌, drop, refl, ap, inl, inr, eq-eqb, false, ◌<◌, ◌||◌, length, get_or, sym, ◌∙◌, ◌&&◌, take, ◌⊎◌, nat_eq, Some}
+use Rattle.std.proofs.Common.{◌≡◌, ℕ, suc, ◌+◌, Bool, true, List, [], ◌∷◌, drop, refl, ap, inl, inr, eq-eqb, false, ◌<◌, ◌||◌, length, get_or, sym, ◌∙◌, take, ◌⊎◌, nat_eq, Some}
 use Rattle.std.proofs.lemmas.Bool.{cases_Bool}
 use Rattle.mm_frame.specs.declared.base.Resolved.{Resolved}
 use Rattle.mm_frame.specs.declared.base.Resolved.TheVariants as answers
 use Rattle.mm_proof.specs.Code.Cited.{without, item_cites, is_listed, is_item, cited_item}
 use Rattle.std.proofs.lemmas.List.{take_more}
 use Rattle.std.proofs.lemmas.List.Folds.{list_any-append}
-use Rattle.std.proofs.Math.Bool.{and-false}
+use Rattle.std.proofs.Math.Bool.{and-false, or-false}
 
 -- one of the rest is one of all
 listed_on : (label : Resolved) (labels : List Resolved) (j : ℕ) → is_listed labels j ≡ true → is_listed (label ∷ labels) j ≡ true
@@ -31,10 +31,6 @@ cites_alike S T n (answers.Hypothesis j ∷ labels) same = cites_alike S T (n + 
 cites_alike S T n (answers.Inactive ∷ labels) same = cites_alike S T (n + 1) labels (λ i e. same i e)
 cites_alike S T n (answers.Unknown ∷ labels) same = cites_alike S T (n + 1) labels (λ i e. same i e)
 
-or_false : (b : Bool) → b ≡ (b || false)
-or_false true = refl
-or_false false = refl
-
 -- an entry that is no assertion cites nothing
 pub cites_other : (left : ℕ → Bool) (n : ℕ) (label : Resolved) (labels : List Resolved) → ((j : ℕ) → label ≡ answers.Assertion j → ⊥) → item_cites left (n + 1) labels ≡ item_cites left n (label ∷ labels)
 cites_other left n (answers.Assertion j) labels f = absurd (f j refl)
@@ -50,7 +46,7 @@ listed_next labels n j d l e =
     sym (list_any-append (λ (label : Resolved). is_item (cited_item (Some label)) j) (take n labels) (here ∷ [])) ∙ ap (λ w. is_listed w j) (sym (take_more labels n d l)) ∙ e in
     elim (cases_Bool (is_listed (take n labels) j)) [
       | inl t ↦ inl t
-      | inr f ↦ inr (or_false (is_item (cited_item (Some here)) j) ∙ rw f at parts)
+      | inr f ↦ inr (sym (or-false (is_item (cited_item (Some here)) j)) ∙ rw f at parts)
     ]
 
 -- what is taken from an entry's number is not left

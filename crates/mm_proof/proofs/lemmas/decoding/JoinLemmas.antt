@@ -1,5 +1,5 @@
 -- The letters read from left to right are the letters read in groups.
-use Rattle.std.proofs.Common.{◌≡◌, ℕ, ◌+◌, ◌*◌, false, ◌==◌, cond, Result, List, [], ◌∷◌, ◌++◌, map, refl, sym, ap, ◌∙◌, arith, inl, inr, eqb-true}
+use Rattle.std.proofs.Common.{◌≡◌, ℕ, ◌+◌, false, ◌==◌, cond, Result, List, [], ◌∷◌, ◌++◌, map, refl, sym, ap, ◌∙◌, arith, inl, inr, eqb-true}
 use Rattle.std.proofs.lemmas.Bool.{cases_Bool}
 use Rattle.mm_proof.specs.Language.Expansion.{Step, Save, NotKnown}
 use Rattle.mm_proof.specs.Language.Numbers.{is_digit, digit_worth, in_base_five}

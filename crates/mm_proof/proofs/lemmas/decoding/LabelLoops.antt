@@ -1,8 +1,7 @@
 -- What is so of each label that the words of a proof name, word by word.
-use Rattle.std.proofs.Common.{◌≡◌, ℕ, false, List, ◌∷◌, sym, ◌∙◌, ap, subst, ◌↔◌, IsTrue, filter}
+use Rattle.std.proofs.Common.{◌≡◌, ℕ, false, List, ◌∷◌, sym, ◌∙◌, ap, subst, ◌↔◌, IsTrue}
 use Rattle.std.specs.List.{AllByRecursion, before_first}
 use Rattle.std.proofs.lemmas.Bool.{false≢true}
-use Rattle.mm_proof.specs.Code.KeptMarks.{is_label_word}
 use Rattle.mm_proof.specs.Language.Decoding.{is_close}
 use Rattle.mm_proof.proofs.lemmas.decoding.ListLemmas.{before_one}
 

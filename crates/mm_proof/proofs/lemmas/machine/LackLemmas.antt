@@ -13,7 +13,7 @@ use Rattle.mm_proof.specs.Language.Run.{is_unknown, run_part}
 use Rattle.mm_proof.specs.declared.ProofNumber.{ProofNumber}
 use Rattle.mm_proof.specs.declared.ProofNumber.TheVariants.{P07}
 use Rattle.mm_proof.specs.declared.stepping.Outcome.{Outcome}
-use Rattle.mm_proof.specs.declared.stepping.Outcome.TheVariants.{Proved, Fault, Unknown, NotOne, Other}
+use Rattle.mm_proof.specs.declared.stepping.Outcome.TheVariants.{Fault, Unknown}
 use Rattle.mm_proof.specs.Code.Tasks.{AreDoneTo, AreSavedBefore, IsSavedWithin, RunSays, StopsAt, actions_mean, saves_in}
 use Rattle.std.specs.Option.{option_map}
 use Rattle.mm_proof.proofs.lemmas.machine.ApartLemmas.{front_at}

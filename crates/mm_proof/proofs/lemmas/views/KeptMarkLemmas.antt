@@ -30,13 +30,9 @@ told_again ps qs rs ss same h k l = (
   λ m. h.1 (joined ps ss qs (joined ps rs ss k m) (turned qs ss l)),
 )
 
-and_second : (a b : Bool) → (a && b) ≡ true → b ≡ true
-and_second true b e = e
-and_second false b e = absurd (false≢true e)
-
 -- an item with a label is one of the items
 pub shown_within : (view : BaseView) (i : ℕ) → is_shown_at view i ≡ true → i < length view.said
-shown_within view i e = within view.said i (and_second (is_sound_at view i) (is_labelled (said_at view i).kind) e)
+shown_within view i e = within view.said i (and_parts (is_sound_at view i) (is_labelled (said_at view i).kind) e).1
   where
     within : (items : List Item) (n : ℕ) → is_labelled (slice_index_or items n passed).kind ≡ true → n < length items
     within [] n h = absurd (false≢true h)
@@ -58,7 +54,7 @@ shown_label names view code i is e =
     let within = shown_within view i e in
     let row = got code.rows i (omega (arith, within, is.rows.count)) in
     let told = is.rows.each i row.0 row.1 in
-    let some = some_there row.0.0 (told.labelled ∙ and_second (is_sound_at view i) (is_labelled (said_at view i).kind) e) in
+    let some = some_there row.0.0 (told.labelled ∙ (and_parts (is_sound_at view i) (is_labelled (said_at view i).kind) e).1) in
     (some.0, sym told.label ∙ some.1)
 
 -- it is the item of the old base that carries the label

@@ -4,9 +4,6 @@ use Rattle.mm_frame.specs.declared.base.Resolved.{Resolved}
 use Rattle.mm_frame.specs.declared.base.Resolved.TheVariants as answers
 use Rattle.mm_proof.proofs.reading.hypotheses.Goals as goal
 
-pub loop-number-init : goal.loop-number-init
-loop-number-init c = c.clear.ensures.items
-
 pub loop-number-preserved : goal.loop-number-preserved
 loop-number-preserved c =
     let numbers = c.args.mandatory.now in

@@ -2,7 +2,7 @@ use Rattle.std.proofs.Common.{◌≡◌, ◌∙◌, ap, sym, subst, arith, lengt
 use Rattle.std.proofs.lemmas.List.{take_rest}
 use Rattle.mm_report.specs.Code.Pending.{pending}
 use Rattle.mm_report.specs.Code.Stops.{IsOneLine}
-use Rattle.mm_report.proofs.GrowLemmas.{found_line, no_feed_left, last_line, rest_of, grows_then, grown_long, part_grown}
+use Rattle.mm_report.proofs.GrowLemmas.{found_line, no_feed_left, last_line, nothing_between, rest_of, same_error, grows_not, grows_then, grown_long, part_grown}
 use Rattle.mm_report.proofs.lines.read_line.Goals as goal
 
 pub returns-in-Some-clause-line : goal.returns-in-Some-clause-line
@@ -50,5 +50,27 @@ loop-more-preserved g c =
       fewer = omega (arith, c.in_ok-read_on.ensures.fewer);
     }
 
+pub loop-more-init : goal.loop-more-init
+loop-more-init g c = record {
+  grows = grows_not _ _;
+  ordered = omega arith;
+  within = c.requires;
+  none = nothing_between (pending c.args.input.now) c.args.start;
+  fewer = omega arith;
+}
+
 pub returns-in_err-read_on-clause-grows : goal.returns-in_err-read_on-clause-grows
 returns-in_err-read_on-clause-grows g c = grows_then _ _ _ _ _ _ c.loop-more.invariant.grows c.in_err-read_on.ensures.grows
+
+pub returns-in_err-read_on-clause-failed : goal.returns-in_err-read_on-clause-failed
+returns-in_err-read_on-clause-failed g c = λ read.
+    c.in_err-read_on.ensures.failed (same_error c.from_residual.result c.in_err-read_on.field-0.0 _ c.from_residual.ensures.1 read)
+
+pub returns-then-not-branch-clause-grows : goal.returns-then-not-branch-clause-grows
+returns-then-not-branch-clause-grows g c = grows_then _ _ _ _ _ _ c.loop-more.invariant.grows c.in_ok-read_on.ensures.grows
+
+pub returns-then-not-branch-clause-fewer : goal.returns-then-not-branch-clause-fewer
+returns-then-not-branch-clause-fewer g c = omega (arith, c.loop-more.invariant.fewer, c.in_ok-read_on.ensures.fewer)
+
+pub loop-more-smaller : goal.loop-more-smaller
+loop-more-smaller g c = omega (arith, c.in_ok-read_on.ensures.more c.if-not-branch.false)

@@ -1,5 +1,5 @@
 -- Files by name and by number, their keys and their texts.
-use Rattle.std.proofs.Common.{◌≡◌, ℕ, zero, suc, ◌<◌, ◌≤◌, List, [], ◌∷◌, Option, Some, None, is_some, true, length, map, get_or, refl, sym, ap, ◌∙◌, subst, arith, slice_get, position, Vec}
+use Rattle.std.proofs.Common.{◌≡◌, ℕ, ◌<◌, ◌≤◌, List, Some, None, is_some, true, length, map, get_or, sym, ap, ◌∙◌, arith, slice_get, position, Vec}
 use Rattle.std.specs.List.{concat}
 use Rattle.std.specs.Option.{option_map}
 use Rattle.std.specs.Str.{bytes_eq}
@@ -9,9 +9,8 @@ use Rattle.std.proofs.lemmas.Option.{slice_get-map}
 use Rattle.std.specs.FinMap as finite
 use Rattle.mm_store.proofs.lemmas.files.AddLemmas.{stands_some}
 use Rattle.mm_store.specs.declared.file_text.FileText.{FileText}
-use Rattle.mm_store.specs.Language.Pieces.{HeldPiece, Pieces, text_under}
-use Rattle.mm_store.specs.Language.FilesView.{KeyedFile, FilesView, plain_file, find_file, file_at, bytes_of}
-use Rattle.mm_store.specs.Language.FileFacts.{HoldsPieces}
+use Rattle.mm_store.specs.Language.Pieces.{Pieces, text_under}
+use Rattle.mm_store.specs.Language.FilesView.{KeyedFile, plain_file, find_file, file_at, bytes_of}
 use Rattle.mm_store.specs.Language.Undoing.{keys_in}
 use Rattle.mm_store.specs.Code.Kept.{file_of, places, standing_count}
 use Rattle.mm_store.proofs.lemmas.files.ListLemmas.{times_at, places_in, members_within, plain_pieces}

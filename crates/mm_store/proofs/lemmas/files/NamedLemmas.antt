@@ -8,6 +8,7 @@ use Rattle.std.proofs.lemmas.List.Folds.{find_at}
 use Rattle.std.proofs.lemmas.List.Sums.{passes_at_first}
 use Rattle.std.proofs.lemmas.Option.{get_or_from_slice_get, none-some, same_Some, slice_get_past, cond_some}
 use Rattle.std.proofs.lemmas.Slice.Eq.{bytes_eq-Decides}
+use Rattle.std.proofs.lemmas.Bool.{false_from_ne_true}
 use Rattle.mm_text.specs.Language.Cut.{IsCut, ended}
 use Rattle.mm_store.specs.Language.FilesView.{File, file_number, file_at, find_file, text_of}
 use Rattle.mm_store.specs.Language.FileFacts.{IsAdded}
@@ -58,10 +59,6 @@ module _ (test : File → Bool) (file : File) where
   find_other [] is = ap (λ b. cond b (Some file) None) is
   find_other (first ∷ files) is = ap (λ found. cond (test first) (Some first) found) (find_other files is)
 
-is_false : (b : Bool) → b ≢ true → b ≡ false
-is_false true differs = absurd (differs refl)
-is_false false differs = refl
-
 pub added_text : (old new : List File) (name text : List ℕ) → file_number old name ≡ None → IsAdded old new name text → option_map text_of (find_file new name) ≡ Some (ended text)
 added_text old new name text none is =
     let test = (bytes_eq-Decides name is.file.name).1 (sym is.is_name) in
@@ -71,7 +68,7 @@ added_text old new name text none is =
 
 pub added_others : (old new : List File) (name text other : List ℕ) → IsAdded old new name text → other ≢ name → find_file new other ≡ find_file old other
 added_others old new name text other is differs =
-    let test = is_false (bytes_eq other is.file.name) (λ e. differs ((bytes_eq-Decides other is.file.name).0 e ∙ is.is_name)) in
+    let test = false_from_ne_true (bytes_eq other is.file.name) (λ e. differs ((bytes_eq-Decides other is.file.name).0 e ∙ is.is_name)) in
     ap (λ files. find_file files other) is.last ∙ found_first (old ++ is.file ∷ []) other ∙ find_other (λ (file : File). bytes_eq other file.name) is.file old test ∙ sym (found_first old other)
 
 abbrev pub OneCut : Type 0

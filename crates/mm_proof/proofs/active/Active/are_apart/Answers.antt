@@ -18,9 +18,6 @@ returns g c x y s t =
     let m = g.S.Symbol.means in
     each_all (λ x. (y : Symbol) → Contains (map m c.args.ys.now) y → Apart (meant_pairs m c.args.self.now.pairs.now) x y) (map m c.args.xs.now) c.loop-i.i (omega (arith, length-map c.args.xs.now m, c.loop-i-test.false)) c.loop-i.invariant x s y t
 
-pub loop-i-init : goal.loop-i-init
-loop-i-init g c k x l at = absurd (omega arith)
-
 pub returns-then-not-is_apart_from : goal.returns-then-not-is_apart_from
 returns-then-not-is_apart_from g c =
     let m = g.S.Symbol.means in

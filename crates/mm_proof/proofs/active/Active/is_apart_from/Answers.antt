@@ -17,9 +17,6 @@ returns g c =
     let m = g.S.Symbol.means in
     each_all (Apart (meant_pairs m c.args.self.now.pairs.now) (m c.args.x.now)) (map m c.args.ys.now) c.loop-i.i (omega (arith, length-map c.args.ys.now m, c.loop-i-test.false)) c.loop-i.invariant
 
-pub loop-i-init : goal.loop-i-init
-loop-i-init g c k x l at = absurd (omega arith)
-
 pub returns-then-not-is_apart : goal.returns-then-not-is_apart
 returns-then-not-is_apart g c =
     let m = g.S.Symbol.means in

@@ -19,8 +19,6 @@ returns g c =
     let high = within.1 in
     record {
       stack = λ e at. let symbols = map g.S.Symbol.means c.args.self.now.symbols.items in
-          let x = c.index.result.now in
-          let new : Entry = record { start = x.start; end = x.end; floor = c.len-floor.result } in
           let saved = mapped_at (read symbols) c.args.self.now.saved.items c.args.number x e c.requires.in_range c.index.ensures at in
           ap (read_all symbols) c.in_ok-push.ensures.items
           ∙ map-append (read symbols) c.args.self.now.stack.items (new ∷ [])
